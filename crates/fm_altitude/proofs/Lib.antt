@@ -1,0 +1,4 @@
+pub mod Points
+pub mod Grammar
+pub mod Padding
+pub mod Reading

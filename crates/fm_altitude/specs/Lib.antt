@@ -1,0 +1,11 @@
+pub mod Grammar
+pub mod Order
+pub mod Total
+pub mod Comparing
+pub mod Numbers
+pub mod Fractions
+pub mod Wholes
+pub mod Spelling
+pub mod Kept
+pub mod Laws
+pub mod AltitudeFields

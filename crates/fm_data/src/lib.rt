@@ -1,0 +1,15 @@
+//! What travels with an operation: its parameters, the callback data that a filter's callbacks are
+//! given, the verdicts with which they return it, and what a client asks and is answered.
+#![tactic(auto)]
+
+mod answer;
+mod callback_data;
+mod params;
+mod request;
+mod verdict;
+
+pub use crate::answer::Answer;
+pub use crate::callback_data::{CallbackData, Parts};
+pub use crate::params::{MAX_END, MAX_TRANSFER, Params};
+pub use crate::request::{Reply, Request};
+pub use crate::verdict::{Completion, PostVerdict, PreVerdict};

@@ -1,0 +1,4 @@
+mod Parts
+mod Writes
+pub mod Lists
+pub mod Refusals

@@ -1,0 +1,10 @@
+pub mod Statuses
+pub mod Refusals
+pub mod Masks
+pub mod Texts
+pub mod Names
+pub mod NameFields
+pub mod Paths
+pub mod PathFields
+pub mod ByteLists
+pub mod Lists

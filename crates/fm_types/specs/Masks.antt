@@ -1,0 +1,34 @@
+use Rattle.std.specs.Prelude.{ℕ, Bool, ◌==◌}
+use Rattle.std.specs.Int.RustNames.{bit_and}
+use Rattle.fm_types.specs.declared.operation.Operation.{Operation}
+use Rattle.fm_types.specs.declared.operation.Operation.TheVariants.{Create, Read, Write, QuerySize, SetSize, Flush, List, SetDelete, Cleanup, Close}
+use Rattle.fm_types.specs.declared.context_kind.ContextKind.{ContextKind}
+use Rattle.fm_types.specs.declared.context_kind.ContextKind.TheVariants.{Volume, Instance, Stream, Handle}
+
+-- the bit of an operation in a set of operations
+abbrev pub operation_bit : Operation → ℕ
+operation_bit Create = 1
+operation_bit Read = 2
+operation_bit Write = 4
+operation_bit QuerySize = 8
+operation_bit SetSize = 16
+operation_bit Flush = 32
+operation_bit List = 64
+operation_bit SetDelete = 128
+operation_bit Cleanup = 256
+operation_bit Close = 512
+
+-- whether a set of operations has that one
+abbrev pub has_operation : ℕ → Operation → Bool
+has_operation mask operation = bit_and mask (operation_bit operation) == operation_bit operation
+
+-- the bit of a kind of context in a set of kinds
+abbrev pub context_bit : ContextKind → ℕ
+context_bit Volume = 1
+context_bit Instance = 2
+context_bit Stream = 4
+context_bit Handle = 8
+
+-- whether a set of kinds has that one
+abbrev pub has_context : ℕ → ContextKind → Bool
+has_context mask kind = bit_and mask (context_bit kind) == context_bit kind

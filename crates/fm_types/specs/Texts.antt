@@ -1,0 +1,10 @@
+use Rattle.std.specs.Prelude.{◌≡◌, ℕ, ◌-◌, List, ◌++◌, length, replicate}
+
+-- a text with zeros behind it, up to a size
+abbrev pub padded : ℕ → List ℕ → List ℕ
+padded size text = text ++ replicate (size - length text) 0
+
+-- a buffer holds a text of that length, and zeros behind it
+pub record IsPadded (size : ℕ) (buffer text : List ℕ) (len : ℕ) : Type 0 where
+  pub exact : length text ≡ len
+  pub zeros : buffer ≡ padded size text

@@ -1,0 +1,22 @@
+//! The vocabulary of the filter manager: ids, statuses, the kinds of operations and contexts, what a
+//! filter registers for, names, paths and bytes. Every other crate speaks in these types.
+#![tactic(auto)]
+
+mod bytes;
+mod context_kind;
+mod ids;
+mod name;
+mod operation;
+mod path;
+mod registration;
+mod status;
+mod text;
+
+pub use crate::bytes::Bytes;
+pub use crate::context_kind::{ContextKind, ContextMask};
+pub use crate::ids::{CtxId, FilterId, HandleId, InstanceId, OpId, StreamId, VolumeId, WorkerId};
+pub use crate::name::Name;
+pub use crate::operation::{CreateMode, OpMask, Operation};
+pub use crate::path::RelPath;
+pub use crate::registration::Registration;
+pub use crate::status::Status;

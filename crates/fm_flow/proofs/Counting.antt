@@ -1,0 +1,193 @@
+-- What each step adds to the references carried and to the operations in flight, and what it takes away.
+use Rattle.std.proofs.Common.{◌≡◌, ℕ, ◌+◌, ◌-◌, ◌*◌, ◌<◌, ◌≤◌, ◌==◌, Bool, true, false, cond, not, ◌&&◌, ◌||◌, List, [], ◌∷◌, ◌++◌, length, map, reverse, filter, filter_map, Option, Some, None, option_to_list, option_and_then, slice_get, ◌⊎◌, inl, inr, refl, sym, ap, ap₂, ◌∙◌, subst, arith, append-nil, append_assoc, zero-add}
+use Rattle.std.proofs.lemmas.List.{reverse-append, map-append, length-append, length-map}
+use Rattle.std.proofs.lemmas.List.Elements.{filter_map-append}
+use Rattle.std.proofs.lemmas.Bool.Decides.{nat_tests}
+use Rattle.fm_types.specs.declared.ids.InstanceId.{InstanceId}
+use Rattle.fm_types.specs.declared.ids.CtxId.{CtxId}
+use Rattle.fm_flow.specs.declared.stage.Stage.{Stage}
+use Rattle.fm_flow.specs.declared.stage.Stage.TheVariants.{Descending, PreRunning, PreHeld, InBase, Ascending, PostRunning, PostHeld, InDrain}
+use Rattle.fm_flow.specs.declared.entry.PreState.{PreState}
+use Rattle.fm_flow.specs.declared.entry.PreState.TheVariants as pre
+use Rattle.fm_flow.specs.declared.entry.PostState.{PostState}
+use Rattle.fm_flow.specs.declared.entry.PostState.TheVariants as post
+use Rattle.fm_flow.specs.declared.entry.PreVisit.{PreVisit}
+use Rattle.fm_flow.specs.declared.entry.PostVisit.{PostVisit}
+use Rattle.fm_flow.specs.declared.entry.DrainVisit.{DrainVisit}
+use Rattle.fm_flow.specs.declared.entry.Ask.{Ask}
+use Rattle.fm_flow.specs.declared.entry.Entry.{Entry}
+use Rattle.fm_flow.specs.declared.entry.Entry.TheVariants.{Pre, Base, Post, Drain}
+use Rattle.fm_flow.specs.Entries.{one, times, ask_in, ask_of, visit_of, post_of, visited, last_visited, last_posted, asked, posted, owed, instances, without, is_pre_open, is_post_open, settle_pre, settle_post, settle_drain}
+use Rattle.fm_flow.specs.Counts.{carried_in, carried_among, taken_by, opens_at, opens, leaves_by, leaves_at, post_leaves_by, drain_opens}
+use Rattle.fm_flow.specs.Steps.{pre_leads, post_leads}
+use Rattle.fm_flow.specs.Sound.{answer_count, IsCourse}
+use Rattle.fm_flow.proofs.Lists.{times-append, one-same, either, without_head}
+use Rattle.fm_flow.proofs.Walks.{OpenPre, OpenPost, is_pre, is_post}
+use Rattle.fm_flow.proofs.Owed.{owed_push_none, owed_push_ask, owed_push_answer, unanswered}
+use Rattle.fm_flow.proofs.Course.{Settles, IsFresh, asked_cons, owed_settled, times_instances-append, asked_among, unvisited, owed_once, one_and}
+use Rattle.fm_flow.proofs.Settled.{with_state, with_post, settled_pre_is, settles_pre, the_open_pre, settled_post_is, settles_post, the_open_post, settles_drain, fresh_of_open}
+
+pub opens-append : (i : ℕ) (es fs : List Entry) → opens i (es ++ fs) ≡ opens i es + opens i fs
+opens-append i [] fs = sym (zero-add (opens i fs))
+opens-append i (e ∷ es) fs = let h = opens-append i es fs in omega (arith, h)
+
+pub opens_push : (i : ℕ) (es : List Entry) (e : Entry) → opens i (es ++ e ∷ []) ≡ opens i es + opens_at i e
+opens_push i es e = let h = opens-append i es (e ∷ []) in omega (arith, h)
+
+pub carried-append : (c : CtxId) (xs ys : List Ask) → carried_among c (xs ++ ys) ≡ carried_among c xs + carried_among c ys
+carried-append c [] ys = sym (zero-add (carried_among c ys))
+carried-append c (ask ∷ xs) ys = let h = carried-append c xs ys in omega (arith, h)
+
+pub and_true : (b : Bool) → (b && true) ≡ b
+and_true true = refl
+and_true false = refl
+
+and_false : (b : Bool) → one (b && false) ≡ 0
+and_false true = refl
+and_false false = refl
+
+same_either : (b : Bool) (n : ℕ) → cond b n n ≡ n
+same_either true n = refl
+same_either false n = refl
+
+cond_sum : (b : Bool) (n m : ℕ) → cond b (n + m) 0 ≡ cond b n 0 + cond b m 0
+cond_sum true n m = refl
+cond_sum false n m = refl
+
+one_of_and : (a b : Bool) → one (a && b) ≡ cond a (one b) 0
+one_of_and true b = refl
+one_of_and false b = refl
+
+-- ---- in flight at most once
+
+opens_few : (i : ℕ) (visit : PreVisit) (state : PreState) → one ((visit.instance.0 == i) && is_pre_open state) + times i (instances (option_to_list (ask_in visit state))) ≤ one (visit.instance.0 == i)
+opens_few i visit pre.Running = let h = one_and (visit.instance.0 == i) true in omega (arith, h)
+opens_few i visit pre.Held = let h = one_and (visit.instance.0 == i) true in omega (arith, h)
+opens_few i visit (pre.Asked completion) = let h = and_false (visit.instance.0 == i) in omega (arith, h)
+opens_few i visit (pre.Synchronized completion) = let h = and_false (visit.instance.0 == i) in omega (arith, h)
+opens_few i visit pre.Passed = let h = and_false (visit.instance.0 == i) in omega (arith, h)
+opens_few i visit (pre.Completed status) = let h = and_false (visit.instance.0 == i) in omega (arith, h)
+
+-- who is open was visited and hasn't asked, or is being answered
+pub opens_among : (i : ℕ) (es : List Entry) → opens i es + times i (instances (asked es)) ≤ times i (visited es) + answer_count i es
+opens_among i [] = omega arith
+opens_among i (Pre visit ∷ es) =
+    let a = ap (λ xs. times i (instances xs)) (asked_cons (Pre visit) es) ∙ times_instances-append i (option_to_list (ask_in visit visit.state)) (asked es) in
+    let b = opens_few i visit visit.state in
+    let h = opens_among i es in omega (arith, a, b, h)
+opens_among i (Base status information ∷ es) = let h = opens_among i es in omega (arith, h)
+opens_among i (Post visit ∷ es) = let h = opens_among i es in let k = one_and (visit.instance.0 == i) (is_post_open visit.state) in omega (arith, h, k)
+opens_among i (Drain visit ∷ es) = let h = opens_among i es in let k = one_and (visit.instance.0 == i) visit.is_running in omega (arith, h, k)
+
+pub flight_few : (s : Stage) (es : List Entry) (i : ℕ) → IsCourse s es → opens i es + times i (instances (owed es)) ≤ 1
+flight_few s es i c = let a = opens_among i es in let b = c.once i in let d = c.apart i in omega (arith, a, b, d)
+
+-- ---- settled callbacks
+
+opens_mid : (i : ℕ) (front back : List Entry) (e : Entry) → opens i (front ++ e ∷ back) ≡ opens i front + (opens_at i e + opens i back)
+opens_mid i front back e = opens-append i front (e ∷ back)
+
+first_of_reverse : (xs : List ℕ) (x : ℕ) → slice_get (reverse (xs ++ x ∷ [])) 0 ≡ Some x
+first_of_reverse xs x = ap (λ ys. slice_get ys 0) (reverse-append xs (x ∷ []))
+
+pub last_of_open_pre : (es : List Entry) (o : OpenPre Descending es) → last_visited es ≡ Some o.visit.instance.0
+last_of_open_pre es o =
+    ap (λ xs. slice_get (reverse xs) 0) (ap visited o.split ∙ filter_map-append visit_of o.front (Pre o.visit ∷ o.back) ∙ ap (λ xs. visited o.front ++ o.visit.instance.0 ∷ xs) o.quiet.visits)
+    ∙ first_of_reverse (visited o.front) o.visit.instance.0
+
+pub last_of_open_post : (es : List Entry) (o : OpenPost Descending es) → last_posted es ≡ Some o.visit.instance.0
+last_of_open_post es o =
+    ap (λ xs. slice_get (reverse xs) 0) (ap posted o.split ∙ filter_map-append post_of o.front (Post o.visit ∷ o.back) ∙ ap (λ xs. posted o.front ++ o.visit.instance.0 ∷ xs) o.quiet.posts)
+    ∙ first_of_reverse (posted o.front) o.visit.instance.0
+
+pre_balance_here : (i : ℕ) (visit : PreVisit) (state : PreState) → (visit.instance.0 == i) ≡ true → 1 ≡ (one (is_pre_open state) + times i (instances (option_to_list (ask_in visit state)))) + leaves_by state
+pre_balance_here i visit pre.Running is = refl
+pre_balance_here i visit pre.Held is = refl
+pre_balance_here i visit (pre.Asked completion) is = rw is refl
+pre_balance_here i visit (pre.Synchronized completion) is = rw is refl
+pre_balance_here i visit pre.Passed is = refl
+pre_balance_here i visit (pre.Completed status) is = refl
+
+pre_balance_there : (i : ℕ) (visit : PreVisit) (state : PreState) → (visit.instance.0 == i) ≡ false → 0 ≡ (0 + times i (instances (option_to_list (ask_in visit state)))) + 0
+pre_balance_there i visit pre.Running differs = refl
+pre_balance_there i visit pre.Held differs = refl
+pre_balance_there i visit (pre.Asked completion) differs = rw differs refl
+pre_balance_there i visit (pre.Synchronized completion) differs = rw differs refl
+pre_balance_there i visit pre.Passed differs = refl
+pre_balance_there i visit (pre.Completed status) differs = refl
+
+taken : (k : CtxId) (visit : PreVisit) (state : PreState) → carried_among k (option_to_list (ask_in visit state)) ≡ taken_by k state
+taken k visit pre.Running = refl
+taken k visit pre.Held = refl
+taken k visit (pre.Asked completion) = omega arith
+taken k visit (pre.Synchronized completion) = omega arith
+taken k visit pre.Passed = refl
+taken k visit (pre.Completed status) = refl
+
+pre_balance : (i : ℕ) (visit : PreVisit) (state : PreState) → one (visit.instance.0 == i) ≡ (one ((visit.instance.0 == i) && is_pre_open state) + times i (instances (option_to_list (ask_in visit state)))) + cond (visit.instance.0 == i) (leaves_by state) 0
+pre_balance i visit state = elim (either (visit.instance.0 == i)) [
+    inl is ↦ rw is (pre_balance_here i visit state is)
+  | inr differs ↦ rw differs (pre_balance_there i visit state differs) ]
+
+pub flight_pre_settled : (s : Stage) (es : List Entry) (state : PreState) (j : ℕ) → is_pre s ≡ true → IsCourse s es
+    → opens j es + times j (instances (owed es)) ≡ (opens j (map (settle_pre state) es) + times j (instances (owed (map (settle_pre state) es)))) + leaves_at j (last_visited es) (leaves_by state)
+flight_pre_settled s es state j p c =
+    let o = the_open_pre s es c p in
+    let a = ap (opens j) o.split ∙ opens_mid j o.front o.back (Pre o.visit) in
+    let b = ap (opens j) (settled_pre_is es state o) ∙ opens_mid j o.front o.back (Pre (with_state o.visit state)) in
+    let d = ap (λ xs. times j (instances xs)) (owed_settled es (map (settle_pre state) es) (ask_in (with_state o.visit state) state) (settles_pre es state o) (fresh_of_open s es state c p)) ∙ times_instances-append j (option_to_list (ask_in (with_state o.visit state) state)) (owed es) in
+    let e = ap (λ l. leaves_at j l (leaves_by state)) (last_of_open_pre es o) in
+    let f = pre_balance j (with_state o.visit state) state in
+    let g : one ((o.visit.instance.0 == j) && is_pre_open o.visit.state) ≡ one (o.visit.instance.0 == j) = rw o.unsettled (ap one (and_true (o.visit.instance.0 == j))) in
+    omega (arith, a, b, d, e, f, g)
+
+pub carried_pre_settled : (s : Stage) (es : List Entry) (state : PreState) (k : CtxId) → is_pre s ≡ true → IsCourse s es
+    → carried_among k (owed (map (settle_pre state) es)) ≡ carried_among k (owed es) + taken_by k state
+carried_pre_settled s es state k p c =
+    let o = the_open_pre s es c p in
+    let d = ap (carried_among k) (owed_settled es (map (settle_pre state) es) (ask_in (with_state o.visit state) state) (settles_pre es state o) (fresh_of_open s es state c p)) ∙ carried-append k (option_to_list (ask_in (with_state o.visit state) state)) (owed es) in
+    let e = taken k (with_state o.visit state) state in
+    omega (arith, d, e)
+
+post_balance : (b : Bool) (state : PostState) → one b ≡ one (b && is_post_open state) + cond b (post_leaves_by state) 0
+post_balance true post.Running = refl
+post_balance true post.Held = refl
+post_balance true post.Finished = refl
+post_balance false state = refl
+
+pub flight_post_settled : (s : Stage) (es : List Entry) (state : PostState) (j : ℕ) → is_post s ≡ true → IsCourse s es
+    → opens j es + times j (instances (owed es)) ≡ (opens j (map (settle_post state) es) + times j (instances (owed (map (settle_post state) es)))) + leaves_at j (last_posted es) (post_leaves_by state)
+flight_post_settled s es state j p c =
+    let o = the_open_post s es c p in
+    let a = ap (opens j) o.split ∙ opens_mid j o.front o.back (Post o.visit) in
+    let b = ap (opens j) (settled_post_is es state o) ∙ opens_mid j o.front o.back (Post (with_post o.visit state)) in
+    let d = ap (λ xs. times j (instances xs)) (owed_settled es (map (settle_post state) es) None (settles_post es state o) tt) in
+    let e = ap (λ l. leaves_at j l (post_leaves_by state)) (last_of_open_post es o) in
+    let f = post_balance (o.visit.instance.0 == j) state in
+    let g : one ((o.visit.instance.0 == j) && is_post_open o.visit.state) ≡ one (o.visit.instance.0 == j) = rw o.unsettled (ap one (and_true (o.visit.instance.0 == j))) in
+    omega (arith, a, b, d, e, f, g)
+
+pub owed_post_settled : (s : Stage) (es : List Entry) (state : PostState) → is_post s ≡ true → IsCourse s es → owed (map (settle_post state) es) ≡ owed es
+owed_post_settled s es state p c = let o = the_open_post s es c p in owed_settled es (map (settle_post state) es) None (settles_post es state o) tt
+
+pub owed_drain_settled : (i : ℕ) (es : List Entry) → owed (map (settle_drain i) es) ≡ owed es
+owed_drain_settled i es = owed_settled es (map (settle_drain i) es) None (settles_drain i es) tt
+
+drain_here : (i j : ℕ) (visit : DrainVisit) → (visit.instance.0 == i) ≡ true → one ((visit.instance.0 == j) && visit.is_running) ≡ one ((visit.instance.0 == j) && false) + cond (i == j) (one visit.is_running) 0
+drain_here i j visit is =
+    let e : visit.instance.0 ≡ i = grind (arith, nat_tests) in
+    let z = and_false (visit.instance.0 == j) in
+    let k : one ((visit.instance.0 == j) && visit.is_running) ≡ cond (i == j) (one visit.is_running) 0 = ap (λ n. one ((n == j) && visit.is_running)) e ∙ one_of_and (i == j) visit.is_running in
+    omega (arith, z, k)
+
+drain_at : (i j : ℕ) (visit : DrainVisit) → one ((visit.instance.0 == j) && visit.is_running) ≡ one ((visit.instance.0 == j) && (not (visit.instance.0 == i) && visit.is_running)) + cond (i == j) (one ((visit.instance.0 == i) && visit.is_running)) 0
+drain_at i j visit = elim (either (visit.instance.0 == i)) [
+    inl is ↦ rw is (drain_here i j visit is)
+  | inr differs ↦ rw differs (let h : cond {A = ℕ} (i == j) 0 0 ≡ 0 = same_either (i == j) 0 in omega (arith, h)) ]
+
+pub opens_drain_settled : (i j : ℕ) (es : List Entry) → opens j es ≡ opens j (map (settle_drain i) es) + cond (i == j) (drain_opens i es) 0
+opens_drain_settled i j [] = let h : cond {A = ℕ} (i == j) 0 0 ≡ 0 = same_either (i == j) 0 in omega (arith, h)
+opens_drain_settled i j (Pre visit ∷ es) = let h = opens_drain_settled i j es in let m = ap (λ n. cond (i == j) n 0) (zero-add (drain_opens i es)) in omega (arith, h, m)
+opens_drain_settled i j (Base status information ∷ es) = let h = opens_drain_settled i j es in let m = ap (λ n. cond (i == j) n 0) (zero-add (drain_opens i es)) in omega (arith, h, m)
+opens_drain_settled i j (Post visit ∷ es) = let h = opens_drain_settled i j es in let m = ap (λ n. cond (i == j) n 0) (zero-add (drain_opens i es)) in omega (arith, h, m)
+opens_drain_settled i j (Drain visit ∷ es) = let h = opens_drain_settled i j es in let k = drain_at i j visit in let m = cond_sum (i == j) (one ((visit.instance.0 == i) && visit.is_running)) (drain_opens i es) in omega (arith, h, k, m)

@@ -1,0 +1,280 @@
+-- What the order of entries says: where the callback stands that runs or holds, and what may follow it.
+use Rattle.std.proofs.Common.{◌≡◌, ℕ, Bool, true, false, cond, List, [], ◌∷◌, ◌++◌, map, Option, Some, None, option_and_then, ◌⊎◌, inl, inr, refl, sym, ap, ap₂, ◌∙◌, subst}
+use Rattle.fm_flow.specs.declared.stage.Stage.{Stage}
+use Rattle.fm_flow.specs.declared.stage.Stage.TheVariants.{Descending, PreRunning, PreHeld, InBase, Ascending, PostRunning, PostHeld, InDrain}
+use Rattle.fm_flow.specs.declared.entry.PreState.{PreState}
+use Rattle.fm_flow.specs.declared.entry.PreState.TheVariants as pre
+use Rattle.fm_flow.specs.declared.entry.PostState.{PostState}
+use Rattle.fm_flow.specs.declared.entry.PostState.TheVariants as post
+use Rattle.fm_flow.specs.declared.entry.PreVisit.{PreVisit}
+use Rattle.fm_flow.specs.declared.entry.PostVisit.{PostVisit}
+use Rattle.fm_flow.specs.declared.entry.DrainVisit.{DrainVisit}
+use Rattle.fm_flow.specs.declared.entry.Entry.{Entry}
+use Rattle.fm_flow.specs.declared.entry.Entry.TheVariants.{Pre, Base, Post, Drain}
+use Rattle.fm_flow.specs.Entries.{visited, asked, posted, is_pre_open, is_post_open, settle_pre, settle_post}
+use Rattle.fm_flow.specs.Steps.{pre_leads, post_leads}
+use Rattle.fm_flow.specs.Sound.{if_down, if_up, after, walk, way_of}
+use Rattle.fm_flow.proofs.Lists.{either}
+
+pub walk-append : (s : Stage) (es fs : List Entry) → walk s (es ++ fs) ≡ option_and_then (λ t. walk t fs) (walk s es)
+walk-append s [] fs = refl
+walk-append s (e ∷ es) fs = elim (after s e) as (λ o. option_and_then (λ t. walk t (es ++ fs)) o ≡ option_and_then (λ t. walk t fs) (option_and_then (λ t. walk t es) o)) [ None ↦ refl | Some u ↦ walk-append u es fs ]
+
+pub walk_push : (s : Stage) (es : List Entry) (e : Entry) (t u : Stage) → walk s es ≡ Some t → after t e ≡ Some u → walk s (es ++ e ∷ []) ≡ Some u
+walk_push s es e t u w a = walk-append s es (e ∷ []) ∙ rw (w, a) refl
+
+-- ---- kinds of stages
+
+-- a preoperation runs or holds; a postoperation; either
+abbrev pub is_pre : Stage → Bool
+is_pre PreRunning = true
+is_pre PreHeld = true
+is_pre _ = false
+
+abbrev pub is_post : Stage → Bool
+is_post PostRunning = true
+is_post PostHeld = true
+is_post _ = false
+
+-- on the way down
+abbrev pub is_down : Stage → Bool
+is_down Descending = true
+is_down PreRunning = true
+is_down PreHeld = true
+is_down _ = false
+
+abbrev pub is_callback : Stage → Bool
+is_callback PreRunning = true
+is_callback PreHeld = true
+is_callback PostRunning = true
+is_callback PostHeld = true
+is_callback _ = false
+
+pub callback_of_pre : (s : Stage) → is_pre s ≡ true → is_callback s ≡ true
+callback_of_pre PreRunning p = refl
+callback_of_pre PreHeld p = refl
+callback_of_pre s p = cc
+
+pub callback_of_post : (s : Stage) → is_post s ≡ true → is_callback s ≡ true
+callback_of_post PostRunning p = refl
+callback_of_post PostHeld p = refl
+callback_of_post s p = cc
+
+pub way_of_pre : (s : Stage) → is_pre s ≡ true → way_of s ≡ s
+way_of_pre PreRunning p = refl
+way_of_pre PreHeld p = refl
+way_of_pre s p = cc
+
+pub way_of_post : (s : Stage) → is_post s ≡ true → way_of s ≡ s
+way_of_post PostRunning p = refl
+way_of_post PostHeld p = refl
+way_of_post s p = cc
+
+pub way_of_pre_leads : (state : PreState) → way_of (pre_leads state) ≡ pre_leads state
+way_of_pre_leads pre.Running = refl
+way_of_pre_leads pre.Held = refl
+way_of_pre_leads (pre.Asked completion) = refl
+way_of_pre_leads (pre.Synchronized completion) = refl
+way_of_pre_leads pre.Passed = refl
+way_of_pre_leads (pre.Completed status) = refl
+
+pub way_of_post_leads : (state : PostState) → way_of (post_leads state) ≡ post_leads state
+way_of_post_leads post.Running = refl
+way_of_post_leads post.Held = refl
+way_of_post_leads post.Finished = refl
+
+-- ---- nothing goes back down
+
+up_leads : (state : PostState) → is_down (post_leads state) ≡ false
+up_leads post.Running = refl
+up_leads post.Held = refl
+up_leads post.Finished = refl
+
+up_after_post : (s : Stage) (state : PostState) (u : Stage) → if_up s (post_leads state) ≡ Some u → is_down u ≡ false
+up_after_post Ascending state u k = let h = up_leads state in let e : post_leads state ≡ u = cc in rw (← e) h
+up_after_post s state u k = cc
+
+up_after : (s : Stage) (e : Entry) (u : Stage) → is_down s ≡ false → after s e ≡ Some u → is_down u ≡ false
+up_after s (Post visit) u up k = up_after_post s visit.state u k
+up_after s (Drain visit) u up k = cc
+up_after Descending e u up k = cc
+up_after s e u up k = cc
+
+up_stays : (s : Stage) (es : List Entry) (t : Stage) → is_down s ≡ false → walk s es ≡ Some t → is_down t ≡ false
+up_stays s [] t up w = cc
+up_stays s (e ∷ es) t up w = elim (after s e) as (λ o. after s e ≡ o → option_and_then (λ u. walk u es) o ≡ Some t → is_down t ≡ false) [ None ↦ λ k v. cc | Some u ↦ λ k v. up_stays u es t (up_after s e u up k) v ] refl w
+
+no_post_entry : (s : Stage) (visit : PostVisit) (es : List Entry) (u t : Stage) → if_up s (post_leads visit.state) ≡ Some u → walk u es ≡ Some t → is_down t ≡ true → posted (Post visit ∷ es) ≡ []
+no_post_entry s visit es u t k w d = let up = up_stays u es t (up_after_post s visit.state u k) w in cc
+
+no_post_here : (s : Stage) (e : Entry) (es : List Entry) (u t : Stage) → after s e ≡ Some u → walk u es ≡ Some t → is_down t ≡ true → posted es ≡ [] → posted (e ∷ es) ≡ []
+no_post_here s (Post visit) es u t k w d rest = no_post_entry s visit es u t k w d
+no_post_here s e es u t k w d rest = rest
+
+-- on the way down there is no postoperation
+pub no_posts : (s : Stage) (es : List Entry) (t : Stage) → walk s es ≡ Some t → is_down t ≡ true → posted es ≡ []
+no_posts s [] t w d = refl
+no_posts s (e ∷ es) t w d = elim (after s e) as (λ o. after s e ≡ o → option_and_then (λ u. walk u es) o ≡ Some t → posted (e ∷ es) ≡ []) [ None ↦ λ k v. cc | Some u ↦ λ k v. no_post_here s e es u t k v d (no_posts u es t v d) ] refl w
+
+-- ---- only drains follow a callback that runs or holds
+
+pub record Quiet (es : List Entry) : Type 0 where
+  pub asks : asked es ≡ []
+  pub visits : visited es ≡ []
+  pub posts : posted es ≡ []
+  pub walks : (s : Stage) → walk s es ≡ Some s
+  pub pre_stays : (state : PreState) → map (settle_pre state) es ≡ es
+  pub post_stays : (state : PostState) → map (settle_post state) es ≡ es
+
+quiet_nil : Quiet []
+quiet_nil = record { asks = refl; visits = refl; posts = refl; walks = λ s. refl; pre_stays = λ state. refl; post_stays = λ state. refl }
+
+quiet_cons : (visit : DrainVisit) (es : List Entry) → Quiet es → Quiet (Drain visit ∷ es)
+quiet_cons visit es q = record {
+  asks = q.asks;
+  visits = q.visits;
+  posts = q.posts;
+  walks = q.walks;
+  pre_stays = λ state. ap (λ fs. Drain visit ∷ fs) (q.pre_stays state);
+  post_stays = λ state. ap (λ fs. Drain visit ∷ fs) (q.post_stays state) }
+
+pub drains_follow : (s : Stage) (es : List Entry) (t : Stage) → walk s es ≡ Some t → is_callback s ≡ true → Quiet es
+drains_follow s [] t w k = quiet_nil
+drains_follow s (Drain visit ∷ es) t w k = quiet_cons visit es (drains_follow s es t w k)
+drains_follow Descending (e ∷ es) t w k = cc
+drains_follow s (e ∷ es) t w k = cc
+
+-- ---- the preoperation that runs or holds
+
+pub record OpenPre (s : Stage) (es : List Entry) : Type 0 where
+  pub front : List Entry
+  pub visit : PreVisit
+  pub back : List Entry
+  pub split : es ≡ front ++ Pre visit ∷ back
+  pub unsettled : is_pre_open visit.state ≡ true
+  pub down : walk s front ≡ Some Descending
+  pub stays : (state : PreState) → map (settle_pre state) front ≡ front
+  pub quiet : Quiet back
+
+open_state : (state : PreState) (u : Stage) → pre_leads state ≡ u → is_pre u ≡ true → is_pre_open state ≡ true
+open_state pre.Running u k p = refl
+open_state pre.Held u k p = refl
+open_state state u k p = cc
+
+closed_state : (state : PreState) (u : Stage) → pre_leads state ≡ u → is_pre u ≡ false → is_pre_open state ≡ false
+closed_state pre.Running u k p = cc
+closed_state pre.Held u k p = cc
+closed_state state u k p = refl
+
+post_is_no_pre : (state : PostState) (u : Stage) → post_leads state ≡ u → is_pre u ≡ true → ⊥
+post_is_no_pre post.Running u k p = cc
+post_is_no_pre post.Held u k p = cc
+post_is_no_pre post.Finished u k p = cc
+
+open_pre_here : (s : Stage) (e : Entry) (es : List Entry) (u t : Stage) → after s e ≡ Some u → walk u es ≡ Some t → is_pre u ≡ true → is_pre s ≡ false → OpenPre s (e ∷ es)
+open_pre_here Descending (Pre visit) es u t k w p q = record {
+  front = [];
+  visit = visit;
+  back = es;
+  split = refl;
+  unsettled = open_state visit.state u (cc) p;
+  down = refl;
+  stays = λ state. refl;
+  quiet = drains_follow u es t w (callback_of_pre u p) }
+open_pre_here Ascending (Post visit) es u t k w p q = absurd (post_is_no_pre visit.state u (cc) p)
+open_pre_here s (Drain visit) es u t k w p q = cc
+open_pre_here s e es u t k w p q = cc
+
+pre_closed : (s : Stage) (visit : PreVisit) (u : Stage) → if_down s (pre_leads visit.state) ≡ Some u → is_pre u ≡ false → is_pre_open visit.state ≡ false
+pre_closed Descending visit u k p = closed_state visit.state u (cc) p
+pre_closed s visit u k p = cc
+
+pre_stays_here : (s : Stage) (e : Entry) (u : Stage) (state : PreState) → after s e ≡ Some u → is_pre u ≡ false → settle_pre state e ≡ e
+pre_stays_here s (Pre visit) u state k p = let h = pre_closed s visit u k p in rw h refl
+pre_stays_here s (Base status information) u state k p = refl
+pre_stays_here s (Post visit) u state k p = refl
+pre_stays_here s (Drain visit) u state k p = refl
+
+open_pre_further : (s : Stage) (e : Entry) (es : List Entry) (u : Stage) → after s e ≡ Some u → is_pre u ≡ false → OpenPre u es → OpenPre s (e ∷ es)
+open_pre_further s e es u k p o = record {
+  front = e ∷ o.front;
+  visit = o.visit;
+  back = o.back;
+  split = ap (λ fs. e ∷ fs) o.split;
+  unsettled = o.unsettled;
+  down = rw k o.down;
+  stays = λ state. ap₂ (λ f fs. f ∷ fs) (pre_stays_here s e u state k p) (o.stays state);
+  quiet = o.quiet }
+
+pub open_pre : (s : Stage) (es : List Entry) (t : Stage) → walk s es ≡ Some t → is_pre t ≡ true → is_pre s ≡ false → OpenPre s es
+open_pre s [] t w p q = cc
+open_pre s (e ∷ es) t w p q = elim (after s e) as (λ o. after s e ≡ o → option_and_then (λ u. walk u es) o ≡ Some t → OpenPre s (e ∷ es)) [
+    None ↦ λ k v. cc
+  | Some u ↦ λ k v. elim (either (is_pre u)) [ inl now ↦ open_pre_here s e es u t k v now q | inr later ↦ open_pre_further s e es u k later (open_pre u es t v p later) ] ] refl w
+
+-- ---- the postoperation that runs or holds
+
+pub record OpenPost (s : Stage) (es : List Entry) : Type 0 where
+  pub front : List Entry
+  pub visit : PostVisit
+  pub back : List Entry
+  pub split : es ≡ front ++ Post visit ∷ back
+  pub unsettled : is_post_open visit.state ≡ true
+  pub up : walk s front ≡ Some Ascending
+  pub stays : (state : PostState) → map (settle_post state) front ≡ front
+  pub quiet : Quiet back
+
+open_post_state : (state : PostState) (u : Stage) → post_leads state ≡ u → is_post u ≡ true → is_post_open state ≡ true
+open_post_state post.Running u k p = refl
+open_post_state post.Held u k p = refl
+open_post_state post.Finished u k p = cc
+
+closed_post_state : (state : PostState) (u : Stage) → post_leads state ≡ u → is_post u ≡ false → is_post_open state ≡ false
+closed_post_state post.Running u k p = cc
+closed_post_state post.Held u k p = cc
+closed_post_state post.Finished u k p = refl
+
+pre_is_no_post : (state : PreState) (u : Stage) → pre_leads state ≡ u → is_post u ≡ true → ⊥
+pre_is_no_post pre.Running u k p = cc
+pre_is_no_post state u k p = cc
+
+open_post_here : (s : Stage) (e : Entry) (es : List Entry) (u t : Stage) → after s e ≡ Some u → walk u es ≡ Some t → is_post u ≡ true → is_post s ≡ false → OpenPost s (e ∷ es)
+open_post_here Ascending (Post visit) es u t k w p q = record {
+  front = [];
+  visit = visit;
+  back = es;
+  split = refl;
+  unsettled = open_post_state visit.state u (cc) p;
+  up = refl;
+  stays = λ state. refl;
+  quiet = drains_follow u es t w (callback_of_post u p) }
+open_post_here Descending (Pre visit) es u t k w p q = absurd (pre_is_no_post visit.state u (cc) p)
+open_post_here s (Drain visit) es u t k w p q = cc
+open_post_here s e es u t k w p q = cc
+
+post_closed : (s : Stage) (visit : PostVisit) (u : Stage) → if_up s (post_leads visit.state) ≡ Some u → is_post u ≡ false → is_post_open visit.state ≡ false
+post_closed Ascending visit u k p = closed_post_state visit.state u (cc) p
+post_closed s visit u k p = cc
+
+post_stays_here : (s : Stage) (e : Entry) (u : Stage) (state : PostState) → after s e ≡ Some u → is_post u ≡ false → settle_post state e ≡ e
+post_stays_here s (Post visit) u state k p = let h = post_closed s visit u k p in rw h refl
+post_stays_here s (Base status information) u state k p = refl
+post_stays_here s (Pre visit) u state k p = refl
+post_stays_here s (Drain visit) u state k p = refl
+
+open_post_further : (s : Stage) (e : Entry) (es : List Entry) (u : Stage) → after s e ≡ Some u → is_post u ≡ false → OpenPost u es → OpenPost s (e ∷ es)
+open_post_further s e es u k p o = record {
+  front = e ∷ o.front;
+  visit = o.visit;
+  back = o.back;
+  split = ap (λ fs. e ∷ fs) o.split;
+  unsettled = o.unsettled;
+  up = rw k o.up;
+  stays = λ state. ap₂ (λ f fs. f ∷ fs) (post_stays_here s e u state k p) (o.stays state);
+  quiet = o.quiet }
+
+pub open_post : (s : Stage) (es : List Entry) (t : Stage) → walk s es ≡ Some t → is_post t ≡ true → is_post s ≡ false → OpenPost s es
+open_post s [] t w p q = cc
+open_post s (e ∷ es) t w p q = elim (after s e) as (λ o. after s e ≡ o → option_and_then (λ u. walk u es) o ≡ Some t → OpenPost s (e ∷ es)) [
+    None ↦ λ k v. cc
+  | Some u ↦ λ k v. elim (either (is_post u)) [ inl now ↦ open_post_here s e es u t k v now q | inr later ↦ open_post_further s e es u k later (open_post u es t v p later) ] ] refl w

@@ -1,0 +1,125 @@
+-- All operations.
+use Rattle.std.specs.Prelude.{◌≡◌, ℕ, ◌+◌, ◌-◌, ◌^◌, ◌<◌, ◌≤◌, ◌==◌, ◌&&◌, ◌||◌, Bool, true, false, cond, not, List, [], ◌∷◌, ◌++◌, All, AllPairs, count_by, find, Option, Some, None, option_map, unwrap_or, Result, Ok, Err, nat_le}
+use Rattle.std.specs.List.{list_any}
+use Rattle.fm_types.specs.declared.ids.OpId.{OpId}
+use Rattle.fm_types.specs.declared.ids.VolumeId.{VolumeId}
+use Rattle.fm_types.specs.declared.ids.StreamId.{StreamId}
+use Rattle.fm_types.specs.declared.ids.HandleId.{HandleId}
+use Rattle.fm_types.specs.declared.ids.CtxId.{CtxId}
+use Rattle.fm_types.specs.declared.status.Status.{Status}
+use Rattle.fm_types.specs.declared.status.Status.TheVariants.{Success, TooMany, WrongStep}
+use Rattle.fm_data.specs.declared.params.Params.{Params}
+use Rattle.fm_data.specs.declared.answer.Answer.{Answer}
+use Rattle.fm_data.specs.Params.{operation_of, path_of}
+use Rattle.fm_flow.specs.declared.stage.Stage.TheVariants.{Descending}
+use Rattle.fm_flow.specs.Counts.{carried_by, flight, is_running_drain}
+use Rattle.fm_flow.specs.Record.{FlowRecord}
+use Rattle.fm_flow.specs.Steps.{bare_answer, is_done}
+use Rattle.fm_flow.specs.Sound.{IsSound}
+
+-- the operations in the order of their numbers, and the next number
+pub record FlowTable : Type 0 where
+  pub operations : List FlowRecord
+  pub next : ℕ
+
+abbrev pub empty_table : FlowTable
+empty_table = record { operations = []; next = 0 }
+
+-- the first that passes a test, changed; the others stay
+abbrev pub change_first : (FlowRecord → Bool) → (FlowRecord → FlowRecord) → List FlowRecord → List FlowRecord
+change_first test f [] = []
+change_first test f (r ∷ rs) = cond (test r) (f r ∷ rs) (r ∷ change_first test f rs)
+
+-- all but the first that passes a test
+abbrev pub without_first : (FlowRecord → Bool) → List FlowRecord → List FlowRecord
+without_first test [] = []
+without_first test (r ∷ rs) = cond (test r) rs (r ∷ without_first test rs)
+
+abbrev pub is_number : OpId → FlowRecord → Bool
+is_number o r = r.number.0 == o.0
+
+-- the operation of that number
+abbrev pub operation_at : OpId → FlowTable → Option FlowRecord
+operation_at o t = find (is_number o) t.operations
+
+-- what a step makes of that operation; all others stay
+abbrev pub changed : OpId → (FlowRecord → FlowRecord) → FlowTable → FlowTable
+changed o f t = record t { operations = change_first (is_number o) f t.operations }
+
+abbrev pub removed : OpId → FlowTable → FlowTable
+removed o t = record t { operations = without_first (is_number o) t.operations }
+
+-- what that operation tells, and something else where there is none
+abbrev pub told : {A : Type 0} → (FlowRecord → A) → A → OpId → FlowTable → A
+told f otherwise o t = unwrap_or (option_map f (operation_at o t)) otherwise
+
+-- ---- begin
+
+-- how many operations weren't collected
+abbrev pub under_way : List FlowRecord → ℕ
+under_way rs = count_by (λ r. not r.collected) rs
+
+-- 256 at once, and no number twice
+abbrev pub is_full : FlowTable → Bool
+is_full t = nat_le 256 (under_way t.operations) || (t.next == 2 ^ 64 - 1)
+
+abbrev pub begun_record : ℕ → VolumeId → Option StreamId → Option HandleId → ℕ → Params → FlowRecord
+begun_record number volume stream handle born params = record {
+  number = record { 0 = number };
+  operation = operation_of params;
+  volume = volume;
+  stream = stream;
+  handle = handle;
+  born = born;
+  path = path_of params;
+  params = Some params;
+  answer = bare_answer Success;
+  stage = Descending;
+  entries = [];
+  kept = [];
+  collected = false }
+
+abbrev pub begun : VolumeId → Option StreamId → Option HandleId → ℕ → Params → FlowTable → FlowTable
+begun volume stream handle born params t = record { operations = t.operations ++ begun_record t.next volume stream handle born params ∷ []; next = t.next + 1 }
+
+-- ---- collect
+
+abbrev pub is_collectable : FlowRecord → Bool
+is_collectable r = not r.collected && is_done r
+
+abbrev pub collect_reply : FlowRecord → Result Answer Status
+collect_reply r = cond (is_collectable r) (Ok r.answer) (Err WrongStep)
+
+-- the answer is out: only a drain that still runs needs the record
+abbrev pub marked : FlowRecord → FlowRecord
+marked r = record r { answer = record r.answer { bytes = [] }; collected = true }
+
+abbrev pub collected_in : OpId → FlowTable → Option FlowRecord → FlowTable
+collected_in o t None = t
+collected_in o t (Some r) = cond (is_collectable r) (cond (list_any is_running_drain r.entries) (changed o marked t) (removed o t)) t
+
+abbrev pub collected_of : OpId → FlowTable → FlowTable
+collected_of o t = collected_in o t (operation_at o t)
+
+-- ---- counts
+
+abbrev pub total : (FlowRecord → ℕ) → List FlowRecord → ℕ
+total f [] = 0
+total f (r ∷ rs) = f r + total f rs
+
+-- how many references to a context the completions of owed postoperations carry
+abbrev pub carried : CtxId → FlowTable → ℕ
+carried c t = total (carried_by c) t.operations
+
+-- how many operations are in flight at an instance
+abbrev pub in_flight : ℕ → FlowTable → ℕ
+in_flight i t = total (flight i) t.operations
+
+-- ---- laws
+
+pub record IsFlow (t : FlowTable) : Type 0 where
+  pub sound : All IsSound t.operations
+  -- each number stands once, in ascending order, below the next
+  pub ascending : AllPairs (λ r s. r.number.0 < s.number.0) t.operations
+  pub below : All (λ r. r.number.0 < t.next) t.operations
+  pub few : under_way t.operations ≤ 256

@@ -1,0 +1,18 @@
+//! Operations on their way through the instances of a volume: down by preoperations, to the base, and
+//! up by the postoperations that were asked for, in the reverse order. This crate knows no instances:
+//! it is told which one lies below and whether one is being torn down.
+#![tactic(auto)]
+
+mod action;
+mod entry;
+mod flow;
+mod operation_record;
+mod stage;
+mod verdict;
+
+pub use crate::action::{Below, FlowAction};
+pub use crate::entry::{Ask, DrainVisit, Entry, PostState, PostVisit, PreState, PreVisit};
+pub use crate::flow::Flow;
+pub use crate::operation_record::OperationRecord;
+pub use crate::stage::Stage;
+pub use crate::verdict::counted;

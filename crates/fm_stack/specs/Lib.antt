@@ -1,0 +1,7 @@
+pub mod StackWorld
+pub mod Instances
+pub mod Next
+pub mod Events
+pub mod Follows
+pub mod Stacks
+pub mod Search

@@ -1,0 +1,116 @@
+//! Instances: one attachment of a filter to a volume, at an altitude.
+
+ghost use Rattle.std.specs.Prelude.{◌≡◌};
+ghost use Rattle.fm_stack.specs.Events.{has_name_on, has_altitude_on, new_instance, accept_row, refuse_row};
+ghost use Rattle.fm_stack.specs.Instances.{is_lower, is_live_on};
+
+use fm_altitude::Altitude;
+use fm_types::{FilterId, Name, VolumeId};
+
+/// How far an instance's life has come.
+#[derive(Clone, Copy, Debug, PartialEq, Eq)]
+pub enum Phase {
+    /// In its setup callback.
+    Setup,
+    /// It is called for the operations that its filter registered.
+    Attached,
+    /// Being torn down: it gets no new operation.
+    Stopping,
+    /// In its teardown-complete callback.
+    Completing,
+    /// Its contexts are unlinked and wait for their cleanup.
+    Emptying,
+    /// Gone. Its name and altitude are free again.
+    Detached,
+}
+
+/// Whether the teardown-start callback was made.
+#[derive(Clone, Copy, Debug, PartialEq, Eq)]
+pub enum StartMark {
+    /// It wasn't made.
+    NotMade,
+    /// It runs.
+    Made,
+    /// It returned.
+    Returned,
+}
+
+/// An instance that was attached in this run. Rows are kept for good.
+#[derive(Drop)]
+pub struct Instance {
+    /// Whose instance it is.
+    pub filter: FilterId,
+    /// The volume that it is attached to.
+    pub volume: VolumeId,
+    /// Its name, which no other instance on the volume has that isn't detached.
+    pub name: Name,
+    /// Its altitude, which no other instance on the volume has that isn't detached.
+    pub altitude: Altitude,
+    /// How many instances became attached before it did; 0 until it is attached.
+    pub birth: u64,
+    /// How far its life has come.
+    pub phase: Phase,
+    /// Whether its teardown-start callback was made.
+    pub start: StartMark,
+}
+
+impl Instance {
+    /// An instance that begins its setup.
+    pub fn new(filter: FilterId, volume: VolumeId, name: Name, altitude: Altitude) -> Instance
+        ensures { result ≡ new_instance filter volume name altitude }
+    {
+        Instance {
+            filter,
+            volume,
+            name,
+            altitude,
+            birth: 0,
+            phase: Phase::Setup,
+            start: StartMark::NotMade,
+        }
+    }
+
+    /// Whether the instance is on that volume and isn't detached, so that it takes up its name and its
+    /// altitude there.
+    pub fn is_live_on(&self, volume: VolumeId) -> bool
+        ensures { result ≡ is_live_on volume self.now }
+    {
+        self.volume.0 == volume.0 && !matches!(self.phase, Phase::Detached)
+    }
+
+    /// Whether the instance takes up that name on that volume.
+    pub fn has_name_on(&self, volume: VolumeId, name: &Name) -> bool
+        ensures { result ≡ has_name_on volume name.now self.now }
+    {
+        self.is_live_on(volume) && self.name == *name
+    }
+
+    /// Whether the instance takes up that altitude on that volume.
+    pub fn has_altitude_on(&self, volume: VolumeId, altitude: &Altitude) -> bool
+        ensures { result ≡ has_altitude_on volume altitude.now self.now }
+    {
+        self.is_live_on(volume) && self.altitude.cmp(altitude).is_eq()
+    }
+
+    /// Whether the instance stands lower than the other one.
+    pub fn is_lower(&self, other: &Instance) -> bool
+        ensures { result ≡ is_lower self.now.altitude other.now.altitude }
+    {
+        self.altitude.cmp(&other.altitude).is_lt()
+    }
+
+    /// Ends the setup: the instance is attached, and was born as the next behind that many.
+    pub fn accept(&mut self, births: u64)
+        ensures { self.new ≡ accept_row births self.old }
+    {
+        self.phase = Phase::Attached;
+        self.birth = births;
+    }
+
+    /// Ends the setup of an instance that isn't to be attached: it leaves again.
+    pub fn refuse(&mut self)
+        ensures { self.new ≡ refuse_row self.old }
+    {
+        self.phase = Phase::Emptying;
+    }
+}

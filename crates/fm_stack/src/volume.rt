@@ -1,0 +1,37 @@
+//! Volumes: a name, and how far a dismount has come.
+
+ghost use Rattle.std.specs.Prelude.{◌≡◌};
+ghost use Rattle.fm_stack.specs.Events.{is_mounted_phase};
+
+use fm_types::Name;
+
+/// How far a volume's dismount has come.
+#[derive(Clone, Copy, Debug, PartialEq, Eq)]
+pub enum VolumePhase {
+    /// In use.
+    Mounted,
+    /// No instance is attached and no operation begins any more.
+    Dismounting,
+    /// Its volume contexts are unlinked.
+    Emptied,
+    /// Dismounted for good. It keeps its number and its name.
+    Finished,
+}
+
+/// A volume that was mounted in this run. Rows are kept for good.
+#[derive(Drop)]
+pub struct Volume {
+    /// Its name, which no other volume has.
+    pub name: Name,
+    /// How far its dismount has come.
+    pub phase: VolumePhase,
+}
+
+impl Volume {
+    /// Whether the volume is in use: no dismount of it has begun.
+    pub fn is_mounted(&self) -> bool
+        ensures { result ≡ is_mounted_phase self.now.phase }
+    {
+        matches!(self.phase, VolumePhase::Mounted)
+    }
+}

@@ -1,0 +1,238 @@
+-- What each step of an operation leaves of its place among the instances.
+use Rattle.std.proofs.Common.{◌≡◌, ℕ, ◌≤◌, ◌<◌, ◌||◌, Bool, true, false, List, [], ◌∷◌, ◌++◌, map, Option, Some, None, length, refl, ap, sym, ◌∙◌, subst, arith, count_by}
+use Rattle.std.specs.Prelude.{All, filter_map, option_and_then}
+use Rattle.std.specs.List.{cons_option}
+use Rattle.std.proofs.lemmas.Bool.{false≢true}
+use Rattle.std.proofs.lemmas.Option.{same_Some, none-some, slice_get_within}
+use Rattle.std.proofs.lemmas.List.{append-nil}
+use Rattle.std.proofs.lemmas.List.Elements.{filter_map-append, All-nil, All-head, All-tail, All-push, All-weaker}
+use Rattle.std.proofs.lemmas.List.Folds.{list_any-append}
+use Rattle.fm_types.specs.declared.ids.VolumeId.{VolumeId}
+use Rattle.fm_types.specs.declared.status.Status.{Status}
+use Rattle.fm_types.specs.declared.operation.Operation.{Operation}
+use Rattle.fm_flow.specs.declared.stage.Stage.{Stage}
+use Rattle.fm_flow.specs.declared.stage.Stage.TheVariants.{Descending, InBase, Ascending, PostRunning, PostHeld}
+use Rattle.fm_flow.specs.declared.entry.Entry.{Entry}
+use Rattle.fm_flow.specs.declared.entry.Entry.TheVariants.{Pre, Base, Post, Drain}
+use Rattle.fm_flow.specs.declared.entry.PreVisit.{PreVisit}
+use Rattle.fm_flow.specs.declared.entry.PreState.{PreState}
+use Rattle.fm_flow.specs.declared.entry.PostState.{PostState}
+use Rattle.fm_flow.specs.declared.entry.PostState.TheVariants as post
+use Rattle.fm_flow.specs.Entries.{visit_of, visited, last_visited, is_base, has_base, settle_pre, settle_post, settle_drain}
+use Rattle.fm_flow.specs.Steps.{post_leads}
+use Rattle.fm_flow.specs.Sound.{after, walk, way_of, if_down}
+use Rattle.fm_stack.specs.StackWorld.{StackWorld}
+use Rattle.fm_stack.specs.Next.{is_candidate, is_to_visit, IsHighest}
+use Rattle.fm_stack.specs.Follows.{Follows}
+use Rattle.fm_stack.specs.Stacks.{IsStack}
+use Rattle.fm_world.specs.Descent.{IsDescent, HasRoom, last_of}
+use Rattle.fm_world.specs.Sound.{IsAmongAt, NoneLeft}
+use Rattle.fm_world.proofs.Descents.{descent_begins, descent_visits, descent_reaches, descent_follows, none_follows, room_begins, room_visits, room_follows, last_of-cons}
+
+-- ---- an operation on its way down has no base entry
+
+abbrev pub is_up : Stage → Bool
+is_up Ascending = true
+is_up PostRunning = true
+is_up PostHeld = true
+is_up _ = false
+
+walk_on : (next : Option Stage) (es : List Entry) (t : Stage) → option_and_then (λ s. walk s es) next ≡ Some t → (s : Stage) × (next ≡ Some s) × (walk s es ≡ Some t)
+walk_on None es t h = absurd (none-some t h)
+walk_on (Some s) es t h = (s, refl, h)
+
+post_up : (state : PostState) → is_up (post_leads state) ≡ true
+post_up post.Running = refl
+post_up post.Held = refl
+post_up post.Finished = refl
+
+after_up : (s : Stage) (e : Entry) (t : Stage) → is_up s ≡ true → after s e ≡ Some t → is_up t ≡ true
+after_up Ascending (Pre visit) t u h = absurd (none-some t h)
+after_up Ascending (Base status information) t u h = absurd (none-some t h)
+after_up Ascending (Post visit) t u h = ap is_up (sym (same_Some (post_leads visit.state) t h)) ∙ post_up visit.state
+after_up PostRunning (Pre visit) t u h = absurd (none-some t h)
+after_up PostRunning (Base status information) t u h = absurd (none-some t h)
+after_up PostRunning (Post visit) t u h = absurd (none-some t h)
+after_up PostHeld (Pre visit) t u h = absurd (none-some t h)
+after_up PostHeld (Base status information) t u h = absurd (none-some t h)
+after_up PostHeld (Post visit) t u h = absurd (none-some t h)
+after_up s (Drain visit) t u h = ap is_up (sym (same_Some s t h)) ∙ u
+after_up s e t u h = absurd (false≢true u)
+
+stays_up : (s : Stage) (es : List Entry) (t : Stage) → is_up s ≡ true → walk s es ≡ Some t → is_up t ≡ true
+stays_up s [] t u h = ap is_up (sym (same_Some s t h)) ∙ u
+stays_up s (e ∷ es) t u h = let k = walk_on (after s e) es t h in stays_up k.0 es t (after_up s e k.0 u k.1) k.2
+
+base_leads_up : (s t : Stage) → if_down s Ascending ≡ Some t → is_up t ≡ true
+base_leads_up Descending t h = ap is_up (sym (same_Some Ascending t h))
+base_leads_up _ t h = absurd (none-some t h)
+
+no_base_from : (s : Stage) (es : List Entry) (t : Stage) → walk s es ≡ Some t → is_up t ≡ false → has_base es ≡ false
+no_base_from s [] t h u = refl
+no_base_from s (Pre visit ∷ es) t h u = let k = walk_on (after s (Pre visit)) es t h in no_base_from k.0 es t k.2 u
+no_base_from s (Base status information ∷ es) t h u =
+    let k = walk_on (after s (Base status information)) es t h in
+    absurd (false≢true (sym u ∙ stays_up k.0 es t (base_leads_up s k.0 k.1) k.2))
+no_base_from s (Post visit ∷ es) t h u = let k = walk_on (after s (Post visit)) es t h in no_base_from k.0 es t k.2 u
+no_base_from s (Drain visit ∷ es) t h u = let k = walk_on (after s (Drain visit)) es t h in no_base_from k.0 es t k.2 u
+
+pub no_base : (s : Stage) (es : List Entry) → walk Descending es ≡ Some (way_of s) → is_up (way_of s) ≡ false → has_base es ≡ false
+no_base s es h u = no_base_from Descending es (way_of s) h u
+
+-- ---- what the entries say after one more, and after they were settled
+
+visited_push : (es : List Entry) (e : Entry) → visited (es ++ e ∷ []) ≡ visited es ++ filter_map visit_of (e ∷ [])
+visited_push es e = filter_map-append visit_of es (e ∷ [])
+
+base_push : (es : List Entry) (e : Entry) → has_base (es ++ e ∷ []) ≡ (has_base es || (is_base e || false))
+base_push es e = list_any-append is_base es (e ∷ [])
+
+or_false : (a : Bool) → (a || (false || false)) ≡ a
+or_false true = refl
+or_false false = refl
+
+or_true : (a : Bool) → (a || (true || false)) ≡ true
+or_true true = refl
+or_true false = refl
+
+last_holds : (P : ℕ → Type 0) (is : List ℕ) (l : ℕ) → All P is → last_of is ≡ Some l → P l
+last_holds P [] l all h = absurd (none-some l h)
+last_holds P (i ∷ []) l all h = subst P (same_Some i l h) (All-head P i [] all)
+last_holds P (i ∷ j ∷ is) l all h = last_holds P (j ∷ is) l (All-tail P i (j ∷ is) all) (sym (last_of-cons i j is) ∙ h)
+
+-- the parts of an operation's place, over its visits and whether the base was reached
+record Stands (s : StackWorld) (v : VolumeId) (born : ℕ) (operation : Operation) (visits : List ℕ) (reached : Bool) : Type 0 where
+  pub descent : IsDescent s v born operation visits reached
+  pub room : HasRoom s v born operation visits
+  pub there : All (λ i. i < length s.instances) visits
+
+among_from : (s : StackWorld) (v : VolumeId) (born : ℕ) (operation : Operation) (entries : List Entry) (stage : Stage) (visits : List ℕ) (reached : Bool)
+    → visited entries ≡ visits → has_base entries ≡ reached → Stands s v born operation visits reached
+    → (stage ≡ InBase → NoneLeft s v (last_visited entries) born operation) → IsAmongAt s v born operation entries stage
+among_from s v born operation entries stage visits reached ve be h base =
+    let k = subst (λ b. Stands s v born operation (visited entries) b) (sym be) (subst (λ x. Stands s v born operation x reached) (sym ve) h) in
+    record { descent = k.descent; room = k.room; there = k.there; base = base }
+
+stands_of : {s : StackWorld} {v : VolumeId} {born : ℕ} {operation : Operation} (entries : List Entry) (stage : Stage)
+    → IsAmongAt s v born operation entries stage → Stands s v born operation (visited entries) (has_base entries)
+stands_of entries stage h = record { descent = h.descent; room = h.room; there = h.there }
+
+-- a visit of the next instance
+pub among_visits : (s : StackWorld) (v : VolumeId) (born : ℕ) (operation : Operation) (entries : List Entry) (before stage : Stage) (visit : PreVisit)
+    → IsStack s → has_base entries ≡ false → (stage ≡ InBase → ⊥)
+    → IsHighest (is_candidate s v (last_visited entries) born operation) s.instances visit.instance.0
+    → IsAmongAt s v born operation entries before → IsAmongAt s v born operation (entries ++ Pre visit ∷ []) stage
+among_visits s v born operation entries before stage visit stack none other next h =
+    let descent = subst (λ b. IsDescent s v born operation (visited entries) b) none h.descent in
+    among_from s v born operation (entries ++ Pre visit ∷ []) stage (visited entries ++ visit.instance.0 ∷ []) false
+    (visited_push entries (Pre visit)) (base_push entries (Pre visit) ∙ or_false (has_base entries) ∙ none)
+    (record {
+      descent = descent_visits s v born operation (visited entries) visit.instance.0 stack descent next;
+      room = room_visits s v born operation (visited entries) visit.instance.0 h.room next;
+      there = All-push (λ i. i < length s.instances) (visited entries) visit.instance.0 h.there (slice_get_within s.instances visit.instance.0 next.row next.there);
+    })
+    (λ e. absurd (other e))
+
+-- a postoperation, or a drain
+pub among_other : (s : StackWorld) (v : VolumeId) (born : ℕ) (operation : Operation) (entries : List Entry) (before stage : Stage) (e : Entry)
+    → visit_of e ≡ None → is_base e ≡ false → (stage ≡ InBase → ⊥)
+    → IsAmongAt s v born operation entries before → IsAmongAt s v born operation (entries ++ e ∷ []) stage
+among_other s v born operation entries before stage e no_visit not_base other h =
+    among_from s v born operation (entries ++ e ∷ []) stage (visited entries) (has_base entries)
+    (visited_push entries e ∙ ap (λ m. visited entries ++ cons_option m []) no_visit ∙ append-nil (visited entries))
+    (base_push entries e ∙ ap (λ b. has_base entries || (b || false)) not_base ∙ or_false (has_base entries))
+    (stands_of entries before h) (λ k. absurd (other k))
+
+-- the answer of the base
+pub among_base : (s : StackWorld) (v : VolumeId) (born : ℕ) (operation : Operation) (entries : List Entry) (before : Stage) (status : Status) (information : ℕ)
+    → has_base entries ≡ false → NoneLeft s v (last_visited entries) born operation
+    → IsAmongAt s v born operation entries before → IsAmongAt s v born operation (entries ++ Base status information ∷ []) Ascending
+among_base s v born operation entries before status information none left h =
+    let descent = subst (λ b. IsDescent s v born operation (visited entries) b) none h.descent in
+    among_from s v born operation (entries ++ Base status information ∷ []) Ascending (visited entries) true
+    (visited_push entries (Base status information) ∙ append-nil (visited entries))
+    (base_push entries (Base status information) ∙ or_true (has_base entries))
+    (record { descent = descent_reaches s v born operation (visited entries) descent left; room = h.room; there = h.there })
+    (λ e. absurd (ascending_is_not e))
+  where
+    ascending_is_not : Ascending ≡ InBase → ⊥
+    ascending_is_not e = cc
+
+-- the entries are settled
+map_visits : (f : Entry → Entry) (es : List Entry) → ((e : Entry) → visit_of (f e) ≡ visit_of e) → visited (map f es) ≡ visited es
+map_visits f [] same = refl
+map_visits f (e ∷ es) same =
+    rw (same e) (ap (λ xs. cons_option (visit_of e) xs) (map_visits f es same))
+
+map_base : (f : Entry → Entry) (es : List Entry) → ((e : Entry) → is_base (f e) ≡ is_base e) → has_base (map f es) ≡ has_base es
+map_base f [] same = refl
+map_base f (e ∷ es) same = rw (same e) (ap (λ b. is_base e || b) (map_base f es same))
+
+pub among_settles : (s : StackWorld) (v : VolumeId) (born : ℕ) (operation : Operation) (entries : List Entry) (before stage : Stage) (f : Entry → Entry)
+    → ((e : Entry) → visit_of (f e) ≡ visit_of e) → ((e : Entry) → is_base (f e) ≡ is_base e) → (stage ≡ InBase → ⊥)
+    → IsAmongAt s v born operation entries before → IsAmongAt s v born operation (map f entries) stage
+among_settles s v born operation entries before stage f visits bases other h =
+    among_from s v born operation (map f entries) stage (visited entries) (has_base entries) (map_visits f entries visits) (map_base f entries bases)
+    (stands_of entries before h) (λ k. absurd (other k))
+
+pub settle_pre_visit : (state : PreState) (e : Entry) → visit_of (settle_pre state e) ≡ visit_of e
+settle_pre_visit state (Pre visit) = refl
+settle_pre_visit state (Base status information) = refl
+settle_pre_visit state (Post visit) = refl
+settle_pre_visit state (Drain visit) = refl
+
+pub settle_pre_base : (state : PreState) (e : Entry) → is_base (settle_pre state e) ≡ is_base e
+settle_pre_base state (Pre visit) = refl
+settle_pre_base state (Base status information) = refl
+settle_pre_base state (Post visit) = refl
+settle_pre_base state (Drain visit) = refl
+
+pub settle_post_visit : (state : PostState) (e : Entry) → visit_of (settle_post state e) ≡ visit_of e
+settle_post_visit state (Pre visit) = refl
+settle_post_visit state (Base status information) = refl
+settle_post_visit state (Post visit) = refl
+settle_post_visit state (Drain visit) = refl
+
+pub settle_post_base : (state : PostState) (e : Entry) → is_base (settle_post state e) ≡ is_base e
+settle_post_base state (Pre visit) = refl
+settle_post_base state (Base status information) = refl
+settle_post_base state (Post visit) = refl
+settle_post_base state (Drain visit) = refl
+
+pub settle_drain_visit : (i : ℕ) (e : Entry) → visit_of (settle_drain i e) ≡ visit_of e
+settle_drain_visit i (Pre visit) = refl
+settle_drain_visit i (Base status information) = refl
+settle_drain_visit i (Post visit) = refl
+settle_drain_visit i (Drain visit) = refl
+
+pub settle_drain_base : (i : ℕ) (e : Entry) → is_base (settle_drain i e) ≡ is_base e
+settle_drain_base i (Pre visit) = refl
+settle_drain_base i (Base status information) = refl
+settle_drain_base i (Post visit) = refl
+settle_drain_base i (Drain visit) = refl
+
+-- every event of the stack leaves each operation in place
+pub among_follows : (s t : StackWorld) (v : VolumeId) (born : ℕ) (operation : Operation) (entries : List Entry) (stage : Stage)
+    → Follows s t → IsAmongAt s v born operation entries stage → IsAmongAt t v born operation entries stage
+among_follows s t v born operation entries stage f h =
+    let last : (l : ℕ) → last_of (visited entries) ≡ Some l → l < length s.instances =
+    λ l e. last_holds (λ i. i < length s.instances) (visited entries) l h.there e in
+    record {
+      descent = descent_follows s t v born operation (visited entries) (has_base entries) f h.room.past h.descent;
+      room = room_follows s t v born operation (visited entries) f last h.room;
+      there = All-weaker (λ i. i < length s.instances) (λ i. i < length t.instances) (λ i k. omega (arith, k, f.longer)) (visited entries) h.there;
+      base = λ e. none_follows s t v born operation (last_of (visited entries)) f h.room.past last (h.base e);
+    }
+
+-- an operation begins
+pub among_begins : (s : StackWorld) (v : VolumeId) (operation : Operation)
+    → count_by (is_to_visit s v s.births operation) s.instances ≤ 32 → IsAmongAt s v s.births operation [] Descending
+among_begins s v operation few = record {
+  descent = descent_begins s v operation;
+  room = room_begins s v operation few;
+  there = All-nil (λ i. i < length s.instances);
+  base = λ e. absurd (descending_is_not e);
+}
+  where
+    descending_is_not : Descending ≡ InBase → ⊥
+    descending_is_not e = cc

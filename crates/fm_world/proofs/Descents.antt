@@ -1,0 +1,298 @@
+-- A visit of the next instance, the call of the base, and every event of the stack keep an operation's descent.
+use Rattle.std.proofs.Common.{◌≡◌, ℕ, zero, suc, ◌+◌, ◌≤◌, ◌<◌, Bool, true, false, not, ◌&&◌, ◌||◌, ◌==◌, List, [], ◌∷◌, ◌++◌, reverse, Option, Some, None, length, get_or, refl, ap, sym, ◌∙◌, subst, arith, count_by, length-append, inl, inr}
+use Rattle.std.specs.Prelude.{slice_get, option_map, AllPairs, nat_lt}
+use Rattle.std.proofs.lemmas.Option.{slice_get_within, slice_get-get_or, get_or_from_slice_get}
+use Rattle.std.proofs.lemmas.List.{reverse-append}
+use Rattle.std.proofs.lemmas.List.Quantifiers.{all_pairs_push}
+use Rattle.std.proofs.lemmas.Bool.{cases_order, and_parts, and_from, and_right, eqb-true, eq-eqb, ne_eqb, false≢true}
+use Rattle.fm_types.specs.declared.ids.VolumeId.{VolumeId}
+use Rattle.fm_types.specs.declared.operation.Operation.{Operation}
+use Rattle.fm_stack.specs.declared.instance.Instance.{Instance}
+use Rattle.fm_stack.specs.declared.instance.Phase.{Phase}
+use Rattle.fm_stack.specs.declared.instance.Phase.TheVariants as phase
+use Rattle.fm_stack.specs.StackWorld.{StackWorld}
+use Rattle.fm_stack.specs.Instances.{is_lower, is_lower_at, is_lower_option, altitude_at, clashes, same_altitude, same_name, is_live_on, is_attached, is_detached}
+use Rattle.fm_stack.specs.Next.{is_to_visit, is_below_cursor, is_candidate, is_registered, IsHighest, NonePasses}
+use Rattle.fm_stack.specs.Follows.{Follows}
+use Rattle.fm_stack.specs.Stacks.{IsStack}
+use Rattle.fm_world.specs.Descent.{IsDescent, HasRoom, last_of, is_among}
+use Rattle.fm_world.proofs.Counts.{count-some, count-le, count-lt}
+use Rattle.fm_world.proofs.Altitudes.{lower_irrefl, lower_or, same_sym, option_trans, option_irrefl, option_follows}
+
+pub last_of-push : (is : List ℕ) (i : ℕ) → last_of (is ++ i ∷ []) ≡ Some i
+last_of-push is i = ap (λ (xs : List ℕ). slice_get xs 0) (reverse-append is (i ∷ []))
+
+first_stays : (xs : List ℕ) (x y : ℕ) → slice_get (xs ++ x ∷ y ∷ []) 0 ≡ slice_get (xs ++ x ∷ []) 0
+first_stays [] x y = refl
+first_stays (z ∷ xs) x y = refl
+
+-- more before the last one
+pub last_of-cons : (i j : ℕ) (is : List ℕ) → last_of (i ∷ j ∷ is) ≡ last_of (j ∷ is)
+last_of-cons i j is =
+    let first = λ (xs : List ℕ). slice_get xs 0 in
+    ap first (reverse-append (i ∷ j ∷ []) is) ∙ first_stays (reverse is) j i ∙ ap first (sym (reverse-append (j ∷ []) is))
+
+-- what is lower than the last visit is lower than all of them
+below_all : (s : StackWorld) (a : Option (List ℕ)) (is : List ℕ) → AllPairs (λ i j. is_lower_at s j i ≡ true) is
+    → ((l : ℕ) → last_of is ≡ Some l → is_lower_option a (altitude_at s l) ≡ true)
+    → (k : ℕ) (d : ℕ) → k < length is → is_lower_option a (altitude_at s (get_or is k d)) ≡ true
+below_all s a [] falls low k d h = absurd (omega arith)
+below_all s a (i ∷ []) falls low zero d h = low i refl
+below_all s a (i ∷ []) falls low (suc k) d h = absurd (omega arith)
+below_all s a (i ∷ j ∷ is) falls low (suc k) d h =
+    below_all s a (j ∷ is) (λ m n e p q. falls (suc m) (suc n) e (omega arith) (omega arith)) (λ l e. low l (last_of-cons i j is ∙ e)) k d (omega arith)
+below_all s a (i ∷ j ∷ is) falls low zero d h =
+    option_trans a (altitude_at s j) (altitude_at s i)
+    (below_all s a (j ∷ is) (λ m n e p q. falls (suc m) (suc n) e (omega arith) (omega arith)) (λ l e. low l (last_of-cons i j is ∙ e)) 0 d (omega arith))
+    (falls 0 1 d (omega arith) (omega arith))
+
+pub or_left : (a b : Bool) → (a || b) ≡ false → a ≡ false
+or_left false b h = refl
+or_left true b h = h
+
+pub or_right : (a b : Bool) → (a || b) ≡ false → b ≡ false
+or_right false b h = h
+or_right true b h = cc
+
+-- a candidate is below the last visit
+below_last : (s : StackWorld) (cursor : Option ℕ) (row : Instance) → is_below_cursor s cursor row ≡ true
+    → (l : ℕ) → cursor ≡ Some l → is_lower_option (Some row.altitude) (altitude_at s l) ≡ true
+below_last s cursor row h l e = subst (λ (c : Option ℕ). is_below_cursor s c row ≡ true) e h
+
+altitude_there : (s : StackWorld) (i : ℕ) (row : Instance) → slice_get s.instances i ≡ Some row → altitude_at s i ≡ Some row.altitude
+altitude_there s i row h = ap (option_map (λ (r : Instance). r.altitude)) h
+
+attached_stays : (p : Phase) → is_attached p ≡ true → not (is_detached p) ≡ true
+attached_stays phase.Detached h = cc
+attached_stays _ h = refl
+
+-- what an operation is to visit
+record IsThere (v : VolumeId) (row : Instance) : Type 0 where
+  pub volume : row.volume.0 ≡ v.0
+  pub stays : not (is_detached row.phase) ≡ true
+
+to_visit_there : (s : StackWorld) (v : VolumeId) (born : ℕ) (operation : Operation) (row : Instance)
+    → is_to_visit s v born operation row ≡ true → IsThere v row
+to_visit_there s v born operation row h =
+    let parts = and_parts (is_attached row.phase) ((row.volume.0 == v.0) && (nat_lt row.birth born && is_registered s.filters row.filter operation)) h in
+    let more = and_parts (row.volume.0 == v.0) (nat_lt row.birth born && is_registered s.filters row.filter operation) parts.1 in
+    record { volume = eqb-true row.volume.0 v.0 more.0; stays = attached_stays row.phase parts.0 }
+
+live_there : (v : VolumeId) (a b : Instance) → IsThere v a → IsThere v b → is_live_on a.volume b ≡ true
+live_there v a b g h = and_from (b.volume.0 == a.volume.0) (not (is_detached b.phase)) (eq-eqb b.volume.0 a.volume.0 (h.volume ∙ sym g.volume)) h.stays
+
+clash_parts : (x y n m : Bool) → (x && (y && (n || m))) ≡ false → x ≡ true → y ≡ true → m ≡ false
+clash_parts true true n m h a b = or_right n m h
+clash_parts true false n m h a b = cc
+clash_parts false y n m h a b = cc
+
+clash_at : (rows : List Instance) (i j : ℕ) (a b : Instance) → AllPairs (λ a b. clashes a b ≡ false) rows
+    → slice_get rows i ≡ Some a → slice_get rows j ≡ Some b → i < j → clashes a b ≡ false
+clash_at rows i j a b apart h k l =
+    subst (λ x. clashes x b ≡ false) (get_or_from_slice_get rows i a a h)
+    (subst (λ y. clashes (get_or rows i a) y ≡ false) (get_or_from_slice_get rows j b a k)
+    (apart i j a l (slice_get_within rows j b k)))
+
+-- two instances that are to be visited by one operation have distinct altitudes
+apart_altitudes : (s : StackWorld) (v : VolumeId) (i j : ℕ) (a b : Instance) → IsStack s
+    → slice_get s.instances i ≡ Some a → slice_get s.instances j ≡ Some b → IsThere v a → IsThere v b
+    → (i ≡ j → ⊥) → same_altitude b.altitude a.altitude ≡ false
+apart_altitudes s v i j a b stack h k g l differ =
+    elim (cases_order i j) [
+      | inl e ↦ absurd (differ e)
+      | inr (inl less) ↦ same_sym b.altitude a.altitude
+          ∙ clash_parts (is_live_on a.volume a) (is_live_on a.volume b) (same_name a.name b.name) (same_altitude a.altitude b.altitude)
+          (clash_at s.instances i j a b stack.apart h k less) (live_there v a a g g) (live_there v a b g l)
+      | inr (inr more) ↦ clash_parts (is_live_on b.volume b) (is_live_on b.volume a) (same_name b.name a.name) (same_altitude b.altitude a.altitude)
+          (clash_at s.instances j i b a stack.apart k h more) (live_there v b b l l) (live_there v b a l g)
+    ]
+
+not_self : (s : StackWorld) (i j : ℕ) → j ≡ i → is_lower_at s i j ≡ true → ⊥
+not_self s i j e h =
+    let g : altitude_at s j ≡ altitude_at s i = ap (λ n. option_map (λ (r : Instance). r.altitude) (slice_get s.instances n)) e in
+    false≢true (sym (option_irrefl (altitude_at s i)) ∙ subst (λ x. is_lower_option (altitude_at s i) x ≡ true) g h)
+
+-- an instance below all that were visited wasn't visited itself
+unseen_from : (s : StackWorld) (i : ℕ) (is : List ℕ)
+    → ((k : ℕ) (d : ℕ) → k < length is → is_lower_at s i (get_or is k d) ≡ true) → is_among is i ≡ false
+unseen_from s i [] h = refl
+unseen_from s i (j ∷ is) h =
+    let rest : is_among is i ≡ false = unseen_from s i is (λ k d l. h (suc k) d (omega arith)) in
+    let here : (j == i) ≡ false = ne_eqb j i (λ e. not_self s i j e (h 0 i (omega arith))) in
+    rw (here, rest) refl
+
+-- the next instance is lower than all visited so far
+next_lower : (s : StackWorld) (v : VolumeId) (born : ℕ) (operation : Operation) (visited : List ℕ) (i : ℕ)
+    → AllPairs (λ i j. is_lower_at s j i ≡ true) visited
+    → IsHighest (is_candidate s v (last_of visited) born operation) s.instances i
+    → (k : ℕ) (d : ℕ) → k < length visited → is_lower_at s i (get_or visited k d) ≡ true
+next_lower s v born operation visited i falls next =
+    let parts = and_parts (is_to_visit s v born operation next.row) (is_below_cursor s (last_of visited) next.row) next.passes in
+    below_all s (altitude_at s i) visited falls
+    (λ l e. subst (λ a. is_lower_option a (altitude_at s l) ≡ true) (sym (altitude_there s i next.row next.there))
+    (below_last s (last_of visited) next.row parts.1 l e))
+
+pub next_unseen : (s : StackWorld) (v : VolumeId) (born : ℕ) (operation : Operation) (visited : List ℕ) (i : ℕ) (reached : Bool)
+    → IsDescent s v born operation visited reached → IsHighest (is_candidate s v (last_of visited) born operation) s.instances i
+    → is_among visited i ≡ false
+next_unseen s v born operation visited i reached d next = unseen_from s i visited (next_lower s v born operation visited i d.falls next)
+
+-- before the first visit
+pub descent_begins : (s : StackWorld) (v : VolumeId) (operation : Operation) → IsDescent s v s.births operation [] false
+descent_begins s v operation = record {
+  falls = λ i j d p q. absurd (omega arith);
+  passes_none = λ i row h t u. (refl, refl);
+}
+
+among_push : (is : List ℕ) (i : ℕ) (j : ℕ) → is_among (is ++ i ∷ []) j ≡ false → (is_among is j ≡ false) × ((i ≡ j) → ⊥)
+among_push [] i j h = (refl, λ e. false≢true (sym (or_left (i == j) false h) ∙ eq-eqb i j e))
+among_push (k ∷ is) i j h =
+    let rest = among_push is i j (or_right (k == j) (is_among (is ++ i ∷ []) j) h) in
+    (rw (or_left (k == j) (is_among (is ++ i ∷ []) j) h, rest.0) refl, rest.1)
+
+-- a visit of the next instance
+pub descent_visits : (s : StackWorld) (v : VolumeId) (born : ℕ) (operation : Operation) (visited : List ℕ) (i : ℕ) → IsStack s
+    → IsDescent s v born operation visited false → IsHighest (is_candidate s v (last_of visited) born operation) s.instances i
+    → IsDescent s v born operation (visited ++ i ∷ []) false
+descent_visits s v born operation visited i stack d next = record {
+  falls = all_pairs_push (λ i j. is_lower_at s j i ≡ true) visited i d.falls (λ k e l. next_lower s v born operation visited i d.falls next k e l);
+  passes_none = λ j row h t u.
+      let unseen = among_push visited i j u in
+      let before = d.passes_none j row h t unseen.0 in
+      let not_higher = next.highest j row h (and_from (is_to_visit s v born operation row) (is_below_cursor s (last_of visited) row) t before.0) in
+      let passes = and_parts (is_to_visit s v born operation next.row) (is_below_cursor s (last_of visited) next.row) next.passes in
+      let differ = apart_altitudes s v i j next.row row stack next.there h
+      (to_visit_there s v born operation next.row passes.0) (to_visit_there s v born operation row t) unseen.1 in
+      let lower : is_lower row.altitude next.row.altitude ≡ true = lower_or next.row.altitude row.altitude not_higher differ in (
+        subst (λ c. is_below_cursor s c row ≡ true) (sym (last_of-push visited i))
+            (subst (λ a. is_lower_option (Some row.altitude) a ≡ true) (sym (altitude_there s i next.row next.there)) lower),
+        refl,
+      );
+}
+
+-- where nothing is left to visit, the base may be called
+pub descent_reaches : (s : StackWorld) (v : VolumeId) (born : ℕ) (operation : Operation) (visited : List ℕ)
+    → IsDescent s v born operation visited false → NonePasses (is_candidate s v (last_of visited) born operation) s.instances
+    → IsDescent s v born operation visited true
+descent_reaches s v born operation visited d none = record {
+  falls = d.falls;
+  passes_none = λ j row h t u.
+      let before = d.passes_none j row h t u in
+      let passes = and_from (is_to_visit s v born operation row) (is_below_cursor s (last_of visited) row) t before.0 in
+      absurd (false≢true (sym (none j row h) ∙ passes));
+}
+
+altitude_stays : (s t : StackWorld) → Follows s t → (i : ℕ) (x : List ℕ) → altitude_at s i ≡ Some x → altitude_at t i ≡ Some x
+altitude_stays s t f i x h = altitude_stays_at s t f i x (slice_get s.instances i) refl h
+  where
+    altitude_stays_at : (s t : StackWorld) → Follows s t → (i : ℕ) (x : List ℕ) (r : Option Instance) → slice_get s.instances i ≡ r
+        → option_map (λ (row : Instance). row.altitude) r ≡ Some x → altitude_at t i ≡ Some x
+    altitude_stays_at s t f i x None e h = cc
+    altitude_stays_at s t f i x (Some row) e h =
+        let after = f.altitudes i row e in
+        altitude_there t i after.0 after.1 ∙ ap Some after.2 ∙ h
+
+lower_stays : (s t : StackWorld) → Follows s t → (i j : ℕ) → is_lower_at s i j ≡ true → is_lower_at t i j ≡ true
+lower_stays s t f i j h =
+    option_follows (altitude_at s i) (altitude_at s j) (altitude_at t i) (altitude_at t j) (altitude_stays s t f i) (altitude_stays s t f j) h
+
+below_stays : (s t : StackWorld) → Follows s t → (cursor : Option ℕ) (a b : Instance) → b.altitude ≡ a.altitude
+    → is_below_cursor s cursor a ≡ true → is_below_cursor t cursor b ≡ true
+below_stays s t f None a b e h = refl
+below_stays s t f (Some l) a b e h =
+    option_follows (Some a.altitude) (altitude_at s l) (Some b.altitude) (altitude_at t l) (λ x k. ap Some e ∙ k) (altitude_stays s t f l) h
+
+-- the other way: what is below the cursor now was below it before, where the cursor is an instance that was there
+below_was : (s t : StackWorld) → Follows s t → (cursor : Option ℕ) (a b : Instance) → b.altitude ≡ a.altitude
+    → ((l : ℕ) → cursor ≡ Some l → l < length s.instances) → is_below_cursor t cursor b ≡ true → is_below_cursor s cursor a ≡ true
+below_was s t f None a b e there h = refl
+below_was s t f (Some l) a b e there h =
+    let row = get_or s.instances l a in
+    let at : slice_get s.instances l ≡ Some row = slice_get-get_or s.instances l a (there l refl) in
+    let was = altitude_there s l row at in
+    let is = altitude_stays s t f l row.altitude was in
+    subst (λ x. is_lower_option (Some a.altitude) x ≡ true) (sym was)
+    (subst (λ x. is_lower_option (Some x) (Some row.altitude) ≡ true) e
+    (subst (λ x. is_lower_option (Some b.altitude) x ≡ true) is h))
+
+-- every event of the stack keeps every descent
+pub descent_follows : (s t : StackWorld) (v : VolumeId) (born : ℕ) (operation : Operation) (visited : List ℕ) (reached : Bool)
+    → Follows s t → born ≤ s.births → IsDescent s v born operation visited reached → IsDescent t v born operation visited reached
+descent_follows s t v born operation visited reached f past d = record {
+  falls = λ i j e p q. lower_stays s t f (get_or visited j e) (get_or visited i e) (d.falls i j e p q);
+  passes_none = λ i row h k u.
+      let before = f.visits v born operation i row past h k in
+      let was = d.passes_none i before.0 before.1 before.2 u in
+      (below_stays s t f (last_of visited) before.0 row (sym before.3) was.0, was.1);
+}
+
+-- nothing that was left to visit comes to be left
+pub none_follows : (s t : StackWorld) (v : VolumeId) (born : ℕ) (operation : Operation) (cursor : Option ℕ)
+    → Follows s t → born ≤ s.births → ((l : ℕ) → cursor ≡ Some l → l < length s.instances)
+    → NonePasses (is_candidate s v cursor born operation) s.instances → NonePasses (is_candidate t v cursor born operation) t.instances
+none_follows s t v born operation cursor f past there none j row h = none_at (is_candidate t v cursor born operation row) refl
+  where
+    none_at : (b : Bool) → is_candidate t v cursor born operation row ≡ b → b ≡ false
+    none_at false e = refl
+    none_at true e =
+        let parts = and_parts (is_to_visit t v born operation row) (is_below_cursor t cursor row) e in
+        let before = f.visits v born operation j row past h parts.0 in
+        let was = below_was s t f cursor before.0 row (sym before.3) there parts.1 in
+        absurd (false≢true (sym (none j before.0 before.1) ∙ and_from (is_to_visit s v born operation before.0) (is_below_cursor s cursor before.0) before.2 was))
+
+-- room for the visits that may come
+
+pub room_begins : (s : StackWorld) (v : VolumeId) (operation : Operation)
+    → count_by (is_to_visit s v s.births operation) s.instances ≤ 32 → HasRoom s v s.births operation []
+room_begins s v operation few =
+    let fewer = count-le (is_to_visit s v s.births operation) (is_candidate s v None s.births operation) s.instances s.instances
+    (λ i row h k. (row, h, (and_parts (is_to_visit s v s.births operation row) true k).0)) in
+    record { past = omega arith; room = omega (arith, fewer, few) }
+
+pub room_is : (s : StackWorld) (v : VolumeId) (born : ℕ) (operation : Operation) (visited : List ℕ) (i : ℕ)
+    → HasRoom s v born operation visited → IsHighest (is_candidate s v (last_of visited) born operation) s.instances i → length visited < 32
+room_is s v born operation visited i r next =
+    omega (arith, r.room, count-some (is_candidate s v (last_of visited) born operation) s.instances i next.row next.there next.passes)
+
+pub room_visits : (s : StackWorld) (v : VolumeId) (born : ℕ) (operation : Operation) (visited : List ℕ) (i : ℕ)
+    → HasRoom s v born operation visited → IsHighest (is_candidate s v (last_of visited) born operation) s.instances i
+    → HasRoom s v born operation (visited ++ i ∷ [])
+room_visits s v born operation visited i r next =
+    let p = is_candidate s v (last_of visited) born operation in
+    let q = is_candidate s v (Some i) born operation in
+    let there = altitude_there s i next.row next.there in
+    let itself : q next.row ≡ false =
+    and_right (is_to_visit s v born operation next.row) (is_below_cursor s (Some i) next.row)
+    (subst (λ x. is_lower_option (Some next.row.altitude) x ≡ false) (sym there) (lower_irrefl next.row.altitude)) in
+    let passed = and_parts (is_to_visit s v born operation next.row) (is_below_cursor s (last_of visited) next.row) next.passes in
+    let fewer = count-lt p q s.instances i next.row next.there next.passes itself
+    (λ row k.
+    let parts = and_parts (is_to_visit s v born operation row) (is_below_cursor s (Some i) row) k in
+    and_from (is_to_visit s v born operation row) (is_below_cursor s (last_of visited) row) parts.0
+    (lower_still s (last_of visited) next.row row passed.1 (subst (λ x. is_lower_option (Some row.altitude) x ≡ true) there parts.1))) in
+    record {
+      past = r.past;
+      room = subst (λ c. length (visited ++ i ∷ []) + count_by (is_candidate s v c born operation) s.instances ≤ 32) (sym (last_of-push visited i))
+          (omega (arith, r.room, fewer, length-append visited (i ∷ [])));
+    }
+  where
+    lower_still : (s : StackWorld) (cursor : Option ℕ) (a b : Instance) → is_below_cursor s cursor a ≡ true
+        → is_lower b.altitude a.altitude ≡ true → is_below_cursor s cursor b ≡ true
+    lower_still s None a b h k = refl
+    lower_still s (Some l) a b h k = option_trans (Some b.altitude) (Some a.altitude) (altitude_at s l) k h
+
+pub room_follows : (s t : StackWorld) (v : VolumeId) (born : ℕ) (operation : Operation) (visited : List ℕ)
+    → Follows s t → ((l : ℕ) → last_of visited ≡ Some l → l < length s.instances)
+    → HasRoom s v born operation visited → HasRoom t v born operation visited
+room_follows s t v born operation visited f there r =
+    let cursor = last_of visited in
+    let fewer = count-le (is_candidate s v cursor born operation) (is_candidate t v cursor born operation) s.instances t.instances
+    (λ i row h k.
+    let parts = and_parts (is_to_visit t v born operation row) (is_below_cursor t cursor row) k in
+    let before = f.visits v born operation i row r.past h parts.0 in (
+      before.0,
+      before.1,
+      and_from (is_to_visit s v born operation before.0) (is_below_cursor s cursor before.0) before.2
+          (below_was s t f cursor before.0 row (sym before.3) there parts.1),
+    )) in
+    record { past = omega (arith, r.past, f.births); room = omega (arith, r.room, fewer) }

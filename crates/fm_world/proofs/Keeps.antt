@@ -1,0 +1,224 @@
+-- The events on filters, volumes and instances keep a World sound.
+use Rattle.std.proofs.Common.{◌≡◌, ℕ, zero, suc, ◌+◌, ◌≤◌, ◌==◌, Bool, true, false, List, [], ◌∷◌, ◌++◌, Option, Some, None, Result, Ok, Err, length, refl, ap, sym, ◌∙◌, subst, arith, count_by, length-set}
+use Rattle.std.specs.Prelude.{slice_get}
+use Rattle.std.proofs.lemmas.Bool.{false≢true, eq-eqb}
+use Rattle.std.proofs.lemmas.Bool.Decides.{nat_tests}
+use Rattle.std.proofs.lemmas.Option.{none-some, same_Some}
+use Rattle.std.proofs.lemmas.List.Elements.{All-weaker}
+use Rattle.fm_types.specs.declared.ids.FilterId.{FilterId}
+use Rattle.fm_types.specs.declared.ids.VolumeId.{VolumeId}
+use Rattle.fm_types.specs.declared.ids.InstanceId.{InstanceId}
+use Rattle.fm_types.specs.declared.ids.WorkerId.{WorkerId}
+use Rattle.fm_types.specs.declared.ids.OpId.{OpId}
+use Rattle.fm_types.specs.declared.status.Status.{Status}
+use Rattle.fm_types.specs.declared.status.Status.TheVariants as status
+use Rattle.fm_types.specs.declared.registration.Registration.{Registration}
+use Rattle.fm_types.specs.Lists.{updated}
+use Rattle.fm_stack.specs.declared.instance.Instance.{Instance}
+use Rattle.fm_stack.specs.declared.instance.Phase.TheVariants as phase
+use Rattle.fm_stack.specs.StackWorld.{StackWorld}
+use Rattle.fm_stack.specs.Instances.{is_setup}
+use Rattle.fm_stack.specs.Events as stack
+use Rattle.fm_stack.specs.Follows.{Follows}
+use Rattle.fm_stack.specs.Stacks.{IsStack}
+use Rattle.fm_flow.specs.declared.stage.Stage.{Stage}
+use Rattle.fm_flow.specs.declared.stage.Stage.TheVariants.{PreRunning, InBase, PostRunning, InDrain}
+use Rattle.fm_world.specs.declared.worker.Worker.{Worker}
+use Rattle.fm_world.specs.declared.worker.Worker.TheVariants as place
+use Rattle.fm_world.specs.World.{World}
+use Rattle.fm_world.specs.Workers.{worker_at, put, is_idle, after_attach}
+use Rattle.fm_world.specs.Events.{Registers, Mounts, Attaches, SetsUp, SetsUpAt, Unless}
+use Rattle.fm_world.specs.Headline.{is_in_at}
+use Rattle.fm_world.specs.Sound.{IsSound, IsAmong, is_in_setup, setup_row}
+use Rattle.fm_world.proofs.Counts.{count-some}
+use Rattle.fm_world.proofs.Ties.{one, count_moves, idle_is_in_none}
+use Rattle.fm_world.proofs.Amongs.{among_follows}
+use Rattle.fm_stack.proofs.Registering.{registered_keeps, registered_follows, mounted_keeps, mounted_follows}
+use Rattle.fm_stack.proofs.Attaching.{attached_keeps, attached_follows}
+use Rattle.fm_stack.proofs.SettingUp.{accepted_keeps, accepted_follows, refused_keeps, refused_follows}
+
+-- filters, volumes and instances change, workers move outside operations
+stack_moves : (w : World) (t : StackWorld) (workers : List Worker) → IsStack t → Follows w.stack t → length workers ≡ 48
+    → ((o : OpId) (stage : Stage) → count_by (is_in_at o stage) workers ≡ count_by (is_in_at o stage) w.workers)
+    → ((i : ℕ) → count_by (is_in_setup i) workers ≡ setup_row (slice_get t.instances i))
+    → IsSound w → IsSound (record w { stack = t; workers = workers })
+stack_moves w t workers stack follows hands same setups h = record {
+  stack = stack;
+  flow = h.flow;
+  among = All-weaker (IsAmong w.stack) (IsAmong t) (λ r k. among_follows w.stack t r.volume r.born r.operation r.entries r.stage follows k) w.flow.operations h.among;
+  hands = hands;
+  workers = λ o stage. same o stage ∙ h.workers o stage;
+  setups = setups;
+}
+
+-- the rest is as it was
+same_rest : (old new : World) (t : StackWorld) → new.stack ≡ t → new ≡ record old { stack = new.stack } → new ≡ record old { stack = t }
+same_rest old new t e h = h ∙ ap (λ x. record old { stack = x }) e
+
+pub register_keeps : (old : World) (name : List ℕ) (registration : Registration) (result : Result FilterId Status) (new : World)
+    → Registers old name registration result new → IsSound old → IsSound new
+unfolding Registers stack.Registers
+register_keeps old name registration (Ok f) new h s =
+    subst IsSound (sym (same_rest old new (stack.registered old.stack name registration) h.0.1.1 h.1))
+    (stack_moves old (stack.registered old.stack name registration) old.workers (registered_keeps old.stack name registration s.stack h.0.0)
+    (registered_follows old.stack name registration s.stack) s.hands (λ o stage. refl) s.setups s)
+register_keeps old name registration (Err why) new h s = subst IsSound (sym (same_rest old new old.stack h.0.1 h.1)) s
+
+pub mount_keeps : (old : World) (name : List ℕ) (result : Result VolumeId Status) (new : World) → Mounts old name result new → IsSound old → IsSound new
+unfolding Mounts stack.Mounts
+mount_keeps old name (Ok v) new h s =
+    subst IsSound (sym (same_rest old new (stack.mounted old.stack name) h.0.1.1 h.1))
+    (stack_moves old (stack.mounted old.stack name) old.workers (mounted_keeps old.stack name s.stack h.0.0)
+    (mounted_follows old.stack name s.stack) s.hands (λ o stage. refl) s.setups s)
+mount_keeps old name (Err why) new h s = subst IsSound (sym (same_rest old new old.stack h.0.1 h.1)) s
+
+-- ---- attach
+
+same_suc : (a b : ℕ) → (suc a == suc b) ≡ (a == b)
+same_suc a b = grind (arith, nat_tests)
+
+setup_push : (rows : List Instance) (row : Instance) (j : ℕ) → is_setup row.phase ≡ true
+    → setup_row (slice_get (rows ++ row ∷ []) j) ≡ setup_row (slice_get rows j) + one (length rows == j)
+setup_push [] row zero h = rw h refl
+setup_push [] row (suc j) h = grind (arith, nat_tests)
+setup_push (x ∷ rows) row zero h = grind (arith, nat_tests)
+setup_push (x ∷ rows) row (suc j) h = setup_push rows row j h ∙ ap (λ b. setup_row (slice_get rows j) + one b) (sym (same_suc (length rows) j))
+
+setup_in_none : (i : InstanceId) (p : OpId) (s : Stage) → is_in_at p s (place.Setup i) ≡ false
+setup_in_none i p PreRunning = refl
+setup_in_none i p InBase = refl
+setup_in_none i p PostRunning = refl
+setup_in_none i p (InDrain j) = refl
+setup_in_none i p _ = refl
+
+-- a worker moves between places outside operations
+moves_outside : (workers : List Worker) (k : WorkerId) (a b : Worker) → worker_at workers k ≡ Some a
+    → ((p : OpId) (s : Stage) → is_in_at p s a ≡ false) → ((p : OpId) (s : Stage) → is_in_at p s b ≡ false)
+    → (p : OpId) (s : Stage) → count_by (is_in_at p s) (put workers k b) ≡ count_by (is_in_at p s) workers
+moves_outside workers k a b h na nb p s =
+    let moves = count_moves (is_in_at p s) workers k a b h in
+    let from : one (is_in_at p s a) ≡ 0 = ap one (na p s) in
+    let to : one (is_in_at p s b) ≡ 0 = ap one (nb p s) in
+    omega (arith, moves, from, to)
+
+idle_at : (m : Option Worker) → is_idle m ≡ true → m ≡ Some place.Idle
+idle_at None h = absurd (false≢true h)
+idle_at (Some place.Idle) h = refl
+idle_at (Some _) h = absurd (false≢true h)
+
+pub idle_there : (workers : List Worker) (k : WorkerId) → is_idle (worker_at workers k) ≡ true → worker_at workers k ≡ Some place.Idle
+idle_there workers k h = idle_at (worker_at workers k) h
+
+-- what an event says where its test fails, or passes
+pub unless_cases : {T : Type 0} (refusal : Status) (b : Bool) (result : Result T Status) (old new : World) (Event : Type 0) → Unless refusal b result old new Event
+    → (b ≡ true → Event → IsSound new) → IsSound old → IsSound new
+unless_cases refusal true result old new Event h event s = event refl h
+unless_cases refusal false result old new Event h event s = subst IsSound (sym h.1) s
+
+same_all : (old new : World) (t : StackWorld) (workers : List Worker) → new.stack ≡ t → new ≡ record old { stack = new.stack; workers = workers }
+    → new ≡ record old { stack = t; workers = workers }
+same_all old new t workers e h = h ∙ ap (λ x. record old { stack = x; workers = workers }) e
+
+attach_at : (old : World) (k : WorkerId) (f : FilterId) (v : VolumeId) (name altitude : List ℕ) (result : Result InstanceId Status) (new : World)
+    → worker_at old.workers k ≡ Some place.Idle → stack.Attaches old.stack f v name altitude result new.stack
+    → new ≡ record old { stack = new.stack; workers = after_attach old.workers k result } → IsSound old → IsSound new
+unfolding stack.Attaches
+attach_at old k f v name altitude (Err why) new idle h e s = subst IsSound (sym (same_all old new old.stack old.workers h.1 e)) s
+attach_at old k f v name altitude (Ok i) new idle h e s =
+    let t = stack.attached old.stack f v name altitude in
+    let workers = put old.workers k (place.Setup i) in
+    subst IsSound (sym (same_all old new t workers h.1.1 e))
+    (stack_moves old t workers (attached_keeps old.stack f v name altitude s.stack h.0) (attached_follows old.stack f v name altitude s.stack)
+    (length-set old.workers k.0 (place.Setup i) ∙ s.hands)
+    (moves_outside old.workers k place.Idle (place.Setup i) idle idle_is_in_none (setup_in_none i))
+    (λ j.
+    let moves = count_moves (is_in_setup j) old.workers k place.Idle (place.Setup i) idle in
+    let rows = setup_push old.stack.instances (stack.new_instance f v name altitude) j refl in
+    let same : one (i.0 == j) ≡ one (length old.stack.instances == j) = ap (λ n. one (n == j)) h.1.0 in
+    omega (arith, moves, rows, same, s.setups j))
+    s)
+
+pub attach_keeps : (old : World) (k : WorkerId) (f : FilterId) (v : VolumeId) (name altitude : List ℕ) (result : Result InstanceId Status) (new : World)
+    → Attaches old k f v name altitude result new → IsSound old → IsSound new
+unfolding Attaches
+attach_keeps old k f v name altitude result new h s =
+    unless_cases status.WrongStep (is_idle (worker_at old.workers k)) result old new
+    (stack.Attaches old.stack f v name altitude result new.stack
+    × (new ≡ record old { stack = new.stack; workers = after_attach old.workers k result }))
+    h (λ idle event. attach_at old k f v name altitude result new (idle_there old.workers k idle) event.0 event.1 s) s
+
+-- ---- the end of a setup callback
+
+setup_updated : (change : Instance → Instance) (rows : List Instance) (i j : ℕ) (row : Instance) → slice_get rows i ≡ Some row
+    → is_setup row.phase ≡ true → is_setup (change row).phase ≡ false
+    → setup_row (slice_get (updated change rows i) j) + one (i == j) ≡ setup_row (slice_get rows j)
+setup_updated change [] i j row h was is = absurd (none-some row h)
+setup_updated change (x ∷ rows) zero zero row h was is =
+    let same : x ≡ row = same_Some x row h in
+    let now : one (is_setup (change x).phase) ≡ 0 = ap one (ap (λ (r : Instance). is_setup (change r).phase) same ∙ is) in
+    let then : one (is_setup x.phase) ≡ 1 = ap one (ap (λ (r : Instance). is_setup r.phase) same ∙ was) in
+    omega (arith, now, then)
+setup_updated change (x ∷ rows) zero (suc j) row h was is = grind (arith, nat_tests)
+setup_updated change (x ∷ rows) (suc i) zero row h was is = grind (arith, nat_tests)
+setup_updated change (x ∷ rows) (suc i) (suc j) row h was is =
+    ap (λ b. setup_row (slice_get (updated change rows i) j) + one b) (same_suc i j) ∙ setup_updated change rows i j row h was is
+
+-- the instance that a worker's setup callback is of is there, in its setup
+setup_there : (m : Option Instance) → 1 ≤ setup_row m → (row : Instance) × (m ≡ Some row) × (is_setup row.phase ≡ true)
+setup_there None h = absurd (omega arith)
+setup_there (Some row) h = (row, refl, true_of (is_setup row.phase) h)
+  where
+    true_of : (b : Bool) → 1 ≤ one b → b ≡ true
+    true_of true h = refl
+    true_of false h = absurd (omega arith)
+
+-- the callback returns, and the instance leaves its setup
+setup_ends : (old : World) (k : WorkerId) (i : InstanceId) (t : StackWorld) (change : Instance → Instance) (row : Instance)
+    → worker_at old.workers k ≡ Some (place.Setup i) → slice_get old.stack.instances i.0 ≡ Some row → is_setup row.phase ≡ true → is_setup (change row).phase ≡ false
+    → t.instances ≡ updated change old.stack.instances i.0 → IsStack t → Follows old.stack t → IsSound old
+    → IsSound (record old { stack = t; workers = put old.workers k place.Idle })
+setup_ends old k i t change row at there was is rows stack follows s =
+    stack_moves old t (put old.workers k place.Idle) stack follows (length-set old.workers k.0 place.Idle ∙ s.hands)
+    (moves_outside old.workers k (place.Setup i) place.Idle at (setup_in_none i) idle_is_in_none)
+    (λ j.
+    let moves = count_moves (is_in_setup j) old.workers k (place.Setup i) place.Idle at in
+    let after = setup_updated change old.stack.instances i.0 j row there was is in
+    let now : setup_row (slice_get t.instances j) ≡ setup_row (slice_get (updated change old.stack.instances i.0) j) =
+    ap (λ (xs : List Instance). setup_row (slice_get xs j)) rows in
+    omega (arith, moves, after, now, s.setups j))
+    s
+
+setup_at : (old : World) (k : WorkerId) (i : InstanceId) (accept : Bool) (result : Result (Unit {0}) Status) (new : World)
+    → worker_at old.workers k ≡ Some (place.Setup i) → stack.SetsUp old.stack i accept result new.stack
+    → new ≡ record old { stack = new.stack; workers = put old.workers k place.Idle } → IsSound old → IsSound new
+unfolding stack.SetsUp
+setup_at old k i accept (Ok done) new at h e s =
+    let inside = count-some (is_in_setup i.0) old.workers k.0 (place.Setup i) at (eq-eqb i.0 i.0 refl) in
+    let row = setup_there (slice_get old.stack.instances i.0) (omega (arith, inside, s.setups i.0)) in
+    let t = stack.accepted old.stack i in
+    subst IsSound (sym (same_all old new t (put old.workers k place.Idle) h.1 e))
+    (setup_ends old k i t (λ (r : Instance). record r { phase = phase.Attached; birth = old.stack.births }) row.0 at row.1 row.2 refl refl
+    (accepted_keeps old.stack i s.stack row.0 row.1 row.2) (accepted_follows old.stack i s.stack row.0 row.1 row.2) s)
+setup_at old k i accept (Err why) new at h e s =
+    let inside = count-some (is_in_setup i.0) old.workers k.0 (place.Setup i) at (eq-eqb i.0 i.0 refl) in
+    let row = setup_there (slice_get old.stack.instances i.0) (omega (arith, inside, s.setups i.0)) in
+    let t = stack.refused old.stack i in
+    subst IsSound (sym (same_all old new t (put old.workers k place.Idle) h.1 e))
+    (setup_ends old k i t (λ (r : Instance). record r { phase = phase.Emptying }) row.0 at row.1 row.2 refl refl
+    (refused_keeps old.stack i s.stack row.0 row.1 row.2) (refused_follows old.stack i s.stack row.0 row.1 row.2) s)
+
+-- which place a worker is in, or that the event refused
+setup_cases : (old : World) (k : WorkerId) (accept : Bool) (result : Result (Unit {0}) Status) (new : World) (m : Option Worker)
+    → worker_at old.workers k ≡ m → SetsUpAt old k accept result new m → IsSound old → IsSound new
+setup_cases old k accept result new (Some (place.Setup i)) at h s = setup_at old k i accept result new at h.0 h.1 s
+setup_cases old k accept result new (Some place.Idle) at h s = subst IsSound (sym h.1) s
+setup_cases old k accept result new (Some (place.Pre o i)) at h s = subst IsSound (sym h.1) s
+setup_cases old k accept result new (Some (place.Base o)) at h s = subst IsSound (sym h.1) s
+setup_cases old k accept result new (Some (place.Post o i)) at h s = subst IsSound (sym h.1) s
+setup_cases old k accept result new (Some (place.Drain o i)) at h s = subst IsSound (sym h.1) s
+setup_cases old k accept result new None at h s = subst IsSound (sym h.1) s
+
+pub setup_keeps : (old : World) (k : WorkerId) (accept : Bool) (result : Result (Unit {0}) Status) (new : World)
+    → SetsUp old k accept result new → IsSound old → IsSound new
+unfolding SetsUp
+setup_keeps old k accept result new h s = setup_cases old k accept result new (worker_at old.workers k) refl h s

@@ -1,0 +1,647 @@
+-- The events on operations keep a World sound.
+use Rattle.std.proofs.Common.{◌≡◌, ℕ, suc, ◌<◌, ◌==◌, Bool, true, false, cond, not, List, [], ◌∷◌, ◌++◌, Option, Some, None, Result, Ok, Err, length, get_or, refl, ap, sym, ◌∙◌, subst, inl, inr, ◌⊎◌, arith, length-set}
+use Rattle.std.specs.Prelude.{All, AllPairs, slice_get, option_map, unwrap_or, find, nat_le, count_by}
+use Rattle.std.specs.List.{list_any}
+use Rattle.std.proofs.lemmas.Bool.{false≢true, eqb-true, eq-eqb, ne_eqb, cases_Bool, cases_eq, and_parts, and_from, leb-true}
+use Rattle.std.proofs.lemmas.Option.{none-some, same_Some}
+use Rattle.std.proofs.lemmas.List.Elements.{All-push, All-head, All-tail}
+use Rattle.fm_types.specs.declared.ids.InstanceId.{InstanceId}
+use Rattle.fm_types.specs.declared.ids.OpId.{OpId}
+use Rattle.fm_types.specs.declared.ids.WorkerId.{WorkerId}
+use Rattle.fm_types.specs.declared.operation.Operation.{Operation}
+use Rattle.fm_types.specs.declared.operation.Operation.TheVariants as kind
+use Rattle.fm_types.specs.declared.status.Status.{Status}
+use Rattle.fm_types.specs.declared.status.Status.TheVariants as status
+use Rattle.fm_types.specs.Refusals.{first_of}
+use Rattle.fm_data.specs.declared.params.Params.{Params}
+use Rattle.fm_data.specs.declared.params.Params.TheVariants as params
+use Rattle.fm_data.specs.declared.answer.Answer.{Answer}
+use Rattle.fm_data.specs.declared.verdict.PreVerdict.{PreVerdict}
+use Rattle.fm_data.specs.declared.verdict.PreVerdict.TheVariants as verdict
+use Rattle.fm_data.specs.declared.verdict.PostVerdict.{PostVerdict}
+use Rattle.fm_data.specs.declared.verdict.PostVerdict.TheVariants as answer
+use Rattle.fm_data.specs.Data.{Data, data_fits}
+use Rattle.fm_data.specs.Params.{fit}
+use Rattle.fm_stack.specs.StackWorld.{StackWorld}
+use Rattle.fm_stack.specs.Stacks.{IsStack}
+use Rattle.fm_flow.specs.declared.action.Below.{Below}
+use Rattle.fm_flow.specs.declared.action.Below.TheVariants as below
+use Rattle.fm_flow.specs.declared.action.FlowAction.{FlowAction}
+use Rattle.fm_flow.specs.declared.action.FlowAction.TheVariants as action
+use Rattle.fm_flow.specs.declared.entry.Ask.{Ask}
+use Rattle.fm_flow.specs.declared.entry.Entry.TheVariants.{Post, Drain}
+use Rattle.fm_flow.specs.declared.entry.PreState.TheVariants as pre
+use Rattle.fm_flow.specs.declared.entry.PostState.TheVariants as post
+use Rattle.fm_flow.specs.declared.stage.Stage.{Stage}
+use Rattle.fm_flow.specs.declared.stage.Stage.TheVariants.{Descending, PreRunning, PreHeld, InBase, Ascending, PostRunning, PostHeld, InDrain}
+use Rattle.fm_flow.specs.Record.{FlowRecord}
+use Rattle.fm_flow.specs.Entries.{visited, owed, has_base, settle_pre, settle_post, settle_drain, times}
+use Rattle.fm_flow.specs.Steps.{Turned, next_of, next_at, descend, ascend, call_pre, call_base, call_post, give_post, unwound, unwound_to, may_take, pre_leads, post_leads, pre_returned_of, base_returned_of, post_returned_of, post_state, drain_returned_of, is_done, done_at}
+use Rattle.fm_flow.specs.Sound.{walk, way_of}
+use Rattle.fm_flow.specs.Sound as flow
+use Rattle.fm_flow.specs.Counts.{is_running_drain}
+use Rattle.fm_flow.specs.Table.{FlowTable, IsFlow, operation_at, changed, told, begun, begun_record, is_full, is_number, collected_of, collected_in, is_collectable, marked, removed, without_first}
+use Rattle.fm_flow.specs.Verdict.{verdict_counted, completed_as}
+use Rattle.fm_world.specs.declared.step.Begin.{Begin}
+use Rattle.fm_world.specs.declared.step.Begin.TheVariants as begin
+use Rattle.fm_world.specs.declared.worker.Worker.{Worker}
+use Rattle.fm_world.specs.declared.worker.Worker.TheVariants as place
+use Rattle.fm_world.specs.World.{World}
+use Rattle.fm_world.specs.Workers.{worker_at, put, is_idle, after_next}
+use Rattle.fm_world.specs.Events.{Begins, Nexts, NextsOver, LiesBelow, FindsBelow, PreReturns, PreReturnsAt, BaseReturns, BaseReturnsAt, PostReturns, PostReturnsAt, Collects, answer_fits, returned, state_at, state_given, drains_at, without_context, has_post}
+use Rattle.fm_world.specs.Headline.{is_stage, stands_at}
+use Rattle.fm_world.specs.Descent.{is_among}
+use Rattle.fm_world.specs.Sound.{IsSound, IsAmong, is_in_setup}
+use Rattle.fm_world.proofs.Tables.{change_none, found_holds, all_change, all_without, find_without}
+use Rattle.fm_world.proofs.Ties.{one, count_moves, AreTied, Matches, is_running, quiet_is_none, tied_moves, tied_stays, tied_there, matches_idle, matches_pre, matches_base, matches_post, matches_drain, stage_pre, stage_base, stage_post, stage_drain}
+use Rattle.fm_world.proofs.Amongs.{is_up, no_base, among_visits, among_other, among_base, among_settles, among_begins, settle_pre_visit, settle_pre_base, settle_post_visit, settle_post_base, settle_drain_visit, settle_drain_base}
+use Rattle.fm_world.proofs.Descents.{next_unseen, room_is, or_left, or_right}
+use Rattle.fm_world.proofs.Keeps.{unless_cases, idle_there}
+use Rattle.fm_flow.proofs.Soundness.{sound_pre_returned, sound_base_returned, sound_post_returned, sound_drain_returned}
+use Rattle.fm_stack.proofs.Visits.{is_to_visit_few}
+use Rattle.fm_world.proofs.Flows.{flow_begins, flow_changes, flow_collects, sound_next, counted_from, MayVisit}
+
+-- operations change, and workers with them
+flow_moves : (w : World) (t : FlowTable) (workers : List Worker) → IsFlow t → All (IsAmong w.stack) t.operations → length workers ≡ 48
+    → AreTied workers t → ((i : ℕ) → count_by (is_in_setup i) workers ≡ count_by (is_in_setup i) w.workers)
+    → IsSound w → IsSound (record w { flow = t; workers = workers })
+flow_moves w t workers flow among hands tied setups h = record {
+  stack = h.stack;
+  flow = flow;
+  among = among;
+  hands = hands;
+  workers = tied;
+  setups = λ i. setups i ∙ h.setups i;
+}
+
+-- ---- begin
+
+stands_push : (p : OpId) (s : Stage) (rs : List FlowRecord) (r : FlowRecord) → is_stage s r.stage ≡ false
+    → unwrap_or (option_map (λ (x : FlowRecord). one (is_stage s x.stage)) (find (is_number p) (rs ++ r ∷ []))) 0
+    ≡ unwrap_or (option_map (λ (x : FlowRecord). one (is_stage s x.stage)) (find (is_number p) rs)) 0
+stands_push p s [] r h =
+    let read = λ (m : Option FlowRecord). unwrap_or (option_map (λ (x : FlowRecord). one (is_stage s x.stage)) m) 0 in
+    elim (cases_Bool (is_number p r)) [
+      | inl e ↦ ap (λ b. read (cond b (Some r) None)) e ∙ ap one h
+      | inr e ↦ ap (λ b. read (cond b (Some r) None)) e
+    ]
+stands_push p s (x ∷ rs) r h =
+    let read = λ (m : Option FlowRecord). unwrap_or (option_map (λ (y : FlowRecord). one (is_stage s y.stage)) m) 0 in
+    elim (cases_Bool (is_number p x)) [
+      | inl e ↦ ap (λ b. read (cond b (Some x) (find (is_number p) (rs ++ r ∷ [])))) e ∙ sym (ap (λ b. read (cond b (Some x) (find (is_number p) rs))) e)
+      | inr e ↦ ap (λ b. read (cond b (Some x) (find (is_number p) (rs ++ r ∷ [])))) e ∙ stands_push p s rs r h
+          ∙ sym (ap (λ b. read (cond b (Some x) (find (is_number p) rs))) e)
+    ]
+
+full_from : (a b c : Bool) → first_of ((a, status.NoVolume) ∷ (b, status.Dismounting) ∷ (c, status.TooMany) ∷ []) ≡ None → c ≡ false
+full_from false false false h = refl
+full_from false false true h = cc
+full_from false true c h = cc
+full_from true b c h = cc
+
+pub begin_keeps : (old : World) (what : Begin) (result : Result OpId Status) (new : World) → Begins old what result new → IsSound old → IsSound new
+unfolding Begins
+begin_keeps old what (Err why) new h s = subst IsSound (sym h.1) s
+begin_keeps old (begin.List v) (Ok o) new h s =
+    let fresh = begun_record old.flow.next v None None old.stack.births params.List in
+    let t = begun v None None old.stack.births params.List old.flow in
+    subst IsSound (sym h.1.1)
+    (flow_moves old t old.workers
+    (flow_begins v None None old.stack.births old.flow s.flow (full_from _ _ (is_full old.flow) h.0))
+    (All-push (IsAmong old.stack) old.flow.operations fresh s.among
+    (among_begins old.stack v fresh.operation (is_to_visit_few old.stack s.stack v old.stack.births fresh.operation)))
+    s.hands
+    (λ p stage. s.workers p stage ∙ sym (stands_push p stage old.flow.operations fresh (quiet_is_none Descending refl stage)))
+    (λ i. refl) s)
+
+-- ---- next
+
+next_number : (k : WorkerId) (lies : Below) (drains : Bool) (r : FlowRecord) → (next_of k lies drains r).after.number.0 ≡ r.number.0
+next_number k lies drains r = collected_or r.collected
+  where
+    unwound_number : (place : ℕ) (r : FlowRecord) (m : Option Params) → (unwound_to place r m).number.0 ≡ r.number.0
+    unwound_number place r (Some p) = refl
+    unwound_number place r None = refl
+
+    post_number : (k : WorkerId) (ask : Ask) (r : FlowRecord) (m : Option Params) → (give_post k ask r m).after.number.0 ≡ r.number.0
+    post_number k ask r (Some p) = refl
+    post_number k ask r None = refl
+
+    ascend_number : (k : WorkerId) (drains : Bool) (r : FlowRecord) (m : Option Ask) → (ascend k drains r m).after.number.0 ≡ r.number.0
+    ascend_number k drains r None = refl
+    ascend_number k true r (Some ask) = refl
+    ascend_number k false r (Some ask) = taken (may_take k ask)
+      where
+        taken : (b : Bool) → (cond b (call_post k ask r) (record { reply = Err status.WrongStep; after = r })).after.number.0 ≡ r.number.0
+        taken true = post_number k ask (unwound ask.place r) (unwound ask.place r).params ∙ unwound_number ask.place r (slice_get r.kept ask.place)
+        taken false = refl
+
+    called : (k : WorkerId) (i : InstanceId) (r : FlowRecord) (m : Option Params) → (call_pre k i r m).after.number.0 ≡ r.number.0
+    called k i r (Some p) = refl
+    called k i r None = refl
+
+    based : (r : FlowRecord) (m : Option Params) → (call_base r m).after.number.0 ≡ r.number.0
+    based r (Some p) = refl
+    based r None = refl
+
+    descend_number : (k : WorkerId) (lies : Below) (r : FlowRecord) → (descend k lies r).after.number.0 ≡ r.number.0
+    descend_number k (below.Instance i true) r = called k i r r.params
+    descend_number k (below.Instance i false) r = refl
+    descend_number k below.Call r = based r r.params
+    descend_number k (below.Known status) r = refl
+
+    number_at : (stage : Stage) → (next_at k lies drains r stage).after.number.0 ≡ r.number.0
+    number_at Descending = descend_number k lies r
+    number_at Ascending = ascend_number k drains r (slice_get (owed r.entries) 0)
+    number_at PreRunning = refl
+    number_at PreHeld = refl
+    number_at InBase = refl
+    number_at PostRunning = refl
+    number_at PostHeld = refl
+    number_at (InDrain i) = refl
+
+    collected_or : (b : Bool) → (cond b (record { reply = Err status.WrongStep; after = r }) (next_at k lies drains r r.stage)).after.number.0 ≡ r.number.0
+    collected_or true = refl
+    collected_or false = number_at r.stage
+
+next_collected : (k : WorkerId) (lies : Below) (drains : Bool) (r : FlowRecord) → (next_of k lies drains r).after.collected ≡ r.collected
+next_collected k lies drains r = collected_or r.collected
+  where
+    unwound_collected : (place : ℕ) (r : FlowRecord) (m : Option Params) → (unwound_to place r m).collected ≡ r.collected
+    unwound_collected place r (Some p) = refl
+    unwound_collected place r None = refl
+
+    post_collected : (k : WorkerId) (ask : Ask) (r : FlowRecord) (m : Option Params) → (give_post k ask r m).after.collected ≡ r.collected
+    post_collected k ask r (Some p) = refl
+    post_collected k ask r None = refl
+
+    ascend_collected : (k : WorkerId) (drains : Bool) (r : FlowRecord) (m : Option Ask) → (ascend k drains r m).after.collected ≡ r.collected
+    ascend_collected k drains r None = refl
+    ascend_collected k true r (Some ask) = refl
+    ascend_collected k false r (Some ask) = taken (may_take k ask)
+      where
+        taken : (b : Bool) → (cond b (call_post k ask r) (record { reply = Err status.WrongStep; after = r })).after.collected ≡ r.collected
+        taken true = post_collected k ask (unwound ask.place r) (unwound ask.place r).params ∙ unwound_collected ask.place r (slice_get r.kept ask.place)
+        taken false = refl
+
+    called : (k : WorkerId) (i : InstanceId) (r : FlowRecord) (m : Option Params) → (call_pre k i r m).after.collected ≡ r.collected
+    called k i r (Some p) = refl
+    called k i r None = refl
+
+    based : (r : FlowRecord) (m : Option Params) → (call_base r m).after.collected ≡ r.collected
+    based r (Some p) = refl
+    based r None = refl
+
+    descend_collected : (k : WorkerId) (lies : Below) (r : FlowRecord) → (descend k lies r).after.collected ≡ r.collected
+    descend_collected k (below.Instance i true) r = called k i r r.params
+    descend_collected k (below.Instance i false) r = refl
+    descend_collected k below.Call r = based r r.params
+    descend_collected k (below.Known status) r = refl
+
+    collected_at : (stage : Stage) → (next_at k lies drains r stage).after.collected ≡ r.collected
+    collected_at Descending = descend_collected k lies r
+    collected_at Ascending = ascend_collected k drains r (slice_get (owed r.entries) 0)
+    collected_at PreRunning = refl
+    collected_at PreHeld = refl
+    collected_at InBase = refl
+    collected_at PostRunning = refl
+    collected_at PostHeld = refl
+    collected_at (InDrain i) = refl
+
+    collected_or : (b : Bool) → (cond b (record { reply = Err status.WrongStep; after = r }) (next_at k lies drains r r.stage)).after.collected ≡ r.collected
+    collected_or true = refl
+    collected_or false = collected_at r.stage
+
+-- what `next` makes of an operation and of the worker
+record Leads (s : StackWorld) (k : WorkerId) (o : OpId) (r : FlowRecord) (turned : Turned) (workers : List Worker) : Type 0 where
+  pub among : IsAmong s turned.after
+  -- no worker moves, and the operation stands as before; or this one goes into the operation as its stage says
+  pub how : ((after_next workers k o turned.reply ≡ workers) × ((x : Stage) → is_stage x turned.after.stage ≡ is_stage x r.stage))
+      ⊎ ((b : Worker) × (after_next workers k o turned.reply ≡ put workers k b) × (Matches o place.Idle r.stage) × (Matches o b turned.after.stage)
+      × ((i : ℕ) → is_in_setup i b ≡ false))
+
+-- nothing happened
+leads_nowhere : (s : StackWorld) (k : WorkerId) (o : OpId) (r : FlowRecord) (reply : Result FlowAction Status) (workers : List Worker)
+    → after_next workers k o reply ≡ workers → IsAmong s r → Leads s k o r (record { reply = reply; after = r }) workers
+leads_nowhere s k o r reply workers same h = record { among = h; how = inl (same, λ x. refl) }
+
+quiet_alike : (a b : Stage) → is_running a ≡ false → is_running b ≡ false → (x : Stage) → is_stage x a ≡ is_stage x b
+quiet_alike a b h k x = quiet_is_none a h x ∙ sym (quiet_is_none b k x)
+
+leads_pre : (s : StackWorld) (k : WorkerId) (o : OpId) (r : FlowRecord) (i : InstanceId) (m : Option Params) (workers : List Worker) → IsStack s
+    → r.stage ≡ Descending → has_base r.entries ≡ false
+    → LiesBelow s r (below.Instance i true) → IsAmong s r → Leads s k o r (call_pre k i r m) workers
+leads_pre s k o r i None workers stack e none lies h = leads_nowhere s k o r (Err status.WrongStep) workers refl h
+leads_pre s k o r i (Some p) workers stack e none lies h = record {
+  among = among_visits s r.volume r.born r.operation r.entries r.stage PreRunning
+      (record { instance = i; worker = k; state = pre.Running; place = length r.kept }) stack none (λ x. absurd (pre_is_not_base x)) lies.0 h;
+  how = inr (place.Pre o i, refl, matches_idle o r.stage (ap is_running e), matches_pre o i, λ j. refl);
+}
+  where
+    pre_is_not_base : PreRunning ≡ InBase → ⊥
+    pre_is_not_base x = cc
+
+leads_base : (s : StackWorld) (k : WorkerId) (o : OpId) (r : FlowRecord) (m : Option Params) (workers : List Worker) → r.stage ≡ Descending
+    → LiesBelow s r below.Call → IsAmong s r → Leads s k o r (call_base r m) workers
+leads_base s k o r None workers e lies h = leads_nowhere s k o r (Err status.WrongStep) workers refl h
+leads_base s k o r (Some p) workers e lies h = record {
+  among = record { descent = h.descent; room = h.room; there = h.there; base = λ x. lies };
+  how = inr (place.Base o, refl, matches_idle o r.stage (ap is_running e), matches_base o, λ j. refl);
+}
+
+leads_down : (s : StackWorld) (k : WorkerId) (o : OpId) (r : FlowRecord) (lies : Below) (workers : List Worker) → IsStack s
+    → r.stage ≡ Descending → has_base r.entries ≡ false → LiesBelow s r lies → IsAmong s r → Leads s k o r (descend k lies r) workers
+leads_down s k o r (below.Instance i true) workers stack e none lies h = leads_pre s k o r i r.params workers stack e none lies h
+leads_down s k o r (below.Instance i false) workers stack e none lies h = record {
+  among = among_visits s r.volume r.born r.operation r.entries r.stage Descending
+      (record { instance = i; worker = k; state = pre.Asked (record { number = 0; context = None }); place = length r.kept }) stack none
+      (λ x. absurd (down_is_not_base x)) lies.0 h;
+  how = inl (refl, λ x. ap (is_stage x) (sym e));
+}
+  where
+    down_is_not_base : Descending ≡ InBase → ⊥
+    down_is_not_base x = cc
+leads_down s k o r below.Call workers stack e none lies h = leads_base s k o r r.params workers e lies h
+leads_down s k o r (below.Known status) workers stack e none lies h = absurd lies
+
+-- the parameters of a postoperation are put in place: the entries stay
+unwound_parts : (place : ℕ) (r : FlowRecord) (m : Option Params) (s : StackWorld) → IsAmong s r
+    → IsAmong s (unwound_to place r m) × ((unwound_to place r m).stage ≡ r.stage)
+unwound_parts place r (Some p) s h = (h, refl)
+unwound_parts place r None s h = (h, refl)
+
+leads_post : (s : StackWorld) (k : WorkerId) (o : OpId) (r u : FlowRecord) (ask : Ask) (m : Option Params) (workers : List Worker)
+    → r.stage ≡ Ascending → u.stage ≡ r.stage → IsAmong s u → Leads s k o r (give_post k ask u m) workers
+leads_post s k o r u ask None workers e same h = record { among = h; how = inl (refl, λ x. ap (is_stage x) same) }
+leads_post s k o r u ask (Some p) workers e same h = record {
+  among = among_other s u.volume u.born u.operation u.entries u.stage PostRunning
+      (Post (record { instance = ask.instance; worker = k; state = post.Running })) refl refl (λ x. absurd (post_is_not_base x)) h;
+  how = inr (place.Post o ask.instance, refl, matches_idle o r.stage (ap is_running e), matches_post o ask.instance, λ j. refl);
+}
+  where
+    post_is_not_base : PostRunning ≡ InBase → ⊥
+    post_is_not_base x = cc
+
+leads_taken : (s : StackWorld) (k : WorkerId) (o : OpId) (r : FlowRecord) (ask : Ask) (workers : List Worker) (b : Bool) → r.stage ≡ Ascending → IsAmong s r
+    → Leads s k o r (cond b (call_post k ask r) (record { reply = Err status.WrongStep; after = r })) workers
+leads_taken s k o r ask workers true e h =
+    let parts = unwound_parts ask.place r (slice_get r.kept ask.place) s h in
+    leads_post s k o r (unwound ask.place r) ask (unwound ask.place r).params workers e parts.1 parts.0
+leads_taken s k o r ask workers false e h = leads_nowhere s k o r (Err status.WrongStep) workers refl h
+
+leads_up : (s : StackWorld) (k : WorkerId) (o : OpId) (r : FlowRecord) (drains : Bool) (m : Option Ask) (workers : List Worker) → r.stage ≡ Ascending → IsAmong s r
+    → Leads s k o r (ascend k drains r m) workers
+leads_up s k o r drains None workers e h = leads_nowhere s k o r (Ok action.Done) workers refl h
+leads_up s k o r true (Some ask) workers e h = record {
+  among = among_other s r.volume r.born r.operation r.entries r.stage (InDrain ask.instance)
+      (Drain (record { instance = ask.instance; is_running = true })) refl refl (λ x. absurd (drain_is_not_base x)) h;
+  how = inr (place.Drain o ask.instance, refl, matches_idle o r.stage (ap is_running e), matches_drain o ask.instance, λ j. refl);
+}
+  where
+    drain_is_not_base : InDrain ask.instance ≡ InBase → ⊥
+    drain_is_not_base x = cc
+leads_up s k o r false (Some ask) workers e h = leads_taken s k o r ask workers (may_take k ask) e h
+
+leads_at : (s : StackWorld) (k : WorkerId) (o : OpId) (r : FlowRecord) (lies : Below) (drains : Bool) (workers : List Worker) (stage : Stage) → IsStack s
+    → r.stage ≡ stage → flow.IsSound r → (r.stage ≡ Descending → LiesBelow s r lies) → IsAmong s r → Leads s k o r (next_at k lies drains r stage) workers
+leads_at s k o r lies drains workers Descending stack e sound finds h =
+    let order : walk Descending r.entries ≡ Some (way_of r.stage) = sound.course.order in
+    leads_down s k o r lies workers stack e (no_base r.stage r.entries order (ap (λ x. is_up (way_of x)) e)) (finds e) h
+leads_at s k o r lies drains workers PreRunning stack e sound finds h = leads_nowhere s k o r (Err status.WrongStep) workers refl h
+leads_at s k o r lies drains workers PreHeld stack e sound finds h = leads_nowhere s k o r (Ok action.Held) workers refl h
+leads_at s k o r lies drains workers InBase stack e sound finds h = leads_nowhere s k o r (Err status.WrongStep) workers refl h
+leads_at s k o r lies drains workers Ascending stack e sound finds h = leads_up s k o r drains (slice_get (owed r.entries) 0) workers e h
+leads_at s k o r lies drains workers PostRunning stack e sound finds h = leads_nowhere s k o r (Err status.WrongStep) workers refl h
+leads_at s k o r lies drains workers PostHeld stack e sound finds h = leads_nowhere s k o r (Ok action.Held) workers refl h
+leads_at s k o r lies drains workers (InDrain i) stack e sound finds h = leads_nowhere s k o r (Err status.WrongStep) workers refl h
+
+leads_of : (s : StackWorld) (k : WorkerId) (o : OpId) (r : FlowRecord) (lies : Below) (drains : Bool) (workers : List Worker) → IsStack s
+    → flow.IsSound r → (r.stage ≡ Descending → LiesBelow s r lies) → IsAmong s r → Leads s k o r (next_of k lies drains r) workers
+leads_of s k o r lies drains workers stack sound finds h =
+    let P : Bool → Type 0 = λ b. Leads s k o r (cond b (record { reply = Err status.WrongStep; after = r }) (next_at k lies drains r r.stage)) workers in
+    elim (cases_Bool r.collected) [
+      | inl e ↦ subst P (sym e) (leads_nowhere s k o r (Err status.WrongStep) workers refl h)
+      | inr e ↦ subst P (sym e) (leads_at s k o r lies drains workers r.stage stack refl sound finds h)
+    ]
+
+times_unseen : (i : ℕ) (xs : List ℕ) → is_among xs i ≡ false → times i xs ≡ 0
+times_unseen i [] h = refl
+times_unseen i (x ∷ xs) h =
+    let here : one (x == i) ≡ 0 = ap one (or_left (x == i) (is_among xs i) h) in
+    omega (arith, here, times_unseen i xs (or_right (x == i) (is_among xs i) h))
+
+may_visit : (s : StackWorld) (r : FlowRecord) (lies : Below) → IsAmong s r → LiesBelow s r lies → MayVisit lies r
+may_visit s r (below.Instance i is_called) h lies = (
+  times_unseen i.0 (visited r.entries) (next_unseen s r.volume r.born r.operation (visited r.entries) i.0 (has_base r.entries) h.descent lies.0),
+  room_is s r.volume r.born r.operation (visited r.entries) i.0 h.room lies.0,
+)
+may_visit s r below.Call h lies = tt
+may_visit s r (below.Known status) h lies = tt
+
+unchanged_flow : (t : FlowTable) (o : OpId) (f : FlowRecord → FlowRecord) → operation_at o t ≡ None → changed o f t ≡ t
+unchanged_flow t o f h = ap (λ (rs : List FlowRecord). record t { operations = rs }) (change_none (is_number o) f t.operations h)
+
+-- one operation changes, a worker with it
+step_keeps : (w : World) (o : OpId) (r : FlowRecord) (f : FlowRecord → FlowRecord) (workers : List Worker) → operation_at o w.flow ≡ Some r
+    → ((x : FlowRecord) → (f x).number.0 ≡ x.number.0) → ((x : FlowRecord) → (f x).collected ≡ x.collected) → flow.IsSound (f r) → IsAmong w.stack (f r)
+    → length workers ≡ 48 → AreTied workers (changed o f w.flow) → ((i : ℕ) → count_by (is_in_setup i) workers ≡ count_by (is_in_setup i) w.workers)
+    → IsSound w → IsSound (record w { flow = changed o f w.flow; workers = workers })
+step_keeps w o r f workers at number collected sound among hands tied setups s =
+    flow_moves w (changed o f w.flow) workers
+    (flow_changes w.flow o f s.flow number collected (λ x e. subst (λ y. flow.IsSound (f y)) (same_Some r x (sym at ∙ e)) sound))
+    (all_change (IsAmong w.stack) (is_number o) f w.flow.operations
+    (λ x e. subst (λ y. IsAmong w.stack (f y)) (same_Some r x (sym at ∙ e)) among) s.among)
+    hands tied setups s
+
+-- no worker goes into or out of a setup callback
+setups_stay : (workers : List Worker) (k : WorkerId) (a b : Worker) → worker_at workers k ≡ Some a → ((i : ℕ) → is_in_setup i a ≡ false)
+    → ((i : ℕ) → is_in_setup i b ≡ false) → (i : ℕ) → count_by (is_in_setup i) (put workers k b) ≡ count_by (is_in_setup i) workers
+setups_stay workers k a b h na nb i =
+    let moves = count_moves (is_in_setup i) workers k a b h in
+    let from : one (is_in_setup i a) ≡ 0 = ap one (na i) in
+    let to : one (is_in_setup i b) ≡ 0 = ap one (nb i) in
+    omega (arith, moves, from, to)
+
+next_there : (old : World) (k : WorkerId) (o : OpId) (lies : Below) (result : Result FlowAction Status) (new : World) (m : Option FlowRecord)
+    → operation_at o old.flow ≡ m → worker_at old.workers k ≡ Some place.Idle → FindsBelow old.stack m lies → NextsOver old k o lies result new
+    → IsSound old → IsSound new
+next_there old k o lies result new None at idle finds h s =
+    let d = drains_at old o in
+    let f = λ (x : FlowRecord). (next_of k lies d x).after in
+    let reply : result ≡ Err status.WrongStep =
+    h.0 ∙ ap (λ m. unwrap_or (option_map (λ (x : FlowRecord). (next_of k lies d x).reply) m) (Err status.WrongStep)) at in
+    let same : record old { flow = changed o f old.flow; workers = after_next old.workers k o result } ≡ old =
+    ap (λ t. record old { flow = t; workers = after_next old.workers k o result }) (unchanged_flow old.flow o f at)
+    ∙ ap (λ x. record old { workers = after_next old.workers k o x }) reply in
+    subst IsSound (sym (h.1 ∙ same)) s
+next_there old k o lies result new (Some r) at idle finds h s =
+    let d = drains_at old o in
+    let f = λ (x : FlowRecord). (next_of k lies d x).after in
+    let reply : result ≡ (next_of k lies d r).reply =
+    h.0 ∙ ap (λ m. unwrap_or (option_map (λ (x : FlowRecord). (next_of k lies d x).reply) m) (Err status.WrongStep)) at in
+    let sound = found_holds flow.IsSound (is_number o) old.flow.operations r s.flow.sound at in
+    let among = found_holds (IsAmong old.stack) (is_number o) old.flow.operations r s.among at in
+    let leads = leads_of old.stack k o r lies d old.workers s.stack sound finds among in
+    let after = after_next old.workers k o (next_of k lies d r).reply in
+    let built : (ws : List Worker) → after ≡ ws → length ws ≡ 48 → AreTied ws (changed o f old.flow)
+    → ((i : ℕ) → count_by (is_in_setup i) ws ≡ count_by (is_in_setup i) old.workers) → IsSound new =
+    λ ws e hands tied setups. subst IsSound
+    (sym (h.1 ∙ ap (λ x. record old { flow = changed o f old.flow; workers = x }) (ap (after_next old.workers k o) reply ∙ e)))
+    (step_keeps old o r f ws at (next_number k lies d) (next_collected k lies d) (sound_next k lies d r sound (λ e. may_visit old.stack r lies among (finds e)))
+    leads.among hands tied setups s) in
+    elim leads.how [
+      | inl stays ↦ built old.workers stays.0 s.hands (tied_stays old.workers old.flow o r f at (next_number k lies d) stays.1 s.workers) (λ i. refl)
+      | inr goes ↦ built (put old.workers k goes.0) goes.1 (length-set old.workers k.0 goes.0 ∙ s.hands)
+          (tied_moves old.workers old.flow k place.Idle goes.0 o r f idle at (next_number k lies d) goes.2 goes.3 s.workers)
+          (setups_stay old.workers k place.Idle goes.0 idle (λ i. refl) goes.4)
+    ]
+
+pub next_keeps : (old : World) (k : WorkerId) (o : OpId) (result : Result FlowAction Status) (new : World) → Nexts old k o result new → IsSound old → IsSound new
+unfolding Nexts
+next_keeps old k o result new h s =
+    unless_cases status.WrongStep (is_idle (worker_at old.workers k)) result old new
+    ((lies : Below) × FindsBelow old.stack (operation_at o old.flow) lies × NextsOver old k o lies result new) h
+    (λ idle event. next_there old k o event.0 result new (operation_at o old.flow) refl (idle_there old.workers k idle) event.1 event.2 s) s
+
+-- ---- callbacks and calls return
+
+-- a worker leaves an operation, which then stands where no worker is inside it
+return_keeps : (old : World) (k : WorkerId) (a : Worker) (o : OpId) (r : FlowRecord) (f : FlowRecord → FlowRecord) → worker_at old.workers k ≡ Some a
+    → operation_at o old.flow ≡ Some r → ((x : FlowRecord) → (f x).number.0 ≡ x.number.0) → ((x : FlowRecord) → (f x).collected ≡ x.collected)
+    → Matches o a r.stage → is_running (f r).stage ≡ false → ((i : ℕ) → is_in_setup i a ≡ false)
+    → flow.IsSound (f r) → IsAmong old.stack (f r) → IsSound old → IsSound (returned old k o f)
+return_keeps old k a o r f at there number collected matches quiet outside sound among s =
+    step_keeps old o r f (put old.workers k place.Idle) there number collected sound among (length-set old.workers k.0 place.Idle ∙ s.hands)
+    (tied_moves old.workers old.flow k a place.Idle o r f at there number matches (matches_idle o (f r).stage quiet) s.workers)
+    (setups_stay old.workers k a place.Idle at outside (λ i. refl)) s
+
+-- what is told of an operation that is there
+told_there : {A : Type 0} (read : FlowRecord → A) (other : A) (o : OpId) (t : FlowTable) (r : FlowRecord) → operation_at o t ≡ Some r → told read other o t ≡ read r
+told_there read other o t r h = ap (λ m. unwrap_or (option_map read m) other) h
+
+counted_quiet : (given : PreVerdict) (operation : Operation) (has_post : Bool) → is_running (pre_leads (verdict_counted given operation has_post)) ≡ false
+counted_quiet (verdict.WithCallback completion) operation true = refl
+counted_quiet (verdict.WithCallback completion) operation false = refl
+counted_quiet (verdict.Synchronize completion) operation true = refl
+counted_quiet (verdict.Synchronize completion) operation false = refl
+counted_quiet verdict.NoCallback operation b = refl
+counted_quiet verdict.Pending operation b = refl
+counted_quiet (verdict.Complete status) operation b = completed_quiet status operation
+  where
+    completed_quiet : (status : Status) (operation : Operation) → is_running (pre_leads (completed_as status operation)) ≡ false
+    completed_quiet status kind.Create = refl
+    completed_quiet status kind.Read = refl
+    completed_quiet status kind.Write = refl
+    completed_quiet status kind.QuerySize = refl
+    completed_quiet status kind.SetSize = refl
+    completed_quiet status kind.Flush = refl
+    completed_quiet status kind.List = refl
+    completed_quiet status kind.SetDelete = refl
+    completed_quiet status kind.Cleanup = refl
+    completed_quiet status kind.Close = refl
+
+not_base_of : (stage : Stage) → is_running stage ≡ false → stage ≡ InBase → ⊥
+not_base_of stage h e = false≢true (sym h ∙ ap is_running e)
+
+pre_at : (old : World) (k : WorkerId) (given : PreVerdict) (lent : Data) (result : Result (Unit {0}) Status) (new : World) (m : Option Worker)
+    → worker_at old.workers k ≡ m → PreReturnsAt old k given lent result new m → IsSound old → IsSound new
+pre_at old k given lent result new (Some (place.Pre o i)) at h s =
+    let there = tied_there old.workers old.flow k (place.Pre o i) o PreRunning s.workers at (eq-eqb o.0 o.0 refl) in
+    let r = there.0 in
+    let stage : r.stage ≡ PreRunning = stage_pre r.stage there.2 in
+    let state = state_at old o i given in
+    let quiet : is_running (pre_leads state) ≡ false =
+    ap (λ x. is_running (pre_leads x)) (told_there (state_given old.stack i given) pre.Passed o old.flow r there.1)
+    ∙ counted_quiet (without_context given) r.operation (has_post old.stack (slice_get old.stack.instances i.0) r.operation) in
+    let sound = found_holds flow.IsSound (is_number o) old.flow.operations r s.flow.sound there.1 in
+    let among = found_holds (IsAmong old.stack) (is_number o) old.flow.operations r s.among there.1 in
+    unless_cases status.BadRequest (told (λ r. data_fits r.operation r.path lent) false o old.flow) result old new
+    ((result ≡ Ok tt) × (new ≡ returned old k o (pre_returned_of state lent))) h
+    (λ fits event. subst IsSound (sym event.1)
+    (return_keeps old k (place.Pre o i) o r (pre_returned_of state lent) at there.1 (λ x. refl) (λ x. refl)
+    (subst (Matches o (place.Pre o i)) (sym stage) (matches_pre o i)) quiet (λ j. refl)
+    (sound_pre_returned state lent r stage (counted_from state quiet) (sym (told_there (λ (x : FlowRecord). data_fits x.operation x.path lent) false o old.flow r there.1) ∙ fits) sound)
+    (among_settles old.stack r.volume r.born r.operation r.entries r.stage (pre_leads state) (settle_pre state) (settle_pre_visit state) (settle_pre_base state)
+    (not_base_of (pre_leads state) quiet) among) s)) s
+pre_at old k given lent result new (Some place.Idle) at h s = subst IsSound (sym h.1) s
+pre_at old k given lent result new (Some (place.Setup i)) at h s = subst IsSound (sym h.1) s
+pre_at old k given lent result new (Some (place.Base o)) at h s = subst IsSound (sym h.1) s
+pre_at old k given lent result new (Some (place.Post o i)) at h s = subst IsSound (sym h.1) s
+pre_at old k given lent result new (Some (place.Drain o i)) at h s = subst IsSound (sym h.1) s
+pre_at old k given lent result new None at h s = subst IsSound (sym h.1) s
+
+pub pre_keeps : (old : World) (k : WorkerId) (given : PreVerdict) (lent : Data) (result : Result (Unit {0}) Status) (new : World)
+    → PreReturns old k given lent result new → IsSound old → IsSound new
+unfolding PreReturns
+pre_keeps old k given lent result new h s = pre_at old k given lent result new (worker_at old.workers k) refl h s
+
+base_at : (old : World) (k : WorkerId) (call : Params) (given : Answer) (result : Result (Unit {0}) Status) (new : World) (m : Option Worker)
+    → worker_at old.workers k ≡ m → BaseReturnsAt old k call given result new m → IsSound old → IsSound new
+base_at old k call given result new (Some (place.Base o)) at h s =
+    let there = tied_there old.workers old.flow k (place.Base o) o InBase s.workers at (eq-eqb o.0 o.0 refl) in
+    let r = there.0 in
+    let stage : r.stage ≡ InBase = stage_base r.stage there.2 in
+    let sound = found_holds flow.IsSound (is_number o) old.flow.operations r s.flow.sound there.1 in
+    let among = found_holds (IsAmong old.stack) (is_number o) old.flow.operations r s.among there.1 in
+    let none = no_base r.stage r.entries sound.course.order (ap (λ x. is_up (way_of x)) stage) in
+    unless_cases status.BadRequest (told (answer_fits call given) false o old.flow) result old new
+    ((result ≡ Ok tt) × (new ≡ returned old k o (base_returned_of call given))) h
+    (λ fits event. subst IsSound (sym event.1)
+    (return_keeps old k (place.Base o) o r (base_returned_of call given) at there.1 (λ x. refl) (λ x. refl)
+    (subst (Matches o (place.Base o)) (sym stage) (matches_base o)) refl (λ j. refl)
+    (let good = and_parts (fit r.operation r.path call) (nat_le (length given.bytes) 32768)
+    (sym (told_there (answer_fits call given) false o old.flow r there.1) ∙ fits) in
+    sound_base_returned call given r stage good.0 (leb-true (length given.bytes) 32768 good.1) sound)
+    (among_base old.stack r.volume r.born r.operation r.entries r.stage given.status given.information none (among.base stage) among) s)) s
+base_at old k call given result new (Some place.Idle) at h s = subst IsSound (sym h.1) s
+base_at old k call given result new (Some (place.Setup i)) at h s = subst IsSound (sym h.1) s
+base_at old k call given result new (Some (place.Pre o i)) at h s = subst IsSound (sym h.1) s
+base_at old k call given result new (Some (place.Post o i)) at h s = subst IsSound (sym h.1) s
+base_at old k call given result new (Some (place.Drain o i)) at h s = subst IsSound (sym h.1) s
+base_at old k call given result new None at h s = subst IsSound (sym h.1) s
+
+pub base_keeps : (old : World) (k : WorkerId) (call : Params) (given : Answer) (result : Result (Unit {0}) Status) (new : World)
+    → BaseReturns old k call given result new → IsSound old → IsSound new
+unfolding BaseReturns
+base_keeps old k call given result new h s = base_at old k call given result new (worker_at old.workers k) refl h s
+
+post_quiet : (given : PostVerdict) → is_running (post_leads (post_state given)) ≡ false
+post_quiet answer.Finished = refl
+post_quiet answer.MoreProcessing = refl
+
+post_given : (old : World) (k : WorkerId) (o : OpId) (i : InstanceId) (given : PostVerdict) (lent : Data) (result : Result (Unit {0}) Status) (new : World)
+    → worker_at old.workers k ≡ Some (place.Post o i) → PostReturnsAt old k given (Some lent) result new (Some (place.Post o i)) → IsSound old → IsSound new
+post_given old k o i given lent result new at h s =
+    let there = tied_there old.workers old.flow k (place.Post o i) o PostRunning s.workers at (eq-eqb o.0 o.0 refl) in
+    let r = there.0 in
+    let stage : r.stage ≡ PostRunning = stage_post r.stage there.2 in
+    let state = post_state given in
+    let sound = found_holds flow.IsSound (is_number o) old.flow.operations r s.flow.sound there.1 in
+    let among = found_holds (IsAmong old.stack) (is_number o) old.flow.operations r s.among there.1 in
+    unless_cases status.BadRequest (told (λ r. data_fits r.operation r.path lent) false o old.flow) result old new
+    ((result ≡ Ok tt) × (new ≡ returned old k o (post_returned_of given lent))) h
+    (λ fits event. subst IsSound (sym event.1)
+    (return_keeps old k (place.Post o i) o r (post_returned_of given lent) at there.1 (λ x. refl) (λ x. refl)
+    (subst (Matches o (place.Post o i)) (sym stage) (matches_post o i)) (post_quiet given) (λ j. refl)
+    (sound_post_returned given lent r stage (sym (told_there (λ (x : FlowRecord). data_fits x.operation x.path lent) false o old.flow r there.1) ∙ fits) sound)
+    (among_settles old.stack r.volume r.born r.operation r.entries r.stage (post_leads state) (settle_post state) (settle_post_visit state) (settle_post_base state)
+    (not_base_of (post_leads state) (post_quiet given)) among) s)) s
+
+drain_given : (old : World) (k : WorkerId) (o : OpId) (i : InstanceId) (new : World) → worker_at old.workers k ≡ Some (place.Drain o i)
+    → new ≡ returned old k o (drain_returned_of i) → IsSound old → IsSound new
+drain_given old k o i new at e s =
+    let there = tied_there old.workers old.flow k (place.Drain o i) o (InDrain i) s.workers at (and_from (o.0 == o.0) (i.0 == i.0) (eq-eqb o.0 o.0 refl) (eq-eqb i.0 i.0 refl)) in
+    let r = there.0 in
+    let stage : r.stage ≡ InDrain i = stage_drain i r.stage there.2 in
+    let sound = found_holds flow.IsSound (is_number o) old.flow.operations r s.flow.sound there.1 in
+    let among = found_holds (IsAmong old.stack) (is_number o) old.flow.operations r s.among there.1 in
+    subst IsSound (sym e)
+    (return_keeps old k (place.Drain o i) o r (drain_returned_of i) at there.1 (λ x. refl) (λ x. refl)
+    (subst (Matches o (place.Drain o i)) (sym stage) (matches_drain o i)) refl (λ j. refl) (sound_drain_returned i r stage sound)
+    (among_settles old.stack r.volume r.born r.operation r.entries r.stage Ascending (settle_drain i.0) (settle_drain_visit i.0) (settle_drain_base i.0)
+    (not_base_of Ascending refl) among) s)
+
+post_at : (old : World) (k : WorkerId) (given : PostVerdict) (lent : Option Data) (result : Result (Unit {0}) Status) (new : World) (m : Option Worker)
+    → worker_at old.workers k ≡ m → PostReturnsAt old k given lent result new m → IsSound old → IsSound new
+post_at old k given (Some lent) result new (Some (place.Post o i)) at h s = post_given old k o i given lent result new at h s
+post_at old k given None result new (Some (place.Post o i)) at h s = subst IsSound (sym h.1) s
+post_at old k given None result new (Some (place.Drain o i)) at h s = drain_given old k o i new at h.1 s
+post_at old k given (Some lent) result new (Some (place.Drain o i)) at h s = subst IsSound (sym h.1) s
+post_at old k given (Some lent) result new (Some place.Idle) at h s = subst IsSound (sym h.1) s
+post_at old k given (Some lent) result new (Some (place.Setup i)) at h s = subst IsSound (sym h.1) s
+post_at old k given (Some lent) result new (Some (place.Pre o i)) at h s = subst IsSound (sym h.1) s
+post_at old k given (Some lent) result new (Some (place.Base o)) at h s = subst IsSound (sym h.1) s
+post_at old k given (Some lent) result new None at h s = subst IsSound (sym h.1) s
+post_at old k given None result new (Some place.Idle) at h s = subst IsSound (sym h.1) s
+post_at old k given None result new (Some (place.Setup i)) at h s = subst IsSound (sym h.1) s
+post_at old k given None result new (Some (place.Pre o i)) at h s = subst IsSound (sym h.1) s
+post_at old k given None result new (Some (place.Base o)) at h s = subst IsSound (sym h.1) s
+post_at old k given None result new None at h s = subst IsSound (sym h.1) s
+
+pub post_keeps : (old : World) (k : WorkerId) (given : PostVerdict) (lent : Option Data) (result : Result (Unit {0}) Status) (new : World)
+    → PostReturns old k given lent result new → IsSound old → IsSound new
+unfolding PostReturns
+post_keeps old k given lent result new h s = post_at old k given lent result new (worker_at old.workers k) refl h s
+
+-- ---- collect
+
+-- a done operation is on its way up
+done_stage : (s : Stage) (asks : List Ask) → done_at s asks ≡ true → is_running s ≡ false
+done_stage Ascending asks h = refl
+done_stage Descending asks h = refl
+done_stage PreHeld asks h = refl
+done_stage PostHeld asks h = refl
+done_stage PreRunning asks h = absurd (false≢true h)
+done_stage InBase asks h = absurd (false≢true h)
+done_stage PostRunning asks h = absurd (false≢true h)
+done_stage (InDrain i) asks h = absurd (false≢true h)
+
+-- where numbers ascend, none is found twice
+none_above : (o : OpId) (rs : List FlowRecord) → All (λ (r : FlowRecord). o.0 < r.number.0) rs → find (is_number o) rs ≡ None
+none_above o [] h = refl
+none_above o (x ∷ rs) h =
+    let above : o.0 < x.number.0 = All-head (λ (r : FlowRecord). o.0 < r.number.0) x rs h in
+    let other : (x.number.0 == o.0) ≡ false = ne_eqb x.number.0 o.0 (λ e. absurd (omega arith)) in
+    ap (λ b. cond b (Some x) (find (is_number o) rs)) other ∙ none_above o rs (All-tail (λ (r : FlowRecord). o.0 < r.number.0) x rs h)
+
+abbrev Ascends : FlowRecord → FlowRecord → Type 0
+Ascends r s = r.number.0 < s.number.0
+
+found_once : (o : OpId) (rs : List FlowRecord) (r : FlowRecord) → AllPairs Ascends rs → find (is_number o) rs ≡ Some r
+    → find (is_number o) (without_first (is_number o) rs) ≡ None
+found_once o [] r pairs h = absurd (none-some r h)
+found_once o (x ∷ rs) r pairs h =
+    elim (cases_Bool (x.number.0 == o.0)) [
+      | inl e ↦ ap (λ b. find (is_number o) (cond b rs (x ∷ without_first (is_number o) rs))) e
+          ∙ none_above o rs (λ k d l. subst (λ n. n < (get_or rs k d).number.0) (eqb-true x.number.0 o.0 e) (pairs 0 (suc k) d (omega arith) (omega arith)))
+      | inr e ↦ ap (λ b. find (is_number o) (cond b rs (x ∷ without_first (is_number o) rs))) e
+          ∙ ap (λ b. cond b (Some x) (find (is_number o) (without_first (is_number o) rs))) e
+          ∙ found_once o rs r (λ i j d p q. pairs (suc i) (suc j) d (omega arith) (omega arith)) (sym (ap (λ b. cond b (Some x) (find (is_number o) rs)) e) ∙ h)
+    ]
+
+tied_without : (workers : List Worker) (t : FlowTable) (o : OpId) (r : FlowRecord) → AllPairs Ascends t.operations → operation_at o t ≡ Some r
+    → is_running r.stage ≡ false → AreTied workers t → AreTied workers (removed o t)
+tied_without workers t o r pairs at quiet tied p s =
+    let read = λ (m : Option FlowRecord). unwrap_or (option_map (λ (x : FlowRecord). one (is_stage s x.stage)) m) 0 in
+    tied p s ∙ elim (cases_eq o.0 p.0) [
+      | inl e ↦
+          let before : stands_at p s t ≡ 0 = ap read (subst (λ n. find (λ (x : FlowRecord). x.number.0 == n) t.operations ≡ Some r) e at) ∙ ap one (quiet_is_none r.stage quiet s) in
+          let after : stands_at p s (removed o t) ≡ 0 =
+          ap read (subst (λ n. find (λ (x : FlowRecord). x.number.0 == n) (without_first (is_number o) t.operations) ≡ None) e (found_once o t.operations r pairs at)) in
+          before ∙ sym after
+      | inr e ↦ sym (ap read (find_without (is_number o) (is_number p) t.operations
+          (λ x k. ne_eqb x.number.0 p.0 (λ q. e (sym (eqb-true x.number.0 o.0 k) ∙ q)))))
+    ]
+
+collect_at : (old : World) (o : OpId) (m : Option FlowRecord) → operation_at o old.flow ≡ m → collected_in o old.flow m ≡ collected_of o old.flow → IsSound old
+    → IsSound (record old { flow = collected_in o old.flow m })
+collect_at old o None at same s = s
+collect_at old o (Some r) at same s =
+    let flow = subst IsFlow (sym same) (flow_collects old.flow o s.flow) in
+    let after : Bool → Bool → FlowTable = λ a b. cond a (cond b (changed o marked old.flow) (removed o old.flow)) old.flow in
+    let a = is_collectable r in
+    let b = list_any is_running_drain r.entries in
+    elim (cases_Bool a) [
+      | inr e ↦ subst (λ x. IsSound (record old { flow = after x b })) (sym e) s
+      | inl e ↦
+          let quiet = done_stage r.stage (owed r.entries) (and_parts (not r.collected) (is_done r) e).1 in
+          elim (cases_Bool b) [
+            | inl d ↦
+                let is : after a b ≡ changed o marked old.flow = ap (λ x. after x b) e ∙ ap (λ y. after true y) d in
+                subst (λ t. IsSound (record old { flow = t })) (sym is)
+                (flow_moves old (changed o marked old.flow) old.workers (subst IsFlow is flow)
+                (all_change (IsAmong old.stack) (is_number o) marked old.flow.operations
+                (λ x h. found_holds (IsAmong old.stack) (is_number o) old.flow.operations x s.among h) s.among)
+                s.hands (tied_stays old.workers old.flow o r marked at (λ x. refl) (λ x. refl) s.workers) (λ i. refl) s)
+            | inr d ↦
+                let is : after a b ≡ removed o old.flow = ap (λ x. after x b) e ∙ ap (λ y. after true y) d in
+                subst (λ t. IsSound (record old { flow = t })) (sym is)
+                (flow_moves old (removed o old.flow) old.workers (subst IsFlow is flow)
+                (all_without (IsAmong old.stack) (is_number o) old.flow.operations s.among)
+                s.hands (tied_without old.workers old.flow o r s.flow.ascending at quiet s.workers) (λ i. refl) s)
+          ]
+    ]
+
+pub collect_keeps : (old : World) (o : OpId) (result : Result Answer Status) (new : World) → Collects old o result new → IsSound old → IsSound new
+unfolding Collects
+collect_keeps old o result new h s = subst IsSound (sym h.1) (collect_at old o (operation_at o old.flow) refl refl s)

@@ -1,0 +1,29 @@
+-- The descent of an operation: the instances that it visited so far, from the highest down, with none passed over.
+use Rattle.std.specs.Prelude.{◌≡◌, ℕ, ◌+◌, ◌≤◌, ◌==◌, Bool, true, false, List, reverse, Option, Some, length, slice_get, AllPairs, count_by}
+use Rattle.std.specs.List.{list_any}
+use Rattle.fm_types.specs.declared.ids.VolumeId.{VolumeId}
+use Rattle.fm_types.specs.declared.operation.Operation.{Operation}
+use Rattle.fm_stack.specs.declared.instance.Instance.{Instance}
+use Rattle.fm_stack.specs.StackWorld.{StackWorld}
+use Rattle.fm_stack.specs.Instances.{is_lower_at}
+use Rattle.fm_stack.specs.Next.{is_to_visit, is_below_cursor, is_candidate}
+
+-- the instance that was visited last
+abbrev pub last_of : List ℕ → Option ℕ
+last_of visited = slice_get (reverse visited) 0
+
+abbrev pub is_among : List ℕ → ℕ → Bool
+is_among visited i = list_any (λ j. j == i) visited
+
+-- an operation on volume v, begun at `born`, that visited these instances; `reached` says that the base was called
+pub record IsDescent (s : StackWorld) (v : VolumeId) (born : ℕ) (operation : Operation) (visited : List ℕ) (reached : Bool) : Type 0 where
+  -- the altitudes fall strictly
+  pub falls : AllPairs (λ i j. is_lower_at s j i ≡ true) visited
+  -- an instance that is to be visited and wasn't is still below the last visit, and the base wasn't reached
+  pub passes_none : (i : ℕ) (row : Instance) → slice_get s.instances i ≡ Some row → is_to_visit s v born operation row ≡ true
+      → is_among visited i ≡ false → (is_below_cursor s (last_of visited) row ≡ true) × (reached ≡ false)
+
+-- what the next visits need besides: the operation began in the past, and there is room for all visits that may come
+pub record HasRoom (s : StackWorld) (v : VolumeId) (born : ℕ) (operation : Operation) (visited : List ℕ) : Type 0 where
+  pub past : born ≤ s.births
+  pub room : length visited + count_by (is_candidate s v (last_of visited) born operation) s.instances ≤ 32

@@ -1,0 +1,212 @@
+-- The events: the refusals of each, in their order, and what it makes of the World. A refusal changes nothing, but for the end of a setup callback.
+-- An event that a worker makes is refused first of all, with WrongStep, where the worker isn't in the right place.
+use Rattle.std.specs.Prelude.{◌≡◌, ℕ, ◌&&◌, Bool, true, false, not, List, [], ◌∷◌, length, nat_le, Option, Some, None, Result, Ok, Err, slice_get}
+use Rattle.fm_types.specs.declared.ids.FilterId.{FilterId}
+use Rattle.fm_types.specs.declared.ids.VolumeId.{VolumeId}
+use Rattle.fm_types.specs.declared.ids.InstanceId.{InstanceId}
+use Rattle.fm_types.specs.declared.ids.OpId.{OpId}
+use Rattle.fm_types.specs.declared.ids.WorkerId.{WorkerId}
+use Rattle.fm_types.specs.declared.status.Status.{Status}
+use Rattle.fm_types.specs.declared.status.Status.TheVariants as status
+use Rattle.fm_types.specs.declared.registration.Registration.{Registration}
+use Rattle.fm_types.specs.declared.operation.Operation.{Operation}
+use Rattle.fm_types.specs.Refusals.{first_of, AnswersOrMemory}
+use Rattle.fm_data.specs.declared.params.Params.{Params}
+use Rattle.fm_data.specs.declared.params.Params.TheVariants as params
+use Rattle.fm_data.specs.declared.answer.Answer.{Answer}
+use Rattle.fm_data.specs.declared.verdict.PreVerdict.{PreVerdict}
+use Rattle.fm_data.specs.declared.verdict.PreVerdict.TheVariants as verdict
+use Rattle.fm_data.specs.declared.verdict.PostVerdict.{PostVerdict}
+use Rattle.fm_data.specs.Data.{Data, data_fits}
+use Rattle.fm_data.specs.Params.{fit}
+use Rattle.fm_stack.specs.declared.instance.Instance.{Instance}
+use Rattle.fm_stack.specs.declared.instance.Phase.{Phase}
+use Rattle.fm_stack.specs.declared.instance.Phase.TheVariants as phase
+use Rattle.fm_stack.specs.StackWorld.{StackWorld}
+use Rattle.fm_stack.specs.Next.{IsNextInstance, has_pre_in, has_post_in}
+use Rattle.fm_stack.specs.Events as stack
+use Rattle.fm_flow.specs.declared.action.Below.{Below}
+use Rattle.fm_flow.specs.declared.action.Below.TheVariants as below
+use Rattle.fm_flow.specs.declared.action.FlowAction.{FlowAction}
+use Rattle.fm_flow.specs.declared.entry.Ask.{Ask}
+use Rattle.fm_flow.specs.declared.entry.PreState.{PreState}
+use Rattle.fm_flow.specs.declared.entry.PreState.TheVariants.{Passed}
+use Rattle.fm_flow.specs.declared.stage.Stage.TheVariants.{Descending}
+use Rattle.fm_flow.specs.Record.{FlowRecord}
+use Rattle.fm_flow.specs.Entries.{owed, last_visited}
+use Rattle.fm_flow.specs.Steps.{next_of, pre_returned_of, base_returned_of, post_returned_of, drain_returned_of}
+use Rattle.fm_flow.specs.Verdict.{verdict_counted}
+use Rattle.fm_flow.specs.Table.{FlowTable, operation_at, changed, told, begun, is_full, collect_reply, collected_of}
+use Rattle.fm_world.specs.declared.step.Begin.{Begin}
+use Rattle.fm_world.specs.declared.step.Begin.TheVariants as begin
+use Rattle.fm_world.specs.declared.worker.Worker.{Worker}
+use Rattle.fm_world.specs.declared.worker.Worker.TheVariants as place
+use Rattle.fm_world.specs.World.{World}
+use Rattle.fm_world.specs.Workers.{worker_at, put, is_idle, after_attach, after_next}
+
+-- the event where the test holds, and else a refusal that changes nothing
+abbrev pub Unless : {T : Type 0} → Status → Bool → Result T Status → World → World → Type 0 → Type 0
+Unless refusal true result old new Event = Event
+Unless refusal false result old new Event = (result ≡ Err refusal) × (new ≡ old)
+
+-- ---- filters, volumes, instances
+
+unfoldable pub Registers : World → List ℕ → Registration → Result FilterId Status → World → Type 0
+Registers old name registration result new =
+    stack.Registers old.stack name registration result new.stack × (new ≡ record old { stack = new.stack })
+
+unfoldable pub Mounts : World → List ℕ → Result VolumeId Status → World → Type 0
+Mounts old name result new = stack.Mounts old.stack name result new.stack × (new ≡ record old { stack = new.stack })
+
+-- by an idle worker, which then is in the setup callback
+unfoldable pub Attaches : World → WorkerId → FilterId → VolumeId → List ℕ → List ℕ → Result InstanceId Status → World → Type 0
+Attaches old k f v name altitude result new =
+    Unless status.WrongStep (is_idle (worker_at old.workers k)) result old new
+    (stack.Attaches old.stack f v name altitude result new.stack
+    × (new ≡ record old { stack = new.stack; workers = after_attach old.workers k result }))
+
+-- by a worker in a setup callback, which returns whatever the answer
+abbrev pub SetsUpAt : World → WorkerId → Bool → Result (Unit {0}) Status → World → Option Worker → Type 0
+SetsUpAt old k accept result new (Some (place.Setup i)) =
+    stack.SetsUp old.stack i accept result new.stack × (new ≡ record old { stack = new.stack; workers = put old.workers k place.Idle })
+SetsUpAt old k accept result new _ = (result ≡ Err status.WrongStep) × (new ≡ old)
+
+unfoldable pub SetsUp : World → WorkerId → Bool → Result (Unit {0}) Status → World → Type 0
+SetsUp old k accept result new = SetsUpAt old k accept result new (worker_at old.workers k)
+
+-- ---- operations begin
+
+abbrev pub begin_refusals : World → Begin → List (Bool × Status)
+begin_refusals w (begin.List v) =
+    (nat_le (length w.stack.volumes) v.0, status.NoVolume)
+    ∷ (not (stack.is_mounted (slice_get w.stack.volumes v.0)), status.Dismounting)
+    ∷ (is_full w.flow, status.TooMany)
+    ∷ []
+
+abbrev pub begun_flow : World → Begin → FlowTable
+begun_flow w (begin.List v) = begun v None None w.stack.births params.List w.flow
+
+unfoldable pub Begins : World → Begin → Result OpId Status → World → Type 0
+Begins old what result new =
+    AnswersOrMemory (first_of (begin_refusals old what)) result old new
+    (λ (o : OpId). (o.0 ≡ old.flow.next) × (new ≡ record old { flow = begun_flow old what }))
+
+-- ---- the next callback or call of an operation
+
+-- whether the filter of an instance has a callback before the operation, and after it
+abbrev pub has_pre : StackWorld → Option Instance → Operation → Bool
+has_pre s None operation = false
+has_pre s (Some row) operation = has_pre_in (slice_get s.filters row.filter.0) operation
+
+abbrev pub has_post : StackWorld → Option Instance → Operation → Bool
+has_post s None operation = false
+has_post s (Some row) operation = has_post_in (slice_get s.filters row.filter.0) operation
+
+-- what an operation finds below its last visit: the next instance, or the base
+abbrev pub LiesBelow : StackWorld → FlowRecord → Below → Type 0
+LiesBelow s r (below.Instance i is_called) =
+    IsNextInstance s r.volume (last_visited r.entries) r.born r.operation (Some i)
+    × (is_called ≡ has_pre s (slice_get s.instances i.0) r.operation)
+LiesBelow s r below.Call = IsNextInstance s r.volume (last_visited r.entries) r.born r.operation None
+LiesBelow s r (below.Known status) = ⊥
+
+-- which matters on the way down alone
+abbrev pub FindsBelow : StackWorld → Option FlowRecord → Below → Type 0
+FindsBelow s None lies = Unit {0}
+FindsBelow s (Some r) lies = r.stage ≡ Descending → LiesBelow s r lies
+
+abbrev pub is_stopping_phase : Phase → Bool
+is_stopping_phase phase.Stopping = true
+is_stopping_phase _ = false
+
+abbrev pub is_stopping_row : Option Instance → Bool
+is_stopping_row None = false
+is_stopping_row (Some row) = is_stopping_phase row.phase
+
+abbrev pub is_stopping_ask : StackWorld → Option Ask → Bool
+is_stopping_ask s None = false
+is_stopping_ask s (Some ask) = is_stopping_row (slice_get s.instances ask.instance.0)
+
+-- whether the instance that is owed the next postoperation is being torn down, so that it is drained
+abbrev pub drains_next : StackWorld → FlowRecord → Bool
+drains_next s r = is_stopping_ask s (slice_get (owed r.entries) 0)
+
+abbrev pub drains_at : World → OpId → Bool
+drains_at w o = told (drains_next w.stack) false o w.flow
+
+abbrev pub NextsOver : World → WorkerId → OpId → Below → Result FlowAction Status → World → Type 0
+NextsOver old k o lies result new =
+    (result ≡ told (λ r. (next_of k lies (drains_at old o) r).reply) (Err status.WrongStep) o old.flow)
+    × (new ≡ record old {
+      flow = changed o (λ r. (next_of k lies (drains_at old o) r).after) old.flow;
+      workers = after_next old.workers k o result;
+    })
+
+-- by an idle worker
+unfoldable pub Nexts : World → WorkerId → OpId → Result FlowAction Status → World → Type 0
+Nexts old k o result new =
+    Unless status.WrongStep (is_idle (worker_at old.workers k)) result old new
+    ((lies : Below) × FindsBelow old.stack (operation_at o old.flow) lies × NextsOver old k o lies result new)
+
+-- ---- callbacks and calls return
+
+-- a completion's context counts as none where it isn't in the worker's hand: contexts aren't there yet
+abbrev pub without_context : PreVerdict → PreVerdict
+without_context (verdict.WithCallback completion) = verdict.WithCallback (record completion { context = None })
+without_context (verdict.Synchronize completion) = verdict.Synchronize (record completion { context = None })
+without_context verdict.NoCallback = verdict.NoCallback
+without_context (verdict.Complete status) = verdict.Complete status
+without_context verdict.Pending = verdict.Pending
+
+-- the verdict of instance i that counts
+abbrev pub state_given : StackWorld → InstanceId → PreVerdict → FlowRecord → PreState
+state_given s i given r = verdict_counted (without_context given) r.operation (has_post s (slice_get s.instances i.0) r.operation)
+
+abbrev pub state_at : World → OpId → InstanceId → PreVerdict → PreState
+state_at w o i given = told (state_given w.stack i given) Passed o w.flow
+
+-- the worker is idle again, and the operation goes on as the step makes it
+abbrev pub returned : World → WorkerId → OpId → (FlowRecord → FlowRecord) → World
+returned w k o step = record w { flow = changed o step w.flow; workers = put w.workers k place.Idle }
+
+-- strange data is refused, and the callback goes on
+abbrev pub PreReturnsAt : World → WorkerId → PreVerdict → Data → Result (Unit {0}) Status → World → Option Worker → Type 0
+PreReturnsAt old k given lent result new (Some (place.Pre o i)) =
+    Unless status.BadRequest (told (λ r. data_fits r.operation r.path lent) false o old.flow) result old new
+    ((result ≡ Ok tt) × (new ≡ returned old k o (pre_returned_of (state_at old o i given) lent)))
+PreReturnsAt old k given lent result new _ = (result ≡ Err status.WrongStep) × (new ≡ old)
+
+unfoldable pub PreReturns : World → WorkerId → PreVerdict → Data → Result (Unit {0}) Status → World → Type 0
+PreReturns old k given lent result new = PreReturnsAt old k given lent result new (worker_at old.workers k)
+
+-- an answer that may be: the call's parameters are the operation's, and at most 32,768 bytes come back
+abbrev pub answer_fits : Params → Answer → FlowRecord → Bool
+answer_fits call answer r = fit r.operation r.path call && nat_le (length answer.bytes) 32768
+
+abbrev pub BaseReturnsAt : World → WorkerId → Params → Answer → Result (Unit {0}) Status → World → Option Worker → Type 0
+BaseReturnsAt old k call answer result new (Some (place.Base o)) =
+    Unless status.BadRequest (told (answer_fits call answer) false o old.flow) result old new
+    ((result ≡ Ok tt) × (new ≡ returned old k o (base_returned_of call answer)))
+BaseReturnsAt old k call answer result new _ = (result ≡ Err status.WrongStep) × (new ≡ old)
+
+unfoldable pub BaseReturns : World → WorkerId → Params → Answer → Result (Unit {0}) Status → World → Type 0
+BaseReturns old k call answer result new = BaseReturnsAt old k call answer result new (worker_at old.workers k)
+
+-- a postoperation brings its data back; a drain has none, and its verdict counts as Finished
+abbrev pub PostReturnsAt : World → WorkerId → PostVerdict → Option Data → Result (Unit {0}) Status → World → Option Worker → Type 0
+PostReturnsAt old k given (Some lent) result new (Some (place.Post o i)) =
+    Unless status.BadRequest (told (λ r. data_fits r.operation r.path lent) false o old.flow) result old new
+    ((result ≡ Ok tt) × (new ≡ returned old k o (post_returned_of given lent)))
+PostReturnsAt old k given None result new (Some (place.Drain o i)) = (result ≡ Ok tt) × (new ≡ returned old k o (drain_returned_of i))
+PostReturnsAt old k given None result new (Some (place.Post o i)) = (result ≡ Err status.BadRequest) × (new ≡ old)
+PostReturnsAt old k given (Some lent) result new (Some (place.Drain o i)) = (result ≡ Err status.BadRequest) × (new ≡ old)
+PostReturnsAt old k given lent result new _ = (result ≡ Err status.WrongStep) × (new ≡ old)
+
+unfoldable pub PostReturns : World → WorkerId → PostVerdict → Option Data → Result (Unit {0}) Status → World → Type 0
+PostReturns old k given lent result new = PostReturnsAt old k given lent result new (worker_at old.workers k)
+
+-- ---- the answer is taken
+
+unfoldable pub Collects : World → OpId → Result Answer Status → World → Type 0
+Collects old o result new =
+    (result ≡ told collect_reply (Err status.WrongStep) o old.flow) × (new ≡ record old { flow = collected_of o old.flow })

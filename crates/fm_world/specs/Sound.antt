@@ -1,0 +1,53 @@
+-- What an induction over events needs besides the Headline, and from which the Headline follows.
+use Rattle.std.specs.Prelude.{◌≡◌, ℕ, ◌<◌, Bool, false, cond, List, length, All, count_by, Option, Some, None, slice_get, ◌==◌}
+use Rattle.fm_types.specs.declared.ids.OpId.{OpId}
+use Rattle.fm_types.specs.declared.ids.VolumeId.{VolumeId}
+use Rattle.fm_types.specs.declared.operation.Operation.{Operation}
+use Rattle.fm_flow.specs.declared.stage.Stage.{Stage}
+use Rattle.fm_flow.specs.declared.stage.Stage.TheVariants.{InBase}
+use Rattle.fm_flow.specs.declared.entry.Entry.{Entry}
+use Rattle.fm_flow.specs.Record.{FlowRecord}
+use Rattle.fm_flow.specs.Entries.{visited, last_visited, has_base}
+use Rattle.fm_flow.specs.Table.{IsFlow}
+use Rattle.fm_stack.specs.declared.instance.Instance.{Instance}
+use Rattle.fm_stack.specs.StackWorld.{StackWorld}
+use Rattle.fm_stack.specs.Instances.{is_setup}
+use Rattle.fm_stack.specs.Next.{NonePasses, is_candidate}
+use Rattle.fm_stack.specs.Stacks.{IsStack}
+use Rattle.fm_world.specs.declared.worker.Worker.{Worker}
+use Rattle.fm_world.specs.declared.worker.Worker.TheVariants as place
+use Rattle.fm_world.specs.World.{World}
+use Rattle.fm_world.specs.Descent.{IsDescent, HasRoom}
+use Rattle.fm_world.specs.Headline.{is_in_at, stands_at}
+
+-- nothing is left for an operation to visit that visited the cursor last
+abbrev pub NoneLeft : StackWorld → VolumeId → Option ℕ → ℕ → Operation → Type 0
+NoneLeft s v cursor born operation = NonePasses (is_candidate s v cursor born operation) s.instances
+
+-- an operation among the instances
+pub record IsAmongAt (s : StackWorld) (v : VolumeId) (born : ℕ) (operation : Operation) (entries : List Entry) (stage : Stage) : Type 0 where
+  pub descent : IsDescent s v born operation (visited entries) (has_base entries)
+  pub room : HasRoom s v born operation (visited entries)
+  pub there : All (λ i. i < length s.instances) (visited entries)
+  -- while the base is called, nothing comes to be left
+  pub base : stage ≡ InBase → NoneLeft s v (last_visited entries) born operation
+
+abbrev pub IsAmong : StackWorld → FlowRecord → Type 0
+IsAmong s r = IsAmongAt s r.volume r.born r.operation r.entries r.stage
+
+-- whether a worker is in the setup callback of that instance
+abbrev pub is_in_setup : ℕ → Worker → Bool
+is_in_setup i (place.Setup j) = j.0 == i
+is_in_setup i _ = false
+
+abbrev pub setup_row : Option Instance → ℕ
+setup_row None = 0
+setup_row (Some row) = cond (is_setup row.phase) 1 0
+
+pub record IsSound (w : World) : Type 0 where
+  pub stack : IsStack w.stack
+  pub flow : IsFlow w.flow
+  pub among : All (IsAmong w.stack) w.flow.operations
+  pub hands : length w.workers ≡ 48
+  pub workers : (o : OpId) (stage : Stage) → count_by (is_in_at o stage) w.workers ≡ stands_at o stage w.flow
+  pub setups : (i : ℕ) → count_by (is_in_setup i) w.workers ≡ setup_row (slice_get w.stack.instances i)

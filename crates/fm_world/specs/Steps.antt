@@ -1,0 +1,71 @@
+-- An event as a value, with its answer; and lists of them.
+use Rattle.std.specs.Prelude.{◌≡◌, List, [], ◌∷◌, Result}
+use Rattle.fm_types.specs.declared.ids.FilterId.{FilterId}
+use Rattle.fm_types.specs.declared.ids.VolumeId.{VolumeId}
+use Rattle.fm_types.specs.declared.ids.InstanceId.{InstanceId}
+use Rattle.fm_types.specs.declared.ids.OpId.{OpId}
+use Rattle.fm_types.specs.declared.status.Status.{Status}
+use Rattle.fm_data.specs.declared.answer.Answer.{Answer}
+use Rattle.fm_flow.specs.declared.action.FlowAction.{FlowAction}
+use Rattle.fm_world.specs.declared.step.Step.{Step}
+use Rattle.fm_world.specs.declared.step.Step.TheVariants as step
+use Rattle.fm_world.specs.declared.step.StepReply.{StepReply}
+use Rattle.fm_world.specs.declared.step.StepReply.TheVariants as reply
+use Rattle.fm_world.specs.World.{World}
+use Rattle.fm_world.specs.Events.{Registers, Mounts, Attaches, SetsUp, Begins, Nexts, PreReturns, BaseReturns, PostReturns, Collects}
+
+-- the answer is of that kind, and this holds of it
+abbrev pub OfFilter : StepReply → (Result FilterId Status → Type 0) → Type 0
+OfFilter (reply.Filter r) P = P r
+OfFilter _ P = ⊥
+
+abbrev pub OfVolume : StepReply → (Result VolumeId Status → Type 0) → Type 0
+OfVolume (reply.Volume r) P = P r
+OfVolume _ P = ⊥
+
+abbrev pub OfInstance : StepReply → (Result InstanceId Status → Type 0) → Type 0
+OfInstance (reply.Instance r) P = P r
+OfInstance _ P = ⊥
+
+abbrev pub OfOperation : StepReply → (Result OpId Status → Type 0) → Type 0
+OfOperation (reply.Operation r) P = P r
+OfOperation _ P = ⊥
+
+abbrev pub OfAction : StepReply → (Result FlowAction Status → Type 0) → Type 0
+OfAction (reply.Action r) P = P r
+OfAction _ P = ⊥
+
+abbrev pub OfDone : StepReply → (Result (Unit {0}) Status → Type 0) → Type 0
+OfDone (reply.Done r) P = P r
+OfDone _ P = ⊥
+
+abbrev pub OfAnswer : StepReply → (Result Answer Status → Type 0) → Type 0
+OfAnswer (reply.Answer r) P = P r
+OfAnswer _ P = ⊥
+
+-- the event answers so, and leads from the old World to the new one
+abbrev pub Steps : World → Step → StepReply → World → Type 0
+Steps old (step.Register name registration) answer new = OfFilter answer (λ r. Registers old name registration r new)
+Steps old (step.Mount name) answer new = OfVolume answer (λ r. Mounts old name r new)
+Steps old (step.Attach k f v name altitude) answer new = OfInstance answer (λ r. Attaches old k f v name altitude r new)
+Steps old (step.SetupDone k accept) answer new = OfDone answer (λ r. SetsUp old k accept r new)
+Steps old (step.Begin what) answer new = OfOperation answer (λ r. Begins old what r new)
+Steps old (step.Next k o) answer new = OfAction answer (λ r. Nexts old k o r new)
+Steps old (step.PreReturned k verdict lent) answer new = OfDone answer (λ r. PreReturns old k verdict lent r new)
+Steps old (step.BaseReturned k call given) answer new = OfDone answer (λ r. BaseReturns old k call given r new)
+Steps old (step.PostReturned k verdict lent) answer new = OfDone answer (λ r. PostReturns old k verdict lent r new)
+Steps old (step.Collect o) answer new = OfAnswer answer (λ r. Collects old o r new)
+
+-- the events in their order, each with its answer, lead from the old World to the new one
+abbrev pub Run : World → List Step → List StepReply → World → Type 0
+Run old [] [] new = new ≡ old
+Run old (s ∷ steps) (r ∷ replies) new = (mid : World) × Steps old s r mid × Run mid steps replies new
+Run old [] (r ∷ replies) new = ⊥
+Run old (s ∷ steps) [] new = ⊥
+
+-- the same, and P holds of the World after each event
+abbrev pub RunThrough : (World → Type 0) → World → List Step → List StepReply → World → Type 0
+RunThrough P old [] [] new = new ≡ old
+RunThrough P old (s ∷ steps) (r ∷ replies) new = (mid : World) × Steps old s r mid × P mid × RunThrough P mid steps replies new
+RunThrough P old [] (r ∷ replies) new = ⊥
+RunThrough P old (s ∷ steps) [] new = ⊥

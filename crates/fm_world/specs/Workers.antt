@@ -1,0 +1,38 @@
+-- Where workers are.
+use Rattle.std.specs.Prelude.{Bool, true, false, List, Option, Some, slice_get, slice_set, Result, Ok, Err}
+use Rattle.fm_types.specs.declared.ids.WorkerId.{WorkerId}
+use Rattle.fm_types.specs.declared.ids.OpId.{OpId}
+use Rattle.fm_types.specs.declared.ids.InstanceId.{InstanceId}
+use Rattle.fm_types.specs.declared.status.Status.{Status}
+use Rattle.fm_flow.specs.declared.action.FlowAction.{FlowAction}
+use Rattle.fm_flow.specs.declared.action.FlowAction.TheVariants as action
+use Rattle.fm_world.specs.declared.worker.Worker.{Worker}
+use Rattle.fm_world.specs.declared.worker.Worker.TheVariants as place
+
+-- the place of a worker, if there is such a worker
+abbrev pub worker_at : List Worker → WorkerId → Option Worker
+worker_at workers k = slice_get workers k.0
+
+abbrev pub put : List Worker → WorkerId → Worker → List Worker
+put workers k where' = slice_set workers k.0 where'
+
+-- a worker that is there and idle
+abbrev pub is_idle : Option Worker → Bool
+is_idle (Some place.Idle) = true
+is_idle _ = false
+
+-- the workers after an attach: where it succeeds, this one is in the new instance's setup callback
+abbrev pub after_attach : List Worker → WorkerId → Result InstanceId Status → List Worker
+after_attach workers k (Ok i) = put workers k (place.Setup i)
+after_attach workers k (Err status) = workers
+
+-- the workers after a `next`: this one is inside the callback or the call that it was given
+abbrev pub after_next : List Worker → WorkerId → OpId → Result FlowAction Status → List Worker
+after_next workers k o (Ok (action.Pre i lent)) = put workers k (place.Pre o i)
+after_next workers k o (Ok (action.Base call)) = put workers k (place.Base o)
+after_next workers k o (Ok (action.Post i lent completion)) = put workers k (place.Post o i)
+after_next workers k o (Ok (action.Drain i completion)) = put workers k (place.Drain o i)
+after_next workers k o (Ok action.Moved) = workers
+after_next workers k o (Ok action.Held) = workers
+after_next workers k o (Ok action.Done) = workers
+after_next workers k o (Err status) = workers

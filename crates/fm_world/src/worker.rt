@@ -1,0 +1,20 @@
+//! Where a worker is.
+
+use fm_types::{InstanceId, OpId};
+
+/// Where a worker is: idle, or inside one callback of an instance or one call of the base.
+#[derive(Clone, Copy, Debug, PartialEq, Eq)]
+pub enum Worker {
+    /// In none: it may be given any callback or call.
+    Idle,
+    /// In the setup callback of the instance.
+    Setup(InstanceId),
+    /// In the instance's preoperation for the operation.
+    Pre(OpId, InstanceId),
+    /// In the base's call for the operation.
+    Base(OpId),
+    /// In the instance's postoperation for the operation.
+    Post(OpId, InstanceId),
+    /// In a drain of the instance: it has its completion of the operation back.
+    Drain(OpId, InstanceId),
+}

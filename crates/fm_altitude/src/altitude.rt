@@ -142,9 +142,8 @@ impl Ord for Altitude {
 
     /// Compares the two as decimal numbers.
     fn cmp(&self, other: &Altitude) -> Ordering {
-        self.whole()
-            .len()
-            .cmp(&other.whole().len())
+        let lengths = self.whole_len().cmp(&other.whole_len());
+        lengths
             .then(self.whole().cmp(other.whole()))
             .then(self.fraction().cmp(other.fraction()))
     }

@@ -6,6 +6,9 @@ ghost use Rattle.fm_altitude.specs.Grammar.{IsAltitude, after_point, before_poin
 /// The most characters of an altitude.
 pub const ALTITUDE_ROOM: usize = 64;
 
+/// The digit that says nothing in front of a whole number and at the end of a fraction.
+const ZERO: u8 = b'0';
+
 // Whether the text is 1 to 64 characters, digits and at most one point, with a digit among them.
 pub fn is_altitude(text: &[u8]) -> bool
     ensures { IsTrue result ↔ IsAltitude text.now }
@@ -39,7 +42,7 @@ fn without_front_zeros(digits: &[u8]) -> &[u8]
     ensures { result.now ≡ trim_front digits.now }
 {
     match digits {
-        [b'0', rest @ ..] => without_front_zeros(rest),
+        [ZERO, rest @ ..] => without_front_zeros(rest),
         _ => digits,
     }
 }
@@ -51,7 +54,7 @@ fn without_back_zeros(digits: &[u8]) -> &[u8]
     let Some((last, rest)) = digits.split_last() else {
         return digits;
     };
-    if *last == b'0' {
+    if *last == ZERO {
         without_back_zeros(rest)
     } else {
         digits

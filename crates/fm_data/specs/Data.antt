@@ -1,5 +1,5 @@
 -- Callback data as its callers see it.
-use Rattle.std.specs.Prelude.{◌≡◌, ℕ, ◌≤◌, ◌&&◌, Bool, true, List, [], length, Option, Some, None, unwrap_or, nat_le, IsTrue}
+use Rattle.std.specs.Prelude.{ℕ, ◌≤◌, ◌&&◌, Bool, true, List, [], length, Option, Some, None, unwrap_or, nat_le, IsTrue}
 use Rattle.fm_types.specs.declared.operation.Operation.{Operation}
 use Rattle.fm_types.specs.declared.status.Status.{Status}
 use Rattle.fm_types.specs.declared.status.Status.TheVariants.{Success}

@@ -21,6 +21,7 @@ pub struct CallbackData {
 
 impl Model for CallbackData {
     ghost use Rattle.fm_data.specs.Data.{Data, IsData};
+
     ghost Value = { Data };
 
     ghost view = { λ d. record { received = d.received; changed = d.changed; status = d.answer.status; information = d.answer.information; out = d.answer.bytes } };
@@ -46,8 +47,16 @@ impl CallbackData {
         requires { IsTrue (is_within_limits params) }
         ensures { result ≡ fresh_data params }
     {
-        let answer = Answer { status: Status::Success, information: 0, bytes: Bytes::new(alloc) };
-        CallbackData { received: params, changed: None, answer }
+        let answer = Answer {
+            status: Status::Success,
+            information: 0,
+            bytes: Bytes::new(alloc),
+        };
+        CallbackData {
+            received: params,
+            changed: None,
+            answer,
+        }
     }
 
     /// The data for a postoperation callback: these parameters and the answer so far, of at most
@@ -57,7 +66,11 @@ impl CallbackData {
         requires size { length answer.bytes ≤ 32768 }
         ensures { result ≡ answered_data params answer }
     {
-        CallbackData { received: params, changed: None, answer }
+        CallbackData {
+            received: params,
+            changed: None,
+            answer,
+        }
     }
 
     /// The parameters as they are now: the changed ones, or else those received.
@@ -183,8 +196,16 @@ impl CallbackData {
         ensures changed { result.changed ≡ self.changed }
         ensures answer { result.answer ≡ record { status = self.status; information = self.information; bytes = self.out } }
     {
-        let CallbackData { received, changed, answer } = self;
-        Parts { received, changed, answer }
+        let CallbackData {
+            received,
+            changed,
+            answer,
+        } = self;
+        Parts {
+            received,
+            changed,
+            answer,
+        }
     }
 
     /// The laws of all callback data, for callers that rest on them. It does nothing.
@@ -192,5 +213,44 @@ impl CallbackData {
         ensures { IsData self.now }
     {
         let _ = &self.received;
+    }
+}
+
+#[cfg(test)]
+mod tests {
+    use super::*;
+    use std::test::Fail;
+
+    #[test]
+    fn what_was_received_is_kept(rt: HostRuntime) -> Result<(), Fail> {
+        let mut lent = CallbackData::new(rt.alloc(), Params::Read { offset: 7, len: 5 });
+        assert!(rt; !lent.is_dirty());
+        lent.change(Params::Read { offset: 7, len: 3 })?;
+        assert!(rt; lent.is_dirty());
+        assert!(rt; matches!(lent.params(), Params::Read { len: 3, .. }));
+        assert!(rt; matches!(lent.received(), Params::Read { len: 5, .. }));
+        assert!(rt; lent.change(Params::Flush).is_err());
+        assert!(rt;
+            lent.change(Params::Read {
+                offset: 1 << 40,
+                len: 1
+            })
+            .is_err()
+        );
+        assert!(rt; matches!(lent.params(), Params::Read { len: 3, .. }));
+        Ok(())
+    }
+
+    #[test]
+    fn the_answer_has_its_limits(rt: HostRuntime) -> Result<(), Fail> {
+        let mut lent = CallbackData::new(rt.alloc(), Params::Flush);
+        lent.set_out(Bytes::copy_of(rt.alloc(), b"ab".as_slice())?)?;
+        lent.map_out(1, b'c')?;
+        assert_eq!(rt; lent.out_bytes(), b"ac".as_slice());
+        assert!(rt; lent.map_out(2, b'd').is_err());
+        lent.set_status(Status::EndOfFile, 9);
+        assert_eq!(rt; lent.status(), Status::EndOfFile);
+        assert_eq!(rt; lent.information(), 9);
+        Ok(())
     }
 }

@@ -55,6 +55,16 @@ impl Params {
         }
     }
 
+    /// A copy of the path that a create names.
+    pub fn path(&self) -> Option<RelPath>
+        ensures { result ≡ path_of self.now }
+    {
+        match self {
+            Params::Create { path, .. } => Some(*path),
+            _ => None,
+        }
+    }
+
     /// Whether they ask for at most 32,768 bytes and name no end of a file past 2^40. Offset and
     /// length are added without wrapping.
     pub fn is_within_limits(&self) -> bool

@@ -1,30 +1,26 @@
 -- What each step adds to the references carried and to the operations in flight, and what it takes away.
-use Rattle.std.proofs.Common.{◌≡◌, ℕ, ◌+◌, ◌-◌, ◌*◌, ◌<◌, ◌≤◌, ◌==◌, Bool, true, false, cond, not, ◌&&◌, ◌||◌, List, [], ◌∷◌, ◌++◌, length, map, reverse, filter, filter_map, Option, Some, None, option_to_list, option_and_then, slice_get, ◌⊎◌, inl, inr, refl, sym, ap, ap₂, ◌∙◌, subst, arith, append-nil, append_assoc, zero-add}
-use Rattle.std.proofs.lemmas.List.{reverse-append, map-append, length-append, length-map}
+use Rattle.std.proofs.Common.{◌≡◌, ℕ, ◌+◌, ◌≤◌, ◌==◌, Bool, true, false, cond, not, ◌&&◌, List, [], ◌∷◌, ◌++◌, map, reverse, Some, None, option_to_list, slice_get, inl, inr, refl, sym, ap, ◌∙◌, arith, zero-add}
+use Rattle.std.proofs.lemmas.List.{reverse-append}
 use Rattle.std.proofs.lemmas.List.Elements.{filter_map-append}
 use Rattle.std.proofs.lemmas.Bool.Decides.{nat_tests}
-use Rattle.fm_types.specs.declared.ids.InstanceId.{InstanceId}
 use Rattle.fm_types.specs.declared.ids.CtxId.{CtxId}
 use Rattle.fm_flow.specs.declared.stage.Stage.{Stage}
-use Rattle.fm_flow.specs.declared.stage.Stage.TheVariants.{Descending, PreRunning, PreHeld, InBase, Ascending, PostRunning, PostHeld, InDrain}
+use Rattle.fm_flow.specs.declared.stage.Stage.TheVariants.{Descending}
 use Rattle.fm_flow.specs.declared.entry.PreState.{PreState}
 use Rattle.fm_flow.specs.declared.entry.PreState.TheVariants as pre
 use Rattle.fm_flow.specs.declared.entry.PostState.{PostState}
 use Rattle.fm_flow.specs.declared.entry.PostState.TheVariants as post
 use Rattle.fm_flow.specs.declared.entry.PreVisit.{PreVisit}
-use Rattle.fm_flow.specs.declared.entry.PostVisit.{PostVisit}
 use Rattle.fm_flow.specs.declared.entry.DrainVisit.{DrainVisit}
 use Rattle.fm_flow.specs.declared.entry.Ask.{Ask}
 use Rattle.fm_flow.specs.declared.entry.Entry.{Entry}
 use Rattle.fm_flow.specs.declared.entry.Entry.TheVariants.{Pre, Base, Post, Drain}
-use Rattle.fm_flow.specs.Entries.{one, times, ask_in, ask_of, visit_of, post_of, visited, last_visited, last_posted, asked, posted, owed, instances, without, is_pre_open, is_post_open, settle_pre, settle_post, settle_drain}
-use Rattle.fm_flow.specs.Counts.{carried_in, carried_among, taken_by, opens_at, opens, leaves_by, leaves_at, post_leaves_by, drain_opens}
-use Rattle.fm_flow.specs.Steps.{pre_leads, post_leads}
+use Rattle.fm_flow.specs.Entries.{one, times, ask_in, visit_of, post_of, visited, last_visited, last_posted, asked, posted, owed, instances, is_pre_open, is_post_open, settle_pre, settle_post, settle_drain}
+use Rattle.fm_flow.specs.Counts.{carried_among, taken_by, opens_at, opens, leaves_by, leaves_at, post_leaves_by, drain_opens}
 use Rattle.fm_flow.specs.Sound.{answer_count, IsCourse}
-use Rattle.fm_flow.proofs.Lists.{times-append, one-same, either, without_head}
+use Rattle.fm_flow.proofs.Lists.{either}
 use Rattle.fm_flow.proofs.Walks.{OpenPre, OpenPost, is_pre, is_post}
-use Rattle.fm_flow.proofs.Owed.{owed_push_none, owed_push_ask, owed_push_answer, unanswered}
-use Rattle.fm_flow.proofs.Course.{Settles, IsFresh, asked_cons, owed_settled, times_instances-append, asked_among, unvisited, owed_once, one_and}
+use Rattle.fm_flow.proofs.Course.{asked_cons, owed_settled, times_instances-append, one_and}
 use Rattle.fm_flow.proofs.Settled.{with_state, with_post, settled_pre_is, settles_pre, the_open_pre, settled_post_is, settles_post, the_open_post, settles_drain, fresh_of_open}
 
 pub opens-append : (i : ℕ) (es fs : List Entry) → opens i (es ++ fs) ≡ opens i es + opens i fs
@@ -126,8 +122,9 @@ taken k visit (pre.Completed status) = refl
 
 pre_balance : (i : ℕ) (visit : PreVisit) (state : PreState) → one (visit.instance.0 == i) ≡ (one ((visit.instance.0 == i) && is_pre_open state) + times i (instances (option_to_list (ask_in visit state)))) + cond (visit.instance.0 == i) (leaves_by state) 0
 pre_balance i visit state = elim (either (visit.instance.0 == i)) [
-    inl is ↦ rw is (pre_balance_here i visit state is)
-  | inr differs ↦ rw differs (pre_balance_there i visit state differs) ]
+  | inl is ↦ rw is (pre_balance_here i visit state is)
+  | inr differs ↦ rw differs (pre_balance_there i visit state differs)
+]
 
 pub flight_pre_settled : (s : Stage) (es : List Entry) (state : PreState) (j : ℕ) → is_pre s ≡ true → IsCourse s es
     → opens j es + times j (instances (owed es)) ≡ (opens j (map (settle_pre state) es) + times j (instances (owed (map (settle_pre state) es)))) + leaves_at j (last_visited es) (leaves_by state)
@@ -182,8 +179,9 @@ drain_here i j visit is =
 
 drain_at : (i j : ℕ) (visit : DrainVisit) → one ((visit.instance.0 == j) && visit.is_running) ≡ one ((visit.instance.0 == j) && (not (visit.instance.0 == i) && visit.is_running)) + cond (i == j) (one ((visit.instance.0 == i) && visit.is_running)) 0
 drain_at i j visit = elim (either (visit.instance.0 == i)) [
-    inl is ↦ rw is (drain_here i j visit is)
-  | inr differs ↦ rw differs (let h : cond {A = ℕ} (i == j) 0 0 ≡ 0 = same_either (i == j) 0 in omega (arith, h)) ]
+  | inl is ↦ rw is (drain_here i j visit is)
+  | inr differs ↦ rw differs (let h : cond {A = ℕ} (i == j) 0 0 ≡ 0 = same_either (i == j) 0 in omega (arith, h))
+]
 
 pub opens_drain_settled : (i j : ℕ) (es : List Entry) → opens j es ≡ opens j (map (settle_drain i) es) + cond (i == j) (drain_opens i es) 0
 opens_drain_settled i j [] = let h : cond {A = ℕ} (i == j) 0 0 ≡ 0 = same_either (i == j) 0 in omega (arith, h)

@@ -1,12 +1,12 @@
 -- The laws of entries are kept by each step.
-use Rattle.std.proofs.Common.{◌≡◌, ℕ, ◌+◌, ◌-◌, ◌*◌, ◌<◌, ◌≤◌, ◌==◌, Bool, true, false, cond, not, ◌&&◌, ◌||◌, List, [], ◌∷◌, ◌++◌, length, map, reverse, filter, filter_map, Option, Some, None, option_to_list, option_and_then, ◌⊎◌, inl, inr, refl, sym, ap, ap₂, ◌∙◌, subst, arith, append-nil, append_assoc, zero-add}
+use Rattle.std.proofs.Common.{◌≡◌, ℕ, ◌+◌, ◌<◌, ◌≤◌, ◌==◌, Bool, true, false, cond, not, ◌&&◌, List, [], ◌∷◌, ◌++◌, length, reverse, filter, Option, Some, None, option_to_list, inl, inr, refl, sym, ap, ap₂, ◌∙◌, arith, append-nil, append_assoc, zero-add}
 use Rattle.std.specs.Prelude.{⊤}
-use Rattle.std.specs.List.{list_any, cons_option}
-use Rattle.std.proofs.lemmas.List.{reverse-append, map-append, length-append, length-map}
-use Rattle.std.proofs.lemmas.List.Elements.{filter-append, filter_map-append, filter_agree}
+use Rattle.std.specs.List.{cons_option}
+use Rattle.std.proofs.lemmas.List.{reverse-append, map-append, length-append}
+use Rattle.std.proofs.lemmas.List.Elements.{filter-append, filter_agree}
 use Rattle.std.proofs.lemmas.Bool.Decides.{nat_tests}
 use Rattle.fm_flow.specs.declared.stage.Stage.{Stage}
-use Rattle.fm_flow.specs.declared.stage.Stage.TheVariants.{Descending, PreRunning, PreHeld, InBase, Ascending, PostRunning, PostHeld, InDrain}
+use Rattle.fm_flow.specs.declared.stage.Stage.TheVariants.{Descending, PreRunning, InBase, Ascending, PostRunning}
 use Rattle.fm_flow.specs.declared.entry.PreState.{PreState}
 use Rattle.fm_flow.specs.declared.entry.PreState.TheVariants as pre
 use Rattle.fm_flow.specs.declared.entry.PreVisit.{PreVisit}
@@ -19,8 +19,8 @@ use Rattle.fm_flow.specs.Counts.{drain_opens}
 use Rattle.fm_flow.specs.declared.entry.Ask.{Ask}
 use Rattle.fm_flow.specs.declared.entry.Entry.{Entry}
 use Rattle.fm_flow.specs.declared.entry.Entry.TheVariants.{Pre, Base, Post, Drain}
-use Rattle.fm_flow.specs.Entries.{one, times, ask_in, ask_of, visit_of, post_of, drains, answers, is_drained, is_answered, visited, asked, posted, owed, undrained, instances, without}
-use Rattle.fm_flow.specs.Sound.{if_down, after, walk, way_of, answer_count, slack, HasItsDrain, IsCourse}
+use Rattle.fm_flow.specs.Entries.{one, times, ask_in, ask_of, is_drained, is_answered, visited, asked, posted, owed, undrained, instances, without}
+use Rattle.fm_flow.specs.Sound.{if_down, walk, way_of, answer_count, slack, HasItsDrain, IsCourse}
 use Rattle.fm_flow.proofs.Lists.{without_head, others, times-append, instances_without, length_without, others_none, times_others_same, times_others_other, one-same, either}
 use Rattle.fm_flow.proofs.Owed.{asked_push, visited_push, posted_push, answer_count-append, owed_push_none, owed_push_ask, owed_push_answer, undrained_push_none, undrained_push_ask, undrained_push_drain, unanswered, not_drained}
 use Rattle.fm_flow.proofs.Walks.{walk_push, no_posts}
@@ -44,8 +44,9 @@ reverse_more xs (Some ask) = reverse-append xs (ask ∷ [])
 
 apart_more : (i j : ℕ) (js ks : List ℕ) → times j js ≡ 0 → times i ks ≡ times i js + times i (j ∷ []) → times i js ≤ 1 → times i ks ≤ 1
 apart_more i j js ks fresh k a = elim (either (j == i)) [
-    inl is ↦ let e : j ≡ i = grind (arith, nat_tests) in let u = ap one is in let same : times i js ≡ times j js = ap (λ n. times n js) (sym e) in omega (arith, same, fresh, k, u)
-  | inr other ↦ let z : one (j == i) ≡ 0 = ap one other in omega (arith, k, a, z) ]
+  | inl is ↦ let e : j ≡ i = grind (arith, nat_tests) in let u = ap one is in let same : times i js ≡ times j js = ap (λ n. times n js) (sym e) in omega (arith, same, fresh, k, u)
+  | inr other ↦ let z : one (j == i) ≡ 0 = ap one other in omega (arith, k, a, z)
+]
 
 pub asked_cons : (e : Entry) (es : List Entry) → asked (e ∷ es) ≡ option_to_list (ask_of e) ++ asked es
 asked_cons e es = elim (ask_of e) as (λ o. cons_option o (asked es) ≡ option_to_list o ++ asked es) [ None ↦ refl | Some a ↦ refl ]
@@ -129,19 +130,20 @@ course_settled s t es fs o h c fresh w room drain = record {
   order = w;
   apart = λ i. let k = ap (times i) h.visits in let a = c.apart i in omega (arith, k, a);
   once = λ i.
-    let k = h.counts i in let a = c.once i in
-    let b = ap (λ xs. times i (instances xs)) (owed_settled es fs o h fresh) in
-    let d = times_instances-append i (option_to_list o) (owed es) in
-    let e = ap (λ xs. times i (instances xs)) h.asks in
-    let f = times_instances-append i (asked es) (option_to_list o) in
-    omega (arith, k, a, b, d, e, f);
+      let k = h.counts i in let a = c.once i in
+      let b = ap (λ xs. times i (instances xs)) (owed_settled es fs o h fresh) in
+      let d = times_instances-append i (option_to_list o) (owed es) in
+      let e = ap (λ xs. times i (instances xs)) h.asks in
+      let f = times_instances-append i (asked es) (option_to_list o) in
+      omega (arith, k, a, b, d, e, f);
   ascent = settled_ascent es fs o h fresh c.ascent;
   few = let k = ap length h.visits in let a = c.few in omega (arith, k, a);
   room =
-    let k = ap length h.visits in let a = c.room in let l = h.len in
-    let b = ap length (owed_settled es fs o h fresh) in let d = length-append (option_to_list o) (owed es) in
-    omega (arith, k, a, l, b, d);
-  drain = drain }
+      let k = ap length h.visits in let a = c.room in let l = h.len in
+      let b = ap length (owed_settled es fs o h fresh) in let d = length-append (option_to_list o) (owed es) in
+      omega (arith, k, a, l, b, d);
+  drain = drain;
+}
 
 -- ---- one more entry
 
@@ -153,7 +155,8 @@ course_start = record {
   ascent = refl;
   few = omega arith;
   room = omega arith;
-  drain = tt }
+  drain = tt;
+}
 
 -- a visit that asks for nothing yet
 pub course_visit : (es : List Entry) (visit : PreVisit) → visit.state ≡ pre.Running → IsCourse Descending es → times visit.instance.0 (visited es) ≡ 0 → length (visited es) < 32 → IsCourse PreRunning (es ++ Pre visit ∷ [])
@@ -174,7 +177,8 @@ course_visit es visit runs c fresh few =
       ascent = rw (o, u, p) c.ascent;
       few = omega (arith, lv, few);
       room = let a = c.room in omega (arith, lv, le, lo, a, few);
-      drain = tt }
+      drain = tt;
+    }
 
 -- a visit that asks at once
 pub course_visit_ask : (es : List Entry) (visit : PreVisit) (ask : Ask) → ask_of (Pre visit) ≡ Some ask → ask.instance.0 ≡ visit.instance.0 → pre_leads visit.state ≡ Descending
@@ -198,7 +202,8 @@ course_visit_ask es visit ask asks same leads c fresh few =
       ascent = let h = c.ascent in let n = no_posts Descending es Descending c.order refl in rw (o, u, p) (ap (λ xs. ask.instance.0 ∷ xs) (rw n at h));
       few = omega (arith, lv, few);
       room = let a = c.room in omega (arith, lv, le, lo, a, few);
-      drain = tt }
+      drain = tt;
+    }
 
 -- a base call begins
 pub course_in_base : (es : List Entry) → IsCourse Descending es → IsCourse InBase es
@@ -222,7 +227,8 @@ course_base s es status information way slack_is c =
       ascent = rw (o, u, p) c.ascent;
       few = let a = c.few in omega (arith, lv, a);
       room = let a = c.room in omega (arith, lv, le, lo, a, slack_is);
-      drain = tt }
+      drain = tt;
+    }
 
 -- an instance stands at most once among those owed
 pub owed_once : (s : Stage) (es : List Entry) (i : ℕ) → IsCourse s es → times i (instances (owed es)) ≤ 1
@@ -230,13 +236,14 @@ owed_once s es i c = let a = asked_among i es in let b = c.once i in let d = c.a
 
 others_once : (i k n m : ℕ) (js : List ℕ) → times i js ≡ 1 → n + times k js ≡ m → (n + one (i == k)) + times k (others i js) ≡ m
 others_once i k n m js once h = elim (either (i == k)) [
-    inl is ↦
+  | inl is ↦
       let e : i ≡ k = grind (arith, nat_tests) in
       let a = ap one is in
       let b : times k (others i js) ≡ 0 = ap (λ j. times j (others i js)) (sym e) ∙ times_others_same i js in
       let d : times k js ≡ 1 = ap (λ j. times j js) (sym e) ∙ once in
       omega (arith, a, b, d, h)
-  | inr differs ↦ let a = ap one differs in let b = times_others_other i k js differs in omega (arith, a, b, h) ]
+  | inr differs ↦ let a = ap one differs in let b = times_others_other i k js differs in omega (arith, a, b, h)
+]
 
 -- the postoperation that comes next
 pub course_post : (es : List Entry) (visit : PostVisit) (ask : Ask) (rest : List Ask) → visit.state ≡ post.Running → visit.instance.0 ≡ ask.instance.0 → owed es ≡ ask ∷ rest → IsCourse Ascending es
@@ -259,15 +266,16 @@ course_post es visit ask rest runs same next c =
       order = walk_push Descending es (Post visit) Ascending PostRunning c.order (rw runs refl);
       apart = λ j. let k = ap (times j) v in let a = c.apart j in omega (arith, k, a);
       once = λ j.
-        let k = answer_count-append j es (Post visit ∷ []) in
-        let d = ap (λ xs. times j (instances xs)) q in
-        let b = ap (λ xs. times j (instances xs)) w ∙ ap (times j) (instances_without visit.instance.0 (owed es)) in
-        let e = others_once visit.instance.0 j (answer_count j es) (times j (instances (asked es))) (instances (owed es)) first (c.once j) in
-        omega (arith, k, d, b, e);
+          let k = answer_count-append j es (Post visit ∷ []) in
+          let d = ap (λ xs. times j (instances xs)) q in
+          let b = ap (λ xs. times j (instances xs)) w ∙ ap (times j) (instances_without visit.instance.0 (owed es)) in
+          let e = others_once visit.instance.0 j (answer_count j es) (times j (instances (asked es))) (instances (owed es)) first (c.once j) in
+          omega (arith, k, d, b, e);
       ascent = let h = c.ascent in rw (r, u, p) (append_assoc (posted es) (visit.instance.0 ∷ []) (instances rest) ∙ rw same (sym (ap (λ xs. posted es ++ instances xs) next) ∙ h));
       few = let a = c.few in omega (arith, lv, a);
       room = let a = c.room in omega (arith, lv, le, lo, ln, a);
-      drain = tt }
+      drain = tt;
+    }
 
 -- an instance that is owed was answered by no entry
 pub answered_before : (s : Stage) (es : List Entry) (i : ℕ) → IsCourse s es → times i (instances (owed es)) ≡ 1 → answer_count i es ≡ 0
@@ -309,16 +317,17 @@ course_drain s t es visit runs once way slack_is drains' c =
       order = walk_push Descending es (Drain visit) (way_of s) (way_of t) c.order (ap Some (sym way));
       apart = λ j. let k = ap (times j) v in let a = c.apart j in omega (arith, k, a);
       once = λ j.
-        let k = answer_count-append j es (Drain visit ∷ []) in
-        let d = ap (λ xs. times j (instances xs)) q in
-        let b = ap (λ xs. times j (instances xs)) w ∙ ap (times j) (instances_without visit.instance.0 (owed es)) in
-        let e = others_once visit.instance.0 j (answer_count j es) (times j (instances (asked es))) (instances (owed es)) once (c.once j) in
-        omega (arith, k, d, b, e);
+          let k = answer_count-append j es (Drain visit ∷ []) in
+          let d = ap (λ xs. times j (instances xs)) q in
+          let b = ap (λ xs. times j (instances xs)) w ∙ ap (times j) (instances_without visit.instance.0 (owed es)) in
+          let e = others_once visit.instance.0 j (answer_count j es) (times j (instances (asked es))) (instances (owed es)) once (c.once j) in
+          omega (arith, k, d, b, e);
       ascent =
-        let h = c.ascent in
-        let a = ap (λ xs. posted es ++ xs) (instances_without visit.instance.0 (owed es)) in
-        let b = sym (filter-append (λ j. not (visit.instance.0 == j)) (posted es) (instances (owed es)) ∙ ap (λ xs. xs ++ others visit.instance.0 (instances (owed es))) (others_none visit.instance.0 (posted es) unposted)) in
-        rw (w, n, p) (a ∙ b ∙ ap (others visit.instance.0) h ∙ sym (instances_without visit.instance.0 (undrained es)));
+          let h = c.ascent in
+          let a = ap (λ xs. posted es ++ xs) (instances_without visit.instance.0 (owed es)) in
+          let b = sym (filter-append (λ j. not (visit.instance.0 == j)) (posted es) (instances (owed es)) ∙ ap (λ xs. xs ++ others visit.instance.0 (instances (owed es))) (others_none visit.instance.0 (posted es) unposted)) in
+          rw (w, n, p) (a ∙ b ∙ ap (others visit.instance.0) h ∙ sym (instances_without visit.instance.0 (undrained es)));
       few = let a = c.few in omega (arith, lv, a);
       room = let a = c.room in omega (arith, lv, le, lo, ln, a, once, slack_is);
-      drain = drains' (drain_opened es visit runs (answered_before s es visit.instance.0 c once)) c.drain }
+      drain = drains' (drain_opened es visit runs (answered_before s es visit.instance.0 c once)) c.drain;
+    }

@@ -1,15 +1,14 @@
 -- What one more entry makes of the postoperations owed.
-use Rattle.std.proofs.Common.{◌≡◌, ℕ, ◌+◌, ◌<◌, ◌≤◌, ◌==◌, Bool, true, false, cond, not, ◌&&◌, ◌||◌, List, [], ◌∷◌, ◌++◌, length, map, reverse, filter, filter_map, Option, Some, None, option_to_list, refl, sym, ap, ◌∙◌, subst, arith, append-nil, zero-add}
-use Rattle.std.specs.List.{list_any}
-use Rattle.std.proofs.lemmas.List.{reverse-append, map-append}
-use Rattle.std.proofs.lemmas.List.Elements.{filter-append, filter_map-append, filter_agree}
+use Rattle.std.proofs.Common.{◌≡◌, ℕ, ◌+◌, ◌==◌, Bool, true, false, cond, not, ◌&&◌, ◌||◌, List, [], ◌∷◌, ◌++◌, reverse, filter, Option, Some, None, option_to_list, refl, sym, ap, ◌∙◌, arith, append-nil, zero-add}
+use Rattle.std.proofs.lemmas.List.{reverse-append}
+use Rattle.std.proofs.lemmas.List.Elements.{filter_map-append, filter_agree}
 use Rattle.std.proofs.lemmas.List.Folds.{list_any-append}
 use Rattle.fm_flow.specs.declared.entry.Ask.{Ask}
 use Rattle.fm_flow.specs.declared.entry.Entry.{Entry}
 use Rattle.fm_flow.specs.declared.entry.Entry.TheVariants.{Pre, Base, Post, Drain}
-use Rattle.fm_flow.specs.Entries.{one, times, ask_of, visit_of, post_of, drains, answers, is_drained, is_answered, visited, asked, posted, owed, undrained, instances, without}
+use Rattle.fm_flow.specs.Entries.{one, ask_of, visit_of, post_of, drains, answers, is_drained, is_answered, visited, asked, posted, owed, undrained, without}
 use Rattle.fm_flow.specs.Sound.{answer_count}
-use Rattle.fm_flow.proofs.Lists.{filter_both, either}
+use Rattle.fm_flow.proofs.Lists.{filter_both}
 
 -- ---- one more entry, list by list
 
@@ -63,16 +62,16 @@ pub owed_push_none : (es : List Entry) (e : Entry) → ask_of e ≡ None → ((i
 owed_push_none es e asks answers_none =
     ap (λ xs. filter (λ ask. not (is_answered (es ++ e ∷ []) ask.instance.0)) xs) (reverse_asked es e None asks)
     ∙ filter_agree (λ ask. not (is_answered (es ++ e ∷ []) ask.instance.0)) (λ ask. not (is_answered es ask.instance.0))
-        (λ ask. ap not (is_answered_push es e ask.instance.0 ∙ ap (λ b. is_answered es ask.instance.0 || b) (answers_none ask.instance.0) ∙ or_false (is_answered es ask.instance.0)))
-        (reverse (asked es))
+    (λ ask. ap not (is_answered_push es e ask.instance.0 ∙ ap (λ b. is_answered es ask.instance.0 || b) (answers_none ask.instance.0) ∙ or_false (is_answered es ask.instance.0)))
+    (reverse (asked es))
 
 -- an entry that asks
 pub owed_push_ask : (es : List Entry) (e : Entry) (a : Ask) → ask_of e ≡ Some a → ((i : ℕ) → answers i e ≡ false) → is_answered es a.instance.0 ≡ false → owed (es ++ e ∷ []) ≡ a ∷ owed es
 owed_push_ask es e a asks answers_none unseen =
     ap (λ xs. filter (λ ask. not (is_answered (es ++ e ∷ []) ask.instance.0)) xs) (reverse_asked es e (Some a) asks)
     ∙ filter_agree (λ ask. not (is_answered (es ++ e ∷ []) ask.instance.0)) (λ ask. not (is_answered es ask.instance.0))
-        (λ ask. ap not (is_answered_push es e ask.instance.0 ∙ ap (λ b. is_answered es ask.instance.0 || b) (answers_none ask.instance.0) ∙ or_false (is_answered es ask.instance.0)))
-        (a ∷ reverse (asked es))
+    (λ ask. ap not (is_answered_push es e ask.instance.0 ∙ ap (λ b. is_answered es ask.instance.0 || b) (answers_none ask.instance.0) ∙ or_false (is_answered es ask.instance.0)))
+    (a ∷ reverse (asked es))
     ∙ ap (λ b. cond (not b) (a ∷ owed es) (owed es)) unseen
 
 -- an entry that answers an instance
@@ -80,8 +79,8 @@ pub owed_push_answer : (es : List Entry) (e : Entry) (j : ℕ) → ask_of e ≡ 
 owed_push_answer es e j asks answers_j =
     ap (λ xs. filter (λ ask. not (is_answered (es ++ e ∷ []) ask.instance.0)) xs) (reverse_asked es e None asks)
     ∙ filter_agree (λ ask. not (is_answered (es ++ e ∷ []) ask.instance.0)) (λ ask. not (is_answered es ask.instance.0) && not (j == ask.instance.0))
-        (λ ask. ap not (is_answered_push es e ask.instance.0 ∙ ap (λ b. is_answered es ask.instance.0 || b) (answers_j ask.instance.0)) ∙ not_or (is_answered es ask.instance.0) (j == ask.instance.0))
-        (reverse (asked es))
+    (λ ask. ap not (is_answered_push es e ask.instance.0 ∙ ap (λ b. is_answered es ask.instance.0 || b) (answers_j ask.instance.0)) ∙ not_or (is_answered es ask.instance.0) (j == ask.instance.0))
+    (reverse (asked es))
     ∙ sym (filter_both (λ ask. not (j == ask.instance.0)) (λ ask. not (is_answered es ask.instance.0)) (reverse (asked es)))
 
 -- ---- those asked for without drained ones
@@ -90,23 +89,23 @@ pub undrained_push_none : (es : List Entry) (e : Entry) → ask_of e ≡ None �
 undrained_push_none es e asks drains_none =
     ap (λ xs. filter (λ ask. not (is_drained (es ++ e ∷ []) ask.instance.0)) xs) (reverse_asked es e None asks)
     ∙ filter_agree (λ ask. not (is_drained (es ++ e ∷ []) ask.instance.0)) (λ ask. not (is_drained es ask.instance.0))
-        (λ ask. ap not (is_drained_push es e ask.instance.0 ∙ ap (λ b. is_drained es ask.instance.0 || b) (drains_none ask.instance.0) ∙ or_false (is_drained es ask.instance.0)))
-        (reverse (asked es))
+    (λ ask. ap not (is_drained_push es e ask.instance.0 ∙ ap (λ b. is_drained es ask.instance.0 || b) (drains_none ask.instance.0) ∙ or_false (is_drained es ask.instance.0)))
+    (reverse (asked es))
 
 pub undrained_push_ask : (es : List Entry) (e : Entry) (a : Ask) → ask_of e ≡ Some a → ((i : ℕ) → drains i e ≡ false) → is_drained es a.instance.0 ≡ false → undrained (es ++ e ∷ []) ≡ a ∷ undrained es
 undrained_push_ask es e a asks drains_none unseen =
     ap (λ xs. filter (λ ask. not (is_drained (es ++ e ∷ []) ask.instance.0)) xs) (reverse_asked es e (Some a) asks)
     ∙ filter_agree (λ ask. not (is_drained (es ++ e ∷ []) ask.instance.0)) (λ ask. not (is_drained es ask.instance.0))
-        (λ ask. ap not (is_drained_push es e ask.instance.0 ∙ ap (λ b. is_drained es ask.instance.0 || b) (drains_none ask.instance.0) ∙ or_false (is_drained es ask.instance.0)))
-        (a ∷ reverse (asked es))
+    (λ ask. ap not (is_drained_push es e ask.instance.0 ∙ ap (λ b. is_drained es ask.instance.0 || b) (drains_none ask.instance.0) ∙ or_false (is_drained es ask.instance.0)))
+    (a ∷ reverse (asked es))
     ∙ ap (λ b. cond (not b) (a ∷ undrained es) (undrained es)) unseen
 
 pub undrained_push_drain : (es : List Entry) (e : Entry) (j : ℕ) → ask_of e ≡ None → ((i : ℕ) → drains i e ≡ (j == i)) → undrained (es ++ e ∷ []) ≡ without j (undrained es)
 undrained_push_drain es e j asks drains_j =
     ap (λ xs. filter (λ ask. not (is_drained (es ++ e ∷ []) ask.instance.0)) xs) (reverse_asked es e None asks)
     ∙ filter_agree (λ ask. not (is_drained (es ++ e ∷ []) ask.instance.0)) (λ ask. not (is_drained es ask.instance.0) && not (j == ask.instance.0))
-        (λ ask. ap not (is_drained_push es e ask.instance.0 ∙ ap (λ b. is_drained es ask.instance.0 || b) (drains_j ask.instance.0)) ∙ not_or (is_drained es ask.instance.0) (j == ask.instance.0))
-        (reverse (asked es))
+    (λ ask. ap not (is_drained_push es e ask.instance.0 ∙ ap (λ b. is_drained es ask.instance.0 || b) (drains_j ask.instance.0)) ∙ not_or (is_drained es ask.instance.0) (j == ask.instance.0))
+    (reverse (asked es))
     ∙ sym (filter_both (λ ask. not (j == ask.instance.0)) (λ ask. not (is_drained es ask.instance.0)) (reverse (asked es)))
 
 -- ---- what follows of counts

@@ -1,29 +1,28 @@
 -- The laws of entries are kept where a callback that ran or held is settled.
-use Rattle.std.proofs.Common.{◌≡◌, ℕ, ◌+◌, ◌-◌, ◌*◌, ◌<◌, ◌≤◌, ◌==◌, Bool, true, false, cond, not, ◌&&◌, ◌||◌, List, [], ◌∷◌, ◌++◌, length, map, reverse, filter, filter_map, Option, Some, None, option_to_list, option_and_then, ◌⊎◌, inl, inr, refl, sym, ap, ap₂, ◌∙◌, subst, arith, append-nil, append_assoc, zero-add}
-use Rattle.std.specs.List.{list_any, cons_option}
-use Rattle.std.proofs.lemmas.List.{reverse-append, map-append, length-append, length-map}
+use Rattle.std.proofs.Common.{◌≡◌, ℕ, ◌+◌, ◌≤◌, true, cond, ◌||◌, List, [], ◌∷◌, ◌++◌, length, map, Option, Some, None, option_to_list, option_and_then, refl, sym, ap, ap₂, ◌∙◌, subst, arith, append-nil}
+use Rattle.std.specs.List.{cons_option}
+use Rattle.std.proofs.lemmas.List.{map-append, length-append, length-map}
 use Rattle.std.proofs.lemmas.List.Elements.{filter_map-append}
 use Rattle.std.proofs.lemmas.List.Folds.{list_any-append}
 use Rattle.fm_types.specs.declared.ids.InstanceId.{InstanceId}
 use Rattle.fm_flow.specs.declared.stage.Stage.{Stage}
-use Rattle.fm_flow.specs.declared.stage.Stage.TheVariants.{Descending, PreRunning, PreHeld, InBase, Ascending, PostRunning, PostHeld, InDrain}
+use Rattle.fm_flow.specs.declared.stage.Stage.TheVariants.{Descending, PreRunning, PreHeld, Ascending, InDrain}
 use Rattle.fm_flow.specs.declared.entry.PreState.{PreState}
 use Rattle.fm_flow.specs.declared.entry.PreState.TheVariants as pre
 use Rattle.fm_flow.specs.declared.entry.PostState.{PostState}
 use Rattle.fm_flow.specs.declared.entry.PostState.TheVariants as post
 use Rattle.fm_flow.specs.declared.entry.PreVisit.{PreVisit}
 use Rattle.fm_flow.specs.declared.entry.PostVisit.{PostVisit}
-use Rattle.fm_flow.specs.declared.entry.DrainVisit.{DrainVisit}
 use Rattle.fm_flow.specs.declared.entry.Ask.{Ask}
 use Rattle.fm_flow.specs.declared.entry.Entry.{Entry}
 use Rattle.fm_flow.specs.declared.entry.Entry.TheVariants.{Pre, Base, Post, Drain}
-use Rattle.fm_flow.specs.Entries.{one, times, ask_in, ask_of, visit_of, post_of, drains, answers, is_drained, is_answered, visited, asked, posted, owed, undrained, instances, without, is_pre_open, is_post_open, settle_pre, settle_post, settle_drain}
+use Rattle.fm_flow.specs.Entries.{one, times, ask_in, ask_of, visit_of, post_of, drains, answers, is_drained, is_answered, visited, asked, posted, instances, is_pre_open, settle_pre, settle_post, settle_drain}
 use Rattle.fm_flow.specs.Steps.{pre_leads, post_leads}
 use Rattle.fm_flow.specs.Sound.{after, walk, way_of, answer_count, slack, HasItsDrain, IsCourse}
 use Rattle.fm_flow.proofs.Lists.{times-append, one-same}
-use Rattle.fm_flow.proofs.Owed.{answer_count-append, asked_push}
+use Rattle.fm_flow.proofs.Owed.{answer_count-append}
 use Rattle.fm_flow.proofs.Walks.{Quiet, OpenPre, OpenPost, open_pre, open_post, is_pre, is_post, is_down, way_of_pre, way_of_post, way_of_pre_leads, way_of_post_leads, walk-append, no_posts}
-use Rattle.fm_flow.proofs.Course.{Settles, IsFresh, course_settled, asked_among, unvisited, asked_cons}
+use Rattle.fm_flow.proofs.Course.{Settles, IsFresh, course_settled, asked_among, asked_cons}
 
 -- ---- an entry in the midst of a list
 
@@ -60,7 +59,8 @@ settles_mid front back e f o none asks visits posts answered drained quiet = rec
   answered = λ i. is_answered_mid front back e f i (answered i);
   drained = λ i. is_drained_mid front back e f i (drained i);
   counts = λ i. answer_count_mid front back e f i (answered i);
-  len = length_mid front back e f }
+  len = length_mid front back e f;
+}
 
 walk_mid : (s t u : Stage) (front back : List Entry) (e : Entry) → walk s front ≡ Some t → after t e ≡ Some u → Quiet back → walk s (front ++ e ∷ back) ≡ Some u
 walk_mid s t u front back e w a q = walk-append s front (e ∷ back) ∙ ap (option_and_then (λ v. walk v (e ∷ back))) w ∙ ap (option_and_then (λ v. walk v back)) a ∙ q.walks u
@@ -133,8 +133,8 @@ settled_pre_is es state o =
 pub settles_pre : (es : List Entry) (state : PreState) (o : OpenPre Descending es) → Settles es (map (settle_pre state) es) (ask_in (with_state o.visit state) state)
 settles_pre es state o =
     subst (λ fs. Settles es fs (ask_in (with_state o.visit state) state)) (sym (settled_pre_is es state o))
-      (subst (λ gs. Settles gs (o.front ++ Pre (with_state o.visit state) ∷ o.back) (ask_in (with_state o.visit state) state)) (sym o.split)
-        (settles_mid o.front o.back (Pre o.visit) (Pre (with_state o.visit state)) (ask_in (with_state o.visit state) state) (unasked o.visit o.visit.state o.unsettled) refl refl refl (λ i. refl) (λ i. refl) o.quiet.asks))
+    (subst (λ gs. Settles gs (o.front ++ Pre (with_state o.visit state) ∷ o.back) (ask_in (with_state o.visit state) state)) (sym o.split)
+    (settles_mid o.front o.back (Pre o.visit) (Pre (with_state o.visit state)) (ask_in (with_state o.visit state) state) (unasked o.visit o.visit.state o.unsettled) refl refl refl (λ i. refl) (λ i. refl) o.quiet.asks))
 
 pub the_open_pre : (s : Stage) (es : List Entry) → IsCourse s es → is_pre s ≡ true → OpenPre Descending es
 the_open_pre s es c p = open_pre Descending es s (c.order ∙ ap Some (way_of_pre s p)) p refl
@@ -150,7 +150,7 @@ pub course_pre_settled : (s : Stage) (es : List Entry) (state : PreState) → is
 course_pre_settled s es state p c =
     let o = the_open_pre s es c p in
     let w : walk Descending (map (settle_pre state) es) ≡ Some (way_of (pre_leads state)) =
-      ap (walk Descending) (settled_pre_is es state o) ∙ walk_mid Descending Descending (pre_leads state) o.front o.back (Pre (with_state o.visit state)) o.down refl o.quiet ∙ ap Some (sym (way_of_pre_leads state)) in
+    ap (walk Descending) (settled_pre_is es state o) ∙ walk_mid Descending Descending (pre_leads state) o.front o.back (Pre (with_state o.visit state)) o.down refl o.quiet ∙ ap Some (sym (way_of_pre_leads state)) in
     course_settled s (pre_leads state) es (map (settle_pre state) es) (ask_in (with_state o.visit state) state) (settles_pre es state o) c (fresh_of_open s es state c p) w (slack_of state (with_state o.visit state) s p) (no_drain_of_pre state (map (settle_pre state) es))
 
 -- ---- a postoperation
@@ -177,8 +177,8 @@ settled_post_is es state o =
 pub settles_post : (es : List Entry) (state : PostState) (o : OpenPost Descending es) → Settles es (map (settle_post state) es) None
 settles_post es state o =
     subst (λ fs. Settles es fs None) (sym (settled_post_is es state o))
-      (subst (λ gs. Settles gs (o.front ++ Post (with_post o.visit state) ∷ o.back) None) (sym o.split)
-        (settles_mid o.front o.back (Post o.visit) (Post (with_post o.visit state)) None refl refl refl refl (λ i. refl) (λ i. refl) o.quiet.asks))
+    (subst (λ gs. Settles gs (o.front ++ Post (with_post o.visit state) ∷ o.back) None) (sym o.split)
+    (settles_mid o.front o.back (Post o.visit) (Post (with_post o.visit state)) None refl refl refl refl (λ i. refl) (λ i. refl) o.quiet.asks))
 
 pub the_open_post : (s : Stage) (es : List Entry) → IsCourse s es → is_post s ≡ true → OpenPost Descending es
 the_open_post s es c p = open_post Descending es s (c.order ∙ ap Some (way_of_post s p)) p refl
@@ -187,7 +187,7 @@ pub course_post_settled : (s : Stage) (es : List Entry) (state : PostState) → 
 course_post_settled s es state p c =
     let o = the_open_post s es c p in
     let w : walk Descending (map (settle_post state) es) ≡ Some (way_of (post_leads state)) =
-      ap (walk Descending) (settled_post_is es state o) ∙ walk_mid Descending Ascending (post_leads state) o.front o.back (Post (with_post o.visit state)) o.up refl o.quiet ∙ ap Some (sym (way_of_post_leads state)) in
+    ap (walk Descending) (settled_post_is es state o) ∙ walk_mid Descending Ascending (post_leads state) o.front o.back (Post (with_post o.visit state)) o.up refl o.quiet ∙ ap Some (sym (way_of_post_leads state)) in
     course_settled s (post_leads state) es (map (settle_post state) es) None (settles_post es state o) c tt w (slack_of_post state s p) (no_drain_of_post state (map (settle_post state) es))
 
 -- ---- a drain
@@ -245,7 +245,8 @@ settles_drain i es = record {
   answered = drain_answered i es;
   drained = drain_drained i es;
   counts = drain_counts i es;
-  len = length-map es (settle_drain i) }
+  len = length-map es (settle_drain i);
+}
 
 same_after : (i : ℕ) (s : Stage) (e : Entry) → after s (settle_drain i e) ≡ after s e
 same_after i s (Pre visit) = refl

@@ -1,44 +1,37 @@
 -- Each step keeps the laws of an operation.
-use Rattle.std.proofs.Common.{◌≡◌, ℕ, ◌+◌, ◌-◌, ◌*◌, ◌<◌, ◌≤◌, ◌==◌, ◌^◌, Bool, true, false, cond, not, ◌&&◌, ◌||◌, List, [], ◌∷◌, ◌++◌, length, map, reverse, take, filter, All, Option, Some, None, Ok, Err, IfSome, is_some, IsTrue, nat_le, unwrap_or, option_to_list, option_and_then, slice_get, ◌⊎◌, inl, inr, refl, sym, ap, ap₂, ◌∙◌, subst, arith, append-nil, zero-add}
-use Rattle.std.specs.Prelude.{⊤}
+use Rattle.std.proofs.Common.{◌≡◌, ℕ, ◌+◌, ◌<◌, ◌≤◌, Bool, true, false, cond, not, ◌&&◌, List, [], ◌∷◌, ◌++◌, length, map, take, All, Option, Some, None, is_some, nat_le, unwrap_or, slice_get, refl, sym, ap, ap₂, ◌∙◌, subst, arith, append-nil}
 use Rattle.std.proofs.lemmas.List.{length-append, length-take}
 use Rattle.std.proofs.lemmas.List.Elements.{All-append, All-take, All-nil, All-push}
 use Rattle.std.proofs.lemmas.Bool.Decides.{nat_tests}
 use Rattle.fm_types.proofs.Lists.{all_at}
 use Rattle.fm_types.specs.declared.ids.InstanceId.{InstanceId}
 use Rattle.fm_types.specs.declared.ids.WorkerId.{WorkerId}
-use Rattle.fm_types.specs.declared.ids.VolumeId.{VolumeId}
-use Rattle.fm_types.specs.declared.ids.StreamId.{StreamId}
-use Rattle.fm_types.specs.declared.ids.HandleId.{HandleId}
 use Rattle.fm_types.specs.declared.operation.Operation.{Operation}
 use Rattle.fm_types.specs.declared.status.Status.{Status}
-use Rattle.fm_types.specs.declared.status.Status.TheVariants.{WrongStep}
 use Rattle.fm_data.specs.declared.params.Params.{Params}
 use Rattle.fm_data.specs.declared.answer.Answer.{Answer}
 use Rattle.fm_data.specs.declared.verdict.PostVerdict.{PostVerdict}
 use Rattle.fm_data.specs.declared.verdict.PostVerdict.TheVariants as verdict
 use Rattle.fm_data.specs.Params.{is_within_limits, fit}
-use Rattle.fm_data.specs.Data.{Data, current_of, change_passes, data_fits}
+use Rattle.fm_data.specs.Data.{Data, change_passes, data_fits}
 use Rattle.fm_flow.specs.declared.stage.Stage.{Stage}
-use Rattle.fm_flow.specs.declared.stage.Stage.TheVariants.{Descending, PreRunning, PreHeld, InBase, Ascending, PostRunning, PostHeld, InDrain}
+use Rattle.fm_flow.specs.declared.stage.Stage.TheVariants.{Descending, PreRunning, InBase, Ascending, PostRunning, InDrain}
 use Rattle.fm_flow.specs.declared.entry.PreState.{PreState}
 use Rattle.fm_flow.specs.declared.entry.PreState.TheVariants as pre
 use Rattle.fm_flow.specs.declared.entry.PostState.{PostState}
 use Rattle.fm_flow.specs.declared.entry.PostState.TheVariants as post
 use Rattle.fm_flow.specs.declared.entry.Ask.{Ask}
 use Rattle.fm_flow.specs.declared.entry.Entry.{Entry}
-use Rattle.fm_flow.specs.declared.entry.Entry.TheVariants.{Pre, Base, Post, Drain}
-use Rattle.fm_flow.specs.declared.action.Below.{Below}
-use Rattle.fm_flow.specs.declared.action.Below.TheVariants as below
-use Rattle.fm_flow.specs.Entries.{one, times, visit_of, visited, owed, instances, settle_pre, settle_post, settle_drain}
+use Rattle.fm_flow.specs.declared.entry.Entry.TheVariants.{Pre, Base, Drain}
+use Rattle.fm_flow.specs.Entries.{times, visit_of, visited, owed, instances, settle_pre, settle_post}
 use Rattle.fm_flow.specs.Verdict.{is_counted}
 use Rattle.fm_flow.specs.Record.{FlowRecord}
-use Rattle.fm_flow.specs.Steps.{turn, pre_leads, post_leads, pre_entry, post_entry, bare_ask, with_visit, call_pre, call_base, bare_answer, with_base, descend, stands, left_answer, returned_answer, unwound_to, unwound, give_post, call_post, with_drain, may_take, ascend, next_at, next_of, MayLieBelow, kept_of, answer_after, pre_settled, pre_returned_of, base_returned_of, post_state, post_settled, post_returned_of, drain_settled, drain_returned_of, done_at, is_done}
-use Rattle.fm_flow.specs.Sound.{lends, keeps_more, HasItsDrain, IsCourse, IsSound}
+use Rattle.fm_flow.specs.Steps.{pre_leads, post_leads, post_entry, bare_ask, with_visit, call_pre, call_base, bare_answer, with_base, stands, left_answer, returned_answer, unwound_to, unwound, give_post, with_drain, kept_of, answer_after, pre_returned_of, base_returned_of, post_state, post_returned_of, drain_returned_of, done_at, is_done, base_fits}
+use Rattle.fm_flow.specs.Sound.{lends, keeps_more, IsCourse, IsSound}
 use Rattle.fm_flow.proofs.Lists.{one-same}
 use Rattle.fm_flow.proofs.Walks.{is_pre, is_post}
 use Rattle.fm_flow.proofs.Owed.{visited_push}
-use Rattle.fm_flow.proofs.Course.{Settles, course_start, course_visit, course_visit_ask, course_in_base, course_base, course_post, course_drain, owed_once}
+use Rattle.fm_flow.proofs.Course.{course_visit, course_visit_ask, course_in_base, course_base, course_post, course_drain, owed_once}
 use Rattle.fm_flow.proofs.Settled.{the_open_pre, the_open_post, settles_pre, settles_post, settles_drain, course_pre_settled, course_post_settled, course_drain_settled}
 
 -- ---- tests
@@ -81,18 +74,20 @@ sound_call_pre worker i r p st fresh few h = record {
   kept = h.kept;
   places = let a = visited_more r.entries worker i pre.Running (length r.kept) in let b = places_at r Descending st h in omega (arith, a, b);
   bytes = h.bytes;
-  collected = uncollected r h (rw st refl) }
+  collected = uncollected r h (rw st refl);
+}
 
 pub sound_bare : (worker : WorkerId) (i : InstanceId) (r : FlowRecord) → r.stage ≡ Descending → times i.0 (visited r.entries) ≡ 0 → length (visited r.entries) < 32 → IsSound r → IsSound (with_visit worker i bare_ask r)
 sound_bare worker i r st fresh few h = record {
   course = course_visit_ask r.entries (record { instance = i; worker = worker; state = bare_ask; place = length r.kept }) (record { instance = i; worker = worker; completion = record { number = 0; context = None }; is_synchronized = false; place = length r.kept })
-    refl refl refl (at_stage r Descending st h) fresh few;
+      refl refl refl (at_stage r Descending st h) fresh few;
   here = here_at r Descending st h;
   params = h.params;
   kept = h.kept;
   places = let a = visited_more r.entries worker i bare_ask (length r.kept) in let b = places_at r Descending st h in omega (arith, a, b);
   bytes = h.bytes;
-  collected = uncollected r h (rw st refl) }
+  collected = uncollected r h (rw st refl);
+}
 
 pub sound_call_base : (r : FlowRecord) (p : Params) → r.stage ≡ Descending → IsSound r → IsSound ((call_base r (Some p)).after)
 sound_call_base r p st h = record {
@@ -102,7 +97,8 @@ sound_call_base r p st h = record {
   kept = h.kept;
   places = places_at r Descending st h;
   bytes = h.bytes;
-  collected = uncollected r h (rw st refl) }
+  collected = uncollected r h (rw st refl);
+}
 
 pub sound_known : (status : Status) (r : FlowRecord) → r.stage ≡ Descending → IsSound r → IsSound (with_base (bare_answer status) r)
 sound_known status r st h = record {
@@ -112,7 +108,8 @@ sound_known status r st h = record {
   kept = h.kept;
   places = let a = visited_same r.entries (Base status 0) refl in let b = places_at r Descending st h in omega (arith, a, b);
   bytes = omega arith;
-  collected = uncollected r h (rw st refl) }
+  collected = uncollected r h (rw st refl);
+}
 
 pub sound_base_returned : (call : Params) (answer : Answer) (r : FlowRecord) → r.stage ≡ InBase → fit r.operation r.path call ≡ true → length answer.bytes ≤ 32768 → IsSound r → IsSound (base_returned_of call answer r)
 sound_base_returned call answer r st fits short h = record {
@@ -122,7 +119,8 @@ sound_base_returned call answer r st fits short h = record {
   kept = h.kept;
   places = let a = visited_same r.entries (Base answer.status answer.information) refl in let b = places_at r InBase st h in omega (arith, a, b);
   bytes = short;
-  collected = uncollected r h (rw st refl) }
+  collected = uncollected r h (rw st refl);
+}
 
 -- ---- a preoperation returns
 
@@ -154,13 +152,13 @@ fit_change : (operation : Operation) (path : Option (List ℕ)) (received : Para
 fit_change operation path received None a b = a
 fit_change operation path received (Some p) a b = b
 
-few_kept : (d : Data) (changed : Option Params) → length (kept_of d changed) ≤ 1
+few_kept : (d : Params) (changed : Option Params) → length (kept_of d changed) ≤ 1
 few_kept d None = omega arith
 few_kept d (Some p) = omega arith
 
-fit_kept : (operation : Operation) (path : Option (List ℕ)) (d : Data) (changed : Option Params) → fit operation path d.received ≡ true → All (λ p. fit operation path p ≡ true) (kept_of d changed)
+fit_kept : (operation : Operation) (path : Option (List ℕ)) (d : Params) (changed : Option Params) → fit operation path d ≡ true → All (λ p. fit operation path p ≡ true) (kept_of d changed)
 fit_kept operation path d None h = All-nil (λ p. fit operation path p ≡ true)
-fit_kept operation path d (Some p) h = All-push (λ q. fit operation path q ≡ true) [] d.received (All-nil (λ q. fit operation path q ≡ true)) h
+fit_kept operation path d (Some p) h = All-push (λ q. fit operation path q ≡ true) [] d (All-nil (λ q. fit operation path q ≡ true)) h
 
 pre_visited : (r : FlowRecord) (s : Stage) (state : PreState) → is_pre s ≡ true → IsCourse s r.entries → length (visited (map (settle_pre state) r.entries)) ≡ length (visited r.entries)
 pre_visited r s state p c = ap length (settles_pre r.entries state (the_open_pre s r.entries c p)).visits
@@ -174,12 +172,13 @@ sound_pre_returned state d r st counted fits h =
       course = course_pre_settled PreRunning r.entries state refl c;
       here = sym (ap not (unlent state counted));
       params = fit_change r.operation r.path d.received d.changed parts.0 parts'.0;
-      kept = All-append (λ p. fit r.operation r.path p ≡ true) r.kept (kept_of d d.changed) h.kept (fit_kept r.operation r.path d d.changed parts.0);
+      kept = All-append (λ p. fit r.operation r.path p ≡ true) r.kept (kept_of d.received d.changed) h.kept (fit_kept r.operation r.path d.received d.changed parts.0);
       places =
-        let a = pre_visited r PreRunning state refl c in let b = places_at r PreRunning st h in let e = length-append r.kept (kept_of d d.changed) in
-        let f = few_kept d d.changed in let g = keeps_none state counted in omega (arith, a, b, e, f, g);
+          let a = pre_visited r PreRunning state refl c in let b = places_at r PreRunning st h in let e = length-append r.kept (kept_of d.received d.changed) in
+          let f = few_kept d.received d.changed in let g = keeps_none state counted in omega (arith, a, b, e, f, g);
       bytes = short_after state r.answer h.bytes;
-      collected = uncollected r h (rw st refl) }
+      collected = uncollected r h (rw st refl);
+    }
 
 -- ---- up
 
@@ -188,15 +187,17 @@ take_fewer n xs k m h = let b = length-take n xs in omega (arith, b, h)
 
 pub sound_unwound : (place : ℕ) (r : FlowRecord) → r.stage ≡ Ascending → IsSound r → IsSound (unwound place r)
 sound_unwound place r st h = elim (slice_get r.kept place) as (λ o. slice_get r.kept place ≡ o → IsSound (unwound_to place r o)) [
-    None ↦ λ k. h
+  | None ↦ λ k. h
   | Some p ↦ λ k. record {
-      course = h.course;
-      here = rw st refl;
-      params = all_at (λ q. fit r.operation r.path q ≡ true) r.kept place p h.kept k;
-      kept = All-take (λ q. fit r.operation r.path q ≡ true) place r.kept h.kept;
-      places = take_fewer place r.kept (keeps_more r.stage) (length (visited r.entries)) h.places;
-      bytes = h.bytes;
-      collected = h.collected } ] refl
+    course = h.course;
+    here = rw st refl;
+    params = all_at (λ q. fit r.operation r.path q ≡ true) r.kept place p h.kept k;
+    kept = All-take (λ q. fit r.operation r.path q ≡ true) place r.kept h.kept;
+    places = take_fewer place r.kept (keeps_more r.stage) (length (visited r.entries)) h.places;
+    bytes = h.bytes;
+    collected = h.collected;
+  }
+] refl
 
 left_short : (operation : Operation) (answer : Answer) → length answer.bytes ≤ 32768 → length (left_answer operation answer).bytes ≤ 32768
 left_short operation answer h = elim (stands operation) as (λ b. length (cond b answer (record answer { bytes = [] })).bytes ≤ 32768) [ true ↦ h | false ↦ omega arith ]
@@ -209,7 +210,8 @@ sound_give_post worker ask rest r p st next h = record {
   kept = h.kept;
   places = let a = visited_same r.entries (post_entry worker ask.instance post.Running) refl in let b = places_at r Ascending st h in omega (arith, a, b);
   bytes = left_short r.operation r.answer h.bytes;
-  collected = uncollected r h (ap₂ done_at st next) }
+  collected = uncollected r h (ap₂ done_at st next);
+}
 
 first_once : (ask : Ask) (rest es : List Ask) → es ≡ ask ∷ rest → times ask.instance.0 (instances es) ≤ 1 → times ask.instance.0 (instances es) ≡ 1
 first_once ask rest es next few = let k = ap (λ xs. times ask.instance.0 (instances xs)) next in let h = one-same ask.instance.0 in omega (arith, k, few, h)
@@ -224,7 +226,8 @@ sound_drain ask rest r st next h =
       kept = h.kept;
       places = let a = visited_same r.entries (Drain (record { instance = ask.instance; is_running = true })) refl in let b = places_at r Ascending st h in omega (arith, a, b);
       bytes = h.bytes;
-      collected = uncollected r h (ap₂ done_at st next) }
+      collected = uncollected r h (ap₂ done_at st next);
+    }
 
 post_visited : (r : FlowRecord) (s : Stage) (state : PostState) → is_post s ≡ true → IsCourse s r.entries → length (visited (map (settle_post state) r.entries)) ≡ length (visited r.entries)
 post_visited r s state p c = ap length (settles_post r.entries state (the_open_post s r.entries c p)).visits
@@ -253,7 +256,8 @@ sound_post_returned v d r st fits h =
       kept = h.kept;
       places = let a = post_visited r PostRunning (post_state v) refl c in let b = places_at r PostRunning st h in let g = keeps_none_post v in omega (arith, a, b, g);
       bytes = returned_short r.operation r.answer d h.bytes short;
-      collected = uncollected r h (rw st refl) }
+      collected = uncollected r h (rw st refl);
+    }
 
 pub sound_drain_returned : (i : InstanceId) (r : FlowRecord) → r.stage ≡ InDrain i → IsSound r → IsSound (drain_returned_of i r)
 sound_drain_returned i r st h = record {
@@ -263,4 +267,24 @@ sound_drain_returned i r st h = record {
   kept = h.kept;
   places = let a = ap length (settles_drain i.0 r.entries).visits in let b = places_at r (InDrain i) st h in omega (arith, a, b);
   bytes = h.bytes;
-  collected = uncollected r h (rw st refl) }
+  collected = uncollected r h (rw st refl);
+}
+
+-- the laws of a value that is written in two ways
+pub same_sound : (a b : FlowRecord) → a ≡ b → IsSound a → IsSound b
+same_sound a b is h = subst IsSound is h
+
+abbrev pub tail_of : List Ask → List Ask
+tail_of [] = []
+tail_of (ask ∷ asks) = asks
+
+-- an instance at the head of those owed
+pub head_of : (asks : List Ask) (ask : Ask) → slice_get asks 0 ≡ Some ask → asks ≡ ask ∷ tail_of asks
+head_of [] ask is = cc
+head_of (other ∷ asks) ask is = let e : other ≡ ask = cc in ap (λ a. a ∷ asks) e
+
+pub sound_base : (call : Params) (answer : Answer) (r : FlowRecord) → r.stage ≡ InBase → base_fits call answer r ≡ true → IsSound r → IsSound (base_returned_of call answer r)
+sound_base call answer r st fits h =
+    let parts = both (fit r.operation r.path call) (nat_le (length answer.bytes) 32768) fits in
+    let short : length answer.bytes ≤ 32768 = grind (arith, nat_tests, parts.1) in
+    sound_base_returned call answer r st parts.0 short h

@@ -1,7 +1,10 @@
 -- What the order of entries says: where the callback stands that runs or holds, and what may follow it.
-use Rattle.std.proofs.Common.{◌≡◌, ℕ, Bool, true, false, cond, List, [], ◌∷◌, ◌++◌, map, Option, Some, None, option_and_then, ◌⊎◌, inl, inr, refl, sym, ap, ap₂, ◌∙◌, subst}
+use Rattle.std.proofs.Common.{◌≡◌, ℕ, Bool, true, false, List, [], ◌∷◌, ◌++◌, map, Option, Some, None, option_and_then, option_map, option_to_list, slice_get, reverse, take, get_or, length, ◌+◌, ◌<◌, append-nil, inl, inr, refl, sym, ap, ap₂, ◌∙◌}
+use Rattle.std.specs.Option.{option_or}
+use Rattle.std.proofs.lemmas.List.{reverse-append, take_more}
+use Rattle.fm_types.specs.declared.ids.InstanceId.{InstanceId}
 use Rattle.fm_flow.specs.declared.stage.Stage.{Stage}
-use Rattle.fm_flow.specs.declared.stage.Stage.TheVariants.{Descending, PreRunning, PreHeld, InBase, Ascending, PostRunning, PostHeld, InDrain}
+use Rattle.fm_flow.specs.declared.stage.Stage.TheVariants.{Descending, PreRunning, PreHeld, Ascending, PostRunning, PostHeld}
 use Rattle.fm_flow.specs.declared.entry.PreState.{PreState}
 use Rattle.fm_flow.specs.declared.entry.PreState.TheVariants as pre
 use Rattle.fm_flow.specs.declared.entry.PostState.{PostState}
@@ -11,10 +14,11 @@ use Rattle.fm_flow.specs.declared.entry.PostVisit.{PostVisit}
 use Rattle.fm_flow.specs.declared.entry.DrainVisit.{DrainVisit}
 use Rattle.fm_flow.specs.declared.entry.Entry.{Entry}
 use Rattle.fm_flow.specs.declared.entry.Entry.TheVariants.{Pre, Base, Post, Drain}
-use Rattle.fm_flow.specs.Entries.{visited, asked, posted, is_pre_open, is_post_open, settle_pre, settle_post}
+use Rattle.fm_flow.specs.Entries.{visit_of, last_visited, visited, asked, posted, is_pre_open, is_post_open, settle_pre, settle_post}
 use Rattle.fm_flow.specs.Steps.{pre_leads, post_leads}
 use Rattle.fm_flow.specs.Sound.{if_down, if_up, after, walk, way_of}
 use Rattle.fm_flow.proofs.Lists.{either}
+use Rattle.fm_flow.proofs.Owed.{visited_push}
 
 pub walk-append : (s : Stage) (es fs : List Entry) → walk s (es ++ fs) ≡ option_and_then (λ t. walk t fs) (walk s es)
 walk-append s [] fs = refl
@@ -136,7 +140,8 @@ quiet_cons visit es q = record {
   posts = q.posts;
   walks = q.walks;
   pre_stays = λ state. ap (λ fs. Drain visit ∷ fs) (q.pre_stays state);
-  post_stays = λ state. ap (λ fs. Drain visit ∷ fs) (q.post_stays state) }
+  post_stays = λ state. ap (λ fs. Drain visit ∷ fs) (q.post_stays state);
+}
 
 pub drains_follow : (s : Stage) (es : List Entry) (t : Stage) → walk s es ≡ Some t → is_callback s ≡ true → Quiet es
 drains_follow s [] t w k = quiet_nil
@@ -180,7 +185,8 @@ open_pre_here Descending (Pre visit) es u t k w p q = record {
   unsettled = open_state visit.state u (cc) p;
   down = refl;
   stays = λ state. refl;
-  quiet = drains_follow u es t w (callback_of_pre u p) }
+  quiet = drains_follow u es t w (callback_of_pre u p);
+}
 open_pre_here Ascending (Post visit) es u t k w p q = absurd (post_is_no_pre visit.state u (cc) p)
 open_pre_here s (Drain visit) es u t k w p q = cc
 open_pre_here s e es u t k w p q = cc
@@ -204,13 +210,15 @@ open_pre_further s e es u k p o = record {
   unsettled = o.unsettled;
   down = rw k o.down;
   stays = λ state. ap₂ (λ f fs. f ∷ fs) (pre_stays_here s e u state k p) (o.stays state);
-  quiet = o.quiet }
+  quiet = o.quiet;
+}
 
 pub open_pre : (s : Stage) (es : List Entry) (t : Stage) → walk s es ≡ Some t → is_pre t ≡ true → is_pre s ≡ false → OpenPre s es
 open_pre s [] t w p q = cc
 open_pre s (e ∷ es) t w p q = elim (after s e) as (λ o. after s e ≡ o → option_and_then (λ u. walk u es) o ≡ Some t → OpenPre s (e ∷ es)) [
-    None ↦ λ k v. cc
-  | Some u ↦ λ k v. elim (either (is_pre u)) [ inl now ↦ open_pre_here s e es u t k v now q | inr later ↦ open_pre_further s e es u k later (open_pre u es t v p later) ] ] refl w
+  | None ↦ λ k v. cc
+  | Some u ↦ λ k v. elim (either (is_pre u)) [ inl now ↦ open_pre_here s e es u t k v now q | inr later ↦ open_pre_further s e es u k later (open_pre u es t v p later) ]
+] refl w
 
 -- ---- the postoperation that runs or holds
 
@@ -247,7 +255,8 @@ open_post_here Ascending (Post visit) es u t k w p q = record {
   unsettled = open_post_state visit.state u (cc) p;
   up = refl;
   stays = λ state. refl;
-  quiet = drains_follow u es t w (callback_of_post u p) }
+  quiet = drains_follow u es t w (callback_of_post u p);
+}
 open_post_here Descending (Pre visit) es u t k w p q = absurd (pre_is_no_post visit.state u (cc) p)
 open_post_here s (Drain visit) es u t k w p q = cc
 open_post_here s e es u t k w p q = cc
@@ -271,10 +280,29 @@ open_post_further s e es u k p o = record {
   unsettled = o.unsettled;
   up = rw k o.up;
   stays = λ state. ap₂ (λ f fs. f ∷ fs) (post_stays_here s e u state k p) (o.stays state);
-  quiet = o.quiet }
+  quiet = o.quiet;
+}
 
 pub open_post : (s : Stage) (es : List Entry) (t : Stage) → walk s es ≡ Some t → is_post t ≡ true → is_post s ≡ false → OpenPost s es
 open_post s [] t w p q = cc
 open_post s (e ∷ es) t w p q = elim (after s e) as (λ o. after s e ≡ o → option_and_then (λ u. walk u es) o ≡ Some t → OpenPost s (e ∷ es)) [
-    None ↦ λ k v. cc
-  | Some u ↦ λ k v. elim (either (is_post u)) [ inl now ↦ open_post_here s e es u t k v now q | inr later ↦ open_post_further s e es u k later (open_post u es t v p later) ] ] refl w
+  | None ↦ λ k v. cc
+  | Some u ↦ λ k v. elim (either (is_post u)) [ inl now ↦ open_post_here s e es u t k v now q | inr later ↦ open_post_further s e es u k later (open_post u es t v p later) ]
+] refl w
+
+-- ---- the instance that was visited last, entry by entry
+
+last_with : (xs : List ℕ) (o : Option ℕ) → slice_get (reverse (xs ++ option_to_list o)) 0 ≡ option_or o (slice_get (reverse xs) 0)
+last_with xs None = ap (λ ys. slice_get (reverse ys) 0) (append-nil xs)
+last_with xs (Some x) = ap (λ ys. slice_get ys 0) (reverse-append xs (x ∷ []))
+
+map_or : (found before : Option InstanceId) → option_map (λ i. i.0) (option_or found before) ≡ option_or (option_map (λ i. i.0) found) (option_map (λ i. i.0) before)
+map_or None before = refl
+map_or (Some i) before = refl
+
+pub last_visited_more : (es : List Entry) (i : ℕ) (d : Entry) (found before after' : Option InstanceId) → i < length es → option_map (λ j. j.0) found ≡ visit_of (get_or es i d)
+    → option_map (λ j. j.0) before ≡ last_visited (take i es) → after' ≡ option_or found before → option_map (λ j. j.0) after' ≡ last_visited (take (i + 1) es)
+last_visited_more es i d found before after' below here so_far is =
+    ap (option_map (λ j. j.0)) is ∙ map_or found before ∙ ap₂ option_or here so_far
+    ∙ sym (last_with (visited (take i es)) (visit_of (get_or es i d)))
+    ∙ sym (ap (λ xs. slice_get (reverse xs) 0) (ap visited (take_more es i d below) ∙ visited_push (take i es) (get_or es i d) (visit_of (get_or es i d)) refl))

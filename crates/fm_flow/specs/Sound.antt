@@ -1,9 +1,8 @@
 -- The laws of one operation: its entries come in order, and nobody is passed over on the way up.
-use Rattle.std.specs.Prelude.{◌≡◌, ℕ, ◌+◌, ◌-◌, ◌*◌, ◌<◌, ◌≤◌, Bool, true, false, not, List, [], ◌∷◌, ◌++◌, length, All, Option, Some, None, IfSome, is_some, option_and_then, ⊤}
-use Rattle.fm_types.specs.declared.ids.InstanceId.{InstanceId}
+use Rattle.std.specs.Prelude.{◌≡◌, ℕ, ◌+◌, ◌-◌, ◌*◌, ◌≤◌, Bool, true, false, not, List, [], ◌∷◌, ◌++◌, length, All, Option, Some, None, IfSome, is_some, option_and_then, ⊤}
 use Rattle.fm_data.specs.Params.{fit}
 use Rattle.fm_flow.specs.declared.stage.Stage.{Stage}
-use Rattle.fm_flow.specs.declared.stage.Stage.TheVariants.{Descending, PreRunning, PreHeld, InBase, Ascending, PostRunning, PostHeld, InDrain}
+use Rattle.fm_flow.specs.declared.stage.Stage.TheVariants.{Descending, PreRunning, PreHeld, InBase, Ascending, PostRunning, InDrain}
 use Rattle.fm_flow.specs.declared.entry.Entry.{Entry}
 use Rattle.fm_flow.specs.declared.entry.Entry.TheVariants.{Pre, Base, Post, Drain}
 use Rattle.fm_flow.specs.Entries.{one, times, answers, visited, asked, posted, owed, undrained, instances}

@@ -1,5 +1,5 @@
 -- What each step makes of an operation.
-use Rattle.std.specs.Prelude.{◌≡◌, ℕ, ◌<◌, ◌==◌, ⊤, Bool, true, false, cond, not, ◌||◌, List, [], ◌∷◌, ◌++◌, length, take, map, Option, Some, None, Result, Ok, Err, slice_get, if◌then◌else◌}
+use Rattle.std.specs.Prelude.{◌≡◌, ℕ, ◌<◌, ◌==◌, ⊤, Bool, true, false, cond, not, nat_le, ◌&&◌, ◌||◌, List, [], ◌∷◌, ◌++◌, length, take, map, Option, Some, None, Result, Ok, Err, slice_get}
 use Rattle.fm_types.specs.declared.ids.InstanceId.{InstanceId}
 use Rattle.fm_types.specs.declared.ids.WorkerId.{WorkerId}
 use Rattle.fm_types.specs.declared.status.Status.{Status}
@@ -10,7 +10,8 @@ use Rattle.fm_data.specs.declared.params.Params.{Params}
 use Rattle.fm_data.specs.declared.answer.Answer.{Answer}
 use Rattle.fm_data.specs.declared.verdict.PostVerdict.{PostVerdict}
 use Rattle.fm_data.specs.declared.verdict.PostVerdict.TheVariants as verdict
-use Rattle.fm_data.specs.Data.{Data, current_of, fresh_data, answered_data}
+use Rattle.fm_data.specs.Params.{fit}
+use Rattle.fm_data.specs.Data.{Data, current_of, fresh_data, answered_data, data_fits}
 use Rattle.fm_flow.specs.declared.stage.Stage.{Stage}
 use Rattle.fm_flow.specs.declared.stage.Stage.TheVariants.{Descending, PreRunning, PreHeld, InBase, Ascending, PostRunning, PostHeld, InDrain}
 use Rattle.fm_flow.specs.declared.entry.PreState.{PreState}
@@ -120,7 +121,7 @@ post_entry worker i state = Post (record { instance = i; worker = worker; state 
 abbrev pub give_post : WorkerId → Ask → FlowRecord → Option Params → Turned
 give_post worker ask r (Some params) =
     turn (Ok (action.Post ask.instance (answered_data params (lent_answer r.operation r.answer)) ask.completion))
-      (record (with_entry (post_entry worker ask.instance post.Running) PostRunning r) { params = None; answer = left_answer r.operation r.answer })
+    (record (with_entry (post_entry worker ask.instance post.Running) PostRunning r) { params = None; answer = left_answer r.operation r.answer })
 give_post worker ask r None = turn (Err WrongStep) r
 
 abbrev pub call_post : WorkerId → Ask → FlowRecord → Turned
@@ -138,8 +139,8 @@ abbrev pub ascend : WorkerId → Bool → FlowRecord → Option Ask → Turned
 ascend worker is_stopping r None = turn (Ok action.Done) r
 ascend worker is_stopping r (Some ask) =
     cond is_stopping
-      (turn (Ok (action.Drain ask.instance ask.completion)) (with_drain ask.instance (InDrain ask.instance) r))
-      (cond (may_take worker ask) (call_post worker ask r) (turn (Err WrongStep) r))
+    (turn (Ok (action.Drain ask.instance ask.completion)) (with_drain ask.instance (InDrain ask.instance) r))
+    (cond (may_take worker ask) (call_post worker ask r) (turn (Err WrongStep) r))
 
 -- ---- the events
 
@@ -165,9 +166,9 @@ MayLieBelow below.Call entries = ⊤
 MayLieBelow (below.Known status) entries = ⊤
 
 -- what is kept of data that was handed back: what was received, where it was changed
-abbrev pub kept_of : Data → Option Params → List Params
-kept_of returned None = []
-kept_of returned (Some changed) = returned.received ∷ []
+abbrev pub kept_of : Params → Option Params → List Params
+kept_of received None = []
+kept_of received (Some changed) = received ∷ []
 
 -- the answer after a preoperation's verdict: a Complete gives it
 abbrev pub answer_after : PreState → Answer → Answer
@@ -180,7 +181,7 @@ pre_settled state r = record r { answer = answer_after state r.answer; stage = p
 
 -- a preoperation callback returns: its data comes back with the verdict that counts
 abbrev pub pre_returned_of : PreState → Data → FlowRecord → FlowRecord
-pre_returned_of state returned r = record (pre_settled state r) { params = Some (current_of returned); kept = r.kept ++ kept_of returned returned.changed }
+pre_returned_of state returned r = record (pre_settled state r) { params = Some (current_of returned); kept = r.kept ++ kept_of returned.received returned.changed }
 
 -- the base answers, and gives the parameters back
 abbrev pub base_returned_of : Params → Answer → FlowRecord → FlowRecord
@@ -214,3 +215,23 @@ done_at _ _ = false
 
 abbrev pub is_done : FlowRecord → Bool
 is_done r = done_at r.stage (owed r.entries)
+
+-- ---- what is handed back where data or a call isn't of the operation; nothing changes then
+
+abbrev pub data_reply : Data → FlowRecord → Result ⊤ Data
+data_reply returned r = cond (data_fits r.operation r.path returned) (Ok tt) (Err returned)
+
+abbrev pub pre_after : PreState → Data → FlowRecord → FlowRecord
+pre_after state returned r = cond (data_fits r.operation r.path returned) (pre_returned_of state returned r) r
+
+abbrev pub post_after : PostVerdict → Data → FlowRecord → FlowRecord
+post_after verdict returned r = cond (data_fits r.operation r.path returned) (post_returned_of verdict returned r) r
+
+abbrev pub base_fits : Params → Answer → FlowRecord → Bool
+base_fits call answer r = fit r.operation r.path call && nat_le (length answer.bytes) 32768
+
+abbrev pub base_reply : Params → Answer → FlowRecord → Result ⊤ (Params × Answer)
+base_reply call answer r = cond (base_fits call answer r) (Ok tt) (Err (call, answer))
+
+abbrev pub base_after : Params → Answer → FlowRecord → FlowRecord
+base_after call answer r = cond (base_fits call answer r) (base_returned_of call answer r) r

@@ -1,5 +1,5 @@
 -- All operations.
-use Rattle.std.specs.Prelude.{◌≡◌, ℕ, ◌+◌, ◌-◌, ◌^◌, ◌<◌, ◌≤◌, ◌==◌, ◌&&◌, ◌||◌, Bool, true, false, cond, not, List, [], ◌∷◌, ◌++◌, All, AllPairs, count_by, find, Option, Some, None, option_map, unwrap_or, Result, Ok, Err, nat_le}
+use Rattle.std.specs.Prelude.{◌≡◌, ℕ, ◌+◌, ◌-◌, ◌^◌, ◌<◌, ◌≤◌, ◌==◌, ◌&&◌, ◌||◌, Bool, true, false, cond, not, List, [], ◌∷◌, ◌++◌, All, AllPairs, count_by, find, Option, Some, None, option_map, unwrap_or, Result, Ok, Err, nat_le, ⊤}
 use Rattle.std.specs.List.{list_any}
 use Rattle.fm_types.specs.declared.ids.OpId.{OpId}
 use Rattle.fm_types.specs.declared.ids.VolumeId.{VolumeId}
@@ -7,14 +7,16 @@ use Rattle.fm_types.specs.declared.ids.StreamId.{StreamId}
 use Rattle.fm_types.specs.declared.ids.HandleId.{HandleId}
 use Rattle.fm_types.specs.declared.ids.CtxId.{CtxId}
 use Rattle.fm_types.specs.declared.status.Status.{Status}
-use Rattle.fm_types.specs.declared.status.Status.TheVariants.{Success, TooMany, WrongStep}
+use Rattle.fm_types.specs.declared.status.Status.TheVariants.{Success, WrongStep}
 use Rattle.fm_data.specs.declared.params.Params.{Params}
 use Rattle.fm_data.specs.declared.answer.Answer.{Answer}
 use Rattle.fm_data.specs.Params.{operation_of, path_of}
+use Rattle.fm_flow.specs.declared.stage.Stage.{Stage}
 use Rattle.fm_flow.specs.declared.stage.Stage.TheVariants.{Descending}
+use Rattle.fm_flow.specs.declared.action.Below.{Below}
 use Rattle.fm_flow.specs.Counts.{carried_by, flight, is_running_drain}
 use Rattle.fm_flow.specs.Record.{FlowRecord}
-use Rattle.fm_flow.specs.Steps.{bare_answer, is_done}
+use Rattle.fm_flow.specs.Steps.{bare_answer, is_done, MayLieBelow}
 use Rattle.fm_flow.specs.Sound.{IsSound}
 
 -- the operations in the order of their numbers, and the next number
@@ -77,7 +79,8 @@ begun_record number volume stream handle born params = record {
   stage = Descending;
   entries = [];
   kept = [];
-  collected = false }
+  collected = false;
+}
 
 abbrev pub begun : VolumeId → Option StreamId → Option HandleId → ℕ → Params → FlowTable → FlowTable
 begun volume stream handle born params t = record { operations = t.operations ++ begun_record t.next volume stream handle born params ∷ []; next = t.next + 1 }
@@ -123,3 +126,15 @@ pub record IsFlow (t : FlowTable) : Type 0 where
   pub ascending : AllPairs (λ r s. r.number.0 < s.number.0) t.operations
   pub below : All (λ r. r.number.0 < t.next) t.operations
   pub few : under_way t.operations ≤ 256
+
+-- ---- what calls want of the operation that they name
+
+-- what lies below it may be visited
+abbrev pub MayLieBelowOf : Below → Option FlowRecord → Type 0
+MayLieBelowOf lies_below None = ⊤
+MayLieBelowOf lies_below (Some r) = MayLieBelow lies_below r.entries
+
+-- it is there, at that stage
+abbrev pub StandsAt : Stage → Option FlowRecord → Type 0
+StandsAt stage None = ⊥
+StandsAt stage (Some r) = r.stage ≡ stage

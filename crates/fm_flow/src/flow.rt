@@ -1,11 +1,24 @@
 //! All operations that were begun and not yet collected.
 
-ghost use Rattle.std.specs.Prelude.{◌≡◌};
-ghost use Rattle.fm_flow.specs.Table.{IsFlow, empty_table};
+ghost use Rattle.std.specs.Prelude.{◌≡◌, ◌∷◌, [], ℕ, true, length, Option, Some, None, Ok, Err, IsTrue, option_copied, position, find, count_by, not};
+ghost use Rattle.std.specs.List.{list_any};
+ghost use Rattle.fm_types.specs.Refusals.{AnswersOrMemory, first_of};
+ghost use Rattle.fm_data.specs.Params.{is_within_limits};
+ghost use Rattle.fm_flow.specs.Verdict.{is_counted};
+ghost use Rattle.fm_flow.specs.Steps.{next_of, data_reply, pre_after, base_reply, base_after, post_after, drain_returned_of};
+ghost use Rattle.fm_flow.specs.Table.{IsFlow, MayLieBelowOf, StandsAt, empty_table, is_number, operation_at, changed, told, is_full, is_collectable, under_way, begun, collect_reply, collected_of};
 
+use crate::action::{Below, FlowAction};
+use crate::entry::PreState;
 use crate::operation_record::OperationRecord;
+use crate::stage::Stage;
+use fm_data::{Answer, CallbackData, Params, PostVerdict};
+use fm_types::{HandleId, InstanceId, OpId, Status, StreamId, VolumeId, WorkerId};
 use std::alloc::Global;
 use std::marker::Model;
+
+/// How many operations there are at once, not counting those whose answer was handed out.
+const MAX_OPERATIONS: usize = 256;
 
 /// The operations, in the order of their numbers, which count up from 0.
 #[derive(Drop)]
@@ -17,11 +30,46 @@ pub struct Flow {
 
 impl Model for Flow {
     ghost use Rattle.fm_flow.specs.Table.{FlowTable, IsFlow};
+
     ghost Value = { FlowTable };
 
     ghost view = { λ f. record { operations = f.operations.items; next = f.next } };
 
     ghost invariant = { λ f. IsFlow (record { operations = f.operations.items; next = f.next }) };
+}
+
+fn place_of(operations: &[OperationRecord], number: OpId) -> Option<usize>
+    ensures { result ≡ position (is_number number) operations.now }
+{
+    operations
+        .iter()
+        .position(|operation| operation.number().0 == number.0)
+}
+
+fn record_of(operations: &[OperationRecord], number: OpId) -> Option<&OperationRecord>
+    ensures { option_copied result ≡ find (is_number number) operations.now }
+{
+    operations
+        .iter()
+        .find(|operation| operation.number().0 == number.0)
+}
+
+fn count_under_way(operations: &[OperationRecord]) -> usize
+    ensures { result ≡ under_way operations.now }
+{
+    let mut count = 0;
+    for operation in operations {
+        if !operation.is_collected() {
+            count += 1;
+        }
+    }
+    count
+}
+
+fn is_collectable(operation: &OperationRecord) -> bool
+    ensures { result ≡ is_collectable operation.now }
+{
+    !operation.is_collected() && operation.is_done()
 }
 
 impl Flow {
@@ -42,5 +90,186 @@ impl Flow {
         ensures { IsFlow self.now }
     {
         let _ = &self.next;
+    }
+
+    /// The operation of that number: also one whose answer was handed out, while a drain of it runs.
+    pub fn record(&self, number: OpId) -> Option<&OperationRecord>
+        ensures { option_copied result ≡ operation_at number self.now }
+    {
+        record_of(&self.operations, number)
+    }
+
+    /// The next step of an operation, by that worker (`FltStartCallbacks` and the descent and ascent
+    /// through the instances of a volume). `below` says what lies below it, if it is on its way down:
+    /// an instance that it didn't visit, of fewer than 32 visits. `is_stopping` says whether the
+    /// instance that is owed its next postoperation is being torn down. Refused with 30, nothing
+    /// changed, where there is no such operation, its answer was handed out, a worker has it, or its
+    /// next postoperation is another worker's. All other operations stay. It takes no memory.
+    pub fn next(
+        &mut self,
+        number: OpId,
+        worker: WorkerId,
+        below: Below,
+        is_stopping: bool,
+    ) -> Result<FlowAction, Status>
+        requires { MayLieBelowOf below (operation_at number self.old) }
+        ensures reply { result ≡ told (λ r. (next_of worker below is_stopping r).reply) (Err Status.WrongStep) number self.old }
+        ensures after { self.new ≡ changed number (λ r. (next_of worker below is_stopping r).after) self.old }
+    {
+        let Some(place) = place_of(&self.operations, number) else {
+            return Err(Status::WrongStep);
+        };
+        let operation = &mut self.operations[place];
+        operation.next(worker, below, is_stopping)
+    }
+
+    /// Begins an operation, with all the memory that it will need (`FLT_CALLBACK_DATA` is made for a
+    /// request). The parameters have to be within the limits. Refused with 29 at 256 operations whose
+    /// answer wasn't handed out, and where the numbers run out; with 1 where memory is refused.
+    /// A refusal changes nothing.
+    pub fn begin(
+        &mut self,
+        volume: VolumeId,
+        stream: Option<StreamId>,
+        handle: Option<HandleId>,
+        born: u64,
+        params: Params,
+    ) -> Result<OpId, Status>
+        requires { IsTrue (is_within_limits params) }
+        ensures { AnswersOrMemory (first_of ((is_full self.old, Status.TooMany) ∷ [])) result self.old self.new (λ o. (o.0 ≡ self.old.next) × (self.new ≡ begun volume stream handle born params self.old)) }
+    {
+        if self.is_full() {
+            return Err(Status::TooMany);
+        }
+        let number = OpId(self.next);
+        let record = OperationRecord::begin(
+            self.alloc, number, volume, stream, handle, born, params,
+        )?;
+        self.operations.push(record)?;
+        self.next += 1;
+        Ok(number)
+    }
+
+    fn is_full(&self) -> bool
+        ensures { result ≡ is_full self.now }
+    {
+        count_under_way(&self.operations) >= MAX_OPERATIONS || self.next == u64::MAX
+    }
+
+    /// A preoperation callback of an operation returns, with the verdict that counts (`counted`). The
+    /// operation has to be in such a callback. Data that isn't of the operation, of another kind, on
+    /// another path of a create or past a limit, is handed back, and nothing changes. All other
+    /// operations stay. It takes no memory.
+    pub fn pre_returned(
+        &mut self,
+        number: OpId,
+        state: PreState,
+        lent: CallbackData,
+    ) -> Result<(), CallbackData>
+        requires stage { StandsAt Stage.PreRunning (operation_at number self.old) }
+        requires counted { is_counted state ≡ true }
+        ensures reply { result ≡ told (data_reply lent) (Err lent) number self.old }
+        ensures after { self.new ≡ changed number (pre_after state lent) self.old }
+    {
+        let Some(place) = place_of(&self.operations, number) else {
+            unreachable!();
+        };
+        let operation = &mut self.operations[place];
+        operation.pre_returned(state, lent)
+    }
+
+    /// The base answers an operation, and gives the call's parameters back. The operation has to be at
+    /// the base. A call that isn't of the operation and an answer of more than 32,768 bytes are handed
+    /// back, and nothing changes. All other operations stay. It takes no memory.
+    pub fn base_returned(
+        &mut self,
+        number: OpId,
+        call: Params,
+        answer: Answer,
+    ) -> Result<(), (Params, Answer)>
+        requires { StandsAt Stage.InBase (operation_at number self.old) }
+        ensures reply { result ≡ told (base_reply call answer) (Err (call, answer)) number self.old }
+        ensures after { self.new ≡ changed number (base_after call answer) self.old }
+    {
+        let Some(place) = place_of(&self.operations, number) else {
+            unreachable!();
+        };
+        let operation = &mut self.operations[place];
+        operation.base_returned(call, answer)
+    }
+
+    /// A postoperation callback of an operation returns. The operation has to be in such a callback.
+    /// Data that isn't of the operation is handed back, and nothing changes. What the callback made of
+    /// the answer counts, but on a create, a cleanup and a close. All other operations stay. It takes
+    /// no memory.
+    pub fn post_returned(
+        &mut self,
+        number: OpId,
+        verdict: PostVerdict,
+        lent: CallbackData,
+    ) -> Result<(), CallbackData>
+        requires { StandsAt Stage.PostRunning (operation_at number self.old) }
+        ensures reply { result ≡ told (data_reply lent) (Err lent) number self.old }
+        ensures after { self.new ≡ changed number (post_after verdict lent) self.old }
+    {
+        let Some(place) = place_of(&self.operations, number) else {
+            unreachable!();
+        };
+        let operation = &mut self.operations[place];
+        operation.post_returned(verdict, lent)
+    }
+
+    /// The drain that has an operation is over. All other operations stay. It takes no memory.
+    pub fn drain_returned(&mut self, number: OpId, instance: InstanceId)
+        requires { StandsAt (Stage.InDrain instance) (operation_at number self.old) }
+        ensures { self.new ≡ changed number (drain_returned_of instance) self.old }
+    {
+        let Some(place) = place_of(&self.operations, number) else {
+            unreachable!();
+        };
+        let operation = &mut self.operations[place];
+        operation.drain_returned(instance);
+    }
+
+    /// Hands out the answer of a done operation (the request is completed), once. Its record goes, or
+    /// stays for a drain that still runs. Refused with 30, nothing changed, where there is no such
+    /// operation, it isn't done, or its answer was handed out. It takes no memory.
+    pub fn collect(&mut self, number: OpId) -> Result<Answer, Status>
+        ensures reply { result ≡ told collect_reply (Err Status.WrongStep) number self.old }
+        ensures after { self.new ≡ collected_of number self.old }
+    {
+        let Some(place) = place_of(&self.operations, number) else {
+            return Err(Status::WrongStep);
+        };
+        if !is_collectable(&self.operations[place]) {
+            return Err(Status::WrongStep);
+        }
+        if self.operations[place].has_running_drain() {
+            let operation = &mut self.operations[place];
+            return Ok(operation.hand_out());
+        }
+        Ok(self.operations.remove(place).into_answer())
+    }
+}
+
+#[cfg(test)]
+mod tests {
+    use super::*;
+    use std::test::Fail;
+
+    #[test]
+    fn operations_are_numbered(rt: HostRuntime) -> Result<(), Fail> {
+        let mut flow = Flow::new(rt.alloc());
+        let first = flow.begin(VolumeId(0), None, None, 3, Params::List)?;
+        let second = flow.begin(VolumeId(1), None, Some(HandleId(4)), 3, Params::Flush)?;
+        assert_eq!(rt; first, OpId(0));
+        assert_eq!(rt; second, OpId(1));
+        assert_eq!(rt;
+            flow.record(second).map(|operation| operation.stage()),
+            Some(Stage::Descending)
+        );
+        assert!(rt; flow.record(OpId(2)).is_none());
+        assert!(rt; flow.collect(first).is_err());
+        Ok(())
     }
 }

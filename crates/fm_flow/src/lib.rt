@@ -4,8 +4,10 @@
 #![tactic(auto)]
 
 mod action;
+mod entries;
 mod entry;
 mod flow;
+mod lent;
 mod operation_record;
 mod stage;
 mod verdict;

@@ -1,16 +1,27 @@
 //! One operation.
 
-ghost use Rattle.std.specs.Prelude.{◌≡◌, ℕ, IsTrue, IfOk, Some, None, option_map};
-ghost use Rattle.fm_data.specs.Params.{is_within_limits};
+ghost use Rattle.std.specs.Prelude.{◌≡◌, ℕ, ◌<◌, ◌≤◌, true, false, length, IsTrue, IfOk, Ok, Err, Some, None, option_map, slice_get, if◌then◌else◌};
+ghost use Rattle.std.specs.List.{list_any};
+ghost use Rattle.fm_data.specs.Params.{is_within_limits, fit};
+ghost use Rattle.fm_data.specs.Data.{data_fits};
+ghost use Rattle.fm_flow.specs.Entries.{times, visited, last_visited, owed};
+ghost use Rattle.fm_flow.specs.Verdict.{is_counted};
+ghost use Rattle.fm_flow.specs.Counts.{is_running_drain};
+ghost use Rattle.fm_flow.specs.Steps.{bare_ask, bare_answer, with_visit, with_base, with_drain, call_pre, call_base, call_post, give_post, descend, ascend, unwound, may_take, next_of, MayLieBelow, pre_returned_of, base_returned_of, post_state, post_returned_of, drain_returned_of, is_done, data_reply, pre_after, base_fits, base_reply, base_after, post_after, pre_leads, post_leads};
 ghost use Rattle.fm_flow.specs.Sound.{IsSound};
-ghost use Rattle.fm_flow.specs.Table.{begun_record};
+ghost use Rattle.fm_flow.specs.Table.{begun_record, marked, is_collectable};
 
-use crate::entry::Entry;
+use crate::action::{Below, FlowAction};
+use crate::entry::{Ask, DrainVisit, Entry, PostState, PostVisit, PreState, PreVisit};
 use crate::stage::Stage;
-use fm_data::{Answer, Params};
-use fm_types::{Bytes, HandleId, OpId, Operation, RelPath, Status, StreamId, VolumeId};
+use crate::{entries, lent};
+use fm_data::{Answer, CallbackData, Completion, MAX_TRANSFER, Params, Parts, PostVerdict};
+use fm_types::{
+    Bytes, HandleId, InstanceId, OpId, Operation, RelPath, Status, StreamId, VolumeId, WorkerId,
+};
 use std::alloc::{AllocError, Global};
 use std::marker::Model;
+use std::mem;
 
 /// How many entries an operation has at most: 32 visits on the way down, 32 answers to them, and the base.
 const MAX_ENTRIES: usize = 65;
@@ -40,7 +51,9 @@ pub struct OperationRecord {
 impl Model for OperationRecord {
     ghost use Rattle.std.specs.Prelude.{◌≤◌, vec_capacity};
     ghost use Rattle.fm_flow.specs.Record.{FlowRecord};
+
     ghost Value = { FlowRecord };
+
     ghost use Rattle.fm_flow.specs.Sound.{IsSound};
 
     ghost view = { λ o. record { number = o.number; operation = o.operation; volume = o.volume; stream = o.stream; handle = o.handle; born = o.born; path = o.path; params = o.params; answer = o.answer; stage = o.stage; entries = o.entries.items; kept = o.kept.items; collected = o.is_collected } };
@@ -49,6 +62,39 @@ impl Model for OperationRecord {
 }
 
 impl OperationRecord {
+    /// An operation that begins, with the room for all that will happen to it.
+    pub(crate) fn begin(
+        alloc: Global,
+        number: OpId,
+        volume: VolumeId,
+        stream: Option<StreamId>,
+        handle: Option<HandleId>,
+        born: u64,
+        params: Params,
+    ) -> Result<OperationRecord, AllocError>
+        requires { IsTrue (is_within_limits params) }
+        ensures { IfOk result (λ r. r ≡ begun_record number.0 volume stream handle born params) }
+    {
+        let entries = Vec::with_capacity(alloc, MAX_ENTRIES)?;
+        let kept = Vec::with_capacity(alloc, MAX_VISITS)?;
+        Ok(OperationRecord {
+            alloc,
+            number,
+            operation: params.operation(),
+            volume,
+            stream,
+            handle,
+            born,
+            path: params.path(),
+            params: Some(params),
+            answer: bare_answer(alloc, Status::Success),
+            stage: Stage::Descending,
+            entries,
+            kept,
+            is_collected: false,
+        })
+    }
+
     /// The number by which it is named.
     pub fn number(&self) -> OpId
         ensures { result ≡ self.now.number }
@@ -63,10 +109,460 @@ impl OperationRecord {
         self.operation
     }
 
+    /// The volume that it is on.
+    pub fn volume(&self) -> VolumeId
+        ensures { result ≡ self.now.volume }
+    {
+        self.volume
+    }
+
+    /// The stream that it is on, where it has one; named also after the stream is gone.
+    pub fn stream(&self) -> Option<StreamId>
+        ensures { result ≡ self.now.stream }
+    {
+        self.stream
+    }
+
+    /// The handle that it is on, where it has one; named also after the handle is closed.
+    pub fn handle(&self) -> Option<HandleId>
+        ensures { result ≡ self.now.handle }
+    {
+        self.handle
+    }
+
+    /// How many instances were born before it began.
+    pub fn born(&self) -> u64
+        ensures { result ≡ self.now.born }
+    {
+        self.born
+    }
+
+    /// The path that it names, if it is a create.
+    pub fn path(&self) -> &Option<RelPath>
+        ensures { result.now ≡ self.now.path }
+    {
+        &self.path
+    }
+
+    /// Where it stands.
+    pub fn stage(&self) -> Stage
+        ensures { result ≡ self.now.stage }
+    {
+        self.stage
+    }
+
+    /// What happened to it so far.
+    pub fn trace(&self) -> &[Entry]
+        ensures { result.now ≡ self.now.entries }
+    {
+        self.entries.as_slice()
+    }
+
+    /// The instance that it visited last on its way down.
+    pub fn last_visited(&self) -> Option<InstanceId>
+        ensures { option_map (λ i. i.0) result ≡ last_visited self.now.entries }
+    {
+        entries::last_visited(&self.entries)
+    }
+
+    /// The postoperation that it is owed next.
+    pub fn next_owed(&self) -> Option<Ask>
+        ensures { result ≡ slice_get (owed self.now.entries) 0 }
+    {
+        entries::next_owed(&self.entries)
+    }
+
+    /// Whether it is done: nothing is left but to hand out its answer.
+    pub fn is_done(&self) -> bool
+        ensures { result ≡ is_done self.now }
+    {
+        match self.stage {
+            Stage::Ascending => self.next_owed().is_none(),
+            _ => false,
+        }
+    }
+
+    /// Whether its answer was handed out.
+    pub fn is_collected(&self) -> bool
+        ensures { result ≡ self.now.collected }
+    {
+        self.is_collected
+    }
+
     /// The laws of every operation, for callers that rest on them. It does nothing.
     pub fn laws(&self)
         ensures { IsSound self.now }
     {
         let _ = &self.stage;
+    }
+
+    /// The next step of the operation, by that worker. It takes no memory.
+    pub(crate) fn next(
+        &mut self,
+        worker: WorkerId,
+        below: Below,
+        is_stopping: bool,
+    ) -> Result<FlowAction, Status>
+        requires { MayLieBelow below self.old.entries }
+        ensures reply { result ≡ (next_of worker below is_stopping self.old).reply }
+        ensures after { self.new ≡ (next_of worker below is_stopping self.old).after }
+    {
+        if self.is_collected {
+            return Err(Status::WrongStep);
+        }
+        match self.stage {
+            Stage::Descending => Ok(self.descend(worker, below)),
+            Stage::Ascending => self.ascend(worker, is_stopping),
+            Stage::PreHeld | Stage::PostHeld => Ok(FlowAction::Held),
+            Stage::PreRunning | Stage::InBase | Stage::PostRunning | Stage::InDrain(_) => Err(
+                Status::WrongStep,
+            ),
+        }
+    }
+
+    fn descend(&mut self, worker: WorkerId, below: Below) -> FlowAction
+        requires stage { self.old.stage ≡ Stage.Descending }
+        requires lies { MayLieBelow below self.old.entries }
+        ensures reply { Ok result ≡ (descend worker below self.old).reply }
+        ensures after { self.new ≡ (descend worker below self.old).after }
+    {
+        match below {
+            Below::Instance(instance, is_called) => {
+                if is_called {
+                    self.call_pre(worker, instance)
+                } else {
+                    self.visit_bare(worker, instance);
+                    FlowAction::Moved
+                }
+            }
+            Below::Call => self.call_base(),
+            Below::Known(status) => {
+                self.answer_known(status);
+                FlowAction::Moved
+            }
+        }
+    }
+
+    fn call_pre(&mut self, worker: WorkerId, instance: InstanceId) -> FlowAction
+        requires stage { self.old.stage ≡ Stage.Descending }
+        requires fresh { times instance.0 (visited self.old.entries) ≡ 0 }
+        requires few { length (visited self.old.entries) < 32 }
+        ensures reply { Ok result ≡ (call_pre worker instance self.old self.old.params).reply }
+        ensures after { self.new ≡ (call_pre worker instance self.old self.old.params).after }
+    {
+        let Some(params) = self.params.take() else {
+            unreachable!();
+        };
+        let place = self.kept.len() as u8;
+        let state = PreState::Running;
+        self.entries.push_reserved(Entry::Pre(PreVisit {
+            instance,
+            worker,
+            state,
+            place,
+        }));
+        self.stage = Stage::PreRunning;
+        FlowAction::Pre(instance, CallbackData::new(self.alloc, params))
+    }
+
+    // an instance whose filter has no preoperation callback asks for its postoperation
+    fn visit_bare(&mut self, worker: WorkerId, instance: InstanceId)
+        requires stage { self.old.stage ≡ Stage.Descending }
+        requires fresh { times instance.0 (visited self.old.entries) ≡ 0 }
+        requires few { length (visited self.old.entries) < 32 }
+        ensures { self.new ≡ with_visit worker instance bare_ask self.old }
+    {
+        let place = self.kept.len() as u8;
+        let state = PreState::Asked(Completion {
+            number: 0,
+            context: None,
+        });
+        self.entries.push_reserved(Entry::Pre(PreVisit {
+            instance,
+            worker,
+            state,
+            place,
+        }));
+    }
+
+    fn call_base(&mut self) -> FlowAction
+        requires { self.old.stage ≡ Stage.Descending }
+        ensures reply { Ok result ≡ (call_base self.old self.old.params).reply }
+        ensures after { self.new ≡ (call_base self.old self.old.params).after }
+    {
+        let Some(params) = self.params.take() else {
+            unreachable!();
+        };
+        self.stage = Stage::InBase;
+        FlowAction::Base(params)
+    }
+
+    fn answer_known(&mut self, status: Status)
+        requires { self.old.stage ≡ Stage.Descending }
+        ensures { self.new ≡ with_base (bare_answer status) self.old }
+    {
+        self.answer = bare_answer(self.alloc, status);
+        self.entries.push_reserved(Entry::Base(status, 0));
+        self.stage = Stage::Ascending;
+    }
+
+    fn ascend(&mut self, worker: WorkerId, is_stopping: bool) -> Result<FlowAction, Status>
+        requires { self.old.stage ≡ Stage.Ascending }
+        ensures reply { result ≡ (ascend worker is_stopping self.old (slice_get (owed self.old.entries) 0)).reply }
+        ensures after { self.new ≡ (ascend worker is_stopping self.old (slice_get (owed self.old.entries) 0)).after }
+    {
+        let Some(ask) = self.next_owed() else {
+            return Ok(FlowAction::Done);
+        };
+        if is_stopping {
+            self.give_drain(ask);
+            return Ok(FlowAction::Drain(ask.instance, ask.completion));
+        }
+        if !may_take(worker, ask) {
+            return Err(Status::WrongStep);
+        }
+        Ok(self.call_post(worker, ask))
+    }
+
+    fn give_drain(&mut self, ask: Ask)
+        requires stage { self.old.stage ≡ Stage.Ascending }
+        requires next { slice_get (owed self.old.entries) 0 ≡ Some ask }
+        ensures { self.new ≡ with_drain ask.instance (Stage.InDrain ask.instance) self.old }
+    {
+        self.entries.push_reserved(Entry::Drain(DrainVisit {
+            instance: ask.instance,
+            is_running: true,
+        }));
+        self.stage = Stage::InDrain(ask.instance);
+    }
+
+    fn call_post(&mut self, worker: WorkerId, ask: Ask) -> FlowAction
+        requires stage { self.old.stage ≡ Stage.Ascending }
+        requires next { slice_get (owed self.old.entries) 0 ≡ Some ask }
+        ensures reply { Ok result ≡ (call_post worker ask self.old).reply }
+        ensures after { self.new ≡ (call_post worker ask self.old).after }
+    {
+        self.unwind(ask.place);
+        self.give_post(worker, ask)
+    }
+
+    // what callbacks from that place on changed is put back
+    fn unwind(&mut self, place: u8)
+        requires { self.old.stage ≡ Stage.Ascending }
+        ensures { self.new ≡ unwound place self.old }
+    {
+        if let Some(params) = lent::unwind(&mut self.kept, place as usize) {
+            self.params = Some(params);
+        }
+    }
+
+    fn give_post(&mut self, worker: WorkerId, ask: Ask) -> FlowAction
+        requires stage { self.old.stage ≡ Stage.Ascending }
+        requires next { slice_get (owed self.old.entries) 0 ≡ Some ask }
+        ensures reply { Ok result ≡ (give_post worker ask self.old self.old.params).reply }
+        ensures after { self.new ≡ (give_post worker ask self.old self.old.params).after }
+    {
+        let Some(params) = self.params.take() else {
+            unreachable!();
+        };
+        let answer = lent::lend_answer(self.alloc, self.operation, &mut self.answer);
+        let state = PostState::Running;
+        self.entries.push_reserved(Entry::Post(PostVisit {
+            instance: ask.instance,
+            worker,
+            state,
+        }));
+        self.stage = Stage::PostRunning;
+        FlowAction::Post(
+            ask.instance,
+            CallbackData::answered(params, answer),
+            ask.completion,
+        )
+    }
+
+    /// A preoperation callback returns its data with the verdict that counts. Data that isn't of this
+    /// operation is handed back, and nothing changes.
+    pub(crate) fn pre_returned(
+        &mut self,
+        state: PreState,
+        lent: CallbackData,
+    ) -> Result<(), CallbackData>
+        requires stage { self.old.stage ≡ Stage.PreRunning }
+        requires counted { is_counted state ≡ true }
+        ensures reply { result ≡ data_reply lent self.old }
+        ensures after { self.new ≡ pre_after state lent self.old }
+    {
+        if !lent.fits(self.operation, &self.path) {
+            return Err(lent);
+        }
+        self.take_pre(state, lent);
+        Ok(())
+    }
+
+    fn take_pre(&mut self, state: PreState, lent: CallbackData)
+        requires stage { self.old.stage ≡ Stage.PreRunning }
+        requires counted { is_counted state ≡ true }
+        requires fits { data_fits self.old.operation self.old.path lent ≡ true }
+        ensures { self.new ≡ pre_returned_of state lent self.old }
+    {
+        let Parts {
+            received,
+            changed,
+            answer: _,
+        } = lent.into_parts();
+        self.params = Some(lent::keep(&mut self.kept, received, changed));
+        lent::complete(self.alloc, state, &mut self.answer);
+        entries::settle_pre(&mut self.entries, state);
+        self.stage = pre_leads(state);
+    }
+
+    /// The base answers, and gives the parameters back. Parameters that aren't of this operation and
+    /// an answer of more than 32,768 bytes are handed back, and nothing changes.
+    pub(crate) fn base_returned(
+        &mut self,
+        call: Params,
+        answer: Answer,
+    ) -> Result<(), (Params, Answer)>
+        requires { self.old.stage ≡ Stage.InBase }
+        ensures reply { result ≡ base_reply call answer self.old }
+        ensures after { self.new ≡ base_after call answer self.old }
+    {
+        if !call.fit(self.operation, &self.path) || answer.bytes.len() as u64 > MAX_TRANSFER {
+            return Err((call, answer));
+        }
+        self.take_base(call, answer);
+        Ok(())
+    }
+
+    fn take_base(&mut self, call: Params, answer: Answer)
+        requires stage { self.old.stage ≡ Stage.InBase }
+        requires fits { base_fits call answer self.old ≡ true }
+        ensures { self.new ≡ base_returned_of call answer self.old }
+    {
+        self.entries
+            .push_reserved(Entry::Base(answer.status, answer.information));
+        self.params = Some(call);
+        self.answer = answer;
+        self.stage = Stage::Ascending;
+    }
+
+    /// A postoperation callback returns its data. Data that isn't of this operation is handed back,
+    /// and nothing changes.
+    pub(crate) fn post_returned(
+        &mut self,
+        verdict: PostVerdict,
+        lent: CallbackData,
+    ) -> Result<(), CallbackData>
+        requires { self.old.stage ≡ Stage.PostRunning }
+        ensures reply { result ≡ data_reply lent self.old }
+        ensures after { self.new ≡ post_after verdict lent self.old }
+    {
+        if !lent.fits(self.operation, &self.path) {
+            return Err(lent);
+        }
+        self.take_post(verdict, lent);
+        Ok(())
+    }
+
+    fn take_post(&mut self, verdict: PostVerdict, lent: CallbackData)
+        requires stage { self.old.stage ≡ Stage.PostRunning }
+        requires fits { data_fits self.old.operation self.old.path lent ≡ true }
+        ensures { self.new ≡ post_returned_of verdict lent self.old }
+    {
+        let Parts {
+            received,
+            changed: _,
+            answer,
+        } = lent.into_parts();
+        self.params = Some(received);
+        lent::take_answer(self.operation, &mut self.answer, answer);
+        let state = post_state(verdict);
+        entries::settle_post(&mut self.entries, state);
+        self.stage = post_leads(state);
+    }
+
+    /// The drain that has the operation is over.
+    pub(crate) fn drain_returned(&mut self, instance: InstanceId)
+        requires { self.old.stage ≡ Stage.InDrain instance }
+        ensures { self.new ≡ drain_returned_of instance self.old }
+    {
+        entries::settle_drain(&mut self.entries, instance);
+        self.stage = Stage::Ascending;
+    }
+
+    /// Whether a drain runs.
+    pub(crate) fn has_running_drain(&self) -> bool
+        ensures { result ≡ list_any is_running_drain self.now.entries }
+    {
+        entries::has_running_drain(&self.entries)
+    }
+
+    /// Hands out the answer. The record stays, for a drain that runs.
+    pub(crate) fn hand_out(&mut self) -> Answer
+        requires { is_collectable self.old ≡ true }
+        ensures answer { result ≡ self.old.answer }
+        ensures after { self.new ≡ marked self.old }
+    {
+        self.is_collected = true;
+        let rest = Answer {
+            status: self.answer.status,
+            information: self.answer.information,
+            bytes: Bytes::new(self.alloc),
+        };
+        mem::replace(&mut self.answer, rest)
+    }
+
+    /// The answer of a record that goes.
+    pub(crate) fn into_answer(self) -> Answer
+        ensures { result ≡ self.answer }
+    {
+        let OperationRecord { answer, .. } = self;
+        answer
+    }
+}
+
+fn bare_answer(alloc: Global, status: Status) -> Answer
+    ensures { result ≡ bare_answer status }
+{
+    Answer {
+        status,
+        information: 0,
+        bytes: Bytes::new(alloc),
+    }
+}
+
+fn may_take(worker: WorkerId, ask: Ask) -> bool
+    ensures { result ≡ may_take worker ask }
+{
+    !ask.is_synchronized || ask.worker.0 == worker.0
+}
+
+fn pre_leads(state: PreState) -> Stage
+    ensures { result ≡ pre_leads state }
+{
+    match state {
+        PreState::Running => Stage::PreRunning,
+        PreState::Held => Stage::PreHeld,
+        PreState::Asked(_) | PreState::Synchronized(_) | PreState::Passed => Stage::Descending,
+        PreState::Completed(_) => Stage::Ascending,
+    }
+}
+
+fn post_leads(state: PostState) -> Stage
+    ensures { result ≡ post_leads state }
+{
+    match state {
+        PostState::Running => Stage::PostRunning,
+        PostState::Held => Stage::PostHeld,
+        PostState::Finished => Stage::Ascending,
+    }
+}
+
+fn post_state(verdict: PostVerdict) -> PostState
+    ensures { result ≡ post_state verdict }
+{
+    match verdict {
+        PostVerdict::Finished => PostState::Finished,
+        PostVerdict::MoreProcessing => PostState::Held,
     }
 }

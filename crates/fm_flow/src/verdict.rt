@@ -17,7 +17,8 @@ pub fn counted(verdict: PreVerdict, operation: Operation, has_post: bool) -> Pre
     match verdict {
         PreVerdict::WithCallback(completion) if has_post => PreState::Asked(completion),
         PreVerdict::Synchronize(completion) if has_post => PreState::Synchronized(completion),
-        PreVerdict::WithCallback(_) | PreVerdict::Synchronize(_) | PreVerdict::NoCallback => PreState::Passed,
+        PreVerdict::WithCallback(_) | PreVerdict::Synchronize(_) | PreVerdict::NoCallback =>
+            PreState::Passed,
         PreVerdict::Complete(status) => completed(status, operation),
         PreVerdict::Pending => PreState::Held,
     }
@@ -39,5 +40,37 @@ fn create_completed(status: Status) -> Status
     match status {
         Status::Success => Status::AccessDenied,
         status => status,
+    }
+}
+
+#[cfg(test)]
+mod tests {
+    use super::*;
+    use fm_data::Completion;
+    use std::test::Fail;
+
+    #[test]
+    fn the_verdict_that_counts(rt: HostRuntime) -> Result<(), Fail> {
+        let completion = Completion {
+            number: 7,
+            context: None,
+        };
+        let ask = PreVerdict::WithCallback(completion);
+        assert_eq!(rt;
+            counted(ask, Operation::Read, true),
+            PreState::Asked(completion)
+        );
+        assert_eq!(rt; counted(ask, Operation::Read, false), PreState::Passed);
+        let complete = PreVerdict::Complete(Status::Success);
+        assert_eq!(rt; counted(complete, Operation::Close, true), PreState::Passed);
+        assert_eq!(rt;
+            counted(complete, Operation::Create, true),
+            PreState::Completed(Status::AccessDenied)
+        );
+        assert_eq!(rt;
+            counted(complete, Operation::Read, true),
+            PreState::Completed(Status::Success)
+        );
+        Ok(())
     }
 }

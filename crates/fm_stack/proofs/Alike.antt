@@ -29,7 +29,7 @@ clash_second x y z alike = rw (alike.volume, alike.live, alike.name, alike.altit
 placed_alike : (s t : StackWorld) (x y : Instance) → IsAlike x y → t.filters ≡ s.filters → t.volumes ≡ s.volumes → IsPlaced s x → IsPlaced t y
 placed_alike s t x y alike filters volumes placed = record {
   filter = rw (alike.filter, filters) placed.filter;
-  volume = rw (alike.volume, volumes) placed.volume
+  volume = rw (alike.volume, volumes) placed.volume;
 }
 
 abbrev one : Bool → ℕ
@@ -53,7 +53,7 @@ setup_ends s change i births row sound there before alike after grown =
     let long : length (updated change s.instances i) ≡ length s.instances = length-updated change s.instances i in
     let in_setup : Instance → Bool = λ x. is_setup x.phase in
     let same : (x : Instance) → slice_get s.instances i ≡ Some x → IsAlike x (change x) = λ x found.
-        alike x (subst (λ (y : Instance). is_setup y.phase ≡ true) (same_Some row x (sym there ∙ found)) before) in
+    alike x (subst (λ (y : Instance). is_setup y.phase ≡ true) (same_Some row x (sym there ∙ found)) before) in
     let counts = count_by-updated in_setup change s.instances i row there in
     let was : one (in_setup row) ≡ 1 = ap one before in
     let is : one (in_setup (change row)) ≡ 0 = ap one after in
@@ -63,10 +63,10 @@ setup_ends s change i births row sound there before alike after grown =
       volumes = sound.volumes;
       instances = rw long sound.instances;
       placed = All-updated (IsPlaced s) (IsPlaced t) change s.instances i sound.placed
-        (λ x found placed. placed_alike s t x (change x) (same x found) refl refl placed)
-        (λ k x other found placed. record { filter = placed.filter; volume = placed.volume });
+          (λ x found placed. placed_alike s t x (change x) (same x found) refl refl placed)
+          (λ k x other found placed. record { filter = placed.filter; volume = placed.volume });
       apart = all_pairs_alike (λ x y. clashes x y ≡ false) change s.instances i sound.apart
-        (λ x y found. (λ apart. clash_first x (change x) y (same x found) ∙ apart, λ apart. clash_second x (change x) y (same x found) ∙ apart));
+          (λ x y found. (λ apart. clash_first x (change x) y (same x found) ∙ apart, λ apart. clash_second x (change x) y (same x found) ∙ apart));
       few = λ v. few_alike s change i row there (same row there) v (sound.few v);
-      born = rw long (omega (arith, counts, was, is, born, grown))
+      born = rw long (omega (arith, counts, was, is, born, grown));
     }

@@ -22,11 +22,12 @@ use Rattle.fm_stack.specs.Stacks.{IsPlaced, IsStack}
 none_passes : (p : Instance → Bool) (rows : List Instance) (k : ℕ) (row : Instance) → list_any p rows ≡ false → slice_get rows k ≡ Some row → p row ≡ false
 none_passes p rows k row none there =
     elim (cases_Bool (p row)) [
-      inl passes ↦
-        let at : p (get_or rows k row) ≡ true = ap p (get_or_from_slice_get rows k row row there) ∙ passes in
-        let some : list_any p rows ≡ true = list_any_at p rows k row (slice_get_within rows k row there) at in
-        let wrong : true ≡ false = sym some ∙ none in cc
-    | inr fails ↦ fails ]
+      | inl passes ↦
+          let at : p (get_or rows k row) ≡ true = ap p (get_or_from_slice_get rows k row row there) ∙ passes in
+          let some : list_any p rows ≡ true = list_any_at p rows k row (slice_get_within rows k row there) at in
+          let wrong : true ≡ false = sym some ∙ none in cc
+      | inr fails ↦ fails
+    ]
 
 -- both tests of attach fail at a row of that volume that is live, so that neither name nor altitude is the same
 apart_on_volume : (live name altitude : Bool) → ((true && live) && name) ≡ false → ((true && live) && altitude) ≡ false
@@ -48,17 +49,17 @@ new_is_apart f v name altitude row names altitudes =
     let same = same_name row.name name in
     let level = same_altitude row.altitude altitude in
     elim (cases_eq v.0 row.volume.0) [
-      inl is ↦
-        let here : eqb v.0 row.volume.0 ≡ true = eq-eqb v.0 row.volume.0 is in
-        let there : eqb row.volume.0 v.0 ≡ true = eq-eqb row.volume.0 v.0 (sym is) in
-        let own : eqb row.volume.0 row.volume.0 ≡ true = eq-eqb row.volume.0 row.volume.0 refl in
-        let no_name : ((true && live) && same) ≡ false = subst (λ b. ((b && live) && same) ≡ false) there names in
-        let no_level : ((true && live) && level) ≡ false = subst (λ b. ((b && live) && level) ≡ false) there altitudes in
-        rw (here, own) (apart_on_volume live same level no_name no_level)
-    | inr other ↦
-        let elsewhere : eqb v.0 row.volume.0 ≡ false = ne_eqb v.0 row.volume.0 other in
-        rw elsewhere (apart_elsewhere (eqb row.volume.0 row.volume.0) live (same || level)) ]
-
+      | inl is ↦
+          let here : eqb v.0 row.volume.0 ≡ true = eq-eqb v.0 row.volume.0 is in
+          let there : eqb row.volume.0 v.0 ≡ true = eq-eqb row.volume.0 v.0 (sym is) in
+          let own : eqb row.volume.0 row.volume.0 ≡ true = eq-eqb row.volume.0 row.volume.0 refl in
+          let no_name : ((true && live) && same) ≡ false = subst (λ b. ((b && live) && same) ≡ false) there names in
+          let no_level : ((true && live) && level) ≡ false = subst (λ b. ((b && live) && level) ≡ false) there altitudes in
+          rw (here, own) (apart_on_volume live same level no_name no_level)
+      | inr other ↦
+          let elsewhere : eqb v.0 row.volume.0 ≡ false = ne_eqb v.0 row.volume.0 other in
+          rw elsewhere (apart_elsewhere (eqb row.volume.0 row.volume.0) live (same || level))
+    ]
 
 few_with_one : (n : ℕ) (live : Bool) → n < 32 → n + cond live 1 0 ≤ 32
 few_with_one n true few = omega (arith, few)
@@ -67,17 +68,18 @@ few_with_one n false few = omega (arith, few)
 few_elsewhere : (m n : ℕ) (w v : VolumeId) (phase : Bool) → m ≤ 32 → (w.0 ≡ v.0 → m < 32) → m + cond (eqb v.0 w.0 && phase) 1 0 ≤ 32
 few_elsewhere m n w v phase few below =
     elim (cases_eq w.0 v.0) [
-      inl is ↦ few_with_one m (eqb v.0 w.0 && phase) (below is)
-    | inr other ↦
-        let elsewhere : eqb v.0 w.0 ≡ false = ne_eqb v.0 w.0 (λ is. other (sym is)) in
-        rw elsewhere (omega (arith, few)) ]
+      | inl is ↦ few_with_one m (eqb v.0 w.0 && phase) (below is)
+      | inr other ↦
+          let elsewhere : eqb v.0 w.0 ≡ false = ne_eqb v.0 w.0 (λ is. other (sym is)) in
+          rw elsewhere (omega (arith, few))
+    ]
 
 few_still : (s : StackWorld) (f : FilterId) (v : VolumeId) (name altitude : List ℕ) → IsStack s → count_by (is_live_on v) s.instances < 32
     → (w : VolumeId) → count_by (is_live_on w) (s.instances ++ new_instance f v name altitude ∷ []) ≤ 32
 few_still s f v name altitude sound few w =
     rw (count_by-push (is_live_on w) s.instances (new_instance f v name altitude))
-        (few_elsewhere (count_by (is_live_on w) s.instances) 0 w v true (sound.few w)
-            (λ is. subst (λ n. count_by (λ (row : Instance). (row.volume.0 == n) && not (is_detached row.phase)) s.instances < 32) (sym is) few))
+    (few_elsewhere (count_by (is_live_on w) s.instances) 0 w v true (sound.few w)
+    (λ is. subst (λ n. count_by (λ (row : Instance). (row.volume.0 == n) && not (is_detached row.phase)) s.instances < 32) (sym is) few))
 
 pub attached_keeps : (s : StackWorld) (f : FilterId) (v : VolumeId) (name altitude : List ℕ) → IsStack s
     → first_of (attach_refusals s f v name altitude) ≡ None → IsStack (attached s f v name altitude)
@@ -98,18 +100,19 @@ attached_keeps s f v name altitude sound none =
       volumes = sound.volumes;
       instances = omega (arith, longer, short);
       placed = all_from_slice_get (IsPlaced (attached s f v name altitude)) (s.instances ++ new ∷ []) (λ k x there.
-        elim (slice_get-push_cases s.instances new x k there) [
-          inl old ↦
-            let placed = all_at (IsPlaced s) s.instances k x sound.placed old in
-            record { filter = placed.filter; volume = placed.volume }
-        | inr made ↦
-            subst (IsPlaced (attached s f v name altitude)) (sym made.1)
-                (record { filter = leb-false (length s.filters) f.0 tests.0; volume = leb-false (length s.volumes) v.0 tests.1.1.0 }) ]);
+          elim (slice_get-push_cases s.instances new x k there) [
+            | inl old ↦
+                let placed = all_at (IsPlaced s) s.instances k x sound.placed old in
+                record { filter = placed.filter; volume = placed.volume }
+            | inr made ↦
+                subst (IsPlaced (attached s f v name altitude)) (sym made.1)
+                (record { filter = leb-false (length s.filters) f.0 tests.0; volume = leb-false (length s.volumes) v.0 tests.1.1.0 })
+          ]);
       apart = all_pairs_pushed (λ a b. clashes a b ≡ false) s.instances new sound.apart (λ k x there.
-        new_is_apart f v name altitude x (none_passes (has_name_on v name) s.instances k x names there)
-            (none_passes (has_altitude_on v altitude) s.instances k x altitudes there));
+          new_is_apart f v name altitude x (none_passes (has_name_on v name) s.instances k x names there)
+          (none_passes (has_altitude_on v altitude) s.instances k x altitudes there));
       few = few_still s f v name altitude sound few;
-      born = omega (arith, counts, longer, born)
+      born = omega (arith, counts, longer, born);
     }
 
 pub attached_follows : (s : StackWorld) (f : FilterId) (v : VolumeId) (name altitude : List ℕ) → IsStack s → Follows s (attached s f v name altitude)
@@ -121,9 +124,20 @@ attached_follows s f v name altitude sound =
       longer = omega (arith, longer);
       altitudes = λ i row there. (row, slice_get-kept s.instances (new ∷ []) i row there, refl);
       visits = λ w born operation i row early there visited.
-        elim (slice_get-push_cases s.instances new row i there) [
-          inl old ↦ (row, old, visited, refl)
-        | inr made ↦
-            let wrong : is_to_visit s w born operation new ≡ true = subst (λ (x : Instance). is_to_visit s w born operation x ≡ true) made.1 visited in
-            absurd (cc) ]
+          elim (slice_get-push_cases s.instances new row i there) [
+            | inl old ↦ (row, old, visited, refl)
+            | inr made ↦
+                let wrong : is_to_visit s w born operation new ≡ true = subst (λ (x : Instance). is_to_visit s w born operation x ≡ true) made.1 visited in
+                absurd (cc)
+          ];
     }
+
+-- the same with what attach leaves written out
+pub attach_keeps : (s : StackWorld) (f : FilterId) (v : VolumeId) (name altitude : List ℕ) (new : Instance) (rows : List Instance) → IsStack s
+    → first_of (attach_refusals s f v name altitude) ≡ None → new ≡ new_instance f v name altitude → rows ≡ s.instances ++ new ∷ []
+    → IsStack (record s { instances = rows })
+attach_keeps s f v name altitude new rows sound none made written = rw (written, made) (attached_keeps s f v name altitude sound none)
+
+pub attach_follows : (s : StackWorld) (f : FilterId) (v : VolumeId) (name altitude : List ℕ) (new : Instance) (rows : List Instance) → IsStack s
+    → new ≡ new_instance f v name altitude → rows ≡ s.instances ++ new ∷ [] → Follows s (record s { instances = rows })
+attach_follows s f v name altitude new rows sound made written = rw (written, made) (attached_follows s f v name altitude sound)

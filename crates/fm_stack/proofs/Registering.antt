@@ -26,12 +26,12 @@ registered_keeps s name r sound none =
       volumes = sound.volumes;
       instances = sound.instances;
       placed = all_from_slice_get (IsPlaced (registered s name r)) s.instances (λ k x there.
-        let placed = all_at (IsPlaced s) s.instances k x sound.placed there in
-        let filter = placed.filter in
-        record { filter = omega (arith, longer, filter); volume = placed.volume });
+          let placed = all_at (IsPlaced s) s.instances k x sound.placed there in
+          let filter = placed.filter in
+          record { filter = omega (arith, longer, filter); volume = placed.volume });
       apart = sound.apart;
       few = sound.few;
-      born = sound.born
+      born = sound.born;
     }
 
 -- the instances that there are don't belong to a filter that is registered later
@@ -45,7 +45,7 @@ registered_follows s name r sound = record {
   longer = omega arith;
   altitudes = λ i row there. (row, there, refl);
   visits = λ v born operation i row early there visited.
-    (row, there, rw (← same_visits s (new_filter name r) v born operation row (all_at (IsPlaced s) s.instances i row sound.placed there).filter) visited, refl)
+      (row, there, rw (← same_visits s (new_filter name r) v born operation row (all_at (IsPlaced s) s.instances i row sound.placed there).filter) visited, refl);
 }
 
 pub mounted_keeps : (s : StackWorld) (name : List ℕ) → IsStack s → first_of (mount_refusals s name) ≡ None → IsStack (mounted s name)
@@ -57,12 +57,12 @@ mounted_keeps s name sound none =
       volumes = omega (arith, longer, few);
       instances = sound.instances;
       placed = all_from_slice_get (IsPlaced (mounted s name)) s.instances (λ k x there.
-        let placed = all_at (IsPlaced s) s.instances k x sound.placed there in
-        let volume = placed.volume in
-        record { filter = placed.filter; volume = omega (arith, longer, volume) });
+          let placed = all_at (IsPlaced s) s.instances k x sound.placed there in
+          let volume = placed.volume in
+          record { filter = placed.filter; volume = omega (arith, longer, volume) });
       apart = sound.apart;
       few = sound.few;
-      born = sound.born
+      born = sound.born;
     }
 
 pub mounted_follows : (s : StackWorld) (name : List ℕ) → IsStack s → Follows s (mounted s name)
@@ -70,5 +70,5 @@ mounted_follows s name sound = record {
   births = omega arith;
   longer = omega arith;
   altitudes = λ i row there. (row, there, refl);
-  visits = λ v born operation i row early there visited. (row, there, visited, refl)
+  visits = λ v born operation i row early there visited. (row, there, visited, refl);
 }

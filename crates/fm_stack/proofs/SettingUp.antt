@@ -1,5 +1,5 @@
 -- The end of a setup callback keeps what holds of the stack. An instance that becomes attached is born behind all operations under way.
-use Rattle.std.proofs.Common.{◌≡◌, ℕ, ◌+◌, ◌<◌, ◌≤◌, true, false, ◌&&◌, ◌==◌, nat_lt, List, slice_get, Some, refl, sym, subst, ◌∙◌, arith, inl, inr}
+use Rattle.std.proofs.Common.{◌≡◌, ℕ, ◌+◌, ◌<◌, ◌≤◌, true, false, ◌&&◌, ◌==◌, nat_lt, List, slice_get, Some, refl, sym, subst, ◌∙◌, arith, inl, inr, Option, None}
 use Rattle.std.proofs.lemmas.Bool.{and_parts, ltb-true}
 use Rattle.fm_types.specs.declared.ids.InstanceId.{InstanceId}
 use Rattle.fm_types.specs.declared.ids.VolumeId.{VolumeId}
@@ -11,7 +11,7 @@ use Rattle.fm_stack.specs.declared.instance.Instance.{Instance}
 use Rattle.fm_stack.specs.declared.instance.Phase.{Phase}
 use Rattle.fm_stack.specs.declared.instance.Phase.TheVariants as phase
 use Rattle.fm_stack.specs.StackWorld.{StackWorld}
-use Rattle.fm_stack.specs.Events.{accept_row, accepted, refuse_row, refused}
+use Rattle.fm_stack.specs.Events.{accept_row, accepted, is_setup_at, refuse_row, refused}
 use Rattle.fm_stack.specs.Follows.{Follows}
 use Rattle.fm_stack.specs.Instances.{is_detached, is_setup}
 use Rattle.fm_stack.specs.Next.{is_registered, is_to_visit}
@@ -31,15 +31,15 @@ pub accepted_keeps : (s : StackWorld) (i : InstanceId) → IsStack s → (row : 
     → is_setup row.phase ≡ true → IsStack (accepted s i)
 accepted_keeps s i sound row there in_setup =
     setup_ends s (accept_row s.births) i.0 (s.births + 1) row sound there in_setup
-        (λ x before. record { filter = refl; volume = refl; name = refl; altitude = refl; live = setup_is_live x.phase before })
-        refl (omega arith)
+    (λ x before. record { filter = refl; volume = refl; name = refl; altitude = refl; live = setup_is_live x.phase before })
+    refl (omega arith)
 
 pub refused_keeps : (s : StackWorld) (i : InstanceId) → IsStack s → (row : Instance) → slice_get s.instances i.0 ≡ Some row
     → is_setup row.phase ≡ true → IsStack (refused s i)
 refused_keeps s i sound row there in_setup =
     setup_ends s refuse_row i.0 s.births row sound there in_setup
-        (λ x before. record { filter = refl; volume = refl; name = refl; altitude = refl; live = setup_is_live x.phase before })
-        refl (omega arith)
+    (λ x before. record { filter = refl; volume = refl; name = refl; altitude = refl; live = setup_is_live x.phase before })
+    refl (omega arith)
 
 -- an update that keeps altitudes leaves each instance its altitude
 altitudes_stay : (change : Instance → Instance) (rows : List Instance) (at : ℕ) → ((x : Instance) → (change x).altitude ≡ x.altitude)
@@ -47,12 +47,13 @@ altitudes_stay : (change : Instance → Instance) (rows : List Instance) (at : �
     → (after : Instance) × (slice_get (updated change rows at) i ≡ Some after) × (after.altitude ≡ row.altitude)
 altitudes_stay change rows at keeps i row there =
     elim (cases_eq i at) [
-      inl is ↦
-        let old : slice_get rows at ≡ Some row = subst (λ n. slice_get rows n ≡ Some row) is there in
-        let new : slice_get (updated change rows at) i ≡ Some (change row) =
-            subst (λ n. slice_get (updated change rows at) n ≡ Some (change row)) (sym is) (updated-same change rows at row old) in
-        (change row, new, keeps row)
-    | inr other ↦ (row, updated-other change rows at i other ∙ there, refl) ]
+      | inl is ↦
+          let old : slice_get rows at ≡ Some row = subst (λ n. slice_get rows n ≡ Some row) is there in
+          let new : slice_get (updated change rows at) i ≡ Some (change row) =
+          subst (λ n. slice_get (updated change rows at) n ≡ Some (change row)) (sym is) (updated-same change rows at row old) in
+          (change row, new, keeps row)
+      | inr other ↦ (row, updated-other change rows at i other ∙ there, refl)
+    ]
 
 -- an instance that was born now isn't visited by what began before
 born_too_late : (s : StackWorld) (v : VolumeId) (born : ℕ) (operation : Operation) (row : Instance) → born ≤ s.births
@@ -72,12 +73,13 @@ accepted_follows s i sound row there in_setup =
       longer = omega (arith, length-updated change s.instances i.0);
       altitudes = altitudes_stay change s.instances i.0 (λ x. refl);
       visits = λ v born operation k after early found visited.
-        elim (updated_cases change s.instances i.0 k after found) [
-          inl old ↦ (after, old.1, visited, refl)
-        | inr made ↦
-            let wrong : is_to_visit s v born operation (change made.1.0) ≡ true =
+          elim (updated_cases change s.instances i.0 k after found) [
+            | inl old ↦ (after, old.1, visited, refl)
+            | inr made ↦
+                let wrong : is_to_visit s v born operation (change made.1.0) ≡ true =
                 subst (λ (x : Instance). is_to_visit s v born operation x ≡ true) made.1.2 visited in
-            absurd (born_too_late s v born operation made.1.0 early wrong) ]
+                absurd (born_too_late s v born operation made.1.0 early wrong)
+          ];
     }
 
 pub refused_follows : (s : StackWorld) (i : InstanceId) → IsStack s → (row : Instance) → slice_get s.instances i.0 ≡ Some row
@@ -88,10 +90,40 @@ refused_follows s i sound row there in_setup =
       longer = omega (arith, length-updated refuse_row s.instances i.0);
       altitudes = altitudes_stay refuse_row s.instances i.0 (λ x. refl);
       visits = λ v born operation k after early found visited.
-        elim (updated_cases refuse_row s.instances i.0 k after found) [
-          inl old ↦ (after, old.1, visited, refl)
-        | inr made ↦
-            let wrong : is_to_visit s v born operation (refuse_row made.1.0) ≡ true =
+          elim (updated_cases refuse_row s.instances i.0 k after found) [
+            | inl old ↦ (after, old.1, visited, refl)
+            | inr made ↦
+                let wrong : is_to_visit s v born operation (refuse_row made.1.0) ≡ true =
                 subst (λ (x : Instance). is_to_visit s v born operation x ≡ true) made.1.2 visited in
-            absurd (cc) ]
+                absurd (cc)
+          ];
     }
+
+setup_row : (o : Option Instance) → is_setup_at o ≡ true → (row : Instance) × (o ≡ Some row) × (is_setup row.phase ≡ true)
+setup_row None in_setup = cc
+setup_row (Some row) in_setup = (row, refl, in_setup)
+
+-- the same of an instance that is known to be in its setup, with what it leaves written out
+pub accept_keeps : (s : StackWorld) (i : InstanceId) (rows : List Instance) → IsStack s → is_setup_at (slice_get s.instances i.0) ≡ true
+    → rows ≡ updated (accept_row s.births) s.instances i.0 → IsStack (record s { instances = rows; births = s.births + 1 })
+accept_keeps s i rows sound in_setup written =
+    let found = setup_row (slice_get s.instances i.0) in_setup in
+    rw written (accepted_keeps s i sound found.0 found.1 found.2)
+
+pub accept_follows : (s : StackWorld) (i : InstanceId) (rows : List Instance) → IsStack s → is_setup_at (slice_get s.instances i.0) ≡ true
+    → rows ≡ updated (accept_row s.births) s.instances i.0 → Follows s (record s { instances = rows; births = s.births + 1 })
+accept_follows s i rows sound in_setup written =
+    let found = setup_row (slice_get s.instances i.0) in_setup in
+    rw written (accepted_follows s i sound found.0 found.1 found.2)
+
+pub refuse_keeps : (s : StackWorld) (i : InstanceId) (rows : List Instance) → IsStack s → is_setup_at (slice_get s.instances i.0) ≡ true
+    → rows ≡ updated refuse_row s.instances i.0 → IsStack (record s { instances = rows })
+refuse_keeps s i rows sound in_setup written =
+    let found = setup_row (slice_get s.instances i.0) in_setup in
+    rw written (refused_keeps s i sound found.0 found.1 found.2)
+
+pub refuse_follows : (s : StackWorld) (i : InstanceId) (rows : List Instance) → IsStack s → is_setup_at (slice_get s.instances i.0) ≡ true
+    → rows ≡ updated refuse_row s.instances i.0 → Follows s (record s { instances = rows })
+refuse_follows s i rows sound in_setup written =
+    let found = setup_row (slice_get s.instances i.0) in_setup in
+    rw written (refused_follows s i sound found.0 found.1 found.2)

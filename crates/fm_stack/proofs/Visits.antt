@@ -36,5 +36,5 @@ pub is_to_visit_few : (s : StackWorld) → IsStack s → (v : VolumeId) (born : 
 is_to_visit_few s sound v born operation =
     let few = sound.few v in
     let fewer : count_by (is_to_visit s v born operation) s.instances ≤ count_by (is_live_on v) s.instances =
-        count_by_weaker (is_to_visit s v born operation) (is_live_on v) s.instances (λ k row there. visited_is_live s v born operation row) in
+    count_by_weaker (is_to_visit s v born operation) (is_live_on v) s.instances (λ k row there. visited_is_live s v born operation row) in
     omega (arith, few, fewer)

@@ -53,7 +53,7 @@ registered s name registration =
 unfoldable pub Registers : StackWorld → List ℕ → Registration → Result FilterId Status → StackWorld → Type 0
 Registers old name registration result new =
     AnswersOrMemory (first_of (register_refusals old name)) result old new
-        (λ (f : FilterId). (f.0 ≡ length old.filters) × (new ≡ registered old name registration))
+    (λ (f : FilterId). (f.0 ≡ length old.filters) × (new ≡ registered old name registration))
 
 -- volumes
 
@@ -69,7 +69,7 @@ is_mounted (Some volume) = is_mounted_phase volume.phase
 abbrev pub mount_refusals : StackWorld → List ℕ → List (Bool × Status)
 mount_refusals s name =
     (list_any (λ (volume : Volume). same_name volume.name name) s.volumes, status.NameCollision)
-        ∷ (nat_le 8 (length s.volumes), status.TooMany) ∷ []
+    ∷ (nat_le 8 (length s.volumes), status.TooMany) ∷ []
 
 abbrev pub new_volume : List ℕ → Volume
 new_volume name = record { name = name; phase = volume_phase.Mounted }
@@ -80,7 +80,7 @@ mounted s name = record s { volumes = s.volumes ++ new_volume name ∷ [] }
 unfoldable pub Mounts : StackWorld → List ℕ → Result VolumeId Status → StackWorld → Type 0
 Mounts old name result new =
     AnswersOrMemory (first_of (mount_refusals old name)) result old new
-        (λ (v : VolumeId). (v.0 ≡ length old.volumes) × (new ≡ mounted old name))
+    (λ (v : VolumeId). (v.0 ≡ length old.volumes) × (new ≡ mounted old name))
 
 -- instances
 
@@ -93,13 +93,13 @@ has_altitude_on v altitude row = is_live_on v row && same_altitude row.altitude 
 abbrev pub attach_refusals : StackWorld → FilterId → VolumeId → List ℕ → List ℕ → List (Bool × Status)
 attach_refusals s f v name altitude =
     (nat_le (length s.filters) f.0, status.NoFilter)
-        ∷ (not (is_loaded (slice_get s.filters f.0)), status.NotLoaded)
-        ∷ (nat_le (length s.volumes) v.0, status.NoVolume)
-        ∷ (not (is_mounted (slice_get s.volumes v.0)), status.Dismounting)
-        ∷ (list_any (has_name_on v name) s.instances, status.NameCollision)
-        ∷ (list_any (has_altitude_on v altitude) s.instances, status.AltitudeCollision)
-        ∷ (nat_le 32 (count_by (is_live_on v) s.instances) || nat_le 4096 (length s.instances), status.TooMany)
-        ∷ []
+    ∷ (not (is_loaded (slice_get s.filters f.0)), status.NotLoaded)
+    ∷ (nat_le (length s.volumes) v.0, status.NoVolume)
+    ∷ (not (is_mounted (slice_get s.volumes v.0)), status.Dismounting)
+    ∷ (list_any (has_name_on v name) s.instances, status.NameCollision)
+    ∷ (list_any (has_altitude_on v altitude) s.instances, status.AltitudeCollision)
+    ∷ (nat_le 32 (count_by (is_live_on v) s.instances) || nat_le 4096 (length s.instances), status.TooMany)
+    ∷ []
 
 abbrev pub new_instance : FilterId → VolumeId → List ℕ → List ℕ → Instance
 new_instance f v name altitude =
@@ -111,7 +111,7 @@ attached s f v name altitude = record s { instances = s.instances ++ new_instanc
 unfoldable pub Attaches : StackWorld → FilterId → VolumeId → List ℕ → List ℕ → Result InstanceId Status → StackWorld → Type 0
 Attaches old f v name altitude result new =
     AnswersOrMemory (first_of (attach_refusals old f v name altitude)) result old new
-        (λ (i : InstanceId). (i.0 ≡ length old.instances) × (new ≡ attached old f v name altitude))
+    (λ (i : InstanceId). (i.0 ≡ length old.instances) × (new ≡ attached old f v name altitude))
 
 -- the end of a setup callback
 
@@ -141,7 +141,7 @@ abbrev pub accepted : StackWorld → InstanceId → StackWorld
 accepted s i =
     record s {
       instances = updated (accept_row s.births) s.instances i.0;
-      births = s.births + 1
+      births = s.births + 1;
     }
 
 abbrev pub refused : StackWorld → InstanceId → StackWorld

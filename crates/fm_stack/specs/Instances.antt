@@ -1,8 +1,12 @@
 -- What an instance is to its volume: whether it is still there, whether two of them clash, and which is lower.
-use Rattle.std.specs.Prelude.{ℕ, List, Bool, true, false, not, ◌&&◌, ◌||◌, ◌==◌, Option, Some, slice_get, option_map}
+use Rattle.std.specs.Prelude.{ℕ, List, Bool, true, false, not, ◌&&◌, ◌||◌, ◌==◌, Option, Some, None, slice_get, option_map}
 use Rattle.std.specs.Ordering.{is_lt, is_eq}
 use Rattle.std.specs.Cmp.Lexicographic.{pointwise}
 use Rattle.fm_types.specs.declared.ids.VolumeId.{VolumeId}
+use Rattle.fm_types.specs.declared.ids.FilterId.{FilterId}
+use Rattle.fm_types.specs.declared.ids.InstanceId.{InstanceId}
+use Rattle.fm_types.specs.declared.registration.Registration.{Registration}
+use Rattle.fm_stack.specs.declared.filter.Filter.{Filter}
 use Rattle.fm_altitude.specs.Order.{altitude_cmp}
 use Rattle.fm_stack.specs.declared.instance.Instance.{Instance}
 use Rattle.fm_stack.specs.declared.instance.Phase.{Phase}
@@ -53,3 +57,14 @@ is_lower_option _ _ = false
 -- instance i is lower than instance j
 abbrev pub is_lower_at : StackWorld → ℕ → ℕ → Bool
 is_lower_at s i j = is_lower_option (altitude_at s i) (altitude_at s j)
+
+-- what the filter with that id registered, and what the filter of an instance did
+abbrev pub registration_in : List Filter → FilterId → Option Registration
+registration_in filters f = option_map (λ (filter : Filter). filter.registration) (slice_get filters f.0)
+
+abbrev pub registration_in_row : List Filter → Option Instance → Option Registration
+registration_in_row filters None = None
+registration_in_row filters (Some row) = registration_in filters row.filter
+
+abbrev pub registration_of : StackWorld → InstanceId → Option Registration
+registration_of s i = registration_in_row s.filters (slice_get s.instances i.0)

@@ -1,13 +1,19 @@
 //! The table of filters, volumes and instances, and the events that change it.
 
-ghost use Rattle.std.specs.Prelude.{◌≡◌, ◌<◌, ◌+◌, ◌++◌, ◌∷◌, [], length, true, slice_get, Some, None, IfOk, OnErr};
+ghost use Rattle.std.specs.Prelude.{◌≡◌, ◌<◌, ◌+◌, ◌||◌, nat_le, count_by, length, true, slice_get, Some};
+ghost use Rattle.std.specs.List.{list_any};
 ghost use Rattle.std.specs.Option.{option_map};
 ghost use Rattle.fm_types.specs.Refusals.{first_of};
 ghost use Rattle.fm_types.specs.Lists.{updated};
 ghost use Rattle.fm_stack.specs.StackWorld.{empty_stack};
 ghost use Rattle.fm_stack.specs.Stacks.{IsStack};
 ghost use Rattle.fm_stack.specs.Follows.{Follows};
-ghost use Rattle.fm_stack.specs.Events.{Registers, Mounts, Attaches, SetsUp, register_refusals, mount_refusals, attach_refusals, setup_refusals, is_setup_at, accept_row, refuse_row};
+ghost use Rattle.fm_stack.specs.Events.{Registers, Mounts, Attaches, SetsUp, is_named, has_name_on, has_altitude_on, register_refusals, mount_refusals, attach_refusals, setup_refusals, is_wanted, is_setup_at, accepted, refused, accept_row, refuse_row};
+ghost use Rattle.fm_stack.specs.Instances.{is_live_on, registration_of, same_name};
+ghost use Rattle.fm_types.specs.declared.ids.InstanceId.{InstanceId};
+ghost use Rattle.fm_stack.specs.declared.filter.Filter.{Filter};
+ghost use Rattle.fm_stack.specs.declared.volume.Volume.{Volume};
+ghost use Rattle.fm_stack.specs.declared.instance.Instance.{Instance};
 ghost use Rattle.fm_stack.specs.Next.{is_to_visit, is_below_cursor, is_candidate, is_registered, IsNextInstance};
 ghost use Rattle.fm_stack.specs.Search.{IsBestSoFar};
 
@@ -48,13 +54,9 @@ impl Model for Stack {
 
     ghost use Rattle.fm_stack.specs.Stacks.{IsStack};
 
-    ghost view = {
-        λ s. record { filters = s.filters.items; volumes = s.volumes.items; instances = s.instances.items; births = s.births }
-    };
+    ghost view = { λ s. record { filters = s.filters.items; volumes = s.volumes.items; instances = s.instances.items; births = s.births } };
 
-    ghost invariant = {
-        λ s. IsStack (record { filters = s.filters.items; volumes = s.volumes.items; instances = s.instances.items; births = s.births })
-    };
+    ghost invariant = { λ s. IsStack (record { filters = s.filters.items; volumes = s.volumes.items; instances = s.instances.items; births = s.births }) };
 }
 
 // Ends the setup of one row by attaching it.
@@ -91,5 +93,595 @@ impl Stack {
         ensures { IsStack self.now }
     {
         let _births = &self.births;
+    }
+
+    /// How many filters were registered in this run; their ids are the numbers below.
+    pub fn filters(&self) -> usize
+        ensures { result ≡ length self.now.filters }
+    {
+        self.filters.len()
+    }
+
+    /// How many instances were attached in this run; their ids are the numbers below.
+    pub fn instances(&self) -> usize
+        ensures { result ≡ length self.now.instances }
+    {
+        self.instances.len()
+    }
+
+    /// How far the life of a filter has come, if there is one of that id.
+    pub fn filter_phase(&self, filter: FilterId) -> Option<FilterPhase>
+        ensures { result ≡ option_map (λ (row : Filter). row.phase) (slice_get self.now.filters filter.0) }
+    {
+        let row = self.filters.get(filter.0 as usize)?;
+        Some(row.phase)
+    }
+
+    /// How far the life of an instance has come, if there is one of that id.
+    pub fn phase(&self, instance: InstanceId) -> Option<Phase>
+        ensures { result ≡ option_map (λ (row : Instance). row.phase) (slice_get self.now.instances instance.0) }
+    {
+        let row = self.instances.get(instance.0 as usize)?;
+        Some(row.phase)
+    }
+
+    /// Whose instance it is, if there is one of that id.
+    pub fn filter_of(&self, instance: InstanceId) -> Option<FilterId>
+        ensures { result ≡ option_map (λ (row : Instance). row.filter) (slice_get self.now.instances instance.0) }
+    {
+        let row = self.instances.get(instance.0 as usize)?;
+        Some(row.filter)
+    }
+
+    /// The volume that the instance is on, if there is an instance of that id
+    /// (`FltGetVolumeFromInstance`).
+    pub fn volume_of(&self, instance: InstanceId) -> Option<VolumeId>
+        ensures { result ≡ option_map (λ (row : Instance). row.volume) (slice_get self.now.instances instance.0) }
+    {
+        let row = self.instances.get(instance.0 as usize)?;
+        Some(row.volume)
+    }
+
+    /// What the filter of an instance registered for, if there is an instance of that id.
+    pub fn registration_of(&self, instance: InstanceId) -> Option<Registration>
+        ensures { result ≡ registration_of self.now instance }
+    {
+        let row = self.instances.get(instance.0 as usize)?;
+        let filter = self.filters.get(row.filter.0 as usize)?;
+        Some(filter.registration)
+    }
+
+    /// How far the life of a volume has come, if there is one of that id.
+    pub fn volume_phase(&self, volume: VolumeId) -> Option<VolumePhase>
+        ensures { result ≡ option_map (λ (row : Volume). row.phase) (slice_get self.now.volumes volume.0) }
+    {
+        let row = self.volumes.get(volume.0 as usize)?;
+        Some(row.phase)
+    }
+
+    /// How many instances became attached in this run: what begins now is for those alone.
+    pub fn births(&self) -> u64
+        ensures { result ≡ self.now.births }
+    {
+        self.births
+    }
+}
+
+// The events.
+impl Stack {
+    fn has_filter(&self, name: &Name) -> bool
+        ensures { result ≡ list_any (is_named name.now) self.now.filters }
+    {
+        self.filters.iter().any(|filter| filter.is_named(name))
+    }
+
+    fn register_refusal(&self, name: &Name) -> Option<Status>
+        ensures { result ≡ first_of (register_refusals self.now name.now) }
+    {
+        if self.has_filter(name) {
+            return Some(Status::AlreadyLoaded);
+        }
+        if self.filters.len() >= MAX_FILTERS {
+            return Some(Status::TooMany);
+        }
+        None
+    }
+
+    /// Registers a filter (`FltRegisterFilter` and `FltStartFiltering`): it is loaded, under the next
+    /// id. Refused, with nothing changed, in this order: `AlreadyLoaded` (10) where a filter of that
+    /// name isn't unloaded, `TooMany` (29) where 16 filters were registered in this run, `NoMemory` (1).
+    #[tactic(auto, unfolding(crate::specs::Events::Registers))]
+    pub fn register(&mut self, name: Name, registration: Registration) -> Result<FilterId, Status>
+        ensures event { Registers self.old name registration result self.new }
+        ensures follows { Follows self.old self.new }
+    {
+        if let Some(status) = self.register_refusal(&name) {
+            return Err(status);
+        }
+        let id = FilterId(self.filters.len() as u8);
+        let phase = FilterPhase::Loaded;
+        let Ok(()) = self.filters.push(Filter {
+            name,
+            registration,
+            phase,
+        })
+        else {
+            return Err(Status::NoMemory);
+        };
+        Ok(id)
+    }
+
+    fn has_volume(&self, name: &Name) -> bool
+        ensures { result ≡ list_any (λ (volume : Volume). same_name volume.name name.now) self.now.volumes }
+    {
+        self.volumes.iter().any(|volume| volume.name == *name)
+    }
+
+    fn mount_refusal(&self, name: &Name) -> Option<Status>
+        ensures { result ≡ first_of (mount_refusals self.now name.now) }
+    {
+        if self.has_volume(name) {
+            return Some(Status::NameCollision);
+        }
+        if self.volumes.len() >= MAX_VOLUMES {
+            return Some(Status::TooMany);
+        }
+        None
+    }
+
+    /// Mounts a volume, under the next id. Refused, with nothing changed, in this order:
+    /// `NameCollision` (4) where a volume of that name was mounted in this run, `TooMany` (29) where 8
+    /// volumes were, `NoMemory` (1).
+    #[tactic(auto, unfolding(crate::specs::Events::Mounts))]
+    pub fn mount(&mut self, name: Name) -> Result<VolumeId, Status>
+        ensures event { Mounts self.old name result self.new }
+        ensures follows { Follows self.old self.new }
+    {
+        if let Some(status) = self.mount_refusal(&name) {
+            return Err(status);
+        }
+        let id = VolumeId(self.volumes.len() as u8);
+        let phase = VolumePhase::Mounted;
+        let Ok(()) = self.volumes.push(Volume { name, phase }) else {
+            return Err(Status::NoMemory);
+        };
+        Ok(id)
+    }
+
+    fn is_full(&self, volume: VolumeId) -> bool
+        ensures { result ≡ (nat_le 32 (count_by (is_live_on volume) self.now.instances) || nat_le 4096 (length self.now.instances)) }
+    {
+        let live = self
+            .instances
+            .iter()
+            .filter(|row| row.is_live_on(volume))
+            .count();
+        live >= MAX_LIVE || self.instances.len() >= MAX_INSTANCES
+    }
+
+    fn has_name_on(&self, volume: VolumeId, name: &Name) -> bool
+        ensures { result ≡ list_any (has_name_on volume name.now) self.now.instances }
+    {
+        self.instances
+            .iter()
+            .any(|row| row.has_name_on(volume, name))
+    }
+
+    fn has_altitude_on(&self, volume: VolumeId, altitude: &Altitude) -> bool
+        ensures { result ≡ list_any (has_altitude_on volume altitude.now) self.now.instances }
+    {
+        self.instances
+            .iter()
+            .any(|row| row.has_altitude_on(volume, altitude))
+    }
+
+    fn attach_refusal(
+        &self,
+        filter: FilterId,
+        volume: VolumeId,
+        name: &Name,
+        altitude: &Altitude,
+    ) -> Option<Status>
+        ensures { result ≡ first_of (attach_refusals self.now filter volume name.now altitude.now) }
+    {
+        let Some(row) = self.filters.get(filter.0 as usize) else {
+            return Some(Status::NoFilter);
+        };
+        if !row.is_loaded() {
+            return Some(Status::NotLoaded);
+        }
+        let Some(row) = self.volumes.get(volume.0 as usize) else {
+            return Some(Status::NoVolume);
+        };
+        if !row.is_mounted() {
+            return Some(Status::Dismounting);
+        }
+        if self.has_name_on(volume, name) {
+            return Some(Status::NameCollision);
+        }
+        if self.has_altitude_on(volume, altitude) {
+            return Some(Status::AltitudeCollision);
+        }
+        if self.is_full(volume) {
+            return Some(Status::TooMany);
+        }
+        None
+    }
+
+    /// Attaches an instance of a filter to a volume (`FltAttachVolumeAtAltitude`): it begins its setup,
+    /// under the next id. Refused, with nothing changed, in this order: `NoFilter` (6), `NotLoaded` (9),
+    /// `NoVolume` (7), `Dismounting` (33) where a dismount of the volume has begun, `NameCollision` (4)
+    /// and `AltitudeCollision` (5) where an instance on the volume that isn't detached has that name or
+    /// an equal altitude, `TooMany` (29) where the volume has 32 instances that aren't detached or 4,096
+    /// were attached in this run, `NoMemory` (1).
+    #[tactic(auto, unfolding(crate::specs::Events::Attaches))]
+    pub fn attach(
+        &mut self,
+        filter: FilterId,
+        volume: VolumeId,
+        name: Name,
+        altitude: Altitude,
+    ) -> Result<InstanceId, Status>
+        ensures event { Attaches self.old filter volume name altitude result self.new }
+        ensures follows { Follows self.old self.new }
+    {
+        if let Some(status) = self.attach_refusal(filter, volume, &name, &altitude) {
+            return Err(status);
+        }
+        let id = InstanceId(self.instances.len() as u16);
+        let Ok(()) = self
+            .instances
+            .push(Instance::new(filter, volume, name, altitude))
+        else {
+            return Err(Status::NoMemory);
+        };
+        Ok(id)
+    }
+
+    fn is_wanted(&self, instance: InstanceId) -> bool
+        ensures { result ≡ is_wanted self.now (slice_get self.now.instances instance.0) }
+    {
+        let Some(row) = self.instances.get(instance.0 as usize) else {
+            return false;
+        };
+        let Some(filter) = self.filters.get(row.filter.0 as usize) else {
+            return false;
+        };
+        let Some(volume) = self.volumes.get(row.volume.0 as usize) else {
+            return false;
+        };
+        filter.is_loaded() && volume.is_mounted()
+    }
+
+    fn setup_refusal(&self, instance: InstanceId, accept: bool) -> Option<Status>
+        ensures { result ≡ first_of (setup_refusals self.now instance accept) }
+    {
+        if !accept {
+            return Some(Status::DoNotAttach);
+        }
+        if !self.is_wanted(instance) {
+            return Some(Status::DeletingObject);
+        }
+        None
+    }
+
+    fn accept(&mut self, instance: InstanceId)
+        requires { is_setup_at (slice_get self.old.instances instance.0) ≡ true }
+        ensures event { self.new ≡ accepted self.old instance }
+        ensures follows { Follows self.old self.new }
+    {
+        let births = self.births;
+        accept_at(&mut self.instances, instance.0 as usize, births);
+        self.births = births + 1;
+    }
+
+    fn refuse(&mut self, instance: InstanceId)
+        requires { is_setup_at (slice_get self.old.instances instance.0) ≡ true }
+        ensures event { self.new ≡ refused self.old instance }
+        ensures follows { Follows self.old self.new }
+    {
+        refuse_at(&mut self.instances, instance.0 as usize);
+    }
+
+    /// Ends the setup callback of an instance (`InstanceSetupCallback` returns). Accepted, the instance
+    /// is attached, as the next that was born. Refused with `DoNotAttach` (11) where the filter doesn't
+    /// accept, and with `DeletingObject` (13) where the filter isn't loaded any more or a dismount of the
+    /// volume has begun: the instance leaves again and waits for its contexts to be cleaned up.
+    #[tactic(auto, unfolding(crate::specs::Events::SetsUp))]
+    pub fn setup_done(&mut self, instance: InstanceId, accept: bool) -> Result<(), Status>
+        requires { is_setup_at (slice_get self.old.instances instance.0) ≡ true }
+        ensures event { SetsUp self.old instance accept result self.new }
+        ensures follows { Follows self.old self.new }
+    {
+        if let Some(status) = self.setup_refusal(instance, accept) {
+            self.refuse(instance);
+            return Err(status);
+        }
+        self.accept(instance);
+        Ok(())
+    }
+}
+
+// The next instance of an operation.
+impl Stack {
+    fn is_registered(&self, filter: FilterId, operation: Operation) -> bool
+        ensures { result ≡ is_registered self.now.filters filter operation }
+    {
+        let Some(filter) = self.filters.get(filter.0 as usize) else {
+            return false;
+        };
+        filter.registration.pre.has(operation) || filter.registration.post.has(operation)
+    }
+
+    fn is_to_visit(&self, row: &Instance, volume: VolumeId, born: u64, operation: Operation) -> bool
+        ensures { result ≡ is_to_visit self.now volume born operation row.now }
+    {
+        matches!(row.phase, Phase::Attached)
+            && row.volume.0 == volume.0
+            && row.birth < born
+            && self.is_registered(row.filter, operation)
+    }
+
+    fn is_below_cursor(&self, row: &Instance, cursor: Option<InstanceId>) -> bool
+        ensures { result ≡ is_below_cursor self.now (option_map (λ (i : InstanceId). i.0) cursor) row.now }
+    {
+        let Some(last) = cursor else {
+            return true;
+        };
+        let Some(last) = self.instances.get(last.0 as usize) else {
+            return false;
+        };
+        row.is_lower(last)
+    }
+
+    fn is_candidate(
+        &self,
+        row: &Instance,
+        volume: VolumeId,
+        cursor: Option<InstanceId>,
+        born: u64,
+        operation: Operation,
+    ) -> bool
+        ensures { result ≡ is_candidate self.now volume (option_map (λ (i : InstanceId). i.0) cursor) born operation row.now }
+    {
+        self.is_to_visit(row, volume, born, operation) && self.is_below_cursor(row, cursor)
+    }
+
+    fn row(&self, at: usize) -> &Instance
+        requires { at < length self.now.instances }
+        ensures there { slice_get self.now.instances at ≡ Some result.now }
+        ensures small { at < 4096 }
+    {
+        &self.instances[at]
+    }
+
+    // What is best among the rows up to the one at `at`, given what is best among those before it.
+    fn best_with(
+        &self,
+        best: Option<InstanceId>,
+        at: usize,
+        volume: VolumeId,
+        cursor: Option<InstanceId>,
+        born: u64,
+        operation: Operation,
+    ) -> Option<InstanceId>
+        requires there { at < length self.now.instances }
+        requires known { IsBestSoFar (is_candidate self.now volume (option_map (λ (i : InstanceId). i.0) cursor) born operation) self.now.instances at best }
+        ensures { IsBestSoFar (is_candidate self.now volume (option_map (λ (i : InstanceId). i.0) cursor) born operation) self.now.instances (at + 1) result }
+    {
+        let row = self.row(at);
+        if !self.is_candidate(row, volume, cursor, born, operation) {
+            return best;
+        }
+        let Some(id) = best else {
+            return Some(InstanceId(at as u16));
+        };
+        let highest = self.row(id.0 as usize);
+        if highest.is_lower(row) {
+            Some(InstanceId(at as u16))
+        } else {
+            best
+        }
+    }
+
+    /// The next instance that an operation visits: of the attached instances on the volume that were
+    /// born before it (below `born`), whose filter registered a callback before or after the operation,
+    /// and that stand lower than the one visited last (`cursor`; none: all), the highest. None where
+    /// there is none.
+    pub fn next_below(
+        &self,
+        volume: VolumeId,
+        cursor: Option<InstanceId>,
+        born: u64,
+        operation: Operation,
+    ) -> Option<InstanceId>
+        ensures { IsNextInstance self.now volume (option_map (λ (i : InstanceId). i.0) cursor) born operation result }
+    {
+        let mut best = None;
+        for at in 0..self.instances() {
+            best = self.best_with(best, at, volume, cursor, born, operation);
+        }
+        best
+    }
+}
+
+#[cfg(test)]
+mod tests {
+    use super::*;
+    use fm_types::{ContextMask, OpMask};
+    use std::test::Fail;
+
+    fn name(number: usize) -> Result<Name, Status> {
+        Name::read(&[b'a' + (number / 26 % 26) as u8, b'a' + (number % 26) as u8])
+    }
+
+    fn altitude(number: usize) -> Result<Altitude, Status> {
+        Altitude::read(&[
+            b'1',
+            b'0' + (number / 10 % 10) as u8,
+            b'0' + (number % 10) as u8,
+        ])
+    }
+
+    fn registration(pre: OpMask, post: OpMask) -> Registration {
+        Registration {
+            pre,
+            post,
+            contexts: ContextMask::NONE,
+            query: false,
+            unload: false,
+        }
+    }
+
+    #[tactic(auto, unfolding(crate::specs::Events::Attaches))]
+    fn attach_at(
+        stack: &mut Stack,
+        filter: FilterId,
+        volume: VolumeId,
+        at: (Name, Altitude),
+        accept: bool,
+    ) -> Result<InstanceId, Status> {
+        let (name, altitude) = at;
+        let instance = stack.attach(filter, volume, name, altitude)?;
+        stack.setup_done(instance, accept)?;
+        Ok(instance)
+    }
+
+    #[test]
+    fn highest_first(rt: HostRuntime) -> Result<(), Fail> {
+        let mut stack = Stack::new(rt.alloc());
+        let before = stack.register(
+            Name::read(b"before")?,
+            registration(OpMask::READ, OpMask::NONE),
+        )?;
+        let after = stack.register(
+            Name::read(b"after")?,
+            registration(OpMask::NONE, OpMask::READ),
+        )?;
+        let volume = stack.mount(Name::read(b"disk")?)?;
+        let low = attach_at(
+            &mut stack,
+            before,
+            volume,
+            (name(0)?, Altitude::read(b"100")?),
+            true,
+        )?;
+        let high = attach_at(
+            &mut stack,
+            after,
+            volume,
+            (name(1)?, Altitude::read(b"300")?),
+            true,
+        )?;
+        let middle = attach_at(
+            &mut stack,
+            after,
+            volume,
+            (name(2)?, Altitude::read(b"200.5")?),
+            true,
+        )?;
+        let born = stack.births();
+        let late = attach_at(
+            &mut stack,
+            before,
+            volume,
+            (name(3)?, Altitude::read(b"400")?),
+            true,
+        )?;
+        let read = Operation::Read;
+        assert_eq!(rt;
+            stack.next_below(volume, None, born, read),
+            Some(high),
+            "not the one born later"
+        );
+        assert_eq!(rt;
+            stack.next_below(volume, Some(high), born, read),
+            Some(middle)
+        );
+        assert_eq!(rt;
+            stack.next_below(volume, Some(middle), born, read),
+            Some(low)
+        );
+        assert_eq!(rt; stack.next_below(volume, Some(low), born, read), None);
+        assert_eq!(rt;
+            stack.next_below(volume, None, stack.births(), read),
+            Some(late)
+        );
+        assert_eq!(rt;
+            stack.next_below(volume, None, born, Operation::Write),
+            None
+        );
+        Ok(())
+    }
+
+    #[test]
+    fn refusals_of_attach(rt: HostRuntime) -> Result<(), Fail> {
+        let mut stack = Stack::new(rt.alloc());
+        let filter = stack.register(
+            Name::read(b"filter")?,
+            registration(OpMask::ALL, OpMask::ALL),
+        )?;
+        assert_eq!(rt;
+            stack.register(
+                Name::read(b"filter")?,
+                registration(OpMask::ALL, OpMask::ALL)
+            ),
+            Err(Status::AlreadyLoaded)
+        );
+        let volume = stack.mount(Name::read(b"disk")?)?;
+        assert_eq!(rt;
+            stack.mount(Name::read(b"disk")?),
+            Err(Status::NameCollision)
+        );
+        let ten = Altitude::read(b"10")?;
+        assert_eq!(rt;
+            stack.attach(FilterId(1), volume, name(0)?, ten),
+            Err(Status::NoFilter)
+        );
+        assert_eq!(rt;
+            stack.attach(filter, VolumeId(1), name(0)?, ten),
+            Err(Status::NoVolume)
+        );
+        let refused = attach_at(&mut stack, filter, volume, (name(0)?, ten), false);
+        assert_eq!(rt; refused, Err(Status::DoNotAttach));
+        assert_eq!(rt; stack.phase(InstanceId(0)), Some(Phase::Emptying));
+        assert_eq!(rt;
+            stack.attach(filter, volume, name(0)?, ten),
+            Err(Status::NameCollision)
+        );
+        assert_eq!(rt;
+            stack.attach(filter, volume, name(1)?, Altitude::read(b"010.0")?),
+            Err(Status::AltitudeCollision)
+        );
+        Ok(())
+    }
+
+    #[test]
+    fn thirty_two_live_instances(rt: HostRuntime) -> Result<(), Fail> {
+        let mut stack = Stack::new(rt.alloc());
+        let filter = stack.register(
+            Name::read(b"filter")?,
+            registration(OpMask::ALL, OpMask::ALL),
+        )?;
+        let volume = stack.mount(Name::read(b"disk")?)?;
+        for number in 0..32 {
+            let instance = attach_at(
+                &mut stack,
+                filter,
+                volume,
+                (name(number)?, altitude(number)?),
+                true,
+            )?;
+            assert_eq!(rt; stack.phase(instance), Some(Phase::Attached));
+            assert_eq!(rt; stack.filter_of(instance), Some(filter));
+            assert_eq!(rt; stack.volume_of(instance), Some(volume));
+        }
+        assert_eq!(rt;
+            stack.attach(filter, volume, name(32)?, altitude(32)?),
+            Err(Status::TooMany)
+        );
+        assert_eq!(rt; stack.instances(), 32);
+        assert_eq!(rt; stack.filter_phase(filter), Some(FilterPhase::Loaded));
+        Ok(())
     }
 }

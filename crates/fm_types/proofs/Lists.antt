@@ -30,8 +30,9 @@ slice_get-push_cases [] x y (suc k) there = absurd (none-some y there)
 slice_get-push_cases (z ∷ xs) x y zero there = inl there
 slice_get-push_cases (z ∷ xs) x y (suc k) there =
     elim (slice_get-push_cases xs x y k there) [
-      inl old ↦ inl old
-    | inr new ↦ inr (ap suc new.0, new.1) ]
+      | inl old ↦ inl old
+      | inr new ↦ inr (ap suc new.0, new.1)
+    ]
 
 -- the place that was written to has what was written
 pub slice_get-set_same : {X : Type 0} (xs : List X) (k : ℕ) (x : X) → k < length xs → slice_get (set xs k x) k ≡ Some x
@@ -101,12 +102,13 @@ pub updated_cases : {X : Type 0} (change : X → X) (xs : List X) (at k : ℕ) (
     → ((k ≢ at) × (slice_get xs k ≡ Some y)) ⊎ ((k ≡ at) × ((x : X) × (slice_get xs at ≡ Some x) × (y ≡ change x)))
 updated_cases {X} change xs at k y there =
     elim (cases_eq k at) [
-      inl is ↦
-        let there_at : slice_get (updated change xs at) at ≡ Some y = subst (λ n. slice_get (updated change xs at) n ≡ Some y) is there in
-        let within : at < length xs = subst (λ n. at < n) (length-updated change xs at) (slice_get_within (updated change xs at) at y there_at) in
-        let old = slice_get-some xs at within in
-        inr (is, (old.0, old.1, same_Some y (change old.0) (sym there_at ∙ updated-same change xs at old.0 old.1)))
-    | inr other ↦ inl (other, sym (updated-other change xs at k other) ∙ there) ]
+      | inl is ↦
+          let there_at : slice_get (updated change xs at) at ≡ Some y = subst (λ n. slice_get (updated change xs at) n ≡ Some y) is there in
+          let within : at < length xs = subst (λ n. at < n) (length-updated change xs at) (slice_get_within (updated change xs at) at y there_at) in
+          let old = slice_get-some xs at within in
+          inr (is, (old.0, old.1, same_Some y (change old.0) (sym there_at ∙ updated-same change xs at old.0 old.1)))
+      | inr other ↦ inl (other, sym (updated-other change xs at k other) ∙ there)
+    ]
 
 -- ---- facts on each element ----
 
@@ -123,14 +125,15 @@ pub All-set_others : {X : Type 0} (P Q : X → Type 0) (xs : List X) (at : ℕ) 
     → ((k : ℕ) (x : X) → k ≢ at → slice_get xs k ≡ Some x → P x → Q x) → All Q (set xs at y)
 All-set_others {X} P Q xs at y new all others =
     all_from_slice_get Q (set xs at y) (λ k x there.
-        elim (cases_eq k at) [
-          inl is ↦
-            let there_at : slice_get (set xs at y) at ≡ Some x = subst (λ n. slice_get (set xs at y) n ≡ Some x) is there in
-            let within : at < length xs = subst (λ n. at < n) (length-set xs at y) (slice_get_within (set xs at y) at x there_at) in
-            subst Q (same_Some y x (sym (slice_get-set_same xs at y within) ∙ there_at)) new
-        | inr other ↦
-            let old : slice_get xs k ≡ Some x = sym (slice_get-set_other xs at k y other) ∙ there in
-            others k x other old (all_at P xs k x all old) ])
+    elim (cases_eq k at) [
+      | inl is ↦
+          let there_at : slice_get (set xs at y) at ≡ Some x = subst (λ n. slice_get (set xs at y) n ≡ Some x) is there in
+          let within : at < length xs = subst (λ n. at < n) (length-set xs at y) (slice_get_within (set xs at y) at x there_at) in
+          subst Q (same_Some y x (sym (slice_get-set_same xs at y within) ∙ there_at)) new
+      | inr other ↦
+          let old : slice_get xs k ≡ Some x = sym (slice_get-set_other xs at k y other) ∙ there in
+          others k x other old (all_at P xs k x all old)
+    ])
 
 -- a fact on each element after an update
 pub All-updated : {X : Type 0} (P Q : X → Type 0) (change : X → X) (xs : List X) (at : ℕ) → All P xs
@@ -138,9 +141,10 @@ pub All-updated : {X : Type 0} (P Q : X → Type 0) (change : X → X) (xs : Lis
     → ((k : ℕ) (x : X) → k ≢ at → slice_get xs k ≡ Some x → P x → Q x) → All Q (updated change xs at)
 All-updated P Q change xs at all new others =
     all_from_slice_get Q (updated change xs at) (λ k y there.
-        elim (updated_cases change xs at k y there) [
-          inl old ↦ others k y old.0 old.1 (all_at P xs k y all old.1)
-        | inr made ↦ subst Q (sym made.1.2) (new made.1.0 made.1.1 (all_at P xs at made.1.0 all made.1.1)) ])
+    elim (updated_cases change xs at k y there) [
+      | inl old ↦ others k y old.0 old.1 (all_at P xs k y all old.1)
+      | inr made ↦ subst Q (sym made.1.2) (new made.1.0 made.1.1 (all_at P xs at made.1.0 all made.1.1))
+    ])
 
 -- ---- facts on each two elements ----
 
@@ -155,52 +159,56 @@ pub pair_at : {X : Type 0} (R : X → X → Type 0) (xs : List X) (i j : ℕ) (x
     → slice_get xs i ≡ Some x → slice_get xs j ≡ Some y → R x y
 pair_at R xs i j x y pairs below first second =
     subst (λ b. R x b) (get_or_from_slice_get xs j y x second)
-        (subst (λ a. R a (get_or xs j x)) (get_or_from_slice_get xs i x x first)
-            (pairs i j x below (slice_get_within xs j y second)))
+    (subst (λ a. R a (get_or xs j x)) (get_or_from_slice_get xs i x x first)
+    (pairs i j x below (slice_get_within xs j y second)))
 
 -- and, where its two sides may be swapped, of any two places
 pub pair_of : {X : Type 0} (R : X → X → Type 0) (xs : List X) (i j : ℕ) (x y : X) → ((a b : X) → R a b → R b a) → AllPairs R xs
     → i ≢ j → slice_get xs i ≡ Some x → slice_get xs j ≡ Some y → R x y
 pair_of R xs i j x y swaps pairs apart first second =
     elim (cases_order i j) [
-      inl is ↦ absurd (apart is)
-    | inr (inl below) ↦ pair_at R xs i j x y pairs below first second
-    | inr (inr above) ↦ swaps y x (pair_at R xs j i y x pairs above second first) ]
+      | inl is ↦ absurd (apart is)
+      | inr (inl below) ↦ pair_at R xs i j x y pairs below first second
+      | inr (inr above) ↦ swaps y x (pair_at R xs j i y x pairs above second first)
+    ]
 
 -- a fact on each two elements after a push
 pub all_pairs_pushed : {X : Type 0} (R : X → X → Type 0) (xs : List X) (y : X) → AllPairs R xs
     → ((k : ℕ) (x : X) → slice_get xs k ≡ Some x → R x y) → AllPairs R (xs ++ y ∷ [])
 all_pairs_pushed R xs y pairs last =
     all_pairs_from_slice_get R (xs ++ y ∷ []) (λ i j a b below first second.
-        elim (slice_get-push_cases xs y b j second) [
-          inl old ↦
-            let before : slice_get xs i ≡ Some a =
-                sym (slice_get-append_left xs (y ∷ []) i (omega (arith, below, slice_get_within xs j b old))) ∙ first in
-            pair_at R xs i j a b pairs below before old
-        | inr new ↦
-            let before : slice_get xs i ≡ Some a =
-                sym (slice_get-append_left xs (y ∷ []) i (omega (arith, below, new.0))) ∙ first in
-            subst (λ v. R a v) (sym new.1) (last i a before) ])
+    elim (slice_get-push_cases xs y b j second) [
+      | inl old ↦
+          let before : slice_get xs i ≡ Some a =
+          sym (slice_get-append_left xs (y ∷ []) i (omega (arith, below, slice_get_within xs j b old))) ∙ first in
+          pair_at R xs i j a b pairs below before old
+      | inr new ↦
+          let before : slice_get xs i ≡ Some a =
+          sym (slice_get-append_left xs (y ∷ []) i (omega (arith, below, new.0))) ∙ first in
+          subst (λ v. R a v) (sym new.1) (last i a before)
+    ])
 
 -- a fact on each two elements after a write, where it may be swapped and the new element has it with all others
 pub all_pairs_set : {X : Type 0} (R : X → X → Type 0) (xs : List X) (at : ℕ) (y : X) → ((a b : X) → R a b → R b a) → AllPairs R xs
     → ((k : ℕ) (x : X) → k ≢ at → slice_get xs k ≡ Some x → R x y) → AllPairs R (set xs at y)
 all_pairs_set {X} R xs at y swaps pairs others =
     let new : (k : ℕ) (x : X) → k ≡ at → slice_get (set xs at y) k ≡ Some x → x ≡ y = λ k x is there.
-        let there_at : slice_get (set xs at y) at ≡ Some x = subst (λ n. slice_get (set xs at y) n ≡ Some x) is there in
-        let within : at < length xs = subst (λ n. at < n) (length-set xs at y) (slice_get_within (set xs at y) at x there_at) in
-        same_Some x y (sym there_at ∙ slice_get-set_same xs at y within) in
+    let there_at : slice_get (set xs at y) at ≡ Some x = subst (λ n. slice_get (set xs at y) n ≡ Some x) is there in
+    let within : at < length xs = subst (λ n. at < n) (length-set xs at y) (slice_get_within (set xs at y) at x there_at) in
+    same_Some x y (sym there_at ∙ slice_get-set_same xs at y within) in
     let old : (k : ℕ) (x : X) → k ≢ at → slice_get (set xs at y) k ≡ Some x → slice_get xs k ≡ Some x = λ k x other there.
-        sym (slice_get-set_other xs at k y other) ∙ there in
+    sym (slice_get-set_other xs at k y other) ∙ there in
     all_pairs_from_slice_get R (set xs at y) (λ i j a b below first second.
-        elim (cases_eq i at) [
-          inl is ↦
-            let other : j ≢ at = λ same. omega (arith, below, is, same) in
-            subst (λ v. R v b) (sym (new i a is first)) (swaps b y (others j b other (old j b other second)))
-        | inr other ↦
-            elim (cases_eq j at) [
-              inl is ↦ subst (λ v. R a v) (sym (new j b is second)) (others i a other (old i a other first))
-            | inr apart ↦ pair_at R xs i j a b pairs below (old i a other first) (old j b apart second) ] ])
+    elim (cases_eq i at) [
+      | inl is ↦
+          let other : j ≢ at = λ same. omega (arith, below, is, same) in
+          subst (λ v. R v b) (sym (new i a is first)) (swaps b y (others j b other (old j b other second)))
+      | inr other ↦
+          elim (cases_eq j at) [
+            | inl is ↦ subst (λ v. R a v) (sym (new j b is second)) (others i a other (old i a other first))
+            | inr apart ↦ pair_at R xs i j a b pairs below (old i a other first) (old j b apart second)
+          ]
+    ])
 
 pairs_at : {X : Type 0} (R : X → X → Type 0) (change : X → X) (xs : List X) (at : ℕ) (o : Option X) → slice_get xs at ≡ o
     → ((a b : X) → R a b → R b a) → AllPairs R xs
@@ -208,7 +216,7 @@ pairs_at : {X : Type 0} (R : X → X → Type 0) (change : X → X) (xs : List X
 pairs_at R change xs at None there swaps pairs others = subst (AllPairs R) (sym (updated_none change xs at there)) pairs
 pairs_at R change xs at (Some y) there swaps pairs others =
     subst (AllPairs R) (sym (updated_there change xs at y there))
-        (all_pairs_set R xs at (change y) swaps pairs (λ k x other found. others k x y other found there))
+    (all_pairs_set R xs at (change y) swaps pairs (λ k x other found. others k x y other found there))
 
 -- the same after an update
 pub all_pairs_updated : {X : Type 0} (R : X → X → Type 0) (change : X → X) (xs : List X) (at : ℕ)
@@ -221,20 +229,23 @@ pub all_pairs_alike : {X : Type 0} (R : X → X → Type 0) (change : X → X) (
     → ((x y : X) → slice_get xs at ≡ Some x → (R x y → R (change x) y) × (R y x → R y (change x))) → AllPairs R (updated change xs at)
 all_pairs_alike R change xs at pairs alike =
     all_pairs_from_slice_get R (updated change xs at) (λ i j a b below first second.
-        elim (updated_cases change xs at i a first) [
-          inl before ↦
-            elim (updated_cases change xs at j b second) [
-              inl after ↦ pair_at R xs i j a b pairs below before.1 after.1
+    elim (updated_cases change xs at i a first) [
+      | inl before ↦
+          elim (updated_cases change xs at j b second) [
+            | inl after ↦ pair_at R xs i j a b pairs below before.1 after.1
             | inr made ↦
                 let x = made.1.0 in
                 let there : slice_get xs j ≡ Some x = subst (λ n. slice_get xs n ≡ Some x) (sym made.0) made.1.1 in
-                subst (λ v. R a v) (sym made.1.2) ((alike x a made.1.1).1 (pair_at R xs i j a x pairs below before.1 there)) ]
-        | inr made ↦
-            let x = made.1.0 in
-            let there : slice_get xs i ≡ Some x = subst (λ n. slice_get xs n ≡ Some x) (sym made.0) made.1.1 in
-            elim (updated_cases change xs at j b second) [
-              inl after ↦ subst (λ v. R v b) (sym made.1.2) ((alike x b made.1.1).0 (pair_at R xs i j x b pairs below there after.1))
-            | inr again ↦ absurd (omega (arith, below, made.0, again.0)) ] ])
+                subst (λ v. R a v) (sym made.1.2) ((alike x a made.1.1).1 (pair_at R xs i j a x pairs below before.1 there))
+          ]
+      | inr made ↦
+          let x = made.1.0 in
+          let there : slice_get xs i ≡ Some x = subst (λ n. slice_get xs n ≡ Some x) (sym made.0) made.1.1 in
+          elim (updated_cases change xs at j b second) [
+            | inl after ↦ subst (λ v. R v b) (sym made.1.2) ((alike x b made.1.1).0 (pair_at R xs i j x b pairs below there after.1))
+            | inr again ↦ absurd (omega (arith, below, made.0, again.0))
+          ]
+    ])
 
 -- ---- counts ----
 
@@ -249,8 +260,8 @@ pub count_by-updated : {X : Type 0} (p : X → Bool) (change : X → X) (xs : Li
 count_by-updated {X} p change xs at x there =
     let one : X → ℕ = λ y. cond (p y) 1 0 in
     rw (updated_there change xs at x there)
-        (subst (λ old. sum_by one (set xs at (change x)) + one old ≡ sum_by one xs + one (change x))
-            (get_or_from_slice_get xs at x x there) (sum_by-set one xs at (change x) x (slice_get_within xs at x there)))
+    (subst (λ old. sum_by one (set xs at (change x)) + one old ≡ sum_by one xs + one (change x))
+    (get_or_from_slice_get xs at x x there) (sum_by-set one xs at (change x) x (slice_get_within xs at x there)))
 
 cond_weaker : (a b : Bool) → (a ≡ true → b ≡ true) → cond a 1 0 ≤ cond b 1 0
 cond_weaker true true weaker = lit≤ tt

@@ -23,9 +23,10 @@ take_past n m xs past few =
 pub take_grown : (n m : ℕ) (xs : List ℕ) → n ≤ length xs + m → take n (xs ++ replicate m 0) ≡ resized n xs
 take_grown n m xs few =
     elim (cases_order n (length xs)) [
-      inl is ↦ take_within n m xs (omega (arith, is))
-    | inr (inl below) ↦ take_within n m xs (omega (arith, below))
-    | inr (inr above) ↦ take_past n m xs (omega (arith, above)) few ]
+      | inl is ↦ take_within n m xs (omega (arith, is))
+      | inr (inl below) ↦ take_within n m xs (omega (arith, below))
+      | inr (inr above) ↦ take_past n m xs (omega (arith, above)) few
+    ]
 
 drop_within : (n m : ℕ) (xs : List ℕ) → n ≤ length xs → m ≡ n - length xs → drop n (xs ++ replicate m 0) ≡ drop n xs
 drop_within n m xs within is =
@@ -41,9 +42,10 @@ drop_past n m xs past is =
 pub drop_grown : (n m : ℕ) (xs : List ℕ) → m ≡ n - length xs → drop n (xs ++ replicate m 0) ≡ drop n xs
 drop_grown n m xs is =
     elim (cases_order n (length xs)) [
-      inl same ↦ drop_within n m xs (omega (arith, same)) is
-    | inr (inl below) ↦ drop_within n m xs (omega (arith, below)) is
-    | inr (inr above) ↦ drop_past n m xs (omega (arith, above)) is ]
+      | inl same ↦ drop_within n m xs (omega (arith, same)) is
+      | inr (inl below) ↦ drop_within n m xs (omega (arith, below)) is
+      | inr (inr above) ↦ drop_past n m xs (omega (arith, above)) is
+    ]
 
 -- a write over bytes that were filled up to its end
 pub written_over : (offset : ℕ) (bytes old grown : List ℕ) → 0 < length bytes

@@ -26,7 +26,7 @@ use Rattle.fm_flow.specs.declared.stage.Stage.TheVariants.{Descending, PreRunnin
 use Rattle.fm_flow.specs.Record.{FlowRecord}
 use Rattle.fm_flow.specs.Entries.{visited, owed, times}
 use Rattle.fm_flow.specs.Counts.{is_running_drain}
-use Rattle.fm_flow.specs.Steps.{next_of, next_at, descend, ascend, call_pre, call_base, call_post, give_post, unwound, unwound_to, may_take, pre_leads, is_done}
+use Rattle.fm_flow.specs.Steps.{next_of, next_at, descend, ascend, call_pre, call_base, call_post, give_post, unwound, unwound_to, may_take, pre_leads, is_done, MayLieBelow}
 use Rattle.fm_flow.specs.Verdict.{is_counted}
 use Rattle.fm_flow.specs.Sound.{IsSound}
 use Rattle.fm_flow.specs.Table.{FlowTable, IsFlow, change_first, without_first, is_number, operation_at, changed, removed, begun, begun_record, under_way, is_full, collected_of, collected_in, is_collectable, marked}
@@ -42,11 +42,6 @@ head_of : (xs : List Ask) (a : Ask) → slice_get xs 0 ≡ Some a → (rest : Li
 head_of [] a h = absurd (none-some a h)
 head_of (x ∷ xs) a h = (xs, ap (λ y. y ∷ xs) (same_Some x a h))
 
--- an instance that an operation may visit next wasn't visited yet, and there is room for the visit
-abbrev pub MayVisit : Below → FlowRecord → Type 0
-MayVisit (below.Instance i is_called) r = (times i.0 (visited r.entries) ≡ 0) × (length (visited r.entries) < 32)
-MayVisit _ r = Unit {0}
-
 sound_called : (k : WorkerId) (i : InstanceId) (r : FlowRecord) (m : Option Params) → r.stage ≡ Descending → (times i.0 (visited r.entries) ≡ 0) × (length (visited r.entries) < 32)
     → IsSound r → IsSound (call_pre k i r m).after
 sound_called k i r None e may h = h
@@ -56,7 +51,7 @@ sound_based : (r : FlowRecord) (m : Option Params) → r.stage ≡ Descending �
 sound_based r None e h = h
 sound_based r (Some p) e h = sound_call_base r p e h
 
-sound_down : (k : WorkerId) (lies : Below) (r : FlowRecord) → r.stage ≡ Descending → MayVisit lies r → IsSound r → IsSound (descend k lies r).after
+sound_down : (k : WorkerId) (lies : Below) (r : FlowRecord) → r.stage ≡ Descending → MayLieBelow lies r.entries → IsSound r → IsSound (descend k lies r).after
 sound_down k (below.Instance i true) r e may h = sound_called k i r r.params e may h
 sound_down k (below.Instance i false) r e may h = sound_bare k i r e may.0 may.1 h
 sound_down k below.Call r e may h = sound_based r r.params e h
@@ -83,7 +78,7 @@ sound_up k drains r None e o h = h
 sound_up k true r (Some ask) e o h = let rest = head_of (owed r.entries) ask o in sound_drain ask rest.0 r e rest.1 h
 sound_up k false r (Some ask) e o h = let rest = head_of (owed r.entries) ask o in sound_taken k ask rest.0 r (may_take k ask) e rest.1 h
 
-sound_at : (k : WorkerId) (lies : Below) (drains : Bool) (r : FlowRecord) (stage : Stage) → r.stage ≡ stage → IsSound r → (r.stage ≡ Descending → MayVisit lies r)
+sound_at : (k : WorkerId) (lies : Below) (drains : Bool) (r : FlowRecord) (stage : Stage) → r.stage ≡ stage → IsSound r → (r.stage ≡ Descending → MayLieBelow lies r.entries)
     → IsSound (next_at k lies drains r stage).after
 sound_at k lies drains r Descending e h may = sound_down k lies r e (may e) h
 sound_at k lies drains r Ascending e h may = sound_up k drains r (slice_get (owed r.entries) 0) e refl h
@@ -94,7 +89,7 @@ sound_at k lies drains r PostRunning e h may = h
 sound_at k lies drains r PostHeld e h may = h
 sound_at k lies drains r (InDrain i) e h may = h
 
-pub sound_next : (k : WorkerId) (lies : Below) (drains : Bool) (r : FlowRecord) → IsSound r → (r.stage ≡ Descending → MayVisit lies r) → IsSound (next_of k lies drains r).after
+pub sound_next : (k : WorkerId) (lies : Below) (drains : Bool) (r : FlowRecord) → IsSound r → (r.stage ≡ Descending → MayLieBelow lies r.entries) → IsSound (next_of k lies drains r).after
 sound_next k lies drains r h may =
     let P : Bool → Type 0 = λ b. IsSound (cond b (record { reply = Err WrongStep; after = r }) (next_at k lies drains r r.stage)).after in
     elim (cases_Bool r.collected) [ inl e ↦ subst P (sym e) h | inr e ↦ subst P (sym e) (sound_at k lies drains r r.stage refl h may) ]

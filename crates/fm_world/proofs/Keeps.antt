@@ -172,6 +172,13 @@ setup_there (Some row) h = (row, refl, true_of (is_setup row.phase) h)
     true_of true h = refl
     true_of false h = absurd (omega arith)
 
+-- the instance that a worker's setup callback is of, found through the worker
+pub setup_place : (w : World) (k : WorkerId) (i : InstanceId) → IsSound w → worker_at w.workers k ≡ Some (place.Setup i)
+    → (row : Instance) × (slice_get w.stack.instances i.0 ≡ Some row) × (is_setup row.phase ≡ true)
+setup_place w k i s at =
+    let inside = count-some (is_in_setup i.0) w.workers k.0 (place.Setup i) at (eq-eqb i.0 i.0 refl) in
+    setup_there (slice_get w.stack.instances i.0) (omega (arith, inside, s.setups i.0))
+
 -- the callback returns, and the instance leaves its setup
 setup_ends : (old : World) (k : WorkerId) (i : InstanceId) (t : StackWorld) (change : Instance → Instance) (row : Instance)
     → worker_at old.workers k ≡ Some (place.Setup i) → slice_get old.stack.instances i.0 ≡ Some row → is_setup row.phase ≡ true → is_setup (change row).phase ≡ false
@@ -193,15 +200,13 @@ setup_at : (old : World) (k : WorkerId) (i : InstanceId) (accept : Bool) (result
     → new ≡ record old { stack = new.stack; workers = put old.workers k place.Idle } → IsSound old → IsSound new
 unfolding stack.SetsUp
 setup_at old k i accept (Ok done) new at h e s =
-    let inside = count-some (is_in_setup i.0) old.workers k.0 (place.Setup i) at (eq-eqb i.0 i.0 refl) in
-    let row = setup_there (slice_get old.stack.instances i.0) (omega (arith, inside, s.setups i.0)) in
+    let row = setup_place old k i s at in
     let t = stack.accepted old.stack i in
     subst IsSound (sym (same_all old new t (put old.workers k place.Idle) h.1 e))
     (setup_ends old k i t (λ (r : Instance). record r { phase = phase.Attached; birth = old.stack.births }) row.0 at row.1 row.2 refl refl
     (accepted_keeps old.stack i s.stack row.0 row.1 row.2) (accepted_follows old.stack i s.stack row.0 row.1 row.2) s)
 setup_at old k i accept (Err why) new at h e s =
-    let inside = count-some (is_in_setup i.0) old.workers k.0 (place.Setup i) at (eq-eqb i.0 i.0 refl) in
-    let row = setup_there (slice_get old.stack.instances i.0) (omega (arith, inside, s.setups i.0)) in
+    let row = setup_place old k i s at in
     let t = stack.refused old.stack i in
     subst IsSound (sym (same_all old new t (put old.workers k place.Idle) h.1 e))
     (setup_ends old k i t (λ (r : Instance). record r { phase = phase.Emptying }) row.0 at row.1 row.2 refl refl

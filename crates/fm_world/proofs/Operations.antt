@@ -36,7 +36,7 @@ use Rattle.fm_flow.specs.declared.stage.Stage.{Stage}
 use Rattle.fm_flow.specs.declared.stage.Stage.TheVariants.{Descending, PreRunning, PreHeld, InBase, Ascending, PostRunning, PostHeld, InDrain}
 use Rattle.fm_flow.specs.Record.{FlowRecord}
 use Rattle.fm_flow.specs.Entries.{visited, owed, has_base, settle_pre, settle_post, settle_drain, times}
-use Rattle.fm_flow.specs.Steps.{Turned, next_of, next_at, descend, ascend, call_pre, call_base, call_post, give_post, unwound, unwound_to, may_take, pre_leads, post_leads, pre_returned_of, base_returned_of, post_returned_of, post_state, drain_returned_of, is_done, done_at}
+use Rattle.fm_flow.specs.Steps.{Turned, next_of, next_at, descend, ascend, call_pre, call_base, call_post, give_post, unwound, unwound_to, may_take, pre_leads, post_leads, pre_returned_of, base_returned_of, post_returned_of, post_state, drain_returned_of, base_fits, is_done, done_at, MayLieBelow}
 use Rattle.fm_flow.specs.Sound.{walk, way_of}
 use Rattle.fm_flow.specs.Sound as flow
 use Rattle.fm_flow.specs.Counts.{is_running_drain}
@@ -48,7 +48,7 @@ use Rattle.fm_world.specs.declared.worker.Worker.{Worker}
 use Rattle.fm_world.specs.declared.worker.Worker.TheVariants as place
 use Rattle.fm_world.specs.World.{World}
 use Rattle.fm_world.specs.Workers.{worker_at, put, is_idle, after_next}
-use Rattle.fm_world.specs.Events.{Begins, Nexts, NextsOver, LiesBelow, FindsBelow, PreReturns, PreReturnsAt, BaseReturns, BaseReturnsAt, PostReturns, PostReturnsAt, Collects, answer_fits, returned, state_at, state_given, drains_at, without_context, has_post}
+use Rattle.fm_world.specs.Events.{Begins, Nexts, NextsOver, LiesBelow, FindsBelow, PreReturns, PreReturnsAt, BaseReturns, BaseReturnsAt, PostReturns, PostReturnsAt, Collects, returned, state_at, state_given, drains_at, without_context, has_post}
 use Rattle.fm_world.specs.Headline.{is_stage, stands_at}
 use Rattle.fm_world.specs.Descent.{is_among}
 use Rattle.fm_world.specs.Sound.{IsSound, IsAmong, is_in_setup}
@@ -59,7 +59,7 @@ use Rattle.fm_world.proofs.Descents.{next_unseen, room_is, or_left, or_right}
 use Rattle.fm_world.proofs.Keeps.{unless_cases, idle_there}
 use Rattle.fm_flow.proofs.Soundness.{sound_pre_returned, sound_base_returned, sound_post_returned, sound_drain_returned}
 use Rattle.fm_stack.proofs.Visits.{is_to_visit_few}
-use Rattle.fm_world.proofs.Flows.{flow_begins, flow_changes, flow_collects, sound_next, counted_from, MayVisit}
+use Rattle.fm_world.proofs.Flows.{flow_begins, flow_changes, flow_collects, sound_next, counted_from}
 
 -- operations change, and workers with them
 flow_moves : (w : World) (t : FlowTable) (workers : List Worker) → IsFlow t → All (IsAmong w.stack) t.operations → length workers ≡ 48
@@ -330,7 +330,7 @@ times_unseen i (x ∷ xs) h =
     let here : one (x == i) ≡ 0 = ap one (or_left (x == i) (is_among xs i) h) in
     omega (arith, here, times_unseen i xs (or_right (x == i) (is_among xs i) h))
 
-may_visit : (s : StackWorld) (r : FlowRecord) (lies : Below) → IsAmong s r → LiesBelow s r lies → MayVisit lies r
+pub may_visit : (s : StackWorld) (r : FlowRecord) (lies : Below) → IsAmong s r → LiesBelow s r lies → MayLieBelow lies r.entries
 may_visit s r (below.Instance i is_called) h lies = (
   times_unseen i.0 (visited r.entries) (next_unseen s r.volume r.born r.operation (visited r.entries) i.0 (has_base r.entries) h.descent lies.0),
   room_is s r.volume r.born r.operation (visited r.entries) i.0 h.room lies.0,
@@ -416,10 +416,10 @@ return_keeps old k a o r f at there number collected matches quiet outside sound
     (setups_stay old.workers k a place.Idle at outside (λ i. refl)) s
 
 -- what is told of an operation that is there
-told_there : {A : Type 0} (read : FlowRecord → A) (other : A) (o : OpId) (t : FlowTable) (r : FlowRecord) → operation_at o t ≡ Some r → told read other o t ≡ read r
+pub told_there : {A : Type 0} (read : FlowRecord → A) (other : A) (o : OpId) (t : FlowTable) (r : FlowRecord) → operation_at o t ≡ Some r → told read other o t ≡ read r
 told_there read other o t r h = ap (λ m. unwrap_or (option_map read m) other) h
 
-counted_quiet : (given : PreVerdict) (operation : Operation) (has_post : Bool) → is_running (pre_leads (verdict_counted given operation has_post)) ≡ false
+pub counted_quiet : (given : PreVerdict) (operation : Operation) (has_post : Bool) → is_running (pre_leads (verdict_counted given operation has_post)) ≡ false
 counted_quiet (verdict.WithCallback completion) operation true = refl
 counted_quiet (verdict.WithCallback completion) operation false = refl
 counted_quiet (verdict.Synchronize completion) operation true = refl
@@ -484,13 +484,13 @@ base_at old k call given result new (Some (place.Base o)) at h s =
     let sound = found_holds flow.IsSound (is_number o) old.flow.operations r s.flow.sound there.1 in
     let among = found_holds (IsAmong old.stack) (is_number o) old.flow.operations r s.among there.1 in
     let none = no_base r.stage r.entries sound.course.order (ap (λ x. is_up (way_of x)) stage) in
-    unless_cases status.BadRequest (told (answer_fits call given) false o old.flow) result old new
+    unless_cases status.BadRequest (told (base_fits call given) false o old.flow) result old new
     ((result ≡ Ok tt) × (new ≡ returned old k o (base_returned_of call given))) h
     (λ fits event. subst IsSound (sym event.1)
     (return_keeps old k (place.Base o) o r (base_returned_of call given) at there.1 (λ x. refl) (λ x. refl)
     (subst (Matches o (place.Base o)) (sym stage) (matches_base o)) refl (λ j. refl)
     (let good = and_parts (fit r.operation r.path call) (nat_le (length given.bytes) 32768)
-    (sym (told_there (answer_fits call given) false o old.flow r there.1) ∙ fits) in
+    (sym (told_there (base_fits call given) false o old.flow r there.1) ∙ fits) in
     sound_base_returned call given r stage good.0 (leb-true (length given.bytes) 32768 good.1) sound)
     (among_base old.stack r.volume r.born r.operation r.entries r.stage given.status given.information none (among.base stage) among) s)) s
 base_at old k call given result new (Some place.Idle) at h s = subst IsSound (sym h.1) s

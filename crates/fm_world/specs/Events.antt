@@ -34,7 +34,7 @@ use Rattle.fm_flow.specs.declared.entry.PreState.TheVariants.{Passed}
 use Rattle.fm_flow.specs.declared.stage.Stage.TheVariants.{Descending}
 use Rattle.fm_flow.specs.Record.{FlowRecord}
 use Rattle.fm_flow.specs.Entries.{owed, last_visited}
-use Rattle.fm_flow.specs.Steps.{next_of, pre_returned_of, base_returned_of, post_returned_of, drain_returned_of}
+use Rattle.fm_flow.specs.Steps.{next_of, pre_returned_of, base_returned_of, post_returned_of, drain_returned_of, base_fits}
 use Rattle.fm_flow.specs.Verdict.{verdict_counted}
 use Rattle.fm_flow.specs.Table.{FlowTable, operation_at, changed, told, begun, is_full, collect_reply, collected_of}
 use Rattle.fm_world.specs.declared.step.Begin.{Begin}
@@ -179,13 +179,9 @@ PreReturnsAt old k given lent result new _ = (result ≡ Err status.WrongStep) �
 unfoldable pub PreReturns : World → WorkerId → PreVerdict → Data → Result (Unit {0}) Status → World → Type 0
 PreReturns old k given lent result new = PreReturnsAt old k given lent result new (worker_at old.workers k)
 
--- an answer that may be: the call's parameters are the operation's, and at most 32,768 bytes come back
-abbrev pub answer_fits : Params → Answer → FlowRecord → Bool
-answer_fits call answer r = fit r.operation r.path call && nat_le (length answer.bytes) 32768
-
 abbrev pub BaseReturnsAt : World → WorkerId → Params → Answer → Result (Unit {0}) Status → World → Option Worker → Type 0
 BaseReturnsAt old k call answer result new (Some (place.Base o)) =
-    Unless status.BadRequest (told (answer_fits call answer) false o old.flow) result old new
+    Unless status.BadRequest (told (base_fits call answer) false o old.flow) result old new
     ((result ≡ Ok tt) × (new ≡ returned old k o (base_returned_of call answer)))
 BaseReturnsAt old k call answer result new _ = (result ≡ Err status.WrongStep) × (new ≡ old)
 

@@ -1,0 +1,71 @@
+-- The events on filters, volumes and instances, from what their parts did.
+use Rattle.std.proofs.Common.{◌≡◌, ℕ, Bool, true, false, List, Option, Some, None, Result, Ok, Err, refl, ap, sym, ◌∙◌, subst}
+use Rattle.std.proofs.lemmas.Option.{none-some, same_Some}
+use Rattle.fm_types.specs.declared.ids.FilterId.{FilterId}
+use Rattle.fm_types.specs.declared.ids.VolumeId.{VolumeId}
+use Rattle.fm_types.specs.declared.ids.InstanceId.{InstanceId}
+use Rattle.fm_types.specs.declared.ids.WorkerId.{WorkerId}
+use Rattle.fm_types.specs.declared.status.Status.{Status}
+use Rattle.fm_types.specs.declared.status.Status.TheVariants as status
+use Rattle.fm_stack.specs.declared.instance.Instance.{Instance}
+use Rattle.fm_stack.specs.Instances.{is_setup}
+use Rattle.fm_stack.specs.StackWorld.{StackWorld}
+use Rattle.fm_stack.specs.Events as stack
+use Rattle.fm_world.specs.declared.worker.Worker.{Worker}
+use Rattle.fm_world.specs.declared.worker.Worker.TheVariants as place
+use Rattle.fm_world.specs.World.{World}
+use Rattle.fm_world.specs.Workers.{worker_at, put, is_idle, after_attach}
+use Rattle.fm_world.specs.Events.{Attaches, SetsUp, SetsUpAt, Unless}
+use Rattle.fm_core.specs.Places.{setup_of}
+
+pub attaches : (old : World) (k : WorkerId) (f : FilterId) (v : VolumeId) (name altitude : List ℕ) (result : Result InstanceId Status) (t : StackWorld) (ws : List Worker)
+    → is_idle (worker_at old.workers k) ≡ true → stack.Attaches old.stack f v name altitude result t → ws ≡ after_attach old.workers k result
+    → Attaches old k f v name altitude result (record old { stack = t; workers = ws })
+unfolding Attaches
+attaches old k f v name altitude result t ws idle event workers =
+    let new : World = record old { stack = t; workers = ws } in
+    subst (λ b. Unless status.WrongStep b result old new
+    (stack.Attaches old.stack f v name altitude result t × (new ≡ record old { stack = t; workers = after_attach old.workers k result }))) (sym idle)
+    (event, ap (λ x. record old { stack = t; workers = x }) workers)
+
+pub attach_refused : (old : World) (k : WorkerId) (f : FilterId) (v : VolumeId) (name altitude : List ℕ)
+    → is_idle (worker_at old.workers k) ≡ false → Attaches old k f v name altitude (Err status.WrongStep) old
+unfolding Attaches
+attach_refused old k f v name altitude busy =
+    let result : Result InstanceId Status = Err status.WrongStep in
+    subst (λ b. Unless status.WrongStep b result old old
+    (stack.Attaches old.stack f v name altitude result old.stack × (old ≡ record old { stack = old.stack; workers = after_attach old.workers k result })))
+    (sym busy) (refl, refl)
+
+pub sets_up : (old : World) (k : WorkerId) (i : InstanceId) (accept : Bool) (result : Result (Unit {0}) Status) (t : StackWorld) (ws : List Worker)
+    → worker_at old.workers k ≡ Some (place.Setup i) → stack.SetsUp old.stack i accept result t → ws ≡ put old.workers k place.Idle
+    → SetsUp old k accept result (record old { stack = t; workers = ws })
+unfolding SetsUp
+sets_up old k i accept result t ws at event workers =
+    subst (SetsUpAt old k accept result (record old { stack = t; workers = ws })) (sym at) (event, ap (λ x. record old { stack = t; workers = x }) workers)
+
+-- a place that is the setup callback of an instance, or isn't
+pub setup_is : (m : Option Worker) (i : InstanceId) → setup_of m ≡ Some i → m ≡ Some (place.Setup i)
+setup_is (Some (place.Setup j)) i h = ap (λ x. Some (place.Setup x)) (same_Some j i h)
+setup_is (Some place.Idle) i h = absurd (none-some i h)
+setup_is (Some (place.Pre o j)) i h = absurd (none-some i h)
+setup_is (Some (place.Base o)) i h = absurd (none-some i h)
+setup_is (Some (place.Post o j)) i h = absurd (none-some i h)
+setup_is (Some (place.Drain o j)) i h = absurd (none-some i h)
+setup_is None i h = absurd (none-some i h)
+
+setup_refused_at : (old : World) (k : WorkerId) (accept : Bool) (m : Option Worker) → setup_of m ≡ None → SetsUpAt old k accept (Err status.WrongStep) old m
+setup_refused_at old k accept (Some (place.Setup i)) h = absurd (none-some i (sym h))
+setup_refused_at old k accept (Some place.Idle) h = (refl, refl)
+setup_refused_at old k accept (Some (place.Pre o i)) h = (refl, refl)
+setup_refused_at old k accept (Some (place.Base o)) h = (refl, refl)
+setup_refused_at old k accept (Some (place.Post o i)) h = (refl, refl)
+setup_refused_at old k accept (Some (place.Drain o i)) h = (refl, refl)
+setup_refused_at old k accept None h = (refl, refl)
+
+pub setup_refused : (old : World) (k : WorkerId) (accept : Bool) → setup_of (worker_at old.workers k) ≡ None → SetsUp old k accept (Err status.WrongStep) old
+unfolding SetsUp
+setup_refused old k accept h = setup_refused_at old k accept (worker_at old.workers k) h
+
+pub setup_at : (row : Option Instance) → (x : Instance) × (row ≡ Some x) × (is_setup x.phase ≡ true) → stack.is_setup_at row ≡ true
+setup_at row h = ap stack.is_setup_at h.1 ∙ h.2

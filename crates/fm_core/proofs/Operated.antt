@@ -1,0 +1,422 @@
+-- The events on operations, from what their parts did.
+use Rattle.std.proofs.Common.{◌≡◌, ℕ, zero, suc, ◌<◌, arith, ◌&&◌, Bool, true, false, cond, not, List, [], ◌∷◌, Option, Some, None, Result, Ok, Err, refl, ap, sym, ◌∙◌, subst, inl, inr, ◌⊎◌, nat_le, nat_eq, length}
+use Rattle.std.specs.Prelude.{option_map, unwrap_or, slice_get, is_ok, is_some, IfErr}
+use Rattle.std.proofs.lemmas.Bool.{cases_Bool, false≢true, eq-eqb, and_from, lt-leb, leb-false}
+use Rattle.std.proofs.lemmas.Option.{none-some, same_Some, slice_get_within}
+use Rattle.fm_types.specs.declared.ids.InstanceId.{InstanceId}
+use Rattle.fm_types.specs.declared.ids.OpId.{OpId}
+use Rattle.fm_types.specs.declared.ids.VolumeId.{VolumeId}
+use Rattle.fm_types.specs.declared.ids.WorkerId.{WorkerId}
+use Rattle.fm_types.specs.declared.status.Status.{Status}
+use Rattle.fm_types.specs.declared.status.Status.TheVariants as status
+use Rattle.fm_data.specs.declared.params.Params.{Params}
+use Rattle.fm_data.specs.declared.params.Params.TheVariants as params
+use Rattle.fm_data.specs.declared.answer.Answer.{Answer}
+use Rattle.fm_data.specs.declared.verdict.PreVerdict.{PreVerdict}
+use Rattle.fm_data.specs.declared.verdict.PostVerdict.{PostVerdict}
+use Rattle.fm_data.specs.Data.{Data, data_fits}
+use Rattle.fm_types.specs.Refusals.{first_of, AnswersOrMemory, IsRefusalOrMemory}
+use Rattle.fm_stack.specs.declared.volume.Volume.{Volume}
+use Rattle.fm_stack.specs.declared.volume.VolumePhase.{VolumePhase}
+use Rattle.fm_stack.specs.Events as stack
+use Rattle.fm_flow.specs.declared.action.Below.{Below}
+use Rattle.fm_flow.specs.declared.action.FlowAction.{FlowAction}
+use Rattle.fm_flow.specs.declared.entry.PreState.{PreState}
+use Rattle.fm_flow.specs.declared.entry.PreState.TheVariants as pre
+use Rattle.fm_flow.specs.declared.stage.Stage.{Stage}
+use Rattle.fm_flow.specs.declared.stage.Stage.TheVariants.{PreRunning, InBase, PostRunning, InDrain}
+use Rattle.fm_flow.specs.Record.{FlowRecord}
+use Rattle.fm_flow.specs.Steps.{next_of, pre_returned_of, pre_after, base_returned_of, base_after, base_reply, base_fits, post_returned_of, post_after, data_reply, drain_returned_of, pre_leads, MayLieBelow}
+use Rattle.fm_flow.specs.Sound as flow
+use Rattle.fm_flow.specs.Verdict.{is_counted}
+use Rattle.fm_flow.specs.Table.{FlowTable, operation_at, changed, told, is_number, StandsAt, MayLieBelowOf, is_full, begun, collect_reply, collected_of}
+use Rattle.fm_world.specs.declared.step.Begin.TheVariants as begin
+use Rattle.fm_world.specs.declared.refused.Refused.{Refused}
+use Rattle.fm_world.specs.declared.worker.Worker.{Worker}
+use Rattle.fm_world.specs.declared.worker.Worker.TheVariants as place
+use Rattle.fm_world.specs.World.{World}
+use Rattle.fm_world.specs.Workers.{worker_at, put, is_idle, after_next}
+use Rattle.fm_world.specs.Events.{Begins, begin_refusals, begun_flow, Nexts, NextsOver, FindsBelow, Unless, PreReturns, PreReturnsAt, BaseReturns, BaseReturnsAt, PostReturns, PostReturnsAt, Collects, drains_at, state_at, state_given, without_context, has_post, returned}
+use Rattle.fm_world.specs.Headline.{is_in_at, is_stage}
+use Rattle.fm_world.specs.Sound.{IsSound, IsAmong}
+use Rattle.fm_world.proofs.Tables.{found_holds, change_agrees, change_same}
+use Rattle.fm_world.proofs.Ties.{tied_there, stage_pre, stage_base, stage_post, stage_drain}
+use Rattle.fm_world.proofs.Flows.{counted_from}
+use Rattle.fm_world.proofs.Operations.{may_visit, counted_quiet, told_there}
+use Rattle.fm_core.specs.Ahead.{IsDownOrCall}
+use Rattle.fm_core.specs.Places.{pre_of, base_of, post_of, drain_of}
+use Rattle.fm_core.specs.Returned.{after_return, strange, strange_data, status_of}
+
+-- ---- next
+
+next_requires_at : (old : World) (o : OpId) (lies : Below) (m : Option FlowRecord) → operation_at o old.flow ≡ m → IsSound old
+    → FindsBelow old.stack m lies → IsDownOrCall m lies → MayLieBelowOf lies m
+next_requires_at old o lies None at s finds down = tt
+next_requires_at old o lies (Some r) at s finds down =
+    elim down [
+      | inl e ↦ may_visit old.stack r lies (found_holds (IsAmong old.stack) (is_number o) old.flow.operations r s.among at) (finds e)
+      | inr e ↦ subst (λ b. MayLieBelow b r.entries) (sym e) tt
+    ]
+
+pub next_requires : (old : World) (o : OpId) (lies : Below) → IsSound old → FindsBelow old.stack (operation_at o old.flow) lies
+    → IsDownOrCall (operation_at o old.flow) lies → MayLieBelowOf lies (operation_at o old.flow)
+next_requires old o lies s finds down = next_requires_at old o lies (operation_at o old.flow) refl s finds down
+
+pub nexts : (old : World) (k : WorkerId) (o : OpId) (lies : Below) (drains : Bool) (result : Result FlowAction Status) (t : FlowTable) (ws : List Worker)
+    → is_idle (worker_at old.workers k) ≡ true → FindsBelow old.stack (operation_at o old.flow) lies → drains ≡ drains_at old o
+    → result ≡ told (λ r. (next_of k lies drains r).reply) (Err status.WrongStep) o old.flow
+    → t ≡ changed o (λ r. (next_of k lies drains r).after) old.flow → ws ≡ after_next old.workers k o result
+    → Nexts old k o result (record old { flow = t; workers = ws })
+unfolding Nexts
+nexts old k o lies drains result t ws idle finds same reply after workers =
+    let new : World = record old { flow = t; workers = ws } in
+    let answers = subst (λ d. result ≡ told (λ r. (next_of k lies d r).reply) (Err status.WrongStep) o old.flow) same reply in
+    let leads = subst (λ d. t ≡ changed o (λ r. (next_of k lies d r).after) old.flow) same after in
+    let whole : new ≡ record old { flow = changed o (λ r. (next_of k lies (drains_at old o) r).after) old.flow; workers = after_next old.workers k o result } =
+    ap (λ x. record old { flow = x; workers = ws }) leads
+    ∙ ap (λ x. record old { flow = changed o (λ r. (next_of k lies (drains_at old o) r).after) old.flow; workers = x }) workers in
+    subst (λ b. Unless status.WrongStep b result old new
+    ((lies : Below) × FindsBelow old.stack (operation_at o old.flow) lies × NextsOver old k o lies result new)) (sym idle)
+    (lies, finds, (answers, whole))
+
+pub next_refused : (old : World) (k : WorkerId) (o : OpId) → is_idle (worker_at old.workers k) ≡ false → Nexts old k o (Err status.WrongStep) old
+unfolding Nexts
+next_refused old k o busy =
+    let result : Result FlowAction Status = Err status.WrongStep in
+    subst (λ b. Unless status.WrongStep b result old old
+    ((lies : Below) × FindsBelow old.stack (operation_at o old.flow) lies × NextsOver old k o lies result old)) (sym busy) (refl, refl)
+
+-- ---- where the worker is
+
+pub pre_is : (m : Option Worker) (p : OpId × InstanceId) → pre_of m ≡ Some p → m ≡ Some (place.Pre p.0 p.1)
+pre_is (Some (place.Pre o i)) p h = ap (λ x. Some (place.Pre x.0 x.1)) (same_Some (o, i) p h)
+pre_is (Some place.Idle) p h = absurd (none-some p h)
+pre_is (Some (place.Setup i)) p h = absurd (none-some p h)
+pre_is (Some (place.Base o)) p h = absurd (none-some p h)
+pre_is (Some (place.Post o i)) p h = absurd (none-some p h)
+pre_is (Some (place.Drain o i)) p h = absurd (none-some p h)
+pre_is None p h = absurd (none-some p h)
+
+pub base_is : (m : Option Worker) (o : OpId) → base_of m ≡ Some o → m ≡ Some (place.Base o)
+base_is (Some (place.Base o)) p h = ap (λ x. Some (place.Base x)) (same_Some o p h)
+base_is (Some place.Idle) p h = absurd (none-some p h)
+base_is (Some (place.Setup i)) p h = absurd (none-some p h)
+base_is (Some (place.Pre o i)) p h = absurd (none-some p h)
+base_is (Some (place.Post o i)) p h = absurd (none-some p h)
+base_is (Some (place.Drain o i)) p h = absurd (none-some p h)
+base_is None p h = absurd (none-some p h)
+
+pub post_is : (m : Option Worker) (p : OpId × InstanceId) → post_of m ≡ Some p → m ≡ Some (place.Post p.0 p.1)
+post_is (Some (place.Post o i)) p h = ap (λ x. Some (place.Post x.0 x.1)) (same_Some (o, i) p h)
+post_is (Some place.Idle) p h = absurd (none-some p h)
+post_is (Some (place.Setup i)) p h = absurd (none-some p h)
+post_is (Some (place.Base o)) p h = absurd (none-some p h)
+post_is (Some (place.Pre o i)) p h = absurd (none-some p h)
+post_is (Some (place.Drain o i)) p h = absurd (none-some p h)
+post_is None p h = absurd (none-some p h)
+
+pub drain_is : (m : Option Worker) (p : OpId × InstanceId) → drain_of m ≡ Some p → m ≡ Some (place.Drain p.0 p.1)
+drain_is (Some (place.Drain o i)) p h = ap (λ x. Some (place.Drain x.0 x.1)) (same_Some (o, i) p h)
+drain_is (Some place.Idle) p h = absurd (none-some p h)
+drain_is (Some (place.Setup i)) p h = absurd (none-some p h)
+drain_is (Some (place.Base o)) p h = absurd (none-some p h)
+drain_is (Some (place.Pre o i)) p h = absurd (none-some p h)
+drain_is (Some (place.Post o i)) p h = absurd (none-some p h)
+drain_is None p h = absurd (none-some p h)
+
+-- the operation that a worker is inside of stands so
+stands_in : (old : World) (k : WorkerId) (a : Worker) (o : OpId) (s : Stage) (wanted : Stage) → IsSound old → worker_at old.workers k ≡ Some a
+    → is_in_at o s a ≡ true → ((x : Stage) → is_stage s x ≡ true → x ≡ wanted)
+    → (r : FlowRecord) × (operation_at o old.flow ≡ Some r) × (r.stage ≡ wanted)
+stands_in old k a o s wanted sound at inside is =
+    let there = tied_there old.workers old.flow k a o s sound.workers at inside in
+    (there.0, there.1, is there.0.stage there.2)
+
+pub in_pre : (old : World) (k : WorkerId) (o : OpId) (i : InstanceId) → IsSound old → worker_at old.workers k ≡ Some (place.Pre o i)
+    → (r : FlowRecord) × (operation_at o old.flow ≡ Some r) × (r.stage ≡ PreRunning)
+in_pre old k o i s at = stands_in old k (place.Pre o i) o PreRunning PreRunning s at (eq-eqb o.0 o.0 refl) stage_pre
+
+pub in_base : (old : World) (k : WorkerId) (o : OpId) → IsSound old → worker_at old.workers k ≡ Some (place.Base o)
+    → (r : FlowRecord) × (operation_at o old.flow ≡ Some r) × (r.stage ≡ InBase)
+in_base old k o s at = stands_in old k (place.Base o) o InBase InBase s at (eq-eqb o.0 o.0 refl) stage_base
+
+pub in_post : (old : World) (k : WorkerId) (o : OpId) (i : InstanceId) → IsSound old → worker_at old.workers k ≡ Some (place.Post o i)
+    → (r : FlowRecord) × (operation_at o old.flow ≡ Some r) × (r.stage ≡ PostRunning)
+in_post old k o i s at = stands_in old k (place.Post o i) o PostRunning PostRunning s at (eq-eqb o.0 o.0 refl) stage_post
+
+pub in_drain : (old : World) (k : WorkerId) (o : OpId) (i : InstanceId) → IsSound old → worker_at old.workers k ≡ Some (place.Drain o i)
+    → (r : FlowRecord) × (operation_at o old.flow ≡ Some r) × (r.stage ≡ InDrain i)
+in_drain old k o i s at = stands_in old k (place.Drain o i) o (InDrain i) (InDrain i) s at
+    (and_from (nat_eq o.0 o.0) (nat_eq i.0 i.0) (eq-eqb o.0 o.0 refl) (eq-eqb i.0 i.0 refl)) (stage_drain i)
+
+pub stands_from : (o : OpId) (t : FlowTable) (wanted : Stage) → (r : FlowRecord) × (operation_at o t ≡ Some r) × (r.stage ≡ wanted) → StandsAt wanted (operation_at o t)
+stands_from o t wanted h = subst (StandsAt wanted) (sym h.1) h.2
+
+pub state_counted : (old : World) (o : OpId) (i : InstanceId) (given : PreVerdict) → (r : FlowRecord) × (operation_at o old.flow ≡ Some r) × (r.stage ≡ PreRunning)
+    → is_counted (state_at old o i given) ≡ true
+state_counted old o i given h =
+    ap is_counted (told_there (state_given old.stack i given) pre.Passed o old.flow h.0 h.1)
+    ∙ counted_from (state_given old.stack i given h.0)
+    (counted_quiet (without_context given) h.0.operation (has_post old.stack (slice_get old.stack.instances i.0) h.0.operation))
+
+-- ---- something comes back: what fits is taken, what is strange is refused
+
+-- a change that a test of the operation guards
+guarded : (t : FlowTable) (o : OpId) (r : FlowRecord) (fits : FlowRecord → Bool) (step : FlowRecord → FlowRecord) (b : Bool) → operation_at o t ≡ Some r → fits r ≡ b
+    → changed o (λ x. cond (fits x) (step x) x) t ≡ cond b (changed o step t) t
+guarded t o r fits step true at e =
+    ap (λ rs. record t { operations = rs })
+    (change_agrees (is_number o) (λ x. cond (fits x) (step x) x) step t.operations
+    (λ x h. ap (λ c. cond c (step x) x) (ap fits (same_Some x r (sym h ∙ at)) ∙ e)))
+guarded t o r fits step false at e =
+    ap (λ rs. record t { operations = rs })
+    (change_same (is_number o) (λ x. cond (fits x) (step x) x) t.operations
+    (λ x h. ap (λ c. cond c (step x) x) (ap fits (same_Some x r (sym h ∙ at)) ∙ e)))
+
+-- the event, whichever it is
+comes_back : {T : Type 0} (old : World) (k : WorkerId) (o : OpId) (r : FlowRecord) (fits : FlowRecord → Bool) (step : FlowRecord → FlowRecord) (lent : T)
+    (answer : Result (Unit {0}) T) (t : FlowTable) (ws : List Worker) → operation_at o old.flow ≡ Some r
+    → answer ≡ told (λ x. cond (fits x) (Ok tt) (Err lent)) (Err lent) o old.flow → t ≡ changed o (λ x. cond (fits x) (step x) x) old.flow
+    → ws ≡ after_return old.workers k (is_ok answer) → (b : Bool) → fits r ≡ b
+    → Unless status.BadRequest b (status_of (strange answer)) old (record old { flow = t; workers = ws })
+    ((status_of (strange answer) ≡ Ok tt) × (◌≡◌ {A = World} (record old { flow = t; workers = ws }) (returned old k o step)))
+comes_back old k o r fits step lent answer t ws at reply after workers true e =
+    let taken : answer ≡ Ok tt = reply ∙ told_there (λ x. cond (fits x) (Ok tt) (Err lent)) (Err lent) o old.flow r at ∙ ap (λ c. cond c (Ok tt) (Err lent)) e in (
+      ap (λ x. status_of (strange x)) taken,
+      ap (λ x. record old { flow = x; workers = ws }) (after ∙ guarded old.flow o r fits step true at e)
+          ∙ ap (λ x. record old { flow = changed o step old.flow; workers = x }) (workers ∙ ap (λ x. after_return old.workers k (is_ok x)) taken),
+    )
+comes_back old k o r fits step lent answer t ws at reply after workers false e =
+    let back : answer ≡ Err lent = reply ∙ told_there (λ x. cond (fits x) (Ok tt) (Err lent)) (Err lent) o old.flow r at ∙ ap (λ c. cond c (Ok tt) (Err lent)) e in (
+      ap (λ x. status_of (strange x)) back,
+      ap (λ x. record old { flow = x; workers = ws }) (after ∙ guarded old.flow o r fits step false at e)
+          ∙ ap (λ x. record old { workers = x }) (workers ∙ ap (λ x. after_return old.workers k (is_ok x)) back),
+    )
+
+-- the same under the event's own test
+pub comes_back_at : {T : Type 0} (old : World) (k : WorkerId) (o : OpId) (fits : FlowRecord → Bool) (step : FlowRecord → FlowRecord) (lent : T)
+    (answer : Result (Unit {0}) T) (t : FlowTable) (ws : List Worker) → (r : FlowRecord) × (operation_at o old.flow ≡ Some r)
+    → answer ≡ told (λ x. cond (fits x) (Ok tt) (Err lent)) (Err lent) o old.flow → t ≡ changed o (λ x. cond (fits x) (step x) x) old.flow
+    → ws ≡ after_return old.workers k (is_ok answer)
+    → Unless status.BadRequest (told fits false o old.flow) (status_of (strange answer)) old (record old { flow = t; workers = ws })
+    ((status_of (strange answer) ≡ Ok tt) × (◌≡◌ {A = World} (record old { flow = t; workers = ws }) (returned old k o step)))
+comes_back_at old k o fits step lent answer t ws there reply after workers =
+    comes_back old k o there.0 fits step lent answer t ws there.1 reply after workers (told fits false o old.flow)
+    (sym (told_there fits false o old.flow there.0 there.1))
+
+-- what is refused comes back
+cond_back : {T : Type 0} (lent : T) (b : Bool) (answer : Result (Unit {0}) T) → answer ≡ cond b (Ok tt) (Err lent) → IfErr answer (λ x. x ≡ lent)
+cond_back lent true answer e = subst (λ a. IfErr a (λ x. x ≡ lent)) (sym e) tt
+cond_back lent false answer e = subst (λ a. IfErr a (λ x. x ≡ lent)) (sym e) refl
+
+told_back : {T : Type 0} (fits : FlowRecord → Bool) (lent : T) (answer : Result (Unit {0}) T) (m : Option FlowRecord)
+    → answer ≡ unwrap_or (option_map (λ x. cond (fits x) (Ok tt) (Err lent)) m) (Err lent) → IfErr answer (λ x. x ≡ lent)
+told_back fits lent answer None e = subst (λ a. IfErr a (λ x. x ≡ lent)) (sym e) refl
+told_back fits lent answer (Some r) e = cond_back lent (fits r) answer e
+
+pub back_at : {T : Type 0} (o : OpId) (fits : FlowRecord → Bool) (lent : T) (answer : Result (Unit {0}) T) (t : FlowTable)
+    → answer ≡ told (λ x. cond (fits x) (Ok tt) (Err lent)) (Err lent) o t → IfErr answer (λ x. x ≡ lent)
+back_at o fits lent answer t reply = told_back fits lent answer (operation_at o t) reply
+
+pub strange_back : {T : Type 0} (answer : Result (Unit {0}) T) (lent : T) → IfErr answer (λ x. x ≡ lent) → IfErr (strange answer) (λ (r : Refused T). r.handed_back ≡ lent)
+strange_back (Ok done) lent h = tt
+strange_back (Err x) lent h = h
+
+pub strange_data_back : (answer : Result (Unit {0}) Data) (lent : Data) → IfErr answer (λ x. x ≡ lent)
+    → IfErr (strange_data answer) (λ (r : Refused (Option Data)). r.handed_back ≡ Some lent)
+strange_data_back (Ok done) lent h = tt
+strange_data_back (Err x) lent h = ap Some h
+
+same_status : (answer : Result (Unit {0}) Data) → status_of (strange answer) ≡ status_of (strange_data answer)
+same_status (Ok done) = refl
+same_status (Err x) = refl
+
+pub pre_returns : (old : World) (k : WorkerId) (o : OpId) (i : InstanceId) (given : PreVerdict) (lent : Data) (state : PreState) (answer : Result (Unit {0}) Data) (t : FlowTable)
+    (ws : List Worker) → worker_at old.workers k ≡ Some (place.Pre o i) → IsSound old → state ≡ state_at old o i given
+    → answer ≡ told (data_reply lent) (Err lent) o old.flow → t ≡ changed o (pre_after state lent) old.flow → ws ≡ after_return old.workers k (is_ok answer)
+    → PreReturns old k given lent (status_of (strange answer)) (record old { flow = t; workers = ws })
+unfolding PreReturns
+pre_returns old k o i given lent state answer t ws at s same reply after workers =
+    let there = in_pre old k o i s at in
+    subst (PreReturnsAt old k given lent (status_of (strange answer)) (record old { flow = t; workers = ws })) (sym at)
+    (comes_back_at old k o (λ x. data_fits x.operation x.path lent) (pre_returned_of (state_at old o i given) lent) lent answer t ws (there.0, there.1) reply
+    (subst (λ x. t ≡ changed o (pre_after x lent) old.flow) same after) workers)
+
+pub pre_refused : (old : World) (k : WorkerId) (given : PreVerdict) (lent : Data) → pre_of (worker_at old.workers k) ≡ None → PreReturns old k given lent (Err status.WrongStep) old
+unfolding PreReturns
+pre_refused old k given lent h = refused_at (worker_at old.workers k) h
+  where
+    refused_at : (m : Option Worker) → pre_of m ≡ None → PreReturnsAt old k given lent (Err status.WrongStep) old m
+    refused_at (Some (place.Pre o i)) h = absurd (none-some (o, i) (sym h))
+    refused_at (Some place.Idle) h = (refl, refl)
+    refused_at (Some (place.Setup i)) h = (refl, refl)
+    refused_at (Some (place.Base o)) h = (refl, refl)
+    refused_at (Some (place.Post o i)) h = (refl, refl)
+    refused_at (Some (place.Drain o i)) h = (refl, refl)
+    refused_at None h = (refl, refl)
+
+pub base_returns : (old : World) (k : WorkerId) (o : OpId) (call : Params) (given : Answer) (answer : Result (Unit {0}) (Params × Answer)) (t : FlowTable) (ws : List Worker)
+    → worker_at old.workers k ≡ Some (place.Base o) → IsSound old → answer ≡ told (base_reply call given) (Err (call, given)) o old.flow
+    → t ≡ changed o (base_after call given) old.flow → ws ≡ after_return old.workers k (is_ok answer)
+    → BaseReturns old k call given (status_of (strange answer)) (record old { flow = t; workers = ws })
+unfolding BaseReturns
+base_returns old k o call given answer t ws at s reply after workers =
+    let there = in_base old k o s at in
+    subst (BaseReturnsAt old k call given (status_of (strange answer)) (record old { flow = t; workers = ws })) (sym at)
+    (comes_back_at old k o (base_fits call given) (base_returned_of call given) (call, given) answer t ws (there.0, there.1) reply after workers)
+
+pub base_refused : (old : World) (k : WorkerId) (call : Params) (given : Answer) → base_of (worker_at old.workers k) ≡ None → BaseReturns old k call given (Err status.WrongStep) old
+unfolding BaseReturns
+base_refused old k call given h = refused_at (worker_at old.workers k) h
+  where
+    refused_at : (m : Option Worker) → base_of m ≡ None → BaseReturnsAt old k call given (Err status.WrongStep) old m
+    refused_at (Some (place.Base o)) h = absurd (none-some o (sym h))
+    refused_at (Some place.Idle) h = (refl, refl)
+    refused_at (Some (place.Setup i)) h = (refl, refl)
+    refused_at (Some (place.Pre o i)) h = (refl, refl)
+    refused_at (Some (place.Post o i)) h = (refl, refl)
+    refused_at (Some (place.Drain o i)) h = (refl, refl)
+    refused_at None h = (refl, refl)
+
+pub post_returns : (old : World) (k : WorkerId) (o : OpId) (i : InstanceId) (given : PostVerdict) (lent : Data) (answer : Result (Unit {0}) Data) (t : FlowTable) (ws : List Worker)
+    → worker_at old.workers k ≡ Some (place.Post o i) → IsSound old → answer ≡ told (data_reply lent) (Err lent) o old.flow
+    → t ≡ changed o (post_after given lent) old.flow → ws ≡ after_return old.workers k (is_ok answer)
+    → PostReturns old k given (Some lent) (status_of (strange_data answer)) (record old { flow = t; workers = ws })
+unfolding PostReturns
+post_returns old k o i given lent answer t ws at s reply after workers =
+    let there = in_post old k o i s at in
+    let new : World = record old { flow = t; workers = ws } in
+    subst (λ x. PostReturnsAt old k given (Some lent) x new (worker_at old.workers k)) (same_status answer)
+    (subst (PostReturnsAt old k given (Some lent) (status_of (strange answer)) new) (sym at)
+    (comes_back_at old k o (λ x. data_fits x.operation x.path lent) (post_returned_of given lent) lent answer t ws (there.0, there.1) reply after workers))
+
+pub drain_returns : (old : World) (k : WorkerId) (o : OpId) (i : InstanceId) (given : PostVerdict) (t : FlowTable) (ws : List Worker)
+    → worker_at old.workers k ≡ Some (place.Drain o i) → t ≡ changed o (drain_returned_of i) old.flow → ws ≡ put old.workers k place.Idle
+    → PostReturns old k given None (Ok tt) (record old { flow = t; workers = ws })
+unfolding PostReturns
+drain_returns old k o i given t ws at after workers =
+    subst (PostReturnsAt old k given None (Ok tt) (record old { flow = t; workers = ws })) (sym at)
+    (refl, ap (λ x. record old { flow = x; workers = ws }) after ∙ ap (λ x. record old { flow = changed o (drain_returned_of i) old.flow; workers = x }) workers)
+
+-- the refusals of a postoperation's return
+pub post_lacks : (old : World) (k : WorkerId) (given : PostVerdict) (p : OpId × InstanceId) → post_of (worker_at old.workers k) ≡ Some p
+    → PostReturns old k given None (Err status.BadRequest) old
+unfolding PostReturns
+post_lacks old k given p h =
+    subst (PostReturnsAt old k given None (Err status.BadRequest) old) (sym (post_is (worker_at old.workers k) p h)) (refl, refl)
+
+pub drain_brings : (old : World) (k : WorkerId) (given : PostVerdict) (lent : Option Data) (p : OpId × InstanceId) → drain_of (worker_at old.workers k) ≡ Some p
+    → is_some lent ≡ true → PostReturns old k given lent (Err status.BadRequest) old
+unfolding PostReturns
+drain_brings old k given None p h some = absurd (false≢true some)
+drain_brings old k given (Some lent) p h some =
+    subst (PostReturnsAt old k given (Some lent) (Err status.BadRequest) old) (sym (drain_is (worker_at old.workers k) p h)) (refl, refl)
+
+pub post_refused : (old : World) (k : WorkerId) (given : PostVerdict) (lent : Option Data) → post_of (worker_at old.workers k) ≡ None
+    → drain_of (worker_at old.workers k) ≡ None → PostReturns old k given lent (Err status.WrongStep) old
+unfolding PostReturns
+post_refused old k given lent h d = refused_at lent (worker_at old.workers k) h d
+  where
+    refused_at : (lent : Option Data) (m : Option Worker) → post_of m ≡ None → drain_of m ≡ None → PostReturnsAt old k given lent (Err status.WrongStep) old m
+    refused_at lent (Some (place.Post o i)) h d = absurd (none-some (o, i) (sym h))
+    refused_at lent (Some (place.Drain o i)) h d = absurd (none-some (o, i) (sym d))
+    refused_at None (Some place.Idle) h d = (refl, refl)
+    refused_at None (Some (place.Setup i)) h d = (refl, refl)
+    refused_at None (Some (place.Pre o i)) h d = (refl, refl)
+    refused_at None (Some (place.Base o)) h d = (refl, refl)
+    refused_at None None h d = (refl, refl)
+    refused_at (Some lent) (Some place.Idle) h d = (refl, refl)
+    refused_at (Some lent) (Some (place.Setup i)) h d = (refl, refl)
+    refused_at (Some lent) (Some (place.Pre o i)) h d = (refl, refl)
+    refused_at (Some lent) (Some (place.Base o)) h d = (refl, refl)
+    refused_at (Some lent) None h d = (refl, refl)
+
+-- ---- begin
+
+pub begins : (old : World) (v : VolumeId) (result : Result OpId Status) (t : FlowTable) → stack.is_mounted (slice_get old.stack.volumes v.0) ≡ true
+    → AnswersOrMemory (first_of ((is_full old.flow, status.TooMany) ∷ [])) result old.flow t
+    (λ (o : OpId). (o.0 ≡ old.flow.next) × (t ≡ begun v None None old.stack.births params.List old.flow))
+    → Begins old (begin.List v) result (record old { flow = t })
+unfolding Begins
+begins old v result t mounted h =
+    let there : nat_le (length old.stack.volumes) v.0 ≡ false = lt-leb_there (slice_get old.stack.volumes v.0) refl mounted in
+    let same : first_of (begin_refusals old (begin.List v)) ≡ first_of ((is_full old.flow, status.TooMany) ∷ []) =
+    ap (λ b. cond b (Some status.NoVolume) (cond (not (stack.is_mounted (slice_get old.stack.volumes v.0))) (Some status.Dismounting) (first_of ((is_full old.flow, status.TooMany) ∷ [])))) there
+    ∙ ap (λ b. cond (not b) (Some status.Dismounting) (first_of ((is_full old.flow, status.TooMany) ∷ []))) mounted in
+    begun_with (first_of (begin_refusals old (begin.List v))) (first_of ((is_full old.flow, status.TooMany) ∷ [])) same result h
+  where
+    lt-leb_there : (m : Option Volume) → slice_get old.stack.volumes v.0 ≡ m → stack.is_mounted m ≡ true → nat_le (length old.stack.volumes) v.0 ≡ false
+    lt-leb_there None e h = absurd (false≢true h)
+    lt-leb_there (Some x) e h = lt-leb (length old.stack.volumes) v.0 (slice_get_within old.stack.volumes v.0 x e)
+
+    begun_with : (a b : Option Status) → a ≡ b → (result : Result OpId Status)
+        → AnswersOrMemory b result old.flow t (λ (o : OpId). (o.0 ≡ old.flow.next) × (t ≡ begun v None None old.stack.births params.List old.flow))
+        → AnswersOrMemory a result old (record old { flow = t })
+        (λ (o : OpId). (o.0 ≡ old.flow.next) × (◌≡◌ {A = World} (record old { flow = t }) (record old { flow = begun_flow old (begin.List v) })))
+    begun_with a b e (Ok o) h = (e ∙ h.0, (h.1.0, ap (λ x. record old { flow = x }) h.1.1))
+    begun_with a b e (Err why) h = (subst (λ x. IsRefusalOrMemory x why) (sym e) h.0, ap (λ x. record old { flow = x }) h.1)
+
+found : (xs : List Volume) (k : ℕ) → k < length xs → (x : Volume) × (slice_get xs k ≡ Some x)
+found [] k l = absurd (omega arith)
+found (x ∷ xs) zero l = (x, refl)
+found (x ∷ xs) (suc k) l = found xs k (omega arith)
+
+pub begin_lacks : (old : World) (v : VolumeId) → slice_get old.stack.volumes v.0 ≡ None → Begins old (begin.List v) (Err status.NoVolume) old
+unfolding Begins
+begin_lacks old v h =
+    let past : nat_le (length old.stack.volumes) v.0 ≡ true = le_from (cases_Bool (nat_le (length old.stack.volumes) v.0)) in (
+      subst (λ b. IsRefusalOrMemory (cond b (Some status.NoVolume) (cond (not (stack.is_mounted (slice_get old.stack.volumes v.0))) (Some status.Dismounting)
+          (first_of ((is_full old.flow, status.TooMany) ∷ [])))) status.NoVolume) (sym past) refl,
+      refl,
+    )
+  where
+    le_from : (nat_le (length old.stack.volumes) v.0 ≡ true) ⊎ (nat_le (length old.stack.volumes) v.0 ≡ false) → nat_le (length old.stack.volumes) v.0 ≡ true
+    le_from (inl e) = e
+    le_from (inr e) =
+        let l = leb-false (length old.stack.volumes) v.0 e in
+        let there = found old.stack.volumes v.0 l in
+        absurd (none-some there.0 (sym h ∙ there.1))
+
+-- the same, from the volume's phase
+pub phase_lacks : (old : World) (v : VolumeId) → option_map (λ (x : Volume). x.phase) (slice_get old.stack.volumes v.0) ≡ None
+    → Begins old (begin.List v) (Err status.NoVolume) old
+phase_lacks old v h = begin_lacks old v (no_phase (slice_get old.stack.volumes v.0) h)
+  where
+    no_phase : (m : Option Volume) → option_map (λ (x : Volume). x.phase) m ≡ None → m ≡ None
+    no_phase None h = refl
+    no_phase (Some x) h = absurd (none-some x.phase (sym h))
+
+pub begin_dismounts : (old : World) (v : VolumeId) (x : Volume) → slice_get old.stack.volumes v.0 ≡ Some x → stack.is_mounted_phase x.phase ≡ false
+    → Begins old (begin.List v) (Err status.Dismounting) old
+unfolding Begins
+begin_dismounts old v x h phase =
+    let there : nat_le (length old.stack.volumes) v.0 ≡ false = lt-leb (length old.stack.volumes) v.0 (slice_get_within old.stack.volumes v.0 x h) in
+    let mounted : stack.is_mounted (slice_get old.stack.volumes v.0) ≡ false = ap stack.is_mounted h ∙ phase in
+    let which : first_of (begin_refusals old (begin.List v)) ≡ Some status.Dismounting =
+    ap (λ b. cond b (Some status.NoVolume) (cond (not (stack.is_mounted (slice_get old.stack.volumes v.0))) (Some status.Dismounting) (first_of ((is_full old.flow, status.TooMany) ∷ [])))) there
+    ∙ ap (λ b. cond (not b) (Some status.Dismounting) (first_of ((is_full old.flow, status.TooMany) ∷ []))) mounted in
+    (subst (λ m. IsRefusalOrMemory m status.Dismounting) (sym which) refl, refl)
+
+-- ---- collect
+
+pub collects : (old : World) (o : OpId) (result : Result Answer Status) (t : FlowTable) → result ≡ told collect_reply (Err status.WrongStep) o old.flow
+    → t ≡ collected_of o old.flow → Collects old o result (record old { flow = t })
+unfolding Collects
+collects old o result t reply after = (reply, ap (λ x. record old { flow = x }) after)
+
+pub phase_dismounts : (old : World) (v : VolumeId) (p : VolumePhase) → option_map (λ (x : Volume). x.phase) (slice_get old.stack.volumes v.0) ≡ Some p
+    → stack.is_mounted_phase p ≡ false → Begins old (begin.List v) (Err status.Dismounting) old
+phase_dismounts old v p h other = some_phase (slice_get old.stack.volumes v.0) refl h
+  where
+    some_phase : (m : Option Volume) → slice_get old.stack.volumes v.0 ≡ m → option_map (λ (x : Volume). x.phase) m ≡ Some p
+        → Begins old (begin.List v) (Err status.Dismounting) old
+    some_phase None e h = absurd (none-some p h)
+    some_phase (Some x) e h = begin_dismounts old v x e (ap stack.is_mounted_phase (same_Some x.phase p h) ∙ other)
+
+pub phase_mounted : (old : World) (v : VolumeId) (p : VolumePhase) → option_map (λ (x : Volume). x.phase) (slice_get old.stack.volumes v.0) ≡ Some p
+    → stack.is_mounted_phase p ≡ true → stack.is_mounted (slice_get old.stack.volumes v.0) ≡ true
+phase_mounted old v p h mounted = some_phase (slice_get old.stack.volumes v.0) h
+  where
+    some_phase : (m : Option Volume) → option_map (λ (x : Volume). x.phase) m ≡ Some p → stack.is_mounted m ≡ true
+    some_phase None h = absurd (none-some p h)
+    some_phase (Some x) h = ap stack.is_mounted_phase (same_Some x.phase p h) ∙ mounted

@@ -1,0 +1,3 @@
+pub mod Places
+pub mod Returned
+pub mod Ahead

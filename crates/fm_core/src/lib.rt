@@ -1,0 +1,21 @@
+//! The manager's state, and each event as one call on it.
+//!
+//! A call of `State` is one critical section: callbacks and base calls run between calls, played by the caller. What each call answers and changes is
+//! said by a relation of `fm_world` (its `specs/Events`), and every State keeps the Headline (`specs/Headline` there): `State::headline` says so.
+#![tactic(auto)]
+
+mod ahead;
+mod instances;
+mod operations;
+mod place;
+mod readers;
+mod returned;
+mod state;
+mod workers;
+
+pub use crate::state::State;
+pub use fm_flow::{
+    Ask, DrainVisit, Entry, FlowAction as Action, PostState, PostVisit, PreState, PreVisit, Stage,
+};
+pub use fm_stack::{FilterPhase, Phase};
+pub use fm_world::{Begin, Refused, Step, StepReply, Worker};

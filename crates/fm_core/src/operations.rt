@@ -1,0 +1,200 @@
+//! Events on operations.
+
+ghost use Rattle.std.specs.Prelude.{◌≡◌, IfErr, Some, None, Ok, true, slice_get};
+ghost use Rattle.fm_stack.specs.Events.{is_mounted, is_mounted_phase};
+ghost use Rattle.fm_world.specs.Workers.{worker_at};
+ghost use Rattle.fm_core.specs.Places.{post_of, drain_of};
+ghost use Rattle.fm_world.specs.Events.{Begins, Nexts, PreReturns, BaseReturns, PostReturns, Collects};
+ghost use Rattle.fm_core.specs.Returned.{status_of};
+
+use crate::ahead::{drains_next, lies_below, state_given};
+use crate::place::{base_of, drain_of, post_of, pre_of};
+use crate::returned::{answer_strange, answer_strange_data, note_return};
+use crate::state::State;
+use crate::workers::{note_next, put};
+use fm_data::{Answer, CallbackData, Params, PostVerdict, PreVerdict};
+use fm_flow::FlowAction;
+use fm_stack::VolumePhase;
+use fm_types::{InstanceId, OpId, Status, VolumeId, WorkerId};
+use fm_world::{Begin, Refused, Worker};
+
+/// Whether a volume in that phase is in use.
+fn is_mounted(phase: VolumePhase) -> bool
+    ensures { result ≡ is_mounted_phase phase }
+{
+    matches!(phase, VolumePhase::Mounted)
+}
+
+impl State {
+    /// Begins an operation, and takes all memory that it will ever need. It visits the instances that are attached now. Refused, nothing changed: 7
+    /// where the volume isn't there, 33 where it is dismounting, 29 at 256 operations that weren't collected or past 2^64 - 1 operations of a run, 1.
+    pub fn begin(&mut self, what: Begin) -> Result<OpId, Status>
+        ensures { Begins self.old what result self.new }
+    {
+        match what {
+            Begin::List { volume } => self.begin_list(volume),
+        }
+    }
+
+    /// Begins a listing.
+    fn begin_list(&mut self, volume: VolumeId) -> Result<OpId, Status>
+        ensures { Begins self.old (Begin.List volume) result self.new }
+    {
+        let Some(phase) = self.stack.volume_phase(volume) else {
+            return Err(Status::NoVolume);
+        };
+        if !is_mounted(phase) {
+            return Err(Status::Dismounting);
+        }
+        self.begin_mounted(volume)
+    }
+
+    /// Begins a listing of a volume that is there and in use.
+    fn begin_mounted(&mut self, volume: VolumeId) -> Result<OpId, Status>
+        requires { is_mounted (slice_get self.old.stack.volumes volume.0) ≡ true }
+        ensures { Begins self.old (Begin.List volume) result self.new }
+    {
+        self.flow
+            .begin(volume, None, None, self.stack.births(), Params::List)
+    }
+
+    /// Answers what a worker has to do next for an operation: call a callback or the base, ask again (an entry was recorded without a call), wait until
+    /// a filter resumes it, or nothing more. After a callback or a call the worker is inside it. Refused with 30, nothing changed: where the worker
+    /// isn't idle or isn't there, where there is no such operation or another worker is inside it, and where the next callback is a synchronized
+    /// postoperation of another worker. It takes no memory.
+    pub fn next(&mut self, worker: WorkerId, operation: OpId) -> Result<FlowAction, Status>
+        ensures { Nexts self.old worker operation result self.new }
+    {
+        if !self.is_idle(worker) {
+            return Err(Status::WrongStep);
+        }
+        let below = lies_below(&self.stack, &self.flow, operation);
+        let drains = drains_next(&self.stack, &self.flow, operation);
+        let answer = self.flow.next(operation, worker, below, drains);
+        note_next(&mut self.workers, worker, operation, &answer);
+        answer
+    }
+
+    /// The preoperation callback that the worker is in returns, with its verdict and its data. Refused, nothing changed and the data handed back: 30
+    /// where the worker is in no preoperation, 32 where the data is strange: of another operation, on another path of a create, or past a limit.
+    pub fn pre_returned(
+        &mut self,
+        worker: WorkerId,
+        verdict: PreVerdict,
+        lent: CallbackData,
+    ) -> Result<(), Refused<CallbackData>>
+        ensures event { PreReturns self.old worker verdict lent (status_of result) self.new }
+        ensures back { IfErr result (λ refused. refused.handed_back ≡ lent) }
+    {
+        let Some((operation, instance)) = pre_of(self.place(worker)) else {
+            return Err(Refused {
+                status: Status::WrongStep,
+                handed_back: lent,
+            });
+        };
+        let state = state_given(&self.stack, &self.flow, operation, instance, verdict);
+        let answer = self.flow.pre_returned(operation, state, lent);
+        note_return(&mut self.workers, worker, answer.is_ok());
+        answer_strange(answer)
+    }
+
+    /// The base call that the worker is in returns, with the parameters that it was lent and its answer. Refused, nothing changed and both handed back:
+    /// 30 where the worker is in no base call, 32 where the parameters are strange or more than 32,768 bytes come back.
+    pub fn base_returned(
+        &mut self,
+        worker: WorkerId,
+        call: Params,
+        given: Answer,
+    ) -> Result<(), Refused<(Params, Answer)>>
+        ensures event { BaseReturns self.old worker call given (status_of result) self.new }
+        ensures back { IfErr result (λ refused. refused.handed_back ≡ (call, given)) }
+    {
+        let Some(operation) = base_of(self.place(worker)) else {
+            return Err(Refused {
+                status: Status::WrongStep,
+                handed_back: (call, given),
+            });
+        };
+        let answer = self.flow.base_returned(operation, call, given);
+        note_return(&mut self.workers, worker, answer.is_ok());
+        answer_strange(answer)
+    }
+
+    /// The postoperation callback that the worker is in returns, with its verdict and its data; or the drain, which has no data and whose verdict counts
+    /// as Finished. Refused, nothing changed and the data handed back: 30 where the worker is in neither, 32 where the data is strange, where a
+    /// postoperation has none or a drain has some.
+    pub fn post_returned(
+        &mut self,
+        worker: WorkerId,
+        verdict: PostVerdict,
+        lent: Option<CallbackData>,
+    ) -> Result<(), Refused<Option<CallbackData>>>
+        ensures event { PostReturns self.old worker verdict lent (status_of result) self.new }
+        ensures back { IfErr result (λ refused. refused.handed_back ≡ lent) }
+    {
+        if let Some((operation, instance)) = post_of(self.place(worker)) {
+            let Some(lent) = lent else {
+                return Err(Refused {
+                    status: Status::BadRequest,
+                    handed_back: None,
+                });
+            };
+            return self.post_data_returned(worker, operation, instance, verdict, lent);
+        }
+        let Some((operation, instance)) = drain_of(self.place(worker)) else {
+            return Err(Refused {
+                status: Status::WrongStep,
+                handed_back: lent,
+            });
+        };
+        if lent.is_some() {
+            return Err(Refused {
+                status: Status::BadRequest,
+                handed_back: lent,
+            });
+        }
+        self.drain_returned(worker, operation, instance, verdict);
+        Ok(())
+    }
+
+    /// A postoperation returns, with data.
+    fn post_data_returned(
+        &mut self,
+        worker: WorkerId,
+        operation: OpId,
+        instance: InstanceId,
+        verdict: PostVerdict,
+        lent: CallbackData,
+    ) -> Result<(), Refused<Option<CallbackData>>>
+        requires { post_of (worker_at self.old.workers worker) ≡ Some (operation, instance) }
+        ensures event { PostReturns self.old worker verdict (Some lent) (status_of result) self.new }
+        ensures back { IfErr result (λ refused. refused.handed_back ≡ Some lent) }
+    {
+        let answer = self.flow.post_returned(operation, verdict, lent);
+        note_return(&mut self.workers, worker, answer.is_ok());
+        answer_strange_data(answer)
+    }
+
+    /// A drain returns.
+    fn drain_returned(
+        &mut self,
+        worker: WorkerId,
+        operation: OpId,
+        instance: InstanceId,
+        _verdict: PostVerdict,
+    )
+        requires { drain_of (worker_at self.old.workers worker) ≡ Some (operation, instance) }
+        ensures { PostReturns self.old worker _verdict None (Ok tt) self.new }
+    {
+        self.flow.drain_returned(operation, instance);
+        put(&mut self.workers, worker, Worker::Idle);
+    }
+
+    /// Hands out the answer of a done operation, once, and forgets the operation. Refused with 30, nothing changed, where there is no such operation,
+    /// where it isn't done, or where its answer was handed out.
+    pub fn collect(&mut self, operation: OpId) -> Result<Answer, Status>
+        ensures { Collects self.old operation result self.new }
+    {
+        self.flow.collect(operation)
+    }
+}

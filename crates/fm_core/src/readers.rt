@@ -1,0 +1,77 @@
+//! What can be read of a State without changing it.
+
+ghost use Rattle.std.specs.Prelude.{◌≡◌, length, slice_get, option_map, option_copied};
+ghost use Rattle.fm_stack.specs.declared.filter.Filter.{Filter};
+ghost use Rattle.fm_stack.specs.declared.instance.Instance.{Instance};
+ghost use Rattle.fm_flow.specs.Record.{FlowRecord};
+ghost use Rattle.fm_flow.specs.Steps.{is_done};
+ghost use Rattle.fm_flow.specs.Table.{operation_at};
+
+use crate::state::State;
+use fm_flow::Entry;
+use fm_stack::{FilterPhase, Phase};
+use fm_types::{FilterId, InstanceId, OpId, VolumeId};
+
+impl State {
+    /// How many filters were registered: the ids given out are those below.
+    pub fn filters(&self) -> usize
+        ensures { result ≡ length self.now.stack.filters }
+    {
+        self.stack.filters()
+    }
+
+    /// How many instances were attached: the ids given out are those below.
+    pub fn instances(&self) -> usize
+        ensures { result ≡ length self.now.stack.instances }
+    {
+        self.stack.instances()
+    }
+
+    /// How far the life of an instance has come; none where it isn't there.
+    pub fn phase(&self, instance: InstanceId) -> Option<Phase>
+        ensures { result ≡ option_map (λ (row : Instance). row.phase) (slice_get self.now.stack.instances instance.0) }
+    {
+        self.stack.phase(instance)
+    }
+
+    /// How far the life of a filter has come; none where it isn't there.
+    pub fn filter_phase(&self, filter: FilterId) -> Option<FilterPhase>
+        ensures { result ≡ option_map (λ (row : Filter). row.phase) (slice_get self.now.stack.filters filter.0) }
+    {
+        self.stack.filter_phase(filter)
+    }
+
+    /// Whose instance it is; none where it isn't there.
+    pub fn filter_of(&self, instance: InstanceId) -> Option<FilterId>
+        ensures { result ≡ option_map (λ (row : Instance). row.filter) (slice_get self.now.stack.instances instance.0) }
+    {
+        self.stack.filter_of(instance)
+    }
+
+    /// The volume that an instance is attached to; none where it isn't there.
+    pub fn volume_of(&self, instance: InstanceId) -> Option<VolumeId>
+        ensures { result ≡ option_map (λ (row : Instance). row.volume) (slice_get self.now.stack.instances instance.0) }
+    {
+        self.stack.volume_of(instance)
+    }
+
+    /// What happened to an operation so far, callback by callback; none where it isn't there.
+    pub fn trace(&self, operation: OpId) -> Option<&[Entry]>
+        ensures { option_copied result ≡ option_map (λ (r : FlowRecord). r.entries) (operation_at operation self.now.flow) }
+    {
+        match self.flow.record(operation) {
+            Some(record) => Some(record.trace()),
+            None => None,
+        }
+    }
+
+    /// Whether an operation is done, so that its answer may be collected; none where it isn't there.
+    pub fn is_done(&self, operation: OpId) -> Option<bool>
+        ensures { result ≡ option_map is_done (operation_at operation self.now.flow) }
+    {
+        match self.flow.record(operation) {
+            Some(record) => Some(record.is_done()),
+            None => None,
+        }
+    }
+}

@@ -1,0 +1,77 @@
+//! The state itself: what it consists of, where workers are, and what always holds of it.
+
+ghost use Rattle.std.specs.Prelude.{◌≡◌, IfOk};
+ghost use Rattle.fm_world.specs.World.{empty_world};
+ghost use Rattle.fm_world.specs.Workers.{worker_at, is_idle};
+ghost use Rattle.fm_world.specs.Headline.{Headline};
+ghost use Rattle.fm_world.specs.Sound.{IsSound};
+
+use crate::workers::WORKERS;
+use fm_flow::Flow;
+use fm_stack::Stack;
+use fm_types::{Status, WorkerId};
+use fm_world::Worker;
+use std::alloc::Global;
+use std::marker::Model;
+
+/// The state of a filter manager: its filters, volumes and instances, its operations under way, and where each of 48 workers is.
+#[derive(Drop)]
+pub struct State {
+    pub(crate) stack: Stack,
+    pub(crate) flow: Flow,
+    pub(crate) workers: [Worker; WORKERS],
+}
+
+impl Model for State {
+    ghost use Rattle.fm_world.specs.World.{World};
+
+    ghost Value = { World };
+
+    ghost use Rattle.fm_world.specs.Sound.{IsSound};
+
+    ghost view = { λ s. record { stack = s.stack; flow = s.flow; workers = s.workers } };
+
+    ghost invariant = { λ s. IsSound (record { stack = s.stack; flow = s.flow; workers = s.workers }) };
+}
+
+impl State {
+    /// The state before the first event: nothing is registered, mounted or attached, nothing is under way, each worker is idle. Refused with 1 where
+    /// memory was refused (today it takes none).
+    pub fn new(alloc: Global) -> Result<State, Status>
+        ensures { IfOk result (λ state. state ≡ empty_world) }
+    {
+        Ok(State {
+            stack: Stack::new(alloc),
+            flow: Flow::new(alloc),
+            workers: [Worker::Idle; WORKERS],
+        })
+    }
+
+    /// What holds of every state, whatever events led to it, for callers that rest on it. It does nothing.
+    pub fn headline(&self)
+        ensures { Headline self.now }
+    {
+        self.laws();
+    }
+
+    /// What the induction over events rests on.
+    pub(crate) fn laws(&self)
+        ensures { IsSound self.now }
+    {
+        let _ = &self.stack;
+    }
+
+    /// Where a worker is, if there is such a worker.
+    pub fn place(&self, worker: WorkerId) -> Option<Worker>
+        ensures { result ≡ worker_at self.now.workers worker }
+    {
+        self.workers.get(worker.0 as usize).copied()
+    }
+
+    /// Whether the worker is there and idle.
+    pub fn is_idle(&self, worker: WorkerId) -> bool
+        ensures { result ≡ is_idle (worker_at self.now.workers worker) }
+    {
+        matches!(self.place(worker), Some(Worker::Idle))
+    }
+}

@@ -1,0 +1,7 @@
+use Rattle.std.proofs.Common.{◌≡◌, take, option_map}
+use Rattle.fm_flow.specs.Entries.{last_visited}
+use Rattle.fm_flow.proofs.entries.last_visited.Given as goal
+
+-- the last one visited of the entries so far
+abbrev pub invariant-loop-entry : goal.invariant-loop-entry
+invariant-loop-entry l = option_map (λ i. i.0) l.last ≡ last_visited (take l.entry-index l.entries)

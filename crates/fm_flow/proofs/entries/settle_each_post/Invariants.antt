@@ -1,0 +1,7 @@
+use Rattle.std.proofs.Common.{◌≡◌, ◌++◌, map, take, drop}
+use Rattle.fm_flow.specs.Entries.{settle_post}
+use Rattle.fm_flow.proofs.entries.settle_each_post.Given as goal
+
+-- the entries before the place are settled
+abbrev pub invariant-loop-entry : goal.invariant-loop-entry
+invariant-loop-entry l = l.entries ≡ map (settle_post l.state) (take l.entry-index l.initial.entries) ++ drop l.entry-index l.initial.entries

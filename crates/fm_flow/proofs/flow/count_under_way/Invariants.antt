@@ -1,0 +1,5 @@
+use Rattle.fm_flow.proofs.Places.{IsCounted}
+use Rattle.fm_flow.proofs.flow.count_under_way.Given as goal
+
+abbrev pub invariant-loop-operation : goal.invariant-loop-operation
+invariant-loop-operation l = IsCounted l.operations l.operation-index l.count

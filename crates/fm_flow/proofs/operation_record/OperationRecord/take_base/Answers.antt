@@ -1,0 +1,11 @@
+use Rattle.std.proofs.Common.{ap, ◌∙◌, arith}
+use Rattle.fm_flow.specs.Record.{FlowRecord}
+use Rattle.fm_flow.specs.Steps.{base_fits}
+use Rattle.fm_flow.proofs.Soundness.{sound_base}
+use Rattle.fm_flow.proofs.operation_record.OperationRecord.take_base.Goals as goal
+
+pub invariant_of-self : goal.invariant_of-self
+invariant_of-self c =
+    let stage = ap (λ (r : FlowRecord). r.stage) c.self.view_is ∙ c.requires.stage in
+    let fits = ap (λ (r : FlowRecord). base_fits c.args.call c.args.answer r) c.self.view_is ∙ c.requires.fits in
+    (rw (c.push_reserved.ensures.items) (sound_base c.args.call c.args.answer _ stage fits c.self.invariant.0), (omega arith, omega arith))

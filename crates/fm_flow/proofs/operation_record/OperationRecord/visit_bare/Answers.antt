@@ -1,0 +1,15 @@
+use Rattle.std.proofs.Common.{◌≡◌, ◌<◌, length, ap, ◌∙◌, arith}
+use Rattle.fm_flow.specs.Entries.{times, visited}
+use Rattle.fm_flow.specs.Record.{FlowRecord}
+use Rattle.std.proofs.Common.{rules}
+use Rattle.fm_flow.proofs.Soundness.{sound_bare}
+use Rattle.fm_flow.proofs.operation_record.OperationRecord.visit_bare.Goals as goal
+
+pub invariant_of-self : goal.invariant_of-self
+invariant_of-self c =
+    let stage = ap (λ (r : FlowRecord). r.stage) c.self.view_is ∙ c.requires.stage in
+    let fresh = ap (λ (r : FlowRecord). times c.args.instance.0 (visited r.entries)) c.self.view_is ∙ c.requires.fresh in
+    let visits = ap (λ (r : FlowRecord). length (visited r.entries)) c.self.view_is in
+    let few : length (visited c.self.inside.entries.items) < 32 = omega (arith, visits, c.requires.few) in
+    let place : c.len-place.result ≡ length c.self.inside.kept.items = search rules in
+    (rw (c.push_reserved.ensures.items, place, stage) (sound_bare c.args.worker c.args.instance _ stage fresh few c.self.invariant.0), (omega arith, omega arith))

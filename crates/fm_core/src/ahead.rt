@@ -31,16 +31,19 @@ fn has_post(stack: &Stack, instance: InstanceId, operation: Operation) -> bool
 }
 
 /// What lies below an operation: the next instance, or the base.
-fn found_below(stack: &Stack, record: &OperationRecord) -> Below
-    ensures { LiesBelow stack.now record.now result }
+fn found_below(stack: &Stack, operation: &OperationRecord) -> Below
+    ensures { LiesBelow stack.now operation.now result }
 {
     match stack.next_below(
-        record.volume(),
-        record.last_visited(),
-        record.born(),
-        record.operation(),
+        operation.volume(),
+        operation.last_visited(),
+        operation.born(),
+        operation.operation(),
     ) {
-        Some(instance) => Below::Instance(instance, has_pre(stack, instance, record.operation())),
+        Some(instance) => Below::Instance(
+            instance,
+            has_pre(stack, instance, operation.operation()),
+        ),
         None => Below::Call,
     }
 }

@@ -10,9 +10,11 @@ mod operations;
 mod place;
 mod readers;
 mod returned;
+mod runs;
 mod state;
 mod workers;
 
+pub use crate::runs::run;
 pub use crate::state::State;
 pub use fm_flow::{
     Ask, DrainVisit, Entry, FlowAction as Action, PostState, PostVisit, PreState, PreVisit, Stage,

@@ -38,7 +38,7 @@ pub and_true : (b : Bool) → (b && true) ≡ b
 and_true true = refl
 and_true false = refl
 
-and_false : (b : Bool) → one (b && false) ≡ 0
+pub and_false : (b : Bool) → one (b && false) ≡ 0
 and_false true = refl
 and_false false = refl
 

@@ -8,3 +8,4 @@ pub mod Soundness
 pub mod Tables
 pub mod Flows
 pub mod Places
+pub mod Balances

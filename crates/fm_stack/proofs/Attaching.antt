@@ -65,10 +65,10 @@ few_with_one : (n : ℕ) (live : Bool) → n < 32 → n + cond live 1 0 ≤ 32
 few_with_one n true few = omega (arith, few)
 few_with_one n false few = omega (arith, few)
 
-few_elsewhere : (m n : ℕ) (w v : VolumeId) (phase : Bool) → m ≤ 32 → (w.0 ≡ v.0 → m < 32) → m + cond (eqb v.0 w.0 && phase) 1 0 ≤ 32
-few_elsewhere m n w v phase few below =
+few_elsewhere : (m : ℕ) (w v : VolumeId) (live : Bool) → m ≤ 32 → (w.0 ≡ v.0 → m < 32) → m + cond (eqb v.0 w.0 && live) 1 0 ≤ 32
+few_elsewhere m w v live few below =
     elim (cases_eq w.0 v.0) [
-      | inl is ↦ few_with_one m (eqb v.0 w.0 && phase) (below is)
+      | inl is ↦ few_with_one m (eqb v.0 w.0 && live) (below is)
       | inr other ↦
           let elsewhere : eqb v.0 w.0 ≡ false = ne_eqb v.0 w.0 (λ is. other (sym is)) in
           rw elsewhere (omega (arith, few))
@@ -78,7 +78,7 @@ few_still : (s : StackWorld) (f : FilterId) (v : VolumeId) (name altitude : List
     → (w : VolumeId) → count_by (is_live_on w) (s.instances ++ new_instance f v name altitude ∷ []) ≤ 32
 few_still s f v name altitude sound few w =
     rw (count_by-push (is_live_on w) s.instances (new_instance f v name altitude))
-    (few_elsewhere (count_by (is_live_on w) s.instances) 0 w v true (sound.few w)
+    (few_elsewhere (count_by (is_live_on w) s.instances) w v true (sound.few w)
     (λ is. subst (λ n. count_by (λ (row : Instance). (row.volume.0 == n) && not (is_detached row.phase)) s.instances < 32) (sym is) few))
 
 pub attached_keeps : (s : StackWorld) (f : FilterId) (v : VolumeId) (name altitude : List ℕ) → IsStack s

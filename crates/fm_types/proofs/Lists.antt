@@ -1,3 +1,4 @@
+-- Lists by their places: look-ups, updates, facts on each element and on each two, and counts.
 use Rattle.std.proofs.Common.{ℕ, zero, suc, ◌+◌, ◌<◌, ◌≤◌, ◌≡◌, ◌≢◌, ◌⊎◌, List, [], ◌∷◌, ◌++◌, length, get_or, set, slice_get, Bool, true, false, cond, Option, Some, None, All, AllPairs, count_by, sum_by, refl, sym, ap, subst, ◌∙◌, arith, zero-add, inl, inr, lit≤}
 use Rattle.std.proofs.lemmas.Bool.{cases_eq, cases_order}
 use Rattle.std.proofs.lemmas.List.{length-set}

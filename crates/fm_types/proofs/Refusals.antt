@@ -1,3 +1,4 @@
+-- What is known where a list of tests refuses nothing.
 use Rattle.std.proofs.Common.{◌≡◌, Bool, true, false, cond, List, [], ◌∷◌, Option, Some, None, refl, sym}
 use Rattle.std.proofs.lemmas.Option.{none-some}
 use Rattle.fm_types.specs.declared.status.Status.{Status}

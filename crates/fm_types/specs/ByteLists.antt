@@ -1,3 +1,4 @@
+-- What writes and cuts make of bytes.
 use Rattle.std.specs.Prelude.{ℕ, ◌+◌, ◌-◌, List, [], ◌∷◌, ◌++◌, length, take, drop, replicate}
 
 -- the bytes cut to a length, or filled up to it with zeros

@@ -1,3 +1,4 @@
+-- Changes of one element of a list.
 use Rattle.std.specs.Prelude.{ℕ, zero, suc, List, [], ◌∷◌}
 
 -- the list with the element at a place changed, where one stands there

@@ -1,3 +1,4 @@
+-- Sets of operations and of kinds of contexts, as bits.
 use Rattle.std.specs.Prelude.{ℕ, Bool, ◌==◌}
 use Rattle.std.specs.Int.RustNames.{bit_and}
 use Rattle.fm_types.specs.declared.operation.Operation.{Operation}

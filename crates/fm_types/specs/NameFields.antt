@@ -1,3 +1,4 @@
+-- How a name is kept.
 use Rattle.std.specs.Prelude.{◌≡◌, ℕ, List, length, take}
 use Rattle.std.proofs.Common.{sym, ap, ◌∙◌}
 use Rattle.fm_types.specs.Texts.{padded, IsPadded}

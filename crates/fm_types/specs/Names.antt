@@ -1,3 +1,4 @@
+-- The grammar of names.
 use Rattle.std.specs.Prelude.{◌≡◌, ◌⊎◌, ℕ, ◌<◌, ◌≤◌, List, length, All}
 use Rattle.std.specs.Char.{IsAsciiAlphanumeric}
 

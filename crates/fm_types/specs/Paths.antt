@@ -1,3 +1,4 @@
+-- The grammar of paths.
 use Rattle.std.specs.Prelude.{◌≢◌, ℕ, ◌≤◌, ◌==◌, List, [], ◌∷◌, length, All}
 use Rattle.std.specs.List.{slice_split}
 

@@ -1,3 +1,4 @@
+-- Texts in arrays of fixed size.
 use Rattle.std.specs.Prelude.{◌≡◌, ℕ, ◌-◌, List, ◌++◌, length, replicate}
 
 -- a text with zeros behind it, up to a size

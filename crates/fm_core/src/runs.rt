@@ -1,0 +1,79 @@
+//! Events as values, one after another.
+
+ghost use Rattle.std.specs.Prelude.{◌≡◌, IfOk, List};
+ghost use Rattle.fm_world.specs.World.{empty_world};
+ghost use Rattle.fm_core.specs.Returned.{status_of};
+ghost use Rattle.fm_world.specs.Steps.{Steps, RunThrough};
+ghost use Rattle.fm_world.specs.Headline.{Headline};
+
+use crate::state::State;
+use fm_types::Status;
+use fm_world::{Refused, Step, StepReply};
+use std::alloc::Global;
+
+/// The answer without what a refusal hands back.
+fn without_data<T: Drop>(result_given: Result<(), Refused<T>>) -> Result<(), Status>
+    ensures { result ≡ status_of result_given }
+{
+    match result_given {
+        Ok(()) => Ok(()),
+        Err(refused) => Err(refused.status),
+    }
+}
+
+impl State {
+    /// Makes one event, and tells what it answered. What a refusal hands back is dropped.
+    pub fn step(&mut self, step: Step) -> StepReply
+        ensures { Steps self.old step result self.new }
+    {
+        match step {
+            Step::Register { name, registration } => StepReply::Filter(self.register(
+                name,
+                registration,
+            )),
+            Step::Mount { name } => StepReply::Volume(self.mount(name)),
+            Step::Attach {
+                worker,
+                filter,
+                volume,
+                name,
+                altitude,
+            } => StepReply::Instance(self.attach(worker, filter, volume, name, altitude)),
+            Step::SetupDone { worker, accept } => StepReply::Done(self.setup_done(worker, accept)),
+            Step::Begin(what) => StepReply::Operation(self.begin(what)),
+            Step::Next { worker, operation } => StepReply::Action(self.next(worker, operation)),
+            Step::PreReturned {
+                worker,
+                verdict,
+                data,
+            } => StepReply::Done(without_data(self.pre_returned(worker, verdict, data))),
+            Step::BaseReturned {
+                worker,
+                call,
+                answer,
+            } => StepReply::Done(without_data(self.base_returned(worker, call, answer))),
+            Step::PostReturned {
+                worker,
+                verdict,
+                data,
+            } => StepReply::Done(without_data(self.post_returned(worker, verdict, data))),
+            Step::Collect { operation } => StepReply::Answer(self.collect(operation)),
+        }
+    }
+}
+
+/// The events of a list, from the empty state: the state that they lead to, and what each answered. The contract says that each reply is the event's,
+/// and that the Headline holds after each. Refused with 1 alone, where memory for the replies or the state was refused. The events are taken by value,
+/// so that no byte that they bring is copied.
+pub fn run(alloc: Global, steps: Vec<Step>) -> Result<(State, Vec<StepReply>), Status>
+    ensures { IfOk result (λ ended. RunThrough Headline empty_world steps.items ended.1.items ended.0) }
+{
+    let mut state = State::new(alloc)?;
+    let mut replies = Vec::new(alloc);
+    for step in steps {
+        let reply = state.step(step);
+        state.headline();
+        replies.push(reply)?;
+    }
+    Ok((state, replies))
+}

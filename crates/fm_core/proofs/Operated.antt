@@ -1,5 +1,5 @@
 -- The events on operations, from what their parts did.
-use Rattle.std.proofs.Common.{◌≡◌, ℕ, zero, suc, ◌<◌, arith, ◌&&◌, Bool, true, false, cond, not, List, [], ◌∷◌, Option, Some, None, Result, Ok, Err, refl, ap, sym, ◌∙◌, subst, inl, inr, ◌⊎◌, nat_le, nat_eq, length}
+use Rattle.std.proofs.Common.{◌≡◌, ℕ, zero, suc, ◌<◌, arith, Bool, true, false, cond, not, List, [], ◌∷◌, Option, Some, None, Result, Ok, Err, refl, ap, sym, ◌∙◌, subst, inl, inr, ◌⊎◌, nat_le, nat_eq, length}
 use Rattle.std.specs.Prelude.{option_map, unwrap_or, slice_get, is_ok, is_some, IfErr}
 use Rattle.std.proofs.lemmas.Bool.{cases_Bool, false≢true, eq-eqb, and_from, lt-leb, leb-false}
 use Rattle.std.proofs.lemmas.Option.{none-some, same_Some, slice_get_within}
@@ -26,8 +26,7 @@ use Rattle.fm_flow.specs.declared.entry.PreState.TheVariants as pre
 use Rattle.fm_flow.specs.declared.stage.Stage.{Stage}
 use Rattle.fm_flow.specs.declared.stage.Stage.TheVariants.{PreRunning, InBase, PostRunning, InDrain}
 use Rattle.fm_flow.specs.Record.{FlowRecord}
-use Rattle.fm_flow.specs.Steps.{next_of, pre_returned_of, pre_after, base_returned_of, base_after, base_reply, base_fits, post_returned_of, post_after, data_reply, drain_returned_of, pre_leads, MayLieBelow}
-use Rattle.fm_flow.specs.Sound as flow
+use Rattle.fm_flow.specs.Steps.{next_of, pre_returned_of, pre_after, base_returned_of, base_after, base_reply, base_fits, post_returned_of, post_after, data_reply, drain_returned_of, MayLieBelow}
 use Rattle.fm_flow.specs.Verdict.{is_counted}
 use Rattle.fm_flow.specs.Table.{FlowTable, operation_at, changed, told, is_number, StandsAt, MayLieBelowOf, is_full, begun, collect_reply, collected_of}
 use Rattle.fm_world.specs.declared.step.Begin.TheVariants as begin
@@ -39,9 +38,10 @@ use Rattle.fm_world.specs.Workers.{worker_at, put, is_idle, after_next}
 use Rattle.fm_world.specs.Events.{Begins, begin_refusals, begun_flow, Nexts, NextsOver, FindsBelow, Unless, PreReturns, PreReturnsAt, BaseReturns, BaseReturnsAt, PostReturns, PostReturnsAt, Collects, drains_at, state_at, state_given, without_context, has_post, returned}
 use Rattle.fm_world.specs.Headline.{is_in_at, is_stage}
 use Rattle.fm_world.specs.Sound.{IsSound, IsAmong}
-use Rattle.fm_world.proofs.Tables.{found_holds, change_agrees, change_same}
+use Rattle.fm_flow.proofs.Tables.{found_holds}
+use Rattle.fm_core.proofs.Changes.{change_agrees, change_same}
 use Rattle.fm_world.proofs.Ties.{tied_there, stage_pre, stage_base, stage_post, stage_drain}
-use Rattle.fm_world.proofs.Flows.{counted_from}
+use Rattle.fm_world.proofs.Ties.{counted_from}
 use Rattle.fm_world.proofs.Operations.{may_visit, counted_quiet, told_there}
 use Rattle.fm_core.specs.Ahead.{IsDownOrCall}
 use Rattle.fm_core.specs.Places.{pre_of, base_of, post_of, drain_of}

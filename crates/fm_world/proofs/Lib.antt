@@ -1,10 +1,8 @@
 pub mod Counts
 pub mod Altitudes
 pub mod Descents
-pub mod Tables
 pub mod Ties
 pub mod Amongs
-pub mod Flows
 pub mod Keeps
 pub mod Operations
 pub mod Runs

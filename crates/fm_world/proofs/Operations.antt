@@ -52,14 +52,14 @@ use Rattle.fm_world.specs.Events.{Begins, Nexts, NextsOver, LiesBelow, FindsBelo
 use Rattle.fm_world.specs.Headline.{is_stage, stands_at}
 use Rattle.fm_world.specs.Descent.{is_among}
 use Rattle.fm_world.specs.Sound.{IsSound, IsAmong, is_in_setup}
-use Rattle.fm_world.proofs.Tables.{change_none, found_holds, all_change, all_without, find_without}
-use Rattle.fm_world.proofs.Ties.{one, count_moves, AreTied, Matches, is_running, quiet_is_none, tied_moves, tied_stays, tied_there, matches_idle, matches_pre, matches_base, matches_post, matches_drain, stage_pre, stage_base, stage_post, stage_drain}
+use Rattle.fm_flow.proofs.Tables.{change_none, found_holds, all_change, all_without, find_without}
+use Rattle.fm_world.proofs.Ties.{counted_from, one, count_moves, AreTied, Matches, is_running, quiet_is_none, tied_moves, tied_stays, tied_there, matches_idle, matches_pre, matches_base, matches_post, matches_drain, stage_pre, stage_base, stage_post, stage_drain}
 use Rattle.fm_world.proofs.Amongs.{is_up, no_base, among_visits, among_other, among_base, among_settles, among_begins, settle_pre_visit, settle_pre_base, settle_post_visit, settle_post_base, settle_drain_visit, settle_drain_base}
 use Rattle.fm_world.proofs.Descents.{next_unseen, room_is, or_left, or_right}
 use Rattle.fm_world.proofs.Keeps.{unless_cases, idle_there}
 use Rattle.fm_flow.proofs.Soundness.{sound_pre_returned, sound_base_returned, sound_post_returned, sound_drain_returned}
 use Rattle.fm_stack.proofs.Visits.{is_to_visit_few}
-use Rattle.fm_world.proofs.Flows.{flow_begins, flow_changes, flow_collects, sound_next, counted_from}
+use Rattle.fm_flow.proofs.Flows.{flow_begins, flow_changes, flow_collects, sound_next}
 
 -- operations change, and workers with them
 flow_moves : (w : World) (t : FlowTable) (workers : List Worker) → IsFlow t → All (IsAmong w.stack) t.operations → length workers ≡ 48
@@ -107,7 +107,7 @@ begin_keeps old (begin.List v) (Ok o) new h s =
     let t = begun v None None old.stack.births params.List old.flow in
     subst IsSound (sym h.1.1)
     (flow_moves old t old.workers
-    (flow_begins v None None old.stack.births old.flow s.flow (full_from _ _ (is_full old.flow) h.0))
+    (flow_begins v None None old.stack.births params.List old.flow refl s.flow (full_from _ _ (is_full old.flow) h.0))
     (All-push (IsAmong old.stack) old.flow.operations fresh s.among
     (among_begins old.stack v fresh.operation (is_to_visit_few old.stack s.stack v old.stack.births fresh.operation)))
     s.hands

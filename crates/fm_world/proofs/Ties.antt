@@ -7,6 +7,10 @@ use Rattle.std.proofs.lemmas.List.Sums.{sum_by-set}
 use Rattle.fm_types.specs.declared.ids.OpId.{OpId}
 use Rattle.fm_types.specs.declared.ids.WorkerId.{WorkerId}
 use Rattle.fm_types.specs.declared.ids.InstanceId.{InstanceId}
+use Rattle.fm_flow.specs.declared.entry.PreState.{PreState}
+use Rattle.fm_flow.specs.declared.entry.PreState.TheVariants as pre
+use Rattle.fm_flow.specs.Steps.{pre_leads}
+use Rattle.fm_flow.specs.Verdict.{is_counted}
 use Rattle.fm_flow.specs.declared.stage.Stage.{Stage}
 use Rattle.fm_flow.specs.declared.stage.Stage.TheVariants.{Descending, PreRunning, PreHeld, InBase, Ascending, PostRunning, PostHeld, InDrain}
 use Rattle.fm_flow.specs.Record.{FlowRecord}
@@ -16,7 +20,7 @@ use Rattle.fm_world.specs.declared.worker.Worker.TheVariants as place
 use Rattle.fm_world.specs.Workers.{worker_at, put}
 use Rattle.fm_world.specs.Headline.{is_in_at, is_stage, stands_at}
 use Rattle.fm_world.proofs.Counts.{count-some}
-use Rattle.fm_world.proofs.Tables.{find_changed, find_unchanged}
+use Rattle.fm_flow.proofs.Tables.{find_changed, find_unchanged}
 
 -- 1 or 0
 abbrev pub one : Bool → ℕ
@@ -217,3 +221,8 @@ stage_post _ h = absurd (false≢true h)
 pub stage_drain : (i : InstanceId) (s : Stage) → is_stage (InDrain i) s ≡ true → s ≡ InDrain i
 stage_drain i (InDrain j) h = ap (λ n. InDrain (record { 0 = n })) (sym (eqb-true i.0 j.0 h))
 stage_drain i _ h = absurd (false≢true h)
+
+-- a verdict that counts leaves the callback
+pub counted_from : (state : PreState) → is_running (pre_leads state) ≡ false → is_counted state ≡ true
+counted_from pre.Running h = absurd (false≢true (sym h))
+counted_from _ h = refl

@@ -1,4 +1,4 @@
-use Rattle.std.proofs.Common.{◌≡◌, List, [], ◌∷◌, ◌++◌, sym, subst}
+use Rattle.std.proofs.Common.{List, [], ◌∷◌, ◌++◌, sym, subst}
 use Rattle.fm_world.specs.declared.step.StepReply.{StepReply}
 use Rattle.fm_world.specs.World.{empty_world}
 use Rattle.fm_world.specs.Steps.{RunThrough}

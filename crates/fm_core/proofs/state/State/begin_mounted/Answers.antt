@@ -1,4 +1,4 @@
-use Rattle.std.proofs.Common.{◌≡◌, ℕ, List, [], ◌∷◌, Option, None, true, sym, subst}
+use Rattle.std.proofs.Common.{◌≡◌, ℕ, [], ◌∷◌, None, true, sym, subst}
 use Rattle.std.specs.Prelude.{slice_get}
 use Rattle.fm_types.specs.Refusals.{first_of, AnswersOrMemory}
 use Rattle.fm_types.specs.declared.ids.OpId.{OpId}

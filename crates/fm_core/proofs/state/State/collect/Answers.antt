@@ -1,4 +1,4 @@
-use Rattle.std.proofs.Common.{◌≡◌, ap, subst}
+use Rattle.std.proofs.Common.{subst}
 use Rattle.fm_world.specs.World.{World}
 use Rattle.fm_world.specs.Events.{Collects}
 use Rattle.fm_world.proofs.Operations.{collect_keeps}

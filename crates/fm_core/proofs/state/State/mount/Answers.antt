@@ -1,4 +1,4 @@
-use Rattle.std.proofs.Common.{refl, sym, subst}
+use Rattle.std.proofs.Common.{refl}
 use Rattle.fm_world.specs.World.{World}
 use Rattle.fm_world.specs.Events.{Mounts}
 use Rattle.fm_world.proofs.Keeps.{mount_keeps}

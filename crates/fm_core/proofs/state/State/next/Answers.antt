@@ -1,5 +1,4 @@
 use Rattle.std.proofs.Common.{◌≡◌, true, sym, ◌∙◌, subst}
-use Rattle.fm_flow.specs.Table.{operation_at, MayLieBelowOf}
 use Rattle.fm_world.specs.World.{World}
 use Rattle.fm_world.specs.Workers.{worker_at, is_idle}
 use Rattle.fm_world.specs.Events.{Nexts}

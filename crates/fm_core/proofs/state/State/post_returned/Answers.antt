@@ -1,4 +1,4 @@
-use Rattle.std.proofs.Common.{◌≡◌, Option, Some, None, Err, sym, ◌∙◌, ap, subst}
+use Rattle.std.proofs.Common.{Option, Err, sym, ◌∙◌, ap, subst}
 use Rattle.fm_types.specs.declared.status.Status.TheVariants.{BadRequest}
 use Rattle.fm_data.specs.Data.{Data}
 use Rattle.fm_world.specs.Events.{PostReturns}

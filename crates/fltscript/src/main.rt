@@ -1,0 +1,24 @@
+//! Runs a script of the filter manager from standard input to standard output. Its words aren't read. It ends with status 0, with 1 where there
+//! is no memory for what the script asks, and with 3 where a read or a write fails or the script is too long, and then prints `fault` where
+//! that is possible.
+#![tactic(auto)]
+
+use fm_script::{ScriptEnd, script};
+use std::process::ExitCode;
+
+/// The exit status where there was no memory.
+const NO_MEMORY: u8 = 1;
+
+/// The exit status where a read or a write failed.
+const FAULT: u8 = 3;
+
+fn main(rt: HostRuntime) -> ExitCode {
+    match script(rt.alloc(), rt.stdin(), rt.stdout()) {
+        ScriptEnd::Ended => ExitCode::SUCCESS,
+        ScriptEnd::NoMemory => ExitCode::from(NO_MEMORY),
+        ScriptEnd::ReadFault | ScriptEnd::WriteFault => {
+            let _ = println!(rt; "fault");
+            ExitCode::from(FAULT)
+        }
+    }
+}

@@ -1,0 +1,9 @@
+use Rattle.std.proofs.Common.{◌≡◌, ◌++◌, length}
+use Rattle.fm_script.specs.Hexadecimal.{hex_pairs}
+use Rattle.fm_script.proofs.hexadecimal.read_pairs.Given as goal
+
+abbrev pub invariant-loop-rest : goal.invariant-loop-rest
+invariant-loop-rest l = hex_pairs l.bytes.items ++ l.rest ≡ l.fn.word
+
+abbrev pub decreases-loop-rest : goal.decreases-loop-rest
+decreases-loop-rest l = length l.rest

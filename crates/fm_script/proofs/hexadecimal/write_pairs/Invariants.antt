@@ -1,0 +1,6 @@
+use Rattle.std.proofs.Common.{◌≡◌, ◌++◌, take}
+use Rattle.fm_script.specs.Hexadecimal.{hex_pairs}
+use Rattle.fm_script.proofs.hexadecimal.write_pairs.Given as goal
+
+abbrev pub invariant-loop-byte : goal.invariant-loop-byte
+invariant-loop-byte l = l.text.items ≡ l.initial.text.items ++ hex_pairs (take l.byte-index l.bytes)

@@ -1,0 +1,94 @@
+//! A script from end to end: reads its reader piece by piece, cuts the pieces into lines, and runs them.
+
+use crate::line::Line;
+use crate::runner::Runner;
+use crate::script_end::ScriptEnd;
+use crate::words::split_at_byte;
+use std::alloc::Global;
+use std::io::{ErrorKind, Read, Write};
+
+/// How many bytes are read at once, where they are there.
+const PIECE: usize = 16384;
+
+/// The most lines of a script.
+const MAX_LINES: u32 = 100_000;
+
+// The lines of a script, as they come in.
+#[derive(Drop)]
+struct Lines<W: Write + Drop> {
+    runner: Runner<W>,
+    line: Line,
+    count: u32,
+}
+
+impl<W: Write + Drop> Lines<W> {
+    // Takes a piece of the input, and runs the lines that end in it.
+    fn take(&mut self, piece: &[u8]) -> Result<(), ScriptEnd> {
+        let mut rest = piece;
+        while !rest.is_empty() {
+            if self.count >= MAX_LINES {
+                return Err(ScriptEnd::ReadFault);
+            }
+            let (front, behind) = split_at_byte(rest, b'\n');
+            self.line.extend(front).map_err(|_| ScriptEnd::NoMemory)?;
+            let Some(behind) = behind else {
+                return Ok(());
+            };
+            self.count += 1;
+            self.run()?;
+            rest = behind;
+        }
+        Ok(())
+    }
+
+    // Runs the line that was read, and begins the next one.
+    fn run(&mut self) -> Result<(), ScriptEnd> {
+        let outcome = self.runner.run(self.line.as_slice());
+        self.line.clear();
+        outcome
+    }
+}
+
+// Reads until the reader's end, and runs what it gives.
+fn run_all<R: Read, W: Write + Drop>(
+    alloc: Global,
+    reader: &mut R,
+    lines: &mut Lines<W>,
+) -> Result<(), ScriptEnd> {
+    let mut buffer = vec![in alloc; 0; PIECE].map_err(|_| ScriptEnd::NoMemory)?;
+    for _ in 0..u32::MAX {
+        lines.runner.flush()?;
+        match reader.read(&mut buffer) {
+            Ok(0) => return lines.run(),
+            Ok(count) => lines.take(&buffer[..count])?,
+            Err(fault) if fault.kind() == ErrorKind::Interrupted => {}
+            Err(_) => return Err(ScriptEnd::ReadFault),
+        }
+    }
+    Err(ScriptEnd::ReadFault)
+}
+
+/// Runs a script: reads commands from the reader, one a line, and prints to the writer what they answer. What was printed is handed to the
+/// writer before each read and at the end, so that a script can be driven line by line. Lines end with 0x0A, which the last may lack; one above
+/// 4,096 bytes is refused and skipped. It ends with ReadFault where the reader fails, at the 100,001st line, and after 2^32 - 1 reads.
+pub fn script<R: Read + Drop, W: Write + Drop>(
+    alloc: Global,
+    mut reader: R,
+    writer: W,
+) -> ScriptEnd {
+    let runner = match Runner::new(alloc, writer) {
+        Ok(runner) => runner,
+        Err(end) => return end,
+    };
+    let mut lines = Lines {
+        runner,
+        line: Line::new(alloc),
+        count: 0,
+    };
+    let outcome = run_all(alloc, &mut reader, &mut lines);
+    let flushed = lines.runner.flush();
+    match (outcome, flushed) {
+        (Ok(()), Ok(())) => ScriptEnd::Ended,
+        (Err(end), _) | (_, Err(end)) => end,
+    }
+}

@@ -1,0 +1,330 @@
+//! Rows of input and output, and readers and writers that fail.
+
+use crate::{ScriptEnd, script};
+use std::alloc::Global;
+use std::cell::Cell;
+use std::io;
+use std::io::{Read, Write};
+use std::process::Abort;
+use std::test::Fail;
+
+// A writer over memory.
+#[derive(Drop)]
+struct Kept<'a> {
+    bytes: &'a mut Vec<u8>,
+}
+
+impl Write for Kept<'_> {
+    fn write(&mut self, buf: &[u8]) -> io::Result<usize> {
+        self.bytes.extend_from_slice(buf)?;
+        Ok(buf.len())
+    }
+
+    fn flush(&mut self) -> io::Result<()> {
+        Ok(())
+    }
+}
+
+// A writer whose pipe is broken.
+#[derive(Drop)]
+struct Broken;
+
+impl Write for Broken {
+    fn write(&mut self, _: &[u8]) -> io::Result<usize> {
+        Err(io::Error::from(io::ErrorKind::BrokenPipe))
+    }
+
+    fn flush(&mut self) -> io::Result<()> {
+        Ok(())
+    }
+}
+
+// A reader that gives its text in pieces of at most that many bytes, is interrupted before each, and fails at its end if it is to.
+#[derive(Drop)]
+struct Pieces<'a> {
+    rest: &'a [u8],
+    step: usize,
+    is_interrupted: bool,
+    has_fault: bool,
+}
+
+impl Read for Pieces<'_> {
+    fn read(&mut self, buf: &mut [u8]) -> io::Result<usize> {
+        self.is_interrupted = !self.is_interrupted;
+        if self.is_interrupted {
+            return Err(io::Error::from(io::ErrorKind::Interrupted));
+        }
+        if self.rest.is_empty() && self.has_fault {
+            return Err(io::Error::from(io::ErrorKind::BrokenPipe));
+        }
+        let count = self.step.min(self.rest.len()).min(buf.len());
+        let (front, behind) = self.rest.split_at(count);
+        buf[..count].copy_from_slice(front);
+        self.rest = behind;
+        Ok(count)
+    }
+}
+
+// A text of lines that are divided by `; `.
+fn lines(alloc: Global, rt: &impl Abort, text: &str) -> Vec<u8> {
+    let mut lines = Vec::new(alloc);
+    for part in text.as_bytes().split(|b| *b == b';') {
+        let line = part.strip_prefix(b" ").unwrap_or(part);
+        lines.extend_from_slice(line).expect(rt, "memory");
+        lines.push(b'\n').expect(rt, "memory");
+    }
+    lines
+}
+
+// Rows: a name, the input and the output, lines divided by `; `.
+const ROWS: [(&str, &str, &str); 13] = [
+    (
+        "altitude_order",
+        "load f; mount v; attach f0 v0 a 03333; attach f0 v0 b 100.123456; list v0; go w0 o0",
+        "ok f0; ok v0; ok i0; ok i1; ok o0; pre i0 with; pre i1 with; base 0; post i1; post i0; reply 0 0 -",
+    ),
+    (
+        "equal_altitudes",
+        "load f; mount v; attach f0 v0 a 100.5; attach f0 v0 b 100.50; attach f0 v0 b 100.5000001; attach f0 v0 a 7",
+        "ok f0; ok v0; ok i0; no 5; ok i1; no 4",
+    ),
+    (
+        "three_altitudes",
+        "load f; mount v; attach f0 v0 a 100; attach f0 v0 b 300; attach f0 v0 c 200.5; plan i2 none; list v0; go w0 o0",
+        "ok f0; ok v0; ok i0; ok i1; ok i2; ok; ok o0; pre i1 with; pre i2 none; pre i0 with; base 0; post i0; post i1; reply 0 0 -",
+    ),
+    (
+        "complete_on_the_way",
+        "load f; mount v; attach f0 v0 a 300; attach f0 v0 b 200; attach f0 v0 c 100; plan i1 complete 17; list v0; go w0 o0",
+        "ok f0; ok v0; ok i0; ok i1; ok i2; ok; ok o0; pre i0 with; pre i1 complete 17; post i0; reply 17 0 -",
+    ),
+    (
+        "callbacks_left_out",
+        "load f only-pre; load g only-post; mount v; attach f0 v0 a 200; attach f1 v0 b 100; list v0; go w0 o0",
+        "ok f0; ok f1; ok v0; ok i0; ok i1; ok o0; pre i0 with; base 0; post i1; reply 0 0 -",
+    ),
+    (
+        "steps_by_hand",
+        "load f; mount v; attach f0 v0 a 100; attach f0 v0 b 300; list v0; next w3 o0; base w3; pre w4 none; next w4 o0; pre w3 with; next w15 o0; pre w15 none; next w3 o0; post w3 done; base w3; next w3 o0; pre w3 with; post w3 done; next w3 o0; collect o0; collect o0; next w3 o0; phase i1",
+        "ok f0; ok v0; ok i0; ok i1; ok o0; pre i1; no 30; no 30; no 30; ok; pre i0; ok; base; no 30; ok; post i1; no 30; ok; done; reply 0 0 -; no 30; no 30; attached",
+    ),
+    (
+        "a_volume_without_instances",
+        "mount v; mount w; mount v; list v1; list v0; go w0 o1; go w9 o0; go w0 o0",
+        "ok v0; ok v1; no 4; ok o0; ok o1; base 0; reply 0 0 -; base 0; reply 0 0 -; no 30",
+    ),
+    (
+        "unknown_commands",
+        "frobnicate; load; load a b; load f bare; load a only-pre b; mount; mount v w; attach f0 v0 a; attach f0 v0 a 1 2; list; collect; phase; next w0; go; pre; pre w0; plan i0; post w0; fail 1; create v0 x always; count c0; alloc w0 instance 01; resume w0 o0 with; leaks; Load f; LIST v0",
+        "no 32; no 32; no 32; no 32; no 32; no 32; no 32; no 32; no 32; no 32; no 32; no 32; no 32; no 32; no 32; no 32; no 32; no 32; no 32; no 32; no 32; no 32; no 32; no 32; no 32; no 32",
+    ),
+    (
+        "unreadable_words",
+        "attach f v0 a 1; attach f+0 v0 a 1; attach v0 f0 a 1; attach F0 v0 a 1; list v18446744073709551616; list v18446744073709551615; list v99999999999999999999999; list 0; list v-1; list v 1; go 0 o0; pre w0 pend; pre w0 complete; pre w0 complete 34; pre w0 complete x; pre w0 complete 33; pre w0 complete 0033; pre w0 with c0; plan i0 pend; post w0 more",
+        "no 32; no 32; no 32; no 32; no 32; no 7; no 32; no 32; no 32; no 32; no 32; no 32; no 32; no 32; no 32; no 30; no 30; no 32; no 32; no 32",
+    ),
+    (
+        "order_of_refusals",
+        "attach fx v9 a! 1.2.3; attach f9 v9 a! 1.2.3; attach f9 v9 a 1.2.3; attach f9 v9 a 1; load f; attach f0 v9 a 1; load a!; load a! bare; load abcdefghijklmnopqrstuvwxyzabcdefg; load f; next w99 o7; next wx o7; plan i0 none; phase i0; collect o0; list v0; base w16; base w15; post w16 done; mount v; list v0; go w16 o0; go w16 o1; go w0 o1",
+        "no 32; no 3; no 2; no 6; ok f0; no 7; no 3; no 32; no 3; no 10; no 30; no 32; no 8; no 8; no 30; no 7; no 30; no 30; no 30; ok v0; ok o0; no 30; no 30; no 30",
+    ),
+    (
+        "empty_words",
+        "load ; load  f; load f ;  load f; mount ; load f; mount v; attach f0 v0  1; attach f0 v0 a ; attach  v0 a 1; list  v0; list v0 ; pre w0 ",
+        "no 3; no 32; no 32; no 32; no 3; ok f0; ok v0; no 3; no 2; no 32; no 32; no 32; no 32",
+    ),
+    (
+        "comments_and_empty_lines",
+        "# a comment;;#;load f;# load g;;mount v",
+        "ok f0; ok v0",
+    ),
+    (
+        "leading_zeros",
+        "load f; mount v; attach f00 v000 a 1; attach f0 v0 b 2; phase i007; phase i001; plan i00 complete 0; list v0; go w015 o00",
+        "ok f0; ok v0; ok i0; ok i1; no 8; attached; ok; ok o0; pre i1 with; pre i0 complete 0; post i1; reply 0 0 -",
+    ),
+];
+
+// Runs the input in pieces of so many bytes, and compares what it prints.
+fn compare(rt: &impl Abort, alloc: Global, name: &str, input: &[u8], output: &[u8], step: usize) {
+    let mut bytes = Vec::new(alloc);
+    let reader = Pieces {
+        rest: input,
+        step,
+        is_interrupted: false,
+        has_fault: false,
+    };
+    let end = script(alloc, reader, Kept { bytes: &mut bytes });
+    assert_eq!(rt; end, ScriptEnd::Ended, "{name}");
+    assert_eq!(rt; bytes.as_slice(), output, "{name}");
+}
+
+#[test]
+fn rows(rt: HostRuntime) {
+    let alloc = rt.alloc();
+    for (name, input, output) in ROWS {
+        let input = lines(alloc, &rt, input);
+        let output = lines(alloc, &rt, output);
+        for step in [1, 7, 4096] {
+            compare(&rt, alloc, name, input.as_slice(), output.as_slice(), step);
+        }
+        let cut = &input[..input.len().saturating_sub(1)];
+        compare(&rt, alloc, name, cut, output.as_slice(), 4096);
+    }
+    compare(&rt, alloc, "empty_script", b"", b"", 1);
+    compare(&rt, alloc, "an empty line", b"\n", b"", 1);
+    compare(
+        &rt,
+        alloc,
+        "any bytes",
+        b"\xff\xfe \x00\r\nload f\r\n\rload f\nload\tf\nload f",
+        b"no 32\nno 3\nno 32\nno 32\nok f0\n",
+        3,
+    );
+}
+
+#[test]
+fn thirty_two_instances(rt: HostRuntime) -> Result<(), Fail> {
+    let alloc = rt.alloc();
+    let mut input = b"load f\nmount v\n".to_vec(alloc)?;
+    let mut output = b"ok f0\nok v0\n".to_vec(alloc)?;
+    for number in 0..33u32 {
+        let altitude = number + 1;
+        writeln!(input, "attach f0 v0 n{number} {altitude}")?;
+        if number < 32 {
+            writeln!(output, "ok i{number}")?;
+        }
+    }
+    writeln!(output, "no 29")?;
+    compare(
+        &rt,
+        alloc,
+        "thirty_two_instances",
+        input.as_slice(),
+        output.as_slice(),
+        100,
+    );
+    Ok(())
+}
+
+#[test]
+fn long_lines(rt: HostRuntime) -> Result<(), Fail> {
+    let alloc = rt.alloc();
+    let mut input = Vec::new(alloc);
+    for (byte, len) in [
+        (b'#', 4096),
+        (b'#', 4097),
+        (b'x', 4097),
+        (b'#', 100_000),
+        (b'x', 4096),
+    ] {
+        for _ in 0..len {
+            input.push(byte)?;
+        }
+        input.push(b'\n')?;
+    }
+    input.extend_from_slice(b"load f")?;
+    let output = b"no 32\nno 32\nno 32\nno 32\nok f0\n";
+    for step in [1000, 16384] {
+        compare(&rt, alloc, "long lines", input.as_slice(), output, step);
+    }
+    Ok(())
+}
+
+#[test]
+fn most_lines(rt: HostRuntime) -> Result<(), Fail> {
+    let alloc = rt.alloc();
+    let mut input = b"load f\n".to_vec(alloc)?;
+    for _ in 0..99_999 {
+        input.push(b'\n')?;
+    }
+    let mut bytes = Vec::new(alloc);
+    let reader = input.as_slice();
+    assert_eq!(rt;
+        script(alloc, reader, Kept { bytes: &mut bytes }),
+        ScriptEnd::Ended
+    );
+    input.push(b'#')?;
+    bytes.clear();
+    let reader = input.as_slice();
+    assert_eq!(rt;
+        script(alloc, reader, Kept { bytes: &mut bytes }),
+        ScriptEnd::ReadFault
+    );
+    assert_eq!(rt; bytes.as_slice(), b"ok f0\n".as_slice());
+    Ok(())
+}
+
+#[test]
+fn faults(rt: HostRuntime) -> Result<(), Fail> {
+    let alloc = rt.alloc();
+    let mut bytes = Vec::new(alloc);
+    let reader = Pieces {
+        rest: b"load f\nmount",
+        step: 5,
+        is_interrupted: false,
+        has_fault: true,
+    };
+    assert_eq!(rt;
+        script(alloc, reader, Kept { bytes: &mut bytes }),
+        ScriptEnd::ReadFault
+    );
+    assert_eq!(rt; bytes.as_slice(), b"ok f0\n".as_slice());
+    let reader = b"load f\nload g".as_slice();
+    assert_eq!(rt; script(alloc, reader, Broken), ScriptEnd::WriteFault);
+    let reader = b"# nothing".as_slice();
+    assert_eq!(rt; script(alloc, reader, Broken), ScriptEnd::Ended);
+    Ok(())
+}
+
+// A reader that fails where what was printed before wasn't flushed.
+#[derive(Drop)]
+struct Asking<'a> {
+    rest: &'a [u8],
+    flushes: &'a Cell<u32>,
+    reads: u32,
+}
+
+impl Read for Asking<'_> {
+    fn read(&mut self, buf: &mut [u8]) -> io::Result<usize> {
+        self.reads = self.reads.saturating_add(1);
+        if self.flushes.get() < self.reads {
+            return Err(io::Error::from(io::ErrorKind::TimedOut));
+        }
+        let count = 1.min(self.rest.len()).min(buf.len());
+        let (front, behind) = self.rest.split_at(count);
+        buf[..count].copy_from_slice(front);
+        self.rest = behind;
+        Ok(count)
+    }
+}
+
+// A writer that counts its flushes.
+#[derive(Drop)]
+struct Flushed<'a>(&'a Cell<u32>);
+
+impl Write for Flushed<'_> {
+    fn write(&mut self, buf: &[u8]) -> io::Result<usize> {
+        Ok(buf.len())
+    }
+
+    fn flush(&mut self) -> io::Result<()> {
+        self.0.set(self.0.get().saturating_add(1));
+        Ok(())
+    }
+}
+
+#[test]
+fn flushed_before_each_read(rt: HostRuntime) -> Result<(), Fail> {
+    let flushes = Cell::new(0);
+    let reader = Asking {
+        rest: b"load f\nmount v\n",
+        flushes: &flushes,
+        reads: 0,
+    };
+    assert_eq!(rt;
+        script(rt.alloc(), reader, Flushed(&flushes)),
+        ScriptEnd::Ended
+    );
+    Ok(())
+}

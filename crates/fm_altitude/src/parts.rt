@@ -9,7 +9,7 @@ pub const ALTITUDE_ROOM: usize = 64;
 /// The digit that says nothing in front of a whole number and at the end of a fraction.
 const ZERO: u8 = b'0';
 
-// Whether the text is 1 to 64 characters, digits and at most one point, with a digit among them.
+/// Whether the text is 1 to 64 characters, digits and at most one point, with a digit among them.
 pub fn is_altitude(text: &[u8]) -> bool
     ensures { IsTrue result ↔ IsAltitude text.now }
 {
@@ -61,7 +61,7 @@ fn without_back_zeros(digits: &[u8]) -> &[u8]
     }
 }
 
-// The digits of an altitude before the point and behind it, without the zeros that say nothing.
+/// The digits of an altitude before the point and behind it, without the zeros that say nothing.
 pub fn trimmed_parts(text: &[u8]) -> (&[u8], &[u8])
     requires { IsAltitude text.now }
     ensures whole { result.0.now ≡ whole_of text.now }

@@ -24,7 +24,7 @@ fn joined<const N: usize>(first: &[u8], second: &[u8], third: &[u8]) -> [u8; N]
     buffer
 }
 
-// The text of a whole number and a fraction: `0` for zero, and no point without a fraction.
+/// The text of a whole number and a fraction: `0` for zero, and no point without a fraction.
 pub fn spell<const N: usize>(whole: &[u8], fraction: &[u8]) -> [u8; N]
     requires { length (spelled whole.now fraction.now) ≤ N }
     ensures { result ≡ padded N (spelled whole.now fraction.now) }
@@ -40,7 +40,7 @@ pub fn spell<const N: usize>(whole: &[u8], fraction: &[u8]) -> [u8; N]
     }
 }
 
-// How many characters that text has.
+/// How many characters that text has.
 pub fn spelled_len(whole: &[u8], fraction: &[u8]) -> usize
     requires { length (spelled whole.now fraction.now) ≤ 64 }
     ensures { result ≡ length (spelled whole.now fraction.now) }

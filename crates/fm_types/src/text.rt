@@ -3,7 +3,7 @@
 ghost use Rattle.std.specs.Prelude.{◌≡◌, ◌≤◌, length};
 ghost use Rattle.fm_types.specs.Texts.{padded};
 
-// The array that begins with `text` and has zeros behind it.
+/// The array that begins with `text` and has zeros behind it.
 pub fn padded_copy<const N: usize>(text: &[u8]) -> [u8; N]
     requires { length text.now ≤ N }
     ensures { result ≡ padded N text.now }

@@ -1,6 +1,6 @@
 //! Events as values, one after another.
 
-ghost use Rattle.std.specs.Prelude.{◌≡◌, IfOk, List};
+ghost use Rattle.std.specs.Prelude.{◌≡◌, IfErr, IfOk};
 ghost use Rattle.fm_world.specs.World.{empty_world};
 ghost use Rattle.fm_core.specs.Returned.{status_of};
 ghost use Rattle.fm_world.specs.Steps.{Steps, RunThrough};
@@ -66,7 +66,8 @@ impl State {
 /// and that the Headline holds after each. Refused with 1 alone, where memory for the replies or the state was refused. The events are taken by value,
 /// so that no byte that they bring is copied.
 pub fn run(alloc: Global, steps: Vec<Step>) -> Result<(State, Vec<StepReply>), Status>
-    ensures { IfOk result (λ ended. RunThrough Headline empty_world steps.items ended.1.items ended.0) }
+    ensures run { IfOk result (λ ended. RunThrough Headline empty_world steps.items ended.1.items ended.0) }
+    ensures memory { IfErr result (λ status. status ≡ Status.NoMemory) }
 {
     let mut state = State::new(alloc)?;
     let mut replies = Vec::new(alloc);

@@ -1,6 +1,6 @@
 //! The state itself: what it consists of, where workers are, and what always holds of it.
 
-ghost use Rattle.std.specs.Prelude.{◌≡◌, IfOk};
+ghost use Rattle.std.specs.Prelude.{◌≡◌, IfErr, IfOk};
 ghost use Rattle.fm_world.specs.World.{empty_world};
 ghost use Rattle.fm_world.specs.Workers.{worker_at, is_idle};
 ghost use Rattle.fm_world.specs.Headline.{Headline};
@@ -38,7 +38,8 @@ impl State {
     /// The state before the first event: nothing is registered, mounted or attached, nothing is under way, each worker is idle. Refused with 1 where
     /// memory was refused (today it takes none).
     pub fn new(alloc: Global) -> Result<State, Status>
-        ensures { IfOk result (λ state. state ≡ empty_world) }
+        ensures empty { IfOk result (λ state. state ≡ empty_world) }
+        ensures memory { IfErr result (λ status. status ≡ Status.NoMemory) }
     {
         Ok(State {
             stack: Stack::new(alloc),

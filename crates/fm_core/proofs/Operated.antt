@@ -1,5 +1,5 @@
 -- The events on operations, from what their parts did.
-use Rattle.std.proofs.Common.{◌≡◌, ℕ, zero, suc, ◌<◌, arith, Bool, true, false, cond, not, List, [], ◌∷◌, Option, Some, None, Result, Ok, Err, refl, ap, sym, ◌∙◌, subst, inl, inr, ◌⊎◌, nat_le, nat_eq, length}
+use Rattle.std.proofs.Common.{◌≡◌, ℕ, zero, suc, ◌<◌, ◌==◌, ◌&&◌, arith, Bool, true, false, cond, not, List, [], ◌∷◌, Option, Some, None, Result, Ok, Err, refl, ap, sym, ◌∙◌, subst, inl, inr, ◌⊎◌, nat_le, nat_eq, length}
 use Rattle.std.specs.Prelude.{option_map, unwrap_or, slice_get, is_ok, is_some, IfErr}
 use Rattle.std.proofs.lemmas.Bool.{cases_Bool, false≢true, eq-eqb, and_from, lt-leb, leb-false}
 use Rattle.std.proofs.lemmas.Option.{none-some, same_Some, slice_get_within}
@@ -25,6 +25,7 @@ use Rattle.fm_flow.specs.declared.entry.PreState.{PreState}
 use Rattle.fm_flow.specs.declared.entry.PreState.TheVariants as pre
 use Rattle.fm_flow.specs.declared.stage.Stage.{Stage}
 use Rattle.fm_flow.specs.declared.stage.Stage.TheVariants.{PreRunning, InBase, PostRunning, InDrain}
+use Rattle.fm_flow.specs.declared.entry.Entry.{Entry}
 use Rattle.fm_flow.specs.Record.{FlowRecord}
 use Rattle.fm_flow.specs.Steps.{next_of, pre_returned_of, pre_after, base_returned_of, base_after, base_reply, base_fits, post_returned_of, post_after, data_reply, drain_returned_of, MayLieBelow}
 use Rattle.fm_flow.specs.Verdict.{is_counted}
@@ -36,11 +37,11 @@ use Rattle.fm_world.specs.declared.worker.Worker.TheVariants as place
 use Rattle.fm_world.specs.World.{World}
 use Rattle.fm_world.specs.Workers.{worker_at, put, is_idle, after_next}
 use Rattle.fm_world.specs.Events.{Begins, begin_refusals, begun_flow, Nexts, NextsOver, FindsBelow, Unless, PreReturns, PreReturnsAt, BaseReturns, BaseReturnsAt, PostReturns, PostReturnsAt, Collects, drains_at, state_at, state_given, without_context, has_post, returned}
-use Rattle.fm_world.specs.Headline.{is_in_at, is_stage}
+use Rattle.fm_world.specs.Headline.{Spot, AtPre, AtBase, AtPost, AtDrain, is_in_at, is_spot, spot_at}
 use Rattle.fm_world.specs.Sound.{IsSound, IsAmong}
 use Rattle.fm_flow.proofs.Tables.{found_holds}
 use Rattle.fm_core.proofs.Changes.{change_agrees, change_same}
-use Rattle.fm_world.proofs.Ties.{tied_there, stage_pre, stage_base, stage_post, stage_drain}
+use Rattle.fm_world.proofs.Ties.{tied_there, spot_pre, spot_base, spot_post, spot_drain}
 use Rattle.fm_world.proofs.Ties.{counted_from}
 use Rattle.fm_world.proofs.Operations.{may_visit, counted_quiet, told_there}
 use Rattle.fm_core.specs.Ahead.{IsDownOrCall}
@@ -125,29 +126,31 @@ drain_is (Some (place.Post o i)) p h = absurd (none-some p h)
 drain_is None p h = absurd (none-some p h)
 
 -- the operation that a worker is inside of stands so
-stands_in : (old : World) (k : WorkerId) (a : Worker) (o : OpId) (s : Stage) (wanted : Stage) → IsSound old → worker_at old.workers k ≡ Some a
-    → is_in_at o s a ≡ true → ((x : Stage) → is_stage s x ≡ true → x ≡ wanted)
+stands_in : (old : World) (k : WorkerId) (a : Worker) (o : OpId) (s : Spot) (wanted : Stage) → IsSound old → worker_at old.workers k ≡ Some a
+    → is_in_at o s a ≡ true → ((stage : Stage) (entries : List Entry) → is_spot s (spot_at stage entries) ≡ true → stage ≡ wanted)
     → (r : FlowRecord) × (operation_at o old.flow ≡ Some r) × (r.stage ≡ wanted)
 stands_in old k a o s wanted sound at inside is =
     let there = tied_there old.workers old.flow k a o s sound.workers at inside in
-    (there.0, there.1, is there.0.stage there.2)
+    (there.0, there.1, is there.0.stage there.0.entries there.2)
+
+both : (o : OpId) (i : InstanceId) → ((o.0 == o.0) && (i.0 == i.0)) ≡ true
+both o i = and_from (nat_eq o.0 o.0) (nat_eq i.0 i.0) (eq-eqb o.0 o.0 refl) (eq-eqb i.0 i.0 refl)
 
 pub in_pre : (old : World) (k : WorkerId) (o : OpId) (i : InstanceId) → IsSound old → worker_at old.workers k ≡ Some (place.Pre o i)
     → (r : FlowRecord) × (operation_at o old.flow ≡ Some r) × (r.stage ≡ PreRunning)
-in_pre old k o i s at = stands_in old k (place.Pre o i) o PreRunning PreRunning s at (eq-eqb o.0 o.0 refl) stage_pre
+in_pre old k o i s at = stands_in old k (place.Pre o i) o (AtPre i.0) PreRunning s at (both o i) (λ stage entries h. (spot_pre i.0 stage entries h).0)
 
 pub in_base : (old : World) (k : WorkerId) (o : OpId) → IsSound old → worker_at old.workers k ≡ Some (place.Base o)
     → (r : FlowRecord) × (operation_at o old.flow ≡ Some r) × (r.stage ≡ InBase)
-in_base old k o s at = stands_in old k (place.Base o) o InBase InBase s at (eq-eqb o.0 o.0 refl) stage_base
+in_base old k o s at = stands_in old k (place.Base o) o AtBase InBase s at (eq-eqb o.0 o.0 refl) spot_base
 
 pub in_post : (old : World) (k : WorkerId) (o : OpId) (i : InstanceId) → IsSound old → worker_at old.workers k ≡ Some (place.Post o i)
     → (r : FlowRecord) × (operation_at o old.flow ≡ Some r) × (r.stage ≡ PostRunning)
-in_post old k o i s at = stands_in old k (place.Post o i) o PostRunning PostRunning s at (eq-eqb o.0 o.0 refl) stage_post
+in_post old k o i s at = stands_in old k (place.Post o i) o (AtPost i.0) PostRunning s at (both o i) (λ stage entries h. (spot_post i.0 stage entries h).0)
 
 pub in_drain : (old : World) (k : WorkerId) (o : OpId) (i : InstanceId) → IsSound old → worker_at old.workers k ≡ Some (place.Drain o i)
     → (r : FlowRecord) × (operation_at o old.flow ≡ Some r) × (r.stage ≡ InDrain i)
-in_drain old k o i s at = stands_in old k (place.Drain o i) o (InDrain i) (InDrain i) s at
-    (and_from (nat_eq o.0 o.0) (nat_eq i.0 i.0) (eq-eqb o.0 o.0 refl) (eq-eqb i.0 i.0 refl)) (stage_drain i)
+in_drain old k o i s at = stands_in old k (place.Drain o i) o (AtDrain i.0) (InDrain i) s at (both o i) (spot_drain i)
 
 pub stands_from : (o : OpId) (t : FlowTable) (wanted : Stage) → (r : FlowRecord) × (operation_at o t ≡ Some r) × (r.stage ≡ wanted) → StandsAt wanted (operation_at o t)
 stands_from o t wanted h = subst (StandsAt wanted) (sym h.1) h.2

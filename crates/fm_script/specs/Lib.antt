@@ -2,3 +2,4 @@ pub mod Commands
 pub mod Words
 pub mod Numbers
 pub mod Hexadecimal
+pub mod Keywords

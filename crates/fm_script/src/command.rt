@@ -1,8 +1,11 @@
 //! The commands of the script language, and how the words of a line spell them.
 
-ghost use Rattle.std.specs.Prelude.{IfErr};
-ghost use Rattle.fm_script.specs.Commands.{IsUnread, IsUnreadable};
+ghost use Rattle.std.specs.Prelude.{◌≡◌, map};
+ghost use Rattle.fm_script.specs.Numbers.{id_read};
+ghost use Rattle.fm_script.specs.declared.command.Command.TheVariants as CommandOf;
+ghost use Rattle.fm_script.specs.Commands.{Reads, ReadsAs, Loads, Mounts, Attaches, AnswersFor, ReadsVerdict, ReadsComplete, callbacks_read, step_read, post_read, bare_verdict, one_id, id_or_bad, worker_id, instance_id};
 
+use crate::keyword::Keyword;
 use crate::number::{read_id, read_status};
 use fm_altitude::Altitude;
 use fm_types::{Name, Status};
@@ -94,40 +97,79 @@ impl Command {
     /// Reads the command that the words of a line spell. It is 32 (BadRequest) where the command is unknown, where it has another number of
     /// words, and where a word can't be read; after that 3 (BadName) or 2 (BadAltitude) where a name or an altitude is refused by its reader.
     pub fn read(words: &[&[u8]]) -> Result<Command, Status>
-        ensures { IfErr result IsUnread }
+        ensures { Reads (map (λ word. word.now) words.now) result }
     {
-        let Some((command, words)) = words.split_first() else {
+        let Some((first, words)) = words.split_first() else {
             return Err(Status::BadRequest);
         };
-        match *command {
-            b"load" => read_load(words),
-            b"mount" => read_mount(words),
-            b"attach" => read_attach(words),
-            b"list" | b"base" | b"collect" | b"phase" => read_of_one(command, words),
-            b"next" | b"go" => read_step(command, words),
-            b"pre" => read_pre(words),
-            b"plan" => read_plan(words),
-            b"post" => read_post(words),
-            _ => Err(Status::BadRequest),
+        let Some(keyword) = Keyword::read(first) else {
+            return Err(Status::BadRequest);
+        };
+        read_as(keyword, words)
+    }
+}
+
+// Reads the words behind a keyword.
+fn read_as(keyword: Keyword, words: &[&[u8]]) -> Result<Command, Status>
+    ensures { ReadsAs keyword (map (λ word. word.now) words.now) result }
+{
+    match keyword {
+        Keyword::Load => read_load(words),
+        Keyword::Mount => read_mount(words),
+        Keyword::Attach => read_attach(words),
+        Keyword::List => Ok(Command::List {
+            volume: one_id(b'v', words)?,
+        }),
+        Keyword::Next => {
+            let (worker, operation) = read_step(words)?;
+            Ok(Command::Next { worker, operation })
         }
+        Keyword::Pre => read_pre(words),
+        Keyword::Plan => read_plan(words),
+        Keyword::Base => Ok(Command::Base {
+            worker: one_id(b'w', words)?,
+        }),
+        Keyword::Post => read_post(words),
+        Keyword::Go => {
+            let (worker, operation) = read_step(words)?;
+            Ok(Command::Go { worker, operation })
+        }
+        Keyword::Collect => Ok(Command::Collect {
+            operation: one_id(b'o', words)?,
+        }),
+        Keyword::Phase => Ok(Command::Phase {
+            instance: one_id(b'i', words)?,
+        }),
     }
 }
 
 fn read_load(words: &[&[u8]]) -> Result<Command, Status>
-    ensures { IfErr result IsUnread }
+    ensures { Loads (map (λ word. word.now) words.now) result }
 {
     let (name, callbacks) = match words {
         [name] => (*name, Callbacks::Both),
-        [name, b"only-pre"] => (*name, Callbacks::PreOnly),
-        [name, b"only-post"] => (*name, Callbacks::PostOnly),
+        [name, option] => (*name, read_callbacks(option)?),
         _ => return Err(Status::BadRequest),
     };
     let name = Name::read(name)?;
     Ok(Command::Load { name, callbacks })
 }
 
+// The callbacks that an option leaves, or 32.
+fn read_callbacks(option: &[u8]) -> Result<Callbacks, Status>
+    ensures { result ≡ callbacks_read option.now }
+{
+    if option == b"only-pre".as_slice() {
+        Ok(Callbacks::PreOnly)
+    } else if option == b"only-post".as_slice() {
+        Ok(Callbacks::PostOnly)
+    } else {
+        Err(Status::BadRequest)
+    }
+}
+
 fn read_mount(words: &[&[u8]]) -> Result<Command, Status>
-    ensures { IfErr result IsUnread }
+    ensures { Mounts (map (λ word. word.now) words.now) result }
 {
     let [name] = words else {
         return Err(Status::BadRequest);
@@ -137,7 +179,7 @@ fn read_mount(words: &[&[u8]]) -> Result<Command, Status>
 }
 
 fn read_attach(words: &[&[u8]]) -> Result<Command, Status>
-    ensures { IfErr result IsUnread }
+    ensures { Attaches (map (λ word. word.now) words.now) result }
 {
     let [filter, volume, name, altitude] = words else {
         return Err(Status::BadRequest);
@@ -154,50 +196,20 @@ fn read_attach(words: &[&[u8]]) -> Result<Command, Status>
     })
 }
 
-// The commands that name one thing.
-fn read_of_one(command: &[u8], words: &[&[u8]]) -> Result<Command, Status>
-    ensures { IfErr result IsUnread }
-{
-    let [word] = words else {
-        return Err(Status::BadRequest);
-    };
-    match command {
-        b"list" => Ok(Command::List {
-            volume: id(b'v', word)?,
-        }),
-        b"base" => Ok(Command::Base {
-            worker: id(b'w', word)?,
-        }),
-        b"collect" => Ok(Command::Collect {
-            operation: id(b'o', word)?,
-        }),
-        b"phase" => Ok(Command::Phase {
-            instance: id(b'i', word)?,
-        }),
-        _ => Err(Status::BadRequest),
-    }
-}
-
-// The commands by which a worker takes one step of an operation or all.
-fn read_step(command: &[u8], words: &[&[u8]]) -> Result<Command, Status>
-    ensures { IfErr result IsUnread }
+// The words of a step: a worker and an operation.
+fn read_step(words: &[&[u8]]) -> Result<(u64, u64), Status>
+    ensures { result ≡ step_read (map (λ word. word.now) words.now) }
 {
     let [worker, operation] = words else {
         return Err(Status::BadRequest);
     };
-    let worker = id(b'w', worker)?;
-    let operation = id(b'o', operation)?;
-    match command {
-        b"next" => Ok(Command::Next { worker, operation }),
-        b"go" => Ok(Command::Go { worker, operation }),
-        _ => Err(Status::BadRequest),
-    }
+    Ok((id(b'w', worker)?, id(b'o', operation)?))
 }
 
 fn read_pre(words: &[&[u8]]) -> Result<Command, Status>
-    ensures { IfErr result IsUnread }
+    ensures { AnswersFor worker_id (map (λ word. word.now) words.now) CommandOf.Pre result }
 {
-    let [worker, verdict @ ..] = words else {
+    let Some((worker, verdict)) = words.split_first() else {
         return Err(Status::BadRequest);
     };
     let worker = id(b'w', worker)?;
@@ -206,9 +218,9 @@ fn read_pre(words: &[&[u8]]) -> Result<Command, Status>
 }
 
 fn read_plan(words: &[&[u8]]) -> Result<Command, Status>
-    ensures { IfErr result IsUnread }
+    ensures { AnswersFor instance_id (map (λ word. word.now) words.now) CommandOf.Plan result }
 {
-    let [instance, verdict @ ..] = words else {
+    let Some((instance, verdict)) = words.split_first() else {
         return Err(Status::BadRequest);
     };
     let instance = id(b'i', instance)?;
@@ -217,36 +229,62 @@ fn read_plan(words: &[&[u8]]) -> Result<Command, Status>
 }
 
 fn read_post(words: &[&[u8]]) -> Result<Command, Status>
-    ensures { IfErr result IsUnread }
-{
-    let [worker, b"done"] = words else {
-        return Err(Status::BadRequest);
-    };
-    let worker = id(b'w', worker)?;
-    Ok(Command::Post { worker })
-}
-
-fn read_verdict(words: &[&[u8]]) -> Result<Verdict, Status>
-    ensures { IfErr result IsUnreadable }
+    ensures { result ≡ post_read (map (λ word. word.now) words.now) }
 {
     match words {
-        [b"with"] => Ok(Verdict::With),
-        [b"none"] => Ok(Verdict::NoCallback),
-        [b"complete", status] => Ok(Verdict::Complete(status_of(status)?)),
+        [worker, verdict] if *verdict == b"done".as_slice() => Ok(Command::Post {
+            worker: id(b'w', worker)?,
+        }),
         _ => Err(Status::BadRequest),
     }
 }
 
-// The number of an id, or 32 where the word is no id of that letter.
-fn id(letter: u8, word: &[u8]) -> Result<u64, Status>
-    ensures { IfErr result IsUnreadable }
+fn read_verdict(words: &[&[u8]]) -> Result<Verdict, Status>
+    ensures { ReadsVerdict (map (λ word. word.now) words.now) result }
 {
-    read_id(letter, word).ok_or(Status::BadRequest)
+    match words {
+        [word] => read_bare_verdict(word),
+        [word, status] if *word == b"complete".as_slice() => read_complete(status),
+        _ => Err(Status::BadRequest),
+    }
 }
 
-// The status of a number from 0 to 33, or 32 where the word is no such number.
-fn status_of(word: &[u8]) -> Result<Status, Status>
-    ensures { IfErr result IsUnreadable }
+// A verdict of one word.
+fn read_bare_verdict(word: &[u8]) -> Result<Verdict, Status>
+    ensures { result ≡ bare_verdict word.now }
 {
-    read_status(word).ok_or(Status::BadRequest)
+    if word == b"with".as_slice() {
+        Ok(Verdict::With)
+    } else if word == b"none".as_slice() {
+        Ok(Verdict::NoCallback)
+    } else {
+        Err(Status::BadRequest)
+    }
+}
+
+// The operation ends with the status of that number, from 0 to 33.
+fn read_complete(word: &[u8]) -> Result<Verdict, Status>
+    ensures { ReadsComplete word.now result }
+{
+    match read_status(word) {
+        Some(status) => Ok(Verdict::Complete(status)),
+        None => Err(Status::BadRequest),
+    }
+}
+
+// The id that is the only word.
+fn one_id(letter: u8, words: &[&[u8]]) -> Result<u64, Status>
+    ensures { result ≡ one_id letter (map (λ word. word.now) words.now) }
+{
+    let [word] = words else {
+        return Err(Status::BadRequest);
+    };
+    id(letter, word)
+}
+
+// The number of an id, or 32 where the word is no id of that letter.
+fn id(letter: u8, word: &[u8]) -> Result<u64, Status>
+    ensures { result ≡ id_or_bad (id_read letter word.now) }
+{
+    read_id(letter, word).ok_or(Status::BadRequest)
 }

@@ -1,7 +1,7 @@
 //! The state that a script drives: each command becomes the events that it stands for. A worker that a script leaves inside a callback or a
 //! base call keeps here what it was given, until the script has it return.
 
-ghost use Rattle.std.specs.Prelude.{◌≡◌, ◌+◌, ◌-◌, ◌^◌, ◌<◌, ◌≤◌, max, min, IfErr, MatchResult, OnErr, OnOk, slice_index_or, slice_set};
+ghost use Rattle.std.specs.Prelude.{◌≡◌, ◌+◌, ◌-◌, ◌^◌, ◌<◌, ◌≤◌, max, min, IfErr, MatchResult, OnErr, OnOk, IsOk, ◌↔◌, length, vec_len, slice_index_or, slice_set};
 
 use crate::command::{Callbacks, Verdict};
 use fm_altitude::Altitude;
@@ -199,8 +199,10 @@ impl Interpreter {
     pub fn plan(&mut self, instance: u64, verdict: Verdict) -> Result<(), Status>
         ensures ok { OnOk result (self.new.plans.items ≡ slice_set self.old.plans.items instance verdict) }
         ensures err { OnErr result (self.new.plans.items ≡ self.old.plans.items) }
+        ensures there { IsOk result ↔ ((instance < length self.old.state.stack.instances) × (instance < 2 ^ 16) × (instance < vec_len self.old.plans)) }
         ensures refused { IfErr result (λ status. status ≡ Status.NoInstance) }
         ensures state { self.new.state ≡ self.old.state }
+        ensures rest { (self.new.held ≡ self.old.held) × (self.new.volumes ≡ self.old.volumes) × (self.new.operations ≡ self.old.operations) }
     {
         let instance = self.instance(instance)?;
         match self.plans.get_mut(usize::from(instance.0)) {
@@ -254,7 +256,8 @@ impl Interpreter {
     }
 
     fn instance(&self, number: u64) -> Result<InstanceId, Status>
-        ensures { MatchResult result (λ id. id.0 ≡ number) (λ status. status ≡ Status.NoInstance) }
+        ensures there { IsOk result ↔ ((number < length self.now.state.stack.instances) × (number < 2 ^ 16)) }
+        ensures number { MatchResult result (λ id. id.0 ≡ number) (λ status. status ≡ Status.NoInstance) }
     {
         match u16::try_from(number) {
             Ok(id) if usize::from(id) < self.state.instances() => Ok(InstanceId(id)),

@@ -5,6 +5,7 @@
 mod command;
 mod hexadecimal;
 mod interpreter;
+mod keyword;
 mod line;
 mod number;
 mod output;

@@ -15,10 +15,11 @@ use Rattle.fm_flow.specs.declared.stage.Stage.TheVariants.{Descending, InBase, A
 use Rattle.fm_flow.specs.declared.entry.Entry.{Entry}
 use Rattle.fm_flow.specs.declared.entry.Entry.TheVariants.{Pre, Base, Post, Drain}
 use Rattle.fm_flow.specs.declared.entry.PreVisit.{PreVisit}
+use Rattle.fm_flow.specs.declared.entry.PostVisit.{PostVisit}
 use Rattle.fm_flow.specs.declared.entry.PreState.{PreState}
 use Rattle.fm_flow.specs.declared.entry.PostState.{PostState}
 use Rattle.fm_flow.specs.declared.entry.PostState.TheVariants as post
-use Rattle.fm_flow.specs.Entries.{visit_of, visited, last_visited, is_base, has_base, settle_pre, settle_post, settle_drain}
+use Rattle.fm_flow.specs.Entries.{visit_of, visited, last_visited, post_of, posted, last_posted, is_base, has_base, settle_pre, settle_post, settle_drain}
 use Rattle.fm_flow.specs.Steps.{post_leads}
 use Rattle.fm_flow.specs.Sound.{after, walk, way_of, if_down}
 use Rattle.fm_stack.specs.StackWorld.{StackWorld}
@@ -27,7 +28,7 @@ use Rattle.fm_stack.specs.Follows.{Follows}
 use Rattle.fm_stack.specs.Stacks.{IsStack}
 use Rattle.fm_world.specs.Descent.{IsDescent, HasRoom, last_of}
 use Rattle.fm_world.specs.Sound.{IsAmongAt, NoneLeft}
-use Rattle.fm_world.proofs.Descents.{descent_begins, descent_visits, descent_reaches, descent_follows, none_follows, room_begins, room_visits, room_follows, last_of-cons}
+use Rattle.fm_world.proofs.Descents.{descent_begins, descent_visits, descent_reaches, descent_follows, none_follows, room_begins, room_visits, room_follows, last_of-cons, last_of-push}
 
 -- ---- an operation on its way down has no base entry
 
@@ -83,6 +84,12 @@ no_base s es h u = no_base_from Descending es (way_of s) h u
 
 visited_push : (es : List Entry) (e : Entry) → visited (es ++ e ∷ []) ≡ visited es ++ filter_map visit_of (e ∷ [])
 visited_push es e = filter_map-append visit_of es (e ∷ [])
+
+pub visit_last : (es : List Entry) (visit : PreVisit) → last_visited (es ++ Pre visit ∷ []) ≡ Some visit.instance.0
+visit_last es visit = ap last_of (visited_push es (Pre visit)) ∙ last_of-push (visited es) visit.instance.0
+
+pub post_last : (es : List Entry) (visit : PostVisit) → last_posted (es ++ Post visit ∷ []) ≡ Some visit.instance.0
+post_last es visit = ap last_of (filter_map-append post_of es (Post visit ∷ [])) ∙ last_of-push (posted es) visit.instance.0
 
 base_push : (es : List Entry) (e : Entry) → has_base (es ++ e ∷ []) ≡ (has_base es || (is_base e || false))
 base_push es e = list_any-append is_base es (e ∷ [])

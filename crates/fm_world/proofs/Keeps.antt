@@ -21,14 +21,12 @@ use Rattle.fm_stack.specs.Instances.{is_setup}
 use Rattle.fm_stack.specs.Events as stack
 use Rattle.fm_stack.specs.Follows.{Follows}
 use Rattle.fm_stack.specs.Stacks.{IsStack}
-use Rattle.fm_flow.specs.declared.stage.Stage.{Stage}
-use Rattle.fm_flow.specs.declared.stage.Stage.TheVariants.{PreRunning, InBase, PostRunning, InDrain}
 use Rattle.fm_world.specs.declared.worker.Worker.{Worker}
 use Rattle.fm_world.specs.declared.worker.Worker.TheVariants as place
 use Rattle.fm_world.specs.World.{World}
 use Rattle.fm_world.specs.Workers.{worker_at, put, is_idle, after_attach}
 use Rattle.fm_world.specs.Events.{Registers, Mounts, Attaches, SetsUp, SetsUpAt, Unless}
-use Rattle.fm_world.specs.Headline.{is_in_at}
+use Rattle.fm_world.specs.Headline.{Spot, AtPre, AtBase, AtPost, AtDrain, is_in_at}
 use Rattle.fm_world.specs.Sound.{IsSound, IsAmong, is_in_setup, setup_row}
 use Rattle.fm_world.proofs.Counts.{count-some}
 use Rattle.fm_world.proofs.Ties.{one, count_moves, idle_is_in_none}
@@ -39,7 +37,7 @@ use Rattle.fm_stack.proofs.SettingUp.{accepted_keeps, accepted_follows, refused_
 
 -- filters, volumes and instances change, workers move outside operations
 stack_moves : (w : World) (t : StackWorld) (workers : List Worker) → IsStack t → Follows w.stack t → length workers ≡ 48
-    → ((o : OpId) (stage : Stage) → count_by (is_in_at o stage) workers ≡ count_by (is_in_at o stage) w.workers)
+    → ((o : OpId) (spot : Spot) → count_by (is_in_at o spot) workers ≡ count_by (is_in_at o spot) w.workers)
     → ((i : ℕ) → count_by (is_in_setup i) workers ≡ setup_row (slice_get t.instances i))
     → IsSound w → IsSound (record w { stack = t; workers = workers })
 stack_moves w t workers stack follows hands same setups h = record {
@@ -47,7 +45,7 @@ stack_moves w t workers stack follows hands same setups h = record {
   flow = h.flow;
   among = All-weaker (IsAmong w.stack) (IsAmong t) (λ r k. among_follows w.stack t r.volume r.born r.operation r.entries r.stage follows k) w.flow.operations h.among;
   hands = hands;
-  workers = λ o stage. same o stage ∙ h.workers o stage;
+  workers = λ o spot. same o spot ∙ h.workers o spot;
   setups = setups;
 }
 
@@ -61,7 +59,7 @@ unfolding Registers stack.Registers
 register_keeps old name registration (Ok f) new h s =
     subst IsSound (sym (same_rest old new (stack.registered old.stack name registration) h.0.1.1 h.1))
     (stack_moves old (stack.registered old.stack name registration) old.workers (registered_keeps old.stack name registration s.stack h.0.0)
-    (registered_follows old.stack name registration s.stack) s.hands (λ o stage. refl) s.setups s)
+    (registered_follows old.stack name registration s.stack) s.hands (λ o spot. refl) s.setups s)
 register_keeps old name registration (Err why) new h s = subst IsSound (sym (same_rest old new old.stack h.0.1 h.1)) s
 
 pub mount_keeps : (old : World) (name : List ℕ) (result : Result VolumeId Status) (new : World) → Mounts old name result new → IsSound old → IsSound new
@@ -69,7 +67,7 @@ unfolding Mounts stack.Mounts
 mount_keeps old name (Ok v) new h s =
     subst IsSound (sym (same_rest old new (stack.mounted old.stack name) h.0.1.1 h.1))
     (stack_moves old (stack.mounted old.stack name) old.workers (mounted_keeps old.stack name s.stack h.0.0)
-    (mounted_follows old.stack name s.stack) s.hands (λ o stage. refl) s.setups s)
+    (mounted_follows old.stack name s.stack) s.hands (λ o spot. refl) s.setups s)
 mount_keeps old name (Err why) new h s = subst IsSound (sym (same_rest old new old.stack h.0.1 h.1)) s
 
 -- ---- attach
@@ -84,17 +82,16 @@ setup_push [] row (suc j) h = grind (arith, nat_tests)
 setup_push (x ∷ rows) row zero h = grind (arith, nat_tests)
 setup_push (x ∷ rows) row (suc j) h = setup_push rows row j h ∙ ap (λ b. setup_row (slice_get rows j) + one b) (sym (same_suc (length rows) j))
 
-setup_in_none : (i : InstanceId) (p : OpId) (s : Stage) → is_in_at p s (place.Setup i) ≡ false
-setup_in_none i p PreRunning = refl
-setup_in_none i p InBase = refl
-setup_in_none i p PostRunning = refl
-setup_in_none i p (InDrain j) = refl
-setup_in_none i p _ = refl
+setup_in_none : (i : InstanceId) (p : OpId) (s : Spot) → is_in_at p s (place.Setup i) ≡ false
+setup_in_none i p (AtPre j) = refl
+setup_in_none i p AtBase = refl
+setup_in_none i p (AtPost j) = refl
+setup_in_none i p (AtDrain j) = refl
 
 -- a worker moves between places outside operations
 moves_outside : (workers : List Worker) (k : WorkerId) (a b : Worker) → worker_at workers k ≡ Some a
-    → ((p : OpId) (s : Stage) → is_in_at p s a ≡ false) → ((p : OpId) (s : Stage) → is_in_at p s b ≡ false)
-    → (p : OpId) (s : Stage) → count_by (is_in_at p s) (put workers k b) ≡ count_by (is_in_at p s) workers
+    → ((p : OpId) (s : Spot) → is_in_at p s a ≡ false) → ((p : OpId) (s : Spot) → is_in_at p s b ≡ false)
+    → (p : OpId) (s : Spot) → count_by (is_in_at p s) (put workers k b) ≡ count_by (is_in_at p s) workers
 moves_outside workers k a b h na nb p s =
     let moves = count_moves (is_in_at p s) workers k a b h in
     let from : one (is_in_at p s a) ≡ 0 = ap one (na p s) in

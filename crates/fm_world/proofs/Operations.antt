@@ -49,12 +49,12 @@ use Rattle.fm_world.specs.declared.worker.Worker.TheVariants as place
 use Rattle.fm_world.specs.World.{World}
 use Rattle.fm_world.specs.Workers.{worker_at, put, is_idle, after_next}
 use Rattle.fm_world.specs.Events.{Begins, Nexts, NextsOver, LiesBelow, FindsBelow, PreReturns, PreReturnsAt, BaseReturns, BaseReturnsAt, PostReturns, PostReturnsAt, Collects, returned, state_at, state_given, drains_at, without_context, has_post}
-use Rattle.fm_world.specs.Headline.{is_stage, stands_at}
+use Rattle.fm_world.specs.Headline.{Spot, AtPre, AtBase, AtPost, AtDrain, spot_at, spot_of, is_spot, stands_at}
 use Rattle.fm_world.specs.Descent.{is_among}
 use Rattle.fm_world.specs.Sound.{IsSound, IsAmong, is_in_setup}
 use Rattle.fm_flow.proofs.Tables.{change_none, found_holds, all_change, all_without, find_without}
-use Rattle.fm_world.proofs.Ties.{counted_from, one, count_moves, AreTied, Matches, is_running, quiet_is_none, tied_moves, tied_stays, tied_there, matches_idle, matches_pre, matches_base, matches_post, matches_drain, stage_pre, stage_base, stage_post, stage_drain}
-use Rattle.fm_world.proofs.Amongs.{is_up, no_base, among_visits, among_other, among_base, among_settles, among_begins, settle_pre_visit, settle_pre_base, settle_post_visit, settle_post_base, settle_drain_visit, settle_drain_base}
+use Rattle.fm_world.proofs.Ties.{counted_from, one, count_moves, AreTied, Matches, is_running, quiet_is_none, quiet_is_nowhere, tied_moves, tied_stays, tied_there, matches_idle, matches_pre, matches_base, matches_post, matches_drain, spot_pre, spot_base, spot_post, spot_drain}
+use Rattle.fm_world.proofs.Amongs.{is_up, no_base, visit_last, post_last, among_visits, among_other, among_base, among_settles, among_begins, settle_pre_visit, settle_pre_base, settle_post_visit, settle_post_base, settle_drain_visit, settle_drain_base}
 use Rattle.fm_world.proofs.Descents.{next_unseen, room_is, or_left, or_right}
 use Rattle.fm_world.proofs.Keeps.{unless_cases, idle_there}
 use Rattle.fm_flow.proofs.Soundness.{sound_pre_returned, sound_base_returned, sound_post_returned, sound_drain_returned}
@@ -76,17 +76,17 @@ flow_moves w t workers flow among hands tied setups h = record {
 
 -- ---- begin
 
-stands_push : (p : OpId) (s : Stage) (rs : List FlowRecord) (r : FlowRecord) → is_stage s r.stage ≡ false
-    → unwrap_or (option_map (λ (x : FlowRecord). one (is_stage s x.stage)) (find (is_number p) (rs ++ r ∷ []))) 0
-    ≡ unwrap_or (option_map (λ (x : FlowRecord). one (is_stage s x.stage)) (find (is_number p) rs)) 0
+stands_push : (p : OpId) (s : Spot) (rs : List FlowRecord) (r : FlowRecord) → is_spot s (spot_of r) ≡ false
+    → unwrap_or (option_map (λ (x : FlowRecord). one (is_spot s (spot_of x))) (find (is_number p) (rs ++ r ∷ []))) 0
+    ≡ unwrap_or (option_map (λ (x : FlowRecord). one (is_spot s (spot_of x))) (find (is_number p) rs)) 0
 stands_push p s [] r h =
-    let read = λ (m : Option FlowRecord). unwrap_or (option_map (λ (x : FlowRecord). one (is_stage s x.stage)) m) 0 in
+    let read = λ (m : Option FlowRecord). unwrap_or (option_map (λ (x : FlowRecord). one (is_spot s (spot_of x))) m) 0 in
     elim (cases_Bool (is_number p r)) [
       | inl e ↦ ap (λ b. read (cond b (Some r) None)) e ∙ ap one h
       | inr e ↦ ap (λ b. read (cond b (Some r) None)) e
     ]
 stands_push p s (x ∷ rs) r h =
-    let read = λ (m : Option FlowRecord). unwrap_or (option_map (λ (y : FlowRecord). one (is_stage s y.stage)) m) 0 in
+    let read = λ (m : Option FlowRecord). unwrap_or (option_map (λ (y : FlowRecord). one (is_spot s (spot_of y))) m) 0 in
     elim (cases_Bool (is_number p x)) [
       | inl e ↦ ap (λ b. read (cond b (Some x) (find (is_number p) (rs ++ r ∷ [])))) e ∙ sym (ap (λ b. read (cond b (Some x) (find (is_number p) rs))) e)
       | inr e ↦ ap (λ b. read (cond b (Some x) (find (is_number p) (rs ++ r ∷ [])))) e ∙ stands_push p s rs r h
@@ -111,7 +111,7 @@ begin_keeps old (begin.List v) (Ok o) new h s =
     (All-push (IsAmong old.stack) old.flow.operations fresh s.among
     (among_begins old.stack v fresh.operation (is_to_visit_few old.stack s.stack v old.stack.births fresh.operation)))
     s.hands
-    (λ p stage. s.workers p stage ∙ sym (stands_push p stage old.flow.operations fresh (quiet_is_none Descending refl stage)))
+    (λ p spot. s.workers p spot ∙ sym (stands_push p spot old.flow.operations fresh (quiet_is_none Descending [] refl spot)))
     (λ i. refl) s)
 
 -- ---- next
@@ -216,17 +216,14 @@ next_collected k lies drains r = collected_or r.collected
 record Leads (s : StackWorld) (k : WorkerId) (o : OpId) (r : FlowRecord) (turned : Turned) (workers : List Worker) : Type 0 where
   pub among : IsAmong s turned.after
   -- no worker moves, and the operation stands as before; or this one goes into the operation as its stage says
-  pub how : ((after_next workers k o turned.reply ≡ workers) × ((x : Stage) → is_stage x turned.after.stage ≡ is_stage x r.stage))
-      ⊎ ((b : Worker) × (after_next workers k o turned.reply ≡ put workers k b) × (Matches o place.Idle r.stage) × (Matches o b turned.after.stage)
+  pub how : ((after_next workers k o turned.reply ≡ workers) × ((x : Spot) → is_spot x (spot_of turned.after) ≡ is_spot x (spot_of r)))
+      ⊎ ((b : Worker) × (after_next workers k o turned.reply ≡ put workers k b) × (Matches o place.Idle (spot_of r)) × (Matches o b (spot_of turned.after))
       × ((i : ℕ) → is_in_setup i b ≡ false))
 
 -- nothing happened
 leads_nowhere : (s : StackWorld) (k : WorkerId) (o : OpId) (r : FlowRecord) (reply : Result FlowAction Status) (workers : List Worker)
     → after_next workers k o reply ≡ workers → IsAmong s r → Leads s k o r (record { reply = reply; after = r }) workers
 leads_nowhere s k o r reply workers same h = record { among = h; how = inl (same, λ x. refl) }
-
-quiet_alike : (a b : Stage) → is_running a ≡ false → is_running b ≡ false → (x : Stage) → is_stage x a ≡ is_stage x b
-quiet_alike a b h k x = quiet_is_none a h x ∙ sym (quiet_is_none b k x)
 
 leads_pre : (s : StackWorld) (k : WorkerId) (o : OpId) (r : FlowRecord) (i : InstanceId) (m : Option Params) (workers : List Worker) → IsStack s
     → r.stage ≡ Descending → has_base r.entries ≡ false
@@ -235,7 +232,9 @@ leads_pre s k o r i None workers stack e none lies h = leads_nowhere s k o r (Er
 leads_pre s k o r i (Some p) workers stack e none lies h = record {
   among = among_visits s r.volume r.born r.operation r.entries r.stage PreRunning
       (record { instance = i; worker = k; state = pre.Running; place = length r.kept }) stack none (λ x. absurd (pre_is_not_base x)) lies.0 h;
-  how = inr (place.Pre o i, refl, matches_idle o r.stage (ap is_running e), matches_pre o i, λ j. refl);
+  how = inr (place.Pre o i, refl, matches_idle o r.stage r.entries (ap is_running e),
+      subst (Matches o (place.Pre o i)) (sym (ap (option_map AtPre) (visit_last r.entries (record { instance = i; worker = k; state = pre.Running; place = length r.kept })))) (matches_pre o i),
+      λ j. refl);
 }
   where
     pre_is_not_base : PreRunning ≡ InBase → ⊥
@@ -246,7 +245,7 @@ leads_base : (s : StackWorld) (k : WorkerId) (o : OpId) (r : FlowRecord) (m : Op
 leads_base s k o r None workers e lies h = leads_nowhere s k o r (Err status.WrongStep) workers refl h
 leads_base s k o r (Some p) workers e lies h = record {
   among = record { descent = h.descent; room = h.room; there = h.there; base = λ x. lies };
-  how = inr (place.Base o, refl, matches_idle o r.stage (ap is_running e), matches_base o, λ j. refl);
+  how = inr (place.Base o, refl, matches_idle o r.stage r.entries (ap is_running e), matches_base o, λ j. refl);
 }
 
 leads_down : (s : StackWorld) (k : WorkerId) (o : OpId) (r : FlowRecord) (lies : Below) (workers : List Worker) → IsStack s
@@ -256,7 +255,7 @@ leads_down s k o r (below.Instance i false) workers stack e none lies h = record
   among = among_visits s r.volume r.born r.operation r.entries r.stage Descending
       (record { instance = i; worker = k; state = pre.Asked (record { number = 0; context = None }); place = length r.kept }) stack none
       (λ x. absurd (down_is_not_base x)) lies.0 h;
-  how = inl (refl, λ x. ap (is_stage x) (sym e));
+  how = inl (refl, λ x. ap (is_spot x) (sym (quiet_is_nowhere r.stage r.entries (ap is_running e))));
 }
   where
     down_is_not_base : Descending ≡ InBase → ⊥
@@ -266,17 +265,19 @@ leads_down s k o r (below.Known status) workers stack e none lies h = absurd lie
 
 -- the parameters of a postoperation are put in place: the entries stay
 unwound_parts : (place : ℕ) (r : FlowRecord) (m : Option Params) (s : StackWorld) → IsAmong s r
-    → IsAmong s (unwound_to place r m) × ((unwound_to place r m).stage ≡ r.stage)
-unwound_parts place r (Some p) s h = (h, refl)
-unwound_parts place r None s h = (h, refl)
+    → IsAmong s (unwound_to place r m) × ((unwound_to place r m).stage ≡ r.stage) × ((unwound_to place r m).entries ≡ r.entries)
+unwound_parts place r (Some p) s h = (h, refl, refl)
+unwound_parts place r None s h = (h, refl, refl)
 
 leads_post : (s : StackWorld) (k : WorkerId) (o : OpId) (r u : FlowRecord) (ask : Ask) (m : Option Params) (workers : List Worker)
-    → r.stage ≡ Ascending → u.stage ≡ r.stage → IsAmong s u → Leads s k o r (give_post k ask u m) workers
-leads_post s k o r u ask None workers e same h = record { among = h; how = inl (refl, λ x. ap (is_stage x) same) }
-leads_post s k o r u ask (Some p) workers e same h = record {
+    → r.stage ≡ Ascending → u.stage ≡ r.stage → u.entries ≡ r.entries → IsAmong s u → Leads s k o r (give_post k ask u m) workers
+leads_post s k o r u ask None workers e same kept h = record { among = h; how = inl (refl, λ x. ap (is_spot x) (ap (λ a. spot_at a u.entries) same ∙ ap (spot_at r.stage) kept)) }
+leads_post s k o r u ask (Some p) workers e same kept h = record {
   among = among_other s u.volume u.born u.operation u.entries u.stage PostRunning
       (Post (record { instance = ask.instance; worker = k; state = post.Running })) refl refl (λ x. absurd (post_is_not_base x)) h;
-  how = inr (place.Post o ask.instance, refl, matches_idle o r.stage (ap is_running e), matches_post o ask.instance, λ j. refl);
+  how = inr (place.Post o ask.instance, refl, matches_idle o r.stage r.entries (ap is_running e),
+      subst (Matches o (place.Post o ask.instance)) (sym (ap (option_map AtPost) (post_last u.entries (record { instance = ask.instance; worker = k; state = post.Running }))))
+      (matches_post o ask.instance), λ j. refl);
 }
   where
     post_is_not_base : PostRunning ≡ InBase → ⊥
@@ -286,7 +287,7 @@ leads_taken : (s : StackWorld) (k : WorkerId) (o : OpId) (r : FlowRecord) (ask :
     → Leads s k o r (cond b (call_post k ask r) (record { reply = Err status.WrongStep; after = r })) workers
 leads_taken s k o r ask workers true e h =
     let parts = unwound_parts ask.place r (slice_get r.kept ask.place) s h in
-    leads_post s k o r (unwound ask.place r) ask (unwound ask.place r).params workers e parts.1 parts.0
+    leads_post s k o r (unwound ask.place r) ask (unwound ask.place r).params workers e parts.1 parts.2 parts.0
 leads_taken s k o r ask workers false e h = leads_nowhere s k o r (Err status.WrongStep) workers refl h
 
 leads_up : (s : StackWorld) (k : WorkerId) (o : OpId) (r : FlowRecord) (drains : Bool) (m : Option Ask) (workers : List Worker) → r.stage ≡ Ascending → IsAmong s r
@@ -295,7 +296,7 @@ leads_up s k o r drains None workers e h = leads_nowhere s k o r (Ok action.Done
 leads_up s k o r true (Some ask) workers e h = record {
   among = among_other s r.volume r.born r.operation r.entries r.stage (InDrain ask.instance)
       (Drain (record { instance = ask.instance; is_running = true })) refl refl (λ x. absurd (drain_is_not_base x)) h;
-  how = inr (place.Drain o ask.instance, refl, matches_idle o r.stage (ap is_running e), matches_drain o ask.instance, λ j. refl);
+  how = inr (place.Drain o ask.instance, refl, matches_idle o r.stage r.entries (ap is_running e), matches_drain o ask.instance, λ j. refl);
 }
   where
     drain_is_not_base : InDrain ask.instance ≡ InBase → ⊥
@@ -408,11 +409,11 @@ next_keeps old k o result new h s =
 -- a worker leaves an operation, which then stands where no worker is inside it
 return_keeps : (old : World) (k : WorkerId) (a : Worker) (o : OpId) (r : FlowRecord) (f : FlowRecord → FlowRecord) → worker_at old.workers k ≡ Some a
     → operation_at o old.flow ≡ Some r → ((x : FlowRecord) → (f x).number.0 ≡ x.number.0) → ((x : FlowRecord) → (f x).collected ≡ x.collected)
-    → Matches o a r.stage → is_running (f r).stage ≡ false → ((i : ℕ) → is_in_setup i a ≡ false)
+    → Matches o a (spot_of r) → is_running (f r).stage ≡ false → ((i : ℕ) → is_in_setup i a ≡ false)
     → flow.IsSound (f r) → IsAmong old.stack (f r) → IsSound old → IsSound (returned old k o f)
 return_keeps old k a o r f at there number collected matches quiet outside sound among s =
     step_keeps old o r f (put old.workers k place.Idle) there number collected sound among (length-set old.workers k.0 place.Idle ∙ s.hands)
-    (tied_moves old.workers old.flow k a place.Idle o r f at there number matches (matches_idle o (f r).stage quiet) s.workers)
+    (tied_moves old.workers old.flow k a place.Idle o r f at there number matches (matches_idle o (f r).stage (f r).entries quiet) s.workers)
     (setups_stay old.workers k a place.Idle at outside (λ i. refl)) s
 
 -- what is told of an operation that is there
@@ -446,9 +447,10 @@ not_base_of stage h e = false≢true (sym h ∙ ap is_running e)
 pre_at : (old : World) (k : WorkerId) (given : PreVerdict) (lent : Data) (result : Result (Unit {0}) Status) (new : World) (m : Option Worker)
     → worker_at old.workers k ≡ m → PreReturnsAt old k given lent result new m → IsSound old → IsSound new
 pre_at old k given lent result new (Some (place.Pre o i)) at h s =
-    let there = tied_there old.workers old.flow k (place.Pre o i) o PreRunning s.workers at (eq-eqb o.0 o.0 refl) in
+    let there = tied_there old.workers old.flow k (place.Pre o i) o (AtPre i.0) s.workers at (and_from (o.0 == o.0) (i.0 == i.0) (eq-eqb o.0 o.0 refl) (eq-eqb i.0 i.0 refl)) in
     let r = there.0 in
-    let stage : r.stage ≡ PreRunning = stage_pre r.stage there.2 in
+    let spot = spot_pre i.0 r.stage r.entries there.2 in
+    let stage : r.stage ≡ PreRunning = spot.0 in
     let state = state_at old o i given in
     let quiet : is_running (pre_leads state) ≡ false =
     ap (λ x. is_running (pre_leads x)) (told_there (state_given old.stack i given) pre.Passed o old.flow r there.1)
@@ -459,7 +461,7 @@ pre_at old k given lent result new (Some (place.Pre o i)) at h s =
     ((result ≡ Ok tt) × (new ≡ returned old k o (pre_returned_of state lent))) h
     (λ fits event. subst IsSound (sym event.1)
     (return_keeps old k (place.Pre o i) o r (pre_returned_of state lent) at there.1 (λ x. refl) (λ x. refl)
-    (subst (Matches o (place.Pre o i)) (sym stage) (matches_pre o i)) quiet (λ j. refl)
+    (subst (Matches o (place.Pre o i)) (sym (ap (λ a. spot_at a r.entries) stage ∙ ap (option_map AtPre) spot.1)) (matches_pre o i)) quiet (λ j. refl)
     (sound_pre_returned state lent r stage (counted_from state quiet) (sym (told_there (λ (x : FlowRecord). data_fits x.operation x.path lent) false o old.flow r there.1) ∙ fits) sound)
     (among_settles old.stack r.volume r.born r.operation r.entries r.stage (pre_leads state) (settle_pre state) (settle_pre_visit state) (settle_pre_base state)
     (not_base_of (pre_leads state) quiet) among) s)) s
@@ -478,9 +480,9 @@ pre_keeps old k given lent result new h s = pre_at old k given lent result new (
 base_at : (old : World) (k : WorkerId) (call : Params) (given : Answer) (result : Result (Unit {0}) Status) (new : World) (m : Option Worker)
     → worker_at old.workers k ≡ m → BaseReturnsAt old k call given result new m → IsSound old → IsSound new
 base_at old k call given result new (Some (place.Base o)) at h s =
-    let there = tied_there old.workers old.flow k (place.Base o) o InBase s.workers at (eq-eqb o.0 o.0 refl) in
+    let there = tied_there old.workers old.flow k (place.Base o) o AtBase s.workers at (eq-eqb o.0 o.0 refl) in
     let r = there.0 in
-    let stage : r.stage ≡ InBase = stage_base r.stage there.2 in
+    let stage : r.stage ≡ InBase = spot_base r.stage r.entries there.2 in
     let sound = found_holds flow.IsSound (is_number o) old.flow.operations r s.flow.sound there.1 in
     let among = found_holds (IsAmong old.stack) (is_number o) old.flow.operations r s.among there.1 in
     let none = no_base r.stage r.entries sound.course.order (ap (λ x. is_up (way_of x)) stage) in
@@ -488,7 +490,7 @@ base_at old k call given result new (Some (place.Base o)) at h s =
     ((result ≡ Ok tt) × (new ≡ returned old k o (base_returned_of call given))) h
     (λ fits event. subst IsSound (sym event.1)
     (return_keeps old k (place.Base o) o r (base_returned_of call given) at there.1 (λ x. refl) (λ x. refl)
-    (subst (Matches o (place.Base o)) (sym stage) (matches_base o)) refl (λ j. refl)
+    (subst (Matches o (place.Base o)) (sym (ap (λ a. spot_at a r.entries) stage)) (matches_base o)) refl (λ j. refl)
     (let good = and_parts (fit r.operation r.path call) (nat_le (length given.bytes) 32768)
     (sym (told_there (base_fits call given) false o old.flow r there.1) ∙ fits) in
     sound_base_returned call given r stage good.0 (leb-true (length given.bytes) 32768 good.1) sound)
@@ -512,9 +514,10 @@ post_quiet answer.MoreProcessing = refl
 post_given : (old : World) (k : WorkerId) (o : OpId) (i : InstanceId) (given : PostVerdict) (lent : Data) (result : Result (Unit {0}) Status) (new : World)
     → worker_at old.workers k ≡ Some (place.Post o i) → PostReturnsAt old k given (Some lent) result new (Some (place.Post o i)) → IsSound old → IsSound new
 post_given old k o i given lent result new at h s =
-    let there = tied_there old.workers old.flow k (place.Post o i) o PostRunning s.workers at (eq-eqb o.0 o.0 refl) in
+    let there = tied_there old.workers old.flow k (place.Post o i) o (AtPost i.0) s.workers at (and_from (o.0 == o.0) (i.0 == i.0) (eq-eqb o.0 o.0 refl) (eq-eqb i.0 i.0 refl)) in
     let r = there.0 in
-    let stage : r.stage ≡ PostRunning = stage_post r.stage there.2 in
+    let spot = spot_post i.0 r.stage r.entries there.2 in
+    let stage : r.stage ≡ PostRunning = spot.0 in
     let state = post_state given in
     let sound = found_holds flow.IsSound (is_number o) old.flow.operations r s.flow.sound there.1 in
     let among = found_holds (IsAmong old.stack) (is_number o) old.flow.operations r s.among there.1 in
@@ -522,7 +525,7 @@ post_given old k o i given lent result new at h s =
     ((result ≡ Ok tt) × (new ≡ returned old k o (post_returned_of given lent))) h
     (λ fits event. subst IsSound (sym event.1)
     (return_keeps old k (place.Post o i) o r (post_returned_of given lent) at there.1 (λ x. refl) (λ x. refl)
-    (subst (Matches o (place.Post o i)) (sym stage) (matches_post o i)) (post_quiet given) (λ j. refl)
+    (subst (Matches o (place.Post o i)) (sym (ap (λ a. spot_at a r.entries) stage ∙ ap (option_map AtPost) spot.1)) (matches_post o i)) (post_quiet given) (λ j. refl)
     (sound_post_returned given lent r stage (sym (told_there (λ (x : FlowRecord). data_fits x.operation x.path lent) false o old.flow r there.1) ∙ fits) sound)
     (among_settles old.stack r.volume r.born r.operation r.entries r.stage (post_leads state) (settle_post state) (settle_post_visit state) (settle_post_base state)
     (not_base_of (post_leads state) (post_quiet given)) among) s)) s
@@ -530,14 +533,14 @@ post_given old k o i given lent result new at h s =
 drain_given : (old : World) (k : WorkerId) (o : OpId) (i : InstanceId) (new : World) → worker_at old.workers k ≡ Some (place.Drain o i)
     → new ≡ returned old k o (drain_returned_of i) → IsSound old → IsSound new
 drain_given old k o i new at e s =
-    let there = tied_there old.workers old.flow k (place.Drain o i) o (InDrain i) s.workers at (and_from (o.0 == o.0) (i.0 == i.0) (eq-eqb o.0 o.0 refl) (eq-eqb i.0 i.0 refl)) in
+    let there = tied_there old.workers old.flow k (place.Drain o i) o (AtDrain i.0) s.workers at (and_from (o.0 == o.0) (i.0 == i.0) (eq-eqb o.0 o.0 refl) (eq-eqb i.0 i.0 refl)) in
     let r = there.0 in
-    let stage : r.stage ≡ InDrain i = stage_drain i r.stage there.2 in
+    let stage : r.stage ≡ InDrain i = spot_drain i r.stage r.entries there.2 in
     let sound = found_holds flow.IsSound (is_number o) old.flow.operations r s.flow.sound there.1 in
     let among = found_holds (IsAmong old.stack) (is_number o) old.flow.operations r s.among there.1 in
     subst IsSound (sym e)
     (return_keeps old k (place.Drain o i) o r (drain_returned_of i) at there.1 (λ x. refl) (λ x. refl)
-    (subst (Matches o (place.Drain o i)) (sym stage) (matches_drain o i)) refl (λ j. refl) (sound_drain_returned i r stage sound)
+    (subst (Matches o (place.Drain o i)) (sym (ap (λ a. spot_at a r.entries) stage)) (matches_drain o i)) refl (λ j. refl) (sound_drain_returned i r stage sound)
     (among_settles old.stack r.volume r.born r.operation r.entries r.stage Ascending (settle_drain i.0) (settle_drain_visit i.0) (settle_drain_base i.0)
     (not_base_of Ascending refl) among) s)
 
@@ -602,10 +605,10 @@ found_once o (x ∷ rs) r pairs h =
 tied_without : (workers : List Worker) (t : FlowTable) (o : OpId) (r : FlowRecord) → AllPairs Ascends t.operations → operation_at o t ≡ Some r
     → is_running r.stage ≡ false → AreTied workers t → AreTied workers (removed o t)
 tied_without workers t o r pairs at quiet tied p s =
-    let read = λ (m : Option FlowRecord). unwrap_or (option_map (λ (x : FlowRecord). one (is_stage s x.stage)) m) 0 in
+    let read = λ (m : Option FlowRecord). unwrap_or (option_map (λ (x : FlowRecord). one (is_spot s (spot_of x))) m) 0 in
     tied p s ∙ elim (cases_eq o.0 p.0) [
       | inl e ↦
-          let before : stands_at p s t ≡ 0 = ap read (subst (λ n. find (λ (x : FlowRecord). x.number.0 == n) t.operations ≡ Some r) e at) ∙ ap one (quiet_is_none r.stage quiet s) in
+          let before : stands_at p s t ≡ 0 = ap read (subst (λ n. find (λ (x : FlowRecord). x.number.0 == n) t.operations ≡ Some r) e at) ∙ ap one (quiet_is_none r.stage r.entries quiet s) in
           let after : stands_at p s (removed o t) ≡ 0 =
           ap read (subst (λ n. find (λ (x : FlowRecord). x.number.0 == n) (without_first (is_number o) t.operations) ≡ None) e (found_once o t.operations r pairs at)) in
           before ∙ sym after

@@ -52,7 +52,7 @@ empty_sound = record {
   flow = empty_flow_sound;
   among = All-nil (IsAmong empty_stack);
   hands = length-replicate 48 place.Idle;
-  workers = λ o stage. count-replicate (is_in_at o stage) 48 place.Idle (idle_is_in_none o stage);
+  workers = λ o spot. count-replicate (is_in_at o spot) 48 place.Idle (idle_is_in_none o spot);
   setups = λ i. count-replicate (is_in_setup i) 48 place.Idle refl;
 }
 

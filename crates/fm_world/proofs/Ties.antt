@@ -12,13 +12,15 @@ use Rattle.fm_flow.specs.declared.entry.PreState.TheVariants as pre
 use Rattle.fm_flow.specs.Steps.{pre_leads}
 use Rattle.fm_flow.specs.Verdict.{is_counted}
 use Rattle.fm_flow.specs.declared.stage.Stage.{Stage}
-use Rattle.fm_flow.specs.declared.stage.Stage.TheVariants.{Descending, PreRunning, PreHeld, InBase, Ascending, PostRunning, PostHeld, InDrain}
+use Rattle.fm_flow.specs.declared.stage.Stage.TheVariants.{PreRunning, InBase, PostRunning, InDrain}
 use Rattle.fm_flow.specs.Record.{FlowRecord}
 use Rattle.fm_flow.specs.Table.{FlowTable, is_number, operation_at, changed}
 use Rattle.fm_world.specs.declared.worker.Worker.{Worker}
 use Rattle.fm_world.specs.declared.worker.Worker.TheVariants as place
 use Rattle.fm_world.specs.Workers.{worker_at, put}
-use Rattle.fm_world.specs.Headline.{is_in_at, is_stage, stands_at}
+use Rattle.fm_flow.specs.declared.entry.Entry.{Entry}
+use Rattle.fm_flow.specs.Entries.{last_visited, last_posted}
+use Rattle.fm_world.specs.Headline.{Spot, AtPre, AtBase, AtPost, AtDrain, is_in_at, spot_at, spot_of, is_spot, stands_at}
 use Rattle.fm_world.proofs.Counts.{count-some}
 use Rattle.fm_flow.proofs.Tables.{find_changed, find_unchanged}
 
@@ -34,26 +36,26 @@ count_moves p workers k a b h =
     let was = get_or_from_slice_get workers k.0 a a h in
     subst (λ x. count_by p (put workers k b) + one (p x) ≡ count_by p workers + one (p b)) was (sum_by-set (λ x. one (p x)) workers k.0 b a there)
 
--- the worker's place says that it is inside operation o as the stage says, and inside no other
-abbrev pub Matches : OpId → Worker → Stage → Type 0
-Matches o a stage = (p : OpId) (s : Stage) → is_in_at p s a ≡ ((o.0 == p.0) && is_stage s stage)
+-- the worker's place says that it is inside operation o at that spot, and inside no other
+abbrev pub Matches : OpId → Worker → Option Spot → Type 0
+Matches o a spot = (p : OpId) (s : Spot) → is_in_at p s a ≡ ((o.0 == p.0) && is_spot s spot)
 
-abbrev standing : Stage → FlowRecord → ℕ
-standing s r = one (is_stage s r.stage)
+abbrev standing : Spot → FlowRecord → ℕ
+standing s r = one (is_spot s (spot_of r))
 
 -- how an operation stands after a change of one
-pub stands_changed : (p : OpId) (s : Stage) (t : FlowTable) (o : OpId) (r : FlowRecord) (f : FlowRecord → FlowRecord) → operation_at o t ≡ Some r
+pub stands_changed : (p : OpId) (s : Spot) (t : FlowTable) (o : OpId) (r : FlowRecord) (f : FlowRecord → FlowRecord) → operation_at o t ≡ Some r
     → ((x : FlowRecord) → (f x).number.0 ≡ x.number.0)
-    → stands_at p s (changed o f t) + one ((o.0 == p.0) && is_stage s r.stage) ≡ stands_at p s t + one ((o.0 == p.0) && is_stage s (f r).stage)
+    → stands_at p s (changed o f t) + one ((o.0 == p.0) && is_spot s (spot_of r)) ≡ stands_at p s t + one ((o.0 == p.0) && is_spot s (spot_of (f r)))
 stands_changed p s t o r f h same =
     let read = λ (m : Option FlowRecord). unwrap_or (option_map (standing s) m) 0 in
     elim (cases_eq o.0 p.0) [
       | inl e ↦
           let there : find (is_number p) t.operations ≡ Some r = subst (λ n. find (λ x. x.number.0 == n) t.operations ≡ Some r) e h in
-          let after : stands_at p s (changed o f t) ≡ one (is_stage s (f r).stage) =
-          subst (λ n. unwrap_or (option_map (standing s) (find (λ x. x.number.0 == n) (changed o f t).operations)) 0 ≡ one (is_stage s (f r).stage)) e
+          let after : stands_at p s (changed o f t) ≡ one (is_spot s (spot_of (f r))) =
+          subst (λ n. unwrap_or (option_map (standing s) (find (λ x. x.number.0 == n) (changed o f t).operations)) 0 ≡ one (is_spot s (spot_of (f r)))) e
           (ap read (find_changed (is_number o) f t.operations (λ x. ap (λ n. n == o.0) (same x)) ∙ ap (option_map f) h)) in
-          let before : stands_at p s t ≡ one (is_stage s r.stage) = ap read there in
+          let before : stands_at p s t ≡ one (is_spot s (spot_of r)) = ap read there in
           rw (after, before, eq-eqb o.0 p.0 e) (omega arith)
       | inr e ↦
           let apart : (x : FlowRecord) → (x.number.0 == o.0) ≡ true → ((x.number.0 == p.0) ≡ false) × (((f x).number.0 == p.0) ≡ false) =
@@ -65,31 +67,31 @@ stands_changed p s t o r f h same =
     ]
 
 abbrev pub AreTied : List Worker → FlowTable → Type 0
-AreTied workers t = (p : OpId) (s : Stage) → count_by (is_in_at p s) workers ≡ stands_at p s t
+AreTied workers t = (p : OpId) (s : Spot) → count_by (is_in_at p s) workers ≡ stands_at p s t
 
--- a worker goes from place a to place b, and the operation from its stage to that of f r
+-- a worker goes from place a to place b, and the operation from its spot to that of f r
 pub tied_moves : (workers : List Worker) (t : FlowTable) (k : WorkerId) (a b : Worker) (o : OpId) (r : FlowRecord) (f : FlowRecord → FlowRecord)
     → worker_at workers k ≡ Some a → operation_at o t ≡ Some r → ((x : FlowRecord) → (f x).number.0 ≡ x.number.0)
-    → Matches o a r.stage → Matches o b (f r).stage → AreTied workers t → AreTied (put workers k b) (changed o f t)
+    → Matches o a (spot_of r) → Matches o b (spot_of (f r)) → AreTied workers t → AreTied (put workers k b) (changed o f t)
 tied_moves workers t k a b o r f ha ho same ma mb tied p s =
     let moves = count_moves (is_in_at p s) workers k a b ha in
     let stands = stands_changed p s t o r f ho same in
-    let from : one (is_in_at p s a) ≡ one ((o.0 == p.0) && is_stage s r.stage) = ap one (ma p s) in
-    let to : one (is_in_at p s b) ≡ one ((o.0 == p.0) && is_stage s (f r).stage) = ap one (mb p s) in
+    let from : one (is_in_at p s a) ≡ one ((o.0 == p.0) && is_spot s (spot_of r)) = ap one (ma p s) in
+    let to : one (is_in_at p s b) ≡ one ((o.0 == p.0) && is_spot s (spot_of (f r))) = ap one (mb p s) in
     omega (arith, moves, stands, from, to, tied p s)
 
 -- no worker moves, and the operation stands as before
 pub tied_stays : (workers : List Worker) (t : FlowTable) (o : OpId) (r : FlowRecord) (f : FlowRecord → FlowRecord)
     → operation_at o t ≡ Some r → ((x : FlowRecord) → (f x).number.0 ≡ x.number.0)
-    → ((s : Stage) → is_stage s (f r).stage ≡ is_stage s r.stage) → AreTied workers t → AreTied workers (changed o f t)
+    → ((s : Spot) → is_spot s (spot_of (f r)) ≡ is_spot s (spot_of r)) → AreTied workers t → AreTied workers (changed o f t)
 tied_stays workers t o r f ho same stage tied p s =
     let stands = stands_changed p s t o r f ho same in
-    let alike : one ((o.0 == p.0) && is_stage s (f r).stage) ≡ one ((o.0 == p.0) && is_stage s r.stage) = ap (λ b. one ((o.0 == p.0) && b)) (stage s) in
+    let alike : one ((o.0 == p.0) && is_spot s (spot_of (f r))) ≡ one ((o.0 == p.0) && is_spot s (spot_of r)) = ap (λ b. one ((o.0 == p.0) && b)) (stage s) in
     omega (arith, stands, alike, tied p s)
 
 -- a worker moves between places outside operations
 pub tied_elsewhere : (workers : List Worker) (t : FlowTable) (k : WorkerId) (a b : Worker) → worker_at workers k ≡ Some a
-    → ((p : OpId) (s : Stage) → is_in_at p s a ≡ false) → ((p : OpId) (s : Stage) → is_in_at p s b ≡ false)
+    → ((p : OpId) (s : Spot) → is_in_at p s a ≡ false) → ((p : OpId) (s : Spot) → is_in_at p s b ≡ false)
     → AreTied workers t → AreTied (put workers k b) t
 tied_elsewhere workers t k a b ha na nb tied p s =
     let moves = count_moves (is_in_at p s) workers k a b ha in
@@ -105,14 +107,13 @@ and_true : (b : Bool) → (b && true) ≡ b
 and_true true = refl
 and_true false = refl
 
--- the places and stages that match
+-- the places and spots that match
 
-pub idle_is_in_none : (p : OpId) (s : Stage) → is_in_at p s place.Idle ≡ false
-idle_is_in_none p PreRunning = refl
-idle_is_in_none p InBase = refl
-idle_is_in_none p PostRunning = refl
-idle_is_in_none p (InDrain i) = refl
-idle_is_in_none p _ = refl
+pub idle_is_in_none : (p : OpId) (s : Spot) → is_in_at p s place.Idle ≡ false
+idle_is_in_none p (AtPre i) = refl
+idle_is_in_none p AtBase = refl
+idle_is_in_none p (AtPost i) = refl
+idle_is_in_none p (AtDrain i) = refl
 
 abbrev pub is_running : Stage → Bool
 is_running PreRunning = true
@@ -121,106 +122,108 @@ is_running PostRunning = true
 is_running (InDrain i) = true
 is_running _ = false
 
-pub quiet_is_none : (stage : Stage) → is_running stage ≡ false → (s : Stage) → is_stage s stage ≡ false
-quiet_is_none PreRunning h s = absurd (false≢true (sym h))
-quiet_is_none InBase h s = absurd (false≢true (sym h))
-quiet_is_none PostRunning h s = absurd (false≢true (sym h))
-quiet_is_none (InDrain i) h s = absurd (false≢true (sym h))
-quiet_is_none Descending h s = quiet_descending s
-  where
-    quiet_descending : (s : Stage) → is_stage s Descending ≡ false
-    quiet_descending PreRunning = refl
-    quiet_descending InBase = refl
-    quiet_descending PostRunning = refl
-    quiet_descending (InDrain i) = refl
-    quiet_descending _ = refl
-quiet_is_none PreHeld h s = quiet_held s
-  where
-    quiet_held : (s : Stage) → is_stage s PreHeld ≡ false
-    quiet_held PreRunning = refl
-    quiet_held InBase = refl
-    quiet_held PostRunning = refl
-    quiet_held (InDrain i) = refl
-    quiet_held _ = refl
-quiet_is_none Ascending h s = quiet_ascending s
-  where
-    quiet_ascending : (s : Stage) → is_stage s Ascending ≡ false
-    quiet_ascending PreRunning = refl
-    quiet_ascending InBase = refl
-    quiet_ascending PostRunning = refl
-    quiet_ascending (InDrain i) = refl
-    quiet_ascending _ = refl
-quiet_is_none PostHeld h s = quiet_more s
-  where
-    quiet_more : (s : Stage) → is_stage s PostHeld ≡ false
-    quiet_more PreRunning = refl
-    quiet_more InBase = refl
-    quiet_more PostRunning = refl
-    quiet_more (InDrain i) = refl
-    quiet_more _ = refl
+-- an operation that is with no worker is at no spot
+pub quiet_is_nowhere : (stage : Stage) (entries : List Entry) → is_running stage ≡ false → spot_at stage entries ≡ None
+quiet_is_nowhere PreRunning entries h = absurd (false≢true (sym h))
+quiet_is_nowhere InBase entries h = absurd (false≢true (sym h))
+quiet_is_nowhere PostRunning entries h = absurd (false≢true (sym h))
+quiet_is_nowhere (InDrain i) entries h = absurd (false≢true (sym h))
+quiet_is_nowhere _ entries h = refl
 
-pub matches_idle : (o : OpId) (stage : Stage) → is_running stage ≡ false → Matches o place.Idle stage
-matches_idle o stage h p s = idle_is_in_none p s ∙ sym (and_false (o.0 == p.0)) ∙ ap (λ b. (o.0 == p.0) && b) (sym (quiet_is_none stage h s))
+nowhere : (s : Spot) → is_spot s None ≡ false
+nowhere (AtPre i) = refl
+nowhere AtBase = refl
+nowhere (AtPost i) = refl
+nowhere (AtDrain i) = refl
 
-pub matches_pre : (o : OpId) (i : InstanceId) → Matches o (place.Pre o i) PreRunning
-matches_pre o i p PreRunning = sym (and_true (o.0 == p.0))
-matches_pre o i p InBase = sym (and_false (o.0 == p.0))
-matches_pre o i p PostRunning = sym (and_false (o.0 == p.0))
-matches_pre o i p (InDrain j) = sym (and_false (o.0 == p.0))
-matches_pre o i p _ = sym (and_false (o.0 == p.0))
+pub quiet_is_none : (stage : Stage) (entries : List Entry) → is_running stage ≡ false → (s : Spot) → is_spot s (spot_at stage entries) ≡ false
+quiet_is_none stage entries h s = ap (is_spot s) (quiet_is_nowhere stage entries h) ∙ nowhere s
 
-pub matches_base : (o : OpId) → Matches o (place.Base o) InBase
-matches_base o p InBase = sym (and_true (o.0 == p.0))
-matches_base o p PreRunning = sym (and_false (o.0 == p.0))
-matches_base o p PostRunning = sym (and_false (o.0 == p.0))
-matches_base o p (InDrain j) = sym (and_false (o.0 == p.0))
-matches_base o p _ = sym (and_false (o.0 == p.0))
+pub matches_idle : (o : OpId) (stage : Stage) (entries : List Entry) → is_running stage ≡ false → Matches o place.Idle (spot_at stage entries)
+matches_idle o stage entries h p s =
+    idle_is_in_none p s ∙ sym (and_false (o.0 == p.0)) ∙ ap (λ b. (o.0 == p.0) && b) (sym (quiet_is_none stage entries h s))
 
-pub matches_post : (o : OpId) (i : InstanceId) → Matches o (place.Post o i) PostRunning
-matches_post o i p PostRunning = sym (and_true (o.0 == p.0))
-matches_post o i p PreRunning = sym (and_false (o.0 == p.0))
-matches_post o i p InBase = sym (and_false (o.0 == p.0))
-matches_post o i p (InDrain j) = sym (and_false (o.0 == p.0))
-matches_post o i p _ = sym (and_false (o.0 == p.0))
+pub matches_pre : (o : OpId) (i : InstanceId) → Matches o (place.Pre o i) (Some (AtPre i.0))
+matches_pre o i p (AtPre j) = refl
+matches_pre o i p AtBase = sym (and_false (o.0 == p.0))
+matches_pre o i p (AtPost j) = sym (and_false (o.0 == p.0))
+matches_pre o i p (AtDrain j) = sym (and_false (o.0 == p.0))
 
-pub matches_drain : (o : OpId) (i : InstanceId) → Matches o (place.Drain o i) (InDrain i)
-matches_drain o i p (InDrain j) = refl
-matches_drain o i p PreRunning = sym (and_false (o.0 == p.0))
-matches_drain o i p InBase = sym (and_false (o.0 == p.0))
-matches_drain o i p PostRunning = sym (and_false (o.0 == p.0))
-matches_drain o i p _ = sym (and_false (o.0 == p.0))
+pub matches_base : (o : OpId) → Matches o (place.Base o) (Some AtBase)
+matches_base o p AtBase = sym (and_true (o.0 == p.0))
+matches_base o p (AtPre j) = sym (and_false (o.0 == p.0))
+matches_base o p (AtPost j) = sym (and_false (o.0 == p.0))
+matches_base o p (AtDrain j) = sym (and_false (o.0 == p.0))
 
--- the other way: where a worker is inside an operation, it is there and stands so
-one_of : (s : Stage) (m : Option FlowRecord) → 1 ≤ unwrap_or (option_map (standing s) m) 0 → (r : FlowRecord) × (m ≡ Some r) × (is_stage s r.stage ≡ true)
+pub matches_post : (o : OpId) (i : InstanceId) → Matches o (place.Post o i) (Some (AtPost i.0))
+matches_post o i p (AtPost j) = refl
+matches_post o i p (AtPre j) = sym (and_false (o.0 == p.0))
+matches_post o i p AtBase = sym (and_false (o.0 == p.0))
+matches_post o i p (AtDrain j) = sym (and_false (o.0 == p.0))
+
+pub matches_drain : (o : OpId) (i : InstanceId) → Matches o (place.Drain o i) (Some (AtDrain i.0))
+matches_drain o i p (AtDrain j) = refl
+matches_drain o i p (AtPre j) = sym (and_false (o.0 == p.0))
+matches_drain o i p AtBase = sym (and_false (o.0 == p.0))
+matches_drain o i p (AtPost j) = sym (and_false (o.0 == p.0))
+
+-- the other way: where a worker is inside an operation, it is there and at that spot
+one_of : (s : Spot) (m : Option FlowRecord) → 1 ≤ unwrap_or (option_map (standing s) m) 0 → (r : FlowRecord) × (m ≡ Some r) × (is_spot s (spot_of r) ≡ true)
 one_of s None h = absurd (omega arith)
-one_of s (Some r) h = (r, refl, true_of (is_stage s r.stage) h)
+one_of s (Some r) h = (r, refl, true_of (is_spot s (spot_of r)) h)
   where
     true_of : (b : Bool) → 1 ≤ one b → b ≡ true
     true_of true h = refl
     true_of false h = absurd (omega arith)
 
-pub tied_there : (workers : List Worker) (t : FlowTable) (k : WorkerId) (a : Worker) (o : OpId) (s : Stage) → AreTied workers t
-    → worker_at workers k ≡ Some a → is_in_at o s a ≡ true → (r : FlowRecord) × (operation_at o t ≡ Some r) × (is_stage s r.stage ≡ true)
+pub tied_there : (workers : List Worker) (t : FlowTable) (k : WorkerId) (a : Worker) (o : OpId) (s : Spot) → AreTied workers t
+    → worker_at workers k ≡ Some a → is_in_at o s a ≡ true → (r : FlowRecord) × (operation_at o t ≡ Some r) × (is_spot s (spot_of r) ≡ true)
 tied_there workers t k a o s tied h inside =
     let some = count-some (is_in_at o s) workers k.0 a h inside in
     let one : 1 ≤ stands_at o s t = omega (arith, some, tied o s) in
     one_of s (operation_at o t) one
 
-pub stage_pre : (s : Stage) → is_stage PreRunning s ≡ true → s ≡ PreRunning
-stage_pre PreRunning h = refl
-stage_pre _ h = absurd (false≢true h)
+-- what a spot says of the stage and the last visit
 
-pub stage_base : (s : Stage) → is_stage InBase s ≡ true → s ≡ InBase
-stage_base InBase h = refl
-stage_base _ h = absurd (false≢true h)
+visit_at : (i : ℕ) (m : Option ℕ) → is_spot (AtPre i) (option_map AtPre m) ≡ true → m ≡ Some i
+visit_at i None h = absurd (false≢true h)
+visit_at i (Some j) h = ap Some (eqb-true j i h)
 
-pub stage_post : (s : Stage) → is_stage PostRunning s ≡ true → s ≡ PostRunning
-stage_post PostRunning h = refl
-stage_post _ h = absurd (false≢true h)
+post_at : (i : ℕ) (m : Option ℕ) → is_spot (AtPost i) (option_map AtPost m) ≡ true → m ≡ Some i
+post_at i None h = absurd (false≢true h)
+post_at i (Some j) h = ap Some (eqb-true j i h)
 
-pub stage_drain : (i : InstanceId) (s : Stage) → is_stage (InDrain i) s ≡ true → s ≡ InDrain i
-stage_drain i (InDrain j) h = ap (λ n. InDrain (record { 0 = n })) (sym (eqb-true i.0 j.0 h))
-stage_drain i _ h = absurd (false≢true h)
+mapped_other : (s : Spot) (f : ℕ → Spot) (m : Option ℕ) → ((j : ℕ) → is_spot s (Some (f j)) ≡ false) → is_spot s (option_map f m) ≡ false
+mapped_other s f None h = nowhere s
+mapped_other s f (Some j) h = h j
+
+pub spot_pre : (i : ℕ) (stage : Stage) (entries : List Entry) → is_spot (AtPre i) (spot_at stage entries) ≡ true → (stage ≡ PreRunning) × (last_visited entries ≡ Some i)
+spot_pre i PreRunning entries h = (refl, visit_at i (last_visited entries) h)
+spot_pre i PostRunning entries h = absurd (false≢true (sym (mapped_other (AtPre i) AtPost (last_posted entries) (λ j. refl)) ∙ h))
+spot_pre i InBase entries h = absurd (false≢true h)
+spot_pre i (InDrain j) entries h = absurd (false≢true h)
+spot_pre i _ entries h = absurd (false≢true h)
+
+pub spot_base : (stage : Stage) (entries : List Entry) → is_spot AtBase (spot_at stage entries) ≡ true → stage ≡ InBase
+spot_base InBase entries h = refl
+spot_base PreRunning entries h = absurd (false≢true (sym (mapped_other AtBase AtPre (last_visited entries) (λ j. refl)) ∙ h))
+spot_base PostRunning entries h = absurd (false≢true (sym (mapped_other AtBase AtPost (last_posted entries) (λ j. refl)) ∙ h))
+spot_base (InDrain j) entries h = absurd (false≢true h)
+spot_base _ entries h = absurd (false≢true h)
+
+pub spot_post : (i : ℕ) (stage : Stage) (entries : List Entry) → is_spot (AtPost i) (spot_at stage entries) ≡ true → (stage ≡ PostRunning) × (last_posted entries ≡ Some i)
+spot_post i PostRunning entries h = (refl, post_at i (last_posted entries) h)
+spot_post i PreRunning entries h = absurd (false≢true (sym (mapped_other (AtPost i) AtPre (last_visited entries) (λ j. refl)) ∙ h))
+spot_post i InBase entries h = absurd (false≢true h)
+spot_post i (InDrain j) entries h = absurd (false≢true h)
+spot_post i _ entries h = absurd (false≢true h)
+
+pub spot_drain : (i : InstanceId) (stage : Stage) (entries : List Entry) → is_spot (AtDrain i.0) (spot_at stage entries) ≡ true → stage ≡ InDrain i
+spot_drain i (InDrain j) entries h = ap (λ n. InDrain (record { 0 = n })) (eqb-true j.0 i.0 h)
+spot_drain i PreRunning entries h = absurd (false≢true (sym (mapped_other (AtDrain i.0) AtPre (last_visited entries) (λ j. refl)) ∙ h))
+spot_drain i PostRunning entries h = absurd (false≢true (sym (mapped_other (AtDrain i.0) AtPost (last_posted entries) (λ j. refl)) ∙ h))
+spot_drain i InBase entries h = absurd (false≢true h)
+spot_drain i _ entries h = absurd (false≢true h)
 
 -- a verdict that counts leaves the callback
 pub counted_from : (state : PreState) → is_running (pre_leads state) ≡ false → is_counted state ≡ true

@@ -1,10 +1,11 @@
 -- What holds of every World that a list of events leads to.
-use Rattle.std.specs.Prelude.{◌≡◌, ℕ, ◌++◌, Bool, true, false, cond, ◌&&◌, ◌==◌, List, All, AllPairs, count_by, Some}
+use Rattle.std.specs.Prelude.{◌≡◌, ℕ, ◌++◌, Bool, true, false, cond, ◌&&◌, ◌==◌, List, All, AllPairs, count_by, Option, Some, None, option_map}
 use Rattle.fm_types.specs.declared.ids.OpId.{OpId}
 use Rattle.fm_flow.specs.declared.stage.Stage.{Stage}
 use Rattle.fm_flow.specs.declared.stage.Stage.TheVariants.{Descending, PreRunning, InBase, PostRunning, InDrain}
 use Rattle.fm_flow.specs.Record.{FlowRecord}
-use Rattle.fm_flow.specs.Entries.{visited, has_base, posted, owed, undrained, instances}
+use Rattle.fm_flow.specs.declared.entry.Entry.{Entry}
+use Rattle.fm_flow.specs.Entries.{visited, last_visited, last_posted, has_base, posted, owed, undrained, instances}
 use Rattle.fm_flow.specs.Sound.{walk, way_of}
 use Rattle.fm_flow.specs.Table.{FlowTable, told}
 use Rattle.fm_stack.specs.StackWorld.{StackWorld}
@@ -30,25 +31,42 @@ IsInOrder r = walk Descending r.entries ≡ Some (way_of r.stage)
 abbrev pub DescendsIn : StackWorld → FlowRecord → Type 0
 DescendsIn s r = IsDescent s r.volume r.born r.operation (visited r.entries) (has_base r.entries)
 
--- whether a worker is inside an operation's preoperation, base call, postoperation or drain, as the operation's stage names it
-abbrev pub is_in_at : OpId → Stage → Worker → Bool
-is_in_at o PreRunning (place.Pre p i) = p.0 == o.0
-is_in_at o InBase (place.Base p) = p.0 == o.0
-is_in_at o PostRunning (place.Post p i) = p.0 == o.0
-is_in_at o (InDrain i) (place.Drain p j) = (p.0 == o.0) && (i.0 == j.0)
+-- where an operation has a worker: inside an instance's preoperation, the base's call, an instance's postoperation or its drain
+pub data Spot : Type 0 where
+  AtPre : (i : ℕ) → Spot
+  AtBase : Spot
+  AtPost : (i : ℕ) → Spot
+  AtDrain : (i : ℕ) → Spot
+
+-- whether a worker is there, inside operation o
+abbrev pub is_in_at : OpId → Spot → Worker → Bool
+is_in_at o (AtPre i) (place.Pre p j) = (p.0 == o.0) && (j.0 == i)
+is_in_at o AtBase (place.Base p) = p.0 == o.0
+is_in_at o (AtPost i) (place.Post p j) = (p.0 == o.0) && (j.0 == i)
+is_in_at o (AtDrain i) (place.Drain p j) = (p.0 == o.0) && (j.0 == i)
 is_in_at o _ _ = false
 
--- two stages that say that a worker is inside the operation, in the same way
-abbrev pub is_stage : Stage → Stage → Bool
-is_stage PreRunning PreRunning = true
-is_stage InBase InBase = true
-is_stage PostRunning PostRunning = true
-is_stage (InDrain i) (InDrain j) = i.0 == j.0
-is_stage _ _ = false
+-- where an operation has a worker, by its stage and its last entry; nowhere, where it is with none
+abbrev pub spot_at : Stage → List Entry → Option Spot
+spot_at PreRunning entries = option_map AtPre (last_visited entries)
+spot_at InBase entries = Some AtBase
+spot_at PostRunning entries = option_map AtPost (last_posted entries)
+spot_at (InDrain i) entries = Some (AtDrain i.0)
+spot_at _ entries = None
 
--- 1 where the operation of that number is there and stands so, else 0
-abbrev pub stands_at : OpId → Stage → FlowTable → ℕ
-stands_at o stage flow = told (λ r. cond (is_stage stage r.stage) 1 0) 0 o flow
+abbrev pub spot_of : FlowRecord → Option Spot
+spot_of r = spot_at r.stage r.entries
+
+abbrev pub is_spot : Spot → Option Spot → Bool
+is_spot (AtPre i) (Some (AtPre j)) = j == i
+is_spot AtBase (Some AtBase) = true
+is_spot (AtPost i) (Some (AtPost j)) = j == i
+is_spot (AtDrain i) (Some (AtDrain j)) = j == i
+is_spot _ _ = false
+
+-- 1 where the operation of that number is there and has a worker at that spot, else 0
+abbrev pub stands_at : OpId → Spot → FlowTable → ℕ
+stands_at o spot flow = told (λ r. cond (is_spot spot (spot_of r)) 1 0) 0 o flow
 
 pub record Headline (w : World) : Type 0 where
   -- on one volume, instances that aren't detached have distinct names and distinct altitudes
@@ -56,8 +74,8 @@ pub record Headline (w : World) : Type 0 where
   pub descents : All (DescendsIn w.stack) w.flow.operations
   pub ascents : All IsAscent w.flow.operations
   pub orders : All IsInOrder w.flow.operations
-  -- exactly one worker is inside an operation that stands so, and none inside one that doesn't
-  pub workers : (o : OpId) (stage : Stage) → count_by (is_in_at o stage) w.workers ≡ stands_at o stage w.flow
+  -- exactly one worker is inside the callback or the call that an operation is in, and none inside any other of it
+  pub workers : (o : OpId) (spot : Spot) → count_by (is_in_at o spot) w.workers ≡ stands_at o spot w.flow
 
 -- every list of events, with every answer that the rules allow, leads from the empty World to one that keeps the Headline
 abbrev pub RulesKeepHeadline : Type 0

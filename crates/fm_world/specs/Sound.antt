@@ -18,7 +18,7 @@ use Rattle.fm_world.specs.declared.worker.Worker.{Worker}
 use Rattle.fm_world.specs.declared.worker.Worker.TheVariants as place
 use Rattle.fm_world.specs.World.{World}
 use Rattle.fm_world.specs.Descent.{IsDescent, HasRoom}
-use Rattle.fm_world.specs.Headline.{is_in_at, stands_at}
+use Rattle.fm_world.specs.Headline.{Spot, is_in_at, stands_at}
 
 -- nothing is left for an operation to visit that visited the cursor last
 abbrev pub NoneLeft : StackWorld → VolumeId → Option ℕ → ℕ → Operation → Type 0
@@ -49,5 +49,5 @@ pub record IsSound (w : World) : Type 0 where
   pub flow : IsFlow w.flow
   pub among : All (IsAmong w.stack) w.flow.operations
   pub hands : length w.workers ≡ 48
-  pub workers : (o : OpId) (stage : Stage) → count_by (is_in_at o stage) w.workers ≡ stands_at o stage w.flow
+  pub workers : (o : OpId) (spot : Spot) → count_by (is_in_at o spot) w.workers ≡ stands_at o spot w.flow
   pub setups : (i : ℕ) → count_by (is_in_setup i) w.workers ≡ setup_row (slice_get w.stack.instances i)

@@ -1,0 +1,13 @@
+use Rattle.std.proofs.Common.{sym}
+use Rattle.fm_base.specs.Folders.{bytes_from}
+use Rattle.fm_base.proofs.Files.{told_at}
+use Rattle.fm_base.proofs.memory_base.read_file.Goals as goal
+
+pub returns-in_default-clause-tells : goal.returns-in_default-clause-tells
+returns-in_default-clause-tells c = told_at (bytes_from c.args.offset c.args.len) _ _ _ (sym c.in_default.ensures.value)
+
+pub returns-clause-tells : goal.returns-clause-tells
+returns-clause-tells c = rw (told_at (bytes_from c.args.offset c.args.len) c.args.path.now _ _ (sym c.in-Some.ensures.value)) c.bytes_of.ensures.tells
+
+pub returns-clause-last : goal.returns-clause-last
+returns-clause-last c = rw (told_at (bytes_from c.args.offset c.args.len) c.args.path.now _ _ (sym c.in-Some.ensures.value)) c.bytes_of.ensures.last

@@ -1,0 +1,178 @@
+//! A base one of whose calls fails.
+
+ghost use Rattle.std.specs.Prelude.{◌≡◌, ◌≢◌, ◌+◌, ◌-◌, ◌^◌, ◌≤◌, ◌<◌, ◌==◌, cond, min, Option, length, IsSome, IfOk, IsTrue, ◌↔◌};
+ghost use Rattle.fm_types.specs.ByteLists.{resized, written};
+ghost use Rattle.fm_base.specs.Folders.{created, changed, unlinked, told, bytes_from, size_of, presence_of, listed};
+ghost use Rattle.fm_base.specs.Answers.{MakesKnown, TellsKnown, faults_after};
+ghost use Rattle.fm_base.specs.Failing.{counted, FailsNth};
+
+use crate::base::Base;
+use fm_types::{Bytes, CreateMode, RelPath, Status};
+use std::marker::Model;
+
+/// A base like another one, but that one of its device calls fails: call number `number`, counted from
+/// 1, answers 18 and doesn't reach the other base; all other calls do. Every call of `Base` but
+/// `failures` is a device call. The count of calls stays at 2^64 - 1 once it is there.
+#[derive(Drop)]
+pub struct FailNth<B: Base> {
+    base: B,
+    number: u64,
+    calls: u64,
+    failures: u64,
+}
+
+impl<B: Base> Model for FailNth<B> {
+    ghost use Rattle.fm_base.specs.Failing.{Failing};
+
+    ghost Value = { Failing B };
+
+    ghost view = { λ s. record { base = s.base; number = s.number; calls = s.calls; failures = s.failures } };
+}
+
+impl<B: Base> FailNth<B> {
+    /// The base whose device call `number` fails, counted from 1; none does where `number` is 0.
+    pub fn new(base: B, number: u64) -> FailNth<B>
+        ensures { result ≡ record { base = base; number = number; calls = 0; failures = 0 } }
+    {
+        FailNth {
+            base,
+            number,
+            calls: 0,
+            failures: 0,
+        }
+    }
+
+    /// The base that it is like.
+    pub fn into_base(self) -> B
+        ensures { result ≡ self.base }
+    {
+        let FailNth { base, .. } = self;
+        base
+    }
+
+    // Counts a device call. Whether it is the one that fails, which is counted too.
+    fn count_call(&mut self) -> bool
+        ensures fails { IsTrue result ↔ (self.old.calls + 1 ≡ self.old.number) }
+        ensures value { self.new ≡ record self.old { calls = counted self.old.calls; failures = cond result (counted self.old.failures) self.old.failures } }
+    {
+        let fails = self.calls.checked_add(1) == Some(self.number);
+        self.calls = self.calls.saturating_add(1);
+        if fails {
+            self.failures = self.failures.saturating_add(1);
+        }
+        fails
+    }
+}
+
+impl<B: Base> Base for FailNth<B> {
+    ghost use Rattle.fm_base.specs.Failing.{Failing};
+
+    ghost folder = { λ s. B.folder s.base };
+
+    ghost faults = { λ s. min (B.faults s.base + s.failures) (2 ^ 64 - 1) };
+
+    fn create(&mut self, path: &RelPath, mode: CreateMode) -> Result<(), Status>
+        ensures makes { MakesKnown path.now (created mode path.now) (B.folder self.old.base) (B.folder self.new.base) result }
+        ensures counts { min (B.faults self.new.base + self.new.failures) (2 ^ 64 - 1) ≡ faults_after (min (B.faults self.old.base + self.old.failures) (2 ^ 64 - 1)) result }
+        ensures nth { FailsNth self.old self.new result }
+    {
+        if self.count_call() {
+            return Err(Status::DeviceFault);
+        }
+        self.base.create(path, mode)
+    }
+
+    fn read(&mut self, path: &RelPath, offset: u64, len: u32) -> Result<Bytes, Status>
+        ensures tells { TellsKnown (told (bytes_from offset len) path.now) (B.folder self.old.base) result }
+        ensures within { IfOk result (λ bytes. length bytes ≤ len) }
+        ensures same { B.folder self.new.base ≡ B.folder self.old.base }
+        ensures counts { min (B.faults self.new.base + self.new.failures) (2 ^ 64 - 1) ≡ faults_after (min (B.faults self.old.base + self.old.failures) (2 ^ 64 - 1)) result }
+        ensures nth { FailsNth self.old self.new result }
+    {
+        if self.count_call() {
+            return Err(Status::DeviceFault);
+        }
+        self.base.read(path, offset, len)
+    }
+
+    fn write(&mut self, path: &RelPath, offset: u64, bytes: &[u8]) -> Result<(), Status>
+        requires { offset + length bytes.now ≤ 2 ^ 40 }
+        ensures makes { MakesKnown path.now (changed (written offset bytes.now) path.now) (B.folder self.old.base) (B.folder self.new.base) result }
+        ensures counts { min (B.faults self.new.base + self.new.failures) (2 ^ 64 - 1) ≡ faults_after (min (B.faults self.old.base + self.old.failures) (2 ^ 64 - 1)) result }
+        ensures nth { FailsNth self.old self.new result }
+    {
+        if self.count_call() {
+            return Err(Status::DeviceFault);
+        }
+        self.base.write(path, offset, bytes)
+    }
+
+    fn size(&mut self, path: &RelPath) -> Result<u64, Status>
+        ensures tells { TellsKnown (told size_of path.now) (B.folder self.old.base) result }
+        ensures same { B.folder self.new.base ≡ B.folder self.old.base }
+        ensures steady { IsSome (B.folder self.old.base) → result ≢ Err Status.NoMemory }
+        ensures counts { min (B.faults self.new.base + self.new.failures) (2 ^ 64 - 1) ≡ faults_after (min (B.faults self.old.base + self.old.failures) (2 ^ 64 - 1)) result }
+        ensures nth { FailsNth self.old self.new result }
+    {
+        if self.count_call() {
+            return Err(Status::DeviceFault);
+        }
+        self.base.size(path)
+    }
+
+    fn set_size(&mut self, path: &RelPath, size: u64) -> Result<(), Status>
+        requires { size ≤ 2 ^ 40 }
+        ensures makes { MakesKnown path.now (changed (resized size) path.now) (B.folder self.old.base) (B.folder self.new.base) result }
+        ensures counts { min (B.faults self.new.base + self.new.failures) (2 ^ 64 - 1) ≡ faults_after (min (B.faults self.old.base + self.old.failures) (2 ^ 64 - 1)) result }
+        ensures nth { FailsNth self.old self.new result }
+    {
+        if self.count_call() {
+            return Err(Status::DeviceFault);
+        }
+        self.base.set_size(path, size)
+    }
+
+    fn flush(&mut self, path: &RelPath) -> Result<(), Status>
+        ensures tells { TellsKnown (told presence_of path.now) (B.folder self.old.base) result }
+        ensures same { B.folder self.new.base ≡ B.folder self.old.base }
+        ensures steady { IsSome (B.folder self.old.base) → result ≢ Err Status.NoMemory }
+        ensures counts { min (B.faults self.new.base + self.new.failures) (2 ^ 64 - 1) ≡ faults_after (min (B.faults self.old.base + self.old.failures) (2 ^ 64 - 1)) result }
+        ensures nth { FailsNth self.old self.new result }
+    {
+        if self.count_call() {
+            return Err(Status::DeviceFault);
+        }
+        self.base.flush(path)
+    }
+
+    fn list(&mut self) -> Result<Bytes, Status>
+        ensures tells { TellsKnown listed (B.folder self.old.base) result }
+        ensures within { IfOk result (λ names. length names ≤ 32768) }
+        ensures same { B.folder self.new.base ≡ B.folder self.old.base }
+        ensures counts { min (B.faults self.new.base + self.new.failures) (2 ^ 64 - 1) ≡ faults_after (min (B.faults self.old.base + self.old.failures) (2 ^ 64 - 1)) result }
+        ensures nth { FailsNth self.old self.new result }
+    {
+        if self.count_call() {
+            return Err(Status::DeviceFault);
+        }
+        self.base.list()
+    }
+
+    fn unlink(&mut self, path: &RelPath) -> Result<(), Status>
+        ensures makes { MakesKnown path.now (unlinked path.now) (B.folder self.old.base) (B.folder self.new.base) result }
+        ensures steady { IsSome (B.folder self.old.base) → result ≢ Err Status.NoMemory }
+        ensures counts { min (B.faults self.new.base + self.new.failures) (2 ^ 64 - 1) ≡ faults_after (min (B.faults self.old.base + self.old.failures) (2 ^ 64 - 1)) result }
+        ensures nth { FailsNth self.old self.new result }
+    {
+        if self.count_call() {
+            return Err(Status::DeviceFault);
+        }
+        self.base.unlink(path)
+    }
+
+    fn failures(&self) -> u64
+        ensures { result ≡ min (B.faults self.now.base + self.now.failures) (2 ^ 64 - 1) }
+    {
+        self.base.failures().saturating_add(self.failures)
+    }
+}

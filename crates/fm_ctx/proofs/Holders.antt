@@ -1,0 +1,129 @@
+-- The context of an owner that is linked to an object.
+use Rattle.std.proofs.Common.{◌≡◌, ℕ, zero, suc, ◌<◌, ◌≤◌, Bool, true, false, cond, ltb, List, [], ◌∷◌, length, get_or, remove, slice_get, position, All, count_by, Option, Some, None, is_some, option_map, option_and_then, unwrap_or, refl, sym, ap, subst, ◌∙◌, arith, inl, inr, eq-eqb, ltb-false}
+use Rattle.std.specs.List.{position_or_len}
+use Rattle.std.proofs.lemmas.Bool.{cases_Bool, and_parts, true≢false}
+use Rattle.std.proofs.lemmas.Option.{none-some, same_Some, get_or_from_slice_get}
+use Rattle.std.proofs.lemmas.List.Quantifiers.{position-Some}
+use Rattle.std.proofs.lemmas.List.Sums.{fails_before_first, sum_by-le}
+use Rattle.fm_types.specs.declared.ids.CtxId.{CtxId}
+use Rattle.fm_types.proofs.Lists.{slice_get-some, count_by-updated}
+use Rattle.fm_ctx.specs.declared.object.Object.{Object}
+use Rattle.fm_ctx.specs.declared.owner.Owner.{Owner}
+use Rattle.fm_ctx.specs.Bags.{one, is_id, references, holds, without}
+use Rattle.fm_ctx.specs.Objects.{is_to, same_owner}
+use Rattle.fm_ctx.specs.Table.{Context, Slot, context_at, link_at, changed_slot, change_context}
+use Rattle.fm_ctx.specs.Laws.{has_link, links}
+use Rattle.fm_ctx.specs.Links.{id_at, holder, with_link}
+use Rattle.fm_ctx.proofs.Bags.{counted_if_held, without_none}
+
+-- where no place passes, none is counted
+pub none_passes : {X : Type 0} (p : X → Bool) (xs : List X) → position p xs ≡ None → count_by p xs ≡ 0
+none_passes {X} p xs none = split (ltb (position_or_len p xs) (length xs)) refl none
+  where
+    fails : length xs ≤ position_or_len p xs → count_by p xs ≡ 0
+    fails past =
+        let by : X → ℕ = λ x. one (p x) in
+        let each : All (λ x. by x ≤ 0) xs = λ k d within. let lacks : by (get_or xs k d) ≡ 0 = ap one (fails_before_first p xs k d (omega (arith, within, past))) in omega (arith, lacks) in
+        omega (arith, sum_by-le by 0 xs each)
+
+    split : (b : Bool) → ltb (position_or_len p xs) (length xs) ≡ b → cond b (Some (position_or_len p xs)) None ≡ None → count_by p xs ≡ 0
+    split true is none = absurd (none-some (position_or_len p xs) (sym none))
+    split false is none = fails (ltb-false (position_or_len p xs) (length xs) is)
+
+-- nobody is linked there
+pub holder_none : (slots : List Slot) (owner : Owner) (object : Object) → holder slots owner object ≡ None → count_by (has_link owner object) slots ≡ 0
+unfolding holder
+holder_none slots owner object none = none_passes (has_link owner object) slots (unmapped (position (has_link owner object) slots) none)
+  where
+    unmapped : (o : Option ℕ) → option_map (id_at slots) o ≡ None → o ≡ None
+    unmapped None is = refl
+    unmapped (Some k) is = absurd (none-some (id_at slots k) (sym is))
+
+-- what is linked there
+pub record HeldBy (slots : List Slot) (owner : Owner) (object : Object) (c : CtxId) : Type 0 where
+  pub slot : Slot
+  pub there : slice_get slots c.slot ≡ Some slot
+  pub named : c.generation ≡ slot.generation
+  pub context : Context
+  pub has : slot.context ≡ Some context
+  pub links_there : links owner object (Some context) ≡ true
+
+linked_context : (owner : Owner) (object : Object) (o : Option Context) → links owner object o ≡ true → (x : Context) × (o ≡ Some x)
+linked_context owner object None has = absurd (true≢false (sym has))
+linked_context owner object (Some x) has = (x, refl)
+
+held_at : (slots : List Slot) (owner : Owner) (object : Object) (k : ℕ) → position (has_link owner object) slots ≡ Some k → HeldBy slots owner object (id_at slots k)
+held_at slots owner object k found =
+    let within : k < length slots = (position-Some (has_link owner object) slots k (record { generation = 0; context = None }) found).0 in
+    let s = slice_get-some slots k within in
+    let passes : has_link owner object s.0 ≡ true =
+    ap (has_link owner object) (sym (get_or_from_slice_get slots k s.0 s.0 s.1)) ∙ (position-Some (has_link owner object) slots k s.0 found).1 in
+    let x = linked_context owner object s.0.context passes in
+    record {
+      slot = s.0;
+      there = s.1;
+      named = ap (λ (o : Option Slot). unwrap_or (option_map (λ (r : Slot). r.generation) o) 0) s.1;
+      context = x.0;
+      has = x.1;
+      links_there = sym (ap (links owner object) x.1) ∙ passes;
+    }
+
+pub holder_some : (slots : List Slot) (owner : Owner) (object : Object) (c : CtxId) → holder slots owner object ≡ Some c → HeldBy slots owner object c
+unfolding holder
+holder_some slots owner object c is = unmapped (position (has_link owner object) slots) refl is
+  where
+    unmapped : (o : Option ℕ) → position (has_link owner object) slots ≡ o → option_map (id_at slots) o ≡ Some c → HeldBy slots owner object c
+    unmapped None found is = absurd (none-some c is)
+    unmapped (Some k) found is = subst (HeldBy slots owner object) (same_Some (id_at slots k) c is) (held_at slots owner object k found)
+
+pub holder_context : (slots : List Slot) (owner : Owner) (object : Object) (c : CtxId) (h : HeldBy slots owner object c) → context_at slots c ≡ Some h.context
+unfolding context_at
+holder_context slots owner object c h = rw (h.there, eq-eqb c.generation h.slot.generation h.named) h.has
+
+-- it has a link
+pub holder_linked : (slots : List Slot) (owner : Owner) (object : Object) (c : CtxId) → holder slots owner object ≡ Some c → is_some (link_at slots c) ≡ true
+holder_linked slots owner object c is =
+    let h = holder_some slots owner object c is in
+    let both = and_parts (is_to object h.context.link) (same_owner owner h.context.owner) h.links_there in
+    ap (λ o. is_some (option_and_then (λ (x : Context). x.link) o)) (holder_context slots owner object c h) ∙ there h.context.link both.0
+  where
+    there : (o : Option Object) → is_to object o ≡ true → is_some o ≡ true
+    there None has = has
+    there (Some other) has = refl
+
+-- once its link is gone, nobody is linked there
+pub none_after_unlink : (slots : List Slot) (owner : Owner) (object : Object) (c : CtxId) → holder slots owner object ≡ Some c → count_by (has_link owner object) slots ≤ 1
+    → count_by (has_link owner object) (change_context (option_map (with_link None)) slots c) ≡ 0
+none_after_unlink slots owner object c is once =
+    let h = holder_some slots owner object c is in
+    let step = count_by-updated (has_link owner object) (changed_slot (option_map (with_link None)) c) slots c.slot h.slot h.there in
+    let before : one (has_link owner object h.slot) ≡ 1 = ap one (ap (links owner object) h.has ∙ h.links_there) in
+    let after : one (has_link owner object (changed_slot (option_map (with_link None)) c h.slot)) ≡ 0 = rw (eq-eqb c.generation h.slot.generation h.named, h.has) refl in
+    omega (arith, step, before, after, once)
+
+-- ---- where a reference stands in a list
+
+without_at : (c : CtxId) (ids : List CtxId) (k : ℕ) (d : CtxId) → k < length ids → is_id c (get_or ids k d) ≡ true → ((j : ℕ) → j < k → is_id c (get_or ids j d) ≡ false)
+    → remove ids k ≡ without c ids
+unfolding without
+without_at c [] k d within is before = absurd (omega (arith, within))
+without_at c (e ∷ ids) zero d within is before = rw is refl
+without_at c (e ∷ ids) (suc k) d within is before =
+    let other : is_id c e ≡ false = before 0 (omega arith) in
+    rw other (ap (λ rest. e ∷ rest) (without_at c ids k d (omega (arith, within)) is (λ j below. before (suc j) (omega (arith, below)))))
+
+-- the one that was found goes
+pub without_found : (c : CtxId) (ids : List CtxId) (k : ℕ) → position (is_id c) ids ≡ Some k → remove ids k ≡ without c ids
+without_found c ids k found =
+    let at = position-Some (is_id c) ids k c found in
+    without_at c ids k c at.0 at.1 at.2
+
+-- where none was found nothing goes
+pub without_absent : (c : CtxId) (ids : List CtxId) → position (is_id c) ids ≡ None → without c ids ≡ ids
+unfolding references
+without_absent c ids none =
+    let zero_is : references ids c ≡ 0 = none_passes (is_id c) ids none in
+    elim (cases_Bool (holds ids c)) [
+      | inl has ↦ absurd (omega (arith, zero_is, counted_if_held ids c has))
+      | inr lacks ↦ without_none c ids lacks
+    ]

@@ -1,0 +1,10 @@
+use Rattle.std.proofs.Common.{sym, ap, ◌∙◌}
+use Rattle.fm_ctx.specs.Kept.{ContextsKept}
+use Rattle.fm_ctx.specs.Counting.{born}
+use Rattle.fm_ctx.proofs.Rows.{born_rows}
+use Rattle.fm_ctx.proofs.contexts.Contexts.born.Goals as goal
+
+pub returns : goal.returns
+returns c =
+    c.len.ensures ∙ c.self.inside.rows.ok.0 ∙ sym (born_rows c.self.inside.rows.items)
+    ∙ ap (λ (k : ContextsKept). born k.table.slots) c.self.view_is

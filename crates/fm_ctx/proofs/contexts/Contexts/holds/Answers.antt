@@ -1,0 +1,17 @@
+use Rattle.std.proofs.Common.{◌≡◌, ◌<◌, List, [], true, length, is_some, sym, ap, subst, ◌∙◌, arith}
+use Rattle.std.proofs.lemmas.List.{get_or_default}
+use Rattle.fm_types.specs.declared.ids.CtxId.{CtxId}
+use Rattle.fm_ctx.specs.Bags.{holds}
+use Rattle.fm_ctx.specs.Table.{context_at}
+use Rattle.fm_ctx.specs.Kept.{ContextsKept}
+use Rattle.fm_ctx.proofs.Sound.{context_there, live_held}
+use Rattle.fm_ctx.proofs.contexts.Contexts.holds.Goals as goal
+
+pub returns-clause-there : goal.returns-clause-there
+returns-clause-there c is =
+    let hands = c.self.inside.hands.items in
+    let within : c.args.worker.0 < length hands = omega (arith, c.self.invariant.lawful.workers, c.requires) in
+    let hand = c.index.ensures ∙ get_or_default hands c.args.worker.0 c.index.result.now [] within in
+    let has = sym (ap (λ (ids : List CtxId). holds ids c.args.id) hand) ∙ sym c.holds.ensures ∙ is in
+    subst (λ (k : ContextsKept). is_some (context_at k.table.slots c.args.id) ≡ true) c.self.view_is
+    (context_there c.args.id c.self.invariant.lawful (live_held c.args.worker.0 c.args.id c.self.invariant c.requires has))

@@ -1,0 +1,16 @@
+use Rattle.std.proofs.Common.{refl, ap, ◌∙◌}
+use Rattle.std.proofs.lemmas.List.{get_or_default}
+use Rattle.fm_types.proofs.Lists.{set_is_updated}
+use Rattle.fm_ctx.specs.declared.row.Row.{Row}
+use Rattle.fm_ctx.specs.Bodies.{with_number}
+use Rattle.fm_ctx.specs.Rows.{row_with}
+use Rattle.fm_ctx.proofs.row.bump.Goals as goal
+
+pub returns-clause-rest : goal.returns-clause-rest
+returns-clause-rest c =
+    let row = c.index_mut-row.result.now in (
+      c.bump_number.new.body,
+      (λ d. c.bump_number.ensures.rest ∙ ap (λ (r : Row). with_number c.args.place c.bump_number.result r.body.items)
+          (c.index_mut-row.ensures.value ∙ get_or_default c.args.rows.now.items c.args.slot row d c.requires.room)),
+      set_is_updated (row_with c.bump_number.new.body) c.args.rows.now.items c.args.slot row _ c.requires.room c.index_mut-row.ensures.value refl,
+    )

@@ -1,0 +1,11 @@
+use Rattle.std.proofs.Common.{ap}
+use Rattle.std.specs.Global.{Vec}
+use Rattle.std.proofs.Common.{ℕ}
+use Rattle.fm_types.proofs.Lists.{set_is_updated}
+use Rattle.fm_ctx.specs.Rows.{row_with}
+use Rattle.fm_ctx.proofs.row.take_body.Goals as goal
+
+pub returns-clause-rest : goal.returns-clause-rest
+returns-clause-rest c =
+    set_is_updated (row_with c.args.empty) c.args.rows.now.items c.args.slot c.index_mut-row.result.now _ c.requires c.index_mut-row.ensures.value
+    (ap (λ (b : Vec ℕ). row_with b c.index_mut-row.result.now) c.replace.ensures.after)

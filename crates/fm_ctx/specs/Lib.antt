@@ -1,0 +1,13 @@
+pub mod Bags
+pub mod Objects
+pub mod Table
+pub mod Kept
+pub mod Laws
+pub mod References
+pub mod Links
+pub mod Births
+pub mod Cleanup
+pub mod Settling
+pub mod Bodies
+pub mod Counting
+pub mod Rows

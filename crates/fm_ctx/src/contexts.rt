@@ -1,0 +1,291 @@
+//! All contexts of a run: their references, and the hands of the workers.
+
+mod bodies;
+mod cleanup;
+mod links;
+mod readers;
+
+ghost use Rattle.std.specs.Prelude.{◌≡◌, ℕ, ◌+◌, ◌<◌, ◌^◌, ◌==◌, ◌++◌, ◌∷◌, [], if◌then◌else◌, IfOk, IfSome, true, None, is_some, length, count_by, slice_get, slice_index_or};
+ghost use Rattle.std.specs.VecDeque.{deque_capacity};
+ghost use Rattle.fm_types.specs.Refusals.{Answers, AnswersOrMemory};
+ghost use Rattle.fm_types.specs.Lists.{updated};
+ghost use Rattle.fm_types.specs.declared.ids.CtxId.{CtxId};
+ghost use Rattle.fm_ctx.specs.Bags.{holds, hand_of};
+ghost use Rattle.fm_ctx.specs.Table.{Context, context_at, link_at, count_in};
+ghost use Rattle.fm_ctx.specs.Kept.{nothing_kept, carried_of, carried_more, carried_fewer};
+ghost use Rattle.fm_ctx.specs.Laws.{IsLawful, has_link};
+ghost use Rattle.fm_ctx.specs.References.{grabbed, handed_on, released, reference_refusal, release_refusal};
+ghost use Rattle.fm_ctx.specs.Links.{IsFree, linked, unlinked, unlinked_into};
+ghost use Rattle.fm_ctx.specs.Births.{IsNew, allocate_refusal, kept_allocated, new_context};
+ghost use Rattle.fm_ctx.specs.Settling.{Leaves};
+ghost use Rattle.fm_ctx.specs.Rows.{lowered};
+ghost use Rattle.fm_ctx.specs.declared.row.Row.{Row as KeptRow};
+
+use crate::hand::Hand;
+use crate::object::Object;
+use crate::owner::Owner;
+use crate::row::Row;
+use crate::{hand, row};
+use fm_types::{Bytes, ContextKind, CtxId, Status, VolumeId, WorkerId};
+use std::alloc::{AllocError, Global};
+use std::collections::VecDeque;
+use std::marker::Model;
+
+/// How many workers there are.
+const WORKERS: usize = 48;
+
+/// How many bytes the body of a context has at most.
+const MAX_BODY: usize = 4096;
+
+/// How many contexts may be allocated in one run.
+const MAX_CONTEXTS: usize = 65536;
+
+/// The contexts by their ids, what each worker holds, and which contexts wait to be cleaned up.
+/// Contracts see a table of slots by number, and for each slot how many references completions carry.
+#[derive(Drop)]
+pub struct Contexts {
+    alloc: Global,
+    rows: Vec<Row>,
+    hands: Vec<Hand>,
+    due: VecDeque<CtxId>,
+    cleaning: Vec<Option<CtxId>>,
+    leaks: u64,
+}
+
+impl Model for Contexts {
+    ghost use Rattle.std.specs.VecDeque.{deque_capacity};
+    ghost use Rattle.fm_ctx.specs.Kept.{ContextsKept};
+
+    ghost Value = { ContextsKept };
+
+    ghost use Rattle.fm_ctx.specs.Rows.{kept_in, IsSound};
+
+    ghost view = { λ c. kept_in c.rows.items c.hands.items c.due.items c.cleaning.items c.leaks };
+
+    ghost invariant = { λ c. IsSound c.rows.items (kept_in c.rows.items c.hands.items c.due.items c.cleaning.items c.leaks) (deque_capacity c.due) };
+}
+
+// The context has one reference fewer; with the last one it is due.
+fn drop_reference(rows: &mut Vec<Row>, due: &mut VecDeque<CtxId>, id: CtxId)
+    requires within { id.slot < length rows.old.items }
+    requires some { (d : KeptRow) → 0 < (slice_index_or rows.old.items id.slot d).count }
+    requires room { (d : KeptRow) → (slice_index_or rows.old.items id.slot d).count ≡ 1 → length due.old.items < deque_capacity due.old }
+    ensures rows { rows.new.items ≡ updated lowered rows.old.items id.slot }
+    ensures due { (d : KeptRow) → due.new.items ≡ (if (slice_index_or rows.old.items id.slot d).count == 1 then due.old.items ++ id ∷ [] else due.old.items) }
+    ensures capacity { deque_capacity due.new ≡ deque_capacity due.old }
+{
+    if row::lower(rows, id.slot as usize) {
+        due.push_back_reserved(id);
+    }
+}
+
+impl Contexts {
+    /// No contexts, and 48 empty hands; the error says that memory was refused.
+    pub fn new(alloc: Global) -> Result<Contexts, AllocError>
+        ensures { IfOk result (λ contexts. contexts ≡ nothing_kept) }
+    {
+        let mut hands = Vec::with_capacity(alloc, WORKERS)?;
+        let mut cleaning = Vec::with_capacity(alloc, WORKERS)?;
+        for _worker in 0..WORKERS {
+            hands.push_reserved(Hand::new(alloc)?);
+            cleaning.push_reserved(None);
+        }
+        Ok(Contexts {
+            alloc,
+            rows: Vec::new(alloc),
+            hands,
+            due: VecDeque::new(alloc),
+            cleaning,
+            leaks: 0,
+        })
+    }
+
+    /// The laws of all contexts, for callers that rest on them. It does nothing.
+    pub fn laws(&self)
+        ensures lawful { IsLawful (carried_of self.now) self.now.table }
+        ensures matched { length self.now.carried ≡ length self.now.table.slots }
+    {
+        let _leaks = &self.leaks;
+    }
+}
+
+// References.
+impl Contexts {
+    /// Allocates a context (`FltAllocateContext`): it isn't linked, and its one reference is in the
+    /// worker's hand. Makes the room that its cleanup will need. Refused, with nothing changed, in this
+    /// order: `TooMany` (29) where the body has more than 4,096 bytes or 65,536 contexts were
+    /// allocated, `HandFull` (26), `NoMemory` (1).
+    pub fn allocate(
+        &mut self,
+        worker: WorkerId,
+        kind: ContextKind,
+        owner: Owner,
+        volume: VolumeId,
+        body: Bytes,
+    ) -> Result<CtxId, Status>
+        requires { worker.0 < 48 }
+        ensures { AnswersOrMemory (allocate_refusal self.old.table worker.0 body) result self.old self.new (λ (id : CtxId). IsNew self.old.table.slots id × (self.new ≡ kept_allocated self.old worker.0 id (new_context kind owner volume body))) }
+    {
+        if body.len() > MAX_BODY || self.rows.len() >= MAX_CONTEXTS {
+            return Err(Status::TooMany);
+        }
+        if self.is_hand_full(worker) {
+            return Err(Status::HandFull);
+        }
+        let Ok(()) = self.due.reserve(self.rows.len() + 1) else {
+            return Err(Status::NoMemory);
+        };
+        let Ok(()) = self.rows.reserve(1) else {
+            return Err(Status::NoMemory);
+        };
+        let id = CtxId {
+            slot: self.rows.len() as u32,
+            generation: 0,
+        };
+        self.rows.push_reserved(Row {
+            kind,
+            owner,
+            volume,
+            body: body.into_vec(),
+            link: None,
+            count: 1,
+            carried: 0,
+            is_cleaned: false,
+        });
+        hand::put(&mut self.hands, worker, id);
+        Ok(id)
+    }
+
+    /// Takes one more reference to a context that the worker holds (`FltReferenceContext`). Refused,
+    /// with nothing changed, in this order: `NotHeld` (25), `HandFull` (26). It takes no memory.
+    pub fn reference(&mut self, worker: WorkerId, id: CtxId) -> Result<(), Status>
+        requires { worker.0 < 48 }
+        ensures { Answers (reference_refusal self.old.table worker.0 id) result self.old self.new (λ _. self.new ≡ record self.old { table = grabbed self.old.table worker.0 id }) }
+    {
+        if !self.holds(worker, id) {
+            return Err(Status::NotHeld);
+        }
+        if self.is_hand_full(worker) {
+            return Err(Status::HandFull);
+        }
+        self.laws();
+        self.grab(worker, id);
+        Ok(())
+    }
+
+    /// Gives one reference back (`FltReleaseContext`); with the last one the context is due. Refused,
+    /// with nothing changed: `NotHeld` (25). It takes no memory.
+    pub fn release(&mut self, worker: WorkerId, id: CtxId) -> Result<(), Status>
+        requires { worker.0 < 48 }
+        ensures { Answers (release_refusal self.old.table worker.0 id) result self.old self.new (λ _. self.new ≡ record self.old { table = released (carried_of self.old) self.old.table worker.0 id }) }
+    {
+        if !self.holds(worker, id) {
+            return Err(Status::NotHeld);
+        }
+        self.let_go(worker, id);
+        Ok(())
+    }
+
+    /// A completion takes a reference out of the worker's hand along, where the hand has one; where it
+    /// has none nothing changes. Says whether it had one. It takes no memory.
+    pub fn carry(&mut self, worker: WorkerId, id: CtxId) -> bool
+        requires within { worker.0 < 48 }
+        requires few { carried_of self.old id < 2 ^ 32 }
+        ensures found { result ≡ holds (hand_of self.old.table.hands worker.0) id }
+        ensures after { self.new ≡ (if result then record { table = handed_on self.old.table worker.0 id; carried = carried_more self.old.carried id } else self.old) }
+    {
+        if !self.holds(worker, id) {
+            return false;
+        }
+        hand::take(&mut self.hands, worker, id);
+        row::carry(&mut self.rows, id.slot as usize);
+        true
+    }
+
+    /// A completion comes back: the reference that it carried is in the worker's hand. It takes no
+    /// memory.
+    pub fn bring(&mut self, worker: WorkerId, id: CtxId)
+        requires within { worker.0 < 48 }
+        requires carried { 0 < carried_of self.old id }
+        requires room { length (hand_of self.old.table.hands worker.0) < 16 }
+        ensures { self.new ≡ record { table = grabbed self.old.table worker.0 id; carried = carried_fewer self.old.carried id } }
+    {
+        row::bring(&mut self.rows, id.slot as usize);
+        hand::put(&mut self.hands, worker, id);
+    }
+
+    /// A callback of the worker returns: the references that are left in its hand are released, and
+    /// counted as leaks. It takes no memory.
+    pub fn leave(&mut self, worker: WorkerId)
+        requires { worker.0 < 48 }
+        ensures table { Leaves (carried_of self.old) self.old.table self.new.table worker.0 }
+        ensures carried { self.new.carried ≡ self.old.carried }
+    {
+        self.laws();
+        let left = self.hand_len(worker);
+        while let Some(id) = self.first_held(worker) {
+            self.let_go(worker, id);
+        }
+        self.leaks = self.leaks.saturating_add(left as u64);
+    }
+
+    fn first_held(&self, worker: WorkerId) -> Option<CtxId>
+        requires { worker.0 < 48 }
+        ensures { result ≡ slice_get (hand_of self.now.table.hands worker.0) 0 }
+    {
+        self.hands[worker.0 as usize].first()
+    }
+
+    // One more reference to a context that has one.
+    fn grab(&mut self, worker: WorkerId, id: CtxId)
+        requires within { worker.0 < 48 }
+        requires live { 0 < count_in (carried_of self.old) self.old.table id }
+        requires room { length (hand_of self.old.table.hands worker.0) < 16 }
+        ensures { self.new ≡ record self.old { table = grabbed self.old.table worker.0 id } }
+    {
+        row::raise(&mut self.rows, id.slot as usize);
+        hand::put(&mut self.hands, worker, id);
+    }
+
+    // One reference fewer, out of the hand.
+    fn let_go(&mut self, worker: WorkerId, id: CtxId)
+        requires within { worker.0 < 48 }
+        requires held { holds (hand_of self.old.table.hands worker.0) id ≡ true }
+        ensures { self.new ≡ record self.old { table = released (carried_of self.old) self.old.table worker.0 id } }
+    {
+        hand::take(&mut self.hands, worker, id);
+        drop_reference(&mut self.rows, &mut self.due, id);
+    }
+}
+
+// Links, one at a time.
+impl Contexts {
+    // The context gets a link, where nothing of its owner is linked to the object.
+    fn link(&mut self, id: CtxId, object: Object)
+        requires live { 0 < count_in (carried_of self.old) self.old.table id }
+        requires free { IsFree self.old.table id object }
+        ensures { self.new ≡ record self.old { table = linked self.old.table id object } }
+    {
+        row::link(&mut self.rows, id.slot as usize, object);
+    }
+
+    // The context loses its link, and the reference of the link goes.
+    fn unlink(&mut self, id: CtxId)
+        requires { is_some (link_at self.old.table.slots id) ≡ true }
+        ensures { self.new ≡ record self.old { table = unlinked (carried_of self.old) self.old.table id } }
+    {
+        drop_reference(&mut self.rows, &mut self.due, id);
+        row::unlink(&mut self.rows, id.slot as usize);
+    }
+
+    // The context loses its link, and the reference of the link goes to the hand.
+    fn unlink_into(&mut self, worker: WorkerId, id: CtxId)
+        requires within { worker.0 < 48 }
+        requires linked { is_some (link_at self.old.table.slots id) ≡ true }
+        requires room { length (hand_of self.old.table.hands worker.0) < 16 }
+        ensures { self.new ≡ record self.old { table = unlinked_into self.old.table worker.0 id } }
+    {
+        row::unlink(&mut self.rows, id.slot as usize);
+        hand::put(&mut self.hands, worker, id);
+    }
+}

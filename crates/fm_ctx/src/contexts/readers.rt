@@ -1,0 +1,142 @@
+//! What can be read of the contexts.
+
+ghost use Rattle.std.specs.Prelude.{cond, ◌≡◌, ◌<◌, true, is_some, length, option_map};
+ghost use Rattle.fm_ctx.specs.Bags.{holds, hand_of, is_hand_full, cleaning_of};
+ghost use Rattle.fm_ctx.specs.Table.{Context, context_at, link_at};
+ghost use Rattle.fm_ctx.specs.Kept.{carried_of};
+ghost use Rattle.fm_ctx.specs.declared.count.Count.TheVariants as Count;
+ghost use Rattle.fm_ctx.specs.Counting.{count_reply, was_given, born, cleaned_count, open_of};
+
+use crate::contexts::Contexts;
+use crate::count::Count;
+use crate::object::Object;
+use crate::owner::Owner;
+use crate::{hand, row};
+use fm_types::{ContextKind, CtxId, WorkerId};
+
+impl Contexts {
+    /// Whether the worker holds a reference to that context; what is held isn't cleaned.
+    pub fn holds(&self, worker: WorkerId, id: CtxId) -> bool
+        requires { worker.0 < 48 }
+        ensures held { result ≡ holds (hand_of self.now.table.hands worker.0) id }
+        ensures there { result ≡ true → is_some (context_at self.now.table.slots id) ≡ true }
+    {
+        self.hands[worker.0 as usize].holds(id)
+    }
+
+    /// How many references the worker holds.
+    pub fn hand_len(&self, worker: WorkerId) -> usize
+        requires { worker.0 < 48 }
+        ensures { result ≡ length (hand_of self.now.table.hands worker.0) }
+    {
+        self.hands[worker.0 as usize].len()
+    }
+
+    pub(super) fn is_hand_full(&self, worker: WorkerId) -> bool
+        requires { worker.0 < 48 }
+        ensures { result ≡ is_hand_full self.now.table.hands worker.0 }
+    {
+        self.hands[worker.0 as usize].is_full()
+    }
+
+    /// What the context is set on, if it is and isn't cleaned.
+    pub fn link_of(&self, id: CtxId) -> Option<Object>
+        ensures { result ≡ link_at self.now.table.slots id }
+    {
+        let Some(row) = row::named(&self.rows, id) else {
+            return None;
+        };
+        row.link
+    }
+
+    /// To whom the context belongs, if it isn't cleaned.
+    pub fn owner_of(&self, id: CtxId) -> Option<Owner>
+        ensures { result ≡ option_map (λ (x : Context). x.owner) (context_at self.now.table.slots id) }
+    {
+        let Some(row) = row::named(&self.rows, id) else {
+            return None;
+        };
+        Some(row.owner)
+    }
+
+    /// Of which kind the context is, if it isn't cleaned.
+    pub fn kind_of(&self, id: CtxId) -> Option<ContextKind>
+        ensures { result ≡ option_map (λ (x : Context). x.kind) (context_at self.now.table.slots id) }
+    {
+        let Some(row) = row::named(&self.rows, id) else {
+            return None;
+        };
+        Some(row.kind)
+    }
+
+    /// Which context the worker cleans up.
+    pub fn cleaning_of(&self, worker: WorkerId) -> Option<CtxId>
+        requires { worker.0 < 48 }
+        ensures { result ≡ cleaning_of self.now.table.cleaning worker.0 }
+    {
+        self.cleaning[worker.0 as usize]
+    }
+
+    /// How many references callbacks left behind; it stays at 2^64 - 1 once it is there.
+    pub fn leaks(&self) -> u64
+        ensures { result ≡ self.now.table.leaks }
+    {
+        self.leaks
+    }
+
+    /// How many contexts were allocated.
+    pub fn born(&self) -> u64
+        ensures { result ≡ born self.now.table.slots }
+    {
+        self.rows.len() as u64
+    }
+
+    /// How many of them are cleaned.
+    pub fn cleaned_count(&self) -> u64
+        ensures { result ≡ cleaned_count self.now.table.slots }
+    {
+        row::cleaned(&self.rows) as u64
+    }
+
+    /// How many contexts of an owner aren't cleaned.
+    pub fn open_of(&self, owner: Owner) -> u64
+        ensures { result ≡ open_of self.now.table.slots owner }
+    {
+        self.rows.iter().filter(|row| row.is_open_of(owner)).count() as u64
+    }
+
+    /// How far the life of a context has come. A live one has as many references as its link, the
+    /// workers' hands and the completions that carry it make.
+    pub fn count(&self, id: CtxId) -> Count
+        ensures { result ≡ count_reply (carried_of self.now) self.now.table id }
+    {
+        let Some(row) = row::named(&self.rows, id) else {
+            return self.count_of_none(id);
+        };
+        if row.count > 0 {
+            return Count::Live(row.count);
+        }
+        if self.is_due(id) {
+            return Count::Due;
+        }
+        Count::Cleaning
+    }
+
+    // What is known of an id that names no context: it was one that is cleaned, or none.
+    fn count_of_none(&self, id: CtxId) -> Count
+        ensures { result ≡ cond (was_given self.now.table.slots id) Count.Cleaned Count.Absent }
+    {
+        if row::was_given(&self.rows, id) {
+            Count::Cleaned
+        } else {
+            Count::Absent
+        }
+    }
+
+    #[tactic(auto, unfolding(crate::specs::Bags::holds))]
+    fn is_due(&self, id: CtxId) -> bool
+        ensures { result ≡ holds self.now.table.due id }
+    {
+        self.due.iter().any(|other| hand::is_same(id, *other))
+    }
+}

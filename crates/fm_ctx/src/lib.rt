@@ -1,0 +1,22 @@
+//! The contexts that filters allocate: which objects they are set on, who holds references to them,
+//! and which of them wait to be cleaned up.
+//!
+//! The layer knows no filters, instances and callbacks: it is told the worker, the owner and the
+//! object. Its main type is `Contexts`.
+#![tactic(auto)]
+
+mod contexts;
+mod count;
+mod due;
+mod hand;
+mod object;
+mod owner;
+mod row;
+mod set_reply;
+
+pub use crate::contexts::Contexts;
+pub use crate::count::Count;
+pub use crate::due::Due;
+pub use crate::object::Object;
+pub use crate::owner::Owner;
+pub use crate::set_reply::{SetMode, SetReply};

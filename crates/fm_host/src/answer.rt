@@ -1,0 +1,40 @@
+//! What the host tells, as a base answers it.
+
+ghost use Rattle.std.specs.Prelude.{◌≡◌};
+ghost use Rattle.std.specs.IoError.{error_kind};
+ghost use Rattle.fm_base.specs.Answers.{faults_after};
+ghost use Rattle.fm_host.specs.Told.{status_of, answer_of};
+
+use fm_types::Status;
+use std::io;
+use std::io::ErrorKind;
+
+/// The status for an error of the host: 19 where a file, or a folder above it, isn't there, 20 where a
+/// file is there already, 1 where memory was refused, and 18 for all else.
+fn status_of(error: &io::Error) -> Status
+    ensures { result ≡ status_of (error_kind error.now) }
+{
+    match error.kind() {
+        ErrorKind::NotFound | ErrorKind::NotADirectory => Status::FileNotFound,
+        ErrorKind::AlreadyExists => Status::AlreadyExists,
+        ErrorKind::OutOfMemory => Status::NoMemory,
+        _ => Status::DeviceFault,
+    }
+}
+
+/// What the host told, as a base answers it. A fault is counted.
+pub fn answer<T>(failures: &mut u64, told: io::Result<T>) -> Result<T, Status>
+    ensures value { result ≡ answer_of told }
+    ensures counts { failures.new ≡ faults_after failures.old result }
+{
+    match told {
+        Ok(value) => Ok(value),
+        Err(error) => {
+            let status = status_of(&error);
+            if status == Status::DeviceFault {
+                *failures = failures.saturating_add(1);
+            }
+            Err(status)
+        }
+    }
+}

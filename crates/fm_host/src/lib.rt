@@ -1,0 +1,16 @@
+//! The base over a folder of the host: its files are the files of the host, named by paths below that
+//! folder. What a file holds between two calls is the host's to say.
+#![tactic(auto)]
+
+mod answer;
+mod files;
+mod host_base;
+mod names;
+mod paths;
+
+pub use crate::host_base::HostBase;
+
+#[cfg(test)]
+mod slow_host;
+#[cfg(test)]
+mod tests;

@@ -1,0 +1,82 @@
+//! The names of the files directly in a folder of the host.
+
+ghost use Rattle.std.specs.Prelude.{◌≡◌, ◌≤◌, IfOk, IfSome};
+ghost use Rattle.std.specs.List.{sum_by};
+ghost use Rattle.fm_base.specs.Folders.{lines_of};
+ghost use Rattle.fm_host.specs.Names.{line_length, IsListing};
+
+use fm_types::{Bytes, RelPath};
+use std::alloc::{AllocError, Global};
+use std::fs::DirEntry;
+use std::io::ErrorKind;
+use std::rt::Files;
+use std::{fs, io};
+
+/// How many bytes a listing has at most.
+const MAX_LISTING: usize = 32_768;
+
+// The entry's name, where it is one that a base may have and not that of a folder. An entry that went
+// away meanwhile has none.
+fn name_of<R: Files + AllocGlobal + Clone + Drop>(
+    entry: &DirEntry<R>,
+) -> io::Result<Option<RelPath>> {
+    let Ok(name) = RelPath::read(entry.file_name().as_bytes()) else {
+        return Ok(None);
+    };
+    match entry.file_type() {
+        Ok(file_type) if file_type.is_dir() => Ok(None),
+        Ok(_) => Ok(Some(name)),
+        Err(error) if error.kind() == ErrorKind::NotFound => Ok(None),
+        Err(error) => Err(error),
+    }
+}
+
+// The names in the order in which the host gives them; None where their lines have too many bytes.
+fn names_in<R: Files + AllocGlobal + Clone + Drop>(
+    rt: &R,
+    folder: &str,
+) -> io::Result<Option<Vec<RelPath>>>
+    ensures { IfOk result (λ told. IfSome told (λ names. sum_by line_length names.items ≤ 32768)) }
+{
+    let mut names = Vec::new(rt.alloc());
+    let mut room = MAX_LISTING;
+    for entry in fs::read_dir(rt, folder)? {
+        if let Some(name) = name_of(&entry?)? {
+            let line = name.text().len() + 1;
+            if line > room {
+                return Ok(None);
+            }
+            room -= line;
+            names.push(name)?;
+        }
+    }
+    Ok(Some(names))
+}
+
+// Each name, and a line feed behind it.
+fn lines(alloc: Global, names: &[RelPath]) -> Result<Vec<u8>, AllocError>
+    ensures { IfOk result (λ lines. lines.items ≡ lines_of names.now) }
+{
+    let mut lines = Vec::new(alloc);
+    for name in names {
+        lines.extend_from_slice(name.text())?;
+        lines.push(b'\n')?;
+    }
+    Ok(lines)
+}
+
+/// The names of the files directly in the folder that are paths of a base, ascending by bytes, each
+/// followed by a line feed; None where that has more than 32,768 bytes.
+pub fn listing<R: Files + AllocGlobal + Clone + Drop>(
+    rt: &R,
+    folder: &str,
+) -> io::Result<Option<Bytes>>
+    ensures { IfOk result (λ told. IfSome told IsListing) }
+{
+    let Some(mut names) = names_in(rt, folder)? else {
+        return Ok(None);
+    };
+    names.sort_unstable();
+    let lines = lines(rt.alloc(), names.as_slice())?;
+    Ok(Some(Bytes::from_vec(lines)))
+}

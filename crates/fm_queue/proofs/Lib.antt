@@ -1,0 +1,3 @@
+mod Sums
+pub mod Jobs
+pub mod Rule

@@ -1,0 +1,4 @@
+pub mod Jobs
+pub mod Tallies
+pub mod Passes
+pub mod Calls

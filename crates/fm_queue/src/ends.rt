@@ -1,0 +1,17 @@
+//! The two ends of the channel that a queue of jobs is.
+
+ghost use Rattle.std.specs.Prelude.{◌≡◌};
+ghost use Rattle.crossbeam_channel.specs.Ends.{sends_on, receives_on};
+
+use crate::job::Job;
+use crate::kept::Kept;
+use crate::tally::Tally;
+use crossbeam_channel::{RuledReceiver, RuledSender};
+
+/// Both ends of one channel.
+#[derive(Drop)]
+pub struct Ends {
+    pub sender: RuledSender<Job, Tally, Kept>,
+    pub receiver: RuledReceiver<Job, Tally, Kept>,
+    ghost one_channel: { receives_on receiver ≡ sends_on sender },
+}

@@ -1,0 +1,234 @@
+//! The queue's rows, and four threads at one queue.
+
+ghost use Rattle.std.specs.Prelude.{◌≡◌, ◌+◌, All, IfOk, IfSome, IfNone, sum_by};
+ghost use Rattle.fm_queue.specs.Passes.{parts_of, IsPassOf};
+
+use crate::laws::jobs_are_kept;
+use crate::{Job, JobPass, JobQueue};
+use fm_types::{OpId, Status};
+use std::alloc::{AllocError, Global};
+use std::ops::Range;
+use std::process::Abort;
+use std::sync::Wait;
+use std::test::Fail;
+use std::thread;
+use std::thread::Threads;
+
+fn run(number: u64) -> Job {
+    Job::Run(OpId(number))
+}
+
+// The last pass of a list.
+fn next_pass(queue: &JobQueue, passes: &mut Vec<JobPass>) -> Option<JobPass>
+    requires { All (λ pass. IsPassOf queue.now pass) passes.old.items }
+    ensures all { All (λ pass. IsPassOf queue.now pass) passes.new.items }
+    ensures next { IfSome result (λ pass. IsPassOf queue.now pass) }
+    ensures parts { IfSome result (λ pass. sum_by parts_of passes.new.items + parts_of pass ≡ sum_by parts_of passes.old.items) }
+    ensures none { IfNone result (sum_by parts_of passes.old.items ≡ 0) }
+{
+    let _ = queue;
+    passes.pop()
+}
+
+#[test]
+fn queue_of_two(rt: HostRuntime) -> Result<(), Fail> {
+    let (queue, mut passes) = JobQueue::new(rt.alloc(), 2, 1)?;
+    let mut pass = next_pass(&queue, &mut passes).expect(&rt, "a pass");
+    assert_eq!(rt; queue.put(&rt, &mut pass, run(0)), Ok(()));
+    assert_eq!(rt; queue.put(&rt, &mut pass, run(1)), Ok(()));
+    assert_eq!(rt;
+        queue.put(&rt, &mut pass, Job::Stop),
+        Err((Job::Stop, Status::TooMany))
+    );
+    assert_eq!(rt; queue.take(&rt, &mut pass), run(0));
+    assert_eq!(rt; queue.put(&rt, &mut pass, Job::Stop), Ok(()));
+    assert_eq!(rt; queue.take(&rt, &mut pass), run(1));
+    assert_eq!(rt; queue.take(&rt, &mut pass), Job::Stop);
+    assert!(rt; next_pass(&queue, &mut passes).is_none());
+    jobs_are_kept(&queue, &mut pass);
+    Ok(())
+}
+
+#[test]
+fn no_room_and_no_pass(rt: HostRuntime) {
+    for (capacity, passes) in [(0, 1), (1, 0), (0, 0)] {
+        let refused = JobQueue::new(rt.alloc(), capacity, passes).err();
+        assert_eq!(rt;
+            refused,
+            Some(Status::BadRequest),
+            "{capacity} jobs, {passes} passes"
+        );
+    }
+    assert!(rt; JobQueue::new(rt.alloc(), 1, 1).is_ok());
+}
+
+// Puts a job as soon as there is room.
+fn put_soon<R: Wait>(rt: &R, queue: &JobQueue, pass: &mut JobPass, job: Job)
+    requires { IsPassOf queue.now pass.old }
+    ensures own { IsPassOf queue.now pass.new }
+    ensures parts { parts_of pass.new ≡ parts_of pass.old }
+{
+    for _ in rt.forever() {
+        match queue.put(rt, pass, job) {
+            Ok(()) => return,
+            Err(_) => thread::yield_now(),
+        }
+    }
+    unreachable!()
+}
+
+// Puts a job for each of these operations, and Stop behind them.
+fn put_all<R: Wait>(rt: &R, queue: &JobQueue, mut pass: JobPass, numbers: Range<u64>) -> JobPass
+    requires { IsPassOf queue.now pass }
+    ensures own { IsPassOf queue.now result }
+    ensures parts { parts_of result ≡ parts_of pass }
+{
+    for number in numbers {
+        put_soon(rt, queue, &mut pass, run(number));
+    }
+    put_soon(rt, queue, &mut pass, Job::Stop);
+    pass
+}
+
+// Takes jobs until Stop, and gives the operations in the order in which they came.
+fn take_all<R: Wait>(
+    rt: &R,
+    alloc: Global,
+    queue: &JobQueue,
+    mut pass: JobPass,
+) -> Result<Taken, AllocError>
+    requires { IsPassOf queue.now pass }
+    ensures own { IfOk result (λ taken. IsPassOf queue.now taken.pass) }
+    ensures parts { IfOk result (λ taken. parts_of taken.pass ≡ parts_of pass) }
+{
+    let mut numbers = Vec::new(alloc);
+    for _ in rt.forever() {
+        match queue.take(rt, &mut pass) {
+            Job::Run(operation) => numbers.push(operation.0)?,
+            Job::Stop => return Ok(Taken { pass, numbers }),
+        }
+    }
+    unreachable!()
+}
+
+// What one thread took, with its pass.
+#[derive(Drop)]
+struct Taken {
+    pass: JobPass,
+    numbers: Vec<u64>,
+}
+
+// Two threads that put 10,000 jobs each and a Stop. Gives one pass for both.
+fn put_both<R: Threads + Wait + Sync>(
+    rt: &R,
+    queue: &JobQueue,
+    one: JobPass,
+    other: JobPass,
+) -> JobPass
+    requires { IsPassOf queue.now one × IsPassOf queue.now other }
+    ensures own { IsPassOf queue.now result }
+    ensures parts { parts_of result ≡ parts_of one + parts_of other }
+{
+    let (mut one, other) = thread::join(
+        rt,
+        move ||
+            requires { IsPassOf queue.now one }
+            ensures { IsPassOf queue.entry.now result × (parts_of result ≡ parts_of one) }
+        { put_all(rt, queue, one, 0..10_000) },
+        move ||
+            requires { IsPassOf queue.now other }
+            ensures { IsPassOf queue.entry.now result × (parts_of result ≡ parts_of other) }
+        { put_all(rt, queue, other, 5_000..15_000) },
+    );
+    queue.absorb(&mut one, other);
+    one
+}
+
+// Two threads that take until Stop.
+fn take_both<R: Threads + Wait + Sync>(
+    rt: &R,
+    alloc: Global,
+    queue: &JobQueue,
+    one: JobPass,
+    other: JobPass,
+) -> Result<(Taken, Taken), AllocError>
+    requires { IsPassOf queue.now one × IsPassOf queue.now other }
+    ensures own { IfOk result (λ both. IsPassOf queue.now both.0.pass × IsPassOf queue.now both.1.pass) }
+    ensures parts { IfOk result (λ both. parts_of both.0.pass + parts_of both.1.pass ≡ parts_of one + parts_of other) }
+{
+    let (one, other) = thread::join(
+        rt,
+        move ||
+            requires { IsPassOf queue.now one }
+            ensures { IfOk result (λ taken. IsPassOf queue.entry.now taken.pass × (parts_of taken.pass ≡ parts_of one)) }
+        { take_all(rt, alloc, queue, one) },
+        move ||
+            requires { IsPassOf queue.now other }
+            ensures { IfOk result (λ taken. IsPassOf queue.entry.now taken.pass × (parts_of taken.pass ≡ parts_of other)) }
+        { take_all(rt, alloc, queue, other) },
+    );
+    Ok((one?, other?))
+}
+
+// Two threads put and two take. Gives what each took.
+fn exchange<R: Threads + Wait + Sync>(
+    rt: &R,
+    alloc: Global,
+) -> Result<(Vec<u64>, Vec<u64>), Status> {
+    let (queue, mut passes) = JobQueue::new(alloc, 64, 4)?;
+    let queue = &queue;
+    let (Some(a), Some(b), Some(c), Some(d)) = (
+        next_pass(queue, &mut passes),
+        next_pass(queue, &mut passes),
+        next_pass(queue, &mut passes),
+        next_pass(queue, &mut passes),
+    ) else {
+        return Err(Status::TooMany);
+    };
+    let (mut whole, taken) = thread::join(
+        rt,
+        move ||
+            requires { IsPassOf queue.now a × IsPassOf queue.now b }
+            ensures { IsPassOf queue.entry.now result × (parts_of result ≡ parts_of a + parts_of b) }
+        { put_both(rt, queue, a, b) },
+        move ||
+            requires { IsPassOf queue.now c × IsPassOf queue.now d }
+            ensures { IfOk result (λ both. IsPassOf queue.entry.now both.0.pass × IsPassOf queue.entry.now both.1.pass) × IfOk result (λ both. parts_of both.0.pass + parts_of both.1.pass ≡ parts_of c + parts_of d) }
+        { take_both(rt, alloc, queue, c, d) },
+    );
+    let (one, other) = taken?;
+    queue.absorb(&mut whole, one.pass);
+    queue.absorb(&mut whole, other.pass);
+    if next_pass(queue, &mut passes).is_some() {
+        return Err(Status::TooMany);
+    }
+    jobs_are_kept(queue, &mut whole);
+    Ok((one.numbers, other.numbers))
+}
+
+// How often each operation below 15,000 was taken.
+fn times(alloc: Global, taken: &[u64], more: &[u64]) -> Result<Vec<u32>, AllocError> {
+    let mut times = Vec::from_elem(alloc, 0u32, 15_000)?;
+    for number in taken.iter().chain(more) {
+        if let Some(count) = times.get_mut(*number as usize) {
+            *count = count.saturating_add(1);
+        }
+    }
+    Ok(times)
+}
+
+#[test]
+fn four_threads(rt: HostRuntime) -> Result<(), Fail> {
+    let (taken, more) = exchange(&rt, rt.alloc())?;
+    assert_eq!(rt; taken.len() + more.len(), 20_000);
+    let times = times(rt.alloc(), &taken, &more)?;
+    for (number, count) in times.iter().enumerate() {
+        let wanted = if (5_000..10_000).contains(&number) {
+            2
+        } else {
+            1
+        };
+        assert_eq!(rt; *count, wanted, "of operation {number}");
+    }
+    Ok(())
+}

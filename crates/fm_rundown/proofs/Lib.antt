@@ -1,0 +1,7 @@
+mod Lists
+mod Words
+pub mod Counts
+pub mod Kept
+pub mod Changed
+pub mod Held
+pub mod Scheduled

@@ -1,0 +1,10 @@
+pub mod Views
+pub mod Kinds
+pub mod Counts
+pub mod Rule
+pub mod Schedules
+pub mod Tables
+pub mod Rest
+pub mod Seats
+pub mod Calls
+pub mod Laws

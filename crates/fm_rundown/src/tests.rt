@@ -1,0 +1,291 @@
+//! The gate's rows, and five threads at one gate.
+
+ghost use Rattle.std.specs.Prelude.{All, IfSome};
+ghost use Rattle.fm_rundown.specs.Seats.{IsSeatOf};
+
+use crate::{GateSeat, Look, RundownGate};
+use fm_types::{Status, VolumeId};
+use std::process::Abort;
+use std::sync::Wait;
+use std::sync::atomic::{AtomicU64, Ordering};
+use std::test::Fail;
+use std::thread;
+use std::thread::Threads;
+
+const VOLUME: VolumeId = VolumeId(0);
+
+// The last seat of a list.
+fn next_seat(gate: &RundownGate, seats: &mut Vec<GateSeat>) -> Option<GateSeat>
+    requires { All (λ seat. IsSeatOf gate.now seat) seats.old.items }
+    ensures all { All (λ seat. IsSeatOf gate.now seat) seats.new.items }
+    ensures next { IfSome result (λ seat. IsSeatOf gate.now seat) }
+{
+    let _ = gate;
+    seats.pop()
+}
+
+// A seat goes back to the list.
+fn put_back(gate: &RundownGate, seats: &mut Vec<GateSeat>, seat: GateSeat) -> Result<(), Status>
+    requires all { All (λ seat. IsSeatOf gate.now seat) seats.old.items }
+    requires own { IsSeatOf gate.now seat }
+    ensures { All (λ seat. IsSeatOf gate.now seat) seats.new.items }
+{
+    let _ = gate;
+    seats.push(seat)?;
+    Ok(())
+}
+
+#[test]
+fn gate_steps(rt: HostRuntime) -> Result<(), Fail> {
+    let (gate, mut seats) = RundownGate::new(rt.alloc(), 1, 2)?;
+    let mut second = next_seat(&gate, &mut seats).expect(&rt, "two seats");
+    let mut first = next_seat(&gate, &mut seats).expect(&rt, "two seats");
+    assert_eq!(rt; gate.look(&mut first, VOLUME), Ok(Look::Open));
+    assert_eq!(rt; gate.enter(&mut first, VOLUME), Ok(()));
+    assert_eq!(rt; gate.close(&mut first, VOLUME), Ok(()));
+    assert_eq!(rt; gate.look(&mut first, VOLUME), Ok(Look::Closing));
+    assert_eq!(rt; gate.enter(&mut second, VOLUME), Err(Status::Dismounting));
+    assert_eq!(rt; gate.leave(&mut first, VOLUME), Ok(()));
+    assert_eq!(rt; gate.look(&mut first, VOLUME), Ok(Look::Drained));
+    assert_eq!(rt; gate.leave(&mut first, VOLUME), Err(Status::NotHeld));
+    put_back(&gate, &mut seats, first)?;
+    put_back(&gate, &mut seats, second)?;
+    assert!(rt; gate.end(seats).is_ok());
+    Ok(())
+}
+
+#[test]
+fn numbers_of_a_gate(rt: HostRuntime) -> Result<(), Fail> {
+    for (volumes, seats) in [(0, 1), (1, 0), (9, 1), (1, 65_537)] {
+        let refused = RundownGate::new(rt.alloc(), volumes, seats).err();
+        assert_eq!(rt;
+            refused,
+            Some(Status::BadRequest),
+            "{volumes} volumes, {seats} seats"
+        );
+    }
+    let (gate, mut seats) = RundownGate::new(rt.alloc(), 8, 65_536)?;
+    assert_eq!(rt; seats.len(), 65_536);
+    let mut seat = next_seat(&gate, &mut seats).expect(&rt, "a seat");
+    assert_eq!(rt; gate.enter(&mut seat, VolumeId(7)), Ok(()));
+    assert_eq!(rt; gate.enter(&mut seat, VolumeId(8)), Err(Status::NoVolume));
+    assert_eq!(rt; gate.leave(&mut seat, VolumeId(8)), Err(Status::NoVolume));
+    assert_eq!(rt; gate.close(&mut seat, VolumeId(8)), Err(Status::NoVolume));
+    assert_eq!(rt; gate.look(&mut seat, VolumeId(8)), Err(Status::NoVolume));
+    Ok(())
+}
+
+#[test]
+fn thousand_passes(rt: HostRuntime) -> Result<(), Fail> {
+    let (gate, mut seats) = RundownGate::new(rt.alloc(), 2, 1)?;
+    let mut seat = next_seat(&gate, &mut seats).expect(&rt, "a seat");
+    'enters: for _ in 0..1_000 {
+        assert_eq!(rt; gate.enter(&mut seat, VOLUME), Ok(()));
+    }
+    assert_eq!(rt; gate.enter(&mut seat, VOLUME), Err(Status::TooMany));
+    assert_eq!(rt; seat.passes(), 1_000);
+    assert_eq!(rt; gate.enter(&mut seat, VolumeId(1)), Ok(()));
+    assert_eq!(rt; gate.close(&mut seat, VOLUME), Ok(()));
+    assert_eq!(rt; gate.enter(&mut seat, VOLUME), Err(Status::Dismounting));
+    'leaves: for _ in 0..1_000 {
+        assert_eq!(rt; gate.look(&mut seat, VOLUME), Ok(Look::Closing));
+        assert_eq!(rt; gate.leave(&mut seat, VOLUME), Ok(()));
+    }
+    assert_eq!(rt; gate.look(&mut seat, VOLUME), Ok(Look::Drained));
+    assert_eq!(rt; gate.look(&mut seat, VolumeId(1)), Ok(Look::Open));
+    assert_eq!(rt; seat.passes(), 1);
+    Ok(())
+}
+
+#[test]
+fn end_too_soon(rt: HostRuntime) -> Result<(), Fail> {
+    let (gate, mut seats) = RundownGate::new(rt.alloc(), 1, 2)?;
+    let mut seat = next_seat(&gate, &mut seats).expect(&rt, "two seats");
+    assert_eq!(rt; gate.enter(&mut seat, VOLUME), Ok(()));
+    let Err((gate, mut seats, missing)) = gate.end(seats) else {
+        return Err(Fail::from("one seat of two ended the gate"));
+    };
+    assert_eq!(rt; (missing, seats.len()), (Status::BadRequest, 1));
+    put_back(&gate, &mut seats, seat)?;
+    let Err((gate, mut seats, held)) = gate.end(seats) else {
+        return Err(Fail::from("the gate ended under a pass"));
+    };
+    assert_eq!(rt; (held, seats.len()), (Status::Busy(1), 2));
+    let mut seat = next_seat(&gate, &mut seats).expect(&rt, "two seats");
+    assert_eq!(rt; gate.leave(&mut seat, VOLUME), Ok(()));
+    put_back(&gate, &mut seats, seat)?;
+    assert!(rt; gate.end(seats).is_ok());
+    Ok(())
+}
+
+// What the threads of a test share: how many are between `enter` and `leave`, and how often one was.
+#[derive(Drop)]
+struct Traffic {
+    inside: AtomicU64,
+    visits: AtomicU64,
+}
+
+// Enters and leaves until the volume is found closing.
+fn visit<R: Wait>(rt: &R, gate: &RundownGate, traffic: &Traffic, mut seat: GateSeat) -> GateSeat
+    requires { IsSeatOf gate.now seat }
+    ensures { IsSeatOf gate.now result }
+{
+    for _ in rt.forever() {
+        if gate.enter(&mut seat, VOLUME).is_err() {
+            return seat;
+        }
+        traffic.inside.fetch_add(1, Ordering::SeqCst);
+        traffic.visits.fetch_add(1, Ordering::SeqCst);
+        traffic.inside.fetch_sub(1, Ordering::SeqCst);
+        let _ = gate.leave(&mut seat, VOLUME);
+    }
+    unreachable!()
+}
+
+// Closes the volume after a thousand visits, and looks until it is drained. Gives how many are inside then.
+fn close_and_look<R: Wait>(
+    rt: &R,
+    gate: &RundownGate,
+    traffic: &Traffic,
+    mut seat: GateSeat,
+) -> (GateSeat, u64)
+    requires { IsSeatOf gate.now seat }
+    ensures { IsSeatOf gate.now result.0 }
+{
+    'waits: for _ in rt.forever() {
+        if traffic.visits.load(Ordering::SeqCst) >= 1_000 {
+            break;
+        }
+        thread::yield_now();
+    }
+    let _ = gate.close(&mut seat, VOLUME);
+    'looks: for _ in rt.forever() {
+        if gate.look(&mut seat, VOLUME) == Ok(Look::Drained) {
+            break;
+        }
+        thread::yield_now();
+    }
+    (seat, traffic.inside.load(Ordering::SeqCst))
+}
+
+// The seats of two threads.
+#[derive(Drop)]
+struct Two(GateSeat, GateSeat);
+
+// Two threads that visit.
+fn visit_twice<R: Threads + Wait + Sync>(
+    rt: &R,
+    gate: &RundownGate,
+    traffic: &Traffic,
+    seats: Two,
+) -> Two
+    requires { IsSeatOf gate.now seats.0 × IsSeatOf gate.now seats.1 }
+    ensures { IsSeatOf gate.now result.0 × IsSeatOf gate.now result.1 }
+{
+    let Two(one, other) = seats;
+    let (one, other) = thread::join(
+        rt,
+        move ||
+            requires { IsSeatOf gate.now one }
+            ensures { IsSeatOf gate.entry.now result }
+        { visit(rt, gate, traffic, one) },
+        move ||
+            requires { IsSeatOf gate.now other }
+            ensures { IsSeatOf gate.entry.now result }
+        { visit(rt, gate, traffic, other) },
+    );
+    Two(one, other)
+}
+
+// Four threads that visit, while a fifth closes and looks. Gives the seats, and how many were inside when the fifth saw the volume drained.
+fn rundown<R: Threads + Wait + Sync>(
+    rt: &R,
+    gate: &RundownGate,
+    closer: GateSeat,
+    first: Two,
+    second: Two,
+) -> (u64, GateSeat, Two, Two)
+    requires closer { IsSeatOf gate.now closer }
+    requires first { IsSeatOf gate.now first.0 × IsSeatOf gate.now first.1 }
+    requires second { IsSeatOf gate.now second.0 × IsSeatOf gate.now second.1 }
+    ensures closer { IsSeatOf gate.now result.1 }
+    ensures first { IsSeatOf gate.now result.2.0 × IsSeatOf gate.now result.2.1 }
+    ensures second { IsSeatOf gate.now result.3.0 × IsSeatOf gate.now result.3.1 }
+{
+    let traffic = Traffic {
+        inside: AtomicU64::new(0),
+        visits: AtomicU64::new(0),
+    };
+    let traffic = &traffic;
+    let ((closer, inside), (first, second)) = thread::join(
+        rt,
+        move ||
+            requires { IsSeatOf gate.now closer }
+            ensures { IsSeatOf gate.entry.now result.0 }
+        { close_and_look(rt, gate, traffic, closer) },
+        move ||
+            requires { IsSeatOf gate.now first.0 × IsSeatOf gate.now first.1 × IsSeatOf gate.now second.0 × IsSeatOf gate.now second.1 }
+            ensures { IsSeatOf gate.entry.now result.0.0 × IsSeatOf gate.entry.now result.0.1 × IsSeatOf gate.entry.now result.1.0 × IsSeatOf gate.entry.now result.1.1 }
+        {
+            thread::join(
+                rt,
+                move ||
+                    requires { IsSeatOf gate.now first.0 × IsSeatOf gate.now first.1 }
+                    ensures { IsSeatOf gate.entry.now result.0 × IsSeatOf gate.entry.now result.1 }
+                { visit_twice(rt, gate, traffic, first) },
+                move ||
+                    requires { IsSeatOf gate.now second.0 × IsSeatOf gate.now second.1 }
+                    ensures { IsSeatOf gate.entry.now result.0 × IsSeatOf gate.entry.now result.1 }
+                { visit_twice(rt, gate, traffic, second) },
+            )
+        },
+    );
+    (inside, closer, first, second)
+}
+
+// Two seats of a list.
+fn next_two(gate: &RundownGate, seats: &mut Vec<GateSeat>) -> Option<Two>
+    requires { All (λ seat. IsSeatOf gate.now seat) seats.old.items }
+    ensures all { All (λ seat. IsSeatOf gate.now seat) seats.new.items }
+    ensures next { IfSome result (λ two. IsSeatOf gate.now two.0 × IsSeatOf gate.now two.1) }
+{
+    let one = next_seat(gate, seats)?;
+    let other = next_seat(gate, seats)?;
+    Some(Two(one, other))
+}
+
+// What a seat is answered to `enter` and `look`, before it goes back to the list.
+fn answers_at_end(
+    gate: &RundownGate,
+    seats: &mut Vec<GateSeat>,
+    mut seat: GateSeat,
+) -> Result<(Result<(), Status>, Result<Look, Status>), Status>
+    requires all { All (λ seat. IsSeatOf gate.now seat) seats.old.items }
+    requires own { IsSeatOf gate.now seat }
+    ensures { All (λ seat. IsSeatOf gate.now seat) seats.new.items }
+{
+    let entered = gate.enter(&mut seat, VOLUME);
+    let seen = gate.look(&mut seat, VOLUME);
+    put_back(gate, seats, seat)?;
+    Ok((entered, seen))
+}
+
+#[test]
+fn four_threads_and_a_close(rt: HostRuntime) -> Result<(), Fail> {
+    let (gate, mut seats) = RundownGate::new(rt.alloc(), 1, 5)?;
+    let closer = next_seat(&gate, &mut seats).expect(&rt, "five seats");
+    let first = next_two(&gate, &mut seats).expect(&rt, "five seats");
+    let second = next_two(&gate, &mut seats).expect(&rt, "five seats");
+    let (inside, closer, first, second) = rundown(&rt, &gate, closer, first, second);
+    assert_eq!(rt; inside, 0);
+    let drained = (Err(Status::Dismounting), Ok(Look::Drained));
+    assert_eq!(rt; answers_at_end(&gate, &mut seats, closer)?, drained);
+    let Two(one, other) = first;
+    assert_eq!(rt; answers_at_end(&gate, &mut seats, one)?, drained);
+    assert_eq!(rt; answers_at_end(&gate, &mut seats, other)?, drained);
+    let Two(one, other) = second;
+    assert_eq!(rt; answers_at_end(&gate, &mut seats, one)?, drained);
+    assert_eq!(rt; answers_at_end(&gate, &mut seats, other)?, drained);
+    assert!(rt; gate.end(seats).is_ok());
+    Ok(())
+}

@@ -1,5 +1,6 @@
 -- The folder of a map's entries, against the look-ups and the changes of the map.
-use Rattle.std.specs.Prelude.{◌≡◌, ◌≢◌, ◌⊎◌, ℕ, true, false, cond, is_some, List, [], ◌∷◌, Option, Some, None, Result, Ok, Err, IsOk, OnOk, OnErr, IfErr, refl}
+use Rattle.std.specs.Prelude.{◌≡◌, ◌≢◌, ◌⊎◌, ℕ, true, false, cond, is_some, List, [], ◌∷◌, Option, Some, None, Result, Ok, Err, IsOk, OnOk, OnErr}
+use Rattle.std.specs.Prelude.{IfErr, refl}
 use Rattle.std.proofs.Common.{sym, ap, ◌∙◌, inl, inr}
 use Rattle.std.specs.Ordering.{nat_cmp}
 use Rattle.std.specs.Cmp.{eq_by_cmp_equiv}
@@ -7,87 +8,103 @@ use Rattle.std.specs.Cmp.Lexicographic.{slice_cmp, nat_list_cmp_total}
 use Rattle.std.specs.Map.{lookup, set_value}
 use Rattle.std.proofs.lemmas.Map.Steps.{set_value_same}
 use Rattle.std.specs.BTreeMap.{is_at}
-use Rattle.std.specs.FinMap.{get, insert, remove, find, get-from_entries, get-insert, get-remove, same_map, slice_cmp-IsAntisymmetric, nat_cmp-IsAntisymmetric}
+use Rattle.std.specs.FinMap.{get, insert, remove, find, get-from_entries, get-insert, get-remove, same_map, slice_cmp-IsAntisymmetric}
+use Rattle.std.specs.FinMap.{nat_cmp-IsAntisymmetric}
 use Rattle.fm_types.specs.declared.status.Status.{Status}
 use Rattle.fm_types.specs.declared.status.Status.TheVariants.{NoMemory, DeviceFault, FileNotFound, AlreadyExists}
 use Rattle.fm_types.specs.declared.operation.CreateMode.{CreateMode}
 use Rattle.fm_types.specs.declared.operation.CreateMode.TheVariants.{Existing, New, Always}
 use Rattle.fm_base.specs.Folders.{Folder, create_at, created, change_at, changed, unlink_at, unlinked, tell_at, told}
 use Rattle.fm_base.specs.Answers.{Makes}
-use Rattle.fm_base.specs.Stored.{folder_of}
+use Rattle.fm_base.specs.Stored.{Entries, folder_of}
 
 -- what entries have at a path
-abbrev pub file_at : List (List ℕ × List ℕ) → List ℕ → Option (List ℕ)
+abbrev pub file_at : Entries → List ℕ → Option (List ℕ)
 file_at es path = lookup (is_at (slice_cmp nat_cmp path)) es
 
-find_file : (es : List (List ℕ × List ℕ)) (path : List ℕ) → find (slice_cmp nat_cmp) path es ≡ file_at es path
+find_file : (es : Entries) (path : List ℕ) → find (slice_cmp nat_cmp) path es ≡ file_at es path
 find_file [] path = refl
 find_file (e ∷ es) path = ap (cond (is_at (slice_cmp nat_cmp path) e.0) (Some e.1)) (find_file es path)
 
-pub get_file : (es : List (List ℕ × List ℕ)) (path : List ℕ) → get (folder_of es) path ≡ file_at es path
+pub get_file : (es : Entries) (path : List ℕ) → get (folder_of es) path ≡ file_at es path
 get_file es path = get-from_entries nat_list_cmp_total es path ∙ find_file es path
 
 -- entries that differ at one path make folders that differ there
-pub one_made : (es fs : List (List ℕ × List ℕ)) (path file : List ℕ) → ((q : List ℕ) → file_at fs q ≡ cond (is_at (slice_cmp nat_cmp path) q) (Some file) (file_at es q)) → folder_of fs ≡ insert (folder_of es) path file
+pub one_made : (es fs : Entries) (path file : List ℕ)
+    → ((q : List ℕ) → file_at fs q ≡ cond (is_at (slice_cmp nat_cmp path) q) (Some file) (file_at es q))
+    → folder_of fs ≡ insert (folder_of es) path file
 one_made es fs path file h = same_map nat_list_cmp_total (slice_cmp-IsAntisymmetric nat_cmp-IsAntisymmetric) _ _ (λ q.
     get_file fs q ∙ h q ∙ ap (λ b. cond b (Some file) (file_at es q)) ((eq_by_cmp_equiv nat_list_cmp_total).symm path q)
     ∙ sym (get-insert nat_list_cmp_total (folder_of es) path file q ∙ ap (cond (is_at (slice_cmp nat_cmp q) path) (Some file)) (get_file es q)))
 
-pub one_gone : (es fs : List (List ℕ × List ℕ)) (path : List ℕ) → ((q : List ℕ) → file_at fs q ≡ cond (is_at (slice_cmp nat_cmp path) q) None (file_at es q)) → folder_of fs ≡ remove (folder_of es) path
+pub one_gone : (es fs : Entries) (path : List ℕ) → ((q : List ℕ) → file_at fs q ≡ cond (is_at (slice_cmp nat_cmp path) q) None (file_at es q))
+    → folder_of fs ≡ remove (folder_of es) path
 one_gone es fs path h = same_map nat_list_cmp_total (slice_cmp-IsAntisymmetric nat_cmp-IsAntisymmetric) _ _ (λ q.
     get_file fs q ∙ h q ∙ ap (λ b. cond b None (file_at es q)) ((eq_by_cmp_equiv nat_list_cmp_total).symm path q)
     ∙ sym (get-remove nat_list_cmp_total (folder_of es) path q ∙ ap (cond (is_at (slice_cmp nat_cmp q) path) None) (get_file es q)))
 
 -- what the calls make and tell, where the entries have that at the path
-pub created_at : (mode : CreateMode) (path : List ℕ) (es : List (List ℕ × List ℕ)) (found : Option (List ℕ)) → file_at es path ≡ found → created mode path (folder_of es) ≡ create_at mode path (folder_of es) found
+pub created_at : (mode : CreateMode) (path : List ℕ) (es : Entries) (found : Option (List ℕ)) → file_at es path ≡ found
+    → created mode path (folder_of es) ≡ create_at mode path (folder_of es) found
 created_at mode path es found h = ap (create_at mode path (folder_of es)) (get_file es path ∙ h)
 
-pub changed_at : (change : List ℕ → List ℕ) (path : List ℕ) (es : List (List ℕ × List ℕ)) (found : Option (List ℕ)) → file_at es path ≡ found → changed change path (folder_of es) ≡ change_at change path (folder_of es) found
+pub changed_at : (change : List ℕ → List ℕ) (path : List ℕ) (es : Entries) (found : Option (List ℕ)) → file_at es path ≡ found
+    → changed change path (folder_of es) ≡ change_at change path (folder_of es) found
 changed_at change path es found h = ap (change_at change path (folder_of es)) (get_file es path ∙ h)
 
-pub unlinked_at : (path : List ℕ) (es : List (List ℕ × List ℕ)) (found : Option (List ℕ)) → file_at es path ≡ found → unlinked path (folder_of es) ≡ unlink_at path (folder_of es) found
+pub unlinked_at : (path : List ℕ) (es : Entries) (found : Option (List ℕ)) → file_at es path ≡ found
+    → unlinked path (folder_of es) ≡ unlink_at path (folder_of es) found
 unlinked_at path es found h = ap (unlink_at path (folder_of es)) (get_file es path ∙ h)
 
-pub told_at : {T : Type 0} (tell : List ℕ → Result T Status) (path : List ℕ) (es : List (List ℕ × List ℕ)) (found : Option (List ℕ)) → file_at es path ≡ found → told tell path (folder_of es) ≡ tell_at tell found
+pub told_at : {T : Type 0} (tell : List ℕ → Result T Status) (path : List ℕ) (es : Entries) (found : Option (List ℕ)) → file_at es path ≡ found
+    → told tell path (folder_of es) ≡ tell_at tell found
 told_at tell path es found h = ap (tell_at tell) (get_file es path ∙ h)
 
 -- the same entries, after what was found at a path was written back
-pub kept_entries : (es fs : List (List ℕ × List ℕ)) (path file w : List ℕ) → fs ≡ set_value (is_at (slice_cmp nat_cmp path)) es w → file_at es path ≡ Some file → w ≡ file → fs ≡ es
-kept_entries es fs path file w wrote found same = wrote ∙ set_value_same (is_at (slice_cmp nat_cmp path)) es w (found ∙ ap (λ (x : List ℕ). Some x) (sym same))
+pub kept_entries : (es fs : Entries) (path file w : List ℕ) → fs ≡ set_value (is_at (slice_cmp nat_cmp path)) es w → file_at es path ≡ Some file
+    → w ≡ file → fs ≡ es
+kept_entries es fs path file w wrote found same = wrote
+    ∙ set_value_same (is_at (slice_cmp nat_cmp path)) es w (found ∙ ap (λ (x : List ℕ). Some x) (sym same))
 
 -- a create by its mode, where the test of the path said that the file is there, and where it said that it isn't
 taken_at : (path : List ℕ) (folder : Folder) (found : Option (List ℕ)) → true ≡ is_some found → create_at New path folder found ≡ Err AlreadyExists
 taken_at path folder None h = cc
 taken_at path folder (Some file) h = refl
 
-opened_at : (mode : CreateMode) (path : List ℕ) (folder : Folder) (found : Option (List ℕ)) → (mode ≡ Existing) ⊎ (mode ≡ Always) → true ≡ is_some found → create_at mode path folder found ≡ Ok folder
+opened_at : (mode : CreateMode) (path : List ℕ) (folder : Folder) (found : Option (List ℕ)) → (mode ≡ Existing) ⊎ (mode ≡ Always)
+    → true ≡ is_some found → create_at mode path folder found ≡ Ok folder
 opened_at mode path folder None is h = cc
 opened_at mode path folder (Some file) (inl is) h = rw is refl
 opened_at mode path folder (Some file) (inr is) h = rw is refl
 
-missing_at : (path : List ℕ) (folder : Folder) (found : Option (List ℕ)) → false ≡ is_some found → create_at Existing path folder found ≡ Err FileNotFound
+missing_at : (path : List ℕ) (folder : Folder) (found : Option (List ℕ)) → false ≡ is_some found
+    → create_at Existing path folder found ≡ Err FileNotFound
 missing_at path folder None h = refl
 missing_at path folder (Some file) h = cc
 
-fresh_at : (mode : CreateMode) (path : List ℕ) (folder : Folder) (found : Option (List ℕ)) → (mode ≡ New) ⊎ (mode ≡ Always) → false ≡ is_some found → create_at mode path folder found ≡ Ok (insert folder path [])
+fresh_at : (mode : CreateMode) (path : List ℕ) (folder : Folder) (found : Option (List ℕ)) → (mode ≡ New) ⊎ (mode ≡ Always)
+    → false ≡ is_some found → create_at mode path folder found ≡ Ok (insert folder path [])
 fresh_at mode path folder None (inl is) h = rw is refl
 fresh_at mode path folder None (inr is) h = rw is refl
 fresh_at mode path folder (Some file) is h = cc
 
-pub taken : (path : List ℕ) (es : List (List ℕ × List ℕ)) → true ≡ is_some (file_at es path) → created New path (folder_of es) ≡ Err AlreadyExists
+pub taken : (path : List ℕ) (es : Entries) → true ≡ is_some (file_at es path) → created New path (folder_of es) ≡ Err AlreadyExists
 taken path es h = created_at New path es _ refl ∙ taken_at path (folder_of es) _ h
 
-pub opened : (mode : CreateMode) (path : List ℕ) (es : List (List ℕ × List ℕ)) → (mode ≡ Existing) ⊎ (mode ≡ Always) → true ≡ is_some (file_at es path) → created mode path (folder_of es) ≡ Ok (folder_of es)
+pub opened : (mode : CreateMode) (path : List ℕ) (es : Entries) → (mode ≡ Existing) ⊎ (mode ≡ Always) → true ≡ is_some (file_at es path)
+    → created mode path (folder_of es) ≡ Ok (folder_of es)
 opened mode path es is h = created_at mode path es _ refl ∙ opened_at mode path (folder_of es) _ is h
 
-pub missing : (path : List ℕ) (es : List (List ℕ × List ℕ)) → false ≡ is_some (file_at es path) → created Existing path (folder_of es) ≡ Err FileNotFound
+pub missing : (path : List ℕ) (es : Entries) → false ≡ is_some (file_at es path) → created Existing path (folder_of es) ≡ Err FileNotFound
 missing path es h = created_at Existing path es _ refl ∙ missing_at path (folder_of es) _ h
 
-pub fresh : (mode : CreateMode) (path : List ℕ) (es : List (List ℕ × List ℕ)) → (mode ≡ New) ⊎ (mode ≡ Always) → false ≡ is_some (file_at es path) → created mode path (folder_of es) ≡ Ok (insert (folder_of es) path [])
+pub fresh : (mode : CreateMode) (path : List ℕ) (es : Entries) → (mode ≡ New) ⊎ (mode ≡ Always) → false ≡ is_some (file_at es path)
+    → created mode path (folder_of es) ≡ Ok (insert (folder_of es) path [])
 fresh mode path es is h = created_at mode path es _ refl ∙ fresh_at mode path (folder_of es) _ is h
 
 -- what makes all that is wanted, or is refused for want of memory alone and changes nothing, answers as it is to
-pub makes_or_memory : (path : List ℕ) (wanted : Result Folder Status) (made old new : Folder) (result : Result (Unit {0}) Status) → wanted ≡ Ok made → OnOk result (new ≡ made) → OnErr result (new ≡ old) → IfErr result (λ status. status ≡ NoMemory)
-    → Makes path wanted old new result × (result ≢ Err DeviceFault) × (result ≡ Err NoMemory → IsOk wanted)
+pub makes_or_memory : (path : List ℕ) (wanted : Folder → Result Folder Status) (made old new : Folder) (result : Result (Unit {0}) Status)
+    → wanted old ≡ Ok made → OnOk result (new ≡ made) → OnErr result (new ≡ old) → IfErr result (λ status. status ≡ NoMemory)
+    → Makes path wanted old new result × (result ≢ Err DeviceFault) × (result ≡ Err NoMemory → IsOk (wanted old))
 makes_or_memory path wanted made old new (Ok done) is ok err memory = (is ∙ ap Ok (sym ok), λ e. cc, λ e. cc)
 makes_or_memory path wanted made old new (Err status) is ok err memory = rw memory (err, λ e. cc, λ e. rw is refl)

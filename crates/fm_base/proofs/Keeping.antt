@@ -17,30 +17,36 @@ length-contents size pages = length-map-range_with_len (byte_at pages) 0 size
 pub get_or-contents : (size : ℕ) (pages : Pages) → IsZeroFrom size pages → (k : ℕ) → get_or (contents size pages) k 0 ≡ byte_at pages k
 get_or-contents size pages zero k = elim (cases_lt k size) [
   | inl within ↦ get_or-map-range_with_len (byte_at pages) 0 size k k 0 within (omega arith)
-  | inr past ↦ get_or_past (contents size pages) k 0 (omega (arith, length-contents size pages)) ∙ sym (zero.past (k / 4096) (k % 4096) (omega arith) (omega arith))
+  | inr past ↦ get_or_past (contents size pages) k 0 (omega (arith, length-contents size pages))
+      ∙ sym (zero.past (k / 4096) (k % 4096) (omega arith) (omega arith))
 ]
 
 -- bytes that are the pages' at each place are the file's
-pub contents_is : (size : ℕ) (pages : Pages) (bytes : List ℕ) → length bytes ≡ size → ((k : ℕ) → k < size → get_or bytes k 0 ≡ byte_at pages k) → bytes ≡ contents size pages
+pub contents_is : (size : ℕ) (pages : Pages) (bytes : List ℕ) → length bytes ≡ size → ((k : ℕ) → k < size → get_or bytes k 0 ≡ byte_at pages k)
+    → bytes ≡ contents size pages
 contents_is size pages bytes long is = run_of (byte_at pages) 0 size bytes long (λ k below. is k below ∙ ap (byte_at pages) (omega arith))
 
 -- a read gives the run of the pages
-pub read_run : (size offset len : ℕ) (pages : Pages) → IsZeroFrom size pages → map (byte_at pages) (range_with_len offset (min (size - offset) len)) ≡ take len (drop offset (contents size pages))
+pub read_run : (size offset len : ℕ) (pages : Pages) → IsZeroFrom size pages
+    → map (byte_at pages) (range_with_len offset (min (size - offset) len)) ≡ take len (drop offset (contents size pages))
 read_run size offset len pages zero =
     let long : length (take len (drop offset (contents size pages))) ≡ min (size - offset) len =
     omega (arith, length-take len (drop offset (contents size pages)), length-drop offset (contents size pages), length-contents size pages) in
     sym (run_of (byte_at pages) offset (min (size - offset) len) _ long (λ k below.
-    get_or-take len (drop offset (contents size pages)) k 0 (omega arith) ∙ get_or-drop offset (contents size pages) k 0 ∙ get_or-contents size pages zero (offset + k)))
+    get_or-take len (drop offset (contents size pages)) k 0 (omega arith) ∙ get_or-drop offset (contents size pages) k 0
+    ∙ get_or-contents size pages zero (offset + k)))
 
 -- pages with the same bytes hold the same file
 pub same_contents : (size : ℕ) (old new : Pages) → IsZeroFrom size old → SameBytes old new → contents size new ≡ contents size old
-same_contents size old new zero same = sym (contents_is size new _ (length-contents size old) (λ k below. get_or-contents size old zero k ∙ sym (same (k / 4096) (k % 4096))))
+same_contents size old new zero same = sym (contents_is size new _ (length-contents size old) (λ k below. get_or-contents size old zero k
+    ∙ sym (same (k / 4096) (k % 4096))))
 
 pub same_zeros : (size : ℕ) (old new : Pages) → IsZeroFrom size old → SameBytes old new → IsZeroFrom size new
 same_zeros size old new zero same = record { past = λ q place small past. same q place ∙ zero.past q place small past }
 
 -- a write over pages that were made long enough
-module _ (size offset byte : ℕ) (bytes : List ℕ) (old grown new : Pages) (zero : IsZeroFrom size old) (same : SameBytes old grown) (over : Overwrites offset (byte ∷ bytes) grown new) where
+module _ (size offset byte : ℕ) (bytes : List ℕ) (old grown new : Pages) (zero : IsZeroFrom size old) (same : SameBytes old grown)
+    (over : Overwrites offset (byte ∷ bytes) grown new) where
   abbrev end : ℕ
   end = offset + length (byte ∷ bytes)
 
@@ -57,7 +63,8 @@ module _ (size offset byte : ℕ) (bytes : List ℕ) (old grown new : Pages) (ze
       | inl inside ↦
           let small : k - offset < length (byte ∷ bytes) = omega arith in
           let is : k ≡ offset + (k - offset) = omega arith in
-          get_or-written_inside offset byte bytes (contents size old) (k - offset) k small is ∙ sym (over.inside (k / 4096) (k % 4096) (k - offset) (omega arith) small (omega arith))
+          get_or-written_inside offset byte bytes (contents size old) (k - offset) k small is
+          ∙ sym (over.inside (k / 4096) (k % 4096) (k - offset) (omega arith) small (omega arith))
       | inr past ↦ kept (inr past)
     ]
   ] where
@@ -65,10 +72,14 @@ module _ (size offset byte : ℕ) (bytes : List ℕ) (old grown new : Pages) (ze
     kept apart = get_or-written_outside offset byte bytes (contents size old) k apart ∙ get_or-contents size old zero k ∙ sym (outside k apart)
 
   pub written_contents : contents (max size end) new ≡ written offset (byte ∷ bytes) (contents size old)
-  written_contents = sym (contents_is (max size end) new _ (omega (arith, length-written offset byte bytes (contents size old), length-contents size old)) (λ k below. byte_written k))
+  written_contents = sym (contents_is (max size end) new _ (omega
+      (arith, length-written offset byte bytes (contents size old), length-contents size old)) (λ k below. byte_written k))
 
   pub written_zeros : IsZeroFrom (max size end) new
-  written_zeros = record { past = λ q place small past. over.outside q place small (inr (omega arith)) ∙ same q place ∙ zero.past q place small (omega arith) }
+  written_zeros = record {
+    past = λ q place small past. over.outside q place small (inr (omega arith)) ∙ same q place
+        ∙ zero.past q place small (omega arith);
+  }
 
 -- a cut, and a growth
 pub cut_contents : (size cut : ℕ) (old new : Pages) → IsZeroFrom size old → Cuts cut old new → contents cut new ≡ resized cut (contents size old)
@@ -79,12 +90,14 @@ pub cut_zeros : (cut : ℕ) (old new : Pages) → Cuts cut old new → IsZeroFro
 cut_zeros cut old new cuts = record { past = cuts.past }
 
 pub grown_contents : (size grown : ℕ) (pages : Pages) → IsZeroFrom size pages → contents grown pages ≡ resized grown (contents size pages)
-grown_contents size grown pages zero = sym (contents_is grown pages _ (length-resized grown _) (λ k below. get_or-resized grown _ k below ∙ get_or-contents size pages zero k))
+grown_contents size grown pages zero = sym (contents_is grown pages _ (length-resized grown _) (λ k below. get_or-resized grown _ k below
+    ∙ get_or-contents size pages zero k))
 
 pub grown_zeros : (size grown : ℕ) (pages : Pages) → size ≤ grown → IsZeroFrom size pages → IsZeroFrom grown pages
 grown_zeros size grown pages more zero = record { past = λ q place small past. zero.past q place small (omega arith) }
 
-pub written_file : (size offset : ℕ) (bytes : List ℕ) (old grown new : Pages) → false ≡ (length bytes == 0) → IsZeroFrom size old → SameBytes old grown → Overwrites offset bytes grown new
+pub written_file : (size offset : ℕ) (bytes : List ℕ) (old grown new : Pages) → false ≡ (length bytes == 0) → IsZeroFrom size old
+    → SameBytes old grown → Overwrites offset bytes grown new
     → contents (max size (offset + length bytes)) new ≡ written offset bytes (contents size old)
 written_file size offset [] old grown new some zero same over = cc
 written_file size offset (byte ∷ bytes) old grown new some zero same over = written_contents size offset byte bytes old grown new zero same over

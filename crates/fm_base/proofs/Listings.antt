@@ -10,34 +10,38 @@ use Rattle.std.specs.FinMap.{entries, empty, put, entries-insert, len-entries, l
 use Rattle.fm_types.specs.declared.status.Status.{Status}
 use Rattle.fm_types.specs.declared.status.Status.TheVariants.{TooMany}
 use Rattle.fm_base.specs.Folders.{listing_of, listed}
-use Rattle.fm_base.specs.Stored.{folder_of}
+use Rattle.fm_base.specs.Stored.{Entries, folder_of}
 
 nothing : {X : Type 0} (xs : List X) → length xs ≡ 0 → xs ≡ []
 nothing [] h = refl
 nothing (x ∷ xs) h = absurd (omega arith)
 
-put_first : (e : List ℕ × List ℕ) (es : List (List ℕ × List ℕ)) → IsStrictlySortedBy (slice_cmp nat_cmp) (keys_of (e ∷ es)) → put (slice_cmp nat_cmp) e.0 e.1 es ≡ e ∷ es
+put_first : (e : List ℕ × List ℕ) (es : Entries) → IsStrictlySortedBy (slice_cmp nat_cmp) (keys_of (e ∷ es))
+    → put (slice_cmp nat_cmp) e.0 e.1 es ≡ e ∷ es
 unfolding IsStrictlySortedBy
 put_first e [] h = refl
 put_first e (f ∷ fs) h = rw h.0.0 refl
 
 -- entries in order are those of the map that they make
-pub entries_stay : (es : List (List ℕ × List ℕ)) → IsStrictlySortedBy (slice_cmp nat_cmp) (keys_of es) → entries (folder_of es) ≡ es
+pub entries_stay : (es : Entries) → IsStrictlySortedBy (slice_cmp nat_cmp) (keys_of es) → entries (folder_of es) ≡ es
 unfolding IsStrictlySortedBy
 entries_stay [] h = nothing _ (sym (len-entries (empty {R = slice_cmp nat_cmp})) ∙ len-empty (slice_cmp nat_cmp) (List ℕ))
-entries_stay (e ∷ es) h = entries-insert nat_list_cmp_total (folder_of es) e.0 e.1 ∙ ap (put (slice_cmp nat_cmp) e.0 e.1) (entries_stay es h.1) ∙ put_first e es h
+entries_stay (e ∷ es) h = entries-insert nat_list_cmp_total (folder_of es) e.0 e.1 ∙ ap (put (slice_cmp nat_cmp) e.0 e.1) (entries_stay es h.1)
+    ∙ put_first e es h
 
 abbrev listed_of : List ℕ → Result (List ℕ) Status
 listed_of lines = cond (nat_lt 32768 (length lines)) (Err TooMany) (Ok lines)
 
-listed_is : (es : List (List ℕ × List ℕ)) → IsStrictlySortedBy (slice_cmp nat_cmp) (keys_of es) → listed (folder_of es) ≡ listed_of (listing_of (keys_of es))
-listed_is es h = ap (λ (fs : List (List ℕ × List ℕ)). listed_of (listing_of (keys_of fs))) (entries_stay es h)
+listed_is : (es : Entries) → IsStrictlySortedBy (slice_cmp nat_cmp) (keys_of es) → listed (folder_of es) ≡ listed_of (listing_of (keys_of es))
+listed_is es h = ap (λ (fs : Entries). listed_of (listing_of (keys_of fs))) (entries_stay es h)
 
 -- the answers, once the length is known
-pub too_long : (es : List (List ℕ × List ℕ)) → IsStrictlySortedBy (slice_cmp nat_cmp) (keys_of es) → 32768 < length (listing_of (keys_of es)) → listed (folder_of es) ≡ Err TooMany
+pub too_long : (es : Entries) → IsStrictlySortedBy (slice_cmp nat_cmp) (keys_of es) → 32768 < length (listing_of (keys_of es))
+    → listed (folder_of es) ≡ Err TooMany
 too_long es sorted h = listed_is es sorted ∙ cond-true (nat_lt 32768 (length (listing_of (keys_of es)))) _ _ (lt-ltb 32768 _ h)
 
-pub short_enough : (es : List (List ℕ × List ℕ)) → IsStrictlySortedBy (slice_cmp nat_cmp) (keys_of es) → length (listing_of (keys_of es)) ≤ 32768 → listed (folder_of es) ≡ Ok (listing_of (keys_of es))
+pub short_enough : (es : Entries) → IsStrictlySortedBy (slice_cmp nat_cmp) (keys_of es) → length (listing_of (keys_of es)) ≤ 32768
+    → listed (folder_of es) ≡ Ok (listing_of (keys_of es))
 short_enough es sorted h = listed_is es sorted ∙ cond-false (nat_lt 32768 (length (listing_of (keys_of es)))) _ _ (le-ltb 32768 _ h)
 
 pub not_within : (a b : ℕ) → ¬ (a ≤ b) → b < a

@@ -1,5 +1,6 @@
 -- What one turn of the loops over a file's pages does.
-use Rattle.std.specs.Prelude.{◌≡◌, ◌≢◌, ◌⊎◌, ℕ, suc, zero, ◌+◌, ◌-◌, ◌*◌, ◌/◌, ◌%◌, ◌<◌, ◌≤◌, ◌==◌, min, cond, List, ◌∷◌, ◌++◌, length, take, drop, map, get_or, refl}
+use Rattle.std.specs.Prelude.{◌≡◌, ◌≢◌, ◌⊎◌, ℕ, suc, zero, ◌+◌, ◌-◌, ◌*◌, ◌/◌, ◌%◌, ◌<◌, ◌≤◌, ◌==◌, min, cond, List, ◌∷◌, ◌++◌, length, take}
+use Rattle.std.specs.Prelude.{drop, map, get_or, refl}
 use Rattle.std.proofs.Common.{sym, ap, ◌∙◌, inl, inr, arith, length-drop}
 use Rattle.std.proofs.lemmas.Bool.{cases_lt, cases_eq, eq-eqb, ne_eqb, cond-true, cond-false}
 use Rattle.std.proofs.lemmas.List.{get_or-take, get_or-drop, length-take}
@@ -26,7 +27,8 @@ room_more from end number old new room longer long q place small past below so_f
 pub chunk_long : (done count : ℕ) (bytes : List ℕ) → done + count ≤ length bytes → length (take (done + count - done) (drop done bytes)) ≡ count
 chunk_long done count bytes fits = omega (arith, length-take (done + count - done) (drop done bytes), length-drop done bytes)
 
-pub chunk_is : (done count : ℕ) (bytes : List ℕ) (k : ℕ) → k < count → get_or (take (done + count - done) (drop done bytes)) k 0 ≡ get_or bytes (done + k) 0
+pub chunk_is : (done count : ℕ) (bytes : List ℕ) (k : ℕ) → k < count
+    → get_or (take (done + count - done) (drop done bytes)) k 0 ≡ get_or bytes (done + k) 0
 chunk_is done count bytes k below =
     let within : k < done + count - done = omega arith in
     get_or-take (done + count - done) (drop done bytes) k 0 within ∙ get_or-drop done bytes k 0
@@ -48,7 +50,8 @@ chunk_fits offset done count bytes initial now room long left is =
 -- one turn of a write
 module _ (offset done count : ℕ) (bytes chunk : List ℕ) (initial old new : Pages)
     (number from : ℕ) (at : offset + done ≡ 4096 * number + from) (on_page : from + count ≤ 4096) (within : done + count ≤ length bytes)
-    (long : length chunk ≡ count) (is : (k : ℕ) → k < count → get_or chunk k 0 ≡ get_or bytes (done + k) 0) (fits : from + length chunk ≤ length (page_of old number))
+    (long : length chunk ≡ count) (is : (k : ℕ) → k < count
+    → get_or chunk k 0 ≡ get_or bytes (done + k) 0) (fits : from + length chunk ≤ length (page_of old number))
     (wrote : (q : ℕ) → page_of new q ≡ cond (q == number) (pasted from chunk (page_of old number) fits) (page_of old q)) where
   here : page_of new number ≡ pasted from chunk (page_of old number) fits
   here = wrote number ∙ cond-true (number == number) _ _ (eq-eqb number number refl)
@@ -64,15 +67,18 @@ module _ (offset done count : ℕ) (bytes chunk : List ℕ) (initial old new : P
 
   -- a place of the page that was written
   pub written_here : (place k : ℕ) → place ≡ from + k → k < count → byte_in (page_of new number) place ≡ get_or bytes (done + k) 0
-  written_here place k same below = ap (λ page. byte_in page place) here ∙ get_or-pasted_inside from chunk (page_of old number) fits k place (omega arith) same ∙ is k below
+  written_here place k same below = ap (λ page. byte_in page place) here
+      ∙ get_or-pasted_inside from chunk (page_of old number) fits k place (omega arith) same ∙ is k below
 
   -- a place that wasn't
-  pub kept_there : (q place : ℕ) → place < 4096 → (4096 * q + place < offset + done) ⊎ (offset + done + count ≤ 4096 * q + place) → byte_in (page_of new q) place ≡ byte_in (page_of old q) place
+  pub kept_there : (q place : ℕ) → place < 4096 → (4096 * q + place < offset + done) ⊎ (offset + done + count ≤ 4096 * q + place)
+      → byte_in (page_of new q) place ≡ byte_in (page_of old q) place
   kept_there q place small apart = elim (cases_eq q number) [
     | inl same ↦ rw same (ap (λ page. byte_in page place) here ∙ get_or-pasted_outside from chunk (page_of old number) fits place (beside apart same))
     | inr other ↦ ap (λ page. byte_in page place) (elsewhere q other)
   ] where
-    beside : (4096 * q + place < offset + done) ⊎ (offset + done + count ≤ 4096 * q + place) → q ≡ number → (place < from) ⊎ (from + length chunk ≤ place)
+    beside : (4096 * q + place < offset + done) ⊎ (offset + done + count ≤ 4096 * q + place) → q ≡ number
+        → (place < from) ⊎ (from + length chunk ≤ place)
     beside (inl below) same = inl (omega arith)
     beside (inr past) same = inr (omega arith)
 
@@ -82,9 +88,11 @@ module _ (offset done count : ℕ) (bytes chunk : List ℕ) (initial old new : P
   taken_more : length (take (done + count) bytes) ≡ done + count
   taken_more = omega (arith, length-take (done + count) bytes, within)
 
-  inside_more : Overwrites offset (take done bytes) initial old → (q place k : ℕ) → place < 4096 → k < done + count → offset + k ≡ 4096 * q + place → byte_in (page_of new q) place ≡ get_or bytes k 0
+  inside_more : Overwrites offset (take done bytes) initial old → (q place k : ℕ) → place < 4096 → k < done + count
+      → offset + k ≡ 4096 * q + place → byte_in (page_of new q) place ≡ get_or bytes k 0
   inside_more so_far q place k small below there = elim (cases_lt k done) [
-    | inl before ↦ kept_there q place small (inl (omega arith)) ∙ so_far.inside q place k small (omega (arith, taken)) there ∙ get_or-take done bytes k 0 before
+    | inl before ↦ kept_there q place small (inl (omega arith)) ∙ so_far.inside q place k small (omega (arith, taken)) there
+        ∙ get_or-take done bytes k 0 before
     | inr now ↦
         let same : q ≡ number = omega arith in
         let put : place ≡ from + (k - done) = omega arith in
@@ -92,9 +100,11 @@ module _ (offset done count : ℕ) (bytes chunk : List ℕ) (initial old new : P
         ap (λ n. byte_in (page_of new n) place) same ∙ written_here place (k - done) put (omega arith) ∙ ap (λ j. get_or bytes j 0) counted
   ]
 
-  outside_more : Overwrites offset (take done bytes) initial old → (q place : ℕ) → place < 4096 → (4096 * q + place < offset) ⊎ (offset + (done + count) ≤ 4096 * q + place) → byte_in (page_of new q) place ≡ byte_in (page_of initial q) place
+  outside_more : Overwrites offset (take done bytes) initial old → (q place : ℕ) → place < 4096
+      → (4096 * q + place < offset) ⊎ (offset + (done + count) ≤ 4096 * q + place) → byte_in (page_of new q) place ≡ byte_in (page_of initial q) place
   outside_more so_far q place small (inl below) = kept_there q place small (inl (omega arith)) ∙ so_far.outside q place small (inl below)
-  outside_more so_far q place small (inr past) = kept_there q place small (inr (omega arith)) ∙ so_far.outside q place small (inr (omega (arith, taken)))
+  outside_more so_far q place small (inr past) = kept_there q place small (inr (omega arith))
+      ∙ so_far.outside q place small (inr (omega (arith, taken)))
 
   pub over_more : Overwrites offset (take done bytes) initial old → Overwrites offset (take (done + count) bytes) initial new
   over_more so_far = record {
@@ -105,7 +115,8 @@ module _ (offset done count : ℕ) (bytes chunk : List ℕ) (initial old new : P
   }
 
 -- a part of one page is the file's from there on
-pub page_run : (pages : Pages) (at count : ℕ) → at % 4096 + count ≤ 4096 → resized count (drop (at % 4096) (page_of pages (at / 4096))) ≡ map (byte_at pages) (range_with_len at count)
+pub page_run : (pages : Pages) (at count : ℕ) → at % 4096 + count ≤ 4096
+    → resized count (drop (at % 4096) (page_of pages (at / 4096))) ≡ map (byte_at pages) (range_with_len at count)
 page_run pages at count fits =
     run_of (byte_at pages) at count _ (length-resized count _) (λ k below.
     let page : (at + k) / 4096 ≡ at / 4096 = omega arith in

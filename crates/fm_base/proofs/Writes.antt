@@ -1,18 +1,27 @@
 -- What a write leaves is read back from the same place.
-use Rattle.std.specs.Prelude.{◌≡◌, ℕ, ◌+◌, ◌-◌, Bool, true, false, cond, List, [], ◌∷◌, ◌++◌, length, take, drop, replicate, Option, Some, None, Result, Ok, Err, IsSome, IfOk, refl}
-use Rattle.std.proofs.Common.{sym, ap, ◌∙◌, arith, length-append, append_assoc}
+use Rattle.std.specs.Prelude.{◌≡◌, ℕ, ◌+◌, ◌-◌, Bool, true, false, cond, List, [], ◌∷◌, ◌++◌, length, take, drop, replicate, Option, Some, None}
+use Rattle.std.specs.Prelude.{◌<◌, ◌&&◌, nat_le, nat_lt, Result, Ok, Err, refl}
+use Rattle.std.proofs.Common.{sym, ap, subst, ◌∙◌, arith, length-append, append_assoc}
 use Rattle.std.proofs.Math.Seq.{take-append_seam, drop-append_seam}
+use Rattle.std.proofs.lemmas.Bool.{lt-leb, cond-false}
 use Rattle.std.proofs.lemmas.List.{length-take, length-replicate}
 use Rattle.std.specs.Cmp.{eq_by_cmp_equiv}
 use Rattle.std.specs.Cmp.Lexicographic.{nat_list_cmp_total}
 use Rattle.std.specs.FinMap.{get, insert, get-insert}
 use Rattle.fm_types.specs.ByteLists.{resized, written}
 use Rattle.fm_types.specs.declared.status.Status.{Status}
+use Rattle.fm_types.specs.declared.status.Status.TheVariants.{NoMemory, DeviceFault, FileNotFound}
 use Rattle.fm_base.specs.Folders.{Folder, change_at, changed, tell_at, told, bytes_from}
-use Rattle.fm_base.specs.Answers.{MakesKnown, TellsKnown}
+use Rattle.fm_base.specs.Answers.{Makes, MakesKnown, Tells, TellsKnown}
 
 pub length-resized : (n : ℕ) (bytes : List ℕ) → length (resized n bytes) ≡ n
-length-resized n bytes = omega (arith, length-append (take n bytes) (replicate (n - length bytes) 0), length-take n bytes, length-replicate {A = ℕ} (n - length bytes) 0)
+length-resized n bytes = omega (
+  arith,
+  length-append (take n bytes) (replicate (n - length bytes) 0),
+  length-take n bytes,
+  length-replicate
+      {A = ℕ} (n - length bytes) 0,
+)
 
 -- what was written lies where it was written
 pub written_back : (offset : ℕ) (bytes old : List ℕ) → take (length bytes) (drop offset (written offset bytes old)) ≡ bytes
@@ -21,32 +30,77 @@ written_back offset (byte ∷ bytes) old =
     let front = resized offset old in
     let back = drop (offset + length (byte ∷ bytes)) old in
     let behind : drop offset ((front ++ byte ∷ bytes) ++ back) ≡ (byte ∷ bytes) ++ back =
-    ap (λ n. drop n ((front ++ byte ∷ bytes) ++ back)) (sym (length-resized offset old)) ∙ ap (drop (length front)) (append_assoc front (byte ∷ bytes) back) ∙ drop-append_seam front ((byte ∷ bytes) ++ back) in
+    ap (λ n. drop n ((front ++ byte ∷ bytes) ++ back)) (sym (length-resized offset old))
+    ∙ ap (drop (length front)) (append_assoc front (byte ∷ bytes) back) ∙ drop-append_seam front ((byte ∷ bytes) ++ back) in
     ap (take (length (byte ∷ bytes))) behind ∙ take-append_seam (byte ∷ bytes) back
 
-not_refused : (b : Bool) (status : Status) (x y : List ℕ) → cond b (Err status) (Ok x) ≡ Ok y → x ≡ y
-not_refused true status x y h = cc
-not_refused false status x y h = cc
+no_bytes : (test : Bool) → (test && false) ≡ false
+no_bytes true = refl
+no_bytes false = refl
 
--- a changed file is there, with what the change made of it
-changed_file : (change : List ℕ → List ℕ) (path : List ℕ) (old new : Folder) (found : Option (List ℕ)) → change_at change path old found ≡ Ok new → (file : List ℕ) × (get new path ≡ Some (change file))
-changed_file change path old new None h = cc
-changed_file change path old new (Some file) h =
-    let made : insert old path (change file) ≡ new = cc in (
-      file,
-      ap (λ folder. get folder path) (sym made) ∙ get-insert nat_list_cmp_total old path (change file) path
-          ∙ ap (λ b. cond b (Some (change file)) (get old path)) ((eq_by_cmp_equiv nat_list_cmp_total).refl path),
-    )
+-- a read of as many bytes isn't refused, and tells them
+past_end : (offset : ℕ) (bytes old : List ℕ) → (nat_le (length (written offset bytes old)) offset && nat_lt 0 (length bytes)) ≡ false
+past_end offset [] old = no_bytes _
+past_end offset (byte ∷ bytes) old =
+    let long : offset < length (written offset (byte ∷ bytes) old) =
+    omega (
+      arith,
+      length-append (resized offset old ++ byte ∷ bytes) (drop (offset + length (byte ∷ bytes)) old),
+      length-append
+          (resized offset old) (byte ∷ bytes),
+      length-resized offset old,
+    ) in
+    rw (lt-leb (length (written offset (byte ∷ bytes) old)) offset long) refl
+
+told_back : (offset : ℕ) (bytes old : List ℕ) → bytes_from offset (length bytes) (written offset bytes old) ≡ Ok bytes
+told_back offset bytes old = cond-false _ _ _ (past_end offset bytes old) ∙ ap Ok (written_back offset bytes old)
+
+-- a changed file was there, and has what the change made of it
+record Changed (change : List ℕ → List ℕ) (path : List ℕ) (old new : Folder) : Type 0 where
+  file : List ℕ
+  before : get old path ≡ Some file
+  after : get new path ≡ Some (change file)
+
+changed_file : (change : List ℕ → List ℕ) (path : List ℕ) (old new : Folder) (found : Option (List ℕ)) → get old path ≡ found
+    → change_at change path old found ≡ Ok new → Changed change path old new
+changed_file change path old new None before h = cc
+changed_file change path old new (Some file) before h =
+    let made : insert old path (change file) ≡ new = cc in
+    record {
+      file = file;
+      before = before;
+      after = ap (λ folder. get folder path) (sym made) ∙ get-insert nat_list_cmp_total old path (change file) path
+          ∙ ap (λ b. cond b (Some (change file)) (get old path)) ((eq_by_cmp_equiv nat_list_cmp_total).refl path);
+    }
 
 -- of a base that knows its folder, a read after a write tells what was written
-pub read_back : (path : List ℕ) (offset : ℕ) (bytes : List ℕ) (old new : Option Folder) (told_bytes : Result (List ℕ) Status)
+pub read_back : (path : List ℕ) (offset : ℕ) (bytes : List ℕ) (old new : Option Folder) (result : Result (List ℕ) Status)
     → MakesKnown {T = Unit {0}} path (changed (written offset bytes) path) old new (Ok tt)
-    → TellsKnown (told (bytes_from offset (length bytes)) path) new told_bytes
-    → IsSome old → IfOk told_bytes (λ read. read ≡ bytes)
-read_back path offset bytes None new told_bytes makes tells known = let h : false ≡ true = known in cc
-read_back path offset bytes (Some old) None told_bytes makes tells known = absurd makes
-read_back path offset bytes (Some old) (Some new) (Ok read) makes tells known =
-    let file = changed_file (written offset bytes) path old new (get old path) makes in
-    let is : tell_at (bytes_from offset (length bytes)) (Some (written offset bytes file.0)) ≡ Ok read = ap (tell_at (bytes_from offset (length bytes))) (sym file.1) ∙ tells in
-    sym (not_refused _ _ _ _ is) ∙ written_back offset bytes file.0
-read_back path offset bytes (Some old) (Some new) (Err status) makes tells known = tt
+    → TellsKnown (told (bytes_from offset (length bytes)) path) new result
+    → TellsKnown (told (λ _. Ok bytes) path) old result
+read_back path offset bytes None new result makes tells = tt
+read_back path offset bytes (Some old) None result makes tells = absurd makes
+read_back path offset bytes (Some old) (Some new) result makes tells =
+    let file = changed_file (written offset bytes) path old new (get old path) refl makes in
+    let now : told (bytes_from offset (length bytes)) path new ≡ Ok bytes =
+    ap (tell_at (bytes_from offset (length bytes))) file.after ∙ told_back offset bytes file.file in
+    let wanted : told (λ _. Ok bytes) path old ≡ Ok bytes = ap (tell_at (λ _. Ok bytes)) file.before in
+    subst (λ (said : Result (List ℕ) Status). Tells said result) (now ∙ sym wanted) tells
+
+-- where the write is refused, so is the whole
+refused_alike : (change : List ℕ → List ℕ) (path bytes : List ℕ) (old : Folder) (found : Option (List ℕ)) (status : Status)
+    → change_at change path old found ≡ Err status → tell_at (λ _. Ok bytes) found ≡ Err status
+refused_alike change path bytes old None status h = let same : FileNotFound ≡ status = cc in ap Err same
+refused_alike change path bytes old (Some file) status h = cc
+
+refused_known : (change : List ℕ → List ℕ) (path bytes : List ℕ) (old new : Folder) (status : Status)
+    → Makes {T = Unit {0}} path (changed change path) old new (Err status) → Tells (told (λ _. Ok bytes) path old) (Err status)
+refused_known change path bytes old new NoMemory makes = tt
+refused_known change path bytes old new DeviceFault makes = tt
+refused_known change path bytes old new status makes = refused_alike change path bytes old (get old path) status makes.0
+
+pub write_refused : (change : List ℕ → List ℕ) (path bytes : List ℕ) (old new : Option Folder) (status : Status)
+    → MakesKnown {T = Unit {0}} path (changed change path) old new (Err status) → TellsKnown (told (λ _. Ok bytes) path) old (Err status)
+write_refused change path bytes None new status makes = tt
+write_refused change path bytes (Some old) None status makes = absurd makes
+write_refused change path bytes (Some old) (Some new) status makes = refused_known change path bytes old new status makes

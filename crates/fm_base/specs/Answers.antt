@@ -11,11 +11,11 @@ ChangesOnly path old new = (other : List ℕ) → other ≢ path → get new oth
 
 -- a call that changes one file makes what is wanted of the folder, or is refused as is wanted and changes nothing;
 -- want of memory changes nothing, and after a fault of the device nothing is said of that one file
-abbrev pub Makes : {T : Type 0} → List ℕ → Result Folder Status → Folder → Folder → Result T Status → Type 0
-Makes path wanted old new (Ok done) = wanted ≡ Ok new
+abbrev pub Makes : {T : Type 0} → List ℕ → (Folder → Result Folder Status) → Folder → Folder → Result T Status → Type 0
+Makes path wanted old new (Ok done) = wanted old ≡ Ok new
 Makes path wanted old new (Err NoMemory) = new ≡ old
 Makes path wanted old new (Err DeviceFault) = ChangesOnly path old new
-Makes path wanted old new (Err status) = (wanted ≡ Err status) × (new ≡ old)
+Makes path wanted old new (Err status) = (wanted old ≡ Err status) × (new ≡ old)
 
 -- a call that reads tells what is wanted, or is refused as is wanted, or wants memory, or the device failed
 abbrev pub Tells : {T : Type 0} → Result T Status → Result T Status → Type 0
@@ -28,7 +28,7 @@ Tells wanted (Err status) = wanted ≡ Err status
 abbrev pub MakesKnown : {T : Type 0} → List ℕ → (Folder → Result Folder Status) → Option Folder → Option Folder → Result T Status → Type 0
 MakesKnown path wanted None new result = new ≡ None
 MakesKnown path wanted (Some old) None result = ⊥
-MakesKnown path wanted (Some old) (Some new) result = Makes path (wanted old) old new result
+MakesKnown path wanted (Some old) (Some new) result = Makes path wanted old new result
 
 abbrev pub TellsKnown : {T : Type 0} → (Folder → Result T Status) → Option Folder → Result T Status → Type 0
 TellsKnown wanted None result = Unit {0}

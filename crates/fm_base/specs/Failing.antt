@@ -14,6 +14,10 @@ pub record Failing (B : Type 0) : Type 0 where
 abbrev pub counted : ℕ → ℕ
 counted n = min (n + 1) (2 ^ 64 - 1)
 
+-- the faults of the base and those made here, as one count, which is full at some time
+abbrev pub faults_of : {B : Type 0} → (B → ℕ) → Failing B → ℕ
+faults_of faults s = min (faults s.base + s.failures) (2 ^ 64 - 1)
+
 -- the call that is to fail answers with a fault and leaves the base as it was
 abbrev pub Fails : {B T : Type 0} → Failing B → Failing B → Result T Status → Type 0
 Fails old new result = (result ≡ Err DeviceFault) × (new ≡ record old { calls = counted old.calls; failures = counted old.failures })

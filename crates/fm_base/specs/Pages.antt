@@ -1,6 +1,6 @@
 -- How the bytes of a file in memory are kept: in pages of 4096 bytes, by their numbers. A page that isn't
 -- there, and the end that a page lacks, stand for zeros.
-use Rattle.std.specs.Prelude.{◌≡◌, ◌⊎◌, ℕ, ◌+◌, ◌*◌, ◌/◌, ◌%◌, ◌^◌, ◌<◌, ◌≤◌, List, [], length, map, get_or}
+use Rattle.std.specs.Prelude.{◌≡◌, ◌⊎◌, ℕ, ◌+◌, ◌*◌, ◌/◌, ◌%◌, ◌^◌, ◌<◌, ◌≤◌, List, [], ◌++◌, length, take, drop, map, get_or}
 use Rattle.std.specs.Option.{unwrap_or}
 use Rattle.std.specs.Ordering.{nat_cmp}
 use Rattle.std.specs.BTreeMap as tree
@@ -46,14 +46,22 @@ NoneShorter old new = (number : ℕ) → length (page_of old number) ≤ length 
 
 -- the pages are long enough to be written from one place of the file up to another
 abbrev pub HasRoom : ℕ → ℕ → Pages → Type 0
-HasRoom from end pages = (number place : ℕ) → place < 4096 → from ≤ 4096 * number + place → 4096 * number + place < end → place < length (page_of pages number)
+HasRoom from end pages = (number place : ℕ) → place < 4096 → from ≤ 4096 * number + place → 4096 * number + place < end
+    → place < length (page_of pages number)
+
+-- a page with some of its bytes overwritten from a place on
+abbrev pub overwritten : ℕ → List ℕ → List ℕ → List ℕ
+overwritten from bytes page = take from page ++ bytes ++ drop (from + length bytes) page
 
 -- bytes were written over what lay from a place of the file on
 pub record Overwrites (offset : ℕ) (bytes : List ℕ) (old new : Pages) : Type 0 where
-  pub inside : (number place k : ℕ) → place < 4096 → k < length bytes → offset + k ≡ 4096 * number + place → byte_in (page_of new number) place ≡ get_or bytes k 0
-  pub outside : (number place : ℕ) → place < 4096 → (4096 * number + place < offset) ⊎ (offset + length bytes ≤ 4096 * number + place) → byte_in (page_of new number) place ≡ byte_in (page_of old number) place
+  pub inside : (number place k : ℕ) → place < 4096 → k < length bytes → offset + k ≡ 4096 * number + place
+      → byte_in (page_of new number) place ≡ get_or bytes k 0
+  pub outside : (number place : ℕ) → place < 4096 → (4096 * number + place < offset) ⊎ (offset + length bytes ≤ 4096 * number + place)
+      → byte_in (page_of new number) place ≡ byte_in (page_of old number) place
 
 -- the bytes from the new end on were taken away
 pub record Cuts (size : ℕ) (old new : Pages) : Type 0 where
-  pub below : (number place : ℕ) → place < 4096 → 4096 * number + place < size → byte_in (page_of new number) place ≡ byte_in (page_of old number) place
+  pub below : (number place : ℕ) → place < 4096 → 4096 * number + place < size
+      → byte_in (page_of new number) place ≡ byte_in (page_of old number) place
   pub past : (number place : ℕ) → place < 4096 → size ≤ 4096 * number + place → byte_in (page_of new number) place ≡ 0

@@ -3,6 +3,10 @@ use Rattle.std.specs.Prelude.{ℕ, List}
 use Rattle.std.specs.FinMap.{from_entries}
 use Rattle.fm_base.specs.Folders.{Folder}
 
+-- files by their paths
+abbrev pub Entries : Type 0
+Entries = List (List ℕ × List ℕ)
+
 -- the folder of the entries of a map from paths to files
-abbrev pub folder_of : List (List ℕ × List ℕ) → Folder
+abbrev pub folder_of : Entries → Folder
 folder_of entries = from_entries entries

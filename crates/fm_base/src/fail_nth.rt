@@ -1,10 +1,10 @@
 //! A base one of whose calls fails.
 
-ghost use Rattle.std.specs.Prelude.{◌≡◌, ◌≢◌, ◌+◌, ◌-◌, ◌^◌, ◌≤◌, ◌<◌, ◌==◌, cond, min, Option, length, IsSome, IfOk, IsTrue, ◌↔◌};
+ghost use Rattle.std.specs.Prelude.{◌≡◌, ◌≢◌, ◌+◌, ◌^◌, ◌≤◌, cond, length, IsSome, IfOk, IsTrue, ◌↔◌};
 ghost use Rattle.fm_types.specs.ByteLists.{resized, written};
 ghost use Rattle.fm_base.specs.Folders.{created, changed, unlinked, told, bytes_from, size_of, presence_of, listed};
 ghost use Rattle.fm_base.specs.Answers.{MakesKnown, TellsKnown, faults_after};
-ghost use Rattle.fm_base.specs.Failing.{counted, FailsNth};
+ghost use Rattle.fm_base.specs.Failing.{counted, faults_of, FailsNth};
 
 use crate::base::Base;
 use fm_types::{Bytes, CreateMode, RelPath, Status};
@@ -53,7 +53,8 @@ impl<B: Base> FailNth<B> {
     // Counts a device call. Whether it is the one that fails, which is counted too.
     fn count_call(&mut self) -> bool
         ensures fails { IsTrue result ↔ (self.old.calls + 1 ≡ self.old.number) }
-        ensures value { self.new ≡ record self.old { calls = counted self.old.calls; failures = cond result (counted self.old.failures) self.old.failures } }
+        ensures calls { self.new ≡ record self.old { calls = counted self.old.calls; failures = self.new.failures } }
+        ensures failures { self.new.failures ≡ cond result (counted self.old.failures) self.old.failures }
     {
         let fails = self.calls.checked_add(1) == Some(self.number);
         self.calls = self.calls.saturating_add(1);
@@ -69,11 +70,11 @@ impl<B: Base> Base for FailNth<B> {
 
     ghost folder = { λ s. B.folder s.base };
 
-    ghost faults = { λ s. min (B.faults s.base + s.failures) (2 ^ 64 - 1) };
+    ghost faults = { faults_of B.faults };
 
     fn create(&mut self, path: &RelPath, mode: CreateMode) -> Result<(), Status>
         ensures makes { MakesKnown path.now (created mode path.now) (B.folder self.old.base) (B.folder self.new.base) result }
-        ensures counts { min (B.faults self.new.base + self.new.failures) (2 ^ 64 - 1) ≡ faults_after (min (B.faults self.old.base + self.old.failures) (2 ^ 64 - 1)) result }
+        ensures counts { faults_of B.faults self.new ≡ faults_after (faults_of B.faults self.old) result }
         ensures nth { FailsNth self.old self.new result }
     {
         if self.count_call() {
@@ -86,7 +87,7 @@ impl<B: Base> Base for FailNth<B> {
         ensures tells { TellsKnown (told (bytes_from offset len) path.now) (B.folder self.old.base) result }
         ensures within { IfOk result (λ bytes. length bytes ≤ len) }
         ensures same { B.folder self.new.base ≡ B.folder self.old.base }
-        ensures counts { min (B.faults self.new.base + self.new.failures) (2 ^ 64 - 1) ≡ faults_after (min (B.faults self.old.base + self.old.failures) (2 ^ 64 - 1)) result }
+        ensures counts { faults_of B.faults self.new ≡ faults_after (faults_of B.faults self.old) result }
         ensures nth { FailsNth self.old self.new result }
     {
         if self.count_call() {
@@ -98,7 +99,7 @@ impl<B: Base> Base for FailNth<B> {
     fn write(&mut self, path: &RelPath, offset: u64, bytes: &[u8]) -> Result<(), Status>
         requires { offset + length bytes.now ≤ 2 ^ 40 }
         ensures makes { MakesKnown path.now (changed (written offset bytes.now) path.now) (B.folder self.old.base) (B.folder self.new.base) result }
-        ensures counts { min (B.faults self.new.base + self.new.failures) (2 ^ 64 - 1) ≡ faults_after (min (B.faults self.old.base + self.old.failures) (2 ^ 64 - 1)) result }
+        ensures counts { faults_of B.faults self.new ≡ faults_after (faults_of B.faults self.old) result }
         ensures nth { FailsNth self.old self.new result }
     {
         if self.count_call() {
@@ -111,7 +112,7 @@ impl<B: Base> Base for FailNth<B> {
         ensures tells { TellsKnown (told size_of path.now) (B.folder self.old.base) result }
         ensures same { B.folder self.new.base ≡ B.folder self.old.base }
         ensures steady { IsSome (B.folder self.old.base) → result ≢ Err Status.NoMemory }
-        ensures counts { min (B.faults self.new.base + self.new.failures) (2 ^ 64 - 1) ≡ faults_after (min (B.faults self.old.base + self.old.failures) (2 ^ 64 - 1)) result }
+        ensures counts { faults_of B.faults self.new ≡ faults_after (faults_of B.faults self.old) result }
         ensures nth { FailsNth self.old self.new result }
     {
         if self.count_call() {
@@ -123,7 +124,7 @@ impl<B: Base> Base for FailNth<B> {
     fn set_size(&mut self, path: &RelPath, size: u64) -> Result<(), Status>
         requires { size ≤ 2 ^ 40 }
         ensures makes { MakesKnown path.now (changed (resized size) path.now) (B.folder self.old.base) (B.folder self.new.base) result }
-        ensures counts { min (B.faults self.new.base + self.new.failures) (2 ^ 64 - 1) ≡ faults_after (min (B.faults self.old.base + self.old.failures) (2 ^ 64 - 1)) result }
+        ensures counts { faults_of B.faults self.new ≡ faults_after (faults_of B.faults self.old) result }
         ensures nth { FailsNth self.old self.new result }
     {
         if self.count_call() {
@@ -136,7 +137,7 @@ impl<B: Base> Base for FailNth<B> {
         ensures tells { TellsKnown (told presence_of path.now) (B.folder self.old.base) result }
         ensures same { B.folder self.new.base ≡ B.folder self.old.base }
         ensures steady { IsSome (B.folder self.old.base) → result ≢ Err Status.NoMemory }
-        ensures counts { min (B.faults self.new.base + self.new.failures) (2 ^ 64 - 1) ≡ faults_after (min (B.faults self.old.base + self.old.failures) (2 ^ 64 - 1)) result }
+        ensures counts { faults_of B.faults self.new ≡ faults_after (faults_of B.faults self.old) result }
         ensures nth { FailsNth self.old self.new result }
     {
         if self.count_call() {
@@ -149,7 +150,7 @@ impl<B: Base> Base for FailNth<B> {
         ensures tells { TellsKnown listed (B.folder self.old.base) result }
         ensures within { IfOk result (λ names. length names ≤ 32768) }
         ensures same { B.folder self.new.base ≡ B.folder self.old.base }
-        ensures counts { min (B.faults self.new.base + self.new.failures) (2 ^ 64 - 1) ≡ faults_after (min (B.faults self.old.base + self.old.failures) (2 ^ 64 - 1)) result }
+        ensures counts { faults_of B.faults self.new ≡ faults_after (faults_of B.faults self.old) result }
         ensures nth { FailsNth self.old self.new result }
     {
         if self.count_call() {
@@ -161,7 +162,7 @@ impl<B: Base> Base for FailNth<B> {
     fn unlink(&mut self, path: &RelPath) -> Result<(), Status>
         ensures makes { MakesKnown path.now (unlinked path.now) (B.folder self.old.base) (B.folder self.new.base) result }
         ensures steady { IsSome (B.folder self.old.base) → result ≢ Err Status.NoMemory }
-        ensures counts { min (B.faults self.new.base + self.new.failures) (2 ^ 64 - 1) ≡ faults_after (min (B.faults self.old.base + self.old.failures) (2 ^ 64 - 1)) result }
+        ensures counts { faults_of B.faults self.new ≡ faults_after (faults_of B.faults self.old) result }
         ensures nth { FailsNth self.old self.new result }
     {
         if self.count_call() {
@@ -171,7 +172,7 @@ impl<B: Base> Base for FailNth<B> {
     }
 
     fn failures(&self) -> u64
-        ensures { result ≡ min (B.faults self.now.base + self.now.failures) (2 ^ 64 - 1) }
+        ensures { result ≡ faults_of B.faults self.now }
     {
         self.base.failures().saturating_add(self.failures)
     }

@@ -1,10 +1,7 @@
 //! The base that keeps its files in memory.
 
-ghost use Rattle.std.specs.Prelude.{◌≡◌, ◌≢◌, ◌+◌, ◌^◌, ◌≤◌, Option, Some, [], length, IsOk, IfOk, OnOk, OnErr, IfErr, refl};
-ghost use Rattle.std.specs.Ordering.{nat_cmp};
-ghost use Rattle.std.specs.Cmp.Lexicographic.{slice_cmp};
-ghost use Rattle.std.specs.BTreeMap.{IsOrdered};
-ghost use Rattle.std.specs.FinMap.{empty, insert, remove};
+ghost use Rattle.std.specs.Prelude.{◌≡◌, ◌≢◌, ◌+◌, ◌^◌, ◌≤◌, Some, [], length, IsOk, IfOk, OnOk, OnErr, IfErr};
+ghost use Rattle.std.specs.FinMap.{empty, insert};
 ghost use Rattle.fm_types.specs.ByteLists.{resized, written};
 ghost use Rattle.fm_base.specs.Folders.{created, changed, unlinked, told, bytes_from, size_of, presence_of, listed};
 ghost use Rattle.fm_base.specs.Answers.{Makes, Tells};
@@ -27,7 +24,6 @@ pub struct MemoryBase {
 }
 
 impl Model for MemoryBase {
-    ghost use Rattle.std.specs.Prelude.{List, ℕ};
     ghost use Rattle.std.specs.Coded.{coded_ℕ, coded_list};
     ghost use Rattle.std.specs.FinMap as map;
     ghost use Rattle.fm_base.specs.Folders.{Folder};
@@ -60,7 +56,7 @@ fn create_file(
     path: &RelPath,
     mode: CreateMode,
 ) -> Result<(), Status>
-    ensures makes { Makes path.now (created mode path.now (folder_of files.old.entries)) (folder_of files.old.entries) (folder_of files.new.entries) result }
+    ensures makes { Makes path.now (created mode path.now) (folder_of files.old.entries) (folder_of files.new.entries) result }
     ensures sound { result ≢ Err Status.DeviceFault }
     ensures last { result ≡ Err Status.NoMemory → IsOk (created mode path.now (folder_of files.old.entries)) }
 {
@@ -84,7 +80,7 @@ fn write_file(
     bytes: &[u8],
 ) -> Result<(), Status>
     requires { offset + length bytes.now ≤ 2 ^ 40 }
-    ensures makes { Makes path.now (changed (written offset bytes.now) path.now (folder_of files.old.entries)) (folder_of files.old.entries) (folder_of files.new.entries) result }
+    ensures makes { Makes path.now (changed (written offset bytes.now) path.now) (folder_of files.old.entries) (folder_of files.new.entries) result }
     ensures sound { result ≢ Err Status.DeviceFault }
     ensures last { result ≡ Err Status.NoMemory → IsOk (changed (written offset bytes.now) path.now (folder_of files.old.entries)) }
 {
@@ -141,7 +137,7 @@ fn set_size_of_file(
     size: u64,
 ) -> Result<(), Status>
     requires { size ≤ 2 ^ 40 }
-    ensures makes { Makes path.now (changed (resized size) path.now (folder_of files.old.entries)) (folder_of files.old.entries) (folder_of files.new.entries) result }
+    ensures makes { Makes path.now (changed (resized size) path.now) (folder_of files.old.entries) (folder_of files.new.entries) result }
     ensures sound { result ≢ Err Status.DeviceFault }
     ensures steady { result ≢ Err Status.NoMemory }
 {
@@ -162,7 +158,7 @@ fn look_for_file(files: &BTreeMap<RelPath, File>, path: &RelPath) -> Result<(), 
 }
 
 fn unlink_file(files: &mut BTreeMap<RelPath, File>, path: &RelPath) -> Result<(), Status>
-    ensures makes { Makes path.now (unlinked path.now (folder_of files.old.entries)) (folder_of files.old.entries) (folder_of files.new.entries) result }
+    ensures makes { Makes path.now (unlinked path.now) (folder_of files.old.entries) (folder_of files.new.entries) result }
     ensures sound { result ≢ Err Status.DeviceFault }
     ensures steady { result ≢ Err Status.NoMemory }
 {
@@ -193,7 +189,7 @@ impl Base for MemoryBase {
     ghost faults = { λ _. 0 };
 
     fn create(&mut self, path: &RelPath, mode: CreateMode) -> Result<(), Status>
-        ensures makes { Makes path.now (created mode path.now self.old) self.old self.new result }
+        ensures makes { Makes path.now (created mode path.now) self.old self.new result }
         ensures sound { result ≢ Err Status.DeviceFault }
         ensures last { result ≡ Err Status.NoMemory → IsOk (created mode path.now self.old) }
     {
@@ -212,7 +208,7 @@ impl Base for MemoryBase {
 
     fn write(&mut self, path: &RelPath, offset: u64, bytes: &[u8]) -> Result<(), Status>
         requires { offset + length bytes.now ≤ 2 ^ 40 }
-        ensures makes { Makes path.now (changed (written offset bytes.now) path.now self.old) self.old self.new result }
+        ensures makes { Makes path.now (changed (written offset bytes.now) path.now) self.old self.new result }
         ensures sound { result ≢ Err Status.DeviceFault }
         ensures last { result ≡ Err Status.NoMemory → IsOk (changed (written offset bytes.now) path.now self.old) }
     {
@@ -228,7 +224,7 @@ impl Base for MemoryBase {
 
     fn set_size(&mut self, path: &RelPath, size: u64) -> Result<(), Status>
         requires { size ≤ 2 ^ 40 }
-        ensures makes { Makes path.now (changed (resized size) path.now self.old) self.old self.new result }
+        ensures makes { Makes path.now (changed (resized size) path.now) self.old self.new result }
         ensures sound { result ≢ Err Status.DeviceFault }
         ensures steady { result ≢ Err Status.NoMemory }
     {
@@ -253,7 +249,7 @@ impl Base for MemoryBase {
     }
 
     fn unlink(&mut self, path: &RelPath) -> Result<(), Status>
-        ensures makes { Makes path.now (unlinked path.now self.old) self.old self.new result }
+        ensures makes { Makes path.now (unlinked path.now) self.old self.new result }
         ensures sound { result ≢ Err Status.DeviceFault }
         ensures steady { result ≢ Err Status.NoMemory }
     {

@@ -2,6 +2,7 @@
 
 ghost use Rattle.std.specs.Prelude.{◌≡◌, ◌+◌, ◌-◌, ◌^◌, ◌≤◌, ◌++◌, [], length, take, drop, replicate, OnOk, OnErr};
 ghost use Rattle.fm_types.specs.ByteLists.{resized};
+ghost use Rattle.fm_base.specs.Pages.{overwritten};
 
 use std::alloc::{AllocError, Global};
 use std::marker::Model;
@@ -51,7 +52,7 @@ impl Page {
     /// Writes over what lies from `from` on, which has to be there.
     pub fn overwrite(&mut self, from: usize, bytes: &[u8])
         requires { from + length bytes.now ≤ length self.old }
-        ensures { self.new ≡ take from self.old ++ bytes.now ++ drop (from + length bytes.now) self.old }
+        ensures { self.new ≡ overwritten from bytes.now self.old }
     {
         self.held[from..from + bytes.len()].copy_from_slice(bytes);
     }

@@ -1,11 +1,10 @@
 //! The pages of a file in memory, by their numbers: what a write, a read and a cut do with them.
 
-ghost use Rattle.std.specs.Prelude.{◌≡◌, ◌⊎◌, ℕ, ◌+◌, ◌*◌, ◌-◌, ◌/◌, ◌%◌, ◌^◌, ◌<◌, ◌≤◌, ◌++◌, ◌==◌, cond, [], length, take, drop, map, OnOk, OnErr, IfOk};
+ghost use Rattle.std.specs.Prelude.{◌≡◌, ℕ, ◌+◌, ◌^◌, ◌<◌, ◌≤◌, ◌++◌, ◌==◌, cond, [], length, take, drop, map, OnOk, IfOk};
 ghost use Rattle.std.specs.List.{range_with_len};
-ghost use Rattle.std.specs.Ordering.{nat_cmp};
 ghost use Rattle.std.specs.BTreeMap as tree;
 ghost use Rattle.fm_types.specs.ByteLists.{resized};
-ghost use Rattle.fm_base.specs.Pages.{page_of, byte_at, SameBytes, NoneShorter, HasRoom, Overwrites, Cuts};
+ghost use Rattle.fm_base.specs.Pages.{page_of, byte_at, overwritten, SameBytes, NoneShorter, HasRoom, Overwrites, Cuts};
 
 use crate::page::Page;
 use std::alloc::{AllocError, Global};
@@ -57,7 +56,7 @@ pub fn make_room(
 // Writes over a part of one page, which has to be that long.
 fn overwrite_page(pages: &mut BTreeMap<u64, Page>, number: u64, from: usize, bytes: &[u8])
     requires { from + length bytes.now ≤ length (page_of pages.old number) }
-    ensures { (q : ℕ) → page_of pages.new q ≡ cond (q == number) (take from (page_of pages.old number) ++ bytes.now ++ drop (from + length bytes.now) (page_of pages.old number)) (page_of pages.old q) }
+    ensures { let old = page_of pages.old in (q : ℕ) → page_of pages.new q ≡ cond (q == number) (overwritten from bytes.now (old number)) (old q) }
 {
     if let Some(page) = pages.get_mut(&number) {
         page.overwrite(from, bytes);

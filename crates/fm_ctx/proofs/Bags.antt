@@ -139,11 +139,6 @@ pub held_without : (hands : List (List CtxId)) (w : ℕ) (c : CtxId) → w < len
 held_without hands w c within has d =
     omega (arith, held_set hands w (without c (hand_of hands w)) within d, references_without c (hand_of hands w) has d)
 
--- the whole hand goes
-pub held_emptied : (hands : List (List CtxId)) (w : ℕ) → w < length hands → (d : CtxId)
-    → held (set hands w []) d + references (hand_of hands w) d ≡ held hands d
-held_emptied hands w within d = omega (arith, held_set hands w [] within d, references_none d)
-
 -- what one worker holds is counted
 pub hand_counted : (hands : List (List CtxId)) (w : ℕ) (c : CtxId) → w < length hands → references (hand_of hands w) c ≤ held hands c
 unfolding held

@@ -1,5 +1,5 @@
 -- Where nothing was allocated yet.
-use Rattle.std.proofs.Common.{◌≡◌, ℕ, zero, suc, ◌+◌, List, [], ◌∷◌, ◌++◌, replicate, Option, None, count_by, refl, sym, ap, ◌∙◌, arith, add-one, lit≤}
+use Rattle.std.proofs.Common.{◌≡◌, ℕ, zero, suc, List, [], replicate, Option, None, count_by, refl, sym, ◌∙◌, arith, lit≤}
 use Rattle.std.proofs.lemmas.List.{length-replicate}
 use Rattle.std.proofs.lemmas.List.Elements.{All-replicate}
 use Rattle.std.proofs.lemmas.List.Sums.{sum_by-cons}
@@ -10,14 +10,6 @@ use Rattle.fm_ctx.specs.Kept.{carried_of, nothing_kept}
 use Rattle.fm_ctx.specs.Laws.{IsLawful}
 use Rattle.fm_ctx.specs.Rows.{row_at, stored, IsSound}
 use Rattle.fm_ctx.proofs.Bags.{IsSmall, references_none}
-
--- one more of the same
-pub replicate_push : {X : Type 0} (n : ℕ) (x : X) → replicate n x ++ x ∷ [] ≡ replicate (n + 1) x
-replicate_push {X} n x = rw add-one (pushed n)
-  where
-    pushed : (k : ℕ) → replicate k x ++ x ∷ [] ≡ replicate (suc k) x
-    pushed zero = refl
-    pushed (suc k) = ap (λ xs. x ∷ xs) (pushed k)
 
 none_there : (c : CtxId) → context_at [] c ≡ None
 unfolding context_at

@@ -1,5 +1,5 @@
 -- Rows stand for slots: which row an id names, and what changes of a row make of the slots.
-use Rattle.std.proofs.Common.{◌≡◌, ℕ, zero, suc, ◌+◌, ◌<◌, Bool, true, false, cond, ◌&&◌, eqb, ltb, List, [], ◌∷◌, length, map, get_or, slice_get, count_by, Option, Some, None, is_some, is_none, option_map, option_and_then, refl, sym, ap, ap₂, subst, ◌∙◌, arith, inl, inr, eq-eqb, ne_eqb, eqb-true, lt-ltb, le-ltb, leb, le-leb, unwrap_or, not, position}
+use Rattle.std.proofs.Common.{◌≡◌, ℕ, zero, suc, ◌+◌, ◌<◌, Bool, true, false, cond, ◌&&◌, eqb, ltb, List, [], ◌∷◌, length, map, get_or, slice_get, slice_index, count_by, Option, Some, None, is_some, is_none, option_map, option_and_then, refl, sym, ap, ap₂, subst, ◌∙◌, arith, inl, inr, eq-eqb, ne_eqb, eqb-true, lt-ltb, le-ltb, leb, le-leb, unwrap_or, not, position}
 use Rattle.std.specs.List.{position_or_len}
 use Rattle.std.proofs.lemmas.List.{length-map}
 use Rattle.std.proofs.lemmas.List.Sums.{sum_by-cons}
@@ -256,3 +256,16 @@ pub body_row : (rows : List Row) (c : CtxId) (i : InRow rows c) (d : Row) → (g
 body_row rows c i d =
     ap (λ (r : Row). r.body.items) (row_read rows c i d)
     ∙ sym (ap (λ (o : Option Context). unwrap_or (option_map (λ (x : Context). x.body) o) []) (context_in_row rows c i))
+
+pub uncarried_row : (rows : List Row) (hands : List (List CtxId)) (due : List CtxId) (cleaning : List (Option CtxId)) (leaks : ℕ) (c : CtxId) → None ≡ row_at rows c
+    → 0 ≡ carried_of (kept_in rows hands due cleaning leaks) c
+unfolding carried_of
+uncarried_row rows hands due cleaning leaks c is =
+    sym (ap (λ (o : Option Context). cond (is_some o) (slice_index (carried_in rows) c.slot) 0) (context_at-rows rows c ∙ ap (option_map context_of) (sym is)))
+
+pub carried_told : (rows : List Row) (hands : List (List CtxId)) (due : List CtxId) (cleaning : List (Option CtxId)) (leaks : ℕ) (c : CtxId) (r : Row) → Some r ≡ row_at rows c
+    → r.carried ≡ carried_of (kept_in rows hands due cleaning leaks) c
+carried_told rows hands due cleaning leaks c r is =
+    let i = in_row rows c r (sym is) in
+    let same : r ≡ i.row = same_Some r i.row (is ∙ row_there rows c i) in
+    ap (λ (q : Row). q.carried) same ∙ sym (carried_row rows hands due cleaning leaks c i)

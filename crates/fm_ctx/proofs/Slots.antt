@@ -15,10 +15,6 @@ pub none_from : {X : Type 0} (o : Option X) → is_some o ≡ false → o ≡ No
 none_from None lacks = refl
 none_from (Some x) lacks = absurd (true≢false lacks)
 
-pub some_from : {X : Type 0} (o : Option X) → is_some o ≡ true → (x : X) × (o ≡ Some x)
-some_from None has = absurd (true≢false (sym has))
-some_from (Some x) has = (x, refl)
-
 -- another id in the same slot is of another generation
 pub other_generation : (c d : CtxId) → is_id d c ≡ false → d.slot ≡ c.slot → eqb c.generation d.generation ≡ false
 other_generation c d other same =

@@ -11,7 +11,8 @@ use Rattle.fm_ctx.specs.declared.row.Links.TheVariants.{To, Of}
 use Rattle.fm_ctx.specs.Objects.{is_to, same_owner}
 use Rattle.fm_ctx.specs.Table.{Context, Slot, ContextTable, context_in, context_at, link_at, changed_slot, change_context}
 use Rattle.fm_ctx.specs.Links.{with_link, unlinked, id_at}
-use Rattle.fm_ctx.specs.Settling.{Settles, Sweeps, link_test, passes, context_of_slot, swept, swept_slot, swept_at}
+use Rattle.fm_ctx.specs.Settling.{Settles, Sweeps, swept, swept_slot}
+use Rattle.fm_ctx.specs.Sweep.{link_test, passes, context_of_slot, swept_at}
 use Rattle.fm_ctx.specs.Rows.{context_of, slot_of, slots_of}
 use Rattle.fm_ctx.proofs.Counts.{count_unlinked}
 use Rattle.fm_ctx.proofs.Leaving.{settles_none, settles_both, settles_by_one}

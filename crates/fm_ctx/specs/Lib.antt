@@ -8,6 +8,7 @@ pub mod Links
 pub mod Births
 pub mod Cleanup
 pub mod Settling
+pub mod Sweep
 pub mod Bodies
 pub mod Counting
 pub mod Rows

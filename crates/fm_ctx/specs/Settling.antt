@@ -1,14 +1,12 @@
 -- Several references go in one event: the contexts that lost their last one are due, in some order.
-use Rattle.std.specs.Prelude.{◌≡◌, ℕ, ◌+◌, ◌-◌, ◌^◌, ◌≤◌, ◌==◌, ◌&&◌, Bool, false, cond, nat_lt, min, List, [], ◌++◌, length, map, slice_get, slice_set, Option, Some, None, is_some, option_map, option_and_then}
+use Rattle.std.specs.Prelude.{◌≡◌, ℕ, ◌+◌, ◌-◌, ◌^◌, ◌≤◌, ◌==◌, ◌&&◌, Bool, cond, nat_lt, min, List, [], ◌++◌, length, map, slice_set, None, is_some, option_map}
 use Rattle.fm_types.specs.declared.ids.CtxId.{CtxId}
 use Rattle.fm_ctx.specs.declared.object.Object.{Object}
 use Rattle.fm_ctx.specs.declared.owner.Owner.{Owner}
 use Rattle.fm_ctx.specs.Bags.{one, references, hand_of}
 use Rattle.fm_ctx.specs.Objects.{is_to, same_owner}
 use Rattle.fm_ctx.specs.Table.{Context, Slot, ContextTable, count_in}
-use Rattle.fm_ctx.specs.declared.row.Links.{Links}
-use Rattle.fm_ctx.specs.declared.row.Links.TheVariants.{To, Of}
-use Rattle.fm_ctx.specs.Links.{with_link, unlinked, id_at}
+use Rattle.fm_ctx.specs.Links.{with_link}
 
 -- 1 where a count above zero fell to zero
 abbrev pub newly : ℕ → ℕ → ℕ
@@ -39,22 +37,6 @@ is_linked_to object x = is_to object x.link
 
 abbrev pub is_linked_of : Owner → Context → Bool
 is_linked_of owner x = is_some x.link && same_owner owner x.owner
-
-abbrev pub link_test : Links → Context → Bool
-link_test (To object) = is_linked_to object
-link_test (Of owner) = is_linked_of owner
-
--- whether there is a context, and it passes a test
-abbrev pub passes : (Context → Bool) → Option Context → Bool
-passes test None = false
-passes test (Some x) = test x
-
--- the context of one slot loses its link, where it passes
-abbrev pub context_of_slot : List Slot → ℕ → Option Context
-context_of_slot slots k = option_and_then (λ (s : Slot). s.context) (slice_get slots k)
-
-abbrev pub swept_at : (CtxId → ℕ) → ContextTable → (Context → Bool) → ℕ → ContextTable
-swept_at carried t test k = cond (passes test (context_of_slot t.slots k)) (unlinked carried t (id_at t.slots k)) t
 
 -- a context that passes the test loses its link
 abbrev pub swept : (Context → Bool) → Context → Context

@@ -1,5 +1,5 @@
 -- Contexts by their ids: slots by number, each with the generation that was given last.
-use Rattle.std.specs.Prelude.{ℕ, ◌+◌, ◌==◌, cond, List, [], Option, Some, None, is_some, option_and_then, slice_get, replicate}
+use Rattle.std.specs.Prelude.{ℕ, ◌+◌, ◌==◌, cond, List, [], Option, Some, None, is_some, option_map, option_and_then, slice_get, replicate}
 use Rattle.fm_types.specs.declared.ids.CtxId.{CtxId}
 use Rattle.fm_types.specs.declared.ids.VolumeId.{VolumeId}
 use Rattle.fm_types.specs.declared.context_kind.ContextKind.{ContextKind}
@@ -47,6 +47,15 @@ context_at slots c = option_and_then (context_in c) (slice_get slots c.slot)
 
 abbrev pub link_at : List Slot → CtxId → Option Object
 link_at slots c = option_and_then (λ (x : Context). x.link) (context_at slots c)
+
+abbrev pub owner_at : List Slot → CtxId → Option Owner
+owner_at slots c = option_map (λ (x : Context). x.owner) (context_at slots c)
+
+abbrev pub kind_at : List Slot → CtxId → Option ContextKind
+kind_at slots c = option_map (λ (x : Context). x.kind) (context_at slots c)
+
+abbrev pub volume_at : List Slot → CtxId → Option VolumeId
+volume_at slots c = option_map (λ (x : Context). x.volume) (context_at slots c)
 
 -- 1 for the reference of a link
 abbrev pub link_count : Option Context → ℕ

@@ -5,15 +5,15 @@ mod cleanup;
 mod links;
 mod readers;
 
-ghost use Rattle.std.specs.Prelude.{◌≡◌, ℕ, ◌+◌, ◌<◌, ◌^◌, ◌==◌, ◌++◌, ◌∷◌, [], if◌then◌else◌, IfOk, IfSome, true, None, is_some, length, count_by, slice_get, slice_index_or};
+ghost use Rattle.std.specs.Prelude.{◌≡◌, ◌+◌, ◌<◌, ◌^◌, ◌==◌, ◌++◌, ◌∷◌, [], if◌then◌else◌, IfOk, true, None, is_some, length, slice_get, slice_index_or};
 ghost use Rattle.std.specs.VecDeque.{deque_capacity};
 ghost use Rattle.fm_types.specs.Refusals.{Answers, AnswersOrMemory};
 ghost use Rattle.fm_types.specs.Lists.{updated};
 ghost use Rattle.fm_types.specs.declared.ids.CtxId.{CtxId};
 ghost use Rattle.fm_ctx.specs.Bags.{holds, hand_of};
-ghost use Rattle.fm_ctx.specs.Table.{Context, context_at, link_at, count_in};
+ghost use Rattle.fm_ctx.specs.Table.{link_at, count_in};
 ghost use Rattle.fm_ctx.specs.Kept.{nothing_kept, carried_of, carried_more, carried_fewer};
-ghost use Rattle.fm_ctx.specs.Laws.{IsLawful, has_link};
+ghost use Rattle.fm_ctx.specs.Laws.{IsLawful};
 ghost use Rattle.fm_ctx.specs.References.{grabbed, handed_on, released, reference_refusal, release_refusal};
 ghost use Rattle.fm_ctx.specs.Links.{IsFree, linked, unlinked, unlinked_into};
 ghost use Rattle.fm_ctx.specs.Births.{IsNew, allocate_refusal, kept_allocated, new_context};

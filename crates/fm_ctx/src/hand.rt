@@ -1,7 +1,7 @@
 //! The references to contexts that workers hold.
 
 ghost use Rattle.std.specs.Prelude.{◌≡◌, ◌<◌, ◌≤◌, ◌++◌, ◌∷◌, [], nat_le, length, IfOk, position, slice_set, slice_get, Some};
-ghost use Rattle.fm_ctx.specs.Bags.{is_id, holds, without, hand_of, is_hand_full};
+ghost use Rattle.fm_ctx.specs.Bags.{is_id, holds, without, hand_of};
 
 use fm_types::{CtxId, WorkerId};
 use std::alloc::{AllocError, Global};

@@ -13,6 +13,8 @@ mod object;
 mod owner;
 mod row;
 mod set_reply;
+#[cfg(test)]
+mod tests;
 
 pub use crate::contexts::Contexts;
 pub use crate::count::Count;

@@ -1,12 +1,12 @@
 //! How a context is kept: its row, which stays where it is when the context is cleaned up.
 
-ghost use Rattle.std.specs.Prelude.{◌≡◌, ◌==◌, ℕ, ◌+◌, ◌-◌, ◌^◌, ◌<◌, ◌≤◌, List, [], length, slice_index_or, slice_get, Some, option_copied, position, count_by};
+ghost use Rattle.std.specs.Prelude.{◌≡◌, ◌==◌, ℕ, ◌+◌, ◌-◌, ◌^◌, ◌<◌, ◌≤◌, length, slice_index_or, Some, option_copied, position, count_by};
 ghost use Rattle.std.specs.Global.{Vec};
 ghost use Rattle.fm_types.specs.Lists.{updated};
 ghost use Rattle.fm_ctx.specs.Laws.{links};
 ghost use Rattle.fm_ctx.specs.Links.{holder};
 ghost use Rattle.fm_ctx.specs.Counting.{is_open, was_given};
-ghost use Rattle.fm_ctx.specs.Settling.{passes, link_test};
+ghost use Rattle.fm_ctx.specs.Sweep.{passes, link_test};
 ghost use Rattle.fm_ctx.specs.Bodies.{raised as raised_number, with_number};
 ghost use Rattle.fm_ctx.specs.Rows.{slot_of, slots_of, row_at, raised, lowered, carried_away, brought_back, linked_row, unlinked_row, cleaned_row, row_with};
 ghost use Rattle.fm_ctx.specs.declared.row.Row.{Row as KeptRow};

@@ -13,10 +13,18 @@ use Rattle.fm_host.specs.Names.{line_length, IsListing}
 length-lines : (names : List (List ℕ)) → length (lines_of names) ≡ sum_by line_length names
 length-lines [] = refl
 length-lines (name ∷ names) =
-    omega (arith, length-append (name ++ 10 ∷ []) (lines_of names), length-append name (10 ∷ []), length-lines names, sum_by-cons line_length name names)
+    omega (
+      arith,
+      length-append (name ++ 10 ∷ []) (lines_of names),
+      length-append name (10 ∷ []),
+      length-lines names,
+      sum_by-cons line_length name
+          names,
+    )
 
 -- the lines of names that were told, once they are in order
-pub listing_is : (told names : List (List ℕ)) (bytes : List ℕ) → sum_by line_length told ≤ 32768 → IsPermutation told names → IsSorted (slice_cmp nat_cmp) names → bytes ≡ lines_of names → IsListing bytes
+pub listing_is : (told names : List (List ℕ)) (bytes : List ℕ) → sum_by line_length told ≤ 32768 → IsPermutation told names
+    → IsSorted (slice_cmp nat_cmp) names → bytes ≡ lines_of names → IsListing bytes
 listing_is told names bytes few same ascending spelt = record {
   names = names;
   ascending = ascending;

@@ -1,5 +1,5 @@
 -- What the host's answers are to a base.
-use Rattle.std.specs.Prelude.{Result, Ok, Err}
+use Rattle.std.specs.Prelude.{◌≡◌, Result, Ok, Err}
 use Rattle.std.specs.IoError.{error_kind}
 use Rattle.std.specs.declared.io.Error.{Error}
 use Rattle.std.specs.declared.io.ErrorKind.{ErrorKind}
@@ -19,3 +19,7 @@ status_of _ = DeviceFault
 abbrev pub answer_of : {T : Type 0} → Result T Error → Result T Status
 answer_of (Ok value) = Ok value
 answer_of (Err error) = Err (status_of (error_kind error))
+
+-- the status for some error of the host
+abbrev pub IsHostRefusal : Status → Type 0
+IsHostRefusal status = (error : ErrorKind) × (status ≡ status_of error)

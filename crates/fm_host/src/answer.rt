@@ -1,9 +1,9 @@
 //! What the host tells, as a base answers it.
 
-ghost use Rattle.std.specs.Prelude.{◌≡◌};
+ghost use Rattle.std.specs.Prelude.{◌≡◌, IfErr};
 ghost use Rattle.std.specs.IoError.{error_kind};
 ghost use Rattle.fm_base.specs.Answers.{faults_after};
-ghost use Rattle.fm_host.specs.Told.{status_of, answer_of};
+ghost use Rattle.fm_host.specs.Told.{status_of, answer_of, IsHostRefusal};
 
 use fm_types::Status;
 use std::io;
@@ -25,6 +25,7 @@ fn status_of(error: &io::Error) -> Status
 /// What the host told, as a base answers it. A fault is counted.
 pub fn answer<T>(failures: &mut u64, told: io::Result<T>) -> Result<T, Status>
     ensures value { result ≡ answer_of told }
+    ensures refused { IfErr result IsHostRefusal }
     ensures counts { failures.new ≡ faults_after failures.old result }
 {
     match told {

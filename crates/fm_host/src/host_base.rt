@@ -1,6 +1,9 @@
 //! The base over a folder of the host.
 
-ghost use Rattle.std.specs.Prelude.{◌≡◌, IfOk};
+ghost use Rattle.std.specs.Prelude.{◌≡◌, ◌⊎◌, ◌≤◌, IfOk, IfErr, length};
+ghost use Rattle.fm_base.specs.Answers.{faults_after};
+ghost use Rattle.fm_host.specs.Names.{IsListing};
+ghost use Rattle.fm_host.specs.Told.{IsHostRefusal};
 
 use crate::answer::answer;
 use crate::files;
@@ -46,7 +49,8 @@ impl<R: Files + AllocGlobal + Clone + Drop> HostBase<R> {
     /// The base over that folder. Refused with 19 where there is no such folder, with 1 where memory was
     /// refused, and with 18 on another fault.
     pub fn new(rt: &R, folder: &str) -> Result<HostBase<R>, Status>
-        ensures { IfOk result (λ base. base ≡ 0) }
+        ensures ok { IfOk result (λ base. base ≡ 0) }
+        ensures refused { IfErr result IsHostRefusal }
     {
         let mut failures = 0;
         let told = folder_at(rt, folder);
@@ -66,42 +70,68 @@ impl<R: Files + AllocGlobal + Clone + Drop> Base for HostBase<R> {
 
     ghost faults = { λ failures. failures };
 
-    fn create(&mut self, path: &RelPath, mode: CreateMode) -> Result<(), Status> {
+    fn create(&mut self, path: &RelPath, mode: CreateMode) -> Result<(), Status>
+        ensures counts { self.new ≡ faults_after self.old result }
+        ensures refused { IfErr result IsHostRefusal }
+    {
         let told = files::create(&self.rt, self.folder.as_str(), path, mode);
         answer(&mut self.failures, told)
     }
 
-    fn read(&mut self, path: &RelPath, offset: u64, len: u32) -> Result<Bytes, Status> {
+    fn read(&mut self, path: &RelPath, offset: u64, len: u32) -> Result<Bytes, Status>
+        ensures counts { self.new ≡ faults_after self.old result }
+        ensures within { IfOk result (λ bytes. length bytes ≤ len) }
+        ensures refused { IfErr result (λ status. (status ≡ Status.EndOfFile) ⊎ IsHostRefusal status) }
+    {
         let told = files::read(&self.rt, self.folder.as_str(), path, offset, len);
         answer(&mut self.failures, told)?.ok_or(Status::EndOfFile)
     }
 
-    fn write(&mut self, path: &RelPath, offset: u64, bytes: &[u8]) -> Result<(), Status> {
+    fn write(&mut self, path: &RelPath, offset: u64, bytes: &[u8]) -> Result<(), Status>
+        ensures counts { self.new ≡ faults_after self.old result }
+        ensures refused { IfErr result IsHostRefusal }
+    {
         let told = files::write(&self.rt, self.folder.as_str(), path, offset, bytes);
         answer(&mut self.failures, told)
     }
 
-    fn size(&mut self, path: &RelPath) -> Result<u64, Status> {
+    fn size(&mut self, path: &RelPath) -> Result<u64, Status>
+        ensures counts { self.new ≡ faults_after self.old result }
+        ensures refused { IfErr result IsHostRefusal }
+    {
         let told = files::size(&self.rt, self.folder.as_str(), path);
         answer(&mut self.failures, told)
     }
 
-    fn set_size(&mut self, path: &RelPath, size: u64) -> Result<(), Status> {
+    fn set_size(&mut self, path: &RelPath, size: u64) -> Result<(), Status>
+        ensures counts { self.new ≡ faults_after self.old result }
+        ensures refused { IfErr result IsHostRefusal }
+    {
         let told = files::set_size(&self.rt, self.folder.as_str(), path, size);
         answer(&mut self.failures, told)
     }
 
-    fn flush(&mut self, path: &RelPath) -> Result<(), Status> {
+    fn flush(&mut self, path: &RelPath) -> Result<(), Status>
+        ensures counts { self.new ≡ faults_after self.old result }
+        ensures refused { IfErr result IsHostRefusal }
+    {
         let told = files::flush(&self.rt, self.folder.as_str(), path);
         answer(&mut self.failures, told)
     }
 
-    fn list(&mut self) -> Result<Bytes, Status> {
+    fn list(&mut self) -> Result<Bytes, Status>
+        ensures counts { self.new ≡ faults_after self.old result }
+        ensures listing { IfOk result IsListing }
+        ensures refused { IfErr result (λ status. (status ≡ Status.TooMany) ⊎ IsHostRefusal status) }
+    {
         let told = listing(&self.rt, self.folder.as_str());
         answer(&mut self.failures, told)?.ok_or(Status::TooMany)
     }
 
-    fn unlink(&mut self, path: &RelPath) -> Result<(), Status> {
+    fn unlink(&mut self, path: &RelPath) -> Result<(), Status>
+        ensures counts { self.new ≡ faults_after self.old result }
+        ensures refused { IfErr result IsHostRefusal }
+    {
         let told = files::unlink(&self.rt, self.folder.as_str(), path);
         answer(&mut self.failures, told)
     }

@@ -1,6 +1,6 @@
 //! Where the files of a base lie on the host.
 
-ghost use Rattle.std.specs.Prelude.{◌≡◌, ◌++◌, ◌∷◌, [], IfOk, string_bytes};
+ghost use Rattle.std.specs.Prelude.{◌≡◌, ◌++◌, ◌∷◌, IfOk, string_bytes};
 
 use fm_types::RelPath;
 use std::alloc::{AllocError, Global};

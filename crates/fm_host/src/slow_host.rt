@@ -32,6 +32,7 @@ pub struct SlowHost {
 }
 
 impl SlowHost {
+    /// A host that fails nowhere, and lists no names.
     pub fn new(memory: Global) -> SlowHost {
         SlowHost {
             memory,

@@ -1,7 +1,7 @@
 //! What a seat does at the gate. No call waits, and none tries again: each is one exchange on the volume's word, or two where `enter` is
 //! refused.
 
-ghost use Rattle.std.specs.Prelude.{◌≡◌, ◌==◌, ◌<◌, ◌%◌, true, false, length, nat_lt, slice_index, IfOk, IfErr};
+ghost use Rattle.std.specs.Prelude.{◌≡◌, ◌<◌, true, false, length, nat_lt, IfOk, IfErr};
 ghost use Rattle.fm_types.specs.declared.status.Status.{Status};
 ghost use Rattle.fm_rundown.specs.Views.{most_volumes, volume_of};
 ghost use Rattle.fm_rundown.specs.Kinds.{is_closing_word};

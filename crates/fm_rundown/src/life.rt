@@ -1,7 +1,6 @@
 //! The gate's beginning and its end.
 
-ghost use Rattle.std.specs.Prelude.{◌≡◌, ◌==◌, ◌||◌, ◌<◌, ◌≤◌, ◌-◌, nat_lt, None, Some, Err, All, IfOk, IfErr, length, MatchBool, MatchResult, sum_by, replicate};
-ghost use Rattle.fm_types.specs.declared.status.Status.{Status};
+ghost use Rattle.std.specs.Prelude.{◌≡◌, ◌<◌, ◌≤◌, ◌-◌, All, IfOk, length, sum_by};
 ghost use Rattle.fm_rundown.specs.Views.{fresh_seat, one_made};
 ghost use Rattle.fm_rundown.specs.Tables.{IsAt};
 ghost use Rattle.fm_rundown.specs.Seats.{view_of, IsSeatOf, volumes_of, seats_of, passes_held};

@@ -1,6 +1,6 @@
 //! The passes that a seat holds.
 
-ghost use Rattle.std.specs.Prelude.{◌≡◌, ◌≤◌, sum};
+ghost use Rattle.std.specs.Prelude.{◌≡◌, ◌≤◌};
 ghost use Rattle.fm_rundown.specs.Seats.{passes_held};
 
 use crate::seat::GateSeat;

@@ -1,6 +1,6 @@
 //! A seat at the gate.
 
-ghost use Rattle.std.specs.Prelude.{◌≡◌, ◌≤◌, sum};
+ghost use Rattle.std.specs.Prelude.{◌≡◌};
 ghost use Rattle.fm_rundown.specs.Views.{fresh_seat};
 ghost use Rattle.fm_rundown.specs.Rest.{IsAtRest};
 
@@ -10,7 +10,8 @@ use atomic_table::Seat;
 /// How many volumes a gate has at most.
 pub const MAX_VOLUMES: usize = 8;
 
-/// The right to hold passes, for one thread at a time, at the gate that it was made with. It counts the passes of each volume that it holds.
+/// The right to hold passes, for one thread at a time, at the gate that it was made with. It counts the passes of each volume that it
+/// holds. One that is dropped with a pass keeps the volume from ever being drained.
 #[derive(Drop)]
 pub struct GateSeat {
     pub(crate) seat: Seat<(), SeatView>,

@@ -3,12 +3,13 @@
 ghost use Rattle.std.specs.Prelude.{◌≡◌, ◌<◌, true, Some, is_some, length};
 ghost use Rattle.fm_types.specs.Refusals.{Answers};
 ghost use Rattle.fm_types.specs.declared.ids.CtxId.{CtxId};
-ghost use Rattle.fm_ctx.specs.Bags.{holds, hand_of, is_hand_full};
+ghost use Rattle.fm_ctx.specs.Bags.{holds, hand_of};
 ghost use Rattle.fm_ctx.specs.Table.{context_at, link_at};
 ghost use Rattle.fm_ctx.specs.Kept.{carried_of};
 ghost use Rattle.fm_ctx.specs.References.{grabbed};
 ghost use Rattle.fm_ctx.specs.Links.{holder, unlinked_for, kept_after, set_reply, set_after, get_refusal, delete_refusal, delete_reply, delete_after, IsUnlinkedOf};
-ghost use Rattle.fm_ctx.specs.Settling.{Sweeps, is_linked_to, is_linked_of, link_test, swept_at};
+ghost use Rattle.fm_ctx.specs.Settling.{Sweeps, is_linked_to, is_linked_of};
+ghost use Rattle.fm_ctx.specs.Sweep.{link_test, swept_at};
 
 use crate::contexts::Contexts;
 use crate::object::Object;

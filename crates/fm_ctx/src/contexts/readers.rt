@@ -1,8 +1,8 @@
 //! What can be read of the contexts.
 
-ghost use Rattle.std.specs.Prelude.{cond, ◌≡◌, ◌<◌, true, is_some, length, option_map};
+ghost use Rattle.std.specs.Prelude.{cond, ◌≡◌, ◌<◌, true, is_some, length};
 ghost use Rattle.fm_ctx.specs.Bags.{holds, hand_of, is_hand_full, cleaning_of};
-ghost use Rattle.fm_ctx.specs.Table.{Context, context_at, link_at};
+ghost use Rattle.fm_ctx.specs.Table.{context_at, link_at, owner_at, kind_at};
 ghost use Rattle.fm_ctx.specs.Kept.{carried_of};
 ghost use Rattle.fm_ctx.specs.declared.count.Count.TheVariants as Count;
 ghost use Rattle.fm_ctx.specs.Counting.{count_reply, was_given, born, cleaned_count, open_of};
@@ -51,7 +51,7 @@ impl Contexts {
 
     /// To whom the context belongs, if it isn't cleaned.
     pub fn owner_of(&self, id: CtxId) -> Option<Owner>
-        ensures { result ≡ option_map (λ (x : Context). x.owner) (context_at self.now.table.slots id) }
+        ensures { result ≡ owner_at self.now.table.slots id }
     {
         let Some(row) = row::named(&self.rows, id) else {
             return None;
@@ -61,12 +61,22 @@ impl Contexts {
 
     /// Of which kind the context is, if it isn't cleaned.
     pub fn kind_of(&self, id: CtxId) -> Option<ContextKind>
-        ensures { result ≡ option_map (λ (x : Context). x.kind) (context_at self.now.table.slots id) }
+        ensures { result ≡ kind_at self.now.table.slots id }
     {
         let Some(row) = row::named(&self.rows, id) else {
             return None;
         };
         Some(row.kind)
+    }
+
+    /// How many references to the context completions carry; none if it is cleaned.
+    pub fn carried(&self, id: CtxId) -> u64
+        ensures { result ≡ carried_of self.now id }
+    {
+        let Some(row) = row::named(&self.rows, id) else {
+            return 0;
+        };
+        row.carried
     }
 
     /// Which context the worker cleans up.

@@ -6,11 +6,14 @@ use Rattle.fm_base.proofs.listing.list_files.Goals as goal
 pub returns-then-not-is_listing_short-clause-tells :
     goal.returns-then-not-is_listing_short-clause-tells
 returns-then-not-is_listing_short-clause-tells c =
-    too_long _ c.if-not-is_listing_short.ensures.ordered (not_within _ _ (λ le. let h : false ≡ true = c.if-not-is_listing_short.ensures.short.1 le in cc))
+    too_long _ c.if-not-is_listing_short.ensures.ordered (not_within _ _
+    (λ le. let h : false ≡ true = c.if-not-is_listing_short.ensures.short.1 le in cc))
 
 pub returns-in_err-lines-clause-last : goal.returns-in_err-lines-clause-last
-returns-in_err-lines-clause-last c = λ _. rw (short_enough c.args.files.now.entries c.if-not-is_listing_short.ensures.ordered (c.if-not-is_listing_short.ensures.short.0 refl)) refl
+returns-in_err-lines-clause-last c = λ _. rw (short_enough c.args.files.now.entries c.if-not-is_listing_short.ensures.ordered
+    (c.if-not-is_listing_short.ensures.short.0 refl)) refl
 
 pub returns-clause-tells : goal.returns-clause-tells
 returns-clause-tells c =
-    short_enough _ c.if-not-is_listing_short.ensures.ordered (c.if-not-is_listing_short.ensures.short.0 refl) ∙ ap Ok (sym c.in_ok-lines.ensures.value ∙ sym c.from_vec.ensures)
+    short_enough _ c.if-not-is_listing_short.ensures.ordered (c.if-not-is_listing_short.ensures.short.0 refl)
+    ∙ ap Ok (sym c.in_ok-lines.ensures.value ∙ sym c.from_vec.ensures)

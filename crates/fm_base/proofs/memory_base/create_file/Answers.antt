@@ -1,4 +1,5 @@
 use Rattle.std.proofs.Common.{refl}
+use Rattle.fm_base.specs.Folders.{created}
 use Rattle.fm_base.proofs.Files.{taken, opened, missing, fresh, makes_or_memory}
 use Rattle.fm_base.proofs.memory_base.create_file.Goals as goal
 
@@ -17,5 +18,8 @@ returns-in-Existing-mode-clause-makes c = (rw c.in-Existing-mode.is (missing c.a
 
 pub returns-in-New-mode : goal.returns-in-New-mode
 returns-in-New-mode c =
-    let exit = makes_or_memory c.args.path.now _ _ _ _ c.add_file.result (fresh c.args.mode c.args.path.now _ c.in-New-mode.is c.if-contains_key.ensures) c.add_file.ensures.ok c.add_file.ensures.err c.add_file.ensures.refused in
+    let wanted = created c.args.mode c.args.path.now in
+    let exit = makes_or_memory c.args.path.now wanted _ _ _ c.add_file.result
+    (fresh c.args.mode c.args.path.now _ c.in-New-mode.is c.if-contains_key.ensures) c.add_file.ensures.ok c.add_file.ensures.err
+    c.add_file.ensures.refused in
     record { makes = exit.0; sound = exit.1; last = exit.2 }

@@ -5,7 +5,8 @@ use Rattle.fm_base.proofs.pages.make_room.Goals as goal
 pub loop-number-preserved : goal.loop-number-preserved
 loop-number-preserved c = record {
   same = λ q place. c.make_page.ensures.same q place ∙ c.loop-number.invariant.same q place;
-  room = room_more c.args.from c.args.end c.loop-number.number c.loop-number.pages c.make_page.new.pages c.loop-number.invariant.room c.make_page.ensures.longer
+  room = room_more c.args.from c.args.end c.loop-number.number c.loop-number.pages c.make_page.new.pages c.loop-number.invariant.room
+      c.make_page.ensures.longer
       (rw (← c.min-len.ensures) c.in_ok-make_page.ensures.ok);
 }
 

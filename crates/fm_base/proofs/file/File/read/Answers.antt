@@ -14,4 +14,5 @@ returns c =
     let pages = c.self.inside.pages in
     let counted : c.min-count.result ≡ min (size - c.args.offset) c.args.len = omega arith in
     c.from_vec.ensures ∙ c.in_ok-copy.ensures ∙ ap (λ (n : ℕ). map (byte_at pages) (range_with_len c.args.offset n)) counted
-    ∙ read_run size c.args.offset c.args.len pages c.self.invariant.zeros ∙ ap (λ (bytes : List ℕ). take c.args.len (drop c.args.offset bytes)) c.self.view_is
+    ∙ read_run size c.args.offset c.args.len pages c.self.invariant.zeros
+    ∙ ap (λ (bytes : List ℕ). take c.args.len (drop c.args.offset bytes)) c.self.view_is

@@ -10,7 +10,8 @@ pub returns : goal.returns
 returns c = elim c.if-size-self.branch [
   | then-size-self w ↦
       ap (λ (file : Inside). contents c.args.size file.pages) w.self-inside-is
-      ∙ cut_contents c.self.inside.size c.args.size c.self.inside.pages w.cut.new.pages c.self.invariant.zeros w.cut.ensures ∙ ap (resized c.args.size) c.self.view_is
+      ∙ cut_contents c.self.inside.size c.args.size c.self.inside.pages w.cut.new.pages c.self.invariant.zeros w.cut.ensures
+      ∙ ap (resized c.args.size) c.self.view_is
   | else-size-self w ↦
       ap (λ (file : Inside). contents c.args.size file.pages) w.self-inside-is
       ∙ grown_contents c.self.inside.size c.args.size c.self.inside.pages c.self.invariant.zeros ∙ ap (resized c.args.size) c.self.view_is

@@ -11,5 +11,6 @@ returns-clause-ok c =
     let bytes = c.args.bytes.now in
     let long : c.max-self-inside.result ≡ max size (c.args.offset + length bytes) = omega arith in
     ap (λ (n : ℕ). contents n c.overwrite.new.pages) long
-    ∙ written_file size c.args.offset bytes c.self.inside.pages c.make_room.new.pages c.overwrite.new.pages c.if-is_empty.ensures c.self.invariant.zeros c.make_room.ensures.same c.overwrite.ensures
+    ∙ written_file size c.args.offset bytes c.self.inside.pages c.make_room.new.pages c.overwrite.new.pages c.if-is_empty.ensures
+    c.self.invariant.zeros c.make_room.ensures.same c.overwrite.ensures
     ∙ ap (written c.args.offset bytes) c.self.view_is

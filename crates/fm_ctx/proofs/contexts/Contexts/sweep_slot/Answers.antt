@@ -4,7 +4,7 @@ use Rattle.std.proofs.lemmas.List.{length-map}
 use Rattle.fm_ctx.specs.Table.{ContextTable, link_at}
 use Rattle.fm_ctx.specs.Kept.{ContextsKept, carried_of}
 use Rattle.fm_ctx.specs.Links.{id_at}
-use Rattle.fm_ctx.specs.Settling.{passes, link_test, context_of_slot}
+use Rattle.fm_ctx.specs.Sweep.{passes, link_test, context_of_slot}
 use Rattle.fm_ctx.specs.Rows.{slot_of}
 use Rattle.fm_ctx.proofs.Rows.{first_id, id_at-rows}
 use Rattle.fm_ctx.proofs.Sweeping.{slot_shown, slot_linked, swept_then, swept_else}

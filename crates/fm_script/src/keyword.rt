@@ -41,7 +41,9 @@ impl Keyword {
     pub fn read(word: &[u8]) -> Option<Keyword>
         ensures { result ≡ keyword_read word.now }
     {
-        ALL.iter().copied().find(|keyword| keyword.spelling() == word)
+        ALL.iter()
+            .copied()
+            .find(|keyword| keyword.spelling() == word)
     }
 
     // How a line spells it.

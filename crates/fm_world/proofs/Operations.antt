@@ -232,9 +232,13 @@ leads_pre s k o r i None workers stack e none lies h = leads_nowhere s k o r (Er
 leads_pre s k o r i (Some p) workers stack e none lies h = record {
   among = among_visits s r.volume r.born r.operation r.entries r.stage PreRunning
       (record { instance = i; worker = k; state = pre.Running; place = length r.kept }) stack none (λ x. absurd (pre_is_not_base x)) lies.0 h;
-  how = inr (place.Pre o i, refl, matches_idle o r.stage r.entries (ap is_running e),
-      subst (Matches o (place.Pre o i)) (sym (ap (option_map AtPre) (visit_last r.entries (record { instance = i; worker = k; state = pre.Running; place = length r.kept })))) (matches_pre o i),
-      λ j. refl);
+  how = inr (
+    place.Pre o i,
+    refl,
+    matches_idle o r.stage r.entries (ap is_running e),
+    subst (Matches o (place.Pre o i)) (sym (ap (option_map AtPre) (visit_last r.entries (record { instance = i; worker = k; state = pre.Running; place = length r.kept })))) (matches_pre o i),
+    λ j. refl,
+  );
 }
   where
     pre_is_not_base : PreRunning ≡ InBase → ⊥
@@ -275,9 +279,14 @@ leads_post s k o r u ask None workers e same kept h = record { among = h; how = 
 leads_post s k o r u ask (Some p) workers e same kept h = record {
   among = among_other s u.volume u.born u.operation u.entries u.stage PostRunning
       (Post (record { instance = ask.instance; worker = k; state = post.Running })) refl refl (λ x. absurd (post_is_not_base x)) h;
-  how = inr (place.Post o ask.instance, refl, matches_idle o r.stage r.entries (ap is_running e),
-      subst (Matches o (place.Post o ask.instance)) (sym (ap (option_map AtPost) (post_last u.entries (record { instance = ask.instance; worker = k; state = post.Running }))))
-      (matches_post o ask.instance), λ j. refl);
+  how = inr (
+    place.Post o ask.instance,
+    refl,
+    matches_idle o r.stage r.entries (ap is_running e),
+    subst (Matches o (place.Post o ask.instance)) (sym (ap (option_map AtPost) (post_last u.entries (record { instance = ask.instance; worker = k; state = post.Running }))))
+        (matches_post o ask.instance),
+    λ j. refl,
+  );
 }
   where
     post_is_not_base : PostRunning ≡ InBase → ⊥

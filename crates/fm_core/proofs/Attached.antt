@@ -1,5 +1,5 @@
 -- The events on filters, volumes and instances, from what their parts did.
-use Rattle.std.proofs.Common.{◌≡◌, ℕ, Bool, true, false, List, Option, Some, None, Result, Err, refl, ap, sym, ◌∙◌, subst}
+use Rattle.std.proofs.Common.{◌≡◌, ℕ, Bool, true, false, List, map, Option, Some, None, is_some, option_map, Result, Ok, Err, refl, ap, sym, ◌∙◌, subst}
 use Rattle.std.proofs.lemmas.Option.{none-some, same_Some}
 use Rattle.fm_types.specs.declared.ids.FilterId.{FilterId}
 use Rattle.fm_types.specs.declared.ids.VolumeId.{VolumeId}
@@ -13,10 +13,28 @@ use Rattle.fm_stack.specs.StackWorld.{StackWorld}
 use Rattle.fm_stack.specs.Events as stack
 use Rattle.fm_world.specs.declared.worker.Worker.{Worker}
 use Rattle.fm_world.specs.declared.worker.Worker.TheVariants as place
-use Rattle.fm_world.specs.World.{World}
+use Rattle.fm_world.specs.World.{World, carries}
 use Rattle.fm_world.specs.Workers.{worker_at, put, is_idle, after_attach}
-use Rattle.fm_world.specs.Events.{Attaches, SetsUp, SetsUpAt, Unless}
+use Rattle.fm_world.specs.Events.{Attaches, SetsUp, SetsUpAt, EmptiesUnless, Unless}
+use Rattle.fm_types.specs.declared.ids.CtxId.{CtxId}
+use Rattle.fm_flow.specs.Table.{FlowTable}
+use Rattle.fm_ctx.specs.declared.owner.Owner.TheVariants as owner
+use Rattle.fm_ctx.specs.Kept.{ContextsKept, carried_of}
+use Rattle.fm_ctx.specs.Settling.{Leaves, is_linked_of, swept, swept_slot}
+use Rattle.fm_ctx.specs.Table.{Context, Slot, context_at}
+use Rattle.fm_ctx.proofs.Alike.{leaves_alike, sweeps_alike}
+use Rattle.fm_ctx.proofs.Carried.{carried_there, carried_equal, carried_numbers}
+use Rattle.fm_ctx.proofs.Leaving.{context_at-swept}
+use Rattle.fm_core.specs.Fields.{IsTied}
+use Rattle.fm_core.specs.Hands.{SweepsUnless}
 use Rattle.fm_core.specs.Places.{setup_of}
+
+there_swept : (test : Context → Bool) (slots : List Slot) (c : CtxId) → is_some (context_at (map (swept_slot test) slots) c) ≡ is_some (context_at slots c)
+there_swept test slots c = ap is_some (context_at-swept test slots c) ∙ mapped (context_at slots c)
+  where
+    mapped : (o : Option Context) → is_some (option_map (swept test) o) ≡ is_some o
+    mapped None = refl
+    mapped (Some x) = refl
 
 pub attaches : (old : World) (k : WorkerId) (f : FilterId) (v : VolumeId) (name altitude : List ℕ) (result : Result InstanceId Status) (t : StackWorld) (ws : List Worker)
     → is_idle (worker_at old.workers k) ≡ true → stack.Attaches old.stack f v name altitude result t → ws ≡ after_attach old.workers k result
@@ -37,12 +55,39 @@ attach_refused old k f v name altitude busy =
     (stack.Attaches old.stack f v name altitude result old.stack × (old ≡ record old { stack = old.stack; workers = after_attach old.workers k result })))
     (sym busy) (refl, refl)
 
-pub sets_up : (old : World) (k : WorkerId) (i : InstanceId) (accept : Bool) (result : Result (Unit {0}) Status) (t : StackWorld) (ws : List Worker)
+pub sets_up : (old : World) (k : WorkerId) (i : InstanceId) (accept : Bool) (result : Result (Unit {0}) Status) (t : StackWorld) (ws : List Worker) (kept left after : ContextsKept)
     → worker_at old.workers k ≡ Some (place.Setup i) → stack.SetsUp old.stack i accept result t → ws ≡ put old.workers k place.Idle
-    → SetsUp old k accept result (record old { stack = t; workers = ws })
+    → old.contexts ≡ kept.table → Leaves (carried_of kept) kept.table left.table k.0 → left.carried ≡ kept.carried → SweepsUnless result i left after → IsTied kept old.flow
+    → SetsUp old k accept result (record old { stack = t; workers = ws; contexts = after.table })
 unfolding SetsUp
-sets_up old k i accept result t ws at event workers =
-    subst (SetsUpAt old k accept result (record old { stack = t; workers = ws })) (sym at) (event, ap (λ x. record old { stack = t; workers = x }) workers)
+sets_up old k i accept result t ws kept left after at event workers contexts leaves carried empties tied =
+    let tied_left : IsTied left old.flow = λ c. carried_equal left kept leaves.slots carried c ∙ tied c in
+    subst (SetsUpAt old k accept result (record old { stack = t; workers = ws; contexts = after.table })) (sym at) (
+      event,
+      left.table,
+      subst (λ x. Leaves (carries old) x left.table k.0) (sym contexts) (leaves_alike tied leaves),
+      emptied result empties tied_left,
+      ap (λ x. record old { stack = t; workers = x; contexts = after.table }) workers,
+    )
+  where
+    emptied : (r : Result (Unit {0}) Status) → SweepsUnless r i left after → IsTied left old.flow → EmptiesUnless r i old left.table after.table
+    emptied (Ok done) e tied_left = ap (λ (x : ContextsKept). x.table) e
+    emptied (Err why) e tied_left = sweeps_alike tied_left e.sweeps
+
+-- a callback's end and a sweep take nothing from completions
+pub setup_tied : (kept left after : ContextsKept) (i : InstanceId) (w : ℕ) (result : Result (Unit {0}) Status) (f : FlowTable)
+    → Leaves (carried_of kept) kept.table left.table w → left.carried ≡ kept.carried → SweepsUnless result i left after → IsTied kept f → IsTied after f
+setup_tied kept left after i w result f leaves carried empties tied = swept_tied result empties
+  where
+    tied_left : IsTied left f
+    tied_left c = carried_equal left kept leaves.slots carried c ∙ tied c
+
+    swept_tied : (r : Result (Unit {0}) Status) → SweepsUnless r i left after → IsTied after f
+    swept_tied (Ok done) e = subst (λ x. IsTied x f) (sym e) tied_left
+    swept_tied (Err why) e = λ c.
+        sym (carried_numbers left after e.carried c)
+        ∙ sym (carried_there left after.table (λ d. ap (λ (slots : List Slot). is_some (context_at slots d)) e.sweeps.slots ∙ there_swept (is_linked_of (owner.Instance i)) left.table.slots d) c)
+        ∙ tied_left c
 
 -- a place that is the setup callback of an instance, or isn't
 pub setup_is : (m : Option Worker) (i : InstanceId) → setup_of m ≡ Some i → m ≡ Some (place.Setup i)
@@ -52,6 +97,7 @@ setup_is (Some (place.Pre o j)) i h = absurd (none-some i h)
 setup_is (Some (place.Base o)) i h = absurd (none-some i h)
 setup_is (Some (place.Post o j)) i h = absurd (none-some i h)
 setup_is (Some (place.Drain o j)) i h = absurd (none-some i h)
+setup_is (Some (place.Cleanup c)) i h = absurd (none-some i h)
 setup_is None i h = absurd (none-some i h)
 
 setup_refused_at : (old : World) (k : WorkerId) (accept : Bool) (m : Option Worker) → setup_of m ≡ None → SetsUpAt old k accept (Err status.WrongStep) old m
@@ -61,6 +107,7 @@ setup_refused_at old k accept (Some (place.Pre o i)) h = (refl, refl)
 setup_refused_at old k accept (Some (place.Base o)) h = (refl, refl)
 setup_refused_at old k accept (Some (place.Post o i)) h = (refl, refl)
 setup_refused_at old k accept (Some (place.Drain o i)) h = (refl, refl)
+setup_refused_at old k accept (Some (place.Cleanup c)) h = (refl, refl)
 setup_refused_at old k accept None h = (refl, refl)
 
 pub setup_refused : (old : World) (k : WorkerId) (accept : Bool) → setup_of (worker_at old.workers k) ≡ None → SetsUp old k accept (Err status.WrongStep) old

@@ -1,3 +1,7 @@
 pub mod Changes
 pub mod Attached
 pub mod Operated
+pub mod Holding
+pub mod Called
+pub mod Linked
+pub mod Cleaned

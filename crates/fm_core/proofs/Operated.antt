@@ -1,5 +1,5 @@
 -- The events on operations, from what their parts did.
-use Rattle.std.proofs.Common.{◌≡◌, ℕ, zero, suc, ◌<◌, ◌==◌, ◌&&◌, arith, Bool, true, false, cond, not, List, [], ◌∷◌, Option, Some, None, Result, Ok, Err, refl, ap, sym, ◌∙◌, subst, inl, inr, ◌⊎◌, nat_le, nat_eq, length}
+use Rattle.std.proofs.Common.{◌≡◌, ℕ, zero, suc, ◌+◌, ◌<◌, ◌==◌, ◌&&◌, arith, Bool, true, false, cond, not, List, [], ◌∷◌, Option, Some, None, Result, Ok, Err, refl, ap, sym, ◌∙◌, subst, inl, inr, ◌⊎◌, nat_le, nat_eq, length}
 use Rattle.std.specs.Prelude.{option_map, unwrap_or, slice_get, is_ok, is_some, IfErr}
 use Rattle.std.proofs.lemmas.Bool.{cases_Bool, false≢true, eq-eqb, and_from, lt-leb, leb-false}
 use Rattle.std.proofs.lemmas.Option.{none-some, same_Some, slice_get_within}
@@ -7,6 +7,7 @@ use Rattle.fm_types.specs.declared.ids.InstanceId.{InstanceId}
 use Rattle.fm_types.specs.declared.ids.OpId.{OpId}
 use Rattle.fm_types.specs.declared.ids.VolumeId.{VolumeId}
 use Rattle.fm_types.specs.declared.ids.WorkerId.{WorkerId}
+use Rattle.fm_types.specs.declared.ids.CtxId.{CtxId}
 use Rattle.fm_types.specs.declared.status.Status.{Status}
 use Rattle.fm_types.specs.declared.status.Status.TheVariants as status
 use Rattle.fm_data.specs.declared.params.Params.{Params}
@@ -29,22 +30,37 @@ use Rattle.fm_flow.specs.declared.entry.Entry.{Entry}
 use Rattle.fm_flow.specs.Record.{FlowRecord}
 use Rattle.fm_flow.specs.Steps.{next_of, pre_returned_of, pre_after, base_returned_of, base_after, base_reply, base_fits, post_returned_of, post_after, data_reply, drain_returned_of, MayLieBelow}
 use Rattle.fm_flow.specs.Verdict.{is_counted}
-use Rattle.fm_flow.specs.Table.{FlowTable, operation_at, changed, told, is_number, StandsAt, MayLieBelowOf, is_full, begun, collect_reply, collected_of}
+use Rattle.fm_flow.specs.Table.{FlowTable, operation_at, changed, told, is_number, StandsAt, MayLieBelowOf, is_full, begun, begun_record, carried, collect_reply, collected_of}
 use Rattle.fm_world.specs.declared.step.Begin.TheVariants as begin
 use Rattle.fm_world.specs.declared.refused.Refused.{Refused}
 use Rattle.fm_world.specs.declared.worker.Worker.{Worker}
 use Rattle.fm_world.specs.declared.worker.Worker.TheVariants as place
-use Rattle.fm_world.specs.World.{World}
+use Rattle.fm_world.specs.World.{World, carries}
 use Rattle.fm_world.specs.Workers.{worker_at, put, is_idle, after_next}
-use Rattle.fm_world.specs.Events.{Begins, begin_refusals, begun_flow, Nexts, NextsOver, FindsBelow, Unless, PreReturns, PreReturnsAt, BaseReturns, BaseReturnsAt, PostReturns, PostReturnsAt, Collects, drains_at, state_at, state_given, without_context, has_post, returned}
+use Rattle.fm_world.specs.Events.{Begins, begin_refusals, begun_flow, Nexts, NextsOver, FindsBelow, Unless, PreReturns, PreReturnsAt, BaseReturns, BaseReturnsAt, PostReturns, PostReturnsAt, Collects, drains_at, received, ReturnsFrom, sent, sent_in, of_hand, carries_after, state_at, state_given, has_post, returned}
 use Rattle.fm_world.specs.Headline.{Spot, AtPre, AtBase, AtPost, AtDrain, is_in_at, is_spot, spot_at}
 use Rattle.fm_world.specs.Sound.{IsSound, IsAmong}
 use Rattle.fm_flow.proofs.Tables.{found_holds}
 use Rattle.fm_core.proofs.Changes.{change_agrees, change_same}
 use Rattle.fm_world.proofs.Ties.{tied_there, spot_pre, spot_base, spot_post, spot_drain}
 use Rattle.fm_world.proofs.Ties.{counted_from}
-use Rattle.fm_world.proofs.Operations.{may_visit, counted_quiet, told_there}
+use Rattle.fm_world.proofs.Operations.{may_visit, counted_quiet, told_there, unchanged_flow}
+use Rattle.fm_ctx.specs.Bags.{hand_of, holds}
+use Rattle.fm_ctx.specs.Kept.{ContextsKept}
+use Rattle.fm_ctx.specs.Settling.{Leaves}
+use Rattle.fm_ctx.specs.Table.{ContextTable}
+use Rattle.fm_ctx.specs.Laws.{IsLawful}
+use Rattle.fm_ctx.proofs.Moves.{within_hands}
+use Rattle.fm_ctx.proofs.Alike.{leaves_alike}
+use Rattle.fm_world.proofs.Flowing.{total_push, next_balance, collect_balance, pre_balance, post_balance, drain_balance, sent_is_held}
+use Rattle.fm_world.proofs.Owning.{empty_hand}
+use Rattle.fm_flow.proofs.Balances.{base_returned_carries, total_changed}
+use Rattle.fm_flow.specs.Counts.{carried_by, handed}
+use Rattle.fm_core.proofs.Holding.{returns_with, ends_leaves, tied_ends, may_bring, tied_brought, handed_balance, may_send, tied_sent}
+use Rattle.fm_core.specs.Fields.{IsTied}
+use Rattle.fm_core.specs.Hands.{back_in, MayBring, MaySend, kept_brought, kept_sent, Ends, EndsWhere}
 use Rattle.fm_core.specs.Ahead.{IsDownOrCall}
+use Rattle.fm_core.specs.Ahead as ahead
 use Rattle.fm_core.specs.Places.{pre_of, base_of, post_of, drain_of}
 use Rattle.fm_core.specs.Returned.{after_return, strange, strange_data, status_of}
 
@@ -55,7 +71,7 @@ next_requires_at : (old : World) (o : OpId) (lies : Below) (m : Option FlowRecor
 next_requires_at old o lies None at s finds down = tt
 next_requires_at old o lies (Some r) at s finds down =
     elim down [
-      | inl e ↦ may_visit old.stack r lies (found_holds (IsAmong old.stack) (is_number o) old.flow.operations r s.among at) (finds e)
+      | inl e ↦ may_visit old.stack r lies (found_holds (IsAmong old.stack) (is_number o) old.flow.operations r s.under_way.among at) (finds e)
       | inr e ↦ subst (λ b. MayLieBelow b r.entries) (sym e) tt
     ]
 
@@ -63,22 +79,91 @@ pub next_requires : (old : World) (o : OpId) (lies : Below) → IsSound old → 
     → IsDownOrCall (operation_at o old.flow) lies → MayLieBelowOf lies (operation_at o old.flow)
 next_requires old o lies s finds down = next_requires_at old o lies (operation_at o old.flow) refl s finds down
 
-pub nexts : (old : World) (k : WorkerId) (o : OpId) (lies : Below) (drains : Bool) (result : Result FlowAction Status) (t : FlowTable) (ws : List Worker)
+pub nexts : (old : World) (k : WorkerId) (o : OpId) (lies : Below) (drains : Bool) (result : Result FlowAction Status) (t : FlowTable) (ws : List Worker) (cs : ContextTable)
     → is_idle (worker_at old.workers k) ≡ true → FindsBelow old.stack (operation_at o old.flow) lies → drains ≡ drains_at old o
     → result ≡ told (λ r. (next_of k lies drains r).reply) (Err status.WrongStep) o old.flow
-    → t ≡ changed o (λ r. (next_of k lies drains r).after) old.flow → ws ≡ after_next old.workers k o result
-    → Nexts old k o result (record old { flow = t; workers = ws })
+    → t ≡ changed o (λ r. (next_of k lies drains r).after) old.flow → ws ≡ after_next old.workers k o result → cs ≡ received old.contexts k result
+    → Nexts old k o result (record old { flow = t; workers = ws; contexts = cs })
 unfolding Nexts
-nexts old k o lies drains result t ws idle finds same reply after workers =
-    let new : World = record old { flow = t; workers = ws } in
+nexts old k o lies drains result t ws cs idle finds same reply after workers contexts =
+    let new : World = record old { flow = t; workers = ws; contexts = cs } in
     let answers = subst (λ d. result ≡ told (λ r. (next_of k lies d r).reply) (Err status.WrongStep) o old.flow) same reply in
     let leads = subst (λ d. t ≡ changed o (λ r. (next_of k lies d r).after) old.flow) same after in
-    let whole : new ≡ record old { flow = changed o (λ r. (next_of k lies (drains_at old o) r).after) old.flow; workers = after_next old.workers k o result } =
-    ap (λ x. record old { flow = x; workers = ws }) leads
-    ∙ ap (λ x. record old { flow = changed o (λ r. (next_of k lies (drains_at old o) r).after) old.flow; workers = x }) workers in
+    let f = λ (r : FlowRecord). (next_of k lies (drains_at old o) r).after in
+    let whole : new ≡ record old { flow = changed o f old.flow; workers = after_next old.workers k o result; contexts = received old.contexts k result } =
+    ap (λ x. record old { flow = x; workers = ws; contexts = cs }) leads
+    ∙ ap (λ x. record old { flow = changed o f old.flow; workers = x; contexts = cs }) workers
+    ∙ ap (λ x. record old { flow = changed o f old.flow; workers = after_next old.workers k o result; contexts = x }) contexts in
     subst (λ b. Unless status.WrongStep b result old new
     ((lies : Below) × FindsBelow old.stack (operation_at o old.flow) lies × NextsOver old k o lies result new)) (sym idle)
     (lies, finds, (answers, whole))
+
+-- what `next` hands out, by what it answers
+pub next_carried : (old : World) (k : WorkerId) (o : OpId) (lies : Below) (drains : Bool) (result : Result FlowAction Status) (t : FlowTable) (m : Option FlowRecord)
+    → operation_at o old.flow ≡ m → IsSound old → FindsBelow old.stack m lies
+    → result ≡ told (λ r. (next_of k lies drains r).reply) (Err status.WrongStep) o old.flow → t ≡ changed o (λ r. (next_of k lies drains r).after) old.flow
+    → (c : CtxId) → carried c old.flow ≡ carried c t + handed c result
+next_carried old k o lies drains result t None at s finds reply after c =
+    let f = λ (x : FlowRecord). (next_of k lies drains x).after in
+    let e : result ≡ Err status.WrongStep =
+    reply ∙ ap (λ m. unwrap_or (option_map (λ (x : FlowRecord). (next_of k lies drains x).reply) m) (Err status.WrongStep)) at in
+    let same : t ≡ old.flow = after ∙ unchanged_flow old.flow o f at in
+    let here = ap (λ (x : FlowTable). carried c x) same in
+    let none = ap (handed c) e in
+    omega (arith, here, none)
+next_carried old k o lies drains result t (Some r) at s finds reply after c =
+    let e : result ≡ (next_of k lies drains r).reply =
+    reply ∙ ap (λ m. unwrap_or (option_map (λ (x : FlowRecord). (next_of k lies drains x).reply) m) (Err status.WrongStep)) at in
+    let balance = next_balance old o k lies drains r at finds s c in
+    let here = ap (λ (x : FlowTable). carried c x) after in
+    let out = ap (handed c) e in
+    omega (arith, balance, here, out)
+
+pub next_brings : (old : World) (k : WorkerId) (o : OpId) (lies : Below) (drains : Bool) (result : Result FlowAction Status) (t : FlowTable) (kept : ContextsKept)
+    → worker_at old.workers k ≡ Some place.Idle → IsSound old → FindsBelow old.stack (operation_at o old.flow) lies
+    → result ≡ told (λ r. (next_of k lies drains r).reply) (Err status.WrongStep) o old.flow → t ≡ changed o (λ r. (next_of k lies drains r).after) old.flow
+    → old.contexts ≡ kept.table → IsTied kept old.flow → MayBring kept k.0 (back_in result)
+next_brings old k o lies drains result t kept idle s finds reply after contexts tied =
+    may_bring kept k (back_in result) old.flow t (subst (λ n. k.0 < n) s.under_way.hands (slice_get_within old.workers k.0 place.Idle idle))
+    (sym (ap (λ (x : ContextTable). hand_of x.hands k.0) contexts) ∙ empty_hand old k place.Idle idle refl s.owned)
+    (handed_balance old.flow t result (next_carried old k o lies drains result t (operation_at o old.flow) refl s finds reply after)) tied
+
+pub next_tied : (old : World) (k : WorkerId) (o : OpId) (lies : Below) (drains : Bool) (result : Result FlowAction Status) (t : FlowTable) (kept after' : ContextsKept)
+    → IsSound old → FindsBelow old.stack (operation_at o old.flow) lies
+    → result ≡ told (λ r. (next_of k lies drains r).reply) (Err status.WrongStep) o old.flow → t ≡ changed o (λ r. (next_of k lies drains r).after) old.flow
+    → length kept.carried ≡ length kept.table.slots → after' ≡ kept_brought kept k.0 (back_in result) → IsTied kept old.flow → IsTied after' t
+next_tied old k o lies drains result t kept after' s finds reply after matched brought' tied =
+    subst (λ x. IsTied x t) (sym brought')
+    (tied_brought kept k (back_in result) old.flow t matched
+    (handed_balance old.flow t result (next_carried old k o lies drains result t (operation_at o old.flow) refl s finds reply after)) tied)
+
+-- ---- operations begin, are answered by the base and collected: nothing is carried otherwise
+
+pub begin_tied : (kept : ContextsKept) (v : VolumeId) (result : Result OpId Status) (f g : FlowTable) (b : ℕ)
+    → AnswersOrMemory (first_of ((is_full f, status.TooMany) ∷ [])) result f g (λ (o : OpId). (o.0 ≡ f.next) × (g ≡ begun v None None b params.List f)) → IsTied kept f → IsTied kept g
+begin_tied kept v (Err why) f g b h tied = subst (IsTied kept) (sym h.1) tied
+begin_tied kept v (Ok o) f g b h tied =
+    subst (IsTied kept) (sym h.1.1) (λ c. tied c ∙ sym (total_push (carried_by c) f.operations (begun_record f.next v None None b params.List) refl))
+
+base_same : (call : Params) (given : Answer) (r : FlowRecord) (c : CtxId) → carried_by c (base_after call given r) ≡ carried_by c r
+base_same call given r c = by_fit (base_fits call given r)
+  where
+    by_fit : (b : Bool) → carried_by c (cond b (base_returned_of call given r) r) ≡ carried_by c r
+    by_fit true = base_returned_carries c call given r
+    by_fit false = refl
+
+pub base_tied : (kept : ContextsKept) (o : OpId) (call : Params) (given : Answer) (f g : FlowTable) → g ≡ changed o (base_after call given) f → IsTied kept f → IsTied kept g
+base_tied kept o call given f g e tied = subst (IsTied kept) (sym e) (λ c. tied c ∙ by_record (operation_at o f) refl c)
+  where
+    by_record : (m : Option FlowRecord) → operation_at o f ≡ m → (c : CtxId) → carried c f ≡ carried c (changed o (base_after call given) f)
+    by_record None at c = ap (λ (x : FlowTable). carried c x) (sym (unchanged_flow f o (base_after call given) at))
+    by_record (Some r) at c =
+        let k = total_changed (carried_by c) (is_number o) (base_after call given) f.operations r at in
+        let same = base_same call given r c in
+        omega (arith, k, same)
+
+pub collect_tied : (kept : ContextsKept) (o : OpId) (f g : FlowTable) → g ≡ collected_of o f → IsTied kept f → IsTied kept g
+collect_tied kept o f g e tied = subst (IsTied kept) (sym e) (λ c. tied c ∙ collect_balance f o (operation_at o f) refl c)
 
 pub next_refused : (old : World) (k : WorkerId) (o : OpId) → is_idle (worker_at old.workers k) ≡ false → Nexts old k o (Err status.WrongStep) old
 unfolding Nexts
@@ -96,6 +181,7 @@ pre_is (Some (place.Setup i)) p h = absurd (none-some p h)
 pre_is (Some (place.Base o)) p h = absurd (none-some p h)
 pre_is (Some (place.Post o i)) p h = absurd (none-some p h)
 pre_is (Some (place.Drain o i)) p h = absurd (none-some p h)
+pre_is (Some (place.Cleanup c)) p h = absurd (none-some p h)
 pre_is None p h = absurd (none-some p h)
 
 pub base_is : (m : Option Worker) (o : OpId) → base_of m ≡ Some o → m ≡ Some (place.Base o)
@@ -105,6 +191,7 @@ base_is (Some (place.Setup i)) p h = absurd (none-some p h)
 base_is (Some (place.Pre o i)) p h = absurd (none-some p h)
 base_is (Some (place.Post o i)) p h = absurd (none-some p h)
 base_is (Some (place.Drain o i)) p h = absurd (none-some p h)
+base_is (Some (place.Cleanup c)) p h = absurd (none-some p h)
 base_is None p h = absurd (none-some p h)
 
 pub post_is : (m : Option Worker) (p : OpId × InstanceId) → post_of m ≡ Some p → m ≡ Some (place.Post p.0 p.1)
@@ -114,6 +201,7 @@ post_is (Some (place.Setup i)) p h = absurd (none-some p h)
 post_is (Some (place.Base o)) p h = absurd (none-some p h)
 post_is (Some (place.Pre o i)) p h = absurd (none-some p h)
 post_is (Some (place.Drain o i)) p h = absurd (none-some p h)
+post_is (Some (place.Cleanup c)) p h = absurd (none-some p h)
 post_is None p h = absurd (none-some p h)
 
 pub drain_is : (m : Option Worker) (p : OpId × InstanceId) → drain_of m ≡ Some p → m ≡ Some (place.Drain p.0 p.1)
@@ -123,6 +211,7 @@ drain_is (Some (place.Setup i)) p h = absurd (none-some p h)
 drain_is (Some (place.Base o)) p h = absurd (none-some p h)
 drain_is (Some (place.Pre o i)) p h = absurd (none-some p h)
 drain_is (Some (place.Post o i)) p h = absurd (none-some p h)
+drain_is (Some (place.Cleanup c)) p h = absurd (none-some p h)
 drain_is None p h = absurd (none-some p h)
 
 -- the operation that a worker is inside of stands so
@@ -130,7 +219,7 @@ stands_in : (old : World) (k : WorkerId) (a : Worker) (o : OpId) (s : Spot) (wan
     → is_in_at o s a ≡ true → ((stage : Stage) (entries : List Entry) → is_spot s (spot_at stage entries) ≡ true → stage ≡ wanted)
     → (r : FlowRecord) × (operation_at o old.flow ≡ Some r) × (r.stage ≡ wanted)
 stands_in old k a o s wanted sound at inside is =
-    let there = tied_there old.workers old.flow k a o s sound.workers at inside in
+    let there = tied_there old.workers old.flow k a o s sound.under_way.workers at inside in
     (there.0, there.1, is there.0.stage there.0.entries there.2)
 
 both : (o : OpId) (i : InstanceId) → ((o.0 == o.0) && (i.0 == i.0)) ≡ true
@@ -155,12 +244,13 @@ in_drain old k o i s at = stands_in old k (place.Drain o i) o (AtDrain i.0) (InD
 pub stands_from : (o : OpId) (t : FlowTable) (wanted : Stage) → (r : FlowRecord) × (operation_at o t ≡ Some r) × (r.stage ≡ wanted) → StandsAt wanted (operation_at o t)
 stands_from o t wanted h = subst (StandsAt wanted) (sym h.1) h.2
 
-pub state_counted : (old : World) (o : OpId) (i : InstanceId) (given : PreVerdict) → (r : FlowRecord) × (operation_at o old.flow ≡ Some r) × (r.stage ≡ PreRunning)
-    → is_counted (state_at old o i given) ≡ true
-state_counted old o i given h =
-    ap is_counted (told_there (state_given old.stack i given) pre.Passed o old.flow h.0 h.1)
-    ∙ counted_from (state_given old.stack i given h.0)
-    (counted_quiet (without_context given) h.0.operation (has_post old.stack (slice_get old.stack.instances i.0) h.0.operation))
+pub state_counted : (old : World) (k : WorkerId) (o : OpId) (i : InstanceId) (given : PreVerdict) → (r : FlowRecord) × (operation_at o old.flow ≡ Some r) × (r.stage ≡ PreRunning)
+    → is_counted (state_at old k o i given) ≡ true
+state_counted old k o i given h =
+    let hand = hand_of old.contexts.hands k.0 in
+    ap is_counted (told_there (state_given old.stack hand i given) pre.Passed o old.flow h.0 h.1)
+    ∙ counted_from (state_given old.stack hand i given h.0)
+    (counted_quiet (of_hand hand given) h.0.operation (has_post old.stack (slice_get old.stack.instances i.0) h.0.operation))
 
 -- ---- something comes back: what fits is taken, what is strange is refused
 
@@ -234,16 +324,111 @@ same_status : (answer : Result (Unit {0}) Data) → status_of (strange answer) �
 same_status (Ok done) = refl
 same_status (Err x) = refl
 
+-- whether a callback returned, by its answer
+ok_is : {T : Type 0} (answer : Result (Unit {0}) T) → status_of (strange answer) ≡ Ok tt → is_ok answer ≡ true
+ok_is (Ok done) h = refl
+ok_is (Err x) h = absurd (err_is_not h)
+  where
+    err_is_not : ◌≡◌ {A = Result (Unit {0}) Status} (Err status.BadRequest) (Ok tt) → ⊥
+    err_is_not h = cc
+
+err_is : {T : Type 0} (answer : Result (Unit {0}) T) → status_of (strange answer) ≡ Err status.BadRequest → is_ok answer ≡ false
+err_is (Err x) h = refl
+err_is (Ok done) h = absurd (ok_is_not h)
+  where
+    ok_is_not : ◌≡◌ {A = Result (Unit {0}) Status} (Ok tt) (Err status.BadRequest) → ⊥
+    ok_is_not h = cc
+
+-- the contexts after a callback's end, by its answer
+pub ends_where : (old : World) (k : WorkerId) (o : OpId) (step : FlowRecord → FlowRecord) (kept after : ContextsKept) (m : Option CtxId) (answer : Result (Unit {0}) Data) (new : World)
+    (b : Bool) → old.contexts ≡ kept.table
+    → Unless status.BadRequest b (status_of (strange answer)) old new ((status_of (strange answer) ≡ Ok tt) × (new ≡ returned old k o step))
+    → EndsWhere (is_ok answer) kept m after k.0 → IsTied (kept_sent kept k.0 m) (changed o step old.flow)
+    → Unless status.BadRequest b (status_of (strange answer)) old (record new { contexts = after.table })
+    ((status_of (strange answer) ≡ Ok tt) × ReturnsFrom old k o step (sent old.contexts k m) (record new { contexts = after.table }))
+ends_where old k o step kept after m answer new b same h ends tied =
+    returns_with old k o step (sent old.contexts k m) after.table (status_of (strange answer)) new b h
+    (λ ok. subst (λ t. Leaves (carries_after old o step) (sent t k m) after.table k.0) (sym same)
+    (ends_leaves kept after k m (changed o step old.flow) (subst (λ x. EndsWhere x kept m after k.0) (ok_is answer ok) ends) tied))
+    (λ err. ap (λ (x : ContextsKept). x.table) (subst (λ x. EndsWhere x kept m after k.0) (err_is answer err) ends) ∙ sym same)
+
+-- and what they say of completions
+pub ends_tied : (t : FlowTable) (k : WorkerId) (o : OpId) (step : FlowRecord → FlowRecord) (kept after : ContextsKept) (m : Option CtxId) (answer : Result (Unit {0}) Data)
+    (f : FlowTable) → (is_ok answer ≡ true → f ≡ changed o step t) → (is_ok answer ≡ false → f ≡ t) → EndsWhere (is_ok answer) kept m after k.0
+    → IsTied (kept_sent kept k.0 m) (changed o step t) → IsTied kept t → IsTied after f
+ends_tied t k o step kept after m (Ok done) f changed' same ends sent tied = subst (IsTied after) (sym (changed' refl)) (tied_ends (kept_sent kept k.0 m) after k.0 (changed o step t) ends sent)
+ends_tied t k o step kept after m (Err x) f changed' same ends sent tied = subst (IsTied after) (sym (same refl)) (subst (λ y. IsTied y t) (sym ends) tied)
+
+-- what comes of the flow, by the answer
+flow_ok : {T : Type 0} (t : FlowTable) (o : OpId) (r : FlowRecord) (fits : FlowRecord → Bool) (step : FlowRecord → FlowRecord) (lent : T) (answer : Result (Unit {0}) T) (f : FlowTable)
+    → operation_at o t ≡ Some r → answer ≡ told (λ x. cond (fits x) (Ok tt) (Err lent)) (Err lent) o t → f ≡ changed o (λ x. cond (fits x) (step x) x) t
+    → (is_ok answer ≡ true → f ≡ changed o step t) × (is_ok answer ≡ false → f ≡ t)
+flow_ok t o r fits step lent answer f at reply after = by_fit (fits r) refl
+  where
+    is : answer ≡ cond (fits r) (Ok tt) (Err lent)
+    is = reply ∙ told_there (λ x. cond (fits x) (Ok tt) (Err lent)) (Err lent) o t r at
+
+    by_fit : (b : Bool) → fits r ≡ b → (is_ok answer ≡ true → f ≡ changed o step t) × (is_ok answer ≡ false → f ≡ t)
+    by_fit true e = (
+      (λ ok. after ∙ guarded t o r fits step true at e),
+      (λ no'. absurd (false≢true (sym no' ∙ ap is_ok (is ∙ ap (λ b. cond b (Ok tt) (Err lent)) e)))),
+    )
+    by_fit false e = (
+      (λ ok. absurd (false≢true (sym (ap is_ok (is ∙ ap (λ b. cond b (Ok tt) (Err lent)) e)) ∙ ok))),
+      (λ no'. after ∙ guarded t o r fits step false at e),
+    )
+
+-- ---- a preoperation's end
+
+pub pre_state : (old : World) (k : WorkerId) (o : OpId) (i : InstanceId) (given counted : PreVerdict) (state : PreState) → counted ≡ of_hand (hand_of old.contexts.hands k.0) given
+    → state ≡ told (ahead.state_counted old.stack i counted) pre.Passed o old.flow → state ≡ state_at old k o i given
+pre_state old k o i given counted state e h = h ∙ ap (λ x. told (ahead.state_counted old.stack i x) pre.Passed o old.flow) e
+
+-- the context that it sends along is in the hand, and few are carried
+pub pre_sends : (old : World) (k : WorkerId) (o : OpId) (i : InstanceId) (given : PreVerdict) (state : PreState) (m : Option CtxId) (kept : ContextsKept)
+    → worker_at old.workers k ≡ Some (place.Pre o i) → IsSound old → state ≡ state_at old k o i given → m ≡ sent_in state → old.contexts ≡ kept.table → IsTied kept old.flow
+    → MaySend kept k.0 m
+pre_sends old k o i given state m kept at s same sends contexts tied =
+    may_send kept k m old.flow s.under_way.flow tied
+    (λ d e. subst (λ (t : ContextTable). holds (hand_of t.hands k.0) d ≡ true) contexts (sent_is_held old k o i given at s.under_way d (sym (sends ∙ ap sent_in same) ∙ e)))
+
+pub pre_sent : (old : World) (k : WorkerId) (o : OpId) (i : InstanceId) (given : PreVerdict) (lent : Data) (state : PreState) (kept : ContextsKept)
+    → worker_at old.workers k ≡ Some (place.Pre o i) → IsSound old → state ≡ state_at old k o i given → old.contexts ≡ kept.table → length kept.carried ≡ length kept.table.slots
+    → IsTied kept old.flow → IsTied (kept_sent kept k.0 (sent_in state)) (changed o (pre_returned_of state lent) old.flow)
+pre_sent old k o i given lent state kept at s same contexts matched tied =
+    tied_sent kept k (sent_in state) old.flow (changed o (pre_returned_of state lent) old.flow) (subst (IsLawful (carries old)) contexts s.owned.lawful) matched
+    (subst (λ (t : ContextTable). k.0 < length t.hands) contexts
+    (within_hands k.0 s.owned.lawful (subst (λ n. k.0 < n) s.under_way.hands (slice_get_within old.workers k.0 (place.Pre o i) at))))
+    (λ d e. subst (λ (t : ContextTable). holds (hand_of t.hands k.0) d ≡ true) contexts (sent_is_held old k o i given at s.under_way d (sym (ap sent_in same) ∙ e)))
+    (pre_balance old k o i state lent at s.under_way) tied
+
+pub pre_ends : (kept after : ContextsKept) (k : WorkerId) (m : Option CtxId) (state : PreState) (has : Bool) (answer : Result (Unit {0}) Data)
+    → m ≡ sent_in state → has ≡ is_ok answer → EndsWhere has kept m after k.0 → EndsWhere (is_ok answer) kept (sent_in state) after k.0
+pre_ends kept after k m state has answer e f h = subst (λ b. EndsWhere b kept (sent_in state) after k.0) f (subst (λ x. EndsWhere has kept x after k.0) e h)
+
 pub pre_returns : (old : World) (k : WorkerId) (o : OpId) (i : InstanceId) (given : PreVerdict) (lent : Data) (state : PreState) (answer : Result (Unit {0}) Data) (t : FlowTable)
-    (ws : List Worker) → worker_at old.workers k ≡ Some (place.Pre o i) → IsSound old → state ≡ state_at old o i given
+    (ws : List Worker) (kept after : ContextsKept) → worker_at old.workers k ≡ Some (place.Pre o i) → IsSound old → state ≡ state_at old k o i given
     → answer ≡ told (data_reply lent) (Err lent) o old.flow → t ≡ changed o (pre_after state lent) old.flow → ws ≡ after_return old.workers k (is_ok answer)
-    → PreReturns old k given lent (status_of (strange answer)) (record old { flow = t; workers = ws })
+    → old.contexts ≡ kept.table → EndsWhere (is_ok answer) kept (sent_in state) after k.0 → IsTied (kept_sent kept k.0 (sent_in state)) (changed o (pre_returned_of state lent) old.flow)
+    → PreReturns old k given lent (status_of (strange answer)) (record old { flow = t; workers = ws; contexts = after.table })
 unfolding PreReturns
-pre_returns old k o i given lent state answer t ws at s same reply after workers =
+pre_returns old k o i given lent state answer t ws kept after at s same reply step workers contexts ends tied =
     let there = in_pre old k o i s at in
-    subst (PreReturnsAt old k given lent (status_of (strange answer)) (record old { flow = t; workers = ws })) (sym at)
-    (comes_back_at old k o (λ x. data_fits x.operation x.path lent) (pre_returned_of (state_at old o i given) lent) lent answer t ws (there.0, there.1) reply
-    (subst (λ x. t ≡ changed o (pre_after x lent) old.flow) same after) workers)
+    let new : World = record old { flow = t; workers = ws } in
+    subst (PreReturnsAt old k given lent (status_of (strange answer)) (record new { contexts = after.table })) (sym at)
+    (subst (λ x. Unless status.BadRequest (told (λ r. data_fits r.operation r.path lent) false o old.flow) (status_of (strange answer)) old (record new { contexts = after.table })
+    ((status_of (strange answer) ≡ Ok tt) × ReturnsFrom old k o (pre_returned_of x lent) (sent old.contexts k (sent_in x)) (record new { contexts = after.table }))) same
+    (ends_where old k o (pre_returned_of state lent) kept after (sent_in state) answer new (told (λ r. data_fits r.operation r.path lent) false o old.flow) contexts
+    (comes_back_at old k o (λ x. data_fits x.operation x.path lent) (pre_returned_of state lent) lent answer t ws (there.0, there.1) reply step workers) ends tied))
+
+pub pre_tied : (old : World) (k : WorkerId) (o : OpId) (i : InstanceId) (lent : Data) (state : PreState) (answer : Result (Unit {0}) Data) (t : FlowTable) (kept after : ContextsKept)
+    → worker_at old.workers k ≡ Some (place.Pre o i) → IsSound old → answer ≡ told (data_reply lent) (Err lent) o old.flow → t ≡ changed o (pre_after state lent) old.flow
+    → EndsWhere (is_ok answer) kept (sent_in state) after k.0 → IsTied (kept_sent kept k.0 (sent_in state)) (changed o (pre_returned_of state lent) old.flow)
+    → IsTied kept old.flow → IsTied after t
+pre_tied old k o i lent state answer t kept after at s reply step ends sent tied =
+    let there = in_pre old k o i s at in
+    let f = flow_ok old.flow o there.0 (λ x. data_fits x.operation x.path lent) (pre_returned_of state lent) lent answer t there.1 reply step in
+    ends_tied old.flow k o (pre_returned_of state lent) kept after (sent_in state) answer t f.0 f.1 ends sent tied
 
 pub pre_refused : (old : World) (k : WorkerId) (given : PreVerdict) (lent : Data) → pre_of (worker_at old.workers k) ≡ None → PreReturns old k given lent (Err status.WrongStep) old
 unfolding PreReturns
@@ -256,6 +441,7 @@ pre_refused old k given lent h = refused_at (worker_at old.workers k) h
     refused_at (Some (place.Base o)) h = (refl, refl)
     refused_at (Some (place.Post o i)) h = (refl, refl)
     refused_at (Some (place.Drain o i)) h = (refl, refl)
+    refused_at (Some (place.Cleanup c)) h = (refl, refl)
     refused_at None h = (refl, refl)
 
 pub base_returns : (old : World) (k : WorkerId) (o : OpId) (call : Params) (given : Answer) (answer : Result (Unit {0}) (Params × Answer)) (t : FlowTable) (ws : List Worker)
@@ -279,27 +465,53 @@ base_refused old k call given h = refused_at (worker_at old.workers k) h
     refused_at (Some (place.Pre o i)) h = (refl, refl)
     refused_at (Some (place.Post o i)) h = (refl, refl)
     refused_at (Some (place.Drain o i)) h = (refl, refl)
+    refused_at (Some (place.Cleanup c)) h = (refl, refl)
     refused_at None h = (refl, refl)
 
+pub post_sent : (old : World) (k : WorkerId) (o : OpId) (i : InstanceId) (given : PostVerdict) (lent : Data) (kept : ContextsKept) → worker_at old.workers k ≡ Some (place.Post o i)
+    → IsSound old → IsTied kept old.flow → IsTied kept (changed o (post_returned_of given lent) old.flow)
+post_sent old k o i given lent kept at s tied c = tied c ∙ sym (post_balance old k o i given lent at s.under_way c)
+
+pub drain_sent : (old : World) (k : WorkerId) (o : OpId) (i : InstanceId) (kept : ContextsKept) → worker_at old.workers k ≡ Some (place.Drain o i) → IsSound old
+    → IsTied kept old.flow → IsTied kept (changed o (drain_returned_of i) old.flow)
+drain_sent old k o i kept at s tied c = tied c ∙ sym (drain_balance old k o i at s.under_way c)
+
 pub post_returns : (old : World) (k : WorkerId) (o : OpId) (i : InstanceId) (given : PostVerdict) (lent : Data) (answer : Result (Unit {0}) Data) (t : FlowTable) (ws : List Worker)
-    → worker_at old.workers k ≡ Some (place.Post o i) → IsSound old → answer ≡ told (data_reply lent) (Err lent) o old.flow
+    (kept after : ContextsKept) → worker_at old.workers k ≡ Some (place.Post o i) → IsSound old → answer ≡ told (data_reply lent) (Err lent) o old.flow
     → t ≡ changed o (post_after given lent) old.flow → ws ≡ after_return old.workers k (is_ok answer)
-    → PostReturns old k given (Some lent) (status_of (strange_data answer)) (record old { flow = t; workers = ws })
+    → old.contexts ≡ kept.table → EndsWhere (is_ok answer) kept None after k.0 → IsTied kept (changed o (post_returned_of given lent) old.flow)
+    → PostReturns old k given (Some lent) (status_of (strange_data answer)) (record old { flow = t; workers = ws; contexts = after.table })
 unfolding PostReturns
-post_returns old k o i given lent answer t ws at s reply after workers =
+post_returns old k o i given lent answer t ws kept after at s reply step workers contexts ends tied =
     let there = in_post old k o i s at in
     let new : World = record old { flow = t; workers = ws } in
-    subst (λ x. PostReturnsAt old k given (Some lent) x new (worker_at old.workers k)) (same_status answer)
-    (subst (PostReturnsAt old k given (Some lent) (status_of (strange answer)) new) (sym at)
-    (comes_back_at old k o (λ x. data_fits x.operation x.path lent) (post_returned_of given lent) lent answer t ws (there.0, there.1) reply after workers))
+    subst (λ x. PostReturnsAt old k given (Some lent) x (record new { contexts = after.table }) (worker_at old.workers k)) (same_status answer)
+    (subst (PostReturnsAt old k given (Some lent) (status_of (strange answer)) (record new { contexts = after.table })) (sym at)
+    (ends_where old k o (post_returned_of given lent) kept after None answer new (told (λ r. data_fits r.operation r.path lent) false o old.flow) contexts
+    (comes_back_at old k o (λ x. data_fits x.operation x.path lent) (post_returned_of given lent) lent answer t ws (there.0, there.1) reply step workers) ends tied))
 
-pub drain_returns : (old : World) (k : WorkerId) (o : OpId) (i : InstanceId) (given : PostVerdict) (t : FlowTable) (ws : List Worker)
+pub post_tied : (old : World) (k : WorkerId) (o : OpId) (i : InstanceId) (given : PostVerdict) (lent : Data) (answer : Result (Unit {0}) Data) (t : FlowTable) (kept after : ContextsKept)
+    → worker_at old.workers k ≡ Some (place.Post o i) → IsSound old → answer ≡ told (data_reply lent) (Err lent) o old.flow → t ≡ changed o (post_after given lent) old.flow
+    → EndsWhere (is_ok answer) kept None after k.0 → IsTied kept (changed o (post_returned_of given lent) old.flow) → IsTied kept old.flow → IsTied after t
+post_tied old k o i given lent answer t kept after at s reply step ends sent tied =
+    let there = in_post old k o i s at in
+    let f = flow_ok old.flow o there.0 (λ x. data_fits x.operation x.path lent) (post_returned_of given lent) lent answer t there.1 reply step in
+    ends_tied old.flow k o (post_returned_of given lent) kept after None answer t f.0 f.1 ends sent tied
+
+pub drain_returns : (old : World) (k : WorkerId) (o : OpId) (i : InstanceId) (given : PostVerdict) (t : FlowTable) (ws : List Worker) (kept after : ContextsKept)
     → worker_at old.workers k ≡ Some (place.Drain o i) → t ≡ changed o (drain_returned_of i) old.flow → ws ≡ put old.workers k place.Idle
-    → PostReturns old k given None (Ok tt) (record old { flow = t; workers = ws })
+    → old.contexts ≡ kept.table → Ends kept after k.0 → IsTied kept (changed o (drain_returned_of i) old.flow)
+    → PostReturns old k given None (Ok tt) (record old { flow = t; workers = ws; contexts = after.table })
 unfolding PostReturns
-drain_returns old k o i given t ws at after workers =
-    subst (PostReturnsAt old k given None (Ok tt) (record old { flow = t; workers = ws })) (sym at)
-    (refl, ap (λ x. record old { flow = x; workers = ws }) after ∙ ap (λ x. record old { flow = changed o (drain_returned_of i) old.flow; workers = x }) workers)
+drain_returns old k o i given t ws kept after at step workers contexts ends tied =
+    subst (PostReturnsAt old k given None (Ok tt) (record old { flow = t; workers = ws; contexts = after.table })) (sym at) (
+      refl,
+      (
+        subst (λ x. Leaves (carries_after old o (drain_returned_of i)) x after.table k.0) (sym contexts) (leaves_alike tied ends.leaves),
+        ap (λ x. record old { flow = x; workers = ws; contexts = after.table }) step
+            ∙ ap (λ x. record old { flow = changed o (drain_returned_of i) old.flow; workers = x; contexts = after.table }) workers,
+      ),
+    )
 
 -- the refusals of a postoperation's return
 pub post_lacks : (old : World) (k : WorkerId) (given : PostVerdict) (p : OpId × InstanceId) → post_of (worker_at old.workers k) ≡ Some p
@@ -327,11 +539,13 @@ post_refused old k given lent h d = refused_at lent (worker_at old.workers k) h 
     refused_at None (Some (place.Setup i)) h d = (refl, refl)
     refused_at None (Some (place.Pre o i)) h d = (refl, refl)
     refused_at None (Some (place.Base o)) h d = (refl, refl)
+    refused_at None (Some (place.Cleanup c)) h d = (refl, refl)
     refused_at None None h d = (refl, refl)
     refused_at (Some lent) (Some place.Idle) h d = (refl, refl)
     refused_at (Some lent) (Some (place.Setup i)) h d = (refl, refl)
     refused_at (Some lent) (Some (place.Pre o i)) h d = (refl, refl)
     refused_at (Some lent) (Some (place.Base o)) h d = (refl, refl)
+    refused_at (Some lent) (Some (place.Cleanup c)) h d = (refl, refl)
     refused_at (Some lent) None h d = (refl, refl)
 
 -- ---- begin

@@ -1,3 +1,7 @@
 pub mod Places
 pub mod Returned
 pub mod Ahead
+pub mod Fields
+pub mod Callers
+pub mod Hands
+pub mod Setting

@@ -2,10 +2,10 @@
 
 ghost use Rattle.std.specs.Prelude.{◌≡◌, false, slice_get};
 ghost use Rattle.fm_flow.specs.Table.{operation_at, told};
-ghost use Rattle.fm_core.specs.Ahead.{IsDownOrCall};
-ghost use Rattle.fm_world.specs.Events.{FindsBelow, LiesBelow, has_pre, has_post, drains_next, is_stopping_ask, state_given, without_context};
+ghost use Rattle.fm_core.specs.Ahead.{IsDownOrCall, state_counted};
+ghost use Rattle.fm_world.specs.Events.{FindsBelow, LiesBelow, has_pre, has_post, drains_next, is_stopping_ask};
 
-use fm_data::{Completion, PreVerdict};
+use fm_data::PreVerdict;
 use fm_flow::{Ask, Below, Flow, OperationRecord, PreState, Stage, counted};
 use fm_stack::{Phase, Stack};
 use fm_types::{InstanceId, OpId, Operation};
@@ -82,25 +82,6 @@ pub(crate) fn drains_next(stack: &Stack, flow: &Flow, operation: OpId) -> bool
     }
 }
 
-/// The verdict without its completion's context: no context is in a hand yet.
-fn without_context(verdict: PreVerdict) -> PreVerdict
-    ensures { result ≡ without_context verdict }
-{
-    match verdict {
-        PreVerdict::WithCallback(completion) => PreVerdict::WithCallback(Completion {
-            context: None,
-            ..completion
-        }),
-        PreVerdict::Synchronize(completion) => PreVerdict::Synchronize(Completion {
-            context: None,
-            ..completion
-        }),
-        PreVerdict::NoCallback => PreVerdict::NoCallback,
-        PreVerdict::Complete(status) => PreVerdict::Complete(status),
-        PreVerdict::Pending => PreVerdict::Pending,
-    }
-}
-
 /// The verdict of an instance that counts for an operation.
 pub(crate) fn state_given(
     stack: &Stack,
@@ -109,11 +90,11 @@ pub(crate) fn state_given(
     instance: InstanceId,
     verdict: PreVerdict,
 ) -> PreState
-    ensures { result ≡ told (state_given stack.now instance verdict) PreState.Passed operation flow.now }
+    ensures { result ≡ told (state_counted stack.now instance verdict) PreState.Passed operation flow.now }
 {
     match flow.record(operation) {
         Some(record) => counted(
-            without_context(verdict),
+            verdict,
             record.operation(),
             has_post(stack, instance, record.operation()),
         ),

@@ -3,6 +3,7 @@
 ghost use Rattle.std.specs.Prelude.{◌≡◌};
 ghost use Rattle.fm_world.specs.Events.{Registers, Mounts, Attaches, SetsUp};
 
+use crate::hands::unlink_unless;
 use crate::place::setup_of;
 use crate::state::State;
 use crate::workers::{note_attach, put};
@@ -52,14 +53,17 @@ impl State {
 
     /// The setup callback that the worker is in returns. Accepted, the instance is attached, with the next birth number: it sees every operation that
     /// begins from now on. Refused, nothing changed, with 30 where the worker is in no setup callback; and with 11 where the callback refused, or 13 where
-    /// the filter isn't loaded any more or the volume is dismounting: then the callback returned all the same, and the instance is Emptying.
+    /// the filter isn't loaded any more or the volume is dismounting: then the callback returned all the same, the instance is Emptying, and its contexts lost
+    /// their links. What the worker still held is released and counts as leaked. It takes no memory.
     pub fn setup_done(&mut self, worker: WorkerId, accept: bool) -> Result<(), Status>
         ensures { SetsUp self.old worker accept result self.new }
     {
         let Some(instance) = setup_of(self.place(worker)) else {
             return Err(Status::WrongStep);
         };
+        self.contexts.leave(worker);
         let result = self.stack.setup_done(instance, accept);
+        unlink_unless(&mut self.contexts, instance, &result);
         put(&mut self.workers, worker, Worker::Idle);
         result
     }

@@ -1,10 +1,15 @@
 //! The manager's state, and each event as one call on it.
 //!
 //! A call of `State` is one critical section: callbacks and base calls run between calls, played by the caller. What each call answers and changes is
-//! said by a relation of `fm_world` (its `specs/Events`), and every State keeps the Headline (`specs/Headline` there): `State::headline` says so.
+//! said by a relation of `fm_world` (its `specs/Events` and `specs/ContextEvents`), and every State keeps the Headline (`specs/Headline` there): `State::headline` says so.
 #![tactic(auto)]
 
 mod ahead;
+mod bodies;
+mod caller;
+mod cleanups;
+mod contexts;
+mod hands;
 mod instances;
 mod operations;
 mod place;
@@ -12,12 +17,15 @@ mod readers;
 mod returned;
 mod runs;
 mod state;
+#[cfg(test)]
+mod tests;
 mod workers;
 
 pub use crate::runs::run;
 pub use crate::state::State;
+pub use fm_ctx::{Count, Due, Object, Owner, SetMode};
 pub use fm_flow::{
     Ask, DrainVisit, Entry, FlowAction as Action, PostState, PostVisit, PreState, PreVisit, Stage,
 };
 pub use fm_stack::{FilterPhase, Phase};
-pub use fm_world::{Begin, Refused, Step, StepReply, Worker};
+pub use fm_world::{Begin, Refused, SetAnswer, Step, StepReply, Worker};

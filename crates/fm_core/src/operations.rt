@@ -8,6 +8,7 @@ ghost use Rattle.fm_world.specs.Events.{Begins, Nexts, PreReturns, BaseReturns, 
 ghost use Rattle.fm_core.specs.Returned.{status_of};
 
 use crate::ahead::{drains_next, lies_below, state_given};
+use crate::hands::{bring_back, end_callback, of_hand, sent_in};
 use crate::place::{base_of, drain_of, post_of, pre_of};
 use crate::returned::{answer_strange, answer_strange_data, note_return};
 use crate::state::State;
@@ -61,21 +62,24 @@ impl State {
     /// Answers what a worker has to do next for an operation: call a callback or the base, ask again (an entry was recorded without a call), wait until
     /// a filter resumes it, or nothing more. After a callback or a call the worker is inside it. Refused with 30, nothing changed: where the worker
     /// isn't idle or isn't there, where there is no such operation or another worker is inside it, and where the next callback is a synchronized
-    /// postoperation of another worker. It takes no memory.
+    /// postoperation of another worker. The context that a completion carries is in the worker's hand again. It takes no memory.
     pub fn next(&mut self, worker: WorkerId, operation: OpId) -> Result<FlowAction, Status>
         ensures { Nexts self.old worker operation result self.new }
     {
         if !self.is_idle(worker) {
             return Err(Status::WrongStep);
         }
+        self.contexts.laws();
         let below = lies_below(&self.stack, &self.flow, operation);
         let drains = drains_next(&self.stack, &self.flow, operation);
         let answer = self.flow.next(operation, worker, below, drains);
+        bring_back(&mut self.contexts, worker, &answer);
         note_next(&mut self.workers, worker, operation, &answer);
         answer
     }
 
-    /// The preoperation callback that the worker is in returns, with its verdict and its data. Refused, nothing changed and the data handed back: 30
+    /// The preoperation callback that the worker is in returns, with its verdict and its data. A completion takes a context of the worker's hand along, and
+    /// counts as having none where the hand has it not; what else is in the hand is released and counts as leaked. Refused, nothing changed and the data handed back: 30
     /// where the worker is in no preoperation, 32 where the data is strange: of another operation, on another path of a create, or past a limit.
     pub fn pre_returned(
         &mut self,
@@ -92,8 +96,12 @@ impl State {
                 handed_back: lent,
             });
         };
+        self.contexts.laws();
+        let verdict = of_hand(&self.contexts, worker, verdict);
         let state = state_given(&self.stack, &self.flow, operation, instance, verdict);
+        let sent = sent_in(&state);
         let answer = self.flow.pre_returned(operation, state, lent);
+        end_callback(&mut self.contexts, worker, sent, answer.is_ok());
         note_return(&mut self.workers, worker, answer.is_ok());
         answer_strange(answer)
     }
@@ -121,7 +129,7 @@ impl State {
     }
 
     /// The postoperation callback that the worker is in returns, with its verdict and its data; or the drain, which has no data and whose verdict counts
-    /// as Finished. Refused, nothing changed and the data handed back: 30 where the worker is in neither, 32 where the data is strange, where a
+    /// as Finished. What is in the worker's hand is released and counts as leaked. Refused, nothing changed and the data handed back: 30 where the worker is in neither, 32 where the data is strange, where a
     /// postoperation has none or a drain has some.
     pub fn post_returned(
         &mut self,
@@ -171,6 +179,7 @@ impl State {
         ensures back { IfErr result (λ refused. refused.handed_back ≡ Some lent) }
     {
         let answer = self.flow.post_returned(operation, verdict, lent);
+        end_callback(&mut self.contexts, worker, None, answer.is_ok());
         note_return(&mut self.workers, worker, answer.is_ok());
         answer_strange_data(answer)
     }
@@ -187,6 +196,7 @@ impl State {
         ensures { PostReturns self.old worker _verdict None (Ok tt) self.new }
     {
         self.flow.drain_returned(operation, instance);
+        end_callback(&mut self.contexts, worker, None, true);
         put(&mut self.workers, worker, Worker::Idle);
     }
 

@@ -1,6 +1,9 @@
 //! What can be read of a State without changing it.
 
-ghost use Rattle.std.specs.Prelude.{◌≡◌, length, slice_get, option_map, option_copied};
+ghost use Rattle.std.specs.Prelude.{◌≡◌, length, slice_get, slice_index_or, option_map, option_copied};
+ghost use Rattle.fm_ctx.specs.Bags.{hand_of};
+ghost use Rattle.fm_ctx.specs.Counting.{born, cleaned_count, count_reply};
+ghost use Rattle.fm_world.specs.World.{carries};
 ghost use Rattle.fm_stack.specs.declared.filter.Filter.{Filter};
 ghost use Rattle.fm_stack.specs.declared.instance.Instance.{Instance};
 ghost use Rattle.fm_flow.specs.Record.{FlowRecord};
@@ -8,9 +11,11 @@ ghost use Rattle.fm_flow.specs.Steps.{is_done};
 ghost use Rattle.fm_flow.specs.Table.{operation_at};
 
 use crate::state::State;
+use crate::workers::WORKERS;
+use fm_ctx::Count;
 use fm_flow::Entry;
 use fm_stack::{FilterPhase, Phase};
-use fm_types::{FilterId, InstanceId, OpId, VolumeId};
+use fm_types::{CtxId, FilterId, InstanceId, OpId, VolumeId, WorkerId};
 
 impl State {
     /// How many filters were registered: the ids given out are those below.
@@ -73,5 +78,55 @@ impl State {
             Some(record) => Some(record.is_done()),
             None => None,
         }
+    }
+
+    /// How far a context's life has come: its reference count, one where it is linked and one for each reference that a worker holds or a completion carries;
+    /// at zero, whether it is due, in cleanup or cleaned up.
+    pub fn count(&self, context: CtxId) -> Count
+        ensures { result ≡ count_reply (carries self.now) self.now.contexts context }
+    {
+        self.contexts.count(context)
+    }
+
+    /// How many references callbacks left behind; it stays at 2^64 - 1 once it is there.
+    pub fn leaks(&self) -> u64
+        ensures { result ≡ self.now.contexts.leaks }
+    {
+        self.contexts.leaks()
+    }
+
+    /// What a filter's cleanup callbacks returned in all, modulo 2^64; 0 where it isn't there.
+    pub fn total(&self, filter: FilterId) -> u64
+        ensures { result ≡ slice_index_or self.now.totals filter.0 0 }
+    {
+        match self.totals.get(filter.0 as usize) {
+            Some(total) => *total,
+            None => 0,
+        }
+    }
+
+    /// How many references a worker holds; 0 where there is no such worker.
+    pub fn hand_len(&self, worker: WorkerId) -> usize
+        ensures { result ≡ length (hand_of self.now.contexts.hands worker.0) }
+    {
+        if (worker.0 as usize) < WORKERS {
+            self.contexts.hand_len(worker)
+        } else {
+            0
+        }
+    }
+
+    /// How many contexts were allocated.
+    pub fn born(&self) -> u64
+        ensures { result ≡ born self.now.contexts.slots }
+    {
+        self.contexts.born()
+    }
+
+    /// How many contexts were cleaned up.
+    pub fn cleaned_count(&self) -> u64
+        ensures { result ≡ cleaned_count self.now.contexts.slots }
+    {
+        self.contexts.cleaned_count()
     }
 }

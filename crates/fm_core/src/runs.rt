@@ -58,6 +58,38 @@ impl State {
                 data,
             } => StepReply::Done(without_data(self.post_returned(worker, verdict, data))),
             Step::Collect { operation } => StepReply::Answer(self.collect(operation)),
+            Step::Allocate { worker, kind, body } => StepReply::Context(self.allocate(
+                worker, kind, body,
+            )),
+            Step::Set {
+                worker,
+                context,
+                mode,
+                wants_old,
+            } => StepReply::Set(self.set(worker, context, mode, wants_old)),
+            Step::Get { worker, kind } => StepReply::Context(self.get(worker, kind)),
+            Step::Delete {
+                worker,
+                kind,
+                wants_old,
+            } => StepReply::Old(self.delete(worker, kind, wants_old)),
+            Step::Reference { worker, context } => StepReply::Done(self.reference(worker, context)),
+            Step::Release { worker, context } => StepReply::Done(self.release(worker, context)),
+            Step::ReadBody { worker, context } => StepReply::Body(self.read_body(worker, context)),
+            Step::WriteBody {
+                worker,
+                context,
+                bytes,
+            } => StepReply::Done(self.write_body(worker, context, bytes.as_slice())),
+            Step::Bump {
+                worker,
+                context,
+                place,
+                by,
+            } => StepReply::Number(self.bump(worker, context, place, by)),
+            Step::TakeDue { worker } => StepReply::Due(self.take_due(worker)),
+            Step::Cleaned { worker, number } => StepReply::Done(self.cleaned(worker, number)),
+            Step::Finish { instance } => StepReply::Done(self.finish(instance)),
         }
     }
 }

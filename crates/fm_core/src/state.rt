@@ -1,12 +1,13 @@
 //! The state itself: what it consists of, where workers are, and what always holds of it.
 
-ghost use Rattle.std.specs.Prelude.{◌≡◌, IfErr, IfOk};
+ghost use Rattle.std.specs.Prelude.{◌≡◌, ◌<◌, IfErr, IfOk, option_map};
 ghost use Rattle.fm_world.specs.World.{empty_world};
 ghost use Rattle.fm_world.specs.Workers.{worker_at, is_idle};
 ghost use Rattle.fm_world.specs.Headline.{Headline};
 ghost use Rattle.fm_world.specs.Sound.{IsSound};
 
 use crate::workers::WORKERS;
+use fm_ctx::Contexts;
 use fm_flow::Flow;
 use fm_stack::Stack;
 use fm_types::{Status, WorkerId};
@@ -14,12 +15,18 @@ use fm_world::Worker;
 use std::alloc::Global;
 use std::marker::Model;
 
-/// The state of a filter manager: its filters, volumes and instances, its operations under way, and where each of 48 workers is.
+/// How many filters are loaded at most.
+const FILTERS: usize = 16;
+
+/// The state of a filter manager: its filters, volumes and instances, its operations under way, the contexts, where each of 48 workers is, and what
+/// each filter's cleanups returned in all.
 #[derive(Drop)]
 pub struct State {
     pub(crate) stack: Stack,
     pub(crate) flow: Flow,
+    pub(crate) contexts: Contexts,
     pub(crate) workers: [Worker; WORKERS],
+    pub(crate) totals: [u64; FILTERS],
 }
 
 impl Model for State {
@@ -27,24 +34,27 @@ impl Model for State {
 
     ghost Value = { World };
 
-    ghost use Rattle.fm_world.specs.Sound.{IsSound};
+    ghost use Rattle.fm_core.specs.Fields.{world_of, IsState};
 
-    ghost view = { λ s. record { stack = s.stack; flow = s.flow; workers = s.workers } };
+    ghost view = { λ s. world_of s.stack s.flow s.workers s.contexts s.totals };
 
-    ghost invariant = { λ s. IsSound (record { stack = s.stack; flow = s.flow; workers = s.workers }) };
+    ghost invariant = { λ s. IsState (world_of s.stack s.flow s.workers s.contexts s.totals) s.contexts };
 }
 
 impl State {
-    /// The state before the first event: nothing is registered, mounted or attached, nothing is under way, each worker is idle. Refused with 1 where
-    /// memory was refused (today it takes none).
+    /// The state before the first event: nothing is registered, mounted or attached, nothing is under way, each worker is idle and holds nothing. It
+    /// takes the memory for all that workers will ever hold. Refused with 1 where memory was refused.
     pub fn new(alloc: Global) -> Result<State, Status>
         ensures empty { IfOk result (λ state. state ≡ empty_world) }
         ensures memory { IfErr result (λ status. status ≡ Status.NoMemory) }
     {
+        let contexts = Contexts::new(alloc)?;
         Ok(State {
             stack: Stack::new(alloc),
             flow: Flow::new(alloc),
+            contexts,
             workers: [Worker::Idle; WORKERS],
+            totals: [0; FILTERS],
         })
     }
 

@@ -1,19 +1,16 @@
 -- By how much a step changes what an operation counts for.
-use Rattle.std.proofs.Common.{◌≡◌, ℕ, ◌+◌, ◌≤◌, ◌==◌, Bool, true, false, cond, List, [], ◌∷◌, ◌++◌, length, Option, Some, None, Result, Err, option_map, unwrap_or, find, slice_get, inl, inr, refl, sym, ap, ◌∙◌, subst, arith}
+use Rattle.std.proofs.Common.{◌≡◌, ℕ, ◌+◌, ◌≤◌, ◌==◌, Bool, true, false, cond, List, [], ◌∷◌, ◌++◌, length, Option, Some, None, Err, find, slice_get, inl, inr, refl, sym, ap, ◌∙◌, subst, arith}
 use Rattle.std.proofs.lemmas.Bool.{cases_Bool}
 use Rattle.std.proofs.lemmas.Option.{none-some, same_Some}
 use Rattle.fm_types.specs.declared.ids.InstanceId.{InstanceId}
 use Rattle.fm_types.specs.declared.ids.WorkerId.{WorkerId}
 use Rattle.fm_types.specs.declared.ids.CtxId.{CtxId}
-use Rattle.fm_types.specs.declared.status.Status.{Status}
 use Rattle.fm_types.specs.declared.status.Status.TheVariants.{WrongStep}
 use Rattle.fm_data.specs.declared.params.Params.{Params}
-use Rattle.fm_types.specs.declared.ids.OpId.{OpId}
 use Rattle.fm_data.specs.declared.answer.Answer.{Answer}
 use Rattle.fm_data.specs.declared.verdict.PostVerdict.{PostVerdict}
 use Rattle.fm_data.specs.Data.{Data}
-use Rattle.fm_flow.specs.declared.action.FlowAction.{FlowAction}
-use Rattle.fm_flow.specs.Table.{FlowTable, IsFlow, change_first, is_number, operation_at, changed, told, total, carried, in_flight, MayLieBelowOf}
+use Rattle.fm_flow.specs.Table.{change_first, total}
 use Rattle.fm_flow.specs.declared.stage.Stage.{Stage}
 use Rattle.fm_flow.specs.declared.stage.Stage.TheVariants.{Descending, PreRunning, PreHeld, InBase, Ascending, PostRunning, PostHeld, InDrain}
 use Rattle.fm_flow.specs.declared.entry.PreState.{PreState}
@@ -34,7 +31,6 @@ use Rattle.fm_flow.proofs.Owed.{owed_push_none, owed_push_ask, owed_push_answer,
 use Rattle.fm_flow.proofs.Course.{unvisited, owed_once}
 use Rattle.fm_flow.proofs.Counting.{opens_push, and_true, and_false, flight_pre_settled, carried_pre_settled, flight_post_settled, owed_post_settled, owed_drain_settled, opens_drain_settled}
 use Rattle.fm_flow.proofs.Soundness.{sound_unwound}
-use Rattle.fm_flow.proofs.Tables.{change_none, found_holds}
 
 -- references carried are those carried before, but for what is handed out
 abbrev pub Carries : CtxId → FlowRecord → Turned → Type 0
@@ -49,10 +45,10 @@ same_owed c r s same = let k = ap (carried_among c) same in omega (arith, k)
 
 -- ---- down
 
-running_asks : (worker : WorkerId) (i : InstanceId) (r : FlowRecord) → owed (r.entries ++ pre_entry worker i pre.Running r ∷ []) ≡ owed r.entries
+pub running_asks : (worker : WorkerId) (i : InstanceId) (r : FlowRecord) → owed (r.entries ++ pre_entry worker i pre.Running r ∷ []) ≡ owed r.entries
 running_asks worker i r = owed_push_none r.entries (pre_entry worker i pre.Running r) refl (λ j. refl)
 
-bare_owed : (worker : WorkerId) (i : InstanceId) (r : FlowRecord) → r.stage ≡ Descending → times i.0 (visited r.entries) ≡ 0 → IsSound r
+pub bare_owed : (worker : WorkerId) (i : InstanceId) (r : FlowRecord) → r.stage ≡ Descending → times i.0 (visited r.entries) ≡ 0 → IsSound r
     → owed (r.entries ++ pre_entry worker i bare_ask r ∷ []) ≡ record { instance = i; worker = worker; completion = record { number = 0; context = None }; is_synchronized = false; place = length r.kept } ∷ owed r.entries
 bare_owed worker i r st fresh h =
     owed_push_ask r.entries (pre_entry worker i bare_ask r) (record { instance = i; worker = worker; completion = record { number = 0; context = None }; is_synchronized = false; place = length r.kept }) refl (λ j. refl)
@@ -99,23 +95,23 @@ descend_flies j worker (below.Known status) r st may h =
 
 -- ---- up
 
-head_of : (asks : List Ask) (ask : Ask) → slice_get asks 0 ≡ Some ask → (rest : List Ask) × (asks ≡ ask ∷ rest)
+pub head_of : (asks : List Ask) (ask : Ask) → slice_get asks 0 ≡ Some ask → (rest : List Ask) × (asks ≡ ask ∷ rest)
 head_of [] ask is = absurd (none-some ask is)
 head_of (other ∷ asks) ask is = (asks, ap (λ (a : Ask). a ∷ asks) (same_Some other ask is))
 
 -- an answer to the one that is owed next leaves the others
-answered_owed : (r : FlowRecord) (e : Entry) (ask : Ask) (rest : List Ask) → r.stage ≡ Ascending → owed r.entries ≡ ask ∷ rest → ask_of e ≡ None → ((j : ℕ) → answers j e ≡ (ask.instance.0 == j)) → IsSound r
+pub answered_owed : (r : FlowRecord) (e : Entry) (ask : Ask) (rest : List Ask) → r.stage ≡ Ascending → owed r.entries ≡ ask ∷ rest → ask_of e ≡ None → ((j : ℕ) → answers j e ≡ (ask.instance.0 == j)) → IsSound r
     → owed (r.entries ++ e ∷ []) ≡ rest
 answered_owed r e ask rest st next asks answers' h =
     let few = owed_once Ascending r.entries ask.instance.0 (subst (λ s. IsCourse s r.entries) st h.course) in
     let few' : times ask.instance.0 (instances (ask ∷ rest)) ≤ 1 = let k = ap (λ xs. times ask.instance.0 (instances xs)) next in omega (arith, few, k) in
     owed_push_answer r.entries e ask.instance.0 asks answers' ∙ ap (without ask.instance.0) next ∙ without_head ask rest few'
 
-unwound_entries : (place : ℕ) (r : FlowRecord) (m : Option Params) → (unwound_to place r m).entries ≡ r.entries
+pub unwound_entries : (place : ℕ) (r : FlowRecord) (m : Option Params) → (unwound_to place r m).entries ≡ r.entries
 unwound_entries place r None = refl
 unwound_entries place r (Some p) = refl
 
-unwound_stage : (place : ℕ) (r : FlowRecord) (m : Option Params) → (unwound_to place r m).stage ≡ r.stage
+pub unwound_stage : (place : ℕ) (r : FlowRecord) (m : Option Params) → (unwound_to place r m).stage ≡ r.stage
 unwound_stage place r None = refl
 unwound_stage place r (Some p) = refl
 
@@ -193,8 +189,8 @@ ascend_flies j lies worker false r (Some ask) st is h =
 
 -- ---- next
 
-carries_at : (c : CtxId) (worker : WorkerId) (lies : Below) (stops : Bool) (r : FlowRecord) (stage : Stage) → r.stage ≡ stage → MayLieBelow lies r.entries → IsSound r → Carries c r (next_at worker lies stops r stage)
-carries_at c worker lies stops r Descending st may h = descend_carries c worker lies r st may h
+carries_at : (c : CtxId) (worker : WorkerId) (lies : Below) (stops : Bool) (r : FlowRecord) (stage : Stage) → r.stage ≡ stage → (r.stage ≡ Descending → MayLieBelow lies r.entries) → IsSound r → Carries c r (next_at worker lies stops r stage)
+carries_at c worker lies stops r Descending st may h = descend_carries c worker lies r st (may st) h
 carries_at c worker lies stops r Ascending st may h = ascend_carries c worker stops r (slice_get (owed r.entries) 0) st refl h
 carries_at c worker lies stops r PreRunning st may h = omega arith
 carries_at c worker lies stops r PreHeld st may h = omega arith
@@ -203,8 +199,8 @@ carries_at c worker lies stops r PostRunning st may h = omega arith
 carries_at c worker lies stops r PostHeld st may h = omega arith
 carries_at c worker lies stops r (InDrain i) st may h = omega arith
 
-flies_at : (j : ℕ) (worker : WorkerId) (lies : Below) (stops : Bool) (r : FlowRecord) (stage : Stage) → r.stage ≡ stage → MayLieBelow lies r.entries → IsSound r → Flies j lies r (next_at worker lies stops r stage)
-flies_at j worker lies stops r Descending st may h = descend_flies j worker lies r st may h
+flies_at : (j : ℕ) (worker : WorkerId) (lies : Below) (stops : Bool) (r : FlowRecord) (stage : Stage) → r.stage ≡ stage → (r.stage ≡ Descending → MayLieBelow lies r.entries) → IsSound r → Flies j lies r (next_at worker lies stops r stage)
+flies_at j worker lies stops r Descending st may h = descend_flies j worker lies r st (may st) h
 flies_at j worker lies stops r Ascending st may h = ascend_flies j lies worker stops r (slice_get (owed r.entries) 0) st refl h
 flies_at j worker lies stops r PreRunning st may h = omega arith
 flies_at j worker lies stops r PreHeld st may h = omega arith
@@ -213,13 +209,50 @@ flies_at j worker lies stops r PostRunning st may h = omega arith
 flies_at j worker lies stops r PostHeld st may h = omega arith
 flies_at j worker lies stops r (InDrain i) st may h = omega arith
 
-pub next_carries : (c : CtxId) (worker : WorkerId) (lies : Below) (stops : Bool) (r : FlowRecord) → MayLieBelow lies r.entries → IsSound r → Carries c r (next_of worker lies stops r)
+pub next_carries : (c : CtxId) (worker : WorkerId) (lies : Below) (stops : Bool) (r : FlowRecord) → (r.stage ≡ Descending → MayLieBelow lies r.entries) → IsSound r → Carries c r (next_of worker lies stops r)
 next_carries c worker lies stops r may h =
     elim r.collected as (λ b. Carries c r (cond b (turn (Err WrongStep) r) (next_at worker lies stops r r.stage))) [ true ↦ omega arith | false ↦ carries_at c worker lies stops r r.stage refl may h ]
 
-pub next_flies : (j : ℕ) (worker : WorkerId) (lies : Below) (stops : Bool) (r : FlowRecord) → MayLieBelow lies r.entries → IsSound r → Flies j lies r (next_of worker lies stops r)
+pub next_flies : (j : ℕ) (worker : WorkerId) (lies : Below) (stops : Bool) (r : FlowRecord) → (r.stage ≡ Descending → MayLieBelow lies r.entries) → IsSound r → Flies j lies r (next_of worker lies stops r)
 next_flies j worker lies stops r may h =
     elim r.collected as (λ b. Flies j lies r (cond b (turn (Err WrongStep) r) (next_at worker lies stops r r.stage))) [ true ↦ omega arith | false ↦ flies_at j worker lies stops r r.stage refl may h ]
+
+-- an operation comes to an instance where this is what lies below it
+enters_down : (i : ℕ) (worker : WorkerId) (lies : Below) (r : FlowRecord) → ((j : InstanceId) (called : Bool) → lies ≡ below.Instance j called → (j.0 == i) ≡ false)
+    → enters i lies (descend worker lies r).reply ≡ 0
+enters_down i worker (below.Instance j true) r apart = called r.params
+  where
+    called : (m : Option Params) → enters i (below.Instance j true) (call_pre worker j r m).reply ≡ 0
+    called None = refl
+    called (Some p) = ap one (apart j true refl)
+enters_down i worker (below.Instance j false) r apart = ap one (apart j false refl)
+enters_down i worker below.Call r apart = called r.params
+  where
+    called : (m : Option Params) → enters i below.Call (call_base r m).reply ≡ 0
+    called None = refl
+    called (Some p) = refl
+enters_down i worker (below.Known status) r apart = refl
+
+enters_up : (i : ℕ) (lies : Below) (worker : WorkerId) (stops : Bool) (r : FlowRecord) (m : Option Ask) → enters i lies (ascend worker stops r m).reply ≡ 0
+enters_up i lies worker stops r None = refl
+enters_up i lies worker true r (Some ask) = refl
+enters_up i lies worker false r (Some ask) = takes_none i lies worker ask r (may_take worker ask)
+
+enters_at : (i : ℕ) (worker : WorkerId) (lies : Below) (stops : Bool) (r : FlowRecord) (stage : Stage) → r.stage ≡ stage
+    → (r.stage ≡ Descending → (j : InstanceId) (called : Bool) → lies ≡ below.Instance j called → (j.0 == i) ≡ false) → enters i lies (next_at worker lies stops r stage).reply ≡ 0
+enters_at i worker lies stops r Descending st apart = enters_down i worker lies r (apart st)
+enters_at i worker lies stops r Ascending st apart = enters_up i lies worker stops r (slice_get (owed r.entries) 0)
+enters_at i worker lies stops r PreRunning st apart = refl
+enters_at i worker lies stops r PreHeld st apart = refl
+enters_at i worker lies stops r InBase st apart = refl
+enters_at i worker lies stops r PostRunning st apart = refl
+enters_at i worker lies stops r PostHeld st apart = refl
+enters_at i worker lies stops r (InDrain j) st apart = refl
+
+pub next_enters : (i : ℕ) (worker : WorkerId) (lies : Below) (stops : Bool) (r : FlowRecord)
+    → (r.stage ≡ Descending → (j : InstanceId) (called : Bool) → lies ≡ below.Instance j called → (j.0 == i) ≡ false) → enters i lies (next_of worker lies stops r).reply ≡ 0
+next_enters i worker lies stops r apart =
+    elim r.collected as (λ b. enters i lies (cond b (turn (Err WrongStep) r) (next_at worker lies stops r r.stage)).reply ≡ 0) [ true ↦ refl | false ↦ enters_at i worker lies stops r r.stage refl apart ]
 
 -- ---- returns
 
@@ -269,29 +302,3 @@ total_changed g test f (x ∷ rs) r is = elim (cases_Bool (test x)) [
       let k = total_changed g test f rs r (sym (ap (λ b. cond b (Some x) (find test rs)) fails) ∙ is) in
       rw fails (omega (arith, k))
 ]
-
-pub next_carried : (c : CtxId) (worker : WorkerId) (lies : Below) (stops : Bool) (o : OpId) (t : FlowTable) → MayLieBelowOf lies (operation_at o t) → IsFlow t
-    → carried c t ≡ carried c (changed o (λ (r : FlowRecord). (next_of worker lies stops r).after) t) + handed c (told (λ (r : FlowRecord). (next_of worker lies stops r).reply) (Err WrongStep) o t)
-next_carried c worker lies stops o t may h =
-    let f : FlowRecord → FlowRecord = λ r. (next_of worker lies stops r).after in
-    let g : FlowRecord → Result FlowAction Status = λ r. (next_of worker lies stops r).reply in
-    elim (operation_at o t) as (λ m. operation_at o t ≡ m → carried c t ≡ carried c (changed o f t) + handed c (unwrap_or (option_map g m) (Err WrongStep))) [
-      | None ↦ λ is. let k = ap (total (carried_by c)) (change_none (is_number o) f t.operations is) in omega (arith, k)
-      | Some r ↦ λ is.
-          let k = total_changed (carried_by c) (is_number o) f t.operations r is in
-          let n = next_carries c worker lies stops r (subst (MayLieBelowOf lies) is may) (found_holds IsSound (is_number o) t.operations r h.sound is) in
-          omega (arith, k, n)
-    ] refl
-
-pub next_in_flight : (i : ℕ) (worker : WorkerId) (lies : Below) (stops : Bool) (o : OpId) (t : FlowTable) → MayLieBelowOf lies (operation_at o t) → IsFlow t
-    → in_flight i (changed o (λ (r : FlowRecord). (next_of worker lies stops r).after) t) ≡ in_flight i t + enters i lies (told (λ (r : FlowRecord). (next_of worker lies stops r).reply) (Err WrongStep) o t)
-next_in_flight i worker lies stops o t may h =
-    let f : FlowRecord → FlowRecord = λ r. (next_of worker lies stops r).after in
-    let g : FlowRecord → Result FlowAction Status = λ r. (next_of worker lies stops r).reply in
-    elim (operation_at o t) as (λ m. operation_at o t ≡ m → in_flight i (changed o f t) ≡ in_flight i t + enters i lies (unwrap_or (option_map g m) (Err WrongStep))) [
-      | None ↦ λ is. let k = ap (total (flight i)) (change_none (is_number o) f t.operations is) in omega (arith, k)
-      | Some r ↦ λ is.
-          let k = total_changed (flight i) (is_number o) f t.operations r is in
-          let n = next_flies i worker lies stops r (subst (MayLieBelowOf lies) is may) (found_holds IsSound (is_number o) t.operations r h.sound is) in
-          omega (arith, k, n)
-    ] refl

@@ -146,6 +146,13 @@ carried_pre_settled s es state k p c =
     let e = taken k (with_state o.visit state) state in
     omega (arith, d, e)
 
+-- a verdict that asks is owed first of all, by the instance that was visited last
+pub owed_pre_settled : (s : Stage) (es : List Entry) (state : PreState) → is_pre s ≡ true → IsCourse s es
+    → (visit : PreVisit) × (last_visited es ≡ Some visit.instance.0) × (owed (map (settle_pre state) es) ≡ option_to_list (ask_in visit state) ++ owed es)
+owed_pre_settled s es state p c =
+    let o = the_open_pre s es c p in
+    (with_state o.visit state, last_of_open_pre es o, owed_settled es (map (settle_pre state) es) (ask_in (with_state o.visit state) state) (settles_pre es state o) (fresh_of_open s es state c p))
+
 post_balance : (b : Bool) (state : PostState) → one b ≡ one (b && is_post_open state) + cond b (post_leaves_by state) 0
 post_balance true post.Running = refl
 post_balance true post.Held = refl

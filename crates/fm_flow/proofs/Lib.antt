@@ -9,3 +9,4 @@ pub mod Tables
 pub mod Flows
 pub mod Places
 pub mod Balances
+pub mod Owes

@@ -4,3 +4,4 @@ pub mod Attaching
 pub mod SettingUp
 pub mod Visits
 pub mod Heights
+pub mod Finishing

@@ -42,7 +42,7 @@ refused_keeps s i sound row there in_setup =
     refl (omega arith)
 
 -- an update that keeps altitudes leaves each instance its altitude
-altitudes_stay : (change : Instance → Instance) (rows : List Instance) (at : ℕ) → ((x : Instance) → (change x).altitude ≡ x.altitude)
+pub altitudes_stay : (change : Instance → Instance) (rows : List Instance) (at : ℕ) → ((x : Instance) → (change x).altitude ≡ x.altitude)
     → (i : ℕ) (row : Instance) → slice_get rows i ≡ Some row
     → (after : Instance) × (slice_get (updated change rows at) i ≡ Some after) × (after.altitude ≡ row.altitude)
 altitudes_stay change rows at keeps i row there =

@@ -19,7 +19,7 @@ use Rattle.fm_stack.specs.declared.instance.Instance.{Instance}
 use Rattle.fm_stack.specs.declared.instance.Phase.TheVariants as phase
 use Rattle.fm_stack.specs.declared.instance.StartMark.TheVariants as mark
 use Rattle.fm_stack.specs.StackWorld.{StackWorld}
-use Rattle.fm_stack.specs.Instances.{is_live_on, is_setup, same_name, same_altitude}
+use Rattle.fm_stack.specs.Instances.{is_live_on, is_setup, is_emptying, same_name, same_altitude}
 
 -- filters
 
@@ -150,3 +150,16 @@ refused s i = record s { instances = updated refuse_row s.instances i.0 }
 unfoldable pub SetsUp : StackWorld → InstanceId → Bool → Result (Unit {0}) Status → StackWorld → Type 0
 SetsUp old i accept result new =
     AnswersWith (first_of (setup_refusals old i accept)) result (λ _. new ≡ accepted old i) (λ _. new ≡ refused old i)
+
+-- the end of an instance
+
+abbrev pub is_emptying_at : Option Instance → Bool
+is_emptying_at None = false
+is_emptying_at (Some row) = is_emptying row.phase
+
+-- its name and altitude are free again
+abbrev pub finish_row : Instance → Instance
+finish_row row = record row { phase = phase.Detached }
+
+abbrev pub finished : StackWorld → InstanceId → StackWorld
+finished s i = record s { instances = updated finish_row s.instances i.0 }

@@ -21,6 +21,10 @@ abbrev pub is_attached : Phase → Bool
 is_attached phase.Attached = true
 is_attached _ = false
 
+abbrev pub is_emptying : Phase → Bool
+is_emptying phase.Emptying = true
+is_emptying _ = false
+
 abbrev pub is_detached : Phase → Bool
 is_detached phase.Detached = true
 is_detached _ = false

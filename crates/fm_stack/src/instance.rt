@@ -1,7 +1,7 @@
 //! Instances: one attachment of a filter to a volume, at an altitude.
 
 ghost use Rattle.std.specs.Prelude.{◌≡◌};
-ghost use Rattle.fm_stack.specs.Events.{has_name_on, has_altitude_on, new_instance, accept_row, refuse_row};
+ghost use Rattle.fm_stack.specs.Events.{has_name_on, has_altitude_on, new_instance, accept_row, refuse_row, finish_row};
 ghost use Rattle.fm_stack.specs.Instances.{is_lower, is_live_on};
 
 use fm_altitude::Altitude;
@@ -112,5 +112,12 @@ impl Instance {
         ensures { self.new ≡ refuse_row self.old }
     {
         self.phase = Phase::Emptying;
+    }
+
+    /// Ends an instance whose contexts are cleaned up.
+    pub fn finish(&mut self)
+        ensures { self.new ≡ finish_row self.old }
+    {
+        self.phase = Phase::Detached;
     }
 }

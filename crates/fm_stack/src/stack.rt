@@ -8,7 +8,7 @@ ghost use Rattle.fm_types.specs.Lists.{updated};
 ghost use Rattle.fm_stack.specs.StackWorld.{empty_stack};
 ghost use Rattle.fm_stack.specs.Stacks.{IsStack};
 ghost use Rattle.fm_stack.specs.Follows.{Follows};
-ghost use Rattle.fm_stack.specs.Events.{Registers, Mounts, Attaches, SetsUp, is_named, has_name_on, has_altitude_on, register_refusals, mount_refusals, attach_refusals, setup_refusals, is_wanted, is_setup_at, accepted, refused, accept_row, refuse_row};
+ghost use Rattle.fm_stack.specs.Events.{Registers, Mounts, Attaches, SetsUp, is_named, has_name_on, has_altitude_on, register_refusals, mount_refusals, attach_refusals, setup_refusals, is_wanted, is_setup_at, accepted, refused, accept_row, refuse_row, finish_row, finished, is_emptying_at};
 ghost use Rattle.fm_stack.specs.Instances.{is_live_on, registration_of, same_name};
 ghost use Rattle.fm_types.specs.declared.ids.InstanceId.{InstanceId};
 ghost use Rattle.fm_stack.specs.declared.filter.Filter.{Filter};
@@ -73,6 +73,14 @@ fn refuse_at(rows: &mut Vec<Instance>, at: usize)
     ensures { rows.new.items ≡ updated refuse_row rows.old.items at }
 {
     rows[at].refuse();
+}
+
+// Ends one row.
+fn finish_at(rows: &mut Vec<Instance>, at: usize)
+    requires { at < length rows.old.items }
+    ensures { rows.new.items ≡ updated finish_row rows.old.items at }
+{
+    rows[at].finish();
 }
 
 impl Stack {
@@ -399,6 +407,16 @@ impl Stack {
         }
         self.accept(instance);
         Ok(())
+    }
+
+    /// Ends an instance whose contexts wait for nothing any more (as the manager does when an instance's last reference
+    /// goes after its teardown): its phase is Detached, its name and altitude are free again.
+    pub fn finish(&mut self, instance: InstanceId)
+        requires { is_emptying_at (slice_get self.old.instances instance.0) ≡ true }
+        ensures event { self.new ≡ finished self.old instance }
+        ensures follows { Follows self.old self.new }
+    {
+        finish_at(&mut self.instances, instance.0 as usize);
     }
 }
 

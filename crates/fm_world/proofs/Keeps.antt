@@ -21,13 +21,14 @@ use Rattle.fm_stack.specs.Instances.{is_setup}
 use Rattle.fm_stack.specs.Events as stack
 use Rattle.fm_stack.specs.Follows.{Follows}
 use Rattle.fm_stack.specs.Stacks.{IsStack}
+use Rattle.fm_ctx.specs.Table.{ContextTable}
 use Rattle.fm_world.specs.declared.worker.Worker.{Worker}
 use Rattle.fm_world.specs.declared.worker.Worker.TheVariants as place
 use Rattle.fm_world.specs.World.{World}
 use Rattle.fm_world.specs.Workers.{worker_at, put, is_idle, after_attach}
 use Rattle.fm_world.specs.Events.{Registers, Mounts, Attaches, SetsUp, SetsUpAt, Unless}
 use Rattle.fm_world.specs.Headline.{Spot, AtPre, AtBase, AtPost, AtDrain, is_in_at}
-use Rattle.fm_world.specs.Sound.{IsSound, IsAmong, is_in_setup, setup_row}
+use Rattle.fm_world.specs.Sound.{IsUnderWay, IsAmong, is_in_setup, setup_row}
 use Rattle.fm_world.proofs.Counts.{count-some}
 use Rattle.fm_world.proofs.Ties.{one, count_moves, idle_is_in_none}
 use Rattle.fm_world.proofs.Amongs.{among_follows}
@@ -35,11 +36,28 @@ use Rattle.fm_stack.proofs.Registering.{registered_keeps, registered_follows, mo
 use Rattle.fm_stack.proofs.Attaching.{attached_keeps, attached_follows}
 use Rattle.fm_stack.proofs.SettingUp.{accepted_keeps, accepted_follows, refused_keeps, refused_follows}
 
+-- contexts don't matter here
+pub whatever_contexts : (w : World) (t : ContextTable) (totals : List ℕ) → IsUnderWay w → IsUnderWay (record w { contexts = t; totals = totals })
+whatever_contexts w t totals h = record { stack = h.stack; flow = h.flow; among = h.among; hands = h.hands; workers = h.workers; setups = h.setups }
+
+-- workers move outside operations and setups
+pub workers_move : (w : World) (workers : List Worker) → length workers ≡ 48
+    → ((o : OpId) (spot : Spot) → count_by (is_in_at o spot) workers ≡ count_by (is_in_at o spot) w.workers)
+    → ((i : ℕ) → count_by (is_in_setup i) workers ≡ count_by (is_in_setup i) w.workers) → IsUnderWay w → IsUnderWay (record w { workers = workers })
+workers_move w workers hands same setups h = record {
+  stack = h.stack;
+  flow = h.flow;
+  among = h.among;
+  hands = hands;
+  workers = λ o spot. same o spot ∙ h.workers o spot;
+  setups = λ i. setups i ∙ h.setups i;
+}
+
 -- filters, volumes and instances change, workers move outside operations
-stack_moves : (w : World) (t : StackWorld) (workers : List Worker) → IsStack t → Follows w.stack t → length workers ≡ 48
+pub stack_moves : (w : World) (t : StackWorld) (workers : List Worker) → IsStack t → Follows w.stack t → length workers ≡ 48
     → ((o : OpId) (spot : Spot) → count_by (is_in_at o spot) workers ≡ count_by (is_in_at o spot) w.workers)
     → ((i : ℕ) → count_by (is_in_setup i) workers ≡ setup_row (slice_get t.instances i))
-    → IsSound w → IsSound (record w { stack = t; workers = workers })
+    → IsUnderWay w → IsUnderWay (record w { stack = t; workers = workers })
 stack_moves w t workers stack follows hands same setups h = record {
   stack = stack;
   flow = h.flow;
@@ -54,21 +72,21 @@ same_rest : (old new : World) (t : StackWorld) → new.stack ≡ t → new ≡ r
 same_rest old new t e h = h ∙ ap (λ x. record old { stack = x }) e
 
 pub register_keeps : (old : World) (name : List ℕ) (registration : Registration) (result : Result FilterId Status) (new : World)
-    → Registers old name registration result new → IsSound old → IsSound new
+    → Registers old name registration result new → IsUnderWay old → IsUnderWay new
 unfolding Registers stack.Registers
 register_keeps old name registration (Ok f) new h s =
-    subst IsSound (sym (same_rest old new (stack.registered old.stack name registration) h.0.1.1 h.1))
+    subst IsUnderWay (sym (same_rest old new (stack.registered old.stack name registration) h.0.1.1 h.1))
     (stack_moves old (stack.registered old.stack name registration) old.workers (registered_keeps old.stack name registration s.stack h.0.0)
     (registered_follows old.stack name registration s.stack) s.hands (λ o spot. refl) s.setups s)
-register_keeps old name registration (Err why) new h s = subst IsSound (sym (same_rest old new old.stack h.0.1 h.1)) s
+register_keeps old name registration (Err why) new h s = subst IsUnderWay (sym (same_rest old new old.stack h.0.1 h.1)) s
 
-pub mount_keeps : (old : World) (name : List ℕ) (result : Result VolumeId Status) (new : World) → Mounts old name result new → IsSound old → IsSound new
+pub mount_keeps : (old : World) (name : List ℕ) (result : Result VolumeId Status) (new : World) → Mounts old name result new → IsUnderWay old → IsUnderWay new
 unfolding Mounts stack.Mounts
 mount_keeps old name (Ok v) new h s =
-    subst IsSound (sym (same_rest old new (stack.mounted old.stack name) h.0.1.1 h.1))
+    subst IsUnderWay (sym (same_rest old new (stack.mounted old.stack name) h.0.1.1 h.1))
     (stack_moves old (stack.mounted old.stack name) old.workers (mounted_keeps old.stack name s.stack h.0.0)
     (mounted_follows old.stack name s.stack) s.hands (λ o spot. refl) s.setups s)
-mount_keeps old name (Err why) new h s = subst IsSound (sym (same_rest old new old.stack h.0.1 h.1)) s
+mount_keeps old name (Err why) new h s = subst IsUnderWay (sym (same_rest old new old.stack h.0.1 h.1)) s
 
 -- ---- attach
 
@@ -89,7 +107,7 @@ setup_in_none i p (AtPost j) = refl
 setup_in_none i p (AtDrain j) = refl
 
 -- a worker moves between places outside operations
-moves_outside : (workers : List Worker) (k : WorkerId) (a b : Worker) → worker_at workers k ≡ Some a
+pub moves_outside : (workers : List Worker) (k : WorkerId) (a b : Worker) → worker_at workers k ≡ Some a
     → ((p : OpId) (s : Spot) → is_in_at p s a ≡ false) → ((p : OpId) (s : Spot) → is_in_at p s b ≡ false)
     → (p : OpId) (s : Spot) → count_by (is_in_at p s) (put workers k b) ≡ count_by (is_in_at p s) workers
 moves_outside workers k a b h na nb p s =
@@ -107,10 +125,10 @@ pub idle_there : (workers : List Worker) (k : WorkerId) → is_idle (worker_at w
 idle_there workers k h = idle_at (worker_at workers k) h
 
 -- what an event says where its test fails, or passes
-pub unless_cases : {T : Type 0} (refusal : Status) (b : Bool) (result : Result T Status) (old new : World) (Event : Type 0) → Unless refusal b result old new Event
-    → (b ≡ true → Event → IsSound new) → IsSound old → IsSound new
-unless_cases refusal true result old new Event h event s = event refl h
-unless_cases refusal false result old new Event h event s = subst IsSound (sym h.1) s
+pub unless_cases : {T : Type 0} (P : World → Type 0) (refusal : Status) (b : Bool) (result : Result T Status) (old new : World) (Event : Type 0)
+    → Unless refusal b result old new Event → (b ≡ true → Event → P new) → P old → P new
+unless_cases P refusal true result old new Event h event s = event refl h
+unless_cases P refusal false result old new Event h event s = subst P (sym h.1) s
 
 same_all : (old new : World) (t : StackWorld) (workers : List Worker) → new.stack ≡ t → new ≡ record old { stack = new.stack; workers = workers }
     → new ≡ record old { stack = t; workers = workers }
@@ -118,13 +136,13 @@ same_all old new t workers e h = h ∙ ap (λ x. record old { stack = x; workers
 
 attach_at : (old : World) (k : WorkerId) (f : FilterId) (v : VolumeId) (name altitude : List ℕ) (result : Result InstanceId Status) (new : World)
     → worker_at old.workers k ≡ Some place.Idle → stack.Attaches old.stack f v name altitude result new.stack
-    → new ≡ record old { stack = new.stack; workers = after_attach old.workers k result } → IsSound old → IsSound new
+    → new ≡ record old { stack = new.stack; workers = after_attach old.workers k result } → IsUnderWay old → IsUnderWay new
 unfolding stack.Attaches
-attach_at old k f v name altitude (Err why) new idle h e s = subst IsSound (sym (same_all old new old.stack old.workers h.1 e)) s
+attach_at old k f v name altitude (Err why) new idle h e s = subst IsUnderWay (sym (same_all old new old.stack old.workers h.1 e)) s
 attach_at old k f v name altitude (Ok i) new idle h e s =
     let t = stack.attached old.stack f v name altitude in
     let workers = put old.workers k (place.Setup i) in
-    subst IsSound (sym (same_all old new t workers h.1.1 e))
+    subst IsUnderWay (sym (same_all old new t workers h.1.1 e))
     (stack_moves old t workers (attached_keeps old.stack f v name altitude s.stack h.0) (attached_follows old.stack f v name altitude s.stack)
     (length-set old.workers k.0 (place.Setup i) ∙ s.hands)
     (moves_outside old.workers k place.Idle (place.Setup i) idle idle_is_in_none (setup_in_none i))
@@ -136,10 +154,10 @@ attach_at old k f v name altitude (Ok i) new idle h e s =
     s)
 
 pub attach_keeps : (old : World) (k : WorkerId) (f : FilterId) (v : VolumeId) (name altitude : List ℕ) (result : Result InstanceId Status) (new : World)
-    → Attaches old k f v name altitude result new → IsSound old → IsSound new
+    → Attaches old k f v name altitude result new → IsUnderWay old → IsUnderWay new
 unfolding Attaches
 attach_keeps old k f v name altitude result new h s =
-    unless_cases status.WrongStep (is_idle (worker_at old.workers k)) result old new
+    unless_cases IsUnderWay status.WrongStep (is_idle (worker_at old.workers k)) result old new
     (stack.Attaches old.stack f v name altitude result new.stack
     × (new ≡ record old { stack = new.stack; workers = after_attach old.workers k result }))
     h (λ idle event. attach_at old k f v name altitude result new (idle_there old.workers k idle) event.0 event.1 s) s
@@ -170,7 +188,7 @@ setup_there (Some row) h = (row, refl, true_of (is_setup row.phase) h)
     true_of false h = absurd (omega arith)
 
 -- the instance that a worker's setup callback is of, found through the worker
-pub setup_place : (w : World) (k : WorkerId) (i : InstanceId) → IsSound w → worker_at w.workers k ≡ Some (place.Setup i)
+pub setup_place : (w : World) (k : WorkerId) (i : InstanceId) → IsUnderWay w → worker_at w.workers k ≡ Some (place.Setup i)
     → (row : Instance) × (slice_get w.stack.instances i.0 ≡ Some row) × (is_setup row.phase ≡ true)
 setup_place w k i s at =
     let inside = count-some (is_in_setup i.0) w.workers k.0 (place.Setup i) at (eq-eqb i.0 i.0 refl) in
@@ -179,8 +197,8 @@ setup_place w k i s at =
 -- the callback returns, and the instance leaves its setup
 setup_ends : (old : World) (k : WorkerId) (i : InstanceId) (t : StackWorld) (change : Instance → Instance) (row : Instance)
     → worker_at old.workers k ≡ Some (place.Setup i) → slice_get old.stack.instances i.0 ≡ Some row → is_setup row.phase ≡ true → is_setup (change row).phase ≡ false
-    → t.instances ≡ updated change old.stack.instances i.0 → IsStack t → Follows old.stack t → IsSound old
-    → IsSound (record old { stack = t; workers = put old.workers k place.Idle })
+    → t.instances ≡ updated change old.stack.instances i.0 → IsStack t → Follows old.stack t → IsUnderWay old
+    → IsUnderWay (record old { stack = t; workers = put old.workers k place.Idle })
 setup_ends old k i t change row at there was is rows stack follows s =
     stack_moves old t (put old.workers k place.Idle) stack follows (length-set old.workers k.0 place.Idle ∙ s.hands)
     (moves_outside old.workers k (place.Setup i) place.Idle at (setup_in_none i) idle_is_in_none)
@@ -194,33 +212,36 @@ setup_ends old k i t change row at there was is rows stack follows s =
 
 setup_at : (old : World) (k : WorkerId) (i : InstanceId) (accept : Bool) (result : Result (Unit {0}) Status) (new : World)
     → worker_at old.workers k ≡ Some (place.Setup i) → stack.SetsUp old.stack i accept result new.stack
-    → new ≡ record old { stack = new.stack; workers = put old.workers k place.Idle } → IsSound old → IsSound new
+    → new ≡ record old { stack = new.stack; workers = put old.workers k place.Idle; contexts = new.contexts } → IsUnderWay old → IsUnderWay new
 unfolding stack.SetsUp
 setup_at old k i accept (Ok done) new at h e s =
     let row = setup_place old k i s at in
     let t = stack.accepted old.stack i in
-    subst IsSound (sym (same_all old new t (put old.workers k place.Idle) h.1 e))
+    subst IsUnderWay (sym (e ∙ ap (λ x. record old { stack = x; workers = put old.workers k place.Idle; contexts = new.contexts }) h.1))
+    (whatever_contexts (record old { stack = t; workers = put old.workers k place.Idle }) new.contexts old.totals
     (setup_ends old k i t (λ (r : Instance). record r { phase = phase.Attached; birth = old.stack.births }) row.0 at row.1 row.2 refl refl
-    (accepted_keeps old.stack i s.stack row.0 row.1 row.2) (accepted_follows old.stack i s.stack row.0 row.1 row.2) s)
+    (accepted_keeps old.stack i s.stack row.0 row.1 row.2) (accepted_follows old.stack i s.stack row.0 row.1 row.2) s))
 setup_at old k i accept (Err why) new at h e s =
     let row = setup_place old k i s at in
     let t = stack.refused old.stack i in
-    subst IsSound (sym (same_all old new t (put old.workers k place.Idle) h.1 e))
+    subst IsUnderWay (sym (e ∙ ap (λ x. record old { stack = x; workers = put old.workers k place.Idle; contexts = new.contexts }) h.1))
+    (whatever_contexts (record old { stack = t; workers = put old.workers k place.Idle }) new.contexts old.totals
     (setup_ends old k i t (λ (r : Instance). record r { phase = phase.Emptying }) row.0 at row.1 row.2 refl refl
-    (refused_keeps old.stack i s.stack row.0 row.1 row.2) (refused_follows old.stack i s.stack row.0 row.1 row.2) s)
+    (refused_keeps old.stack i s.stack row.0 row.1 row.2) (refused_follows old.stack i s.stack row.0 row.1 row.2) s))
 
 -- which place a worker is in, or that the event refused
 setup_cases : (old : World) (k : WorkerId) (accept : Bool) (result : Result (Unit {0}) Status) (new : World) (m : Option Worker)
-    → worker_at old.workers k ≡ m → SetsUpAt old k accept result new m → IsSound old → IsSound new
-setup_cases old k accept result new (Some (place.Setup i)) at h s = setup_at old k i accept result new at h.0 h.1 s
-setup_cases old k accept result new (Some place.Idle) at h s = subst IsSound (sym h.1) s
-setup_cases old k accept result new (Some (place.Pre o i)) at h s = subst IsSound (sym h.1) s
-setup_cases old k accept result new (Some (place.Base o)) at h s = subst IsSound (sym h.1) s
-setup_cases old k accept result new (Some (place.Post o i)) at h s = subst IsSound (sym h.1) s
-setup_cases old k accept result new (Some (place.Drain o i)) at h s = subst IsSound (sym h.1) s
-setup_cases old k accept result new None at h s = subst IsSound (sym h.1) s
+    → worker_at old.workers k ≡ m → SetsUpAt old k accept result new m → IsUnderWay old → IsUnderWay new
+setup_cases old k accept result new (Some (place.Setup i)) at h s = setup_at old k i accept result new at h.0 h.4 s
+setup_cases old k accept result new (Some place.Idle) at h s = subst IsUnderWay (sym h.1) s
+setup_cases old k accept result new (Some (place.Pre o i)) at h s = subst IsUnderWay (sym h.1) s
+setup_cases old k accept result new (Some (place.Base o)) at h s = subst IsUnderWay (sym h.1) s
+setup_cases old k accept result new (Some (place.Post o i)) at h s = subst IsUnderWay (sym h.1) s
+setup_cases old k accept result new (Some (place.Drain o i)) at h s = subst IsUnderWay (sym h.1) s
+setup_cases old k accept result new (Some (place.Cleanup c)) at h s = subst IsUnderWay (sym h.1) s
+setup_cases old k accept result new None at h s = subst IsUnderWay (sym h.1) s
 
 pub setup_keeps : (old : World) (k : WorkerId) (accept : Bool) (result : Result (Unit {0}) Status) (new : World)
-    → SetsUp old k accept result new → IsSound old → IsSound new
+    → SetsUp old k accept result new → IsUnderWay old → IsUnderWay new
 unfolding SetsUp
 setup_keeps old k accept result new h s = setup_cases old k accept result new (worker_at old.workers k) refl h s

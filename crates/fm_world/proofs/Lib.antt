@@ -6,3 +6,11 @@ pub mod Amongs
 pub mod Keeps
 pub mod Operations
 pub mod Runs
+pub mod Belonging
+pub mod Fitting
+pub mod Callbacks
+pub mod Flights
+pub mod Linking
+pub mod Cleanups
+pub mod Owning
+pub mod Flowing

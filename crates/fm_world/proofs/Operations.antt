@@ -24,6 +24,7 @@ use Rattle.fm_data.specs.Data.{Data, data_fits}
 use Rattle.fm_data.specs.Params.{fit}
 use Rattle.fm_stack.specs.StackWorld.{StackWorld}
 use Rattle.fm_stack.specs.Stacks.{IsStack}
+use Rattle.fm_ctx.specs.Bags.{hand_of}
 use Rattle.fm_flow.specs.declared.action.Below.{Below}
 use Rattle.fm_flow.specs.declared.action.Below.TheVariants as below
 use Rattle.fm_flow.specs.declared.action.FlowAction.{FlowAction}
@@ -48,15 +49,15 @@ use Rattle.fm_world.specs.declared.worker.Worker.{Worker}
 use Rattle.fm_world.specs.declared.worker.Worker.TheVariants as place
 use Rattle.fm_world.specs.World.{World}
 use Rattle.fm_world.specs.Workers.{worker_at, put, is_idle, after_next}
-use Rattle.fm_world.specs.Events.{Begins, Nexts, NextsOver, LiesBelow, FindsBelow, PreReturns, PreReturnsAt, BaseReturns, BaseReturnsAt, PostReturns, PostReturnsAt, Collects, returned, state_at, state_given, drains_at, without_context, has_post}
+use Rattle.fm_world.specs.Events.{Begins, Nexts, NextsOver, LiesBelow, FindsBelow, PreReturns, PreReturnsAt, BaseReturns, BaseReturnsAt, PostReturns, PostReturnsAt, Collects, ReturnsFrom, returned, received, state_at, state_given, drains_at, of_hand, sent, sent_in, has_post}
 use Rattle.fm_world.specs.Headline.{Spot, AtPre, AtBase, AtPost, AtDrain, spot_at, spot_of, is_spot, stands_at}
 use Rattle.fm_world.specs.Descent.{is_among}
-use Rattle.fm_world.specs.Sound.{IsSound, IsAmong, is_in_setup}
+use Rattle.fm_world.specs.Sound.{IsUnderWay, IsAmong, is_in_setup}
 use Rattle.fm_flow.proofs.Tables.{change_none, found_holds, all_change, all_without, find_without}
 use Rattle.fm_world.proofs.Ties.{counted_from, one, count_moves, AreTied, Matches, is_running, quiet_is_none, quiet_is_nowhere, tied_moves, tied_stays, tied_there, matches_idle, matches_pre, matches_base, matches_post, matches_drain, spot_pre, spot_base, spot_post, spot_drain}
 use Rattle.fm_world.proofs.Amongs.{is_up, no_base, visit_last, post_last, among_visits, among_other, among_base, among_settles, among_begins, settle_pre_visit, settle_pre_base, settle_post_visit, settle_post_base, settle_drain_visit, settle_drain_base}
 use Rattle.fm_world.proofs.Descents.{next_unseen, room_is, or_left, or_right}
-use Rattle.fm_world.proofs.Keeps.{unless_cases, idle_there}
+use Rattle.fm_world.proofs.Keeps.{unless_cases, idle_there, whatever_contexts}
 use Rattle.fm_flow.proofs.Soundness.{sound_pre_returned, sound_base_returned, sound_post_returned, sound_drain_returned}
 use Rattle.fm_stack.proofs.Visits.{is_to_visit_few}
 use Rattle.fm_flow.proofs.Flows.{flow_begins, flow_changes, flow_collects, sound_next}
@@ -64,7 +65,7 @@ use Rattle.fm_flow.proofs.Flows.{flow_begins, flow_changes, flow_collects, sound
 -- operations change, and workers with them
 flow_moves : (w : World) (t : FlowTable) (workers : List Worker) → IsFlow t → All (IsAmong w.stack) t.operations → length workers ≡ 48
     → AreTied workers t → ((i : ℕ) → count_by (is_in_setup i) workers ≡ count_by (is_in_setup i) w.workers)
-    → IsSound w → IsSound (record w { flow = t; workers = workers })
+    → IsUnderWay w → IsUnderWay (record w { flow = t; workers = workers })
 flow_moves w t workers flow among hands tied setups h = record {
   stack = h.stack;
   flow = flow;
@@ -99,13 +100,13 @@ full_from false false true h = cc
 full_from false true c h = cc
 full_from true b c h = cc
 
-pub begin_keeps : (old : World) (what : Begin) (result : Result OpId Status) (new : World) → Begins old what result new → IsSound old → IsSound new
+pub begin_keeps : (old : World) (what : Begin) (result : Result OpId Status) (new : World) → Begins old what result new → IsUnderWay old → IsUnderWay new
 unfolding Begins
-begin_keeps old what (Err why) new h s = subst IsSound (sym h.1) s
+begin_keeps old what (Err why) new h s = subst IsUnderWay (sym h.1) s
 begin_keeps old (begin.List v) (Ok o) new h s =
     let fresh = begun_record old.flow.next v None None old.stack.births params.List in
     let t = begun v None None old.stack.births params.List old.flow in
-    subst IsSound (sym h.1.1)
+    subst IsUnderWay (sym h.1.1)
     (flow_moves old t old.workers
     (flow_begins v None None old.stack.births params.List old.flow refl s.flow (full_from _ _ (is_full old.flow) h.0))
     (All-push (IsAmong old.stack) old.flow.operations fresh s.among
@@ -348,14 +349,14 @@ may_visit s r (below.Instance i is_called) h lies = (
 may_visit s r below.Call h lies = tt
 may_visit s r (below.Known status) h lies = tt
 
-unchanged_flow : (t : FlowTable) (o : OpId) (f : FlowRecord → FlowRecord) → operation_at o t ≡ None → changed o f t ≡ t
+pub unchanged_flow : (t : FlowTable) (o : OpId) (f : FlowRecord → FlowRecord) → operation_at o t ≡ None → changed o f t ≡ t
 unchanged_flow t o f h = ap (λ (rs : List FlowRecord). record t { operations = rs }) (change_none (is_number o) f t.operations h)
 
 -- one operation changes, a worker with it
 step_keeps : (w : World) (o : OpId) (r : FlowRecord) (f : FlowRecord → FlowRecord) (workers : List Worker) → operation_at o w.flow ≡ Some r
     → ((x : FlowRecord) → (f x).number.0 ≡ x.number.0) → ((x : FlowRecord) → (f x).collected ≡ x.collected) → flow.IsSound (f r) → IsAmong w.stack (f r)
     → length workers ≡ 48 → AreTied workers (changed o f w.flow) → ((i : ℕ) → count_by (is_in_setup i) workers ≡ count_by (is_in_setup i) w.workers)
-    → IsSound w → IsSound (record w { flow = changed o f w.flow; workers = workers })
+    → IsUnderWay w → IsUnderWay (record w { flow = changed o f w.flow; workers = workers })
 step_keeps w o r f workers at number collected sound among hands tied setups s =
     flow_moves w (changed o f w.flow) workers
     (flow_changes w.flow o f s.flow number collected (λ x e. subst (λ y. flow.IsSound (f y)) (same_Some r x (sym at ∙ e)) sound))
@@ -364,7 +365,7 @@ step_keeps w o r f workers at number collected sound among hands tied setups s =
     hands tied setups s
 
 -- no worker goes into or out of a setup callback
-setups_stay : (workers : List Worker) (k : WorkerId) (a b : Worker) → worker_at workers k ≡ Some a → ((i : ℕ) → is_in_setup i a ≡ false)
+pub setups_stay : (workers : List Worker) (k : WorkerId) (a b : Worker) → worker_at workers k ≡ Some a → ((i : ℕ) → is_in_setup i a ≡ false)
     → ((i : ℕ) → is_in_setup i b ≡ false) → (i : ℕ) → count_by (is_in_setup i) (put workers k b) ≡ count_by (is_in_setup i) workers
 setups_stay workers k a b h na nb i =
     let moves = count_moves (is_in_setup i) workers k a b h in
@@ -374,16 +375,16 @@ setups_stay workers k a b h na nb i =
 
 next_there : (old : World) (k : WorkerId) (o : OpId) (lies : Below) (result : Result FlowAction Status) (new : World) (m : Option FlowRecord)
     → operation_at o old.flow ≡ m → worker_at old.workers k ≡ Some place.Idle → FindsBelow old.stack m lies → NextsOver old k o lies result new
-    → IsSound old → IsSound new
+    → IsUnderWay old → IsUnderWay new
 next_there old k o lies result new None at idle finds h s =
     let d = drains_at old o in
     let f = λ (x : FlowRecord). (next_of k lies d x).after in
     let reply : result ≡ Err status.WrongStep =
     h.0 ∙ ap (λ m. unwrap_or (option_map (λ (x : FlowRecord). (next_of k lies d x).reply) m) (Err status.WrongStep)) at in
-    let same : record old { flow = changed o f old.flow; workers = after_next old.workers k o result } ≡ old =
-    ap (λ t. record old { flow = t; workers = after_next old.workers k o result }) (unchanged_flow old.flow o f at)
-    ∙ ap (λ x. record old { workers = after_next old.workers k o x }) reply in
-    subst IsSound (sym (h.1 ∙ same)) s
+    let same : record old { flow = changed o f old.flow; workers = after_next old.workers k o result; contexts = received old.contexts k result } ≡ old =
+    ap (λ t. record old { flow = t; workers = after_next old.workers k o result; contexts = received old.contexts k result }) (unchanged_flow old.flow o f at)
+    ∙ ap (λ x. record old { workers = after_next old.workers k o x; contexts = received old.contexts k x }) reply in
+    subst IsUnderWay (sym (h.1 ∙ same)) s
 next_there old k o lies result new (Some r) at idle finds h s =
     let d = drains_at old o in
     let f = λ (x : FlowRecord). (next_of k lies d x).after in
@@ -394,11 +395,12 @@ next_there old k o lies result new (Some r) at idle finds h s =
     let leads = leads_of old.stack k o r lies d old.workers s.stack sound finds among in
     let after = after_next old.workers k o (next_of k lies d r).reply in
     let built : (ws : List Worker) → after ≡ ws → length ws ≡ 48 → AreTied ws (changed o f old.flow)
-    → ((i : ℕ) → count_by (is_in_setup i) ws ≡ count_by (is_in_setup i) old.workers) → IsSound new =
-    λ ws e hands tied setups. subst IsSound
-    (sym (h.1 ∙ ap (λ x. record old { flow = changed o f old.flow; workers = x }) (ap (after_next old.workers k o) reply ∙ e)))
+    → ((i : ℕ) → count_by (is_in_setup i) ws ≡ count_by (is_in_setup i) old.workers) → IsUnderWay new =
+    λ ws e hands tied setups. subst IsUnderWay
+    (sym (h.1 ∙ ap (λ x. record old { flow = changed o f old.flow; workers = x; contexts = received old.contexts k result }) (ap (after_next old.workers k o) reply ∙ e)))
+    (whatever_contexts (record old { flow = changed o f old.flow; workers = ws }) (received old.contexts k result) old.totals
     (step_keeps old o r f ws at (next_number k lies d) (next_collected k lies d) (sound_next k lies d r sound (λ e. may_visit old.stack r lies among (finds e)))
-    leads.among hands tied setups s) in
+    leads.among hands tied setups s)) in
     elim leads.how [
       | inl stays ↦ built old.workers stays.0 s.hands (tied_stays old.workers old.flow o r f at (next_number k lies d) stays.1 s.workers) (λ i. refl)
       | inr goes ↦ built (put old.workers k goes.0) goes.1 (length-set old.workers k.0 goes.0 ∙ s.hands)
@@ -406,10 +408,10 @@ next_there old k o lies result new (Some r) at idle finds h s =
           (setups_stay old.workers k place.Idle goes.0 idle (λ i. refl) goes.4)
     ]
 
-pub next_keeps : (old : World) (k : WorkerId) (o : OpId) (result : Result FlowAction Status) (new : World) → Nexts old k o result new → IsSound old → IsSound new
+pub next_keeps : (old : World) (k : WorkerId) (o : OpId) (result : Result FlowAction Status) (new : World) → Nexts old k o result new → IsUnderWay old → IsUnderWay new
 unfolding Nexts
 next_keeps old k o result new h s =
-    unless_cases status.WrongStep (is_idle (worker_at old.workers k)) result old new
+    unless_cases IsUnderWay status.WrongStep (is_idle (worker_at old.workers k)) result old new
     ((lies : Below) × FindsBelow old.stack (operation_at o old.flow) lies × NextsOver old k o lies result new) h
     (λ idle event. next_there old k o event.0 result new (operation_at o old.flow) refl (idle_there old.workers k idle) event.1 event.2 s) s
 
@@ -419,7 +421,7 @@ next_keeps old k o result new h s =
 return_keeps : (old : World) (k : WorkerId) (a : Worker) (o : OpId) (r : FlowRecord) (f : FlowRecord → FlowRecord) → worker_at old.workers k ≡ Some a
     → operation_at o old.flow ≡ Some r → ((x : FlowRecord) → (f x).number.0 ≡ x.number.0) → ((x : FlowRecord) → (f x).collected ≡ x.collected)
     → Matches o a (spot_of r) → is_running (f r).stage ≡ false → ((i : ℕ) → is_in_setup i a ≡ false)
-    → flow.IsSound (f r) → IsAmong old.stack (f r) → IsSound old → IsSound (returned old k o f)
+    → flow.IsSound (f r) → IsAmong old.stack (f r) → IsUnderWay old → IsUnderWay (returned old k o f)
 return_keeps old k a o r f at there number collected matches quiet outside sound among s =
     step_keeps old o r f (put old.workers k place.Idle) there number collected sound among (length-set old.workers k.0 place.Idle ∙ s.hands)
     (tied_moves old.workers old.flow k a place.Idle o r f at there number matches (matches_idle o (f r).stage (f r).entries quiet) s.workers)
@@ -454,40 +456,42 @@ not_base_of : (stage : Stage) → is_running stage ≡ false → stage ≡ InBas
 not_base_of stage h e = false≢true (sym h ∙ ap is_running e)
 
 pre_at : (old : World) (k : WorkerId) (given : PreVerdict) (lent : Data) (result : Result (Unit {0}) Status) (new : World) (m : Option Worker)
-    → worker_at old.workers k ≡ m → PreReturnsAt old k given lent result new m → IsSound old → IsSound new
+    → worker_at old.workers k ≡ m → PreReturnsAt old k given lent result new m → IsUnderWay old → IsUnderWay new
 pre_at old k given lent result new (Some (place.Pre o i)) at h s =
     let there = tied_there old.workers old.flow k (place.Pre o i) o (AtPre i.0) s.workers at (and_from (o.0 == o.0) (i.0 == i.0) (eq-eqb o.0 o.0 refl) (eq-eqb i.0 i.0 refl)) in
     let r = there.0 in
     let spot = spot_pre i.0 r.stage r.entries there.2 in
     let stage : r.stage ≡ PreRunning = spot.0 in
-    let state = state_at old o i given in
+    let hand = hand_of old.contexts.hands k.0 in
+    let state = state_at old k o i given in
     let quiet : is_running (pre_leads state) ≡ false =
-    ap (λ x. is_running (pre_leads x)) (told_there (state_given old.stack i given) pre.Passed o old.flow r there.1)
-    ∙ counted_quiet (without_context given) r.operation (has_post old.stack (slice_get old.stack.instances i.0) r.operation) in
+    ap (λ x. is_running (pre_leads x)) (told_there (state_given old.stack hand i given) pre.Passed o old.flow r there.1)
+    ∙ counted_quiet (of_hand hand given) r.operation (has_post old.stack (slice_get old.stack.instances i.0) r.operation) in
     let sound = found_holds flow.IsSound (is_number o) old.flow.operations r s.flow.sound there.1 in
     let among = found_holds (IsAmong old.stack) (is_number o) old.flow.operations r s.among there.1 in
-    unless_cases status.BadRequest (told (λ r. data_fits r.operation r.path lent) false o old.flow) result old new
-    ((result ≡ Ok tt) × (new ≡ returned old k o (pre_returned_of state lent))) h
-    (λ fits event. subst IsSound (sym event.1)
+    unless_cases IsUnderWay status.BadRequest (told (λ r. data_fits r.operation r.path lent) false o old.flow) result old new
+    ((result ≡ Ok tt) × ReturnsFrom old k o (pre_returned_of state lent) (sent old.contexts k (sent_in state)) new) h
+    (λ fits event. subst IsUnderWay (sym event.1.1) (whatever_contexts (returned old k o (pre_returned_of state lent)) new.contexts old.totals
     (return_keeps old k (place.Pre o i) o r (pre_returned_of state lent) at there.1 (λ x. refl) (λ x. refl)
     (subst (Matches o (place.Pre o i)) (sym (ap (λ a. spot_at a r.entries) stage ∙ ap (option_map AtPre) spot.1)) (matches_pre o i)) quiet (λ j. refl)
     (sound_pre_returned state lent r stage (counted_from state quiet) (sym (told_there (λ (x : FlowRecord). data_fits x.operation x.path lent) false o old.flow r there.1) ∙ fits) sound)
     (among_settles old.stack r.volume r.born r.operation r.entries r.stage (pre_leads state) (settle_pre state) (settle_pre_visit state) (settle_pre_base state)
-    (not_base_of (pre_leads state) quiet) among) s)) s
-pre_at old k given lent result new (Some place.Idle) at h s = subst IsSound (sym h.1) s
-pre_at old k given lent result new (Some (place.Setup i)) at h s = subst IsSound (sym h.1) s
-pre_at old k given lent result new (Some (place.Base o)) at h s = subst IsSound (sym h.1) s
-pre_at old k given lent result new (Some (place.Post o i)) at h s = subst IsSound (sym h.1) s
-pre_at old k given lent result new (Some (place.Drain o i)) at h s = subst IsSound (sym h.1) s
-pre_at old k given lent result new None at h s = subst IsSound (sym h.1) s
+    (not_base_of (pre_leads state) quiet) among) s))) s
+pre_at old k given lent result new (Some place.Idle) at h s = subst IsUnderWay (sym h.1) s
+pre_at old k given lent result new (Some (place.Setup i)) at h s = subst IsUnderWay (sym h.1) s
+pre_at old k given lent result new (Some (place.Base o)) at h s = subst IsUnderWay (sym h.1) s
+pre_at old k given lent result new (Some (place.Post o i)) at h s = subst IsUnderWay (sym h.1) s
+pre_at old k given lent result new (Some (place.Cleanup c)) at h s = subst IsUnderWay (sym h.1) s
+pre_at old k given lent result new (Some (place.Drain o i)) at h s = subst IsUnderWay (sym h.1) s
+pre_at old k given lent result new None at h s = subst IsUnderWay (sym h.1) s
 
 pub pre_keeps : (old : World) (k : WorkerId) (given : PreVerdict) (lent : Data) (result : Result (Unit {0}) Status) (new : World)
-    → PreReturns old k given lent result new → IsSound old → IsSound new
+    → PreReturns old k given lent result new → IsUnderWay old → IsUnderWay new
 unfolding PreReturns
 pre_keeps old k given lent result new h s = pre_at old k given lent result new (worker_at old.workers k) refl h s
 
 base_at : (old : World) (k : WorkerId) (call : Params) (given : Answer) (result : Result (Unit {0}) Status) (new : World) (m : Option Worker)
-    → worker_at old.workers k ≡ m → BaseReturnsAt old k call given result new m → IsSound old → IsSound new
+    → worker_at old.workers k ≡ m → BaseReturnsAt old k call given result new m → IsUnderWay old → IsUnderWay new
 base_at old k call given result new (Some (place.Base o)) at h s =
     let there = tied_there old.workers old.flow k (place.Base o) o AtBase s.workers at (eq-eqb o.0 o.0 refl) in
     let r = there.0 in
@@ -495,24 +499,25 @@ base_at old k call given result new (Some (place.Base o)) at h s =
     let sound = found_holds flow.IsSound (is_number o) old.flow.operations r s.flow.sound there.1 in
     let among = found_holds (IsAmong old.stack) (is_number o) old.flow.operations r s.among there.1 in
     let none = no_base r.stage r.entries sound.course.order (ap (λ x. is_up (way_of x)) stage) in
-    unless_cases status.BadRequest (told (base_fits call given) false o old.flow) result old new
+    unless_cases IsUnderWay status.BadRequest (told (base_fits call given) false o old.flow) result old new
     ((result ≡ Ok tt) × (new ≡ returned old k o (base_returned_of call given))) h
-    (λ fits event. subst IsSound (sym event.1)
+    (λ fits event. subst IsUnderWay (sym event.1)
     (return_keeps old k (place.Base o) o r (base_returned_of call given) at there.1 (λ x. refl) (λ x. refl)
     (subst (Matches o (place.Base o)) (sym (ap (λ a. spot_at a r.entries) stage)) (matches_base o)) refl (λ j. refl)
     (let good = and_parts (fit r.operation r.path call) (nat_le (length given.bytes) 32768)
     (sym (told_there (base_fits call given) false o old.flow r there.1) ∙ fits) in
     sound_base_returned call given r stage good.0 (leb-true (length given.bytes) 32768 good.1) sound)
     (among_base old.stack r.volume r.born r.operation r.entries r.stage given.status given.information none (among.base stage) among) s)) s
-base_at old k call given result new (Some place.Idle) at h s = subst IsSound (sym h.1) s
-base_at old k call given result new (Some (place.Setup i)) at h s = subst IsSound (sym h.1) s
-base_at old k call given result new (Some (place.Pre o i)) at h s = subst IsSound (sym h.1) s
-base_at old k call given result new (Some (place.Post o i)) at h s = subst IsSound (sym h.1) s
-base_at old k call given result new (Some (place.Drain o i)) at h s = subst IsSound (sym h.1) s
-base_at old k call given result new None at h s = subst IsSound (sym h.1) s
+base_at old k call given result new (Some place.Idle) at h s = subst IsUnderWay (sym h.1) s
+base_at old k call given result new (Some (place.Setup i)) at h s = subst IsUnderWay (sym h.1) s
+base_at old k call given result new (Some (place.Pre o i)) at h s = subst IsUnderWay (sym h.1) s
+base_at old k call given result new (Some (place.Post o i)) at h s = subst IsUnderWay (sym h.1) s
+base_at old k call given result new (Some (place.Cleanup c)) at h s = subst IsUnderWay (sym h.1) s
+base_at old k call given result new (Some (place.Drain o i)) at h s = subst IsUnderWay (sym h.1) s
+base_at old k call given result new None at h s = subst IsUnderWay (sym h.1) s
 
 pub base_keeps : (old : World) (k : WorkerId) (call : Params) (given : Answer) (result : Result (Unit {0}) Status) (new : World)
-    → BaseReturns old k call given result new → IsSound old → IsSound new
+    → BaseReturns old k call given result new → IsUnderWay old → IsUnderWay new
 unfolding BaseReturns
 base_keeps old k call given result new h s = base_at old k call given result new (worker_at old.workers k) refl h s
 
@@ -521,7 +526,7 @@ post_quiet answer.Finished = refl
 post_quiet answer.MoreProcessing = refl
 
 post_given : (old : World) (k : WorkerId) (o : OpId) (i : InstanceId) (given : PostVerdict) (lent : Data) (result : Result (Unit {0}) Status) (new : World)
-    → worker_at old.workers k ≡ Some (place.Post o i) → PostReturnsAt old k given (Some lent) result new (Some (place.Post o i)) → IsSound old → IsSound new
+    → worker_at old.workers k ≡ Some (place.Post o i) → PostReturnsAt old k given (Some lent) result new (Some (place.Post o i)) → IsUnderWay old → IsUnderWay new
 post_given old k o i given lent result new at h s =
     let there = tied_there old.workers old.flow k (place.Post o i) o (AtPost i.0) s.workers at (and_from (o.0 == o.0) (i.0 == i.0) (eq-eqb o.0 o.0 refl) (eq-eqb i.0 i.0 refl)) in
     let r = there.0 in
@@ -530,48 +535,50 @@ post_given old k o i given lent result new at h s =
     let state = post_state given in
     let sound = found_holds flow.IsSound (is_number o) old.flow.operations r s.flow.sound there.1 in
     let among = found_holds (IsAmong old.stack) (is_number o) old.flow.operations r s.among there.1 in
-    unless_cases status.BadRequest (told (λ r. data_fits r.operation r.path lent) false o old.flow) result old new
-    ((result ≡ Ok tt) × (new ≡ returned old k o (post_returned_of given lent))) h
-    (λ fits event. subst IsSound (sym event.1)
+    unless_cases IsUnderWay status.BadRequest (told (λ r. data_fits r.operation r.path lent) false o old.flow) result old new
+    ((result ≡ Ok tt) × ReturnsFrom old k o (post_returned_of given lent) old.contexts new) h
+    (λ fits event. subst IsUnderWay (sym event.1.1) (whatever_contexts (returned old k o (post_returned_of given lent)) new.contexts old.totals
     (return_keeps old k (place.Post o i) o r (post_returned_of given lent) at there.1 (λ x. refl) (λ x. refl)
     (subst (Matches o (place.Post o i)) (sym (ap (λ a. spot_at a r.entries) stage ∙ ap (option_map AtPost) spot.1)) (matches_post o i)) (post_quiet given) (λ j. refl)
     (sound_post_returned given lent r stage (sym (told_there (λ (x : FlowRecord). data_fits x.operation x.path lent) false o old.flow r there.1) ∙ fits) sound)
     (among_settles old.stack r.volume r.born r.operation r.entries r.stage (post_leads state) (settle_post state) (settle_post_visit state) (settle_post_base state)
-    (not_base_of (post_leads state) (post_quiet given)) among) s)) s
+    (not_base_of (post_leads state) (post_quiet given)) among) s))) s
 
 drain_given : (old : World) (k : WorkerId) (o : OpId) (i : InstanceId) (new : World) → worker_at old.workers k ≡ Some (place.Drain o i)
-    → new ≡ returned old k o (drain_returned_of i) → IsSound old → IsSound new
+    → ReturnsFrom old k o (drain_returned_of i) old.contexts new → IsUnderWay old → IsUnderWay new
 drain_given old k o i new at e s =
     let there = tied_there old.workers old.flow k (place.Drain o i) o (AtDrain i.0) s.workers at (and_from (o.0 == o.0) (i.0 == i.0) (eq-eqb o.0 o.0 refl) (eq-eqb i.0 i.0 refl)) in
     let r = there.0 in
     let stage : r.stage ≡ InDrain i = spot_drain i r.stage r.entries there.2 in
     let sound = found_holds flow.IsSound (is_number o) old.flow.operations r s.flow.sound there.1 in
     let among = found_holds (IsAmong old.stack) (is_number o) old.flow.operations r s.among there.1 in
-    subst IsSound (sym e)
+    subst IsUnderWay (sym e.1) (whatever_contexts (returned old k o (drain_returned_of i)) new.contexts old.totals
     (return_keeps old k (place.Drain o i) o r (drain_returned_of i) at there.1 (λ x. refl) (λ x. refl)
     (subst (Matches o (place.Drain o i)) (sym (ap (λ a. spot_at a r.entries) stage)) (matches_drain o i)) refl (λ j. refl) (sound_drain_returned i r stage sound)
     (among_settles old.stack r.volume r.born r.operation r.entries r.stage Ascending (settle_drain i.0) (settle_drain_visit i.0) (settle_drain_base i.0)
-    (not_base_of Ascending refl) among) s)
+    (not_base_of Ascending refl) among) s))
 
 post_at : (old : World) (k : WorkerId) (given : PostVerdict) (lent : Option Data) (result : Result (Unit {0}) Status) (new : World) (m : Option Worker)
-    → worker_at old.workers k ≡ m → PostReturnsAt old k given lent result new m → IsSound old → IsSound new
+    → worker_at old.workers k ≡ m → PostReturnsAt old k given lent result new m → IsUnderWay old → IsUnderWay new
 post_at old k given (Some lent) result new (Some (place.Post o i)) at h s = post_given old k o i given lent result new at h s
-post_at old k given None result new (Some (place.Post o i)) at h s = subst IsSound (sym h.1) s
+post_at old k given None result new (Some (place.Post o i)) at h s = subst IsUnderWay (sym h.1) s
 post_at old k given None result new (Some (place.Drain o i)) at h s = drain_given old k o i new at h.1 s
-post_at old k given (Some lent) result new (Some (place.Drain o i)) at h s = subst IsSound (sym h.1) s
-post_at old k given (Some lent) result new (Some place.Idle) at h s = subst IsSound (sym h.1) s
-post_at old k given (Some lent) result new (Some (place.Setup i)) at h s = subst IsSound (sym h.1) s
-post_at old k given (Some lent) result new (Some (place.Pre o i)) at h s = subst IsSound (sym h.1) s
-post_at old k given (Some lent) result new (Some (place.Base o)) at h s = subst IsSound (sym h.1) s
-post_at old k given (Some lent) result new None at h s = subst IsSound (sym h.1) s
-post_at old k given None result new (Some place.Idle) at h s = subst IsSound (sym h.1) s
-post_at old k given None result new (Some (place.Setup i)) at h s = subst IsSound (sym h.1) s
-post_at old k given None result new (Some (place.Pre o i)) at h s = subst IsSound (sym h.1) s
-post_at old k given None result new (Some (place.Base o)) at h s = subst IsSound (sym h.1) s
-post_at old k given None result new None at h s = subst IsSound (sym h.1) s
+post_at old k given (Some lent) result new (Some (place.Drain o i)) at h s = subst IsUnderWay (sym h.1) s
+post_at old k given (Some lent) result new (Some place.Idle) at h s = subst IsUnderWay (sym h.1) s
+post_at old k given (Some lent) result new (Some (place.Setup i)) at h s = subst IsUnderWay (sym h.1) s
+post_at old k given (Some lent) result new (Some (place.Pre o i)) at h s = subst IsUnderWay (sym h.1) s
+post_at old k given (Some lent) result new (Some (place.Base o)) at h s = subst IsUnderWay (sym h.1) s
+post_at old k given (Some lent) result new (Some (place.Cleanup c)) at h s = subst IsUnderWay (sym h.1) s
+post_at old k given (Some lent) result new None at h s = subst IsUnderWay (sym h.1) s
+post_at old k given None result new (Some place.Idle) at h s = subst IsUnderWay (sym h.1) s
+post_at old k given None result new (Some (place.Setup i)) at h s = subst IsUnderWay (sym h.1) s
+post_at old k given None result new (Some (place.Pre o i)) at h s = subst IsUnderWay (sym h.1) s
+post_at old k given None result new (Some (place.Base o)) at h s = subst IsUnderWay (sym h.1) s
+post_at old k given None result new (Some (place.Cleanup c)) at h s = subst IsUnderWay (sym h.1) s
+post_at old k given None result new None at h s = subst IsUnderWay (sym h.1) s
 
 pub post_keeps : (old : World) (k : WorkerId) (given : PostVerdict) (lent : Option Data) (result : Result (Unit {0}) Status) (new : World)
-    → PostReturns old k given lent result new → IsSound old → IsSound new
+    → PostReturns old k given lent result new → IsUnderWay old → IsUnderWay new
 unfolding PostReturns
 post_keeps old k given lent result new h s = post_at old k given lent result new (worker_at old.workers k) refl h s
 
@@ -625,8 +632,8 @@ tied_without workers t o r pairs at quiet tied p s =
           (λ x k. ne_eqb x.number.0 p.0 (λ q. e (sym (eqb-true x.number.0 o.0 k) ∙ q)))))
     ]
 
-collect_at : (old : World) (o : OpId) (m : Option FlowRecord) → operation_at o old.flow ≡ m → collected_in o old.flow m ≡ collected_of o old.flow → IsSound old
-    → IsSound (record old { flow = collected_in o old.flow m })
+collect_at : (old : World) (o : OpId) (m : Option FlowRecord) → operation_at o old.flow ≡ m → collected_in o old.flow m ≡ collected_of o old.flow → IsUnderWay old
+    → IsUnderWay (record old { flow = collected_in o old.flow m })
 collect_at old o None at same s = s
 collect_at old o (Some r) at same s =
     let flow = subst IsFlow (sym same) (flow_collects old.flow o s.flow) in
@@ -634,26 +641,26 @@ collect_at old o (Some r) at same s =
     let a = is_collectable r in
     let b = list_any is_running_drain r.entries in
     elim (cases_Bool a) [
-      | inr e ↦ subst (λ x. IsSound (record old { flow = after x b })) (sym e) s
+      | inr e ↦ subst (λ x. IsUnderWay (record old { flow = after x b })) (sym e) s
       | inl e ↦
           let quiet = done_stage r.stage (owed r.entries) (and_parts (not r.collected) (is_done r) e).1 in
           elim (cases_Bool b) [
             | inl d ↦
                 let is : after a b ≡ changed o marked old.flow = ap (λ x. after x b) e ∙ ap (λ y. after true y) d in
-                subst (λ t. IsSound (record old { flow = t })) (sym is)
+                subst (λ t. IsUnderWay (record old { flow = t })) (sym is)
                 (flow_moves old (changed o marked old.flow) old.workers (subst IsFlow is flow)
                 (all_change (IsAmong old.stack) (is_number o) marked old.flow.operations
                 (λ x h. found_holds (IsAmong old.stack) (is_number o) old.flow.operations x s.among h) s.among)
                 s.hands (tied_stays old.workers old.flow o r marked at (λ x. refl) (λ x. refl) s.workers) (λ i. refl) s)
             | inr d ↦
                 let is : after a b ≡ removed o old.flow = ap (λ x. after x b) e ∙ ap (λ y. after true y) d in
-                subst (λ t. IsSound (record old { flow = t })) (sym is)
+                subst (λ t. IsUnderWay (record old { flow = t })) (sym is)
                 (flow_moves old (removed o old.flow) old.workers (subst IsFlow is flow)
                 (all_without (IsAmong old.stack) (is_number o) old.flow.operations s.among)
                 s.hands (tied_without old.workers old.flow o r s.flow.ascending at quiet s.workers) (λ i. refl) s)
           ]
     ]
 
-pub collect_keeps : (old : World) (o : OpId) (result : Result Answer Status) (new : World) → Collects old o result new → IsSound old → IsSound new
+pub collect_keeps : (old : World) (o : OpId) (result : Result Answer Status) (new : World) → Collects old o result new → IsUnderWay old → IsUnderWay new
 unfolding Collects
-collect_keeps old o result new h s = subst IsSound (sym h.1) (collect_at old o (operation_at o old.flow) refl refl s)
+collect_keeps old o result new h s = subst IsUnderWay (sym h.1) (collect_at old o (operation_at o old.flow) refl refl s)

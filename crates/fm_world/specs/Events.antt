@@ -1,11 +1,13 @@
 -- The events: the refusals of each, in their order, and what it makes of the World. A refusal changes nothing, but for the end of a setup callback.
+-- (The events on contexts stand in ContextEvents.)
 -- An event that a worker makes is refused first of all, with WrongStep, where the worker isn't in the right place.
-use Rattle.std.specs.Prelude.{◌≡◌, ℕ, Bool, true, false, not, List, [], ◌∷◌, length, nat_le, Option, Some, None, Result, Ok, Err, slice_get}
+use Rattle.std.specs.Prelude.{◌≡◌, ℕ, Bool, true, false, cond, not, List, [], ◌∷◌, length, nat_le, Option, Some, None, Result, Ok, Err, slice_get}
 use Rattle.fm_types.specs.declared.ids.FilterId.{FilterId}
 use Rattle.fm_types.specs.declared.ids.VolumeId.{VolumeId}
 use Rattle.fm_types.specs.declared.ids.InstanceId.{InstanceId}
 use Rattle.fm_types.specs.declared.ids.OpId.{OpId}
 use Rattle.fm_types.specs.declared.ids.WorkerId.{WorkerId}
+use Rattle.fm_types.specs.declared.ids.CtxId.{CtxId}
 use Rattle.fm_types.specs.declared.status.Status.{Status}
 use Rattle.fm_types.specs.declared.status.Status.TheVariants as status
 use Rattle.fm_types.specs.declared.registration.Registration.{Registration}
@@ -17,6 +19,7 @@ use Rattle.fm_data.specs.declared.answer.Answer.{Answer}
 use Rattle.fm_data.specs.declared.verdict.PreVerdict.{PreVerdict}
 use Rattle.fm_data.specs.declared.verdict.PreVerdict.TheVariants as verdict
 use Rattle.fm_data.specs.declared.verdict.PostVerdict.{PostVerdict}
+use Rattle.fm_data.specs.declared.verdict.Completion.{Completion}
 use Rattle.fm_data.specs.Data.{Data, data_fits}
 use Rattle.fm_stack.specs.declared.instance.Instance.{Instance}
 use Rattle.fm_stack.specs.declared.instance.Phase.{Phase}
@@ -27,20 +30,27 @@ use Rattle.fm_stack.specs.Events as stack
 use Rattle.fm_flow.specs.declared.action.Below.{Below}
 use Rattle.fm_flow.specs.declared.action.Below.TheVariants as below
 use Rattle.fm_flow.specs.declared.action.FlowAction.{FlowAction}
+use Rattle.fm_flow.specs.declared.action.FlowAction.TheVariants as action
 use Rattle.fm_flow.specs.declared.entry.Ask.{Ask}
 use Rattle.fm_flow.specs.declared.entry.PreState.{PreState}
+use Rattle.fm_flow.specs.declared.entry.PreState.TheVariants as state
 use Rattle.fm_flow.specs.declared.entry.PreState.TheVariants.{Passed}
 use Rattle.fm_flow.specs.declared.stage.Stage.TheVariants.{Descending}
 use Rattle.fm_flow.specs.Record.{FlowRecord}
 use Rattle.fm_flow.specs.Entries.{owed, last_visited}
 use Rattle.fm_flow.specs.Steps.{next_of, pre_returned_of, base_returned_of, post_returned_of, drain_returned_of, base_fits}
 use Rattle.fm_flow.specs.Verdict.{verdict_counted}
-use Rattle.fm_flow.specs.Table.{FlowTable, operation_at, changed, told, begun, is_full, collect_reply, collected_of}
+use Rattle.fm_ctx.specs.declared.owner.Owner.TheVariants as owner
+use Rattle.fm_ctx.specs.Bags.{holds, hand_of}
+use Rattle.fm_ctx.specs.Table.{ContextTable}
+use Rattle.fm_ctx.specs.References.{grabbed, handed_on}
+use Rattle.fm_ctx.specs.Settling.{Leaves, Sweeps, is_linked_of}
+use Rattle.fm_flow.specs.Table.{FlowTable, carried, operation_at, changed, told, begun, is_full, collect_reply, collected_of}
 use Rattle.fm_world.specs.declared.step.Begin.{Begin}
 use Rattle.fm_world.specs.declared.step.Begin.TheVariants as begin
 use Rattle.fm_world.specs.declared.worker.Worker.{Worker}
 use Rattle.fm_world.specs.declared.worker.Worker.TheVariants as place
-use Rattle.fm_world.specs.World.{World}
+use Rattle.fm_world.specs.World.{World, carries}
 use Rattle.fm_world.specs.Workers.{worker_at, put, is_idle, after_attach, after_next}
 
 -- the event where the test holds, and else a refusal that changes nothing
@@ -64,10 +74,17 @@ Attaches old k f v name altitude result new =
     (stack.Attaches old.stack f v name altitude result new.stack
     × (new ≡ record old { stack = new.stack; workers = after_attach old.workers k result }))
 
--- by a worker in a setup callback, which returns whatever the answer
+-- where the instance isn't attached, its contexts lose their links
+abbrev pub EmptiesUnless : Result (Unit {0}) Status → InstanceId → World → ContextTable → ContextTable → Type 0
+EmptiesUnless (Ok done) i w left after = after ≡ left
+EmptiesUnless (Err status) i w left after = Sweeps (carries w) (is_linked_of (owner.Instance i)) left after
+
+-- by a worker in a setup callback, which returns whatever the answer: what it still holds leaks
 abbrev pub SetsUpAt : World → WorkerId → Bool → Result (Unit {0}) Status → World → Option Worker → Type 0
 SetsUpAt old k accept result new (Some (place.Setup i)) =
-    stack.SetsUp old.stack i accept result new.stack × (new ≡ record old { stack = new.stack; workers = put old.workers k place.Idle })
+    stack.SetsUp old.stack i accept result new.stack
+    × (left : ContextTable) × Leaves (carries old) old.contexts left k.0 × EmptiesUnless result i old left new.contexts
+    × (new ≡ record old { stack = new.stack; workers = put old.workers k place.Idle; contexts = new.contexts })
 SetsUpAt old k accept result new _ = (result ≡ Err status.WrongStep) × (new ≡ old)
 
 unfoldable pub SetsUp : World → WorkerId → Bool → Result (Unit {0}) Status → World → Type 0
@@ -133,12 +150,23 @@ drains_next s r = is_stopping_ask s (slice_get (owed r.entries) 0)
 abbrev pub drains_at : World → OpId → Bool
 drains_at w o = told (drains_next w.stack) false o w.flow
 
+-- a completion's context is in the worker's hand again
+abbrev pub brought : ContextTable → WorkerId → Option CtxId → ContextTable
+brought t k None = t
+brought t k (Some c) = grabbed t k.0 c
+
+abbrev pub received : ContextTable → WorkerId → Result FlowAction Status → ContextTable
+received t k (Ok (action.Post i lent completion)) = brought t k completion.context
+received t k (Ok (action.Drain i completion)) = brought t k completion.context
+received t k _ = t
+
 abbrev pub NextsOver : World → WorkerId → OpId → Below → Result FlowAction Status → World → Type 0
 NextsOver old k o lies result new =
     (result ≡ told (λ r. (next_of k lies (drains_at old o) r).reply) (Err status.WrongStep) o old.flow)
     × (new ≡ record old {
       flow = changed o (λ r. (next_of k lies (drains_at old o) r).after) old.flow;
       workers = after_next old.workers k o result;
+      contexts = received old.contexts k result;
     })
 
 -- by an idle worker
@@ -149,30 +177,57 @@ Nexts old k o result new =
 
 -- ---- callbacks and calls return
 
--- a completion's context counts as none where it isn't in the worker's hand: contexts aren't there yet
-abbrev pub without_context : PreVerdict → PreVerdict
-without_context (verdict.WithCallback completion) = verdict.WithCallback (record completion { context = None })
-without_context (verdict.Synchronize completion) = verdict.Synchronize (record completion { context = None })
-without_context verdict.NoCallback = verdict.NoCallback
-without_context (verdict.Complete status) = verdict.Complete status
-without_context verdict.Pending = verdict.Pending
+-- a completion's context counts as none where the worker doesn't hold it
+abbrev pub held_context : List CtxId → Option CtxId → Option CtxId
+held_context hand None = None
+held_context hand (Some c) = cond (holds hand c) (Some c) None
+
+abbrev pub held_completion : List CtxId → Completion → Completion
+held_completion hand completion = record completion { context = held_context hand completion.context }
+
+abbrev pub of_hand : List CtxId → PreVerdict → PreVerdict
+of_hand hand (verdict.WithCallback completion) = verdict.WithCallback (held_completion hand completion)
+of_hand hand (verdict.Synchronize completion) = verdict.Synchronize (held_completion hand completion)
+of_hand hand verdict.NoCallback = verdict.NoCallback
+of_hand hand (verdict.Complete status) = verdict.Complete status
+of_hand hand verdict.Pending = verdict.Pending
 
 -- the verdict of instance i that counts
-abbrev pub state_given : StackWorld → InstanceId → PreVerdict → FlowRecord → PreState
-state_given s i given r = verdict_counted (without_context given) r.operation (has_post s (slice_get s.instances i.0) r.operation)
+abbrev pub state_given : StackWorld → List CtxId → InstanceId → PreVerdict → FlowRecord → PreState
+state_given s hand i given r = verdict_counted (of_hand hand given) r.operation (has_post s (slice_get s.instances i.0) r.operation)
 
-abbrev pub state_at : World → OpId → InstanceId → PreVerdict → PreState
-state_at w o i given = told (state_given w.stack i given) Passed o w.flow
+abbrev pub state_at : World → WorkerId → OpId → InstanceId → PreVerdict → PreState
+state_at w k o i given = told (state_given w.stack (hand_of w.contexts.hands k.0) i given) Passed o w.flow
+
+-- the context that a verdict sends along with its completion goes out of the hand
+abbrev pub sent_in : PreState → Option CtxId
+sent_in (state.Asked completion) = completion.context
+sent_in (state.Synchronized completion) = completion.context
+sent_in _ = None
+
+abbrev pub sent : ContextTable → WorkerId → Option CtxId → ContextTable
+sent t k None = t
+sent t k (Some c) = handed_on t k.0 c
+
+-- how many references completions carry after a step of an operation
+abbrev pub carries_after : World → OpId → (FlowRecord → FlowRecord) → CtxId → ℕ
+carries_after w o step c = carried c (changed o step w.flow)
 
 -- the worker is idle again, and the operation goes on as the step makes it
 abbrev pub returned : World → WorkerId → OpId → (FlowRecord → FlowRecord) → World
 returned w k o step = record w { flow = changed o step w.flow; workers = put w.workers k place.Idle }
 
+-- the same at the end of a callback: what the worker still holds leaks
+abbrev pub ReturnsFrom : World → WorkerId → OpId → (FlowRecord → FlowRecord) → ContextTable → World → Type 0
+ReturnsFrom old k o step kept new =
+    Leaves (carries_after old o step) kept new.contexts k.0 × (new ≡ record (returned old k o step) { contexts = new.contexts })
+
 -- strange data is refused, and the callback goes on
 abbrev pub PreReturnsAt : World → WorkerId → PreVerdict → Data → Result (Unit {0}) Status → World → Option Worker → Type 0
 PreReturnsAt old k given lent result new (Some (place.Pre o i)) =
     Unless status.BadRequest (told (λ r. data_fits r.operation r.path lent) false o old.flow) result old new
-    ((result ≡ Ok tt) × (new ≡ returned old k o (pre_returned_of (state_at old o i given) lent)))
+    ((result ≡ Ok tt)
+    × ReturnsFrom old k o (pre_returned_of (state_at old k o i given) lent) (sent old.contexts k (sent_in (state_at old k o i given))) new)
 PreReturnsAt old k given lent result new _ = (result ≡ Err status.WrongStep) × (new ≡ old)
 
 unfoldable pub PreReturns : World → WorkerId → PreVerdict → Data → Result (Unit {0}) Status → World → Type 0
@@ -191,8 +246,8 @@ BaseReturns old k call answer result new = BaseReturnsAt old k call answer resul
 abbrev pub PostReturnsAt : World → WorkerId → PostVerdict → Option Data → Result (Unit {0}) Status → World → Option Worker → Type 0
 PostReturnsAt old k given (Some lent) result new (Some (place.Post o i)) =
     Unless status.BadRequest (told (λ r. data_fits r.operation r.path lent) false o old.flow) result old new
-    ((result ≡ Ok tt) × (new ≡ returned old k o (post_returned_of given lent)))
-PostReturnsAt old k given None result new (Some (place.Drain o i)) = (result ≡ Ok tt) × (new ≡ returned old k o (drain_returned_of i))
+    ((result ≡ Ok tt) × ReturnsFrom old k o (post_returned_of given lent) old.contexts new)
+PostReturnsAt old k given None result new (Some (place.Drain o i)) = (result ≡ Ok tt) × ReturnsFrom old k o (drain_returned_of i) old.contexts new
 PostReturnsAt old k given None result new (Some (place.Post o i)) = (result ≡ Err status.BadRequest) × (new ≡ old)
 PostReturnsAt old k given (Some lent) result new (Some (place.Drain o i)) = (result ≡ Err status.BadRequest) × (new ≡ old)
 PostReturnsAt old k given lent result new _ = (result ≡ Err status.WrongStep) × (new ≡ old)

@@ -1,6 +1,9 @@
 -- What holds of every World that a list of events leads to.
-use Rattle.std.specs.Prelude.{◌≡◌, ℕ, ◌++◌, Bool, true, false, cond, ◌&&◌, ◌==◌, List, All, AllPairs, count_by, Option, Some, None, option_map}
+use Rattle.std.specs.Prelude.{◌≡◌, ℕ, ◌≤◌, ◌++◌, Bool, true, false, cond, ◌&&◌, ◌==◌, List, All, AllPairs, count_by, Option, Some, None, option_map}
+use Rattle.fm_types.specs.declared.ids.CtxId.{CtxId}
+use Rattle.fm_types.specs.declared.ids.InstanceId.{InstanceId}
 use Rattle.fm_types.specs.declared.ids.OpId.{OpId}
+use Rattle.fm_types.specs.declared.ids.WorkerId.{WorkerId}
 use Rattle.fm_flow.specs.declared.stage.Stage.{Stage}
 use Rattle.fm_flow.specs.declared.stage.Stage.TheVariants.{Descending, PreRunning, InBase, PostRunning, InDrain}
 use Rattle.fm_flow.specs.Record.{FlowRecord}
@@ -8,13 +11,23 @@ use Rattle.fm_flow.specs.declared.entry.Entry.{Entry}
 use Rattle.fm_flow.specs.Entries.{visited, last_visited, last_posted, has_base, posted, owed, undrained, instances}
 use Rattle.fm_flow.specs.Sound.{walk, way_of}
 use Rattle.fm_flow.specs.Table.{FlowTable, told}
+use Rattle.fm_flow.specs.Table.{in_flight}
+use Rattle.fm_ctx.specs.declared.object.Object.{Object}
+use Rattle.fm_ctx.specs.declared.owner.Owner.{Owner}
+use Rattle.fm_ctx.specs.declared.owner.Owner.TheVariants as owner
+use Rattle.fm_ctx.specs.Bags.{one, places, cleaning_of, hand_of}
+use Rattle.fm_ctx.specs.Counting.{open_of}
+use Rattle.fm_ctx.specs.Laws.{has_link, is_waiting}
+use Rattle.fm_ctx.specs.Table.{Slot, context_at}
 use Rattle.fm_stack.specs.StackWorld.{StackWorld}
 use Rattle.fm_stack.specs.Instances.{clashes}
 use Rattle.fm_world.specs.declared.step.Step.{Step}
 use Rattle.fm_world.specs.declared.step.StepReply.{StepReply}
 use Rattle.fm_world.specs.declared.worker.Worker.{Worker}
 use Rattle.fm_world.specs.declared.worker.Worker.TheVariants as place
-use Rattle.fm_world.specs.World.{World, empty_world}
+use Rattle.fm_world.specs.World.{World, carries, reference_count, empty_world}
+use Rattle.fm_world.specs.Workers.{worker_at, cleanup_in}
+use Rattle.fm_world.specs.Owners.{row_at, place_in, is_left_by, fits, HoldsIn, AskCarries}
 use Rattle.fm_world.specs.Steps.{Run}
 use Rattle.fm_world.specs.Descent.{IsDescent}
 
@@ -76,6 +89,22 @@ pub record Headline (w : World) : Type 0 where
   pub orders : All IsInOrder w.flow.operations
   -- exactly one worker is inside the callback or the call that an operation is in, and none inside any other of it
   pub workers : (o : OpId) (spot : Spot) → count_by (is_in_at o spot) w.workers ≡ stands_at o spot w.flow
+  -- a context has references of what links it, of what holds it and of what carries it: whatever has one isn't cleaned
+  pub alive : (c : CtxId) → context_at w.contexts.slots c ≡ None → reference_count w c ≡ 0
+  -- a context without references is in one place, once: it is due, or one worker cleans it up; one with references is in none
+  pub cleaned_once : (c : CtxId) → places w.contexts.due w.contexts.cleaning c ≡ one (is_waiting (carries w) w.contexts c)
+  -- that worker is in the context's cleanup callback
+  pub cleanups : (k : WorkerId) → cleaning_of w.contexts.cleaning k.0 ≡ cleanup_in (worker_at w.workers k)
+  -- no object has two contexts of one owner
+  pub one_per_owner : (o : Owner) (object : Object) → count_by (has_link o object) w.contexts.slots ≤ 1
+  -- a context's owner isn't gone; a link names an object of the context's kind that is still there
+  pub there : All (λ (s : Slot). fits w.stack s.context ≡ true) w.contexts.slots
+  -- a worker's references are to contexts of the instance whose callback it is in, or to volume contexts of its filter; so are those that
+  -- a completion carries, of the instance that it is owed to
+  pub holders : (k : WorkerId) → All (HoldsIn w.stack w.contexts.slots (place_in (worker_at w.workers k))) (hand_of w.contexts.hands k.0)
+  pub completions : All (λ (r : FlowRecord). All (AskCarries w.stack w.contexts.slots) (owed r.entries)) w.flow.operations
+  -- a detached instance owns no context that isn't cleaned, and nothing is in flight at it
+  pub detached : (i : InstanceId) → is_left_by (row_at w.stack i) ≡ false → (open_of w.contexts.slots (owner.Instance i) ≡ 0) × (in_flight i.0 w.flow ≡ 0)
 
 -- every list of events, with every answer that the rules allow, leads from the empty World to one that keeps the Headline
 abbrev pub RulesKeepHeadline : Type 0

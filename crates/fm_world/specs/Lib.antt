@@ -1,6 +1,8 @@
 pub mod World
 pub mod Workers
+pub mod Owners
 pub mod Events
+pub mod ContextEvents
 pub mod Steps
 pub mod Descent
 pub mod Headline

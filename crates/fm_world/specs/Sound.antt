@@ -1,5 +1,7 @@
 -- What an induction over events needs besides the Headline, and from which the Headline follows.
-use Rattle.std.specs.Prelude.{◌≡◌, ℕ, ◌<◌, Bool, false, cond, List, length, All, count_by, Option, Some, None, slice_get, ◌==◌}
+use Rattle.std.specs.Prelude.{◌≡◌, ℕ, ◌<◌, Bool, true, false, cond, List, length, All, count_by, Option, Some, None, slice_get, ◌==◌}
+use Rattle.fm_types.specs.declared.ids.InstanceId.{InstanceId}
+use Rattle.fm_types.specs.declared.ids.WorkerId.{WorkerId}
 use Rattle.fm_types.specs.declared.ids.OpId.{OpId}
 use Rattle.fm_types.specs.declared.ids.VolumeId.{VolumeId}
 use Rattle.fm_types.specs.declared.operation.Operation.{Operation}
@@ -7,8 +9,11 @@ use Rattle.fm_flow.specs.declared.stage.Stage.{Stage}
 use Rattle.fm_flow.specs.declared.stage.Stage.TheVariants.{InBase}
 use Rattle.fm_flow.specs.declared.entry.Entry.{Entry}
 use Rattle.fm_flow.specs.Record.{FlowRecord}
-use Rattle.fm_flow.specs.Entries.{visited, last_visited, has_base}
-use Rattle.fm_flow.specs.Table.{IsFlow}
+use Rattle.fm_flow.specs.Entries.{visited, last_visited, has_base, owed}
+use Rattle.fm_flow.specs.Table.{IsFlow, in_flight}
+use Rattle.fm_ctx.specs.Bags.{cleaning_of, hand_of}
+use Rattle.fm_ctx.specs.Laws.{IsLawful}
+use Rattle.fm_ctx.specs.Table.{Slot}
 use Rattle.fm_stack.specs.declared.instance.Instance.{Instance}
 use Rattle.fm_stack.specs.StackWorld.{StackWorld}
 use Rattle.fm_stack.specs.Instances.{is_setup}
@@ -16,7 +21,9 @@ use Rattle.fm_stack.specs.Next.{NonePasses, is_candidate}
 use Rattle.fm_stack.specs.Stacks.{IsStack}
 use Rattle.fm_world.specs.declared.worker.Worker.{Worker}
 use Rattle.fm_world.specs.declared.worker.Worker.TheVariants as place
-use Rattle.fm_world.specs.World.{World}
+use Rattle.fm_world.specs.World.{World, carries}
+use Rattle.fm_world.specs.Workers.{worker_at, cleanup_in}
+use Rattle.fm_world.specs.Owners.{row_at, place_in, HoldsIn, AskCarries, fits, is_flown_by}
 use Rattle.fm_world.specs.Descent.{IsDescent, HasRoom}
 use Rattle.fm_world.specs.Headline.{Spot, is_in_at, stands_at}
 
@@ -44,10 +51,27 @@ abbrev pub setup_row : Option Instance → ℕ
 setup_row None = 0
 setup_row (Some row) = cond (is_setup row.phase) 1 0
 
-pub record IsSound (w : World) : Type 0 where
+-- filters, volumes, instances, operations and workers together
+pub record IsUnderWay (w : World) : Type 0 where
   pub stack : IsStack w.stack
   pub flow : IsFlow w.flow
   pub among : All (IsAmong w.stack) w.flow.operations
   pub hands : length w.workers ≡ 48
   pub workers : (o : OpId) (spot : Spot) → count_by (is_in_at o spot) w.workers ≡ stands_at o spot w.flow
   pub setups : (i : ℕ) → count_by (is_in_setup i) w.workers ≡ setup_row (slice_get w.stack.instances i)
+
+-- ---- contexts
+
+pub record IsOwned (w : World) : Type 0 where
+  pub lawful : IsLawful (carries w) w.contexts
+  -- what the workers' places say of cleanups
+  pub cleaning : (k : ℕ) → cleaning_of w.contexts.cleaning k ≡ cleanup_in (slice_get w.workers k)
+  pub holders : (k : WorkerId) → All (HoldsIn w.stack w.contexts.slots (place_in (worker_at w.workers k))) (hand_of w.contexts.hands k.0)
+  pub completions : All (λ (r : FlowRecord). All (AskCarries w.stack w.contexts.slots) (owed r.entries)) w.flow.operations
+  pub fits : All (λ (s : Slot). fits w.stack s.context ≡ true) w.contexts.slots
+  pub quiet : (i : InstanceId) → is_flown_by (row_at w.stack i) ≡ false → in_flight i.0 w.flow ≡ 0
+  pub totals : length w.totals ≡ 16
+
+pub record IsSound (w : World) : Type 0 where
+  pub under_way : IsUnderWay w
+  pub owned : IsOwned w

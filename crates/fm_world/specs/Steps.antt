@@ -1,17 +1,21 @@
 -- An event as a value, with its answer; and lists of them.
-use Rattle.std.specs.Prelude.{◌≡◌, List, [], ◌∷◌, Result}
+use Rattle.std.specs.Prelude.{◌≡◌, ℕ, Option, List, [], ◌∷◌, Result}
 use Rattle.fm_types.specs.declared.ids.FilterId.{FilterId}
 use Rattle.fm_types.specs.declared.ids.VolumeId.{VolumeId}
 use Rattle.fm_types.specs.declared.ids.InstanceId.{InstanceId}
 use Rattle.fm_types.specs.declared.ids.OpId.{OpId}
+use Rattle.fm_types.specs.declared.ids.CtxId.{CtxId}
 use Rattle.fm_types.specs.declared.status.Status.{Status}
+use Rattle.fm_ctx.specs.declared.due.Due.{Due}
 use Rattle.fm_data.specs.declared.answer.Answer.{Answer}
 use Rattle.fm_flow.specs.declared.action.FlowAction.{FlowAction}
+use Rattle.fm_world.specs.declared.set_answer.SetAnswer.{SetAnswer}
 use Rattle.fm_world.specs.declared.step.Step.{Step}
 use Rattle.fm_world.specs.declared.step.Step.TheVariants as step
 use Rattle.fm_world.specs.declared.step.StepReply.{StepReply}
 use Rattle.fm_world.specs.declared.step.StepReply.TheVariants as reply
 use Rattle.fm_world.specs.World.{World}
+use Rattle.fm_world.specs.ContextEvents.{Allocates, Sets, Gets, Deletes, References, Releases, ReadsBody, WritesBody, Bumps, TakesDue, Cleans, Finishes}
 use Rattle.fm_world.specs.Events.{Registers, Mounts, Attaches, SetsUp, Begins, Nexts, PreReturns, BaseReturns, PostReturns, Collects}
 
 -- the answer is of that kind, and this holds of it
@@ -39,6 +43,30 @@ abbrev pub OfDone : StepReply → (Result (Unit {0}) Status → Type 0) → Type
 OfDone (reply.Done r) P = P r
 OfDone _ P = ⊥
 
+abbrev pub OfContext : StepReply → (Result CtxId Status → Type 0) → Type 0
+OfContext (reply.Context r) P = P r
+OfContext _ P = ⊥
+
+abbrev pub OfSet : StepReply → (SetAnswer → Type 0) → Type 0
+OfSet (reply.Set r) P = P r
+OfSet _ P = ⊥
+
+abbrev pub OfOld : StepReply → (Result (Option CtxId) Status → Type 0) → Type 0
+OfOld (reply.Old r) P = P r
+OfOld _ P = ⊥
+
+abbrev pub OfBody : StepReply → (Result (List ℕ) Status → Type 0) → Type 0
+OfBody (reply.Body r) P = P r
+OfBody _ P = ⊥
+
+abbrev pub OfNumber : StepReply → (Result ℕ Status → Type 0) → Type 0
+OfNumber (reply.Number r) P = P r
+OfNumber _ P = ⊥
+
+abbrev pub OfDue : StepReply → (Result (Option Due) Status → Type 0) → Type 0
+OfDue (reply.Due r) P = P r
+OfDue _ P = ⊥
+
 abbrev pub OfAnswer : StepReply → (Result Answer Status → Type 0) → Type 0
 OfAnswer (reply.Answer r) P = P r
 OfAnswer _ P = ⊥
@@ -55,6 +83,18 @@ Steps old (step.PreReturned k verdict lent) answer new = OfDone answer (λ r. Pr
 Steps old (step.BaseReturned k call given) answer new = OfDone answer (λ r. BaseReturns old k call given r new)
 Steps old (step.PostReturned k verdict lent) answer new = OfDone answer (λ r. PostReturns old k verdict lent r new)
 Steps old (step.Collect o) answer new = OfAnswer answer (λ r. Collects old o r new)
+Steps old (step.Allocate k kind body) answer new = OfContext answer (λ r. Allocates old k kind body r new)
+Steps old (step.Set k c mode wants) answer new = OfSet answer (λ r. Sets old k c mode wants r new)
+Steps old (step.Get k kind) answer new = OfContext answer (λ r. Gets old k kind r new)
+Steps old (step.Delete k kind wants) answer new = OfOld answer (λ r. Deletes old k kind wants r new)
+Steps old (step.Reference k c) answer new = OfDone answer (λ r. References old k c r new)
+Steps old (step.Release k c) answer new = OfDone answer (λ r. Releases old k c r new)
+Steps old (step.ReadBody k c) answer new = OfBody answer (λ r. ReadsBody old k c r new)
+Steps old (step.WriteBody k c bytes) answer new = OfDone answer (λ r. WritesBody old k c bytes r new)
+Steps old (step.Bump k c at by) answer new = OfNumber answer (λ r. Bumps old k c at by r new)
+Steps old (step.TakeDue k) answer new = OfDue answer (λ r. TakesDue old k r new)
+Steps old (step.Cleaned k number) answer new = OfDone answer (λ r. Cleans old k number r new)
+Steps old (step.Finish i) answer new = OfDone answer (λ r. Finishes old i r new)
 
 -- the events in their order, each with its answer, lead from the old World to the new one
 abbrev pub Run : World → List Step → List StepReply → World → Type 0

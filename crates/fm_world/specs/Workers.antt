@@ -1,6 +1,7 @@
 -- Where workers are.
-use Rattle.std.specs.Prelude.{Bool, true, false, List, Option, Some, slice_get, slice_set, Result, Ok, Err}
+use Rattle.std.specs.Prelude.{Bool, true, false, List, Option, Some, None, slice_get, slice_set, Result, Ok, Err}
 use Rattle.fm_types.specs.declared.ids.WorkerId.{WorkerId}
+use Rattle.fm_types.specs.declared.ids.CtxId.{CtxId}
 use Rattle.fm_types.specs.declared.ids.OpId.{OpId}
 use Rattle.fm_types.specs.declared.ids.InstanceId.{InstanceId}
 use Rattle.fm_types.specs.declared.status.Status.{Status}
@@ -20,6 +21,11 @@ put workers k where' = slice_set workers k.0 where'
 abbrev pub is_idle : Option Worker → Bool
 is_idle (Some place.Idle) = true
 is_idle _ = false
+
+-- which context a worker cleans up
+abbrev pub cleanup_in : Option Worker → Option CtxId
+cleanup_in (Some (place.Cleanup c)) = Some c
+cleanup_in _ = None
 
 -- the workers after an attach: where it succeeds, this one is in the new instance's setup callback
 abbrev pub after_attach : List Worker → WorkerId → Result InstanceId Status → List Worker

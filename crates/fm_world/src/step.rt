@@ -1,9 +1,14 @@
 //! The events as values, with the answers that they get.
 
+use crate::set_answer::SetAnswer;
 use fm_altitude::Altitude;
+use fm_ctx::{Due, SetMode};
 use fm_data::{Answer, CallbackData, Params, PostVerdict, PreVerdict};
 use fm_flow::FlowAction;
-use fm_types::{FilterId, InstanceId, Name, OpId, Registration, Status, VolumeId, WorkerId};
+use fm_types::{
+    Bytes, ContextKind, CtxId, FilterId, InstanceId, Name, OpId, Registration, Status, VolumeId,
+    WorkerId,
+};
 
 /// What a client asks to begin.
 #[derive(Clone, Copy, Debug, PartialEq, Eq)]
@@ -66,6 +71,71 @@ pub enum Step {
     Collect {
         operation: OpId,
     },
+    /// The callback that the worker is in allocates a context.
+    Allocate {
+        worker: WorkerId,
+        kind: ContextKind,
+        body: Bytes,
+    },
+    /// It sets a context that it holds on the object of its kind.
+    Set {
+        worker: WorkerId,
+        context: CtxId,
+        mode: SetMode,
+        wants_old: bool,
+    },
+    /// It gets the context that is set on the object of that kind.
+    Get {
+        worker: WorkerId,
+        kind: ContextKind,
+    },
+    /// It takes that context off its object.
+    Delete {
+        worker: WorkerId,
+        kind: ContextKind,
+        wants_old: bool,
+    },
+    /// It takes one more reference to a context that it holds.
+    Reference {
+        worker: WorkerId,
+        context: CtxId,
+    },
+    /// It gives one up.
+    Release {
+        worker: WorkerId,
+        context: CtxId,
+    },
+    /// It reads the body of a context that it holds.
+    ReadBody {
+        worker: WorkerId,
+        context: CtxId,
+    },
+    /// It writes that body.
+    WriteBody {
+        worker: WorkerId,
+        context: CtxId,
+        bytes: Bytes,
+    },
+    /// It adds to a number in that body.
+    Bump {
+        worker: WorkerId,
+        context: CtxId,
+        place: u64,
+        by: u64,
+    },
+    /// The worker takes the context that is due longest, and enters its cleanup callback.
+    TakeDue {
+        worker: WorkerId,
+    },
+    /// The cleanup callback that the worker is in returns, with a number for its filter's total.
+    Cleaned {
+        worker: WorkerId,
+        number: u64,
+    },
+    /// The instance ends, once its contexts are cleaned up.
+    Finish {
+        instance: InstanceId,
+    },
 }
 
 /// What an event answered.
@@ -81,8 +151,20 @@ pub enum StepReply {
     Operation(Result<OpId, Status>),
     /// To Next.
     Action(Result<FlowAction, Status>),
-    /// To an event that returns a callback or a call. What a refusal hands back isn't part of it.
+    /// To an event that answers nothing but how it went. What a refusal hands back isn't part of it.
     Done(Result<(), Status>),
     /// To Collect.
     Answer(Result<Answer, Status>),
+    /// To Allocate and Get.
+    Context(Result<CtxId, Status>),
+    /// To Set.
+    Set(SetAnswer),
+    /// To Delete: the context that was taken off, where it was wanted.
+    Old(Result<Option<CtxId>, Status>),
+    /// To ReadBody.
+    Body(Result<Bytes, Status>),
+    /// To Bump: the new number.
+    Number(Result<u64, Status>),
+    /// To TakeDue: the context that was due longest, if one was.
+    Due(Result<Option<Due>, Status>),
 }

@@ -1,8 +1,8 @@
 //! Where a worker is.
 
-use fm_types::{InstanceId, OpId};
+use fm_types::{CtxId, InstanceId, OpId};
 
-/// Where a worker is: idle, or inside one callback of an instance or one call of the base.
+/// Where a worker is: idle, or inside one callback of an instance, one call of the base or one cleanup of a context.
 #[derive(Clone, Copy, Debug, PartialEq, Eq)]
 pub enum Worker {
     /// In none: it may be given any callback or call.
@@ -17,4 +17,6 @@ pub enum Worker {
     Post(OpId, InstanceId),
     /// In a drain of the instance: it has its completion of the operation back.
     Drain(OpId, InstanceId),
+    /// In the cleanup callback of a context.
+    Cleanup(CtxId),
 }

@@ -3,13 +3,14 @@ use Rattle.std.specs.Prelude.{IfErr}
 use Rattle.fm_flow.specs.Steps.{base_fits}
 use Rattle.fm_flow.specs.declared.stage.Stage.TheVariants.{InBase}
 use Rattle.fm_world.specs.World.{World}
+use Rattle.fm_core.specs.Fields.{world_of}
 use Rattle.fm_world.specs.Workers.{worker_at}
 use Rattle.fm_world.specs.Events.{BaseReturns}
 use Rattle.fm_world.specs.declared.worker.Worker.TheVariants as place
-use Rattle.fm_world.proofs.Operations.{base_keeps}
+use Rattle.fm_world.proofs.Flowing.{base_sound}
 use Rattle.fm_core.specs.Places.{base_of}
 use Rattle.fm_core.specs.Returned.{after_return, strange, status_of}
-use Rattle.fm_core.proofs.Operated.{base_returns, base_refused, base_is, in_base, stands_from, back_at, strange_back}
+use Rattle.fm_core.proofs.Operated.{base_returns, base_refused, base_is, in_base, base_tied, stands_from, back_at, strange_back}
 use Rattle.fm_core.proofs.state.State.base_returned.Goals as goal
 
 pub returns-in_default-clause-event : goal.returns-in_default-clause-event
@@ -18,27 +19,31 @@ returns-in_default-clause-event c =
 
 pub base_returned-answer-requires : goal.base_returned-answer-requires
 base_returned-answer-requires c =
-    let old : World = record { stack = c.self.inside.stack; flow = c.self.inside.flow; workers = c.self.inside.workers } in
+    let old : World = world_of c.self.inside.stack c.self.inside.flow c.self.inside.workers c.self.inside.contexts c.self.inside.totals in
     let is = base_is (worker_at c.args.self.now.workers c.args.worker) c.in-Some.operation (ap base_of (sym c.place.ensures) ∙ sym c.base_of.ensures ∙ c.in-Some.is) in
     let at = subst (λ (w : World). worker_at w.workers c.args.worker ≡ Some (place.Base c.in-Some.operation)) (sym c.self.view_is) is in
-    stands_from c.in-Some.operation old.flow InBase (in_base old c.args.worker c.in-Some.operation c.self.invariant at)
+    stands_from c.in-Some.operation old.flow InBase (in_base old c.args.worker c.in-Some.operation c.self.invariant.sound at)
 
 pub invariant_of-self : goal.invariant_of-self
 invariant_of-self c =
-    let old : World = record { stack = c.self.inside.stack; flow = c.self.inside.flow; workers = c.self.inside.workers } in
+    let old : World = world_of c.self.inside.stack c.self.inside.flow c.self.inside.workers c.self.inside.contexts c.self.inside.totals in
     let new : World = record old { flow = c.base_returned-answer.new.self; workers = c.note_return.new.workers } in
     let is = base_is (worker_at c.args.self.now.workers c.args.worker) c.in-Some.operation (ap base_of (sym c.place.ensures) ∙ sym c.base_of.ensures ∙ c.in-Some.is) in
     let at = subst (λ (w : World). worker_at w.workers c.args.worker ≡ Some (place.Base c.in-Some.operation)) (sym c.self.view_is) is in
     let workers = c.note_return.ensures ∙ ap (after_return old.workers c.args.worker) c.is_ok.ensures.value in
-    base_keeps old c.args.worker c.args.call c.args.given (status_of (strange c.base_returned-answer.result)) new
-    (base_returns old c.args.worker c.in-Some.operation c.args.call c.args.given c.base_returned-answer.result
-    c.base_returned-answer.new.self c.note_return.new.workers at c.self.invariant c.base_returned-answer.ensures.reply
-    c.base_returned-answer.ensures.after workers)
-    c.self.invariant
+    record {
+      sound = base_sound old c.args.worker c.args.call c.args.given (status_of (strange c.base_returned-answer.result)) new
+          (base_returns old c.args.worker c.in-Some.operation c.args.call c.args.given c.base_returned-answer.result
+          c.base_returned-answer.new.self c.note_return.new.workers at c.self.invariant.sound c.base_returned-answer.ensures.reply
+          c.base_returned-answer.ensures.after workers)
+          c.self.invariant.sound;
+      tied = base_tied c.self.inside.contexts c.in-Some.operation c.args.call c.args.given c.self.inside.flow c.base_returned-answer.new.self c.base_returned-answer.ensures.after
+          c.self.invariant.tied;
+    }
 
 pub returns-clause-event : goal.returns-clause-event
 returns-clause-event c =
-    let old : World = record { stack = c.self.inside.stack; flow = c.self.inside.flow; workers = c.self.inside.workers } in
+    let old : World = world_of c.self.inside.stack c.self.inside.flow c.self.inside.workers c.self.inside.contexts c.self.inside.totals in
     let new : World = record old { flow = c.base_returned-answer.new.self; workers = c.note_return.new.workers } in
     let is = base_is (worker_at c.args.self.now.workers c.args.worker) c.in-Some.operation (ap base_of (sym c.place.ensures) ∙ sym c.base_of.ensures ∙ c.in-Some.is) in
     let at = subst (λ (w : World). worker_at w.workers c.args.worker ≡ Some (place.Base c.in-Some.operation)) (sym c.self.view_is) is in
@@ -46,7 +51,7 @@ returns-clause-event c =
     subst (λ x. BaseReturns c.args.self.now c.args.worker c.args.call c.args.given (status_of x) new) (sym c.answer_strange.ensures)
     (subst (λ (w : World). BaseReturns w c.args.worker c.args.call c.args.given (status_of (strange c.base_returned-answer.result)) new) c.self.view_is
     (base_returns old c.args.worker c.in-Some.operation c.args.call c.args.given c.base_returned-answer.result
-    c.base_returned-answer.new.self c.note_return.new.workers at c.self.invariant c.base_returned-answer.ensures.reply
+    c.base_returned-answer.new.self c.note_return.new.workers at c.self.invariant.sound c.base_returned-answer.ensures.reply
     c.base_returned-answer.ensures.after workers))
 
 pub returns-clause-back : goal.returns-clause-back

@@ -1,9 +1,12 @@
-use Rattle.std.proofs.Common.{◌≡◌, true, sym, ◌∙◌, subst}
+use Rattle.std.proofs.Common.{◌≡◌, true, refl, sym, ◌∙◌, subst}
 use Rattle.fm_world.specs.World.{World}
 use Rattle.fm_world.specs.Workers.{worker_at, is_idle}
 use Rattle.fm_world.specs.Events.{Nexts}
-use Rattle.fm_world.proofs.Operations.{next_keeps}
-use Rattle.fm_core.proofs.Operated.{nexts, next_refused, next_requires}
+use Rattle.fm_world.proofs.Keeps.{idle_there}
+use Rattle.fm_world.proofs.Flowing.{next_sound}
+use Rattle.fm_core.specs.Fields.{world_of}
+use Rattle.fm_core.proofs.Operated.{nexts, next_refused, next_requires, next_brings, next_tied}
+use Rattle.fm_core.proofs.Holding.{next_table}
 use Rattle.fm_core.proofs.state.State.next.Goals as goal
 
 pub returns-then-not-is_idle : goal.returns-then-not-is_idle
@@ -11,24 +14,38 @@ returns-then-not-is_idle c = next_refused c.args.self.now c.args.worker c.args.o
 
 pub next-answer-requires : goal.next-answer-requires
 next-answer-requires c =
-    let old : World = record { stack = c.self.inside.stack; flow = c.self.inside.flow; workers = c.self.inside.workers } in
-    next_requires old c.args.operation c.lies_below-below.result c.self.invariant c.lies_below-below.ensures.finds c.lies_below-below.ensures.down
+    let old : World = world_of c.self.inside.stack c.self.inside.flow c.self.inside.workers c.self.inside.contexts c.self.inside.totals in
+    next_requires old c.args.operation c.lies_below-below.result c.self.invariant.sound c.lies_below-below.ensures.finds c.lies_below-below.ensures.down
+
+pub bring_back-requires : goal.bring_back-requires
+bring_back-requires c =
+    let old : World = world_of c.self.inside.stack c.self.inside.flow c.self.inside.workers c.self.inside.contexts c.self.inside.totals in
+    let idle = subst (λ (w : World). is_idle (worker_at w.workers c.args.worker) ≡ true) (sym c.self.view_is) (sym c.is_idle.ensures ∙ c.if-not-is_idle.false) in
+    next_brings old c.args.worker c.args.operation c.lies_below-below.result c.drains_next-drains.result c.next-answer.result c.next-answer.new.self c.self.inside.contexts
+    (idle_there old.workers c.args.worker idle) c.self.invariant.sound c.lies_below-below.ensures.finds c.next-answer.ensures.reply c.next-answer.ensures.after refl c.self.invariant.tied
 
 pub invariant_of-self : goal.invariant_of-self
 invariant_of-self c =
-    let old : World = record { stack = c.self.inside.stack; flow = c.self.inside.flow; workers = c.self.inside.workers } in
-    let new : World = record old { flow = c.next-answer.new.self; workers = c.note_next.new.workers } in
+    let old : World = world_of c.self.inside.stack c.self.inside.flow c.self.inside.workers c.self.inside.contexts c.self.inside.totals in
+    let new : World = record old { flow = c.next-answer.new.self; workers = c.note_next.new.workers; contexts = c.bring_back.new.contexts.table } in
     let idle = subst (λ (w : World). is_idle (worker_at w.workers c.args.worker) ≡ true) (sym c.self.view_is) (sym c.is_idle.ensures ∙ c.if-not-is_idle.false) in
-    next_keeps old c.args.worker c.args.operation c.next-answer.result new
-    (nexts old c.args.worker c.args.operation c.lies_below-below.result c.drains_next-drains.result c.next-answer.result c.next-answer.new.self c.note_next.new.workers
-    idle c.lies_below-below.ensures.finds c.drains_next-drains.ensures c.next-answer.ensures.reply c.next-answer.ensures.after c.note_next.ensures)
-    c.self.invariant
+    record {
+      sound = next_sound old c.args.worker c.args.operation c.next-answer.result new
+          (nexts old c.args.worker c.args.operation c.lies_below-below.result c.drains_next-drains.result c.next-answer.result c.next-answer.new.self c.note_next.new.workers
+          c.bring_back.new.contexts.table idle c.lies_below-below.ensures.finds c.drains_next-drains.ensures c.next-answer.ensures.reply c.next-answer.ensures.after
+          c.note_next.ensures (next_table c.self.inside.contexts c.bring_back.new.contexts c.args.worker c.next-answer.result c.bring_back.ensures))
+          c.self.invariant.sound;
+      tied = next_tied old c.args.worker c.args.operation c.lies_below-below.result c.drains_next-drains.result c.next-answer.result c.next-answer.new.self c.self.inside.contexts
+          c.bring_back.new.contexts c.self.invariant.sound c.lies_below-below.ensures.finds c.next-answer.ensures.reply c.next-answer.ensures.after c.laws.ensures.matched
+          c.bring_back.ensures c.self.invariant.tied;
+    }
 
 pub returns : goal.returns
 returns c =
-    let old : World = record { stack = c.self.inside.stack; flow = c.self.inside.flow; workers = c.self.inside.workers } in
-    let new : World = record old { flow = c.next-answer.new.self; workers = c.note_next.new.workers } in
+    let old : World = world_of c.self.inside.stack c.self.inside.flow c.self.inside.workers c.self.inside.contexts c.self.inside.totals in
+    let new : World = record old { flow = c.next-answer.new.self; workers = c.note_next.new.workers; contexts = c.bring_back.new.contexts.table } in
     let idle = subst (λ (w : World). is_idle (worker_at w.workers c.args.worker) ≡ true) (sym c.self.view_is) (sym c.is_idle.ensures ∙ c.if-not-is_idle.false) in
     subst (λ (w : World). Nexts w c.args.worker c.args.operation c.next-answer.result new) c.self.view_is
     (nexts old c.args.worker c.args.operation c.lies_below-below.result c.drains_next-drains.result c.next-answer.result c.next-answer.new.self c.note_next.new.workers
-    idle c.lies_below-below.ensures.finds c.drains_next-drains.ensures c.next-answer.ensures.reply c.next-answer.ensures.after c.note_next.ensures)
+    c.bring_back.new.contexts.table idle c.lies_below-below.ensures.finds c.drains_next-drains.ensures c.next-answer.ensures.reply c.next-answer.ensures.after
+    c.note_next.ensures (next_table c.self.inside.contexts c.bring_back.new.contexts c.args.worker c.next-answer.result c.bring_back.ensures))

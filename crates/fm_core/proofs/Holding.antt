@@ -1,0 +1,210 @@
+-- What the layer of contexts keeps of references that completions carry stays what the operations' completions say.
+use Rattle.std.proofs.Common.{◌≡◌, ℕ, ◌+◌, ◌*◌, ◌<◌, ◌≤◌, ◌^◌, Bool, true, false, cond, not, List, [], ◌∷◌, length, Option, Some, None, Result, Ok, Err, is_some, slice_get, refl, ap, sym, ◌∙◌, subst, inl, inr, arith}
+use Rattle.std.specs.Prelude.{All, slice_index}
+use Rattle.std.specs.Option.{option_and_then}
+use Rattle.std.proofs.lemmas.Bool.{false≢true, cases_Bool}
+use Rattle.std.proofs.lemmas.Option.{slice_get_within}
+use Rattle.std.proofs.lemmas.List.Elements.{All-head, All-tail}
+use Rattle.fm_types.specs.declared.ids.CtxId.{CtxId}
+use Rattle.fm_types.specs.declared.ids.OpId.{OpId}
+use Rattle.fm_types.specs.declared.ids.WorkerId.{WorkerId}
+use Rattle.fm_types.specs.declared.status.Status.{Status}
+use Rattle.fm_types.specs.declared.status.Status.TheVariants as status
+use Rattle.fm_ctx.specs.Bags.{one, is_id, holds, hand_of}
+use Rattle.fm_ctx.specs.Kept.{ContextsKept, carried_of}
+use Rattle.fm_ctx.specs.Laws.{IsLawful}
+use Rattle.fm_ctx.specs.References.{grabbed, handed_on}
+use Rattle.fm_ctx.specs.Settling.{Leaves}
+use Rattle.fm_ctx.specs.Table.{Slot, ContextTable, context_at, context_in, count_in}
+use Rattle.fm_ctx.proofs.Alike.{leaves_alike}
+use Rattle.fm_ctx.proofs.Bags.{is_id-refl}
+use Rattle.fm_ctx.proofs.Carried.{carried_there, carried_one_more, carried_one_fewer, carried_equal}
+use Rattle.fm_ctx.proofs.Counts.{count_held}
+use Rattle.fm_ctx.proofs.Slots.{none_from}
+use Rattle.fm_flow.specs.declared.action.FlowAction.{FlowAction}
+use Rattle.fm_flow.specs.declared.action.FlowAction.TheVariants as action
+use Rattle.fm_flow.specs.declared.entry.Ask.{Ask}
+use Rattle.fm_flow.specs.Counts.{same_context, carried_in, carried_among, carried_by, handed}
+use Rattle.fm_flow.specs.Entries.{owed}
+use Rattle.fm_flow.specs.Record.{FlowRecord}
+use Rattle.fm_flow.specs.Sound as flow
+use Rattle.fm_flow.specs.Table.{FlowTable, IsFlow, carried, total, under_way}
+use Rattle.fm_world.specs.World.{World, empty_world}
+use Rattle.fm_world.specs.Events.{brought, received, sent, ReturnsFrom, Unless, returned, carries_after}
+use Rattle.fm_world.proofs.Counts.{count-cons}
+use Rattle.fm_world.proofs.Flowing.{done_owes}
+use Rattle.fm_stack.specs.StackWorld.{StackWorld}
+use Rattle.fm_ctx.specs.Kept.{nothing_kept}
+use Rattle.fm_world.proofs.Runs.{empty_sound, nothing_carried}
+use Rattle.fm_core.specs.Fields.{IsTied, IsState, world_of}
+use Rattle.fm_core.specs.Hands.{back_in, MayBring, kept_brought, MaySend, kept_sent, Ends}
+
+-- ---- contexts that are there
+
+pub there_of : {by : CtxId → ℕ} {t : ContextTable} (c : CtxId) → IsLawful by t → 0 < count_in by t c → is_some (context_at t.slots c) ≡ true
+there_of {by} {t} c law some =
+    elim (cases_Bool (is_some (context_at t.slots c))) [
+      | inl e ↦ e
+      | inr e ↦ absurd (omega (arith, law.alive c (none_from (context_at t.slots c) e), some))
+    ]
+
+slot_in : (m : Option Slot) (c : CtxId) → is_some (option_and_then (context_in c) m) ≡ true → (x : Slot) × (m ≡ Some x)
+slot_in None c h = absurd (false≢true h)
+slot_in (Some x) c h = (x, refl)
+
+pub slot_within : (slots : List Slot) (c : CtxId) → is_some (context_at slots c) ≡ true → c.slot < length slots
+unfolding context_at
+slot_within slots c h = let x = slot_in (slice_get slots c.slot) c h in slice_get_within slots c.slot x.0 x.1
+
+-- ---- a table that changes, with all its contexts there
+
+pub tied_table : (kept : ContextsKept) (t : ContextTable) (f : FlowTable) → ((c : CtxId) → is_some (context_at t.slots c) ≡ is_some (context_at kept.table.slots c))
+    → IsTied kept f → IsTied (record kept { table = t }) f
+tied_table kept t f there tied c = sym (carried_there kept t there c) ∙ tied c
+
+-- ---- a completion takes a context along
+
+pub sent_table : (kept : ContextsKept) (k : WorkerId) (m : Option CtxId) → (kept_sent kept k.0 m).table ≡ sent kept.table k m
+sent_table kept k None = refl
+sent_table kept k (Some c) = refl
+
+pub tied_sent : (kept : ContextsKept) (k : WorkerId) (m : Option CtxId) (f g : FlowTable) → IsLawful (λ c. carried c f) kept.table → length kept.carried ≡ length kept.table.slots
+    → k.0 < length kept.table.hands → ((d : CtxId) → m ≡ Some d → holds (hand_of kept.table.hands k.0) d ≡ true)
+    → ((c : CtxId) → carried c g ≡ carried c f + carried_in c (record { number = 0; context = m })) → IsTied kept f → IsTied (kept_sent kept k.0 m) g
+tied_sent kept k None f g law matched within has balance tied c = omega (arith, tied c, balance c)
+tied_sent kept k (Some d) f g law matched within has balance tied c =
+    let there = there_of d law (count_held (λ c. carried c f) kept.table k.0 d within (has d refl)) in
+    let slot : d.slot < length kept.carried = subst (λ n. d.slot < n) (sym matched) (slot_within kept.table.slots d there) in
+    let more = carried_one_more kept (handed_on kept.table k.0 d) d (λ e. refl) there slot c in
+    omega (arith, more, tied c, balance c)
+
+-- what is left in the hand goes
+pub tied_ends : (mid new : ContextsKept) (w : ℕ) (f : FlowTable) → Ends mid new w → IsTied mid f → IsTied new f
+tied_ends mid new w f ends tied c = carried_equal new mid ends.leaves.slots ends.carried c ∙ tied c
+
+pub ends_leaves : (kept new : ContextsKept) (k : WorkerId) (m : Option CtxId) (f : FlowTable) → Ends (kept_sent kept k.0 m) new k.0 → IsTied (kept_sent kept k.0 m) f
+    → Leaves (λ c. carried c f) (sent kept.table k m) new.table k.0
+ends_leaves kept new k m f ends tied =
+    subst (λ t. Leaves (λ c. carried c f) t new.table k.0) (sent_table kept k m) (leaves_alike tied ends.leaves)
+
+-- a callback returned, or what it brought back was refused
+pub returns_with : (old : World) (k : WorkerId) (o : OpId) (step : FlowRecord → FlowRecord) (kept cs : ContextTable) (answer : Result (Unit {0}) Status) (new : World) (b : Bool)
+    → Unless status.BadRequest b answer old new ((answer ≡ Ok tt) × (new ≡ returned old k o step))
+    → (answer ≡ Ok tt → Leaves (carries_after old o step) kept cs k.0) → (answer ≡ Err status.BadRequest → cs ≡ old.contexts)
+    → Unless status.BadRequest b answer old (record new { contexts = cs }) ((answer ≡ Ok tt) × ReturnsFrom old k o step kept (record new { contexts = cs }))
+returns_with old k o step kept cs answer new true h leaves same = (h.0, (leaves h.0, ap (λ (x : World). record x { contexts = cs }) h.1))
+returns_with old k o step kept cs answer new false h leaves same =
+    (h.0, ap (λ (x : World). record x { contexts = cs }) h.1 ∙ ap (λ x. record old { contexts = x }) (same h.0))
+
+-- ---- a completion comes back
+
+pub brought_table : (kept : ContextsKept) (k : WorkerId) (reply : Result FlowAction Status) → (kept_brought kept k.0 (back_in reply)).table ≡ received kept.table k reply
+brought_table kept k (Ok (action.Post i lent completion)) = at_context completion.context
+  where
+    at_context : (m : Option CtxId) → (kept_brought kept k.0 m).table ≡ brought kept.table k m
+    at_context None = refl
+    at_context (Some c) = refl
+brought_table kept k (Ok (action.Drain i completion)) = at_context completion.context
+  where
+    at_context : (m : Option CtxId) → (kept_brought kept k.0 m).table ≡ brought kept.table k m
+    at_context None = refl
+    at_context (Some c) = refl
+brought_table kept k (Ok (action.Pre i lent)) = refl
+brought_table kept k (Ok (action.Base call)) = refl
+brought_table kept k (Ok action.Moved) = refl
+brought_table kept k (Ok action.Held) = refl
+brought_table kept k (Ok action.Done) = refl
+brought_table kept k (Err why) = refl
+
+pub next_table : (kept after : ContextsKept) (k : WorkerId) (reply : Result FlowAction Status) → after ≡ kept_brought kept k.0 (back_in reply) → after.table ≡ received kept.table k reply
+next_table kept after k reply e = ap (λ (x : ContextsKept). x.table) e ∙ brought_table kept k reply
+
+handed_back : (reply : Result FlowAction Status) (c : CtxId) → handed c reply ≡ carried_in c (record { number = 0; context = back_in reply })
+handed_back (Ok (action.Post i lent completion)) c = refl
+handed_back (Ok (action.Drain i completion)) c = refl
+handed_back (Ok (action.Pre i lent)) c = refl
+handed_back (Ok (action.Base call)) c = refl
+handed_back (Ok action.Moved) c = refl
+handed_back (Ok action.Held) c = refl
+handed_back (Ok action.Done) c = refl
+handed_back (Err why) c = refl
+
+self_one : (c : CtxId) → one (is_id c c) ≡ 1
+self_one c = ap one (is_id-refl c)
+
+pub may_bring : (kept : ContextsKept) (k : WorkerId) (m : Option CtxId) (f g : FlowTable) → k.0 < 48 → hand_of kept.table.hands k.0 ≡ []
+    → ((c : CtxId) → carried c f ≡ carried c g + carried_in c (record { number = 0; context = m })) → IsTied kept f → MayBring kept k.0 m
+may_bring kept k None f g worker none balance tied = tt
+may_bring kept k (Some c) f g worker none balance tied =
+    (worker, omega (arith, tied c, balance c, self_one c), subst (λ (ids : List CtxId). length ids < 16) (sym none) (omega arith))
+
+carried_is_there : (kept : ContextsKept) (d : CtxId) → 0 < carried_of kept d → is_some (context_at kept.table.slots d) ≡ true
+unfolding carried_of
+carried_is_there kept d some =
+    elim (cases_Bool (is_some (context_at kept.table.slots d))) [
+      | inl e ↦ e
+      | inr e ↦ absurd (omega (arith, some, ap (λ b. cond b (slice_index kept.carried d.slot) 0) e))
+    ]
+
+pub tied_brought : (kept : ContextsKept) (k : WorkerId) (m : Option CtxId) (f g : FlowTable) → length kept.carried ≡ length kept.table.slots
+    → ((c : CtxId) → carried c f ≡ carried c g + carried_in c (record { number = 0; context = m })) → IsTied kept f → IsTied (kept_brought kept k.0 m) g
+tied_brought kept k None f g matched balance tied c = omega (arith, tied c, balance c)
+tied_brought kept k (Some d) f g matched balance tied c =
+    let some : 0 < carried_of kept d = omega (arith, tied d, balance d, self_one d) in
+    let slot : d.slot < length kept.carried = subst (λ n. d.slot < n) (sym matched) (slot_within kept.table.slots d (carried_is_there kept d some)) in
+    let fewer = carried_one_fewer kept (grabbed kept.table k.0 d) d (λ e. refl) some slot c in
+    omega (arith, fewer, tied c, balance c)
+
+-- by what `next` answers
+pub handed_balance : (f g : FlowTable) (reply : Result FlowAction Status) → ((c : CtxId) → carried c f ≡ carried c g + handed c reply)
+    → (c : CtxId) → carried c f ≡ carried c g + carried_in c (record { number = 0; context = back_in reply })
+handed_balance f g reply balance c = let k = handed_back reply c in omega (arith, balance c, k)
+
+-- ---- few references are carried: 65 at most by an operation that wasn't collected, none by one that was
+
+among_few : (c : CtxId) (asks : List Ask) → carried_among c asks ≤ length asks
+among_few c [] = omega arith
+among_few c (ask ∷ asks) =
+    let here = one_few (same_context c ask.completion.context) in
+    omega (arith, here, among_few c asks)
+  where
+    one_few : (b : Bool) → one b ≤ 1
+    one_few true = omega arith
+    one_few false = omega arith
+
+by_few : (c : CtxId) (r : FlowRecord) → flow.IsSound r → carried_by c r ≤ cond (not r.collected) 65 0
+by_few c r s = at_mark r.collected refl
+  where
+    at_mark : (b : Bool) → r.collected ≡ b → carried_by c r ≤ cond (not b) 65 0
+    at_mark true e = let none = ap (carried_among c) (done_owes r.stage (owed r.entries) (s.collected e)) in omega (arith, none)
+    at_mark false e = let k = among_few c (owed r.entries) in omega (arith, k, s.course.room)
+
+total_few : (c : CtxId) (rs : List FlowRecord) → All flow.IsSound rs → total (carried_by c) rs ≤ 65 * under_way rs
+total_few c [] h = omega arith
+total_few c (r ∷ rs) h =
+    let here = by_few c r (All-head flow.IsSound r rs h) in
+    let counts = count-cons (λ (x : FlowRecord). not x.collected) r rs in
+    let both = at_mark r.collected in
+    omega (arith, here, counts, both, total_few c rs (All-tail flow.IsSound r rs h))
+  where
+    at_mark : (b : Bool) → cond (not b) 65 0 ≡ 65 * one (not b)
+    at_mark true = refl
+    at_mark false = refl
+
+pub carried_few : (t : FlowTable) (c : CtxId) → IsFlow t → carried c t < 2 ^ 32
+carried_few t c s = omega (arith, total_few c t.operations s.sound, s.few)
+
+pub may_send : (kept : ContextsKept) (k : WorkerId) (m : Option CtxId) (f : FlowTable) → IsFlow f → IsTied kept f
+    → ((d : CtxId) → m ≡ Some d → holds (hand_of kept.table.hands k.0) d ≡ true) → MaySend kept k.0 m
+may_send kept k None f s tied has = tt
+may_send kept k (Some c) f s tied has = (has c refl, subst (λ n. n < 2 ^ 32) (sym (tied c)) (carried_few f c s))
+
+-- ---- before the first event
+
+pub empty_state : (s : StackWorld) (f : FlowTable) (kept : ContextsKept) → s ≡ empty_world.stack → f ≡ empty_world.flow → kept ≡ nothing_kept
+    → IsState (world_of s f empty_world.workers kept empty_world.totals) kept
+empty_state s f kept es ef ek =
+    subst (λ (x : ContextsKept). IsState (world_of s f empty_world.workers x empty_world.totals) x) (sym ek)
+    (subst (λ x. IsState (world_of x f empty_world.workers nothing_kept empty_world.totals) nothing_kept) (sym es)
+    (subst (λ x. IsState (world_of empty_world.stack x empty_world.workers nothing_kept empty_world.totals) nothing_kept) (sym ef)
+    (record { sound = empty_sound; tied = nothing_carried })))

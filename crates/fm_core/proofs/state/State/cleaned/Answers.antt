@@ -1,0 +1,44 @@
+use Rattle.std.proofs.Common.{◌≡◌, ◌<◌, Some, Ok, sym, ◌∙◌, ap, subst}
+use Rattle.std.proofs.lemmas.Option.{slice_get_within}
+use Rattle.fm_ctx.specs.Bags.{cleaning_of}
+use Rattle.fm_world.specs.declared.worker.Worker.TheVariants.{Cleanup}
+use Rattle.fm_world.specs.World.{World}
+use Rattle.fm_world.specs.Workers.{worker_at, cleanup_in}
+use Rattle.fm_world.specs.ContextEvents.{Cleans}
+use Rattle.fm_world.proofs.Cleanups.{cleaned_sound}
+use Rattle.fm_core.specs.Callers.{cleanup_of}
+use Rattle.fm_core.specs.Fields.{world_of}
+use Rattle.fm_core.proofs.Cleaned.{cleanup_is, clean_refused, cleans, clean_tied}
+use Rattle.fm_core.proofs.state.State.cleaned.Goals as goal
+
+pub returns-in_default : goal.returns-in_default
+returns-in_default c = clean_refused c.args.self.now c.args.worker c.args.number (ap cleanup_of (sym c.place.ensures) ∙ sym c.cleanup_of.ensures ∙ c.in_default.is)
+
+pub invariant_of-self : goal.invariant_of-self
+invariant_of-self c =
+    let old : World = world_of c.self.inside.stack c.self.inside.flow c.self.inside.workers c.self.inside.contexts c.self.inside.totals in
+    let new : World = world_of c.self.inside.stack c.self.inside.flow c.put.new.workers c.cleaned.new.self c.add_total.new.totals in
+    let named = subst (λ (w : World). cleanup_of (worker_at w.workers c.args.worker) ≡ Some c.in-Some.context) (sym c.self.view_is)
+    (ap cleanup_of (sym c.place.ensures) ∙ sym c.cleanup_of.ensures ∙ c.in-Some.is) in
+    let at = cleanup_is (worker_at old.workers c.args.worker) c.in-Some.context named in
+    let sound = c.self.invariant.sound in
+    let within : c.args.worker.0 < 48 = subst (λ n. c.args.worker.0 < n) sound.under_way.hands (slice_get_within old.workers c.args.worker.0 (Cleanup c.in-Some.context) at) in
+    let busy : cleaning_of old.contexts.cleaning c.args.worker.0 ≡ Some c.in-Some.context = sound.owned.cleaning c.args.worker.0 ∙ ap cleanup_in at in
+    let event : Cleans old c.args.worker c.args.number (Ok tt) new =
+    cleans old c.args.worker c.args.number c.in-Some.context c.self.inside.contexts c.cleaned.new.self c.owner_of.result c.filter_of-filter.result c.put.new.workers c.add_total.new.totals
+    at c.owner_of.ensures c.filter_of-filter.ensures c.add_total.ensures c.cleaned.ensures c.put.ensures in
+    record {
+      sound = cleaned_sound old c.args.worker c.args.number (Ok tt) new event sound;
+      tied = clean_tied c.self.inside.contexts c.cleaned.new.self c.self.inside.flow c.args.worker c.in-Some.context sound.owned.lawful within busy c.cleaned.ensures c.self.invariant.tied;
+    }
+
+pub returns : goal.returns
+returns c =
+    let old : World = world_of c.self.inside.stack c.self.inside.flow c.self.inside.workers c.self.inside.contexts c.self.inside.totals in
+    let new : World = world_of c.self.inside.stack c.self.inside.flow c.put.new.workers c.cleaned.new.self c.add_total.new.totals in
+    let named = subst (λ (w : World). cleanup_of (worker_at w.workers c.args.worker) ≡ Some c.in-Some.context) (sym c.self.view_is)
+    (ap cleanup_of (sym c.place.ensures) ∙ sym c.cleanup_of.ensures ∙ c.in-Some.is) in
+    let at = cleanup_is (worker_at old.workers c.args.worker) c.in-Some.context named in
+    subst (λ (w : World). Cleans w c.args.worker c.args.number (Ok tt) new) c.self.view_is
+    (cleans old c.args.worker c.args.number c.in-Some.context c.self.inside.contexts c.cleaned.new.self c.owner_of.result c.filter_of-filter.result c.put.new.workers c.add_total.new.totals
+    at c.owner_of.ensures c.filter_of-filter.ensures c.add_total.ensures c.cleaned.ensures c.put.ensures)

@@ -1,0 +1,5 @@
+use Rattle.fm_world.proofs.Runs.{headline_from}
+use Rattle.fm_core.proofs.state.State.headline.Goals as goal
+
+pub returns : goal.returns
+returns c = headline_from c.args.self.now c.laws.ensures

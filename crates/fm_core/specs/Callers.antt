@@ -1,0 +1,59 @@
+-- Whose callback a worker is in, as the code reads it.
+use Rattle.std.specs.Prelude.{Bool, true, false, Option, Some, None}
+use Rattle.fm_types.specs.declared.context_kind.ContextKind.{ContextKind}
+use Rattle.fm_types.specs.declared.context_kind.ContextKind.TheVariants as kind
+use Rattle.fm_types.specs.declared.ids.CtxId.{CtxId}
+use Rattle.fm_types.specs.declared.ids.FilterId.{FilterId}
+use Rattle.fm_types.specs.declared.status.Status.{Status}
+use Rattle.fm_types.specs.declared.status.Status.TheVariants as status
+use Rattle.fm_stack.specs.declared.instance.Instance.{Instance}
+use Rattle.fm_stack.specs.declared.instance.Phase.{Phase}
+use Rattle.fm_stack.specs.declared.instance.Phase.TheVariants as phase
+use Rattle.fm_stack.specs.StackWorld.{StackWorld}
+use Rattle.fm_ctx.specs.declared.object.Object.{Object}
+use Rattle.fm_ctx.specs.declared.object.Object.TheVariants as object
+use Rattle.fm_ctx.specs.declared.owner.Owner.{Owner}
+use Rattle.fm_ctx.specs.declared.owner.Owner.TheVariants as owner
+use Rattle.fm_world.specs.declared.worker.Worker.{Worker}
+use Rattle.fm_world.specs.declared.worker.Worker.TheVariants as place
+use Rattle.fm_world.specs.Owners.{has_kind, is_closing, filter_by}
+use Rattle.fm_world.specs.ContextEvents.{Callback}
+use Rattle.fm_core.specs.declared.caller.Caller.{Caller}
+
+abbrev pub caller_of : Callback → Caller
+caller_of at = record { instance = at.instance; filter = at.row.filter; volume = at.row.volume }
+
+-- who owns what it allocates, and what it sets contexts of that kind on
+abbrev pub owner_for : Caller → ContextKind → Owner
+owner_for caller kind.Volume = owner.Filter caller.filter
+owner_for caller _ = owner.Instance caller.instance
+
+abbrev pub object_for : Caller → ContextKind → Option Object
+object_for caller kind.Volume = Some (object.Volume caller.volume)
+object_for caller kind.Instance = Some (object.Instance caller.instance)
+object_for caller _ = None
+
+abbrev pub has_kind_at : StackWorld → Option Instance → ContextKind → Bool
+has_kind_at s None kind = false
+has_kind_at s (Some row) kind = has_kind s row kind
+
+abbrev pub is_closing_at : StackWorld → Option Instance → Bool
+is_closing_at s None = true
+is_closing_at s (Some row) = is_closing s row
+
+-- the context whose cleanup it is
+abbrev pub cleanup_of : Option Worker → Option CtxId
+cleanup_of (Some (place.Cleanup c)) = Some c
+cleanup_of _ = None
+
+-- the filter of an owner, if it is there
+abbrev pub filter_at : StackWorld → Option Owner → Option FilterId
+filter_at s None = None
+filter_at s (Some o) = filter_by s o
+
+-- what an instance in that phase refuses its end with
+abbrev pub refused_in : Option Phase → Option Status
+refused_in None = Some status.NoInstance
+refused_in (Some phase.Detached) = Some status.NoInstance
+refused_in (Some phase.Emptying) = None
+refused_in (Some _) = Some status.WrongStep

@@ -1,0 +1,195 @@
+-- The events of callbacks on contexts keep a World sound.
+use Rattle.std.proofs.Common.{◌≡◌, ℕ, ◌<◌, Bool, true, false, cond, not, List, [], ◌∷◌, ◌++◌, length, Option, Some, None, Result, Ok, Err, option_map, refl, ap, sym, ◌∙◌, subst}
+use Rattle.std.specs.Prelude.{All, slice_set}
+use Rattle.std.proofs.lemmas.Bool.{true≢false, leb-false}
+use Rattle.std.proofs.lemmas.Option.{none-some, same_Some, slice_get_within}
+use Rattle.std.proofs.lemmas.List.{set-get_or}
+use Rattle.std.proofs.lemmas.List.Elements.{All-push}
+use Rattle.fm_types.specs.declared.ids.CtxId.{CtxId}
+use Rattle.fm_types.specs.declared.ids.InstanceId.{InstanceId}
+use Rattle.fm_types.specs.declared.ids.WorkerId.{WorkerId}
+use Rattle.fm_types.specs.declared.status.Status.{Status}
+use Rattle.fm_types.specs.declared.status.Status.TheVariants as status
+use Rattle.fm_types.specs.Refusals.{first_of}
+use Rattle.fm_types.proofs.Lists.{all_at}
+use Rattle.fm_stack.specs.declared.instance.Instance.{Instance}
+use Rattle.fm_stack.specs.StackWorld.{StackWorld}
+use Rattle.fm_stack.specs.Stacks.{IsPlaced}
+use Rattle.fm_ctx.specs.Bags.{holds, hand_of, is_hand_full, cleaning_of, without}
+use Rattle.fm_ctx.specs.Bodies.{rewritten, with_body}
+use Rattle.fm_ctx.specs.Laws.{IsLawful}
+use Rattle.fm_ctx.specs.References.{grabbed, released}
+use Rattle.fm_ctx.specs.Table.{ContextTable}
+use Rattle.fm_ctx.proofs.Counts.{count_held}
+use Rattle.fm_ctx.proofs.Moves.{within_hands, reference_keeps, release_keeps, body_keeps}
+use Rattle.fm_world.specs.declared.worker.Worker.{Worker}
+use Rattle.fm_world.specs.World.{World, carries}
+use Rattle.fm_world.specs.Workers.{worker_at}
+use Rattle.fm_world.specs.Owners.{row_at, place_in, belongs, HoldsIn}
+use Rattle.fm_world.specs.ContextEvents.{Callback, callback_in, callback_of, InCallbackOf, with_contexts, References, Releases, ReadsBody, WritesBody, Bumps}
+use Rattle.fm_world.specs.Sound.{IsSound, IsOwned}
+use Rattle.fm_world.proofs.Belonging.{OwnersStay, owners_same, owners_changed, belongs_still, filters_same, held_has, all_without, AllHold, all_hold, all_hold_still, nobody_moved, all_carry_still}
+use Rattle.fm_world.proofs.Fitting.{AllFit, fits_changed}
+use Rattle.fm_world.proofs.Keeps.{whatever_contexts}
+
+-- ---- the callback that a worker is in
+
+pub callback_parts : (s : StackWorld) (m : Option InstanceId) (at : Callback) → callback_in s m ≡ Some at
+    → (m ≡ Some at.instance) × (row_at s at.instance ≡ Some at.row)
+callback_parts s None at h = absurd (none-some at h)
+callback_parts s (Some i) at h = at_row (row_at s i) refl h
+  where
+    at_row : (o : Option Instance) → row_at s i ≡ o → option_map (λ (row : Instance). record { instance = i; row = row }) o ≡ Some at
+        → (Some i ≡ Some at.instance) × (row_at s at.instance ≡ Some at.row)
+    at_row None there h = absurd (none-some at h)
+    at_row (Some row) there h =
+        let is : record { instance = i; row = row } ≡ at = same_Some (record { instance = i; row = row }) at h in
+        (ap (λ (x : Callback). Some x.instance) is, subst (λ (x : Callback). row_at s x.instance ≡ Some x.row) is there)
+
+-- a worker in a callback is there
+worker_within : (w : World) (k : WorkerId) (m : Option Worker) (i : InstanceId) → worker_at w.workers k ≡ m → place_in m ≡ Some i → k.0 < length w.workers
+worker_within w k None i there h = absurd (none-some i h)
+worker_within w k (Some a) i there h = slice_get_within w.workers k.0 a there
+
+pub record IsIn (w : World) (k : WorkerId) (at : Callback) : Type 0 where
+  pub place : place_in (worker_at w.workers k) ≡ Some at.instance
+  pub there : row_at w.stack at.instance ≡ Some at.row
+  pub worker : k.0 < 48
+  pub placed : IsPlaced w.stack at.row
+
+pub is_in : (w : World) (k : WorkerId) (at : Callback) → IsSound w → callback_of w k ≡ Some at → IsIn w k at
+is_in w k at s h =
+    let parts = callback_parts w.stack (place_in (worker_at w.workers k)) at h in
+    let within = worker_within w k (worker_at w.workers k) at.instance refl parts.0 in
+    record {
+      place = parts.0;
+      there = parts.1;
+      worker = subst (λ n. k.0 < n) s.under_way.hands within;
+      placed = all_at (IsPlaced w.stack) w.stack.instances at.instance.0 at.row s.under_way.stack.placed parts.1;
+    }
+
+-- an event of a callback, or its refusal
+pub in_callback : {T : Type 0} (old : World) (k : WorkerId) (result : Result T Status) (new : World) (Event : Callback → Type 0) (m : Option Callback)
+    → callback_of old k ≡ m → InCallbackOf result old new Event m → ((at : Callback) → IsIn old k at → Event at → IsSound new) → IsSound old → IsSound new
+in_callback old k result new Event None is h event s = subst IsSound (sym h.1) s
+in_callback old k result new Event (Some at) is h event s = event at (is_in old k at s is) h
+
+-- ---- only contexts change
+
+pub contexts_owned : (w : World) (t : ContextTable) (k : WorkerId) (hand : List CtxId) → IsLawful (carries w) t → t.cleaning ≡ w.contexts.cleaning
+    → OwnersStay w.contexts.slots t.slots → t.hands ≡ slice_set w.contexts.hands k.0 hand → k.0 < 48
+    → All (HoldsIn w.stack t.slots (place_in (worker_at w.workers k))) hand → AllFit w.stack t.slots → IsOwned w → IsOwned (with_contexts w t)
+contexts_owned w t k hand lawful cleaning owners hands worker here fit h =
+    let still = belongs_still w.stack w.contexts.slots w.stack t.slots (filters_same w.stack) owners in
+    record {
+      lawful = lawful;
+      cleaning = λ n. ap (λ xs. cleaning_of xs n) cleaning ∙ h.cleaning n;
+      holders = subst (AllHold w.stack t.slots w.workers) (sym hands)
+          (all_hold w.stack w.contexts.slots w.stack t.slots w.workers w.workers w.contexts.hands k.0 hand (within_hands k.0 h.lawful worker) still
+          (nobody_moved w.workers k.0) here h.holders);
+      completions = all_carry_still w.stack w.contexts.slots w.stack t.slots w.flow.operations still h.completions;
+      fits = fit;
+      quiet = h.quiet;
+      totals = h.totals;
+    }
+
+pub sound_with : (w : World) (t : ContextTable) → IsOwned (with_contexts w t) → IsSound w → IsSound (with_contexts w t)
+sound_with w t owned s = record { under_way = whatever_contexts w t w.totals s.under_way; owned = owned }
+
+-- what a worker holds in a callback
+pub in_hand : (w : World) (k : WorkerId) (at : Callback) (c : CtxId) → IsIn w k at → IsOwned w → holds (hand_of w.contexts.hands k.0) c ≡ true
+    → belongs w.stack w.contexts.slots at.instance c ≡ true
+in_hand w k at c i h has =
+    subst (λ m. HoldsIn w.stack w.contexts.slots m c) i.place
+    (held_has (HoldsIn w.stack w.contexts.slots (place_in (worker_at w.workers k))) (hand_of w.contexts.hands k.0) c (h.holders k) has)
+
+-- a hand that stays, where the slots' owners stay
+pub same_hand : (w : World) (t : ContextTable) (k : WorkerId) → IsOwned w → OwnersStay w.contexts.slots t.slots
+    → All (HoldsIn w.stack t.slots (place_in (worker_at w.workers k))) (hand_of w.contexts.hands k.0)
+same_hand w t k h owners =
+    let still = belongs_still w.stack w.contexts.slots w.stack t.slots (filters_same w.stack) owners in
+    all_hold_still w.stack w.contexts.slots w.stack t.slots w.workers w.contexts.hands still h.holders k
+
+-- a hand with one more, where the slots' owners stay
+pub one_more : (w : World) (t : ContextTable) (k : WorkerId) (at : Callback) (c : CtxId) → IsIn w k at → IsOwned w → OwnersStay w.contexts.slots t.slots
+    → belongs w.stack t.slots at.instance c ≡ true
+    → All (HoldsIn w.stack t.slots (place_in (worker_at w.workers k))) (hand_of w.contexts.hands k.0 ++ c ∷ [])
+one_more w t k at c i h owners own =
+    All-push (HoldsIn w.stack t.slots (place_in (worker_at w.workers k))) (hand_of w.contexts.hands k.0) c
+    (same_hand w t k h owners) (subst (λ m. HoldsIn w.stack t.slots m c) (sym i.place) own)
+
+-- ---- reference, release, bodies
+
+pub none_of : {X : Type 0} (a : Bool) (x : X) (r : Option X) → cond a (Some x) r ≡ None → (a ≡ false) × (r ≡ None)
+none_of true x r h = absurd (none-some x (sym h))
+none_of false x r h = (refl, h)
+
+pub not_false : (b : Bool) → not b ≡ false → b ≡ true
+not_false true h = refl
+not_false false h = absurd (true≢false h)
+
+pub grabbed_sound : (w : World) (k : WorkerId) (at : Callback) (c : CtxId) → IsIn w k at → IsSound w → IsLawful (carries w) (grabbed w.contexts k.0 c)
+    → belongs w.stack w.contexts.slots at.instance c ≡ true → IsSound (with_contexts w (grabbed w.contexts k.0 c))
+grabbed_sound w k at c i s lawful own =
+    let t = grabbed w.contexts k.0 c in
+    let owners = owners_same w.contexts.slots t.slots refl in
+    sound_with w t
+    (contexts_owned w t k (hand_of w.contexts.hands k.0 ++ c ∷ []) lawful refl owners refl i.worker (one_more w t k at c i s.owned owners own) s.owned.fits s.owned) s
+
+pub reference_sound : (old : World) (k : WorkerId) (c : CtxId) (result : Result (Unit {0}) Status) (new : World) → References old k c result new → IsSound old → IsSound new
+unfolding References
+reference_sound old k c (Err why) new h s = in_callback old k (Err why) new _ (callback_of old k) refl h (λ at i event. subst IsSound (sym event.1) s) s
+reference_sound old k c (Ok done) new h s =
+    in_callback old k (Ok done) new _ (callback_of old k) refl h (λ at i event.
+    let held = none_of (not (holds (hand_of old.contexts.hands k.0) c)) status.NotHeld (first_of ((is_hand_full old.contexts.hands k.0, status.HandFull) ∷ [])) event.0 in
+    let room = none_of (is_hand_full old.contexts.hands k.0) status.HandFull None held.1 in
+    let has = not_false (holds (hand_of old.contexts.hands k.0) c) held.0 in
+    let law = s.owned.lawful in
+    subst IsSound (sym event.1)
+    (grabbed_sound old k at c i s
+    (reference_keeps k.0 c law i.worker (count_held (carries old) old.contexts k.0 c (within_hands k.0 law i.worker) has) (leb-false 16 (length (hand_of old.contexts.hands k.0)) room.0))
+    (in_hand old k at c i s.owned has))) s
+
+pub release_sound : (old : World) (k : WorkerId) (c : CtxId) (result : Result (Unit {0}) Status) (new : World) → Releases old k c result new → IsSound old → IsSound new
+unfolding Releases
+release_sound old k c (Err why) new h s = in_callback old k (Err why) new _ (callback_of old k) refl h (λ at i event. subst IsSound (sym event.1) s) s
+release_sound old k c (Ok done) new h s =
+    in_callback old k (Ok done) new _ (callback_of old k) refl h (λ at i event.
+    let held = none_of (not (holds (hand_of old.contexts.hands k.0) c)) status.NotHeld None event.0 in
+    let has = not_false (holds (hand_of old.contexts.hands k.0) c) held.0 in
+    let t = released (carries old) old.contexts k.0 c in
+    let owners = owners_same old.contexts.slots t.slots refl in
+    subst IsSound (sym event.1)
+    (sound_with old t
+    (contexts_owned old t k (without c (hand_of old.contexts.hands k.0)) (release_keeps k.0 c s.owned.lawful i.worker has) refl owners refl i.worker
+    (all_without (HoldsIn old.stack t.slots (place_in (worker_at old.workers k))) c (hand_of old.contexts.hands k.0) (s.owned.holders k)) s.owned.fits s.owned) s)) s
+
+pub same_hands : (hands : List (List CtxId)) (w : ℕ) → hands ≡ slice_set hands w (hand_of hands w)
+same_hands hands w = sym (set-get_or hands w [])
+
+pub rewritten_sound : (w : World) (k : WorkerId) (at : Callback) (c : CtxId) (bytes : List ℕ) → IsIn w k at → IsSound w → IsSound (with_contexts w (rewritten w.contexts c bytes))
+rewritten_sound w k at c bytes i s =
+    let t = rewritten w.contexts c bytes in
+    let owners = owners_changed (with_body bytes) w.contexts.slots c (λ x. (refl, refl)) in
+    sound_with w t
+    (contexts_owned w t k (hand_of w.contexts.hands k.0) (body_keeps c bytes s.owned.lawful) refl owners (same_hands w.contexts.hands k.0) i.worker
+    (same_hand w t k s.owned owners)
+    (fits_changed w.stack (option_map (with_body bytes)) w.contexts.slots c refl (λ x there fit. fit) s.owned.fits) s.owned) s
+
+pub read_body_sound : (old : World) (k : WorkerId) (c : CtxId) (result : Result (List ℕ) Status) (new : World) → ReadsBody old k c result new → IsSound old → IsSound new
+unfolding ReadsBody
+read_body_sound old k c (Err why) new h s = in_callback old k (Err why) new _ (callback_of old k) refl h (λ at i event. subst IsSound (sym event.1) s) s
+read_body_sound old k c (Ok body) new h s = in_callback old k (Ok body) new _ (callback_of old k) refl h (λ at i event. subst IsSound (sym event.1.1) s) s
+
+pub write_body_sound : (old : World) (k : WorkerId) (c : CtxId) (bytes : List ℕ) (result : Result (Unit {0}) Status) (new : World)
+    → WritesBody old k c bytes result new → IsSound old → IsSound new
+unfolding WritesBody
+write_body_sound old k c bytes (Err why) new h s = in_callback old k (Err why) new _ (callback_of old k) refl h (λ at i event. subst IsSound (sym event.1) s) s
+write_body_sound old k c bytes (Ok done) new h s =
+    in_callback old k (Ok done) new _ (callback_of old k) refl h (λ at i event. subst IsSound (sym event.1) (rewritten_sound old k at c bytes i s)) s
+
+pub bump_sound : (old : World) (k : WorkerId) (c : CtxId) (at by : ℕ) (result : Result ℕ Status) (new : World) → Bumps old k c at by result new → IsSound old → IsSound new
+unfolding Bumps
+bump_sound old k c at by (Err why) new h s = in_callback old k (Err why) new _ (callback_of old k) refl h (λ cb i event. subst IsSound (sym event.1) s) s
+bump_sound old k c at by (Ok n) new h s =
+    in_callback old k (Ok n) new _ (callback_of old k) refl h (λ cb i event. subst IsSound (sym event.1.1) (rewritten_sound old k cb c _ i s)) s

@@ -1,0 +1,134 @@
+-- What a context names is there: what changes of contexts and of instances leave of it.
+use Rattle.std.proofs.Common.{◌≡◌, ◌≤◌, ◌<◌, Bool, true, false, cond, List, [], ◌∷◌, ◌++◌, length, map, Option, Some, None, option_map, slice_get, refl, ap, sym, ◌∙◌, inl, inr, arith, nat_lt}
+use Rattle.std.specs.Prelude.{All, slice_set, ◌&&◌, ◌==◌}
+use Rattle.std.specs.Option.{option_and_then}
+use Rattle.std.proofs.lemmas.Bool.{false≢true, cases_Bool, and_parts, and_from, lt-ltb, ltb-true}
+use Rattle.std.proofs.lemmas.List.Elements.{All-weaker, All-map, All-push}
+use Rattle.fm_types.specs.declared.context_kind.ContextKind.{ContextKind}
+use Rattle.fm_types.specs.declared.context_kind.ContextKind.TheVariants as kind
+use Rattle.fm_types.specs.declared.ids.CtxId.{CtxId}
+use Rattle.fm_types.specs.declared.ids.InstanceId.{InstanceId}
+use Rattle.fm_types.proofs.Lists.{All-updated, All-set_others}
+use Rattle.fm_stack.specs.StackWorld.{StackWorld}
+use Rattle.fm_ctx.specs.declared.object.Object.{Object}
+use Rattle.fm_ctx.specs.declared.object.Object.TheVariants as object
+use Rattle.fm_ctx.specs.declared.owner.Owner.{Owner}
+use Rattle.fm_ctx.specs.declared.owner.Owner.TheVariants as owner
+use Rattle.fm_ctx.specs.Births.{new_slot, placed}
+use Rattle.fm_ctx.specs.Links.{with_link}
+use Rattle.fm_ctx.specs.Objects.{same_owner}
+use Rattle.fm_ctx.specs.Settling.{swept, swept_slot}
+use Rattle.fm_ctx.specs.Table.{Context, Slot, context_at, context_in, changed_slot, change_context}
+use Rattle.fm_world.specs.Owners.{row_at, fits, owner_fits, link_fits, is_left_by, keeps_links_by, is_volume, is_instance}
+
+abbrev pub AllFit : StackWorld → List Slot → Type 0
+AllFit s slots = All (λ (x : Slot). fits s x.context ≡ true) slots
+
+-- ---- contexts change
+
+-- the context that an id names, where the slot has that generation
+there_in : (slots : List Slot) (c : CtxId) (x : Slot) → slice_get slots c.slot ≡ Some x → (c.generation == x.generation) ≡ true → context_at slots c ≡ x.context
+unfolding context_at
+there_in slots c x h same = ap (option_and_then (context_in c)) h ∙ ap (λ b. cond b x.context None) same
+
+pub fits_changed : (s : StackWorld) (f : Option Context → Option Context) (slots : List Slot) (c : CtxId) → f None ≡ None
+    → ((x : Context) → context_at slots c ≡ Some x → fits s (Some x) ≡ true → fits s (f (Some x)) ≡ true)
+    → AllFit s slots → AllFit s (change_context f slots c)
+fits_changed s f slots c none keeps h =
+    All-updated (λ (x : Slot). fits s x.context ≡ true) (λ (x : Slot). fits s x.context ≡ true) (changed_slot f c) slots c.slot h
+    (λ x there fit. by_generation x there fit)
+    (λ k x other there fit. fit)
+  where
+    by_context : (x : Slot) (o : Option Context) → x.context ≡ o → context_at slots c ≡ o → fits s x.context ≡ true → fits s (f o) ≡ true
+    by_context x None is there fit = ap (fits s) none
+    by_context x (Some y) is there fit = keeps y there (sym (ap (fits s) is) ∙ fit)
+
+    by_generation : (x : Slot) → slice_get slots c.slot ≡ Some x → fits s x.context ≡ true → fits s (changed_slot f c x).context ≡ true
+    by_generation x there fit =
+        elim (cases_Bool (c.generation == x.generation)) [
+          | inl same ↦ ap (λ b. fits s (cond b (record x { context = f x.context }) x).context) same ∙ by_context x x.context refl (there_in slots c x there same) fit
+          | inr apart ↦ ap (λ b. fits s (cond b (record x { context = f x.context }) x).context) apart ∙ fit
+        ]
+
+pub fits_placed : (s : StackWorld) (slots : List Slot) (c : CtxId) (x : Context) → fits s (Some x) ≡ true → AllFit s slots → AllFit s (placed slots c x)
+fits_placed s slots c x fit h = by_place (c.slot == length slots)
+  where
+    by_place : (b : Bool) → AllFit s (cond b (slots ++ new_slot c x ∷ []) (slice_set slots c.slot (new_slot c x)))
+    by_place true = All-push (λ (y : Slot). fits s y.context ≡ true) slots (new_slot c x) h fit
+    by_place false =
+        All-set_others (λ (y : Slot). fits s y.context ≡ true) (λ (y : Slot). fits s y.context ≡ true) slots c.slot (new_slot c x) fit h (λ k y other there was. was)
+
+pub fits_unlinked : (s : StackWorld) (x : Context) → fits s (Some x) ≡ true → fits s (Some (with_link None x)) ≡ true
+fits_unlinked s x h =
+    and_from (owner_fits s x.kind x.owner) true (and_parts (owner_fits s x.kind x.owner) (link_fits s x x.link) h).0 refl
+
+-- the link of a context that fits is put in place
+pub fits_linked : (s : StackWorld) (x : Context) (o : Object) → link_fits s x (Some o) ≡ true → fits s (Some x) ≡ true → fits s (Some (with_link (Some o) x)) ≡ true
+fits_linked s x o link h =
+    and_from (owner_fits s x.kind x.owner) (link_fits s (with_link (Some o) x) (Some o)) (and_parts (owner_fits s x.kind x.owner) (link_fits s x x.link) h).0 (at_object o link)
+  where
+    at_object : (o : Object) → link_fits s x (Some o) ≡ true → link_fits s (with_link (Some o) x) (Some o) ≡ true
+    at_object (object.Volume v) h = h
+    at_object (object.Instance i) h = h
+    at_object (object.Stream r) h = h
+    at_object (object.Handle r) h = h
+
+pub fits_swept : (s t : StackWorld) (test : Context → Bool) (slots : List Slot)
+    → ((x : Context) → fits s (Some x) ≡ true → fits t (Some (swept test x)) ≡ true) → AllFit s slots → AllFit t (map (swept_slot test) slots)
+fits_swept s t test slots keeps h =
+    All-map (λ (x : Slot). fits t x.context ≡ true) (swept_slot test) slots
+    (All-weaker (λ (x : Slot). fits s x.context ≡ true) (λ (x : Slot). fits t (option_map (swept test) x.context) ≡ true) (λ x fit. at_context x.context fit) slots h)
+  where
+    at_context : (o : Option Context) → fits s o ≡ true → fits t (option_map (swept test) o) ≡ true
+    at_context None fit = refl
+    at_context (Some x) fit = keeps x fit
+
+-- ---- instances change
+
+pub owner_stays : (s t : StackWorld) (k : ContextKind) (o : Owner) → length s.filters ≤ length t.filters
+    → ((j : InstanceId) → o ≡ owner.Instance j → is_left_by (row_at s j) ≡ true → is_left_by (row_at t j) ≡ true)
+    → owner_fits s k o ≡ true → owner_fits t k o ≡ true
+owner_stays s t kind.Volume (owner.Filter f) more left h =
+    let below : f.0 < length s.filters = ltb-true f.0 (length s.filters) h in
+    lt-ltb f.0 (length t.filters) (omega (arith, below, more))
+owner_stays s t kind.Volume (owner.Instance i) more left h = absurd (false≢true h)
+owner_stays s t kind.Instance (owner.Filter f) more left h = absurd (false≢true h)
+owner_stays s t kind.Stream (owner.Filter f) more left h = absurd (false≢true h)
+owner_stays s t kind.Handle (owner.Filter f) more left h = absurd (false≢true h)
+owner_stays s t kind.Instance (owner.Instance i) more left h = left i refl h
+owner_stays s t kind.Stream (owner.Instance i) more left h = left i refl h
+owner_stays s t kind.Handle (owner.Instance i) more left h = left i refl h
+
+pub link_stays : (s t : StackWorld) (x : Context) (l : Option Object) → length s.volumes ≤ length t.volumes
+    → ((j : InstanceId) → l ≡ Some (object.Instance j) → same_owner (owner.Instance j) x.owner ≡ true → keeps_links_by (row_at s j) ≡ true → keeps_links_by (row_at t j) ≡ true)
+    → link_fits s x l ≡ true → link_fits t x l ≡ true
+link_stays s t x None more keeps h = refl
+link_stays s t x (Some (object.Volume v)) more keeps h =
+    let parts = and_parts (is_volume x.kind) (nat_lt v.0 (length s.volumes)) h in
+    let below : v.0 < length s.volumes = ltb-true v.0 (length s.volumes) parts.1 in
+    and_from (is_volume x.kind) (nat_lt v.0 (length t.volumes)) parts.0 (lt-ltb v.0 (length t.volumes) (omega (arith, below, more)))
+link_stays s t x (Some (object.Instance i)) more keeps h =
+    let parts = and_parts (is_instance x.kind) (same_owner (owner.Instance i) x.owner && keeps_links_by (row_at s i)) h in
+    let own = and_parts (same_owner (owner.Instance i) x.owner) (keeps_links_by (row_at s i)) parts.1 in
+    and_from (is_instance x.kind) (same_owner (owner.Instance i) x.owner && keeps_links_by (row_at t i)) parts.0
+    (and_from (same_owner (owner.Instance i) x.owner) (keeps_links_by (row_at t i)) own.0 (keeps i refl own.0 own.1))
+link_stays s t x (Some (object.Stream r)) more keeps h = absurd (false≢true h)
+link_stays s t x (Some (object.Handle r)) more keeps h = absurd (false≢true h)
+
+-- instances go on: none is detached, and none is emptied
+pub record GoesOn (s t : StackWorld) : Type 0 where
+  pub filters : length s.filters ≤ length t.filters
+  pub volumes : length s.volumes ≤ length t.volumes
+  pub left : (j : InstanceId) → is_left_by (row_at s j) ≡ true → is_left_by (row_at t j) ≡ true
+  pub keeps : (j : InstanceId) → keeps_links_by (row_at s j) ≡ true → keeps_links_by (row_at t j) ≡ true
+
+pub fits_on : (s t : StackWorld) (slots : List Slot) → GoesOn s t → AllFit s slots → AllFit t slots
+fits_on s t slots on h = All-weaker (λ (x : Slot). fits s x.context ≡ true) (λ (x : Slot). fits t x.context ≡ true) (λ x fit. at_context x.context fit) slots h
+  where
+    at_context : (o : Option Context) → fits s o ≡ true → fits t o ≡ true
+    at_context None fit = refl
+    at_context (Some x) fit =
+        let parts = and_parts (owner_fits s x.kind x.owner) (link_fits s x x.link) fit in
+        and_from (owner_fits t x.kind x.owner) (link_fits t x x.link)
+        (owner_stays s t x.kind x.owner on.filters (λ j is. on.left j) parts.0)
+        (link_stays s t x x.link on.volumes (λ j is own. on.keeps j) parts.1)

@@ -1,0 +1,656 @@
+-- The events on operations leave contexts as the World says.
+use Rattle.std.proofs.Common.{◌≡◌, ℕ, ◌<◌, ◌≤◌, ◌+◌, ◌==◌, Bool, true, false, cond, List, [], ◌∷◌, ◌++◌, length, not, Option, Some, None, Result, Ok, Err, slice_get, option_map, unwrap_or, option_to_list, find, refl, ap, sym, ◌∙◌, subst, inl, inr, arith}
+use Rattle.std.specs.Prelude.{All, slice_set}
+use Rattle.std.specs.List.{list_any}
+use Rattle.std.proofs.lemmas.Bool.{false≢true, true≢false, cases_Bool, and_parts, and_from, eq-eqb, ne_eqb}
+use Rattle.std.proofs.lemmas.Option.{none-some, same_Some, slice_get_within}
+use Rattle.std.proofs.lemmas.List.{set-set}
+use Rattle.std.proofs.lemmas.List.Elements.{All-nil, All-cons, All-push}
+use Rattle.fm_types.specs.declared.ids.CtxId.{CtxId}
+use Rattle.fm_types.specs.declared.ids.InstanceId.{InstanceId}
+use Rattle.fm_types.specs.declared.ids.OpId.{OpId}
+use Rattle.fm_types.specs.declared.ids.WorkerId.{WorkerId}
+use Rattle.fm_types.specs.declared.operation.Operation.{Operation}
+use Rattle.fm_types.specs.declared.operation.Operation.TheVariants as kind
+use Rattle.fm_types.specs.declared.status.Status.{Status}
+use Rattle.fm_types.specs.declared.status.Status.TheVariants as status
+use Rattle.fm_types.proofs.Lists.{slice_get-set_same}
+use Rattle.fm_data.specs.declared.params.Params.{Params}
+use Rattle.fm_data.specs.declared.params.Params.TheVariants as params
+use Rattle.fm_data.specs.declared.answer.Answer.{Answer}
+use Rattle.fm_data.specs.declared.verdict.Completion.{Completion}
+use Rattle.fm_data.specs.declared.verdict.PreVerdict.{PreVerdict}
+use Rattle.fm_data.specs.declared.verdict.PreVerdict.TheVariants as verdict
+use Rattle.fm_data.specs.declared.verdict.PostVerdict.{PostVerdict}
+use Rattle.fm_data.specs.Data.{Data, data_fits}
+use Rattle.fm_stack.specs.declared.instance.Phase.{Phase}
+use Rattle.fm_stack.specs.declared.instance.Phase.TheVariants as phase
+use Rattle.fm_stack.specs.StackWorld.{StackWorld}
+use Rattle.fm_stack.specs.Instances.{is_attached}
+use Rattle.fm_stack.specs.Next.{is_to_visit, is_below_cursor}
+use Rattle.fm_flow.specs.declared.action.Below.{Below}
+use Rattle.fm_flow.specs.declared.action.Below.TheVariants as below
+use Rattle.fm_flow.specs.declared.action.FlowAction.{FlowAction}
+use Rattle.fm_flow.specs.declared.action.FlowAction.TheVariants as action
+use Rattle.fm_flow.specs.declared.entry.Ask.{Ask}
+use Rattle.fm_flow.specs.declared.entry.PreState.{PreState}
+use Rattle.fm_flow.specs.declared.entry.PreState.TheVariants as pre
+use Rattle.fm_flow.specs.declared.entry.Entry.TheVariants.{Base}
+use Rattle.fm_flow.specs.declared.entry.PreVisit.{PreVisit}
+use Rattle.fm_flow.specs.declared.stage.Stage.{Stage}
+use Rattle.fm_flow.specs.declared.stage.Stage.TheVariants.{Descending, PreRunning, PreHeld, InBase, Ascending, PostRunning, PostHeld, InDrain}
+use Rattle.fm_flow.specs.Counts.{carried_in, carried_among, carried_by, is_running_drain, flight, handed, taken_by}
+use Rattle.fm_flow.specs.Entries.{ask_in, last_visited, owed}
+use Rattle.fm_flow.specs.Record.{FlowRecord}
+use Rattle.fm_flow.specs.Sound.{IsCourse}
+use Rattle.fm_flow.specs.Sound as flow
+use Rattle.fm_flow.specs.Steps.{next_of, pre_returned_of, base_returned_of, post_returned_of, drain_returned_of, base_fits, post_state, is_done, done_at}
+use Rattle.fm_flow.specs.Table.{FlowTable, operation_at, changed, told, total, carried, in_flight, begun, begun_record, is_number, is_collectable, collected_in, marked, removed, without_first}
+use Rattle.fm_flow.specs.Verdict.{verdict_counted, completed_as}
+use Rattle.fm_flow.proofs.Balances.{next_carries, next_flies, next_enters, pre_returned_carries, pre_returned_flies, base_returned_carries, base_returned_flies, post_returned_carries, post_returned_flies, drain_returned_carries, drain_returned_flies, total_changed}
+use Rattle.fm_flow.proofs.Counting.{owed_pre_settled, owed_post_settled, owed_drain_settled}
+use Rattle.fm_flow.proofs.Owed.{owed_push_none}
+use Rattle.fm_flow.proofs.Owes.{WasOwed, MayAsk, next_owes}
+use Rattle.fm_flow.proofs.Tables.{found_holds, all_change, all_without}
+use Rattle.fm_ctx.specs.Bags.{holds, hand_of, without}
+use Rattle.fm_ctx.specs.Laws.{IsLawful}
+use Rattle.fm_ctx.specs.References.{grabbed}
+use Rattle.fm_ctx.specs.Settling.{Leaves}
+use Rattle.fm_ctx.specs.Table.{Slot, ContextTable}
+use Rattle.fm_ctx.proofs.Alike.{lawful_alike}
+use Rattle.fm_ctx.proofs.Leaving.{leave_keeps}
+use Rattle.fm_ctx.proofs.Moves.{within_hands, carry_keeps, bring_keeps}
+use Rattle.fm_world.specs.declared.step.Begin.{Begin}
+use Rattle.fm_world.specs.declared.step.Begin.TheVariants as begin
+use Rattle.fm_world.specs.declared.worker.Worker.{Worker}
+use Rattle.fm_world.specs.declared.worker.Worker.TheVariants as place
+use Rattle.fm_world.specs.World.{World, carries}
+use Rattle.fm_world.specs.Workers.{worker_at, put, is_idle, after_next, cleanup_in}
+use Rattle.fm_world.specs.Owners.{row_at, place_in, HoldsIn, CarriesIn, AskCarries, fits, is_flown, is_flown_by}
+use Rattle.fm_world.specs.Events.{Begins, Nexts, NextsOver, FindsBelow, LiesBelow, PreReturns, PreReturnsAt, BaseReturns, BaseReturnsAt, PostReturns, PostReturnsAt, ReturnsFrom, Collects, brought, received, returned, drains_at, state_at, state_given, held_context, of_hand, sent, sent_in, carries_after, has_post}
+use Rattle.fm_world.specs.Headline.{AtPre, AtBase, AtPost, AtDrain}
+use Rattle.fm_world.specs.Sound.{IsSound, IsUnderWay, IsOwned, IsAmong}
+use Rattle.fm_world.proofs.Belonging.{owners_same, filters_same, belongs_still, AllHold, AllCarry, all_hold, others_stay, held_has}
+use Rattle.fm_world.proofs.Callbacks.{same_hands}
+use Rattle.fm_world.proofs.Keeps.{unless_cases, idle_there}
+use Rattle.fm_world.proofs.Operations.{begin_keeps, next_keeps, pre_keeps, base_keeps, post_keeps, collect_keeps, may_visit, told_there, unchanged_flow}
+use Rattle.fm_world.proofs.Owning.{empty_hand, cleaning_stays}
+use Rattle.fm_world.proofs.Ties.{tied_there, spot_pre, spot_post, spot_drain}
+
+-- ---- one operation changes
+
+-- how many references all operations carry, and how many are in flight, where one of them changes
+carried_changed : (t : FlowTable) (o : OpId) (r : FlowRecord) (f : FlowRecord → FlowRecord) → operation_at o t ≡ Some r → (c : CtxId)
+    → carried c (changed o f t) + carried_by c r ≡ carried c t + carried_by c (f r)
+carried_changed t o r f at c = total_changed (carried_by c) (is_number o) f t.operations r at
+
+flight_changed : (t : FlowTable) (o : OpId) (r : FlowRecord) (f : FlowRecord → FlowRecord) → operation_at o t ≡ Some r → (i : ℕ)
+    → in_flight i (changed o f t) + flight i r ≡ in_flight i t + flight i (f r)
+flight_changed t o r f at i = total_changed (flight i) (is_number o) f t.operations r at
+
+carry_changed : (s : StackWorld) (slots : List Slot) (t : FlowTable) (o : OpId) (r : FlowRecord) (f : FlowRecord → FlowRecord) → operation_at o t ≡ Some r
+    → All (AskCarries s slots) (owed (f r).entries) → AllCarry s slots t.operations → AllCarry s slots (changed o f t).operations
+carry_changed s slots t o r f at owes h =
+    all_change (λ (x : FlowRecord). All (AskCarries s slots) (owed x.entries)) (is_number o) f t.operations
+    (λ x e. subst (λ (y : FlowRecord). All (AskCarries s slots) (owed (f y).entries)) (same_Some r x (sym at ∙ e)) owes) h
+
+-- what changes in a step: one operation, the place of one worker, and that worker's hand
+step_owned : (w : World) (o : OpId) (r : FlowRecord) (f : FlowRecord → FlowRecord) (k : WorkerId) (a b : Worker) (t : ContextTable) (hand : List CtxId)
+    → operation_at o w.flow ≡ Some r → worker_at w.workers k ≡ Some a → k.0 < 48 → cleanup_in (Some a) ≡ None → cleanup_in (Some b) ≡ None
+    → IsLawful (carries_after w o f) t → t.slots ≡ w.contexts.slots → t.hands ≡ slice_set w.contexts.hands k.0 hand → t.cleaning ≡ w.contexts.cleaning
+    → All (HoldsIn w.stack w.contexts.slots (place_in (Some b))) hand → All (AskCarries w.stack w.contexts.slots) (owed (f r).entries)
+    → ((i : InstanceId) → is_flown_by (row_at w.stack i) ≡ false → in_flight i.0 (changed o f w.flow) ≡ 0) → IsOwned w
+    → IsOwned (record w { flow = changed o f w.flow; workers = put w.workers k b; contexts = t })
+step_owned w o r f k a b t hand at there worker na nb lawful slots hands cleaning here owes quiet h =
+    let within = slice_get_within w.workers k.0 a there in
+    let still = belongs_still w.stack w.contexts.slots w.stack t.slots (filters_same w.stack) (owners_same w.contexts.slots t.slots slots) in
+    let workers = put w.workers k b in
+    record {
+      lawful = lawful;
+      cleaning = cleaning_stays w t.cleaning k a b there cleaning na nb h.cleaning;
+      holders = subst (AllHold w.stack t.slots workers) (sym hands)
+          (all_hold w.stack w.contexts.slots w.stack t.slots w.workers workers w.contexts.hands k.0 hand (within_hands k.0 h.lawful worker) still
+          (others_stay w.workers k.0 b)
+          (subst (λ m. All (HoldsIn w.stack t.slots (place_in m)) hand) (sym (slice_get-set_same w.workers k.0 b within))
+          (subst (λ xs. All (HoldsIn w.stack xs (place_in (Some b))) hand) (sym slots) here))
+          h.holders);
+      completions = subst (λ xs. AllCarry w.stack xs (changed o f w.flow).operations) (sym slots)
+          (carry_changed w.stack w.contexts.slots w.flow o r f at owes h.completions);
+      fits = subst (λ xs. All (λ (x : Slot). fits w.stack x.context ≡ true) xs) (sym slots) h.fits;
+      quiet = quiet;
+      totals = h.totals;
+    }
+
+-- nothing is carried otherwise
+alike : (w : World) (o : OpId) (r : FlowRecord) (f : FlowRecord → FlowRecord) → operation_at o w.flow ≡ Some r → ((c : CtxId) → carried_by c (f r) ≡ carried_by c r)
+    → IsLawful (carries w) w.contexts → IsLawful (carries_after w o f) w.contexts
+alike w o r f at same h = lawful_alike (λ c. omega (arith, carried_changed w.flow o r f at c, same c)) h
+
+-- nothing comes to be in flight
+quieter : (w : World) (o : OpId) (r : FlowRecord) (f : FlowRecord → FlowRecord) → operation_at o w.flow ≡ Some r → ((i : ℕ) → flight i (f r) ≤ flight i r)
+    → ((i : InstanceId) → is_flown_by (row_at w.stack i) ≡ false → in_flight i.0 w.flow ≡ 0)
+    → (i : InstanceId) → is_flown_by (row_at w.stack i) ≡ false → in_flight i.0 (changed o f w.flow) ≡ 0
+quieter w o r f at fewer quiet i rests = omega (arith, flight_changed w.flow o r f at i.0, fewer i.0, quiet i rests)
+
+-- ---- begin
+
+pub total_push : (f : FlowRecord → ℕ) (rs : List FlowRecord) (r : FlowRecord) → f r ≡ 0 → total f (rs ++ r ∷ []) ≡ total f rs
+total_push f [] r none = omega (arith, none)
+total_push f (x ∷ rs) r none = omega (arith, total_push f rs r none)
+
+pub begin_sound : (old : World) (what : Begin) (result : Result OpId Status) (new : World) → Begins old what result new → IsSound old → IsSound new
+unfolding Begins
+begin_sound old what (Err why) new h s = subst IsSound (sym h.1) s
+begin_sound old (begin.List v) (Ok o) new h s = record { under_way = begin_keeps old (begin.List v) (Ok o) new h s.under_way; owned = subst IsOwned (sym h.1.1) owned }
+  where
+    owned : IsOwned (record old { flow = begun v None None old.stack.births params.List old.flow })
+    owned =
+        let k = s.owned in
+        let r = begun_record old.flow.next v None None old.stack.births params.List in
+        record {
+          lawful = lawful_alike (λ c. sym (total_push (carried_by c) old.flow.operations r refl)) k.lawful;
+          cleaning = k.cleaning;
+          holders = k.holders;
+          completions = All-push (λ (x : FlowRecord). All (AskCarries old.stack old.contexts.slots) (owed x.entries)) old.flow.operations r k.completions
+              (All-nil (AskCarries old.stack old.contexts.slots));
+          fits = k.fits;
+          quiet = λ i rests. total_push (flight i.0) old.flow.operations r refl ∙ k.quiet i rests;
+          totals = k.totals;
+        }
+
+-- ---- next
+
+-- the operation changes, and nobody goes anywhere
+flow_owned : (w : World) (o : OpId) (r : FlowRecord) (f : FlowRecord → FlowRecord) → operation_at o w.flow ≡ Some r → IsLawful (carries_after w o f) w.contexts
+    → All (AskCarries w.stack w.contexts.slots) (owed (f r).entries)
+    → ((i : InstanceId) → is_flown_by (row_at w.stack i) ≡ false → in_flight i.0 (changed o f w.flow) ≡ 0) → IsOwned w → IsOwned (record w { flow = changed o f w.flow })
+flow_owned w o r f at lawful owes quiet h = record {
+  lawful = lawful;
+  cleaning = h.cleaning;
+  holders = h.holders;
+  completions = carry_changed w.stack w.contexts.slots w.flow o r f at owes h.completions;
+  fits = h.fits;
+  quiet = quiet;
+  totals = h.totals;
+}
+
+-- what lies below on the way down is attached
+lies_attached : (s : StackWorld) (r : FlowRecord) (lies : Below) (i : InstanceId) → LiesBelow s r lies → is_flown_by (row_at s i) ≡ false
+    → (j : InstanceId) (called : Bool) → lies ≡ below.Instance j called → (j.0 == i.0) ≡ false
+lies_attached s r below.Call i below' rests j called e = absurd (call_is_not e)
+  where
+    call_is_not : below.Call ≡ below.Instance j called → ⊥
+    call_is_not e = cc
+lies_attached s r (below.Known why) i below' rests j called e = absurd below'
+lies_attached s r (below.Instance l b) i below' rests j called e =
+    let next = below'.0 in
+    let passes = and_parts (is_to_visit s r.volume r.born r.operation next.row) (is_below_cursor s (last_visited r.entries) next.row) next.passes in
+    let attached = and_parts (is_attached next.row.phase) _ passes.0 in
+    let flown : is_flown_by (row_at s l) ≡ true = ap is_flown_by next.there ∙ attached_flown next.row.phase attached.0 in
+    let same : l.0 ≡ j.0 = ap numbered e in
+    ne_eqb j.0 i.0 (λ x. true≢false (sym flown ∙ ap (λ n. is_flown_by (slice_get s.instances n)) (same ∙ x) ∙ rests))
+  where
+    numbered : Below → ℕ
+    numbered (below.Instance n c) = n.0
+    numbered _ = 0
+
+    attached_flown : (p : Phase) → is_attached p ≡ true → is_flown p ≡ true
+    attached_flown phase.Attached h = refl
+    attached_flown phase.Setup h = absurd (false≢true h)
+    attached_flown phase.Stopping h = absurd (false≢true h)
+    attached_flown phase.Completing h = absurd (false≢true h)
+    attached_flown phase.Emptying h = absurd (false≢true h)
+    attached_flown phase.Detached h = absurd (false≢true h)
+
+may_ask : (s : StackWorld) (slots : List Slot) (k : WorkerId) (lies : Below) (r : FlowRecord) → MayAsk (AskCarries s slots) k lies r
+may_ask s slots k (below.Instance i false) r = tt
+may_ask s slots k (below.Instance i true) r = tt
+may_ask s slots k below.Call r = tt
+may_ask s slots k (below.Known why) r = tt
+
+-- what `next` hands out is carried no more
+pub next_balance : (w : World) (o : OpId) (k : WorkerId) (lies : Below) (d : Bool) (r : FlowRecord) → operation_at o w.flow ≡ Some r
+    → (r.stage ≡ Descending → LiesBelow w.stack r lies) → IsSound w → (c : CtxId)
+    → carries w c ≡ carries_after w o (λ (x : FlowRecord). (next_of k lies d x).after) c + handed c (next_of k lies d r).reply
+next_balance w o k lies d r at finds s c =
+    let sound = found_holds flow.IsSound (is_number o) w.flow.operations r s.under_way.flow.sound at in
+    let among = found_holds (IsAmong w.stack) (is_number o) w.flow.operations r s.under_way.among at in
+    omega (arith, carried_changed w.flow o r (λ (x : FlowRecord). (next_of k lies d x).after) at c, next_carries c k lies d r (λ e. may_visit w.stack r lies among (finds e)) sound)
+
+-- a completion comes back to the worker that it is given to
+brought_owned : (w : World) (o : OpId) (r : FlowRecord) (f : FlowRecord → FlowRecord) (k : WorkerId) (b : Worker) (i : InstanceId) (m : Option CtxId)
+    → operation_at o w.flow ≡ Some r → worker_at w.workers k ≡ Some place.Idle → k.0 < 48 → cleanup_in (Some b) ≡ None → place_in (Some b) ≡ Some i
+    → ((c : CtxId) → carries w c ≡ carries_after w o f c + carried_in c (record { number = 0; context = m })) → CarriesIn w.stack w.contexts.slots i m
+    → All (AskCarries w.stack w.contexts.slots) (owed (f r).entries)
+    → ((j : InstanceId) → is_flown_by (row_at w.stack j) ≡ false → in_flight j.0 (changed o f w.flow) ≡ 0) → IsOwned w
+    → IsOwned (record w { flow = changed o f w.flow; workers = put w.workers k b; contexts = brought w.contexts k m })
+brought_owned w o r f k b i None at idle worker nb pl balance own owes quiet h =
+    let none = empty_hand w k place.Idle idle refl h in
+    step_owned w o r f k place.Idle b w.contexts (hand_of w.contexts.hands k.0) at idle worker refl nb (lawful_alike (λ c. omega (arith, balance c)) h.lawful)
+    refl (same_hands w.contexts.hands k.0) refl
+    (subst (All (HoldsIn w.stack w.contexts.slots (place_in (Some b)))) (sym none) (All-nil (HoldsIn w.stack w.contexts.slots (place_in (Some b))))) owes quiet h
+brought_owned w o r f k b i (Some d) at idle worker nb pl balance own owes quiet h =
+    let none = empty_hand w k place.Idle idle refl h in
+    let room : length (hand_of w.contexts.hands k.0) < 16 = subst (λ (ids : List CtxId). length ids < 16) (sym none) (omega arith) in
+    step_owned w o r f k place.Idle b (grabbed w.contexts k.0 d) (hand_of w.contexts.hands k.0 ++ d ∷ []) at idle worker refl nb
+    (bring_keeps (carries_after w o f) k.0 d h.lawful worker (λ c. balance c) room) refl refl refl
+    (subst (λ (ids : List CtxId). All (HoldsIn w.stack w.contexts.slots (place_in (Some b))) (ids ++ d ∷ [])) (sym none)
+    (All-cons (HoldsIn w.stack w.contexts.slots (place_in (Some b))) d [] (subst (λ p. HoldsIn w.stack w.contexts.slots p d) (sym pl) own)
+    (All-nil (HoldsIn w.stack w.contexts.slots (place_in (Some b)))))) owes quiet h
+
+-- the same, by what `next` answers
+next_by : (w : World) (o : OpId) (r : FlowRecord) (f : FlowRecord → FlowRecord) (k : WorkerId) (reply : Result FlowAction Status)
+    → operation_at o w.flow ≡ Some r → worker_at w.workers k ≡ Some place.Idle → k.0 < 48
+    → ((c : CtxId) → carries w c ≡ carries_after w o f c + handed c reply) → WasOwed (AskCarries w.stack w.contexts.slots) reply
+    → All (AskCarries w.stack w.contexts.slots) (owed (f r).entries)
+    → ((j : InstanceId) → is_flown_by (row_at w.stack j) ≡ false → in_flight j.0 (changed o f w.flow) ≡ 0) → IsOwned w
+    → IsOwned (record w { flow = changed o f w.flow; workers = after_next w.workers k o reply; contexts = received w.contexts k reply })
+next_by w o r f k (Ok (action.Pre i lent)) at idle worker balance was owes quiet h =
+    brought_owned w o r f k (place.Pre o i) i None at idle worker refl refl balance tt owes quiet h
+next_by w o r f k (Ok (action.Base call)) at idle worker balance was owes quiet h =
+    let none = empty_hand w k place.Idle idle refl h in
+    step_owned w o r f k place.Idle (place.Base o) w.contexts (hand_of w.contexts.hands k.0) at idle worker refl refl (lawful_alike (λ c. omega (arith, balance c)) h.lawful)
+    refl (same_hands w.contexts.hands k.0) refl
+    (subst (All (HoldsIn w.stack w.contexts.slots None)) (sym none) (All-nil (HoldsIn w.stack w.contexts.slots None))) owes quiet h
+next_by w o r f k (Ok (action.Post i lent completion)) at idle worker balance was owes quiet h =
+    brought_owned w o r f k (place.Post o i) i completion.context at idle worker refl refl (λ c. balance c)
+    (subst (λ (x : InstanceId). CarriesIn w.stack w.contexts.slots x completion.context) was.2
+    (subst (λ (x : Completion). CarriesIn w.stack w.contexts.slots was.0.instance x.context) was.3 was.1)) owes quiet h
+next_by w o r f k (Ok (action.Drain i completion)) at idle worker balance was owes quiet h =
+    brought_owned w o r f k (place.Drain o i) i completion.context at idle worker refl refl (λ c. balance c)
+    (subst (λ (x : InstanceId). CarriesIn w.stack w.contexts.slots x completion.context) was.2
+    (subst (λ (x : Completion). CarriesIn w.stack w.contexts.slots was.0.instance x.context) was.3 was.1)) owes quiet h
+next_by w o r f k (Ok action.Moved) at idle worker balance was owes quiet h = flow_owned w o r f at (lawful_alike (λ c. omega (arith, balance c)) h.lawful) owes quiet h
+next_by w o r f k (Ok action.Held) at idle worker balance was owes quiet h = flow_owned w o r f at (lawful_alike (λ c. omega (arith, balance c)) h.lawful) owes quiet h
+next_by w o r f k (Ok action.Done) at idle worker balance was owes quiet h = flow_owned w o r f at (lawful_alike (λ c. omega (arith, balance c)) h.lawful) owes quiet h
+next_by w o r f k (Err why) at idle worker balance was owes quiet h = flow_owned w o r f at (lawful_alike (λ c. omega (arith, balance c)) h.lawful) owes quiet h
+
+next_owned : (old : World) (k : WorkerId) (o : OpId) (lies : Below) (result : Result FlowAction Status) (new : World) (m : Option FlowRecord)
+    → operation_at o old.flow ≡ m → worker_at old.workers k ≡ Some place.Idle → FindsBelow old.stack m lies → NextsOver old k o lies result new
+    → IsSound old → IsOwned new
+next_owned old k o lies result new None at idle finds h s =
+    let d = drains_at old o in
+    let f = λ (x : FlowRecord). (next_of k lies d x).after in
+    let reply : result ≡ Err status.WrongStep =
+    h.0 ∙ ap (λ m. unwrap_or (option_map (λ (x : FlowRecord). (next_of k lies d x).reply) m) (Err status.WrongStep)) at in
+    let same : record old { flow = changed o f old.flow; workers = after_next old.workers k o result; contexts = received old.contexts k result } ≡ old =
+    ap (λ t. record old { flow = t; workers = after_next old.workers k o result; contexts = received old.contexts k result }) (unchanged_flow old.flow o f at)
+    ∙ ap (λ x. record old { workers = after_next old.workers k o x; contexts = received old.contexts k x }) reply in
+    subst IsOwned (sym (h.1 ∙ same)) s.owned
+next_owned old k o lies result new (Some r) at idle finds h s =
+    let d = drains_at old o in
+    let f = λ (x : FlowRecord). (next_of k lies d x).after in
+    let turned = next_of k lies d r in
+    let reply : result ≡ turned.reply =
+    h.0 ∙ ap (λ m. unwrap_or (option_map (λ (x : FlowRecord). (next_of k lies d x).reply) m) (Err status.WrongStep)) at in
+    let sound = found_holds flow.IsSound (is_number o) old.flow.operations r s.under_way.flow.sound at in
+    let among = found_holds (IsAmong old.stack) (is_number o) old.flow.operations r s.under_way.among at in
+    let asks = found_holds (λ (x : FlowRecord). All (AskCarries old.stack old.contexts.slots) (owed x.entries)) (is_number o) old.flow.operations r s.owned.completions at in
+    let owes = next_owes (AskCarries old.stack old.contexts.slots) k lies d r
+    (λ e. (may_visit old.stack r lies among (finds e), may_ask old.stack old.contexts.slots k lies r)) sound asks in
+    let balance = next_balance old o k lies d r at finds s in
+    let quiet : (i : InstanceId) → is_flown_by (row_at old.stack i) ≡ false → in_flight i.0 (changed o f old.flow) ≡ 0 = λ i rests.
+    omega (
+      arith,
+      flight_changed old.flow o r f at i.0,
+      next_flies i.0 k lies d r (λ e. may_visit old.stack r lies among (finds e)) sound,
+      next_enters i.0 k lies d r (λ e. lies_attached old.stack r lies i (finds e) rests),
+      s.owned.quiet i rests,
+    ) in
+    let worker : k.0 < 48 = subst (λ n. k.0 < n) s.under_way.hands (slice_get_within old.workers k.0 place.Idle idle) in
+    subst IsOwned (sym (h.1 ∙ ap (λ x. record old { flow = changed o f old.flow; workers = after_next old.workers k o x; contexts = received old.contexts k x }) reply))
+    (next_by old o r f k turned.reply at idle worker balance owes.hands owes.owes quiet s.owned)
+
+pub next_sound : (old : World) (k : WorkerId) (o : OpId) (result : Result FlowAction Status) (new : World) → Nexts old k o result new → IsSound old → IsSound new
+unfolding Nexts
+next_sound old k o result new h s = record { under_way = next_keeps old k o result new h s.under_way; owned = owned }
+  where
+    owned : IsOwned new
+    owned =
+        unless_cases IsOwned status.WrongStep (is_idle (worker_at old.workers k)) result old new
+        ((lies : Below) × FindsBelow old.stack (operation_at o old.flow) lies × NextsOver old k o lies result new) h
+        (λ idle event. next_owned old k o event.0 result new (operation_at o old.flow) refl (idle_there old.workers k idle) event.1 event.2 s) s.owned
+
+-- ---- callbacks return
+
+-- a callback of an instance ends: what the worker held is gone
+left_owned : (w : World) (o : OpId) (r : FlowRecord) (f : FlowRecord → FlowRecord) (k : WorkerId) (a : Worker) (kept after : ContextTable)
+    → operation_at o w.flow ≡ Some r → worker_at w.workers k ≡ Some a → k.0 < 48 → cleanup_in (Some a) ≡ None → IsLawful (carries_after w o f) kept
+    → kept.slots ≡ w.contexts.slots → kept.cleaning ≡ w.contexts.cleaning → slice_set kept.hands k.0 [] ≡ slice_set w.contexts.hands k.0 []
+    → Leaves (carries_after w o f) kept after k.0 → All (AskCarries w.stack w.contexts.slots) (owed (f r).entries)
+    → ((i : ℕ) → flight i (f r) ≤ flight i r) → IsOwned w → IsOwned (record (returned w k o f) { contexts = after })
+left_owned w o r f k a kept after at there worker na lawful slots cleaning hands leaves owes fewer h =
+    step_owned w o r f k a place.Idle after [] at there worker na refl (leave_keeps k.0 lawful leaves) (leaves.slots ∙ slots) (leaves.hands ∙ hands) (leaves.cleaning ∙ cleaning)
+    (All-nil (HoldsIn w.stack w.contexts.slots None)) owes (quieter w o r f at fewer h.quiet) h
+
+worker_below : (w : World) (k : WorkerId) (a : Worker) → worker_at w.workers k ≡ Some a → IsUnderWay w → k.0 < 48
+worker_below w k a at s = subst (λ n. k.0 < n) s.hands (slice_get_within w.workers k.0 a at)
+
+held_is : (hand : List CtxId) (m : Option CtxId) (d : CtxId) → held_context hand m ≡ Some d → holds hand d ≡ true
+held_is hand None d h = absurd (none-some d h)
+held_is hand (Some e) d h =
+    elim (cases_Bool (holds hand e)) [
+      | inl has ↦ subst (λ x. holds hand x ≡ true) (same_Some e d (sym (ap (λ b. cond b (Some e) None) has) ∙ h)) has
+      | inr has ↦ absurd (none-some d (sym (ap (λ b. cond b (Some e) None) has) ∙ h))
+    ]
+
+completed_sends : (status : Status) (operation : Operation) → sent_in (completed_as status operation) ≡ None
+completed_sends status kind.Cleanup = refl
+completed_sends status kind.Close = refl
+completed_sends status kind.Create = refl
+completed_sends status _ = refl
+
+-- a completion's context was in the hand
+sent_held : (hand : List CtxId) (given : PreVerdict) (operation : Operation) (b : Bool) (d : CtxId) → sent_in (verdict_counted (of_hand hand given) operation b) ≡ Some d
+    → holds hand d ≡ true
+sent_held hand (verdict.WithCallback completion) operation true d h = held_is hand completion.context d h
+sent_held hand (verdict.WithCallback completion) operation false d h = absurd (none-some d h)
+sent_held hand (verdict.Synchronize completion) operation true d h = held_is hand completion.context d h
+sent_held hand (verdict.Synchronize completion) operation false d h = absurd (none-some d h)
+sent_held hand verdict.NoCallback operation b d h = absurd (none-some d h)
+sent_held hand (verdict.Complete status) operation b d h = absurd (none-some d (sym (completed_sends status operation) ∙ h))
+sent_held hand verdict.Pending operation b d h = absurd (none-some d h)
+
+taken_sent : (c : CtxId) (state : PreState) → taken_by c state ≡ carried_in c (record { number = 0; context = sent_in state })
+taken_sent c (pre.Asked completion) = refl
+taken_sent c (pre.Synchronized completion) = refl
+taken_sent c pre.Running = refl
+taken_sent c pre.Held = refl
+taken_sent c pre.Passed = refl
+taken_sent c (pre.Completed status) = refl
+
+-- what the verdict asks for carries what it sends
+asked_carries : (s : StackWorld) (slots : List Slot) (visit : PreVisit) (state : PreState) (asks : List Ask) → CarriesIn s slots visit.instance (sent_in state)
+    → All (AskCarries s slots) asks → All (AskCarries s slots) (option_to_list (ask_in visit state) ++ asks)
+asked_carries s slots visit (pre.Asked completion) asks own h =
+    All-cons (AskCarries s slots) (record { instance = visit.instance; worker = visit.worker; completion = completion; is_synchronized = false; place = visit.place }) asks own h
+asked_carries s slots visit (pre.Synchronized completion) asks own h =
+    All-cons (AskCarries s slots) (record { instance = visit.instance; worker = visit.worker; completion = completion; is_synchronized = true; place = visit.place }) asks own h
+asked_carries s slots visit pre.Running asks own h = h
+asked_carries s slots visit pre.Held asks own h = h
+asked_carries s slots visit pre.Passed asks own h = h
+asked_carries s slots visit (pre.Completed status) asks own h = h
+
+-- the table after a context was sent along
+sent_parts : (w : World) (o : OpId) (f : FlowRecord → FlowRecord) (k : WorkerId) (m : Option CtxId) → k.0 < 48 → IsLawful (carries w) w.contexts
+    → ((c : CtxId) → carries_after w o f c ≡ carries w c + carried_in c (record { number = 0; context = m }))
+    → ((d : CtxId) → m ≡ Some d → holds (hand_of w.contexts.hands k.0) d ≡ true)
+    → IsLawful (carries_after w o f) (sent w.contexts k m) × ((sent w.contexts k m).slots ≡ w.contexts.slots) × ((sent w.contexts k m).cleaning ≡ w.contexts.cleaning)
+    × (slice_set (sent w.contexts k m).hands k.0 [] ≡ slice_set w.contexts.hands k.0 [])
+sent_parts w o f k None worker law balance has = (lawful_alike (λ c. omega (arith, balance c)) law, refl, refl, refl)
+sent_parts w o f k (Some d) worker law balance has =
+    (carry_keeps (carries_after w o f) k.0 d law worker (has d refl) (λ c. balance c), refl, refl, set-set w.contexts.hands k.0 (without d (hand_of w.contexts.hands k.0)) [])
+
+same_instance : (i j : InstanceId) → i.0 ≡ j.0 → i ≡ j
+same_instance i j e = ap (λ n. record { 0 = n }) e
+
+-- the operation of a worker that is in a preoperation
+pub pre_record : (w : World) (k : WorkerId) (o : OpId) (i : InstanceId) → worker_at w.workers k ≡ Some (place.Pre o i) → IsUnderWay w
+    → (r : FlowRecord) × (operation_at o w.flow ≡ Some r) × (r.stage ≡ PreRunning) × (last_visited r.entries ≡ Some i.0)
+pre_record w k o i at s =
+    let there = tied_there w.workers w.flow k (place.Pre o i) o (AtPre i.0) s.workers at (and_from (o.0 == o.0) (i.0 == i.0) (eq-eqb o.0 o.0 refl) (eq-eqb i.0 i.0 refl)) in
+    let spot = spot_pre i.0 there.0.stage there.0.entries there.2 in
+    (there.0, there.1, spot.0, spot.1)
+
+pub post_record : (w : World) (k : WorkerId) (o : OpId) (i : InstanceId) → worker_at w.workers k ≡ Some (place.Post o i) → IsUnderWay w
+    → (r : FlowRecord) × (operation_at o w.flow ≡ Some r) × (r.stage ≡ PostRunning)
+post_record w k o i at s =
+    let there = tied_there w.workers w.flow k (place.Post o i) o (AtPost i.0) s.workers at (and_from (o.0 == o.0) (i.0 == i.0) (eq-eqb o.0 o.0 refl) (eq-eqb i.0 i.0 refl)) in
+    (there.0, there.1, (spot_post i.0 there.0.stage there.0.entries there.2).0)
+
+pub drain_record : (w : World) (k : WorkerId) (o : OpId) (i : InstanceId) → worker_at w.workers k ≡ Some (place.Drain o i) → IsUnderWay w
+    → (r : FlowRecord) × (operation_at o w.flow ≡ Some r) × (r.stage ≡ InDrain i)
+drain_record w k o i at s =
+    let there = tied_there w.workers w.flow k (place.Drain o i) o (AtDrain i.0) s.workers at (and_from (o.0 == o.0) (i.0 == i.0) (eq-eqb o.0 o.0 refl) (eq-eqb i.0 i.0 refl)) in
+    (there.0, there.1, spot_drain i there.0.stage there.0.entries there.2)
+
+-- what a preoperation sends along is carried from then on
+pub pre_balance : (w : World) (k : WorkerId) (o : OpId) (i : InstanceId) (state : PreState) (lent : Data) → worker_at w.workers k ≡ Some (place.Pre o i) → IsUnderWay w → (c : CtxId)
+    → carries_after w o (pre_returned_of state lent) c ≡ carries w c + carried_in c (record { number = 0; context = sent_in state })
+pre_balance w k o i state lent at s c =
+    let r = pre_record w k o i at s in
+    let sound = found_holds flow.IsSound (is_number o) w.flow.operations r.0 s.flow.sound r.1 in
+    omega (arith, carried_changed w.flow o r.0 (pre_returned_of state lent) r.1 c, pre_returned_carries c state lent r.0 r.2 sound, taken_sent c state)
+
+-- and it was in the hand
+pub sent_is_held : (w : World) (k : WorkerId) (o : OpId) (i : InstanceId) (given : PreVerdict) → worker_at w.workers k ≡ Some (place.Pre o i) → IsUnderWay w
+    → (d : CtxId) → sent_in (state_at w k o i given) ≡ Some d → holds (hand_of w.contexts.hands k.0) d ≡ true
+sent_is_held w k o i given at s d e =
+    let r = pre_record w k o i at s in
+    let hand = hand_of w.contexts.hands k.0 in
+    let is = told_there (state_given w.stack hand i given) pre.Passed o w.flow r.0 r.1 in
+    sent_held hand given r.0.operation (has_post w.stack (slice_get w.stack.instances i.0) r.0.operation) d (sym (ap sent_in is) ∙ e)
+
+pub post_balance : (w : World) (k : WorkerId) (o : OpId) (i : InstanceId) (given : PostVerdict) (lent : Data) → worker_at w.workers k ≡ Some (place.Post o i) → IsUnderWay w
+    → (c : CtxId) → carries_after w o (post_returned_of given lent) c ≡ carries w c
+post_balance w k o i given lent at s c =
+    let r = post_record w k o i at s in
+    let sound = found_holds flow.IsSound (is_number o) w.flow.operations r.0 s.flow.sound r.1 in
+    omega (arith, carried_changed w.flow o r.0 (post_returned_of given lent) r.1 c, post_returned_carries c given lent r.0 r.2 sound)
+
+pub drain_balance : (w : World) (k : WorkerId) (o : OpId) (i : InstanceId) → worker_at w.workers k ≡ Some (place.Drain o i) → IsUnderWay w
+    → (c : CtxId) → carries_after w o (drain_returned_of i) c ≡ carries w c
+drain_balance w k o i at s c =
+    let r = drain_record w k o i at s in
+    omega (arith, carried_changed w.flow o r.0 (drain_returned_of i) r.1 c, drain_returned_carries c i r.0)
+
+pre_at : (old : World) (k : WorkerId) (given : PreVerdict) (lent : Data) (result : Result (Unit {0}) Status) (new : World) (m : Option Worker)
+    → worker_at old.workers k ≡ m → PreReturnsAt old k given lent result new m → IsSound old → IsOwned new
+pre_at old k given lent result new (Some (place.Pre o i)) at h s =
+    let there = pre_record old k o i at s.under_way in
+    let r = there.0 in
+    let state = state_at old k o i given in
+    let f = pre_returned_of state lent in
+    let slots = old.contexts.slots in
+    let sound = found_holds flow.IsSound (is_number o) old.flow.operations r s.under_way.flow.sound there.1 in
+    let course = subst (λ x. IsCourse x r.entries) there.2 sound.course in
+    let asks = found_holds (λ (x : FlowRecord). All (AskCarries old.stack slots) (owed x.entries)) (is_number o) old.flow.operations r s.owned.completions there.1 in
+    let worker = worker_below old k (place.Pre o i) at s.under_way in
+    let has = sent_is_held old k o i given at s.under_way in
+    let balance = pre_balance old k o i state lent at s.under_way in
+    let parts = sent_parts old o f k (sent_in state) worker s.owned.lawful balance has in
+    let settled = owed_pre_settled PreRunning r.entries state refl course in
+    let visited : settled.0.instance ≡ i = same_instance settled.0.instance i (same_Some settled.0.instance.0 i.0 (sym settled.1 ∙ there.3)) in
+    let own : CarriesIn old.stack slots i (sent_in state) = sent_owned old k o i (sent_in state) at has s in
+    let owes : All (AskCarries old.stack slots) (owed (f r).entries) =
+    subst (All (AskCarries old.stack slots)) (sym settled.2)
+    (asked_carries old.stack slots settled.0 state (owed r.entries) (subst (λ x. CarriesIn old.stack slots x (sent_in state)) (sym visited) own) asks) in
+    unless_cases IsOwned status.BadRequest (told (λ r. data_fits r.operation r.path lent) false o old.flow) result old new
+    ((result ≡ Ok tt) × ReturnsFrom old k o f (sent old.contexts k (sent_in state)) new) h
+    (λ fits event. subst IsOwned (sym event.1.1)
+    (left_owned old o r f k (place.Pre o i) (sent old.contexts k (sent_in state)) new.contexts there.1 at worker refl parts.0 parts.1 parts.2 parts.3 event.1.0 owes
+    (λ j. omega (arith, pre_returned_flies j state lent r there.2 sound)) s.owned)) s.owned
+  where
+    sent_owned : (w : World) (k : WorkerId) (o : OpId) (i : InstanceId) (m : Option CtxId) → worker_at w.workers k ≡ Some (place.Pre o i)
+        → ((d : CtxId) → m ≡ Some d → holds (hand_of w.contexts.hands k.0) d ≡ true) → IsSound w → CarriesIn w.stack w.contexts.slots i m
+    sent_owned w k o i None at has s = tt
+    sent_owned w k o i (Some d) at has s =
+        subst (λ p. HoldsIn w.stack w.contexts.slots p d) (ap place_in at)
+        (held_has (HoldsIn w.stack w.contexts.slots (place_in (worker_at w.workers k))) (hand_of w.contexts.hands k.0) d (s.owned.holders k) (has d refl))
+pre_at old k given lent result new (Some place.Idle) at h s = subst IsOwned (sym h.1) s.owned
+pre_at old k given lent result new (Some (place.Setup i)) at h s = subst IsOwned (sym h.1) s.owned
+pre_at old k given lent result new (Some (place.Base o)) at h s = subst IsOwned (sym h.1) s.owned
+pre_at old k given lent result new (Some (place.Post o i)) at h s = subst IsOwned (sym h.1) s.owned
+pre_at old k given lent result new (Some (place.Drain o i)) at h s = subst IsOwned (sym h.1) s.owned
+pre_at old k given lent result new (Some (place.Cleanup c)) at h s = subst IsOwned (sym h.1) s.owned
+pre_at old k given lent result new None at h s = subst IsOwned (sym h.1) s.owned
+
+pub pre_sound : (old : World) (k : WorkerId) (given : PreVerdict) (lent : Data) (result : Result (Unit {0}) Status) (new : World)
+    → PreReturns old k given lent result new → IsSound old → IsSound new
+unfolding PreReturns
+pre_sound old k given lent result new h s =
+    record { under_way = pre_keeps old k given lent result new h s.under_way; owned = pre_at old k given lent result new (worker_at old.workers k) refl h s }
+
+-- ---- the base's call returns
+
+base_at : (old : World) (k : WorkerId) (call : Params) (given : Answer) (result : Result (Unit {0}) Status) (new : World) (m : Option Worker)
+    → worker_at old.workers k ≡ m → BaseReturnsAt old k call given result new m → IsSound old → IsOwned new
+base_at old k call given result new (Some (place.Base o)) at h s =
+    let there = tied_there old.workers old.flow k (place.Base o) o AtBase s.under_way.workers at (eq-eqb o.0 o.0 refl) in
+    let r = there.0 in
+    let f = base_returned_of call given in
+    let slots = old.contexts.slots in
+    let asks = found_holds (λ (x : FlowRecord). All (AskCarries old.stack slots) (owed x.entries)) (is_number o) old.flow.operations r s.owned.completions there.1 in
+    let none = empty_hand old k (place.Base o) at refl s.owned in
+    unless_cases IsOwned status.BadRequest (told (base_fits call given) false o old.flow) result old new
+    ((result ≡ Ok tt) × (new ≡ returned old k o f)) h
+    (λ fits event. subst IsOwned (sym event.1)
+    (step_owned old o r f k (place.Base o) place.Idle old.contexts (hand_of old.contexts.hands k.0) there.1 at (worker_below old k (place.Base o) at s.under_way) refl refl
+    (alike old o r f there.1 (λ c. base_returned_carries c call given r) s.owned.lawful) refl (same_hands old.contexts.hands k.0) refl
+    (subst (All (HoldsIn old.stack slots None)) (sym none) (All-nil (HoldsIn old.stack slots None)))
+    (subst (All (AskCarries old.stack slots)) (sym (owed_push_none r.entries (Base given.status given.information) refl (λ i. refl))) asks)
+    (quieter old o r f there.1 (λ i. omega (arith, base_returned_flies i call given r)) s.owned.quiet) s.owned)) s.owned
+base_at old k call given result new (Some place.Idle) at h s = subst IsOwned (sym h.1) s.owned
+base_at old k call given result new (Some (place.Setup i)) at h s = subst IsOwned (sym h.1) s.owned
+base_at old k call given result new (Some (place.Pre o i)) at h s = subst IsOwned (sym h.1) s.owned
+base_at old k call given result new (Some (place.Post o i)) at h s = subst IsOwned (sym h.1) s.owned
+base_at old k call given result new (Some (place.Drain o i)) at h s = subst IsOwned (sym h.1) s.owned
+base_at old k call given result new (Some (place.Cleanup c)) at h s = subst IsOwned (sym h.1) s.owned
+base_at old k call given result new None at h s = subst IsOwned (sym h.1) s.owned
+
+pub base_sound : (old : World) (k : WorkerId) (call : Params) (given : Answer) (result : Result (Unit {0}) Status) (new : World)
+    → BaseReturns old k call given result new → IsSound old → IsSound new
+unfolding BaseReturns
+base_sound old k call given result new h s =
+    record { under_way = base_keeps old k call given result new h s.under_way; owned = base_at old k call given result new (worker_at old.workers k) refl h s }
+
+-- ---- postoperations and drains return
+
+post_given : (old : World) (k : WorkerId) (o : OpId) (i : InstanceId) (given : PostVerdict) (lent : Data) (result : Result (Unit {0}) Status) (new : World)
+    → worker_at old.workers k ≡ Some (place.Post o i) → PostReturnsAt old k given (Some lent) result new (Some (place.Post o i)) → IsSound old → IsOwned new
+post_given old k o i given lent result new at h s =
+    let there = post_record old k o i at s.under_way in
+    let r = there.0 in
+    let f = post_returned_of given lent in
+    let slots = old.contexts.slots in
+    let sound = found_holds flow.IsSound (is_number o) old.flow.operations r s.under_way.flow.sound there.1 in
+    let course = subst (λ x. IsCourse x r.entries) there.2 sound.course in
+    let asks = found_holds (λ (x : FlowRecord). All (AskCarries old.stack slots) (owed x.entries)) (is_number o) old.flow.operations r s.owned.completions there.1 in
+    unless_cases IsOwned status.BadRequest (told (λ r. data_fits r.operation r.path lent) false o old.flow) result old new
+    ((result ≡ Ok tt) × ReturnsFrom old k o f old.contexts new) h
+    (λ fits event. subst IsOwned (sym event.1.1)
+    (left_owned old o r f k (place.Post o i) old.contexts new.contexts there.1 at (worker_below old k (place.Post o i) at s.under_way) refl
+    (lawful_alike (λ c. sym (post_balance old k o i given lent at s.under_way c)) s.owned.lawful) refl refl refl event.1.0
+    (subst (All (AskCarries old.stack slots)) (sym (owed_post_settled PostRunning r.entries (post_state given) refl course)) asks)
+    (λ j. omega (arith, post_returned_flies j given lent r there.2 sound)) s.owned)) s.owned
+
+drain_given : (old : World) (k : WorkerId) (o : OpId) (i : InstanceId) (new : World) → worker_at old.workers k ≡ Some (place.Drain o i)
+    → ReturnsFrom old k o (drain_returned_of i) old.contexts new → IsSound old → IsOwned new
+drain_given old k o i new at e s =
+    let there = drain_record old k o i at s.under_way in
+    let r = there.0 in
+    let f = drain_returned_of i in
+    let slots = old.contexts.slots in
+    let sound = found_holds flow.IsSound (is_number o) old.flow.operations r s.under_way.flow.sound there.1 in
+    let asks = found_holds (λ (x : FlowRecord). All (AskCarries old.stack slots) (owed x.entries)) (is_number o) old.flow.operations r s.owned.completions there.1 in
+    subst IsOwned (sym e.1)
+    (left_owned old o r f k (place.Drain o i) old.contexts new.contexts there.1 at (worker_below old k (place.Drain o i) at s.under_way) refl
+    (lawful_alike (λ c. sym (drain_balance old k o i at s.under_way c)) s.owned.lawful) refl refl refl e.0
+    (subst (All (AskCarries old.stack slots)) (sym (owed_drain_settled i.0 r.entries)) asks)
+    (λ j. omega (arith, drain_returned_flies j i r there.2 sound)) s.owned)
+
+post_at : (old : World) (k : WorkerId) (given : PostVerdict) (lent : Option Data) (result : Result (Unit {0}) Status) (new : World) (m : Option Worker)
+    → worker_at old.workers k ≡ m → PostReturnsAt old k given lent result new m → IsSound old → IsOwned new
+post_at old k given (Some lent) result new (Some (place.Post o i)) at h s = post_given old k o i given lent result new at h s
+post_at old k given None result new (Some (place.Post o i)) at h s = subst IsOwned (sym h.1) s.owned
+post_at old k given None result new (Some (place.Drain o i)) at h s = drain_given old k o i new at h.1 s
+post_at old k given (Some lent) result new (Some (place.Drain o i)) at h s = subst IsOwned (sym h.1) s.owned
+post_at old k given (Some lent) result new (Some place.Idle) at h s = subst IsOwned (sym h.1) s.owned
+post_at old k given (Some lent) result new (Some (place.Setup i)) at h s = subst IsOwned (sym h.1) s.owned
+post_at old k given (Some lent) result new (Some (place.Pre o i)) at h s = subst IsOwned (sym h.1) s.owned
+post_at old k given (Some lent) result new (Some (place.Base o)) at h s = subst IsOwned (sym h.1) s.owned
+post_at old k given (Some lent) result new (Some (place.Cleanup c)) at h s = subst IsOwned (sym h.1) s.owned
+post_at old k given (Some lent) result new None at h s = subst IsOwned (sym h.1) s.owned
+post_at old k given None result new (Some place.Idle) at h s = subst IsOwned (sym h.1) s.owned
+post_at old k given None result new (Some (place.Setup i)) at h s = subst IsOwned (sym h.1) s.owned
+post_at old k given None result new (Some (place.Pre o i)) at h s = subst IsOwned (sym h.1) s.owned
+post_at old k given None result new (Some (place.Base o)) at h s = subst IsOwned (sym h.1) s.owned
+post_at old k given None result new (Some (place.Cleanup c)) at h s = subst IsOwned (sym h.1) s.owned
+post_at old k given None result new None at h s = subst IsOwned (sym h.1) s.owned
+
+pub post_sound : (old : World) (k : WorkerId) (given : PostVerdict) (lent : Option Data) (result : Result (Unit {0}) Status) (new : World)
+    → PostReturns old k given lent result new → IsSound old → IsSound new
+unfolding PostReturns
+post_sound old k given lent result new h s =
+    record { under_way = post_keeps old k given lent result new h s.under_way; owned = post_at old k given lent result new (worker_at old.workers k) refl h s }
+
+-- ---- collect
+
+total_without : (f : FlowRecord → ℕ) (test : FlowRecord → Bool) (rs : List FlowRecord) (r : FlowRecord) → find test rs ≡ Some r
+    → total f (without_first test rs) + f r ≡ total f rs
+total_without f test [] r is = absurd (none-some r is)
+total_without f test (x ∷ rs) r is =
+    elim (cases_Bool (test x)) [
+      | inl e ↦
+          let same : x ≡ r = same_Some x r (sym (ap (λ b. cond b (Some x) (find test rs)) e) ∙ is) in
+          let here = ap f same in
+          rw e (omega (arith, here))
+      | inr e ↦ rw e (omega (arith, total_without f test rs r (sym (ap (λ b. cond b (Some x) (find test rs)) e) ∙ is)))
+    ]
+
+pub done_owes : (stage : Stage) (asks : List Ask) → done_at stage asks ≡ true → asks ≡ []
+done_owes Ascending [] h = refl
+done_owes Ascending (ask ∷ asks) h = absurd (false≢true h)
+done_owes Descending asks h = absurd (false≢true h)
+done_owes PreRunning asks h = absurd (false≢true h)
+done_owes PreHeld asks h = absurd (false≢true h)
+done_owes InBase asks h = absurd (false≢true h)
+done_owes PostRunning asks h = absurd (false≢true h)
+done_owes PostHeld asks h = absurd (false≢true h)
+done_owes (InDrain i) asks h = absurd (false≢true h)
+
+-- operations change, and nothing else
+operations_owned : (w : World) (t : FlowTable) → ((c : CtxId) → carried c w.flow ≡ carried c t) → AllCarry w.stack w.contexts.slots t.operations
+    → ((i : ℕ) → in_flight i t ≤ in_flight i w.flow) → IsOwned w → IsOwned (record w { flow = t })
+operations_owned w t same carry fewer h = record {
+  lawful = lawful_alike same h.lawful;
+  cleaning = h.cleaning;
+  holders = h.holders;
+  completions = carry;
+  fits = h.fits;
+  quiet = λ i rests. omega (arith, fewer i.0, h.quiet i rests);
+  totals = h.totals;
+}
+
+-- a collected operation carried nothing any more
+pub collect_balance : (t : FlowTable) (o : OpId) (m : Option FlowRecord) → operation_at o t ≡ m → (c : CtxId) → carried c t ≡ carried c (collected_in o t m)
+collect_balance t o None at c = refl
+collect_balance t o (Some r) at c = by_collectable (is_collectable r) refl
+  where
+    by_drain : (b : Bool) → is_done r ≡ true → carried c t ≡ carried c (cond b (changed o marked t) (removed o t))
+    by_drain true done = let k = carried_changed t o r marked at c in omega (arith, k)
+    by_drain false done =
+        let z : carried_by c r ≡ 0 = ap (carried_among c) (done_owes r.stage (owed r.entries) done) in
+        let k = total_without (carried_by c) (is_number o) t.operations r at in
+        omega (arith, k, z)
+
+    by_collectable : (a : Bool) → is_collectable r ≡ a
+        → carried c t ≡ carried c (cond a (cond (list_any is_running_drain r.entries) (changed o marked t) (removed o t)) t)
+    by_collectable false is = refl
+    by_collectable true is = by_drain (list_any is_running_drain r.entries) (and_parts (not r.collected) (is_done r) is).1
+
+collect_at : (old : World) (o : OpId) (m : Option FlowRecord) → operation_at o old.flow ≡ m → IsOwned old → IsOwned (record old { flow = collected_in o old.flow m })
+collect_at old o None at h = h
+collect_at old o (Some r) at h = by_collectable (is_collectable r) refl
+  where
+    by_drain : (b : Bool) → is_done r ≡ true → IsOwned (record old { flow = cond b (changed o marked old.flow) (removed o old.flow) })
+    by_drain true done =
+        operations_owned old (changed o marked old.flow) (λ c. let k = carried_changed old.flow o r marked at c in omega (arith, k))
+        (carry_changed old.stack old.contexts.slots old.flow o r marked at
+        (found_holds (λ (x : FlowRecord). All (AskCarries old.stack old.contexts.slots) (owed x.entries)) (is_number o) old.flow.operations r h.completions at) h.completions)
+        (λ i. let k = flight_changed old.flow o r marked at i in omega (arith, k)) h
+    by_drain false done =
+        let none = done_owes r.stage (owed r.entries) done in
+        operations_owned old (removed o old.flow)
+        (λ c. let k = total_without (carried_by c) (is_number o) old.flow.operations r at in let z : carried_by c r ≡ 0 = ap (carried_among c) none in omega (arith, k, z))
+        (all_without (λ (x : FlowRecord). All (AskCarries old.stack old.contexts.slots) (owed x.entries)) (is_number o) old.flow.operations h.completions)
+        (λ i. omega (arith, total_without (flight i) (is_number o) old.flow.operations r at)) h
+
+    by_collectable : (a : Bool) → is_collectable r ≡ a → IsOwned (record old { flow = cond a (cond (list_any is_running_drain r.entries) (changed o marked old.flow) (removed o old.flow)) old.flow })
+    by_collectable false is = h
+    by_collectable true is = by_drain (list_any is_running_drain r.entries) (and_parts (not r.collected) (is_done r) is).1
+
+pub collect_sound : (old : World) (o : OpId) (result : Result Answer Status) (new : World) → Collects old o result new → IsSound old → IsSound new
+unfolding Collects
+collect_sound old o result new h s =
+    record { under_way = collect_keeps old o result new h s.under_way; owned = subst IsOwned (sym h.1) (collect_at old o (operation_at o old.flow) refl s.owned) }

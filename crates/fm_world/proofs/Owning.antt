@@ -1,0 +1,341 @@
+-- The events on filters, volumes and instances leave contexts as the World says.
+use Rattle.std.proofs.Common.{◌≡◌, ◌≢◌, ℕ, ◌<◌, ◌≤◌, Bool, true, false, cond, not, List, [], ◌∷◌, ◌++◌, length, map, Option, Some, None, Result, Ok, Err, is_some, slice_get, refl, ap, sym, ◌∙◌, subst, inl, inr, ◌⊎◌, arith}
+use Rattle.std.specs.Prelude.{All, slice_set}
+use Rattle.std.proofs.lemmas.Bool.{false≢true, true≢false, cases_Bool, cases_eq, and_parts, and_from}
+use Rattle.std.proofs.lemmas.Option.{same_Some, slice_get_within}
+use Rattle.std.proofs.lemmas.List.{length-append}
+use Rattle.std.proofs.lemmas.List.Elements.{All-nil, All-head}
+use Rattle.fm_types.specs.declared.ids.CtxId.{CtxId}
+use Rattle.fm_types.specs.declared.ids.FilterId.{FilterId}
+use Rattle.fm_types.specs.declared.ids.InstanceId.{InstanceId}
+use Rattle.fm_types.specs.declared.ids.VolumeId.{VolumeId}
+use Rattle.fm_types.specs.declared.ids.WorkerId.{WorkerId}
+use Rattle.fm_types.specs.declared.registration.Registration.{Registration}
+use Rattle.fm_types.specs.declared.status.Status.{Status}
+use Rattle.fm_types.specs.declared.status.Status.TheVariants as status
+use Rattle.fm_types.proofs.Lists.{slice_get-kept, slice_get-set_same, slice_get-set_other, updated-same, updated-other}
+use Rattle.fm_stack.specs.declared.instance.Instance.{Instance}
+use Rattle.fm_stack.specs.declared.instance.Phase.{Phase}
+use Rattle.fm_stack.specs.declared.instance.Phase.TheVariants as phase
+use Rattle.fm_stack.specs.StackWorld.{StackWorld}
+use Rattle.fm_stack.specs.Instances.{is_setup, is_detached}
+use Rattle.fm_stack.specs.Events.{refuse_row, accept_row}
+use Rattle.fm_stack.specs.Events as stack
+use Rattle.fm_ctx.specs.declared.owner.Owner.TheVariants as owner
+use Rattle.fm_ctx.specs.Bags.{hand_of, cleaning_of}
+use Rattle.fm_ctx.specs.Laws.{IsLawful}
+use Rattle.fm_ctx.specs.Objects.{same_owner}
+use Rattle.fm_ctx.specs.Settling.{Leaves, is_linked_of, swept, swept_slot}
+use Rattle.fm_ctx.specs.Table.{Context, Slot, ContextTable}
+use Rattle.fm_ctx.proofs.Leaving.{leave_keeps, sweep_keeps}
+use Rattle.fm_ctx.proofs.Moves.{within_hands}
+use Rattle.fm_world.specs.declared.worker.Worker.{Worker}
+use Rattle.fm_world.specs.declared.worker.Worker.TheVariants as place
+use Rattle.fm_world.specs.World.{World, carries}
+use Rattle.fm_world.specs.Workers.{worker_at, put, is_idle, after_attach, cleanup_in}
+use Rattle.fm_world.specs.Owners.{row_at, place_in, fits, owner_fits, link_fits, is_left_by, keeps_links, keeps_links_by, is_flown, is_flown_by, HoldsIn}
+use Rattle.fm_world.specs.Events.{Registers, Mounts, Attaches, SetsUp, SetsUpAt, EmptiesUnless}
+use Rattle.fm_world.specs.Sound.{IsSound, IsOwned}
+use Rattle.fm_world.proofs.Belonging.{OwnersStay, owners_same, owners_swept, owners_after, FiltersStay, belongs_still, AllHold, all_hold, all_hold_still, others_stay, all_carry_still}
+use Rattle.fm_world.proofs.Callbacks.{same_hands}
+use Rattle.fm_world.proofs.Fitting.{AllFit, fits_on, fits_swept, owner_stays, link_stays}
+use Rattle.fm_world.proofs.Keeps.{register_keeps, mount_keeps, attach_keeps, setup_keeps, unless_cases, idle_there, setup_place}
+
+-- ---- instances go on
+
+-- an instance keeps its phase, or becomes attached out of its setup
+abbrev pub RowsGoOn : StackWorld → StackWorld → Type 0
+RowsGoOn s t = (j : ℕ) (row : Instance) → slice_get s.instances j ≡ Some row
+    → (after : Instance) × (slice_get t.instances j ≡ Some after) × (after.filter ≡ row.filter)
+    × ((after.phase ≡ row.phase) ⊎ ((row.phase ≡ phase.Setup) × (after.phase ≡ phase.Attached)))
+
+rows_filters : (s t : StackWorld) → RowsGoOn s t → FiltersStay s t
+rows_filters s t on j row there = let after = on j row there in (after.0, after.1, after.2)
+
+-- what a phase says that no such change takes away
+stays_true : (test : Phase → Bool) (a b : Phase) → test phase.Attached ≡ true → (b ≡ a) ⊎ ((a ≡ phase.Setup) × (b ≡ phase.Attached)) → test a ≡ true → test b ≡ true
+stays_true test a b attached (inl same) h = ap test same ∙ h
+stays_true test a b attached (inr (was, is)) h = ap test is ∙ attached
+
+-- a test on the row of an instance
+row_test : (s t : StackWorld) (read : Option Instance → Bool) (test : Phase → Bool) → read None ≡ false → ((row : Instance) → read (Some row) ≡ test row.phase)
+    → test phase.Attached ≡ true → RowsGoOn s t → (j : InstanceId) → read (row_at s j) ≡ true → read (row_at t j) ≡ true
+row_test s t read test none some attached on j h = at_row (row_at s j) refl h
+  where
+    at_row : (m : Option Instance) → row_at s j ≡ m → read m ≡ true → read (row_at t j) ≡ true
+    at_row None there h = absurd (false≢true (sym none ∙ h))
+    at_row (Some row) there h =
+        let after = on j.0 row there in
+        ap read after.1 ∙ some after.0 ∙ stays_true test row.phase after.0.phase attached after.3 (sym (some row) ∙ h)
+
+rows_left : (s t : StackWorld) → RowsGoOn s t → (j : InstanceId) → is_left_by (row_at s j) ≡ true → is_left_by (row_at t j) ≡ true
+rows_left s t on = row_test s t is_left_by (λ p. not (is_detached p)) refl (λ row. refl) refl on
+
+rows_keep : (s t : StackWorld) → RowsGoOn s t → (j : InstanceId) → keeps_links_by (row_at s j) ≡ true → keeps_links_by (row_at t j) ≡ true
+rows_keep s t on = row_test s t keeps_links_by keeps_links refl (λ row. refl) refl on
+
+rows_flown : (s t : StackWorld) → RowsGoOn s t → (j : InstanceId) → is_flown_by (row_at t j) ≡ false → is_flown_by (row_at s j) ≡ false
+rows_flown s t on j h =
+    elim (cases_Bool (is_flown_by (row_at s j))) [
+      | inl e ↦ absurd (true≢false (sym (row_test s t is_flown_by is_flown refl (λ row. refl) refl on j e) ∙ h))
+      | inr e ↦ e
+    ]
+
+-- instances go on, and contexts and workers stay
+pub stack_owned : (w : World) (t : StackWorld) → RowsGoOn w.stack t → length w.stack.filters ≤ length t.filters → length w.stack.volumes ≤ length t.volumes
+    → IsOwned w → IsOwned (record w { stack = t })
+stack_owned w t on filters volumes h =
+    let slots = w.contexts.slots in
+    let still = belongs_still w.stack slots t slots (rows_filters w.stack t on) (owners_same slots slots refl) in
+    record {
+      lawful = h.lawful;
+      cleaning = h.cleaning;
+      holders = all_hold_still w.stack slots t slots w.workers w.contexts.hands still h.holders;
+      completions = all_carry_still w.stack slots t slots w.flow.operations still h.completions;
+      fits = fits_on w.stack t slots (record { filters = filters; volumes = volumes; left = rows_left w.stack t on; keeps = rows_keep w.stack t on }) h.fits;
+      quiet = λ j rests. h.quiet j (rows_flown w.stack t on j rests);
+      totals = h.totals;
+    }
+
+-- ---- register and mount
+
+longer_push : {X : Type 0} (xs : List X) (x : X) → length xs ≤ length (xs ++ x ∷ [])
+longer_push xs x = omega (arith, length-append xs (x ∷ []))
+
+pub register_sound : (old : World) (name : List ℕ) (registration : Registration) (result : Result FilterId Status) (new : World)
+    → Registers old name registration result new → IsSound old → IsSound new
+unfolding Registers stack.Registers
+register_sound old name registration result new h s = record { under_way = register_keeps old name registration result new h s.under_way; owned = owned result h }
+  where
+    owned : (r : Result FilterId Status) → Registers old name registration r new → IsOwned new
+    owned (Err why) h = subst IsOwned (sym (h.1 ∙ ap (λ x. record old { stack = x }) h.0.1)) s.owned
+    owned (Ok f) h =
+        let t = stack.registered old.stack name registration in
+        subst IsOwned (sym (h.1 ∙ ap (λ x. record old { stack = x }) h.0.1.1))
+        (stack_owned old t (λ j row there. (row, there, refl, inl refl)) (longer_push old.stack.filters (stack.new_filter name registration)) (omega arith) s.owned)
+
+pub mount_sound : (old : World) (name : List ℕ) (result : Result VolumeId Status) (new : World) → Mounts old name result new → IsSound old → IsSound new
+unfolding Mounts stack.Mounts
+mount_sound old name result new h s = record { under_way = mount_keeps old name result new h s.under_way; owned = owned result h }
+  where
+    owned : (r : Result VolumeId Status) → Mounts old name r new → IsOwned new
+    owned (Err why) h = subst IsOwned (sym (h.1 ∙ ap (λ x. record old { stack = x }) h.0.1)) s.owned
+    owned (Ok v) h =
+        let t = stack.mounted old.stack name in
+        subst IsOwned (sym (h.1 ∙ ap (λ x. record old { stack = x }) h.0.1.1))
+        (stack_owned old t (λ j row there. (row, there, refl, inl refl)) (omega arith) (longer_push old.stack.volumes (stack.new_volume name)) s.owned)
+
+-- ---- workers go into callbacks and come back
+
+-- a worker outside of callbacks holds nothing
+pub holds_nothing : (s : StackWorld) (slots : List Slot) (m : Option InstanceId) (ids : List CtxId) → m ≡ None → All (HoldsIn s slots m) ids → ids ≡ []
+holds_nothing s slots m [] e h = refl
+holds_nothing s slots m (c ∷ ids) e h = absurd (subst (λ p. HoldsIn s slots p c) e (All-head (HoldsIn s slots m) c ids h))
+
+pub empty_hand : (w : World) (k : WorkerId) (a : Worker) → worker_at w.workers k ≡ Some a → place_in (Some a) ≡ None → IsOwned w → hand_of w.contexts.hands k.0 ≡ []
+empty_hand w k a at outside h = holds_nothing w.stack w.contexts.slots (place_in (worker_at w.workers k)) (hand_of w.contexts.hands k.0) (ap place_in at ∙ outside) (h.holders k)
+
+-- no cleanup begins or ends
+pub cleaning_stays : (w : World) (cleaning : List (Option CtxId)) (k : WorkerId) (a b : Worker) → worker_at w.workers k ≡ Some a → cleaning ≡ w.contexts.cleaning
+    → cleanup_in (Some a) ≡ None → cleanup_in (Some b) ≡ None
+    → ((n : ℕ) → cleaning_of w.contexts.cleaning n ≡ cleanup_in (slice_get w.workers n))
+    → (n : ℕ) → cleaning_of cleaning n ≡ cleanup_in (slice_get (put w.workers k b) n)
+cleaning_stays w cleaning k a b at same na nb h n =
+    ap (λ xs. cleaning_of xs n) same ∙ h n ∙
+    elim (cases_eq n k.0) [
+      | inl e ↦ subst (λ m. cleanup_in (slice_get w.workers m) ≡ cleanup_in (slice_get (put w.workers k b) m)) (sym e)
+          (ap cleanup_in at ∙ na ∙ sym nb ∙ ap cleanup_in (sym (slice_get-set_same w.workers k.0 b (slice_get_within w.workers k.0 a at))))
+      | inr apart ↦ ap cleanup_in (sym (slice_get-set_other w.workers k.0 n b apart))
+    ]
+
+-- ---- attach
+
+attach_owned : (old : World) (k : WorkerId) (f : FilterId) (v : VolumeId) (name altitude : List ℕ) (result : Result InstanceId Status) (new : World)
+    → worker_at old.workers k ≡ Some place.Idle → k.0 < 48 → stack.Attaches old.stack f v name altitude result new.stack
+    → new ≡ record old { stack = new.stack; workers = after_attach old.workers k result } → IsOwned old → IsOwned new
+unfolding stack.Attaches
+attach_owned old k f v name altitude (Err why) new at worker h e s =
+    subst IsOwned (sym (e ∙ ap (λ x. record old { stack = x }) h.1)) s
+attach_owned old k f v name altitude (Ok i) new at worker h e s =
+    let t = stack.attached old.stack f v name altitude in
+    let slots = old.contexts.slots in
+    let workers = put old.workers k (place.Setup i) in
+    let on : RowsGoOn old.stack t = λ j row there. (row, slice_get-kept old.stack.instances (stack.new_instance f v name altitude ∷ []) j row there, refl, inl refl) in
+    let still = belongs_still old.stack slots t slots (rows_filters old.stack t on) (owners_same slots slots refl) in
+    let none = empty_hand old k place.Idle at refl s in
+    let base = stack_owned old t on (omega arith) (omega arith) s in
+    subst IsOwned (sym (e ∙ ap (λ x. record old { stack = x; workers = workers }) h.1.1))
+    (record {
+      lawful = s.lawful;
+      cleaning = cleaning_stays old old.contexts.cleaning k place.Idle (place.Setup i) at refl refl refl s.cleaning;
+      holders = subst (AllHold t slots workers) (sym (same_hands old.contexts.hands k.0))
+          (all_hold old.stack slots t slots old.workers workers old.contexts.hands k.0 (hand_of old.contexts.hands k.0) (within_hands k.0 s.lawful worker) still
+          (others_stay old.workers k.0 (place.Setup i))
+          (subst (All (HoldsIn t slots (place_in (slice_get workers k.0)))) (sym none) (All-nil (HoldsIn t slots (place_in (slice_get workers k.0)))))
+          s.holders);
+      completions = base.completions;
+      fits = base.fits;
+      quiet = base.quiet;
+      totals = s.totals;
+    })
+
+pub attach_sound : (old : World) (k : WorkerId) (f : FilterId) (v : VolumeId) (name altitude : List ℕ) (result : Result InstanceId Status) (new : World)
+    → Attaches old k f v name altitude result new → IsSound old → IsSound new
+unfolding Attaches
+attach_sound old k f v name altitude result new h s = record { under_way = attach_keeps old k f v name altitude result new h s.under_way; owned = owned h }
+  where
+    owned : Attaches old k f v name altitude result new → IsOwned new
+    owned h =
+        unless_cases IsOwned status.WrongStep (is_idle (worker_at old.workers k)) result old new
+        (stack.Attaches old.stack f v name altitude result new.stack
+        × (new ≡ record old { stack = new.stack; workers = after_attach old.workers k result })) h
+        (λ idle event.
+        let at = idle_there old.workers k idle in
+        attach_owned old k f v name altitude result new at (subst (λ n. k.0 < n) s.under_way.hands (slice_get_within old.workers k.0 place.Idle at)) event.0 event.1 s.owned)
+        s.owned
+
+-- ---- the end of a setup callback
+
+setup_is : (p : Phase) → is_setup p ≡ true → p ≡ phase.Setup
+setup_is phase.Setup h = refl
+setup_is phase.Attached h = absurd (false≢true h)
+setup_is phase.Stopping h = absurd (false≢true h)
+setup_is phase.Completing h = absurd (false≢true h)
+setup_is phase.Emptying h = absurd (false≢true h)
+setup_is phase.Detached h = absurd (false≢true h)
+
+accepted_on : (s : StackWorld) (i : InstanceId) (row : Instance) → slice_get s.instances i.0 ≡ Some row → is_setup row.phase ≡ true → RowsGoOn s (stack.accepted s i)
+accepted_on s i row there setup j x found =
+    elim (cases_eq j i.0) [
+      | inl e ↦
+          let at : slice_get s.instances i.0 ≡ Some x = subst (λ n. slice_get s.instances n ≡ Some x) e found in (
+            accept_row s.births x,
+            subst (λ n. slice_get (stack.accepted s i).instances n ≡ Some (accept_row s.births x)) (sym e) (updated-same (accept_row s.births) s.instances i.0 x at),
+            refl,
+            inr (setup_is x.phase (subst (λ (r : Instance). is_setup r.phase ≡ true) (same_Some row x (sym there ∙ at)) setup), refl),
+          )
+      | inr apart ↦ (x, updated-other (accept_row s.births) s.instances i.0 j apart ∙ found, refl, inl refl)
+    ]
+
+-- what the callback held is gone, and its worker is idle
+setup_returns : (old : World) (k : WorkerId) (i : InstanceId) (t : StackWorld) (c : ContextTable) → worker_at old.workers k ≡ Some (place.Setup i) → k.0 < 48
+    → FiltersStay old.stack t → OwnersStay old.contexts.slots c.slots → IsOwned old
+    → c.hands ≡ slice_set old.contexts.hands k.0 [] → c.cleaning ≡ old.contexts.cleaning
+    → IsLawful (carries old) c → AllFit t c.slots → ((j : InstanceId) → is_flown_by (row_at t j) ≡ false → is_flown_by (row_at old.stack j) ≡ false)
+    → IsOwned (record old { stack = t; workers = put old.workers k place.Idle; contexts = c })
+setup_returns old k i t c at worker filters owners h hands cleaning lawful fit flown =
+    let still = belongs_still old.stack old.contexts.slots t c.slots filters owners in
+    let workers = put old.workers k place.Idle in
+    record {
+      lawful = lawful;
+      cleaning = cleaning_stays old c.cleaning k (place.Setup i) place.Idle at cleaning refl refl h.cleaning;
+      holders = subst (AllHold t c.slots workers) (sym hands)
+          (all_hold old.stack old.contexts.slots t c.slots old.workers workers old.contexts.hands k.0 [] (within_hands k.0 h.lawful worker) still
+          (others_stay old.workers k.0 place.Idle) (All-nil (HoldsIn t c.slots (place_in (slice_get workers k.0)))) h.holders);
+      completions = all_carry_still old.stack old.contexts.slots t c.slots old.flow.operations still h.completions;
+      fits = fit;
+      quiet = λ j rests. h.quiet j (flown j rests);
+      totals = h.totals;
+    }
+
+refused_row : (s : StackWorld) (i j : InstanceId) → j.0 ≢ i.0 → row_at (stack.refused s i) j ≡ row_at s j
+refused_row s i j apart = updated-other refuse_row s.instances i.0 j.0 apart
+
+refused_filters : (s : StackWorld) (i : InstanceId) → FiltersStay s (stack.refused s i)
+refused_filters s i j x found =
+    elim (cases_eq j i.0) [
+      | inl e ↦
+          let at : slice_get s.instances i.0 ≡ Some x = subst (λ n. slice_get s.instances n ≡ Some x) e found in
+          (refuse_row x, subst (λ n. slice_get (stack.refused s i).instances n ≡ Some (refuse_row x)) (sym e) (updated-same refuse_row s.instances i.0 x at), refl)
+      | inr apart ↦ (x, updated-other refuse_row s.instances i.0 j apart ∙ found, refl)
+    ]
+
+refused_left : (s : StackWorld) (i j : InstanceId) (row : Instance) → slice_get s.instances i.0 ≡ Some row → is_left_by (row_at s j) ≡ true → is_left_by (row_at (stack.refused s i) j) ≡ true
+refused_left s i j row there h =
+    elim (cases_eq j.0 i.0) [
+      | inl e ↦ subst (λ n. is_left_by (slice_get (stack.refused s i).instances n) ≡ true) (sym e) (ap is_left_by (updated-same refuse_row s.instances i.0 row there))
+      | inr apart ↦ ap is_left_by (refused_row s i j apart) ∙ h
+    ]
+
+not_flown : (p : Phase) → p ≡ phase.Setup → is_flown p ≡ false
+not_flown p e = ap is_flown e
+
+refused_flown : (s : StackWorld) (i j : InstanceId) (row : Instance) → slice_get s.instances i.0 ≡ Some row → is_setup row.phase ≡ true
+    → is_flown_by (row_at (stack.refused s i) j) ≡ false → is_flown_by (row_at s j) ≡ false
+refused_flown s i j row there setup h =
+    elim (cases_eq j.0 i.0) [
+      | inl e ↦ ap (λ n. is_flown_by (slice_get s.instances n)) e ∙ ap is_flown_by there ∙ not_flown row.phase (setup_is row.phase setup)
+      | inr apart ↦ sym (ap is_flown_by (refused_row s i j apart)) ∙ h
+    ]
+
+-- the instance's contexts lost their links, so none is to it
+refused_fits : (s : StackWorld) (i : InstanceId) (row : Instance) (x : Context) → slice_get s.instances i.0 ≡ Some row → fits s (Some x) ≡ true
+    → fits (stack.refused s i) (Some (swept (is_linked_of (owner.Instance i)) x)) ≡ true
+refused_fits s i row x there fit = by_test (is_linked_of (owner.Instance i) x) refl
+  where
+    parts : (owner_fits s x.kind x.owner ≡ true) × (link_fits s x x.link ≡ true)
+    parts = and_parts (owner_fits s x.kind x.owner) (link_fits s x x.link) fit
+
+    owned : owner_fits (stack.refused s i) x.kind x.owner ≡ true
+    owned = owner_stays s (stack.refused s i) x.kind x.owner (omega arith) (λ j is left. refused_left s i j row there left) parts.0
+
+    by_test : (b : Bool) → is_linked_of (owner.Instance i) x ≡ b → fits (stack.refused s i) (Some (cond b (record x { link = None }) x)) ≡ true
+    by_test true is = and_from (owner_fits (stack.refused s i) x.kind x.owner) true owned refl
+    by_test false is =
+        and_from (owner_fits (stack.refused s i) x.kind x.owner) (link_fits (stack.refused s i) x x.link) owned
+        (link_stays s (stack.refused s i) x x.link (omega arith) (λ j linked own keeps.
+        elim (cases_eq j.0 i.0) [
+          | inl e ↦
+              let mine : same_owner (owner.Instance i) x.owner ≡ true = subst (λ n. same_owner (owner.Instance (record { 0 = n })) x.owner ≡ true) e own in
+              absurd (true≢false (sym (and_from (is_some x.link) (same_owner (owner.Instance i) x.owner) (ap is_some linked) mine) ∙ is))
+          | inr apart ↦ ap keeps_links_by (refused_row s i j apart) ∙ keeps
+        ]) parts.1)
+
+setup_owned : (old : World) (k : WorkerId) (i : InstanceId) (accept : Bool) (result : Result (Unit {0}) Status) (new : World) (left : ContextTable)
+    → worker_at old.workers k ≡ Some (place.Setup i) → stack.SetsUp old.stack i accept result new.stack → Leaves (carries old) old.contexts left k.0
+    → EmptiesUnless result i old left new.contexts → new ≡ record old { stack = new.stack; workers = put old.workers k place.Idle; contexts = new.contexts }
+    → IsSound old → IsOwned new
+unfolding stack.SetsUp
+setup_owned old k i accept (Ok done) new left at h leaves empties e s =
+    let row = setup_place old k i s.under_way at in
+    let t = stack.accepted old.stack i in
+    let on = accepted_on old.stack i row.0 row.1 row.2 in
+    let worker : k.0 < 48 = subst (λ n. k.0 < n) s.under_way.hands (slice_get_within old.workers k.0 (place.Setup i) at) in
+    let fit = fits_on old.stack t old.contexts.slots
+    (record { filters = omega arith; volumes = omega arith; left = rows_left old.stack t on; keeps = rows_keep old.stack t on }) s.owned.fits in
+    subst IsOwned (sym (e ∙ ap (λ x. record old { stack = x; workers = put old.workers k place.Idle; contexts = new.contexts }) h.1
+    ∙ ap (λ c. record old { stack = t; workers = put old.workers k place.Idle; contexts = c }) empties))
+    (setup_returns old k i t left at worker (rows_filters old.stack t on) (owners_same old.contexts.slots left.slots leaves.slots) s.owned leaves.hands leaves.cleaning
+    (leave_keeps k.0 s.owned.lawful leaves) (subst (AllFit t) (sym leaves.slots) fit) (rows_flown old.stack t on))
+setup_owned old k i accept (Err why) new left at h leaves empties e s =
+    let row = setup_place old k i s.under_way at in
+    let t = stack.refused old.stack i in
+    let test = is_linked_of (owner.Instance i) in
+    let worker : k.0 < 48 = subst (λ n. k.0 < n) s.under_way.hands (slice_get_within old.workers k.0 (place.Setup i) at) in
+    let slots : new.contexts.slots ≡ map (swept_slot test) old.contexts.slots = empties.slots ∙ ap (map (swept_slot test)) leaves.slots in
+    let owners = owners_after old.contexts.slots (map (swept_slot test) old.contexts.slots) new.contexts.slots (owners_swept test old.contexts.slots)
+    (owners_same (map (swept_slot test) old.contexts.slots) new.contexts.slots slots) in
+    let fit = fits_swept old.stack t test old.contexts.slots (λ x fit. refused_fits old.stack i row.0 x row.1 fit) s.owned.fits in
+    subst IsOwned (sym (e ∙ ap (λ x. record old { stack = x; workers = put old.workers k place.Idle; contexts = new.contexts }) h.1))
+    (setup_returns old k i t new.contexts at worker (refused_filters old.stack i) owners s.owned (empties.hands ∙ leaves.hands) (empties.cleaning ∙ leaves.cleaning)
+    (sweep_keeps test (leave_keeps k.0 s.owned.lawful leaves) empties) (subst (AllFit t) (sym slots) fit)
+    (λ j rests. refused_flown old.stack i j row.0 row.1 row.2 rests))
+
+setup_cases : (old : World) (k : WorkerId) (accept : Bool) (result : Result (Unit {0}) Status) (new : World) (m : Option Worker)
+    → worker_at old.workers k ≡ m → SetsUpAt old k accept result new m → IsSound old → IsOwned new
+setup_cases old k accept result new (Some (place.Setup i)) at h s = setup_owned old k i accept result new h.1 at h.0 h.2 h.3 h.4 s
+setup_cases old k accept result new (Some place.Idle) at h s = subst IsOwned (sym h.1) s.owned
+setup_cases old k accept result new (Some (place.Pre o i)) at h s = subst IsOwned (sym h.1) s.owned
+setup_cases old k accept result new (Some (place.Base o)) at h s = subst IsOwned (sym h.1) s.owned
+setup_cases old k accept result new (Some (place.Post o i)) at h s = subst IsOwned (sym h.1) s.owned
+setup_cases old k accept result new (Some (place.Drain o i)) at h s = subst IsOwned (sym h.1) s.owned
+setup_cases old k accept result new (Some (place.Cleanup c)) at h s = subst IsOwned (sym h.1) s.owned
+setup_cases old k accept result new None at h s = subst IsOwned (sym h.1) s.owned
+
+pub setup_sound : (old : World) (k : WorkerId) (accept : Bool) (result : Result (Unit {0}) Status) (new : World)
+    → SetsUp old k accept result new → IsSound old → IsSound new
+unfolding SetsUp
+setup_sound old k accept result new h s = record { under_way = setup_keeps old k accept result new h s.under_way; owned = owned h }
+  where
+    owned : SetsUp old k accept result new → IsOwned new
+    owned h = setup_cases old k accept result new (worker_at old.workers k) refl h s

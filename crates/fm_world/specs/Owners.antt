@@ -1,0 +1,152 @@
+-- Whose contexts are whose: in which instance's callback a worker is, who owns what is allocated there, and which object each kind is set on.
+use Rattle.std.specs.Prelude.{◌≡◌, Bool, true, false, not, ◌&&◌, ◌||◌, List, length, nat_lt, Option, Some, None, option_and_then, slice_get}
+use Rattle.fm_types.specs.declared.context_kind.ContextKind.{ContextKind}
+use Rattle.fm_types.specs.declared.context_kind.ContextKind.TheVariants as kind
+use Rattle.fm_types.specs.declared.ids.CtxId.{CtxId}
+use Rattle.fm_types.specs.declared.ids.FilterId.{FilterId}
+use Rattle.fm_types.specs.declared.ids.InstanceId.{InstanceId}
+use Rattle.fm_types.specs.Masks.{has_context}
+use Rattle.fm_stack.specs.declared.filter.Filter.{Filter}
+use Rattle.fm_stack.specs.declared.instance.Instance.{Instance}
+use Rattle.fm_stack.specs.declared.instance.Phase.{Phase}
+use Rattle.fm_stack.specs.declared.instance.Phase.TheVariants as phase
+use Rattle.fm_stack.specs.StackWorld.{StackWorld}
+use Rattle.fm_stack.specs.Instances.{is_setup, is_attached, is_detached}
+use Rattle.fm_stack.specs.Events.{is_mounted}
+use Rattle.fm_ctx.specs.declared.object.Object.{Object}
+use Rattle.fm_ctx.specs.declared.object.Object.TheVariants as object
+use Rattle.fm_ctx.specs.declared.owner.Owner.{Owner}
+use Rattle.fm_ctx.specs.declared.owner.Owner.TheVariants as owner
+use Rattle.fm_ctx.specs.Objects.{same_owner}
+use Rattle.fm_ctx.specs.Table.{Context, Slot, context_at}
+use Rattle.fm_flow.specs.declared.entry.Ask.{Ask}
+use Rattle.fm_world.specs.declared.worker.Worker.{Worker}
+use Rattle.fm_world.specs.declared.worker.Worker.TheVariants as place
+
+-- the instance whose callback a worker is in: for an operation, or for its setup
+abbrev pub called_for : Worker → Option InstanceId
+called_for (place.Pre o i) = Some i
+called_for (place.Post o i) = Some i
+called_for (place.Drain o i) = Some i
+called_for _ = None
+
+abbrev pub instance_in : Worker → Option InstanceId
+instance_in (place.Setup i) = Some i
+instance_in a = called_for a
+
+abbrev pub place_in : Option Worker → Option InstanceId
+place_in m = option_and_then instance_in m
+
+-- what a callback of an instance may work on: the instance is there
+abbrev pub row_at : StackWorld → InstanceId → Option Instance
+row_at s i = slice_get s.instances i.0
+
+-- ---- kinds
+
+abbrev pub has_kind_in : Option Filter → ContextKind → Bool
+has_kind_in None kind = false
+has_kind_in (Some filter) kind = has_context filter.registration.contexts.0 kind
+
+-- whether the filter of an instance registered a kind
+abbrev pub has_kind : StackWorld → Instance → ContextKind → Bool
+has_kind s row kind = has_kind_in (slice_get s.filters row.filter.0) kind
+
+abbrev pub is_volume : ContextKind → Bool
+is_volume kind.Volume = true
+is_volume _ = false
+
+abbrev pub is_instance : ContextKind → Bool
+is_instance kind.Instance = true
+is_instance _ = false
+
+-- what a callback allocates belongs to its instance; a volume context to its filter
+abbrev pub owner_by : Instance → InstanceId → ContextKind → Owner
+owner_by row i kind.Volume = owner.Filter row.filter
+owner_by row i _ = owner.Instance i
+
+-- what the callback sets a context of that kind on, if it has such an object: streams and handles come with operations on files
+abbrev pub object_by : Instance → InstanceId → ContextKind → Option Object
+object_by row i kind.Volume = Some (object.Volume row.volume)
+object_by row i kind.Instance = Some (object.Instance i)
+object_by row i _ = None
+
+-- nothing more is set on an instance that is being torn down, or where its volume is dismounted
+abbrev pub is_closing : StackWorld → Instance → Bool
+is_closing s row = not (is_setup row.phase || is_attached row.phase) || not (is_mounted (slice_get s.volumes row.volume.0))
+
+-- ---- what a context names is there
+
+-- an instance that isn't detached
+abbrev pub is_left_by : Option Instance → Bool
+is_left_by None = false
+is_left_by (Some row) = not (is_detached row.phase)
+
+-- an instance whose contexts weren't unlinked
+abbrev pub keeps_links : Phase → Bool
+keeps_links phase.Emptying = false
+keeps_links phase.Detached = false
+keeps_links _ = true
+
+abbrev pub keeps_links_by : Option Instance → Bool
+keeps_links_by None = false
+keeps_links_by (Some row) = keeps_links row.phase
+
+-- a filter owns volume contexts, an instance all others
+abbrev pub owner_fits : StackWorld → ContextKind → Owner → Bool
+owner_fits s kind.Volume (owner.Filter f) = nat_lt f.0 (length s.filters)
+owner_fits s kind.Volume (owner.Instance i) = false
+owner_fits s _ (owner.Filter f) = false
+owner_fits s _ (owner.Instance i) = is_left_by (row_at s i)
+
+-- a link is to an object of the context's kind: a volume that is there, or the owner itself, which isn't being emptied
+abbrev pub link_fits : StackWorld → Context → Option Object → Bool
+link_fits s x None = true
+link_fits s x (Some (object.Volume v)) = is_volume x.kind && nat_lt v.0 (length s.volumes)
+link_fits s x (Some (object.Instance i)) = is_instance x.kind && (same_owner (owner.Instance i) x.owner && keeps_links_by (row_at s i))
+link_fits s x (Some _) = false
+
+abbrev pub fits : StackWorld → Option Context → Bool
+fits s None = true
+fits s (Some x) = owner_fits s x.kind x.owner && link_fits s x x.link
+
+-- operations may be in flight at an instance
+abbrev pub is_flown : Phase → Bool
+is_flown phase.Attached = true
+is_flown phase.Stopping = true
+is_flown _ = false
+
+abbrev pub is_flown_by : Option Instance → Bool
+is_flown_by None = false
+is_flown_by (Some row) = is_flown row.phase
+
+-- ---- who may hold what
+
+-- a context that a callback of the instance may hold: it belongs to the instance, or is a volume context of its filter
+abbrev pub belongs_by : Option Instance → InstanceId → Option Context → Bool
+belongs_by (Some row) i (Some x) = same_owner (owner_by row i x.kind) x.owner
+belongs_by _ i _ = false
+
+abbrev pub belongs : StackWorld → List Slot → InstanceId → CtxId → Bool
+belongs s slots i c = belongs_by (row_at s i) i (context_at slots c)
+
+-- what a worker holds: contexts that the callback which it is in may hold, and none outside of callbacks
+abbrev pub HoldsIn : StackWorld → List Slot → Option InstanceId → CtxId → Type 0
+HoldsIn s slots None c = ⊥
+HoldsIn s slots (Some i) c = belongs s slots i c ≡ true
+
+-- what a completion carries: a context that its instance's callbacks may hold
+abbrev pub CarriesIn : StackWorld → List Slot → InstanceId → Option CtxId → Type 0
+CarriesIn s slots i None = Unit {0}
+CarriesIn s slots i (Some c) = belongs s slots i c ≡ true
+
+abbrev pub AskCarries : StackWorld → List Slot → Ask → Type 0
+AskCarries s slots ask = CarriesIn s slots ask.instance ask.completion.context
+
+-- the filter whose cleanup callback a context gets
+abbrev pub filter_by : StackWorld → Owner → Option FilterId
+filter_by s (owner.Filter f) = Some f
+filter_by s (owner.Instance i) = filter_in (row_at s i)
+  where
+    filter_in : Option Instance → Option FilterId
+    filter_in None = None
+    filter_in (Some row) = Some row.filter

@@ -6,7 +6,7 @@ use Rattle.fm_types.specs.Names.{IsName}
 use Rattle.fm_types.specs.Statuses.{number_of}
 use Rattle.fm_altitude.specs.Grammar.{IsAltitude, canonical}
 use Rattle.fm_script.specs.declared.command.Callbacks.{Callbacks}
-use Rattle.fm_script.specs.declared.command.Callbacks.TheVariants.{Both, PreOnly, PostOnly}
+use Rattle.fm_script.specs.declared.command.Callbacks.TheVariants.{Both, PreOnly, PostOnly, Bare}
 use Rattle.fm_script.specs.declared.command.Verdict.{Verdict}
 use Rattle.fm_script.specs.declared.command.Verdict.TheVariants as verdict
 use Rattle.fm_script.specs.declared.command.Command.{Command}
@@ -14,9 +14,15 @@ use Rattle.fm_script.specs.declared.command.Command.TheVariants as command
 use Rattle.fm_script.specs.declared.keyword.Keyword.{Keyword}
 use Rattle.fm_script.specs.declared.keyword.Keyword.TheVariants as keyword
 use Rattle.fm_script.specs.Keywords.{keyword_read}
+use Rattle.fm_script.specs.declared.context_command.ContextCommand.{ContextCommand}
+use Rattle.fm_script.specs.declared.context_command.ContextKeyword.{ContextKeyword}
+use Rattle.fm_script.specs.ContextCommands.{context_keyword_read, context_read}
 use Rattle.fm_script.specs.Numbers.{number_read, id_read}
 
--- the letters of ids: f, i, o, v, w
+-- the letters of ids: c, f, i, o, v, w
+abbrev pub context_id : List ℕ → Option ℕ
+context_id word = id_read 99 word
+
 abbrev pub filter_id : List ℕ → Option ℕ
 filter_id word = id_read 102 word
 
@@ -73,7 +79,8 @@ IsNamed name c result = MatchResult result (λ read. IsName name × (read ≡ c)
 
 abbrev pub callbacks_read : List ℕ → Result Callbacks Status
 callbacks_read option =
-    cond (bytes_eq option (codes "only-pre")) (Ok PreOnly) (cond (bytes_eq option (codes "only-post")) (Ok PostOnly) (Err BadRequest))
+    cond (bytes_eq option (codes "only-pre")) (Ok PreOnly) (cond (bytes_eq option (codes "only-post")) (Ok PostOnly)
+    (cond (bytes_eq option (codes "bare")) (Ok Bare) (Err BadRequest)))
 
 -- with an option that leaves these callbacks
 abbrev pub LoadsWith : List ℕ → Result Callbacks Status → Result Command Status → Type 0
@@ -103,6 +110,29 @@ AttachesAs _ _ name altitude result = result ≡ Err BadRequest
 abbrev pub Attaches : List (List ℕ) → Result Command Status → Type 0
 Attaches (f ∷ v ∷ name ∷ altitude ∷ []) result = AttachesAs (filter_id f) (volume_id v) name altitude result
 Attaches _ result = result ≡ Err BadRequest
+
+-- the same with a worker before them, which enters the setup callback
+abbrev pub ids_of : Option ℕ → Option ℕ → Option ℕ → Option (ℕ × ℕ × ℕ)
+ids_of (Some w) (Some f) (Some v) = Some (w, f, v)
+ids_of _ _ _ = None
+
+abbrev pub SetsUpAs : Option (ℕ × ℕ × ℕ) → List ℕ → List ℕ → Result Command Status → Type 0
+SetsUpAs (Some (w, f, v)) name altitude result =
+    MatchResult result (λ read. IsName name × IsAltitude altitude × (read ≡ command.Setup w f v name (canonical altitude))) (IsRefusedPlace name altitude)
+SetsUpAs None name altitude result = result ≡ Err BadRequest
+
+abbrev pub SetsUp : List (List ℕ) → Result Command Status → Type 0
+SetsUp (w ∷ f ∷ v ∷ name ∷ altitude ∷ []) result = SetsUpAs (ids_of (worker_id w) (filter_id f) (volume_id v)) name altitude result
+SetsUp _ result = result ≡ Err BadRequest
+
+abbrev pub set_done_of : Result ℕ Status → List ℕ → Result Command Status
+set_done_of (Ok w) word =
+    cond (bytes_eq word (codes "yes")) (Ok (command.SetDone w true)) (cond (bytes_eq word (codes "no")) (Ok (command.SetDone w false)) (Err BadRequest))
+set_done_of (Err status) word = Err status
+
+abbrev pub set_done_read : List (List ℕ) → Result Command Status
+set_done_read (worker ∷ word ∷ []) = set_done_of (id_or_bad (worker_id worker)) word
+set_done_read _ = Err BadRequest
 
 -- ---- what a preoperation answers
 
@@ -139,6 +169,24 @@ abbrev pub AnswersFor : (List ℕ → Option ℕ) → List (List ℕ) → (ℕ �
 AnswersFor id (word ∷ words) make result = Answers (id word) words make result
 AnswersFor id [] make result = result ≡ Err BadRequest
 
+-- a command of two ids
+abbrev pub made_pair : (ℕ → ℕ → Command) → Result ℕ Status → Result ℕ Status → Result Command Status
+made_pair make (Ok m) (Ok n) = Ok (make m n)
+made_pair make (Ok m) (Err status) = Err status
+made_pair make (Err status) second = Err status
+
+-- with a context that goes along, or without
+abbrev pub sends_context : List (List ℕ) → Bool
+sends_context (worker ∷ word ∷ context ∷ []) = bytes_eq word (codes "with")
+sends_context _ = false
+
+abbrev pub pre_with_read : List (List ℕ) → Result Command Status
+pre_with_read (worker ∷ word ∷ context ∷ []) = made_pair command.PreWith (id_or_bad (worker_id worker)) (id_or_bad (context_id context))
+pre_with_read _ = Err BadRequest
+
+abbrev pub AnswersPre : List (List ℕ) → Result Command Status → Type 0
+AnswersPre words result = Either (sends_context words) (result ≡ pre_with_read words) (AnswersFor worker_id words command.Pre result)
+
 -- ---- the other commands
 
 abbrev pub post_read : List (List ℕ) → Result Command Status
@@ -152,19 +200,31 @@ ReadsAs keyword.Mount words result = Mounts words result
 ReadsAs keyword.Attach words result = Attaches words result
 ReadsAs keyword.List words result = result ≡ made command.List (one_id 118 words)
 ReadsAs keyword.Next words result = result ≡ made_step command.Next (step_read words)
-ReadsAs keyword.Pre words result = AnswersFor worker_id words command.Pre result
+ReadsAs keyword.Pre words result = AnswersPre words result
 ReadsAs keyword.Plan words result = AnswersFor instance_id words command.Plan result
 ReadsAs keyword.Base words result = result ≡ made command.Base (one_id 119 words)
 ReadsAs keyword.Post words result = result ≡ post_read words
 ReadsAs keyword.Go words result = result ≡ made_step command.Go (step_read words)
 ReadsAs keyword.Collect words result = result ≡ made command.Collect (one_id 111 words)
 ReadsAs keyword.Phase words result = result ≡ made command.Phase (one_id 105 words)
+ReadsAs keyword.Setup words result = SetsUp words result
+ReadsAs keyword.SetDone words result = result ≡ set_done_read words
+ReadsAs keyword.Finish words result = result ≡ made command.Finish (one_id 105 words)
 
-abbrev pub ReadsBehind : Option Keyword → List (List ℕ) → Result Command Status → Type 0
-ReadsBehind None words result = result ≡ Err BadRequest
-ReadsBehind (Some k) words result = ReadsAs k words result
+-- a command on contexts
+abbrev pub on_contexts : Option ContextCommand → Result Command Status
+on_contexts None = Err BadRequest
+on_contexts (Some c) = Ok (command.Context c)
+
+abbrev pub context_or_bad : Option ContextKeyword → List (List ℕ) → Result Command Status
+context_or_bad None words = Err BadRequest
+context_or_bad (Some k) words = on_contexts (context_read k words)
+
+abbrev pub ReadsBehind : Option Keyword → List ℕ → List (List ℕ) → Result Command Status → Type 0
+ReadsBehind None word words result = result ≡ context_or_bad (context_keyword_read word) words
+ReadsBehind (Some k) word words result = ReadsAs k words result
 
 -- what the words of a line are read as
 abbrev pub Reads : List (List ℕ) → Result Command Status → Type 0
 Reads [] result = result ≡ Err BadRequest
-Reads (word ∷ words) result = ReadsBehind (keyword_read word) words result
+Reads (word ∷ words) result = ReadsBehind (keyword_read word) word words result

@@ -3,3 +3,4 @@ pub mod Words
 pub mod Numbers
 pub mod Hexadecimal
 pub mod Keywords
+pub mod ContextCommands

@@ -3,8 +3,10 @@
 ghost use Rattle.std.specs.Prelude.{◌≡◌, map};
 ghost use Rattle.fm_script.specs.Numbers.{id_read};
 ghost use Rattle.fm_script.specs.declared.command.Command.TheVariants as CommandOf;
-ghost use Rattle.fm_script.specs.Commands.{Reads, ReadsAs, Loads, Mounts, Attaches, AnswersFor, ReadsVerdict, ReadsComplete, callbacks_read, step_read, post_read, bare_verdict, one_id, id_or_bad, worker_id, instance_id};
+ghost use Rattle.fm_script.specs.Commands.{Reads, ReadsAs, Loads, Mounts, Attaches, AnswersFor, ReadsVerdict, ReadsComplete, callbacks_read, step_read, post_read, bare_verdict, one_id, id_or_bad, worker_id, instance_id, AnswersPre, sends_context, pre_with_read, SetsUp, ids_of, filter_id, volume_id, set_done_read, context_or_bad};
+ghost use Rattle.fm_script.specs.ContextCommands.{context_keyword_read};
 
+use crate::context_command::{ContextCommand, ContextKeyword};
 use crate::keyword::Keyword;
 use crate::number::{read_id, read_status};
 use fm_altitude::Altitude;
@@ -19,6 +21,8 @@ pub enum Callbacks {
     PreOnly,
     /// Postoperation callbacks alone.
     PostOnly,
+    /// Both callbacks, but no kinds of contexts and no routines.
+    Bare,
 }
 
 /// What a preoperation callback of a script answers.
@@ -35,7 +39,7 @@ pub enum Verdict {
 /// A command that was read. Its ids are numbers as they stood in the line: whether they are there is asked when the command is run.
 #[derive(Clone, Copy, Debug)]
 pub enum Command {
-    /// `load NAME`, `load NAME only-pre` or `load NAME only-post`: a filter registers.
+    /// `load NAME`, then perhaps `only-pre`, `only-post` or `bare`: a filter registers.
     Load {
         name: Name,
         callbacks: Callbacks,
@@ -51,6 +55,19 @@ pub enum Command {
         name: Name,
         altitude: Altitude,
     },
+    /// `setup W F V NAME ALT`: a worker attaches an instance, and is in its setup callback.
+    Setup {
+        worker: u64,
+        filter: u64,
+        volume: u64,
+        name: Name,
+        altitude: Altitude,
+    },
+    /// `setdone W yes` or `no`: the worker's setup callback returns.
+    SetDone {
+        worker: u64,
+        accept: bool,
+    },
     /// `list V`: an operation begins.
     List {
         volume: u64,
@@ -64,6 +81,11 @@ pub enum Command {
     Pre {
         worker: u64,
         verdict: Verdict,
+    },
+    /// `pre W with C`: the same, and a context goes along with the completion.
+    PreWith {
+        worker: u64,
+        context: u64,
     },
     /// `plan I with`, `none` or `complete S`: what `go` will answer for the instance's preoperation callbacks.
     Plan {
@@ -91,6 +113,12 @@ pub enum Command {
     Phase {
         instance: u64,
     },
+    /// `finish I`: an instance without contexts ends.
+    Finish {
+        instance: u64,
+    },
+    /// A command on contexts.
+    Context(ContextCommand),
 }
 
 impl Command {
@@ -102,10 +130,23 @@ impl Command {
         let Some((first, words)) = words.split_first() else {
             return Err(Status::BadRequest);
         };
-        let Some(keyword) = Keyword::read(first) else {
-            return Err(Status::BadRequest);
-        };
-        read_as(keyword, words)
+        match Keyword::read(first) {
+            Some(keyword) => read_as(keyword, words),
+            None => read_context(first, words),
+        }
+    }
+}
+
+// Reads a command on contexts.
+fn read_context(first: &[u8], words: &[&[u8]]) -> Result<Command, Status>
+    ensures { result ≡ context_or_bad (context_keyword_read first.now) (map (λ word. word.now) words.now) }
+{
+    let Some(keyword) = ContextKeyword::read(first) else {
+        return Err(Status::BadRequest);
+    };
+    match ContextCommand::read(keyword, words) {
+        Some(command) => Ok(Command::Context(command)),
+        None => Err(Status::BadRequest),
     }
 }
 
@@ -140,6 +181,11 @@ fn read_as(keyword: Keyword, words: &[&[u8]]) -> Result<Command, Status>
         Keyword::Phase => Ok(Command::Phase {
             instance: one_id(b'i', words)?,
         }),
+        Keyword::Setup => read_setup(words),
+        Keyword::SetDone => read_set_done(words),
+        Keyword::Finish => Ok(Command::Finish {
+            instance: one_id(b'i', words)?,
+        }),
     }
 }
 
@@ -163,6 +209,8 @@ fn read_callbacks(option: &[u8]) -> Result<Callbacks, Status>
         Ok(Callbacks::PreOnly)
     } else if option == b"only-post".as_slice() {
         Ok(Callbacks::PostOnly)
+    } else if option == b"bare".as_slice() {
+        Ok(Callbacks::Bare)
     } else {
         Err(Status::BadRequest)
     }
@@ -196,6 +244,58 @@ fn read_attach(words: &[&[u8]]) -> Result<Command, Status>
     })
 }
 
+fn read_setup(words: &[&[u8]]) -> Result<Command, Status>
+    ensures { SetsUp (map (λ word. word.now) words.now) result }
+{
+    let [worker, filter, volume, name, altitude] = words else {
+        return Err(Status::BadRequest);
+    };
+    let Some((worker, filter, volume)) = place_ids(worker, filter, volume) else {
+        return Err(Status::BadRequest);
+    };
+    let name = Name::read(name)?;
+    let altitude = Altitude::read(altitude)?;
+    Ok(Command::Setup {
+        worker,
+        filter,
+        volume,
+        name,
+        altitude,
+    })
+}
+
+// A worker, a filter and a volume.
+fn place_ids(worker: &[u8], filter: &[u8], volume: &[u8]) -> Option<(u64, u64, u64)>
+    ensures { result ≡ ids_of (worker_id worker.now) (filter_id filter.now) (volume_id volume.now) }
+{
+    let worker = read_id(b'w', worker)?;
+    let filter = read_id(b'f', filter)?;
+    let volume = read_id(b'v', volume)?;
+    Some((worker, filter, volume))
+}
+
+fn read_set_done(words: &[&[u8]]) -> Result<Command, Status>
+    ensures { result ≡ set_done_read (map (λ word. word.now) words.now) }
+{
+    let [worker, answer] = words else {
+        return Err(Status::BadRequest);
+    };
+    let worker = id(b'w', worker)?;
+    if *answer == b"yes".as_slice() {
+        Ok(Command::SetDone {
+            worker,
+            accept: true,
+        })
+    } else if *answer == b"no".as_slice() {
+        Ok(Command::SetDone {
+            worker,
+            accept: false,
+        })
+    } else {
+        Err(Status::BadRequest)
+    }
+}
+
 // The words of a step: a worker and an operation.
 fn read_step(words: &[&[u8]]) -> Result<(u64, u64), Status>
     ensures { result ≡ step_read (map (λ word. word.now) words.now) }
@@ -207,6 +307,38 @@ fn read_step(words: &[&[u8]]) -> Result<(u64, u64), Status>
 }
 
 fn read_pre(words: &[&[u8]]) -> Result<Command, Status>
+    ensures { AnswersPre (map (λ word. word.now) words.now) result }
+{
+    if sends_context(words) {
+        read_pre_with(words)
+    } else {
+        read_pre_bare(words)
+    }
+}
+
+// Whether the words are those of an answer that sends a context along.
+fn sends_context(words: &[&[u8]]) -> bool
+    ensures { result ≡ sends_context (map (λ word. word.now) words.now) }
+{
+    match words {
+        [_, word, _] => *word == b"with".as_slice(),
+        _ => false,
+    }
+}
+
+fn read_pre_with(words: &[&[u8]]) -> Result<Command, Status>
+    ensures { result ≡ pre_with_read (map (λ word. word.now) words.now) }
+{
+    let [worker, _, context] = words else {
+        return Err(Status::BadRequest);
+    };
+    let worker = id(b'w', worker)?;
+    let context = id(b'c', context)?;
+    Ok(Command::PreWith { worker, context })
+}
+
+// An answer without a context.
+fn read_pre_bare(words: &[&[u8]]) -> Result<Command, Status>
     ensures { AnswersFor worker_id (map (λ word. word.now) words.now) CommandOf.Pre result }
 {
     let Some((worker, verdict)) = words.split_first() else {

@@ -3,14 +3,16 @@
 
 ghost use Rattle.std.specs.Prelude.{◌≡◌, ◌+◌, ◌-◌, ◌^◌, ◌<◌, ◌≤◌, max, min, IfErr, MatchResult, OnErr, OnOk, IsOk, ◌↔◌, length, vec_len, slice_index_or, slice_set};
 
+mod contexts;
+
 use crate::command::{Callbacks, Verdict};
 use fm_altitude::Altitude;
 use fm_core::{Action, Begin, Refused, State};
 use fm_data::{Answer, CallbackData, Completion, Params, PostVerdict, PreVerdict};
 use fm_stack::Phase;
 use fm_types::{
-    Bytes, ContextMask, FilterId, InstanceId, Name, OpId, OpMask, Registration, Status, VolumeId,
-    WorkerId,
+    Bytes, ContextMask, CtxId, FilterId, InstanceId, Name, OpId, OpMask, Registration, Status,
+    VolumeId, WorkerId,
 };
 use std::alloc::Global;
 use std::mem;
@@ -53,6 +55,7 @@ pub struct Interpreter {
     state: State,
     held: Vec<Held>,
     plans: Vec<Verdict>,
+    contexts: Vec<CtxId>,
     volumes: u64,
     operations: u64,
 }
@@ -70,6 +73,7 @@ impl Interpreter {
             state,
             held,
             plans: Vec::new(alloc),
+            contexts: Vec::new(alloc),
             volumes: 0,
             operations: 0,
         })
@@ -104,6 +108,35 @@ impl Interpreter {
         Ok(instance)
     }
 
+    /// `setup`: the worker attaches the instance, and is in its setup callback.
+    pub fn setup(
+        &mut self,
+        worker: u64,
+        filter: u64,
+        volume: u64,
+        name: Name,
+        altitude: Altitude,
+    ) -> Result<InstanceId, Status> {
+        let filter = self.filter(filter)?;
+        let volume = self.volume(volume)?;
+        let worker = worker_of(worker)?;
+        let instance = self.state.attach(worker, filter, volume, name, altitude)?;
+        self.plans.push(Verdict::With)?;
+        Ok(instance)
+    }
+
+    /// `setdone`: the worker's setup callback returns.
+    pub fn set_done(&mut self, worker: u64, accept: bool) -> Result<(), Status> {
+        let worker = worker_of(worker)?;
+        self.state.setup_done(worker, accept)
+    }
+
+    /// `finish`: an instance without contexts ends.
+    pub fn finish(&mut self, instance: u64) -> Result<(), Status> {
+        let instance = self.instance(instance)?;
+        self.state.finish(instance)
+    }
+
     /// `list`: an operation begins on the volume.
     pub fn list(&mut self, volume: u64) -> Result<OpId, Status> {
         let volume = self.volume(volume)?;
@@ -125,11 +158,16 @@ impl Interpreter {
     /// `pre`: the worker's preoperation callback returns.
     pub fn pre(&mut self, worker: u64, verdict: Verdict) -> Result<(), Status> {
         let worker = worker_of(worker)?;
+        self.return_pre(worker, verdict_of(verdict))
+    }
+
+    // The worker's preoperation callback returns.
+    fn return_pre(&mut self, worker: WorkerId, verdict: PreVerdict) -> Result<(), Status> {
         let data = match self.take(worker) {
             Held::Pre(data) => data,
             other => return self.refuse(worker, other),
         };
-        match self.state.pre_returned(worker, verdict_of(verdict), data) {
+        match self.state.pre_returned(worker, verdict, data) {
             Ok(()) => Ok(()),
             Err(
                 Refused {
@@ -202,7 +240,7 @@ impl Interpreter {
         ensures there { IsOk result ↔ ((instance < length self.old.state.stack.instances) × (instance < 2 ^ 16) × (instance < vec_len self.old.plans)) }
         ensures refused { IfErr result (λ status. status ≡ Status.NoInstance) }
         ensures state { self.new.state ≡ self.old.state }
-        ensures rest { (self.new.held ≡ self.old.held) × (self.new.volumes ≡ self.old.volumes) × (self.new.operations ≡ self.old.operations) }
+        ensures rest { (self.new.held ≡ self.old.held) × (self.new.contexts ≡ self.old.contexts) × (self.new.volumes ≡ self.old.volumes) × (self.new.operations ≡ self.old.operations) }
     {
         let instance = self.instance(instance)?;
         match self.plans.get_mut(usize::from(instance.0)) {
@@ -316,16 +354,22 @@ fn worker_of(number: u64) -> Result<WorkerId, Status>
 
 fn registration(callbacks: Callbacks) -> Registration {
     let (pre, post) = match callbacks {
-        Callbacks::Both => (OpMask::ALL, OpMask::ALL),
+        Callbacks::Both | Callbacks::Bare => (OpMask::ALL, OpMask::ALL),
         Callbacks::PreOnly => (OpMask::ALL, OpMask::NONE),
         Callbacks::PostOnly => (OpMask::NONE, OpMask::ALL),
+    };
+    let is_bare = callbacks == Callbacks::Bare;
+    let contexts = if is_bare {
+        ContextMask::NONE
+    } else {
+        ContextMask::ALL
     };
     Registration {
         pre,
         post,
-        contexts: ContextMask::ALL,
-        query: true,
-        unload: true,
+        contexts,
+        query: !is_bare,
+        unload: !is_bare,
     }
 }
 

@@ -18,9 +18,12 @@ pub enum Keyword {
     Go,
     Collect,
     Phase,
+    Setup,
+    SetDone,
+    Finish,
 }
 
-const ALL: [Keyword; 12] = [
+const ALL: [Keyword; 15] = [
     Keyword::Load,
     Keyword::Mount,
     Keyword::Attach,
@@ -33,6 +36,9 @@ const ALL: [Keyword; 12] = [
     Keyword::Go,
     Keyword::Collect,
     Keyword::Phase,
+    Keyword::Setup,
+    Keyword::SetDone,
+    Keyword::Finish,
 ];
 
 impl Keyword {
@@ -63,6 +69,9 @@ impl Keyword {
             Keyword::Go => b"go",
             Keyword::Collect => b"collect",
             Keyword::Phase => b"phase",
+            Keyword::Setup => b"setup",
+            Keyword::SetDone => b"setdone",
+            Keyword::Finish => b"finish",
         }
     }
 }

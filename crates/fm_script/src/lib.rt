@@ -3,6 +3,7 @@
 #![tactic(auto)]
 
 mod command;
+mod context_command;
 mod hexadecimal;
 mod interpreter;
 mod keyword;
@@ -17,6 +18,7 @@ mod tests;
 mod words;
 
 pub use crate::command::{Callbacks, Command, Verdict};
+pub use crate::context_command::{ContextCommand, ContextKeyword};
 pub use crate::hexadecimal::{read_hex, write_hex};
 pub use crate::interpreter::{Interpreter, Step};
 pub use crate::number::{read_id, read_number, read_status};

@@ -38,6 +38,27 @@ impl<W: Write + Drop> Output<W> {
         writeln!(self.writer, "{word} {letter}{number}").map_err(|_| ScriptEnd::WriteFault)
     }
 
+    /// A word and a number.
+    pub fn number(&mut self, word: &str, number: u64) -> Result<(), ScriptEnd> {
+        writeln!(self.writer, "{word} {number}").map_err(|_| ScriptEnd::WriteFault)
+    }
+
+    /// A word and bytes.
+    pub fn bytes(&mut self, word: &str, bytes: &[u8]) -> Result<(), ScriptEnd> {
+        write!(self.writer, "{word} ").map_err(|_| ScriptEnd::WriteFault)?;
+        self.hex_line(bytes)
+    }
+
+    // The end of a line: bytes.
+    fn hex_line(&mut self, bytes: &[u8]) -> Result<(), ScriptEnd> {
+        let mut text = Vec::new(self.alloc);
+        write_hex(&mut text, bytes).map_err(|_| ScriptEnd::NoMemory)?;
+        text.push(b'\n').map_err(|_| ScriptEnd::NoMemory)?;
+        self.writer
+            .write_all(text.as_slice())
+            .map_err(|_| ScriptEnd::WriteFault)
+    }
+
     /// A preoperation callback of `go`, and what it answered.
     pub fn preoperation(&mut self, instance: u64, verdict: Verdict) -> Result<(), ScriptEnd> {
         match verdict {
@@ -69,15 +90,10 @@ impl<W: Write + Drop> Output<W> {
 
     /// An operation's reply.
     pub fn reply(&mut self, answer: &Answer) -> Result<(), ScriptEnd> {
-        let mut bytes = Vec::new(self.alloc);
-        write_hex(&mut bytes, answer.bytes.as_slice()).map_err(|_| ScriptEnd::NoMemory)?;
-        bytes.push(b'\n').map_err(|_| ScriptEnd::NoMemory)?;
         let number = answer.status.number();
         let information = answer.information;
         write!(self.writer, "reply {number} {information} ").map_err(|_| ScriptEnd::WriteFault)?;
-        self.writer
-            .write_all(bytes.as_slice())
-            .map_err(|_| ScriptEnd::WriteFault)
+        self.hex_line(answer.bytes.as_slice())
     }
 
     /// An instance's phase.

@@ -77,7 +77,7 @@ fn lines(alloc: Global, rt: &impl Abort, text: &str) -> Vec<u8> {
 }
 
 // Rows: a name, the input and the output, lines divided by `; `.
-const ROWS: [(&str, &str, &str); 13] = [
+const ROWS: [(&str, &str, &str); 21] = [
     (
         "altitude_order",
         "load f; mount v; attach f0 v0 a 03333; attach f0 v0 b 100.123456; list v0; go w0 o0",
@@ -115,17 +115,17 @@ const ROWS: [(&str, &str, &str); 13] = [
     ),
     (
         "unknown_commands",
-        "frobnicate; load; load a b; load f bare; load a only-pre b; mount; mount v w; attach f0 v0 a; attach f0 v0 a 1 2; list; collect; phase; next w0; go; pre; pre w0; plan i0; post w0; fail 1; create v0 x always; count c0; alloc w0 instance 01; resume w0 o0 with; leaks; Load f; LIST v0",
+        "frobnicate; load; load a b; load f bar; load a only-pre b; mount; mount v w; attach f0 v0 a; attach f0 v0 a 1 2; list; collect; phase; next w0; go; pre; pre w0; plan i0; post w0; fail 1; create v0 x always; count; alloc w0 instance; resume w0 o0 with; leaks c0; Load f; LIST v0",
         "no 32; no 32; no 32; no 32; no 32; no 32; no 32; no 32; no 32; no 32; no 32; no 32; no 32; no 32; no 32; no 32; no 32; no 32; no 32; no 32; no 32; no 32; no 32; no 32; no 32; no 32",
     ),
     (
         "unreadable_words",
-        "attach f v0 a 1; attach f+0 v0 a 1; attach v0 f0 a 1; attach F0 v0 a 1; list v18446744073709551616; list v18446744073709551615; list v99999999999999999999999; list 0; list v-1; list v 1; go 0 o0; pre w0 pend; pre w0 complete; pre w0 complete 34; pre w0 complete x; pre w0 complete 33; pre w0 complete 0033; pre w0 with c0; plan i0 pend; post w0 more",
+        "attach f v0 a 1; attach f+0 v0 a 1; attach v0 f0 a 1; attach F0 v0 a 1; list v18446744073709551616; list v18446744073709551615; list v99999999999999999999999; list 0; list v-1; list v 1; go 0 o0; pre w0 pend; pre w0 complete; pre w0 complete 34; pre w0 complete x; pre w0 complete 33; pre w0 complete 0033; pre w0 with x0; plan i0 pend; post w0 more",
         "no 32; no 32; no 32; no 32; no 32; no 7; no 32; no 32; no 32; no 32; no 32; no 32; no 32; no 32; no 32; no 30; no 30; no 32; no 32; no 32",
     ),
     (
         "order_of_refusals",
-        "attach fx v9 a! 1.2.3; attach f9 v9 a! 1.2.3; attach f9 v9 a 1.2.3; attach f9 v9 a 1; load f; attach f0 v9 a 1; load a!; load a! bare; load abcdefghijklmnopqrstuvwxyzabcdefg; load f; next w99 o7; next wx o7; plan i0 none; phase i0; collect o0; list v0; base w16; base w15; post w16 done; mount v; list v0; go w16 o0; go w16 o1; go w0 o1",
+        "attach fx v9 a! 1.2.3; attach f9 v9 a! 1.2.3; attach f9 v9 a 1.2.3; attach f9 v9 a 1; load f; attach f0 v9 a 1; load a!; load a! bar; load abcdefghijklmnopqrstuvwxyzabcdefg; load f; next w99 o7; next wx o7; plan i0 none; phase i0; collect o0; list v0; base w16; base w15; post w16 done; mount v; list v0; go w16 o0; go w16 o1; go w0 o1",
         "no 32; no 3; no 2; no 6; ok f0; no 7; no 3; no 32; no 3; no 10; no 30; no 32; no 8; no 8; no 30; no 7; no 30; no 30; no 30; ok v0; ok o0; no 30; no 30; no 30",
     ),
     (
@@ -142,6 +142,46 @@ const ROWS: [(&str, &str, &str); 13] = [
         "leading_zeros",
         "load f; mount v; attach f00 v000 a 1; attach f0 v0 b 2; phase i007; phase i001; plan i00 complete 0; list v0; go w015 o00",
         "ok f0; ok v0; ok i0; ok i1; no 8; attached; ok; ok o0; pre i1 with; pre i0 complete 0; post i1; reply 0 0 -",
+    ),
+    (
+        "keep_and_replace",
+        "load f; mount v; setup w0 f0 v0 a 100; alloc w0 instance 01; set w0 c0 keep; count c0; alloc w0 instance 02; set w0 c1 keep old; count c0; set w0 c1 replace old; count c0; rel w0 c0; rel w0 c0; rel w0 c0; count c0; setdone w0 yes; leaks; due w0; cleaned w0; count c0; due w0; count c1",
+        "ok f0; ok v0; ok i0; ok c0; ok; count 2; ok c1; no 22 c0; count 3; ok c0; count 3; ok; ok; ok; due; ok; leaks 1; cleanup c0; ok; cleaned; none; count 1",
+    ),
+    (
+        "stale_id",
+        "load f; mount v; setup w0 f0 v0 a 100; alloc w0 instance 01; rel w0 c0; rel w0 c0; due w1; cleaned w1; alloc w0 instance 02; rel w0 c0; count c1",
+        "ok f0; ok v0; ok i0; ok c0; ok; no 25; cleanup c0; ok; ok c1; no 25; count 1",
+    ),
+    (
+        "full_hand",
+        "load f; mount v; setup w0 f0 v0 a 100; alloc w0 instance 01; set w0 c0 keep; ref w0 c0; ref w0 c0; ref w0 c0; ref w0 c0; ref w0 c0; ref w0 c0; ref w0 c0; ref w0 c0; ref w0 c0; ref w0 c0; ref w0 c0; ref w0 c0; ref w0 c0; ref w0 c0; ref w0 c0; ref w0 c0; get w0 instance; rel w0 c0; get w0 instance; rel w0 c0; rel w0 c0; rel w0 c0; rel w0 c0; rel w0 c0; rel w0 c0; rel w0 c0; rel w0 c0; rel w0 c0; rel w0 c0; rel w0 c0; rel w0 c0; rel w0 c0; rel w0 c0; setdone w0 yes; leaks; count c0",
+        "ok f0; ok v0; ok i0; ok c0; ok; ok; ok; ok; ok; ok; ok; ok; ok; ok; ok; ok; ok; ok; ok; ok; no 26; no 26; ok; ok c0; ok; ok; ok; ok; ok; ok; ok; ok; ok; ok; ok; ok; ok; ok; ok; leaks 2; count 1",
+    ),
+    (
+        "volume_context",
+        "load f; mount v; setup w0 f0 v0 a 100; alloc w0 volume 0000000000000000; bump w0 c0 0 5; bump w0 c0 0 2; body w0 c0; bump w0 c0 1 1; wbody w0 c0 00; get w0 stream; set w0 c0 keep; del w0 volume old; del w0 volume; setdone w0 no; due w0; cleaned w0; leaks; finish i0",
+        "ok f0; ok v0; ok i0; ok c0; ok 5; ok 7; body 0000000000000007; no 32; no 32; no 27; ok; ok c0; no 24; no 11; cleanup c0; ok; leaks 2; ok",
+    ),
+    (
+        "bare_filter",
+        "load f bare; mount v; setup w0 f0 v0 a 100; alloc w0 instance 01; get w0 volume; del w0 handle old; setdone w0 yes; list v0; go w1 o0",
+        "ok f0; ok v0; ok i0; no 21; no 21; no 21; ok; ok o0; pre i0 with; base 0; post i0; reply 0 0 -",
+    ),
+    (
+        "sent_with_a_completion",
+        "load f; mount v; attach f0 v0 a 100; list v0; next w0 o0; alloc w0 instance 0a; alloc w0 instance -; pre w0 with c0; count c0; count c1; leaks; next w0 o0; base w0; next w0 o0; body w0 c0; rel w0 c0; post w0 done; count c0; due w2; due w2; due w3; cleaned w3; cleaned w2; cleaned w2; count c0; count c1",
+        "ok f0; ok v0; ok i0; ok o0; pre i0; ok c0; ok c1; ok; count 1; due; leaks 1; base; ok; post i0; body 0a; ok; ok; due; cleanup c1; no 30; cleanup c0; ok; ok; no 30; cleaned; cleaned",
+    ),
+    (
+        "refused_contexts",
+        "alloc w0 instance 01; load f; mount v; setup w0 f0 v0 a 100; alloc w0 instance 1; alloc w0 instance 0A; alloc w0 file 01; alloc w16 instance 01; set w0 c0 keep; set w0 c0 put; count c0; ref w16 c0; pre w0 with c0; alloc w0 instance 01; pre w0 with c0; set w0 c0 keep new; set w0 c0 keep; set w0 c0 keep; wbody w0 c0 0102; wbody w0 c0 02; body w0 c0; finish i0; setdone w0 maybe; setdone w0 no; finish i0; leaks; due w0; cleaned w0; finish i0; finish i0; phase i0",
+        "no 30; ok f0; ok v0; ok i0; no 32; no 32; no 32; no 30; no 25; no 32; no 25; no 25; no 25; ok c0; no 30; no 32; ok; no 23; no 32; ok; body 02; no 30; no 32; no 11; no 34 1; leaks 1; cleanup c0; ok; ok; no 8; detached",
+    ),
+    (
+        "setup_by_hand",
+        "load f; mount v; setup w3 f0 v0 a 1; setup w3 f0 v0 b 2; setup w4 f0 v0 a 2; setup w4 f0 v0 b 01; setup w4 f0 v0 b 2; setdone w4 yes; setdone w4 yes; setup w16 f0 v0 c 3; setup w0 f1 v1 c 3; phase i0; phase i1; setdone w3 no; phase i0",
+        "ok f0; ok v0; ok i0; no 30; no 4; no 5; ok i1; ok; no 30; no 30; no 6; setup; attached; no 11; emptying",
     ),
 ];
 

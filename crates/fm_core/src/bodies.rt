@@ -2,6 +2,7 @@
 
 ghost use Rattle.std.specs.Prelude.{◌≡◌};
 ghost use Rattle.fm_world.specs.ContextEvents.{ReadsBody, WritesBody, Bumps};
+ghost use Rattle.fm_world.specs.Hands.{KeepsHands};
 
 use crate::state::State;
 use fm_types::{Bytes, CtxId, Status, WorkerId};
@@ -10,7 +11,8 @@ impl State {
     /// A copy of the body of a context that the worker holds. Refused, nothing changed: 30 where the worker is in no callback of an instance, 25 where it
     /// doesn't hold the context, 1.
     pub fn read_body(&mut self, worker: WorkerId, context: CtxId) -> Result<Bytes, Status>
-        ensures { ReadsBody self.old worker context result self.new }
+        ensures event { ReadsBody self.old worker context result self.new }
+        ensures hand { KeepsHands self.old self.new }
     {
         let Some(_caller) = self.caller(worker) else {
             return Err(Status::WrongStep);
@@ -26,7 +28,8 @@ impl State {
         context: CtxId,
         bytes: &[u8],
     ) -> Result<(), Status>
-        ensures { WritesBody self.old worker context bytes.now result self.new }
+        ensures event { WritesBody self.old worker context bytes.now result self.new }
+        ensures hand { KeepsHands self.old self.new }
     {
         let Some(_caller) = self.caller(worker) else {
             return Err(Status::WrongStep);
@@ -44,7 +47,8 @@ impl State {
         place: u64,
         by: u64,
     ) -> Result<u64, Status>
-        ensures { Bumps self.old worker context place by result self.new }
+        ensures event { Bumps self.old worker context place by result self.new }
+        ensures hand { KeepsHands self.old self.new }
     {
         let Some(_caller) = self.caller(worker) else {
             return Err(Status::WrongStep);

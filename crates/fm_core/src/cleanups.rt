@@ -4,6 +4,7 @@ ghost use Rattle.std.specs.Prelude.{◌≡◌, ◌+◌, ◌<◌, ◌%◌, ◌^�
 ghost use Rattle.fm_types.specs.Lists.{updated};
 ghost use Rattle.fm_ctx.specs.declared.due.Due.{Due as DueContext};
 ghost use Rattle.fm_world.specs.ContextEvents.{TakesDue, Cleans, Finishes, after_due, totalled_for};
+ghost use Rattle.fm_world.specs.Hands.{KeepsHands};
 ghost use Rattle.fm_core.specs.Callers.{cleanup_of, filter_at, refused_in};
 
 use crate::state::State;
@@ -79,7 +80,8 @@ impl State {
     /// An idle worker takes the context that is due longest, and is in its filter's cleanup callback (`PFLT_CONTEXT_CLEANUP_CALLBACK`); none where none is due,
     /// and the worker stays idle. The context's body moves out with it. Refused, nothing changed, with 30 where the worker isn't idle. It takes no memory.
     pub fn take_due(&mut self, worker: WorkerId) -> Result<Option<Due>, Status>
-        ensures { TakesDue self.old worker result self.new }
+        ensures event { TakesDue self.old worker result self.new }
+        ensures hand { KeepsHands self.old self.new }
     {
         if !self.is_idle(worker) {
             return Err(Status::WrongStep);
@@ -92,7 +94,8 @@ impl State {
     /// The cleanup callback that the worker is in returns, with a number that is added to its filter's total, modulo 2^64: the context is gone. Refused,
     /// nothing changed, with 30 where the worker is in no cleanup callback. It takes no memory.
     pub fn cleaned(&mut self, worker: WorkerId, number: u64) -> Result<(), Status>
-        ensures { Cleans self.old worker number result self.new }
+        ensures event { Cleans self.old worker number result self.new }
+        ensures hand { KeepsHands self.old self.new }
     {
         let Some(context) = cleanup_of(self.place(worker)) else {
             return Err(Status::WrongStep);
@@ -107,7 +110,8 @@ impl State {
     /// Ends an instance whose contexts are all cleaned up: it is Detached, and its name and altitude are free. Refused, nothing changed: 8 where the
     /// instance isn't there or is Detached, 30 where it isn't Emptying, 34 with the number of its contexts that aren't cleaned. It takes no memory.
     pub fn finish(&mut self, instance: InstanceId) -> Result<(), Status>
-        ensures { Finishes self.old instance result self.new }
+        ensures event { Finishes self.old instance result self.new }
+        ensures hand { KeepsHands self.old self.new }
     {
         if let Some(status) = refused_in(self.stack.phase(instance)) {
             return Err(status);

@@ -3,6 +3,7 @@
 ghost use Rattle.std.specs.Prelude.{◌≡◌, ◌<◌, Some, None, Ok, MatchResult, slice_get};
 ghost use Rattle.fm_ctx.specs.Table.{Context, context_at};
 ghost use Rattle.fm_world.specs.ContextEvents.{Allocates, Sets, Gets, Deletes, References, Releases, callback_of, set_answer};
+ghost use Rattle.fm_world.specs.Hands.{OnlyHandOf};
 ghost use Rattle.fm_core.specs.Callers.{caller_of, has_kind_at};
 ghost use Rattle.fm_core.specs.Setting.{IsSettable, IsUnsettable, IsFound, IsNotFound};
 
@@ -33,7 +34,8 @@ impl State {
         kind: ContextKind,
         body: Bytes,
     ) -> Result<CtxId, Status>
-        ensures { Allocates self.old worker kind body result self.new }
+        ensures event { Allocates self.old worker kind body result self.new }
+        ensures hand { OnlyHandOf worker.0 self.old self.new }
     {
         let Some(caller) = self.caller(worker) else {
             return Err(Status::WrongStep);
@@ -89,7 +91,8 @@ impl State {
         mode: SetMode,
         wants_old: bool,
     ) -> SetAnswer
-        ensures { Sets self.old worker context mode wants_old result self.new }
+        ensures event { Sets self.old worker context mode wants_old result self.new }
+        ensures hand { OnlyHandOf worker.0 self.old self.new }
     {
         let Some(caller) = self.caller(worker) else {
             return SetAnswer::Refused(Status::WrongStep);
@@ -121,7 +124,8 @@ impl State {
     /// `FltGetStreamHandleContext`): a reference more, in the hand. Refused, nothing changed: 30 where the worker is in no callback of an instance, 21 where the
     /// filter didn't register the kind, 27 where the callback has no such object, 24 where none is set, 26 where the hand has 16 references. It takes no memory.
     pub fn get(&mut self, worker: WorkerId, kind: ContextKind) -> Result<CtxId, Status>
-        ensures { Gets self.old worker kind result self.new }
+        ensures event { Gets self.old worker kind result self.new }
+        ensures hand { OnlyHandOf worker.0 self.old self.new }
     {
         let Some(caller) = self.caller(worker) else {
             return Err(Status::WrongStep);
@@ -143,7 +147,8 @@ impl State {
         kind: ContextKind,
         wants_old: bool,
     ) -> Result<Option<CtxId>, Status>
-        ensures { Deletes self.old worker kind wants_old result self.new }
+        ensures event { Deletes self.old worker kind wants_old result self.new }
+        ensures hand { OnlyHandOf worker.0 self.old self.new }
     {
         let Some(caller) = self.caller(worker) else {
             return Err(Status::WrongStep);
@@ -158,7 +163,8 @@ impl State {
     /// Takes one more reference to a context that the worker holds (`FltReferenceContext`). Refused, nothing changed: 30 where the worker is in no callback
     /// of an instance, 25 where it doesn't hold the context, 26 where its hand has 16 references. It takes no memory.
     pub fn reference(&mut self, worker: WorkerId, context: CtxId) -> Result<(), Status>
-        ensures { References self.old worker context result self.new }
+        ensures event { References self.old worker context result self.new }
+        ensures hand { OnlyHandOf worker.0 self.old self.new }
     {
         let Some(_caller) = self.caller(worker) else {
             return Err(Status::WrongStep);
@@ -169,7 +175,8 @@ impl State {
     /// Gives up one reference of the worker's hand (`FltReleaseContext`): with the last one the context is due. Refused, nothing changed: 30 where the worker
     /// is in no callback of an instance, 25 where it doesn't hold the context. It takes no memory.
     pub fn release(&mut self, worker: WorkerId, context: CtxId) -> Result<(), Status>
-        ensures { Releases self.old worker context result self.new }
+        ensures event { Releases self.old worker context result self.new }
+        ensures hand { OnlyHandOf worker.0 self.old self.new }
     {
         let Some(_caller) = self.caller(worker) else {
             return Err(Status::WrongStep);

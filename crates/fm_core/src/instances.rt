@@ -2,6 +2,7 @@
 
 ghost use Rattle.std.specs.Prelude.{◌≡◌};
 ghost use Rattle.fm_world.specs.Events.{Registers, Mounts, Attaches, SetsUp};
+ghost use Rattle.fm_world.specs.Hands.{OnlyHandOf, KeepsHands};
 
 use crate::hands::unlink_unless;
 use crate::place::setup_of;
@@ -16,7 +17,8 @@ impl State {
     /// registration of a run, 1.
     #[tactic(auto, unfolding(fm_world::specs::Events::Registers))]
     pub fn register(&mut self, name: Name, registration: Registration) -> Result<FilterId, Status>
-        ensures { Registers self.old name registration result self.new }
+        ensures event { Registers self.old name registration result self.new }
+        ensures hand { KeepsHands self.old self.new }
     {
         self.stack.register(name, registration)
     }
@@ -24,7 +26,8 @@ impl State {
     /// Mounts a volume under a name. Refused, nothing changed: 4 where a volume has that name, 29 at the 9th volume of a run, 1.
     #[tactic(auto, unfolding(fm_world::specs::Events::Mounts))]
     pub fn mount(&mut self, name: Name) -> Result<VolumeId, Status>
-        ensures { Mounts self.old name result self.new }
+        ensures event { Mounts self.old name result self.new }
+        ensures hand { KeepsHands self.old self.new }
     {
         self.stack.mount(name)
     }
@@ -41,7 +44,8 @@ impl State {
         name: Name,
         altitude: Altitude,
     ) -> Result<InstanceId, Status>
-        ensures { Attaches self.old worker filter volume name altitude result self.new }
+        ensures event { Attaches self.old worker filter volume name altitude result self.new }
+        ensures hand { KeepsHands self.old self.new }
     {
         if !self.is_idle(worker) {
             return Err(Status::WrongStep);
@@ -56,7 +60,8 @@ impl State {
     /// the filter isn't loaded any more or the volume is dismounting: then the callback returned all the same, the instance is Emptying, and its contexts lost
     /// their links. What the worker still held is released and counts as leaked. It takes no memory.
     pub fn setup_done(&mut self, worker: WorkerId, accept: bool) -> Result<(), Status>
-        ensures { SetsUp self.old worker accept result self.new }
+        ensures event { SetsUp self.old worker accept result self.new }
+        ensures hand { OnlyHandOf worker.0 self.old self.new }
     {
         let Some(instance) = setup_of(self.place(worker)) else {
             return Err(Status::WrongStep);

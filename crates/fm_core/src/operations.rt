@@ -5,6 +5,7 @@ ghost use Rattle.fm_stack.specs.Events.{is_mounted, is_mounted_phase};
 ghost use Rattle.fm_world.specs.Workers.{worker_at};
 ghost use Rattle.fm_core.specs.Places.{post_of, drain_of};
 ghost use Rattle.fm_world.specs.Events.{Begins, Nexts, PreReturns, BaseReturns, PostReturns, Collects};
+ghost use Rattle.fm_world.specs.Hands.{OnlyHandOf, KeepsHands};
 ghost use Rattle.fm_core.specs.Returned.{status_of};
 
 use crate::ahead::{drains_next, lies_below, state_given};
@@ -30,7 +31,8 @@ impl State {
     /// Begins an operation, and takes all memory that it will ever need. It visits the instances that are attached now. Refused, nothing changed: 7
     /// where the volume isn't there, 33 where it is dismounting, 29 at 256 operations that weren't collected or past 2^64 - 1 operations of a run, 1.
     pub fn begin(&mut self, what: Begin) -> Result<OpId, Status>
-        ensures { Begins self.old what result self.new }
+        ensures event { Begins self.old what result self.new }
+        ensures hand { KeepsHands self.old self.new }
     {
         match what {
             Begin::List { volume } => self.begin_list(volume),
@@ -64,7 +66,8 @@ impl State {
     /// isn't idle or isn't there, where there is no such operation or another worker is inside it, and where the next callback is a synchronized
     /// postoperation of another worker. The context that a completion carries is in the worker's hand again. It takes no memory.
     pub fn next(&mut self, worker: WorkerId, operation: OpId) -> Result<FlowAction, Status>
-        ensures { Nexts self.old worker operation result self.new }
+        ensures event { Nexts self.old worker operation result self.new }
+        ensures hand { OnlyHandOf worker.0 self.old self.new }
     {
         if !self.is_idle(worker) {
             return Err(Status::WrongStep);
@@ -88,6 +91,7 @@ impl State {
         lent: CallbackData,
     ) -> Result<(), Refused<CallbackData>>
         ensures event { PreReturns self.old worker verdict lent (status_of result) self.new }
+        ensures hand { OnlyHandOf worker.0 self.old self.new }
         ensures back { IfErr result (λ refused. refused.handed_back ≡ lent) }
     {
         let Some((operation, instance)) = pre_of(self.place(worker)) else {
@@ -115,6 +119,7 @@ impl State {
         given: Answer,
     ) -> Result<(), Refused<(Params, Answer)>>
         ensures event { BaseReturns self.old worker call given (status_of result) self.new }
+        ensures hand { KeepsHands self.old self.new }
         ensures back { IfErr result (λ refused. refused.handed_back ≡ (call, given)) }
     {
         let Some(operation) = base_of(self.place(worker)) else {
@@ -138,6 +143,7 @@ impl State {
         lent: Option<CallbackData>,
     ) -> Result<(), Refused<Option<CallbackData>>>
         ensures event { PostReturns self.old worker verdict lent (status_of result) self.new }
+        ensures hand { OnlyHandOf worker.0 self.old self.new }
         ensures back { IfErr result (λ refused. refused.handed_back ≡ lent) }
     {
         if let Some((operation, instance)) = post_of(self.place(worker)) {
@@ -203,7 +209,8 @@ impl State {
     /// Hands out the answer of a done operation, once, and forgets the operation. Refused with 30, nothing changed, where there is no such operation,
     /// where it isn't done, or where its answer was handed out.
     pub fn collect(&mut self, operation: OpId) -> Result<Answer, Status>
-        ensures { Collects self.old operation result self.new }
+        ensures event { Collects self.old operation result self.new }
+        ensures hand { KeepsHands self.old self.new }
     {
         self.flow.collect(operation)
     }

@@ -14,3 +14,4 @@ pub mod Linking
 pub mod Cleanups
 pub mod Owning
 pub mod Flowing
+pub mod Handing

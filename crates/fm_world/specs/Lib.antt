@@ -7,3 +7,4 @@ pub mod Steps
 pub mod Descent
 pub mod Headline
 pub mod Sound
+pub mod Hands

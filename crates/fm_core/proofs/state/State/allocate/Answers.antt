@@ -11,13 +11,13 @@ use Rattle.fm_core.specs.Fields.{world_of}
 use Rattle.fm_core.proofs.Called.{called, uncalled, outside, allocate_unregistered, allocated_up, allocate_tied}
 use Rattle.fm_core.proofs.state.State.allocate.Goals as goal
 
-pub returns-in_default : goal.returns-in_default
+pub returns-in_default-clause-event : goal.returns-in_default-clause-event
 unfolding Allocates
-returns-in_default c =
+returns-in_default-clause-event c =
     outside _ c.args.self.now c.args.worker _ (uncalled c.args.self.now c.args.worker (sym c.caller.ensures ∙ c.in_default.is))
 
-pub returns-then-not-has_kind : goal.returns-then-not-has_kind
-returns-then-not-has_kind c =
+pub returns-then-not-has_kind-clause-event : goal.returns-then-not-has_kind-clause-event
+returns-then-not-has_kind-clause-event c =
     let old : World = world_of c.self.inside.stack c.self.inside.flow c.self.inside.workers c.self.inside.contexts c.self.inside.totals in
     let is = subst (λ (w : World). option_map caller_of (callback_of w c.args.worker) ≡ Some c.in-Some.caller) (sym c.self.view_is) (sym c.caller.ensures ∙ c.in-Some.is) in
     subst (λ (w : World). Allocates w c.args.worker c.args.kind c.args.body (Err NotRegistered) w) c.self.view_is
@@ -42,8 +42,8 @@ invariant_of-self c =
           (new_context c.args.kind c.owner.result c.in-Some.caller.volume c.args.body) c.allocate.result c.laws.ensures.matched c.allocate.ensures c.self.invariant.tied;
     }
 
-pub returns : goal.returns
-returns c =
+pub returns-clause-event : goal.returns-clause-event
+returns-clause-event c =
     let old : World = world_of c.self.inside.stack c.self.inside.flow c.self.inside.workers c.self.inside.contexts c.self.inside.totals in
     let is = subst (λ (w : World). option_map caller_of (callback_of w c.args.worker) ≡ Some c.in-Some.caller) (sym c.self.view_is) (sym c.caller.ensures ∙ c.in-Some.is) in
     let kind' = sym c.has_kind.ensures ∙ c.if-not-has_kind.false in

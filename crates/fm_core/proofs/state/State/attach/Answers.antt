@@ -7,8 +7,8 @@ use Rattle.fm_world.proofs.Owning.{attach_sound}
 use Rattle.fm_core.proofs.Attached.{attaches, attach_refused}
 use Rattle.fm_core.proofs.state.State.attach.Goals as goal
 
-pub returns-then-not-is_idle : goal.returns-then-not-is_idle
-returns-then-not-is_idle c =
+pub returns-then-not-is_idle-clause-event : goal.returns-then-not-is_idle-clause-event
+returns-then-not-is_idle-clause-event c =
     attach_refused c.args.self.now c.args.worker c.args.filter c.args.volume c.args.name c.args.altitude (sym c.is_idle.ensures ∙ c.if-not-is_idle.true)
 
 pub invariant_of-self : goal.invariant_of-self
@@ -23,8 +23,8 @@ invariant_of-self c =
       tied = c.self.invariant.tied;
     }
 
-pub returns : goal.returns
-returns c =
+pub returns-clause-event : goal.returns-clause-event
+returns-clause-event c =
     let old : World = world_of c.self.inside.stack c.self.inside.flow c.self.inside.workers c.self.inside.contexts c.self.inside.totals in
     let new : World = record old { stack = c.attach-result.new.self; workers = c.note_attach.new.workers } in
     let idle = subst (λ (w : World). is_idle (worker_at w.workers c.args.worker) ≡ true) (sym c.self.view_is) (sym c.is_idle.ensures ∙ c.if-not-is_idle.false) in

@@ -11,8 +11,8 @@ use Rattle.fm_core.specs.Fields.{world_of}
 use Rattle.fm_core.proofs.Cleaned.{cleanup_is, clean_refused, cleans, clean_tied}
 use Rattle.fm_core.proofs.state.State.cleaned.Goals as goal
 
-pub returns-in_default : goal.returns-in_default
-returns-in_default c = clean_refused c.args.self.now c.args.worker c.args.number (ap cleanup_of (sym c.place.ensures) ∙ sym c.cleanup_of.ensures ∙ c.in_default.is)
+pub returns-in_default-clause-event : goal.returns-in_default-clause-event
+returns-in_default-clause-event c = clean_refused c.args.self.now c.args.worker c.args.number (ap cleanup_of (sym c.place.ensures) ∙ sym c.cleanup_of.ensures ∙ c.in_default.is)
 
 pub invariant_of-self : goal.invariant_of-self
 invariant_of-self c =
@@ -32,8 +32,8 @@ invariant_of-self c =
       tied = clean_tied c.self.inside.contexts c.cleaned.new.self c.self.inside.flow c.args.worker c.in-Some.context sound.owned.lawful within busy c.cleaned.ensures c.self.invariant.tied;
     }
 
-pub returns : goal.returns
-returns c =
+pub returns-clause-event : goal.returns-clause-event
+returns-clause-event c =
     let old : World = world_of c.self.inside.stack c.self.inside.flow c.self.inside.workers c.self.inside.contexts c.self.inside.totals in
     let new : World = world_of c.self.inside.stack c.self.inside.flow c.put.new.workers c.cleaned.new.self c.add_total.new.totals in
     let named = subst (λ (w : World). cleanup_of (worker_at w.workers c.args.worker) ≡ Some c.in-Some.context) (sym c.self.view_is)

@@ -15,8 +15,8 @@ invariant_of-self c =
       tied = collect_tied c.self.inside.contexts c.args.operation c.self.inside.flow c.collect.new.self c.collect.ensures.after c.self.invariant.tied;
     }
 
-pub returns : goal.returns
-returns c =
+pub returns-clause-event : goal.returns-clause-event
+returns-clause-event c =
     let old : World = world_of c.self.inside.stack c.self.inside.flow c.self.inside.workers c.self.inside.contexts c.self.inside.totals in
     let new : World = record old { flow = c.collect.new.self } in
     subst (λ (w : World). Collects w c.args.operation c.collect.result new) c.self.view_is

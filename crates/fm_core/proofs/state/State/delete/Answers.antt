@@ -5,6 +5,7 @@ use Rattle.fm_world.specs.World.{World}
 use Rattle.fm_world.specs.ContextEvents.{callback_of, Deletes}
 use Rattle.fm_world.proofs.Callbacks.{is_in}
 use Rattle.fm_world.proofs.Linking.{delete_sound}
+use Rattle.fm_world.proofs.Handing.{delete_hand}
 use Rattle.fm_core.specs.Callers.{caller_of}
 use Rattle.fm_core.specs.Fields.{world_of}
 use Rattle.fm_core.specs.Setting.{IsFound}
@@ -12,12 +13,12 @@ use Rattle.fm_core.proofs.Called.{called, uncalled, outside}
 use Rattle.fm_core.proofs.Linked.{delete_refused, deleted, delete_tied}
 use Rattle.fm_core.proofs.state.State.delete.Goals as goal
 
-pub returns-in_default : goal.returns-in_default
+pub returns-in_default-clause-event : goal.returns-in_default-clause-event
 unfolding Deletes
-returns-in_default c = outside _ c.args.self.now c.args.worker _ (uncalled c.args.self.now c.args.worker (sym c.caller.ensures ∙ c.in_default.is))
+returns-in_default-clause-event c = outside _ c.args.self.now c.args.worker _ (uncalled c.args.self.now c.args.worker (sym c.caller.ensures ∙ c.in_default.is))
 
-pub returns-in-Err : goal.returns-in-Err
-returns-in-Err c = delete_refused c.args.self.now c.args.worker c.args.kind c.args.wants_old c.in-Some.caller c.in-Err.status (sym c.caller.ensures ∙ c.in-Some.is) c.in-Err.ensures
+pub returns-in-Err-clause-event : goal.returns-in-Err-clause-event
+returns-in-Err-clause-event c = delete_refused c.args.self.now c.args.worker c.args.kind c.args.wants_old c.in-Some.caller c.in-Err.status (sym c.caller.ensures ∙ c.in-Some.is) c.in-Err.ensures
 
 pub delete-requires : goal.delete-requires
 delete-requires c =
@@ -37,9 +38,12 @@ invariant_of-self c =
           c.self.invariant.tied;
     }
 
-pub returns : goal.returns
-returns c =
+pub returns-clause-event : goal.returns-clause-event
+returns-clause-event c =
     let old : World = world_of c.self.inside.stack c.self.inside.flow c.self.inside.workers c.self.inside.contexts c.self.inside.totals in
     let is = subst (λ (w : World). option_map caller_of (callback_of w c.args.worker) ≡ Some c.in-Some.caller) (sym c.self.view_is) (sym c.caller.ensures ∙ c.in-Some.is) in
     let found = subst (λ (w : World). IsFound w c.in-Some.caller c.args.kind c.in-Ok.found) (sym c.self.view_is) c.in-Ok.ensures in
     subst (λ (w : World). Deletes w c.args.worker c.args.kind c.args.wants_old c.delete.result (record old { contexts = c.delete.new.self.table })) c.self.view_is (deleted old c.args.worker c.args.kind c.args.wants_old c.in-Some.caller c.in-Ok.found c.delete.result c.self.inside.contexts c.delete.new.self is found c.self.invariant.tied c.delete.ensures)
+
+pub returns-clause-hand : goal.returns-clause-hand
+returns-clause-hand c = delete_hand _ _ _ _ _ _ (returns-clause-event c)

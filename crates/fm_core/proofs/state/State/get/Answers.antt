@@ -12,12 +12,12 @@ use Rattle.fm_core.proofs.Called.{called, uncalled, outside}
 use Rattle.fm_core.proofs.Linked.{get_refused, gotten, get_tied}
 use Rattle.fm_core.proofs.state.State.get.Goals as goal
 
-pub returns-in_default : goal.returns-in_default
+pub returns-in_default-clause-event : goal.returns-in_default-clause-event
 unfolding Gets
-returns-in_default c = outside _ c.args.self.now c.args.worker _ (uncalled c.args.self.now c.args.worker (sym c.caller.ensures ∙ c.in_default.is))
+returns-in_default-clause-event c = outside _ c.args.self.now c.args.worker _ (uncalled c.args.self.now c.args.worker (sym c.caller.ensures ∙ c.in_default.is))
 
-pub returns-in-Err : goal.returns-in-Err
-returns-in-Err c = get_refused c.args.self.now c.args.worker c.args.kind c.in-Some.caller c.in-Err.status (sym c.caller.ensures ∙ c.in-Some.is) c.in-Err.ensures
+pub returns-in-Err-clause-event : goal.returns-in-Err-clause-event
+returns-in-Err-clause-event c = get_refused c.args.self.now c.args.worker c.args.kind c.in-Some.caller c.in-Err.status (sym c.caller.ensures ∙ c.in-Some.is) c.in-Err.ensures
 
 pub get-requires : goal.get-requires
 get-requires c =
@@ -37,8 +37,8 @@ invariant_of-self c =
           c.self.invariant.tied;
     }
 
-pub returns : goal.returns
-returns c =
+pub returns-clause-event : goal.returns-clause-event
+returns-clause-event c =
     let old : World = world_of c.self.inside.stack c.self.inside.flow c.self.inside.workers c.self.inside.contexts c.self.inside.totals in
     let is = subst (λ (w : World). option_map caller_of (callback_of w c.args.worker) ≡ Some c.in-Some.caller) (sym c.self.view_is) (sym c.caller.ensures ∙ c.in-Some.is) in
     let found = subst (λ (w : World). IsFound w c.in-Some.caller c.args.kind c.in-Ok.found) (sym c.self.view_is) c.in-Ok.ensures in

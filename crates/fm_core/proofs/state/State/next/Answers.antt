@@ -9,8 +9,8 @@ use Rattle.fm_core.proofs.Operated.{nexts, next_refused, next_requires, next_bri
 use Rattle.fm_core.proofs.Holding.{next_table}
 use Rattle.fm_core.proofs.state.State.next.Goals as goal
 
-pub returns-then-not-is_idle : goal.returns-then-not-is_idle
-returns-then-not-is_idle c = next_refused c.args.self.now c.args.worker c.args.operation (sym c.is_idle.ensures ∙ c.if-not-is_idle.true)
+pub returns-then-not-is_idle-clause-event : goal.returns-then-not-is_idle-clause-event
+returns-then-not-is_idle-clause-event c = next_refused c.args.self.now c.args.worker c.args.operation (sym c.is_idle.ensures ∙ c.if-not-is_idle.true)
 
 pub next-answer-requires : goal.next-answer-requires
 next-answer-requires c =
@@ -40,8 +40,8 @@ invariant_of-self c =
           c.bring_back.ensures c.self.invariant.tied;
     }
 
-pub returns : goal.returns
-returns c =
+pub returns-clause-event : goal.returns-clause-event
+returns-clause-event c =
     let old : World = world_of c.self.inside.stack c.self.inside.flow c.self.inside.workers c.self.inside.contexts c.self.inside.totals in
     let new : World = record old { flow = c.next-answer.new.self; workers = c.note_next.new.workers; contexts = c.bring_back.new.contexts.table } in
     let idle = subst (λ (w : World). is_idle (worker_at w.workers c.args.worker) ≡ true) (sym c.self.view_is) (sym c.is_idle.ensures ∙ c.if-not-is_idle.false) in

@@ -2,6 +2,7 @@ use Rattle.std.proofs.Common.{Option, Err, sym, ◌∙◌, ap, subst}
 use Rattle.fm_types.specs.declared.status.Status.TheVariants.{BadRequest}
 use Rattle.fm_data.specs.Data.{Data}
 use Rattle.fm_world.specs.Events.{PostReturns}
+use Rattle.fm_world.proofs.Handing.{post_hand}
 use Rattle.fm_core.specs.Places.{post_of, drain_of}
 use Rattle.fm_core.proofs.Operated.{post_lacks, post_refused, drain_brings}
 use Rattle.fm_core.proofs.state.State.post_returned.Goals as goal
@@ -21,3 +22,9 @@ pub returns-then-is_some-clause-event : goal.returns-then-is_some-clause-event
 returns-then-is_some-clause-event c =
     drain_brings c.args.self.now c.args.worker c.args.verdict c.args.lent (c.in-Some-drain_of.operation, c.in-Some-drain_of.instance)
     (ap drain_of (sym c.place-2.ensures) ∙ sym c.drain_of.ensures ∙ c.in-Some-drain_of.is) (sym c.is_some.ensures ∙ c.if-is_some.true)
+
+pub returns-in-Some-clause-hand : goal.returns-in-Some-clause-hand
+returns-in-Some-clause-hand c = post_hand _ _ _ _ _ _ c.post_data_returned.ensures.event
+
+pub returns-clause-hand : goal.returns-clause-hand
+returns-clause-hand c = post_hand _ _ _ _ _ _ c.drain_returned.ensures

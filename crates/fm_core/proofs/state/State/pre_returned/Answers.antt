@@ -10,6 +10,7 @@ use Rattle.fm_world.specs.Workers.{worker_at}
 use Rattle.fm_world.specs.Events.{PreReturns}
 use Rattle.fm_world.specs.declared.worker.Worker.TheVariants as place
 use Rattle.fm_world.proofs.Flowing.{pre_sound}
+use Rattle.fm_world.proofs.Handing.{pre_hand}
 use Rattle.fm_core.specs.Fields.{world_of}
 use Rattle.fm_core.specs.Places.{pre_of}
 use Rattle.fm_core.specs.Returned.{after_return, strange, status_of}
@@ -108,3 +109,6 @@ returns-clause-back c =
     (strange_back c.pre_returned-answer.result c.args.lent
     (back_at c.in-Some.operation (λ (x : FlowRecord). data_fits x.operation x.path c.args.lent) c.args.lent c.pre_returned-answer.result c.self.inside.flow
     c.pre_returned-answer.ensures.reply))
+
+pub returns-clause-hand : goal.returns-clause-hand
+returns-clause-hand c = pre_hand _ _ _ _ _ _ (returns-clause-event c)

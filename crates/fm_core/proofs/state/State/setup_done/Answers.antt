@@ -12,8 +12,8 @@ use Rattle.fm_core.specs.Places.{setup_of}
 use Rattle.fm_core.proofs.Attached.{sets_up, setup_tied, setup_refused, setup_is, setup_at}
 use Rattle.fm_core.proofs.state.State.setup_done.Goals as goal
 
-pub returns-in_default : goal.returns-in_default
-returns-in_default c =
+pub returns-in_default-clause-event : goal.returns-in_default-clause-event
+returns-in_default-clause-event c =
     setup_refused c.args.self.now c.args.worker c.args.accept (ap setup_of (sym c.place.ensures) ∙ sym c.setup_of.ensures ∙ c.in_default.is)
 
 pub leave-requires : goal.leave-requires
@@ -46,8 +46,8 @@ invariant_of-self c =
           c.leave.ensures.table c.leave.ensures.carried c.unlink_unless.ensures c.self.invariant.tied;
     }
 
-pub returns : goal.returns
-returns c =
+pub returns-clause-event : goal.returns-clause-event
+returns-clause-event c =
     let old : World = world_of c.self.inside.stack c.self.inside.flow c.self.inside.workers c.self.inside.contexts c.self.inside.totals in
     let new : World = record old { stack = c.setup_done-result.new.self; workers = c.put.new.workers; contexts = c.unlink_unless.new.contexts.table } in
     let is = setup_is (worker_at c.args.self.now.workers c.args.worker) c.in-Some.instance (ap setup_of (sym c.place.ensures) ∙ sym c.setup_of.ensures ∙ c.in-Some.is) in

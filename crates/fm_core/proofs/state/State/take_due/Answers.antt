@@ -11,8 +11,8 @@ use Rattle.fm_core.specs.Fields.{world_of}
 use Rattle.fm_core.proofs.Cleaned.{due_refused, due_taken, due_tied}
 use Rattle.fm_core.proofs.state.State.take_due.Goals as goal
 
-pub returns-then-not-is_idle : goal.returns-then-not-is_idle
-returns-then-not-is_idle c = due_refused c.args.self.now c.args.worker (sym c.is_idle.ensures ∙ c.if-not-is_idle.true)
+pub returns-then-not-is_idle-clause-event : goal.returns-then-not-is_idle-clause-event
+returns-then-not-is_idle-clause-event c = due_refused c.args.self.now c.args.worker (sym c.is_idle.ensures ∙ c.if-not-is_idle.true)
 
 pub take_due-due-requires-clause-within : goal.take_due-due-requires-clause-within
 take_due-due-requires-clause-within c =
@@ -34,8 +34,8 @@ invariant_of-self c =
       tied = due_tied c.self.inside.contexts c.take_due-due.new.self c.self.inside.flow c.args.worker c.take_due-due.ensures.after c.self.invariant.tied;
     }
 
-pub returns : goal.returns
-returns c =
+pub returns-clause-event : goal.returns-clause-event
+returns-clause-event c =
     let old : World = world_of c.self.inside.stack c.self.inside.flow c.self.inside.workers c.self.inside.contexts c.self.inside.totals in
     let new : World = world_of c.self.inside.stack c.self.inside.flow c.note_due.new.workers c.take_due-due.new.self c.self.inside.totals in
     let idle = subst (λ (w : World). is_idle (worker_at w.workers c.args.worker) ≡ true) (sym c.self.view_is) (sym c.is_idle.ensures ∙ c.if-not-is_idle.false) in

@@ -9,9 +9,9 @@ use Rattle.fm_core.specs.Fields.{world_of}
 use Rattle.fm_core.proofs.Called.{called, uncalled, outside, body_written, write_tied}
 use Rattle.fm_core.proofs.state.State.write_body.Goals as goal
 
-pub returns-in_default : goal.returns-in_default
+pub returns-in_default-clause-event : goal.returns-in_default-clause-event
 unfolding WritesBody
-returns-in_default c =
+returns-in_default-clause-event c =
     outside _ c.args.self.now c.args.worker _ (uncalled c.args.self.now c.args.worker (sym c.caller.ensures ∙ c.in_default.is))
 
 pub write_body-requires : goal.write_body-requires
@@ -31,8 +31,8 @@ invariant_of-self c =
       tied = write_tied c.self.inside.contexts c.write_body.new.self c.self.inside.flow c.args.worker c.args.context c.args.bytes.now c.write_body.result c.write_body.ensures c.self.invariant.tied;
     }
 
-pub returns : goal.returns
-returns c =
+pub returns-clause-event : goal.returns-clause-event
+returns-clause-event c =
     let old : World = world_of c.self.inside.stack c.self.inside.flow c.self.inside.workers c.self.inside.contexts c.self.inside.totals in
     let is = subst (λ (w : World). option_map caller_of (callback_of w c.args.worker) ≡ Some c.in-Some._caller) (sym c.self.view_is) (sym c.caller.ensures ∙ c.in-Some.is) in
     let at = called old c.args.worker c.in-Some._caller is in

@@ -1,9 +1,9 @@
 //! Events of callbacks on contexts.
 
-ghost use Rattle.std.specs.Prelude.{◌≡◌, ◌<◌, Some, None, Ok, MatchResult, slice_get};
+ghost use Rattle.std.specs.Prelude.{◌≡◌, ◌+◌, ◌<◌, Some, None, Ok, MatchResult, slice_get};
 ghost use Rattle.fm_ctx.specs.Table.{Context, context_at};
 ghost use Rattle.fm_world.specs.ContextEvents.{Allocates, Sets, Gets, Deletes, References, Releases, callback_of, set_answer};
-ghost use Rattle.fm_world.specs.Hands.{OnlyHandOf};
+ghost use Rattle.fm_world.specs.Hands.{OnlyHandOf, HoldsMore, HoldsOneFewer, hand_len, given_with, given_by_set};
 ghost use Rattle.fm_core.specs.Callers.{caller_of, has_kind_at};
 ghost use Rattle.fm_core.specs.Setting.{IsSettable, IsUnsettable, IsFound, IsNotFound};
 
@@ -36,6 +36,7 @@ impl State {
     ) -> Result<CtxId, Status>
         ensures event { Allocates self.old worker kind body result self.new }
         ensures hand { OnlyHandOf worker.0 self.old self.new }
+        ensures held { HoldsMore worker.0 result (λ _. 1) self.old self.new }
     {
         let Some(caller) = self.caller(worker) else {
             return Err(Status::WrongStep);
@@ -93,6 +94,7 @@ impl State {
     ) -> SetAnswer
         ensures event { Sets self.old worker context mode wants_old result self.new }
         ensures hand { OnlyHandOf worker.0 self.old self.new }
+        ensures held { hand_len worker.0 self.new ≡ hand_len worker.0 self.old + given_by_set result }
     {
         let Some(caller) = self.caller(worker) else {
             return SetAnswer::Refused(Status::WrongStep);
@@ -126,6 +128,7 @@ impl State {
     pub fn get(&mut self, worker: WorkerId, kind: ContextKind) -> Result<CtxId, Status>
         ensures event { Gets self.old worker kind result self.new }
         ensures hand { OnlyHandOf worker.0 self.old self.new }
+        ensures held { HoldsMore worker.0 result (λ _. 1) self.old self.new }
     {
         let Some(caller) = self.caller(worker) else {
             return Err(Status::WrongStep);
@@ -149,6 +152,7 @@ impl State {
     ) -> Result<Option<CtxId>, Status>
         ensures event { Deletes self.old worker kind wants_old result self.new }
         ensures hand { OnlyHandOf worker.0 self.old self.new }
+        ensures held { HoldsMore worker.0 result given_with self.old self.new }
     {
         let Some(caller) = self.caller(worker) else {
             return Err(Status::WrongStep);
@@ -165,6 +169,7 @@ impl State {
     pub fn reference(&mut self, worker: WorkerId, context: CtxId) -> Result<(), Status>
         ensures event { References self.old worker context result self.new }
         ensures hand { OnlyHandOf worker.0 self.old self.new }
+        ensures held { HoldsMore worker.0 result (λ _. 1) self.old self.new }
     {
         let Some(_caller) = self.caller(worker) else {
             return Err(Status::WrongStep);
@@ -177,6 +182,7 @@ impl State {
     pub fn release(&mut self, worker: WorkerId, context: CtxId) -> Result<(), Status>
         ensures event { Releases self.old worker context result self.new }
         ensures hand { OnlyHandOf worker.0 self.old self.new }
+        ensures held { HoldsOneFewer worker.0 result self.old self.new }
     {
         let Some(_caller) = self.caller(worker) else {
             return Err(Status::WrongStep);

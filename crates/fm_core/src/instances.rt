@@ -2,7 +2,8 @@
 
 ghost use Rattle.std.specs.Prelude.{◌≡◌};
 ghost use Rattle.fm_world.specs.Events.{Registers, Mounts, Attaches, SetsUp};
-ghost use Rattle.fm_world.specs.Hands.{OnlyHandOf, KeepsHands};
+ghost use Rattle.fm_world.specs.Workers.{worker_at};
+ghost use Rattle.fm_world.specs.Hands.{OnlyHandOf, KeepsHands, hand_len, left_by_setup};
 
 use crate::hands::unlink_unless;
 use crate::place::setup_of;
@@ -62,6 +63,7 @@ impl State {
     pub fn setup_done(&mut self, worker: WorkerId, accept: bool) -> Result<(), Status>
         ensures event { SetsUp self.old worker accept result self.new }
         ensures hand { OnlyHandOf worker.0 self.old self.new }
+        ensures held { hand_len worker.0 self.new ≡ left_by_setup (worker_at self.old.workers worker) (hand_len worker.0 self.old) }
     {
         let Some(instance) = setup_of(self.place(worker)) else {
             return Err(Status::WrongStep);

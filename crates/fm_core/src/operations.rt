@@ -5,7 +5,7 @@ ghost use Rattle.fm_stack.specs.Events.{is_mounted, is_mounted_phase};
 ghost use Rattle.fm_world.specs.Workers.{worker_at};
 ghost use Rattle.fm_core.specs.Places.{post_of, drain_of};
 ghost use Rattle.fm_world.specs.Events.{Begins, Nexts, PreReturns, BaseReturns, PostReturns, Collects};
-ghost use Rattle.fm_world.specs.Hands.{OnlyHandOf, KeepsHands};
+ghost use Rattle.fm_world.specs.Hands.{OnlyHandOf, KeepsHands, HoldsMore, HoldsNone, given_by_next};
 ghost use Rattle.fm_core.specs.Returned.{status_of};
 
 use crate::ahead::{drains_next, lies_below, state_given};
@@ -68,6 +68,7 @@ impl State {
     pub fn next(&mut self, worker: WorkerId, operation: OpId) -> Result<FlowAction, Status>
         ensures event { Nexts self.old worker operation result self.new }
         ensures hand { OnlyHandOf worker.0 self.old self.new }
+        ensures held { HoldsMore worker.0 result given_by_next self.old self.new }
     {
         if !self.is_idle(worker) {
             return Err(Status::WrongStep);
@@ -92,6 +93,7 @@ impl State {
     ) -> Result<(), Refused<CallbackData>>
         ensures event { PreReturns self.old worker verdict lent (status_of result) self.new }
         ensures hand { OnlyHandOf worker.0 self.old self.new }
+        ensures held { HoldsNone worker.0 (status_of result) self.old self.new }
         ensures back { IfErr result (λ refused. refused.handed_back ≡ lent) }
     {
         let Some((operation, instance)) = pre_of(self.place(worker)) else {
@@ -144,6 +146,7 @@ impl State {
     ) -> Result<(), Refused<Option<CallbackData>>>
         ensures event { PostReturns self.old worker verdict lent (status_of result) self.new }
         ensures hand { OnlyHandOf worker.0 self.old self.new }
+        ensures held { HoldsNone worker.0 (status_of result) self.old self.new }
         ensures back { IfErr result (λ refused. refused.handed_back ≡ lent) }
     {
         if let Some((operation, instance)) = post_of(self.place(worker)) {

@@ -252,7 +252,7 @@ attach_hands old k f v name altitude result new h n =
 left_hand : (carried : CtxId → ℕ) (k : ℕ) (hands : List (List CtxId)) (kept left : ContextTable) → Leaves carried kept left k → DifferAt k hands kept.hands → DifferAt k hands left.hands
 left_hand carried k hands kept left l (hand, e) = ([], l.hands ∙ ap (λ (xs : List (List CtxId)). slice_set xs k []) e ∙ set-set hands k hand [])
 
-emptied_hands : (result : Result (Unit {0}) Status) (i : InstanceId) (w : World) (left after : ContextTable) → EmptiesUnless result i w left after → after.hands ≡ left.hands
+pub emptied_hands : (result : Result (Unit {0}) Status) (i : InstanceId) (w : World) (left after : ContextTable) → EmptiesUnless result i w left after → after.hands ≡ left.hands
 emptied_hands (Ok v) i w left after e = ap (λ (t : ContextTable). t.hands) e
 emptied_hands (Err why) i w left after e = e.hands
 

@@ -15,3 +15,4 @@ pub mod Cleanups
 pub mod Owning
 pub mod Flowing
 pub mod Handing
+pub mod Holdings

@@ -1,7 +1,14 @@
 -- What workers hold, counted: what a lock above the state rests on, which keeps a book of all hands without looking at any but its own.
-use Rattle.std.specs.Prelude.{◌≡◌, ℕ, ◌+◌, List, length, sum_by}
+use Rattle.std.specs.Prelude.{◌≡◌, ℕ, ◌+◌, List, length, sum_by, Option, Some, is_some, Result, Ok, Err}
 use Rattle.fm_types.specs.declared.ids.CtxId.{CtxId}
-use Rattle.fm_ctx.specs.Bags.{hand_of}
+use Rattle.fm_types.specs.declared.status.Status.{Status}
+use Rattle.fm_flow.specs.declared.action.FlowAction.{FlowAction}
+use Rattle.fm_flow.specs.declared.action.FlowAction.TheVariants as action
+use Rattle.fm_ctx.specs.Bags.{one, hand_of}
+use Rattle.fm_world.specs.declared.set_answer.SetAnswer.{SetAnswer}
+use Rattle.fm_world.specs.declared.set_answer.SetAnswer.TheVariants as answer
+use Rattle.fm_world.specs.declared.worker.Worker.{Worker}
+use Rattle.fm_world.specs.declared.worker.Worker.TheVariants as place
 use Rattle.fm_world.specs.World.{World}
 
 -- how many references a list of hands has in all
@@ -22,3 +29,37 @@ OnlyHandOf k old new = worker_pairs new + hand_len k old ≡ worker_pairs old + 
 -- no hand changed
 abbrev pub KeepsHands : World → World → Type 0
 KeepsHands old new = (k : ℕ) → OnlyHandOf k old new
+
+-- what the event makes of its worker's number: so many more where it succeeds, and the same where it is refused
+abbrev pub HoldsMore : {T : Type 0} → ℕ → Result T Status → (T → ℕ) → World → World → Type 0
+HoldsMore k (Ok value) more old new = hand_len k new ≡ hand_len k old + more value
+HoldsMore k (Err status) more old new = hand_len k new ≡ hand_len k old
+
+-- one fewer where it succeeds
+abbrev pub HoldsOneFewer : {T : Type 0} → ℕ → Result T Status → World → World → Type 0
+HoldsOneFewer k (Ok value) old new = hand_len k new + 1 ≡ hand_len k old
+HoldsOneFewer k (Err status) old new = hand_len k new ≡ hand_len k old
+
+-- none where it succeeds
+abbrev pub HoldsNone : {T : Type 0} → ℕ → Result T Status → World → World → Type 0
+HoldsNone k (Ok value) old new = hand_len k new ≡ 0
+HoldsNone k (Err status) old new = hand_len k new ≡ hand_len k old
+
+-- how many references come with what an event hands out: an old context, what set found, what a completion carries
+abbrev pub given_with : Option CtxId → ℕ
+given_with c = one (is_some c)
+
+abbrev pub given_by_set : SetAnswer → ℕ
+given_by_set (answer.Linked old) = given_with old
+given_by_set (answer.AlreadyDefined old) = given_with old
+given_by_set (answer.Refused status) = 0
+
+abbrev pub given_by_next : FlowAction → ℕ
+given_by_next (action.Post i lent completion) = given_with completion.context
+given_by_next (action.Drain i completion) = given_with completion.context
+given_by_next _ = 0
+
+-- the end of a setup callback, whatever its answer, leaves none
+abbrev pub left_by_setup : Option Worker → ℕ → ℕ
+left_by_setup (Some (place.Setup i)) n = 0
+left_by_setup _ n = n

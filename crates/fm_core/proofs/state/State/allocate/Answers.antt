@@ -6,6 +6,8 @@ use Rattle.fm_world.specs.World.{World}
 use Rattle.fm_world.specs.ContextEvents.{callback_of, Allocates}
 use Rattle.fm_world.proofs.Callbacks.{is_in}
 use Rattle.fm_world.proofs.Linking.{allocate_sound}
+use Rattle.fm_world.proofs.Holdings.{allocate_more}
+use Rattle.fm_world.specs.Sound.{IsSound}
 use Rattle.fm_core.specs.Callers.{caller_of}
 use Rattle.fm_core.specs.Fields.{world_of}
 use Rattle.fm_core.proofs.Called.{called, uncalled, outside, allocate_unregistered, allocated_up, allocate_tied}
@@ -49,3 +51,6 @@ returns-clause-event c =
     let kind' = sym c.has_kind.ensures ∙ c.if-not-has_kind.false in
     subst (λ (w : World). Allocates w c.args.worker c.args.kind c.args.body c.allocate.result (record old { contexts = c.allocate.new.self.table })) c.self.view_is
     (allocated_up old c.args.worker c.args.kind c.args.body c.in-Some.caller c.owner.result c.allocate.result c.self.inside.contexts c.allocate.new.self is kind' c.owner.ensures c.allocate.ensures)
+
+pub returns-clause-held : goal.returns-clause-held
+returns-clause-held c = allocate_more _ _ _ _ _ _ (subst IsSound c.self.view_is c.self.invariant.sound) (returns-clause-event c)

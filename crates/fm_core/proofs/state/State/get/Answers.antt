@@ -5,6 +5,8 @@ use Rattle.fm_world.specs.World.{World}
 use Rattle.fm_world.specs.ContextEvents.{callback_of, Gets}
 use Rattle.fm_world.proofs.Callbacks.{is_in}
 use Rattle.fm_world.proofs.Linking.{get_sound}
+use Rattle.fm_world.proofs.Holdings.{get_more}
+use Rattle.fm_world.specs.Sound.{IsSound}
 use Rattle.fm_core.specs.Callers.{caller_of}
 use Rattle.fm_core.specs.Fields.{world_of}
 use Rattle.fm_core.specs.Setting.{IsFound}
@@ -43,3 +45,6 @@ returns-clause-event c =
     let is = subst (λ (w : World). option_map caller_of (callback_of w c.args.worker) ≡ Some c.in-Some.caller) (sym c.self.view_is) (sym c.caller.ensures ∙ c.in-Some.is) in
     let found = subst (λ (w : World). IsFound w c.in-Some.caller c.args.kind c.in-Ok.found) (sym c.self.view_is) c.in-Ok.ensures in
     subst (λ (w : World). Gets w c.args.worker c.args.kind c.get.result (record old { contexts = c.get.new.self.table })) c.self.view_is (gotten old c.args.worker c.args.kind c.in-Some.caller c.in-Ok.found c.get.result c.self.inside.contexts c.get.new.self is found c.get.ensures)
+
+pub returns-clause-held : goal.returns-clause-held
+returns-clause-held c = get_more _ _ _ _ _ (subst IsSound c.self.view_is c.self.invariant.sound) (returns-clause-event c)

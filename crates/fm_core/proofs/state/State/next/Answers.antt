@@ -4,6 +4,8 @@ use Rattle.fm_world.specs.Workers.{worker_at, is_idle}
 use Rattle.fm_world.specs.Events.{Nexts}
 use Rattle.fm_world.proofs.Keeps.{idle_there}
 use Rattle.fm_world.proofs.Flowing.{next_sound}
+use Rattle.fm_world.proofs.Holdings.{next_more}
+use Rattle.fm_world.specs.Sound.{IsSound}
 use Rattle.fm_core.specs.Fields.{world_of}
 use Rattle.fm_core.proofs.Operated.{nexts, next_refused, next_requires, next_brings, next_tied}
 use Rattle.fm_core.proofs.Holding.{next_table}
@@ -49,3 +51,6 @@ returns-clause-event c =
     (nexts old c.args.worker c.args.operation c.lies_below-below.result c.drains_next-drains.result c.next-answer.result c.next-answer.new.self c.note_next.new.workers
     c.bring_back.new.contexts.table idle c.lies_below-below.ensures.finds c.drains_next-drains.ensures c.next-answer.ensures.reply c.next-answer.ensures.after
     c.note_next.ensures (next_table c.self.inside.contexts c.bring_back.new.contexts c.args.worker c.next-answer.result c.bring_back.ensures))
+
+pub returns-clause-held : goal.returns-clause-held
+returns-clause-held c = next_more _ _ _ _ _ (subst IsSound c.self.view_is c.self.invariant.sound) (returns-clause-event c)

@@ -3,6 +3,7 @@ use Rattle.fm_types.specs.declared.status.Status.TheVariants.{BadRequest}
 use Rattle.fm_data.specs.Data.{Data}
 use Rattle.fm_world.specs.Events.{PostReturns}
 use Rattle.fm_world.proofs.Handing.{post_hand}
+use Rattle.fm_world.proofs.Holdings.{post_none}
 use Rattle.fm_core.specs.Places.{post_of, drain_of}
 use Rattle.fm_core.proofs.Operated.{post_lacks, post_refused, drain_brings}
 use Rattle.fm_core.proofs.state.State.post_returned.Goals as goal
@@ -28,3 +29,9 @@ returns-in-Some-clause-hand c = post_hand _ _ _ _ _ _ c.post_data_returned.ensur
 
 pub returns-clause-hand : goal.returns-clause-hand
 returns-clause-hand c = post_hand _ _ _ _ _ _ c.drain_returned.ensures
+
+pub returns-in-Some-clause-held : goal.returns-in-Some-clause-held
+returns-in-Some-clause-held c = post_none _ _ _ _ _ _ c.post_data_returned.ensures.event
+
+pub returns-clause-held : goal.returns-clause-held
+returns-clause-held c = post_none _ _ _ _ _ _ c.drain_returned.ensures

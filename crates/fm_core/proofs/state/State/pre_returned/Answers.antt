@@ -11,6 +11,7 @@ use Rattle.fm_world.specs.Events.{PreReturns}
 use Rattle.fm_world.specs.declared.worker.Worker.TheVariants as place
 use Rattle.fm_world.proofs.Flowing.{pre_sound}
 use Rattle.fm_world.proofs.Handing.{pre_hand}
+use Rattle.fm_world.proofs.Holdings.{pre_none}
 use Rattle.fm_core.specs.Fields.{world_of}
 use Rattle.fm_core.specs.Places.{pre_of}
 use Rattle.fm_core.specs.Returned.{after_return, strange, status_of}
@@ -112,3 +113,6 @@ returns-clause-back c =
 
 pub returns-clause-hand : goal.returns-clause-hand
 returns-clause-hand c = pre_hand _ _ _ _ _ _ (returns-clause-event c)
+
+pub returns-clause-held : goal.returns-clause-held
+returns-clause-held c = pre_none _ _ _ _ _ _ (returns-clause-event c)

@@ -4,6 +4,8 @@ use Rattle.fm_world.specs.World.{World}
 use Rattle.fm_world.specs.ContextEvents.{callback_of, References}
 use Rattle.fm_world.proofs.Callbacks.{is_in}
 use Rattle.fm_world.proofs.Callbacks.{reference_sound}
+use Rattle.fm_world.proofs.Holdings.{reference_more}
+use Rattle.fm_world.specs.Sound.{IsSound}
 use Rattle.fm_core.specs.Callers.{caller_of}
 use Rattle.fm_core.specs.Fields.{world_of}
 use Rattle.fm_core.proofs.Called.{called, uncalled, outside, referenced, reference_tied}
@@ -37,3 +39,6 @@ returns-clause-event c =
     let is = subst (λ (w : World). option_map caller_of (callback_of w c.args.worker) ≡ Some c.in-Some._caller) (sym c.self.view_is) (sym c.caller.ensures ∙ c.in-Some.is) in
     let at = called old c.args.worker c.in-Some._caller is in
     subst (λ (w : World). References w c.args.worker c.args.context c.reference.result (record old { contexts = c.reference.new.self.table })) c.self.view_is (referenced old c.args.worker c.args.context c.reference.result c.self.inside.contexts c.reference.new.self at.0 at.1 c.reference.ensures)
+
+pub returns-clause-held : goal.returns-clause-held
+returns-clause-held c = reference_more _ _ _ _ _ (subst IsSound c.self.view_is c.self.invariant.sound) (returns-clause-event c)

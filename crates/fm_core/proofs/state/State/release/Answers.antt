@@ -4,6 +4,8 @@ use Rattle.fm_world.specs.World.{World}
 use Rattle.fm_world.specs.ContextEvents.{callback_of, Releases}
 use Rattle.fm_world.proofs.Callbacks.{is_in}
 use Rattle.fm_world.proofs.Callbacks.{release_sound}
+use Rattle.fm_world.proofs.Holdings.{release_fewer}
+use Rattle.fm_world.specs.Sound.{IsSound}
 use Rattle.fm_core.specs.Callers.{caller_of}
 use Rattle.fm_core.specs.Fields.{world_of}
 use Rattle.fm_core.proofs.Called.{called, uncalled, outside, released_up, release_tied}
@@ -37,3 +39,6 @@ returns-clause-event c =
     let is = subst (λ (w : World). option_map caller_of (callback_of w c.args.worker) ≡ Some c.in-Some._caller) (sym c.self.view_is) (sym c.caller.ensures ∙ c.in-Some.is) in
     let at = called old c.args.worker c.in-Some._caller is in
     subst (λ (w : World). Releases w c.args.worker c.args.context c.release.result (record old { contexts = c.release.new.self.table })) c.self.view_is (released_up old c.args.worker c.args.context c.release.result c.self.inside.contexts c.release.new.self at.0 at.1 c.self.invariant.tied c.release.ensures)
+
+pub returns-clause-held : goal.returns-clause-held
+returns-clause-held c = release_fewer _ _ _ _ _ (subst IsSound c.self.view_is c.self.invariant.sound) (returns-clause-event c)

@@ -6,6 +6,8 @@ use Rattle.fm_world.specs.ContextEvents.{callback_of, Sets}
 use Rattle.fm_world.proofs.Callbacks.{is_in}
 use Rattle.fm_world.proofs.Linking.{set_sound}
 use Rattle.fm_world.proofs.Handing.{set_hand}
+use Rattle.fm_world.proofs.Holdings.{set_more}
+use Rattle.fm_world.specs.Sound.{IsSound}
 use Rattle.fm_core.specs.Callers.{caller_of}
 use Rattle.fm_core.specs.Fields.{world_of}
 use Rattle.fm_core.specs.Setting.{IsSettable}
@@ -59,3 +61,6 @@ returns-clause-event c =
 
 pub returns-clause-hand : goal.returns-clause-hand
 returns-clause-hand c = set_hand _ _ _ _ _ _ _ (returns-clause-event c)
+
+pub returns-clause-held : goal.returns-clause-held
+returns-clause-held c = set_more _ _ _ _ _ _ _ (subst IsSound c.self.view_is c.self.invariant.sound) (returns-clause-event c)

@@ -7,6 +7,7 @@ use Rattle.fm_world.specs.Events.{SetsUp}
 use Rattle.fm_world.specs.declared.worker.Worker.TheVariants as place
 use Rattle.fm_world.proofs.Keeps.{setup_place}
 use Rattle.fm_world.proofs.Owning.{setup_sound}
+use Rattle.fm_world.proofs.Holdings.{setup_left}
 use Rattle.fm_core.specs.Fields.{world_of}
 use Rattle.fm_core.specs.Places.{setup_of}
 use Rattle.fm_core.proofs.Attached.{sets_up, setup_tied, setup_refused, setup_is, setup_at}
@@ -56,3 +57,9 @@ returns-clause-event c =
     (sets_up old c.args.worker c.in-Some.instance c.args.accept c.setup_done-result.result c.setup_done-result.new.self c.put.new.workers
     c.self.inside.contexts c.leave.new.self c.unlink_unless.new.contexts at c.setup_done-result.ensures.event c.put.ensures refl c.leave.ensures.table
     c.leave.ensures.carried c.unlink_unless.ensures c.self.invariant.tied)
+
+pub returns-in_default-clause-held : goal.returns-in_default-clause-held
+returns-in_default-clause-held c = setup_left _ _ _ _ _ (returns-in_default-clause-event c)
+
+pub returns-clause-held : goal.returns-clause-held
+returns-clause-held c = setup_left _ _ _ _ _ (returns-clause-event c)

@@ -465,3 +465,41 @@ fn contexts_run_out(rt: HostRuntime) -> Result<(), Fail> {
     );
     Ok(())
 }
+
+// What can be read of the table, where one worker holds each context of the owner once.
+fn seen(contexts: &Contexts) -> [u64; 3] {
+    [
+        contexts.born(),
+        contexts.open_of(OWNER),
+        contexts.hand_len(WorkerId(0)) as u64,
+    ]
+}
+
+// For `rt try --test --fail-alloc N`: whichever allocation is refused, once, the call answers 1 and nothing can be seen to have changed; asked again it
+// succeeds, and the end is the same.
+#[test]
+fn each_refusal_of_memory(rt: HostRuntime) -> Result<(), Fail> {
+    let mut contexts = match Contexts::new(rt.alloc()) {
+        Ok(contexts) => contexts,
+        Err(_) => Contexts::new(rt.alloc())?,
+    };
+    for number in 0..10 {
+        if let Err(status) = allocate(rt.alloc(), &mut contexts, 3) {
+            assert_eq!(rt; (status, seen(&contexts)), (Status::NoMemory, [number; 3]));
+            allocate(rt.alloc(), &mut contexts, 3)?;
+        }
+    }
+    let id = CtxId {
+        slot: 9,
+        generation: 0,
+    };
+    if let Err(status) = contexts.read_body(WorkerId(0), id) {
+        assert_eq!(rt; (status, seen(&contexts)), (Status::NoMemory, [10; 3]));
+        contexts.read_body(WorkerId(0), id)?;
+    }
+    assert_eq!(rt;
+        (contexts.count(id), seen(&contexts)),
+        (Count::Live(1), [10; 3])
+    );
+    Ok(())
+}

@@ -1,0 +1,5 @@
+pub mod Words
+pub mod Forms
+pub mod Parts
+pub mod Streams
+pub mod Spellings

@@ -1,0 +1,9 @@
+use Rattle.std.proofs.Common.{length}
+use Rattle.fm_wire.specs.Stream.{Begins}
+use Rattle.fm_wire.proofs.stream.read_frames.Given as goal
+
+abbrev pub invariant-loop-body : goal.invariant-loop-body
+invariant-loop-body l = Begins l.stream l.frames.items l.rest
+
+abbrev pub decreases-loop-body : goal.decreases-loop-body
+decreases-loop-body l = length l.rest

@@ -1,0 +1,91 @@
+//! The decoder: frames out of a stream that comes in pieces.
+
+ghost use Rattle.std.specs.Prelude.{◌≡◌, ◌⊎◌, ◌++◌, [], Ok, Err, Some, None, IfOk, IfErr, OnErr};
+ghost use Rattle.fm_wire.specs.Stream.{Gives, IsFault, Refuses, Splits};
+
+use crate::frame::Frame;
+use crate::stream::{is_fault, read_frames};
+use fm_types::Status;
+use std::alloc::Global;
+use std::marker::Model;
+
+/// Reads a stream of frames that comes in pieces, however it is cut. Between two pieces it holds less
+/// than one frame. Contracts see the bytes that it holds, or `None` once it met a frame fault.
+#[derive(Drop)]
+pub struct Decoder {
+    alloc: Global,
+    held: Vec<u8>,
+    is_broken: bool,
+}
+
+impl Model for Decoder {
+    ghost use Rattle.std.specs.Prelude.{List, ℕ, Option, Some, None, cond};
+    ghost use Rattle.fm_wire.specs.Stream.{IsPartial};
+
+    ghost Value = { Option (List ℕ) };
+
+    ghost view = { λ decoder. cond decoder.is_broken None (Some decoder.held.items) };
+
+    ghost invariant = { λ decoder. IsPartial decoder.held.items };
+}
+
+// Appends the piece and takes the whole frames from the front.
+fn take_frames(alloc: Global, held: &mut Vec<u8>, piece: &[u8]) -> Result<Vec<Frame>, Status>
+    ensures ok { IfOk result (λ frames. Splits (held.old.items ++ piece.now) frames.items held.new.items) }
+    ensures err { OnErr result (held.new.items ≡ held.old.items) }
+    ensures refused { IfErr result (λ status. status ≡ Status.NoMemory) }
+{
+    let before = held.len();
+    held.extend_from_slice(piece)?;
+    match read_frames(alloc, held.as_slice()) {
+        Ok((frames, used)) => {
+            held.drain(..used);
+            Ok(frames)
+        }
+        Err(status) => {
+            held.truncate(before);
+            Err(status)
+        }
+    }
+}
+
+impl Decoder {
+    /// A decoder at the beginning of a stream; takes no memory.
+    pub fn new(alloc: Global) -> Decoder
+        ensures { result ≡ Some [] }
+    {
+        Decoder {
+            alloc,
+            held: Vec::new(alloc),
+            is_broken: false,
+        }
+    }
+
+    /// Takes the next piece of the stream, and gives the frames that are whole now, in their order. A
+    /// frame that says nothing is among them, as a refused one.
+    ///
+    /// 32 (`BadRequest`) where a length that is no body's stands in a frame's place (a frame fault), from
+    /// then on for each piece, an empty one too; frames that stand in front of it in the piece are given
+    /// first. 1 (`NoMemory`) where memory is refused; the decoder is then as before, and the same piece
+    /// may be fed again.
+    pub fn feed(&mut self, piece: &[u8]) -> Result<Vec<Frame>, Status>
+        ensures ok { IfOk result (λ frames. Gives self.old piece.now frames.items self.new) }
+        ensures fault { result ≡ Err Status.BadRequest → (self.new ≡ None) × Refuses self.old piece.now }
+        ensures broken { self.old ≡ None → result ≡ Err Status.BadRequest }
+        ensures memory { result ≡ Err Status.NoMemory → self.new ≡ self.old }
+        ensures errors { IfErr result (λ status. (status ≡ Status.BadRequest) ⊎ (status ≡ Status.NoMemory)) }
+    {
+        if self.is_broken {
+            return Err(Status::BadRequest);
+        }
+        let frames = take_frames(self.alloc, &mut self.held, piece)?;
+        if is_fault(self.held.as_slice()) {
+            self.held.clear();
+            self.is_broken = true;
+            if frames.is_empty() {
+                return Err(Status::BadRequest);
+            }
+        }
+        Ok(frames)
+    }
+}

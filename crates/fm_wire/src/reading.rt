@@ -1,0 +1,61 @@
+//! Bodies of frames, read by the code in front of them.
+
+ghost use Rattle.std.specs.Prelude.{◌≡◌, ◌≤◌, ◌⊎◌, Ok, Err, IfOk, IfErr, length};
+ghost use Rattle.fm_wire.specs.Grammar.{IsBody, Reading};
+
+mod controls;
+mod replies;
+mod requests;
+
+use crate::frame::{Body, Frame};
+use crate::numbers::{split_u8, split_u32};
+use crate::reading::controls::*;
+use crate::reading::replies::*;
+use crate::reading::requests::*;
+use fm_types::Status;
+use std::alloc::Global;
+
+fn read_fields(alloc: Global, code: u8, fields: &[u8]) -> Result<Body, Status>
+    ensures ok { IfOk result (λ body. Reading code fields.now (Ok body)) }
+    ensures refused { IfErr result (λ status. (status ≡ Status.NoMemory) ⊎ Reading code fields.now (Err status)) }
+{
+    match code {
+        1 => read_create(fields),
+        2 => read_read(fields),
+        3 => read_write(alloc, fields),
+        4 => read_query_size(fields),
+        5 => read_set_size(fields),
+        6 => read_flush(fields),
+        7 => read_list(fields),
+        8 => read_set_delete(fields),
+        9 => read_close(fields),
+        16 => read_load(fields),
+        17 => read_attach(fields),
+        18 => read_detach(fields),
+        19 => read_unload(fields),
+        20 => read_dismount(fields),
+        21 => read_stop(fields),
+        128 => read_reply(alloc, fields),
+        129 => read_held_reply(fields),
+        _ => Err(Status::BadRequest),
+    }
+}
+
+/// Reads a frame's body: its code, its number and its fields. A body that says nothing is read too, as
+/// a refused frame under its number. The error is `NoMemory` alone.
+pub(crate) fn read_body(alloc: Global, bytes: &[u8]) -> Result<Frame, Status>
+    requires { 5 ≤ length bytes.now }
+    ensures ok { IfOk result (IsBody bytes.now) }
+    ensures refused { IfErr result (λ status. status ≡ Status.NoMemory) }
+{
+    let (code, rest) = split_u8(bytes);
+    let (number, fields) = split_u32(rest);
+    match read_fields(alloc, code, fields) {
+        Ok(body) => Ok(Frame { number, body }),
+        Err(Status::NoMemory) => Err(Status::NoMemory),
+        Err(status) => Ok(Frame {
+            number,
+            body: Body::Refused(status),
+        }),
+    }
+}

@@ -1,0 +1,160 @@
+//! The fields of the requests that ask for operations.
+
+ghost use Rattle.std.specs.Prelude.{◌≡◌, ◌≢◌, ◌<◌, ◌≤◌, ◌⊎◌, ◌^◌, Ok, Err, IfOk, IfErr, length};
+ghost use Rattle.fm_wire.specs.Spelling.{bytes_of_u64, mode_number};
+ghost use Rattle.fm_wire.specs.Grammar.{Reading};
+
+use crate::frame::Body;
+use crate::numbers::{read_byte, read_u64, split_u8, split_u32, split_u64};
+use fm_data::{MAX_TRANSFER, Request};
+use fm_types::{Bytes, CreateMode, HandleId, RelPath, Status, VolumeId};
+use std::alloc::Global;
+
+fn read_mode(number: u8) -> Result<CreateMode, Status>
+    ensures ok { IfOk result (λ mode. mode_number mode ≡ number) }
+    ensures refused { IfErr result (λ status. (status ≡ Status.BadRequest) × (2 < number)) }
+{
+    match number {
+        0 => Ok(CreateMode::Existing),
+        1 => Ok(CreateMode::New),
+        2 => Ok(CreateMode::Always),
+        _ => Err(Status::BadRequest),
+    }
+}
+
+fn read_handle(fields: &[u8]) -> Result<HandleId, Status>
+    ensures ok { IfOk result (λ handle. (fields.now ≡ bytes_of_u64 handle.0) × (handle.0 < 2 ^ 64)) }
+    ensures refused { IfErr result (λ status. (status ≡ Status.BadRequest) × (length fields.now ≢ 8)) }
+{
+    match read_u64(fields) {
+        Ok(handle) => Ok(HandleId(handle)),
+        Err(status) => Err(status),
+    }
+}
+
+/// Reads a volume, a mode and a path that fills the rest.
+pub(crate) fn read_create(fields: &[u8]) -> Result<Body, Status>
+    ensures { Reading 1 fields.now result }
+{
+    if fields.len() < 2 {
+        return Err(Status::BadRequest);
+    }
+    let (volume, rest) = split_u8(fields);
+    let (mode, path) = split_u8(rest);
+    let mode = match read_mode(mode) {
+        Ok(mode) => mode,
+        Err(status) => return Err(status),
+    };
+    match RelPath::read(path) {
+        Ok(path) => Ok(Body::Operation(Request::Create {
+            volume: VolumeId(volume),
+            path,
+            mode,
+        })),
+        Err(status) => Err(status),
+    }
+}
+
+/// Reads a handle, an offset and a length.
+pub(crate) fn read_read(fields: &[u8]) -> Result<Body, Status>
+    ensures { Reading 2 fields.now result }
+{
+    if fields.len() != 20 {
+        return Err(Status::BadRequest);
+    }
+    let (handle, rest) = split_u64(fields);
+    let (offset, rest) = split_u64(rest);
+    let (len, _) = split_u32(rest);
+    if len as u64 > MAX_TRANSFER {
+        return Err(Status::BadRequest);
+    }
+    Ok(Body::Operation(Request::Read {
+        handle: HandleId(handle),
+        offset,
+        len,
+    }))
+}
+
+/// Reads a handle, an offset and bytes that fill the rest.
+pub(crate) fn read_write(alloc: Global, fields: &[u8]) -> Result<Body, Status>
+    ensures ok { IfOk result (λ body. Reading 3 fields.now (Ok body)) }
+    ensures refused { IfErr result (λ status. (status ≡ Status.NoMemory) ⊎ Reading 3 fields.now (Err status)) }
+{
+    if fields.len() < 16 || fields.len() as u64 > 16 + MAX_TRANSFER {
+        return Err(Status::BadRequest);
+    }
+    let (handle, rest) = split_u64(fields);
+    let (offset, bytes) = split_u64(rest);
+    Ok(Body::Operation(Request::Write {
+        handle: HandleId(handle),
+        offset,
+        bytes: Bytes::copy_of(alloc, bytes)?,
+    }))
+}
+
+/// Reads a handle and a size.
+pub(crate) fn read_set_size(fields: &[u8]) -> Result<Body, Status>
+    ensures { Reading 5 fields.now result }
+{
+    if fields.len() != 16 {
+        return Err(Status::BadRequest);
+    }
+    let (handle, rest) = split_u64(fields);
+    let (size, _) = split_u64(rest);
+    Ok(Body::Operation(Request::SetSize {
+        handle: HandleId(handle),
+        size,
+    }))
+}
+
+/// Reads a volume.
+pub(crate) fn read_list(fields: &[u8]) -> Result<Body, Status>
+    ensures { Reading 7 fields.now result }
+{
+    match read_byte(fields) {
+        Ok(volume) => Ok(Body::Operation(Request::List {
+            volume: VolumeId(volume),
+        })),
+        Err(status) => Err(status),
+    }
+}
+
+/// Reads a handle.
+pub(crate) fn read_query_size(fields: &[u8]) -> Result<Body, Status>
+    ensures { Reading 4 fields.now result }
+{
+    match read_handle(fields) {
+        Ok(handle) => Ok(Body::Operation(Request::QuerySize { handle })),
+        Err(status) => Err(status),
+    }
+}
+
+/// Reads a handle.
+pub(crate) fn read_flush(fields: &[u8]) -> Result<Body, Status>
+    ensures { Reading 6 fields.now result }
+{
+    match read_handle(fields) {
+        Ok(handle) => Ok(Body::Operation(Request::Flush { handle })),
+        Err(status) => Err(status),
+    }
+}
+
+/// Reads a handle.
+pub(crate) fn read_set_delete(fields: &[u8]) -> Result<Body, Status>
+    ensures { Reading 8 fields.now result }
+{
+    match read_handle(fields) {
+        Ok(handle) => Ok(Body::Operation(Request::SetDelete { handle })),
+        Err(status) => Err(status),
+    }
+}
+
+/// Reads a handle.
+pub(crate) fn read_close(fields: &[u8]) -> Result<Body, Status>
+    ensures { Reading 9 fields.now result }
+{
+    match read_handle(fields) {
+        Ok(handle) => Ok(Body::Operation(Request::Close { handle })),
+        Err(status) => Err(status),
+    }
+}

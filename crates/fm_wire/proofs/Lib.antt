@@ -3,3 +3,5 @@ pub mod Forms
 pub mod Parts
 pub mod Streams
 pub mod Spellings
+pub mod OneReading
+pub mod OneFrame

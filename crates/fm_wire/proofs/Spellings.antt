@@ -1,10 +1,16 @@
 -- What is spelled by the table is read as the frame.
-use Rattle.std.proofs.Common.{◌≡◌, ℕ, ◌+◌, ◌^◌, ◌<◌, ◌≤◌, List, length, Ok, refl, sym, arith, length-append}
+use Rattle.std.proofs.Common.{◌≡◌, ◌⊎◌, ℕ, ◌+◌, ◌<◌, ◌≤◌, ◌^◌, List, length, Ok, refl, sym, ap, ◌∙◌, arith, inl, inr, length-append}
+use Rattle.fm_types.specs.declared.status.Status.{Status}
+use Rattle.fm_altitude.specs.Grammar.{canonical}
+use Rattle.fm_altitude.specs.Spelling.{canonical-again}
+use Rattle.fm_altitude.proofs.Grammar.{IsAltitude-canonical, length-altitude}
+use Rattle.fm_wire.specs.declared.frame.Control.TheVariants as control
 use Rattle.fm_wire.specs.declared.frame.Body.{Body}
 use Rattle.fm_wire.specs.declared.frame.Body.TheVariants as body
 use Rattle.fm_wire.specs.declared.frame.Frame.{Frame}
 use Rattle.fm_wire.specs.Spelling.{bytes_of_u32, body_of, code_of, fields_of, spelling_of}
 use Rattle.fm_wire.specs.Grammar.{Fits, HasTexts, KeepsLimits, IsFrame, IsSpelled, Reading, canonical_body, outcome_of}
+use Rattle.fm_wire.specs.Laws.{OnlySpelled}
 use Rattle.fm_wire.proofs.Words.{length-u32}
 
 pub length-body : (frame : Frame) → length (body_of frame) ≡ 5 + length (fields_of frame.body)
@@ -33,3 +39,64 @@ spelled_frame text frame e spelled number fits texts canonical =
       length_in_range = (rw (length-body frame) (omega arith), spelled.short);
       body = record { code = code_of frame.body; fields = fields_of frame.body; parts = refl; number = number; reading = rw (said_is_read frame.body spelled.limits) read };
     }
+
+-- ---- what was read has a spelling
+
+-- what a reading gives may be said again, in no more bytes
+record IsSaid (said read : Body) : Type 0 where
+  limits : KeepsLimits read
+  fits : Fits read
+  texts : HasTexts read
+  canonical : canonical_body read ≡ read
+  shorter : length (fields_of read) ≤ length (fields_of said)
+
+said_again : (said : Body) → KeepsLimits said → Fits said → HasTexts said → IsSaid said (canonical_body said)
+said_again (body.Operation r) limits fits texts = record { limits = limits; fits = fits; texts = texts; canonical = refl; shorter = omega arith }
+said_again (body.Control (control.Attach filter volume name altitude)) limits fits texts =
+    let short = length-altitude altitude texts.1 in
+    record {
+      limits = tt;
+      fits = fits;
+      texts = (texts.0, IsAltitude-canonical altitude texts.1);
+      canonical = ap (λ (a : List ℕ). body.Control (control.Attach filter volume name a)) (canonical-again altitude);
+      shorter = omega (arith, length-append name altitude, length-append name (canonical altitude));
+    }
+said_again (body.Control (control.Load name)) limits fits texts = record { limits = tt; fits = fits; texts = texts; canonical = refl; shorter = omega arith }
+said_again (body.Control (control.Detach instance)) limits fits texts = record { limits = tt; fits = fits; texts = texts; canonical = refl; shorter = omega arith }
+said_again (body.Control (control.Unload filter)) limits fits texts = record { limits = tt; fits = fits; texts = texts; canonical = refl; shorter = omega arith }
+said_again (body.Control (control.Dismount volume)) limits fits texts = record { limits = tt; fits = fits; texts = texts; canonical = refl; shorter = omega arith }
+said_again (body.Control control.Stop) limits fits texts = record { limits = tt; fits = fits; texts = texts; canonical = refl; shorter = omega arith }
+said_again (body.Reply r) limits fits texts = record { limits = limits; fits = fits; texts = texts; canonical = refl; shorter = omega arith }
+said_again (body.Refused status) limits fits texts = absurd limits
+
+abbrev IsRefused : Body → Type 0
+IsRefused read = (status : Status) × (read ≡ body.Refused status)
+
+abbrev IsSaidBy : ℕ → List ℕ → Body → Type 0
+IsSaidBy code fields read = (said : Body) × (fields_of said ≡ fields) × IsSaid said read
+
+said_by : (code : ℕ) (fields : List ℕ) (read : Body) → Reading code fields (Ok read) → IsSaidBy code fields read
+said_by code fields read p =
+    let said : IsSaid p.0 read = rw p.3 (said_again p.0 p.1.limits p.1.fits p.2) in
+    (p.0, p.1.fields_are, said)
+
+refused_or_said : (code : ℕ) (fields : List ℕ) (read : Body) → Reading code fields (outcome_of read) → IsRefused read ⊎ IsSaidBy code fields read
+refused_or_said code fields (body.Operation r) p = inr (said_by code fields (body.Operation r) p)
+refused_or_said code fields (body.Control c) p = inr (said_by code fields (body.Control c) p)
+refused_or_said code fields (body.Reply r) p = inr (said_by code fields (body.Reply r) p)
+refused_or_said code fields (body.Refused status) p = inl (status, refl)
+
+spelled_from : (text : List ℕ) (frame : Frame) (is : IsFrame text frame) → IsRefused frame.body ⊎ IsSaidBy is.body.code is.body.fields frame.body → IsRefused frame.body ⊎ (IsSpelled frame × IsFrame (spelling_of frame) frame)
+spelled_from text frame is (inl refused) = inl refused
+spelled_from text frame is (inr said) =
+    let inside = is.length_in_range in
+    let again = said.2 in
+    let shorter = again.shorter in
+    let len : length is.bytes ≡ 5 + length is.body.fields =
+    ap (λ (t : List ℕ). length t) is.body.parts ∙ omega (arith, length-append (bytes_of_u32 frame.number) is.body.fields, length-u32 frame.number) in
+    let fields : length (fields_of said.0) ≡ length is.body.fields = ap (λ (t : List ℕ). length t) said.1 in
+    let spelled = is_spelled frame again.limits (omega arith) in
+    inr (spelled, spelled_frame (spelling_of frame) frame refl spelled is.body.number again.fits again.texts again.canonical)
+
+pub only_spelled : OnlySpelled
+only_spelled text frame is = spelled_from text frame is (refused_or_said is.body.code is.body.fields frame.body is.body.reading)

@@ -1,3 +1,4 @@
 pub mod Spelling
 pub mod Grammar
 pub mod Stream
+pub mod Laws

@@ -4,6 +4,7 @@
 mod decoder;
 mod encoding;
 mod frame;
+pub mod laws;
 mod numbers;
 mod reading;
 mod stream;

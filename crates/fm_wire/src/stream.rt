@@ -12,10 +12,10 @@ use fm_types::Status;
 use std::alloc::Global;
 
 /// How short a frame's body may be: a code and a number.
-pub const MIN_BODY: u32 = 5;
+pub(crate) const MIN_BODY: u32 = 5;
 
 /// How long a frame's body may be.
-pub const MAX_BODY: u32 = 33_000;
+pub(crate) const MAX_BODY: u32 = 33_000;
 
 fn is_body_length(len: u32) -> bool
     ensures { IsTrue result ↔ IsBodyLength len }

@@ -1,0 +1,184 @@
+-- Bytes are read in one way.
+use Rattle.std.proofs.Common.{◌≡◌, ℕ, ◌^◌, ◌<◌, ◌==◌, cond, List, [], ◌∷◌, ◌++◌, length, get_or, refl, sym, ap, ◌∙◌, arith}
+use Rattle.std.proofs.lemmas.List.{append-nil}
+use Rattle.fm_types.specs.Statuses.{number_of, information_of}
+use Rattle.fm_types.specs.declared.ids.HandleId.{HandleId}
+use Rattle.fm_types.specs.declared.ids.VolumeId.{VolumeId}
+use Rattle.fm_types.specs.declared.ids.FilterId.{FilterId}
+use Rattle.fm_types.specs.declared.ids.InstanceId.{InstanceId}
+use Rattle.fm_types.specs.declared.ids.OpId.{OpId}
+use Rattle.fm_types.specs.declared.status.Status.{Status}
+use Rattle.fm_types.specs.declared.status.Status.TheVariants.{Success, NoMemory, BadAltitude, BadName, NameCollision, AltitudeCollision, NoFilter, NoVolume, NoInstance, NotLoaded, AlreadyLoaded, DoNotAttach, DoNotDetach, DeletingObject, NoHandle, BadPath, DeletePending, AccessDenied, DeviceFault, FileNotFound, AlreadyExists, NotRegistered, AlreadyDefined, AlreadyLinked, NoContext, NotHeld, HandFull, NoObject, NotPended, TooMany, WrongStep, EndOfFile, BadRequest, Dismounting, Busy}
+use Rattle.fm_types.specs.declared.operation.CreateMode.{CreateMode}
+use Rattle.fm_types.specs.declared.operation.CreateMode.TheVariants.{Existing, New, Always}
+use Rattle.fm_data.specs.declared.request.Request.{Request}
+use Rattle.fm_data.specs.declared.request.Request.TheVariants as request
+use Rattle.fm_data.specs.declared.request.Reply.{Reply}
+use Rattle.fm_data.specs.declared.request.Reply.TheVariants as reply
+use Rattle.fm_wire.specs.declared.frame.Control.{Control}
+use Rattle.fm_wire.specs.declared.frame.Control.TheVariants as control
+use Rattle.fm_wire.specs.declared.frame.Body.{Body}
+use Rattle.fm_wire.specs.declared.frame.Body.TheVariants as body
+use Rattle.fm_wire.specs.Spelling.{bytes_of_u16, bytes_of_u32, bytes_of_u64, mode_number, request_code, request_fields, control_code, control_fields, reply_code, reply_fields, code_of, fields_of}
+use Rattle.fm_wire.specs.Grammar.{Fits, FitsRequest, FitsControl, FitsReply, KeepsLimits, KeepsReplyLimits, HasCount, Says}
+use Rattle.fm_wire.proofs.Parts.{same_parts, same_u16, same_u32, same_u64}
+use Rattle.fm_wire.proofs.Forms.{request_codes, control_codes, reply_codes}
+
+-- ---- one value for each spelling
+
+handle_is : (a b : HandleId) → a.0 ≡ b.0 → a ≡ b
+handle_is a b e = let made : ℕ → HandleId = λ n. record { 0 = n } in ap made e
+
+volume_is : (a b : VolumeId) → a.0 ≡ b.0 → a ≡ b
+volume_is a b e = let made : ℕ → VolumeId = λ n. record { 0 = n } in ap made e
+
+filter_is : (a b : FilterId) → a.0 ≡ b.0 → a ≡ b
+filter_is a b e = let made : ℕ → FilterId = λ n. record { 0 = n } in ap made e
+
+instance_is : (a b : InstanceId) → a.0 ≡ b.0 → a ≡ b
+instance_is a b e = let made : ℕ → InstanceId = λ n. record { 0 = n } in ap made e
+
+operation_is : (a b : OpId) → a.0 ≡ b.0 → a ≡ b
+operation_is a b e = let made : ℕ → OpId = λ n. record { 0 = n } in ap made e
+
+-- numbers that are all there is
+alone_u16 : (m n : ℕ) → m < 2 ^ 16 → n < 2 ^ 16 → bytes_of_u16 m ≡ bytes_of_u16 n → m ≡ n
+alone_u16 m n ms ns e = (same_u16 m n [] [] ms ns (append-nil (bytes_of_u16 m) ∙ e ∙ sym (append-nil (bytes_of_u16 n)))).0
+
+alone_u32 : (m n : ℕ) → m < 2 ^ 32 → n < 2 ^ 32 → bytes_of_u32 m ≡ bytes_of_u32 n → m ≡ n
+alone_u32 m n ms ns e = (same_u32 m n [] [] ms ns (append-nil (bytes_of_u32 m) ∙ e ∙ sym (append-nil (bytes_of_u32 n)))).0
+
+alone_u64 : (m n : ℕ) → m < 2 ^ 64 → n < 2 ^ 64 → bytes_of_u64 m ≡ bytes_of_u64 n → m ≡ n
+alone_u64 m n ms ns e = (same_u64 m n [] [] ms ns (append-nil (bytes_of_u64 m) ∙ e ∙ sym (append-nil (bytes_of_u64 n)))).0
+
+handle_alone : (a b : HandleId) → a.0 < 2 ^ 64 → b.0 < 2 ^ 64 → bytes_of_u64 a.0 ≡ bytes_of_u64 b.0 → a ≡ b
+handle_alone a b ms ns e = handle_is a b (alone_u64 a.0 b.0 ms ns e)
+
+mode_of : ℕ → CreateMode
+mode_of number = cond (number == 0) Existing (cond (number == 1) New Always)
+
+mode_again : (mode : CreateMode) → mode_of (mode_number mode) ≡ mode
+unfolding mode_of
+mode_again Existing = refl
+mode_again New = refl
+mode_again Always = refl
+
+one_mode : (a b : CreateMode) → mode_number a ≡ mode_number b → a ≡ b
+one_mode a b e = sym (mode_again a) ∙ ap (λ (n : ℕ). mode_of n) e ∙ mode_again b
+
+one_request : (r s : Request) → request_code r ≡ request_code s → request_fields r ≡ request_fields s → FitsRequest r → FitsRequest s → r ≡ s
+one_request (request.Create volume path mode) (request.Create w q n) c f x y =
+    let v : volume ≡ w = volume_is volume w cc in
+    let m : mode ≡ n = one_mode mode n cc in
+    let p : path ≡ q = cc in
+    rw (v, m, p) refl
+one_request (request.Read handle offset len) (request.Read h o l) c f x y =
+    let first = same_u64 handle.0 h.0 (bytes_of_u64 offset ++ bytes_of_u32 len) (bytes_of_u64 o ++ bytes_of_u32 l) x.0 y.0 f in
+    let second = same_u64 offset o (bytes_of_u32 len) (bytes_of_u32 l) x.1 y.1 first.1 in
+    let third = alone_u32 len l x.2 y.2 second.1 in
+    rw (handle_is handle h first.0, second.0, third) refl
+one_request (request.Write handle offset bytes) (request.Write h o b) c f x y =
+    let first = same_u64 handle.0 h.0 (bytes_of_u64 offset ++ bytes) (bytes_of_u64 o ++ b) x.0 y.0 f in
+    let second = same_u64 offset o bytes b x.1 y.1 first.1 in
+    rw (handle_is handle h first.0, second.0, second.1) refl
+one_request (request.QuerySize handle) (request.QuerySize h) c f x y = rw (handle_alone handle h x y f) refl
+one_request (request.SetSize handle size) (request.SetSize h s) c f x y =
+    let first = same_u64 handle.0 h.0 (bytes_of_u64 size) (bytes_of_u64 s) x.0 y.0 f in
+    rw (handle_is handle h first.0, alone_u64 size s x.1 y.1 first.1) refl
+one_request (request.Flush handle) (request.Flush h) c f x y = rw (handle_alone handle h x y f) refl
+one_request (request.List volume) (request.List w) c f x y = rw (volume_is volume w cc) refl
+one_request (request.SetDelete handle) (request.SetDelete h) c f x y = rw (handle_alone handle h x y f) refl
+one_request (request.Close handle) (request.Close h) c f x y = rw (handle_alone handle h x y f) refl
+one_request _ _ c f x y = absurd (omega arith)
+
+one_control : (r s : Control) → control_code r ≡ control_code s → control_fields r ≡ control_fields s → FitsControl r → FitsControl s → r ≡ s
+one_control (control.Load name) (control.Load n) c f x y = rw f refl
+one_control (control.Attach filter volume name altitude) (control.Attach g v n a) c f x y =
+    let fs : filter ≡ g = filter_is filter g cc in
+    let vs : volume ≡ v = volume_is volume v cc in
+    let len : length name ≡ length n = cc in
+    let texts : name ++ altitude ≡ n ++ a = cc in
+    let parts = same_parts name n altitude a len texts in
+    rw (fs, vs, parts.0, parts.1) refl
+one_control (control.Detach instance) (control.Detach i) c f x y = rw (instance_is instance i (alone_u16 instance.0 i.0 x y f)) refl
+one_control (control.Unload filter) (control.Unload g) c f x y = rw (filter_is filter g cc) refl
+one_control (control.Dismount volume) (control.Dismount v) c f x y = rw (volume_is volume v cc) refl
+one_control control.Stop control.Stop c f x y = refl
+one_control _ _ c f x y = absurd (omega arith)
+
+statuses : List Status
+statuses = Success ∷ NoMemory ∷ BadAltitude ∷ BadName ∷ NameCollision ∷ AltitudeCollision ∷ NoFilter ∷ NoVolume ∷ NoInstance ∷ NotLoaded ∷ AlreadyLoaded ∷ DoNotAttach ∷ DoNotDetach ∷ DeletingObject ∷ NoHandle ∷ BadPath ∷ DeletePending ∷ AccessDenied ∷ DeviceFault ∷ FileNotFound ∷ AlreadyExists ∷ NotRegistered ∷ AlreadyDefined ∷ AlreadyLinked ∷ NoContext ∷ NotHeld ∷ HandFull ∷ NoObject ∷ NotPended ∷ TooMany ∷ WrongStep ∷ EndOfFile ∷ BadRequest ∷ Dismounting ∷ []
+
+status_of : ℕ → ℕ → Status
+status_of number information = get_or statuses number (Busy information)
+
+-- a status is known by its number and its count
+status_again : (status : Status) → status_of (number_of status) (information_of status) ≡ status
+unfolding status_of statuses
+status_again Success = refl
+status_again NoMemory = refl
+status_again BadAltitude = refl
+status_again BadName = refl
+status_again NameCollision = refl
+status_again AltitudeCollision = refl
+status_again NoFilter = refl
+status_again NoVolume = refl
+status_again NoInstance = refl
+status_again NotLoaded = refl
+status_again AlreadyLoaded = refl
+status_again DoNotAttach = refl
+status_again DoNotDetach = refl
+status_again DeletingObject = refl
+status_again NoHandle = refl
+status_again BadPath = refl
+status_again DeletePending = refl
+status_again AccessDenied = refl
+status_again DeviceFault = refl
+status_again FileNotFound = refl
+status_again AlreadyExists = refl
+status_again NotRegistered = refl
+status_again AlreadyDefined = refl
+status_again AlreadyLinked = refl
+status_again NoContext = refl
+status_again NotHeld = refl
+status_again HandFull = refl
+status_again NoObject = refl
+status_again NotPended = refl
+status_again TooMany = refl
+status_again WrongStep = refl
+status_again EndOfFile = refl
+status_again BadRequest = refl
+status_again Dismounting = refl
+status_again (Busy count) = refl
+
+-- beside an information, which is Busy's count
+counted : (information : ℕ) (status : Status) → HasCount status information → status_of (number_of status) information ≡ status
+unfolding status_of statuses
+counted information (Busy count) has = ap (λ (n : ℕ). Busy n) (sym (has refl))
+counted information _ has = refl
+
+one_reply : (r s : Reply) → reply_code r ≡ reply_code s → reply_fields r ≡ reply_fields s → FitsReply r → FitsReply s → KeepsReplyLimits r → KeepsReplyLimits s → r ≡ s
+one_reply (reply.Done status information bytes) (reply.Done t i b) c f x y has had =
+    let numbers : number_of status ≡ number_of t = cc in
+    let tails : bytes_of_u64 information ++ bytes ≡ bytes_of_u64 i ++ b = cc in
+    let first = same_u64 information i bytes b x y tails in
+    let same : status ≡ t = sym (counted information status has) ∙ rw (numbers, first.0) (counted i t had) in
+    rw (same, first.0, first.1) refl
+one_reply (reply.Held operation) (reply.Held o) c f x y has had = rw (operation_is operation o (alone_u64 operation.0 o.0 x y f)) refl
+one_reply _ _ c f x y has had = absurd (omega arith)
+
+one_body : (a b : Body) → code_of a ≡ code_of b → fields_of a ≡ fields_of b → Fits a → Fits b → KeepsLimits a → KeepsLimits b → a ≡ b
+one_body (body.Operation r) (body.Operation s) c f x y k l = ap (λ (t : Request). body.Operation t) (one_request r s c f x y)
+one_body (body.Control r) (body.Control s) c f x y k l = ap (λ (t : Control). body.Control t) (one_control r s c f x y)
+one_body (body.Reply r) (body.Reply s) c f x y k l = ap (λ (t : Reply). body.Reply t) (one_reply r s c f x y k l)
+one_body (body.Operation r) (body.Control s) c f x y k l = let m = request_codes r in let n = control_codes s in absurd (omega arith)
+one_body (body.Operation r) (body.Reply s) c f x y k l = let m = request_codes r in let n = reply_codes s in absurd (omega arith)
+one_body (body.Control r) (body.Operation s) c f x y k l = let m = control_codes r in let n = request_codes s in absurd (omega arith)
+one_body (body.Control r) (body.Reply s) c f x y k l = let m = control_codes r in let n = reply_codes s in absurd (omega arith)
+one_body (body.Reply r) (body.Operation s) c f x y k l = let m = reply_codes r in let n = request_codes s in absurd (omega arith)
+one_body (body.Reply r) (body.Control s) c f x y k l = let m = reply_codes r in let n = control_codes s in absurd (omega arith)
+one_body (body.Refused status) b c f x y k l = absurd k
+one_body a (body.Refused status) c f x y k l = absurd l
+
+pub one_said : (code : ℕ) (fields : List ℕ) (a b : Body) → Says code fields a → Says code fields b → a ≡ b
+one_said code fields a b s t = one_body a b (s.code_is ∙ sym t.code_is) (s.fields_are ∙ sym t.fields_are) s.fits t.fits s.limits t.limits

@@ -1,13 +1,13 @@
 -- Streams of frames.
-use Rattle.std.proofs.Common.{◌≡◌, ◌↔◌, ℕ, ◌+◌, ◌-◌, ◌^◌, ◌<◌, ◌≤◌, ◌⊎◌, Bool, true, false, IsTrue, List, [], ◌∷◌, ◌++◌, length, drop, refl, sym, ap, ◌∙◌, arith, length-append, append_assoc}
+use Rattle.std.proofs.Common.{◌≡◌, ◌↔◌, ◌⊎◌, ℕ, ◌+◌, ◌-◌, ◌^◌, ◌<◌, ◌≤◌, Bool, true, false, IsTrue, List, [], ◌∷◌, ◌++◌, length, get_or, drop, refl, sym, ap, ◌∙◌, arith, length-append, append_assoc}
 use Rattle.std.specs.Prelude.{not}
-use Rattle.std.proofs.lemmas.List.{drop_at}
+use Rattle.std.proofs.lemmas.List.{append-nil, drop_at}
 use Rattle.fm_wire.specs.declared.frame.Frame.{Frame}
 use Rattle.fm_wire.specs.Spelling.{bytes_of_u32, framed}
 use Rattle.fm_wire.specs.Grammar.{IsBody, IsBodyLength, IsFrame}
 use Rattle.fm_wire.specs.Stream.{IsPartial, IsFault, Begins, Splits}
 use Rattle.fm_wire.proofs.Words.{length-u32}
-use Rattle.fm_wire.proofs.Parts.{same_u32}
+use Rattle.fm_wire.proofs.Parts.{same_parts, same_u32}
 
 -- a length in front that is in range is no fault
 pub out_of_range : (bytes behind : List ℕ) (len : ℕ) → bytes ≡ bytes_of_u32 len ++ behind → len < 2 ^ 32 → IsFault bytes → IsBodyLength len → ⊥
@@ -51,3 +51,33 @@ rest_is stream frames rest begins =
 pub splits_at : (stream : List ℕ) (frames : List Frame) (rest : List ℕ) → Begins stream frames rest → IsPartial rest ⊎ IsFault rest → Splits stream frames (drop (length stream - length rest) stream)
 splits_at stream frames rest begins ends =
     rw ((rest_is stream frames rest begins).0) (record { begins = begins; ends = ends })
+
+-- ---- a fault across two pieces
+
+head_again : (s : List ℕ) → 4 ≤ length s → (get_or s 0 0 ∷ get_or s 1 0 ∷ get_or s 2 0 ∷ get_or s 3 0 ∷ []) ++ drop 4 s ≡ s
+head_again [] long = absurd (omega arith)
+head_again (a ∷ []) long = absurd (omega arith)
+head_again (a ∷ b ∷ []) long = absurd (omega arith)
+head_again (a ∷ b ∷ c ∷ []) long = absurd (omega arith)
+head_again (a ∷ b ∷ c ∷ d ∷ rest) long = refl
+
+fault_in_front : (head rest : List ℕ) → length head ≡ 4 → IsFault head ↔ IsFault (head ++ rest)
+fault_in_front head rest size = (
+  λ fault. record {
+    len = fault.len;
+    behind = fault.behind ++ rest;
+    parts = ap (λ (t : List ℕ). t ++ rest) fault.parts ∙ append_assoc (bytes_of_u32 fault.len) fault.behind rest;
+    fits = fault.fits;
+    out_of_range = fault.out_of_range;
+  },
+  λ fault.
+      let same = same_parts head (bytes_of_u32 fault.len) rest fault.behind (size ∙ sym (length-u32 fault.len)) fault.parts in
+      record { len = fault.len; behind = []; parts = same.0 ∙ sym (append-nil (bytes_of_u32 fault.len)); fits = fault.fits; out_of_range = fault.out_of_range },
+)
+
+pub fault_across : (test : Bool) (s : List ℕ) (a b c d : ℕ) → 4 ≤ length s → a ≡ get_or s 0 0 → b ≡ get_or s 1 0 → c ≡ get_or s 2 0 → d ≡ get_or s 3 0
+    → IsTrue test ↔ IsFault (a ∷ b ∷ c ∷ d ∷ []) → IsTrue test ↔ IsFault s
+fault_across test s a b c d long as_is bs_is cs_is ds_is told =
+    let whole : (a ∷ b ∷ c ∷ d ∷ []) ++ drop 4 s ≡ s = rw (as_is, bs_is, cs_is, ds_is) (head_again s long) in
+    let front = fault_in_front (a ∷ b ∷ c ∷ d ∷ []) (drop 4 s) refl in
+    (λ t. rw whole at (front.0 (told.0 t)), λ fault. told.1 (front.1 (rw (sym whole) at fault)))

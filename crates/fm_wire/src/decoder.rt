@@ -1,10 +1,10 @@
 //! The decoder: frames out of a stream that comes in pieces.
 
-ghost use Rattle.std.specs.Prelude.{◌≡◌, ◌⊎◌, ◌++◌, [], Ok, Err, Some, None, IfOk, IfErr, OnErr};
+ghost use Rattle.std.specs.Prelude.{◌≡◌, ◌↔◌, ◌⊎◌, ◌++◌, [], Ok, Err, Some, None, IfOk, IfErr, OnErr};
 ghost use Rattle.fm_wire.specs.Stream.{Gives, IsFault, Refuses, Splits};
 
 use crate::frame::Frame;
-use crate::stream::{is_fault, read_frames};
+use crate::stream::{is_fault, is_fault_across, read_frames};
 use fm_types::Status;
 use std::alloc::Global;
 use std::marker::Model;
@@ -29,8 +29,21 @@ impl Model for Decoder {
     ghost invariant = { λ decoder. IsPartial decoder.held.items };
 }
 
-// Appends the piece and takes the whole frames from the front.
-fn take_frames(alloc: Global, held: &mut Vec<u8>, piece: &[u8]) -> Result<Vec<Frame>, Status>
+// Takes the whole frames of a piece behind which nothing is held, and holds the rest of it. So the bytes
+// of a frame that comes in one piece are copied once.
+fn take_from_piece(alloc: Global, held: &mut Vec<u8>, piece: &[u8]) -> Result<Vec<Frame>, Status>
+    requires { held.old.items ≡ [] }
+    ensures ok { IfOk result (λ frames. Splits piece.now frames.items held.new.items) }
+    ensures err { OnErr result (held.new.items ≡ held.old.items) }
+    ensures refused { IfErr result (λ status. status ≡ Status.NoMemory) }
+{
+    let (frames, used) = read_frames(alloc, piece)?;
+    held.extend_from_slice(&piece[used..])?;
+    Ok(frames)
+}
+
+// Appends the piece to what is held, and takes the whole frames from the front.
+fn take_from_held(alloc: Global, held: &mut Vec<u8>, piece: &[u8]) -> Result<Vec<Frame>, Status>
     ensures ok { IfOk result (λ frames. Splits (held.old.items ++ piece.now) frames.items held.new.items) }
     ensures err { OnErr result (held.new.items ≡ held.old.items) }
     ensures refused { IfErr result (λ status. status ≡ Status.NoMemory) }
@@ -46,6 +59,18 @@ fn take_frames(alloc: Global, held: &mut Vec<u8>, piece: &[u8]) -> Result<Vec<Fr
             held.truncate(before);
             Err(status)
         }
+    }
+}
+
+fn take_frames(alloc: Global, held: &mut Vec<u8>, piece: &[u8]) -> Result<Vec<Frame>, Status>
+    ensures ok { IfOk result (λ frames. Splits (held.old.items ++ piece.now) frames.items held.new.items) }
+    ensures err { OnErr result (held.new.items ≡ held.old.items) }
+    ensures refused { IfErr result (λ status. status ≡ Status.NoMemory) }
+{
+    if held.is_empty() {
+        take_from_piece(alloc, held, piece)
+    } else {
+        take_from_held(alloc, held, piece)
     }
 }
 
@@ -70,21 +95,23 @@ impl Decoder {
     /// may be fed again.
     pub fn feed(&mut self, piece: &[u8]) -> Result<Vec<Frame>, Status>
         ensures ok { IfOk result (λ frames. Gives self.old piece.now frames.items self.new) }
-        ensures fault { result ≡ Err Status.BadRequest → (self.new ≡ None) × Refuses self.old piece.now }
-        ensures broken { self.old ≡ None → result ≡ Err Status.BadRequest }
+        ensures refused { (result ≡ Err Status.BadRequest) ↔ Refuses self.old piece.now }
+        ensures broken { result ≡ Err Status.BadRequest → self.new ≡ None }
         ensures memory { result ≡ Err Status.NoMemory → self.new ≡ self.old }
         ensures errors { IfErr result (λ status. (status ≡ Status.BadRequest) ⊎ (status ≡ Status.NoMemory)) }
     {
         if self.is_broken {
             return Err(Status::BadRequest);
         }
+        if is_fault_across(self.held.as_slice(), piece) {
+            self.held.clear();
+            self.is_broken = true;
+            return Err(Status::BadRequest);
+        }
         let frames = take_frames(self.alloc, &mut self.held, piece)?;
         if is_fault(self.held.as_slice()) {
             self.held.clear();
             self.is_broken = true;
-            if frames.is_empty() {
-                return Err(Status::BadRequest);
-            }
         }
         Ok(frames)
     }

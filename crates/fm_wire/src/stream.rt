@@ -1,6 +1,6 @@
 //! Streams of frames: where one ends, and which stand in front.
 
-ghost use Rattle.std.specs.Prelude.{◌≡◌, ◌<◌, ◌≤◌, ◌↔◌, ◌⊎◌, ◌++◌, IfOk, IfErr, IfNone, IfSome, IsTrue, drop, length};
+ghost use Rattle.std.specs.Prelude.{◌≡◌, ◌<◌, ◌≤◌, ◌↔◌, ◌⊎◌, ◌++◌, ◌+◌, get_or, IfOk, IfErr, IfNone, IfSome, IsTrue, drop, length};
 ghost use Rattle.fm_wire.specs.Spelling.{framed};
 ghost use Rattle.fm_wire.specs.Grammar.{IsBodyLength};
 ghost use Rattle.fm_wire.specs.Stream.{IsFault, IsPartial, Splits};
@@ -32,6 +32,34 @@ pub(crate) fn is_fault(stream: &[u8]) -> bool
     }
     let (len, _) = split_u32(stream);
     !is_body_length(len)
+}
+
+// The byte at that place of what is held with the piece behind it.
+fn byte_across(held: &[u8], piece: &[u8], place: usize) -> u8
+    requires { place < length held.now + length piece.now }
+    ensures { result ≡ get_or (held.now ++ piece.now) place 0 }
+{
+    if place < held.len() {
+        held[place]
+    } else {
+        piece[place - held.len()]
+    }
+}
+
+/// Whether what is held with the piece behind it begins with a length out of range; takes no memory.
+pub(crate) fn is_fault_across(held: &[u8], piece: &[u8]) -> bool
+    ensures { IsTrue result ↔ IsFault (held.now ++ piece.now) }
+{
+    if held.len() + piece.len() < 4 {
+        return false;
+    }
+    let head = [
+        byte_across(held, piece, 0),
+        byte_across(held, piece, 1),
+        byte_across(held, piece, 2),
+        byte_across(held, piece, 3),
+    ];
+    is_fault(&head)
 }
 
 /// The body of the frame in front, where there is a whole one, and what lies behind it.

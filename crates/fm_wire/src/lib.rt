@@ -12,3 +12,6 @@ mod stream;
 pub use crate::decoder::Decoder;
 pub use crate::encoding::encode;
 pub use crate::frame::{Body, Control, Frame};
+
+#[cfg(test)]
+mod tests;

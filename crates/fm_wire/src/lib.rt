@@ -1,4 +1,6 @@
-//! Frames between a client and a server.
+//! Frames: how a client asks a server for operations and for filters, and how it is answered. A frame is
+//! a length, a code, a number and fields; `encode` makes its bytes, and a `Decoder` takes frames from a
+//! stream that comes in pieces. The format stands in docs/FRAMES.md.
 #![tactic(auto)]
 
 mod decoder;

@@ -299,7 +299,7 @@ fn loads_and_attaches(rt: HostRuntime) -> Result<(), Fail> {
 }
 
 #[test]
-fn other_controls(rt: HostRuntime) -> Result<(), Fail> {
+fn detach_and_unload(rt: HostRuntime) -> Result<(), Fail> {
     let alloc = rt.alloc();
     let detach = [0, 0, 0, 7, 18, 0, 0, 0, 8, 1, 2];
     let frame = decoded(&rt, alloc, &detach)?;
@@ -325,6 +325,12 @@ fn other_controls(rt: HostRuntime) -> Result<(), Fail> {
         "an unload"
     );
     encodes(&rt, alloc, 9, frame.body, &unload)?;
+    Ok(())
+}
+
+#[test]
+fn dismount_and_stop(rt: HostRuntime) -> Result<(), Fail> {
+    let alloc = rt.alloc();
     let dismount = [0, 0, 0, 6, 20, 0, 0, 0, 10, 7];
     let frame = decoded(&rt, alloc, &dismount)?;
     assert!(rt;

@@ -9,7 +9,7 @@ use Rattle.fm_wire.specs.declared.frame.Body.{Body}
 use Rattle.fm_wire.specs.declared.frame.Body.TheVariants as body
 use Rattle.fm_wire.specs.declared.frame.Frame.{Frame}
 use Rattle.fm_wire.specs.Spelling.{bytes_of_u32, body_of, code_of, fields_of, spelling_of}
-use Rattle.fm_wire.specs.Grammar.{Fits, HasTexts, KeepsLimits, IsFrame, IsSpelled, Reading, canonical_body, outcome_of}
+use Rattle.fm_wire.specs.Grammar.{Fits, HasNoBytes, HasTexts, KeepsLimits, IsFrame, IsSpelled, Reading, canonical_body, outcome_of}
 use Rattle.fm_wire.specs.Laws.{OnlySpelled}
 use Rattle.fm_wire.proofs.Words.{length-u32}
 
@@ -100,3 +100,10 @@ spelled_from text frame is (inr said) =
 
 pub only_spelled : OnlySpelled
 only_spelled text frame is = spelled_from text frame is (refused_or_said is.body.code is.body.fields frame.body is.body.reading)
+
+no_bytes_by : (frame : Frame) → (IsSpelled frame → ⊥) → IsRefused frame.body ⊎ (IsSpelled frame × IsFrame (spelling_of frame) frame) → IsRefused frame.body
+no_bytes_by frame none (inl refused) = refused
+no_bytes_by frame none (inr said) = absurd (none said.0)
+
+pub no_bytes : (frame : Frame) → (IsSpelled frame → ⊥) → HasNoBytes frame
+no_bytes frame none text is = no_bytes_by frame none (only_spelled text frame is)

@@ -154,3 +154,7 @@ pub record IsFrame (text : List ℕ) (frame : Frame) : Type 0 where
 pub record IsSpelled (frame : Frame) : Type 0 where
   pub limits : KeepsLimits frame.body
   pub short : length (body_of frame) ≤ 33000
+
+-- no bytes are that frame, unless it is a refused one, which is read from bytes that say nothing
+abbrev pub HasNoBytes : Frame → Type 0
+HasNoBytes frame = (text : List ℕ) → IsFrame text frame → (status : Status) × (frame.body ≡ body.Refused status)

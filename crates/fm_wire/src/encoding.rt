@@ -2,7 +2,7 @@
 
 ghost use Rattle.std.specs.Prelude.{◌≡◌, ◌<◌, ◌^◌, ◌↔◌, ◌⊎◌, ◌++◌, Ok, Err, IfOk, IfErr, IsTrue, OnOk, length};
 ghost use Rattle.fm_wire.specs.Spelling.{body_of, code_of, fields_of, spelling_of};
-ghost use Rattle.fm_wire.specs.Grammar.{Fits, HasTexts, IsFrame, IsSpelled, KeepsLimits, canonical_body};
+ghost use Rattle.fm_wire.specs.Grammar.{Fits, HasNoBytes, HasTexts, IsFrame, IsSpelled, KeepsLimits, canonical_body};
 
 mod controls;
 mod numbers;
@@ -89,6 +89,7 @@ pub fn encode(alloc: Global, frame: &Frame) -> Result<Bytes, Status>
     ensures text { IfOk result (λ text. text ≡ spelling_of frame.now) }
     ensures frame { IfOk result (λ text. IsFrame text frame.now) }
     ensures refused { (result ≡ Err Status.BadRequest) ↔ (IsSpelled frame.now → ⊥) }
+    ensures none { result ≡ Err Status.BadRequest → HasNoBytes frame.now }
     ensures errors { IfErr result (λ status. (status ≡ Status.BadRequest) ⊎ (status ≡ Status.NoMemory)) }
 {
     if !keeps_limits(&frame.body) {

@@ -95,6 +95,7 @@ pub fn encode(alloc: Global, frame: &Frame) -> Result<Bytes, Status>
     if !keeps_limits(&frame.body) {
         return Err(Status::BadRequest);
     }
+    // a code and a number stand in front of the fields
     let len = fields_len(&frame.body);
     if len > MAX_BODY as usize - 5 {
         return Err(Status::BadRequest);

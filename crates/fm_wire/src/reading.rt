@@ -9,9 +9,14 @@ mod requests;
 
 use crate::frame::{Body, Frame};
 use crate::numbers::{split_u8, split_u32};
-use crate::reading::controls::*;
-use crate::reading::replies::*;
-use crate::reading::requests::*;
+use crate::reading::controls::{
+    read_attach, read_detach, read_dismount, read_load, read_stop, read_unload,
+};
+use crate::reading::replies::{read_held_reply, read_reply};
+use crate::reading::requests::{
+    read_close, read_create, read_flush, read_list, read_query_size, read_read, read_set_delete,
+    read_set_size, read_write,
+};
 use fm_types::Status;
 use std::alloc::Global;
 

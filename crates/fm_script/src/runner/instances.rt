@@ -8,16 +8,19 @@ use fm_types::Name;
 use std::io::Write;
 
 impl<W: Write + Drop> Runner<W> {
+    /// Runs `load`, and prints its answer.
     pub fn load(&mut self, name: Name, callbacks: Callbacks) -> Result<(), ScriptEnd> {
         let outcome = self.interpreter.load(name, callbacks);
         self.given('f', outcome.map(|filter| u64::from(filter.0)))
     }
 
+    /// Runs `mount`, and prints its answer.
     pub fn mount(&mut self, name: Name) -> Result<(), ScriptEnd> {
         let outcome = self.interpreter.mount(name);
         self.given('v', outcome.map(|volume| u64::from(volume.0)))
     }
 
+    /// Runs `attach`, and prints its answer.
     pub fn attach(
         &mut self,
         filter: u64,
@@ -29,6 +32,7 @@ impl<W: Write + Drop> Runner<W> {
         self.given('i', outcome.map(|instance| u64::from(instance.0)))
     }
 
+    /// Runs `setup`, and prints its answer.
     pub fn setup(
         &mut self,
         worker: u64,
@@ -43,11 +47,13 @@ impl<W: Write + Drop> Runner<W> {
         self.given('i', outcome.map(|instance| u64::from(instance.0)))
     }
 
+    /// Runs `setdone`, and prints its answer.
     pub fn set_done(&mut self, worker: u64, accept: bool) -> Result<(), ScriptEnd> {
         let outcome = self.interpreter.set_done(worker, accept);
         self.ok(outcome)
     }
 
+    /// Runs `phase`, and prints its answer.
     pub fn phase(&mut self, instance: u64) -> Result<(), ScriptEnd> {
         match self.interpreter.phase(instance) {
             Ok(phase) => self.output.phase(phase),
@@ -55,6 +61,7 @@ impl<W: Write + Drop> Runner<W> {
         }
     }
 
+    /// Runs `finish`, and prints its answer.
     pub fn finish(&mut self, instance: u64) -> Result<(), ScriptEnd> {
         let outcome = self.interpreter.finish(instance);
         self.ok(outcome)

@@ -11,36 +11,43 @@ use std::io::Write;
 const MAX_STEPS: u32 = 66;
 
 impl<W: Write + Drop> Runner<W> {
+    /// Runs `list`, and prints its answer.
     pub fn list(&mut self, volume: u64) -> Result<(), ScriptEnd> {
         let outcome = self.interpreter.list(volume).map(|operation| operation.0);
         self.given('o', outcome)
     }
 
+    /// Runs `pre`, and prints its answer.
     pub fn pre(&mut self, worker: u64, verdict: Verdict) -> Result<(), ScriptEnd> {
         let outcome = self.interpreter.pre(worker, verdict);
         self.ok(outcome)
     }
 
+    /// Runs `pre W with C`, and prints its answer.
     pub fn pre_with(&mut self, worker: u64, context: u64) -> Result<(), ScriptEnd> {
         let outcome = self.interpreter.pre_with(worker, context);
         self.ok(outcome)
     }
 
+    /// Runs `plan`, and prints its answer.
     pub fn plan(&mut self, instance: u64, verdict: Verdict) -> Result<(), ScriptEnd> {
         let outcome = self.interpreter.plan(instance, verdict);
         self.ok(outcome)
     }
 
+    /// Runs `base`, and prints its answer.
     pub fn base(&mut self, worker: u64) -> Result<(), ScriptEnd> {
         let outcome = self.interpreter.base(worker).map(|_| ());
         self.ok(outcome)
     }
 
+    /// Runs `post`, and prints its answer.
     pub fn post(&mut self, worker: u64) -> Result<(), ScriptEnd> {
         let outcome = self.interpreter.post(worker);
         self.ok(outcome)
     }
 
+    /// Runs `next`, and prints its answer.
     pub fn next(&mut self, worker: u64, operation: u64) -> Result<(), ScriptEnd> {
         match self.interpreter.next(worker, operation) {
             Ok(Step::Pre(instance)) => self.output.id("pre", 'i', u64::from(instance.0)),
@@ -54,6 +61,7 @@ impl<W: Write + Drop> Runner<W> {
         }
     }
 
+    /// Runs `collect`, and prints its answer.
     pub fn collect(&mut self, operation: u64) -> Result<(), ScriptEnd> {
         match self.interpreter.collect(operation) {
             Ok(answer) => self.output.reply(&answer),
@@ -61,7 +69,7 @@ impl<W: Write + Drop> Runner<W> {
         }
     }
 
-    // Takes the operation's steps, and answers its callbacks, until it is held or done.
+    /// Takes the operation's steps, and answers its callbacks, until it is held or done.
     pub fn go(&mut self, worker: u64, operation: u64) -> Result<(), ScriptEnd> {
         for _ in 0..MAX_STEPS {
             match self.interpreter.next(worker, operation) {

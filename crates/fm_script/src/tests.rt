@@ -1,7 +1,7 @@
 //! Rows of input and output, and readers and writers that fail.
 
 use crate::{ScriptEnd, script};
-use std::alloc::Global;
+use std::alloc::{AllocError, Global};
 use std::cell::Cell;
 use std::io;
 use std::io::{Read, Write};
@@ -66,14 +66,18 @@ impl Read for Pieces<'_> {
 }
 
 // A text of lines that are divided by `; `.
-fn lines(alloc: Global, rt: &impl Abort, text: &str) -> Vec<u8> {
+fn split_lines(alloc: Global, text: &str) -> Result<Vec<u8>, AllocError> {
     let mut lines = Vec::new(alloc);
     for part in text.as_bytes().split(|b| *b == b';') {
         let line = part.strip_prefix(b" ").unwrap_or(part);
-        lines.extend_from_slice(line).expect(rt, "memory");
-        lines.push(b'\n').expect(rt, "memory");
+        lines.extend_from_slice(line)?;
+        lines.push(b'\n')?;
     }
-    lines
+    Ok(lines)
+}
+
+fn lines(alloc: Global, rt: &impl Abort, text: &str) -> Vec<u8> {
+    split_lines(alloc, text).expect(rt, "memory")
 }
 
 // Rows: a name, the input and the output, lines divided by `; `.
@@ -221,6 +225,38 @@ fn rows(rt: HostRuntime) {
         b"no 32\nno 3\nno 32\nno 32\nok f0\n",
         3,
     );
+}
+
+// What one refusal of memory leaves of a row: it ends with NoMemory behind a right beginning of its output, or it runs to its end.
+fn run_within(rt: &impl Abort, alloc: Global, name: &str, input: &[u8], output: &[u8]) {
+    let mut bytes = match Vec::with_capacity(alloc, 8192) {
+        Ok(bytes) => bytes,
+        Err(_) => Vec::with_capacity(alloc, 8192).expect(rt, "memory"),
+    };
+    let end = script(alloc, input, Kept { bytes: &mut bytes });
+    if end == ScriptEnd::Ended {
+        assert_eq!(rt; bytes.as_slice(), output, "{name}");
+    } else {
+        assert_eq!(rt; end, ScriptEnd::NoMemory, "{name}");
+        assert!(rt; output.starts_with(bytes.as_slice()), "{name}");
+    }
+}
+
+// For `rt try --test --fail-alloc N`: whichever allocation is refused, once.
+#[test]
+fn each_refusal_of_memory(rt: HostRuntime) {
+    let alloc = rt.alloc();
+    for (name, input, output) in ROWS {
+        let input = match split_lines(alloc, input) {
+            Ok(input) => input,
+            Err(_) => lines(alloc, &rt, input),
+        };
+        let output = match split_lines(alloc, output) {
+            Ok(output) => output,
+            Err(_) => lines(alloc, &rt, output),
+        };
+        run_within(&rt, alloc, name, input.as_slice(), output.as_slice());
+    }
 }
 
 #[test]

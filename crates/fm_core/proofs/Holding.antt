@@ -38,6 +38,8 @@ use Rattle.fm_ctx.specs.Kept.{nothing_kept}
 use Rattle.fm_world.proofs.Runs.{empty_sound, nothing_carried}
 use Rattle.fm_core.specs.Fields.{IsTied, IsState, world_of}
 use Rattle.fm_core.specs.Hands.{back_in, MayBring, kept_brought, MaySend, kept_sent, Ends}
+use Rattle.fm_core.specs.FilesKept.{FilesKept}
+use Rattle.fm_world.specs.Files.{empty_files}
 
 -- ---- contexts that are there
 
@@ -201,10 +203,11 @@ may_send kept k (Some c) f s tied has = (has c refl, subst (λ n. n < 2 ^ 32) (s
 
 -- ---- before the first event
 
-pub empty_state : (s : StackWorld) (f : FlowTable) (kept : ContextsKept) → s ≡ empty_world.stack → f ≡ empty_world.flow → kept ≡ nothing_kept
-    → IsState (world_of s f empty_world.workers kept empty_world.totals) kept
-empty_state s f kept es ef ek =
-    subst (λ (x : ContextsKept). IsState (world_of s f empty_world.workers x empty_world.totals) x) (sym ek)
-    (subst (λ x. IsState (world_of x f empty_world.workers nothing_kept empty_world.totals) nothing_kept) (sym es)
-    (subst (λ x. IsState (world_of empty_world.stack x empty_world.workers nothing_kept empty_world.totals) nothing_kept) (sym ef)
-    (record { sound = empty_sound; tied = nothing_carried })))
+pub empty_state : (s : StackWorld) (f : FlowTable) (kept : ContextsKept) (files : FilesKept) → s ≡ empty_world.stack → f ≡ empty_world.flow → kept ≡ nothing_kept
+    → files.table ≡ empty_files → IsState (world_of s f empty_world.workers kept empty_world.totals files) kept
+empty_state s f kept files es ef ek et =
+    subst (λ (x : ContextsKept). IsState (world_of s f empty_world.workers x empty_world.totals files) x) (sym ek)
+    (subst (λ x. IsState (world_of x f empty_world.workers nothing_kept empty_world.totals files) nothing_kept) (sym es)
+    (subst (λ x. IsState (world_of empty_world.stack x empty_world.workers nothing_kept empty_world.totals files) nothing_kept) (sym ef)
+    (subst (λ x. IsState (record empty_world { files = x }) nothing_kept) (sym et)
+    (record { sound = empty_sound; tied = nothing_carried }))))

@@ -1,7 +1,7 @@
 -- The events on operations, from what their parts did.
-use Rattle.std.proofs.Common.{◌≡◌, ℕ, zero, suc, ◌+◌, ◌<◌, ◌==◌, ◌&&◌, arith, Bool, true, false, cond, not, List, [], ◌∷◌, Option, Some, None, Result, Ok, Err, refl, ap, sym, ◌∙◌, subst, inl, inr, ◌⊎◌, nat_le, nat_eq, length}
-use Rattle.std.specs.Prelude.{option_map, unwrap_or, slice_get, is_ok, is_some, IfErr}
-use Rattle.std.proofs.lemmas.Bool.{cases_Bool, false≢true, eq-eqb, and_from, lt-leb, leb-false}
+use Rattle.std.proofs.Common.{◌≡◌, ℕ, zero, suc, ◌+◌, ◌<◌, ◌==◌, ◌&&◌, arith, Bool, true, false, cond, not, List, [], ◌∷◌, Option, Some, None, Result, Ok, Err, refl, ap, sym, ◌∙◌, subst, inl, inr, nat_le, nat_eq, length, ◌-◌, ◌^◌}
+use Rattle.std.specs.Prelude.{option_map, unwrap_or, slice_get, is_ok, is_some, IfErr, ◌||◌}
+use Rattle.std.proofs.lemmas.Bool.{false≢true, eq-eqb, and_from, lt-leb, leb-false, and_parts}
 use Rattle.std.proofs.lemmas.Option.{none-some, same_Some, slice_get_within}
 use Rattle.fm_types.specs.declared.ids.InstanceId.{InstanceId}
 use Rattle.fm_types.specs.declared.ids.OpId.{OpId}
@@ -18,10 +18,11 @@ use Rattle.fm_data.specs.declared.verdict.PostVerdict.{PostVerdict}
 use Rattle.fm_data.specs.Data.{Data, data_fits}
 use Rattle.fm_types.specs.Refusals.{first_of, AnswersOrMemory, IsRefusalOrMemory}
 use Rattle.fm_stack.specs.declared.volume.Volume.{Volume}
-use Rattle.fm_stack.specs.declared.volume.VolumePhase.{VolumePhase}
 use Rattle.fm_stack.specs.Events as stack
 use Rattle.fm_flow.specs.declared.action.Below.{Below}
+use Rattle.fm_flow.specs.declared.action.Below.TheVariants as below
 use Rattle.fm_flow.specs.declared.action.FlowAction.{FlowAction}
+use Rattle.fm_flow.specs.declared.action.FlowAction.TheVariants as action
 use Rattle.fm_flow.specs.declared.entry.PreState.{PreState}
 use Rattle.fm_flow.specs.declared.entry.PreState.TheVariants as pre
 use Rattle.fm_flow.specs.declared.stage.Stage.{Stage}
@@ -37,14 +38,14 @@ use Rattle.fm_world.specs.declared.worker.Worker.{Worker}
 use Rattle.fm_world.specs.declared.worker.Worker.TheVariants as place
 use Rattle.fm_world.specs.World.{World, carries}
 use Rattle.fm_world.specs.Workers.{worker_at, put, is_idle, after_next}
-use Rattle.fm_world.specs.Events.{Begins, begin_refusals, begun_flow, Nexts, NextsOver, FindsBelow, Unless, PreReturns, PreReturnsAt, BaseReturns, BaseReturnsAt, PostReturns, PostReturnsAt, Collects, drains_at, received, ReturnsFrom, sent, sent_in, of_hand, carries_after, state_at, state_given, has_post, returned}
+use Rattle.fm_world.specs.Events.{Begins, Nexts, NextsOver, FindsBelow, Unless, PreReturns, PreReturnsAt, BaseReturns, BaseReturnsAt, PostReturns, PostReturnsAt, Collects, drains_at, received, ReturnsFrom, sent, sent_in, of_hand, carries_after, state_at, state_given, has_post, returned, filed_record, filed_next, filed_base, filed_pre, is_created_on, PreReturnsFrom, volume_refusals, has_no_handle_left, moved_on, begin_refused, asked_refused, asked_begun, refused_at, refused_on, begun_at, begun_on, or_else}
 use Rattle.fm_world.specs.Headline.{Spot, AtPre, AtBase, AtPost, AtDrain, is_in_at, is_spot, spot_at}
-use Rattle.fm_world.specs.Sound.{IsSound, IsAmong}
-use Rattle.fm_flow.proofs.Tables.{found_holds}
+use Rattle.fm_world.specs.Sound.{IsSound, IsAmong, IsFiled}
+use Rattle.fm_types.proofs.Firsts.{found_holds}
 use Rattle.fm_core.proofs.Changes.{change_agrees, change_same}
 use Rattle.fm_world.proofs.Ties.{tied_there, spot_pre, spot_base, spot_post, spot_drain}
 use Rattle.fm_world.proofs.Ties.{counted_from}
-use Rattle.fm_world.proofs.Operations.{may_visit, counted_quiet, told_there, unchanged_flow}
+use Rattle.fm_world.proofs.Operations.{may_visit, counted_quiet, told_there, unchanged_flow, full_from, none_else, asked_within}
 use Rattle.fm_ctx.specs.Bags.{hand_of, holds}
 use Rattle.fm_ctx.specs.Kept.{ContextsKept}
 use Rattle.fm_ctx.specs.Settling.{Leaves}
@@ -52,7 +53,7 @@ use Rattle.fm_ctx.specs.Table.{ContextTable}
 use Rattle.fm_ctx.specs.Laws.{IsLawful}
 use Rattle.fm_ctx.proofs.Moves.{within_hands}
 use Rattle.fm_ctx.proofs.Alike.{leaves_alike}
-use Rattle.fm_world.proofs.Flowing.{total_push, next_balance, collect_balance, pre_balance, post_balance, drain_balance, sent_is_held}
+use Rattle.fm_world.proofs.Flowing.{total_push, next_balance, collect_balance, pre_balance, post_balance, drain_balance, sent_is_held, asked_sound}
 use Rattle.fm_world.proofs.Owning.{empty_hand}
 use Rattle.fm_flow.proofs.Balances.{base_returned_carries, total_changed}
 use Rattle.fm_flow.specs.Counts.{carried_by, handed}
@@ -63,44 +64,128 @@ use Rattle.fm_core.specs.Ahead.{IsDownOrCall}
 use Rattle.fm_core.specs.Ahead as ahead
 use Rattle.fm_core.specs.Places.{pre_of, base_of, post_of, drain_of}
 use Rattle.fm_core.specs.Returned.{after_return, strange, strange_data, status_of}
+use Rattle.fm_types.specs.declared.ids.HandleId.{HandleId}
+use Rattle.fm_types.specs.declared.ids.StreamId.{StreamId}
+use Rattle.fm_types.specs.declared.operation.CreateMode.{CreateMode}
+use Rattle.fm_data.specs.Params.{operation_of, is_within_limits}
+use Rattle.fm_flow.specs.Answered.{is_success}
+use Rattle.fm_flow.specs.Creates.{is_create, is_unanswered}
+use Rattle.fm_world.specs.declared.file.FileHandle.{FileHandle}
+use Rattle.fm_world.specs.declared.file.FileStream.{FileStream}
+use Rattle.fm_world.specs.declared.step.FileRequest.{FileRequest}
+use Rattle.fm_world.specs.declared.step.Begin.{Begin}
+use Rattle.fm_world.specs.Files.{FileTable, stream_at, handle_at, stream_for, created, after_pre}
+use Rattle.fm_world.specs.Requests.{params_of, phase_refusal}
+use Rattle.fm_world.proofs.Filing.{room_for, was_known}
+use Rattle.fm_world.proofs.Descents.{or_left}
+use Rattle.fm_core.specs.Targets.{target_in, answered, decided, answer_known, after_answer, HasRoom, opens}
+use Rattle.fm_core.specs.declared.target.Target.{Target}
+use Rattle.fm_core.specs.Begun.{Asks, IsAsked, refusal_by}
 
 -- ---- next
 
 next_requires_at : (old : World) (o : OpId) (lies : Below) (m : Option FlowRecord) → operation_at o old.flow ≡ m → IsSound old
-    → FindsBelow old.stack m lies → IsDownOrCall m lies → MayLieBelowOf lies m
+    → FindsBelow old.stack old.files old.flow m lies → IsDownOrCall m lies → MayLieBelowOf lies m
 next_requires_at old o lies None at s finds down = tt
 next_requires_at old o lies (Some r) at s finds down =
     elim down [
-      | inl e ↦ may_visit old.stack r lies (found_holds (IsAmong old.stack) (is_number o) old.flow.operations r s.under_way.among at) (finds e)
+      | inl e ↦ may_visit old.stack r lies (found_holds (IsAmong old.stack) (is_number o) old.flow.operations r s.under_way.among at) (finds e).0
       | inr e ↦ subst (λ b. MayLieBelow b r.entries) (sym e) tt
     ]
 
-pub next_requires : (old : World) (o : OpId) (lies : Below) → IsSound old → FindsBelow old.stack (operation_at o old.flow) lies
+pub next_requires : (old : World) (o : OpId) (lies : Below) → IsSound old → FindsBelow old.stack old.files old.flow (operation_at o old.flow) lies
     → IsDownOrCall (operation_at o old.flow) lies → MayLieBelowOf lies (operation_at o old.flow)
 next_requires old o lies s finds down = next_requires_at old o lies (operation_at o old.flow) refl s finds down
 
-pub nexts : (old : World) (k : WorkerId) (o : OpId) (lies : Below) (drains : Bool) (result : Result FlowAction Status) (t : FlowTable) (ws : List Worker) (cs : ContextTable)
-    → is_idle (worker_at old.workers k) ≡ true → FindsBelow old.stack (operation_at o old.flow) lies → drains ≡ drains_at old o
+-- streams and handles after an answer, as the code finds them
+answered_told : (f : FileTable) (t : FlowTable) (why : Status) (m : Option FlowRecord)
+    → answered t why (option_map target_in m) f ≡ unwrap_or (option_map (filed_record f t why) m) f
+answered_told f t why None = refl
+answered_told f t why (Some r) = refl
+
+decided_told : (f : FileTable) (t : FlowTable) (given : PreState) (m : Option FlowRecord)
+    → decided t given (option_map target_in m) f ≡ unwrap_or (option_map (λ (r : FlowRecord). after_pre given r.operation r.stream (is_created_on r.stream t) f) m) f
+decided_told f t given None = refl
+decided_told f t given (Some r) = refl
+
+answered_next : (old : World) (o : OpId) (t : FlowTable) (result : Result FlowAction Status) (lies : Below)
+    → after_answer old.files t (option_map target_in (operation_at o old.flow)) (answer_known result lies) ≡ filed_next old o t result lies
+answered_next old o t (Ok action.Moved) (below.Known why) = answered_told old.files t why (operation_at o old.flow)
+answered_next old o t (Ok action.Moved) (below.Instance i b) = refl
+answered_next old o t (Ok action.Moved) below.Call = refl
+answered_next old o t (Ok (action.Pre i lent)) lies = refl
+answered_next old o t (Ok (action.Base call)) lies = refl
+answered_next old o t (Ok (action.Post i lent completion)) lies = refl
+answered_next old o t (Ok (action.Drain i completion)) lies = refl
+answered_next old o t (Ok action.Held) lies = refl
+answered_next old o t (Ok action.Done) lies = refl
+answered_next old o t (Err why) lies = refl
+
+pub nexts : (old : World) (k : WorkerId) (o : OpId) (lies : Below) (drains : Bool) (result : Result FlowAction Status) (t : FlowTable) (ws : List Worker) (cs : ContextTable) (fs : FileTable)
+    → is_idle (worker_at old.workers k) ≡ true → FindsBelow old.stack old.files old.flow (operation_at o old.flow) lies → drains ≡ drains_at old o
     → result ≡ told (λ r. (next_of k lies drains r).reply) (Err status.WrongStep) o old.flow
     → t ≡ changed o (λ r. (next_of k lies drains r).after) old.flow → ws ≡ after_next old.workers k o result → cs ≡ received old.contexts k result
-    → Nexts old k o result (record old { flow = t; workers = ws; contexts = cs })
+    → fs ≡ after_answer old.files t (option_map target_in (operation_at o old.flow)) (answer_known result lies)
+    → Nexts old k o result (record old { flow = t; workers = ws; contexts = cs; files = fs })
 unfolding Nexts
-nexts old k o lies drains result t ws cs idle finds same reply after workers contexts =
-    let new : World = record old { flow = t; workers = ws; contexts = cs } in
+nexts old k o lies drains result t ws cs fs idle finds same reply after workers contexts files =
+    let new : World = record old { flow = t; workers = ws; contexts = cs; files = fs } in
     let answers = subst (λ d. result ≡ told (λ r. (next_of k lies d r).reply) (Err status.WrongStep) o old.flow) same reply in
     let leads = subst (λ d. t ≡ changed o (λ r. (next_of k lies d r).after) old.flow) same after in
     let f = λ (r : FlowRecord). (next_of k lies (drains_at old o) r).after in
-    let whole : new ≡ record old { flow = changed o f old.flow; workers = after_next old.workers k o result; contexts = received old.contexts k result } =
-    ap (λ x. record old { flow = x; workers = ws; contexts = cs }) leads
-    ∙ ap (λ x. record old { flow = changed o f old.flow; workers = x; contexts = cs }) workers
-    ∙ ap (λ x. record old { flow = changed o f old.flow; workers = after_next old.workers k o result; contexts = x }) contexts in
+    let whole : new ≡ record old {
+      flow = changed o f old.flow;
+      workers = after_next old.workers k o result;
+      contexts = received old.contexts k result;
+      files = filed_next old o (changed o f old.flow) result lies;
+    } =
+    ap (λ x. record old { flow = t; workers = ws; contexts = cs; files = x }) (files ∙ answered_next old o t result lies)
+    ∙ ap (λ x. record old { flow = x; workers = ws; contexts = cs; files = filed_next old o x result lies }) leads
+    ∙ ap (λ x. record old { flow = changed o f old.flow; workers = x; contexts = cs; files = filed_next old o (changed o f old.flow) result lies }) workers
+    ∙ ap (λ x. record old { flow = changed o f old.flow; workers = after_next old.workers k o result; contexts = x; files = filed_next old o (changed o f old.flow) result lies }) contexts in
     subst (λ b. Unless status.WrongStep b result old new
-    ((lies : Below) × FindsBelow old.stack (operation_at o old.flow) lies × NextsOver old k o lies result new)) (sym idle)
+    ((lies : Below) × FindsBelow old.stack old.files old.flow (operation_at o old.flow) lies × NextsOver old k o lies result new)) (sym idle)
     (lies, finds, (answers, whole))
+
+-- a handle that an answer gives has its room
+room_at : (old : World) (o : OpId) (why : Status) (m : Option FlowRecord) → operation_at o old.flow ≡ m → old.flow.next < 2 ^ 64 → IsFiled old.files old.flow
+    → ((r : FlowRecord) → m ≡ Some r → is_unanswered r.stage ≡ true) → HasRoom old.files (option_map target_in m) (Some why)
+room_at old o why None at small s down = tt
+room_at old o why (Some r) at small s down = has_room
+  where
+    has_room : opens (target_in r) why ≡ true → (length old.files.handles < 4096) × (old.files.next < 2 ^ 64 - 1)
+    has_room opens' =
+        let creates' = (and_parts (is_create r.operation) (is_success why) opens').0 in
+        let room = room_for old.files old.flow o r at (and_from (is_create r.operation) (is_unanswered r.stage) creates' (down r refl)) s in
+        (room.0, let next = room.1 in omega (arith, next, small))
+
+pub next_room : (old : World) (k : WorkerId) (o : OpId) (lies : Below) (drains : Bool) (result : Result FlowAction Status) → old.flow.next < 2 ^ 64 → IsSound old
+    → result ≡ told (λ r. (next_of k lies drains r).reply) (Err status.WrongStep) o old.flow
+    → HasRoom old.files (option_map target_in (operation_at o old.flow)) (answer_known result lies)
+next_room old k o lies drains result small s reply = by_result result lies reply
+  where
+    no_answer : (m : Option Target) → HasRoom old.files m None
+    no_answer None = tt
+    no_answer (Some x) = tt
+
+    by_result : (result : Result FlowAction Status) (lies : Below) → result ≡ told (λ r. (next_of k lies drains r).reply) (Err status.WrongStep) o old.flow
+        → HasRoom old.files (option_map target_in (operation_at o old.flow)) (answer_known result lies)
+    by_result (Ok action.Moved) (below.Known why) reply =
+        room_at old o why (operation_at o old.flow) refl small s.filed
+        (λ r at. (was_known k why drains r (reply ∙ told_there (λ (x : FlowRecord). (next_of k (below.Known why) drains x).reply) (Err status.WrongStep) o old.flow r at)).unanswered)
+    by_result (Ok action.Moved) (below.Instance i b) reply = no_answer (option_map target_in (operation_at o old.flow))
+    by_result (Ok action.Moved) below.Call reply = no_answer (option_map target_in (operation_at o old.flow))
+    by_result (Ok (action.Pre i lent)) lies reply = no_answer (option_map target_in (operation_at o old.flow))
+    by_result (Ok (action.Base call)) lies reply = no_answer (option_map target_in (operation_at o old.flow))
+    by_result (Ok (action.Post i lent completion)) lies reply = no_answer (option_map target_in (operation_at o old.flow))
+    by_result (Ok (action.Drain i completion)) lies reply = no_answer (option_map target_in (operation_at o old.flow))
+    by_result (Ok action.Held) lies reply = no_answer (option_map target_in (operation_at o old.flow))
+    by_result (Ok action.Done) lies reply = no_answer (option_map target_in (operation_at o old.flow))
+    by_result (Err why) lies reply = no_answer (option_map target_in (operation_at o old.flow))
 
 -- what `next` hands out, by what it answers
 pub next_carried : (old : World) (k : WorkerId) (o : OpId) (lies : Below) (drains : Bool) (result : Result FlowAction Status) (t : FlowTable) (m : Option FlowRecord)
-    → operation_at o old.flow ≡ m → IsSound old → FindsBelow old.stack m lies
+    → operation_at o old.flow ≡ m → IsSound old → FindsBelow old.stack old.files old.flow m lies
     → result ≡ told (λ r. (next_of k lies drains r).reply) (Err status.WrongStep) o old.flow → t ≡ changed o (λ r. (next_of k lies drains r).after) old.flow
     → (c : CtxId) → carried c old.flow ≡ carried c t + handed c result
 next_carried old k o lies drains result t None at s finds reply after c =
@@ -114,13 +199,13 @@ next_carried old k o lies drains result t None at s finds reply after c =
 next_carried old k o lies drains result t (Some r) at s finds reply after c =
     let e : result ≡ (next_of k lies drains r).reply =
     reply ∙ ap (λ m. unwrap_or (option_map (λ (x : FlowRecord). (next_of k lies drains x).reply) m) (Err status.WrongStep)) at in
-    let balance = next_balance old o k lies drains r at finds s c in
+    let balance = next_balance old o k lies drains r at (λ e. (finds e).0) s c in
     let here = ap (λ (x : FlowTable). carried c x) after in
     let out = ap (handed c) e in
     omega (arith, balance, here, out)
 
 pub next_brings : (old : World) (k : WorkerId) (o : OpId) (lies : Below) (drains : Bool) (result : Result FlowAction Status) (t : FlowTable) (kept : ContextsKept)
-    → worker_at old.workers k ≡ Some place.Idle → IsSound old → FindsBelow old.stack (operation_at o old.flow) lies
+    → worker_at old.workers k ≡ Some place.Idle → IsSound old → FindsBelow old.stack old.files old.flow (operation_at o old.flow) lies
     → result ≡ told (λ r. (next_of k lies drains r).reply) (Err status.WrongStep) o old.flow → t ≡ changed o (λ r. (next_of k lies drains r).after) old.flow
     → old.contexts ≡ kept.table → IsTied kept old.flow → MayBring kept k.0 (back_in result)
 next_brings old k o lies drains result t kept idle s finds reply after contexts tied =
@@ -129,7 +214,7 @@ next_brings old k o lies drains result t kept idle s finds reply after contexts 
     (handed_balance old.flow t result (next_carried old k o lies drains result t (operation_at o old.flow) refl s finds reply after)) tied
 
 pub next_tied : (old : World) (k : WorkerId) (o : OpId) (lies : Below) (drains : Bool) (result : Result FlowAction Status) (t : FlowTable) (kept after' : ContextsKept)
-    → IsSound old → FindsBelow old.stack (operation_at o old.flow) lies
+    → IsSound old → FindsBelow old.stack old.files old.flow (operation_at o old.flow) lies
     → result ≡ told (λ r. (next_of k lies drains r).reply) (Err status.WrongStep) o old.flow → t ≡ changed o (λ r. (next_of k lies drains r).after) old.flow
     → length kept.carried ≡ length kept.table.slots → after' ≡ kept_brought kept k.0 (back_in result) → IsTied kept old.flow → IsTied after' t
 next_tied old k o lies drains result t kept after' s finds reply after matched brought' tied =
@@ -139,27 +224,27 @@ next_tied old k o lies drains result t kept after' s finds reply after matched b
 
 -- ---- operations begin, are answered by the base and collected: nothing is carried otherwise
 
-pub begin_tied : (kept : ContextsKept) (v : VolumeId) (result : Result OpId Status) (f g : FlowTable) (b : ℕ)
-    → AnswersOrMemory (first_of ((is_full f, status.TooMany) ∷ [])) result f g (λ (o : OpId). (o.0 ≡ f.next) × (g ≡ begun v None None b params.List f)) → IsTied kept f → IsTied kept g
-begin_tied kept v (Err why) f g b h tied = subst (IsTied kept) (sym h.1) tied
-begin_tied kept v (Ok o) f g b h tied =
-    subst (IsTied kept) (sym h.1.1) (λ c. tied c ∙ sym (total_push (carried_by c) f.operations (begun_record f.next v None None b params.List) refl))
+pub begin_tied : (kept : ContextsKept) (v : VolumeId) (stream : Option StreamId) (handle : Option HandleId) (p : Params) (result : Result OpId Status) (f g : FlowTable) (b : ℕ)
+    → AnswersOrMemory (first_of ((is_full f, status.TooMany) ∷ [])) result f g (λ (o : OpId). (o.0 ≡ f.next) × (g ≡ begun v stream handle b p f)) → IsTied kept f → IsTied kept g
+begin_tied kept v stream handle p (Err why) f g b h tied = subst (IsTied kept) (sym h.1) tied
+begin_tied kept v stream handle p (Ok o) f g b h tied =
+    subst (IsTied kept) (sym h.1.1) (λ c. tied c ∙ sym (total_push (carried_by c) f.operations (begun_record f.next v stream handle b p) refl))
 
-base_same : (call : Params) (given : Answer) (r : FlowRecord) (c : CtxId) → carried_by c (base_after call given r) ≡ carried_by c r
-base_same call given r c = by_fit (base_fits call given r)
+base_same : (call : Params) (given : Answer) (h : HandleId) (r : FlowRecord) (c : CtxId) → carried_by c (base_after call given h r) ≡ carried_by c r
+base_same call given h r c = by_fit (base_fits call given r)
   where
-    by_fit : (b : Bool) → carried_by c (cond b (base_returned_of call given r) r) ≡ carried_by c r
-    by_fit true = base_returned_carries c call given r
+    by_fit : (b : Bool) → carried_by c (cond b (base_returned_of call given h r) r) ≡ carried_by c r
+    by_fit true = base_returned_carries c call given h r
     by_fit false = refl
 
-pub base_tied : (kept : ContextsKept) (o : OpId) (call : Params) (given : Answer) (f g : FlowTable) → g ≡ changed o (base_after call given) f → IsTied kept f → IsTied kept g
-base_tied kept o call given f g e tied = subst (IsTied kept) (sym e) (λ c. tied c ∙ by_record (operation_at o f) refl c)
+pub base_tied : (kept : ContextsKept) (o : OpId) (call : Params) (given : Answer) (h : HandleId) (f g : FlowTable) → g ≡ changed o (base_after call given h) f → IsTied kept f → IsTied kept g
+base_tied kept o call given h f g e tied = subst (IsTied kept) (sym e) (λ c. tied c ∙ by_record (operation_at o f) refl c)
   where
-    by_record : (m : Option FlowRecord) → operation_at o f ≡ m → (c : CtxId) → carried c f ≡ carried c (changed o (base_after call given) f)
-    by_record None at c = ap (λ (x : FlowTable). carried c x) (sym (unchanged_flow f o (base_after call given) at))
+    by_record : (m : Option FlowRecord) → operation_at o f ≡ m → (c : CtxId) → carried c f ≡ carried c (changed o (base_after call given h) f)
+    by_record None at c = ap (λ (x : FlowTable). carried c x) (sym (unchanged_flow f o (base_after call given h) at))
     by_record (Some r) at c =
-        let k = total_changed (carried_by c) (is_number o) (base_after call given) f.operations r at in
-        let same = base_same call given r c in
+        let k = total_changed (carried_by c) (is_number o) (base_after call given h) f.operations r at in
+        let same = base_same call given h r c in
         omega (arith, k, same)
 
 pub collect_tied : (kept : ContextsKept) (o : OpId) (f g : FlowTable) → g ≡ collected_of o f → IsTied kept f → IsTied kept g
@@ -170,7 +255,7 @@ unfolding Nexts
 next_refused old k o busy =
     let result : Result FlowAction Status = Err status.WrongStep in
     subst (λ b. Unless status.WrongStep b result old old
-    ((lies : Below) × FindsBelow old.stack (operation_at o old.flow) lies × NextsOver old k o lies result old)) (sym busy) (refl, refl)
+    ((lies : Below) × FindsBelow old.stack old.files old.flow (operation_at o old.flow) lies × NextsOver old k o lies result old)) (sym busy) (refl, refl)
 
 -- ---- where the worker is
 
@@ -406,20 +491,62 @@ pub pre_ends : (kept after : ContextsKept) (k : WorkerId) (m : Option CtxId) (st
     → m ≡ sent_in state → has ≡ is_ok answer → EndsWhere has kept m after k.0 → EndsWhere (is_ok answer) kept (sent_in state) after k.0
 pre_ends kept after k m state has answer e f h = subst (λ b. EndsWhere b kept (sent_in state) after k.0) f (subst (λ x. EndsWhere has kept x after k.0) e h)
 
+-- streams and handles come along
+files_with : {T : Type 0} (old : World) (answer : Result (Unit {0}) T) (new x : World) (b : Bool) (f g : FileTable)
+    → Unless status.BadRequest b (status_of (strange answer)) old new ((status_of (strange answer) ≡ Ok tt) × (new ≡ x)) → f ≡ cond (is_ok answer) g old.files
+    → Unless status.BadRequest b (status_of (strange answer)) old (record new { files = f }) ((status_of (strange answer) ≡ Ok tt) × (◌≡◌ {A = World} (record new { files = f }) (record x { files = g })))
+files_with old answer new x true f g h files =
+    (h.0, ap (λ (w : World). record w { files = f }) h.1 ∙ ap (λ z. record x { files = z }) (files ∙ ap (λ c. cond c g old.files) (ok_is answer h.0)))
+files_with old answer new x false f g h files =
+    (h.0, ap (λ (w : World). record w { files = f }) h.1 ∙ ap (λ z. record old { files = z }) (files ∙ ap (λ c. cond c g old.files) (err_is answer h.0)))
+
+files_left : {T : Type 0} (old : World) (k : WorkerId) (o : OpId) (step : FlowRecord → FlowRecord) (given : PreState) (answer : Result (Unit {0}) T) (new : World) (b : Bool) (f : FileTable)
+    → Unless status.BadRequest b (status_of (strange answer)) old new
+    ((status_of (strange answer) ≡ Ok tt) × ReturnsFrom old k o step (sent old.contexts k (sent_in given)) new)
+    → f ≡ cond (is_ok answer) (filed_pre old o (changed o step old.flow) given) old.files
+    → Unless status.BadRequest b (status_of (strange answer)) old (record new { files = f })
+    ((status_of (strange answer) ≡ Ok tt) × PreReturnsFrom old k o step given (record new { files = f }))
+files_left old k o step given answer new true f h files =
+    let g = filed_pre old o (changed o step old.flow) given in (
+      h.0,
+      (
+        h.1.0,
+        ap (λ (w : World). record w { files = f }) h.1.1
+            ∙ ap (λ z. record (returned old k o step) { contexts = new.contexts; files = z }) (files ∙ ap (λ c. cond c g old.files) (ok_is answer h.0)),
+      ),
+    )
+files_left old k o step given answer new false f h files =
+    let g = filed_pre old o (changed o step old.flow) given in
+    (h.0, ap (λ (w : World). record w { files = f }) h.1 ∙ ap (λ z. record old { files = z }) (files ∙ ap (λ c. cond c g old.files) (err_is answer h.0)))
+
+-- streams after a preoperation's end, as the code finds them
+pre_files : (old : World) (o : OpId) (state : PreState) (step : FlowRecord → FlowRecord) (answer : Result (Unit {0}) Data) (t : FlowTable) (f : FileTable)
+    → (is_ok answer ≡ true → t ≡ changed o step old.flow)
+    → f ≡ cond (is_ok answer) (decided t state (option_map target_in (operation_at o old.flow)) old.files) old.files
+    → f ≡ cond (is_ok answer) (filed_pre old o (changed o step old.flow) state) old.files
+pre_files old o state step (Err x) t f leads e = e
+pre_files old o state step (Ok done) t f leads e =
+    e ∙ ap (λ (u : FlowTable). decided u state (option_map target_in (operation_at o old.flow)) old.files) (leads refl)
+    ∙ decided_told old.files (changed o step old.flow) state (operation_at o old.flow)
+
 pub pre_returns : (old : World) (k : WorkerId) (o : OpId) (i : InstanceId) (given : PreVerdict) (lent : Data) (state : PreState) (answer : Result (Unit {0}) Data) (t : FlowTable)
-    (ws : List Worker) (kept after : ContextsKept) → worker_at old.workers k ≡ Some (place.Pre o i) → IsSound old → state ≡ state_at old k o i given
+    (ws : List Worker) (kept after : ContextsKept) (fs : FileTable) → worker_at old.workers k ≡ Some (place.Pre o i) → IsSound old → state ≡ state_at old k o i given
     → answer ≡ told (data_reply lent) (Err lent) o old.flow → t ≡ changed o (pre_after state lent) old.flow → ws ≡ after_return old.workers k (is_ok answer)
     → old.contexts ≡ kept.table → EndsWhere (is_ok answer) kept (sent_in state) after k.0 → IsTied (kept_sent kept k.0 (sent_in state)) (changed o (pre_returned_of state lent) old.flow)
-    → PreReturns old k given lent (status_of (strange answer)) (record old { flow = t; workers = ws; contexts = after.table })
+    → fs ≡ cond (is_ok answer) (decided t state (option_map target_in (operation_at o old.flow)) old.files) old.files
+    → PreReturns old k given lent (status_of (strange answer)) (record old { flow = t; workers = ws; contexts = after.table; files = fs })
 unfolding PreReturns
-pre_returns old k o i given lent state answer t ws kept after at s same reply step workers contexts ends tied =
+pre_returns old k o i given lent state answer t ws kept after fs at s same reply step workers contexts ends tied files =
     let there = in_pre old k o i s at in
     let new : World = record old { flow = t; workers = ws } in
-    subst (PreReturnsAt old k given lent (status_of (strange answer)) (record new { contexts = after.table })) (sym at)
-    (subst (λ x. Unless status.BadRequest (told (λ r. data_fits r.operation r.path lent) false o old.flow) (status_of (strange answer)) old (record new { contexts = after.table })
-    ((status_of (strange answer) ≡ Ok tt) × ReturnsFrom old k o (pre_returned_of x lent) (sent old.contexts k (sent_in x)) (record new { contexts = after.table }))) same
+    let f = flow_ok old.flow o there.0 (λ x. data_fits x.operation x.path lent) (pre_returned_of state lent) lent answer t there.1 reply step in
+    subst (PreReturnsAt old k given lent (status_of (strange answer)) (record new { contexts = after.table; files = fs })) (sym at)
+    (subst (λ x. Unless status.BadRequest (told (λ r. data_fits r.operation r.path lent) false o old.flow) (status_of (strange answer)) old (record new { contexts = after.table; files = fs })
+    ((status_of (strange answer) ≡ Ok tt) × PreReturnsFrom old k o (pre_returned_of x lent) x (record new { contexts = after.table; files = fs }))) same
+    (files_left old k o (pre_returned_of state lent) state answer (record new { contexts = after.table }) (told (λ r. data_fits r.operation r.path lent) false o old.flow) fs
     (ends_where old k o (pre_returned_of state lent) kept after (sent_in state) answer new (told (λ r. data_fits r.operation r.path lent) false o old.flow) contexts
-    (comes_back_at old k o (λ x. data_fits x.operation x.path lent) (pre_returned_of state lent) lent answer t ws (there.0, there.1) reply step workers) ends tied))
+    (comes_back_at old k o (λ x. data_fits x.operation x.path lent) (pre_returned_of state lent) lent answer t ws (there.0, there.1) reply step workers) ends tied)
+    (pre_files old o state (pre_returned_of state lent) answer t fs f.0 files)))
 
 pub pre_tied : (old : World) (k : WorkerId) (o : OpId) (i : InstanceId) (lent : Data) (state : PreState) (answer : Result (Unit {0}) Data) (t : FlowTable) (kept after : ContextsKept)
     → worker_at old.workers k ≡ Some (place.Pre o i) → IsSound old → answer ≡ told (data_reply lent) (Err lent) o old.flow → t ≡ changed o (pre_after state lent) old.flow
@@ -444,15 +571,46 @@ pre_refused old k given lent h = refused_at (worker_at old.workers k) h
     refused_at (Some (place.Cleanup c)) h = (refl, refl)
     refused_at None h = (refl, refl)
 
-pub base_returns : (old : World) (k : WorkerId) (o : OpId) (call : Params) (given : Answer) (answer : Result (Unit {0}) (Params × Answer)) (t : FlowTable) (ws : List Worker)
-    → worker_at old.workers k ≡ Some (place.Base o) → IsSound old → answer ≡ told (base_reply call given) (Err (call, given)) o old.flow
-    → t ≡ changed o (base_after call given) old.flow → ws ≡ after_return old.workers k (is_ok answer)
-    → BaseReturns old k call given (status_of (strange answer)) (record old { flow = t; workers = ws })
+-- streams and handles after the base's answer, as the code finds them
+base_files : (old : World) (o : OpId) (why : Status) (step : FlowRecord → FlowRecord) (answer : Result (Unit {0}) (Params × Answer)) (t : FlowTable) (f : FileTable)
+    → (is_ok answer ≡ true → t ≡ changed o step old.flow)
+    → f ≡ after_answer old.files t (option_map target_in (operation_at o old.flow)) (cond (is_ok answer) (Some why) None)
+    → f ≡ cond (is_ok answer) (filed_base old o (changed o step old.flow) why) old.files
+base_files old o why step (Err x) t f leads e = e
+base_files old o why step (Ok done) t f leads e =
+    e ∙ ap (λ (u : FlowTable). answered u why (option_map target_in (operation_at o old.flow)) old.files) (leads refl)
+    ∙ answered_told old.files (changed o step old.flow) why (operation_at o old.flow)
+
+pub base_returns : (old : World) (k : WorkerId) (o : OpId) (call : Params) (given : Answer) (handle : HandleId) (answer : Result (Unit {0}) (Params × Answer)) (t : FlowTable) (ws : List Worker)
+    (fs : FileTable) → worker_at old.workers k ≡ Some (place.Base o) → IsSound old → handle ≡ record { 0 = old.files.next }
+    → answer ≡ told (base_reply call given) (Err (call, given)) o old.flow
+    → t ≡ changed o (base_after call given handle) old.flow → ws ≡ after_return old.workers k (is_ok answer)
+    → fs ≡ after_answer old.files t (option_map target_in (operation_at o old.flow)) (cond (is_ok answer) (Some given.status) None)
+    → BaseReturns old k call given (status_of (strange answer)) (record old { flow = t; workers = ws; files = fs })
 unfolding BaseReturns
-base_returns old k o call given answer t ws at s reply after workers =
+base_returns old k o call given handle answer t ws fs at s same reply after workers files =
     let there = in_base old k o s at in
-    subst (BaseReturnsAt old k call given (status_of (strange answer)) (record old { flow = t; workers = ws })) (sym at)
-    (comes_back_at old k o (base_fits call given) (base_returned_of call given) (call, given) answer t ws (there.0, there.1) reply after workers)
+    let next : HandleId = record { 0 = old.files.next } in
+    let step = subst (λ (h : HandleId). t ≡ changed o (base_after call given h) old.flow) same after in
+    let f = flow_ok old.flow o there.0 (base_fits call given) (base_returned_of call given next) (call, given) answer t there.1 reply step in
+    subst (BaseReturnsAt old k call given (status_of (strange answer)) (record old { flow = t; workers = ws; files = fs })) (sym at)
+    (files_with old answer (record old { flow = t; workers = ws }) (returned old k o (base_returned_of call given next)) (told (base_fits call given) false o old.flow) fs
+    (filed_base old o (changed o (base_returned_of call given next) old.flow) given.status)
+    (comes_back_at old k o (base_fits call given) (base_returned_of call given next) (call, given) answer t ws (there.0, there.1) reply step workers)
+    (base_files old o given.status (base_returned_of call given next) answer t fs f.0 files))
+
+-- a create at the base has room for its handle
+pub base_room : (old : World) (k : WorkerId) (o : OpId) (why : Status) (b : Bool) → worker_at old.workers k ≡ Some (place.Base o) → old.flow.next < 2 ^ 64 → IsSound old
+    → HasRoom old.files (option_map target_in (operation_at o old.flow)) (cond b (Some why) None)
+base_room old k o why true at small s =
+    let there = in_base old k o s at in
+    room_at old o why (operation_at o old.flow) refl small s.filed
+    (λ r e. ap is_unanswered (ap (λ (x : FlowRecord). x.stage) (same_Some r there.0 (sym e ∙ there.1)) ∙ there.2))
+base_room old k o why false at small s = no_answer (option_map target_in (operation_at o old.flow))
+  where
+    no_answer : (m : Option Target) → HasRoom old.files m None
+    no_answer None = tt
+    no_answer (Some x) = tt
 
 pub base_refused : (old : World) (k : WorkerId) (call : Params) (given : Answer) → base_of (worker_at old.workers k) ≡ None → BaseReturns old k call given (Err status.WrongStep) old
 unfolding BaseReturns
@@ -550,69 +708,145 @@ post_refused old k given lent h d = refused_at lent (worker_at old.workers k) h 
 
 -- ---- begin
 
-pub begins : (old : World) (v : VolumeId) (result : Result OpId Status) (t : FlowTable) → stack.is_mounted (slice_get old.stack.volumes v.0) ≡ true
-    → AnswersOrMemory (first_of ((is_full old.flow, status.TooMany) ∷ [])) result old.flow t
-    (λ (o : OpId). (o.0 ≡ old.flow.next) × (t ≡ begun v None None old.stack.births params.List old.flow))
-    → Begins old (begin.List v) result (record old { flow = t })
-unfolding Begins
-begins old v result t mounted h =
-    let there : nat_le (length old.stack.volumes) v.0 ≡ false = lt-leb_there (slice_get old.stack.volumes v.0) refl mounted in
-    let same : first_of (begin_refusals old (begin.List v)) ≡ first_of ((is_full old.flow, status.TooMany) ∷ []) =
-    ap (λ b. cond b (Some status.NoVolume) (cond (not (stack.is_mounted (slice_get old.stack.volumes v.0))) (Some status.Dismounting) (first_of ((is_full old.flow, status.TooMany) ∷ [])))) there
-    ∙ ap (λ b. cond (not b) (Some status.Dismounting) (first_of ((is_full old.flow, status.TooMany) ∷ []))) mounted in
-    begun_with (first_of (begin_refusals old (begin.List v))) (first_of ((is_full old.flow, status.TooMany) ∷ [])) same result h
-  where
-    lt-leb_there : (m : Option Volume) → slice_get old.stack.volumes v.0 ≡ m → stack.is_mounted m ≡ true → nat_le (length old.stack.volumes) v.0 ≡ false
-    lt-leb_there None e h = absurd (false≢true h)
-    lt-leb_there (Some x) e h = lt-leb (length old.stack.volumes) v.0 (slice_get_within old.stack.volumes v.0 x e)
-
-    begun_with : (a b : Option Status) → a ≡ b → (result : Result OpId Status)
-        → AnswersOrMemory b result old.flow t (λ (o : OpId). (o.0 ≡ old.flow.next) × (t ≡ begun v None None old.stack.births params.List old.flow))
-        → AnswersOrMemory a result old (record old { flow = t })
-        (λ (o : OpId). (o.0 ≡ old.flow.next) × (◌≡◌ {A = World} (record old { flow = t }) (record old { flow = begun_flow old (begin.List v) })))
-    begun_with a b e (Ok o) h = (e ∙ h.0, (h.1.0, ap (λ x. record old { flow = x }) h.1.1))
-    begun_with a b e (Err why) h = (subst (λ x. IsRefusalOrMemory x why) (sym e) h.0, ap (λ x. record old { flow = x }) h.1)
-
 found : (xs : List Volume) (k : ℕ) → k < length xs → (x : Volume) × (slice_get xs k ≡ Some x)
 found [] k l = absurd (omega arith)
 found (x ∷ xs) zero l = (x, refl)
 found (x ∷ xs) (suc k) l = found xs k (omega arith)
 
-pub begin_lacks : (old : World) (v : VolumeId) → slice_get old.stack.volumes v.0 ≡ None → Begins old (begin.List v) (Err status.NoVolume) old
-unfolding Begins
-begin_lacks old v h =
-    let past : nat_le (length old.stack.volumes) v.0 ≡ true = le_from (cases_Bool (nat_le (length old.stack.volumes) v.0)) in (
-      subst (λ b. IsRefusalOrMemory (cond b (Some status.NoVolume) (cond (not (stack.is_mounted (slice_get old.stack.volumes v.0))) (Some status.Dismounting)
-          (first_of ((is_full old.flow, status.TooMany) ∷ [])))) status.NoVolume) (sym past) refl,
-      refl,
-    )
+-- what refuses an operation on a volume, by the volume's phase
+pub volume_refused : (w : World) (v : VolumeId) (many : Bool)
+    → refusal_by (option_map (λ (x : Volume). x.phase) (slice_get w.stack.volumes v.0)) many ≡ first_of (volume_refusals w v many)
+volume_refused w v many = by_row (slice_get w.stack.volumes v.0) refl
   where
-    le_from : (nat_le (length old.stack.volumes) v.0 ≡ true) ⊎ (nat_le (length old.stack.volumes) v.0 ≡ false) → nat_le (length old.stack.volumes) v.0 ≡ true
-    le_from (inl e) = e
-    le_from (inr e) =
-        let l = leb-false (length old.stack.volumes) v.0 e in
-        let there = found old.stack.volumes v.0 l in
+    others : Bool → Option Status
+    others mounted = cond (not mounted) (Some status.Dismounting) (cond many (Some status.TooMany) None)
+
+    past : (b : Bool) → nat_le (length w.stack.volumes) v.0 ≡ b → slice_get w.stack.volumes v.0 ≡ None → b ≡ true
+    past true e h = refl
+    past false e h =
+        let there = found w.stack.volumes v.0 (leb-false (length w.stack.volumes) v.0 e) in
         absurd (none-some there.0 (sym h ∙ there.1))
 
--- the same, from the volume's phase
-pub phase_lacks : (old : World) (v : VolumeId) → option_map (λ (x : Volume). x.phase) (slice_get old.stack.volumes v.0) ≡ None
-    → Begins old (begin.List v) (Err status.NoVolume) old
-phase_lacks old v h = begin_lacks old v (no_phase (slice_get old.stack.volumes v.0) h)
-  where
-    no_phase : (m : Option Volume) → option_map (λ (x : Volume). x.phase) m ≡ None → m ≡ None
-    no_phase None h = refl
-    no_phase (Some x) h = absurd (none-some x.phase (sym h))
+    by_phase : (b : Bool) → cond b (cond many (Some status.TooMany) None) (Some status.Dismounting) ≡ others b
+    by_phase true = refl
+    by_phase false = refl
 
-pub begin_dismounts : (old : World) (v : VolumeId) (x : Volume) → slice_get old.stack.volumes v.0 ≡ Some x → stack.is_mounted_phase x.phase ≡ false
-    → Begins old (begin.List v) (Err status.Dismounting) old
+    by_row : (m : Option Volume) → slice_get w.stack.volumes v.0 ≡ m → refusal_by (option_map (λ (x : Volume). x.phase) m) many ≡ first_of (volume_refusals w v many)
+    by_row None e = sym (ap (λ b. cond b (Some status.NoVolume) (others (stack.is_mounted (slice_get w.stack.volumes v.0)))) (past (nat_le (length w.stack.volumes) v.0) refl e))
+    by_row (Some x) e =
+        by_phase (stack.is_mounted_phase x.phase)
+        ∙ sym (ap (λ b. cond b (Some status.NoVolume) (others (stack.is_mounted (slice_get w.stack.volumes v.0)))) (lt-leb (length w.stack.volumes) v.0 (slice_get_within w.stack.volumes v.0 x e))
+        ∙ ap (λ y. others (stack.is_mounted y)) e)
+
+-- an operation began, where nothing refused it but want of memory
+pub begun_as : (old : World) (refusal : Option Status) (v : VolumeId) (stream : Option StreamId) (handle : Option HandleId) (p : Params) (result : Result OpId Status) (t : FlowTable)
+    (f g : FileTable) → refusal ≡ None → is_full old.flow ≡ false
+    → AnswersOrMemory (first_of ((is_full old.flow, status.TooMany) ∷ [])) result old.flow t (λ (o : OpId). (o.0 ≡ old.flow.next) × (t ≡ begun v stream handle old.stack.births p old.flow))
+    → f ≡ cond (is_ok result) g old.files
+    → AnswersOrMemory refusal result old (record old { flow = t; files = f })
+    (λ (o : OpId). (o.0 ≡ old.flow.next) × (◌≡◌ {A = World} (record old { flow = t; files = f }) (record old { flow = begun v stream handle old.stack.births p old.flow; files = g })))
+begun_as old refusal v stream handle p (Ok o) t f g free room h files =
+    (free, (h.1.0, ap (λ x. record old { flow = x; files = f }) h.1.1 ∙ ap (λ x. record old { flow = begun v stream handle old.stack.births p old.flow; files = x }) files))
+begun_as old refusal v stream handle p (Err why) t f g free room h files =
+    let memory : why ≡ status.NoMemory = subst (λ b. IsRefusalOrMemory (cond b (Some status.TooMany) None) why) room h.0 in
+    (subst (λ r. IsRefusalOrMemory r why) (sym free) memory, ap (λ x. record old { flow = x; files = f }) h.1 ∙ ap (λ x. record old { files = x }) files)
+
+-- ---- a create begins
+
+pub creates : (old : World) (v : VolumeId) (path : List ℕ) (mode : CreateMode) (result : Result OpId Status) (t : FlowTable) (f : FileTable)
+    → first_of (volume_refusals old v (is_full old.flow || has_no_handle_left old)) ≡ None
+    → AnswersOrMemory (first_of ((is_full old.flow, status.TooMany) ∷ [])) result old.flow t
+    (λ (o : OpId). (o.0 ≡ old.flow.next) × (t ≡ begun v (Some (stream_for v path old.flow.next old.files)) None old.stack.births (params.Create path mode) old.flow))
+    → f ≡ cond (is_ok result) (created v path old.flow.next old.files) old.files
+    → Begins old (begin.Create v path mode) result (record old { flow = t; files = f })
 unfolding Begins
-begin_dismounts old v x h phase =
-    let there : nat_le (length old.stack.volumes) v.0 ≡ false = lt-leb (length old.stack.volumes) v.0 (slice_get_within old.stack.volumes v.0 x h) in
-    let mounted : stack.is_mounted (slice_get old.stack.volumes v.0) ≡ false = ap stack.is_mounted h ∙ phase in
-    let which : first_of (begin_refusals old (begin.List v)) ≡ Some status.Dismounting =
-    ap (λ b. cond b (Some status.NoVolume) (cond (not (stack.is_mounted (slice_get old.stack.volumes v.0))) (Some status.Dismounting) (first_of ((is_full old.flow, status.TooMany) ∷ [])))) there
-    ∙ ap (λ b. cond (not b) (Some status.Dismounting) (first_of ((is_full old.flow, status.TooMany) ∷ []))) mounted in
-    (subst (λ m. IsRefusalOrMemory m status.Dismounting) (sym which) refl, refl)
+creates old v path mode result t f free h files =
+    begun_as old (first_of (volume_refusals old v (is_full old.flow || has_no_handle_left old))) v (Some (stream_for v path old.flow.next old.files)) None (params.Create path mode)
+    result t f (created v path old.flow.next old.files) free (or_left (is_full old.flow) (has_no_handle_left old) (full_from _ _ (is_full old.flow || has_no_handle_left old) free)) h files
+
+pub lists : (old : World) (v : VolumeId) (result : Result OpId Status) (t : FlowTable) → first_of (volume_refusals old v (is_full old.flow)) ≡ None
+    → AnswersOrMemory (first_of ((is_full old.flow, status.TooMany) ∷ [])) result old.flow t
+    (λ (o : OpId). (o.0 ≡ old.flow.next) × (t ≡ begun v None None old.stack.births params.List old.flow))
+    → Begins old (begin.List v) result (record old { flow = t })
+unfolding Begins
+lists old v result t free h = by_result result h
+  where
+    by_result : (result : Result OpId Status) → AnswersOrMemory (first_of ((is_full old.flow, status.TooMany) ∷ [])) result old.flow t
+        (λ (o : OpId). (o.0 ≡ old.flow.next) × (t ≡ begun v None None old.stack.births params.List old.flow))
+        → AnswersOrMemory (first_of (volume_refusals old v (is_full old.flow))) result old (record old { flow = t })
+        (λ (o : OpId). (o.0 ≡ old.flow.next) × (◌≡◌ {A = World} (record old { flow = t }) (record old { flow = begun v None None old.stack.births params.List old.flow })))
+    by_result (Ok o) h = (free, (h.1.0, ap (λ x. record old { flow = x }) h.1.1))
+    by_result (Err why) h =
+        let memory : why ≡ status.NoMemory = subst (λ b. IsRefusalOrMemory (cond b (Some status.TooMany) None) why) (full_from _ _ (is_full old.flow) free) h.0 in
+        (subst (λ r. IsRefusalOrMemory r why) (sym free) memory, ap (λ x. record old { flow = x }) h.1)
+
+-- an event that is refused, and one that wants memory
+pub begin_refused_as : (old : World) (what : Begin) (why : Status) → begin_refused old what ≡ Some why → Begins old what (Err why) old
+unfolding Begins
+begin_refused_as old what why h = (subst (λ r. IsRefusalOrMemory r why) (sym h) refl, refl)
+
+pub begin_wants : (old : World) (what : Begin) → begin_refused old what ≡ None → Begins old what (Err status.NoMemory) old
+unfolding Begins
+begin_wants old what h = (subst (λ r. IsRefusalOrMemory r status.NoMemory) (sym h) refl, refl)
+
+-- ---- an operation on a handle begins
+
+pub asks : (old : World) (h : HandleId) (p : Params) (x : FileHandle) (v : VolumeId) (result : Result OpId Status) (t : FlowTable) (f : FileTable) → IsAsked old h p x v
+    → AnswersOrMemory (first_of ((is_full old.flow, status.TooMany) ∷ [])) result old.flow t
+    (λ (o : OpId). (o.0 ≡ old.flow.next) × (t ≡ begun v (Some x.stream) (Some h) old.stack.births p old.flow))
+    → f ≡ cond (is_ok result) (moved_on (operation_of p) h old.flow.next old.files) old.files
+    → Asks old h p result (record old { flow = t; files = f })
+unfolding Asks
+asks old h p x v result t f asked event files =
+    let y = asked.stream in
+    let parts = asked_within (is_within_limits p) (refused_at old p (handle_at h old.files)) asked.free in
+    let on : refused_on old p x (Some y) ≡ None = ap (refused_on old p x) (sym asked.there) ∙ ap (refused_at old p) (sym asked.handle) ∙ parts.1 in
+    let room = full_from _ _ (is_full old.flow) (none_else (phase_refusal old.flow (operation_of p) x.phase) _ on) in
+    let here : asked_begun old h p ≡ begun_on old h p x (Some y) = ap (begun_at old h p) asked.handle ∙ ap (begun_on old h p x) asked.there in
+    let begun' = begun_as old (asked_refused old h p) y.volume (Some x.stream) (Some h) p result t f (moved_on (operation_of p) h old.flow.next old.files) asked.free room
+    (subst (λ (u : VolumeId). AnswersOrMemory (first_of ((is_full old.flow, status.TooMany) ∷ [])) result old.flow t
+    (λ (o : OpId). (o.0 ≡ old.flow.next) × (t ≡ begun u (Some x.stream) (Some h) old.stack.births p old.flow))) (sym asked.volume) event) files in
+    subst (λ (w : World). AnswersOrMemory (asked_refused old h p) result old (record old { flow = t; files = f })
+    (λ (o : OpId). (o.0 ≡ old.flow.next) × (◌≡◌ {A = World} (record old { flow = t; files = f }) w))) (sym here) begun'
+
+-- what is asked leaves a sound World
+pub asks_sound : (old : World) (h : HandleId) (p : Params) (result : Result OpId Status) (new : World) → Asks old h p result new → is_create (operation_of p) ≡ false → IsSound old → IsSound new
+unfolding Asks
+asks_sound old h p (Err why) new e none s = subst IsSound (sym e.1) s
+asks_sound old h p (Ok o) new e none s = subst IsSound (sym e.1.1) (asked_sound old h p e.0 none s)
+
+pub asks_refused : (old : World) (h : HandleId) (p : Params) (why : Status) → asked_refused old h p ≡ Some why → Asks old h p (Err why) old
+unfolding Asks
+asks_refused old h p why e = (subst (λ r. IsRefusalOrMemory r why) (sym e) refl, refl)
+
+-- which the event is of, for a request
+pub asks_begins : (old : World) (h : HandleId) (asked : FileRequest) (result : Result OpId Status) (new : World) → Asks old h (params_of asked) result new
+    → Begins old (begin.OnHandle h asked) result new
+unfolding Asks Begins
+asks_begins old h asked result new e = e
+
+-- what refuses, in its order
+pub asked_past : (w : World) (h : HandleId) (p : Params) → is_within_limits p ≡ false → asked_refused w h p ≡ Some status.BadRequest
+asked_past w h p e = ap (λ b. cond b (refused_at w p (handle_at h w.files)) (Some status.BadRequest)) e
+
+asked_by : (w : World) (h : HandleId) (p : Params) (m : Option FileHandle) → is_within_limits p ≡ true → handle_at h w.files ≡ m → asked_refused w h p ≡ refused_at w p m
+asked_by w h p m within e = ap (λ b. cond b (refused_at w p (handle_at h w.files)) (Some status.BadRequest)) within ∙ ap (refused_at w p) e
+
+pub asked_unopened : (w : World) (h : HandleId) (p : Params) → is_within_limits p ≡ true → handle_at h w.files ≡ None → asked_refused w h p ≡ Some status.NoHandle
+asked_unopened w h p within e = asked_by w h p None within e
+
+pub asked_phase : (w : World) (h : HandleId) (p : Params) (x : FileHandle) (v : VolumeId) (why : Status) → is_within_limits p ≡ true → handle_at h w.files ≡ Some x
+    → option_map (λ (y : FileStream). y.volume) (stream_at x.stream w.files) ≡ Some v → phase_refusal w.flow (operation_of p) x.phase ≡ Some why → asked_refused w h p ≡ Some why
+asked_phase w h p x v why within open' there refuses =
+    ap (λ b. cond b (refused_at w p (handle_at h w.files)) (Some status.BadRequest)) within ∙ ap (refused_at w p) open' ∙ by_stream (stream_at x.stream w.files) there
+  where
+    by_stream : (m : Option FileStream) → option_map (λ (y : FileStream). y.volume) m ≡ Some v → refused_on w p x m ≡ Some why
+    by_stream None e = absurd (none-some v e)
+    by_stream (Some y) e = ap (λ m. or_else m (first_of (volume_refusals w y.volume (is_full w.flow)))) refuses
+
+pub asked_on : (w : World) (h : HandleId) (p : Params) (x : FileHandle) (m : Option FileStream) → is_within_limits p ≡ true → handle_at h w.files ≡ Some x → stream_at x.stream w.files ≡ m
+    → asked_refused w h p ≡ refused_on w p x m
+asked_on w h p x m within e there = asked_by w h p (Some x) within e ∙ ap (refused_on w p x) there
 
 -- ---- collect
 
@@ -620,20 +854,3 @@ pub collects : (old : World) (o : OpId) (result : Result Answer Status) (t : Flo
     → t ≡ collected_of o old.flow → Collects old o result (record old { flow = t })
 unfolding Collects
 collects old o result t reply after = (reply, ap (λ x. record old { flow = x }) after)
-
-pub phase_dismounts : (old : World) (v : VolumeId) (p : VolumePhase) → option_map (λ (x : Volume). x.phase) (slice_get old.stack.volumes v.0) ≡ Some p
-    → stack.is_mounted_phase p ≡ false → Begins old (begin.List v) (Err status.Dismounting) old
-phase_dismounts old v p h other = some_phase (slice_get old.stack.volumes v.0) refl h
-  where
-    some_phase : (m : Option Volume) → slice_get old.stack.volumes v.0 ≡ m → option_map (λ (x : Volume). x.phase) m ≡ Some p
-        → Begins old (begin.List v) (Err status.Dismounting) old
-    some_phase None e h = absurd (none-some p h)
-    some_phase (Some x) e h = begin_dismounts old v x e (ap stack.is_mounted_phase (same_Some x.phase p h) ∙ other)
-
-pub phase_mounted : (old : World) (v : VolumeId) (p : VolumePhase) → option_map (λ (x : Volume). x.phase) (slice_get old.stack.volumes v.0) ≡ Some p
-    → stack.is_mounted_phase p ≡ true → stack.is_mounted (slice_get old.stack.volumes v.0) ≡ true
-phase_mounted old v p h mounted = some_phase (slice_get old.stack.volumes v.0) h
-  where
-    some_phase : (m : Option Volume) → option_map (λ (x : Volume). x.phase) m ≡ Some p → stack.is_mounted m ≡ true
-    some_phase None h = absurd (none-some p h)
-    some_phase (Some x) h = ap stack.is_mounted_phase (same_Some x.phase p h) ∙ mounted

@@ -5,3 +5,6 @@ pub mod Fields
 pub mod Callers
 pub mod Hands
 pub mod Setting
+pub mod Targets
+pub mod FilesKept
+pub mod Begun

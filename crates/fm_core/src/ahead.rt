@@ -3,12 +3,14 @@
 ghost use Rattle.std.specs.Prelude.{◌≡◌, false, slice_get};
 ghost use Rattle.fm_flow.specs.Table.{operation_at, told};
 ghost use Rattle.fm_core.specs.Ahead.{IsDownOrCall, state_counted};
-ghost use Rattle.fm_world.specs.Events.{FindsBelow, LiesBelow, has_pre, has_post, drains_next, is_stopping_ask};
+ghost use Rattle.fm_flow.specs.Creates.{is_create};
+ghost use Rattle.fm_world.specs.Events.{FindsBelow, LiesBelow, AnswersBelow, base_known, known_create, known_at, known_on, unlinks, has_pre, has_post, drains_next, is_stopping_ask};
 
+use crate::files::Files;
 use fm_data::PreVerdict;
 use fm_flow::{Ask, Below, Flow, OperationRecord, PreState, Stage, counted};
 use fm_stack::{Phase, Stack};
-use fm_types::{InstanceId, OpId, Operation};
+use fm_types::{HandleId, InstanceId, OpId, Operation, Status, StreamId};
 
 /// Whether the filter of an instance has a callback before the operation.
 fn has_pre(stack: &Stack, instance: InstanceId, operation: Operation) -> bool
@@ -30,9 +32,99 @@ fn has_post(stack: &Stack, instance: InstanceId, operation: Operation) -> bool
     }
 }
 
+/// Whether a close of that handle unlinks the file, by a call of the base.
+fn unlinks(files: &Files, flow: &Flow, stream: StreamId, handle: HandleId) -> bool
+    ensures { result ≡ unlinks files.now.table flow.now stream handle }
+{
+    files.is_marked(stream)
+        && !(files.has_other_handle(stream, handle) || flow.has_create_on(stream))
+}
+
+/// What the base answers to an operation on an open handle without a call of the device.
+fn known_on(
+    files: &Files,
+    flow: &Flow,
+    operation: Operation,
+    stream: StreamId,
+    handle: HandleId,
+) -> Option<Status>
+    ensures { result ≡ known_on files.now.table flow.now operation stream handle }
+{
+    match operation {
+        Operation::SetDelete | Operation::Cleanup => Some(Status::Success),
+        Operation::Close => {
+            if unlinks(files, flow, stream, handle) {
+                None
+            } else {
+                Some(Status::Success)
+            }
+        }
+        Operation::Create
+        | Operation::Read
+        | Operation::Write
+        | Operation::QuerySize
+        | Operation::SetSize
+        | Operation::Flush
+        | Operation::List => None,
+    }
+}
+
+/// The same for an operation on a handle, which may be closed by now.
+fn known_at(
+    files: &Files,
+    flow: &Flow,
+    operation: Operation,
+    stream: Option<StreamId>,
+    handle: Option<HandleId>,
+) -> Option<Status>
+    ensures { result ≡ known_at files.now.table flow.now operation stream handle }
+{
+    let stream = stream?;
+    let handle = handle?;
+    if files.handle(handle).is_none() {
+        return Some(Status::NoHandle);
+    }
+    known_on(files, flow, operation, stream, handle)
+}
+
+/// The same for a create, whose file may be marked for deletion.
+fn known_create(files: &Files, stream: Option<StreamId>) -> Option<Status>
+    ensures { result ≡ known_create files.now.table stream }
+{
+    if files.is_marked(stream?) {
+        Some(Status::DeletePending)
+    } else {
+        None
+    }
+}
+
+/// What the base answers without a call of the device.
+fn base_known(files: &Files, flow: &Flow, operation: &OperationRecord) -> Option<Status>
+    ensures { result ≡ base_known files.now.table flow.now operation.now }
+{
+    if is_create(operation.operation()) {
+        known_create(files, operation.stream())
+    } else {
+        known_at(
+            files,
+            flow,
+            operation.operation(),
+            operation.stream(),
+            operation.handle(),
+        )
+    }
+}
+
+fn is_create(operation: Operation) -> bool
+    ensures { result ≡ is_create operation }
+{
+    matches!(operation, Operation::Create)
+}
+
 /// What lies below an operation: the next instance, or the base.
-fn found_below(stack: &Stack, operation: &OperationRecord) -> Below
-    ensures { LiesBelow stack.now operation.now result }
+fn found_below(stack: &Stack, files: &Files, flow: &Flow, operation: &OperationRecord) -> Below
+    ensures lies { LiesBelow stack.now operation.now result }
+    ensures answers { AnswersBelow files.now.table flow.now operation.now result }
 {
     match stack.next_below(
         operation.volume(),
@@ -44,20 +136,23 @@ fn found_below(stack: &Stack, operation: &OperationRecord) -> Below
             instance,
             has_pre(stack, instance, operation.operation()),
         ),
-        None => Below::Call,
+        None => match base_known(files, flow, operation) {
+            Some(status) => Below::Known(status),
+            None => Below::Call,
+        },
     }
 }
 
 /// The same for an operation by its number; it is looked up on the way down alone.
-pub(crate) fn lies_below(stack: &Stack, flow: &Flow, operation: OpId) -> Below
-    ensures finds { FindsBelow stack.now (operation_at operation flow.now) result }
+pub(crate) fn lies_below(stack: &Stack, files: &Files, flow: &Flow, operation: OpId) -> Below
+    ensures finds { FindsBelow stack.now files.now.table flow.now (operation_at operation flow.now) result }
     ensures down { IsDownOrCall (operation_at operation flow.now) result }
 {
     let Some(record) = flow.record(operation) else {
         return Below::Call;
     };
     match record.stage() {
-        Stage::Descending => found_below(stack, record),
+        Stage::Descending => found_below(stack, files, flow, record),
         _ => Below::Call,
     }
 }

@@ -5,10 +5,15 @@
 #![tactic(auto)]
 
 mod ahead;
+mod answers;
+mod begins;
 mod bodies;
 mod caller;
 mod cleanups;
 mod contexts;
+#[cfg(test)]
+mod file_tests;
+mod files;
 mod hands;
 mod instances;
 mod operations;
@@ -17,6 +22,7 @@ mod readers;
 mod returned;
 mod runs;
 mod state;
+mod target;
 #[cfg(test)]
 mod tests;
 mod workers;
@@ -28,4 +34,7 @@ pub use fm_flow::{
     Ask, DrainVisit, Entry, FlowAction as Action, PostState, PostVisit, PreState, PreVisit, Stage,
 };
 pub use fm_stack::{FilterPhase, Phase};
-pub use fm_world::{Begin, Refused, SetAnswer, Step, StepReply, Worker};
+pub use fm_world::{
+    Begin, FileHandle, FileRequest, FileStream, HandlePhase, Refused, SetAnswer, Step, StepReply,
+    Worker,
+};

@@ -1,66 +1,26 @@
 //! Events on operations.
 
-ghost use Rattle.std.specs.Prelude.{◌≡◌, IfErr, Some, None, Ok, true, slice_get};
-ghost use Rattle.fm_stack.specs.Events.{is_mounted, is_mounted_phase};
+ghost use Rattle.std.specs.Prelude.{◌≡◌, IfErr, Some, None, Ok};
 ghost use Rattle.fm_world.specs.Workers.{worker_at};
 ghost use Rattle.fm_core.specs.Places.{post_of, drain_of};
-ghost use Rattle.fm_world.specs.Events.{Begins, Nexts, PreReturns, BaseReturns, PostReturns, Collects};
+ghost use Rattle.fm_world.specs.Events.{Nexts, PreReturns, BaseReturns, PostReturns, Collects};
 ghost use Rattle.fm_world.specs.Hands.{OnlyHandOf, KeepsHands, HoldsMore, HoldsNone, given_by_next};
 ghost use Rattle.fm_core.specs.Returned.{status_of};
 
 use crate::ahead::{drains_next, lies_below, state_given};
+use crate::answers::{known_in, note_answer, note_verdict, taken};
 use crate::hands::{bring_back, end_callback, of_hand, sent_in};
 use crate::place::{base_of, drain_of, post_of, pre_of};
 use crate::returned::{answer_strange, answer_strange_data, note_return};
 use crate::state::State;
+use crate::target::target_of;
 use crate::workers::{note_next, put};
 use fm_data::{Answer, CallbackData, Params, PostVerdict, PreVerdict};
 use fm_flow::FlowAction;
-use fm_stack::VolumePhase;
-use fm_types::{InstanceId, OpId, Status, VolumeId, WorkerId};
-use fm_world::{Begin, Refused, Worker};
-
-/// Whether a volume in that phase is in use.
-fn is_mounted(phase: VolumePhase) -> bool
-    ensures { result ≡ is_mounted_phase phase }
-{
-    matches!(phase, VolumePhase::Mounted)
-}
+use fm_types::{HandleId, InstanceId, OpId, Status, WorkerId};
+use fm_world::{Refused, Worker};
 
 impl State {
-    /// Begins an operation, and takes all memory that it will ever need. It visits the instances that are attached now. Refused, nothing changed: 7
-    /// where the volume isn't there, 33 where it is dismounting, 29 at 256 operations that weren't collected or past 2^64 - 1 operations of a run, 1.
-    pub fn begin(&mut self, what: Begin) -> Result<OpId, Status>
-        ensures event { Begins self.old what result self.new }
-        ensures hand { KeepsHands self.old self.new }
-    {
-        match what {
-            Begin::List { volume } => self.begin_list(volume),
-        }
-    }
-
-    /// Begins a listing.
-    fn begin_list(&mut self, volume: VolumeId) -> Result<OpId, Status>
-        ensures { Begins self.old (Begin.List volume) result self.new }
-    {
-        let Some(phase) = self.stack.volume_phase(volume) else {
-            return Err(Status::NoVolume);
-        };
-        if !is_mounted(phase) {
-            return Err(Status::Dismounting);
-        }
-        self.begin_mounted(volume)
-    }
-
-    /// Begins a listing of a volume that is there and in use.
-    fn begin_mounted(&mut self, volume: VolumeId) -> Result<OpId, Status>
-        requires { is_mounted (slice_get self.old.stack.volumes volume.0) ≡ true }
-        ensures { Begins self.old (Begin.List volume) result self.new }
-    {
-        self.flow
-            .begin(volume, None, None, self.stack.births(), Params::List)
-    }
-
     /// Answers what a worker has to do next for an operation: call a callback or the base, ask again (an entry was recorded without a call), wait until
     /// a filter resumes it, or nothing more. After a callback or a call the worker is inside it. Refused with 30, nothing changed: where the worker
     /// isn't idle or isn't there, where there is no such operation or another worker is inside it, and where the next callback is a synchronized
@@ -74,11 +34,15 @@ impl State {
             return Err(Status::WrongStep);
         }
         self.contexts.laws();
-        let below = lies_below(&self.stack, &self.flow, operation);
+        let _next = self.flow.next_number();
+        let below = lies_below(&self.stack, &self.files, &self.flow, operation);
         let drains = drains_next(&self.stack, &self.flow, operation);
+        let target = target_of(&self.flow, operation);
         let answer = self.flow.next(operation, worker, below, drains);
         bring_back(&mut self.contexts, worker, &answer);
         note_next(&mut self.workers, worker, operation, &answer);
+        let known = known_in(&answer, below);
+        note_answer(&mut self.files, &self.flow, target, known);
         answer
     }
 
@@ -106,9 +70,11 @@ impl State {
         let verdict = of_hand(&self.contexts, worker, verdict);
         let state = state_given(&self.stack, &self.flow, operation, instance, verdict);
         let sent = sent_in(&state);
+        let target = target_of(&self.flow, operation);
         let answer = self.flow.pre_returned(operation, state, lent);
         end_callback(&mut self.contexts, worker, sent, answer.is_ok());
         note_return(&mut self.workers, worker, answer.is_ok());
+        note_verdict(&mut self.files, &self.flow, target, state, answer.is_ok());
         answer_strange(answer)
     }
 
@@ -130,8 +96,14 @@ impl State {
                 handed_back: (call, given),
             });
         };
-        let answer = self.flow.base_returned(operation, call, given);
+        let _next = self.flow.next_number();
+        let target = target_of(&self.flow, operation);
+        let handle = HandleId(self.files.next_number());
+        let status = given.status;
+        let answer = self.flow.base_returned(operation, call, given, handle);
         note_return(&mut self.workers, worker, answer.is_ok());
+        let status = taken(answer.is_ok(), status);
+        note_answer(&mut self.files, &self.flow, target, status);
         answer_strange(answer)
     }
 

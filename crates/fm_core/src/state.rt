@@ -6,6 +6,7 @@ ghost use Rattle.fm_world.specs.Workers.{worker_at, is_idle};
 ghost use Rattle.fm_world.specs.Headline.{Headline};
 ghost use Rattle.fm_world.specs.Sound.{IsSound};
 
+use crate::files::Files;
 use crate::workers::WORKERS;
 use fm_ctx::Contexts;
 use fm_flow::Flow;
@@ -18,7 +19,7 @@ use std::marker::Model;
 /// How many filters are loaded at most.
 const FILTERS: usize = 16;
 
-/// The state of a filter manager: its filters, volumes and instances, its operations under way, the contexts, where each of 48 workers is, and what
+/// The state of a filter manager: its filters, volumes and instances, its operations under way, the contexts, streams and handles, where each of 48 workers is, and what
 /// each filter's cleanups returned in all.
 #[derive(Drop)]
 pub struct State {
@@ -27,6 +28,7 @@ pub struct State {
     pub(crate) contexts: Contexts,
     pub(crate) workers: [Worker; WORKERS],
     pub(crate) totals: [u64; FILTERS],
+    pub(crate) files: Files,
 }
 
 impl Model for State {
@@ -36,25 +38,27 @@ impl Model for State {
 
     ghost use Rattle.fm_core.specs.Fields.{world_of, IsState};
 
-    ghost view = { λ s. world_of s.stack s.flow s.workers s.contexts s.totals };
+    ghost view = { λ s. world_of s.stack s.flow s.workers s.contexts s.totals s.files };
 
-    ghost invariant = { λ s. IsState (world_of s.stack s.flow s.workers s.contexts s.totals) s.contexts };
+    ghost invariant = { λ s. IsState (world_of s.stack s.flow s.workers s.contexts s.totals s.files) s.contexts };
 }
 
 impl State {
     /// The state before the first event: nothing is registered, mounted or attached, nothing is under way, each worker is idle and holds nothing. It
-    /// takes the memory for all that workers will ever hold. Refused with 1 where memory was refused.
+    /// takes the memory for all that workers will ever hold, and for all handles. Refused with 1 where memory was refused.
     pub fn new(alloc: Global) -> Result<State, Status>
         ensures empty { IfOk result (λ state. state ≡ empty_world) }
         ensures memory { IfErr result (λ status. status ≡ Status.NoMemory) }
     {
         let contexts = Contexts::new(alloc)?;
+        let files = Files::new(alloc)?;
         Ok(State {
             stack: Stack::new(alloc),
             flow: Flow::new(alloc),
             contexts,
             workers: [Worker::Idle; WORKERS],
             totals: [0; FILTERS],
+            files,
         })
     }
 

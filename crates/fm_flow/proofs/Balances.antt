@@ -21,10 +21,12 @@ use Rattle.fm_flow.specs.declared.entry.Entry.{Entry}
 use Rattle.fm_flow.specs.declared.entry.Entry.TheVariants.{Base, Drain}
 use Rattle.fm_flow.specs.declared.action.Below.{Below}
 use Rattle.fm_flow.specs.declared.action.Below.TheVariants as below
+use Rattle.fm_types.specs.declared.ids.HandleId.{HandleId}
+use Rattle.fm_flow.specs.Answered.{bare_answer, base_counted}
 use Rattle.fm_flow.specs.Record.{FlowRecord}
 use Rattle.fm_flow.specs.Entries.{one, times, visited, last_visited, last_posted, owed, instances, without, ask_of, answers}
 use Rattle.fm_flow.specs.Counts.{carried_in, carried_among, carried_by, handed, taken_by, opens, flight, enters, leaves_by, leaves_at, post_leaves_by}
-use Rattle.fm_flow.specs.Steps.{Turned, turn, pre_entry, post_entry, bare_ask, with_base, with_drain, bare_answer, call_pre, call_base, call_post, give_post, descend, ascend, unwound, unwound_to, may_take, next_at, next_of, MayLieBelow, pre_returned_of, base_returned_of, post_state, post_returned_of, drain_returned_of}
+use Rattle.fm_flow.specs.Steps.{Turned, turn, pre_entry, post_entry, bare_ask, with_base, with_drain, call_pre, call_base, call_post, give_post, descend, ascend, unwound, unwound_to, may_take, next_at, next_of, MayLieBelow, pre_returned_of, base_returned_of, post_state, post_returned_of, drain_returned_of}
 use Rattle.fm_flow.specs.Sound.{IsSound, IsCourse}
 use Rattle.fm_flow.proofs.Lists.{without_head}
 use Rattle.fm_flow.proofs.Owed.{owed_push_none, owed_push_ask, owed_push_answer, unanswered}
@@ -262,13 +264,16 @@ pre_returned_carries c state d r st h = carried_pre_settled PreRunning r.entries
 pub pre_returned_flies : (j : ℕ) (state : PreState) (d : Data) (r : FlowRecord) → r.stage ≡ PreRunning → IsSound r → flight j r ≡ flight j (pre_returned_of state d r) + leaves_at j (last_visited r.entries) (leaves_by state)
 pre_returned_flies j state d r st h = flight_pre_settled PreRunning r.entries state j refl (subst (λ s. IsCourse s r.entries) st h.course)
 
-pub base_returned_carries : (c : CtxId) (call : Params) (answer : Answer) (r : FlowRecord) → carried_by c (base_returned_of call answer r) ≡ carried_by c r
-base_returned_carries c call answer r = ap (carried_among c) (owed_push_none r.entries (Base answer.status answer.information) refl (λ i. refl))
+pub base_returned_carries : (c : CtxId) (call : Params) (answer : Answer) (handle : HandleId) (r : FlowRecord) → carried_by c (base_returned_of call answer handle r) ≡ carried_by c r
+base_returned_carries c call answer handle r =
+    let counts = base_counted call answer handle in
+    ap (carried_among c) (owed_push_none r.entries (Base counts.status counts.information) refl (λ i. refl))
 
-pub base_returned_flies : (j : ℕ) (call : Params) (answer : Answer) (r : FlowRecord) → flight j (base_returned_of call answer r) ≡ flight j r
-base_returned_flies j call answer r =
-    let k = ap (λ xs. times j (instances xs)) (owed_push_none r.entries (Base answer.status answer.information) refl (λ i. refl)) in
-    let o = opens_push j r.entries (Base answer.status answer.information) in
+pub base_returned_flies : (j : ℕ) (call : Params) (answer : Answer) (handle : HandleId) (r : FlowRecord) → flight j (base_returned_of call answer handle r) ≡ flight j r
+base_returned_flies j call answer handle r =
+    let counts = base_counted call answer handle in
+    let k = ap (λ xs. times j (instances xs)) (owed_push_none r.entries (Base counts.status counts.information) refl (λ i. refl)) in
+    let o = opens_push j r.entries (Base counts.status counts.information) in
     omega (arith, k, o)
 
 pub post_returned_carries : (c : CtxId) (v : PostVerdict) (d : Data) (r : FlowRecord) → r.stage ≡ PostRunning → IsSound r → carried_by c (post_returned_of v d r) ≡ carried_by c r

@@ -35,7 +35,7 @@ use Rattle.fm_flow.specs.Sound.{IsSound}
 use Rattle.fm_flow.specs.Table.{FlowTable, IsFlow, change_first, without_first, is_number, operation_at, changed, removed, begun, begun_record, under_way, is_full, collected_of, collected_in, is_collectable, marked}
 use Rattle.fm_flow.proofs.Course.{course_start}
 use Rattle.fm_flow.proofs.Soundness.{sound_call_pre, sound_bare, sound_call_base, sound_known, sound_unwound, sound_give_post, sound_drain, sound_pre_returned, sound_post_returned, sound_base}
-use Rattle.fm_flow.proofs.Tables.{all_change, all_without, found_holds}
+use Rattle.fm_types.proofs.Firsts.{all_change, all_without, found_holds}
 
 count-cons : {X : Type 0} (p : X → Bool) (x : X) (xs : List X) → count_by p (x ∷ xs) ≡ cond (p x) 1 0 + count_by p xs
 count-cons p x xs = sum_by-cons (λ x. cond (p x) 1 0) x xs
@@ -326,8 +326,8 @@ pre_stays state d r = elim (data_fits r.operation r.path d) as (λ b. Stays r (c
 pub post_after_stays : (v : PostVerdict) (d : Data) (r : FlowRecord) → Stays r (post_after v d r)
 post_after_stays v d r = elim (data_fits r.operation r.path d) as (λ b. Stays r (cond b (post_returned_of v d r) r)) [ true ↦ record { number = refl; collected = refl } | false ↦ stays r ]
 
-pub base_stays : (call : Params) (answer : Answer) (r : FlowRecord) → Stays r (base_after call answer r)
-base_stays call answer r = elim (base_fits call answer r) as (λ b. Stays r (cond b (base_returned_of call answer r) r)) [ true ↦ record { number = refl; collected = refl } | false ↦ stays r ]
+pub base_stays : (call : Params) (answer : Answer) (handle : HandleId) (r : FlowRecord) → Stays r (base_after call answer handle r)
+base_stays call answer handle r = elim (base_fits call answer r) as (λ b. Stays r (cond b (base_returned_of call answer handle r) r)) [ true ↦ record { number = refl; collected = refl } | false ↦ stays r ]
 
 pub drain_stays : (i : InstanceId) (r : FlowRecord) → Stays r (drain_returned_of i r)
 drain_stays i r = record { number = refl; collected = refl }
@@ -346,8 +346,8 @@ sound_post_after v d r st h = elim (cases_Bool (data_fits r.operation r.path d))
   | inr e ↦ rw e h
 ]
 
-pub sound_base_after : (call : Params) (answer : Answer) (r : FlowRecord) → r.stage ≡ InBase → IsSound r → IsSound (base_after call answer r)
-sound_base_after call answer r st h = elim (cases_Bool (base_fits call answer r)) [
-  | inl e ↦ rw e (sound_base call answer r st e h)
+pub sound_base_after : (call : Params) (answer : Answer) (handle : HandleId) (r : FlowRecord) → r.stage ≡ InBase → IsSound r → IsSound (base_after call answer handle r)
+sound_base_after call answer handle r st h = elim (cases_Bool (base_fits call answer r)) [
+  | inl e ↦ rw e (sound_base call answer handle r st e h)
   | inr e ↦ rw e h
 ]

@@ -5,7 +5,6 @@ pub mod Course
 pub mod Settled
 pub mod Counting
 pub mod Soundness
-pub mod Tables
 pub mod Flows
 pub mod Places
 pub mod Balances

@@ -1,10 +1,8 @@
 -- The place of an operation in the table.
-use Rattle.std.proofs.Common.{◌≡◌, ℕ, suc, ◌+◌, ◌<◌, ◌≤◌, Bool, true, false, cond, not, List, [], ◌∷◌, length, get_or, set, take, remove, find, position, Option, Some, None, option_map, unwrap_or, Ok, Err, nat_lt, refl, ap, sym, ◌∙◌, subst, inl, inr, arith}
-use Rattle.std.specs.List.{prefix_len, position_or_len}
-use Rattle.std.proofs.lemmas.Bool.{cases_Bool}
-use Rattle.std.proofs.lemmas.Bool.Decides.{nat_tests}
-use Rattle.std.proofs.lemmas.Option.{none-some, same_Some}
+use Rattle.std.proofs.Common.{◌≡◌, ℕ, ◌+◌, ◌<◌, ◌≤◌, Bool, true, false, cond, List, length, get_or, set, take, remove, find, position, Option, Some, None, option_map, unwrap_or, Ok, Err, refl, ap, sym, ◌∙◌, subst, arith}
+use Rattle.std.proofs.lemmas.Option.{same_Some}
 use Rattle.std.specs.List.{list_any}
+use Rattle.std.specs.Prelude.{count_by}
 use Rattle.std.proofs.lemmas.List.{take_more, get_or_default}
 use Rattle.std.proofs.lemmas.List.Sums.{sum_by_push}
 use Rattle.fm_types.specs.declared.ids.OpId.{OpId}
@@ -14,63 +12,9 @@ use Rattle.fm_flow.specs.Counts.{is_running_drain}
 use Rattle.fm_flow.specs.Record.{FlowRecord}
 use Rattle.fm_flow.specs.declared.stage.Stage.{Stage}
 use Rattle.fm_flow.specs.Sound.{IsSound}
-use Rattle.fm_flow.proofs.Tables.{change_none, found_holds}
+use Rattle.fm_types.proofs.Firsts.{StandsThere, stands_there, absent, change_none, found_holds}
 use Rattle.fm_flow.proofs.Flows.{Stays, flow_changes, flow_collects}
-use Rattle.fm_flow.specs.Table.{IsFlow, FlowTable, change_first, without_first, is_number, operation_at, changed, removed, told, StandsAt, under_way, collected_of, collected_in, collect_reply, is_collectable, marked}
-
--- the first that passes stands at that place
-pub record StandsThere (p : FlowRecord → Bool) (rs : List FlowRecord) (k : ℕ) (d : FlowRecord) : Type 0 where
-  pub found : find p rs ≡ Some (get_or rs k d)
-  pub writes : (f : FlowRecord → FlowRecord) → set rs k (f (get_or rs k d)) ≡ change_first p f rs
-  pub goes : remove rs k ≡ without_first p rs
-  pub inside : k < length rs
-
-pub stands_at : (p : FlowRecord → Bool) (rs : List FlowRecord) (k : ℕ) (d : FlowRecord) → prefix_len (λ x. not (p x)) rs ≡ k → k < length rs → StandsThere p rs k d
-stands_at p [] k d is below = absurd (omega arith)
-stands_at p (x ∷ rs) k d is below = elim (cases_Bool (p x)) [
-  | inl yes' ↦
-      let e : k ≡ 0 = sym is ∙ ap (λ b. cond (not b) (1 + prefix_len (λ y. not (p y)) rs) 0) yes' in
-      rw e (record { found = rw yes' refl; writes = λ f. rw yes' refl; goes = rw yes' refl; inside = omega arith })
-  | inr no' ↦
-      let m : ℕ = prefix_len (λ y. not (p y)) rs in
-      let e' : 1 + prefix_len (λ y. not (p y)) rs ≡ k = sym (ap (λ b. cond (not b) (1 + prefix_len (λ y. not (p y)) rs) 0) no') ∙ is in
-      let e : k ≡ suc (prefix_len (λ y. not (p y)) rs) = omega (arith, e') in
-      let l : prefix_len (λ y. not (p y)) rs < length rs = omega (arith, e', below) in
-      let h = stands_at p rs (prefix_len (λ y. not (p y)) rs) d refl l in
-      rw e (record {
-        found = rw no' h.found;
-        writes = λ f. rw no' (ap (λ (xs : List FlowRecord). x ∷ xs) (h.writes f));
-        goes = rw no' (ap (λ (xs : List FlowRecord). x ∷ xs) h.goes);
-        inside = omega (arith, l);
-      })
-]
-
-position_at : (b : Bool) (n k : ℕ) → cond b (Some n) None ≡ Some k → (b ≡ true) × (n ≡ k)
-position_at true n k is = (refl, same_Some n k is)
-position_at false n k is = absurd (none-some k is)
-
-pub stands_there : (p : FlowRecord → Bool) (rs : List FlowRecord) (k : ℕ) (d : FlowRecord) → position p rs ≡ Some k → StandsThere p rs k d
-stands_there p rs k d is =
-    let parts = position_at (nat_lt (position_or_len p rs) (length rs)) (position_or_len p rs) k is in
-    let below' : position_or_len p rs < length rs = grind (arith, nat_tests, parts.0) in
-    stands_at p rs k d parts.1 (omega (arith, below', parts.1))
-
-none_passes : (p : FlowRecord → Bool) (rs : List FlowRecord) → length rs ≤ prefix_len (λ x. not (p x)) rs → find p rs ≡ None
-none_passes p [] far = refl
-none_passes p (x ∷ rs) far = elim (cases_Bool (p x)) [
-  | inl yes' ↦ let e = ap (λ b. cond (not b) (1 + prefix_len (λ y. not (p y)) rs) 0) yes' in absurd (omega (arith, e, far))
-  | inr no' ↦ let e = ap (λ b. cond (not b) (1 + prefix_len (λ y. not (p y)) rs) 0) no' in rw no' (none_passes p rs (omega (arith, e, far)))
-]
-
-position_past : (b : Bool) (n : ℕ) → cond b (Some n) None ≡ None → b ≡ false
-position_past true n is = absurd (none-some n (sym is))
-position_past false n is = refl
-
-pub absent : (p : FlowRecord → Bool) (rs : List FlowRecord) → position p rs ≡ None → find p rs ≡ None
-absent p rs is =
-    let past = position_past (nat_lt (position_or_len p rs) (length rs)) (position_or_len p rs) is in
-    let far : length rs ≤ position_or_len p rs = grind (arith, nat_tests, past) in
-    none_passes p rs far
+use Rattle.fm_flow.specs.Table.{IsFlow, FlowTable, is_number, operation_at, changed, removed, told, StandsAt, collected_of, collected_in, collect_reply, is_collectable, marked}
 
 -- ---- a method finds no operation of that number
 
@@ -119,26 +63,26 @@ flow_set f o t k d s there at is h same sound =
 pub absent_stands : (o : OpId) (t u : FlowTable) (stage : Stage) → t ≡ u → find (is_number o) t.operations ≡ None → StandsAt stage (operation_at o u) → ⊥
 absent_stands o t u stage same none h = subst (StandsAt stage) (ap (operation_at o) (sym same) ∙ none) h
 
--- ---- how many aren't collected
+-- ---- how many pass a test
 
-pub record IsCounted (rs : List FlowRecord) (i count : ℕ) : Type 0 where
-  pub counted : count ≡ under_way (take i rs)
+pub record IsCounted (p : FlowRecord → Bool) (rs : List FlowRecord) (i count : ℕ) : Type 0 where
+  pub counted : count ≡ count_by p (take i rs)
   pub small : count ≤ i
 
-under_way_more : (rs : List FlowRecord) (i : ℕ) (d : FlowRecord) → i < length rs → under_way (take (i + 1) rs) ≡ under_way (take i rs) + cond (not (get_or rs i d).collected) 1 0
-under_way_more rs i d below = ap under_way (take_more rs i d below) ∙ sum_by_push (λ (r : FlowRecord). cond (not r.collected) 1 0) (take i rs) (get_or rs i d)
+more_pass : (p : FlowRecord → Bool) (rs : List FlowRecord) (i : ℕ) (d : FlowRecord) → i < length rs → count_by p (take (i + 1) rs) ≡ count_by p (take i rs) + cond (p (get_or rs i d)) 1 0
+more_pass p rs i d below = ap (count_by p) (take_more rs i d below) ∙ sum_by_push (λ (r : FlowRecord). cond (p r) 1 0) (take i rs) (get_or rs i d)
 
-pub counted_more : (rs : List FlowRecord) (i count : ℕ) (d : FlowRecord) → i < length rs → d ≡ get_or rs i d → d.collected ≡ false → IsCounted rs i count → IsCounted rs (i + 1) (count + 1)
-counted_more rs i count d below at apart h =
-    let e = under_way_more rs i d below in
-    let k : ◌≡◌ {A = ℕ} (cond (not (get_or rs i d).collected) 1 0) 1 = ap (λ (r : FlowRecord). cond (not r.collected) 1 0) (sym at) ∙ ap (λ b. cond (not b) 1 0) apart in
+pub counted_more : (p : FlowRecord → Bool) (rs : List FlowRecord) (i count : ℕ) (d : FlowRecord) → i < length rs → d ≡ get_or rs i d → p d ≡ true → IsCounted p rs i count → IsCounted p rs (i + 1) (count + 1)
+counted_more p rs i count d below at passes h =
+    let e = more_pass p rs i d below in
+    let k : ◌≡◌ {A = ℕ} (cond (p (get_or rs i d)) 1 0) 1 = ap (λ (r : FlowRecord). cond (p r) 1 0) (sym at) ∙ ap (λ b. cond b 1 0) passes in
     let a = h.counted in let b = h.small in
     record { counted = omega (arith, e, k, a); small = omega (arith, b) }
 
-pub counted_same : (rs : List FlowRecord) (i count : ℕ) (d : FlowRecord) → i < length rs → d ≡ get_or rs i d → d.collected ≡ true → IsCounted rs i count → IsCounted rs (i + 1) count
-counted_same rs i count d below at done h =
-    let e = under_way_more rs i d below in
-    let k : ◌≡◌ {A = ℕ} (cond (not (get_or rs i d).collected) 1 0) 0 = ap (λ (r : FlowRecord). cond (not r.collected) 1 0) (sym at) ∙ ap (λ b. cond (not b) 1 0) done in
+pub counted_same : (p : FlowRecord → Bool) (rs : List FlowRecord) (i count : ℕ) (d : FlowRecord) → i < length rs → d ≡ get_or rs i d → p d ≡ false → IsCounted p rs i count → IsCounted p rs (i + 1) count
+counted_same p rs i count d below at fails h =
+    let e = more_pass p rs i d below in
+    let k : ◌≡◌ {A = ℕ} (cond (p (get_or rs i d)) 1 0) 0 = ap (λ (r : FlowRecord). cond (p r) 1 0) (sym at) ∙ ap (λ b. cond b 1 0) fails in
     let a = h.counted in let b = h.small in
     record { counted = omega (arith, e, k, a); small = omega (arith, b) }
 

@@ -25,8 +25,11 @@ use Rattle.fm_flow.specs.declared.entry.Entry.{Entry}
 use Rattle.fm_flow.specs.declared.entry.Entry.TheVariants.{Pre, Base, Drain}
 use Rattle.fm_flow.specs.Entries.{times, visit_of, visited, owed, instances, settle_pre, settle_post}
 use Rattle.fm_flow.specs.Verdict.{is_counted}
+use Rattle.fm_types.specs.declared.ids.HandleId.{HandleId}
+use Rattle.fm_data.specs.declared.params.Params.TheVariants as params
+use Rattle.fm_flow.specs.Answered.{bare_answer, is_success, success_of, base_counted}
 use Rattle.fm_flow.specs.Record.{FlowRecord}
-use Rattle.fm_flow.specs.Steps.{pre_leads, post_leads, post_entry, bare_ask, with_visit, call_pre, call_base, bare_answer, with_base, stands, left_answer, returned_answer, unwound_to, unwound, give_post, with_drain, kept_of, answer_after, pre_returned_of, base_returned_of, post_state, post_returned_of, drain_returned_of, done_at, is_done, base_fits}
+use Rattle.fm_flow.specs.Steps.{pre_leads, post_leads, post_entry, bare_ask, with_visit, call_pre, call_base, with_base, stands, left_answer, returned_answer, unwound_to, unwound, give_post, with_drain, kept_of, answer_after, pre_returned_of, base_returned_of, post_state, post_returned_of, drain_returned_of, done_at, is_done, base_fits}
 use Rattle.fm_flow.specs.Sound.{lends, keeps_more, IsCourse, IsSound}
 use Rattle.fm_flow.proofs.Lists.{one-same}
 use Rattle.fm_flow.proofs.Walks.{is_pre, is_post}
@@ -111,16 +114,37 @@ sound_known status r st h = record {
   collected = uncollected r h (rw st refl);
 }
 
-pub sound_base_returned : (call : Params) (answer : Answer) (r : FlowRecord) → r.stage ≡ InBase → fit r.operation r.path call ≡ true → length answer.bytes ≤ 32768 → IsSound r → IsSound (base_returned_of call answer r)
-sound_base_returned call answer r st fits short h = record {
-  course = course_base InBase r.entries answer.status answer.information refl refl (at_stage r InBase st h);
-  here = refl;
-  params = fits;
-  kept = h.kept;
-  places = let a = visited_same r.entries (Base answer.status answer.information) refl in let b = places_at r InBase st h in omega (arith, a, b);
-  bytes = short;
-  collected = uncollected r h (rw st refl);
-}
+-- what counts of an answer isn't longer than the answer
+success_short : (call : Params) (answer : Answer) (handle : HandleId) → length answer.bytes ≤ 32768 → length (success_of call answer handle).bytes ≤ 32768
+success_short (params.Create path mode) answer handle h = omega arith
+success_short (params.Read offset len) answer handle h = h
+success_short (params.Write offset bytes) answer handle h = omega arith
+success_short params.QuerySize answer handle h = omega arith
+success_short (params.SetSize size) answer handle h = omega arith
+success_short params.Flush answer handle h = omega arith
+success_short params.List answer handle h = h
+success_short params.SetDelete answer handle h = omega arith
+success_short params.Cleanup answer handle h = omega arith
+success_short params.Close answer handle h = omega arith
+
+pub counted_short : (call : Params) (answer : Answer) (handle : HandleId) → length answer.bytes ≤ 32768 → length (base_counted call answer handle).bytes ≤ 32768
+counted_short call answer handle h = elim (is_success answer.status) as (λ b. length (cond b (success_of call answer handle) (bare_answer answer.status)).bytes ≤ 32768) [
+  | true ↦ success_short call answer handle h
+  | false ↦ omega arith
+]
+
+pub sound_base_returned : (call : Params) (answer : Answer) (handle : HandleId) (r : FlowRecord) → r.stage ≡ InBase → fit r.operation r.path call ≡ true → length answer.bytes ≤ 32768
+    → IsSound r → IsSound (base_returned_of call answer handle r)
+sound_base_returned call answer handle r st fits short h =
+    let counts = base_counted call answer handle in record {
+      course = course_base InBase r.entries counts.status counts.information refl refl (at_stage r InBase st h);
+      here = refl;
+      params = fits;
+      kept = h.kept;
+      places = let a = visited_same r.entries (Base counts.status counts.information) refl in let b = places_at r InBase st h in omega (arith, a, b);
+      bytes = counted_short call answer handle short;
+      collected = uncollected r h (rw st refl);
+    }
 
 -- ---- a preoperation returns
 
@@ -283,8 +307,8 @@ pub head_of : (asks : List Ask) (ask : Ask) → slice_get asks 0 ≡ Some ask �
 head_of [] ask is = cc
 head_of (other ∷ asks) ask is = let e : other ≡ ask = cc in ap (λ a. a ∷ asks) e
 
-pub sound_base : (call : Params) (answer : Answer) (r : FlowRecord) → r.stage ≡ InBase → base_fits call answer r ≡ true → IsSound r → IsSound (base_returned_of call answer r)
-sound_base call answer r st fits h =
+pub sound_base : (call : Params) (answer : Answer) (handle : HandleId) (r : FlowRecord) → r.stage ≡ InBase → base_fits call answer r ≡ true → IsSound r → IsSound (base_returned_of call answer handle r)
+sound_base call answer handle r st fits h =
     let parts = both (fit r.operation r.path call) (nat_le (length answer.bytes) 32768) fits in
     let short : length answer.bytes ≤ 32768 = grind (arith, nat_tests, parts.1) in
-    sound_base_returned call answer r st parts.0 short h
+    sound_base_returned call answer handle r st parts.0 short h

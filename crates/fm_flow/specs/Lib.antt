@@ -1,7 +1,9 @@
 pub mod Entries
 pub mod Record
+pub mod Answered
 pub mod Steps
 pub mod Sound
 pub mod Counts
 pub mod Table
+pub mod Creates
 pub mod Verdict

@@ -1,6 +1,7 @@
 -- What each step makes of an operation.
 use Rattle.std.specs.Prelude.{◌≡◌, ℕ, ◌<◌, ◌==◌, ⊤, Bool, true, false, cond, not, nat_le, ◌&&◌, ◌||◌, List, [], ◌∷◌, ◌++◌, length, take, map, Option, Some, None, Result, Ok, Err, slice_get}
 use Rattle.fm_types.specs.declared.ids.InstanceId.{InstanceId}
+use Rattle.fm_types.specs.declared.ids.HandleId.{HandleId}
 use Rattle.fm_types.specs.declared.ids.WorkerId.{WorkerId}
 use Rattle.fm_types.specs.declared.status.Status.{Status}
 use Rattle.fm_types.specs.declared.status.Status.TheVariants.{WrongStep}
@@ -26,6 +27,7 @@ use Rattle.fm_flow.specs.declared.action.Below.TheVariants as below
 use Rattle.fm_flow.specs.declared.action.FlowAction.{FlowAction}
 use Rattle.fm_flow.specs.declared.action.FlowAction.TheVariants as action
 use Rattle.fm_flow.specs.Entries.{times, visited, owed, settle_pre, settle_post, settle_drain}
+use Rattle.fm_flow.specs.Answered.{bare_answer, base_counted, handle_given}
 use Rattle.fm_flow.specs.Record.{FlowRecord}
 
 -- what `next` answers, and the operation after it
@@ -74,10 +76,6 @@ call_pre worker i r None = turn (Err WrongStep) r
 abbrev pub call_base : FlowRecord → Option Params → Turned
 call_base r (Some params) = turn (Ok (action.Base params)) (record r { stage = InBase; params = None })
 call_base r None = turn (Err WrongStep) r
-
--- an answer with nothing but a status
-abbrev pub bare_answer : Status → Answer
-bare_answer status = record { status = status; information = 0; bytes = [] }
 
 abbrev pub with_base : Answer → FlowRecord → FlowRecord
 with_base answer r = with_entry (Base answer.status answer.information) Ascending (record r { answer = answer })
@@ -183,9 +181,10 @@ pre_settled state r = record r { answer = answer_after state r.answer; stage = p
 abbrev pub pre_returned_of : PreState → Data → FlowRecord → FlowRecord
 pre_returned_of state returned r = record (pre_settled state r) { params = Some (current_of returned); kept = r.kept ++ kept_of returned.received returned.changed }
 
--- the base answers, and gives the parameters back
-abbrev pub base_returned_of : Params → Answer → FlowRecord → FlowRecord
-base_returned_of call answer r = record (with_base answer r) { params = Some call }
+-- the base answers, and gives the parameters back; a create's success gives the handle of that number
+abbrev pub base_returned_of : Params → Answer → HandleId → FlowRecord → FlowRecord
+base_returned_of call answer handle r =
+    record (with_base (base_counted call answer handle) r) { params = Some call; handle = handle_given call answer.status handle r.handle }
 
 abbrev pub post_state : PostVerdict → PostState
 post_state verdict.Finished = post.Finished
@@ -233,5 +232,5 @@ base_fits call answer r = fit r.operation r.path call && nat_le (length answer.b
 abbrev pub base_reply : Params → Answer → FlowRecord → Result ⊤ (Params × Answer)
 base_reply call answer r = cond (base_fits call answer r) (Ok tt) (Err (call, answer))
 
-abbrev pub base_after : Params → Answer → FlowRecord → FlowRecord
-base_after call answer r = cond (base_fits call answer r) (base_returned_of call answer r) r
+abbrev pub base_after : Params → Answer → HandleId → FlowRecord → FlowRecord
+base_after call answer handle r = cond (base_fits call answer r) (base_returned_of call answer handle r) r

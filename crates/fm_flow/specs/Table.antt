@@ -1,6 +1,7 @@
 -- All operations.
 use Rattle.std.specs.Prelude.{◌≡◌, ℕ, ◌+◌, ◌-◌, ◌^◌, ◌<◌, ◌≤◌, ◌==◌, ◌&&◌, ◌||◌, Bool, true, false, cond, not, List, [], ◌∷◌, ◌++◌, All, AllPairs, count_by, find, Option, Some, None, option_map, unwrap_or, Result, Ok, Err, nat_le, ⊤}
 use Rattle.std.specs.List.{list_any}
+pub use Rattle.fm_types.specs.Lists.{change_first, without_first}
 use Rattle.fm_types.specs.declared.ids.OpId.{OpId}
 use Rattle.fm_types.specs.declared.ids.VolumeId.{VolumeId}
 use Rattle.fm_types.specs.declared.ids.StreamId.{StreamId}
@@ -16,7 +17,8 @@ use Rattle.fm_flow.specs.declared.stage.Stage.TheVariants.{Descending}
 use Rattle.fm_flow.specs.declared.action.Below.{Below}
 use Rattle.fm_flow.specs.Counts.{carried_by, flight, is_running_drain}
 use Rattle.fm_flow.specs.Record.{FlowRecord}
-use Rattle.fm_flow.specs.Steps.{bare_answer, is_done, MayLieBelow}
+use Rattle.fm_flow.specs.Answered.{bare_answer}
+use Rattle.fm_flow.specs.Steps.{is_done, MayLieBelow}
 use Rattle.fm_flow.specs.Sound.{IsSound}
 
 -- the operations in the order of their numbers, and the next number
@@ -26,16 +28,6 @@ pub record FlowTable : Type 0 where
 
 abbrev pub empty_table : FlowTable
 empty_table = record { operations = []; next = 0 }
-
--- the first that passes a test, changed; the others stay
-abbrev pub change_first : (FlowRecord → Bool) → (FlowRecord → FlowRecord) → List FlowRecord → List FlowRecord
-change_first test f [] = []
-change_first test f (r ∷ rs) = cond (test r) (f r ∷ rs) (r ∷ change_first test f rs)
-
--- all but the first that passes a test
-abbrev pub without_first : (FlowRecord → Bool) → List FlowRecord → List FlowRecord
-without_first test [] = []
-without_first test (r ∷ rs) = cond (test r) rs (r ∷ without_first test rs)
 
 abbrev pub is_number : OpId → FlowRecord → Bool
 is_number o r = r.number.0 == o.0

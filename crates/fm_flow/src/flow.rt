@@ -1,11 +1,12 @@
 //! All operations that were begun and not yet collected.
 
-ghost use Rattle.std.specs.Prelude.{◌≡◌, ◌∷◌, [], ℕ, true, length, Option, Some, None, Ok, Err, IsTrue, option_copied, position, find, count_by, not};
+ghost use Rattle.std.specs.Prelude.{◌≡◌, ◌<◌, ◌^◌, ◌∷◌, [], ℕ, true, length, Option, Some, None, Ok, Err, IsTrue, option_copied, position, find, count_by, not};
 ghost use Rattle.std.specs.List.{list_any};
 ghost use Rattle.fm_types.specs.Refusals.{AnswersOrMemory, first_of};
 ghost use Rattle.fm_data.specs.Params.{is_within_limits};
 ghost use Rattle.fm_flow.specs.Verdict.{is_counted};
 ghost use Rattle.fm_flow.specs.Steps.{next_of, data_reply, pre_after, base_reply, base_after, post_after, drain_returned_of};
+ghost use Rattle.fm_flow.specs.Creates.{is_creating, is_on_stream, has_create_on, creates, is_over};
 ghost use Rattle.fm_flow.specs.Table.{IsFlow, MayLieBelowOf, StandsAt, empty_table, is_number, operation_at, changed, told, is_full, is_collectable, under_way, begun, collect_reply, collected_of};
 
 use crate::action::{Below, FlowAction};
@@ -66,6 +67,27 @@ fn count_under_way(operations: &[OperationRecord]) -> usize
     count
 }
 
+fn count_creates(operations: &[OperationRecord]) -> usize
+    ensures { result ≡ count_by is_creating operations.now }
+{
+    let mut count = 0;
+    for operation in operations {
+        if operation.is_creating() {
+            count += 1;
+        }
+    }
+    count
+}
+
+fn is_on_stream(stream: StreamId, other: Option<StreamId>) -> bool
+    ensures { result ≡ is_on_stream stream other }
+{
+    match other {
+        Some(other) => other.0 == stream.0,
+        None => false,
+    }
+}
+
 fn is_collectable(operation: &OperationRecord) -> bool
     ensures { result ≡ is_collectable operation.now }
 {
@@ -97,6 +119,39 @@ impl Flow {
         ensures { option_copied result ≡ operation_at number self.now }
     {
         record_of(&self.operations, number)
+    }
+
+    /// The number that the next operation gets.
+    pub fn next_number(&self) -> u64
+        ensures result { result ≡ self.now.next }
+        ensures number { self.now.next < 2 ^ 64 }
+    {
+        self.next
+    }
+
+    /// How many creates are under way: begun, and answered by neither the base nor a filter.
+    pub fn creates(&self) -> usize
+        ensures { result ≡ creates self.now }
+    {
+        count_creates(&self.operations)
+    }
+
+    /// Whether a create of that stream is under way.
+    pub fn has_create_on(&self, stream: StreamId) -> bool
+        ensures { result ≡ has_create_on stream self.now }
+    {
+        self.operations.iter().any(|operation| operation.is_creating()
+            && is_on_stream(stream, operation.stream()))
+    }
+
+    /// Whether an operation that was begun is done; it is, where its answer was handed out.
+    pub fn is_over(&self, number: OpId) -> bool
+        ensures { result ≡ is_over number self.now }
+    {
+        match self.record(number) {
+            Some(operation) => operation.is_done(),
+            None => true,
+        }
     }
 
     /// The next step of an operation, by that worker (`FltStartCallbacks` and the descent and ascent
@@ -150,7 +205,9 @@ impl Flow {
         Ok(number)
     }
 
-    fn is_full(&self) -> bool
+    /// Whether no operation can begin: 256 are there whose answer wasn't handed out, or the numbers run
+    /// out.
+    pub fn is_full(&self) -> bool
         ensures { result ≡ is_full self.now }
     {
         count_under_way(&self.operations) >= MAX_OPERATIONS || self.next == u64::MAX
@@ -178,7 +235,9 @@ impl Flow {
         operation.pre_returned(state, lent)
     }
 
-    /// The base answers an operation, and gives the call's parameters back. The operation has to be at
+    /// The base answers an operation, and gives the call's parameters back. `handle` is the number that
+    /// a create's success gives its handle. What counts of a success is the number of bytes read,
+    /// written or listed, the size or the handle, and of a fault its status alone. The operation has to be at
     /// the base. A call that isn't of the operation and an answer of more than 32,768 bytes are handed
     /// back, and nothing changes. All other operations stay. It takes no memory.
     pub fn base_returned(
@@ -186,16 +245,17 @@ impl Flow {
         number: OpId,
         call: Params,
         answer: Answer,
+        handle: HandleId,
     ) -> Result<(), (Params, Answer)>
         requires { StandsAt Stage.InBase (operation_at number self.old) }
         ensures reply { result ≡ told (base_reply call answer) (Err (call, answer)) number self.old }
-        ensures after { self.new ≡ changed number (base_after call answer) self.old }
+        ensures after { self.new ≡ changed number (base_after call answer handle) self.old }
     {
         let Some(place) = place_of(&self.operations, number) else {
             unreachable!();
         };
         let operation = &mut self.operations[place];
-        operation.base_returned(call, answer)
+        operation.base_returned(call, answer, handle)
     }
 
     /// A postoperation callback of an operation returns. The operation has to be in such a callback.

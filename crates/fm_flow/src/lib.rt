@@ -4,6 +4,7 @@
 #![tactic(auto)]
 
 mod action;
+mod answered;
 mod entries;
 mod entry;
 mod flow;

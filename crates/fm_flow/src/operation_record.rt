@@ -7,11 +7,14 @@ ghost use Rattle.fm_data.specs.Data.{data_fits};
 ghost use Rattle.fm_flow.specs.Entries.{times, visited, last_visited, owed};
 ghost use Rattle.fm_flow.specs.Verdict.{is_counted};
 ghost use Rattle.fm_flow.specs.Counts.{is_running_drain};
-ghost use Rattle.fm_flow.specs.Steps.{bare_ask, bare_answer, with_visit, with_base, with_drain, call_pre, call_base, call_post, give_post, descend, ascend, unwound, may_take, next_of, MayLieBelow, pre_returned_of, base_returned_of, post_state, post_returned_of, drain_returned_of, is_done, data_reply, pre_after, base_fits, base_reply, base_after, post_after, pre_leads, post_leads};
+ghost use Rattle.fm_flow.specs.Steps.{bare_ask, with_visit, with_base, with_drain, call_pre, call_base, call_post, give_post, descend, ascend, unwound, may_take, next_of, MayLieBelow, pre_returned_of, base_returned_of, post_state, post_returned_of, drain_returned_of, is_done, data_reply, pre_after, base_fits, base_reply, base_after, post_after, pre_leads, post_leads};
+ghost use Rattle.fm_flow.specs.Answered.{bare_answer};
+ghost use Rattle.fm_flow.specs.Creates.{is_creating, is_unanswered};
 ghost use Rattle.fm_flow.specs.Sound.{IsSound};
 ghost use Rattle.fm_flow.specs.Table.{begun_record, marked, is_collectable};
 
 use crate::action::{Below, FlowAction};
+use crate::answered::{bare_answer, base_counted, handle_given};
 use crate::entry::{Ask, DrainVisit, Entry, PostState, PostVisit, PreState, PreVisit};
 use crate::stage::Stage;
 use crate::{entries, lent};
@@ -54,6 +57,8 @@ impl Model for OperationRecord {
 
     ghost Value = { FlowRecord };
 
+    ghost use Rattle.fm_flow.specs.Answered.{bare_answer};
+    ghost use Rattle.fm_flow.specs.Creates.{is_creating, is_unanswered};
     ghost use Rattle.fm_flow.specs.Sound.{IsSound};
 
     ghost view = { λ o. record { number = o.number; operation = o.operation; volume = o.volume; stream = o.stream; handle = o.handle; born = o.born; path = o.path; params = o.params; answer = o.answer; stage = o.stage; entries = o.entries.items; kept = o.kept.items; collected = o.is_collected } };
@@ -180,6 +185,13 @@ impl OperationRecord {
             Stage::Ascending => self.next_owed().is_none(),
             _ => false,
         }
+    }
+
+    /// Whether it is a create that neither the base nor a filter has answered.
+    pub fn is_creating(&self) -> bool
+        ensures { result ≡ is_creating self.now }
+    {
+        matches!(self.operation, Operation::Create) && is_unanswered(self.stage)
     }
 
     /// Whether its answer was handed out.
@@ -422,23 +434,26 @@ impl OperationRecord {
         &mut self,
         call: Params,
         answer: Answer,
+        handle: HandleId,
     ) -> Result<(), (Params, Answer)>
         requires { self.old.stage ≡ Stage.InBase }
         ensures reply { result ≡ base_reply call answer self.old }
-        ensures after { self.new ≡ base_after call answer self.old }
+        ensures after { self.new ≡ base_after call answer handle self.old }
     {
         if !call.fit(self.operation, &self.path) || answer.bytes.len() as u64 > MAX_TRANSFER {
             return Err((call, answer));
         }
-        self.take_base(call, answer);
+        self.take_base(call, answer, handle);
         Ok(())
     }
 
-    fn take_base(&mut self, call: Params, answer: Answer)
+    fn take_base(&mut self, call: Params, answer: Answer, handle: HandleId)
         requires stage { self.old.stage ≡ Stage.InBase }
         requires fits { base_fits call answer self.old ≡ true }
-        ensures { self.new ≡ base_returned_of call answer self.old }
+        ensures { self.new ≡ base_returned_of call answer handle self.old }
     {
+        self.handle = handle_given(&call, answer.status, handle, self.handle);
+        let answer = base_counted(self.alloc, &call, answer, handle);
         self.entries
             .push_reserved(Entry::Base(answer.status, answer.information));
         self.params = Some(call);
@@ -521,14 +536,13 @@ impl OperationRecord {
     }
 }
 
-fn bare_answer(alloc: Global, status: Status) -> Answer
-    ensures { result ≡ bare_answer status }
+fn is_unanswered(stage: Stage) -> bool
+    ensures { result ≡ is_unanswered stage }
 {
-    Answer {
-        status,
-        information: 0,
-        bytes: Bytes::new(alloc),
-    }
+    matches!(
+        stage,
+        Stage::Descending | Stage::PreRunning | Stage::PreHeld | Stage::InBase
+    )
 }
 
 fn may_take(worker: WorkerId, ask: Ask) -> bool

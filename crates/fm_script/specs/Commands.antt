@@ -1,7 +1,9 @@
 -- Which command the words of a line spell, and by which status a line is refused that spells none.
 use Rattle.std.specs.Prelude.{◌≡◌, ℕ, ◌<◌, ◌≤◌, Bool, true, false, List, [], ◌∷◌, Option, Some, None, Result, Ok, Err, MatchResult, codes, bytes_eq, cond}
 use Rattle.fm_types.specs.declared.status.Status.{Status}
-use Rattle.fm_types.specs.declared.status.Status.TheVariants.{BadAltitude, BadName, BadRequest}
+use Rattle.fm_types.specs.declared.operation.CreateMode.{CreateMode}
+use Rattle.fm_types.specs.declared.status.Status.TheVariants.{BadAltitude, BadName, BadPath, BadRequest}
+use Rattle.fm_types.specs.Paths.{IsPath}
 use Rattle.fm_types.specs.Names.{IsName}
 use Rattle.fm_types.specs.Statuses.{number_of}
 use Rattle.fm_altitude.specs.Grammar.{IsAltitude, canonical}
@@ -17,6 +19,9 @@ use Rattle.fm_script.specs.Keywords.{keyword_read}
 use Rattle.fm_script.specs.declared.context_command.ContextCommand.{ContextCommand}
 use Rattle.fm_script.specs.declared.context_command.ContextKeyword.{ContextKeyword}
 use Rattle.fm_script.specs.ContextCommands.{context_keyword_read, context_read}
+use Rattle.fm_script.specs.declared.file_command.FileCommand.{FileCommand}
+use Rattle.fm_script.specs.declared.file_command.FileKeyword.{FileKeyword}
+use Rattle.fm_script.specs.FileCommands.{create_mode_read, file_keyword_read, file_read}
 use Rattle.fm_script.specs.Numbers.{number_read, id_read}
 
 -- the letters of ids: c, f, i, o, v, w
@@ -134,6 +139,16 @@ abbrev pub set_done_read : List (List ℕ) → Result Command Status
 set_done_read (worker ∷ word ∷ []) = set_done_of (id_or_bad (worker_id worker)) word
 set_done_read _ = Err BadRequest
 
+-- ---- create
+
+abbrev pub CreatesAs : Option ℕ → Option CreateMode → List ℕ → Result Command Status → Type 0
+CreatesAs (Some v) (Some m) path result = MatchResult result (λ read. IsPath path × (read ≡ command.Create v path m)) (λ status. (IsPath path → ⊥) × (status ≡ BadPath))
+CreatesAs _ _ path result = result ≡ Err BadRequest
+
+abbrev pub Creates : List (List ℕ) → Result Command Status → Type 0
+Creates (v ∷ path ∷ mode ∷ []) result = CreatesAs (volume_id v) (create_mode_read mode) path result
+Creates _ result = result ≡ Err BadRequest
+
 -- ---- what a preoperation answers
 
 -- a word that is the number of a status which a filter may give, any but Busy
@@ -210,18 +225,28 @@ ReadsAs keyword.Phase words result = result ≡ made command.Phase (one_id 105 w
 ReadsAs keyword.Setup words result = SetsUp words result
 ReadsAs keyword.SetDone words result = result ≡ set_done_read words
 ReadsAs keyword.Finish words result = result ≡ made command.Finish (one_id 105 words)
+ReadsAs keyword.Create words result = Creates words result
 
 -- a command on contexts
 abbrev pub on_contexts : Option ContextCommand → Result Command Status
 on_contexts None = Err BadRequest
 on_contexts (Some c) = Ok (command.Context c)
 
-abbrev pub context_or_bad : Option ContextKeyword → List (List ℕ) → Result Command Status
-context_or_bad None words = Err BadRequest
-context_or_bad (Some k) words = on_contexts (context_read k words)
+-- a command on files
+abbrev pub on_files : Option FileCommand → Result Command Status
+on_files None = Err BadRequest
+on_files (Some c) = Ok (command.File c)
+
+abbrev pub file_or_bad : Option FileKeyword → List (List ℕ) → Result Command Status
+file_or_bad None words = Err BadRequest
+file_or_bad (Some k) words = on_files (file_read k words)
+
+abbrev pub context_or_file : Option ContextKeyword → List ℕ → List (List ℕ) → Result Command Status
+context_or_file None word words = file_or_bad (file_keyword_read word) words
+context_or_file (Some k) word words = on_contexts (context_read k words)
 
 abbrev pub ReadsBehind : Option Keyword → List ℕ → List (List ℕ) → Result Command Status → Type 0
-ReadsBehind None word words result = result ≡ context_or_bad (context_keyword_read word) words
+ReadsBehind None word words result = result ≡ context_or_file (context_keyword_read word) word words
 ReadsBehind (Some k) word words result = ReadsAs k words result
 
 -- what the words of a line are read as

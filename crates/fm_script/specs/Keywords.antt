@@ -1,7 +1,7 @@
 -- The words that commands begin with.
 use Rattle.std.specs.Prelude.{ℕ, List, [], ◌∷◌, Option, codes, bytes_eq, find}
 use Rattle.fm_script.specs.declared.keyword.Keyword.{Keyword}
-use Rattle.fm_script.specs.declared.keyword.Keyword.TheVariants.{Load, Mount, Attach, List as ListFiles, Next, Pre, Plan, Base, Post, Go, Collect, Phase, Setup, SetDone, Finish}
+use Rattle.fm_script.specs.declared.keyword.Keyword.TheVariants.{Load, Mount, Attach, List as ListFiles, Next, Pre, Plan, Base, Post, Go, Collect, Phase, Setup, SetDone, Finish, Create}
 
 abbrev pub spelling : Keyword → List ℕ
 spelling Load = codes "load"
@@ -19,9 +19,10 @@ spelling Phase = codes "phase"
 spelling Setup = codes "setup"
 spelling SetDone = codes "setdone"
 spelling Finish = codes "finish"
+spelling Create = codes "create"
 
 abbrev pub all_keywords : List Keyword
-all_keywords = Load ∷ Mount ∷ Attach ∷ ListFiles ∷ Next ∷ Pre ∷ Plan ∷ Base ∷ Post ∷ Go ∷ Collect ∷ Phase ∷ Setup ∷ SetDone ∷ Finish ∷ []
+all_keywords = Load ∷ Mount ∷ Attach ∷ ListFiles ∷ Next ∷ Pre ∷ Plan ∷ Base ∷ Post ∷ Go ∷ Collect ∷ Phase ∷ Setup ∷ SetDone ∷ Finish ∷ Create ∷ []
 
 -- the keyword that a word is
 unfoldable pub keyword_read : List ℕ → Option Keyword

@@ -4,3 +4,4 @@ pub mod Numbers
 pub mod Hexadecimal
 pub mod Keywords
 pub mod ContextCommands
+pub mod FileCommands

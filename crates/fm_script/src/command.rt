@@ -3,14 +3,16 @@
 ghost use Rattle.std.specs.Prelude.{◌≡◌, map};
 ghost use Rattle.fm_script.specs.Numbers.{id_read};
 ghost use Rattle.fm_script.specs.declared.command.Command.TheVariants as CommandOf;
-ghost use Rattle.fm_script.specs.Commands.{Reads, ReadsAs, Loads, Mounts, Attaches, AnswersFor, ReadsVerdict, ReadsComplete, callbacks_read, step_read, post_read, bare_verdict, one_id, id_or_bad, worker_id, instance_id, AnswersPre, sends_context, pre_with_read, SetsUp, ids_of, filter_id, volume_id, set_done_read, context_or_bad};
+ghost use Rattle.fm_script.specs.Commands.{Reads, ReadsAs, Loads, Mounts, Attaches, AnswersFor, ReadsVerdict, ReadsComplete, callbacks_read, step_read, post_read, bare_verdict, one_id, id_or_bad, worker_id, instance_id, AnswersPre, sends_context, pre_with_read, SetsUp, ids_of, filter_id, volume_id, set_done_read, context_or_file, file_or_bad, Creates};
 ghost use Rattle.fm_script.specs.ContextCommands.{context_keyword_read};
+ghost use Rattle.fm_script.specs.FileCommands.{file_keyword_read};
 
 use crate::context_command::{ContextCommand, ContextKeyword};
+use crate::file_command::{FileCommand, FileKeyword, read_create_mode};
 use crate::keyword::Keyword;
 use crate::number::{read_id, read_status};
 use fm_altitude::Altitude;
-use fm_types::{Name, Status};
+use fm_types::{CreateMode, Name, RelPath, Status};
 
 /// Which callbacks a filter that a script loads has for each operation.
 #[derive(Clone, Copy, Debug, PartialEq, Eq)]
@@ -68,6 +70,12 @@ pub enum Command {
         worker: u64,
         accept: bool,
     },
+    /// `create V PATH existing` or `new`, `always`: an operation begins.
+    Create {
+        volume: u64,
+        path: RelPath,
+        mode: CreateMode,
+    },
     /// `list V`: an operation begins.
     List {
         volume: u64,
@@ -119,11 +127,13 @@ pub enum Command {
     },
     /// A command on contexts.
     Context(ContextCommand),
+    /// A command on a handle, or on the device.
+    File(FileCommand),
 }
 
 impl Command {
     /// Reads the command that the words of a line spell. It is 32 (BadRequest) where the command is unknown, where it has another number of
-    /// words, and where a word can't be read; after that 3 (BadName) or 2 (BadAltitude) where a name or an altitude is refused by its reader.
+    /// words, and where a word can't be read; after that 3 (BadName), 2 (BadAltitude) or 15 (BadPath) where a name, an altitude or a path is refused by its reader.
     pub fn read(words: &[&[u8]]) -> Result<Command, Status>
         ensures { Reads (map (λ word. word.now) words.now) result }
     {
@@ -132,20 +142,33 @@ impl Command {
         };
         match Keyword::read(first) {
             Some(keyword) => read_as(keyword, words),
-            None => read_context(first, words),
+            None => read_other(first, words),
         }
     }
 }
 
-// Reads a command on contexts.
-fn read_context(first: &[u8], words: &[&[u8]]) -> Result<Command, Status>
-    ensures { result ≡ context_or_bad (context_keyword_read first.now) (map (λ word. word.now) words.now) }
+// Reads a command on contexts or on files.
+fn read_other(first: &[u8], words: &[&[u8]]) -> Result<Command, Status>
+    ensures { result ≡ context_or_file (context_keyword_read first.now) first.now (map (λ word. word.now) words.now) }
 {
     let Some(keyword) = ContextKeyword::read(first) else {
-        return Err(Status::BadRequest);
+        return read_on_files(first, words);
     };
     match ContextCommand::read(keyword, words) {
         Some(command) => Ok(Command::Context(command)),
+        None => Err(Status::BadRequest),
+    }
+}
+
+// Reads a command on a handle or on the device.
+fn read_on_files(first: &[u8], words: &[&[u8]]) -> Result<Command, Status>
+    ensures { result ≡ file_or_bad (file_keyword_read first.now) (map (λ word. word.now) words.now) }
+{
+    let Some(keyword) = FileKeyword::read(first) else {
+        return Err(Status::BadRequest);
+    };
+    match FileCommand::read(keyword, words) {
+        Some(command) => Ok(Command::File(command)),
         None => Err(Status::BadRequest),
     }
 }
@@ -186,6 +209,7 @@ fn read_as(keyword: Keyword, words: &[&[u8]]) -> Result<Command, Status>
         Keyword::Finish => Ok(Command::Finish {
             instance: one_id(b'i', words)?,
         }),
+        Keyword::Create => read_create(words),
     }
 }
 
@@ -294,6 +318,20 @@ fn read_set_done(words: &[&[u8]]) -> Result<Command, Status>
     } else {
         Err(Status::BadRequest)
     }
+}
+
+fn read_create(words: &[&[u8]]) -> Result<Command, Status>
+    ensures { Creates (map (λ word. word.now) words.now) result }
+{
+    let [volume, path, mode] = words else {
+        return Err(Status::BadRequest);
+    };
+    let volume = id(b'v', volume)?;
+    let Some(mode) = read_create_mode(mode) else {
+        return Err(Status::BadRequest);
+    };
+    let path = RelPath::read(path)?;
+    Ok(Command::Create { volume, path, mode })
 }
 
 // The words of a step: a worker and an operation.

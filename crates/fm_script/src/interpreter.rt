@@ -4,8 +4,10 @@
 ghost use Rattle.std.specs.Prelude.{◌≡◌, ◌+◌, ◌-◌, ◌^◌, ◌<◌, ◌≤◌, max, min, IfErr, MatchResult, OnErr, OnOk, IsOk, ◌↔◌, length, vec_len, slice_index_or, slice_set};
 
 mod contexts;
+mod files;
 
 use crate::command::{Callbacks, Verdict};
+use crate::devices::Devices;
 use fm_altitude::Altitude;
 use fm_core::{Action, Begin, Refused, State};
 use fm_data::{Answer, CallbackData, Completion, Params, PostVerdict, PreVerdict};
@@ -25,7 +27,7 @@ const WORKERS: u8 = 16;
 enum Held {
     Nothing,
     Pre(CallbackData),
-    Base(Params),
+    Base(OpId, Params),
     Post(Option<CallbackData>),
 }
 
@@ -58,6 +60,8 @@ pub struct Interpreter {
     contexts: Vec<CtxId>,
     volumes: u64,
     operations: u64,
+    handles: u64,
+    devices: Devices,
 }
 
 impl Interpreter {
@@ -76,6 +80,8 @@ impl Interpreter {
             contexts: Vec::new(alloc),
             volumes: 0,
             operations: 0,
+            handles: 0,
+            devices: Devices::new(alloc),
         })
     }
 
@@ -87,6 +93,7 @@ impl Interpreter {
     /// `mount`.
     pub fn mount(&mut self, name: Name) -> Result<VolumeId, Status> {
         let volume = self.state.mount(name)?;
+        self.devices.mount()?;
         self.volumes = after(self.volumes, u64::from(volume.0));
         Ok(volume)
     }
@@ -140,9 +147,7 @@ impl Interpreter {
     /// `list`: an operation begins on the volume.
     pub fn list(&mut self, volume: u64) -> Result<OpId, Status> {
         let volume = self.volume(volume)?;
-        let operation = self.state.begin(Begin::List { volume })?;
-        self.operations = after(self.operations, operation.0);
-        Ok(operation)
+        self.begin(Begin::List { volume })
     }
 
     /// `next`: a worker takes the operation's next step, and keeps what it was given.
@@ -150,9 +155,15 @@ impl Interpreter {
         let operation = self.operation(operation)?;
         let worker = worker_of(worker)?;
         let action = self.state.next(worker, operation)?;
-        let (held, step) = parts_of(action);
-        self.hold(worker, held);
+        let step = self.keep(worker, operation, action);
         Ok(step)
+    }
+
+    // Keeps what an action gives to the worker.
+    fn keep(&mut self, worker: WorkerId, operation: OpId, action: Action) -> Step {
+        let (held, step) = parts_of(operation, action);
+        self.hold(worker, held);
+        step
     }
 
     /// `pre`: the worker's preoperation callback returns.
@@ -176,35 +187,6 @@ impl Interpreter {
                 },
             ) => {
                 self.hold(worker, Held::Pre(handed_back));
-                Err(status)
-            }
-        }
-    }
-
-    /// `base`: the worker's base call returns. A listing has no bytes.
-    pub fn base(&mut self, worker: u64) -> Result<Status, Status> {
-        let worker = worker_of(worker)?;
-        let call = match self.take(worker) {
-            Held::Base(call) => call,
-            other => {
-                self.refuse(worker, other)?;
-                return Err(Status::WrongStep);
-            }
-        };
-        let answer = Answer {
-            status: Status::Success,
-            information: 0,
-            bytes: Bytes::new(self.alloc),
-        };
-        match self.state.base_returned(worker, call, answer) {
-            Ok(()) => Ok(Status::Success),
-            Err(
-                Refused {
-                    status,
-                    handed_back: (call, _),
-                },
-            ) => {
-                self.hold(worker, Held::Base(call));
                 Err(status)
             }
         }
@@ -385,10 +367,10 @@ fn verdict_of(verdict: Verdict) -> PreVerdict {
     }
 }
 
-fn parts_of(action: Action) -> (Held, Step) {
+fn parts_of(operation: OpId, action: Action) -> (Held, Step) {
     match action {
         Action::Pre(instance, data) => (Held::Pre(data), Step::Pre(instance)),
-        Action::Base(call) => (Held::Base(call), Step::Base),
+        Action::Base(call) => (Held::Base(operation, call), Step::Base),
         Action::Post(instance, data, _) => (Held::Post(Some(data)), Step::Post(instance)),
         Action::Drain(instance, _) => (Held::Post(None), Step::Drain(instance)),
         Action::Moved => (Held::Nothing, Step::Moved),

@@ -21,9 +21,10 @@ pub enum Keyword {
     Setup,
     SetDone,
     Finish,
+    Create,
 }
 
-const ALL: [Keyword; 15] = [
+const ALL: [Keyword; 16] = [
     Keyword::Load,
     Keyword::Mount,
     Keyword::Attach,
@@ -39,6 +40,7 @@ const ALL: [Keyword; 15] = [
     Keyword::Setup,
     Keyword::SetDone,
     Keyword::Finish,
+    Keyword::Create,
 ];
 
 impl Keyword {
@@ -72,6 +74,7 @@ impl Keyword {
             Keyword::Setup => b"setup",
             Keyword::SetDone => b"setdone",
             Keyword::Finish => b"finish",
+            Keyword::Create => b"create",
         }
     }
 }

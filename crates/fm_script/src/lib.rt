@@ -4,6 +4,8 @@
 
 mod command;
 mod context_command;
+mod devices;
+mod file_command;
 mod hexadecimal;
 mod interpreter;
 mod keyword;
@@ -19,6 +21,8 @@ mod words;
 
 pub use crate::command::{Callbacks, Command, Verdict};
 pub use crate::context_command::{ContextCommand, ContextKeyword};
+pub use crate::devices::Devices;
+pub use crate::file_command::{FileCommand, FileKeyword};
 pub use crate::hexadecimal::{read_hex, write_hex};
 pub use crate::interpreter::{Interpreter, Step};
 pub use crate::number::{read_id, read_number, read_status};

@@ -1,6 +1,7 @@
 //! Runs the commands of a script, line by line, and prints what they answer.
 
 mod contexts;
+mod files;
 mod instances;
 mod operations;
 
@@ -75,6 +76,7 @@ impl<W: Write + Drop> Runner<W> {
                 altitude,
             } => self.setup(worker, filter, volume, name, altitude),
             Command::SetDone { worker, accept } => self.set_done(worker, accept),
+            Command::Create { volume, path, mode } => self.create(volume, path, mode),
             Command::List { volume } => self.list(volume),
             Command::Next { worker, operation } => self.next(worker, operation),
             Command::Pre { worker, verdict } => self.pre(worker, verdict),
@@ -87,6 +89,7 @@ impl<W: Write + Drop> Runner<W> {
             Command::Phase { instance } => self.phase(instance),
             Command::Finish { instance } => self.finish(instance),
             Command::Context(command) => self.run_on_contexts(command, words),
+            Command::File(command) => self.run_on_files(command, words),
         }
     }
 

@@ -81,7 +81,7 @@ fn lines(alloc: Global, rt: &impl Abort, text: &str) -> Vec<u8> {
 }
 
 // Rows: a name, the input and the output, lines divided by `; `.
-const ROWS: [(&str, &str, &str); 21] = [
+const ROWS: [(&str, &str, &str); 27] = [
     (
         "altitude_order",
         "load f; mount v; attach f0 v0 a 03333; attach f0 v0 b 100.123456; list v0; go w0 o0",
@@ -119,7 +119,7 @@ const ROWS: [(&str, &str, &str); 21] = [
     ),
     (
         "unknown_commands",
-        "frobnicate; load; load a b; load f bar; load a only-pre b; mount; mount v w; attach f0 v0 a; attach f0 v0 a 1 2; list; collect; phase; next w0; go; pre; pre w0; plan i0; post w0; fail 1; create v0 x always; count; alloc w0 instance; resume w0 o0 with; leaks c0; Load f; LIST v0",
+        "frobnicate; load; load a b; load f bar; load a only-pre b; mount; mount v w; attach f0 v0 a; attach f0 v0 a 1 2; list; collect; phase; next w0; go; pre; pre w0; plan i0; post w0; fail; create v0 x; count; alloc w0 instance; resume w0 o0 with; leaks c0; Load f; LIST v0",
         "no 32; no 32; no 32; no 32; no 32; no 32; no 32; no 32; no 32; no 32; no 32; no 32; no 32; no 32; no 32; no 32; no 32; no 32; no 32; no 32; no 32; no 32; no 32; no 32; no 32; no 32",
     ),
     (
@@ -186,6 +186,36 @@ const ROWS: [(&str, &str, &str); 21] = [
         "setup_by_hand",
         "load f; mount v; setup w3 f0 v0 a 1; setup w3 f0 v0 b 2; setup w4 f0 v0 a 2; setup w4 f0 v0 b 01; setup w4 f0 v0 b 2; setdone w4 yes; setdone w4 yes; setup w16 f0 v0 c 3; setup w0 f1 v1 c 3; phase i0; phase i1; setdone w3 no; phase i0",
         "ok f0; ok v0; ok i0; no 30; no 4; no 5; ok i1; ok; no 30; no 30; no 6; setup; attached; no 11; emptying",
+    ),
+    (
+        "complete_in_preoperation",
+        "load f; mount v; attach f0 v0 a 300; attach f0 v0 b 200; attach f0 v0 c 100; plan i1 complete 17; create v0 deny/x always; go w0 o0",
+        "ok f0; ok v0; ok i0; ok i1; ok i2; ok; ok o0; pre i0 with; pre i1 complete 17; post i0; reply 17 0 -",
+    ),
+    (
+        "device_fault",
+        "load f; mount v; fail 3; attach f0 v0 a 200; attach f0 v0 b 100; create v0 x always; go w0 o0; write h0 0 41; go w0 o1; read h0 0 1; go w0 o2; failures; read h0 0 1; go w0 o3",
+        "ok f0; ok v0; ok; ok i0; ok i1; ok o0; pre i0 with; pre i1 with; base 0; post i1; post i0; reply 0 0 -; ok o1; pre i0 with; pre i1 with; base 0; post i1; post i0; reply 0 1 -; ok o2; pre i0 with; pre i1 with; base 18; post i1; post i0; reply 18 0 -; failures 1; ok o3; pre i0 with; pre i1 with; base 0; post i1; post i0; reply 0 1 41",
+    ),
+    (
+        "delete_on_close",
+        "mount v; create v0 f always; go w0 o0; create v0 f existing; go w0 o1; delete h0; go w0 o2; create v0 f existing; go w0 o3; cleanup h0; go w0 o4; close h0; go w0 o5; list v0; go w0 o6; cleanup h1; go w0 o7; close h1; go w0 o8; create v0 f existing; go w0 o9",
+        "ok v0; ok o0; base 0; reply 0 0 -; ok o1; base 0; reply 0 1 -; ok o2; base 0; reply 0 0 -; ok o3; base 16; reply 16 0 -; ok o4; base 0; reply 0 0 -; ok o5; base 0; reply 0 0 -; ok o6; base 0; reply 0 2 660a; ok o7; base 0; reply 0 0 -; ok o8; base 0; reply 0 0 -; ok o9; base 19; reply 19 0 -",
+    ),
+    (
+        "first_call_fails",
+        "load f; mount v; fail 1; attach f0 v0 a 100; create v0 x always; go w0 o0; write h0 0 41; failures",
+        "ok f0; ok v0; ok; ok i0; ok o0; pre i0 with; base 18; post i0; reply 18 0 -; no 14; failures 1",
+    ),
+    (
+        "close_fails",
+        "mount v; fail 2; create v0 f always; go w0 o0; delete h0; go w0 o1; cleanup h0; go w0 o2; close h0; go w0 o3; failures; cleanup h0; create v0 f existing; go w0 o4",
+        "ok v0; ok; ok o0; base 0; reply 0 0 -; ok o1; base 0; reply 0 0 -; ok o2; base 0; reply 0 0 -; ok o3; base 18; reply 18 0 -; failures 1; no 14; ok o4; base 0; reply 0 1 -",
+    ),
+    (
+        "files_and_refusals",
+        "mount v; create v0 a/../b always; create v0 a some; create v1 a always; read h0 0 1; create v0 a always; go w0 o0; read h0 0 1; go w0 o1; write h0 1 4142; go w0 o2; size h0; go w0 o3; read h0 0 9; go w0 o4; setsize h0 1; go w0 o5; size h0; go w0 o6; read h0 0 32769; read h0 0 4294967296; setsize h0 1099511627777; read h0 x 1; write h0 0 414; flush h0; go w0 o7; failures; fail 1; failures; close h0",
+        "ok v0; no 15; no 32; no 7; no 14; ok o0; base 0; reply 0 0 -; ok o1; base 31; reply 31 0 -; ok o2; base 0; reply 0 2 -; ok o3; base 0; reply 0 3 -; ok o4; base 0; reply 0 3 004142; ok o5; base 0; reply 0 0 -; ok o6; base 0; reply 0 1 -; no 32; no 32; no 32; no 32; no 32; ok o7; base 0; reply 0 0 -; failures 0; ok; failures 0; no 30",
     ),
 ];
 

@@ -1,4 +1,5 @@
 mod Parts
 mod Writes
 pub mod Lists
+pub mod Firsts
 pub mod Refusals

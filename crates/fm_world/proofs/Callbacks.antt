@@ -94,7 +94,7 @@ contexts_owned w t k hand lawful cleaning owners hands worker here fit h =
     }
 
 pub sound_with : (w : World) (t : ContextTable) → IsOwned (with_contexts w t) → IsSound w → IsSound (with_contexts w t)
-sound_with w t owned s = record { under_way = whatever_contexts w t w.totals s.under_way; owned = owned }
+sound_with w t owned s = record { under_way = whatever_contexts w t w.totals s.under_way; owned = owned; filed = s.filed }
 
 -- what a worker holds in a callback
 pub in_hand : (w : World) (k : WorkerId) (at : Callback) (c : CtxId) → IsIn w k at → IsOwned w → holds (hand_of w.contexts.hands k.0) c ≡ true

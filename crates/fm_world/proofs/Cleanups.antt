@@ -119,6 +119,7 @@ take_due_at old k new (Some c) at first e s =
       under_way = whatever_contexts (record old { workers = put old.workers k (place.Cleanup c) }) (taken_due old.contexts k.0 c) old.totals
           (worker_moves old k place.Idle (place.Cleanup c) at idle_is_in_none (cleanup_in_none c) (λ i. refl) (λ i. refl) s.under_way);
       owned = taken_owned old k c at first s;
+      filed = s.filed;
     })
 
 pub take_due_sound : (old : World) (k : WorkerId) (result : Result (Option Due) Status) (new : World) → TakesDue old k result new → IsSound old → IsSound new
@@ -252,6 +253,7 @@ cleaned_at old k number result new (Some (place.Cleanup c)) at h s =
       under_way = whatever_contexts (record old { workers = put old.workers k place.Idle }) (cleaned old.contexts k.0 c) totals
           (worker_moves old k (place.Cleanup c) place.Idle at (cleanup_in_none c) idle_is_in_none (λ i. refl) (λ i. refl) s.under_way);
       owned = cleaned_owned old k c number at s;
+      filed = s.filed;
     })
 cleaned_at old k number result new (Some place.Idle) at h s = subst IsSound (sym h.1) s
 cleaned_at old k number result new (Some (place.Setup i)) at h s = subst IsSound (sym h.1) s
@@ -351,6 +353,7 @@ finish_sound old i (Ok done) new h s =
           (λ o spot. refl)
           (λ j. s.under_way.setups j ∙ sym (setup_kept finish_row old.stack.instances i.0 j row.0 row.1 (sym (not_setup row.0.phase row.2))))
           s.under_way;
+      filed = s.filed;
       owned = record {
         lawful = k.lawful;
         cleaning = k.cleaning;

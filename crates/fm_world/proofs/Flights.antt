@@ -19,7 +19,7 @@ use Rattle.fm_flow.specs.Sound.{IsCourse}
 use Rattle.fm_flow.specs.Sound as flow
 use Rattle.fm_flow.specs.Table.{is_number, total, in_flight}
 use Rattle.fm_flow.proofs.Counting.{flight_pre_settled, flight_post_settled, opens_drain_settled}
-use Rattle.fm_flow.proofs.Tables.{found_holds}
+use Rattle.fm_types.proofs.Firsts.{found_holds}
 use Rattle.fm_world.specs.declared.worker.Worker.{Worker}
 use Rattle.fm_world.specs.declared.worker.Worker.TheVariants as place
 use Rattle.fm_world.specs.World.{World}

@@ -1,6 +1,6 @@
 -- The events on operations leave contexts as the World says.
 use Rattle.std.proofs.Common.{◌≡◌, ℕ, ◌<◌, ◌≤◌, ◌+◌, ◌==◌, Bool, true, false, cond, List, [], ◌∷◌, ◌++◌, length, not, Option, Some, None, Result, Ok, Err, slice_get, option_map, unwrap_or, option_to_list, find, refl, ap, sym, ◌∙◌, subst, inl, inr, arith}
-use Rattle.std.specs.Prelude.{All, slice_set}
+use Rattle.std.specs.Prelude.{All, slice_set, ◌||◌, ◌-◌, ◌^◌, nat_le}
 use Rattle.std.specs.List.{list_any}
 use Rattle.std.proofs.lemmas.Bool.{false≢true, true≢false, cases_Bool, and_parts, and_from, eq-eqb, ne_eqb}
 use Rattle.std.proofs.lemmas.Option.{none-some, same_Some, slice_get_within}
@@ -22,6 +22,7 @@ use Rattle.fm_data.specs.declared.verdict.Completion.{Completion}
 use Rattle.fm_data.specs.declared.verdict.PreVerdict.{PreVerdict}
 use Rattle.fm_data.specs.declared.verdict.PreVerdict.TheVariants as verdict
 use Rattle.fm_data.specs.declared.verdict.PostVerdict.{PostVerdict}
+use Rattle.fm_data.specs.declared.verdict.PostVerdict.TheVariants as given'
 use Rattle.fm_data.specs.Data.{Data, data_fits}
 use Rattle.fm_stack.specs.declared.instance.Phase.{Phase}
 use Rattle.fm_stack.specs.declared.instance.Phase.TheVariants as phase
@@ -44,14 +45,14 @@ use Rattle.fm_flow.specs.Entries.{ask_in, last_visited, owed}
 use Rattle.fm_flow.specs.Record.{FlowRecord}
 use Rattle.fm_flow.specs.Sound.{IsCourse}
 use Rattle.fm_flow.specs.Sound as flow
-use Rattle.fm_flow.specs.Steps.{next_of, pre_returned_of, base_returned_of, post_returned_of, drain_returned_of, base_fits, post_state, is_done, done_at}
-use Rattle.fm_flow.specs.Table.{FlowTable, operation_at, changed, told, total, carried, in_flight, begun, begun_record, is_number, is_collectable, collected_in, marked, removed, without_first}
+use Rattle.fm_flow.specs.Steps.{next_of, pre_returned_of, post_returned_of, drain_returned_of, base_fits, post_state, is_done, done_at, post_leads}
+use Rattle.fm_flow.specs.Table.{FlowTable, operation_at, changed, told, total, carried, in_flight, begun, begun_record, is_number, is_collectable, collected_in, marked, removed, without_first, is_full}
 use Rattle.fm_flow.specs.Verdict.{verdict_counted, completed_as}
 use Rattle.fm_flow.proofs.Balances.{next_carries, next_flies, next_enters, pre_returned_carries, pre_returned_flies, base_returned_carries, base_returned_flies, post_returned_carries, post_returned_flies, drain_returned_carries, drain_returned_flies, total_changed}
 use Rattle.fm_flow.proofs.Counting.{owed_pre_settled, owed_post_settled, owed_drain_settled}
 use Rattle.fm_flow.proofs.Owed.{owed_push_none}
 use Rattle.fm_flow.proofs.Owes.{WasOwed, MayAsk, next_owes}
-use Rattle.fm_flow.proofs.Tables.{found_holds, all_change, all_without}
+use Rattle.fm_types.proofs.Firsts.{found_holds, all_change, all_without}
 use Rattle.fm_ctx.specs.Bags.{holds, hand_of, without}
 use Rattle.fm_ctx.specs.Laws.{IsLawful}
 use Rattle.fm_ctx.specs.References.{grabbed}
@@ -67,15 +68,27 @@ use Rattle.fm_world.specs.declared.worker.Worker.TheVariants as place
 use Rattle.fm_world.specs.World.{World, carries}
 use Rattle.fm_world.specs.Workers.{worker_at, put, is_idle, after_next, cleanup_in}
 use Rattle.fm_world.specs.Owners.{row_at, place_in, HoldsIn, CarriesIn, AskCarries, fits, is_flown, is_flown_by}
-use Rattle.fm_world.specs.Events.{Begins, Nexts, NextsOver, FindsBelow, LiesBelow, PreReturns, PreReturnsAt, BaseReturns, BaseReturnsAt, PostReturns, PostReturnsAt, ReturnsFrom, Collects, brought, received, returned, drains_at, state_at, state_given, held_context, of_hand, sent, sent_in, carries_after, has_post}
+use Rattle.fm_world.specs.Events.{Begins, Nexts, NextsOver, FindsBelow, LiesBelow, PreReturns, PreReturnsAt, BaseReturns, BaseReturnsAt, PostReturns, PostReturnsAt, ReturnsFrom, Collects, brought, received, returned, drains_at, state_at, state_given, held_context, of_hand, sent, sent_in, carries_after, has_post, begin_refused, begun_on, begun_at, after_begin, moved_on, has_no_handle_left, filed_next, filed_pre, filed_base, filed_record, is_created_on, base_step, PreReturnsFrom, asked_refused, asked_begun, refused_at}
 use Rattle.fm_world.specs.Headline.{AtPre, AtBase, AtPost, AtDrain}
-use Rattle.fm_world.specs.Sound.{IsSound, IsUnderWay, IsOwned, IsAmong}
+use Rattle.fm_world.specs.Sound.{IsSound, IsUnderWay, IsOwned, IsAmong, IsFiled}
 use Rattle.fm_world.proofs.Belonging.{owners_same, filters_same, belongs_still, AllHold, AllCarry, all_hold, others_stay, held_has}
 use Rattle.fm_world.proofs.Callbacks.{same_hands}
-use Rattle.fm_world.proofs.Keeps.{unless_cases, idle_there}
-use Rattle.fm_world.proofs.Operations.{begin_keeps, next_keeps, pre_keeps, base_keeps, post_keeps, collect_keeps, may_visit, told_there, unchanged_flow}
+use Rattle.fm_world.proofs.Keeps.{unless_cases, idle_there, FiledIn}
+use Rattle.fm_world.proofs.Operations.{begin_keeps, next_keeps, pre_keeps, base_keeps, post_keeps, collect_keeps, may_visit, told_there, full_from, not_there, begins_at, asked_within}
 use Rattle.fm_world.proofs.Owning.{empty_hand, cleaning_stays}
-use Rattle.fm_world.proofs.Ties.{tied_there, spot_pre, spot_post, spot_drain}
+use Rattle.fm_world.proofs.Ties.{tied_there, spot_pre, spot_post, spot_drain, spot_base}
+use Rattle.fm_types.specs.declared.ids.HandleId.{HandleId}
+use Rattle.fm_types.specs.declared.ids.StreamId.{StreamId}
+use Rattle.fm_types.specs.declared.ids.VolumeId.{VolumeId}
+use Rattle.fm_world.specs.declared.file.FileHandle.{FileHandle}
+use Rattle.fm_world.specs.declared.file.FileStream.{FileStream}
+use Rattle.fm_world.specs.Files.{FileTable, stream_at, handle_at, stream_for, created, after_pre}
+use Rattle.fm_world.specs.Requests.{params_of}
+use Rattle.fm_data.specs.Params.{operation_of, is_within_limits}
+use Rattle.fm_flow.specs.Answered.{base_counted}
+use Rattle.fm_flow.specs.Creates.{creates, is_unanswered, is_create}
+use Rattle.fm_world.proofs.Filing.{shrinks_same, moved_shrinks, pre_shrinks, filed_step, filed_answered, answered_none, not_more_none, not_more_same, next_not_more, was_known, filed_begins, filed_creates, filed_collects, asks_no_create}
+use Rattle.fm_world.proofs.Descents.{or_left, or_right}
 
 -- ---- one operation changes
 
@@ -138,25 +151,77 @@ pub total_push : (f : FlowRecord → ℕ) (rs : List FlowRecord) (r : FlowRecord
 total_push f [] r none = omega (arith, none)
 total_push f (x ∷ rs) r none = omega (arith, total_push f rs r none)
 
+-- streams and handles don't matter here
+files_owned : {w : World} (files : FileTable) → IsOwned w → IsOwned (record w { files = files })
+files_owned files h = record { lawful = h.lawful; cleaning = h.cleaning; holders = h.holders; completions = h.completions; fits = h.fits; quiet = h.quiet; totals = h.totals }
+
+-- a new operation is owed nothing and in flight nowhere
+operation_owned : (old : World) (v : VolumeId) (stream : Option StreamId) (handle : Option HandleId) (p : Params) (files : FileTable) → IsOwned old
+    → IsOwned (record old { flow = begun v stream handle old.stack.births p old.flow; files = files })
+operation_owned old v stream handle p files k =
+    let r = begun_record old.flow.next v stream handle old.stack.births p in
+    record {
+      lawful = lawful_alike (λ c. sym (total_push (carried_by c) old.flow.operations r refl)) k.lawful;
+      cleaning = k.cleaning;
+      holders = k.holders;
+      completions = All-push (λ (x : FlowRecord). All (AskCarries old.stack old.contexts.slots) (owed x.entries)) old.flow.operations r k.completions
+          (All-nil (AskCarries old.stack old.contexts.slots));
+      fits = k.fits;
+      quiet = λ i rests. total_push (flight i.0) old.flow.operations r refl ∙ k.quiet i rests;
+      totals = k.totals;
+    }
+
+on_owned : (old : World) (h : HandleId) (p : Params) (x : FileHandle) (m : Option FileStream) → IsOwned old → IsOwned (begun_on old h p x m)
+on_owned old h p x None s = s
+on_owned old h p x (Some y) s = operation_owned old y.volume (Some x.stream) (Some h) p (moved_on (operation_of p) h old.flow.next old.files) s
+
+at_owned : (old : World) (h : HandleId) (p : Params) (m : Option FileHandle) → IsOwned old → IsOwned (begun_at old h p m)
+at_owned old h p None s = s
+at_owned old h p (Some x) s = on_owned old h p x (stream_at x.stream old.files) s
+
+after_begin_owned : (old : World) (what : Begin) → IsOwned old → IsOwned (after_begin old what)
+after_begin_owned old (begin.List v) s = operation_owned old v None None params.List old.files s
+after_begin_owned old (begin.Create v path mode) s =
+    operation_owned old v (Some (stream_for v path old.flow.next old.files)) None (params.Create path mode) (created v path old.flow.next old.files) s
+after_begin_owned old (begin.OnHandle h asked) s = at_owned old h (params_of asked) (handle_at h old.files) s
+
+on_filed : (old : World) (h : HandleId) (p : Params) (x : FileHandle) (m : Option FileStream) → is_create (operation_of p) ≡ false → FiledIn old → FiledIn (begun_on old h p x m)
+on_filed old h p x None none s = s
+on_filed old h p x (Some y) none s =
+    filed_begins old.files (moved_on (operation_of p) h old.flow.next old.files) old.flow y.volume (Some x.stream) (Some h) old.stack.births p
+    none (moved_shrinks (operation_of p) h old.flow.next old.files) s
+
+at_filed : (old : World) (h : HandleId) (p : Params) (m : Option FileHandle) → is_create (operation_of p) ≡ false → FiledIn old → FiledIn (begun_at old h p m)
+at_filed old h p None none s = s
+at_filed old h p (Some x) none s = on_filed old h p x (stream_at x.stream old.files) none s
+
+after_begin_filed : (old : World) (what : Begin) → begin_refused old what ≡ None → FiledIn old → FiledIn (after_begin old what)
+after_begin_filed old (begin.List v) free s = filed_begins old.files old.files old.flow v None None old.stack.births params.List refl (shrinks_same old.files) s
+after_begin_filed old (begin.Create v path mode) free s =
+    let many = full_from _ _ (is_full old.flow || has_no_handle_left old) free in
+    let room = nat_le 4096 (length old.files.handles + creates old.flow) in
+    filed_creates old.files old.flow v path (Some (stream_for v path old.flow.next old.files)) None old.stack.births (params.Create path mode)
+    (or_left room (old.files.next == 2 ^ 64 - 1) (or_right (is_full old.flow) (has_no_handle_left old) many)) s
+after_begin_filed old (begin.OnHandle h asked) free s = at_filed old h (params_of asked) (handle_at h old.files) (asks_no_create asked) s
+
+-- an operation on a handle begins
+pub asked_sound : (old : World) (h : HandleId) (p : Params) → asked_refused old h p ≡ None → is_create (operation_of p) ≡ false → IsSound old → IsSound (asked_begun old h p)
+asked_sound old h p free none s =
+    let parts = asked_within (is_within_limits p) (refused_at old p (handle_at h old.files)) free in
+    record {
+      under_way = begins_at old h p (handle_at h old.files) parts.0 parts.1 s.under_way;
+      owned = at_owned old h p (handle_at h old.files) s.owned;
+      filed = at_filed old h p (handle_at h old.files) none s.filed;
+    }
+
 pub begin_sound : (old : World) (what : Begin) (result : Result OpId Status) (new : World) → Begins old what result new → IsSound old → IsSound new
 unfolding Begins
 begin_sound old what (Err why) new h s = subst IsSound (sym h.1) s
-begin_sound old (begin.List v) (Ok o) new h s = record { under_way = begin_keeps old (begin.List v) (Ok o) new h s.under_way; owned = subst IsOwned (sym h.1.1) owned }
-  where
-    owned : IsOwned (record old { flow = begun v None None old.stack.births params.List old.flow })
-    owned =
-        let k = s.owned in
-        let r = begun_record old.flow.next v None None old.stack.births params.List in
-        record {
-          lawful = lawful_alike (λ c. sym (total_push (carried_by c) old.flow.operations r refl)) k.lawful;
-          cleaning = k.cleaning;
-          holders = k.holders;
-          completions = All-push (λ (x : FlowRecord). All (AskCarries old.stack old.contexts.slots) (owed x.entries)) old.flow.operations r k.completions
-              (All-nil (AskCarries old.stack old.contexts.slots));
-          fits = k.fits;
-          quiet = λ i rests. total_push (flight i.0) old.flow.operations r refl ∙ k.quiet i rests;
-          totals = k.totals;
-        }
+begin_sound old what (Ok o) new h s = record {
+  under_way = begin_keeps old what (Ok o) new h s.under_way;
+  owned = subst IsOwned (sym h.1.1) (after_begin_owned old what s.owned);
+  filed = subst FiledIn (sym h.1.1) (after_begin_filed old what h.0 s.filed);
+}
 
 -- ---- next
 
@@ -181,7 +246,10 @@ lies_attached s r below.Call i below' rests j called e = absurd (call_is_not e)
   where
     call_is_not : below.Call ≡ below.Instance j called → ⊥
     call_is_not e = cc
-lies_attached s r (below.Known why) i below' rests j called e = absurd below'
+lies_attached s r (below.Known why) i below' rests j called e = absurd (known_is_not e)
+  where
+    known_is_not : below.Known why ≡ below.Instance j called → ⊥
+    known_is_not e = cc
 lies_attached s r (below.Instance l b) i below' rests j called e =
     let next = below'.0 in
     let passes = and_parts (is_to_visit s r.volume r.born r.operation next.row) (is_below_cursor s (last_visited r.entries) next.row) next.passes in
@@ -266,17 +334,14 @@ next_by w o r f k (Ok action.Done) at idle worker balance was owes quiet h = flo
 next_by w o r f k (Err why) at idle worker balance was owes quiet h = flow_owned w o r f at (lawful_alike (λ c. omega (arith, balance c)) h.lawful) owes quiet h
 
 next_owned : (old : World) (k : WorkerId) (o : OpId) (lies : Below) (result : Result FlowAction Status) (new : World) (m : Option FlowRecord)
-    → operation_at o old.flow ≡ m → worker_at old.workers k ≡ Some place.Idle → FindsBelow old.stack m lies → NextsOver old k o lies result new
+    → operation_at o old.flow ≡ m → worker_at old.workers k ≡ Some place.Idle → FindsBelow old.stack old.files old.flow m lies → NextsOver old k o lies result new
     → IsSound old → IsOwned new
 next_owned old k o lies result new None at idle finds h s =
     let d = drains_at old o in
     let f = λ (x : FlowRecord). (next_of k lies d x).after in
     let reply : result ≡ Err status.WrongStep =
     h.0 ∙ ap (λ m. unwrap_or (option_map (λ (x : FlowRecord). (next_of k lies d x).reply) m) (Err status.WrongStep)) at in
-    let same : record old { flow = changed o f old.flow; workers = after_next old.workers k o result; contexts = received old.contexts k result } ≡ old =
-    ap (λ t. record old { flow = t; workers = after_next old.workers k o result; contexts = received old.contexts k result }) (unchanged_flow old.flow o f at)
-    ∙ ap (λ x. record old { workers = after_next old.workers k o x; contexts = received old.contexts k x }) reply in
-    subst IsOwned (sym (h.1 ∙ same)) s.owned
+    subst IsOwned (sym (h.1 ∙ not_there old k o lies result at reply)) s.owned
 next_owned old k o lies result new (Some r) at idle finds h s =
     let d = drains_at old o in
     let f = λ (x : FlowRecord). (next_of k lies d x).after in
@@ -287,28 +352,78 @@ next_owned old k o lies result new (Some r) at idle finds h s =
     let among = found_holds (IsAmong old.stack) (is_number o) old.flow.operations r s.under_way.among at in
     let asks = found_holds (λ (x : FlowRecord). All (AskCarries old.stack old.contexts.slots) (owed x.entries)) (is_number o) old.flow.operations r s.owned.completions at in
     let owes = next_owes (AskCarries old.stack old.contexts.slots) k lies d r
-    (λ e. (may_visit old.stack r lies among (finds e), may_ask old.stack old.contexts.slots k lies r)) sound asks in
-    let balance = next_balance old o k lies d r at finds s in
+    (λ e. (may_visit old.stack r lies among (finds e).0, may_ask old.stack old.contexts.slots k lies r)) sound asks in
+    let balance = next_balance old o k lies d r at (λ e. (finds e).0) s in
     let quiet : (i : InstanceId) → is_flown_by (row_at old.stack i) ≡ false → in_flight i.0 (changed o f old.flow) ≡ 0 = λ i rests.
     omega (
       arith,
       flight_changed old.flow o r f at i.0,
-      next_flies i.0 k lies d r (λ e. may_visit old.stack r lies among (finds e)) sound,
-      next_enters i.0 k lies d r (λ e. lies_attached old.stack r lies i (finds e) rests),
+      next_flies i.0 k lies d r (λ e. may_visit old.stack r lies among (finds e).0) sound,
+      next_enters i.0 k lies d r (λ e. lies_attached old.stack r lies i (finds e).0 rests),
       s.owned.quiet i rests,
     ) in
     let worker : k.0 < 48 = subst (λ n. k.0 < n) s.under_way.hands (slice_get_within old.workers k.0 place.Idle idle) in
-    subst IsOwned (sym (h.1 ∙ ap (λ x. record old { flow = changed o f old.flow; workers = after_next old.workers k o x; contexts = received old.contexts k x }) reply))
-    (next_by old o r f k turned.reply at idle worker balance owes.hands owes.owes quiet s.owned)
+    let filed = filed_next old o (changed o f old.flow) result lies in
+    subst IsOwned (sym (h.1 ∙ ap (λ x. record old { flow = changed o f old.flow; workers = after_next old.workers k o x; contexts = received old.contexts k x; files = filed }) reply))
+    (files_owned filed (next_by old o r f k turned.reply at idle worker balance owes.hands owes.owes quiet s.owned))
+
+-- an answer that was known counts at once
+known_filed : (old : World) (k : WorkerId) (o : OpId) (r : FlowRecord) (lies : Below) (drains : Bool) (result : Result FlowAction Status) → operation_at o old.flow ≡ Some r
+    → result ≡ (next_of k lies drains r).reply → FiledIn old
+    → IsFiled (filed_next old o (changed o (λ (x : FlowRecord). (next_of k lies drains x).after) old.flow) result lies) (changed o (λ (x : FlowRecord). (next_of k lies drains x).after) old.flow)
+known_filed old k o r lies drains result at reply s = by_result result lies reply
+  where
+    still : (lies : Below) → FiledIn old → IsFiled old.files (changed o (λ (x : FlowRecord). (next_of k lies drains x).after) old.flow)
+    still lies s = filed_step old.files old.files old.flow o r (λ (x : FlowRecord). (next_of k lies drains x).after) at (next_not_more k lies drains r) (shrinks_same old.files) s
+
+    by_result : (result : Result FlowAction Status) (lies : Below) → result ≡ (next_of k lies drains r).reply
+        → IsFiled (filed_next old o (changed o (λ (x : FlowRecord). (next_of k lies drains x).after) old.flow) result lies) (changed o (λ (x : FlowRecord). (next_of k lies drains x).after) old.flow)
+    by_result (Ok action.Moved) (below.Known why) reply =
+        let f = λ (x : FlowRecord). (next_of k (below.Known why) drains x).after in
+        let t = changed o f old.flow in
+        let was = was_known k why drains r reply in
+        subst (λ (files : FileTable). IsFiled files t) (sym (told_there (filed_record old.files t why) old.files o old.flow r at))
+        (filed_answered old.files old.flow o r f r.operation r.stream r.handle why (is_created_on r.stream t) at refl was.unanswered was.none s)
+    by_result (Ok action.Moved) (below.Instance i b) reply = still (below.Instance i b) s
+    by_result (Ok action.Moved) below.Call reply = still below.Call s
+    by_result (Ok (action.Pre i lent)) lies reply = still lies s
+    by_result (Ok (action.Base call)) lies reply = still lies s
+    by_result (Ok (action.Post i lent completion)) lies reply = still lies s
+    by_result (Ok (action.Drain i completion)) lies reply = still lies s
+    by_result (Ok action.Held) lies reply = still lies s
+    by_result (Ok action.Done) lies reply = still lies s
+    by_result (Err why) lies reply = still lies s
+
+next_filed_at : (old : World) (k : WorkerId) (o : OpId) (lies : Below) (result : Result FlowAction Status) (new : World) (m : Option FlowRecord)
+    → operation_at o old.flow ≡ m → NextsOver old k o lies result new → FiledIn old → FiledIn new
+next_filed_at old k o lies result new None at h s =
+    let reply : result ≡ Err status.WrongStep =
+    h.0 ∙ ap (λ m. unwrap_or (option_map (λ (x : FlowRecord). (next_of k lies (drains_at old o) x).reply) m) (Err status.WrongStep)) at in
+    subst FiledIn (sym (h.1 ∙ not_there old k o lies result at reply)) s
+next_filed_at old k o lies result new (Some r) at h s =
+    let reply : result ≡ (next_of k lies (drains_at old o) r).reply =
+    h.0 ∙ ap (λ m. unwrap_or (option_map (λ (x : FlowRecord). (next_of k lies (drains_at old o) x).reply) m) (Err status.WrongStep)) at in
+    subst FiledIn (sym h.1) (known_filed old k o r lies (drains_at old o) result at reply s)
+
+next_filed : (old : World) (k : WorkerId) (o : OpId) (result : Result FlowAction Status) (new : World) → Nexts old k o result new → FiledIn old → FiledIn new
+unfolding Nexts
+next_filed old k o result new h s =
+    unless_cases FiledIn status.WrongStep (is_idle (worker_at old.workers k)) result old new
+    ((lies : Below) × FindsBelow old.stack old.files old.flow (operation_at o old.flow) lies × NextsOver old k o lies result new) h
+    (λ idle event. next_filed_at old k o event.0 result new (operation_at o old.flow) refl event.2 s) s
 
 pub next_sound : (old : World) (k : WorkerId) (o : OpId) (result : Result FlowAction Status) (new : World) → Nexts old k o result new → IsSound old → IsSound new
 unfolding Nexts
-next_sound old k o result new h s = record { under_way = next_keeps old k o result new h s.under_way; owned = owned }
+next_sound old k o result new h s = record {
+  under_way = next_keeps old k o result new h s.under_way;
+  owned = owned;
+  filed = next_filed old k o result new h s.filed;
+}
   where
     owned : IsOwned new
     owned =
         unless_cases IsOwned status.WrongStep (is_idle (worker_at old.workers k)) result old new
-        ((lies : Below) × FindsBelow old.stack (operation_at o old.flow) lies × NextsOver old k o lies result new) h
+        ((lies : Below) × FindsBelow old.stack old.files old.flow (operation_at o old.flow) lies × NextsOver old k o lies result new) h
         (λ idle event. next_owned old k o event.0 result new (operation_at o old.flow) refl (idle_there old.workers k idle) event.1 event.2 s) s.owned
 
 -- ---- callbacks return
@@ -456,10 +571,11 @@ pre_at old k given lent result new (Some (place.Pre o i)) at h s =
     subst (All (AskCarries old.stack slots)) (sym settled.2)
     (asked_carries old.stack slots settled.0 state (owed r.entries) (subst (λ x. CarriesIn old.stack slots x (sent_in state)) (sym visited) own) asks) in
     unless_cases IsOwned status.BadRequest (told (λ r. data_fits r.operation r.path lent) false o old.flow) result old new
-    ((result ≡ Ok tt) × ReturnsFrom old k o f (sent old.contexts k (sent_in state)) new) h
+    ((result ≡ Ok tt) × PreReturnsFrom old k o f state new) h
     (λ fits event. subst IsOwned (sym event.1.1)
+    (files_owned (filed_pre old o (changed o f old.flow) state)
     (left_owned old o r f k (place.Pre o i) (sent old.contexts k (sent_in state)) new.contexts there.1 at worker refl parts.0 parts.1 parts.2 parts.3 event.1.0 owes
-    (λ j. omega (arith, pre_returned_flies j state lent r there.2 sound)) s.owned)) s.owned
+    (λ j. omega (arith, pre_returned_flies j state lent r there.2 sound)) s.owned))) s.owned
   where
     sent_owned : (w : World) (k : WorkerId) (o : OpId) (i : InstanceId) (m : Option CtxId) → worker_at w.workers k ≡ Some (place.Pre o i)
         → ((d : CtxId) → m ≡ Some d → holds (hand_of w.contexts.hands k.0) d ≡ true) → IsSound w → CarriesIn w.stack w.contexts.slots i m
@@ -475,11 +591,37 @@ pre_at old k given lent result new (Some (place.Drain o i)) at h s = subst IsOwn
 pre_at old k given lent result new (Some (place.Cleanup c)) at h s = subst IsOwned (sym h.1) s.owned
 pre_at old k given lent result new None at h s = subst IsOwned (sym h.1) s.owned
 
+pre_filed : (old : World) (k : WorkerId) (given : PreVerdict) (lent : Data) (result : Result (Unit {0}) Status) (new : World) (m : Option Worker)
+    → worker_at old.workers k ≡ m → PreReturnsAt old k given lent result new m → IsSound old → FiledIn new
+pre_filed old k given lent result new (Some (place.Pre o i)) at h s =
+    let there = pre_record old k o i at s.under_way in
+    let r = there.0 in
+    let state = state_at old k o i given in
+    let f = pre_returned_of state lent in
+    let read = λ (x : FlowRecord). after_pre state x.operation x.stream (is_created_on x.stream (changed o f old.flow)) old.files in
+    unless_cases FiledIn status.BadRequest (told (λ r. data_fits r.operation r.path lent) false o old.flow) result old new
+    ((result ≡ Ok tt) × PreReturnsFrom old k o f state new) h
+    (λ fits event. subst FiledIn (sym event.1.1)
+    (subst (λ (files : FileTable). IsFiled files (changed o f old.flow)) (sym (told_there read old.files o old.flow r there.1))
+    (filed_step old.files (read r) old.flow o r f there.1 (not_more_same r (f r) refl (ap is_unanswered there.2))
+    (pre_shrinks state r.operation r.stream (is_created_on r.stream (changed o f old.flow)) old.files) s.filed))) s.filed
+pre_filed old k given lent result new (Some place.Idle) at h s = subst FiledIn (sym h.1) s.filed
+pre_filed old k given lent result new (Some (place.Setup i)) at h s = subst FiledIn (sym h.1) s.filed
+pre_filed old k given lent result new (Some (place.Base o)) at h s = subst FiledIn (sym h.1) s.filed
+pre_filed old k given lent result new (Some (place.Post o i)) at h s = subst FiledIn (sym h.1) s.filed
+pre_filed old k given lent result new (Some (place.Drain o i)) at h s = subst FiledIn (sym h.1) s.filed
+pre_filed old k given lent result new (Some (place.Cleanup c)) at h s = subst FiledIn (sym h.1) s.filed
+pre_filed old k given lent result new None at h s = subst FiledIn (sym h.1) s.filed
+
 pub pre_sound : (old : World) (k : WorkerId) (given : PreVerdict) (lent : Data) (result : Result (Unit {0}) Status) (new : World)
     → PreReturns old k given lent result new → IsSound old → IsSound new
 unfolding PreReturns
 pre_sound old k given lent result new h s =
-    record { under_way = pre_keeps old k given lent result new h s.under_way; owned = pre_at old k given lent result new (worker_at old.workers k) refl h s }
+    record {
+      under_way = pre_keeps old k given lent result new h s.under_way;
+      owned = pre_at old k given lent result new (worker_at old.workers k) refl h s;
+      filed = pre_filed old k given lent result new (worker_at old.workers k) refl h s;
+    }
 
 -- ---- the base's call returns
 
@@ -488,18 +630,20 @@ base_at : (old : World) (k : WorkerId) (call : Params) (given : Answer) (result 
 base_at old k call given result new (Some (place.Base o)) at h s =
     let there = tied_there old.workers old.flow k (place.Base o) o AtBase s.under_way.workers at (eq-eqb o.0 o.0 refl) in
     let r = there.0 in
-    let f = base_returned_of call given in
+    let handle : HandleId = record { 0 = old.files.next } in
+    let f = base_step old call given in
+    let counts = base_counted call given handle in
     let slots = old.contexts.slots in
     let asks = found_holds (λ (x : FlowRecord). All (AskCarries old.stack slots) (owed x.entries)) (is_number o) old.flow.operations r s.owned.completions there.1 in
     let none = empty_hand old k (place.Base o) at refl s.owned in
     unless_cases IsOwned status.BadRequest (told (base_fits call given) false o old.flow) result old new
-    ((result ≡ Ok tt) × (new ≡ returned old k o f)) h
-    (λ fits event. subst IsOwned (sym event.1)
+    ((result ≡ Ok tt) × (new ≡ record (returned old k o f) { files = filed_base old o (changed o f old.flow) given.status })) h
+    (λ fits event. subst IsOwned (sym event.1) (files_owned (filed_base old o (changed o f old.flow) given.status)
     (step_owned old o r f k (place.Base o) place.Idle old.contexts (hand_of old.contexts.hands k.0) there.1 at (worker_below old k (place.Base o) at s.under_way) refl refl
-    (alike old o r f there.1 (λ c. base_returned_carries c call given r) s.owned.lawful) refl (same_hands old.contexts.hands k.0) refl
+    (alike old o r f there.1 (λ c. base_returned_carries c call given handle r) s.owned.lawful) refl (same_hands old.contexts.hands k.0) refl
     (subst (All (HoldsIn old.stack slots None)) (sym none) (All-nil (HoldsIn old.stack slots None)))
-    (subst (All (AskCarries old.stack slots)) (sym (owed_push_none r.entries (Base given.status given.information) refl (λ i. refl))) asks)
-    (quieter old o r f there.1 (λ i. omega (arith, base_returned_flies i call given r)) s.owned.quiet) s.owned)) s.owned
+    (subst (All (AskCarries old.stack slots)) (sym (owed_push_none r.entries (Base counts.status counts.information) refl (λ i. refl))) asks)
+    (quieter old o r f there.1 (λ i. omega (arith, base_returned_flies i call given handle r)) s.owned.quiet) s.owned))) s.owned
 base_at old k call given result new (Some place.Idle) at h s = subst IsOwned (sym h.1) s.owned
 base_at old k call given result new (Some (place.Setup i)) at h s = subst IsOwned (sym h.1) s.owned
 base_at old k call given result new (Some (place.Pre o i)) at h s = subst IsOwned (sym h.1) s.owned
@@ -508,11 +652,37 @@ base_at old k call given result new (Some (place.Drain o i)) at h s = subst IsOw
 base_at old k call given result new (Some (place.Cleanup c)) at h s = subst IsOwned (sym h.1) s.owned
 base_at old k call given result new None at h s = subst IsOwned (sym h.1) s.owned
 
+base_filed : (old : World) (k : WorkerId) (call : Params) (given : Answer) (result : Result (Unit {0}) Status) (new : World) (m : Option Worker)
+    → worker_at old.workers k ≡ m → BaseReturnsAt old k call given result new m → IsSound old → FiledIn new
+base_filed old k call given result new (Some (place.Base o)) at h s =
+    let there = tied_there old.workers old.flow k (place.Base o) o AtBase s.under_way.workers at (eq-eqb o.0 o.0 refl) in
+    let r = there.0 in
+    let stage : r.stage ≡ InBase = spot_base r.stage r.entries there.2 in
+    let f = base_step old call given in
+    let t = changed o f old.flow in
+    unless_cases FiledIn status.BadRequest (told (base_fits call given) false o old.flow) result old new
+    ((result ≡ Ok tt) × (new ≡ record (returned old k o f) { files = filed_base old o t given.status })) h
+    (λ fits event. subst FiledIn (sym event.1)
+    (subst (λ (files : FileTable). IsFiled files t) (sym (told_there (filed_record old.files t given.status) old.files o old.flow r there.1))
+    (filed_answered old.files old.flow o r f r.operation r.stream r.handle given.status (is_created_on r.stream t) there.1 refl (ap is_unanswered stage)
+    (answered_none (f r) refl) s.filed))) s.filed
+base_filed old k call given result new (Some place.Idle) at h s = subst FiledIn (sym h.1) s.filed
+base_filed old k call given result new (Some (place.Setup i)) at h s = subst FiledIn (sym h.1) s.filed
+base_filed old k call given result new (Some (place.Pre o i)) at h s = subst FiledIn (sym h.1) s.filed
+base_filed old k call given result new (Some (place.Post o i)) at h s = subst FiledIn (sym h.1) s.filed
+base_filed old k call given result new (Some (place.Drain o i)) at h s = subst FiledIn (sym h.1) s.filed
+base_filed old k call given result new (Some (place.Cleanup c)) at h s = subst FiledIn (sym h.1) s.filed
+base_filed old k call given result new None at h s = subst FiledIn (sym h.1) s.filed
+
 pub base_sound : (old : World) (k : WorkerId) (call : Params) (given : Answer) (result : Result (Unit {0}) Status) (new : World)
     → BaseReturns old k call given result new → IsSound old → IsSound new
 unfolding BaseReturns
 base_sound old k call given result new h s =
-    record { under_way = base_keeps old k call given result new h s.under_way; owned = base_at old k call given result new (worker_at old.workers k) refl h s }
+    record {
+      under_way = base_keeps old k call given result new h s.under_way;
+      owned = base_at old k call given result new (worker_at old.workers k) refl h s;
+      filed = base_filed old k call given result new (worker_at old.workers k) refl h s;
+    }
 
 -- ---- postoperations and drains return
 
@@ -568,11 +738,51 @@ post_at old k given None result new (Some (place.Base o)) at h s = subst IsOwned
 post_at old k given None result new (Some (place.Cleanup c)) at h s = subst IsOwned (sym h.1) s.owned
 post_at old k given None result new None at h s = subst IsOwned (sym h.1) s.owned
 
+-- a step of an operation that has its answer
+answered_filed : (old : World) (k : WorkerId) (o : OpId) (r : FlowRecord) (f : FlowRecord → FlowRecord) (new : World) → operation_at o old.flow ≡ Some r
+    → is_unanswered (f r).stage ≡ false → ReturnsFrom old k o f old.contexts new → IsSound old → FiledIn new
+answered_filed old k o r f new at answered e s =
+    subst FiledIn (sym e.1) (filed_step old.files old.files old.flow o r f at (not_more_none r (f r) (answered_none (f r) answered)) (shrinks_same old.files) s.filed)
+
+post_answered : (given : PostVerdict) → is_unanswered (post_leads (post_state given)) ≡ false
+post_answered given'.Finished = refl
+post_answered given'.MoreProcessing = refl
+
+post_filed : (old : World) (k : WorkerId) (given : PostVerdict) (lent : Option Data) (result : Result (Unit {0}) Status) (new : World) (m : Option Worker)
+    → worker_at old.workers k ≡ m → PostReturnsAt old k given lent result new m → IsSound old → FiledIn new
+post_filed old k given (Some lent) result new (Some (place.Post o i)) at h s =
+    let there = post_record old k o i at s.under_way in
+    let f = post_returned_of given lent in
+    unless_cases FiledIn status.BadRequest (told (λ r. data_fits r.operation r.path lent) false o old.flow) result old new
+    ((result ≡ Ok tt) × ReturnsFrom old k o f old.contexts new) h
+    (λ fits event. answered_filed old k o there.0 f new there.1 (post_answered given) event.1 s) s.filed
+post_filed old k given None result new (Some (place.Post o i)) at h s = subst FiledIn (sym h.1) s.filed
+post_filed old k given None result new (Some (place.Drain o i)) at h s =
+    let there = drain_record old k o i at s.under_way in
+    answered_filed old k o there.0 (drain_returned_of i) new there.1 refl h.1 s
+post_filed old k given (Some lent) result new (Some (place.Drain o i)) at h s = subst FiledIn (sym h.1) s.filed
+post_filed old k given (Some lent) result new (Some place.Idle) at h s = subst FiledIn (sym h.1) s.filed
+post_filed old k given (Some lent) result new (Some (place.Setup i)) at h s = subst FiledIn (sym h.1) s.filed
+post_filed old k given (Some lent) result new (Some (place.Pre o i)) at h s = subst FiledIn (sym h.1) s.filed
+post_filed old k given (Some lent) result new (Some (place.Base o)) at h s = subst FiledIn (sym h.1) s.filed
+post_filed old k given (Some lent) result new (Some (place.Cleanup c)) at h s = subst FiledIn (sym h.1) s.filed
+post_filed old k given (Some lent) result new None at h s = subst FiledIn (sym h.1) s.filed
+post_filed old k given None result new (Some place.Idle) at h s = subst FiledIn (sym h.1) s.filed
+post_filed old k given None result new (Some (place.Setup i)) at h s = subst FiledIn (sym h.1) s.filed
+post_filed old k given None result new (Some (place.Pre o i)) at h s = subst FiledIn (sym h.1) s.filed
+post_filed old k given None result new (Some (place.Base o)) at h s = subst FiledIn (sym h.1) s.filed
+post_filed old k given None result new (Some (place.Cleanup c)) at h s = subst FiledIn (sym h.1) s.filed
+post_filed old k given None result new None at h s = subst FiledIn (sym h.1) s.filed
+
 pub post_sound : (old : World) (k : WorkerId) (given : PostVerdict) (lent : Option Data) (result : Result (Unit {0}) Status) (new : World)
     → PostReturns old k given lent result new → IsSound old → IsSound new
 unfolding PostReturns
 post_sound old k given lent result new h s =
-    record { under_way = post_keeps old k given lent result new h s.under_way; owned = post_at old k given lent result new (worker_at old.workers k) refl h s }
+    record {
+      under_way = post_keeps old k given lent result new h s.under_way;
+      owned = post_at old k given lent result new (worker_at old.workers k) refl h s;
+      filed = post_filed old k given lent result new (worker_at old.workers k) refl h s;
+    }
 
 -- ---- collect
 
@@ -653,4 +863,8 @@ collect_at old o (Some r) at h = by_collectable (is_collectable r) refl
 pub collect_sound : (old : World) (o : OpId) (result : Result Answer Status) (new : World) → Collects old o result new → IsSound old → IsSound new
 unfolding Collects
 collect_sound old o result new h s =
-    record { under_way = collect_keeps old o result new h s.under_way; owned = subst IsOwned (sym h.1) (collect_at old o (operation_at o old.flow) refl s.owned) }
+    record {
+      under_way = collect_keeps old o result new h s.under_way;
+      owned = subst IsOwned (sym h.1) (collect_at old o (operation_at o old.flow) refl s.owned);
+      filed = subst FiledIn (sym h.1) (filed_collects old.files o old.flow s.filed);
+    }

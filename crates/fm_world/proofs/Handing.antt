@@ -22,8 +22,8 @@ use Rattle.fm_flow.specs.declared.action.FlowAction.{FlowAction}
 use Rattle.fm_flow.specs.declared.action.FlowAction.TheVariants as action
 use Rattle.fm_flow.specs.declared.action.Below.{Below}
 use Rattle.fm_flow.specs.Record.{FlowRecord}
-use Rattle.fm_flow.specs.Steps.{pre_returned_of, base_returned_of, post_returned_of, drain_returned_of, base_fits}
-use Rattle.fm_flow.specs.Table.{operation_at, told}
+use Rattle.fm_flow.specs.Steps.{pre_returned_of, post_returned_of, drain_returned_of, base_fits}
+use Rattle.fm_flow.specs.Table.{operation_at, told, changed}
 use Rattle.fm_stack.specs.Events as stack
 use Rattle.fm_ctx.specs.declared.due.Due.{Due}
 use Rattle.fm_ctx.specs.declared.object.Object.{Object}
@@ -36,13 +36,18 @@ use Rattle.fm_ctx.specs.Settling.{Leaves}
 use Rattle.fm_ctx.specs.Table.{Context, ContextTable, context_at}
 use Rattle.fm_world.specs.declared.set_answer.SetAnswer.{SetAnswer}
 use Rattle.fm_world.specs.declared.step.Begin.{Begin}
+use Rattle.fm_world.specs.declared.step.Begin.TheVariants as begin
 use Rattle.fm_world.specs.declared.worker.Worker.{Worker}
 use Rattle.fm_world.specs.declared.worker.Worker.TheVariants as place
 use Rattle.fm_world.specs.Hands.{pairs_in, OnlyHandOf, KeepsHands}
 use Rattle.fm_world.specs.World.{World, carries}
 use Rattle.fm_world.specs.Workers.{worker_at, is_idle, after_attach}
-use Rattle.fm_world.specs.Events.{Unless, Registers, Mounts, Attaches, EmptiesUnless, SetsUpAt, SetsUp, Begins, FindsBelow, NextsOver, received, brought, Nexts, state_at, sent_in, sent, returned, ReturnsFrom, PreReturnsAt, PreReturns, BaseReturnsAt, BaseReturns, PostReturnsAt, PostReturns, Collects}
+use Rattle.fm_world.specs.Events.{Unless, Registers, Mounts, Attaches, EmptiesUnless, SetsUpAt, SetsUp, Begins, FindsBelow, NextsOver, received, brought, Nexts, state_at, sent_in, sent, returned, ReturnsFrom, PreReturnsAt, PreReturns, BaseReturnsAt, BaseReturns, PostReturnsAt, PostReturns, Collects, PreReturnsFrom, base_step, filed_base, after_begin, begun_on, begun_at, carries_after}
 use Rattle.fm_world.specs.ContextEvents.{Callback, callback_of, InCallbackOf, object_for, set_refused, SetsOn, SetsUnless, SetsIn, there_at, Allocates, Sets, Gets, Deletes, References, Releases, ReadsBody, WritesBody, Bumps, TakesDue, after_due, CleansAt, Cleans, Finishes}
+use Rattle.fm_world.specs.Files.{stream_at, handle_at}
+use Rattle.fm_world.specs.Requests.{params_of}
+use Rattle.fm_world.specs.declared.file.FileHandle.{FileHandle}
+use Rattle.fm_world.specs.declared.file.FileStream.{FileStream}
 
 -- ---- lists of hands
 
@@ -275,9 +280,22 @@ setup_hand old k accept result new h = setup_at_hand old k accept result new (wo
 
 -- ---- operations
 
+begun_hands : (old : World) (what : Begin) → (after_begin old what).contexts.hands ≡ old.contexts.hands
+begun_hands old (begin.List v) = refl
+begun_hands old (begin.Create v path mode) = refl
+begun_hands old (begin.OnHandle h asked) = by_handle (handle_at h old.files)
+  where
+    by_stream : (x : FileHandle) (m : Option FileStream) → (begun_on old h (params_of asked) x m).contexts.hands ≡ old.contexts.hands
+    by_stream x None = refl
+    by_stream x (Some y) = refl
+
+    by_handle : (m : Option FileHandle) → (begun_at old h (params_of asked) m).contexts.hands ≡ old.contexts.hands
+    by_handle None = refl
+    by_handle (Some x) = by_stream x (stream_at x.stream old.files)
+
 pub begin_hands : (old : World) (what : Begin) (result : Result OpId Status) (new : World) → Begins old what result new → KeepsHands old new
 unfolding Begins
-begin_hands old what result new h n = answered_memory n old new _ result _ h (λ o f. keeps old new (ap (λ (w : World). w.contexts.hands) f.1) n)
+begin_hands old what result new h n = answered_memory n old new _ result _ h (λ o f. keeps old new (ap (λ (w : World). w.contexts.hands) f.1 ∙ begun_hands old what) n)
 
 brought_hand : (t : ContextTable) (k : WorkerId) (m : Option CtxId) → DifferAt k.0 t.hands (brought t k m).hands
 brought_hand t k None = no_change k.0 t.hands t.hands refl
@@ -297,16 +315,16 @@ pub next_hand : (old : World) (k : WorkerId) (o : OpId) (result : Result FlowAct
 unfolding Nexts
 next_hand old k o result new h =
     unless k.0 _ (is_idle (worker_at old.workers k)) result old new
-    ((lies : Below) × FindsBelow old.stack (operation_at o old.flow) lies × NextsOver old k o lies result new) h
+    ((lies : Below) × FindsBelow old.stack old.files old.flow (operation_at o old.flow) lies × NextsOver old k o lies result new) h
     (λ e. by_table k.0 old new (received old.contexts k result) (ap (λ (w : World). w.contexts) e.2.1) (received_hand old.contexts k result))
 
 sent_hand : (t : ContextTable) (k : WorkerId) (m : Option CtxId) → DifferAt k.0 t.hands (sent t k m).hands
 sent_hand t k None = no_change k.0 t.hands t.hands refl
 sent_hand t k (Some c) = (_, refl)
 
-returned_hand : (old : World) (k : WorkerId) (o : OpId) (step : FlowRecord → FlowRecord) (kept : ContextTable) (new : World) → ReturnsFrom old k o step kept new
+returned_hand : (old : World) (k : WorkerId) (o : OpId) (step : FlowRecord → FlowRecord) (kept : ContextTable) (new : World) → Leaves (carries_after old o step) kept new.contexts k.0
     → DifferAt k.0 old.contexts.hands kept.hands → OnlyHandOf k.0 old new
-returned_hand old k o step kept new h d = differs k.0 old new (left_hand _ k.0 old.contexts.hands kept new.contexts h.0 d)
+returned_hand old k o step kept new h d = differs k.0 old new (left_hand _ k.0 old.contexts.hands kept new.contexts h d)
 
 pre_at_hand : (old : World) (k : WorkerId) (given : PreVerdict) (lent : Data) (result : Result (Unit {0}) Status) (new : World) (m : Option Worker)
     → PreReturnsAt old k given lent result new m → OnlyHandOf k.0 old new
@@ -316,8 +334,8 @@ pre_at_hand old k given lent result new (Some (place.Setup i)) h = stays k.0 old
 pre_at_hand old k given lent result new (Some (place.Pre o i)) h =
     let step = pre_returned_of (state_at old k o i given) lent in
     let kept = sent old.contexts k (sent_in (state_at old k o i given)) in
-    unless k.0 _ (told (λ r. data_fits r.operation r.path lent) false o old.flow) result old new ((result ≡ Ok tt) × ReturnsFrom old k o step kept new) h
-    (λ e. returned_hand old k o step kept new e.1 (sent_hand old.contexts k (sent_in (state_at old k o i given))))
+    unless k.0 _ (told (λ r. data_fits r.operation r.path lent) false o old.flow) result old new ((result ≡ Ok tt) × PreReturnsFrom old k o step (state_at old k o i given) new) h
+    (λ e. returned_hand old k o step kept new e.1.0 (sent_hand old.contexts k (sent_in (state_at old k o i given))))
 pre_at_hand old k given lent result new (Some (place.Base o)) h = stays k.0 old new h.1
 pre_at_hand old k given lent result new (Some (place.Post o i)) h = stays k.0 old new h.1
 pre_at_hand old k given lent result new (Some (place.Drain o i)) h = stays k.0 old new h.1
@@ -336,7 +354,8 @@ base_at_hands old k call given result new (Some (place.Setup i)) h = λ n. stays
 base_at_hands old k call given result new (Some (place.Pre o i)) h = λ n. stays n old new h.1
 base_at_hands old k call given result new (Some (place.Base o)) h =
     λ n.
-    unless n _ (told (base_fits call given) false o old.flow) result old new ((result ≡ Ok tt) × (new ≡ returned old k o (base_returned_of call given))) h
+    unless n _ (told (base_fits call given) false o old.flow) result old new ((result ≡ Ok tt)
+    × (new ≡ record (returned old k o (base_step old call given)) { files = filed_base old o (changed o (base_step old call given) old.flow) given.status })) h
     (λ e. keeps old new (ap (λ (w : World). w.contexts.hands) e.1) n)
 base_at_hands old k call given result new (Some (place.Post o i)) h = λ n. stays n old new h.1
 base_at_hands old k call given result new (Some (place.Drain o i)) h = λ n. stays n old new h.1
@@ -355,8 +374,8 @@ post_at_hand : (old : World) (k : WorkerId) (given : PostVerdict) (lent : Option
 post_at_hand old k given (Some lent) result new (Some (place.Post o i)) h =
     let step = post_returned_of given lent in
     unless k.0 _ (told (λ r. data_fits r.operation r.path lent) false o old.flow) result old new ((result ≡ Ok tt) × ReturnsFrom old k o step old.contexts new) h
-    (λ e. returned_hand old k o step old.contexts new e.1 (unmoved old k))
-post_at_hand old k given None result new (Some (place.Drain o i)) h = returned_hand old k o (drain_returned_of i) old.contexts new h.1 (unmoved old k)
+    (λ e. returned_hand old k o step old.contexts new e.1.0 (unmoved old k))
+post_at_hand old k given None result new (Some (place.Drain o i)) h = returned_hand old k o (drain_returned_of i) old.contexts new h.1.0 (unmoved old k)
 post_at_hand old k given None result new None h = stays k.0 old new h.1
 post_at_hand old k given None result new (Some place.Idle) h = stays k.0 old new h.1
 post_at_hand old k given None result new (Some (place.Setup i)) h = stays k.0 old new h.1

@@ -34,12 +34,13 @@ use Rattle.fm_world.specs.declared.worker.Worker.{Worker}
 use Rattle.fm_world.specs.declared.worker.Worker.TheVariants as place
 use Rattle.fm_world.specs.World.{World, carries}
 use Rattle.fm_world.specs.Workers.{worker_at, is_idle}
-use Rattle.fm_world.specs.Events.{Unless, SetsUpAt, SetsUp, FindsBelow, NextsOver, brought, received, Nexts, state_at, sent_in, sent, ReturnsFrom, PreReturnsAt, PreReturns, PostReturnsAt, PostReturns}
+use Rattle.fm_world.specs.Events.{Unless, SetsUpAt, SetsUp, FindsBelow, NextsOver, brought, received, Nexts, state_at, sent_in, sent, ReturnsFrom, PreReturnsAt, PreReturns, PostReturnsAt, PostReturns, PreReturnsFrom, carries_after}
 use Rattle.fm_world.specs.ContextEvents.{Callback, callback_of, InCallbackOf, object_for, set_refused, set_answer, SetsOn, SetsUnless, SetsIn, there_at, with_contexts, Allocates, Sets, Gets, Deletes, References, Releases}
 use Rattle.fm_world.specs.Sound.{IsSound}
 use Rattle.fm_world.proofs.Callbacks.{is_in, none_of, not_false}
 use Rattle.fm_world.proofs.Handing.{emptied_hands}
 use Rattle.fm_world.proofs.Keeps.{idle_there}
+use Rattle.fm_ctx.specs.Settling.{Leaves}
 
 -- a worker in a callback has a hand
 hand_there : (old : World) (k : WorkerId) (at : Callback) → IsSound old → callback_of old k ≡ Some at → k.0 < length old.contexts.hands
@@ -212,7 +213,7 @@ placed_hand : (old : World) (k : WorkerId) (a : Worker) → IsSound old → work
 placed_hand old k a s at = subst (λ n. k.0 < n) (s.under_way.hands ∙ sym s.owned.lawful.workers) (slice_get_within old.workers k.0 a at)
 
 next_by : (old : World) (k : WorkerId) (o : OpId) (result : Result FlowAction Status) (new : World) (b : Bool) → IsSound old → is_idle (worker_at old.workers k) ≡ b
-    → Unless status.WrongStep b result old new ((lies : Below) × FindsBelow old.stack (operation_at o old.flow) lies × NextsOver old k o lies result new)
+    → Unless status.WrongStep b result old new ((lies : Below) × FindsBelow old.stack old.files old.flow (operation_at o old.flow) lies × NextsOver old k o lies result new)
     → HoldsMore k.0 result given_by_next old new
 next_by old k o result new true s is (lies, finds, event) =
     received_more old new k result (ap (λ (w : World). w.contexts) event.1) (placed_hand old k place.Idle s (idle_there old.workers k is))
@@ -234,9 +235,9 @@ refused_none : {T : Type 0} (k : ℕ) (result : Result T Status) (why : Status) 
 refused_none k result why old new h = subst (λ r. HoldsNone k r old new) (sym h.0) (ap (hand_len k) h.1)
 
 returned_none : (old : World) (k : WorkerId) (o : OpId) (step : FlowRecord → FlowRecord) (kept : ContextTable) (result : Result (Unit {0}) Status) (new : World)
-    → result ≡ Ok tt → ReturnsFrom old k o step kept new → HoldsNone k.0 result old new
+    → result ≡ Ok tt → Leaves (carries_after old o step) kept new.contexts k.0 → HoldsNone k.0 result old new
 returned_none old k o step kept result new ok h =
-    subst (λ r. HoldsNone k.0 r old new) (sym ok) (ap (λ (hands : List (List CtxId)). length (hand_of hands k.0)) h.0.hands ∙ emptied kept.hands k.0)
+    subst (λ r. HoldsNone k.0 r old new) (sym ok) (ap (λ (hands : List (List CtxId)). length (hand_of hands k.0)) h.hands ∙ emptied kept.hands k.0)
 
 unless_none : (k : ℕ) (why : Status) (b : Bool) (result : Result (Unit {0}) Status) (old new : World) (Event : Type 0) → Unless why b result old new Event
     → (Event → HoldsNone k result old new) → HoldsNone k result old new
@@ -248,8 +249,8 @@ pre_at_none : (old : World) (k : WorkerId) (given : PreVerdict) (lent : Data) (r
 pre_at_none old k given lent result new (Some (place.Pre o i)) h =
     let step = pre_returned_of (state_at old k o i given) lent in
     let kept = sent old.contexts k (sent_in (state_at old k o i given)) in
-    unless_none k.0 _ (told (λ r. data_fits r.operation r.path lent) false o old.flow) result old new ((result ≡ Ok tt) × ReturnsFrom old k o step kept new) h
-    (λ e. returned_none old k o step kept result new e.0 e.1)
+    unless_none k.0 _ (told (λ r. data_fits r.operation r.path lent) false o old.flow) result old new ((result ≡ Ok tt) × PreReturnsFrom old k o step (state_at old k o i given) new) h
+    (λ e. returned_none old k o step kept result new e.0 e.1.0)
 pre_at_none old k given lent result new None h = refused_none k.0 result _ old new h
 pre_at_none old k given lent result new (Some place.Idle) h = refused_none k.0 result _ old new h
 pre_at_none old k given lent result new (Some (place.Setup i)) h = refused_none k.0 result _ old new h
@@ -268,8 +269,8 @@ post_at_none : (old : World) (k : WorkerId) (given : PostVerdict) (lent : Option
 post_at_none old k given (Some lent) result new (Some (place.Post o i)) h =
     let step = post_returned_of given lent in
     unless_none k.0 _ (told (λ r. data_fits r.operation r.path lent) false o old.flow) result old new ((result ≡ Ok tt) × ReturnsFrom old k o step old.contexts new) h
-    (λ e. returned_none old k o step old.contexts result new e.0 e.1)
-post_at_none old k given None result new (Some (place.Drain o i)) h = returned_none old k o (drain_returned_of i) old.contexts result new h.0 h.1
+    (λ e. returned_none old k o step old.contexts result new e.0 e.1.0)
+post_at_none old k given None result new (Some (place.Drain o i)) h = returned_none old k o (drain_returned_of i) old.contexts result new h.0 h.1.0
 post_at_none old k given None result new None h = refused_none k.0 result _ old new h
 post_at_none old k given None result new (Some place.Idle) h = refused_none k.0 result _ old new h
 post_at_none old k given None result new (Some (place.Setup i)) h = refused_none k.0 result _ old new h

@@ -28,17 +28,26 @@ use Rattle.fm_world.specs.World.{World}
 use Rattle.fm_world.specs.Workers.{worker_at, put, is_idle, after_attach}
 use Rattle.fm_world.specs.Events.{Registers, Mounts, Attaches, SetsUp, SetsUpAt, Unless}
 use Rattle.fm_world.specs.Headline.{Spot, AtPre, AtBase, AtPost, AtDrain, is_in_at}
-use Rattle.fm_world.specs.Sound.{IsUnderWay, IsAmong, is_in_setup, setup_row}
+use Rattle.fm_world.specs.Sound.{IsUnderWay, IsAmong, is_in_setup, setup_row, IsFiled}
 use Rattle.fm_world.proofs.Counts.{count-some}
 use Rattle.fm_world.proofs.Ties.{one, count_moves, idle_is_in_none}
 use Rattle.fm_world.proofs.Amongs.{among_follows}
 use Rattle.fm_stack.proofs.Registering.{registered_keeps, registered_follows, mounted_keeps, mounted_follows}
 use Rattle.fm_stack.proofs.Attaching.{attached_keeps, attached_follows}
 use Rattle.fm_stack.proofs.SettingUp.{accepted_keeps, accepted_follows, refused_keeps, refused_follows}
+use Rattle.fm_world.specs.Files.{FileTable}
+
+-- streams, handles and the creates under way
+abbrev pub FiledIn : World → Type 0
+FiledIn w = IsFiled w.files w.flow
 
 -- contexts don't matter here
 pub whatever_contexts : (w : World) (t : ContextTable) (totals : List ℕ) → IsUnderWay w → IsUnderWay (record w { contexts = t; totals = totals })
 whatever_contexts w t totals h = record { stack = h.stack; flow = h.flow; among = h.among; hands = h.hands; workers = h.workers; setups = h.setups }
+
+-- nor do streams and handles
+pub whatever_files : (w : World) (t : ContextTable) (files : FileTable) → IsUnderWay w → IsUnderWay (record w { contexts = t; files = files })
+whatever_files w t files h = record { stack = h.stack; flow = h.flow; among = h.among; hands = h.hands; workers = h.workers; setups = h.setups }
 
 -- workers move outside operations and setups
 pub workers_move : (w : World) (workers : List Worker) → length workers ≡ 48

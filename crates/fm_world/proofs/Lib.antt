@@ -13,6 +13,7 @@ pub mod Flights
 pub mod Linking
 pub mod Cleanups
 pub mod Owning
+pub mod Filing
 pub mod Flowing
 pub mod Handing
 pub mod Holdings

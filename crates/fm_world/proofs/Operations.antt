@@ -1,6 +1,6 @@
 -- The events on operations keep a World sound.
 use Rattle.std.proofs.Common.{◌≡◌, ℕ, suc, ◌<◌, ◌==◌, Bool, true, false, cond, not, List, [], ◌∷◌, ◌++◌, Option, Some, None, Result, Ok, Err, length, get_or, refl, ap, sym, ◌∙◌, subst, inl, inr, ◌⊎◌, arith, length-set}
-use Rattle.std.specs.Prelude.{All, AllPairs, slice_get, option_map, unwrap_or, find, nat_le, count_by}
+use Rattle.std.specs.Prelude.{All, AllPairs, slice_get, option_map, unwrap_or, find, nat_le, count_by, ◌||◌}
 use Rattle.std.specs.List.{list_any}
 use Rattle.std.proofs.lemmas.Bool.{false≢true, eqb-true, eq-eqb, ne_eqb, cases_Bool, cases_eq, and_parts, and_from, leb-true}
 use Rattle.std.proofs.lemmas.Option.{none-some, same_Some}
@@ -21,7 +21,7 @@ use Rattle.fm_data.specs.declared.verdict.PreVerdict.TheVariants as verdict
 use Rattle.fm_data.specs.declared.verdict.PostVerdict.{PostVerdict}
 use Rattle.fm_data.specs.declared.verdict.PostVerdict.TheVariants as answer
 use Rattle.fm_data.specs.Data.{Data, data_fits}
-use Rattle.fm_data.specs.Params.{fit}
+use Rattle.fm_data.specs.Params.{fit, is_within_limits, operation_of}
 use Rattle.fm_stack.specs.StackWorld.{StackWorld}
 use Rattle.fm_stack.specs.Stacks.{IsStack}
 use Rattle.fm_ctx.specs.Bags.{hand_of}
@@ -37,7 +37,7 @@ use Rattle.fm_flow.specs.declared.stage.Stage.{Stage}
 use Rattle.fm_flow.specs.declared.stage.Stage.TheVariants.{Descending, PreRunning, PreHeld, InBase, Ascending, PostRunning, PostHeld, InDrain}
 use Rattle.fm_flow.specs.Record.{FlowRecord}
 use Rattle.fm_flow.specs.Entries.{visited, owed, has_base, settle_pre, settle_post, settle_drain, times}
-use Rattle.fm_flow.specs.Steps.{Turned, next_of, next_at, descend, ascend, call_pre, call_base, call_post, give_post, unwound, unwound_to, may_take, pre_leads, post_leads, pre_returned_of, base_returned_of, post_returned_of, post_state, drain_returned_of, base_fits, is_done, done_at, MayLieBelow}
+use Rattle.fm_flow.specs.Steps.{Turned, next_of, next_at, descend, ascend, call_pre, call_base, call_post, give_post, unwound, unwound_to, may_take, pre_leads, post_leads, pre_returned_of, post_returned_of, post_state, drain_returned_of, base_fits, is_done, done_at, MayLieBelow}
 use Rattle.fm_flow.specs.Sound.{walk, way_of}
 use Rattle.fm_flow.specs.Sound as flow
 use Rattle.fm_flow.specs.Counts.{is_running_drain}
@@ -49,18 +49,26 @@ use Rattle.fm_world.specs.declared.worker.Worker.{Worker}
 use Rattle.fm_world.specs.declared.worker.Worker.TheVariants as place
 use Rattle.fm_world.specs.World.{World}
 use Rattle.fm_world.specs.Workers.{worker_at, put, is_idle, after_next}
-use Rattle.fm_world.specs.Events.{Begins, Nexts, NextsOver, LiesBelow, FindsBelow, PreReturns, PreReturnsAt, BaseReturns, BaseReturnsAt, PostReturns, PostReturnsAt, Collects, ReturnsFrom, returned, received, state_at, state_given, drains_at, of_hand, sent, sent_in, has_post}
+use Rattle.fm_world.specs.Events.{Begins, Nexts, NextsOver, LiesBelow, FindsBelow, PreReturns, PreReturnsAt, BaseReturns, BaseReturnsAt, PostReturns, PostReturnsAt, Collects, ReturnsFrom, returned, received, state_at, state_given, drains_at, of_hand, has_post, or_else, begin_refused, refused_on, refused_at, begun_on, begun_at, after_begin, moved_on, has_no_handle_left, flow_after_next, filed_next, filed_pre, filed_base, base_step, PreReturnsFrom}
 use Rattle.fm_world.specs.Headline.{Spot, AtPre, AtBase, AtPost, AtDrain, spot_at, spot_of, is_spot, stands_at}
 use Rattle.fm_world.specs.Descent.{is_among}
 use Rattle.fm_world.specs.Sound.{IsUnderWay, IsAmong, is_in_setup}
-use Rattle.fm_flow.proofs.Tables.{change_none, found_holds, all_change, all_without, find_without}
+use Rattle.fm_types.proofs.Firsts.{change_none, found_holds, all_change, all_without, find_without}
 use Rattle.fm_world.proofs.Ties.{counted_from, one, count_moves, AreTied, Matches, is_running, quiet_is_none, quiet_is_nowhere, tied_moves, tied_stays, tied_there, matches_idle, matches_pre, matches_base, matches_post, matches_drain, spot_pre, spot_base, spot_post, spot_drain}
 use Rattle.fm_world.proofs.Amongs.{is_up, no_base, visit_last, post_last, among_visits, among_other, among_base, among_settles, among_begins, settle_pre_visit, settle_pre_base, settle_post_visit, settle_post_base, settle_drain_visit, settle_drain_base}
 use Rattle.fm_world.proofs.Descents.{next_unseen, room_is, or_left, or_right}
-use Rattle.fm_world.proofs.Keeps.{unless_cases, idle_there, whatever_contexts}
+use Rattle.fm_world.proofs.Keeps.{unless_cases, idle_there, whatever_contexts, whatever_files}
 use Rattle.fm_flow.proofs.Soundness.{sound_pre_returned, sound_base_returned, sound_post_returned, sound_drain_returned}
 use Rattle.fm_stack.proofs.Visits.{is_to_visit_few}
 use Rattle.fm_flow.proofs.Flows.{flow_begins, flow_changes, flow_collects, sound_next}
+use Rattle.fm_types.specs.declared.ids.HandleId.{HandleId}
+use Rattle.fm_types.specs.declared.ids.StreamId.{StreamId}
+use Rattle.fm_types.specs.declared.ids.VolumeId.{VolumeId}
+use Rattle.fm_world.specs.declared.file.FileHandle.{FileHandle}
+use Rattle.fm_world.specs.declared.file.FileStream.{FileStream}
+use Rattle.fm_world.specs.Files.{FileTable, stream_at, handle_at, stream_for, created}
+use Rattle.fm_world.specs.Requests.{params_of, phase_refusal}
+use Rattle.fm_flow.specs.Answered.{base_counted}
 
 -- operations change, and workers with them
 flow_moves : (w : World) (t : FlowTable) (workers : List Worker) → IsFlow t → All (IsAmong w.stack) t.operations → length workers ≡ 48
@@ -94,26 +102,66 @@ stands_push p s (x ∷ rs) r h =
           ∙ sym (ap (λ b. read (cond b (Some x) (find (is_number p) rs))) e)
     ]
 
-full_from : (a b c : Bool) → first_of ((a, status.NoVolume) ∷ (b, status.Dismounting) ∷ (c, status.TooMany) ∷ []) ≡ None → c ≡ false
+-- what doesn't refuse first, and what doesn't refuse then
+pub none_else : (m n : Option Status) → or_else m n ≡ None → n ≡ None
+none_else (Some why) n h = cc
+none_else None n h = h
+
+pub none_first : (m n : Option Status) → or_else m n ≡ None → m ≡ None
+none_first (Some why) n h = cc
+none_first None n h = refl
+
+pub asked_within : (within : Bool) (m : Option Status) → cond within m (Some status.BadRequest) ≡ None → (within ≡ true) × (m ≡ None)
+asked_within true m h = (refl, h)
+asked_within false m h = cc
+
+pub full_from : (a b c : Bool) → first_of ((a, status.NoVolume) ∷ (b, status.Dismounting) ∷ (c, status.TooMany) ∷ []) ≡ None → c ≡ false
 full_from false false false h = refl
 full_from false false true h = cc
 full_from false true c h = cc
 full_from true b c h = cc
 
-pub begin_keeps : (old : World) (what : Begin) (result : Result OpId Status) (new : World) → Begins old what result new → IsUnderWay old → IsUnderWay new
-unfolding Begins
-begin_keeps old what (Err why) new h s = subst IsUnderWay (sym h.1) s
-begin_keeps old (begin.List v) (Ok o) new h s =
-    let fresh = begun_record old.flow.next v None None old.stack.births params.List in
-    let t = begun v None None old.stack.births params.List old.flow in
-    subst IsUnderWay (sym h.1.1)
+-- an operation on a volume of which no more than 32 instances may be visited
+operation_begins : (old : World) (v : VolumeId) (stream : Option StreamId) (handle : Option HandleId) (p : Params) (files : FileTable) → is_within_limits p ≡ true → is_full old.flow ≡ false
+    → IsUnderWay old → IsUnderWay (record old { flow = begun v stream handle old.stack.births p old.flow; files = files })
+operation_begins old v stream handle p files within free s =
+    let fresh = begun_record old.flow.next v stream handle old.stack.births p in
+    let t = begun v stream handle old.stack.births p old.flow in
+    whatever_files (record old { flow = t }) old.contexts files
     (flow_moves old t old.workers
-    (flow_begins v None None old.stack.births params.List old.flow refl s.flow (full_from _ _ (is_full old.flow) h.0))
+    (flow_begins v stream handle old.stack.births p old.flow within s.flow free)
     (All-push (IsAmong old.stack) old.flow.operations fresh s.among
     (among_begins old.stack v fresh.operation (is_to_visit_few old.stack s.stack v old.stack.births fresh.operation)))
     s.hands
-    (λ p spot. s.workers p spot ∙ sym (stands_push p spot old.flow.operations fresh (quiet_is_none Descending [] refl spot)))
+    (λ o spot. s.workers o spot ∙ sym (stands_push o spot old.flow.operations fresh (quiet_is_none Descending [] refl spot)))
     (λ i. refl) s)
+
+-- what doesn't refuse an operation on a handle
+begins_on : (old : World) (h : HandleId) (p : Params) (x : FileHandle) (m : Option FileStream) → is_within_limits p ≡ true
+    → refused_on old p x m ≡ None → IsUnderWay old → IsUnderWay (begun_on old h p x m)
+begins_on old h p x None within free s = s
+begins_on old h p x (Some y) within free s =
+    operation_begins old y.volume (Some x.stream) (Some h) p (moved_on (operation_of p) h old.flow.next old.files) within
+    (full_from _ _ (is_full old.flow) (none_else (phase_refusal old.flow (operation_of p) x.phase) _ free)) s
+
+pub begins_at : (old : World) (h : HandleId) (p : Params) (m : Option FileHandle) → is_within_limits p ≡ true
+    → refused_at old p m ≡ None → IsUnderWay old → IsUnderWay (begun_at old h p m)
+begins_at old h p None within free s = s
+begins_at old h p (Some x) within free s = begins_on old h p x (stream_at x.stream old.files) within free s
+
+after_begin_keeps : (old : World) (what : Begin) → begin_refused old what ≡ None → IsUnderWay old → IsUnderWay (after_begin old what)
+after_begin_keeps old (begin.List v) free s = operation_begins old v None None params.List old.files refl (full_from _ _ (is_full old.flow) free) s
+after_begin_keeps old (begin.Create v path mode) free s =
+    operation_begins old v (Some (stream_for v path old.flow.next old.files)) None (params.Create path mode) (created v path old.flow.next old.files) refl
+    (or_left (is_full old.flow) (has_no_handle_left old) (full_from _ _ (is_full old.flow || has_no_handle_left old) free)) s
+after_begin_keeps old (begin.OnHandle h asked) free s =
+    let parts = asked_within (is_within_limits (params_of asked)) (refused_at old (params_of asked) (handle_at h old.files)) free in
+    begins_at old h (params_of asked) (handle_at h old.files) parts.0 parts.1 s
+
+pub begin_keeps : (old : World) (what : Begin) (result : Result OpId Status) (new : World) → Begins old what result new → IsUnderWay old → IsUnderWay new
+unfolding Begins
+begin_keeps old what (Err why) new h s = subst IsUnderWay (sym h.1) s
+begin_keeps old what (Ok o) new h s = subst IsUnderWay (sym h.1.1) (after_begin_keeps old what h.0 s)
 
 -- ---- next
 
@@ -266,7 +314,10 @@ leads_down s k o r (below.Instance i false) workers stack e none lies h = record
     down_is_not_base : Descending ≡ InBase → ⊥
     down_is_not_base x = cc
 leads_down s k o r below.Call workers stack e none lies h = leads_base s k o r r.params workers e lies h
-leads_down s k o r (below.Known status) workers stack e none lies h = absurd lies
+leads_down s k o r (below.Known status) workers stack e none lies h = record {
+  among = among_base s r.volume r.born r.operation r.entries r.stage status 0 none lies h;
+  how = inl (refl, λ x. ap (is_spot x) (sym (quiet_is_nowhere r.stage r.entries (ap is_running e))));
+}
 
 -- the parameters of a postoperation are put in place: the entries stay
 unwound_parts : (place : ℕ) (r : FlowRecord) (m : Option Params) (s : StackWorld) → IsAmong s r
@@ -373,18 +424,28 @@ setups_stay workers k a b h na nb i =
     let to : one (is_in_setup i b) ≡ 0 = ap one (nb i) in
     omega (arith, moves, from, to)
 
+-- nothing changes where there is no such operation
+pub not_there : (old : World) (k : WorkerId) (o : OpId) (lies : Below) (result : Result FlowAction Status) → operation_at o old.flow ≡ None → result ≡ Err status.WrongStep
+    → record old {
+      flow = flow_after_next old k o lies;
+      workers = after_next old.workers k o result;
+      contexts = received old.contexts k result;
+      files = filed_next old o (flow_after_next old k o lies) result lies;
+    } ≡ old
+not_there old k o lies result at reply =
+    ap (λ t. record old { flow = t; workers = after_next old.workers k o result; contexts = received old.contexts k result; files = filed_next old o t result lies })
+    (unchanged_flow old.flow o (λ (x : FlowRecord). (next_of k lies (drains_at old o) x).after) at)
+    ∙ ap (λ x. record old { workers = after_next old.workers k o x; contexts = received old.contexts k x; files = filed_next old o old.flow x lies }) reply
+
 next_there : (old : World) (k : WorkerId) (o : OpId) (lies : Below) (result : Result FlowAction Status) (new : World) (m : Option FlowRecord)
-    → operation_at o old.flow ≡ m → worker_at old.workers k ≡ Some place.Idle → FindsBelow old.stack m lies → NextsOver old k o lies result new
+    → operation_at o old.flow ≡ m → worker_at old.workers k ≡ Some place.Idle → FindsBelow old.stack old.files old.flow m lies → NextsOver old k o lies result new
     → IsUnderWay old → IsUnderWay new
 next_there old k o lies result new None at idle finds h s =
     let d = drains_at old o in
     let f = λ (x : FlowRecord). (next_of k lies d x).after in
     let reply : result ≡ Err status.WrongStep =
     h.0 ∙ ap (λ m. unwrap_or (option_map (λ (x : FlowRecord). (next_of k lies d x).reply) m) (Err status.WrongStep)) at in
-    let same : record old { flow = changed o f old.flow; workers = after_next old.workers k o result; contexts = received old.contexts k result } ≡ old =
-    ap (λ t. record old { flow = t; workers = after_next old.workers k o result; contexts = received old.contexts k result }) (unchanged_flow old.flow o f at)
-    ∙ ap (λ x. record old { workers = after_next old.workers k o x; contexts = received old.contexts k x }) reply in
-    subst IsUnderWay (sym (h.1 ∙ same)) s
+    subst IsUnderWay (sym (h.1 ∙ not_there old k o lies result at reply)) s
 next_there old k o lies result new (Some r) at idle finds h s =
     let d = drains_at old o in
     let f = λ (x : FlowRecord). (next_of k lies d x).after in
@@ -392,14 +453,15 @@ next_there old k o lies result new (Some r) at idle finds h s =
     h.0 ∙ ap (λ m. unwrap_or (option_map (λ (x : FlowRecord). (next_of k lies d x).reply) m) (Err status.WrongStep)) at in
     let sound = found_holds flow.IsSound (is_number o) old.flow.operations r s.flow.sound at in
     let among = found_holds (IsAmong old.stack) (is_number o) old.flow.operations r s.among at in
-    let leads = leads_of old.stack k o r lies d old.workers s.stack sound finds among in
+    let leads = leads_of old.stack k o r lies d old.workers s.stack sound (λ e. (finds e).0) among in
     let after = after_next old.workers k o (next_of k lies d r).reply in
+    let filed = filed_next old o (changed o f old.flow) result lies in
     let built : (ws : List Worker) → after ≡ ws → length ws ≡ 48 → AreTied ws (changed o f old.flow)
     → ((i : ℕ) → count_by (is_in_setup i) ws ≡ count_by (is_in_setup i) old.workers) → IsUnderWay new =
     λ ws e hands tied setups. subst IsUnderWay
-    (sym (h.1 ∙ ap (λ x. record old { flow = changed o f old.flow; workers = x; contexts = received old.contexts k result }) (ap (after_next old.workers k o) reply ∙ e)))
-    (whatever_contexts (record old { flow = changed o f old.flow; workers = ws }) (received old.contexts k result) old.totals
-    (step_keeps old o r f ws at (next_number k lies d) (next_collected k lies d) (sound_next k lies d r sound (λ e. may_visit old.stack r lies among (finds e)))
+    (sym (h.1 ∙ ap (λ x. record old { flow = changed o f old.flow; workers = x; contexts = received old.contexts k result; files = filed }) (ap (after_next old.workers k o) reply ∙ e)))
+    (whatever_files (record old { flow = changed o f old.flow; workers = ws }) (received old.contexts k result) filed
+    (step_keeps old o r f ws at (next_number k lies d) (next_collected k lies d) (sound_next k lies d r sound (λ e. may_visit old.stack r lies among (finds e).0))
     leads.among hands tied setups s)) in
     elim leads.how [
       | inl stays ↦ built old.workers stays.0 s.hands (tied_stays old.workers old.flow o r f at (next_number k lies d) stays.1 s.workers) (λ i. refl)
@@ -412,7 +474,7 @@ pub next_keeps : (old : World) (k : WorkerId) (o : OpId) (result : Result FlowAc
 unfolding Nexts
 next_keeps old k o result new h s =
     unless_cases IsUnderWay status.WrongStep (is_idle (worker_at old.workers k)) result old new
-    ((lies : Below) × FindsBelow old.stack (operation_at o old.flow) lies × NextsOver old k o lies result new) h
+    ((lies : Below) × FindsBelow old.stack old.files old.flow (operation_at o old.flow) lies × NextsOver old k o lies result new) h
     (λ idle event. next_there old k o event.0 result new (operation_at o old.flow) refl (idle_there old.workers k idle) event.1 event.2 s) s
 
 -- ---- callbacks and calls return
@@ -470,8 +532,9 @@ pre_at old k given lent result new (Some (place.Pre o i)) at h s =
     let sound = found_holds flow.IsSound (is_number o) old.flow.operations r s.flow.sound there.1 in
     let among = found_holds (IsAmong old.stack) (is_number o) old.flow.operations r s.among there.1 in
     unless_cases IsUnderWay status.BadRequest (told (λ r. data_fits r.operation r.path lent) false o old.flow) result old new
-    ((result ≡ Ok tt) × ReturnsFrom old k o (pre_returned_of state lent) (sent old.contexts k (sent_in state)) new) h
-    (λ fits event. subst IsUnderWay (sym event.1.1) (whatever_contexts (returned old k o (pre_returned_of state lent)) new.contexts old.totals
+    ((result ≡ Ok tt) × PreReturnsFrom old k o (pre_returned_of state lent) state new) h
+    (λ fits event. subst IsUnderWay (sym event.1.1)
+    (whatever_files (returned old k o (pre_returned_of state lent)) new.contexts (filed_pre old o (changed o (pre_returned_of state lent) old.flow) state)
     (return_keeps old k (place.Pre o i) o r (pre_returned_of state lent) at there.1 (λ x. refl) (λ x. refl)
     (subst (Matches o (place.Pre o i)) (sym (ap (λ a. spot_at a r.entries) stage ∙ ap (option_map AtPre) spot.1)) (matches_pre o i)) quiet (λ j. refl)
     (sound_pre_returned state lent r stage (counted_from state quiet) (sym (told_there (λ (x : FlowRecord). data_fits x.operation x.path lent) false o old.flow r there.1) ∙ fits) sound)
@@ -499,15 +562,18 @@ base_at old k call given result new (Some (place.Base o)) at h s =
     let sound = found_holds flow.IsSound (is_number o) old.flow.operations r s.flow.sound there.1 in
     let among = found_holds (IsAmong old.stack) (is_number o) old.flow.operations r s.among there.1 in
     let none = no_base r.stage r.entries sound.course.order (ap (λ x. is_up (way_of x)) stage) in
+    let handle : HandleId = record { 0 = old.files.next } in
+    let step = base_step old call given in
+    let counts = base_counted call given handle in
     unless_cases IsUnderWay status.BadRequest (told (base_fits call given) false o old.flow) result old new
-    ((result ≡ Ok tt) × (new ≡ returned old k o (base_returned_of call given))) h
-    (λ fits event. subst IsUnderWay (sym event.1)
-    (return_keeps old k (place.Base o) o r (base_returned_of call given) at there.1 (λ x. refl) (λ x. refl)
+    ((result ≡ Ok tt) × (new ≡ record (returned old k o step) { files = filed_base old o (changed o step old.flow) given.status })) h
+    (λ fits event. subst IsUnderWay (sym event.1) (whatever_files (returned old k o step) old.contexts (filed_base old o (changed o step old.flow) given.status)
+    (return_keeps old k (place.Base o) o r step at there.1 (λ x. refl) (λ x. refl)
     (subst (Matches o (place.Base o)) (sym (ap (λ a. spot_at a r.entries) stage)) (matches_base o)) refl (λ j. refl)
     (let good = and_parts (fit r.operation r.path call) (nat_le (length given.bytes) 32768)
     (sym (told_there (base_fits call given) false o old.flow r there.1) ∙ fits) in
-    sound_base_returned call given r stage good.0 (leb-true (length given.bytes) 32768 good.1) sound)
-    (among_base old.stack r.volume r.born r.operation r.entries r.stage given.status given.information none (among.base stage) among) s)) s
+    sound_base_returned call given handle r stage good.0 (leb-true (length given.bytes) 32768 good.1) sound)
+    (among_base old.stack r.volume r.born r.operation r.entries r.stage counts.status counts.information none (among.base stage) among) s))) s
 base_at old k call given result new (Some place.Idle) at h s = subst IsUnderWay (sym h.1) s
 base_at old k call given result new (Some (place.Setup i)) at h s = subst IsUnderWay (sym h.1) s
 base_at old k call given result new (Some (place.Pre o i)) at h s = subst IsUnderWay (sym h.1) s

@@ -39,7 +39,7 @@ use Rattle.fm_world.specs.Sound.{IsSound, IsOwned}
 use Rattle.fm_world.proofs.Belonging.{OwnersStay, owners_same, owners_swept, owners_after, FiltersStay, belongs_still, AllHold, all_hold, all_hold_still, others_stay, all_carry_still}
 use Rattle.fm_world.proofs.Callbacks.{same_hands}
 use Rattle.fm_world.proofs.Fitting.{AllFit, fits_on, fits_swept, owner_stays, link_stays}
-use Rattle.fm_world.proofs.Keeps.{register_keeps, mount_keeps, attach_keeps, setup_keeps, unless_cases, idle_there, setup_place}
+use Rattle.fm_world.proofs.Keeps.{register_keeps, mount_keeps, attach_keeps, setup_keeps, unless_cases, idle_there, setup_place, FiledIn}
 
 -- ---- instances go on
 
@@ -105,7 +105,7 @@ longer_push xs x = omega (arith, length-append xs (x ∷ []))
 pub register_sound : (old : World) (name : List ℕ) (registration : Registration) (result : Result FilterId Status) (new : World)
     → Registers old name registration result new → IsSound old → IsSound new
 unfolding Registers stack.Registers
-register_sound old name registration result new h s = record { under_way = register_keeps old name registration result new h s.under_way; owned = owned result h }
+register_sound old name registration result new h s = record { under_way = register_keeps old name registration result new h s.under_way; owned = owned result h; filed = subst FiledIn (sym h.1) s.filed }
   where
     owned : (r : Result FilterId Status) → Registers old name registration r new → IsOwned new
     owned (Err why) h = subst IsOwned (sym (h.1 ∙ ap (λ x. record old { stack = x }) h.0.1)) s.owned
@@ -116,7 +116,7 @@ register_sound old name registration result new h s = record { under_way = regis
 
 pub mount_sound : (old : World) (name : List ℕ) (result : Result VolumeId Status) (new : World) → Mounts old name result new → IsSound old → IsSound new
 unfolding Mounts stack.Mounts
-mount_sound old name result new h s = record { under_way = mount_keeps old name result new h s.under_way; owned = owned result h }
+mount_sound old name result new h s = record { under_way = mount_keeps old name result new h s.under_way; owned = owned result h; filed = subst FiledIn (sym h.1) s.filed }
   where
     owned : (r : Result VolumeId Status) → Mounts old name r new → IsOwned new
     owned (Err why) h = subst IsOwned (sym (h.1 ∙ ap (λ x. record old { stack = x }) h.0.1)) s.owned
@@ -182,7 +182,11 @@ attach_owned old k f v name altitude (Ok i) new at worker h e s =
 pub attach_sound : (old : World) (k : WorkerId) (f : FilterId) (v : VolumeId) (name altitude : List ℕ) (result : Result InstanceId Status) (new : World)
     → Attaches old k f v name altitude result new → IsSound old → IsSound new
 unfolding Attaches
-attach_sound old k f v name altitude result new h s = record { under_way = attach_keeps old k f v name altitude result new h s.under_way; owned = owned h }
+attach_sound old k f v name altitude result new h s = record {
+  under_way = attach_keeps old k f v name altitude result new h s.under_way;
+  owned = owned h;
+  filed = unless_cases FiledIn status.WrongStep (is_idle (worker_at old.workers k)) result old new _ h (λ idle event. subst FiledIn (sym event.1) s.filed) s.filed;
+}
   where
     owned : Attaches old k f v name altitude result new → IsOwned new
     owned h =
@@ -335,7 +339,21 @@ setup_cases old k accept result new None at h s = subst IsOwned (sym h.1) s.owne
 pub setup_sound : (old : World) (k : WorkerId) (accept : Bool) (result : Result (Unit {0}) Status) (new : World)
     → SetsUp old k accept result new → IsSound old → IsSound new
 unfolding SetsUp
-setup_sound old k accept result new h s = record { under_way = setup_keeps old k accept result new h s.under_way; owned = owned h }
+setup_sound old k accept result new h s = record {
+  under_way = setup_keeps old k accept result new h s.under_way;
+  owned = owned h;
+  filed = setup_filed (worker_at old.workers k) h;
+}
   where
+    setup_filed : (m : Option Worker) → SetsUpAt old k accept result new m → FiledIn new
+    setup_filed (Some (place.Setup i)) h = subst FiledIn (sym h.4) s.filed
+    setup_filed (Some place.Idle) h = subst FiledIn (sym h.1) s.filed
+    setup_filed (Some (place.Pre o i)) h = subst FiledIn (sym h.1) s.filed
+    setup_filed (Some (place.Base o)) h = subst FiledIn (sym h.1) s.filed
+    setup_filed (Some (place.Post o i)) h = subst FiledIn (sym h.1) s.filed
+    setup_filed (Some (place.Drain o i)) h = subst FiledIn (sym h.1) s.filed
+    setup_filed (Some (place.Cleanup c)) h = subst FiledIn (sym h.1) s.filed
+    setup_filed None h = subst FiledIn (sym h.1) s.filed
+
     owned : SetsUp old k accept result new → IsOwned new
     owned h = setup_cases old k accept result new (worker_at old.workers k) refl h s

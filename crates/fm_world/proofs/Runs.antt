@@ -111,7 +111,7 @@ empty_owned = record {
 }
 
 pub empty_sound : IsSound empty_world
-empty_sound = record { under_way = empty_under_way; owned = empty_owned }
+empty_sound = record { under_way = empty_under_way; owned = empty_owned; filed = record { numbers = omega arith; few = omega arith } }
 
 -- ---- the Headline
 

@@ -22,7 +22,7 @@ use Rattle.fm_flow.specs.declared.entry.Entry.{Entry}
 use Rattle.fm_flow.specs.Entries.{last_visited, last_posted}
 use Rattle.fm_world.specs.Headline.{Spot, AtPre, AtBase, AtPost, AtDrain, is_in_at, spot_at, spot_of, is_spot, stands_at}
 use Rattle.fm_world.proofs.Counts.{count-some}
-use Rattle.fm_flow.proofs.Tables.{find_changed, find_unchanged}
+use Rattle.fm_types.proofs.Firsts.{find_changed, find_unchanged}
 
 -- 1 or 0
 abbrev pub one : Bool → ℕ

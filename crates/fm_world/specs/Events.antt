@@ -1,17 +1,20 @@
 -- The events: the refusals of each, in their order, and what it makes of the World. A refusal changes nothing, but for the end of a setup callback.
 -- (The events on contexts stand in ContextEvents.)
 -- An event that a worker makes is refused first of all, with WrongStep, where the worker isn't in the right place.
-use Rattle.std.specs.Prelude.{◌≡◌, ℕ, Bool, true, false, cond, not, List, [], ◌∷◌, length, nat_le, Option, Some, None, Result, Ok, Err, slice_get}
+use Rattle.std.specs.Prelude.{◌≡◌, ℕ, ◌+◌, ◌-◌, ◌^◌, ◌==◌, ◌&&◌, ◌||◌, Bool, true, false, cond, not, List, [], ◌∷◌, length, nat_le, Option, Some, None, is_none, Result, Ok, Err, slice_get}
 use Rattle.fm_types.specs.declared.ids.FilterId.{FilterId}
 use Rattle.fm_types.specs.declared.ids.VolumeId.{VolumeId}
 use Rattle.fm_types.specs.declared.ids.InstanceId.{InstanceId}
 use Rattle.fm_types.specs.declared.ids.OpId.{OpId}
 use Rattle.fm_types.specs.declared.ids.WorkerId.{WorkerId}
+use Rattle.fm_types.specs.declared.ids.HandleId.{HandleId}
+use Rattle.fm_types.specs.declared.ids.StreamId.{StreamId}
 use Rattle.fm_types.specs.declared.ids.CtxId.{CtxId}
 use Rattle.fm_types.specs.declared.status.Status.{Status}
 use Rattle.fm_types.specs.declared.status.Status.TheVariants as status
 use Rattle.fm_types.specs.declared.registration.Registration.{Registration}
 use Rattle.fm_types.specs.declared.operation.Operation.{Operation}
+use Rattle.fm_types.specs.declared.operation.Operation.TheVariants as kind
 use Rattle.fm_types.specs.Refusals.{first_of, AnswersOrMemory}
 use Rattle.fm_data.specs.declared.params.Params.{Params}
 use Rattle.fm_data.specs.declared.params.Params.TheVariants as params
@@ -21,9 +24,10 @@ use Rattle.fm_data.specs.declared.verdict.PreVerdict.TheVariants as verdict
 use Rattle.fm_data.specs.declared.verdict.PostVerdict.{PostVerdict}
 use Rattle.fm_data.specs.declared.verdict.Completion.{Completion}
 use Rattle.fm_data.specs.Data.{Data, data_fits}
+use Rattle.fm_data.specs.Params.{is_within_limits, operation_of}
 use Rattle.fm_stack.specs.declared.instance.Instance.{Instance}
 use Rattle.fm_stack.specs.declared.instance.Phase.{Phase}
-use Rattle.fm_stack.specs.declared.instance.Phase.TheVariants as phase
+use Rattle.fm_stack.specs.declared.instance.Phase.TheVariants as stage
 use Rattle.fm_stack.specs.StackWorld.{StackWorld}
 use Rattle.fm_stack.specs.Next.{IsNextInstance, has_pre_in, has_post_in}
 use Rattle.fm_stack.specs.Events as stack
@@ -45,12 +49,19 @@ use Rattle.fm_ctx.specs.Bags.{holds, hand_of}
 use Rattle.fm_ctx.specs.Table.{ContextTable}
 use Rattle.fm_ctx.specs.References.{grabbed, handed_on}
 use Rattle.fm_ctx.specs.Settling.{Leaves, Sweeps, is_linked_of}
+use Rattle.fm_flow.specs.Creates.{creates, has_create_on, is_create}
 use Rattle.fm_flow.specs.Table.{FlowTable, carried, operation_at, changed, told, begun, is_full, collect_reply, collected_of}
 use Rattle.fm_world.specs.declared.step.Begin.{Begin}
 use Rattle.fm_world.specs.declared.step.Begin.TheVariants as begin
 use Rattle.fm_world.specs.declared.worker.Worker.{Worker}
 use Rattle.fm_world.specs.declared.worker.Worker.TheVariants as place
 use Rattle.fm_world.specs.World.{World, carries}
+use Rattle.fm_world.specs.Requests.{params_of, phase_refusal}
+use Rattle.fm_world.specs.Files.{FileTable, stream_at, handle_at, stream_for, created, phased, has_other_handle, is_marked, after_base, after_pre}
+use Rattle.fm_world.specs.declared.file.FileHandle.{FileHandle}
+use Rattle.fm_world.specs.declared.file.FileStream.{FileStream}
+use Rattle.fm_world.specs.declared.file.HandlePhase.TheVariants as phase
+use Rattle.fm_types.specs.declared.operation.CreateMode.{CreateMode}
 use Rattle.fm_world.specs.Workers.{worker_at, put, is_idle, after_attach, after_next}
 
 -- the event where the test holds, and else a refusal that changes nothing
@@ -92,20 +103,75 @@ SetsUp old k accept result new = SetsUpAt old k accept result new (worker_at old
 
 -- ---- operations begin
 
-abbrev pub begin_refusals : World → Begin → List (Bool × Status)
-begin_refusals w (begin.List v) =
+-- a volume that isn't there, or isn't in use; and too many of something
+abbrev pub volume_refusals : World → VolumeId → Bool → List (Bool × Status)
+volume_refusals w v is_too_many =
     (nat_le (length w.stack.volumes) v.0, status.NoVolume)
     ∷ (not (stack.is_mounted (slice_get w.stack.volumes v.0)), status.Dismounting)
-    ∷ (is_full w.flow, status.TooMany)
+    ∷ (is_too_many, status.TooMany)
     ∷ []
 
-abbrev pub begun_flow : World → Begin → FlowTable
-begun_flow w (begin.List v) = begun v None None w.stack.births params.List w.flow
+-- 4,096 handles at once, with those that creates under way may give; and no number twice
+abbrev pub has_no_handle_left : World → Bool
+has_no_handle_left w = nat_le 4096 (length w.files.handles + creates w.flow) || (w.files.next == 2 ^ 64 - 1)
+
+-- that refusal, or else another
+abbrev pub or_else : Option Status → Option Status → Option Status
+or_else (Some refusal) others = Some refusal
+or_else None others = others
+
+-- a handle's phase refuses first, then its volume
+abbrev pub refused_on : World → Params → FileHandle → Option FileStream → Option Status
+refused_on w p x None = Some status.NoHandle
+refused_on w p x (Some y) = or_else (phase_refusal w.flow (operation_of p) x.phase) (first_of (volume_refusals w y.volume (is_full w.flow)))
+
+abbrev pub refused_at : World → Params → Option FileHandle → Option Status
+refused_at w p None = Some status.NoHandle
+refused_at w p (Some x) = refused_on w p x (stream_at x.stream w.files)
+
+abbrev pub asked_refused : World → HandleId → Params → Option Status
+asked_refused w h p = cond (is_within_limits p) (refused_at w p (handle_at h w.files)) (Some status.BadRequest)
+
+abbrev pub begin_refused : World → Begin → Option Status
+begin_refused w (begin.List v) = first_of (volume_refusals w v (is_full w.flow))
+begin_refused w (begin.Create v path mode) = first_of (volume_refusals w v (is_full w.flow || has_no_handle_left w))
+begin_refused w (begin.OnHandle h asked) = asked_refused w h (params_of asked)
+
+-- a cleanup and a close move the handle's end on
+abbrev pub moved_on : Operation → HandleId → ℕ → FileTable → FileTable
+moved_on kind.Cleanup h n t = phased h (phase.CleaningUp (record { 0 = n })) t
+moved_on kind.Close h n t = phased h phase.Closing t
+moved_on _ h n t = t
+
+abbrev pub begun_on : World → HandleId → Params → FileHandle → Option FileStream → World
+begun_on w h p x None = w
+begun_on w h p x (Some y) = record w {
+  flow = begun y.volume (Some x.stream) (Some h) w.stack.births p w.flow;
+  files = moved_on (operation_of p) h w.flow.next w.files;
+}
+
+abbrev pub begun_at : World → HandleId → Params → Option FileHandle → World
+begun_at w h p None = w
+begun_at w h p (Some x) = begun_on w h p x (stream_at x.stream w.files)
+
+abbrev pub asked_begun : World → HandleId → Params → World
+asked_begun w h p = begun_at w h p (handle_at h w.files)
+
+abbrev pub created_begun : World → VolumeId → List ℕ → CreateMode → World
+created_begun w v path mode = record w {
+  flow = begun v (Some (stream_for v path w.flow.next w.files)) None w.stack.births (params.Create path mode) w.flow;
+  files = created v path w.flow.next w.files;
+}
+
+abbrev pub after_begin : World → Begin → World
+after_begin w (begin.List v) = record w { flow = begun v None None w.stack.births params.List w.flow }
+after_begin w (begin.Create v path mode) = created_begun w v path mode
+after_begin w (begin.OnHandle h asked) = asked_begun w h (params_of asked)
 
 unfoldable pub Begins : World → Begin → Result OpId Status → World → Type 0
 Begins old what result new =
-    AnswersOrMemory (first_of (begin_refusals old what)) result old new
-    (λ (o : OpId). (o.0 ≡ old.flow.next) × (new ≡ record old { flow = begun_flow old what }))
+    AnswersOrMemory (begin_refused old what) result old new
+    (λ (o : OpId). (o.0 ≡ old.flow.next) × (new ≡ after_begin old what))
 
 -- ---- the next callback or call of an operation
 
@@ -118,21 +184,51 @@ abbrev pub has_post : StackWorld → Option Instance → Operation → Bool
 has_post s None operation = false
 has_post s (Some row) operation = has_post_in (slice_get s.filters row.filter.0) operation
 
+-- a close unlinks the file, by a call of the base, where it closes the last handle of a marked stream and no create of it is under way
+abbrev pub unlinks : FileTable → FlowTable → StreamId → HandleId → Bool
+unlinks f t s h = is_marked s f && not (has_other_handle s h f || has_create_on s t)
+
+-- the base's answer to an operation on a handle that is open, where no device is called for it
+abbrev pub known_on : FileTable → FlowTable → Operation → StreamId → HandleId → Option Status
+known_on f t kind.SetDelete s h = Some status.Success
+known_on f t kind.Cleanup s h = Some status.Success
+known_on f t kind.Close s h = cond (unlinks f t s h) None (Some status.Success)
+known_on f t _ s h = None
+
+abbrev pub known_at : FileTable → FlowTable → Operation → Option StreamId → Option HandleId → Option Status
+known_at f t operation (Some s) (Some h) = cond (is_none (handle_at h f)) (Some status.NoHandle) (known_on f t operation s h)
+known_at f t operation _ _ = None
+
+-- a create is refused where the file is marked for deletion
+abbrev pub known_create : FileTable → Option StreamId → Option Status
+known_create f None = None
+known_create f (Some s) = cond (is_marked s f) (Some status.DeletePending) None
+
+-- what the base answers without a call of the device, and no answer where there is one
+abbrev pub base_known : FileTable → FlowTable → FlowRecord → Option Status
+base_known f t r = cond (is_create r.operation) (known_create f r.stream) (known_at f t r.operation r.stream r.handle)
+
 -- what an operation finds below its last visit: the next instance, or the base
 abbrev pub LiesBelow : StackWorld → FlowRecord → Below → Type 0
 LiesBelow s r (below.Instance i is_called) =
     IsNextInstance s r.volume (last_visited r.entries) r.born r.operation (Some i)
     × (is_called ≡ has_pre s (slice_get s.instances i.0) r.operation)
 LiesBelow s r below.Call = IsNextInstance s r.volume (last_visited r.entries) r.born r.operation None
-LiesBelow s r (below.Known status) = ⊥
+LiesBelow s r (below.Known status) = IsNextInstance s r.volume (last_visited r.entries) r.born r.operation None
+
+-- the base is called, or its answer is known
+abbrev pub AnswersBelow : FileTable → FlowTable → FlowRecord → Below → Type 0
+AnswersBelow f t r (below.Instance i is_called) = Unit {0}
+AnswersBelow f t r below.Call = base_known f t r ≡ None
+AnswersBelow f t r (below.Known status) = base_known f t r ≡ Some status
 
 -- which matters on the way down alone
-abbrev pub FindsBelow : StackWorld → Option FlowRecord → Below → Type 0
-FindsBelow s None lies = Unit {0}
-FindsBelow s (Some r) lies = r.stage ≡ Descending → LiesBelow s r lies
+abbrev pub FindsBelow : StackWorld → FileTable → FlowTable → Option FlowRecord → Below → Type 0
+FindsBelow s f t None lies = Unit {0}
+FindsBelow s f t (Some r) lies = r.stage ≡ Descending → LiesBelow s r lies × AnswersBelow f t r lies
 
 abbrev pub is_stopping_phase : Phase → Bool
-is_stopping_phase phase.Stopping = true
+is_stopping_phase stage.Stopping = true
 is_stopping_phase _ = false
 
 abbrev pub is_stopping_row : Option Instance → Bool
@@ -160,20 +256,41 @@ received t k (Ok (action.Post i lent completion)) = brought t k completion.conte
 received t k (Ok (action.Drain i completion)) = brought t k completion.context
 received t k _ = t
 
+-- whether another create of an operation's stream is under way
+abbrev pub is_created_on : Option StreamId → FlowTable → Bool
+is_created_on None t = false
+is_created_on (Some s) t = has_create_on s t
+
+-- streams and handles after the base's answer to a record, which is answered by then
+abbrev pub filed_record : FileTable → FlowTable → Status → FlowRecord → FileTable
+filed_record files t status r = after_base r.operation r.stream r.handle status (is_created_on r.stream t) files
+
+abbrev pub filed_base : World → OpId → FlowTable → Status → FileTable
+filed_base w o t status = told (filed_record w.files t status) w.files o w.flow
+
+-- an answer that was known without a call counts at once
+abbrev pub filed_next : World → OpId → FlowTable → Result FlowAction Status → Below → FileTable
+filed_next w o t (Ok action.Moved) (below.Known status) = filed_base w o t status
+filed_next w o t _ _ = w.files
+
+abbrev pub flow_after_next : World → WorkerId → OpId → Below → FlowTable
+flow_after_next w k o lies = changed o (λ r. (next_of k lies (drains_at w o) r).after) w.flow
+
 abbrev pub NextsOver : World → WorkerId → OpId → Below → Result FlowAction Status → World → Type 0
 NextsOver old k o lies result new =
     (result ≡ told (λ r. (next_of k lies (drains_at old o) r).reply) (Err status.WrongStep) o old.flow)
     × (new ≡ record old {
-      flow = changed o (λ r. (next_of k lies (drains_at old o) r).after) old.flow;
+      flow = flow_after_next old k o lies;
       workers = after_next old.workers k o result;
       contexts = received old.contexts k result;
+      files = filed_next old o (flow_after_next old k o lies) result lies;
     })
 
 -- by an idle worker
 unfoldable pub Nexts : World → WorkerId → OpId → Result FlowAction Status → World → Type 0
 Nexts old k o result new =
     Unless status.WrongStep (is_idle (worker_at old.workers k)) result old new
-    ((lies : Below) × FindsBelow old.stack (operation_at o old.flow) lies × NextsOver old k o lies result new)
+    ((lies : Below) × FindsBelow old.stack old.files old.flow (operation_at o old.flow) lies × NextsOver old k o lies result new)
 
 -- ---- callbacks and calls return
 
@@ -222,21 +339,37 @@ abbrev pub ReturnsFrom : World → WorkerId → OpId → (FlowRecord → FlowRec
 ReturnsFrom old k o step kept new =
     Leaves (carries_after old o step) kept new.contexts k.0 × (new ≡ record (returned old k o step) { contexts = new.contexts })
 
+-- streams after a preoperation's verdict
+abbrev pub filed_pre : World → OpId → FlowTable → PreState → FileTable
+filed_pre w o t given = told (λ r. after_pre given r.operation r.stream (is_created_on r.stream t) w.files) w.files o w.flow
+
+abbrev pub PreReturnsFrom : World → WorkerId → OpId → (FlowRecord → FlowRecord) → PreState → World → Type 0
+PreReturnsFrom old k o step given new =
+    Leaves (carries_after old o step) (sent old.contexts k (sent_in given)) new.contexts k.0
+    × (new ≡ record (returned old k o step) { contexts = new.contexts; files = filed_pre old o (changed o step old.flow) given })
+
+abbrev pub pre_step : World → WorkerId → OpId → InstanceId → PreVerdict → Data → FlowRecord → FlowRecord
+pre_step w k o i given lent = pre_returned_of (state_at w k o i given) lent
+
 -- strange data is refused, and the callback goes on
 abbrev pub PreReturnsAt : World → WorkerId → PreVerdict → Data → Result (Unit {0}) Status → World → Option Worker → Type 0
 PreReturnsAt old k given lent result new (Some (place.Pre o i)) =
     Unless status.BadRequest (told (λ r. data_fits r.operation r.path lent) false o old.flow) result old new
     ((result ≡ Ok tt)
-    × ReturnsFrom old k o (pre_returned_of (state_at old k o i given) lent) (sent old.contexts k (sent_in (state_at old k o i given))) new)
+    × PreReturnsFrom old k o (pre_step old k o i given lent) (state_at old k o i given) new)
 PreReturnsAt old k given lent result new _ = (result ≡ Err status.WrongStep) × (new ≡ old)
 
 unfoldable pub PreReturns : World → WorkerId → PreVerdict → Data → Result (Unit {0}) Status → World → Type 0
 PreReturns old k given lent result new = PreReturnsAt old k given lent result new (worker_at old.workers k)
 
+abbrev pub base_step : World → Params → Answer → FlowRecord → FlowRecord
+base_step w call answer = base_returned_of call answer (record { 0 = w.files.next })
+
 abbrev pub BaseReturnsAt : World → WorkerId → Params → Answer → Result (Unit {0}) Status → World → Option Worker → Type 0
 BaseReturnsAt old k call answer result new (Some (place.Base o)) =
     Unless status.BadRequest (told (base_fits call answer) false o old.flow) result old new
-    ((result ≡ Ok tt) × (new ≡ returned old k o (base_returned_of call answer)))
+    ((result ≡ Ok tt)
+    × (new ≡ record (returned old k o (base_step old call answer)) { files = filed_base old o (changed o (base_step old call answer) old.flow) answer.status }))
 BaseReturnsAt old k call answer result new _ = (result ≡ Err status.WrongStep) × (new ≡ old)
 
 unfoldable pub BaseReturns : World → WorkerId → Params → Answer → Result (Unit {0}) Status → World → Type 0

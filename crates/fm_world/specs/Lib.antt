@@ -1,4 +1,6 @@
+pub mod Files
 pub mod World
+pub mod Requests
 pub mod Workers
 pub mod Owners
 pub mod Events

@@ -1,5 +1,5 @@
 -- What an induction over events needs besides the Headline, and from which the Headline follows.
-use Rattle.std.specs.Prelude.{◌≡◌, ℕ, ◌<◌, Bool, true, false, cond, List, length, All, count_by, Option, Some, None, slice_get, ◌==◌}
+use Rattle.std.specs.Prelude.{◌≡◌, ℕ, ◌+◌, ◌<◌, ◌≤◌, Bool, true, false, cond, List, length, All, count_by, Option, Some, None, slice_get, ◌==◌}
 use Rattle.fm_types.specs.declared.ids.InstanceId.{InstanceId}
 use Rattle.fm_types.specs.declared.ids.WorkerId.{WorkerId}
 use Rattle.fm_types.specs.declared.ids.OpId.{OpId}
@@ -10,7 +10,8 @@ use Rattle.fm_flow.specs.declared.stage.Stage.TheVariants.{InBase}
 use Rattle.fm_flow.specs.declared.entry.Entry.{Entry}
 use Rattle.fm_flow.specs.Record.{FlowRecord}
 use Rattle.fm_flow.specs.Entries.{visited, last_visited, has_base, owed}
-use Rattle.fm_flow.specs.Table.{IsFlow, in_flight}
+use Rattle.fm_flow.specs.Creates.{creates}
+use Rattle.fm_flow.specs.Table.{FlowTable, IsFlow, in_flight}
 use Rattle.fm_ctx.specs.Bags.{cleaning_of, hand_of}
 use Rattle.fm_ctx.specs.Laws.{IsLawful}
 use Rattle.fm_ctx.specs.Table.{Slot}
@@ -21,6 +22,7 @@ use Rattle.fm_stack.specs.Next.{NonePasses, is_candidate}
 use Rattle.fm_stack.specs.Stacks.{IsStack}
 use Rattle.fm_world.specs.declared.worker.Worker.{Worker}
 use Rattle.fm_world.specs.declared.worker.Worker.TheVariants as place
+use Rattle.fm_world.specs.Files.{FileTable}
 use Rattle.fm_world.specs.World.{World, carries}
 use Rattle.fm_world.specs.Workers.{worker_at, cleanup_in}
 use Rattle.fm_world.specs.Owners.{row_at, place_in, HoldsIn, AskCarries, fits, is_flown_by}
@@ -72,6 +74,14 @@ pub record IsOwned (w : World) : Type 0 where
   pub quiet : (i : InstanceId) → is_flown_by (row_at w.stack i) ≡ false → in_flight i.0 w.flow ≡ 0
   pub totals : length w.totals ≡ 16
 
+-- ---- streams and handles
+
+-- each create under way may give a handle: there is a number for it, and room
+pub record IsFiled (files : FileTable) (flow : FlowTable) : Type 0 where
+  pub numbers : files.next + creates flow ≤ flow.next
+  pub few : length files.handles + creates flow ≤ 4096
+
 pub record IsSound (w : World) : Type 0 where
   pub under_way : IsUnderWay w
   pub owned : IsOwned w
+  pub filed : IsFiled w.files w.flow

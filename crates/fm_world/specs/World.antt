@@ -5,6 +5,7 @@ use Rattle.fm_stack.specs.StackWorld.{StackWorld}
 use Rattle.fm_ctx.specs.Table.{ContextTable, count_in}
 use Rattle.fm_ctx.specs.Table as contexts
 use Rattle.fm_flow.specs.Table.{FlowTable, carried, empty_table}
+use Rattle.fm_world.specs.Files.{FileTable, empty_files}
 use Rattle.fm_world.specs.declared.worker.Worker.{Worker}
 use Rattle.fm_world.specs.declared.worker.Worker.TheVariants as place
 
@@ -19,13 +20,15 @@ pub record World : Type 0 where
   pub contexts : ContextTable
   -- what each filter's cleanups returned in all, by its number
   pub totals : List ℕ
+  -- streams and handles
+  pub files : FileTable
 
 abbrev pub empty_stack : StackWorld
 empty_stack = record { filters = []; volumes = []; instances = []; births = 0 }
 
 -- before the first event; 48 workers are there
 abbrev pub empty_world : World
-empty_world = record { stack = empty_stack; flow = empty_table; workers = replicate 48 place.Idle; contexts = contexts.empty_table; totals = replicate 16 0 }
+empty_world = record { stack = empty_stack; flow = empty_table; workers = replicate 48 place.Idle; contexts = contexts.empty_table; totals = replicate 16 0; files = empty_files }
 
 -- how many references to a context the completions carry whose postoperations are owed
 abbrev pub carries : World → CtxId → ℕ

@@ -76,7 +76,7 @@ impl<W: Write + Drop> Runner<W> {
                 Ok(Step::Held) => return self.output.line("held"),
                 Ok(Step::Done) => return self.collect(operation),
                 Ok(step) => {
-                    if let Err(status) = self.answer(worker, step)? {
+                    if let Err(status) = self.answer(worker, operation, step)? {
                         return self.refuse(status);
                     }
                 }
@@ -87,7 +87,12 @@ impl<W: Write + Drop> Runner<W> {
     }
 
     // Prints one step of `go`, and has the worker return from what it is inside of.
-    fn answer(&mut self, worker: u64, step: Step) -> Result<Result<(), Status>, ScriptEnd> {
+    fn answer(
+        &mut self,
+        worker: u64,
+        operation: u64,
+        step: Step,
+    ) -> Result<Result<(), Status>, ScriptEnd> {
         match step {
             Step::Pre(instance) => {
                 let verdict = self.interpreter.planned(instance);
@@ -109,7 +114,13 @@ impl<W: Write + Drop> Runner<W> {
                 self.output.id("drain", 'i', u64::from(instance.0))?;
                 Ok(self.interpreter.post(worker))
             }
-            _ => Ok(Ok(())),
+            Step::Moved => {
+                if let Some(status) = self.interpreter.known(operation) {
+                    self.output.base(status)?;
+                }
+                Ok(Ok(()))
+            }
+            Step::Held | Step::Done => Ok(Ok(())),
         }
     }
 }

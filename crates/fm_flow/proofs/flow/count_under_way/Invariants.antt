@@ -1,5 +1,6 @@
+use Rattle.std.specs.Prelude.{not}
 use Rattle.fm_flow.proofs.Places.{IsCounted}
 use Rattle.fm_flow.proofs.flow.count_under_way.Given as goal
 
 abbrev pub invariant-loop-operation : goal.invariant-loop-operation
-invariant-loop-operation l = IsCounted l.operations l.operation-index l.count
+invariant-loop-operation l = IsCounted (λ r. not r.collected) l.operations l.operation-index l.count

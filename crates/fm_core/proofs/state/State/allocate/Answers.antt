@@ -20,21 +20,21 @@ returns-in_default-clause-event c =
 
 pub returns-then-not-has_kind-clause-event : goal.returns-then-not-has_kind-clause-event
 returns-then-not-has_kind-clause-event c =
-    let old : World = world_of c.self.inside.stack c.self.inside.flow c.self.inside.workers c.self.inside.contexts c.self.inside.totals in
+    let old : World = world_of c.self.inside.stack c.self.inside.flow c.self.inside.workers c.self.inside.contexts c.self.inside.totals c.self.inside.files in
     let is = subst (λ (w : World). option_map caller_of (callback_of w c.args.worker) ≡ Some c.in-Some.caller) (sym c.self.view_is) (sym c.caller.ensures ∙ c.in-Some.is) in
     subst (λ (w : World). Allocates w c.args.worker c.args.kind c.args.body (Err NotRegistered) w) c.self.view_is
     (allocate_unregistered old c.args.worker c.args.kind c.args.body c.in-Some.caller is (sym c.has_kind.ensures ∙ c.if-not-has_kind.true))
 
 pub allocate-requires : goal.allocate-requires
 allocate-requires c =
-    let old : World = world_of c.self.inside.stack c.self.inside.flow c.self.inside.workers c.self.inside.contexts c.self.inside.totals in
+    let old : World = world_of c.self.inside.stack c.self.inside.flow c.self.inside.workers c.self.inside.contexts c.self.inside.totals c.self.inside.files in
     let is = subst (λ (w : World). option_map caller_of (callback_of w c.args.worker) ≡ Some c.in-Some.caller) (sym c.self.view_is) (sym c.caller.ensures ∙ c.in-Some.is) in
     let at = called old c.args.worker c.in-Some.caller is in
     (is_in old c.args.worker at.0 c.self.invariant.sound at.1).worker
 
 pub invariant_of-self : goal.invariant_of-self
 invariant_of-self c =
-    let old : World = world_of c.self.inside.stack c.self.inside.flow c.self.inside.workers c.self.inside.contexts c.self.inside.totals in
+    let old : World = world_of c.self.inside.stack c.self.inside.flow c.self.inside.workers c.self.inside.contexts c.self.inside.totals c.self.inside.files in
     let is = subst (λ (w : World). option_map caller_of (callback_of w c.args.worker) ≡ Some c.in-Some.caller) (sym c.self.view_is) (sym c.caller.ensures ∙ c.in-Some.is) in
     let kind' = sym c.has_kind.ensures ∙ c.if-not-has_kind.false in
     record {
@@ -46,7 +46,7 @@ invariant_of-self c =
 
 pub returns-clause-event : goal.returns-clause-event
 returns-clause-event c =
-    let old : World = world_of c.self.inside.stack c.self.inside.flow c.self.inside.workers c.self.inside.contexts c.self.inside.totals in
+    let old : World = world_of c.self.inside.stack c.self.inside.flow c.self.inside.workers c.self.inside.contexts c.self.inside.totals c.self.inside.files in
     let is = subst (λ (w : World). option_map caller_of (callback_of w c.args.worker) ≡ Some c.in-Some.caller) (sym c.self.view_is) (sym c.caller.ensures ∙ c.in-Some.is) in
     let kind' = sym c.has_kind.ensures ∙ c.if-not-has_kind.false in
     subst (λ (w : World). Allocates w c.args.worker c.args.kind c.args.body c.allocate.result (record old { contexts = c.allocate.new.self.table })) c.self.view_is

@@ -1,5 +1,22 @@
+use Rattle.std.proofs.Common.{sym, subst}
+use Rattle.fm_world.specs.declared.step.Begin.{Begin}
+use Rattle.fm_world.specs.Events.{Begins}
+use Rattle.fm_core.specs.Begun.{Asks}
 use Rattle.fm_world.proofs.Handing.{begin_hands}
+use Rattle.fm_core.proofs.Operated.{asks_begins}
 use Rattle.fm_core.proofs.state.State.begin.Goals as goal
 
-pub returns-clause-hand : goal.returns-clause-hand
-returns-clause-hand c = begin_hands _ _ _ _ c.begin_list.ensures
+pub returns-in-List-clause-hand : goal.returns-in-List-clause-hand
+returns-in-List-clause-hand c = begin_hands _ _ _ _ c.begin_list.ensures
+
+pub returns-in-Create-clause-hand : goal.returns-in-Create-clause-hand
+returns-in-Create-clause-hand c = begin_hands _ _ _ _ c.begin_create.ensures
+
+pub returns-in-OnHandle-clause-event : goal.returns-in-OnHandle-clause-event
+returns-in-OnHandle-clause-event c =
+    subst (λ (b : Begin). Begins c.args.self.now b c.begin_on.result c.begin_on.new.self) (sym c.in-OnHandle.is)
+    (asks_begins c.args.self.now c.in-OnHandle.handle c.in-OnHandle.request c.begin_on.result c.begin_on.new.self
+    (subst (λ p. Asks c.args.self.now c.in-OnHandle.handle p c.begin_on.result c.begin_on.new.self) c.into_params.ensures c.begin_on.ensures))
+
+pub returns-in-OnHandle-clause-hand : goal.returns-in-OnHandle-clause-hand
+returns-in-OnHandle-clause-hand c = begin_hands _ _ _ _ (returns-in-OnHandle-clause-event c)

@@ -16,8 +16,8 @@ returns-in_default-clause-event c = clean_refused c.args.self.now c.args.worker 
 
 pub invariant_of-self : goal.invariant_of-self
 invariant_of-self c =
-    let old : World = world_of c.self.inside.stack c.self.inside.flow c.self.inside.workers c.self.inside.contexts c.self.inside.totals in
-    let new : World = world_of c.self.inside.stack c.self.inside.flow c.put.new.workers c.cleaned.new.self c.add_total.new.totals in
+    let old : World = world_of c.self.inside.stack c.self.inside.flow c.self.inside.workers c.self.inside.contexts c.self.inside.totals c.self.inside.files in
+    let new : World = world_of c.self.inside.stack c.self.inside.flow c.put.new.workers c.cleaned.new.self c.add_total.new.totals c.self.inside.files in
     let named = subst (λ (w : World). cleanup_of (worker_at w.workers c.args.worker) ≡ Some c.in-Some.context) (sym c.self.view_is)
     (ap cleanup_of (sym c.place.ensures) ∙ sym c.cleanup_of.ensures ∙ c.in-Some.is) in
     let at = cleanup_is (worker_at old.workers c.args.worker) c.in-Some.context named in
@@ -34,8 +34,8 @@ invariant_of-self c =
 
 pub returns-clause-event : goal.returns-clause-event
 returns-clause-event c =
-    let old : World = world_of c.self.inside.stack c.self.inside.flow c.self.inside.workers c.self.inside.contexts c.self.inside.totals in
-    let new : World = world_of c.self.inside.stack c.self.inside.flow c.put.new.workers c.cleaned.new.self c.add_total.new.totals in
+    let old : World = world_of c.self.inside.stack c.self.inside.flow c.self.inside.workers c.self.inside.contexts c.self.inside.totals c.self.inside.files in
+    let new : World = world_of c.self.inside.stack c.self.inside.flow c.put.new.workers c.cleaned.new.self c.add_total.new.totals c.self.inside.files in
     let named = subst (λ (w : World). cleanup_of (worker_at w.workers c.args.worker) ≡ Some c.in-Some.context) (sym c.self.view_is)
     (ap cleanup_of (sym c.place.ensures) ∙ sym c.cleanup_of.ensures ∙ c.in-Some.is) in
     let at = cleanup_is (worker_at old.workers c.args.worker) c.in-Some.context named in

@@ -8,7 +8,7 @@ use Rattle.fm_core.proofs.state.State.collect.Goals as goal
 
 pub invariant_of-self : goal.invariant_of-self
 invariant_of-self c =
-    let old : World = world_of c.self.inside.stack c.self.inside.flow c.self.inside.workers c.self.inside.contexts c.self.inside.totals in
+    let old : World = world_of c.self.inside.stack c.self.inside.flow c.self.inside.workers c.self.inside.contexts c.self.inside.totals c.self.inside.files in
     record {
       sound = collect_sound old c.args.operation c.collect.result (record old { flow = c.collect.new.self })
           (collects old c.args.operation c.collect.result c.collect.new.self c.collect.ensures.reply c.collect.ensures.after) c.self.invariant.sound;
@@ -17,7 +17,7 @@ invariant_of-self c =
 
 pub returns-clause-event : goal.returns-clause-event
 returns-clause-event c =
-    let old : World = world_of c.self.inside.stack c.self.inside.flow c.self.inside.workers c.self.inside.contexts c.self.inside.totals in
+    let old : World = world_of c.self.inside.stack c.self.inside.flow c.self.inside.workers c.self.inside.contexts c.self.inside.totals c.self.inside.files in
     let new : World = record old { flow = c.collect.new.self } in
     subst (λ (w : World). Collects w c.args.operation c.collect.result new) c.self.view_is
     (collects old c.args.operation c.collect.result c.collect.new.self c.collect.ensures.reply c.collect.ensures.after)

@@ -13,21 +13,21 @@ use Rattle.fm_core.proofs.state.State.drain_returned.Goals as goal
 
 pub drain_returned-requires : goal.drain_returned-requires
 drain_returned-requires c =
-    let old : World = world_of c.self.inside.stack c.self.inside.flow c.self.inside.workers c.self.inside.contexts c.self.inside.totals in
+    let old : World = world_of c.self.inside.stack c.self.inside.flow c.self.inside.workers c.self.inside.contexts c.self.inside.totals c.self.inside.files in
     let is = drain_is (worker_at c.args.self.now.workers c.args.worker) (c.args.operation, c.args.instance) c.requires in
     let at = subst (λ (w : World). worker_at w.workers c.args.worker ≡ Some (place.Drain c.args.operation c.args.instance)) (sym c.self.view_is) is in
     stands_from c.args.operation old.flow (InDrain c.args.instance) (in_drain old c.args.worker c.args.operation c.args.instance c.self.invariant.sound at)
 
 pub end_callback-requires-clause-within : goal.end_callback-requires-clause-within
 end_callback-requires-clause-within c =
-    let old : World = world_of c.self.inside.stack c.self.inside.flow c.self.inside.workers c.self.inside.contexts c.self.inside.totals in
+    let old : World = world_of c.self.inside.stack c.self.inside.flow c.self.inside.workers c.self.inside.contexts c.self.inside.totals c.self.inside.files in
     let is = drain_is (worker_at c.args.self.now.workers c.args.worker) (c.args.operation, c.args.instance) c.requires in
     let at = subst (λ (w : World). worker_at w.workers c.args.worker ≡ Some (place.Drain c.args.operation c.args.instance)) (sym c.self.view_is) is in
     subst (λ n. c.args.worker.0 < n) c.self.invariant.sound.under_way.hands (slice_get_within old.workers c.args.worker.0 (place.Drain c.args.operation c.args.instance) at)
 
 pub invariant_of-self : goal.invariant_of-self
 invariant_of-self c =
-    let old : World = world_of c.self.inside.stack c.self.inside.flow c.self.inside.workers c.self.inside.contexts c.self.inside.totals in
+    let old : World = world_of c.self.inside.stack c.self.inside.flow c.self.inside.workers c.self.inside.contexts c.self.inside.totals c.self.inside.files in
     let is = drain_is (worker_at c.args.self.now.workers c.args.worker) (c.args.operation, c.args.instance) c.requires in
     let at = subst (λ (w : World). worker_at w.workers c.args.worker ≡ Some (place.Drain c.args.operation c.args.instance)) (sym c.self.view_is) is in
     let sent = drain_sent old c.args.worker c.args.operation c.args.instance c.self.inside.contexts at c.self.invariant.sound c.self.invariant.tied in
@@ -43,7 +43,7 @@ invariant_of-self c =
 
 pub returns : goal.returns
 returns c =
-    let old : World = world_of c.self.inside.stack c.self.inside.flow c.self.inside.workers c.self.inside.contexts c.self.inside.totals in
+    let old : World = world_of c.self.inside.stack c.self.inside.flow c.self.inside.workers c.self.inside.contexts c.self.inside.totals c.self.inside.files in
     let is = drain_is (worker_at c.args.self.now.workers c.args.worker) (c.args.operation, c.args.instance) c.requires in
     let at = subst (λ (w : World). worker_at w.workers c.args.worker ≡ Some (place.Drain c.args.operation c.args.instance)) (sym c.self.view_is) is in
     let sent = drain_sent old c.args.worker c.args.operation c.args.instance c.self.inside.contexts at c.self.invariant.sound c.self.invariant.tied in

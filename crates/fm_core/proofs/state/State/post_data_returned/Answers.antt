@@ -17,21 +17,21 @@ use Rattle.fm_core.proofs.state.State.post_data_returned.Goals as goal
 
 pub post_returned-answer-requires : goal.post_returned-answer-requires
 post_returned-answer-requires c =
-    let old : World = world_of c.self.inside.stack c.self.inside.flow c.self.inside.workers c.self.inside.contexts c.self.inside.totals in
+    let old : World = world_of c.self.inside.stack c.self.inside.flow c.self.inside.workers c.self.inside.contexts c.self.inside.totals c.self.inside.files in
     let is = post_is (worker_at c.args.self.now.workers c.args.worker) (c.args.operation, c.args.instance) c.requires in
     let at = subst (λ (w : World). worker_at w.workers c.args.worker ≡ Some (place.Post c.args.operation c.args.instance)) (sym c.self.view_is) is in
     stands_from c.args.operation old.flow PostRunning (in_post old c.args.worker c.args.operation c.args.instance c.self.invariant.sound at)
 
 pub end_callback-requires-clause-within : goal.end_callback-requires-clause-within
 end_callback-requires-clause-within c =
-    let old : World = world_of c.self.inside.stack c.self.inside.flow c.self.inside.workers c.self.inside.contexts c.self.inside.totals in
+    let old : World = world_of c.self.inside.stack c.self.inside.flow c.self.inside.workers c.self.inside.contexts c.self.inside.totals c.self.inside.files in
     let is = post_is (worker_at c.args.self.now.workers c.args.worker) (c.args.operation, c.args.instance) c.requires in
     let at = subst (λ (w : World). worker_at w.workers c.args.worker ≡ Some (place.Post c.args.operation c.args.instance)) (sym c.self.view_is) is in
     subst (λ n. c.args.worker.0 < n) c.self.invariant.sound.under_way.hands (slice_get_within old.workers c.args.worker.0 (place.Post c.args.operation c.args.instance) at)
 
 pub invariant_of-self : goal.invariant_of-self
 invariant_of-self c =
-    let old : World = world_of c.self.inside.stack c.self.inside.flow c.self.inside.workers c.self.inside.contexts c.self.inside.totals in
+    let old : World = world_of c.self.inside.stack c.self.inside.flow c.self.inside.workers c.self.inside.contexts c.self.inside.totals c.self.inside.files in
     let is = post_is (worker_at c.args.self.now.workers c.args.worker) (c.args.operation, c.args.instance) c.requires in
     let at = subst (λ (w : World). worker_at w.workers c.args.worker ≡ Some (place.Post c.args.operation c.args.instance)) (sym c.self.view_is) is in
     let ends = subst (λ b. EndsWhere b c.self.inside.contexts None c.end_callback.new.contexts c.args.worker.0) c.is_ok.ensures.value c.end_callback.ensures in
@@ -51,7 +51,7 @@ invariant_of-self c =
 
 pub returns-clause-event : goal.returns-clause-event
 returns-clause-event c =
-    let old : World = world_of c.self.inside.stack c.self.inside.flow c.self.inside.workers c.self.inside.contexts c.self.inside.totals in
+    let old : World = world_of c.self.inside.stack c.self.inside.flow c.self.inside.workers c.self.inside.contexts c.self.inside.totals c.self.inside.files in
     let is = post_is (worker_at c.args.self.now.workers c.args.worker) (c.args.operation, c.args.instance) c.requires in
     let at = subst (λ (w : World). worker_at w.workers c.args.worker ≡ Some (place.Post c.args.operation c.args.instance)) (sym c.self.view_is) is in
     let ends = subst (λ b. EndsWhere b c.self.inside.contexts None c.end_callback.new.contexts c.args.worker.0) c.is_ok.ensures.value c.end_callback.ensures in

@@ -1,5 +1,6 @@
 use Rattle.std.proofs.Common.{◌≡◌, ◌<◌, Some, refl, sym, ◌∙◌, subst, ap}
-use Rattle.std.specs.Prelude.{IfErr}
+use Rattle.std.specs.Prelude.{IfErr, is_ok, cond}
+use Rattle.fm_core.specs.Targets.{decided}
 use Rattle.std.proofs.lemmas.Option.{slice_get_within}
 use Rattle.fm_data.specs.Data.{data_fits}
 use Rattle.fm_flow.specs.Verdict.{is_counted}
@@ -24,7 +25,7 @@ returns-in_default-clause-event c =
 
 pub of_hand-verdict-requires : goal.of_hand-verdict-requires
 of_hand-verdict-requires c =
-    let old : World = world_of c.self.inside.stack c.self.inside.flow c.self.inside.workers c.self.inside.contexts c.self.inside.totals in
+    let old : World = world_of c.self.inside.stack c.self.inside.flow c.self.inside.workers c.self.inside.contexts c.self.inside.totals c.self.inside.files in
     let is = pre_is (worker_at c.args.self.now.workers c.args.worker) (c.in-Some.operation, c.in-Some.instance) (ap pre_of (sym c.place.ensures) ∙ sym c.pre_of.ensures ∙ c.in-Some.is) in
     let at = subst (λ (w : World). worker_at w.workers c.args.worker ≡ Some (place.Pre c.in-Some.operation c.in-Some.instance)) (sym c.self.view_is) is in
     subst (λ n. c.args.worker.0 < n) c.self.invariant.sound.under_way.hands
@@ -32,14 +33,14 @@ of_hand-verdict-requires c =
 
 pub pre_returned-answer-requires-clause-stage : goal.pre_returned-answer-requires-clause-stage
 pre_returned-answer-requires-clause-stage c =
-    let old : World = world_of c.self.inside.stack c.self.inside.flow c.self.inside.workers c.self.inside.contexts c.self.inside.totals in
+    let old : World = world_of c.self.inside.stack c.self.inside.flow c.self.inside.workers c.self.inside.contexts c.self.inside.totals c.self.inside.files in
     let is = pre_is (worker_at c.args.self.now.workers c.args.worker) (c.in-Some.operation, c.in-Some.instance) (ap pre_of (sym c.place.ensures) ∙ sym c.pre_of.ensures ∙ c.in-Some.is) in
     let at = subst (λ (w : World). worker_at w.workers c.args.worker ≡ Some (place.Pre c.in-Some.operation c.in-Some.instance)) (sym c.self.view_is) is in
     stands_from c.in-Some.operation old.flow PreRunning (in_pre old c.args.worker c.in-Some.operation c.in-Some.instance c.self.invariant.sound at)
 
 pub pre_returned-answer-requires-clause-counted : goal.pre_returned-answer-requires-clause-counted
 pre_returned-answer-requires-clause-counted c =
-    let old : World = world_of c.self.inside.stack c.self.inside.flow c.self.inside.workers c.self.inside.contexts c.self.inside.totals in
+    let old : World = world_of c.self.inside.stack c.self.inside.flow c.self.inside.workers c.self.inside.contexts c.self.inside.totals c.self.inside.files in
     let is = pre_is (worker_at c.args.self.now.workers c.args.worker) (c.in-Some.operation, c.in-Some.instance) (ap pre_of (sym c.place.ensures) ∙ sym c.pre_of.ensures ∙ c.in-Some.is) in
     let at = subst (λ (w : World). worker_at w.workers c.args.worker ≡ Some (place.Pre c.in-Some.operation c.in-Some.instance)) (sym c.self.view_is) is in
     let state = pre_state old c.args.worker c.in-Some.operation c.in-Some.instance c.args.verdict c.of_hand-verdict.result c.state_given-state.result c.of_hand-verdict.ensures c.state_given-state.ensures in
@@ -48,7 +49,7 @@ pre_returned-answer-requires-clause-counted c =
 
 pub end_callback-requires-clause-within : goal.end_callback-requires-clause-within
 end_callback-requires-clause-within c =
-    let old : World = world_of c.self.inside.stack c.self.inside.flow c.self.inside.workers c.self.inside.contexts c.self.inside.totals in
+    let old : World = world_of c.self.inside.stack c.self.inside.flow c.self.inside.workers c.self.inside.contexts c.self.inside.totals c.self.inside.files in
     let is = pre_is (worker_at c.args.self.now.workers c.args.worker) (c.in-Some.operation, c.in-Some.instance) (ap pre_of (sym c.place.ensures) ∙ sym c.pre_of.ensures ∙ c.in-Some.is) in
     let at = subst (λ (w : World). worker_at w.workers c.args.worker ≡ Some (place.Pre c.in-Some.operation c.in-Some.instance)) (sym c.self.view_is) is in
     subst (λ n. c.args.worker.0 < n) c.self.invariant.sound.under_way.hands
@@ -56,7 +57,7 @@ end_callback-requires-clause-within c =
 
 pub end_callback-requires-clause-sends : goal.end_callback-requires-clause-sends
 end_callback-requires-clause-sends c =
-    let old : World = world_of c.self.inside.stack c.self.inside.flow c.self.inside.workers c.self.inside.contexts c.self.inside.totals in
+    let old : World = world_of c.self.inside.stack c.self.inside.flow c.self.inside.workers c.self.inside.contexts c.self.inside.totals c.self.inside.files in
     let is = pre_is (worker_at c.args.self.now.workers c.args.worker) (c.in-Some.operation, c.in-Some.instance) (ap pre_of (sym c.place.ensures) ∙ sym c.pre_of.ensures ∙ c.in-Some.is) in
     let at = subst (λ (w : World). worker_at w.workers c.args.worker ≡ Some (place.Pre c.in-Some.operation c.in-Some.instance)) (sym c.self.view_is) is in
     let state = pre_state old c.args.worker c.in-Some.operation c.in-Some.instance c.args.verdict c.of_hand-verdict.result c.state_given-state.result c.of_hand-verdict.ensures c.state_given-state.ensures in
@@ -65,7 +66,7 @@ end_callback-requires-clause-sends c =
 
 pub invariant_of-self : goal.invariant_of-self
 invariant_of-self c =
-    let old : World = world_of c.self.inside.stack c.self.inside.flow c.self.inside.workers c.self.inside.contexts c.self.inside.totals in
+    let old : World = world_of c.self.inside.stack c.self.inside.flow c.self.inside.workers c.self.inside.contexts c.self.inside.totals c.self.inside.files in
     let is = pre_is (worker_at c.args.self.now.workers c.args.worker) (c.in-Some.operation, c.in-Some.instance) (ap pre_of (sym c.place.ensures) ∙ sym c.pre_of.ensures ∙ c.in-Some.is) in
     let at = subst (λ (w : World). worker_at w.workers c.args.worker ≡ Some (place.Pre c.in-Some.operation c.in-Some.instance)) (sym c.self.view_is) is in
     let state = pre_state old c.args.worker c.in-Some.operation c.in-Some.instance c.args.verdict c.of_hand-verdict.result c.state_given-state.result c.of_hand-verdict.ensures c.state_given-state.ensures in
@@ -74,12 +75,14 @@ invariant_of-self c =
     let sent = pre_sent old c.args.worker c.in-Some.operation c.in-Some.instance c.args.verdict c.args.lent c.state_given-state.result c.self.inside.contexts at c.self.invariant.sound state refl
     c.laws.ensures.matched c.self.invariant.tied in
     let workers = c.note_return.ensures ∙ ap (after_return old.workers c.args.worker) c.is_ok-2.ensures.value in
-    let new : World = record old { flow = c.pre_returned-answer.new.self; workers = c.note_return.new.workers; contexts = c.end_callback.new.contexts.table } in
+    let files = c.note_verdict.ensures ∙ ap (λ b. cond b (decided c.pre_returned-answer.new.self c.state_given-state.result c.target_of-target.result old.files) old.files) c.is_ok-3.ensures.value
+    ∙ ap (λ x. cond (is_ok c.pre_returned-answer.result) (decided c.pre_returned-answer.new.self c.state_given-state.result x old.files) old.files) c.target_of-target.ensures in
+    let new : World = record old { flow = c.pre_returned-answer.new.self; workers = c.note_return.new.workers; contexts = c.end_callback.new.contexts.table; files = c.note_verdict.new.files.table } in
     record {
       sound = pre_sound old c.args.worker c.args.verdict c.args.lent (status_of (strange c.pre_returned-answer.result)) new
           (pre_returns old c.args.worker c.in-Some.operation c.in-Some.instance c.args.verdict c.args.lent c.state_given-state.result c.pre_returned-answer.result
-          c.pre_returned-answer.new.self c.note_return.new.workers c.self.inside.contexts c.end_callback.new.contexts at c.self.invariant.sound state
-          c.pre_returned-answer.ensures.reply c.pre_returned-answer.ensures.after workers refl ends sent)
+          c.pre_returned-answer.new.self c.note_return.new.workers c.self.inside.contexts c.end_callback.new.contexts c.note_verdict.new.files.table at c.self.invariant.sound state
+          c.pre_returned-answer.ensures.reply c.pre_returned-answer.ensures.after workers refl ends sent files)
           c.self.invariant.sound;
       tied = pre_tied old c.args.worker c.in-Some.operation c.in-Some.instance c.args.lent c.state_given-state.result c.pre_returned-answer.result c.pre_returned-answer.new.self
           c.self.inside.contexts c.end_callback.new.contexts at c.self.invariant.sound c.pre_returned-answer.ensures.reply c.pre_returned-answer.ensures.after ends sent
@@ -88,7 +91,7 @@ invariant_of-self c =
 
 pub returns-clause-event : goal.returns-clause-event
 returns-clause-event c =
-    let old : World = world_of c.self.inside.stack c.self.inside.flow c.self.inside.workers c.self.inside.contexts c.self.inside.totals in
+    let old : World = world_of c.self.inside.stack c.self.inside.flow c.self.inside.workers c.self.inside.contexts c.self.inside.totals c.self.inside.files in
     let is = pre_is (worker_at c.args.self.now.workers c.args.worker) (c.in-Some.operation, c.in-Some.instance) (ap pre_of (sym c.place.ensures) ∙ sym c.pre_of.ensures ∙ c.in-Some.is) in
     let at = subst (λ (w : World). worker_at w.workers c.args.worker ≡ Some (place.Pre c.in-Some.operation c.in-Some.instance)) (sym c.self.view_is) is in
     let state = pre_state old c.args.worker c.in-Some.operation c.in-Some.instance c.args.verdict c.of_hand-verdict.result c.state_given-state.result c.of_hand-verdict.ensures c.state_given-state.ensures in
@@ -97,12 +100,14 @@ returns-clause-event c =
     let sent = pre_sent old c.args.worker c.in-Some.operation c.in-Some.instance c.args.verdict c.args.lent c.state_given-state.result c.self.inside.contexts at c.self.invariant.sound state refl
     c.laws.ensures.matched c.self.invariant.tied in
     let workers = c.note_return.ensures ∙ ap (after_return old.workers c.args.worker) c.is_ok-2.ensures.value in
-    let new : World = record old { flow = c.pre_returned-answer.new.self; workers = c.note_return.new.workers; contexts = c.end_callback.new.contexts.table } in
+    let files = c.note_verdict.ensures ∙ ap (λ b. cond b (decided c.pre_returned-answer.new.self c.state_given-state.result c.target_of-target.result old.files) old.files) c.is_ok-3.ensures.value
+    ∙ ap (λ x. cond (is_ok c.pre_returned-answer.result) (decided c.pre_returned-answer.new.self c.state_given-state.result x old.files) old.files) c.target_of-target.ensures in
+    let new : World = record old { flow = c.pre_returned-answer.new.self; workers = c.note_return.new.workers; contexts = c.end_callback.new.contexts.table; files = c.note_verdict.new.files.table } in
     subst (λ x. PreReturns c.args.self.now c.args.worker c.args.verdict c.args.lent (status_of x) new) (sym c.answer_strange.ensures)
     (subst (λ (w : World). PreReturns w c.args.worker c.args.verdict c.args.lent (status_of (strange c.pre_returned-answer.result)) new) c.self.view_is
     (pre_returns old c.args.worker c.in-Some.operation c.in-Some.instance c.args.verdict c.args.lent c.state_given-state.result c.pre_returned-answer.result
-    c.pre_returned-answer.new.self c.note_return.new.workers c.self.inside.contexts c.end_callback.new.contexts at c.self.invariant.sound state
-    c.pre_returned-answer.ensures.reply c.pre_returned-answer.ensures.after workers refl ends sent))
+    c.pre_returned-answer.new.self c.note_return.new.workers c.self.inside.contexts c.end_callback.new.contexts c.note_verdict.new.files.table at c.self.invariant.sound state
+    c.pre_returned-answer.ensures.reply c.pre_returned-answer.ensures.after workers refl ends sent files))
 
 pub returns-clause-back : goal.returns-clause-back
 returns-clause-back c =

@@ -21,7 +21,7 @@ returns-in_default-clause-event c =
 
 pub settable-requires : goal.settable-requires
 settable-requires c =
-    let old : World = world_of c.self.inside.stack c.self.inside.flow c.self.inside.workers c.self.inside.contexts c.self.inside.totals in
+    let old : World = world_of c.self.inside.stack c.self.inside.flow c.self.inside.workers c.self.inside.contexts c.self.inside.totals c.self.inside.files in
     let is = subst (λ (w : World). option_map caller_of (callback_of w c.args.worker) ≡ Some c.in-Some.caller) (sym c.self.view_is) (sym c.caller.ensures ∙ c.in-Some.is) in
     let at = called old c.args.worker c.in-Some.caller is in
     (is_in old c.args.worker at.0 c.self.invariant.sound at.1).worker
@@ -32,14 +32,14 @@ returns-in-Err-clause-event c =
 
 pub set-reply-requires-clause-within : goal.set-reply-requires-clause-within
 set-reply-requires-clause-within c =
-    let old : World = world_of c.self.inside.stack c.self.inside.flow c.self.inside.workers c.self.inside.contexts c.self.inside.totals in
+    let old : World = world_of c.self.inside.stack c.self.inside.flow c.self.inside.workers c.self.inside.contexts c.self.inside.totals c.self.inside.files in
     let is = subst (λ (w : World). option_map caller_of (callback_of w c.args.worker) ≡ Some c.in-Some.caller) (sym c.self.view_is) (sym c.caller.ensures ∙ c.in-Some.is) in
     let at = called old c.args.worker c.in-Some.caller is in
     (is_in old c.args.worker at.0 c.self.invariant.sound at.1).worker
 
 pub invariant_of-self : goal.invariant_of-self
 invariant_of-self c =
-    let old : World = world_of c.self.inside.stack c.self.inside.flow c.self.inside.workers c.self.inside.contexts c.self.inside.totals in
+    let old : World = world_of c.self.inside.stack c.self.inside.flow c.self.inside.workers c.self.inside.contexts c.self.inside.totals c.self.inside.files in
     let is = subst (λ (w : World). option_map caller_of (callback_of w c.args.worker) ≡ Some c.in-Some.caller) (sym c.self.view_is) (sym c.caller.ensures ∙ c.in-Some.is) in
     let able = subst (λ (w : World). IsSettable w c.args.worker c.args.context c.in-Some.caller c.in-Ok.found) (sym c.self.view_is) c.in-Ok.ensures in
     record {
@@ -52,7 +52,7 @@ invariant_of-self c =
 
 pub returns-clause-event : goal.returns-clause-event
 returns-clause-event c =
-    let old : World = world_of c.self.inside.stack c.self.inside.flow c.self.inside.workers c.self.inside.contexts c.self.inside.totals in
+    let old : World = world_of c.self.inside.stack c.self.inside.flow c.self.inside.workers c.self.inside.contexts c.self.inside.totals c.self.inside.files in
     let is = subst (λ (w : World). option_map caller_of (callback_of w c.args.worker) ≡ Some c.in-Some.caller) (sym c.self.view_is) (sym c.caller.ensures ∙ c.in-Some.is) in
     let able = subst (λ (w : World). IsSettable w c.args.worker c.args.context c.in-Some.caller c.in-Ok.found) (sym c.self.view_is) c.in-Ok.ensures in
     subst (λ (w : World). Sets w c.args.worker c.args.context c.args.mode c.args.wants_old c.set_answer.result (record old { contexts = c.set-reply.new.self.table })) c.self.view_is

@@ -19,21 +19,21 @@ returns-in_default-clause-event c =
 
 pub leave-requires : goal.leave-requires
 leave-requires c =
-    let old : World = world_of c.self.inside.stack c.self.inside.flow c.self.inside.workers c.self.inside.contexts c.self.inside.totals in
+    let old : World = world_of c.self.inside.stack c.self.inside.flow c.self.inside.workers c.self.inside.contexts c.self.inside.totals c.self.inside.files in
     let is = setup_is (worker_at c.args.self.now.workers c.args.worker) c.in-Some.instance (ap setup_of (sym c.place.ensures) ∙ sym c.setup_of.ensures ∙ c.in-Some.is) in
     let at = subst (λ (w : World). worker_at w.workers c.args.worker ≡ Some (place.Setup c.in-Some.instance)) (sym c.self.view_is) is in
     subst (λ n. c.args.worker.0 < n) c.self.invariant.sound.under_way.hands (slice_get_within old.workers c.args.worker.0 (place.Setup c.in-Some.instance) at)
 
 pub setup_done-result-requires : goal.setup_done-result-requires
 setup_done-result-requires c =
-    let old : World = world_of c.self.inside.stack c.self.inside.flow c.self.inside.workers c.self.inside.contexts c.self.inside.totals in
+    let old : World = world_of c.self.inside.stack c.self.inside.flow c.self.inside.workers c.self.inside.contexts c.self.inside.totals c.self.inside.files in
     let is = setup_is (worker_at c.args.self.now.workers c.args.worker) c.in-Some.instance (ap setup_of (sym c.place.ensures) ∙ sym c.setup_of.ensures ∙ c.in-Some.is) in
     let at = subst (λ (w : World). worker_at w.workers c.args.worker ≡ Some (place.Setup c.in-Some.instance)) (sym c.self.view_is) is in
     setup_at (slice_get old.stack.instances c.in-Some.instance.0) (setup_place old c.args.worker c.in-Some.instance c.self.invariant.sound.under_way at)
 
 pub invariant_of-self : goal.invariant_of-self
 invariant_of-self c =
-    let old : World = world_of c.self.inside.stack c.self.inside.flow c.self.inside.workers c.self.inside.contexts c.self.inside.totals in
+    let old : World = world_of c.self.inside.stack c.self.inside.flow c.self.inside.workers c.self.inside.contexts c.self.inside.totals c.self.inside.files in
     let new : World = record old { stack = c.setup_done-result.new.self; workers = c.put.new.workers; contexts = c.unlink_unless.new.contexts.table } in
     let is = setup_is (worker_at c.args.self.now.workers c.args.worker) c.in-Some.instance (ap setup_of (sym c.place.ensures) ∙ sym c.setup_of.ensures ∙ c.in-Some.is) in
     let at = subst (λ (w : World). worker_at w.workers c.args.worker ≡ Some (place.Setup c.in-Some.instance)) (sym c.self.view_is) is in
@@ -49,7 +49,7 @@ invariant_of-self c =
 
 pub returns-clause-event : goal.returns-clause-event
 returns-clause-event c =
-    let old : World = world_of c.self.inside.stack c.self.inside.flow c.self.inside.workers c.self.inside.contexts c.self.inside.totals in
+    let old : World = world_of c.self.inside.stack c.self.inside.flow c.self.inside.workers c.self.inside.contexts c.self.inside.totals c.self.inside.files in
     let new : World = record old { stack = c.setup_done-result.new.self; workers = c.put.new.workers; contexts = c.unlink_unless.new.contexts.table } in
     let is = setup_is (worker_at c.args.self.now.workers c.args.worker) c.in-Some.instance (ap setup_of (sym c.place.ensures) ∙ sym c.setup_of.ensures ∙ c.in-Some.is) in
     let at = subst (λ (w : World). worker_at w.workers c.args.worker ≡ Some (place.Setup c.in-Some.instance)) (sym c.self.view_is) is in

@@ -16,14 +16,14 @@ returns-then-not-is_idle-clause-event c = due_refused c.args.self.now c.args.wor
 
 pub take_due-due-requires-clause-within : goal.take_due-due-requires-clause-within
 take_due-due-requires-clause-within c =
-    let old : World = world_of c.self.inside.stack c.self.inside.flow c.self.inside.workers c.self.inside.contexts c.self.inside.totals in
+    let old : World = world_of c.self.inside.stack c.self.inside.flow c.self.inside.workers c.self.inside.contexts c.self.inside.totals c.self.inside.files in
     let idle = subst (λ (w : World). is_idle (worker_at w.workers c.args.worker) ≡ true) (sym c.self.view_is) (sym c.is_idle.ensures ∙ c.if-not-is_idle.false) in
     subst (λ n. c.args.worker.0 < n) c.self.invariant.sound.under_way.hands (slice_get_within old.workers c.args.worker.0 Idle (idle_there old.workers c.args.worker idle))
 
 pub invariant_of-self : goal.invariant_of-self
 invariant_of-self c =
-    let old : World = world_of c.self.inside.stack c.self.inside.flow c.self.inside.workers c.self.inside.contexts c.self.inside.totals in
-    let new : World = world_of c.self.inside.stack c.self.inside.flow c.note_due.new.workers c.take_due-due.new.self c.self.inside.totals in
+    let old : World = world_of c.self.inside.stack c.self.inside.flow c.self.inside.workers c.self.inside.contexts c.self.inside.totals c.self.inside.files in
+    let new : World = world_of c.self.inside.stack c.self.inside.flow c.note_due.new.workers c.take_due-due.new.self c.self.inside.totals c.self.inside.files in
     let idle = subst (λ (w : World). is_idle (worker_at w.workers c.args.worker) ≡ true) (sym c.self.view_is) (sym c.is_idle.ensures ∙ c.if-not-is_idle.false) in
     let sound = c.self.invariant.sound in
     let event : TakesDue old c.args.worker (Ok c.take_due-due.result) new =
@@ -36,8 +36,8 @@ invariant_of-self c =
 
 pub returns-clause-event : goal.returns-clause-event
 returns-clause-event c =
-    let old : World = world_of c.self.inside.stack c.self.inside.flow c.self.inside.workers c.self.inside.contexts c.self.inside.totals in
-    let new : World = world_of c.self.inside.stack c.self.inside.flow c.note_due.new.workers c.take_due-due.new.self c.self.inside.totals in
+    let old : World = world_of c.self.inside.stack c.self.inside.flow c.self.inside.workers c.self.inside.contexts c.self.inside.totals c.self.inside.files in
+    let new : World = world_of c.self.inside.stack c.self.inside.flow c.note_due.new.workers c.take_due-due.new.self c.self.inside.totals c.self.inside.files in
     let idle = subst (λ (w : World). is_idle (worker_at w.workers c.args.worker) ≡ true) (sym c.self.view_is) (sym c.is_idle.ensures ∙ c.if-not-is_idle.false) in
     subst (λ (w : World). TakesDue w c.args.worker (Ok c.take_due-due.result) new) c.self.view_is
     (due_taken old c.args.worker c.self.inside.contexts c.take_due-due.new.self c.note_due.new.workers c.take_due-due.result idle (λ d. due_there d c.self.invariant.sound.owned.lawful)

@@ -18,7 +18,7 @@ base_returned-requires c =
 pub invariant_of-self : goal.invariant_of-self
 invariant_of-self c =
     let there = standing c.args.number _ c.self.inside.operations.items c.place_of.result c.in-Some.place c.index_mut-operation.result.now c.place_of.ensures c.deref.ensures.value c.in-Some.is in
-    flow_set (base_after c.args.call c.args.answer) c.args.number _ c.in-Some.place c.index_mut-operation.result.now c.base_returned.new.self there c.index_mut-operation.ensures.value c.base_returned.ensures.after c.self.invariant (base_stays c.args.call c.args.answer) (sound_base_after c.args.call c.args.answer c.index_mut-operation.result.now (said_there (StandsAt InBase) c.args.number _ c.args.self.now c.in-Some.place c.index_mut-operation.result.now c.self.view_is there c.index_mut-operation.ensures.value c.requires))
+    flow_set (base_after c.args.call c.args.answer c.args.handle) c.args.number _ c.in-Some.place c.index_mut-operation.result.now c.base_returned.new.self there c.index_mut-operation.ensures.value c.base_returned.ensures.after c.self.invariant (base_stays c.args.call c.args.answer c.args.handle) (sound_base_after c.args.call c.args.answer c.args.handle c.index_mut-operation.result.now (said_there (StandsAt InBase) c.args.number _ c.args.self.now c.in-Some.place c.index_mut-operation.result.now c.self.view_is there c.index_mut-operation.ensures.value c.requires))
 
 pub returns-clause-reply : goal.returns-clause-reply
 returns-clause-reply c =
@@ -28,4 +28,4 @@ returns-clause-reply c =
 pub returns-clause-after : goal.returns-clause-after
 returns-clause-after c =
     let there = standing c.args.number _ c.self.inside.operations.items c.place_of.result c.in-Some.place c.index_mut-operation.result.now c.place_of.ensures c.deref.ensures.value c.in-Some.is in
-    changed_some (base_after c.args.call c.args.answer) c.args.number _ c.args.self.now c.in-Some.place c.index_mut-operation.result.now c.base_returned.new.self c.self.view_is there c.index_mut-operation.ensures.value c.base_returned.ensures.after
+    changed_some (base_after c.args.call c.args.answer c.args.handle) c.args.number _ c.args.self.now c.in-Some.place c.index_mut-operation.result.now c.base_returned.new.self c.self.view_is there c.index_mut-operation.ensures.value c.base_returned.ensures.after

@@ -1,0 +1,72 @@
+-- What an operation is on, and what an answer to it makes of streams and handles.
+use Rattle.std.specs.Prelude.{◌≡◌, ◌<◌, ◌-◌, ◌^◌, Bool, true, false, ◌&&◌, length, Option, Some, None, Result, Ok}
+use Rattle.fm_types.specs.declared.operation.Operation.{Operation}
+use Rattle.fm_types.specs.declared.operation.Operation.TheVariants as kind
+use Rattle.fm_flow.specs.declared.action.Below.{Below}
+use Rattle.fm_flow.specs.declared.action.Below.TheVariants as below
+use Rattle.fm_flow.specs.declared.action.FlowAction.{FlowAction}
+use Rattle.fm_flow.specs.declared.action.FlowAction.TheVariants as action
+use Rattle.fm_flow.specs.declared.entry.PreState.TheVariants as state
+use Rattle.fm_types.specs.declared.status.Status.{Status}
+use Rattle.fm_flow.specs.Answered.{is_success}
+use Rattle.fm_flow.specs.Creates.{is_create}
+use Rattle.fm_flow.specs.Record.{FlowRecord}
+use Rattle.fm_flow.specs.Table.{FlowTable, operation_at}
+use Rattle.fm_types.specs.declared.ids.OpId.{OpId}
+use Rattle.fm_types.specs.declared.ids.StreamId.{StreamId}
+use Rattle.fm_world.specs.declared.file.FileStream.{FileStream}
+use Rattle.fm_world.specs.World.{World}
+use Rattle.fm_flow.specs.declared.entry.PreState.{PreState}
+use Rattle.fm_world.specs.Files.{FileTable, stream_at, after_base, after_pre}
+use Rattle.fm_world.specs.Events.{is_created_on}
+use Rattle.fm_core.specs.declared.target.Target.{Target}
+
+abbrev pub target_in : FlowRecord → Target
+target_in r = record { operation = r.operation; stream = r.stream; handle = r.handle }
+
+-- a success that gives a handle
+abbrev pub opens : Target → Status → Bool
+opens x status = is_create x.operation && is_success status
+
+-- after the base's answer to an operation, which is answered in that table
+abbrev pub answered : FlowTable → Status → Option Target → FileTable → FileTable
+answered t status None f = f
+answered t status (Some x) f = after_base x.operation x.stream x.handle status (is_created_on x.stream t) f
+
+-- after the verdict of a filter
+abbrev pub decided : FlowTable → PreState → Option Target → FileTable → FileTable
+decided t given None f = f
+decided t given (Some x) f = after_pre given x.operation x.stream (is_created_on x.stream t) f
+
+-- ---- answers
+
+-- the answer that `next` recorded without a call
+abbrev pub answer_known : Result FlowAction Status → Below → Option Status
+answer_known (Ok action.Moved) (below.Known status) = Some status
+answer_known _ _ = None
+
+abbrev pub after_answer : FileTable → FlowTable → Option Target → Option Status → FileTable
+after_answer f t x None = f
+after_answer f t x (Some status) = answered t status x f
+
+-- a handle that the answer gives has its room and its number
+abbrev pub HasRoom : FileTable → Option Target → Option Status → Type 0
+HasRoom f (Some x) (Some status) = opens x status ≡ true → (length f.handles < 4096) × (f.next < 2 ^ 64 - 1)
+HasRoom f _ _ = Unit {0}
+
+abbrev pub is_completed_create : PreState → Operation → Bool
+is_completed_create (state.Completed why) kind.Create = true
+is_completed_create _ _ = false
+
+-- ---- the file of an operation
+
+abbrev pub stream_if : Option StreamId → FileTable → Option FileStream
+stream_if None f = None
+stream_if (Some s) f = stream_at s f
+
+abbrev pub stream_in : Option FlowRecord → FileTable → Option FileStream
+stream_in None f = None
+stream_in (Some r) f = stream_if r.stream f
+
+abbrev pub file_in : World → OpId → Option FileStream
+file_in w o = stream_in (operation_at o w.flow) w.files

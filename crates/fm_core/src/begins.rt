@@ -1,0 +1,258 @@
+//! How operations begin.
+
+ghost use Rattle.std.specs.Prelude.{◌≡◌, ◌<◌, ◌||◌, ◌∷◌, false, cond, Some, None, MatchResult, OnErr, length};
+ghost use Rattle.fm_types.specs.Refusals.{first_of};
+ghost use Rattle.fm_stack.specs.Events.{is_mounted_phase};
+ghost use Rattle.fm_data.specs.Params.{operation_of};
+ghost use Rattle.fm_flow.specs.Creates.{is_create};
+ghost use Rattle.fm_flow.specs.Table.{is_full};
+ghost use Rattle.fm_world.specs.Requests.{phase_refusal};
+ghost use Rattle.fm_world.specs.Files.{created};
+ghost use Rattle.fm_world.specs.Events.{Begins, has_no_handle_left, moved_on, asked_refused, volume_refusals};
+ghost use Rattle.fm_world.specs.Hands.{KeepsHands};
+ghost use Rattle.fm_core.specs.Begun.{Asks, IsAsked, refusal_by};
+
+use crate::files::{Files, MAX_HANDLES};
+use crate::state::State;
+use fm_data::Params;
+use fm_flow::Flow;
+use fm_stack::VolumePhase;
+use fm_types::{CreateMode, HandleId, OpId, Operation, RelPath, Status, VolumeId};
+use fm_world::{Begin, FileHandle, HandlePhase};
+
+/// Whether a volume in that phase is in use.
+fn is_mounted(phase: VolumePhase) -> bool
+    ensures { result ≡ is_mounted_phase phase }
+{
+    matches!(phase, VolumePhase::Mounted)
+}
+
+/// What refuses an operation on a volume in that phase.
+fn refusal_by(phase: Option<VolumePhase>, is_too_many: bool) -> Option<Status>
+    ensures { result ≡ refusal_by phase is_too_many }
+{
+    match phase {
+        None => Some(Status::NoVolume),
+        Some(phase) if !is_mounted(phase) => Some(Status::Dismounting),
+        Some(_) if is_too_many => Some(Status::TooMany),
+        Some(_) => None,
+    }
+}
+
+/// What a handle's phase refuses.
+fn phase_refusal(flow: &Flow, operation: Operation, phase: HandlePhase) -> Option<Status>
+    ensures { result ≡ phase_refusal flow.now operation phase }
+{
+    match operation {
+        Operation::Cleanup => match phase {
+            HandlePhase::Open => None,
+            HandlePhase::CleaningUp(_) | HandlePhase::Closing => Some(Status::WrongStep),
+        },
+        Operation::Close => match phase {
+            HandlePhase::Open => Some(Status::WrongStep),
+            HandlePhase::CleaningUp(cleanup) => {
+                if flow.is_over(cleanup) {
+                    None
+                } else {
+                    Some(Status::WrongStep)
+                }
+            }
+            HandlePhase::Closing => Some(Status::NoHandle),
+        },
+        Operation::Create
+        | Operation::Read
+        | Operation::Write
+        | Operation::QuerySize
+        | Operation::SetSize
+        | Operation::Flush
+        | Operation::List
+        | Operation::SetDelete => match phase {
+            HandlePhase::Open => None,
+            HandlePhase::CleaningUp(_) | HandlePhase::Closing => Some(Status::NoHandle),
+        },
+    }
+}
+
+/// A create that began is on its path's stream.
+fn note_create(files: &mut Files, has_begun: bool, volume: VolumeId, path: RelPath, number: u64)
+    requires { length files.old.table.streams < files.old.room }
+    ensures { files.new.table ≡ cond has_begun (created volume path number files.old.table) files.old.table }
+{
+    if has_begun {
+        files.create(volume, path, number);
+    }
+}
+
+/// An operation that began on a handle moves the handle's end on, where it is a cleanup or a close.
+fn note_begin(
+    files: &mut Files,
+    has_begun: bool,
+    operation: Operation,
+    handle: HandleId,
+    number: u64,
+)
+    ensures { files.new.table ≡ cond has_begun (moved_on operation handle number files.old.table) files.old.table }
+{
+    if has_begun {
+        move_on(files, operation, handle, number);
+    }
+}
+
+fn move_on(files: &mut Files, operation: Operation, handle: HandleId, number: u64)
+    ensures { files.new.table ≡ moved_on operation handle number files.old.table }
+{
+    match operation {
+        Operation::Cleanup => files.set_phase(handle, HandlePhase::CleaningUp(OpId(number))),
+        Operation::Close => files.set_phase(handle, HandlePhase::Closing),
+        Operation::Create
+        | Operation::Read
+        | Operation::Write
+        | Operation::QuerySize
+        | Operation::SetSize
+        | Operation::Flush
+        | Operation::List
+        | Operation::SetDelete => {}
+    }
+}
+
+impl State {
+    /// Begins an operation, and takes all memory that it will ever need. It visits the instances that are attached now. Refused, nothing changed, in
+    /// this order: 32 where a length is above 32,768 bytes, or an end or a size above 2^40; 7 where the volume isn't there, or 14 where the handle isn't
+    /// open, is past its cleanup (for all but a close) or has begun its close; 30 for a second cleanup, and for a close before the cleanup is done;
+    /// 33 where the volume is dismounting; 29 at 256 operations that weren't collected, at 4,096 handles with those that creates under way may give,
+    /// and where numbers run out; 1.
+    pub fn begin(&mut self, what: Begin) -> Result<OpId, Status>
+        ensures event { Begins self.old what result self.new }
+        ensures hand { KeepsHands self.old self.new }
+    {
+        match what {
+            Begin::List { volume } => self.begin_list(volume),
+            Begin::Create { volume, path, mode } => self.begin_create(volume, path, mode),
+            Begin::OnHandle { handle, request } => self.begin_on(handle, request.into_params()),
+        }
+    }
+
+    /// What refuses an operation on a volume, before want of memory.
+    fn volume_refusal(&self, volume: VolumeId, is_too_many: bool) -> Option<Status>
+        ensures { result ≡ first_of (volume_refusals self.now volume is_too_many) }
+    {
+        refusal_by(self.stack.volume_phase(volume), is_too_many)
+    }
+
+    /// Begins a listing.
+    fn begin_list(&mut self, volume: VolumeId) -> Result<OpId, Status>
+        ensures { Begins self.old (Begin.List volume) result self.new }
+    {
+        if let Some(refusal) = self.volume_refusal(volume, self.flow.is_full()) {
+            return Err(refusal);
+        }
+        self.flow
+            .begin(volume, None, None, self.stack.births(), Params::List)
+    }
+
+    /// Whether a create has no room for its handle, or no number.
+    fn has_no_handle_left(&self) -> bool
+        ensures { result ≡ has_no_handle_left self.now }
+    {
+        self.files.handles() + self.flow.creates() >= MAX_HANDLES
+            || self.files.next_number() == u64::MAX
+    }
+
+    /// Whether no create can begin, whatever its volume.
+    fn takes_no_create(&self) -> bool
+        ensures { result ≡ (is_full self.now.flow || has_no_handle_left self.now) }
+    {
+        self.flow.is_full() || self.has_no_handle_left()
+    }
+
+    /// Begins a create.
+    fn begin_create(
+        &mut self,
+        volume: VolumeId,
+        path: RelPath,
+        mode: CreateMode,
+    ) -> Result<OpId, Status>
+        ensures { Begins self.old (Begin.Create volume path mode) result self.new }
+    {
+        if let Some(refusal) = self.volume_refusal(volume, self.takes_no_create()) {
+            return Err(refusal);
+        }
+        self.create_mounted(volume, path, mode)
+    }
+
+    /// Begins a create that nothing refuses but want of memory.
+    fn create_mounted(
+        &mut self,
+        volume: VolumeId,
+        path: RelPath,
+        mode: CreateMode,
+    ) -> Result<OpId, Status>
+        requires { first_of (volume_refusals self.old volume (is_full self.old.flow || has_no_handle_left self.old)) ≡ None }
+        ensures { Begins self.old (Begin.Create volume path mode) result self.new }
+    {
+        let Ok(()) = self.files.reserve_stream() else {
+            return Err(Status::NoMemory);
+        };
+        let number = self.flow.next_number();
+        let stream = self.files.stream_for(volume, &path, number);
+        let born = self.stack.births();
+        let params = Params::Create { path, mode };
+        let begun = self.flow.begin(volume, Some(stream), None, born, params);
+        note_create(&mut self.files, begun.is_ok(), volume, path, number);
+        begun
+    }
+
+    /// The handle and the volume of an operation that nothing refuses but want of memory.
+    fn on_handle(&self, handle: HandleId, params: &Params) -> Result<(FileHandle, VolumeId), Status>
+        ensures { MatchResult result (λ at. IsAsked self.now handle params.now at.0 at.1) (λ status. asked_refused self.now handle params.now ≡ Some status) }
+    {
+        if !params.is_within_limits() {
+            return Err(Status::BadRequest);
+        }
+        let Some(row) = self.files.handle(handle) else {
+            return Err(Status::NoHandle);
+        };
+        let Some(volume) = self.files.volume_of(row.stream) else {
+            return Err(Status::NoHandle);
+        };
+        if let Some(refusal) = phase_refusal(&self.flow, params.operation(), row.phase) {
+            return Err(refusal);
+        }
+        match self.volume_refusal(volume, self.flow.is_full()) {
+            Some(refusal) => Err(refusal),
+            None => Ok((row, volume)),
+        }
+    }
+
+    /// Begins an operation on a handle.
+    fn begin_on(&mut self, handle: HandleId, params: Params) -> Result<OpId, Status>
+        requires { is_create (operation_of params) ≡ false }
+        ensures { Asks self.old handle params result self.new }
+    {
+        match self.on_handle(handle, &params) {
+            Ok((row, volume)) => self.begin_asked(handle, params, row, volume),
+            Err(refusal) => Err(refusal),
+        }
+    }
+
+    /// Begins an operation on a handle that nothing refuses but want of memory.
+    fn begin_asked(
+        &mut self,
+        handle: HandleId,
+        params: Params,
+        row: FileHandle,
+        volume: VolumeId,
+    ) -> Result<OpId, Status>
+        requires none { is_create (operation_of params) ≡ false }
+        requires asked { IsAsked self.old handle params row volume }
+        ensures { Asks self.old handle params result self.new }
+    {
+        let operation = params.operation();
+        let number = self.flow.next_number();
+        let born = self.stack.births();
+        let stream = Some(row.stream);
+        let begun = self.flow.begin(volume, stream, Some(handle), born, params);
+        note_begin(&mut self.files, begun.is_ok(), operation, handle, number);
+        begun
+    }
+}

@@ -1,0 +1,331 @@
+//! Operations on files: which of them call the base, and what its answers make of handles and streams.
+
+use crate::state::State;
+use fm_altitude::Altitude;
+use fm_data::{Answer, CallbackData, Params, PostVerdict, PreVerdict};
+use fm_flow::FlowAction;
+use fm_types::{
+    Bytes, ContextMask, CreateMode, FilterId, HandleId, Name, OpId, OpMask, Registration, RelPath,
+    Status, VolumeId, WorkerId,
+};
+use fm_world::{Begin, FileRequest};
+use std::alloc::Global;
+use std::test::Fail;
+
+const WORKER: WorkerId = WorkerId(0);
+
+const VOLUME: VolumeId = VolumeId(0);
+
+fn mounted(alloc: Global) -> Result<State, Status> {
+    let mut state = State::new(alloc)?;
+    state.mount(Name::read(b"v")?)?;
+    Ok(state)
+}
+
+fn create(state: &mut State, mode: CreateMode) -> Result<OpId, Status> {
+    state.begin(Begin::Create {
+        volume: VOLUME,
+        path: RelPath::read(b"f")?,
+        mode,
+    })
+}
+
+fn ask(state: &mut State, handle: u64, request: FileRequest) -> Result<OpId, Status> {
+    state.begin(Begin::OnHandle {
+        handle: HandleId(handle),
+        request,
+    })
+}
+
+// The base answers a call with a status and one byte.
+fn answer(alloc: Global, state: &mut State, call: Params, status: Status) -> Result<(), Status> {
+    let mut bytes = Bytes::new(alloc);
+    bytes.set_len(1)?;
+    let given = Answer {
+        status,
+        information: 7,
+        bytes,
+    };
+    match state.base_returned(WORKER, call, given) {
+        Ok(()) => Ok(()),
+        Err(refused) => Err(refused.status),
+    }
+}
+
+// Runs an operation of a volume without instances to its end: whether the base was called, and the reply's status, information and length.
+fn run(
+    alloc: Global,
+    state: &mut State,
+    operation: OpId,
+    status: Status,
+) -> Result<(bool, Status, u64, usize), Status> {
+    let mut is_called = false;
+    for _ in 0..2 {
+        match state.next(WORKER, operation)? {
+            FlowAction::Base(call) => {
+                is_called = true;
+                answer(alloc, state, call, status)?;
+            }
+            FlowAction::Moved => {}
+            _ => break,
+        }
+    }
+    let reply = state.collect(operation)?;
+    Ok((
+        is_called,
+        reply.status,
+        reply.information,
+        reply.bytes.len(),
+    ))
+}
+
+// Runs an operation that the base answers with Success.
+fn succeed(
+    alloc: Global,
+    state: &mut State,
+    operation: OpId,
+) -> Result<(bool, Status, u64, usize), Status> {
+    run(alloc, state, operation, Status::Success)
+}
+
+#[test]
+fn handles_by_number(rt: HostRuntime) -> Result<(), Fail> {
+    let mut state = mounted(rt.alloc())?;
+    let first = create(&mut state, CreateMode::Always)?;
+    assert_eq!(rt;
+        succeed(rt.alloc(), &mut state, first),
+        Ok((true, Status::Success, 0, 0))
+    );
+    let second = create(&mut state, CreateMode::Existing)?;
+    assert_eq!(rt;
+        succeed(rt.alloc(), &mut state, second),
+        Ok((true, Status::Success, 1, 0))
+    );
+    assert_eq!(rt; state.handles(), 2);
+    Ok(())
+}
+
+// A volume with two handles of one file.
+fn opened_twice(alloc: Global) -> Result<State, Status> {
+    let mut state = mounted(alloc)?;
+    for _ in 0..2 {
+        let opening = create(&mut state, CreateMode::Always)?;
+        succeed(alloc, &mut state, opening)?;
+    }
+    Ok(state)
+}
+
+#[test]
+fn delete_on_close(rt: HostRuntime) -> Result<(), Fail> {
+    let mut state = opened_twice(rt.alloc())?;
+    let marking = ask(&mut state, 0, FileRequest::SetDelete)?;
+    assert_eq!(rt;
+        succeed(rt.alloc(), &mut state, marking),
+        Ok((false, Status::Success, 0, 0))
+    );
+    let late = create(&mut state, CreateMode::Existing)?;
+    assert_eq!(rt;
+        succeed(rt.alloc(), &mut state, late),
+        Ok((false, Status::DeletePending, 0, 0))
+    );
+    let cleanup = ask(&mut state, 0, FileRequest::Cleanup)?;
+    assert_eq!(rt;
+        succeed(rt.alloc(), &mut state, cleanup),
+        Ok((false, Status::Success, 0, 0))
+    );
+    let close = ask(&mut state, 0, FileRequest::Close)?;
+    assert_eq!(rt;
+        succeed(rt.alloc(), &mut state, close),
+        Ok((false, Status::Success, 0, 0))
+    );
+    let cleanup = ask(&mut state, 1, FileRequest::Cleanup)?;
+    succeed(rt.alloc(), &mut state, cleanup)?;
+    let close = ask(&mut state, 1, FileRequest::Close)?;
+    assert!(rt;
+        state
+            .file_of(close)
+            .is_some_and(|file| file.is_marked && file.volume == VOLUME)
+    );
+    assert_eq!(rt;
+        succeed(rt.alloc(), &mut state, close),
+        Ok((true, Status::Success, 0, 0))
+    );
+    assert_eq!(rt; state.handles(), 0);
+    let again = create(&mut state, CreateMode::New)?;
+    assert_eq!(rt;
+        succeed(rt.alloc(), &mut state, again),
+        Ok((true, Status::Success, 2, 0))
+    );
+    Ok(())
+}
+
+#[test]
+fn first_call_fails(rt: HostRuntime) -> Result<(), Fail> {
+    let mut state = mounted(rt.alloc())?;
+    let first = create(&mut state, CreateMode::Always)?;
+    assert_eq!(rt;
+        run(rt.alloc(), &mut state, first, Status::DeviceFault),
+        Ok((true, Status::DeviceFault, 0, 0))
+    );
+    assert!(rt; state.file_of(first).is_none());
+    assert_eq!(rt;
+        ask(&mut state, 0, FileRequest::Flush),
+        Err(Status::NoHandle)
+    );
+    Ok(())
+}
+
+#[test]
+fn close_fails(rt: HostRuntime) -> Result<(), Fail> {
+    let mut state = mounted(rt.alloc())?;
+    let first = create(&mut state, CreateMode::Always)?;
+    succeed(rt.alloc(), &mut state, first)?;
+    let marking = ask(&mut state, 0, FileRequest::SetDelete)?;
+    succeed(rt.alloc(), &mut state, marking)?;
+    assert_eq!(rt;
+        ask(&mut state, 0, FileRequest::Close),
+        Err(Status::WrongStep)
+    );
+    let cleanup = ask(&mut state, 0, FileRequest::Cleanup)?;
+    assert_eq!(rt;
+        ask(&mut state, 0, FileRequest::Close),
+        Err(Status::WrongStep)
+    );
+    succeed(rt.alloc(), &mut state, cleanup)?;
+    assert_eq!(rt;
+        ask(&mut state, 0, FileRequest::Flush),
+        Err(Status::NoHandle)
+    );
+    assert_eq!(rt;
+        ask(&mut state, 0, FileRequest::Cleanup),
+        Err(Status::WrongStep)
+    );
+    let close = ask(&mut state, 0, FileRequest::Close)?;
+    assert_eq!(rt;
+        ask(&mut state, 0, FileRequest::Close),
+        Err(Status::NoHandle)
+    );
+    assert_eq!(rt;
+        run(rt.alloc(), &mut state, close, Status::DeviceFault),
+        Ok((true, Status::DeviceFault, 0, 0))
+    );
+    assert_eq!(rt;
+        ask(&mut state, 0, FileRequest::Cleanup),
+        Err(Status::NoHandle)
+    );
+    let again = create(&mut state, CreateMode::Existing)?;
+    assert_eq!(rt;
+        succeed(rt.alloc(), &mut state, again),
+        Ok((true, Status::Success, 1, 0))
+    );
+    Ok(())
+}
+
+#[test]
+fn answers_by_kind(rt: HostRuntime) -> Result<(), Fail> {
+    let mut state = mounted(rt.alloc())?;
+    let first = create(&mut state, CreateMode::Always)?;
+    succeed(rt.alloc(), &mut state, first)?;
+    let mut bytes = Bytes::new(rt.alloc());
+    bytes.set_len(3)?;
+    let write = ask(&mut state, 0, FileRequest::Write { offset: 0, bytes })?;
+    assert_eq!(rt;
+        succeed(rt.alloc(), &mut state, write),
+        Ok((true, Status::Success, 3, 0))
+    );
+    let read = ask(&mut state, 0, FileRequest::Read { offset: 0, len: 9 })?;
+    assert_eq!(rt;
+        succeed(rt.alloc(), &mut state, read),
+        Ok((true, Status::Success, 1, 1))
+    );
+    let size = ask(&mut state, 0, FileRequest::QuerySize)?;
+    assert_eq!(rt;
+        succeed(rt.alloc(), &mut state, size),
+        Ok((true, Status::Success, 7, 0))
+    );
+    let flush = ask(&mut state, 0, FileRequest::Flush)?;
+    assert_eq!(rt;
+        run(rt.alloc(), &mut state, flush, Status::DeviceFault),
+        Ok((true, Status::DeviceFault, 0, 0))
+    );
+    Ok(())
+}
+
+#[test]
+fn past_the_limits(rt: HostRuntime) -> Result<(), Fail> {
+    let mut state = opened_twice(rt.alloc())?;
+    assert_eq!(rt;
+        ask(
+            &mut state,
+            0,
+            FileRequest::Read {
+                offset: 0,
+                len: 32_769
+            }
+        ),
+        Err(Status::BadRequest)
+    );
+    assert_eq!(rt;
+        ask(
+            &mut state,
+            9,
+            FileRequest::SetSize {
+                size: (1 << 40) + 1
+            }
+        ),
+        Err(Status::BadRequest)
+    );
+    Ok(())
+}
+
+// The preoperation that the worker is in returns.
+fn return_pre(state: &mut State, verdict: PreVerdict, data: CallbackData) -> Result<(), Status> {
+    match state.pre_returned(WORKER, verdict, data) {
+        Ok(()) => Ok(()),
+        Err(refused) => Err(refused.status),
+    }
+}
+
+#[test]
+fn complete_in_preoperation(rt: HostRuntime) -> Result<(), Fail> {
+    let mut state = mounted(rt.alloc())?;
+    let registration = Registration {
+        pre: OpMask::ALL,
+        post: OpMask::ALL,
+        contexts: ContextMask::NONE,
+        query: false,
+        unload: false,
+    };
+    state.register(Name::read(b"f")?, registration)?;
+    let altitude = Altitude::read(b"100")?;
+    state.attach(WORKER, FilterId(0), VOLUME, Name::read(b"a")?, altitude)?;
+    state.setup_done(WORKER, true)?;
+    let first = create(&mut state, CreateMode::Always)?;
+    assert!(rt; state.file_of(first).is_some());
+    let FlowAction::Pre(_, data) = state.next(WORKER, first)? else {
+        return Err(Fail::from("no preoperation"));
+    };
+    return_pre(&mut state, PreVerdict::Complete(Status::AccessDenied), data)?;
+    assert!(rt; state.file_of(first).is_none());
+    assert!(rt; matches!(state.next(WORKER, first), Ok(FlowAction::Done)));
+    let reply = state.collect(first)?;
+    assert_eq!(rt;
+        (reply.status, reply.information),
+        (Status::AccessDenied, 0)
+    );
+    let second = create(&mut state, CreateMode::Always)?;
+    let FlowAction::Pre(_, data) = state.next(WORKER, second)? else {
+        return Err(Fail::from("no preoperation"));
+    };
+    return_pre(&mut state, PreVerdict::NoCallback, data)?;
+    assert!(rt;
+        state
+            .post_returned(WORKER, PostVerdict::Finished, None)
+            .is_err()
+    );
+    assert_eq!(rt;
+        succeed(rt.alloc(), &mut state, second),
+        Ok((true, Status::Success, 0, 0))
+    );
+    Ok(())
+}

@@ -1,0 +1,328 @@
+//! Streams and handles.
+
+ghost use Rattle.std.specs.Prelude.{◌≡◌, ℕ, ◌<◌, ◌≤◌, ◌+◌, ◌-◌, ◌^◌, true, cond, Some, IfOk, OnOk, length, option_copied, option_map, find, position, vec_capacity};
+ghost use Rattle.fm_types.specs.Lists.{change_first, without_first};
+ghost use Rattle.fm_world.specs.Files.{empty_files, is_handle, is_stream, is_at_path, with_phase, with_mark, stream_at, stream_of_path, handle_at, has_handle_on, has_other_handle, is_marked, stream_for, created, phased, marked, opened, closed, torn_down, left, after_base};
+ghost use Rattle.fm_types.specs.declared.operation.Operation.TheVariants as Operation_of;
+ghost use Rattle.fm_flow.specs.Answered.{is_success};
+ghost use Rattle.fm_core.specs.Targets.{opens, stream_if};
+
+use crate::target::Target;
+use fm_types::{HandleId, Operation, RelPath, Status, StreamId, VolumeId};
+use fm_world::{FileHandle, FileStream, HandlePhase};
+use std::alloc::{AllocError, Global};
+use std::marker::Model;
+
+/// How many handles are open at most, counting those that creates under way may give.
+pub(crate) const MAX_HANDLES: usize = 4096;
+
+/// The streams in the order of their creates, and the open handles in the order of their numbers.
+#[derive(Drop)]
+pub(crate) struct Files {
+    streams: Vec<FileStream>,
+    handles: Vec<FileHandle>,
+    next: u64,
+}
+
+impl Model for Files {
+    ghost use Rattle.std.specs.Prelude.{◌≤◌, vec_capacity};
+    ghost use Rattle.fm_core.specs.FilesKept.{FilesKept};
+
+    ghost Value = { FilesKept };
+
+    ghost view = { λ f. record { table = record { streams = f.streams.items; handles = f.handles.items; next = f.next }; room = vec_capacity f.streams } };
+
+    ghost invariant = { λ f. 4096 ≤ vec_capacity f.handles };
+}
+
+impl Files {
+    /// No stream and no handle, with room for all handles; the error says that memory was refused.
+    pub(crate) fn new(alloc: Global) -> Result<Files, AllocError>
+        ensures { IfOk result (λ files. files.table ≡ empty_files) }
+    {
+        Ok(Files {
+            streams: Vec::new(alloc),
+            handles: Vec::with_capacity(alloc, MAX_HANDLES)?,
+            next: 0,
+        })
+    }
+
+    /// How many handles are open.
+    pub(crate) fn handles(&self) -> usize
+        ensures { result ≡ length self.now.table.handles }
+    {
+        self.handles.len()
+    }
+
+    /// The number that the next handle gets.
+    pub(crate) fn next_number(&self) -> u64
+        ensures result { result ≡ self.now.table.next }
+        ensures number { self.now.table.next < 2 ^ 64 }
+    {
+        self.next
+    }
+
+    /// An open handle.
+    pub(crate) fn handle(&self, handle: HandleId) -> Option<FileHandle>
+        ensures { result ≡ handle_at handle self.now.table }
+    {
+        handle_in(&self.handles, handle).copied()
+    }
+
+    /// A stream that wasn't torn down.
+    pub(crate) fn stream(&self, stream: StreamId) -> Option<&FileStream>
+        ensures { option_copied result ≡ stream_at stream self.now.table }
+    {
+        stream_in(&self.streams, stream)
+    }
+
+    /// The stream of an operation that is on one.
+    pub(crate) fn stream_if(&self, stream: Option<StreamId>) -> Option<&FileStream>
+        ensures { option_copied result ≡ stream_if stream self.now.table }
+    {
+        match stream {
+            Some(stream) => self.stream(stream),
+            None => None,
+        }
+    }
+
+    /// The volume of a stream that wasn't torn down.
+    pub(crate) fn volume_of(&self, stream: StreamId) -> Option<VolumeId>
+        ensures { result ≡ option_map (λ (row : FileStream). row.volume) (stream_at stream self.now.table) }
+    {
+        match self.stream(stream) {
+            Some(row) => Some(row.volume),
+            None => None,
+        }
+    }
+
+    /// Whether a stream's file is to be unlinked.
+    pub(crate) fn is_marked(&self, stream: StreamId) -> bool
+        ensures { result ≡ is_marked stream self.now.table }
+    {
+        match self.stream(stream) {
+            Some(row) => row.is_marked,
+            None => false,
+        }
+    }
+
+    /// Whether a handle is open on the stream.
+    pub(crate) fn has_handle_on(&self, stream: StreamId) -> bool
+        ensures { result ≡ has_handle_on stream self.now.table }
+    {
+        self.handles.iter().any(|row| row.stream.0 == stream.0)
+    }
+
+    /// Whether a handle but that one is open on the stream.
+    pub(crate) fn has_other_handle(&self, stream: StreamId, handle: HandleId) -> bool
+        ensures { result ≡ has_other_handle stream handle self.now.table }
+    {
+        self.handles.iter().any(|row| row.stream.0 == stream.0 && !(row.number.0 == handle.0))
+    }
+
+    /// The stream of a path, which a create of that number brings along where there is none.
+    pub(crate) fn stream_for(&self, volume: VolumeId, path: &RelPath, number: u64) -> StreamId
+        ensures { result ≡ stream_for volume path.now number self.now.table }
+    {
+        match stream_of_path(&self.streams, volume, path) {
+            Some(row) => row.number,
+            None => StreamId(number),
+        }
+    }
+
+    /// Makes room for one more stream.
+    pub(crate) fn reserve_stream(&mut self) -> Result<(), AllocError>
+        ensures table { self.new.table ≡ self.old.table }
+        ensures room { OnOk result (length self.new.table.streams < self.new.room) }
+    {
+        self.streams.try_reserve(1)
+    }
+
+    /// A create of that number begins on a path: where it has no stream yet, it brings one along.
+    pub(crate) fn create(&mut self, volume: VolumeId, path: RelPath, number: u64)
+        requires { length self.old.table.streams < self.old.room }
+        ensures { self.new.table ≡ created volume path number self.old.table }
+    {
+        if stream_of_path(&self.streams, volume, &path).is_none() {
+            self.streams.push_reserved(FileStream {
+                number: StreamId(number),
+                volume,
+                path,
+                is_marked: false,
+            });
+        }
+    }
+
+    /// A handle's end goes on.
+    pub(crate) fn set_phase(&mut self, handle: HandleId, phase: HandlePhase)
+        ensures { self.new.table ≡ phased handle phase self.old.table }
+    {
+        phase_in(&mut self.handles, handle, phase);
+    }
+
+    /// A file is to be unlinked.
+    fn mark(&mut self, stream: StreamId)
+        ensures { self.new.table ≡ marked stream self.old.table }
+    {
+        mark_in(&mut self.streams, stream);
+    }
+
+    /// A create succeeded: it gives a handle.
+    fn open(&mut self, stream: StreamId)
+        requires room { length self.old.table.handles < 4096 }
+        requires number { self.old.table.next < 2 ^ 64 - 1 }
+        ensures { self.new.table ≡ opened stream self.old.table }
+    {
+        self.handles.push_reserved(FileHandle {
+            number: HandleId(self.next),
+            stream,
+            phase: HandlePhase::Open,
+        });
+        self.next += 1;
+    }
+
+    /// A handle closes.
+    fn close(&mut self, handle: HandleId)
+        ensures { self.new.table ≡ closed handle self.old.table }
+    {
+        close_in(&mut self.handles, handle);
+    }
+
+    /// A stream without a handle, and without a create under way, is torn down.
+    pub(crate) fn leave(&mut self, stream: StreamId, is_created: bool)
+        ensures { self.new.table ≡ left stream is_created self.old.table }
+    {
+        if !(self.has_handle_on(stream) || is_created) {
+            tear_in(&mut self.streams, stream);
+        }
+    }
+
+    /// The base answered an operation. `is_created` says whether another create of its stream is under
+    /// way.
+    pub(crate) fn answer(&mut self, target: Target, status: Status, is_created: bool)
+        requires room { opens target status ≡ true → length self.old.table.handles < 4096 }
+        requires number { opens target status ≡ true → self.old.table.next < 2 ^ 64 - 1 }
+        ensures { self.new.table ≡ after_base target.operation target.stream target.handle status is_created self.old.table }
+    {
+        let Some(stream) = target.stream else {
+            return;
+        };
+        match target.operation {
+            Operation::Create => self.answer_create(stream, status, is_created),
+            Operation::SetDelete => self.answer_marking(stream, status),
+            Operation::Close => self.answer_close(stream, target.handle, is_created),
+            Operation::Read
+            | Operation::Write
+            | Operation::QuerySize
+            | Operation::SetSize
+            | Operation::Flush
+            | Operation::List
+            | Operation::Cleanup => {}
+        }
+    }
+
+    fn answer_create(&mut self, stream: StreamId, status: Status, is_created: bool)
+        requires room { is_success status ≡ true → length self.old.table.handles < 4096 }
+        requires number { is_success status ≡ true → self.old.table.next < 2 ^ 64 - 1 }
+        ensures { self.new.table ≡ cond (is_success status) (opened stream self.old.table) (left stream is_created self.old.table) }
+    {
+        if is_success(status) {
+            self.open(stream);
+        } else {
+            self.leave(stream, is_created);
+        }
+    }
+
+    fn answer_marking(&mut self, stream: StreamId, status: Status)
+        ensures { self.new.table ≡ cond (is_success status) (marked stream self.old.table) self.old.table }
+    {
+        if is_success(status) {
+            self.mark(stream);
+        }
+    }
+
+    fn answer_close(&mut self, stream: StreamId, handle: Option<HandleId>, is_created: bool)
+        ensures { self.new.table ≡ after_base Operation.Close (Some stream) handle Status.Success is_created self.old.table }
+    {
+        if let Some(handle) = handle {
+            self.close(handle);
+            self.leave(stream, is_created);
+        }
+    }
+}
+
+fn is_success(status: Status) -> bool
+    ensures { result ≡ is_success status }
+{
+    matches!(status, Status::Success)
+}
+
+fn handle_in(handles: &[FileHandle], handle: HandleId) -> Option<&FileHandle>
+    ensures { option_copied result ≡ find (is_handle handle) handles.now }
+{
+    handles.iter().find(|row| row.number.0 == handle.0)
+}
+
+fn place_of_handle(handles: &[FileHandle], handle: HandleId) -> Option<usize>
+    ensures { result ≡ position (is_handle handle) handles.now }
+{
+    handles.iter().position(|row| row.number.0 == handle.0)
+}
+
+fn place_of_stream(streams: &[FileStream], stream: StreamId) -> Option<usize>
+    ensures { result ≡ position (is_stream stream) streams.now }
+{
+    streams.iter().position(|row| row.number.0 == stream.0)
+}
+
+fn stream_in(streams: &[FileStream], stream: StreamId) -> Option<&FileStream>
+    ensures { option_copied result ≡ find (is_stream stream) streams.now }
+{
+    streams.iter().find(|row| row.number.0 == stream.0)
+}
+
+fn stream_of_path<'a>(
+    streams: &'a [FileStream],
+    volume: VolumeId,
+    path: &RelPath,
+) -> Option<&'a FileStream>
+    ensures { option_copied result ≡ find (is_at_path volume path.now) streams.now }
+{
+    streams
+        .iter()
+        .find(|row| row.volume.0 == volume.0 && row.path == *path)
+}
+
+fn phase_in(handles: &mut Vec<FileHandle>, handle: HandleId, phase: HandlePhase)
+    ensures items { handles.new.items ≡ change_first (is_handle handle) (with_phase phase) handles.old.items }
+    ensures capacity { vec_capacity handles.new ≡ vec_capacity handles.old }
+{
+    if let Some(at) = place_of_handle(handles, handle) {
+        handles[at].phase = phase;
+    }
+}
+
+fn mark_in(streams: &mut Vec<FileStream>, stream: StreamId)
+    ensures { streams.new.items ≡ change_first (is_stream stream) with_mark streams.old.items }
+{
+    if let Some(at) = place_of_stream(streams, stream) {
+        streams[at].is_marked = true;
+    }
+}
+
+fn close_in(handles: &mut Vec<FileHandle>, handle: HandleId)
+    ensures items { handles.new.items ≡ without_first (is_handle handle) handles.old.items }
+    ensures capacity { vec_capacity handles.new ≡ vec_capacity handles.old }
+{
+    if let Some(at) = place_of_handle(handles, handle) {
+        handles.remove(at);
+    }
+}
+
+fn tear_in(streams: &mut Vec<FileStream>, stream: StreamId)
+    ensures { streams.new.items ≡ without_first (is_stream stream) streams.old.items }
+{
+    if let Some(at) = place_of_stream(streams, stream) {
+        streams.remove(at);
+    }
+}

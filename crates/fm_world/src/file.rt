@@ -1,0 +1,34 @@
+//! Streams and handles: what operations on files are on.
+
+use fm_types::{HandleId, OpId, RelPath, StreamId, VolumeId};
+
+/// A file's data, as long as a handle or a create under way is on it (`FLT_RELATED_OBJECTS`, by its
+/// `FsContext`): one for each path of a volume.
+#[derive(Clone, Copy, Debug)]
+pub struct FileStream {
+    /// The number of the create that it came with.
+    pub number: StreamId,
+    pub volume: VolumeId,
+    pub path: RelPath,
+    /// Whether the file is to be unlinked when the last handle closes (`FileDispositionInformation`).
+    pub is_marked: bool,
+}
+
+/// How far a handle's end has come.
+#[derive(Clone, Copy, Debug, PartialEq, Eq)]
+pub enum HandlePhase {
+    /// Any operation but a close may begin on it.
+    Open,
+    /// That cleanup has begun: nothing but a close may begin.
+    CleaningUp(OpId),
+    /// A close has begun.
+    Closing,
+}
+
+/// What a successful create gave its client (`FILE_OBJECT`), until its close has reached the base.
+#[derive(Clone, Copy, Debug, PartialEq, Eq)]
+pub struct FileHandle {
+    pub number: HandleId,
+    pub stream: StreamId,
+    pub phase: HandlePhase,
+}

@@ -1,5 +1,5 @@
 -- The events on filters, volumes and instances, from what their parts did.
-use Rattle.std.proofs.Common.{◌≡◌, ℕ, Bool, true, false, List, map, Option, Some, None, is_some, option_map, Result, Ok, Err, refl, ap, sym, ◌∙◌, subst}
+use Rattle.std.proofs.Common.{◌≡◌, ℕ, Bool, true, false, List, Option, Some, None, Result, Ok, Err, refl, ap, sym, ◌∙◌, subst}
 use Rattle.std.proofs.lemmas.Option.{none-some, same_Some}
 use Rattle.fm_types.specs.declared.ids.FilterId.{FilterId}
 use Rattle.fm_types.specs.declared.ids.VolumeId.{VolumeId}
@@ -16,25 +16,16 @@ use Rattle.fm_world.specs.declared.worker.Worker.TheVariants as place
 use Rattle.fm_world.specs.World.{World, carries}
 use Rattle.fm_world.specs.Workers.{worker_at, put, is_idle, after_attach}
 use Rattle.fm_world.specs.Events.{Attaches, SetsUp, SetsUpAt, EmptiesUnless, Unless}
-use Rattle.fm_types.specs.declared.ids.CtxId.{CtxId}
 use Rattle.fm_flow.specs.Table.{FlowTable}
 use Rattle.fm_ctx.specs.declared.owner.Owner.TheVariants as owner
 use Rattle.fm_ctx.specs.Kept.{ContextsKept, carried_of}
-use Rattle.fm_ctx.specs.Settling.{Leaves, is_linked_of, swept, swept_slot}
-use Rattle.fm_ctx.specs.Table.{Context, Slot, context_at}
+use Rattle.fm_ctx.specs.Settling.{Leaves, is_linked_of}
 use Rattle.fm_ctx.proofs.Alike.{leaves_alike, sweeps_alike}
-use Rattle.fm_ctx.proofs.Carried.{carried_there, carried_equal, carried_numbers}
-use Rattle.fm_ctx.proofs.Leaving.{context_at-swept}
+use Rattle.fm_ctx.proofs.Carried.{carried_equal}
 use Rattle.fm_core.specs.Fields.{IsTied}
 use Rattle.fm_core.specs.Hands.{SweepsUnless}
 use Rattle.fm_core.specs.Places.{setup_of}
-
-there_swept : (test : Context → Bool) (slots : List Slot) (c : CtxId) → is_some (context_at (map (swept_slot test) slots) c) ≡ is_some (context_at slots c)
-there_swept test slots c = ap is_some (context_at-swept test slots c) ∙ mapped (context_at slots c)
-  where
-    mapped : (o : Option Context) → is_some (option_map (swept test) o) ≡ is_some o
-    mapped None = refl
-    mapped (Some x) = refl
+use Rattle.fm_core.proofs.Losing.{sweeping_tied}
 
 pub attaches : (old : World) (k : WorkerId) (f : FilterId) (v : VolumeId) (name altitude : List ℕ) (result : Result InstanceId Status) (t : StackWorld) (ws : List Worker)
     → is_idle (worker_at old.workers k) ≡ true → stack.Attaches old.stack f v name altitude result t → ws ≡ after_attach old.workers k result
@@ -84,10 +75,7 @@ setup_tied kept left after i w result f leaves carried empties tied = swept_tied
 
     swept_tied : (r : Result (Unit {0}) Status) → SweepsUnless r i left after → IsTied after f
     swept_tied (Ok done) e = subst (λ x. IsTied x f) (sym e) tied_left
-    swept_tied (Err why) e = λ c.
-        sym (carried_numbers left after e.carried c)
-        ∙ sym (carried_there left after.table (λ d. ap (λ (slots : List Slot). is_some (context_at slots d)) e.sweeps.slots ∙ there_swept (is_linked_of (owner.Instance i)) left.table.slots d) c)
-        ∙ tied_left c
+    swept_tied (Err why) e = sweeping_tied (is_linked_of (owner.Instance i)) left after f e tied_left
 
 -- a place that is the setup callback of an instance, or isn't
 pub setup_is : (m : Option Worker) (i : InstanceId) → setup_of m ≡ Some i → m ≡ Some (place.Setup i)

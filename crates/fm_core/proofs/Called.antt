@@ -58,7 +58,7 @@ owner_same at kind.Instance = refl
 owner_same at kind.Stream = refl
 owner_same at kind.Handle = refl
 
-pub object_same : (at : Callback) (k : ContextKind) → caller.object_for (caller_of at) k ≡ object_by at.row at.instance k
+pub object_same : (at : Callback) (k : ContextKind) → caller.object_for (caller_of at) k ≡ object_by at.row at.instance at.file k
 object_same at kind.Volume = refl
 object_same at kind.Instance = refl
 object_same at kind.Stream = refl
@@ -66,7 +66,7 @@ object_same at kind.Handle = refl
 
 -- the row of the callback's instance
 pub callback_row : (w : World) (k : WorkerId) (at : Callback) → callback_of w k ≡ Some at → row_at w.stack at.instance ≡ Some at.row
-callback_row w k at is = (callback_parts w.stack _ at is).1
+callback_row w k at is = (callback_parts w.stack _ _ at is).1
 
 -- ---- an event in a callback, and outside
 

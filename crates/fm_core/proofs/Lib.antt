@@ -5,3 +5,4 @@ pub mod Holding
 pub mod Called
 pub mod Linked
 pub mod Cleaned
+pub mod Losing

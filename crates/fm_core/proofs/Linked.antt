@@ -1,5 +1,5 @@
 -- Setting, getting and deleting contexts, from what the layer of contexts did.
-use Rattle.std.proofs.Common.{◌≡◌, ℕ, ◌&&◌, Bool, true, false, cond, not, List, [], ◌∷◌, Option, Some, None, Result, Err, is_some, is_none, option_map, slice_get, refl, ap, sym, ◌∙◌, subst}
+use Rattle.std.proofs.Common.{◌≡◌, ℕ, ◌&&◌, ◌||◌, Bool, true, false, cond, not, List, [], ◌∷◌, Option, Some, None, Result, Err, is_some, is_none, option_map, slice_get, refl, ap, sym, ◌∙◌, subst}
 use Rattle.std.specs.Option.{option_and_then}
 use Rattle.std.proofs.lemmas.Option.{none-some, same_Some}
 use Rattle.fm_types.specs.declared.context_kind.ContextKind.{ContextKind}
@@ -25,13 +25,14 @@ use Rattle.fm_ctx.proofs.Slots.{there_changed}
 use Rattle.fm_world.specs.declared.set_answer.SetAnswer.{SetAnswer}
 use Rattle.fm_world.specs.declared.set_answer.SetAnswer.TheVariants as answer
 use Rattle.fm_world.specs.World.{World, carries}
+use Rattle.fm_world.specs.Links.{is_there}
 use Rattle.fm_world.specs.Owners.{object_by}
-use Rattle.fm_world.specs.ContextEvents.{Callback, callback_of, with_contexts, object_for, set_refused, set_answer, SetsOn, SetsUnless, SetsIn, Sets, there_at, object_refused, Gets, Deletes}
+use Rattle.fm_world.specs.ContextEvents.{Callback, callback_of, with_contexts, before, object_for, set_refused, set_answer, SetsOn, SetsUnless, SetsIn, Sets, there_at, object_refused, Gets, Deletes}
 use Rattle.fm_core.specs.declared.caller.Caller.{Caller}
 use Rattle.fm_core.specs.Callers.{caller_of, owner_for, has_kind_at, is_closing_at}
 use Rattle.fm_core.specs.Callers as caller
 use Rattle.fm_core.specs.Fields.{IsTied}
-use Rattle.fm_core.specs.Setting.{object_of, set_refusal, find_refusal, IsSettable, IsFound}
+use Rattle.fm_core.specs.Setting.{is_past_at, object_of, set_refusal, find_refusal, IsSettable, IsFound}
 use Rattle.fm_core.proofs.Called.{called, owner_same, object_same, callback_row, in_callback, answers_up, answers_tied, table_tied}
 
 -- ---- get and delete
@@ -49,14 +50,14 @@ no_refusal false false x y r h = refl
 -- the same tests
 find_same : (w : World) (k : WorkerId) (at : Callback) (what : ContextKind) (others : Option Status) → callback_of w k ≡ Some at
     → cond (not (has_kind_at w.stack (slice_get w.stack.instances at.instance.0) what)) (Some status.NotRegistered)
-    (cond (is_none (object_by at.row at.instance what)) (Some status.NoObject) others) ≡ object_refused w what at others
+    (cond (is_none (object_by at.row at.instance at.file what)) (Some status.NoObject) others) ≡ object_refused w what at others
 find_same w k at what others is =
-    ap (λ m. cond (not (has_kind_at w.stack m what)) (Some status.NotRegistered) (cond (is_none (object_by at.row at.instance what)) (Some status.NoObject) others))
+    ap (λ m. cond (not (has_kind_at w.stack m what)) (Some status.NotRegistered) (cond (is_none (object_by at.row at.instance at.file what)) (Some status.NoObject) others))
     (callback_row w k at is)
 
 find_of : (w : World) (k : WorkerId) (at : Callback) (x : Caller) (what : ContextKind) (m : Option Status) → caller_of at ≡ x → find_refusal w x what ≡ m
     → cond (not (has_kind_at w.stack (slice_get w.stack.instances at.instance.0) what)) (Some status.NotRegistered)
-    (cond (is_none (object_by at.row at.instance what)) (Some status.NoObject) None) ≡ m
+    (cond (is_none (object_by at.row at.instance at.file what)) (Some status.NoObject) None) ≡ m
 find_of w k at x what m e h =
     ap (λ o. cond (not (has_kind_at w.stack (slice_get w.stack.instances at.instance.0) what)) (Some status.NotRegistered) (cond (is_none o) (Some status.NoObject) None))
     (sym (object_same at what))
@@ -66,21 +67,38 @@ pub refused_as : (w : World) (k : WorkerId) (at : Callback) (x : Caller) (what :
     → find_refusal w x what ≡ Some why → object_refused w what at others ≡ Some why
 refused_as w k at x what others why is e h =
     sym (find_same w k at what others is)
-    ∙ kept_refusal (not (has_kind_at w.stack (slice_get w.stack.instances at.instance.0) what)) (is_none (object_by at.row at.instance what)) status.NotRegistered status.NoObject others why
+    ∙ kept_refusal (not (has_kind_at w.stack (slice_get w.stack.instances at.instance.0) what)) (is_none (object_by at.row at.instance at.file what)) status.NotRegistered status.NoObject others why
     (find_of w k at x what (Some why) e h)
 
 pub found_free : (w : World) (k : WorkerId) (at : Callback) (x : Caller) (what : ContextKind) (others : Option Status) → callback_of w k ≡ Some at → caller_of at ≡ x
     → find_refusal w x what ≡ None → object_refused w what at others ≡ others
 found_free w k at x what others is e h =
     sym (find_same w k at what others is)
-    ∙ no_refusal (not (has_kind_at w.stack (slice_get w.stack.instances at.instance.0) what)) (is_none (object_by at.row at.instance what)) status.NotRegistered status.NoObject others
+    ∙ no_refusal (not (has_kind_at w.stack (slice_get w.stack.instances at.instance.0) what)) (is_none (object_by at.row at.instance at.file what)) status.NotRegistered status.NoObject others
     (find_of w k at x what None e h)
 
 found_there : (w : World) (at : Callback) (x : Caller) (what : ContextKind) (o : Owner × Object) → caller_of at ≡ x → IsFound w x what o
     → there_at w what at ≡ holder w.contexts.slots o.0 o.1
 found_there w at x what o e h =
-    ap (λ own. option_and_then (holder w.contexts.slots own) (object_by at.row at.instance what)) (sym (owner_same at what) ∙ ap (λ (y : Caller). owner_for y what) e ∙ h.owner)
+    ap (λ own. option_and_then (holder w.contexts.slots own) (object_by at.row at.instance at.file what)) (sym (owner_same at what) ∙ ap (λ (y : Caller). owner_for y what) e ∙ h.owner)
     ∙ ap (option_and_then (holder w.contexts.slots o.0)) (sym (object_same at what) ∙ ap (λ (y : Caller). caller.object_for y what) e ∙ h.object)
+
+-- the tests of a get on an object of the callback's
+get_free : (w : World) (k : WorkerId) (at : Callback) (x : Caller) (what : ContextKind) (o : Owner × Object) (others : Option Status) (b : Bool) → callback_of w k ≡ Some at → caller_of at ≡ x
+    → IsFound w x what o → is_there w.files (Some o.1) ≡ b
+    → object_refused w what at (before (not (is_there w.files (object_by at.row at.instance at.file what))) status.DeletingObject others) ≡ before (not b) status.DeletingObject others
+get_free w k at x what o others b is e found here =
+    let object' : object_by at.row at.instance at.file what ≡ Some o.1 = sym (object_same at what) ∙ ap (λ (y : Caller). caller.object_for y what) e ∙ found.object in
+    found_free w k at x what (before (not (is_there w.files (object_by at.row at.instance at.file what))) status.DeletingObject others) is e found.free
+    ∙ ap (λ c. before (not c) status.DeletingObject others) (ap (is_there w.files) object' ∙ here)
+
+pub get_gone : (w : World) (k : WorkerId) (what : ContextKind) (x : Caller) (o : Owner × Object) → option_map caller_of (callback_of w k) ≡ Some x → IsFound w x what o
+    → is_there w.files (Some o.1) ≡ false → Gets w k what (Err status.DeletingObject) w
+unfolding Gets
+get_gone w k what x o is found gone =
+    let at = called w k x is in
+    in_callback w k (Err status.DeletingObject) w _ at.0 at.1
+    (get_free w k at.0 x what o (get_refusal w.contexts k.0 (there_at w what at.0)) false at.1 at.2 found gone, refl)
 
 pub get_refused : (w : World) (k : WorkerId) (what : ContextKind) (x : Caller) (why : Status) → option_map caller_of (callback_of w k) ≡ Some x → find_refusal w x what ≡ Some why
     → Gets w k what (Err why) w
@@ -88,18 +106,18 @@ unfolding Gets
 get_refused w k what x why is h = let at = called w k x is in in_callback w k (Err why) w _ at.0 at.1 (refused_as w k at.0 x what _ why at.1 at.2 h, refl)
 
 pub gotten : (w : World) (k : WorkerId) (what : ContextKind) (x : Caller) (o : Owner × Object) (result : Result CtxId Status) (kept after : ContextsKept)
-    → option_map caller_of (callback_of w k) ≡ Some x → IsFound (with_contexts w kept.table) x what o
+    → option_map caller_of (callback_of w k) ≡ Some x → IsFound (with_contexts w kept.table) x what o → is_there w.files (Some o.1) ≡ true
     → Answers (get_refusal kept.table k.0 (holder kept.table.slots o.0 o.1)) result kept after
     (λ id. (holder kept.table.slots o.0 o.1 ≡ Some id) × (after ≡ record kept { table = grabbed kept.table k.0 id }))
     → Gets (with_contexts w kept.table) k what result (with_contexts w after.table)
 unfolding Gets
-gotten w k what x o result kept after is found event =
+gotten w k what x o result kept after is found here event =
     let at = called w k x is in
     let old = with_contexts w kept.table in
     let there : there_at old what at.0 ≡ holder kept.table.slots o.0 o.1 = found_there old at.0 x what o at.2 found in
     in_callback old k result (with_contexts w after.table) _ at.0 at.1
     (subst (λ r. Answers r result old (with_contexts w after.table) (λ (c : CtxId). (there_at old what at.0 ≡ Some c) × (with_contexts w after.table ≡ with_contexts old (grabbed kept.table k.0 c))))
-    (sym (found_free old k at.0 x what (get_refusal kept.table k.0 (there_at old what at.0)) at.1 at.2 found.free ∙ ap (get_refusal kept.table k.0) there))
+    (sym (get_free old k at.0 x what o (get_refusal kept.table k.0 (there_at old what at.0)) true at.1 at.2 found here ∙ ap (get_refusal kept.table k.0) there))
     (answers_up w kept after (get_refusal kept.table k.0 (holder kept.table.slots o.0 o.1)) result _ _ (λ c e. (there ∙ e.0, ap (λ (y : ContextsKept). with_contexts w y.table) e.1)) event))
 
 pub get_tied : (kept after : ContextsKept) (f : FlowTable) (k : WorkerId) (there : Option CtxId) (result : Result CtxId Status)
@@ -161,9 +179,10 @@ set_same : (w : World) (k : WorkerId) (c : CtxId) (at : Callback) (x : Caller) �
 set_same w k c at x is e =
     ap (set_refusal w k c) (sym e)
     ∙ ap (λ o. first_of ((not (holds (hand_of w.contexts.hands k.0) c), status.NotHeld) ∷ (is_some (link_at w.contexts.slots c), status.AlreadyLinked)
-    ∷ (is_none o, status.NoObject) ∷ (is_closing_at w.stack (slice_get w.stack.instances at.instance.0), status.DeletingObject) ∷ [])) (object_here at (context_at w.contexts.slots c))
+    ∷ (is_none o, status.NoObject) ∷ (is_past_at w (caller_of at) o, status.DeletingObject) ∷ [])) (object_here at (context_at w.contexts.slots c))
     ∙ ap (λ m. first_of ((not (holds (hand_of w.contexts.hands k.0) c), status.NotHeld) ∷ (is_some (link_at w.contexts.slots c), status.AlreadyLinked)
-    ∷ (is_none (object_for at (context_at w.contexts.slots c)), status.NoObject) ∷ (is_closing_at w.stack m, status.DeletingObject) ∷ [])) (callback_row w k at is)
+    ∷ (is_none (object_for at (context_at w.contexts.slots c)), status.NoObject)
+    ∷ (is_closing_at w.stack m || not (is_there w.files (object_for at (context_at w.contexts.slots c))), status.DeletingObject) ∷ [])) (callback_row w k at is)
 
 pub set_outside : (w : World) (k : WorkerId) (c : CtxId) (mode : SetMode) (wants : Bool) → callback_of w k ≡ None → Sets w k c mode wants (answer.Refused status.WrongStep) w
 unfolding Sets

@@ -38,7 +38,8 @@ use Rattle.fm_world.specs.declared.worker.Worker.{Worker}
 use Rattle.fm_world.specs.declared.worker.Worker.TheVariants as place
 use Rattle.fm_world.specs.World.{World, carries}
 use Rattle.fm_world.specs.Workers.{worker_at, put, is_idle, after_next}
-use Rattle.fm_world.specs.Events.{Begins, Nexts, NextsOver, FindsBelow, Unless, PreReturns, PreReturnsAt, BaseReturns, BaseReturnsAt, PostReturns, PostReturnsAt, Collects, drains_at, received, ReturnsFrom, sent, sent_in, of_hand, carries_after, state_at, state_given, has_post, returned, filed_record, filed_next, filed_base, filed_pre, is_created_on, PreReturnsFrom, volume_refusals, has_no_handle_left, moved_on, begin_refused, asked_refused, asked_begun, refused_at, refused_on, begun_at, begun_on, or_else}
+use Rattle.fm_world.specs.Links.{LosesLinks}
+use Rattle.fm_world.specs.Events.{Begins, Nexts, NextsAt, FindsBelow, PreReturnsOver, base_returned, Unless, PreReturns, PreReturnsAt, BaseReturns, BaseReturnsAt, PostReturns, PostReturnsAt, Collects, drains_at, received, ReturnsFrom, sent, sent_in, of_hand, carries_after, state_at, state_given, has_post, returned, filed_record, filed_next, filed_base, filed_pre, is_created_on, PreReturnsFrom, volume_refusals, has_no_handle_left, moved_on, begin_refused, asked_refused, asked_begun, refused_at, refused_on, begun_at, begun_on, or_else}
 use Rattle.fm_world.specs.Headline.{Spot, AtPre, AtBase, AtPost, AtDrain, is_in_at, is_spot, spot_at}
 use Rattle.fm_world.specs.Sound.{IsSound, IsAmong, IsFiled}
 use Rattle.fm_types.proofs.Firsts.{found_holds}
@@ -121,14 +122,15 @@ answered_next old o t (Ok action.Held) lies = refl
 answered_next old o t (Ok action.Done) lies = refl
 answered_next old o t (Err why) lies = refl
 
-pub nexts : (old : World) (k : WorkerId) (o : OpId) (lies : Below) (drains : Bool) (result : Result FlowAction Status) (t : FlowTable) (ws : List Worker) (cs : ContextTable) (fs : FileTable)
+pub nexts : (old : World) (k : WorkerId) (o : OpId) (lies : Below) (drains : Bool) (result : Result FlowAction Status) (t : FlowTable) (ws : List Worker) (cs after' : ContextTable) (fs : FileTable)
     → is_idle (worker_at old.workers k) ≡ true → FindsBelow old.stack old.files old.flow (operation_at o old.flow) lies → drains ≡ drains_at old o
     → result ≡ told (λ r. (next_of k lies drains r).reply) (Err status.WrongStep) o old.flow
     → t ≡ changed o (λ r. (next_of k lies drains r).after) old.flow → ws ≡ after_next old.workers k o result → cs ≡ received old.contexts k result
     → fs ≡ after_answer old.files t (option_map target_in (operation_at o old.flow)) (answer_known result lies)
-    → Nexts old k o result (record old { flow = t; workers = ws; contexts = cs; files = fs })
+    → LosesLinks (record old { flow = t; workers = ws; contexts = cs; files = fs }) (record old { flow = t; workers = ws; contexts = after'; files = fs })
+    → Nexts old k o result (record old { flow = t; workers = ws; contexts = after'; files = fs })
 unfolding Nexts
-nexts old k o lies drains result t ws cs fs idle finds same reply after workers contexts files =
+nexts old k o lies drains result t ws cs after' fs idle finds same reply after workers contexts files loses =
     let new : World = record old { flow = t; workers = ws; contexts = cs; files = fs } in
     let answers = subst (λ d. result ≡ told (λ r. (next_of k lies d r).reply) (Err status.WrongStep) o old.flow) same reply in
     let leads = subst (λ d. t ≡ changed o (λ r. (next_of k lies d r).after) old.flow) same after in
@@ -143,9 +145,8 @@ nexts old k o lies drains result t ws cs fs idle finds same reply after workers 
     ∙ ap (λ x. record old { flow = x; workers = ws; contexts = cs; files = filed_next old o x result lies }) leads
     ∙ ap (λ x. record old { flow = changed o f old.flow; workers = x; contexts = cs; files = filed_next old o (changed o f old.flow) result lies }) workers
     ∙ ap (λ x. record old { flow = changed o f old.flow; workers = after_next old.workers k o result; contexts = x; files = filed_next old o (changed o f old.flow) result lies }) contexts in
-    subst (λ b. Unless status.WrongStep b result old new
-    ((lies : Below) × FindsBelow old.stack old.files old.flow (operation_at o old.flow) lies × NextsOver old k o lies result new)) (sym idle)
-    (lies, finds, (answers, whole))
+    let end : World = record old { flow = t; workers = ws; contexts = after'; files = fs } in
+    subst (λ b. Unless status.WrongStep b result old end (NextsAt old k o result end)) (sym idle) (lies, finds, new, (answers, whole), loses)
 
 -- a handle that an answer gives has its room
 room_at : (old : World) (o : OpId) (why : Status) (m : Option FlowRecord) → operation_at o old.flow ≡ m → old.flow.next < 2 ^ 64 → IsFiled old.files old.flow
@@ -255,7 +256,7 @@ unfolding Nexts
 next_refused old k o busy =
     let result : Result FlowAction Status = Err status.WrongStep in
     subst (λ b. Unless status.WrongStep b result old old
-    ((lies : Below) × FindsBelow old.stack old.files old.flow (operation_at o old.flow) lies × NextsOver old k o lies result old)) (sym busy) (refl, refl)
+    (NextsAt old k o result old)) (sym busy) (refl, refl)
 
 -- ---- where the worker is
 
@@ -519,6 +520,23 @@ files_left old k o step given answer new false f h files =
     let g = filed_pre old o (changed o step old.flow) given in
     (h.0, ap (λ (w : World). record w { files = f }) h.1 ∙ ap (λ z. record old { files = z }) (files ∙ ap (λ c. cond c g old.files) (err_is answer h.0)))
 
+-- the links go last, where the answer was taken
+lost_over : {T : Type 0} (old mid : World) (b : Bool) (answer : Result (Unit {0}) T) (done : ContextTable) (Event : World → Type 0)
+    → Unless status.BadRequest b (status_of (strange answer)) old mid ((status_of (strange answer) ≡ Ok tt) × Event mid)
+    → (is_ok answer ≡ true → LosesLinks mid (record mid { contexts = done })) → (is_ok answer ≡ false → done ≡ mid.contexts)
+    → Unless status.BadRequest b (status_of (strange answer)) old (record mid { contexts = done })
+    ((status_of (strange answer) ≡ Ok tt) × ((m : World) × Event m × LosesLinks m (record mid { contexts = done })))
+lost_over old mid true answer done Event h loses same = (h.0, (mid, h.1, loses (ok_is answer h.0)))
+lost_over old mid false answer done Event h loses same = (h.0, ap (λ c. record mid { contexts = c }) (same (err_is answer h.0)) ∙ h.1)
+
+lost_from : {T : Type 0} (old mid : World) (b : Bool) (answer : Result (Unit {0}) T) (done : ContextTable) (x : World)
+    → Unless status.BadRequest b (status_of (strange answer)) old mid ((status_of (strange answer) ≡ Ok tt) × (mid ≡ x))
+    → (is_ok answer ≡ true → LosesLinks mid (record mid { contexts = done })) → (is_ok answer ≡ false → done ≡ mid.contexts)
+    → Unless status.BadRequest b (status_of (strange answer)) old (record mid { contexts = done })
+    ((status_of (strange answer) ≡ Ok tt) × LosesLinks x (record mid { contexts = done }))
+lost_from old mid true answer done x h loses same = (h.0, subst (λ (w : World). LosesLinks w (record mid { contexts = done })) h.1 (loses (ok_is answer h.0)))
+lost_from old mid false answer done x h loses same = (h.0, ap (λ c. record mid { contexts = c }) (same (err_is answer h.0)) ∙ h.1)
+
 -- streams after a preoperation's end, as the code finds them
 pre_files : (old : World) (o : OpId) (state : PreState) (step : FlowRecord → FlowRecord) (answer : Result (Unit {0}) Data) (t : FlowTable) (f : FileTable)
     → (is_ok answer ≡ true → t ≡ changed o step old.flow)
@@ -530,23 +548,27 @@ pre_files old o state step (Ok done) t f leads e =
     ∙ decided_told old.files (changed o step old.flow) state (operation_at o old.flow)
 
 pub pre_returns : (old : World) (k : WorkerId) (o : OpId) (i : InstanceId) (given : PreVerdict) (lent : Data) (state : PreState) (answer : Result (Unit {0}) Data) (t : FlowTable)
-    (ws : List Worker) (kept after : ContextsKept) (fs : FileTable) → worker_at old.workers k ≡ Some (place.Pre o i) → IsSound old → state ≡ state_at old k o i given
+    (ws : List Worker) (kept after : ContextsKept) (done : ContextTable) (fs : FileTable) → worker_at old.workers k ≡ Some (place.Pre o i) → IsSound old → state ≡ state_at old k o i given
     → answer ≡ told (data_reply lent) (Err lent) o old.flow → t ≡ changed o (pre_after state lent) old.flow → ws ≡ after_return old.workers k (is_ok answer)
     → old.contexts ≡ kept.table → EndsWhere (is_ok answer) kept (sent_in state) after k.0 → IsTied (kept_sent kept k.0 (sent_in state)) (changed o (pre_returned_of state lent) old.flow)
     → fs ≡ cond (is_ok answer) (decided t state (option_map target_in (operation_at o old.flow)) old.files) old.files
-    → PreReturns old k given lent (status_of (strange answer)) (record old { flow = t; workers = ws; contexts = after.table; files = fs })
+    → (is_ok answer ≡ true → LosesLinks (record old { flow = t; workers = ws; contexts = after.table; files = fs }) (record old { flow = t; workers = ws; contexts = done; files = fs }))
+    → (is_ok answer ≡ false → done ≡ after.table)
+    → PreReturns old k given lent (status_of (strange answer)) (record old { flow = t; workers = ws; contexts = done; files = fs })
 unfolding PreReturns
-pre_returns old k o i given lent state answer t ws kept after fs at s same reply step workers contexts ends tied files =
+pre_returns old k o i given lent state answer t ws kept after done fs at s same reply step workers contexts ends tied files loses stays =
     let there = in_pre old k o i s at in
     let new : World = record old { flow = t; workers = ws } in
     let f = flow_ok old.flow o there.0 (λ x. data_fits x.operation x.path lent) (pre_returned_of state lent) lent answer t there.1 reply step in
-    subst (PreReturnsAt old k given lent (status_of (strange answer)) (record new { contexts = after.table; files = fs })) (sym at)
-    (subst (λ x. Unless status.BadRequest (told (λ r. data_fits r.operation r.path lent) false o old.flow) (status_of (strange answer)) old (record new { contexts = after.table; files = fs })
-    ((status_of (strange answer) ≡ Ok tt) × PreReturnsFrom old k o (pre_returned_of x lent) x (record new { contexts = after.table; files = fs }))) same
+    let fits = told (λ r. data_fits r.operation r.path lent) false o old.flow in
+    subst (PreReturnsAt old k given lent (status_of (strange answer)) (record new { contexts = done; files = fs })) (sym at)
+    (subst (λ x. Unless status.BadRequest fits (status_of (strange answer)) old (record new { contexts = done; files = fs })
+    ((status_of (strange answer) ≡ Ok tt) × PreReturnsOver old k o (pre_returned_of x lent) x (record new { contexts = done; files = fs }))) same
+    (lost_over old (record new { contexts = after.table; files = fs }) fits answer done (PreReturnsFrom old k o (pre_returned_of state lent) state)
     (files_left old k o (pre_returned_of state lent) state answer (record new { contexts = after.table }) (told (λ r. data_fits r.operation r.path lent) false o old.flow) fs
     (ends_where old k o (pre_returned_of state lent) kept after (sent_in state) answer new (told (λ r. data_fits r.operation r.path lent) false o old.flow) contexts
     (comes_back_at old k o (λ x. data_fits x.operation x.path lent) (pre_returned_of state lent) lent answer t ws (there.0, there.1) reply step workers) ends tied)
-    (pre_files old o state (pre_returned_of state lent) answer t fs f.0 files)))
+    (pre_files old o state (pre_returned_of state lent) answer t fs f.0 files)) loses stays))
 
 pub pre_tied : (old : World) (k : WorkerId) (o : OpId) (i : InstanceId) (lent : Data) (state : PreState) (answer : Result (Unit {0}) Data) (t : FlowTable) (kept after : ContextsKept)
     → worker_at old.workers k ≡ Some (place.Pre o i) → IsSound old → answer ≡ told (data_reply lent) (Err lent) o old.flow → t ≡ changed o (pre_after state lent) old.flow
@@ -582,22 +604,26 @@ base_files old o why step (Ok done) t f leads e =
     ∙ answered_told old.files (changed o step old.flow) why (operation_at o old.flow)
 
 pub base_returns : (old : World) (k : WorkerId) (o : OpId) (call : Params) (given : Answer) (handle : HandleId) (answer : Result (Unit {0}) (Params × Answer)) (t : FlowTable) (ws : List Worker)
-    (fs : FileTable) → worker_at old.workers k ≡ Some (place.Base o) → IsSound old → handle ≡ record { 0 = old.files.next }
+    (done : ContextTable) (fs : FileTable) → worker_at old.workers k ≡ Some (place.Base o) → IsSound old → handle ≡ record { 0 = old.files.next }
     → answer ≡ told (base_reply call given) (Err (call, given)) o old.flow
     → t ≡ changed o (base_after call given handle) old.flow → ws ≡ after_return old.workers k (is_ok answer)
     → fs ≡ after_answer old.files t (option_map target_in (operation_at o old.flow)) (cond (is_ok answer) (Some given.status) None)
-    → BaseReturns old k call given (status_of (strange answer)) (record old { flow = t; workers = ws; files = fs })
+    → (is_ok answer ≡ true → LosesLinks (record old { flow = t; workers = ws; files = fs }) (record old { flow = t; workers = ws; contexts = done; files = fs }))
+    → (is_ok answer ≡ false → done ≡ old.contexts)
+    → BaseReturns old k call given (status_of (strange answer)) (record old { flow = t; workers = ws; contexts = done; files = fs })
 unfolding BaseReturns
-base_returns old k o call given handle answer t ws fs at s same reply after workers files =
+base_returns old k o call given handle answer t ws done fs at s same reply after workers files loses stays =
     let there = in_base old k o s at in
     let next : HandleId = record { 0 = old.files.next } in
     let step = subst (λ (h : HandleId). t ≡ changed o (base_after call given h) old.flow) same after in
     let f = flow_ok old.flow o there.0 (base_fits call given) (base_returned_of call given next) (call, given) answer t there.1 reply step in
-    subst (BaseReturnsAt old k call given (status_of (strange answer)) (record old { flow = t; workers = ws; files = fs })) (sym at)
+    let fits = told (base_fits call given) false o old.flow in
+    subst (BaseReturnsAt old k call given (status_of (strange answer)) (record old { flow = t; workers = ws; contexts = done; files = fs })) (sym at)
+    (lost_from old (record old { flow = t; workers = ws; files = fs }) fits answer done (base_returned old k o call given)
     (files_with old answer (record old { flow = t; workers = ws }) (returned old k o (base_returned_of call given next)) (told (base_fits call given) false o old.flow) fs
     (filed_base old o (changed o (base_returned_of call given next) old.flow) given.status)
     (comes_back_at old k o (base_fits call given) (base_returned_of call given next) (call, given) answer t ws (there.0, there.1) reply step workers)
-    (base_files old o given.status (base_returned_of call given next) answer t fs f.0 files))
+    (base_files old o given.status (base_returned_of call given next) answer t fs f.0 files)) loses stays)
 
 -- a create at the base has room for its handle
 pub base_room : (old : World) (k : WorkerId) (o : OpId) (why : Status) (b : Bool) → worker_at old.workers k ≡ Some (place.Base o) → old.flow.next < 2 ^ 64 → IsSound old

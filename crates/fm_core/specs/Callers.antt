@@ -1,5 +1,5 @@
 -- Whose callback a worker is in, as the code reads it.
-use Rattle.std.specs.Prelude.{Bool, true, false, Option, Some, None}
+use Rattle.std.specs.Prelude.{Bool, true, false, Option, Some, None, option_map}
 use Rattle.fm_types.specs.declared.context_kind.ContextKind.{ContextKind}
 use Rattle.fm_types.specs.declared.context_kind.ContextKind.TheVariants as kind
 use Rattle.fm_types.specs.declared.ids.CtxId.{CtxId}
@@ -21,7 +21,7 @@ use Rattle.fm_world.specs.ContextEvents.{Callback}
 use Rattle.fm_core.specs.declared.caller.Caller.{Caller}
 
 abbrev pub caller_of : Callback → Caller
-caller_of at = record { instance = at.instance; filter = at.row.filter; volume = at.row.volume }
+caller_of at = record { instance = at.instance; filter = at.row.filter; volume = at.row.volume; file = at.file }
 
 -- who owns what it allocates, and what it sets contexts of that kind on
 abbrev pub owner_for : Caller → ContextKind → Owner
@@ -31,7 +31,8 @@ owner_for caller _ = owner.Instance caller.instance
 abbrev pub object_for : Caller → ContextKind → Option Object
 object_for caller kind.Volume = Some (object.Volume caller.volume)
 object_for caller kind.Instance = Some (object.Instance caller.instance)
-object_for caller _ = None
+object_for caller kind.Stream = option_map (λ f. object.Stream f.stream) caller.file
+object_for caller kind.Handle = option_map (λ f. object.Handle f.handle) caller.file
 
 abbrev pub has_kind_at : StackWorld → Option Instance → ContextKind → Bool
 has_kind_at s None kind = false

@@ -7,7 +7,8 @@ use Rattle.fm_ctx.specs.declared.owner.Owner.TheVariants as owner
 use Rattle.fm_ctx.specs.Bags.{holds, hand_of}
 use Rattle.fm_ctx.specs.Kept.{ContextsKept, carried_of, carried_more, carried_fewer}
 use Rattle.fm_ctx.specs.References.{grabbed, handed_on}
-use Rattle.fm_ctx.specs.Settling.{Leaves, Sweeps, is_linked_of}
+use Rattle.fm_ctx.specs.Settling.{Leaves, is_linked_of}
+use Rattle.fm_core.specs.Lost.{Sweeping}
 use Rattle.fm_flow.specs.declared.action.FlowAction.{FlowAction}
 use Rattle.fm_flow.specs.declared.action.FlowAction.TheVariants as action
 
@@ -45,10 +46,6 @@ EndsWhere true old sent new w = Ends (kept_sent old w sent) new w
 EndsWhere false old sent new w = new ≡ old
 
 -- where an instance isn't attached, its contexts lose their links
-pub record Sweeping (i : InstanceId) (old new : ContextsKept) : Type 0 where
-  pub sweeps : Sweeps (carried_of old) (is_linked_of (owner.Instance i)) old.table new.table
-  pub carried : new.carried ≡ old.carried
-
 abbrev pub SweepsUnless : Result (Unit {0}) Status → InstanceId → ContextsKept → ContextsKept → Type 0
 SweepsUnless (Ok done) i old new = new ≡ old
-SweepsUnless (Err status) i old new = Sweeping i old new
+SweepsUnless (Err status) i old new = Sweeping (is_linked_of (owner.Instance i)) old new

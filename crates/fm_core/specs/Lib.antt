@@ -8,3 +8,4 @@ pub mod Setting
 pub mod Targets
 pub mod FilesKept
 pub mod Begun
+pub mod Lost

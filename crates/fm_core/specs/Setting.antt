@@ -10,14 +10,19 @@ use Rattle.fm_ctx.specs.declared.object.Object.{Object}
 use Rattle.fm_ctx.specs.declared.owner.Owner.{Owner}
 use Rattle.fm_ctx.specs.Bags.{holds, hand_of}
 use Rattle.fm_ctx.specs.Table.{Context, context_at, link_at}
+use Rattle.fm_world.specs.Links.{is_there}
 use Rattle.fm_world.specs.World.{World}
 use Rattle.fm_core.specs.declared.caller.Caller.{Caller}
 use Rattle.fm_core.specs.Callers.{object_for, owner_for, has_kind_at, is_closing_at}
-use Rattle.std.specs.Prelude.{true, not, is_some, is_none, [], ◌∷◌, cond}
+use Rattle.std.specs.Prelude.{Bool, ◌||◌, true, not, is_some, is_none, [], ◌∷◌, cond}
 
 abbrev pub object_of : Caller → Option Context → Option Object
 object_of caller None = None
 object_of caller (Some x) = object_for caller x.kind
+
+-- whether nothing more may be set there
+abbrev pub is_past_at : World → Caller → Option Object → Bool
+is_past_at w caller o = is_closing_at w.stack (slice_get w.stack.instances caller.instance.0) || not (is_there w.files o)
 
 -- the refusals of a set, but for those of the layer of contexts
 abbrev pub set_refusal : World → WorkerId → CtxId → Caller → Option Status
@@ -25,7 +30,7 @@ set_refusal w k c caller =
     first_of ((not (holds (hand_of w.contexts.hands k.0) c), status.NotHeld)
     ∷ (is_some (link_at w.contexts.slots c), status.AlreadyLinked)
     ∷ (is_none (object_of caller (context_at w.contexts.slots c)), status.NoObject)
-    ∷ (is_closing_at w.stack (slice_get w.stack.instances caller.instance.0), status.DeletingObject)
+    ∷ (is_past_at w caller (object_of caller (context_at w.contexts.slots c)), status.DeletingObject)
     ∷ [])
 
 pub record IsSettable (w : World) (k : WorkerId) (c : CtxId) (caller : Caller) (found : Owner × Object) : Type 0 where

@@ -1,15 +1,19 @@
 //! Whose callback a worker is in, and what follows from it for contexts: who owns them, and what they are set on.
 
-ghost use Rattle.std.specs.Prelude.{◌≡◌, option_map, slice_get};
+ghost use Rattle.std.specs.Prelude.{◌≡◌, Some, option_map, slice_get};
 ghost use Rattle.fm_world.specs.ContextEvents.{callback_of};
-ghost use Rattle.fm_world.specs.Owners.{instance_in};
+ghost use Rattle.fm_world.specs.Links.{is_there};
+ghost use Rattle.fm_world.specs.Owners.{instance_in, operation_in, file_object, file_of};
 ghost use Rattle.fm_core.specs.Callers.{caller_of, owner_for, object_for, has_kind_at, is_closing_at};
 
+use crate::files::Files;
 use crate::state::State;
+use crate::target::target_of;
 use fm_ctx::{Object, Owner};
+use fm_flow::Flow;
 use fm_stack::{Phase, Stack, VolumePhase};
-use fm_types::{ContextKind, FilterId, InstanceId, VolumeId, WorkerId};
-use fm_world::Worker;
+use fm_types::{ContextKind, FilterId, HandleId, InstanceId, OpId, StreamId, VolumeId, WorkerId};
+use fm_world::{FileObject, Worker};
 
 /// An instance in one of whose callbacks a worker is.
 #[derive(Clone, Copy, Debug, PartialEq, Eq)]
@@ -17,6 +21,8 @@ pub(crate) struct Caller {
     pub(crate) instance: InstanceId,
     pub(crate) filter: FilterId,
     pub(crate) volume: VolumeId,
+    /// The file that the callback's operation is on.
+    pub(crate) file: Option<FileObject>,
 }
 
 impl Caller {
@@ -37,7 +43,8 @@ impl Caller {
         match kind {
             ContextKind::Volume => Some(Object::Volume(self.volume)),
             ContextKind::Instance => Some(Object::Instance(self.instance)),
-            ContextKind::Stream | ContextKind::Handle => None,
+            ContextKind::Stream => Some(Object::Stream(self.file?.stream)),
+            ContextKind::Handle => Some(Object::Handle(self.file?.handle)),
         }
     }
 }
@@ -52,6 +59,45 @@ fn instance_in(place: Worker) -> Option<InstanceId>
         | Worker::Post(_, instance)
         | Worker::Drain(_, instance) => Some(instance),
         Worker::Idle | Worker::Base(_) | Worker::Cleanup(_) => None,
+    }
+}
+
+// The operation whose callback it is.
+fn operation_in(place: Worker) -> Option<OpId>
+    ensures { result ≡ operation_in place }
+{
+    match place {
+        Worker::Pre(operation, _) | Worker::Post(operation, _) | Worker::Drain(operation, _) => {
+            Some(operation)
+        }
+        Worker::Idle | Worker::Setup(_) | Worker::Base(_) | Worker::Cleanup(_) => None,
+    }
+}
+
+fn file_object(stream: Option<StreamId>, handle: Option<HandleId>) -> Option<FileObject>
+    ensures { result ≡ file_object stream handle }
+{
+    let stream = stream?;
+    let handle = handle?;
+    Some(FileObject { stream, handle })
+}
+
+// The file that the callback's operation is on.
+fn file_of(flow: &Flow, place: Worker) -> Option<FileObject>
+    ensures { result ≡ file_of flow.now (Some place) }
+{
+    let target = target_of(flow, operation_in(place)?)?;
+    file_object(target.stream, target.handle)
+}
+
+/// Whether an object that a context may be set on is there: streams are torn down, and handles close.
+pub(crate) fn is_there(files: &Files, object: Object) -> bool
+    ensures { result ≡ is_there files.now.table (Some object) }
+{
+    match object {
+        Object::Volume(_) | Object::Instance(_) => true,
+        Object::Stream(stream) => files.stream(stream).is_some(),
+        Object::Handle(handle) => files.handle(handle).is_some(),
     }
 }
 
@@ -85,13 +131,15 @@ impl State {
     pub(crate) fn caller(&self, worker: WorkerId) -> Option<Caller>
         ensures { result ≡ option_map caller_of (callback_of self.now worker) }
     {
-        let instance = instance_in(self.place(worker)?)?;
+        let place = self.place(worker)?;
+        let instance = instance_in(place)?;
         let filter = self.stack.filter_of(instance)?;
         let volume = self.stack.volume_of(instance)?;
         Some(Caller {
             instance,
             filter,
             volume,
+            file: file_of(&self.flow, place),
         })
     }
 }

@@ -7,7 +7,7 @@ ghost use Rattle.fm_world.specs.Hands.{OnlyHandOf, HoldsMore, HoldsOneFewer, han
 ghost use Rattle.fm_core.specs.Callers.{caller_of, has_kind_at};
 ghost use Rattle.fm_core.specs.Setting.{IsSettable, IsUnsettable, IsFound, IsNotFound};
 
-use crate::caller::{Caller, has_kind, is_closing};
+use crate::caller::{Caller, has_kind, is_closing, is_there};
 use crate::state::State;
 use fm_ctx::{Object, Owner, SetMode, SetReply};
 use fm_types::{Bytes, ContextKind, CtxId, Status, WorkerId};
@@ -74,7 +74,7 @@ impl State {
         let Some(object) = caller.object(kind) else {
             return Err(Status::NoObject);
         };
-        if is_closing(&self.stack, caller.instance) {
+        if is_closing(&self.stack, caller.instance) || !is_there(&self.files, object) {
             return Err(Status::DeletingObject);
         }
         Ok((owner, object))
@@ -83,7 +83,8 @@ impl State {
     /// Sets a context of the worker's hand on the callback's object of its kind (`FltSetVolumeContext`, `FltSetInstanceContext`,
     /// `FltSetStreamContext`, `FltSetStreamHandleContext`): a reference more where it succeeds. Keep leaves a context that the owner has there;
     /// Replace takes its place. Refused, nothing changed: 30 where the worker is in no callback of an instance, 25 where it doesn't hold the context, 23
-    /// where the context is set already, 27 where the callback has no such object, 13 where the instance is torn down or its volume dismounted, 26 where the
+    /// where the context is set already, 27 where the callback has no such object (a create before it succeeded, a listing and a setup have neither stream nor
+    /// handle), 13 where the instance is torn down, its volume dismounted, the handle closed or the stream torn down, 26 where the
     /// old one is wanted and the hand has 16 references. 22 where Keep finds one: where it is wanted, a reference to it is in the hand. It takes no memory.
     pub fn set(
         &mut self,
@@ -124,7 +125,8 @@ impl State {
 
     /// Gets the context of a kind that is set on the callback's object (`FltGetVolumeContext`, `FltGetInstanceContext`, `FltGetStreamContext`,
     /// `FltGetStreamHandleContext`): a reference more, in the hand. Refused, nothing changed: 30 where the worker is in no callback of an instance, 21 where the
-    /// filter didn't register the kind, 27 where the callback has no such object, 24 where none is set, 26 where the hand has 16 references. It takes no memory.
+    /// filter didn't register the kind, 27 where the callback has no such object, 13 where the handle is closed or the stream torn down, 24 where none is set, 26
+    /// where the hand has 16 references. It takes no memory.
     pub fn get(&mut self, worker: WorkerId, kind: ContextKind) -> Result<CtxId, Status>
         ensures event { Gets self.old worker kind result self.new }
         ensures hand { OnlyHandOf worker.0 self.old self.new }
@@ -137,6 +139,9 @@ impl State {
             Ok(found) => found,
             Err(status) => return Err(status),
         };
+        if !is_there(&self.files, object) {
+            return Err(Status::DeletingObject);
+        }
         self.contexts.get(worker, owner, object)
     }
 

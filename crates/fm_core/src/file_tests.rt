@@ -2,14 +2,16 @@
 
 use crate::state::State;
 use fm_altitude::Altitude;
-use fm_data::{Answer, CallbackData, Params, PostVerdict, PreVerdict};
+use fm_ctx::{Count, SetMode};
+use fm_data::{Answer, CallbackData, Completion, Params, PostVerdict, PreVerdict};
 use fm_flow::FlowAction;
 use fm_types::{
-    Bytes, ContextMask, CreateMode, FilterId, HandleId, Name, OpId, OpMask, Registration, RelPath,
-    Status, VolumeId, WorkerId,
+    Bytes, ContextKind, ContextMask, CreateMode, CtxId, FilterId, HandleId, Name, OpId, OpMask,
+    Registration, RelPath, Status, VolumeId, WorkerId,
 };
-use fm_world::{Begin, FileRequest};
+use fm_world::{Begin, FileRequest, SetAnswer};
 use std::alloc::Global;
+use std::process::Abort;
 use std::test::Fail;
 
 const WORKER: WorkerId = WorkerId(0);
@@ -286,13 +288,21 @@ fn return_pre(state: &mut State, verdict: PreVerdict, data: CallbackData) -> Res
     }
 }
 
-#[test]
-fn complete_in_preoperation(rt: HostRuntime) -> Result<(), Fail> {
-    let mut state = mounted(rt.alloc())?;
+// The postoperation that the worker is in returns.
+fn return_post(state: &mut State, data: CallbackData) -> Result<(), Status> {
+    match state.post_returned(WORKER, PostVerdict::Finished, Some(data)) {
+        Ok(()) => Ok(()),
+        Err(refused) => Err(refused.status),
+    }
+}
+
+// A volume with one instance of a filter that is registered for everything.
+fn filtered(alloc: Global) -> Result<State, Status> {
+    let mut state = mounted(alloc)?;
     let registration = Registration {
         pre: OpMask::ALL,
         post: OpMask::ALL,
-        contexts: ContextMask::NONE,
+        contexts: ContextMask::ALL,
         query: false,
         unload: false,
     };
@@ -300,11 +310,23 @@ fn complete_in_preoperation(rt: HostRuntime) -> Result<(), Fail> {
     let altitude = Altitude::read(b"100")?;
     state.attach(WORKER, FilterId(0), VOLUME, Name::read(b"a")?, altitude)?;
     state.setup_done(WORKER, true)?;
+    Ok(state)
+}
+
+// The worker enters an operation's preoperation.
+fn enter(state: &mut State, operation: OpId) -> Result<CallbackData, Status> {
+    match state.next(WORKER, operation)? {
+        FlowAction::Pre(_, data) => Ok(data),
+        _ => Err(Status::WrongStep),
+    }
+}
+
+#[test]
+fn complete_in_preoperation(rt: HostRuntime) -> Result<(), Fail> {
+    let mut state = filtered(rt.alloc())?;
     let first = create(&mut state, CreateMode::Always)?;
     assert!(rt; state.file_of(first).is_some());
-    let FlowAction::Pre(_, data) = state.next(WORKER, first)? else {
-        return Err(Fail::from("no preoperation"));
-    };
+    let data = enter(&mut state, first)?;
     return_pre(&mut state, PreVerdict::Complete(Status::AccessDenied), data)?;
     assert!(rt; state.file_of(first).is_none());
     assert!(rt; matches!(state.next(WORKER, first), Ok(FlowAction::Done)));
@@ -314,9 +336,7 @@ fn complete_in_preoperation(rt: HostRuntime) -> Result<(), Fail> {
         (Status::AccessDenied, 0)
     );
     let second = create(&mut state, CreateMode::Always)?;
-    let FlowAction::Pre(_, data) = state.next(WORKER, second)? else {
-        return Err(Fail::from("no preoperation"));
-    };
+    let data = enter(&mut state, second)?;
     return_pre(&mut state, PreVerdict::NoCallback, data)?;
     assert!(rt;
         state
@@ -328,4 +348,119 @@ fn complete_in_preoperation(rt: HostRuntime) -> Result<(), Fail> {
         Ok((true, Status::Success, 0, 0))
     );
     Ok(())
+}
+
+// A create whose preoperation sends a stream context along.
+fn carry(rt: &impl Abort, alloc: Global, state: &mut State) -> Result<(OpId, CtxId), Fail> {
+    let creating = create(state, CreateMode::Always)?;
+    let data = enter(state, creating)?;
+    let body = Bytes::new(alloc);
+    let context = state.allocate(WORKER, ContextKind::Stream, body)?;
+    assert_eq!(rt;
+        state.set(WORKER, context, SetMode::Keep, false),
+        SetAnswer::Refused(Status::NoObject)
+    );
+    assert_eq!(rt;
+        return_pre(
+            state,
+            PreVerdict::NoCallback,
+            CallbackData::new(alloc, Params::Read { offset: 0, len: 0 })
+        ),
+        Err(Status::BadRequest)
+    );
+    let completion = Completion {
+        number: 0,
+        context: Some(context),
+    };
+    return_pre(state, PreVerdict::WithCallback(completion), data)?;
+    assert_eq!(rt; state.count(context), Count::Live(1));
+    Ok((creating, context))
+}
+
+// The base answers a create, and the worker enters its postoperation.
+fn come_back(
+    alloc: Global,
+    state: &mut State,
+    creating: OpId,
+    status: Status,
+) -> Result<CallbackData, Status> {
+    let FlowAction::Base(call) = state.next(WORKER, creating)? else {
+        return Err(Status::WrongStep);
+    };
+    answer(alloc, state, call, status)?;
+    match state.next(WORKER, creating)? {
+        FlowAction::Post(_, data, _) => Ok(data),
+        _ => Err(Status::WrongStep),
+    }
+}
+
+// An operation that passes the instance without a postoperation.
+fn pass(alloc: Global, state: &mut State, operation: OpId) -> Result<(), Status> {
+    let data = enter(state, operation)?;
+    return_pre(state, PreVerdict::NoCallback, data)?;
+    succeed(alloc, state, operation)?;
+    Ok(())
+}
+
+// The context is cleaned up, and nothing else is due.
+fn cleans(rt: &impl Abort, state: &mut State, context: CtxId) -> Result<(), Fail> {
+    let due = state.take_due(WORKER)?;
+    assert!(rt; due.is_some_and(|due| due.id == context));
+    state.cleaned(WORKER, 0)?;
+    assert!(rt; state.take_due(WORKER)?.is_none());
+    Ok(())
+}
+
+#[test]
+fn contexts_of_a_create(rt: HostRuntime) -> Result<(), Fail> {
+    let mut state = filtered(rt.alloc())?;
+    let (creating, context) = carry(&rt, rt.alloc(), &mut state)?;
+    let data = come_back(rt.alloc(), &mut state, creating, Status::Success)?;
+    assert_eq!(rt;
+        state.set(WORKER, context, SetMode::Keep, false),
+        SetAnswer::Linked(None)
+    );
+    assert_eq!(rt; state.count(context), Count::Live(2));
+    return_post(&mut state, data)?;
+    assert_eq!(rt; (state.count(context), state.leaks()), (Count::Live(1), 1));
+    let cleanup = ask(&mut state, 0, FileRequest::Cleanup)?;
+    pass(rt.alloc(), &mut state, cleanup)?;
+    let close = ask(&mut state, 0, FileRequest::Close)?;
+    pass(rt.alloc(), &mut state, close)?;
+    assert_eq!(rt; state.count(context), Count::Due);
+    cleans(&rt, &mut state, context)
+}
+
+#[test]
+fn contexts_of_a_failed_create(rt: HostRuntime) -> Result<(), Fail> {
+    let mut state = filtered(rt.alloc())?;
+    let (creating, context) = carry(&rt, rt.alloc(), &mut state)?;
+    let data = come_back(rt.alloc(), &mut state, creating, Status::FileNotFound)?;
+    assert_eq!(rt;
+        state.set(WORKER, context, SetMode::Keep, false),
+        SetAnswer::Refused(Status::NoObject)
+    );
+    return_post(&mut state, data)?;
+    assert_eq!(rt; (state.count(context), state.leaks()), (Count::Due, 1));
+    cleans(&rt, &mut state, context)
+}
+
+// A stream context that a create, still under way when the last handle closes, keeps in its place: with the create the stream goes.
+#[test]
+fn contexts_of_a_stream_that_a_create_keeps(rt: HostRuntime) -> Result<(), Fail> {
+    let mut state = filtered(rt.alloc())?;
+    let (creating, context) = carry(&rt, rt.alloc(), &mut state)?;
+    let data = come_back(rt.alloc(), &mut state, creating, Status::Success)?;
+    state.set(WORKER, context, SetMode::Keep, false);
+    return_post(&mut state, data)?;
+    let late = create(&mut state, CreateMode::Existing)?;
+    let cleanup = ask(&mut state, 0, FileRequest::Cleanup)?;
+    pass(rt.alloc(), &mut state, cleanup)?;
+    let close = ask(&mut state, 0, FileRequest::Close)?;
+    pass(rt.alloc(), &mut state, close)?;
+    assert_eq!(rt; state.count(context), Count::Live(1));
+    let data = enter(&mut state, late)?;
+    return_pre(&mut state, PreVerdict::Complete(Status::AccessDenied), data)?;
+    assert_eq!(rt; state.count(context), Count::Due);
+    cleans(&rt, &mut state, context)
 }

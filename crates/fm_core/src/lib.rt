@@ -16,6 +16,7 @@ mod file_tests;
 mod files;
 mod hands;
 mod instances;
+mod links;
 mod operations;
 mod place;
 mod readers;

@@ -10,6 +10,7 @@ ghost use Rattle.fm_core.specs.Returned.{status_of};
 use crate::ahead::{drains_next, lies_below, state_given};
 use crate::answers::{known_in, note_answer, note_verdict, taken};
 use crate::hands::{bring_back, end_callback, of_hand, sent_in};
+use crate::links::unlink_lost;
 use crate::place::{base_of, drain_of, post_of, pre_of};
 use crate::returned::{answer_strange, answer_strange_data, note_return};
 use crate::state::State;
@@ -24,7 +25,8 @@ impl State {
     /// Answers what a worker has to do next for an operation: call a callback or the base, ask again (an entry was recorded without a call), wait until
     /// a filter resumes it, or nothing more. After a callback or a call the worker is inside it. Refused with 30, nothing changed: where the worker
     /// isn't idle or isn't there, where there is no such operation or another worker is inside it, and where the next callback is a synchronized
-    /// postoperation of another worker. The context that a completion carries is in the worker's hand again. It takes no memory.
+    /// postoperation of another worker. The context that a completion carries is in the worker's hand again. Where the base's answer was known and took
+    /// away a handle or a stream, the contexts set on it lose their links. It takes no memory.
     pub fn next(&mut self, worker: WorkerId, operation: OpId) -> Result<FlowAction, Status>
         ensures event { Nexts self.old worker operation result self.new }
         ensures hand { OnlyHandOf worker.0 self.old self.new }
@@ -43,11 +45,13 @@ impl State {
         note_next(&mut self.workers, worker, operation, &answer);
         let known = known_in(&answer, below);
         note_answer(&mut self.files, &self.flow, target, known);
+        unlink_lost(&mut self.contexts, &self.files, target, known.is_some());
         answer
     }
 
     /// The preoperation callback that the worker is in returns, with its verdict and its data. A completion takes a context of the worker's hand along, and
-    /// counts as having none where the hand has it not; what else is in the hand is released and counts as leaked. Refused, nothing changed and the data handed back: 30
+    /// counts as having none where the hand has it not; what else is in the hand is released and counts as leaked. Where a create that it completes was all
+    /// that kept its stream, the contexts set on that lose their links. Refused, nothing changed and the data handed back: 30
     /// where the worker is in no preoperation, 32 where the data is strange: of another operation, on another path of a create, or past a limit.
     pub fn pre_returned(
         &mut self,
@@ -75,10 +79,12 @@ impl State {
         end_callback(&mut self.contexts, worker, sent, answer.is_ok());
         note_return(&mut self.workers, worker, answer.is_ok());
         note_verdict(&mut self.files, &self.flow, target, state, answer.is_ok());
+        unlink_lost(&mut self.contexts, &self.files, target, answer.is_ok());
         answer_strange(answer)
     }
 
-    /// The base call that the worker is in returns, with the parameters that it was lent and its answer. Refused, nothing changed and both handed back:
+    /// The base call that the worker is in returns, with the parameters that it was lent and its answer. The contexts that are set on a handle that closes,
+    /// or on a stream that is torn down, lose their links. Refused, nothing changed and both handed back:
     /// 30 where the worker is in no base call, 32 where the parameters are strange or more than 32,768 bytes come back.
     pub fn base_returned(
         &mut self,
@@ -104,6 +110,7 @@ impl State {
         note_return(&mut self.workers, worker, answer.is_ok());
         let status = taken(answer.is_ok(), status);
         note_answer(&mut self.files, &self.flow, target, status);
+        unlink_lost(&mut self.contexts, &self.files, target, status.is_some());
         answer_strange(answer)
     }
 

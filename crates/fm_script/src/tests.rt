@@ -81,7 +81,7 @@ fn lines(alloc: Global, rt: &impl Abort, text: &str) -> Vec<u8> {
 }
 
 // Rows: a name, the input and the output, lines divided by `; `.
-const ROWS: [(&str, &str, &str); 27] = [
+const ROWS: [(&str, &str, &str); 29] = [
     (
         "altitude_order",
         "load f; mount v; attach f0 v0 a 03333; attach f0 v0 b 100.123456; list v0; go w0 o0",
@@ -211,6 +211,16 @@ const ROWS: [(&str, &str, &str); 27] = [
         "close_fails",
         "mount v; fail 2; create v0 f always; go w0 o0; delete h0; go w0 o1; cleanup h0; go w0 o2; close h0; go w0 o3; failures; cleanup h0; create v0 f existing; go w0 o4",
         "ok v0; ok; ok o0; base 0; reply 0 0 -; ok o1; base 0; reply 0 0 -; ok o2; base 0; reply 0 0 -; ok o3; base 18; reply 18 0 -; failures 1; no 14; ok o4; base 0; reply 0 1 -",
+    ),
+    (
+        "close_under_a_reference",
+        "load f; mount v; attach f0 v0 a 100; create v0 x always; go w0 o0; read h0 0 0; next w2 o1; alloc w2 handle 01; set w2 c0 keep; cleanup h0; go w1 o2; close h0; go w1 o3; count c0; rel w2 c0; due w1; cleaned w1; due w1; pre w2 none; go w2 o1",
+        "ok f0; ok v0; ok i0; ok o0; pre i0 with; base 0; post i0; reply 0 0 -; ok o1; pre i0; ok c0; ok; ok o2; pre i0 with; base 0; post i0; reply 0 0 -; ok o3; pre i0 with; base 0; post i0; reply 0 0 -; count 1; ok; cleanup c0; ok; none; ok; base 14; reply 14 0 -",
+    ),
+    (
+        "contexts_of_files",
+        "load f; mount v; attach f0 v0 a 100; create v0 x always; go w0 o0; read h0 0 0; next w0 o1; alloc w0 stream 01; alloc w0 handle 02; set w0 c0 keep; set w0 c1 keep; get w0 stream; get w0 handle; count c0; count c1; pre w0 none; leaks; go w0 o1; flush h0; next w1 o2; get w1 stream; rel w1 c0; del w1 handle; count c1; get w1 handle; pre w1 none; go w1 o2; read h0 0 0; next w2 o3; cleanup h0; go w1 o4; close h0; go w1 o5; count c0; get w2 handle; get w2 stream; alloc w2 stream 03; set w2 c2 keep; del w2 stream; pre w2 none; go w2 o3; leaks; due w0; cleaned w0; due w0; cleaned w0; due w0; cleaned w0; due w0",
+        "ok f0; ok v0; ok i0; ok o0; pre i0 with; base 0; post i0; reply 0 0 -; ok o1; pre i0; ok c0; ok c1; ok; ok; ok c0; ok c1; count 3; count 3; ok; leaks 4; base 0; reply 0 0 -; ok o2; pre i0; ok c0; ok; ok; due; no 24; ok; base 0; reply 0 0 -; ok o3; pre i0; ok o4; pre i0 with; base 0; post i0; reply 0 0 -; ok o5; pre i0 with; base 0; post i0; reply 0 0 -; due; no 13; no 13; ok c2; no 13; no 24; ok; base 14; reply 14 0 -; leaks 5; cleanup c1; ok; cleanup c0; ok; cleanup c2; ok; none",
     ),
     (
         "files_and_refusals",

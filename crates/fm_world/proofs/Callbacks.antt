@@ -25,25 +25,27 @@ use Rattle.fm_ctx.proofs.Moves.{within_hands, reference_keeps, release_keeps, bo
 use Rattle.fm_world.specs.declared.worker.Worker.{Worker}
 use Rattle.fm_world.specs.World.{World, carries}
 use Rattle.fm_world.specs.Workers.{worker_at}
-use Rattle.fm_world.specs.Owners.{row_at, place_in, belongs, HoldsIn}
+use Rattle.fm_world.specs.Links.{names_there}
+use Rattle.fm_world.specs.declared.file.FileObject.{FileObject}
+use Rattle.fm_world.specs.Owners.{file_of, row_at, place_in, belongs, HoldsIn, fits}
 use Rattle.fm_world.specs.ContextEvents.{Callback, callback_in, callback_of, InCallbackOf, with_contexts, References, Releases, ReadsBody, WritesBody, Bumps}
 use Rattle.fm_world.specs.Sound.{IsSound, IsOwned}
 use Rattle.fm_world.proofs.Belonging.{OwnersStay, owners_same, owners_changed, belongs_still, filters_same, held_has, all_without, AllHold, all_hold, all_hold_still, nobody_moved, all_carry_still}
-use Rattle.fm_world.proofs.Fitting.{AllFit, fits_changed}
+use Rattle.fm_world.proofs.Fitting.{AllFit, AllPass, passes_changed}
 use Rattle.fm_world.proofs.Keeps.{whatever_contexts}
 
 -- ---- the callback that a worker is in
 
-pub callback_parts : (s : StackWorld) (m : Option InstanceId) (at : Callback) → callback_in s m ≡ Some at
+pub callback_parts : (s : StackWorld) (file : Option FileObject) (m : Option InstanceId) (at : Callback) → callback_in s file m ≡ Some at
     → (m ≡ Some at.instance) × (row_at s at.instance ≡ Some at.row)
-callback_parts s None at h = absurd (none-some at h)
-callback_parts s (Some i) at h = at_row (row_at s i) refl h
+callback_parts s file None at h = absurd (none-some at h)
+callback_parts s file (Some i) at h = at_row (row_at s i) refl h
   where
-    at_row : (o : Option Instance) → row_at s i ≡ o → option_map (λ (row : Instance). record { instance = i; row = row }) o ≡ Some at
+    at_row : (o : Option Instance) → row_at s i ≡ o → option_map (λ (row : Instance). record { instance = i; row = row; file = file }) o ≡ Some at
         → (Some i ≡ Some at.instance) × (row_at s at.instance ≡ Some at.row)
     at_row None there h = absurd (none-some at h)
     at_row (Some row) there h =
-        let is : record { instance = i; row = row } ≡ at = same_Some (record { instance = i; row = row }) at h in
+        let is : record { instance = i; row = row; file = file } ≡ at = same_Some (record { instance = i; row = row; file = file }) at h in
         (ap (λ (x : Callback). Some x.instance) is, subst (λ (x : Callback). row_at s x.instance ≡ Some x.row) is there)
 
 -- a worker in a callback is there
@@ -59,7 +61,7 @@ pub record IsIn (w : World) (k : WorkerId) (at : Callback) : Type 0 where
 
 pub is_in : (w : World) (k : WorkerId) (at : Callback) → IsSound w → callback_of w k ≡ Some at → IsIn w k at
 is_in w k at s h =
-    let parts = callback_parts w.stack (place_in (worker_at w.workers k)) at h in
+    let parts = callback_parts w.stack (file_of w.flow (worker_at w.workers k)) (place_in (worker_at w.workers k)) at h in
     let within = worker_within w k (worker_at w.workers k) at.instance refl parts.0 in
     record {
       place = parts.0;
@@ -93,8 +95,8 @@ contexts_owned w t k hand lawful cleaning owners hands worker here fit h =
       totals = h.totals;
     }
 
-pub sound_with : (w : World) (t : ContextTable) → IsOwned (with_contexts w t) → IsSound w → IsSound (with_contexts w t)
-sound_with w t owned s = record { under_way = whatever_contexts w t w.totals s.under_way; owned = owned; filed = s.filed }
+pub sound_with : (w : World) (t : ContextTable) → IsOwned (with_contexts w t) → AllPass (names_there w.files) t.slots → IsSound w → IsSound (with_contexts w t)
+sound_with w t owned links s = record { under_way = whatever_contexts w t w.totals s.under_way; owned = owned; filed = s.filed; links = links }
 
 -- what a worker holds in a callback
 pub in_hand : (w : World) (k : WorkerId) (at : Callback) (c : CtxId) → IsIn w k at → IsOwned w → holds (hand_of w.contexts.hands k.0) c ≡ true
@@ -134,7 +136,7 @@ grabbed_sound w k at c i s lawful own =
     let t = grabbed w.contexts k.0 c in
     let owners = owners_same w.contexts.slots t.slots refl in
     sound_with w t
-    (contexts_owned w t k (hand_of w.contexts.hands k.0 ++ c ∷ []) lawful refl owners refl i.worker (one_more w t k at c i s.owned owners own) s.owned.fits s.owned) s
+    (contexts_owned w t k (hand_of w.contexts.hands k.0 ++ c ∷ []) lawful refl owners refl i.worker (one_more w t k at c i s.owned owners own) s.owned.fits s.owned) s.links s
 
 pub reference_sound : (old : World) (k : WorkerId) (c : CtxId) (result : Result (Unit {0}) Status) (new : World) → References old k c result new → IsSound old → IsSound new
 unfolding References
@@ -162,7 +164,7 @@ release_sound old k c (Ok done) new h s =
     subst IsSound (sym event.1)
     (sound_with old t
     (contexts_owned old t k (without c (hand_of old.contexts.hands k.0)) (release_keeps k.0 c s.owned.lawful i.worker has) refl owners refl i.worker
-    (all_without (HoldsIn old.stack t.slots (place_in (worker_at old.workers k))) c (hand_of old.contexts.hands k.0) (s.owned.holders k)) s.owned.fits s.owned) s)) s
+    (all_without (HoldsIn old.stack t.slots (place_in (worker_at old.workers k))) c (hand_of old.contexts.hands k.0) (s.owned.holders k)) s.owned.fits s.owned) s.links s)) s
 
 pub same_hands : (hands : List (List CtxId)) (w : ℕ) → hands ≡ slice_set hands w (hand_of hands w)
 same_hands hands w = sym (set-get_or hands w [])
@@ -174,7 +176,8 @@ rewritten_sound w k at c bytes i s =
     sound_with w t
     (contexts_owned w t k (hand_of w.contexts.hands k.0) (body_keeps c bytes s.owned.lawful) refl owners (same_hands w.contexts.hands k.0) i.worker
     (same_hand w t k s.owned owners)
-    (fits_changed w.stack (option_map (with_body bytes)) w.contexts.slots c refl (λ x there fit. fit) s.owned.fits) s.owned) s
+    (passes_changed (fits w.stack) (option_map (with_body bytes)) w.contexts.slots c refl (λ x there fit. fit) s.owned.fits) s.owned)
+    (passes_changed (names_there w.files) (option_map (with_body bytes)) w.contexts.slots c refl (λ x there named. named) s.links) s
 
 pub read_body_sound : (old : World) (k : WorkerId) (c : CtxId) (result : Result (List ℕ) Status) (new : World) → ReadsBody old k c result new → IsSound old → IsSound new
 unfolding ReadsBody

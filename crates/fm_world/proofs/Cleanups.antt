@@ -49,7 +49,8 @@ use Rattle.fm_world.specs.ContextEvents.{after_due, TakesDue, totalled_for, filt
 use Rattle.fm_world.specs.Sound.{IsSound, IsUnderWay, IsOwned, is_in_setup, setup_row}
 use Rattle.fm_world.proofs.Belonging.{owners_changed, owners_same, belongs_still, filters_same, FiltersStay, AllHold, all_hold, all_hold_still, others_stay, all_carry_still}
 use Rattle.fm_world.proofs.Callbacks.{none_of, not_false, same_hands}
-use Rattle.fm_world.proofs.Fitting.{fits_changed, owner_stays, link_stays}
+use Rattle.fm_world.specs.Links.{names_there}
+use Rattle.fm_world.proofs.Fitting.{passes_changed, owner_stays, link_stays}
 use Rattle.fm_world.proofs.Counts.{count-cons}
 use Rattle.fm_world.proofs.Keeps.{unless_cases, idle_there, moves_outside, workers_move, stack_moves, whatever_contexts}
 use Rattle.fm_world.proofs.Operations.{setups_stay}
@@ -105,7 +106,7 @@ taken_owned w k c at first s =
           (subst (λ m. All (HoldsIn w.stack t.slots (place_in m)) (hand_of w.contexts.hands k.0)) (sym (slice_get-set_same w.workers k.0 (place.Cleanup c) within)) old_hand)
           h.holders);
       completions = all_carry_still w.stack w.contexts.slots w.stack t.slots w.flow.operations still h.completions;
-      fits = fits_changed w.stack (option_map emptied) w.contexts.slots c refl (λ x there fit. fit) h.fits;
+      fits = passes_changed (fits w.stack) (option_map emptied) w.contexts.slots c refl (λ x there fit. fit) h.fits;
       quiet = h.quiet;
       totals = h.totals;
     }
@@ -120,6 +121,7 @@ take_due_at old k new (Some c) at first e s =
           (worker_moves old k place.Idle (place.Cleanup c) at idle_is_in_none (cleanup_in_none c) (λ i. refl) (λ i. refl) s.under_way);
       owned = taken_owned old k c at first s;
       filed = s.filed;
+      links = passes_changed (names_there old.files) (option_map emptied) old.contexts.slots c refl (λ x there named. named) s.links;
     })
 
 pub take_due_sound : (old : World) (k : WorkerId) (result : Result (Option Due) Status) (new : World) → TakesDue old k result new → IsSound old → IsSound new
@@ -239,7 +241,7 @@ cleaned_owned w k c number at s =
           (λ r p q. all_both (AskCarries w.stack w.contexts.slots) (λ (ask : Ask). carried_in c ask.completion ≡ 0) (AskCarries w.stack slots) (owed r.entries)
           (λ ask a b. ask_other w.stack w.contexts.slots c ask a b) p q)
           h.completions (none_carry c w.flow.operations carried_none);
-      fits = fits_changed w.stack (λ (x : Option Context). None) w.contexts.slots c refl (λ x there fit. refl) h.fits;
+      fits = passes_changed (fits w.stack) (λ (x : Option Context). None) w.contexts.slots c refl (λ x there fit. refl) h.fits;
       quiet = h.quiet;
       totals = totals_kept (filter_of w.stack (context_at w.contexts.slots c)) number w.totals h.totals;
     }
@@ -254,6 +256,7 @@ cleaned_at old k number result new (Some (place.Cleanup c)) at h s =
           (worker_moves old k (place.Cleanup c) place.Idle at (cleanup_in_none c) idle_is_in_none (λ i. refl) (λ i. refl) s.under_way);
       owned = cleaned_owned old k c number at s;
       filed = s.filed;
+      links = passes_changed (names_there old.files) (λ (x : Option Context). None) old.contexts.slots c refl (λ x there named. refl) s.links;
     })
 cleaned_at old k number result new (Some place.Idle) at h s = subst IsSound (sym h.1) s
 cleaned_at old k number result new (Some (place.Setup i)) at h s = subst IsSound (sym h.1) s
@@ -354,6 +357,7 @@ finish_sound old i (Ok done) new h s =
           (λ j. s.under_way.setups j ∙ sym (setup_kept finish_row old.stack.instances i.0 j row.0 row.1 (sym (not_setup row.0.phase row.2))))
           s.under_way;
       filed = s.filed;
+      links = s.links;
       owned = record {
         lawful = k.lawful;
         cleaning = k.cleaning;

@@ -21,8 +21,12 @@ use Rattle.fm_ctx.specs.Settling.{swept, swept_slot}
 use Rattle.fm_ctx.specs.Table.{Context, Slot, context_at, context_in, changed_slot, change_context}
 use Rattle.fm_world.specs.Owners.{row_at, fits, owner_fits, link_fits, is_left_by, keeps_links_by, is_volume, is_instance}
 
+-- a test of all contexts
+abbrev pub AllPass : (Option Context → Bool) → List Slot → Type 0
+AllPass p slots = All (λ (x : Slot). p x.context ≡ true) slots
+
 abbrev pub AllFit : StackWorld → List Slot → Type 0
-AllFit s slots = All (λ (x : Slot). fits s x.context ≡ true) slots
+AllFit s slots = AllPass (fits s) slots
 
 -- ---- contexts change
 
@@ -31,32 +35,32 @@ there_in : (slots : List Slot) (c : CtxId) (x : Slot) → slice_get slots c.slot
 unfolding context_at
 there_in slots c x h same = ap (option_and_then (context_in c)) h ∙ ap (λ b. cond b x.context None) same
 
-pub fits_changed : (s : StackWorld) (f : Option Context → Option Context) (slots : List Slot) (c : CtxId) → f None ≡ None
-    → ((x : Context) → context_at slots c ≡ Some x → fits s (Some x) ≡ true → fits s (f (Some x)) ≡ true)
-    → AllFit s slots → AllFit s (change_context f slots c)
-fits_changed s f slots c none keeps h =
-    All-updated (λ (x : Slot). fits s x.context ≡ true) (λ (x : Slot). fits s x.context ≡ true) (changed_slot f c) slots c.slot h
+pub passes_changed : (p : Option Context → Bool) (f : Option Context → Option Context) (slots : List Slot) (c : CtxId) → f None ≡ None
+    → ((x : Context) → context_at slots c ≡ Some x → p (Some x) ≡ true → p (f (Some x)) ≡ true)
+    → AllPass p slots → AllPass p (change_context f slots c)
+passes_changed p f slots c none keeps h =
+    All-updated (λ (x : Slot). p x.context ≡ true) (λ (x : Slot). p x.context ≡ true) (changed_slot f c) slots c.slot h
     (λ x there fit. by_generation x there fit)
     (λ k x other there fit. fit)
   where
-    by_context : (x : Slot) (o : Option Context) → x.context ≡ o → context_at slots c ≡ o → fits s x.context ≡ true → fits s (f o) ≡ true
-    by_context x None is there fit = ap (fits s) none
-    by_context x (Some y) is there fit = keeps y there (sym (ap (fits s) is) ∙ fit)
+    by_context : (x : Slot) (o : Option Context) → x.context ≡ o → context_at slots c ≡ o → p x.context ≡ true → p (f o) ≡ true
+    by_context x None is there fit = ap p (none ∙ sym is) ∙ fit
+    by_context x (Some y) is there fit = keeps y there (sym (ap p is) ∙ fit)
 
-    by_generation : (x : Slot) → slice_get slots c.slot ≡ Some x → fits s x.context ≡ true → fits s (changed_slot f c x).context ≡ true
+    by_generation : (x : Slot) → slice_get slots c.slot ≡ Some x → p x.context ≡ true → p (changed_slot f c x).context ≡ true
     by_generation x there fit =
         elim (cases_Bool (c.generation == x.generation)) [
-          | inl same ↦ ap (λ b. fits s (cond b (record x { context = f x.context }) x).context) same ∙ by_context x x.context refl (there_in slots c x there same) fit
-          | inr apart ↦ ap (λ b. fits s (cond b (record x { context = f x.context }) x).context) apart ∙ fit
+          | inl same ↦ ap (λ b. p (cond b (record x { context = f x.context }) x).context) same ∙ by_context x x.context refl (there_in slots c x there same) fit
+          | inr apart ↦ ap (λ b. p (cond b (record x { context = f x.context }) x).context) apart ∙ fit
         ]
 
-pub fits_placed : (s : StackWorld) (slots : List Slot) (c : CtxId) (x : Context) → fits s (Some x) ≡ true → AllFit s slots → AllFit s (placed slots c x)
-fits_placed s slots c x fit h = by_place (c.slot == length slots)
+pub passes_placed : (p : Option Context → Bool) (slots : List Slot) (c : CtxId) (x : Context) → p (Some x) ≡ true → AllPass p slots → AllPass p (placed slots c x)
+passes_placed p slots c x fit h = by_place (c.slot == length slots)
   where
-    by_place : (b : Bool) → AllFit s (cond b (slots ++ new_slot c x ∷ []) (slice_set slots c.slot (new_slot c x)))
-    by_place true = All-push (λ (y : Slot). fits s y.context ≡ true) slots (new_slot c x) h fit
+    by_place : (b : Bool) → AllPass p (cond b (slots ++ new_slot c x ∷ []) (slice_set slots c.slot (new_slot c x)))
+    by_place true = All-push (λ (y : Slot). p y.context ≡ true) slots (new_slot c x) h fit
     by_place false =
-        All-set_others (λ (y : Slot). fits s y.context ≡ true) (λ (y : Slot). fits s y.context ≡ true) slots c.slot (new_slot c x) fit h (λ k y other there was. was)
+        All-set_others (λ (y : Slot). p y.context ≡ true) (λ (y : Slot). p y.context ≡ true) slots c.slot (new_slot c x) fit h (λ k y other there was. was)
 
 pub fits_unlinked : (s : StackWorld) (x : Context) → fits s (Some x) ≡ true → fits s (Some (with_link None x)) ≡ true
 fits_unlinked s x h =
@@ -73,14 +77,14 @@ fits_linked s x o link h =
     at_object (object.Stream r) h = h
     at_object (object.Handle r) h = h
 
-pub fits_swept : (s t : StackWorld) (test : Context → Bool) (slots : List Slot)
-    → ((x : Context) → fits s (Some x) ≡ true → fits t (Some (swept test x)) ≡ true) → AllFit s slots → AllFit t (map (swept_slot test) slots)
-fits_swept s t test slots keeps h =
-    All-map (λ (x : Slot). fits t x.context ≡ true) (swept_slot test) slots
-    (All-weaker (λ (x : Slot). fits s x.context ≡ true) (λ (x : Slot). fits t (option_map (swept test) x.context) ≡ true) (λ x fit. at_context x.context fit) slots h)
+pub passes_swept : (p q : Option Context → Bool) (test : Context → Bool) (slots : List Slot) → q None ≡ true
+    → ((x : Context) → p (Some x) ≡ true → q (Some (swept test x)) ≡ true) → AllPass p slots → AllPass q (map (swept_slot test) slots)
+passes_swept p q test slots none keeps h =
+    All-map (λ (x : Slot). q x.context ≡ true) (swept_slot test) slots
+    (All-weaker (λ (x : Slot). p x.context ≡ true) (λ (x : Slot). q (option_map (swept test) x.context) ≡ true) (λ x fit. at_context x.context fit) slots h)
   where
-    at_context : (o : Option Context) → fits s o ≡ true → fits t (option_map (swept test) o) ≡ true
-    at_context None fit = refl
+    at_context : (o : Option Context) → p o ≡ true → q (option_map (swept test) o) ≡ true
+    at_context None fit = none
     at_context (Some x) fit = keeps x fit
 
 -- ---- instances change
@@ -112,8 +116,8 @@ link_stays s t x (Some (object.Instance i)) more keeps h =
     let own = and_parts (same_owner (owner.Instance i) x.owner) (keeps_links_by (row_at s i)) parts.1 in
     and_from (is_instance x.kind) (same_owner (owner.Instance i) x.owner && keeps_links_by (row_at t i)) parts.0
     (and_from (same_owner (owner.Instance i) x.owner) (keeps_links_by (row_at t i)) own.0 (keeps i refl own.0 own.1))
-link_stays s t x (Some (object.Stream r)) more keeps h = absurd (false≢true h)
-link_stays s t x (Some (object.Handle r)) more keeps h = absurd (false≢true h)
+link_stays s t x (Some (object.Stream r)) more keeps h = h
+link_stays s t x (Some (object.Handle r)) more keeps h = h
 
 -- instances go on: none is detached, and none is emptied
 pub record GoesOn (s t : StackWorld) : Type 0 where

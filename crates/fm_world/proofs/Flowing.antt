@@ -68,12 +68,15 @@ use Rattle.fm_world.specs.declared.worker.Worker.TheVariants as place
 use Rattle.fm_world.specs.World.{World, carries}
 use Rattle.fm_world.specs.Workers.{worker_at, put, is_idle, after_next, cleanup_in}
 use Rattle.fm_world.specs.Owners.{row_at, place_in, HoldsIn, CarriesIn, AskCarries, fits, is_flown, is_flown_by}
-use Rattle.fm_world.specs.Events.{Begins, Nexts, NextsOver, FindsBelow, LiesBelow, PreReturns, PreReturnsAt, BaseReturns, BaseReturnsAt, PostReturns, PostReturnsAt, ReturnsFrom, Collects, brought, received, returned, drains_at, state_at, state_given, held_context, of_hand, sent, sent_in, carries_after, has_post, begin_refused, begun_on, begun_at, after_begin, moved_on, has_no_handle_left, filed_next, filed_pre, filed_base, filed_record, is_created_on, base_step, PreReturnsFrom, asked_refused, asked_begun, refused_at}
+use Rattle.fm_world.specs.Events.{Begins, Nexts, NextsOver, FindsBelow, LiesBelow, PreReturns, PreReturnsAt, BaseReturns, BaseReturnsAt, PostReturns, PostReturnsAt, ReturnsFrom, Collects, brought, received, returned, drains_at, state_at, state_given, held_context, of_hand, sent, sent_in, carries_after, has_post, begin_refused, begun_on, begun_at, after_begin, moved_on, has_no_handle_left, filed_next, filed_pre, filed_base, filed_record, is_created_on, base_step, base_returned, NextsAt, PreReturnsOver, asked_refused, asked_begun, refused_at}
 use Rattle.fm_world.specs.Headline.{AtPre, AtBase, AtPost, AtDrain}
 use Rattle.fm_world.specs.Sound.{IsSound, IsUnderWay, IsOwned, IsAmong, IsFiled}
 use Rattle.fm_world.proofs.Belonging.{owners_same, filters_same, belongs_still, AllHold, AllCarry, all_hold, others_stay, held_has}
 use Rattle.fm_world.proofs.Callbacks.{same_hands}
+use Rattle.fm_world.specs.Links.{names_there, LosesLinks}
+use Rattle.fm_world.proofs.Fitting.{AllPass}
 use Rattle.fm_world.proofs.Keeps.{unless_cases, idle_there, FiledIn}
+use Rattle.fm_world.proofs.Losing.{NamedIn, loses_filed, loses_owned, loses_named, named_more, created_there, moved_there}
 use Rattle.fm_world.proofs.Operations.{begin_keeps, next_keeps, pre_keeps, base_keeps, post_keeps, collect_keeps, may_visit, told_there, full_from, not_there, begins_at, asked_within}
 use Rattle.fm_world.proofs.Owning.{empty_hand, cleaning_stays}
 use Rattle.fm_world.proofs.Ties.{tied_there, spot_pre, spot_post, spot_drain, spot_base}
@@ -204,6 +207,21 @@ after_begin_filed old (begin.Create v path mode) free s =
     (or_left room (old.files.next == 2 ^ 64 - 1) (or_right (is_full old.flow) (has_no_handle_left old) many)) s
 after_begin_filed old (begin.OnHandle h asked) free s = at_filed old h (params_of asked) (handle_at h old.files) (asks_no_create asked) s
 
+on_named : (old : World) (h : HandleId) (p : Params) (x : FileHandle) (m : Option FileStream) → NamedIn old → NamedIn (begun_on old h p x m)
+on_named old h p x None s = s
+on_named old h p x (Some y) s =
+    named_more old.files (moved_on (operation_of p) h old.flow.next old.files) old.contexts.slots (moved_there (operation_of p) h old.flow.next old.files) s
+
+at_named : (old : World) (h : HandleId) (p : Params) (m : Option FileHandle) → NamedIn old → NamedIn (begun_at old h p m)
+at_named old h p None s = s
+at_named old h p (Some x) s = on_named old h p x (stream_at x.stream old.files) s
+
+after_begin_named : (old : World) (what : Begin) → NamedIn old → NamedIn (after_begin old what)
+after_begin_named old (begin.List v) s = s
+after_begin_named old (begin.Create v path mode) s =
+    named_more old.files (created v path old.flow.next old.files) old.contexts.slots (created_there v path old.flow.next old.files) s
+after_begin_named old (begin.OnHandle h asked) s = at_named old h (params_of asked) (handle_at h old.files) s
+
 -- an operation on a handle begins
 pub asked_sound : (old : World) (h : HandleId) (p : Params) → asked_refused old h p ≡ None → is_create (operation_of p) ≡ false → IsSound old → IsSound (asked_begun old h p)
 asked_sound old h p free none s =
@@ -212,6 +230,7 @@ asked_sound old h p free none s =
       under_way = begins_at old h p (handle_at h old.files) parts.0 parts.1 s.under_way;
       owned = at_owned old h p (handle_at h old.files) s.owned;
       filed = at_filed old h p (handle_at h old.files) none s.filed;
+      links = at_named old h p (handle_at h old.files) s.links;
     }
 
 pub begin_sound : (old : World) (what : Begin) (result : Result OpId Status) (new : World) → Begins old what result new → IsSound old → IsSound new
@@ -221,6 +240,7 @@ begin_sound old what (Ok o) new h s = record {
   under_way = begin_keeps old what (Ok o) new h s.under_way;
   owned = subst IsOwned (sym h.1.1) (after_begin_owned old what s.owned);
   filed = subst FiledIn (sym h.1.1) (after_begin_filed old what h.0 s.filed);
+  links = subst NamedIn (sym h.1.1) (after_begin_named old what s.links);
 }
 
 -- ---- next
@@ -409,8 +429,13 @@ next_filed : (old : World) (k : WorkerId) (o : OpId) (result : Result FlowAction
 unfolding Nexts
 next_filed old k o result new h s =
     unless_cases FiledIn status.WrongStep (is_idle (worker_at old.workers k)) result old new
-    ((lies : Below) × FindsBelow old.stack old.files old.flow (operation_at o old.flow) lies × NextsOver old k o lies result new) h
-    (λ idle event. next_filed_at old k o event.0 result new (operation_at o old.flow) refl event.2 s) s
+    (NextsAt old k o result new) h
+    (λ idle event. loses_filed event.2 new event.4 (next_filed_at old k o event.0 result event.2 (operation_at o old.flow) refl event.3 s)) s
+
+next_named : (old : World) (k : WorkerId) (o : OpId) (result : Result FlowAction Status) (new : World) → Nexts old k o result new → NamedIn old → NamedIn new
+unfolding Nexts
+next_named old k o result new h s =
+    unless_cases NamedIn status.WrongStep (is_idle (worker_at old.workers k)) result old new (NextsAt old k o result new) h (λ idle event. loses_named event.2 new event.4) s
 
 pub next_sound : (old : World) (k : WorkerId) (o : OpId) (result : Result FlowAction Status) (new : World) → Nexts old k o result new → IsSound old → IsSound new
 unfolding Nexts
@@ -418,13 +443,15 @@ next_sound old k o result new h s = record {
   under_way = next_keeps old k o result new h s.under_way;
   owned = owned;
   filed = next_filed old k o result new h s.filed;
+  links = next_named old k o result new h s.links;
 }
   where
     owned : IsOwned new
     owned =
         unless_cases IsOwned status.WrongStep (is_idle (worker_at old.workers k)) result old new
-        ((lies : Below) × FindsBelow old.stack old.files old.flow (operation_at o old.flow) lies × NextsOver old k o lies result new) h
-        (λ idle event. next_owned old k o event.0 result new (operation_at o old.flow) refl (idle_there old.workers k idle) event.1 event.2 s) s.owned
+        (NextsAt old k o result new) h
+        (λ idle event. loses_owned event.2 new event.4
+        (next_owned old k o event.0 result event.2 (operation_at o old.flow) refl (idle_there old.workers k idle) event.1 event.3 s)) s.owned
 
 -- ---- callbacks return
 
@@ -571,11 +598,11 @@ pre_at old k given lent result new (Some (place.Pre o i)) at h s =
     subst (All (AskCarries old.stack slots)) (sym settled.2)
     (asked_carries old.stack slots settled.0 state (owed r.entries) (subst (λ x. CarriesIn old.stack slots x (sent_in state)) (sym visited) own) asks) in
     unless_cases IsOwned status.BadRequest (told (λ r. data_fits r.operation r.path lent) false o old.flow) result old new
-    ((result ≡ Ok tt) × PreReturnsFrom old k o f state new) h
-    (λ fits event. subst IsOwned (sym event.1.1)
+    ((result ≡ Ok tt) × PreReturnsOver old k o f state new) h
+    (λ fits event. loses_owned event.1.0 new event.1.2 (subst IsOwned (sym event.1.1.1)
     (files_owned (filed_pre old o (changed o f old.flow) state)
-    (left_owned old o r f k (place.Pre o i) (sent old.contexts k (sent_in state)) new.contexts there.1 at worker refl parts.0 parts.1 parts.2 parts.3 event.1.0 owes
-    (λ j. omega (arith, pre_returned_flies j state lent r there.2 sound)) s.owned))) s.owned
+    (left_owned old o r f k (place.Pre o i) (sent old.contexts k (sent_in state)) event.1.0.contexts there.1 at worker refl parts.0 parts.1 parts.2 parts.3 event.1.1.0 owes
+    (λ j. omega (arith, pre_returned_flies j state lent r there.2 sound)) s.owned)))) s.owned
   where
     sent_owned : (w : World) (k : WorkerId) (o : OpId) (i : InstanceId) (m : Option CtxId) → worker_at w.workers k ≡ Some (place.Pre o i)
         → ((d : CtxId) → m ≡ Some d → holds (hand_of w.contexts.hands k.0) d ≡ true) → IsSound w → CarriesIn w.stack w.contexts.slots i m
@@ -600,11 +627,11 @@ pre_filed old k given lent result new (Some (place.Pre o i)) at h s =
     let f = pre_returned_of state lent in
     let read = λ (x : FlowRecord). after_pre state x.operation x.stream (is_created_on x.stream (changed o f old.flow)) old.files in
     unless_cases FiledIn status.BadRequest (told (λ r. data_fits r.operation r.path lent) false o old.flow) result old new
-    ((result ≡ Ok tt) × PreReturnsFrom old k o f state new) h
-    (λ fits event. subst FiledIn (sym event.1.1)
+    ((result ≡ Ok tt) × PreReturnsOver old k o f state new) h
+    (λ fits event. loses_filed event.1.0 new event.1.2 (subst FiledIn (sym event.1.1.1)
     (subst (λ (files : FileTable). IsFiled files (changed o f old.flow)) (sym (told_there read old.files o old.flow r there.1))
     (filed_step old.files (read r) old.flow o r f there.1 (not_more_same r (f r) refl (ap is_unanswered there.2))
-    (pre_shrinks state r.operation r.stream (is_created_on r.stream (changed o f old.flow)) old.files) s.filed))) s.filed
+    (pre_shrinks state r.operation r.stream (is_created_on r.stream (changed o f old.flow)) old.files) s.filed)))) s.filed
 pre_filed old k given lent result new (Some place.Idle) at h s = subst FiledIn (sym h.1) s.filed
 pre_filed old k given lent result new (Some (place.Setup i)) at h s = subst FiledIn (sym h.1) s.filed
 pre_filed old k given lent result new (Some (place.Base o)) at h s = subst FiledIn (sym h.1) s.filed
@@ -612,6 +639,20 @@ pre_filed old k given lent result new (Some (place.Post o i)) at h s = subst Fil
 pre_filed old k given lent result new (Some (place.Drain o i)) at h s = subst FiledIn (sym h.1) s.filed
 pre_filed old k given lent result new (Some (place.Cleanup c)) at h s = subst FiledIn (sym h.1) s.filed
 pre_filed old k given lent result new None at h s = subst FiledIn (sym h.1) s.filed
+
+pre_named : (old : World) (k : WorkerId) (given : PreVerdict) (lent : Data) (result : Result (Unit {0}) Status) (new : World) (m : Option Worker)
+    → PreReturnsAt old k given lent result new m → NamedIn old → NamedIn new
+pre_named old k given lent result new (Some (place.Pre o i)) h s =
+    let state = state_at old k o i given in
+    unless_cases NamedIn status.BadRequest (told (λ r. data_fits r.operation r.path lent) false o old.flow) result old new
+    ((result ≡ Ok tt) × PreReturnsOver old k o (pre_returned_of state lent) state new) h (λ fits event. loses_named event.1.0 new event.1.2) s
+pre_named old k given lent result new (Some place.Idle) h s = subst NamedIn (sym h.1) s
+pre_named old k given lent result new (Some (place.Setup i)) h s = subst NamedIn (sym h.1) s
+pre_named old k given lent result new (Some (place.Base o)) h s = subst NamedIn (sym h.1) s
+pre_named old k given lent result new (Some (place.Post o i)) h s = subst NamedIn (sym h.1) s
+pre_named old k given lent result new (Some (place.Drain o i)) h s = subst NamedIn (sym h.1) s
+pre_named old k given lent result new (Some (place.Cleanup c)) h s = subst NamedIn (sym h.1) s
+pre_named old k given lent result new None h s = subst NamedIn (sym h.1) s
 
 pub pre_sound : (old : World) (k : WorkerId) (given : PreVerdict) (lent : Data) (result : Result (Unit {0}) Status) (new : World)
     → PreReturns old k given lent result new → IsSound old → IsSound new
@@ -621,6 +662,7 @@ pre_sound old k given lent result new h s =
       under_way = pre_keeps old k given lent result new h s.under_way;
       owned = pre_at old k given lent result new (worker_at old.workers k) refl h s;
       filed = pre_filed old k given lent result new (worker_at old.workers k) refl h s;
+      links = pre_named old k given lent result new (worker_at old.workers k) h s.links;
     }
 
 -- ---- the base's call returns
@@ -637,8 +679,8 @@ base_at old k call given result new (Some (place.Base o)) at h s =
     let asks = found_holds (λ (x : FlowRecord). All (AskCarries old.stack slots) (owed x.entries)) (is_number o) old.flow.operations r s.owned.completions there.1 in
     let none = empty_hand old k (place.Base o) at refl s.owned in
     unless_cases IsOwned status.BadRequest (told (base_fits call given) false o old.flow) result old new
-    ((result ≡ Ok tt) × (new ≡ record (returned old k o f) { files = filed_base old o (changed o f old.flow) given.status })) h
-    (λ fits event. subst IsOwned (sym event.1) (files_owned (filed_base old o (changed o f old.flow) given.status)
+    ((result ≡ Ok tt) × LosesLinks (base_returned old k o call given) new) h
+    (λ fits event. loses_owned (base_returned old k o call given) new event.1 (files_owned (filed_base old o (changed o f old.flow) given.status)
     (step_owned old o r f k (place.Base o) place.Idle old.contexts (hand_of old.contexts.hands k.0) there.1 at (worker_below old k (place.Base o) at s.under_way) refl refl
     (alike old o r f there.1 (λ c. base_returned_carries c call given handle r) s.owned.lawful) refl (same_hands old.contexts.hands k.0) refl
     (subst (All (HoldsIn old.stack slots None)) (sym none) (All-nil (HoldsIn old.stack slots None)))
@@ -661,8 +703,8 @@ base_filed old k call given result new (Some (place.Base o)) at h s =
     let f = base_step old call given in
     let t = changed o f old.flow in
     unless_cases FiledIn status.BadRequest (told (base_fits call given) false o old.flow) result old new
-    ((result ≡ Ok tt) × (new ≡ record (returned old k o f) { files = filed_base old o t given.status })) h
-    (λ fits event. subst FiledIn (sym event.1)
+    ((result ≡ Ok tt) × LosesLinks (base_returned old k o call given) new) h
+    (λ fits event. loses_filed (base_returned old k o call given) new event.1
     (subst (λ (files : FileTable). IsFiled files t) (sym (told_there (filed_record old.files t given.status) old.files o old.flow r there.1))
     (filed_answered old.files old.flow o r f r.operation r.stream r.handle given.status (is_created_on r.stream t) there.1 refl (ap is_unanswered stage)
     (answered_none (f r) refl) s.filed))) s.filed
@@ -674,6 +716,19 @@ base_filed old k call given result new (Some (place.Drain o i)) at h s = subst F
 base_filed old k call given result new (Some (place.Cleanup c)) at h s = subst FiledIn (sym h.1) s.filed
 base_filed old k call given result new None at h s = subst FiledIn (sym h.1) s.filed
 
+base_named : (old : World) (k : WorkerId) (call : Params) (given : Answer) (result : Result (Unit {0}) Status) (new : World) (m : Option Worker)
+    → BaseReturnsAt old k call given result new m → NamedIn old → NamedIn new
+base_named old k call given result new (Some (place.Base o)) h s =
+    unless_cases NamedIn status.BadRequest (told (base_fits call given) false o old.flow) result old new
+    ((result ≡ Ok tt) × LosesLinks (base_returned old k o call given) new) h (λ fits event. loses_named (base_returned old k o call given) new event.1) s
+base_named old k call given result new (Some place.Idle) h s = subst NamedIn (sym h.1) s
+base_named old k call given result new (Some (place.Setup i)) h s = subst NamedIn (sym h.1) s
+base_named old k call given result new (Some (place.Pre o i)) h s = subst NamedIn (sym h.1) s
+base_named old k call given result new (Some (place.Post o i)) h s = subst NamedIn (sym h.1) s
+base_named old k call given result new (Some (place.Drain o i)) h s = subst NamedIn (sym h.1) s
+base_named old k call given result new (Some (place.Cleanup c)) h s = subst NamedIn (sym h.1) s
+base_named old k call given result new None h s = subst NamedIn (sym h.1) s
+
 pub base_sound : (old : World) (k : WorkerId) (call : Params) (given : Answer) (result : Result (Unit {0}) Status) (new : World)
     → BaseReturns old k call given result new → IsSound old → IsSound new
 unfolding BaseReturns
@@ -682,6 +737,7 @@ base_sound old k call given result new h s =
       under_way = base_keeps old k call given result new h s.under_way;
       owned = base_at old k call given result new (worker_at old.workers k) refl h s;
       filed = base_filed old k call given result new (worker_at old.workers k) refl h s;
+      links = base_named old k call given result new (worker_at old.workers k) h s.links;
     }
 
 -- ---- postoperations and drains return
@@ -774,6 +830,32 @@ post_filed old k given None result new (Some (place.Base o)) at h s = subst File
 post_filed old k given None result new (Some (place.Cleanup c)) at h s = subst FiledIn (sym h.1) s.filed
 post_filed old k given None result new None at h s = subst FiledIn (sym h.1) s.filed
 
+-- what a callback leaves behind has its links still
+left_named : (old : World) (k : WorkerId) (o : OpId) (step : FlowRecord → FlowRecord) (new : World) → ReturnsFrom old k o step old.contexts new → NamedIn old → NamedIn new
+left_named old k o step new h s = subst NamedIn (sym h.1) (subst (AllPass (names_there old.files)) (sym h.0.slots) s)
+
+post_named : (old : World) (k : WorkerId) (given : PostVerdict) (lent : Option Data) (result : Result (Unit {0}) Status) (new : World) (m : Option Worker)
+    → PostReturnsAt old k given lent result new m → NamedIn old → NamedIn new
+post_named old k given (Some lent) result new (Some (place.Post o i)) h s =
+    let f = post_returned_of given lent in
+    unless_cases NamedIn status.BadRequest (told (λ r. data_fits r.operation r.path lent) false o old.flow) result old new
+    ((result ≡ Ok tt) × ReturnsFrom old k o f old.contexts new) h (λ fits event. left_named old k o f new event.1 s) s
+post_named old k given None result new (Some (place.Drain o i)) h s = left_named old k o (drain_returned_of i) new h.1 s
+post_named old k given None result new (Some (place.Post o i)) h s = subst NamedIn (sym h.1) s
+post_named old k given (Some lent) result new (Some (place.Drain o i)) h s = subst NamedIn (sym h.1) s
+post_named old k given (Some lent) result new (Some place.Idle) h s = subst NamedIn (sym h.1) s
+post_named old k given (Some lent) result new (Some (place.Setup i)) h s = subst NamedIn (sym h.1) s
+post_named old k given (Some lent) result new (Some (place.Pre o i)) h s = subst NamedIn (sym h.1) s
+post_named old k given (Some lent) result new (Some (place.Base o)) h s = subst NamedIn (sym h.1) s
+post_named old k given (Some lent) result new (Some (place.Cleanup c)) h s = subst NamedIn (sym h.1) s
+post_named old k given (Some lent) result new None h s = subst NamedIn (sym h.1) s
+post_named old k given None result new (Some place.Idle) h s = subst NamedIn (sym h.1) s
+post_named old k given None result new (Some (place.Setup i)) h s = subst NamedIn (sym h.1) s
+post_named old k given None result new (Some (place.Pre o i)) h s = subst NamedIn (sym h.1) s
+post_named old k given None result new (Some (place.Base o)) h s = subst NamedIn (sym h.1) s
+post_named old k given None result new (Some (place.Cleanup c)) h s = subst NamedIn (sym h.1) s
+post_named old k given None result new None h s = subst NamedIn (sym h.1) s
+
 pub post_sound : (old : World) (k : WorkerId) (given : PostVerdict) (lent : Option Data) (result : Result (Unit {0}) Status) (new : World)
     → PostReturns old k given lent result new → IsSound old → IsSound new
 unfolding PostReturns
@@ -782,6 +864,7 @@ post_sound old k given lent result new h s =
       under_way = post_keeps old k given lent result new h s.under_way;
       owned = post_at old k given lent result new (worker_at old.workers k) refl h s;
       filed = post_filed old k given lent result new (worker_at old.workers k) refl h s;
+      links = post_named old k given lent result new (worker_at old.workers k) h s.links;
     }
 
 -- ---- collect
@@ -867,4 +950,5 @@ collect_sound old o result new h s =
       under_way = collect_keeps old o result new h s.under_way;
       owned = subst IsOwned (sym h.1) (collect_at old o (operation_at o old.flow) refl s.owned);
       filed = subst FiledIn (sym h.1) (filed_collects old.files o old.flow s.filed);
+      links = subst NamedIn (sym h.1) s.links;
     }

@@ -20,10 +20,9 @@ use Rattle.fm_data.specs.declared.verdict.PostVerdict.{PostVerdict}
 use Rattle.fm_data.specs.Data.{Data, data_fits}
 use Rattle.fm_flow.specs.declared.action.FlowAction.{FlowAction}
 use Rattle.fm_flow.specs.declared.action.FlowAction.TheVariants as action
-use Rattle.fm_flow.specs.declared.action.Below.{Below}
 use Rattle.fm_flow.specs.Record.{FlowRecord}
 use Rattle.fm_flow.specs.Steps.{pre_returned_of, post_returned_of, drain_returned_of, base_fits}
-use Rattle.fm_flow.specs.Table.{operation_at, told, changed}
+use Rattle.fm_flow.specs.Table.{told}
 use Rattle.fm_stack.specs.Events as stack
 use Rattle.fm_ctx.specs.declared.due.Due.{Due}
 use Rattle.fm_ctx.specs.declared.object.Object.{Object}
@@ -42,9 +41,10 @@ use Rattle.fm_world.specs.declared.worker.Worker.TheVariants as place
 use Rattle.fm_world.specs.Hands.{pairs_in, OnlyHandOf, KeepsHands}
 use Rattle.fm_world.specs.World.{World, carries}
 use Rattle.fm_world.specs.Workers.{worker_at, is_idle, after_attach}
-use Rattle.fm_world.specs.Events.{Unless, Registers, Mounts, Attaches, EmptiesUnless, SetsUpAt, SetsUp, Begins, FindsBelow, NextsOver, received, brought, Nexts, state_at, sent_in, sent, returned, ReturnsFrom, PreReturnsAt, PreReturns, BaseReturnsAt, BaseReturns, PostReturnsAt, PostReturns, Collects, PreReturnsFrom, base_step, filed_base, after_begin, begun_on, begun_at, carries_after}
+use Rattle.fm_world.specs.Events.{Unless, Registers, Mounts, Attaches, EmptiesUnless, SetsUpAt, SetsUp, Begins, received, brought, Nexts, state_at, sent_in, sent, ReturnsFrom, PreReturnsAt, PreReturns, BaseReturnsAt, BaseReturns, PostReturnsAt, PostReturns, Collects, PreReturnsOver, NextsAt, base_returned, after_begin, begun_on, begun_at, carries_after}
 use Rattle.fm_world.specs.ContextEvents.{Callback, callback_of, InCallbackOf, object_for, set_refused, SetsOn, SetsUnless, SetsIn, there_at, Allocates, Sets, Gets, Deletes, References, Releases, ReadsBody, WritesBody, Bumps, TakesDue, after_due, CleansAt, Cleans, Finishes}
 use Rattle.fm_world.specs.Files.{stream_at, handle_at}
+use Rattle.fm_world.specs.Links.{LosesLinks}
 use Rattle.fm_world.specs.Requests.{params_of}
 use Rattle.fm_world.specs.declared.file.FileHandle.{FileHandle}
 use Rattle.fm_world.specs.declared.file.FileStream.{FileStream}
@@ -311,12 +311,17 @@ received_hand t k (Ok action.Held) = no_change k.0 t.hands t.hands refl
 received_hand t k (Ok action.Done) = no_change k.0 t.hands t.hands refl
 received_hand t k (Err why) = no_change k.0 t.hands t.hands refl
 
+-- links go, and all hands stay
+loses_hand : (k : ℕ) (old mid new : World) → LosesLinks mid new → OnlyHandOf k old mid → OnlyHandOf k old new
+loses_hand k old mid new h only =
+    subst (λ hands. pairs_in hands + length (hand_of old.contexts.hands k) ≡ pairs_in old.contexts.hands + length (hand_of hands k)) (sym h.0.hands) only
+
 pub next_hand : (old : World) (k : WorkerId) (o : OpId) (result : Result FlowAction Status) (new : World) → Nexts old k o result new → OnlyHandOf k.0 old new
 unfolding Nexts
 next_hand old k o result new h =
     unless k.0 _ (is_idle (worker_at old.workers k)) result old new
-    ((lies : Below) × FindsBelow old.stack old.files old.flow (operation_at o old.flow) lies × NextsOver old k o lies result new) h
-    (λ e. by_table k.0 old new (received old.contexts k result) (ap (λ (w : World). w.contexts) e.2.1) (received_hand old.contexts k result))
+    (NextsAt old k o result new) h
+    (λ e. loses_hand k.0 old e.2 new e.4 (by_table k.0 old e.2 (received old.contexts k result) (ap (λ (w : World). w.contexts) e.3.1) (received_hand old.contexts k result)))
 
 sent_hand : (t : ContextTable) (k : WorkerId) (m : Option CtxId) → DifferAt k.0 t.hands (sent t k m).hands
 sent_hand t k None = no_change k.0 t.hands t.hands refl
@@ -334,8 +339,8 @@ pre_at_hand old k given lent result new (Some (place.Setup i)) h = stays k.0 old
 pre_at_hand old k given lent result new (Some (place.Pre o i)) h =
     let step = pre_returned_of (state_at old k o i given) lent in
     let kept = sent old.contexts k (sent_in (state_at old k o i given)) in
-    unless k.0 _ (told (λ r. data_fits r.operation r.path lent) false o old.flow) result old new ((result ≡ Ok tt) × PreReturnsFrom old k o step (state_at old k o i given) new) h
-    (λ e. returned_hand old k o step kept new e.1.0 (sent_hand old.contexts k (sent_in (state_at old k o i given))))
+    unless k.0 _ (told (λ r. data_fits r.operation r.path lent) false o old.flow) result old new ((result ≡ Ok tt) × PreReturnsOver old k o step (state_at old k o i given) new) h
+    (λ e. loses_hand k.0 old e.1.0 new e.1.2 (returned_hand old k o step kept e.1.0 e.1.1.0 (sent_hand old.contexts k (sent_in (state_at old k o i given)))))
 pre_at_hand old k given lent result new (Some (place.Base o)) h = stays k.0 old new h.1
 pre_at_hand old k given lent result new (Some (place.Post o i)) h = stays k.0 old new h.1
 pre_at_hand old k given lent result new (Some (place.Drain o i)) h = stays k.0 old new h.1
@@ -354,9 +359,8 @@ base_at_hands old k call given result new (Some (place.Setup i)) h = λ n. stays
 base_at_hands old k call given result new (Some (place.Pre o i)) h = λ n. stays n old new h.1
 base_at_hands old k call given result new (Some (place.Base o)) h =
     λ n.
-    unless n _ (told (base_fits call given) false o old.flow) result old new ((result ≡ Ok tt)
-    × (new ≡ record (returned old k o (base_step old call given)) { files = filed_base old o (changed o (base_step old call given) old.flow) given.status })) h
-    (λ e. keeps old new (ap (λ (w : World). w.contexts.hands) e.1) n)
+    unless n _ (told (base_fits call given) false o old.flow) result old new ((result ≡ Ok tt) × LosesLinks (base_returned old k o call given) new) h
+    (λ e. keeps old new e.1.0.hands n)
 base_at_hands old k call given result new (Some (place.Post o i)) h = λ n. stays n old new h.1
 base_at_hands old k call given result new (Some (place.Drain o i)) h = λ n. stays n old new h.1
 base_at_hands old k call given result new (Some (place.Cleanup c)) h = λ n. stays n old new h.1

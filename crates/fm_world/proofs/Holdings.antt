@@ -13,12 +13,11 @@ use Rattle.fm_types.specs.Refusals.{Answers, AnswersOrMemory}
 use Rattle.fm_data.specs.declared.verdict.PreVerdict.{PreVerdict}
 use Rattle.fm_data.specs.declared.verdict.PostVerdict.{PostVerdict}
 use Rattle.fm_data.specs.Data.{Data, data_fits}
-use Rattle.fm_flow.specs.declared.action.Below.{Below}
 use Rattle.fm_flow.specs.declared.action.FlowAction.{FlowAction}
 use Rattle.fm_flow.specs.declared.action.FlowAction.TheVariants as action
 use Rattle.fm_flow.specs.Record.{FlowRecord}
 use Rattle.fm_flow.specs.Steps.{pre_returned_of, post_returned_of, drain_returned_of}
-use Rattle.fm_flow.specs.Table.{operation_at, told}
+use Rattle.fm_flow.specs.Table.{told}
 use Rattle.fm_ctx.specs.declared.object.Object.{Object}
 use Rattle.fm_ctx.specs.declared.set_reply.SetMode.{SetMode}
 use Rattle.fm_ctx.specs.declared.set_reply.SetMode.TheVariants.{Keep, Replace}
@@ -34,7 +33,8 @@ use Rattle.fm_world.specs.declared.worker.Worker.{Worker}
 use Rattle.fm_world.specs.declared.worker.Worker.TheVariants as place
 use Rattle.fm_world.specs.World.{World, carries}
 use Rattle.fm_world.specs.Workers.{worker_at, is_idle}
-use Rattle.fm_world.specs.Events.{Unless, SetsUpAt, SetsUp, FindsBelow, NextsOver, brought, received, Nexts, state_at, sent_in, sent, ReturnsFrom, PreReturnsAt, PreReturns, PostReturnsAt, PostReturns, PreReturnsFrom, carries_after}
+use Rattle.fm_world.specs.Events.{Unless, SetsUpAt, SetsUp, brought, received, Nexts, state_at, sent_in, sent, ReturnsFrom, PreReturnsAt, PreReturns, PostReturnsAt, PostReturns, PreReturnsOver, NextsAt, carries_after}
+use Rattle.fm_world.specs.Links.{LosesLinks}
 use Rattle.fm_world.specs.ContextEvents.{Callback, callback_of, InCallbackOf, object_for, set_refused, set_answer, SetsOn, SetsUnless, SetsIn, there_at, with_contexts, Allocates, Sets, Gets, Deletes, References, Releases}
 use Rattle.fm_world.specs.Sound.{IsSound}
 use Rattle.fm_world.proofs.Callbacks.{is_in, none_of, not_false}
@@ -212,11 +212,24 @@ received_more old new k (Err why) e within = ap (λ (t : ContextTable). length (
 placed_hand : (old : World) (k : WorkerId) (a : Worker) → IsSound old → worker_at old.workers k ≡ Some a → k.0 < length old.contexts.hands
 placed_hand old k a s at = subst (λ n. k.0 < n) (s.under_way.hands ∙ sym s.owned.lawful.workers) (slice_get_within old.workers k.0 a at)
 
+-- links go, and all hands stay
+loses_len : (k : ℕ) (mid new : World) → LosesLinks mid new → hand_len k new ≡ hand_len k mid
+loses_len k mid new h = ap (λ (hands : List (List CtxId)). length (hand_of hands k)) h.0.hands
+
+loses_more : {T : Type 0} (k : ℕ) (result : Result T Status) (more : T → ℕ) (old mid new : World) → LosesLinks mid new → HoldsMore k result more old mid → HoldsMore k result more old new
+loses_more k (Ok value) more old mid new h held = loses_len k mid new h ∙ held
+loses_more k (Err why) more old mid new h held = loses_len k mid new h ∙ held
+
+loses_none : {T : Type 0} (k : ℕ) (result : Result T Status) (old mid new : World) → LosesLinks mid new → HoldsNone k result old mid → HoldsNone k result old new
+loses_none k (Ok value) old mid new h held = loses_len k mid new h ∙ held
+loses_none k (Err why) old mid new h held = loses_len k mid new h ∙ held
+
 next_by : (old : World) (k : WorkerId) (o : OpId) (result : Result FlowAction Status) (new : World) (b : Bool) → IsSound old → is_idle (worker_at old.workers k) ≡ b
-    → Unless status.WrongStep b result old new ((lies : Below) × FindsBelow old.stack old.files old.flow (operation_at o old.flow) lies × NextsOver old k o lies result new)
+    → Unless status.WrongStep b result old new (NextsAt old k o result new)
     → HoldsMore k.0 result given_by_next old new
-next_by old k o result new true s is (lies, finds, event) =
-    received_more old new k result (ap (λ (w : World). w.contexts) event.1) (placed_hand old k place.Idle s (idle_there old.workers k is))
+next_by old k o result new true s is event =
+    loses_more k.0 result given_by_next old event.2 new event.4
+    (received_more old event.2 k result (ap (λ (w : World). w.contexts) event.3.1) (placed_hand old k place.Idle s (idle_there old.workers k is)))
 next_by old k o result new false s is h = outside_more k.0 result given_by_next old new h
 
 pub next_more : (old : World) (k : WorkerId) (o : OpId) (result : Result FlowAction Status) (new : World) → IsSound old → Nexts old k o result new
@@ -249,8 +262,8 @@ pre_at_none : (old : World) (k : WorkerId) (given : PreVerdict) (lent : Data) (r
 pre_at_none old k given lent result new (Some (place.Pre o i)) h =
     let step = pre_returned_of (state_at old k o i given) lent in
     let kept = sent old.contexts k (sent_in (state_at old k o i given)) in
-    unless_none k.0 _ (told (λ r. data_fits r.operation r.path lent) false o old.flow) result old new ((result ≡ Ok tt) × PreReturnsFrom old k o step (state_at old k o i given) new) h
-    (λ e. returned_none old k o step kept result new e.0 e.1.0)
+    unless_none k.0 _ (told (λ r. data_fits r.operation r.path lent) false o old.flow) result old new ((result ≡ Ok tt) × PreReturnsOver old k o step (state_at old k o i given) new) h
+    (λ e. loses_none k.0 result old e.1.0 new e.1.2 (returned_none old k o step kept result e.1.0 e.0 e.1.1.0))
 pre_at_none old k given lent result new None h = refused_none k.0 result _ old new h
 pre_at_none old k given lent result new (Some place.Idle) h = refused_none k.0 result _ old new h
 pre_at_none old k given lent result new (Some (place.Setup i)) h = refused_none k.0 result _ old new h

@@ -24,6 +24,7 @@ use Rattle.fm_stack.specs.Stacks.{IsStack}
 use Rattle.fm_ctx.specs.Table.{ContextTable}
 use Rattle.fm_world.specs.declared.worker.Worker.{Worker}
 use Rattle.fm_world.specs.declared.worker.Worker.TheVariants as place
+use Rattle.fm_world.specs.Links.{LosesLinks}
 use Rattle.fm_world.specs.World.{World}
 use Rattle.fm_world.specs.Workers.{worker_at, put, is_idle, after_attach}
 use Rattle.fm_world.specs.Events.{Registers, Mounts, Attaches, SetsUp, SetsUpAt, Unless}
@@ -44,6 +45,9 @@ FiledIn w = IsFiled w.files w.flow
 -- contexts don't matter here
 pub whatever_contexts : (w : World) (t : ContextTable) (totals : List ℕ) → IsUnderWay w → IsUnderWay (record w { contexts = t; totals = totals })
 whatever_contexts w t totals h = record { stack = h.stack; flow = h.flow; among = h.among; hands = h.hands; workers = h.workers; setups = h.setups }
+
+pub loses_under_way : (old new : World) → LosesLinks old new → IsUnderWay old → IsUnderWay new
+loses_under_way old new h s = subst IsUnderWay (sym h.1) (whatever_contexts old new.contexts old.totals s)
 
 -- nor do streams and handles
 pub whatever_files : (w : World) (t : ContextTable) (files : FileTable) → IsUnderWay w → IsUnderWay (record w { contexts = t; files = files })

@@ -14,6 +14,7 @@ pub mod Linking
 pub mod Cleanups
 pub mod Owning
 pub mod Filing
+pub mod Losing
 pub mod Flowing
 pub mod Handing
 pub mod Holdings

@@ -33,13 +33,15 @@ use Rattle.fm_ctx.proofs.Sets.{room_if_wanted, set_keeps, get_keeps, delete_keep
 use Rattle.fm_ctx.proofs.Slots.{context_at-placed, none_from}
 use Rattle.fm_world.specs.declared.set_answer.SetAnswer.{SetAnswer}
 use Rattle.fm_world.specs.World.{World, carries}
-use Rattle.fm_world.specs.Owners.{row_at, has_kind, owner_by, object_by, is_closing, is_left_by, keeps_links_by, is_volume, is_instance, fits, owner_fits, link_fits, belongs, belongs_by}
-use Rattle.fm_world.specs.ContextEvents.{Callback, callback_of, with_contexts, before, context_by, Allocates, object_for, set_refused, SetsOn, SetsUnless, SetsIn, Sets, there_at, object_refused, Gets, Deletes}
+use Rattle.fm_world.specs.Links.{is_there, names_there}
+use Rattle.fm_world.specs.declared.file.FileObject.{FileObject}
+use Rattle.fm_world.specs.Owners.{row_at, has_kind, owner_by, object_by, is_closing, is_left_by, keeps_links_by, is_volume, is_instance, is_of_stream, is_of_handle, fits, owner_fits, link_fits, belongs, belongs_by}
+use Rattle.fm_world.specs.ContextEvents.{Callback, callback_of, with_contexts, before, context_by, Allocates, object_for, is_past, set_refused, SetsOn, SetsUnless, SetsIn, Sets, there_at, object_refused, Gets, Deletes}
 use Rattle.fm_world.specs.Sound.{IsSound, IsOwned}
 use Rattle.fm_world.proofs.Belonging.{owners_changed, owners_placed, belongs_still, filters_same}
 use Rattle.fm_world.proofs.Callbacks.{IsIn, is_in, in_callback, contexts_owned, sound_with, in_hand, one_more, same_hand, same_hands, none_of, not_false, grabbed_sound}
 use Rattle.fm_world.proofs.Descents.{or_right}
-use Rattle.fm_world.proofs.Fitting.{AllFit, fits_changed, fits_placed, fits_unlinked, fits_linked}
+use Rattle.fm_world.proofs.Fitting.{AllFit, AllPass, passes_changed, passes_placed, fits_unlinked, fits_linked}
 use Rattle.fm_world.proofs.Flights.{callback_left}
 
 owner_refl : (o : Owner) → same_owner o o ≡ true
@@ -83,7 +85,8 @@ allocate_sound old k what body (Ok c) new h s =
     (allocate_keeps k.0 c x s.owned.lawful i.worker fresh refl (leb-false 65536 (length old.contexts.slots) (or_right big many few.0))
     (leb-false 16 (length (hand_of old.contexts.hands k.0)) room.0))
     refl owners refl i.worker (one_more old t k at c i s.owned owners own)
-    (fits_placed old.stack old.contexts.slots c x fit s.owned.fits) s.owned) s)) s
+    (passes_placed (fits old.stack) old.contexts.slots c x fit s.owned.fits) s.owned)
+    (passes_placed (names_there old.files) old.contexts.slots c x refl s.links) s)) s
 
 -- ---- get
 
@@ -135,8 +138,9 @@ found_there w what at (Some o) c h = (o, refl, h)
 -- the refusals of get and delete
 asked_for : (w : World) (what : ContextKind) (at : Callback) (others : Option Status) → object_refused w what at others ≡ None → others ≡ None
 asked_for w what at others h =
-    let listed = none_of (not (has_kind w.stack at.row what)) status.NotRegistered (before (is_none (object_by at.row at.instance what)) status.NoObject others) h in
-    (none_of (is_none (object_by at.row at.instance what)) status.NoObject others listed.1).1
+    let object' = object_by at.row at.instance at.file what in
+    let listed = none_of (not (has_kind w.stack at.row what)) status.NotRegistered (before (is_none object') status.NoObject others) h in
+    (none_of (is_none object') status.NoObject others listed.1).1
 
 pub get_sound : (old : World) (k : WorkerId) (what : ContextKind) (result : Result CtxId Status) (new : World) → Gets old k what result new → IsSound old → IsSound new
 unfolding Gets
@@ -145,10 +149,12 @@ get_sound old k what (Ok c) new h s =
     in_callback old k (Ok c) new _ (callback_of old k) refl h (λ at i event.
     let full = is_hand_full old.contexts.hands k.0 in
     let there = there_at old what at in
-    let refusal = asked_for old what at (get_refusal old.contexts k.0 there) event.0 in
+    let object' = object_by at.row at.instance at.file what in
+    let asked = asked_for old what at (before (not (is_there old.files object')) status.DeletingObject (get_refusal old.contexts k.0 there)) event.0 in
+    let refusal = (none_of (not (is_there old.files object')) status.DeletingObject (get_refusal old.contexts k.0 there) asked).1 in
     let some = none_of (is_none there) status.NoContext (first_of ((full, status.HandFull) ∷ [])) refusal in
     let room = none_of full status.HandFull None some.1 in
-    let found = found_there old what at (object_by at.row at.instance what) c event.1.0 in
+    let found = found_there old what at object' c event.1.0 in
     subst IsSound (sym event.1.1)
     (grabbed_sound old k at c i s
     (get_keeps k.0 c (owner_by at.row at.instance what) found.0 s.owned.lawful i.worker found.2 (leb-false 16 (length (hand_of old.contexts.hands k.0)) room.0))
@@ -165,24 +171,29 @@ unlinked_owned w k at true d i s lawful own =
     let owners = owners_changed (with_link None) w.contexts.slots d (λ x. (refl, refl)) in
     contexts_owned w t k (hand_of w.contexts.hands k.0 ++ d ∷ []) lawful refl owners refl i.worker
     (one_more w t k at d i s.owned owners (belongs_still w.stack w.contexts.slots w.stack t.slots (filters_same w.stack) owners at.instance d own))
-    (fits_changed w.stack (option_map (with_link None)) w.contexts.slots d refl (λ x there fit. fits_unlinked w.stack x fit) s.owned.fits) s.owned
+    (passes_changed (fits w.stack) (option_map (with_link None)) w.contexts.slots d refl (λ x there fit. fits_unlinked w.stack x fit) s.owned.fits) s.owned
 unlinked_owned w k at false d i s lawful own =
     let t = unlinked_for (carries w) w.contexts k.0 false d in
     let owners = owners_changed (with_link None) w.contexts.slots d (λ x. (refl, refl)) in
     contexts_owned w t k (hand_of w.contexts.hands k.0) lawful refl owners (same_hands w.contexts.hands k.0) i.worker (same_hand w t k s.owned owners)
-    (fits_changed w.stack (option_map (with_link None)) w.contexts.slots d refl (λ x there fit. fits_unlinked w.stack x fit) s.owned.fits) s.owned
+    (passes_changed (fits w.stack) (option_map (with_link None)) w.contexts.slots d refl (λ x there fit. fits_unlinked w.stack x fit) s.owned.fits) s.owned
+
+unlinked_links : (w : World) (k : WorkerId) (wants : Bool) (d : CtxId) → AllPass (names_there w.files) w.contexts.slots
+    → AllPass (names_there w.files) (unlinked_for (carries w) w.contexts k.0 wants d).slots
+unlinked_links w k true d h = passes_changed (names_there w.files) (option_map (with_link None)) w.contexts.slots d refl (λ x there named. refl) h
+unlinked_links w k false d h = passes_changed (names_there w.files) (option_map (with_link None)) w.contexts.slots d refl (λ x there named. refl) h
 
 delete_at : (w : World) (k : WorkerId) (at : Callback) (what : ContextKind) (wants : Bool) (there : Option CtxId) → there_at w what at ≡ there → IsIn w k at → IsSound w
     → (wants && is_hand_full w.contexts.hands k.0) ≡ false → IsSound (with_contexts w (delete_after (carries w) w.contexts k.0 wants there))
 delete_at w k at what wants None is i s room = s
 delete_at w k at what wants (Some d) is i s room =
-    let o = found_there w what at (object_by at.row at.instance what) d is in
+    let o = found_there w what at (object_by at.row at.instance at.file what) d is in
     let own = owner_by at.row at.instance what in
     let lawful : IsLawful (carries w) (unlinked_for (carries w) w.contexts k.0 wants d) =
     subst (λ m. IsLawful (carries w) (delete_after (carries w) w.contexts k.0 wants m)) o.2
     (delete_keeps k.0 own o.0 wants s.owned.lawful i.worker (room_if_wanted wants w.contexts k.0 room)) in
     sound_with w (unlinked_for (carries w) w.contexts k.0 wants d)
-    (unlinked_owned w k at wants d i s lawful (held_for w k at what o.0 d i s.owned o.2)) s
+    (unlinked_owned w k at wants d i s lawful (held_for w k at what o.0 d i s.owned o.2)) (unlinked_links w k wants d s.links) s
 
 pub delete_sound : (old : World) (k : WorkerId) (what : ContextKind) (wants : Bool) (result : Result (Option CtxId) Status) (new : World)
     → Deletes old k what wants result new → IsSound old → IsSound new
@@ -207,7 +218,7 @@ linked_owned w u k c x o lawful h worker there link =
     let t = linked u c o in
     let owners = owners_changed (with_link (Some o)) u.slots c (λ x. (refl, refl)) in
     contexts_owned v t k (hand_of u.hands k.0) lawful refl owners (same_hands u.hands k.0) worker (same_hand v t k h owners)
-    (fits_changed w.stack (option_map (with_link (Some o))) u.slots c refl
+    (passes_changed (fits w.stack) (option_map (with_link (Some o))) u.slots c refl
     (λ y found fit. fits_linked w.stack y o (subst (λ z. link_fits w.stack z (Some o) ≡ true) (same_Some x y (sym there ∙ found)) link) fit) h.fits) h
 
 -- what set requires of the callback and its context
@@ -217,10 +228,11 @@ record MaySet (w : World) (k : WorkerId) (at : Callback) (c : CtxId) (x : Contex
   pub bare : x.link ≡ None
   pub own : same_owner (owner_by at.row at.instance x.kind) x.owner ≡ true
   pub link : link_fits w.stack x (Some o) ≡ true
+  pub here : is_there w.files (Some o) ≡ true
 
 object_fits : (w : World) (at : Callback) (x : Context) (a : ContextKind) (o : Object) → x.kind ≡ a → at.row.volume.0 < length w.stack.volumes
     → keeps_links_by (row_at w.stack at.instance) ≡ true → same_owner (owner_by at.row at.instance a) x.owner ≡ true
-    → object_by at.row at.instance a ≡ Some o → link_fits w.stack x (Some o) ≡ true
+    → object_by at.row at.instance at.file a ≡ Some o → link_fits w.stack x (Some o) ≡ true
 object_fits w at x kind.Volume o is volume links' own e =
     subst (λ p. link_fits w.stack x (Some p) ≡ true) (same_Some (object.Volume at.row.volume) o e)
     (and_from (is_volume x.kind) (nat_lt at.row.volume.0 (length w.stack.volumes)) (ap is_volume is) (lt-ltb at.row.volume.0 (length w.stack.volumes) volume))
@@ -228,17 +240,29 @@ object_fits w at x kind.Instance o is volume links' own e =
     subst (λ p. link_fits w.stack x (Some p) ≡ true) (same_Some (object.Instance at.instance) o e)
     (and_from (is_instance x.kind) (same_owner (owner.Instance at.instance) x.owner && keeps_links_by (row_at w.stack at.instance)) (ap is_instance is)
     (and_from (same_owner (owner.Instance at.instance) x.owner) (keeps_links_by (row_at w.stack at.instance)) own links'))
-object_fits w at x kind.Stream o is volume links' own e = absurd (none-some o e)
-object_fits w at x kind.Handle o is volume links' own e = absurd (none-some o e)
+object_fits w at x kind.Stream o is volume links' own e = of_file at.file e
+  where
+    of_file : (file : Option FileObject) → option_map (λ (f : FileObject). object.Stream f.stream) file ≡ Some o → link_fits w.stack x (Some o) ≡ true
+    of_file None e = absurd (none-some o e)
+    of_file (Some f) e = subst (λ p. link_fits w.stack x (Some p) ≡ true) (same_Some (object.Stream f.stream) o e) (ap is_of_stream is)
+object_fits w at x kind.Handle o is volume links' own e = of_file at.file e
+  where
+    of_file : (file : Option FileObject) → option_map (λ (f : FileObject). object.Handle f.handle) file ≡ Some o → link_fits w.stack x (Some o) ≡ true
+    of_file None e = absurd (none-some o e)
+    of_file (Some f) e = subst (λ p. link_fits w.stack x (Some p) ≡ true) (same_Some (object.Handle f.handle) o e) (ap is_of_handle is)
 
 may_set : (w : World) (k : WorkerId) (at : Callback) (c : CtxId) (x : Context) (o : Object) → IsIn w k at → IsSound w → set_refused w k c at ≡ None
     → context_at w.contexts.slots c ≡ Some x → object_for at (Some x) ≡ Some o → MaySet w k at c x o
 may_set w k at c x o i s free there of =
+    let object' = object_for at (context_at w.contexts.slots c) in
     let held = none_of (not (holds (hand_of w.contexts.hands k.0) c)) status.NotHeld
-    (first_of ((is_some (link_at w.contexts.slots c), status.AlreadyLinked) ∷ (is_none (object_for at (context_at w.contexts.slots c)), status.NoObject)
-    ∷ (is_closing w.stack at.row, status.DeletingObject) ∷ [])) free in
+    (first_of ((is_some (link_at w.contexts.slots c), status.AlreadyLinked) ∷ (is_none object', status.NoObject)
+    ∷ (is_past w at object', status.DeletingObject) ∷ [])) free in
     let linked' = none_of (is_some (link_at w.contexts.slots c)) status.AlreadyLinked
-    (first_of ((is_none (object_for at (context_at w.contexts.slots c)), status.NoObject) ∷ (is_closing w.stack at.row, status.DeletingObject) ∷ [])) held.1 in
+    (first_of ((is_none object', status.NoObject) ∷ (is_past w at object', status.DeletingObject) ∷ [])) held.1 in
+    let some = none_of (is_none object') status.NoObject (first_of ((is_past w at object', status.DeletingObject) ∷ [])) linked'.1 in
+    let open' = none_of (is_past w at object') status.DeletingObject None some.1 in
+    let gone = or_right (is_closing w.stack at.row) (not (is_there w.files object')) open'.0 in
     let has = not_false (holds (hand_of w.contexts.hands k.0) c) held.0 in
     let belong = in_hand w k at c i s.owned has in
     let own : same_owner (owner_by at.row at.instance x.kind) x.owner ≡ true =
@@ -249,6 +273,7 @@ may_set w k at c x o i s free there of =
       bare = none_from x.link (sym (ap (λ m. is_some (option_and_then (λ (y : Context). y.link) m)) there) ∙ linked'.0);
       own = own;
       link = object_fits w at x x.kind o refl i.placed.volume (callback_left w k at.instance at.row s i.place i.there).1 own of;
+      here = ap (is_there w.files) (sym of ∙ ap (object_for at) (sym there)) ∙ not_false (is_there w.files object') gone;
     }
 
 -- what is set at the object for the owner of the context, the callback may hold too
@@ -289,6 +314,27 @@ set_at w k at c x o mode wants (Some d) i s may is lawful = by_room (wants && is
     by_room true full law = s.owned
     by_room false room law = by_mode mode room law
 
+linked_links : (w : World) (u : ContextTable) (c : CtxId) (o : Object) → is_there w.files (Some o) ≡ true → AllPass (names_there w.files) u.slots
+    → AllPass (names_there w.files) (linked u c o).slots
+linked_links w u c o here h = passes_changed (names_there w.files) (option_map (with_link (Some o))) u.slots c refl (λ x there named. here) h
+
+set_links : (w : World) (k : WorkerId) (c : CtxId) (o : Object) (mode : SetMode) (wants : Bool) (m : Option CtxId) → is_there w.files (Some o) ≡ true
+    → AllPass (names_there w.files) w.contexts.slots → AllPass (names_there w.files) (set_after (carries w) w.contexts k.0 c o mode wants m).slots
+set_links w k c o mode wants None here h = linked_links w w.contexts c o here h
+set_links w k c o mode wants (Some d) here h = by_room (wants && is_hand_full w.contexts.hands k.0)
+  where
+    kept : (b : Bool) → AllPass (names_there w.files) (kept_after w.contexts k.0 b d).slots
+    kept true = h
+    kept false = h
+
+    by_mode : (a : SetMode) → AllPass (names_there w.files) (set_mode_after (carries w) w.contexts k.0 c o a wants d).slots
+    by_mode Keep = kept wants
+    by_mode Replace = linked_links w (unlinked_for (carries w) w.contexts k.0 wants d) c o here (unlinked_links w k wants d h)
+
+    by_room : (b : Bool) → AllPass (names_there w.files) (cond b w.contexts (set_mode_after (carries w) w.contexts k.0 c o mode wants d)).slots
+    by_room true = h
+    by_room false = by_mode mode
+
 set_on : (old : World) (k : WorkerId) (at : Callback) (c : CtxId) (mode : SetMode) (wants : Bool) (result : SetAnswer) (new : World) (m : Option Context) (o : Option Object)
     → IsIn old k at → IsSound old → set_refused old k c at ≡ None → context_at old.contexts.slots c ≡ m → object_for at m ≡ o
     → SetsOn old k c mode wants result new m o → IsSound new
@@ -299,7 +345,8 @@ set_on old k at c mode wants result new (Some x) (Some o) i s free there of h =
     let bare : IsUnlinkedOf x.owner (context_at old.contexts.slots c) = subst (IsUnlinkedOf x.owner) (sym there) (may.bare, refl) in
     let t = set_after (carries old) old.contexts k.0 c o mode wants (holder old.contexts.slots x.owner o) in
     let lawful = set_keeps k.0 c x.owner o mode wants s.owned.lawful i.worker may.has bare in
-    subst IsSound (sym h.1) (sound_with old t (set_at old k at c x o mode wants (holder old.contexts.slots x.owner o) i s may refl lawful) s)
+    subst IsSound (sym h.1) (sound_with old t (set_at old k at c x o mode wants (holder old.contexts.slots x.owner o) i s may refl lawful)
+    (set_links old k c o mode wants (holder old.contexts.slots x.owner o) may.here s.links) s)
 
 set_unless : (old : World) (k : WorkerId) (at : Callback) (c : CtxId) (mode : SetMode) (wants : Bool) (result : SetAnswer) (new : World) (m : Option Status)
     → set_refused old k c at ≡ m → SetsUnless old k c mode wants result new at m → IsIn old k at → IsSound old → IsSound new

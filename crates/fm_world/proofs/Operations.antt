@@ -49,7 +49,8 @@ use Rattle.fm_world.specs.declared.worker.Worker.{Worker}
 use Rattle.fm_world.specs.declared.worker.Worker.TheVariants as place
 use Rattle.fm_world.specs.World.{World}
 use Rattle.fm_world.specs.Workers.{worker_at, put, is_idle, after_next}
-use Rattle.fm_world.specs.Events.{Begins, Nexts, NextsOver, LiesBelow, FindsBelow, PreReturns, PreReturnsAt, BaseReturns, BaseReturnsAt, PostReturns, PostReturnsAt, Collects, ReturnsFrom, returned, received, state_at, state_given, drains_at, of_hand, has_post, or_else, begin_refused, refused_on, refused_at, begun_on, begun_at, after_begin, moved_on, has_no_handle_left, flow_after_next, filed_next, filed_pre, filed_base, base_step, PreReturnsFrom}
+use Rattle.fm_world.specs.Events.{Begins, Nexts, NextsOver, LiesBelow, FindsBelow, PreReturns, PreReturnsAt, BaseReturns, BaseReturnsAt, PostReturns, PostReturnsAt, Collects, ReturnsFrom, returned, received, state_at, state_given, drains_at, of_hand, has_post, or_else, begin_refused, refused_on, refused_at, begun_on, begun_at, after_begin, moved_on, has_no_handle_left, flow_after_next, filed_next, filed_pre, filed_base, base_step, base_returned, NextsAt, PreReturnsOver}
+use Rattle.fm_world.specs.Links.{LosesLinks}
 use Rattle.fm_world.specs.Headline.{Spot, AtPre, AtBase, AtPost, AtDrain, spot_at, spot_of, is_spot, stands_at}
 use Rattle.fm_world.specs.Descent.{is_among}
 use Rattle.fm_world.specs.Sound.{IsUnderWay, IsAmong, is_in_setup}
@@ -57,7 +58,7 @@ use Rattle.fm_types.proofs.Firsts.{change_none, found_holds, all_change, all_wit
 use Rattle.fm_world.proofs.Ties.{counted_from, one, count_moves, AreTied, Matches, is_running, quiet_is_none, quiet_is_nowhere, tied_moves, tied_stays, tied_there, matches_idle, matches_pre, matches_base, matches_post, matches_drain, spot_pre, spot_base, spot_post, spot_drain}
 use Rattle.fm_world.proofs.Amongs.{is_up, no_base, visit_last, post_last, among_visits, among_other, among_base, among_settles, among_begins, settle_pre_visit, settle_pre_base, settle_post_visit, settle_post_base, settle_drain_visit, settle_drain_base}
 use Rattle.fm_world.proofs.Descents.{next_unseen, room_is, or_left, or_right}
-use Rattle.fm_world.proofs.Keeps.{unless_cases, idle_there, whatever_contexts, whatever_files}
+use Rattle.fm_world.proofs.Keeps.{unless_cases, idle_there, whatever_contexts, whatever_files, loses_under_way}
 use Rattle.fm_flow.proofs.Soundness.{sound_pre_returned, sound_base_returned, sound_post_returned, sound_drain_returned}
 use Rattle.fm_stack.proofs.Visits.{is_to_visit_few}
 use Rattle.fm_flow.proofs.Flows.{flow_begins, flow_changes, flow_collects, sound_next}
@@ -474,8 +475,8 @@ pub next_keeps : (old : World) (k : WorkerId) (o : OpId) (result : Result FlowAc
 unfolding Nexts
 next_keeps old k o result new h s =
     unless_cases IsUnderWay status.WrongStep (is_idle (worker_at old.workers k)) result old new
-    ((lies : Below) × FindsBelow old.stack old.files old.flow (operation_at o old.flow) lies × NextsOver old k o lies result new) h
-    (λ idle event. next_there old k o event.0 result new (operation_at o old.flow) refl (idle_there old.workers k idle) event.1 event.2 s) s
+    (NextsAt old k o result new) h
+    (λ idle event. loses_under_way event.2 new event.4 (next_there old k o event.0 result event.2 (operation_at o old.flow) refl (idle_there old.workers k idle) event.1 event.3 s)) s
 
 -- ---- callbacks and calls return
 
@@ -532,14 +533,14 @@ pre_at old k given lent result new (Some (place.Pre o i)) at h s =
     let sound = found_holds flow.IsSound (is_number o) old.flow.operations r s.flow.sound there.1 in
     let among = found_holds (IsAmong old.stack) (is_number o) old.flow.operations r s.among there.1 in
     unless_cases IsUnderWay status.BadRequest (told (λ r. data_fits r.operation r.path lent) false o old.flow) result old new
-    ((result ≡ Ok tt) × PreReturnsFrom old k o (pre_returned_of state lent) state new) h
-    (λ fits event. subst IsUnderWay (sym event.1.1)
-    (whatever_files (returned old k o (pre_returned_of state lent)) new.contexts (filed_pre old o (changed o (pre_returned_of state lent) old.flow) state)
+    ((result ≡ Ok tt) × PreReturnsOver old k o (pre_returned_of state lent) state new) h
+    (λ fits event. loses_under_way event.1.0 new event.1.2 (subst IsUnderWay (sym event.1.1.1)
+    (whatever_files (returned old k o (pre_returned_of state lent)) event.1.0.contexts (filed_pre old o (changed o (pre_returned_of state lent) old.flow) state)
     (return_keeps old k (place.Pre o i) o r (pre_returned_of state lent) at there.1 (λ x. refl) (λ x. refl)
     (subst (Matches o (place.Pre o i)) (sym (ap (λ a. spot_at a r.entries) stage ∙ ap (option_map AtPre) spot.1)) (matches_pre o i)) quiet (λ j. refl)
     (sound_pre_returned state lent r stage (counted_from state quiet) (sym (told_there (λ (x : FlowRecord). data_fits x.operation x.path lent) false o old.flow r there.1) ∙ fits) sound)
     (among_settles old.stack r.volume r.born r.operation r.entries r.stage (pre_leads state) (settle_pre state) (settle_pre_visit state) (settle_pre_base state)
-    (not_base_of (pre_leads state) quiet) among) s))) s
+    (not_base_of (pre_leads state) quiet) among) s)))) s
 pre_at old k given lent result new (Some place.Idle) at h s = subst IsUnderWay (sym h.1) s
 pre_at old k given lent result new (Some (place.Setup i)) at h s = subst IsUnderWay (sym h.1) s
 pre_at old k given lent result new (Some (place.Base o)) at h s = subst IsUnderWay (sym h.1) s
@@ -566,8 +567,8 @@ base_at old k call given result new (Some (place.Base o)) at h s =
     let step = base_step old call given in
     let counts = base_counted call given handle in
     unless_cases IsUnderWay status.BadRequest (told (base_fits call given) false o old.flow) result old new
-    ((result ≡ Ok tt) × (new ≡ record (returned old k o step) { files = filed_base old o (changed o step old.flow) given.status })) h
-    (λ fits event. subst IsUnderWay (sym event.1) (whatever_files (returned old k o step) old.contexts (filed_base old o (changed o step old.flow) given.status)
+    ((result ≡ Ok tt) × LosesLinks (base_returned old k o call given) new) h
+    (λ fits event. loses_under_way (base_returned old k o call given) new event.1 (whatever_files (returned old k o step) old.contexts (filed_base old o (changed o step old.flow) given.status)
     (return_keeps old k (place.Base o) o r step at there.1 (λ x. refl) (λ x. refl)
     (subst (Matches o (place.Base o)) (sym (ap (λ a. spot_at a r.entries) stage)) (matches_base o)) refl (λ j. refl)
     (let good = and_parts (fit r.operation r.path call) (nat_le (length given.bytes) 32768)

@@ -38,7 +38,10 @@ use Rattle.fm_world.specs.Events.{Registers, Mounts, Attaches, SetsUp, SetsUpAt,
 use Rattle.fm_world.specs.Sound.{IsSound, IsOwned}
 use Rattle.fm_world.proofs.Belonging.{OwnersStay, owners_same, owners_swept, owners_after, FiltersStay, belongs_still, AllHold, all_hold, all_hold_still, others_stay, all_carry_still}
 use Rattle.fm_world.proofs.Callbacks.{same_hands}
-use Rattle.fm_world.proofs.Fitting.{AllFit, fits_on, fits_swept, owner_stays, link_stays}
+use Rattle.fm_world.proofs.Fitting.{AllFit, AllPass, fits_on, passes_swept, owner_stays, link_stays}
+use Rattle.fm_world.proofs.Losing.{NamedIn, passes_unlinked}
+use Rattle.fm_world.specs.Links.{names_there}
+use Rattle.fm_world.specs.Files.{FileTable}
 use Rattle.fm_world.proofs.Keeps.{register_keeps, mount_keeps, attach_keeps, setup_keeps, unless_cases, idle_there, setup_place, FiledIn}
 
 -- ---- instances go on
@@ -105,7 +108,7 @@ longer_push xs x = omega (arith, length-append xs (x ∷ []))
 pub register_sound : (old : World) (name : List ℕ) (registration : Registration) (result : Result FilterId Status) (new : World)
     → Registers old name registration result new → IsSound old → IsSound new
 unfolding Registers stack.Registers
-register_sound old name registration result new h s = record { under_way = register_keeps old name registration result new h s.under_way; owned = owned result h; filed = subst FiledIn (sym h.1) s.filed }
+register_sound old name registration result new h s = record { under_way = register_keeps old name registration result new h s.under_way; owned = owned result h; filed = subst FiledIn (sym h.1) s.filed; links = subst NamedIn (sym h.1) s.links }
   where
     owned : (r : Result FilterId Status) → Registers old name registration r new → IsOwned new
     owned (Err why) h = subst IsOwned (sym (h.1 ∙ ap (λ x. record old { stack = x }) h.0.1)) s.owned
@@ -116,7 +119,7 @@ register_sound old name registration result new h s = record { under_way = regis
 
 pub mount_sound : (old : World) (name : List ℕ) (result : Result VolumeId Status) (new : World) → Mounts old name result new → IsSound old → IsSound new
 unfolding Mounts stack.Mounts
-mount_sound old name result new h s = record { under_way = mount_keeps old name result new h s.under_way; owned = owned result h; filed = subst FiledIn (sym h.1) s.filed }
+mount_sound old name result new h s = record { under_way = mount_keeps old name result new h s.under_way; owned = owned result h; filed = subst FiledIn (sym h.1) s.filed; links = subst NamedIn (sym h.1) s.links }
   where
     owned : (r : Result VolumeId Status) → Mounts old name r new → IsOwned new
     owned (Err why) h = subst IsOwned (sym (h.1 ∙ ap (λ x. record old { stack = x }) h.0.1)) s.owned
@@ -186,6 +189,7 @@ attach_sound old k f v name altitude result new h s = record {
   under_way = attach_keeps old k f v name altitude result new h s.under_way;
   owned = owned h;
   filed = unless_cases FiledIn status.WrongStep (is_idle (worker_at old.workers k)) result old new _ h (λ idle event. subst FiledIn (sym event.1) s.filed) s.filed;
+  links = unless_cases NamedIn status.WrongStep (is_idle (worker_at old.workers k)) result old new _ h (λ idle event. subst NamedIn (sym event.1) s.links) s.links;
 }
   where
     owned : Attaches old k f v name altitude result new → IsOwned new
@@ -319,7 +323,7 @@ setup_owned old k i accept (Err why) new left at h leaves empties e s =
     let slots : new.contexts.slots ≡ map (swept_slot test) old.contexts.slots = empties.slots ∙ ap (map (swept_slot test)) leaves.slots in
     let owners = owners_after old.contexts.slots (map (swept_slot test) old.contexts.slots) new.contexts.slots (owners_swept test old.contexts.slots)
     (owners_same (map (swept_slot test) old.contexts.slots) new.contexts.slots slots) in
-    let fit = fits_swept old.stack t test old.contexts.slots (λ x fit. refused_fits old.stack i row.0 x row.1 fit) s.owned.fits in
+    let fit = passes_swept (fits old.stack) (fits t) test old.contexts.slots refl (λ x fit. refused_fits old.stack i row.0 x row.1 fit) s.owned.fits in
     subst IsOwned (sym (e ∙ ap (λ x. record old { stack = x; workers = put old.workers k place.Idle; contexts = new.contexts }) h.1))
     (setup_returns old k i t new.contexts at worker (refused_filters old.stack i) owners s.owned (empties.hands ∙ leaves.hands) (empties.cleaning ∙ leaves.cleaning)
     (sweep_keeps test (leave_keeps k.0 s.owned.lawful leaves) empties) (subst (AllFit t) (sym slots) fit)
@@ -336,6 +340,15 @@ setup_cases old k accept result new (Some (place.Drain o i)) at h s = subst IsOw
 setup_cases old k accept result new (Some (place.Cleanup c)) at h s = subst IsOwned (sym h.1) s.owned
 setup_cases old k accept result new None at h s = subst IsOwned (sym h.1) s.owned
 
+-- the contexts of a refused instance lose their links, and all others keep theirs
+emptied_named : (f : FileTable) (result : Result (Unit {0}) Status) (i : InstanceId) (w : World) (left t after : ContextTable) → left.slots ≡ t.slots → EmptiesUnless result i w left after
+    → AllPass (names_there f) t.slots → AllPass (names_there f) after.slots
+emptied_named f (Ok done) i w left t after same h named = subst (AllPass (names_there f)) (sym (ap (λ (x : ContextTable). x.slots) h ∙ same)) named
+emptied_named f (Err why) i w left t after same h named =
+    let test = is_linked_of (owner.Instance i) in
+    subst (AllPass (names_there f)) (sym (h.slots ∙ ap (map (swept_slot test)) same))
+    (passes_swept (names_there f) (names_there f) test t.slots refl (λ x. passes_unlinked (names_there f) test x (λ was. refl)) named)
+
 pub setup_sound : (old : World) (k : WorkerId) (accept : Bool) (result : Result (Unit {0}) Status) (new : World)
     → SetsUp old k accept result new → IsSound old → IsSound new
 unfolding SetsUp
@@ -343,6 +356,7 @@ setup_sound old k accept result new h s = record {
   under_way = setup_keeps old k accept result new h s.under_way;
   owned = owned h;
   filed = setup_filed (worker_at old.workers k) h;
+  links = setup_named (worker_at old.workers k) h;
 }
   where
     setup_filed : (m : Option Worker) → SetsUpAt old k accept result new m → FiledIn new
@@ -354,6 +368,16 @@ setup_sound old k accept result new h s = record {
     setup_filed (Some (place.Drain o i)) h = subst FiledIn (sym h.1) s.filed
     setup_filed (Some (place.Cleanup c)) h = subst FiledIn (sym h.1) s.filed
     setup_filed None h = subst FiledIn (sym h.1) s.filed
+
+    setup_named : (m : Option Worker) → SetsUpAt old k accept result new m → NamedIn new
+    setup_named (Some (place.Setup i)) h = subst NamedIn (sym h.4) (emptied_named old.files result i old h.1 old.contexts new.contexts h.2.slots h.3 s.links)
+    setup_named (Some place.Idle) h = subst NamedIn (sym h.1) s.links
+    setup_named (Some (place.Pre o i)) h = subst NamedIn (sym h.1) s.links
+    setup_named (Some (place.Base o)) h = subst NamedIn (sym h.1) s.links
+    setup_named (Some (place.Post o i)) h = subst NamedIn (sym h.1) s.links
+    setup_named (Some (place.Drain o i)) h = subst NamedIn (sym h.1) s.links
+    setup_named (Some (place.Cleanup c)) h = subst NamedIn (sym h.1) s.links
+    setup_named None h = subst NamedIn (sym h.1) s.links
 
     owned : SetsUp old k accept result new → IsOwned new
     owned h = setup_cases old k accept result new (worker_at old.workers k) refl h s

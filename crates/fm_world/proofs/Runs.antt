@@ -33,6 +33,8 @@ use Rattle.fm_world.specs.declared.step.Step.TheVariants as step
 use Rattle.fm_world.specs.declared.step.StepReply.{StepReply}
 use Rattle.fm_world.specs.declared.step.StepReply.TheVariants as reply
 use Rattle.fm_world.specs.declared.worker.Worker.TheVariants as place
+use Rattle.fm_world.specs.Files.{empty_files}
+use Rattle.fm_world.specs.Links.{names_there}
 use Rattle.fm_world.specs.World.{World, empty_world, empty_stack}
 use Rattle.fm_world.specs.Steps.{Steps, Run, RunThrough}
 use Rattle.fm_world.specs.Headline.{Headline, RulesKeepHeadline, is_in_at, DescendsIn, IsAscent, IsInOrder}
@@ -111,7 +113,7 @@ empty_owned = record {
 }
 
 pub empty_sound : IsSound empty_world
-empty_sound = record { under_way = empty_under_way; owned = empty_owned; filed = record { numbers = omega arith; few = omega arith } }
+empty_sound = record { under_way = empty_under_way; owned = empty_owned; filed = record { numbers = omega arith; few = omega arith }; links = All-nil (λ (x : Slot). names_there empty_files x.context ≡ true) }
 
 -- ---- the Headline
 
@@ -163,6 +165,7 @@ headline_from w s =
       cleanups = λ n. k.cleaning n.0;
       one_per_owner = k.lawful.once;
       there = k.fits;
+      links = s.links;
       holders = k.holders;
       completions = k.completions;
       detached = λ i gone. (

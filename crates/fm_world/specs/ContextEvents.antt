@@ -1,6 +1,6 @@
 -- The events on contexts: the refusals of each, in their order, and what it makes of the World. A refusal changes nothing, but for a `set` with Keep
 -- that hands out the context which is there. An event of a callback is refused first of all, with WrongStep, where the worker is in none.
-use Rattle.std.specs.Prelude.{◌≡◌, ℕ, ◌+◌, ◌%◌, ◌^◌, Bool, true, not, cond, nat_lt, List, [], ◌∷◌, Option, Some, None, is_some, is_none, option_map, option_and_then, slice_get, Result, Ok, Err}
+use Rattle.std.specs.Prelude.{◌≡◌, ℕ, ◌+◌, ◌%◌, ◌^◌, ◌||◌, Bool, true, not, cond, nat_lt, List, [], ◌∷◌, Option, Some, None, is_some, is_none, option_map, option_and_then, slice_get, Result, Ok, Err}
 use Rattle.fm_types.specs.declared.ids.CtxId.{CtxId}
 use Rattle.fm_types.specs.declared.ids.FilterId.{FilterId}
 use Rattle.fm_types.specs.declared.ids.InstanceId.{InstanceId}
@@ -35,23 +35,26 @@ use Rattle.fm_world.specs.declared.worker.Worker.TheVariants as place
 use Rattle.fm_world.specs.World.{World, carries}
 use Rattle.fm_world.specs.Workers.{worker_at, put, is_idle}
 use Rattle.fm_world.specs.Events.{Unless}
-use Rattle.fm_world.specs.Owners.{place_in, row_at, has_kind, owner_by, object_by, is_closing, filter_by}
+use Rattle.fm_world.specs.Links.{is_there}
+use Rattle.fm_world.specs.declared.file.FileObject.{FileObject}
+use Rattle.fm_world.specs.Owners.{file_of, place_in, row_at, has_kind, owner_by, object_by, is_closing, filter_by}
 
 -- the World with other contexts
 abbrev pub with_contexts : World → ContextTable → World
 with_contexts w t = record w { contexts = t }
 
--- the instance whose callback a worker is in, with its row
+-- the instance whose callback a worker is in, with its row, and the file that the callback's operation is on
 pub record Callback : Type 0 where
   pub instance : InstanceId
   pub row : Instance
+  pub file : Option FileObject
 
-abbrev pub callback_in : StackWorld → Option InstanceId → Option Callback
-callback_in s None = None
-callback_in s (Some i) = option_map (λ row. record { instance = i; row = row }) (row_at s i)
+abbrev pub callback_in : StackWorld → Option FileObject → Option InstanceId → Option Callback
+callback_in s file None = None
+callback_in s file (Some i) = option_map (λ row. record { instance = i; row = row; file = file }) (row_at s i)
 
 abbrev pub callback_of : World → WorkerId → Option Callback
-callback_of w k = callback_in w.stack (place_in (worker_at w.workers k))
+callback_of w k = callback_in w.stack (file_of w.flow (worker_at w.workers k)) (place_in (worker_at w.workers k))
 
 -- the event of a worker in a callback of an instance
 abbrev pub InCallbackOf : {T : Type 0} → Result T Status → World → World → (Callback → Type 0) → Option Callback → Type 0
@@ -83,14 +86,18 @@ Allocates old k kind body result new =
 
 abbrev pub object_for : Callback → Option Context → Option Object
 object_for at None = None
-object_for at (Some x) = object_by at.row at.instance x.kind
+object_for at (Some x) = object_by at.row at.instance at.file x.kind
+
+-- nothing more is set where the instance or its volume goes, nor on a handle that is closed or a stream that is torn down
+abbrev pub is_past : World → Callback → Option Object → Bool
+is_past w at o = is_closing w.stack at.row || not (is_there w.files o)
 
 abbrev pub set_refused : World → WorkerId → CtxId → Callback → Option Status
 set_refused w k c at =
     first_of ((not (holds (hand_of w.contexts.hands k.0) c), status.NotHeld)
     ∷ (is_some (link_at w.contexts.slots c), status.AlreadyLinked)
     ∷ (is_none (object_for at (context_at w.contexts.slots c)), status.NoObject)
-    ∷ (is_closing w.stack at.row, status.DeletingObject)
+    ∷ (is_past w at (object_for at (context_at w.contexts.slots c)), status.DeletingObject)
     ∷ [])
 
 abbrev pub set_answer : SetReply → SetAnswer
@@ -120,16 +127,22 @@ Sets old k c mode wants result new = SetsIn old k c mode wants result new (callb
 
 -- the context of that kind that is set on the callback's object
 abbrev pub there_at : World → ContextKind → Callback → Option CtxId
-there_at w kind at = option_and_then (holder w.contexts.slots (owner_by at.row at.instance kind)) (object_by at.row at.instance kind)
+there_at w kind at = option_and_then (holder w.contexts.slots (owner_by at.row at.instance kind)) (object_by at.row at.instance at.file kind)
 
 abbrev pub object_refused : World → ContextKind → Callback → Option Status → Option Status
 object_refused w kind at others =
-    before (not (has_kind w.stack at.row kind)) status.NotRegistered (before (is_none (object_by at.row at.instance kind)) status.NoObject others)
+    before (not (has_kind w.stack at.row kind)) status.NotRegistered (before (is_none (object_by at.row at.instance at.file kind)) status.NoObject others)
+
+-- nothing is got from a handle that is closed, nor from a stream that is torn down
+abbrev pub get_refused : World → WorkerId → ContextKind → Callback → Option Status
+get_refused w k kind at =
+    object_refused w kind at
+    (before (not (is_there w.files (object_by at.row at.instance at.file kind))) status.DeletingObject (get_refusal w.contexts k.0 (there_at w kind at)))
 
 unfoldable pub Gets : World → WorkerId → ContextKind → Result CtxId Status → World → Type 0
 Gets old k kind result new =
     InCallback old k result new (λ at.
-    Answers (object_refused old kind at (get_refusal old.contexts k.0 (there_at old kind at))) result old new
+    Answers (get_refused old k kind at) result old new
     (λ (c : CtxId). (there_at old kind at ≡ Some c) × (new ≡ with_contexts old (grabbed old.contexts k.0 c))))
 
 unfoldable pub Deletes : World → WorkerId → ContextKind → Bool → Result (Option CtxId) Status → World → Type 0

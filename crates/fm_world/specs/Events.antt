@@ -55,6 +55,7 @@ use Rattle.fm_world.specs.declared.step.Begin.{Begin}
 use Rattle.fm_world.specs.declared.step.Begin.TheVariants as begin
 use Rattle.fm_world.specs.declared.worker.Worker.{Worker}
 use Rattle.fm_world.specs.declared.worker.Worker.TheVariants as place
+use Rattle.fm_world.specs.Links.{LosesLinks}
 use Rattle.fm_world.specs.World.{World, carries}
 use Rattle.fm_world.specs.Requests.{params_of, phase_refusal}
 use Rattle.fm_world.specs.Files.{FileTable, stream_at, handle_at, stream_for, created, phased, has_other_handle, is_marked, after_base, after_pre}
@@ -286,11 +287,15 @@ NextsOver old k o lies result new =
       files = filed_next old o (flow_after_next old k o lies) result lies;
     })
 
+-- what is below is found, the operation goes on, and the links to what is gone by then go
+abbrev pub NextsAt : World → WorkerId → OpId → Result FlowAction Status → World → Type 0
+NextsAt old k o result new =
+    (lies : Below) × FindsBelow old.stack old.files old.flow (operation_at o old.flow) lies × (mid : World) × NextsOver old k o lies result mid × LosesLinks mid new
+
 -- by an idle worker
 unfoldable pub Nexts : World → WorkerId → OpId → Result FlowAction Status → World → Type 0
 Nexts old k o result new =
-    Unless status.WrongStep (is_idle (worker_at old.workers k)) result old new
-    ((lies : Below) × FindsBelow old.stack old.files old.flow (operation_at o old.flow) lies × NextsOver old k o lies result new)
+    Unless status.WrongStep (is_idle (worker_at old.workers k)) result old new (NextsAt old k o result new)
 
 -- ---- callbacks and calls return
 
@@ -348,6 +353,10 @@ PreReturnsFrom old k o step given new =
     Leaves (carries_after old o step) (sent old.contexts k (sent_in given)) new.contexts k.0
     × (new ≡ record (returned old k o step) { contexts = new.contexts; files = filed_pre old o (changed o step old.flow) given })
 
+-- the links to a stream that went go last
+abbrev pub PreReturnsOver : World → WorkerId → OpId → (FlowRecord → FlowRecord) → PreState → World → Type 0
+PreReturnsOver old k o step given new = (mid : World) × PreReturnsFrom old k o step given mid × LosesLinks mid new
+
 abbrev pub pre_step : World → WorkerId → OpId → InstanceId → PreVerdict → Data → FlowRecord → FlowRecord
 pre_step w k o i given lent = pre_returned_of (state_at w k o i given) lent
 
@@ -356,7 +365,7 @@ abbrev pub PreReturnsAt : World → WorkerId → PreVerdict → Data → Result 
 PreReturnsAt old k given lent result new (Some (place.Pre o i)) =
     Unless status.BadRequest (told (λ r. data_fits r.operation r.path lent) false o old.flow) result old new
     ((result ≡ Ok tt)
-    × PreReturnsFrom old k o (pre_step old k o i given lent) (state_at old k o i given) new)
+    × PreReturnsOver old k o (pre_step old k o i given lent) (state_at old k o i given) new)
 PreReturnsAt old k given lent result new _ = (result ≡ Err status.WrongStep) × (new ≡ old)
 
 unfoldable pub PreReturns : World → WorkerId → PreVerdict → Data → Result (Unit {0}) Status → World → Type 0
@@ -365,11 +374,14 @@ PreReturns old k given lent result new = PreReturnsAt old k given lent result ne
 abbrev pub base_step : World → Params → Answer → FlowRecord → FlowRecord
 base_step w call answer = base_returned_of call answer (record { 0 = w.files.next })
 
+abbrev pub base_returned : World → WorkerId → OpId → Params → Answer → World
+base_returned w k o call answer = record (returned w k o (base_step w call answer)) { files = filed_base w o (changed o (base_step w call answer) w.flow) answer.status }
+
 abbrev pub BaseReturnsAt : World → WorkerId → Params → Answer → Result (Unit {0}) Status → World → Option Worker → Type 0
 BaseReturnsAt old k call answer result new (Some (place.Base o)) =
     Unless status.BadRequest (told (base_fits call answer) false o old.flow) result old new
     ((result ≡ Ok tt)
-    × (new ≡ record (returned old k o (base_step old call answer)) { files = filed_base old o (changed o (base_step old call answer) old.flow) answer.status }))
+    × LosesLinks (base_returned old k o call answer) new)
 BaseReturnsAt old k call answer result new _ = (result ≡ Err status.WrongStep) × (new ≡ old)
 
 unfoldable pub BaseReturns : World → WorkerId → Params → Answer → Result (Unit {0}) Status → World → Type 0

@@ -25,6 +25,7 @@ use Rattle.fm_world.specs.declared.step.Step.{Step}
 use Rattle.fm_world.specs.declared.step.StepReply.{StepReply}
 use Rattle.fm_world.specs.declared.worker.Worker.{Worker}
 use Rattle.fm_world.specs.declared.worker.Worker.TheVariants as place
+use Rattle.fm_world.specs.Links.{names_there}
 use Rattle.fm_world.specs.World.{World, carries, reference_count, empty_world}
 use Rattle.fm_world.specs.Workers.{worker_at, cleanup_in}
 use Rattle.fm_world.specs.Owners.{row_at, place_in, is_left_by, fits, HoldsIn, AskCarries}
@@ -99,6 +100,8 @@ pub record Headline (w : World) : Type 0 where
   pub one_per_owner : (o : Owner) (object : Object) → count_by (has_link o object) w.contexts.slots ≤ 1
   -- a context's owner isn't gone; a link names an object of the context's kind that is still there
   pub there : All (λ (s : Slot). fits w.stack s.context ≡ true) w.contexts.slots
+  -- that is, an open handle, or a stream that wasn't torn down
+  pub links : All (λ (s : Slot). names_there w.files s.context ≡ true) w.contexts.slots
   -- a worker's references are to contexts of the instance whose callback it is in, or to volume contexts of its filter; so are those that
   -- a completion carries, of the instance that it is owed to
   pub holders : (k : WorkerId) → All (HoldsIn w.stack w.contexts.slots (place_in (worker_at w.workers k))) (hand_of w.contexts.hands k.0)

@@ -1,5 +1,6 @@
 pub mod Files
 pub mod World
+pub mod Links
 pub mod Requests
 pub mod Workers
 pub mod Owners

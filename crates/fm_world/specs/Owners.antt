@@ -1,10 +1,13 @@
 -- Whose contexts are whose: in which instance's callback a worker is, who owns what is allocated there, and which object each kind is set on.
-use Rattle.std.specs.Prelude.{◌≡◌, Bool, true, false, not, ◌&&◌, ◌||◌, List, length, nat_lt, Option, Some, None, option_and_then, slice_get}
+use Rattle.std.specs.Prelude.{◌≡◌, Bool, true, false, not, ◌&&◌, ◌||◌, List, length, nat_lt, Option, Some, None, option_map, option_and_then, slice_get}
 use Rattle.fm_types.specs.declared.context_kind.ContextKind.{ContextKind}
 use Rattle.fm_types.specs.declared.context_kind.ContextKind.TheVariants as kind
 use Rattle.fm_types.specs.declared.ids.CtxId.{CtxId}
 use Rattle.fm_types.specs.declared.ids.FilterId.{FilterId}
+use Rattle.fm_types.specs.declared.ids.HandleId.{HandleId}
 use Rattle.fm_types.specs.declared.ids.InstanceId.{InstanceId}
+use Rattle.fm_types.specs.declared.ids.OpId.{OpId}
+use Rattle.fm_types.specs.declared.ids.StreamId.{StreamId}
 use Rattle.fm_types.specs.Masks.{has_context}
 use Rattle.fm_stack.specs.declared.filter.Filter.{Filter}
 use Rattle.fm_stack.specs.declared.instance.Instance.{Instance}
@@ -20,6 +23,8 @@ use Rattle.fm_ctx.specs.declared.owner.Owner.TheVariants as owner
 use Rattle.fm_ctx.specs.Objects.{same_owner}
 use Rattle.fm_ctx.specs.Table.{Context, Slot, context_at}
 use Rattle.fm_flow.specs.declared.entry.Ask.{Ask}
+use Rattle.fm_flow.specs.Table.{FlowTable, told}
+use Rattle.fm_world.specs.declared.file.FileObject.{FileObject}
 use Rattle.fm_world.specs.declared.worker.Worker.{Worker}
 use Rattle.fm_world.specs.declared.worker.Worker.TheVariants as place
 
@@ -36,6 +41,26 @@ instance_in a = called_for a
 
 abbrev pub place_in : Option Worker → Option InstanceId
 place_in m = option_and_then instance_in m
+
+-- the file that an operation is on: a create has none before it succeeded, and a listing has none
+abbrev pub file_object : Option StreamId → Option HandleId → Option FileObject
+file_object (Some s) (Some h) = Some (record { stream = s; handle = h })
+file_object (Some s) None = None
+file_object None h = None
+
+-- the operation whose callback a worker is in
+abbrev pub operation_in : Worker → Option OpId
+operation_in (place.Pre o i) = Some o
+operation_in (place.Post o i) = Some o
+operation_in (place.Drain o i) = Some o
+operation_in _ = None
+
+abbrev pub file_at : FlowTable → Option OpId → Option FileObject
+file_at t None = None
+file_at t (Some o) = told (λ r. file_object r.stream r.handle) None o t
+
+abbrev pub file_of : FlowTable → Option Worker → Option FileObject
+file_of t m = file_at t (option_and_then operation_in m)
 
 -- what a callback of an instance may work on: the instance is there
 abbrev pub row_at : StackWorld → InstanceId → Option Instance
@@ -59,16 +84,25 @@ abbrev pub is_instance : ContextKind → Bool
 is_instance kind.Instance = true
 is_instance _ = false
 
+abbrev pub is_of_stream : ContextKind → Bool
+is_of_stream kind.Stream = true
+is_of_stream _ = false
+
+abbrev pub is_of_handle : ContextKind → Bool
+is_of_handle kind.Handle = true
+is_of_handle _ = false
+
 -- what a callback allocates belongs to its instance; a volume context to its filter
 abbrev pub owner_by : Instance → InstanceId → ContextKind → Owner
 owner_by row i kind.Volume = owner.Filter row.filter
 owner_by row i _ = owner.Instance i
 
--- what the callback sets a context of that kind on, if it has such an object: streams and handles come with operations on files
-abbrev pub object_by : Instance → InstanceId → ContextKind → Option Object
-object_by row i kind.Volume = Some (object.Volume row.volume)
-object_by row i kind.Instance = Some (object.Instance i)
-object_by row i _ = None
+-- what the callback sets a context of that kind on, if it has such an object: a stream and a handle come with an operation on a file
+abbrev pub object_by : Instance → InstanceId → Option FileObject → ContextKind → Option Object
+object_by row i file kind.Volume = Some (object.Volume row.volume)
+object_by row i file kind.Instance = Some (object.Instance i)
+object_by row i file kind.Stream = option_map (λ f. object.Stream f.stream) file
+object_by row i file kind.Handle = option_map (λ f. object.Handle f.handle) file
 
 -- nothing more is set on an instance that is being torn down, or where its volume is dismounted
 abbrev pub is_closing : StackWorld → Instance → Bool
@@ -98,12 +132,13 @@ owner_fits s kind.Volume (owner.Instance i) = false
 owner_fits s _ (owner.Filter f) = false
 owner_fits s _ (owner.Instance i) = is_left_by (row_at s i)
 
--- a link is to an object of the context's kind: a volume that is there, or the owner itself, which isn't being emptied
+-- a link is to an object of the context's kind: a volume that is there, the owner itself, which isn't being emptied, a stream or a handle
 abbrev pub link_fits : StackWorld → Context → Option Object → Bool
 link_fits s x None = true
 link_fits s x (Some (object.Volume v)) = is_volume x.kind && nat_lt v.0 (length s.volumes)
 link_fits s x (Some (object.Instance i)) = is_instance x.kind && (same_owner (owner.Instance i) x.owner && keeps_links_by (row_at s i))
-link_fits s x (Some _) = false
+link_fits s x (Some (object.Stream r)) = is_of_stream x.kind
+link_fits s x (Some (object.Handle h)) = is_of_handle x.kind
 
 abbrev pub fits : StackWorld → Option Context → Bool
 fits s None = true

@@ -23,6 +23,7 @@ use Rattle.fm_stack.specs.Stacks.{IsStack}
 use Rattle.fm_world.specs.declared.worker.Worker.{Worker}
 use Rattle.fm_world.specs.declared.worker.Worker.TheVariants as place
 use Rattle.fm_world.specs.Files.{FileTable}
+use Rattle.fm_world.specs.Links.{names_there}
 use Rattle.fm_world.specs.World.{World, carries}
 use Rattle.fm_world.specs.Workers.{worker_at, cleanup_in}
 use Rattle.fm_world.specs.Owners.{row_at, place_in, HoldsIn, AskCarries, fits, is_flown_by}
@@ -85,3 +86,4 @@ pub record IsSound (w : World) : Type 0 where
   pub under_way : IsUnderWay w
   pub owned : IsOwned w
   pub filed : IsFiled w.files w.flow
+  pub links : All (λ (s : Slot). names_there w.files s.context ≡ true) w.contexts.slots

@@ -25,6 +25,13 @@ pub enum HandlePhase {
     Closing,
 }
 
+/// An open file, as an operation on it names it (`FLT_RELATED_OBJECTS`).
+#[derive(Clone, Copy, Debug, PartialEq, Eq)]
+pub struct FileObject {
+    pub stream: StreamId,
+    pub handle: HandleId,
+}
+
 /// What a successful create gave its client (`FILE_OBJECT`), until its close has reached the base.
 #[derive(Clone, Copy, Debug, PartialEq, Eq)]
 pub struct FileHandle {

@@ -1,7 +1,7 @@
 //! The model of the filter manager, with no code but types: what a World is, which events there are, what each answers and makes of a World, and what
 //! holds of every World that a list of events leads to.
 //!
-//! `specs/` says it, each file to be read aloud: `World`, `Workers`, `Files`, `Owners`, `Events`, `ContextEvents`, `Steps`, `Descent`, `Headline`. `laws` has the proofs as public functions.
+//! `specs/` says it, each file to be read aloud: `World`, `Workers`, `Files`, `Owners`, `Links`, `Events`, `ContextEvents`, `Steps`, `Descent`, `Headline`. `laws` has the proofs as public functions.
 #![tactic(auto)]
 
 mod file;
@@ -11,7 +11,7 @@ mod set_answer;
 mod step;
 mod worker;
 
-pub use crate::file::{FileHandle, FileStream, HandlePhase};
+pub use crate::file::{FileHandle, FileObject, FileStream, HandlePhase};
 pub use crate::refused::Refused;
 pub use crate::set_answer::SetAnswer;
 pub use crate::step::{Begin, FileRequest, Step, StepReply};

@@ -1,5 +1,7 @@
-use Rattle.std.proofs.Common.{◌≡◌, Some, sym, ◌∙◌, subst, ap}
-use Rattle.std.specs.Prelude.{IfErr, ℕ, None, cond, option_map}
+use Rattle.std.proofs.Common.{◌≡◌, Some, refl, sym, ◌∙◌, subst, ap}
+use Rattle.std.specs.Prelude.{IfErr, ℕ, Option, None, cond, option_map, is_ok, is_some}
+use Rattle.fm_types.specs.declared.status.Status.{Status}
+use Rattle.fm_core.proofs.Losing.{base_loses, base_stays, unlinks_tied}
 use Rattle.fm_flow.specs.Table.{operation_at}
 use Rattle.fm_core.specs.Targets.{target_in, after_answer, HasRoom}
 use Rattle.fm_flow.specs.Steps.{base_fits}
@@ -29,7 +31,7 @@ base_returned-answer-requires c =
 pub invariant_of-self : goal.invariant_of-self
 invariant_of-self c =
     let old : World = world_of c.self.inside.stack c.self.inside.flow c.self.inside.workers c.self.inside.contexts c.self.inside.totals c.self.inside.files in
-    let new : World = record old { flow = c.base_returned-answer.new.self; workers = c.note_return.new.workers; files = c.note_answer.new.files.table } in
+    let new : World = record old { flow = c.base_returned-answer.new.self; workers = c.note_return.new.workers; contexts = c.unlink_lost.new.contexts.table; files = c.note_answer.new.files.table } in
     let is = base_is (worker_at c.args.self.now.workers c.args.worker) c.in-Some.operation (ap base_of (sym c.place.ensures) ∙ sym c.base_of.ensures ∙ c.in-Some.is) in
     let at = subst (λ (w : World). worker_at w.workers c.args.worker ≡ Some (place.Base c.in-Some.operation)) (sym c.self.view_is) is in
     let workers = c.note_return.ensures ∙ ap (after_return old.workers c.args.worker) c.is_ok.ensures.value in
@@ -37,20 +39,28 @@ invariant_of-self c =
     let files = c.note_answer.ensures ∙ ap (λ x. after_answer old.files c.base_returned-answer.new.self x c.taken-status.result) c.target_of-target.ensures
     ∙ ap (after_answer old.files c.base_returned-answer.new.self (option_map target_in (operation_at c.in-Some.operation old.flow)))
     (c.taken-status.ensures ∙ ap (λ b. cond b (Some c.args.given.status) None) c.is_ok-2.ensures.value) in
+    let tied = base_tied c.self.inside.contexts c.in-Some.operation c.args.call c.args.given (record { 0 = c.next_number.result }) c.self.inside.flow c.base_returned-answer.new.self
+    c.base_returned-answer.ensures.after c.self.invariant.tied in
+    let known = c.is_some.ensures ∙ ap (λ (x : Option Status). is_some x) (c.taken-status.ensures ∙ ap (λ b. cond b (Some c.args.given.status) None) c.is_ok-2.ensures.value) in
+    let loses = base_loses old c.in-Some.operation c.args.given.status (is_ok c.base_returned-answer.result) c.base_returned-answer.new.self c.note_return.new.workers c.self.inside.contexts
+    c.unlink_lost.new.contexts c.note_answer.new.files.table c.is_some.result c.target_of-target.result c.self.invariant.sound refl tied c.target_of-target.ensures files known
+    c.unlink_lost.ensures in
+    let stays = base_stays old c.args.given.status (is_ok c.base_returned-answer.result) c.self.inside.contexts c.unlink_lost.new.contexts c.note_answer.new.files.table c.is_some.result
+    c.target_of-target.result refl known c.unlink_lost.ensures in
     record {
       sound = base_sound old c.args.worker c.args.call c.args.given (status_of (strange c.base_returned-answer.result)) new
           (base_returns old c.args.worker c.in-Some.operation c.args.call c.args.given (record { 0 = c.next_number.result }) c.base_returned-answer.result
-          c.base_returned-answer.new.self c.note_return.new.workers c.note_answer.new.files.table at c.self.invariant.sound handle c.base_returned-answer.ensures.reply
-          c.base_returned-answer.ensures.after workers files)
+          c.base_returned-answer.new.self c.note_return.new.workers c.unlink_lost.new.contexts.table c.note_answer.new.files.table at c.self.invariant.sound handle c.base_returned-answer.ensures.reply
+          c.base_returned-answer.ensures.after workers files (λ ok. loses) stays)
           c.self.invariant.sound;
-      tied = base_tied c.self.inside.contexts c.in-Some.operation c.args.call c.args.given (record { 0 = c.next_number.result }) c.self.inside.flow c.base_returned-answer.new.self c.base_returned-answer.ensures.after
-          c.self.invariant.tied;
+      tied = unlinks_tied c.is_some.result c.note_answer.new.files.table c.target_of-target.result c.self.inside.contexts c.unlink_lost.new.contexts c.base_returned-answer.new.self
+          c.unlink_lost.ensures tied;
     }
 
 pub returns-clause-event : goal.returns-clause-event
 returns-clause-event c =
     let old : World = world_of c.self.inside.stack c.self.inside.flow c.self.inside.workers c.self.inside.contexts c.self.inside.totals c.self.inside.files in
-    let new : World = record old { flow = c.base_returned-answer.new.self; workers = c.note_return.new.workers; files = c.note_answer.new.files.table } in
+    let new : World = record old { flow = c.base_returned-answer.new.self; workers = c.note_return.new.workers; contexts = c.unlink_lost.new.contexts.table; files = c.note_answer.new.files.table } in
     let is = base_is (worker_at c.args.self.now.workers c.args.worker) c.in-Some.operation (ap base_of (sym c.place.ensures) ∙ sym c.base_of.ensures ∙ c.in-Some.is) in
     let at = subst (λ (w : World). worker_at w.workers c.args.worker ≡ Some (place.Base c.in-Some.operation)) (sym c.self.view_is) is in
     let workers = c.note_return.ensures ∙ ap (after_return old.workers c.args.worker) c.is_ok.ensures.value in
@@ -58,11 +68,19 @@ returns-clause-event c =
     let files = c.note_answer.ensures ∙ ap (λ x. after_answer old.files c.base_returned-answer.new.self x c.taken-status.result) c.target_of-target.ensures
     ∙ ap (after_answer old.files c.base_returned-answer.new.self (option_map target_in (operation_at c.in-Some.operation old.flow)))
     (c.taken-status.ensures ∙ ap (λ b. cond b (Some c.args.given.status) None) c.is_ok-2.ensures.value) in
+    let tied = base_tied c.self.inside.contexts c.in-Some.operation c.args.call c.args.given (record { 0 = c.next_number.result }) c.self.inside.flow c.base_returned-answer.new.self
+    c.base_returned-answer.ensures.after c.self.invariant.tied in
+    let known = c.is_some.ensures ∙ ap (λ (x : Option Status). is_some x) (c.taken-status.ensures ∙ ap (λ b. cond b (Some c.args.given.status) None) c.is_ok-2.ensures.value) in
+    let loses = base_loses old c.in-Some.operation c.args.given.status (is_ok c.base_returned-answer.result) c.base_returned-answer.new.self c.note_return.new.workers c.self.inside.contexts
+    c.unlink_lost.new.contexts c.note_answer.new.files.table c.is_some.result c.target_of-target.result c.self.invariant.sound refl tied c.target_of-target.ensures files known
+    c.unlink_lost.ensures in
+    let stays = base_stays old c.args.given.status (is_ok c.base_returned-answer.result) c.self.inside.contexts c.unlink_lost.new.contexts c.note_answer.new.files.table c.is_some.result
+    c.target_of-target.result refl known c.unlink_lost.ensures in
     subst (λ x. BaseReturns c.args.self.now c.args.worker c.args.call c.args.given (status_of x) new) (sym c.answer_strange.ensures)
     (subst (λ (w : World). BaseReturns w c.args.worker c.args.call c.args.given (status_of (strange c.base_returned-answer.result)) new) c.self.view_is
     (base_returns old c.args.worker c.in-Some.operation c.args.call c.args.given (record { 0 = c.next_number.result }) c.base_returned-answer.result
-    c.base_returned-answer.new.self c.note_return.new.workers c.note_answer.new.files.table at c.self.invariant.sound handle c.base_returned-answer.ensures.reply
-    c.base_returned-answer.ensures.after workers files))
+    c.base_returned-answer.new.self c.note_return.new.workers c.unlink_lost.new.contexts.table c.note_answer.new.files.table at c.self.invariant.sound handle c.base_returned-answer.ensures.reply
+    c.base_returned-answer.ensures.after workers files (λ ok. loses) stays))
 
 pub returns-clause-back : goal.returns-clause-back
 returns-clause-back c =

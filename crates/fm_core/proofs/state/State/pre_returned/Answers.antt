@@ -1,6 +1,8 @@
 use Rattle.std.proofs.Common.{◌≡◌, ◌<◌, Some, refl, sym, ◌∙◌, subst, ap}
 use Rattle.std.specs.Prelude.{IfErr, is_ok, cond}
 use Rattle.fm_core.specs.Targets.{decided}
+use Rattle.fm_core.specs.Lost.{UnlinksWhere}
+use Rattle.fm_core.proofs.Losing.{pre_loses_where, pre_stays, unlinks_tied}
 use Rattle.std.proofs.lemmas.Option.{slice_get_within}
 use Rattle.fm_data.specs.Data.{data_fits}
 use Rattle.fm_flow.specs.Verdict.{is_counted}
@@ -77,16 +79,23 @@ invariant_of-self c =
     let workers = c.note_return.ensures ∙ ap (after_return old.workers c.args.worker) c.is_ok-2.ensures.value in
     let files = c.note_verdict.ensures ∙ ap (λ b. cond b (decided c.pre_returned-answer.new.self c.state_given-state.result c.target_of-target.result old.files) old.files) c.is_ok-3.ensures.value
     ∙ ap (λ x. cond (is_ok c.pre_returned-answer.result) (decided c.pre_returned-answer.new.self c.state_given-state.result x old.files) old.files) c.target_of-target.ensures in
-    let new : World = record old { flow = c.pre_returned-answer.new.self; workers = c.note_return.new.workers; contexts = c.end_callback.new.contexts.table; files = c.note_verdict.new.files.table } in
+    let new : World = record old { flow = c.pre_returned-answer.new.self; workers = c.note_return.new.workers; contexts = c.unlink_lost.new.contexts.table; files = c.note_verdict.new.files.table } in
+    let tied = pre_tied old c.args.worker c.in-Some.operation c.in-Some.instance c.args.lent c.state_given-state.result c.pre_returned-answer.result c.pre_returned-answer.new.self
+    c.self.inside.contexts c.end_callback.new.contexts at c.self.invariant.sound c.pre_returned-answer.ensures.reply c.pre_returned-answer.ensures.after ends sent c.self.invariant.tied in
+    let unlinks = subst (λ b. UnlinksWhere b c.note_verdict.new.files.table c.target_of-target.result c.end_callback.new.contexts c.unlink_lost.new.contexts) c.is_ok-4.ensures.value
+    c.unlink_lost.ensures in
+    let loses = pre_loses_where old c.args.worker c.in-Some.operation c.state_given-state.result c.pre_returned-answer.new.self c.note_return.new.workers c.self.inside.contexts
+    c.end_callback.new.contexts c.unlink_lost.new.contexts c.note_verdict.new.files.table (is_ok c.pre_returned-answer.result) c.target_of-target.result c.self.invariant.sound refl ends tied
+    c.target_of-target.ensures files unlinks in
+    let stays = pre_stays c.end_callback.new.contexts c.unlink_lost.new.contexts c.note_verdict.new.files.table (is_ok c.pre_returned-answer.result) c.target_of-target.result unlinks in
     record {
       sound = pre_sound old c.args.worker c.args.verdict c.args.lent (status_of (strange c.pre_returned-answer.result)) new
           (pre_returns old c.args.worker c.in-Some.operation c.in-Some.instance c.args.verdict c.args.lent c.state_given-state.result c.pre_returned-answer.result
-          c.pre_returned-answer.new.self c.note_return.new.workers c.self.inside.contexts c.end_callback.new.contexts c.note_verdict.new.files.table at c.self.invariant.sound state
-          c.pre_returned-answer.ensures.reply c.pre_returned-answer.ensures.after workers refl ends sent files)
+          c.pre_returned-answer.new.self c.note_return.new.workers c.self.inside.contexts c.end_callback.new.contexts c.unlink_lost.new.contexts.table c.note_verdict.new.files.table at c.self.invariant.sound state
+          c.pre_returned-answer.ensures.reply c.pre_returned-answer.ensures.after workers refl ends sent files loses stays)
           c.self.invariant.sound;
-      tied = pre_tied old c.args.worker c.in-Some.operation c.in-Some.instance c.args.lent c.state_given-state.result c.pre_returned-answer.result c.pre_returned-answer.new.self
-          c.self.inside.contexts c.end_callback.new.contexts at c.self.invariant.sound c.pre_returned-answer.ensures.reply c.pre_returned-answer.ensures.after ends sent
-          c.self.invariant.tied;
+      tied = unlinks_tied (is_ok c.pre_returned-answer.result) c.note_verdict.new.files.table c.target_of-target.result c.end_callback.new.contexts c.unlink_lost.new.contexts
+          c.pre_returned-answer.new.self unlinks tied;
     }
 
 pub returns-clause-event : goal.returns-clause-event
@@ -102,12 +111,20 @@ returns-clause-event c =
     let workers = c.note_return.ensures ∙ ap (after_return old.workers c.args.worker) c.is_ok-2.ensures.value in
     let files = c.note_verdict.ensures ∙ ap (λ b. cond b (decided c.pre_returned-answer.new.self c.state_given-state.result c.target_of-target.result old.files) old.files) c.is_ok-3.ensures.value
     ∙ ap (λ x. cond (is_ok c.pre_returned-answer.result) (decided c.pre_returned-answer.new.self c.state_given-state.result x old.files) old.files) c.target_of-target.ensures in
-    let new : World = record old { flow = c.pre_returned-answer.new.self; workers = c.note_return.new.workers; contexts = c.end_callback.new.contexts.table; files = c.note_verdict.new.files.table } in
+    let new : World = record old { flow = c.pre_returned-answer.new.self; workers = c.note_return.new.workers; contexts = c.unlink_lost.new.contexts.table; files = c.note_verdict.new.files.table } in
+    let tied = pre_tied old c.args.worker c.in-Some.operation c.in-Some.instance c.args.lent c.state_given-state.result c.pre_returned-answer.result c.pre_returned-answer.new.self
+    c.self.inside.contexts c.end_callback.new.contexts at c.self.invariant.sound c.pre_returned-answer.ensures.reply c.pre_returned-answer.ensures.after ends sent c.self.invariant.tied in
+    let unlinks = subst (λ b. UnlinksWhere b c.note_verdict.new.files.table c.target_of-target.result c.end_callback.new.contexts c.unlink_lost.new.contexts) c.is_ok-4.ensures.value
+    c.unlink_lost.ensures in
+    let loses = pre_loses_where old c.args.worker c.in-Some.operation c.state_given-state.result c.pre_returned-answer.new.self c.note_return.new.workers c.self.inside.contexts
+    c.end_callback.new.contexts c.unlink_lost.new.contexts c.note_verdict.new.files.table (is_ok c.pre_returned-answer.result) c.target_of-target.result c.self.invariant.sound refl ends tied
+    c.target_of-target.ensures files unlinks in
+    let stays = pre_stays c.end_callback.new.contexts c.unlink_lost.new.contexts c.note_verdict.new.files.table (is_ok c.pre_returned-answer.result) c.target_of-target.result unlinks in
     subst (λ x. PreReturns c.args.self.now c.args.worker c.args.verdict c.args.lent (status_of x) new) (sym c.answer_strange.ensures)
     (subst (λ (w : World). PreReturns w c.args.worker c.args.verdict c.args.lent (status_of (strange c.pre_returned-answer.result)) new) c.self.view_is
     (pre_returns old c.args.worker c.in-Some.operation c.in-Some.instance c.args.verdict c.args.lent c.state_given-state.result c.pre_returned-answer.result
-    c.pre_returned-answer.new.self c.note_return.new.workers c.self.inside.contexts c.end_callback.new.contexts c.note_verdict.new.files.table at c.self.invariant.sound state
-    c.pre_returned-answer.ensures.reply c.pre_returned-answer.ensures.after workers refl ends sent files))
+    c.pre_returned-answer.new.self c.note_return.new.workers c.self.inside.contexts c.end_callback.new.contexts c.unlink_lost.new.contexts.table c.note_verdict.new.files.table at c.self.invariant.sound state
+    c.pre_returned-answer.ensures.reply c.pre_returned-answer.ensures.after workers refl ends sent files loses stays))
 
 pub returns-clause-back : goal.returns-clause-back
 returns-clause-back c =

@@ -11,6 +11,8 @@ mod interpreter;
 mod keyword;
 mod line;
 mod number;
+#[cfg(test)]
+mod operation_tests;
 mod output;
 mod reading;
 mod runner;

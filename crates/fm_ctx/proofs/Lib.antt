@@ -1,5 +1,9 @@
 pub mod Bags
 pub mod Objects
+pub mod Lasts
+pub mod Chains
+pub mod Finding
+pub mod Seated
 pub mod Slots
 pub mod Counts
 pub mod Moves

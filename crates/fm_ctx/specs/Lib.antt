@@ -1,5 +1,6 @@
 pub mod Bags
 pub mod Objects
+pub mod Seats
 pub mod Table
 pub mod Kept
 pub mod Laws

@@ -4,9 +4,11 @@ use Rattle.std.specs.Global.{Vec}
 use Rattle.fm_types.specs.declared.ids.CtxId.{CtxId}
 use Rattle.fm_ctx.specs.declared.object.Object.{Object}
 use Rattle.fm_ctx.specs.declared.row.Row.{Row}
+use Rattle.fm_ctx.specs.declared.seat.Seat.{Seat}
 use Rattle.fm_ctx.specs.Table.{Context, Slot, ContextTable, count_in}
 use Rattle.fm_ctx.specs.Kept.{ContextsKept, carried_of}
 use Rattle.fm_ctx.specs.Laws.{IsLawful}
+use Rattle.fm_ctx.specs.Seats.{seat_by}
 
 abbrev pub context_of : Row → Context
 context_of r = record { kind = r.kind; owner = r.owner; volume = r.volume; body = r.body.items; link = r.link }
@@ -44,6 +46,18 @@ pub record IsSound (rows : List Row) (kept : ContextsKept) (capacity : ℕ) : Ty
   pub counted : (c : CtxId) → stored rows c ≡ count_in (carried_of kept) kept.table c
   pub bounded : (c : CtxId) → carried_of kept c ≤ 2 ^ 32
   pub room : length kept.table.due + count_by is_referenced rows ≤ capacity
+
+-- the seat of a row's context, where it is linked
+abbrev pub seat_in : Row → Option Seat
+seat_in r = cond r.is_cleaned None (seat_by r.owner r.link)
+
+abbrev pub seats_of : List Row → List (Option Seat)
+seats_of rows = map seat_in rows
+
+-- and each linked context is found by its seat
+pub record IsIndexed (rows : List Row) (kept : ContextsKept) (capacity : ℕ) (seats : List (Option Seat)) : Type 0 where
+  pub sound : IsSound rows kept capacity
+  pub seated : seats ≡ seats_of rows
 
 -- ---- changes of one row
 

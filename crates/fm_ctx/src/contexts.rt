@@ -25,6 +25,8 @@ use crate::hand::Hand;
 use crate::object::Object;
 use crate::owner::Owner;
 use crate::row::Row;
+use crate::seat::Seat;
+use crate::seats::Seats;
 use crate::{hand, row};
 use fm_types::{Bytes, ContextKind, CtxId, Status, VolumeId, WorkerId};
 use std::alloc::{AllocError, Global};
@@ -46,6 +48,7 @@ const MAX_CONTEXTS: usize = 65536;
 pub struct Contexts {
     alloc: Global,
     rows: Vec<Row>,
+    seats: Seats,
     hands: Vec<Hand>,
     due: VecDeque<CtxId>,
     cleaning: Vec<Option<CtxId>>,
@@ -58,11 +61,11 @@ impl Model for Contexts {
 
     ghost Value = { ContextsKept };
 
-    ghost use Rattle.fm_ctx.specs.Rows.{kept_in, IsSound};
+    ghost use Rattle.fm_ctx.specs.Rows.{kept_in, IsIndexed};
 
     ghost view = { λ c. kept_in c.rows.items c.hands.items c.due.items c.cleaning.items c.leaks };
 
-    ghost invariant = { λ c. IsSound c.rows.items (kept_in c.rows.items c.hands.items c.due.items c.cleaning.items c.leaks) (deque_capacity c.due) };
+    ghost invariant = { λ c. IsIndexed c.rows.items (kept_in c.rows.items c.hands.items c.due.items c.cleaning.items c.leaks) (deque_capacity c.due) c.seats };
 }
 
 // The context has one reference fewer; with the last one it is due.
@@ -93,6 +96,7 @@ impl Contexts {
         Ok(Contexts {
             alloc,
             rows: Vec::new(alloc),
+            seats: Seats::new(alloc)?,
             hands,
             due: VecDeque::new(alloc),
             cleaning,
@@ -136,6 +140,9 @@ impl Contexts {
             return Err(Status::NoMemory);
         };
         let Ok(()) = self.rows.reserve(1) else {
+            return Err(Status::NoMemory);
+        };
+        let Ok(()) = self.seats.add() else {
             return Err(Status::NoMemory);
         };
         let id = CtxId {
@@ -266,6 +273,8 @@ impl Contexts {
         requires free { IsFree self.old.table id object }
         ensures { self.new ≡ record self.old { table = linked self.old.table id object } }
     {
+        let owner = self.rows[id.slot as usize].owner;
+        self.seats.put(id.slot, Seat { owner, object });
         row::link(&mut self.rows, id.slot as usize, object);
     }
 
@@ -276,6 +285,7 @@ impl Contexts {
     {
         drop_reference(&mut self.rows, &mut self.due, id);
         row::unlink(&mut self.rows, id.slot as usize);
+        self.seats.take(id.slot);
     }
 
     // The context loses its link, and the reference of the link goes to the hand.
@@ -286,6 +296,7 @@ impl Contexts {
         ensures { self.new ≡ record self.old { table = unlinked_into self.old.table worker.0 id } }
     {
         row::unlink(&mut self.rows, id.slot as usize);
+        self.seats.take(id.slot);
         hand::put(&mut self.hands, worker, id);
     }
 }

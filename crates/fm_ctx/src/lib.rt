@@ -12,6 +12,8 @@ mod hand;
 mod object;
 mod owner;
 mod row;
+mod seat;
+mod seats;
 mod set_reply;
 #[cfg(test)]
 mod tests;

@@ -1,10 +1,8 @@
 //! How a context is kept: its row, which stays where it is when the context is cleaned up.
 
-ghost use Rattle.std.specs.Prelude.{◌≡◌, ◌==◌, ℕ, ◌+◌, ◌-◌, ◌^◌, ◌<◌, ◌≤◌, length, slice_index_or, Some, option_copied, position, count_by};
+ghost use Rattle.std.specs.Prelude.{◌≡◌, ◌==◌, ℕ, ◌+◌, ◌-◌, ◌^◌, ◌<◌, ◌≤◌, length, slice_index_or, Some, option_copied, count_by};
 ghost use Rattle.std.specs.Global.{Vec};
 ghost use Rattle.fm_types.specs.Lists.{updated};
-ghost use Rattle.fm_ctx.specs.Laws.{links};
-ghost use Rattle.fm_ctx.specs.Links.{holder};
 ghost use Rattle.fm_ctx.specs.Counting.{is_open, was_given};
 ghost use Rattle.fm_ctx.specs.Sweep.{passes, link_test};
 ghost use Rattle.fm_ctx.specs.Bodies.{raised as raised_number, with_number};
@@ -37,16 +35,6 @@ pub struct Row {
 }
 
 impl Row {
-    /// Whether it is a context of that owner that is linked to that object.
-    pub fn links(&self, owner: Owner, object: Object) -> bool
-        ensures { result ≡ links owner object (slot_of self.now).context }
-    {
-        let Some(other) = self.link else {
-            return false;
-        };
-        !self.is_cleaned && object.is(other) && owner.is(self.owner)
-    }
-
     /// Whether it is a context of that owner that isn't cleaned.
     pub fn is_open_of(&self, owner: Owner) -> bool
         ensures { result ≡ is_open owner (slot_of self.now).context }
@@ -95,26 +83,6 @@ pub fn was_given(rows: &[Row], id: CtxId) -> bool
     ensures { result ≡ was_given (slots_of rows.now) id }
 {
     id.generation == 0 && (id.slot as usize) < rows.len()
-}
-
-fn place_of(rows: &[Row], owner: Owner, object: Object) -> Option<usize>
-    ensures { result ≡ position (λ (r : KeptRow). links owner object (slot_of r).context) rows.now }
-{
-    rows.iter().position(|row| row.links(owner, object))
-}
-
-/// The context of an owner that is linked to an object.
-pub fn find(rows: &[Row], owner: Owner, object: Object) -> Option<CtxId>
-    requires { length rows.now ≤ 65536 }
-    ensures { result ≡ holder (slots_of rows.now) owner object }
-{
-    let Some(slot) = place_of(rows, owner, object) else {
-        return None;
-    };
-    Some(CtxId {
-        slot: slot as u32,
-        generation: 0,
-    })
 }
 
 /// One more reference to the context of a row.

@@ -405,6 +405,29 @@ fn bodies_keep_their_length(rt: HostRuntime) -> Result<(), Fail> {
     Ok(())
 }
 
+// Three objects whose seats are on one chain; the one in the middle is taken off.
+#[test]
+fn found_along_a_chain(rt: HostRuntime) -> Result<(), Fail> {
+    let mut contexts = Contexts::new(rt.alloc())?;
+    let (on_stream, on_handle) = old_and_new(rt.alloc(), &mut contexts)?;
+    let on_another = allocate(rt.alloc(), &mut contexts, 0)?;
+    let (handle, another) = (Object::Handle(HandleId(7)), Object::Stream(StreamId(4103)));
+    let _last = set(&mut contexts, on_another, another, SetMode::Keep, false);
+    let _middle = set(&mut contexts, on_handle, handle, SetMode::Keep, false);
+    assert_eq!(rt; contexts.get(WorkerId(5), OWNER, handle), Ok(on_handle));
+    assert_eq!(rt;
+        contexts.delete(WorkerId(0), OWNER, handle, false),
+        Ok(None)
+    );
+    assert_eq!(rt;
+        contexts.get(WorkerId(5), OWNER, handle),
+        Err(Status::NoContext)
+    );
+    assert_eq!(rt; contexts.get(WorkerId(5), OWNER, STREAM), Ok(on_stream));
+    assert_eq!(rt; contexts.get(WorkerId(5), OWNER, another), Ok(on_another));
+    Ok(())
+}
+
 #[test]
 fn unlinked_with_the_object(rt: HostRuntime) -> Result<(), Fail> {
     let mut contexts = Contexts::new(rt.alloc())?;

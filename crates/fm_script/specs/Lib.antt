@@ -5,3 +5,4 @@ pub mod Hexadecimal
 pub mod Keywords
 pub mod ContextCommands
 pub mod FileCommands
+pub mod Devices

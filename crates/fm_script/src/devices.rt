@@ -1,7 +1,10 @@
 //! The file systems below a script's volumes, all in memory. Calls of a device are counted together, from the script's start, and those that the
 //! script names fail.
 
-ghost use Rattle.std.specs.Prelude.{◌≡◌};
+ghost use Rattle.std.specs.Prelude.{◌≡◌, ◌<◌, ◌≤◌, ◌++◌, ◌∷◌, [], true, false, cond, nat_lt, length, slice_index_or, slice_set, OnOk, OnErr};
+ghost use Rattle.std.specs.FinMap.{empty};
+ghost use Rattle.fm_script.specs.Devices.{bare, done_as, told_as, sized_as, one_more, is_failing, CarriesWithin, CarriesAny};
+ghost use Rattle.fm_data.specs.Params.{is_within_limits};
 
 use fm_base::{Base, MemoryBase};
 use fm_data::{Answer, Params};
@@ -20,7 +23,11 @@ pub struct Devices {
 
 impl Devices {
     /// No device.
-    pub fn new(alloc: Global) -> Self {
+    pub fn new(alloc: Global) -> Self
+        ensures volumes { result.volumes.items ≡ [] }
+        ensures failing { result.failing.items ≡ [] }
+        ensures counts { (result.calls ≡ 0) × (result.failures ≡ 0) }
+    {
         Devices {
             alloc,
             volumes: Vec::new(alloc),
@@ -31,13 +38,22 @@ impl Devices {
     }
 
     /// One more volume, with an empty folder.
-    pub fn mount(&mut self) -> Result<(), AllocError> {
+    pub fn mount(&mut self) -> Result<(), AllocError>
+        ensures ok { OnOk result (self.new.volumes.items ≡ self.old.volumes.items ++ empty ∷ []) }
+        ensures err { OnErr result (self.new.volumes.items ≡ self.old.volumes.items) }
+        ensures rest { (self.new.failing ≡ self.old.failing) × (self.new.calls ≡ self.old.calls) × (self.new.failures ≡ self.old.failures) }
+    {
         self.volumes.push(MemoryBase::new(self.alloc))?;
         Ok(())
     }
 
     /// The call of that number, counted from 1, will fail. A call that was made stays as it was.
-    pub fn fail(&mut self, number: u64) -> Result<(), AllocError> {
+    pub fn fail(&mut self, number: u64) -> Result<(), AllocError>
+        ensures ok { OnOk result (self.new.failing.items ≡ cond (nat_lt self.old.calls number) (self.old.failing.items ++ number ∷ []) self.old.failing.items) }
+        ensures err { OnErr result (self.new.failing.items ≡ self.old.failing.items) }
+        ensures counts { (self.new.calls ≡ self.old.calls) × (self.new.failures ≡ self.old.failures) }
+        ensures volumes { self.new.volumes ≡ self.old.volumes }
+    {
         if number > self.calls {
             self.failing.push(number)?;
         }
@@ -51,10 +67,20 @@ impl Devices {
         self.failures
     }
 
-    /// Makes the call of a volume's device. A path is missing for a listing alone.
-    pub fn call(&mut self, volume: usize, path: Option<RelPath>, call: &Params) -> Answer {
+    /// Makes the call of a volume's device. A path is missing for a listing alone. One that is to fail is answered with 18, one of a volume that isn't there with
+    /// 7, and both change nothing. Any other is answered, and changes its volume's folder, as that folder says, unless memory is wanting, when it changes
+    /// nothing. All other volumes stay.
+    pub fn call(&mut self, volume: usize, path: Option<RelPath>, call: &Params) -> Answer
+        ensures counted { self.new.calls ≡ one_more self.old.calls }
+        ensures failures { self.new.failures ≡ cond (is_failing self.new.calls self.old.failing.items) (one_more self.old.failures) self.old.failures }
+        ensures failing { self.new.failing ≡ self.old.failing }
+        ensures fails { is_failing self.new.calls self.old.failing.items ≡ true → (result ≡ bare Status.DeviceFault) × (self.new.volumes ≡ self.old.volumes) }
+        ensures absent { is_failing self.new.calls self.old.failing.items ≡ false → length self.old.volumes.items ≤ volume → (result ≡ bare Status.NoVolume) × (self.new.volumes ≡ self.old.volumes) }
+        ensures carried { is_failing self.new.calls self.old.failing.items ≡ false → volume < length self.old.volumes.items → CarriesAny path call.now (slice_index_or self.old.volumes.items volume empty) (slice_index_or self.new.volumes.items volume empty) result }
+        ensures others { self.new.volumes.items ≡ slice_set self.old.volumes.items volume (slice_index_or self.new.volumes.items volume empty) }
+    {
         self.calls = self.calls.saturating_add(1);
-        if self.failing.iter().any(|number| *number == self.calls) {
+        if is_failing(&self.failing, self.calls) {
             self.failures = self.failures.saturating_add(1);
             return refused(self.alloc, Status::DeviceFault);
         }
@@ -62,14 +88,31 @@ impl Devices {
         let Some(base) = self.volumes.get_mut(volume) else {
             return refused(alloc, Status::NoVolume);
         };
-        match path {
-            Some(path) => on_file(alloc, base, &path, call),
-            None => told(alloc, base.list()),
-        }
+        on_volume(alloc, base, path, call)
     }
 }
 
-fn refused(alloc: Global, status: Status) -> Answer {
+// Whether the call of that number is one of those that fail.
+fn is_failing(failing: &[u64], number: u64) -> bool
+    ensures { result ≡ is_failing number failing.now }
+{
+    failing.iter().any(|other| *other == number)
+}
+
+// A call of a volume's device.
+#[tactic(auto, using(crate::proofs::DeviceAnswers::told_said))]
+fn on_volume(alloc: Global, base: &mut MemoryBase, path: Option<RelPath>, call: &Params) -> Answer
+    ensures { CarriesAny path call.now base.old base.new result }
+{
+    match path {
+        Some(path) => on_file(alloc, base, &path, call),
+        None => told(alloc, base.list()),
+    }
+}
+
+fn refused(alloc: Global, status: Status) -> Answer
+    ensures { result ≡ bare status }
+{
     Answer {
         status,
         information: 0,
@@ -78,7 +121,9 @@ fn refused(alloc: Global, status: Status) -> Answer {
 }
 
 // An answer that says no more than whether it succeeded.
-fn done(alloc: Global, outcome: Result<(), Status>) -> Answer {
+fn done(alloc: Global, outcome: Result<(), Status>) -> Answer
+    ensures { result ≡ done_as outcome }
+{
     match outcome {
         Ok(()) => refused(alloc, Status::Success),
         Err(status) => refused(alloc, status),
@@ -86,7 +131,9 @@ fn done(alloc: Global, outcome: Result<(), Status>) -> Answer {
 }
 
 // An answer with bytes.
-fn told(alloc: Global, outcome: Result<Bytes, Status>) -> Answer {
+fn told(alloc: Global, outcome: Result<Bytes, Status>) -> Answer
+    ensures { result ≡ told_as outcome }
+{
     match outcome {
         Ok(bytes) => Answer {
             status: Status::Success,
@@ -98,7 +145,10 @@ fn told(alloc: Global, outcome: Result<Bytes, Status>) -> Answer {
 }
 
 // The call of an operation on a file. A close that reaches the device unlinks the file.
-fn on_file(alloc: Global, base: &mut MemoryBase, path: &RelPath, call: &Params) -> Answer {
+#[tactic(auto, using(crate::proofs::DeviceAnswers::made_said, crate::proofs::DeviceAnswers::told_said))]
+fn on_file(alloc: Global, base: &mut MemoryBase, path: &RelPath, call: &Params) -> Answer
+    ensures { CarriesWithin (is_within_limits call.now) path.now call.now base.old base.new result }
+{
     if !call.is_within_limits() {
         return refused(alloc, Status::BadRequest);
     }
@@ -116,7 +166,9 @@ fn on_file(alloc: Global, base: &mut MemoryBase, path: &RelPath, call: &Params) 
 }
 
 // An answer with a size.
-fn sized(alloc: Global, outcome: Result<u64, Status>) -> Answer {
+fn sized(alloc: Global, outcome: Result<u64, Status>) -> Answer
+    ensures { result ≡ sized_as outcome }
+{
     match outcome {
         Ok(size) => Answer {
             status: Status::Success,

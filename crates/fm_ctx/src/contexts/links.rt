@@ -14,16 +14,24 @@ ghost use Rattle.fm_ctx.specs.Sweep.{link_test, swept_at};
 use crate::contexts::Contexts;
 use crate::object::Object;
 use crate::owner::Owner;
-use crate::row;
 use crate::row::Links;
+use crate::seat::Seat;
 use crate::set_reply::{SetMode, SetReply};
 use fm_types::{CtxId, Status, WorkerId};
 
 impl Contexts {
+    // The owner's context that is set on the object. The search passes the contexts that are set on
+    // the object, and few of other objects.
     fn find(&self, owner: Owner, object: Object) -> Option<CtxId>
         ensures { result ≡ holder self.now.table.slots owner object }
     {
-        row::find(&self.rows, owner, object)
+        let Some(slot) = self.seats.find(Seat { owner, object }) else {
+            return None;
+        };
+        Some(CtxId {
+            slot,
+            generation: 0,
+        })
     }
 
     /// Sets a context that the worker holds on an object (`FltSetInstanceContext`,

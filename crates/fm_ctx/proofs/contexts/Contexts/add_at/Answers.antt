@@ -6,6 +6,7 @@ use Rattle.fm_ctx.specs.Rows.{slots_of, row_with}
 use Rattle.fm_ctx.proofs.Rows.{within_rows, row_of_context, body_row}
 use Rattle.fm_ctx.proofs.Sound.{sound_as, sound_rewritten}
 use Rattle.fm_ctx.proofs.Shown.{shown, slots_of_context, carried_kept, emptied_to}
+use Rattle.fm_ctx.proofs.Seated.{seats_kept}
 use Rattle.fm_ctx.proofs.contexts.Contexts.add_at.Goals as goal
 
 pub bump-requires-clause-room : goal.bump-requires-clause-room
@@ -31,9 +32,12 @@ invariant_of-self c =
     let sum = c.bump.ensures.sum i.row ∙ ap (raised c.args.place c.args.by) old in
     let is = made.1 i.row ∙ ap₂ (with_number c.args.place) sum old in
     let bytes = with_number c.args.place (raised c.args.place c.args.by (body_at (slots_of rows) c.args.id)) (body_at (slots_of rows) c.args.id) in
-    sound_as made.2
-    (shown c.bump.new.rows.items c.self.inside.leaks (slots_of_context (row_with made.0) (with_body bytes) rows c.args.id i made.2 refl (ap (λ (b : List ℕ). emptied_to b i.row) is)) (carried_kept (row_with made.0) rows c.args.id.slot made.2 (λ r. refl)) refl refl refl)
-    (sound_rewritten (row_with made.0) c.args.id i bytes c.self.invariant refl refl)
+    record {
+      sound = sound_as made.2
+          (shown c.bump.new.rows.items c.self.inside.leaks (slots_of_context (row_with made.0) (with_body bytes) rows c.args.id i made.2 refl (ap (λ (b : List ℕ). emptied_to b i.row) is)) (carried_kept (row_with made.0) rows c.args.id.slot made.2 (λ r. refl)) refl refl refl)
+          (sound_rewritten (row_with made.0) c.args.id i bytes c.self.invariant.sound refl refl);
+      seated = seats_kept (row_with made.0) rows c.args.id.slot c.self.invariant.seated made.2 (λ r. refl);
+    }
 
 pub returns-clause-sum : goal.returns-clause-sum
 returns-clause-sum c =

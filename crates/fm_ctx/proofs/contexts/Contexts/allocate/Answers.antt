@@ -7,6 +7,7 @@ use Rattle.fm_ctx.specs.Rows.{slots_of, carried_in}
 use Rattle.fm_ctx.proofs.Sound.{sound_as}
 use Rattle.fm_ctx.proofs.Shown.{shown, matched}
 use Rattle.fm_ctx.proofs.Newborn.{IsFresh, sound_allocated, slots_pushed, carried_pushed}
+use Rattle.fm_ctx.proofs.Seated.{seats_pushed}
 use Rattle.fm_ctx.proofs.contexts.Contexts.allocate.Goals as goal
 
 pub invariant_of-self-2 : goal.invariant_of-self-2
@@ -22,6 +23,9 @@ invariant_of-self-2 c =
     let room = subst (λ (k : ContextsKept). length (hand_of k.table.hands c.args.worker.0) < 16) (sym c.self.view_is) room_now in
     let due_room : length c.self.inside.due.items + (length rows + 1) ≤ deque_capacity c.reserve.new.self =
     omega (arith, c.in-Ok.ensures.ok, c.len-2.ensures, c.self.inside.rows.ok.0, c.reserve.new.self.ok.0, ap length c.in-Ok.ensures.items) in
-    sound_as is
-    (shown c.push_reserved.new.self.items c.self.inside.leaks (ap slots_of is ∙ slots_pushed rows row id past refl fresh) (ap carried_in is ∙ carried_pushed rows row id past fresh) c.put.ensures c.in-Ok.ensures.items refl)
-    (sound_allocated (deque_capacity c.reserve.new.self) c.args.worker.0 row id c.self.invariant refl (matched rows) c.requires past refl fresh few room due_room)
+    record {
+      sound = sound_as is
+          (shown c.push_reserved.new.self.items c.self.inside.leaks (ap slots_of is ∙ slots_pushed rows row id past refl fresh) (ap carried_in is ∙ carried_pushed rows row id past fresh) c.put.ensures c.in-Ok.ensures.items refl)
+          (sound_allocated (deque_capacity c.reserve.new.self) c.args.worker.0 row id c.self.invariant.sound refl (matched rows) c.requires past refl fresh few room due_room);
+      seated = seats_pushed rows row c.self.invariant.seated is c.in-Ok-add.ensures.ok refl;
+    }

@@ -7,26 +7,30 @@ use Rattle.fm_ctx.specs.Rows.{raised}
 use Rattle.fm_ctx.proofs.Rows.{within_rows}
 use Rattle.fm_ctx.proofs.Sound.{present, row_fits, sound_as, sound_grabbed}
 use Rattle.fm_ctx.proofs.Shown.{shown, slots_kept, carried_kept}
+use Rattle.fm_ctx.proofs.Seated.{seats_kept}
 use Rattle.fm_ctx.proofs.contexts.Contexts.grab.Goals as goal
 
 pub raise-requires-clause-room : goal.raise-requires-clause-room
 raise-requires-clause-room c =
     let live = subst (λ (k : ContextsKept). 0 < count_in (carried_of k) k.table c.args.id) (sym c.self.view_is) c.requires.live in
-    within_rows c.self.inside.rows.items c.args.id (present c.args.id c.self.invariant live)
+    within_rows c.self.inside.rows.items c.args.id (present c.args.id c.self.invariant.sound live)
 
 pub raise-requires-clause-fits : goal.raise-requires-clause-fits
 raise-requires-clause-fits c =
     let live = subst (λ (k : ContextsKept). 0 < count_in (carried_of k) k.table c.args.id) (sym c.self.view_is) c.requires.live in
-    row_fits c.args.id c.self.invariant (present c.args.id c.self.invariant live)
+    row_fits c.args.id c.self.invariant.sound (present c.args.id c.self.invariant.sound live)
 
 pub invariant_of-self : goal.invariant_of-self
 invariant_of-self c =
     let rows = c.self.inside.rows.items in
     let live = subst (λ (k : ContextsKept). 0 < count_in (carried_of k) k.table c.args.id) (sym c.self.view_is) c.requires.live in
     let room = subst (λ (k : ContextsKept). length (hand_of k.table.hands c.args.worker.0) < 16) (sym c.self.view_is) c.requires.room in
-    sound_as c.raise.ensures
-    (shown c.raise.new.rows.items c.self.inside.leaks (slots_kept raised rows c.args.id.slot c.raise.ensures (λ r. refl)) (carried_kept raised rows c.args.id.slot c.raise.ensures (λ r. refl)) c.put.ensures refl refl)
-    (sound_grabbed c.args.worker.0 c.args.id c.self.invariant c.requires.within live room)
+    record {
+      sound = sound_as c.raise.ensures
+          (shown c.raise.new.rows.items c.self.inside.leaks (slots_kept raised rows c.args.id.slot c.raise.ensures (λ r. refl)) (carried_kept raised rows c.args.id.slot c.raise.ensures (λ r. refl)) c.put.ensures refl refl)
+          (sound_grabbed c.args.worker.0 c.args.id c.self.invariant.sound c.requires.within live room);
+      seated = seats_kept raised rows c.args.id.slot c.self.invariant.seated c.raise.ensures (λ r. refl);
+    }
 
 pub returns : goal.returns
 returns c =

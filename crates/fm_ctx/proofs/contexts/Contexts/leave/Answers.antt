@@ -36,7 +36,10 @@ loop-id-preserved c =
     }
 
 pub invariant_of-self : goal.invariant_of-self
-invariant_of-self c = sound_leaks c.saturating_add-self-inside.result c.self.invariant
+invariant_of-self c = record {
+  sound = sound_leaks c.saturating_add-self-inside.result c.self.invariant.sound;
+  seated = c.self.invariant.seated;
+}
 
 pub returns-clause-table : goal.returns-clause-table
 returns-clause-table c =

@@ -1,6 +1,6 @@
-use Rattle.std.proofs.Common.{◌≡◌, List, [], Option, None, replicate, deque_capacity, ap, ◌∙◌, arith}
+use Rattle.std.proofs.Common.{◌≡◌, List, [], Option, None, replicate, deque_capacity, sym, ap, ◌∙◌, arith}
 use Rattle.fm_types.specs.declared.ids.CtxId.{CtxId}
-use Rattle.fm_ctx.specs.Rows.{slots_of, carried_in}
+use Rattle.fm_ctx.specs.Rows.{slots_of, carried_in, seats_of}
 use Rattle.fm_ctx.proofs.Sound.{sound_as}
 use Rattle.fm_ctx.proofs.Shown.{shown}
 use Rattle.fm_ctx.proofs.Opening.{sound_empty}
@@ -11,6 +11,9 @@ invariant_of-result c =
     let all : c.loop-worker._worker ≡ 48 = omega arith in
     let hands = c.loop-worker.invariant.hands ∙ ap (λ n. replicate {A = List CtxId} n []) all in
     let cleaning = c.loop-worker.invariant.cleaning ∙ ap (λ n. replicate {A = Option CtxId} n None) all in
-    sound_as c.new-2.ensures.items
-    (shown c.new-2.result.items 0 (ap slots_of c.new-2.ensures.items) (ap carried_in c.new-2.ensures.items) hands c.new-3.ensures.items cleaning)
-    (sound_empty (deque_capacity c.new-3.result))
+    record {
+      sound = sound_as c.new-2.ensures.items
+          (shown c.new-2.result.items 0 (ap slots_of c.new-2.ensures.items) (ap carried_in c.new-2.ensures.items) hands c.new-4.ensures.items cleaning)
+          (sound_empty (deque_capacity c.new-4.result));
+      seated = c.in_ok-new-2.ensures ∙ sym (ap seats_of c.new-2.ensures.items);
+    }

@@ -6,6 +6,7 @@ use Rattle.fm_ctx.specs.Rows.{row_with}
 use Rattle.fm_ctx.proofs.Rows.{within_rows, row_of_context, body_row}
 use Rattle.fm_ctx.proofs.Sound.{sound_as, sound_rewritten}
 use Rattle.fm_ctx.proofs.Shown.{shown, slots_of_context, carried_kept, emptied_to}
+use Rattle.fm_ctx.proofs.Seated.{seats_kept}
 use Rattle.fm_ctx.proofs.contexts.Contexts.put_body.Goals as goal
 
 pub write_body-requires-clause-room : goal.write_body-requires-clause-room
@@ -27,9 +28,12 @@ invariant_of-self c =
     let there = subst (λ (k : ContextsKept). is_some (context_at k.table.slots c.args.id) ≡ true) (sym c.self.view_is) c.requires.there in
     let i = row_of_context rows c.args.id there in
     let made = c.write_body.ensures in
-    sound_as made.2
-    (shown c.write_body.new.rows.items c.self.inside.leaks (slots_of_context (row_with made.0) (with_body c.args.bytes.now) rows c.args.id i made.2 refl (ap (λ (bytes : List ℕ). emptied_to bytes i.row) made.1)) (carried_kept (row_with made.0) rows c.args.id.slot made.2 (λ r. refl)) refl refl refl)
-    (sound_rewritten (row_with made.0) c.args.id i c.args.bytes.now c.self.invariant refl refl)
+    record {
+      sound = sound_as made.2
+          (shown c.write_body.new.rows.items c.self.inside.leaks (slots_of_context (row_with made.0) (with_body c.args.bytes.now) rows c.args.id i made.2 refl (ap (λ (bytes : List ℕ). emptied_to bytes i.row) made.1)) (carried_kept (row_with made.0) rows c.args.id.slot made.2 (λ r. refl)) refl refl refl)
+          (sound_rewritten (row_with made.0) c.args.id i c.args.bytes.now c.self.invariant.sound refl refl);
+      seated = seats_kept (row_with made.0) rows c.args.id.slot c.self.invariant.seated made.2 (λ r. refl);
+    }
 
 pub returns : goal.returns
 returns c =

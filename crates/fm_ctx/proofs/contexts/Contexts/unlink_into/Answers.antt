@@ -7,28 +7,38 @@ use Rattle.fm_ctx.specs.Rows.{unlinked_row}
 use Rattle.fm_ctx.proofs.Rows.{within_rows}
 use Rattle.fm_ctx.proofs.Sound.{present, live_linked, sound_as, sound_unlinked_into}
 use Rattle.fm_ctx.proofs.Shown.{shown, slots_of_context, carried_kept}
+use Rattle.fm_ctx.proofs.Seated.{seats_set, seat_within, unlinked_seat}
 use Rattle.fm_ctx.proofs.contexts.Contexts.unlink_into.Goals as goal
 
 pub unlink-requires : goal.unlink-requires
 unlink-requires c =
     let has = subst (λ (k : ContextsKept). is_some (link_at k.table.slots c.args.id) ≡ true) (sym c.self.view_is) c.requires.linked in
-    let i = present c.args.id c.self.invariant (live_linked c.args.id c.self.invariant has) in
+    let i = present c.args.id c.self.invariant.sound (live_linked c.args.id c.self.invariant.sound has) in
     within_rows c.self.inside.rows.items c.args.id i
+
+pub take-requires : goal.take-requires
+take-requires c =
+    let has = subst (λ (k : ContextsKept). is_some (link_at k.table.slots c.args.id) ≡ true) (sym c.self.view_is) c.requires.linked in
+    let i = present c.args.id c.self.invariant.sound (live_linked c.args.id c.self.invariant.sound has) in
+    seat_within c.self.inside.rows.items c.args.id i c.self.invariant.seated
 
 pub invariant_of-self : goal.invariant_of-self
 invariant_of-self c =
     let has = subst (λ (k : ContextsKept). is_some (link_at k.table.slots c.args.id) ≡ true) (sym c.self.view_is) c.requires.linked in
-    let i = present c.args.id c.self.invariant (live_linked c.args.id c.self.invariant has) in
+    let i = present c.args.id c.self.invariant.sound (live_linked c.args.id c.self.invariant.sound has) in
     let room = subst (λ (k : ContextsKept). length (hand_of k.table.hands c.args.worker.0) < 16) (sym c.self.view_is) c.requires.room in
     let rows = c.self.inside.rows.items in
-    sound_as c.unlink.ensures
-    (shown c.unlink.new.rows.items c.self.inside.leaks (slots_of_context unlinked_row (with_link None) rows c.args.id i c.unlink.ensures refl refl) (carried_kept unlinked_row rows c.args.id.slot c.unlink.ensures (λ r. refl)) c.put.ensures refl refl)
-    (sound_unlinked_into c.args.worker.0 c.args.id c.self.invariant c.requires.within has room)
+    record {
+      sound = sound_as c.unlink.ensures
+          (shown c.unlink.new.rows.items c.self.inside.leaks (slots_of_context unlinked_row (with_link None) rows c.args.id i c.unlink.ensures refl refl) (carried_kept unlinked_row rows c.args.id.slot c.unlink.ensures (λ r. refl)) c.put.ensures refl refl)
+          (sound_unlinked_into c.args.worker.0 c.args.id c.self.invariant.sound c.requires.within has room);
+      seated = seats_set unlinked_row None rows c.args.id i c.self.invariant.seated c.unlink.ensures c.take.ensures (unlinked_seat i.row);
+    }
 
 pub returns : goal.returns
 returns c =
     let has = subst (λ (k : ContextsKept). is_some (link_at k.table.slots c.args.id) ≡ true) (sym c.self.view_is) c.requires.linked in
-    let i = present c.args.id c.self.invariant (live_linked c.args.id c.self.invariant has) in
+    let i = present c.args.id c.self.invariant.sound (live_linked c.args.id c.self.invariant.sound has) in
     let rows = c.self.inside.rows.items in
     shown c.unlink.new.rows.items c.self.inside.leaks (slots_of_context unlinked_row (with_link None) rows c.args.id i c.unlink.ensures refl refl) (carried_kept unlinked_row rows c.args.id.slot c.unlink.ensures (λ r. refl)) c.put.ensures refl refl
     ∙ ap (λ (k : ContextsKept). record k { table = unlinked_into k.table c.args.worker.0 c.args.id }) c.self.view_is

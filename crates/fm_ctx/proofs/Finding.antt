@@ -1,0 +1,132 @@
+-- A seat is found along its chain.
+use Rattle.std.proofs.Common.{◌≡◌, ℕ, zero, suc, ◌+◌, ◌<◌, ◌≤◌, ◌%◌, Bool, true, false, List, [], ◌∷◌, length, get_or, position, count_by, Option, Some, None, refl, sym, ap, ◌∙◌, arith, inl, inr, eq-eqb, lt-ltb, le-ltb, IfSome}
+use Rattle.std.specs.List.{position_or_len}
+use Rattle.std.proofs.lemmas.Bool.{cases_Bool, cases_lt, cases_order, and_parts, true≢false}
+use Rattle.std.proofs.lemmas.List.Sums.{sum_by-cons, get_or-le-sum_by, position_or_len_is}
+use Rattle.fm_ctx.specs.declared.seat.Seat.{Seat}
+use Rattle.fm_ctx.specs.Bags.{one}
+use Rattle.fm_ctx.specs.Objects.{same_object, same_owner}
+use Rattle.fm_ctx.specs.Seats.{object_number, chain_of, is_seat, is_on, stands, last_below, end_of, IsAbove}
+use Rattle.fm_ctx.proofs.Objects.{same_object-same}
+use Rattle.fm_ctx.proofs.Lasts.{IsLast, last_some, last_none}
+
+one_more : (k : ℕ) → 1 + k ≡ suc k
+one_more k = omega arith
+
+-- where one is counted at most, the place that passes is the one that is found
+found_at : {X : Type 0} (p : X → Bool) (xs : List X) (k : ℕ) (d : X) → count_by p xs ≤ 1 → k < length xs → p (get_or xs k d) ≡ true → position_or_len p xs ≡ k
+found_at p [] k d few within passes = absurd (omega (arith, within))
+found_at p (x ∷ xs) zero d few within passes = rw passes refl
+found_at {X} p (x ∷ xs) (suc k) d few within passes =
+    let by : X → ℕ = λ y. one (p y) in
+    let later : by (get_or xs k d) ≡ 1 = ap one passes in
+    let inside : k < length xs = omega (arith, within) in
+    let counted : 1 ≤ count_by p xs = omega (arith, later, get_or-le-sum_by by xs k d inside) in
+    elim (cases_Bool (p x)) [
+      | inl first ↦
+          let now : by x ≡ 1 = ap one first in
+          absurd (omega (arith, now, few, sum_by-cons by x xs, counted))
+      | inr lacks ↦
+          let fewer : count_by p xs ≤ 1 = omega (arith, few, sum_by-cons by x xs) in
+          rw lacks (ap (λ n. 1 + n) (found_at p xs k d fewer inside passes) ∙ one_more k)
+    ]
+
+pub position_at : {X : Type 0} (p : X → Bool) (xs : List X) (k : ℕ) (d : X) → count_by p xs ≤ 1 → k < length xs → p (get_or xs k d) ≡ true → Some k ≡ position p xs
+position_at p xs k d few within passes = rw (found_at p xs k d few within passes, lt-ltb k (length xs) within) refl
+
+pub position_none : {X : Type 0} (p : X → Bool) (xs : List X) (d : X) → ((k : ℕ) → k < length xs → p (get_or xs k d) ≡ false) → None ≡ position p xs
+position_none p xs d fails =
+    rw (position_or_len_is p xs (length xs) d (omega arith) fails (λ within. absurd (omega (arith, within))), le-ltb (length xs) (length xs) (omega arith)) refl
+
+-- a slot that has the seat is on its chain
+is_there : (seat : Seat) (o : Option Seat) → is_seat seat o ≡ true → is_on (chain_of seat) o ≡ true
+is_there seat None has = absurd (true≢false (sym has))
+is_there seat (Some other) has =
+    let same = same_object-same seat.object other.object (and_parts (same_object seat.object other.object) (same_owner seat.owner other.owner) has).0 in
+    eq-eqb (chain_of other) (chain_of seat) (ap (λ object. object_number object % 4096) (sym same))
+
+not_there : (seat : Seat) (o : Option Seat) → is_on (chain_of seat) o ≡ false → is_seat seat o ≡ false
+not_there seat o off =
+    elim (cases_Bool (is_seat seat o)) [
+      | inl has ↦ absurd (true≢false (sym (is_there seat o has) ∙ off))
+      | inr lacks ↦ lacks
+    ]
+
+-- how far a walk along the chain of a seat came: nothing that it passed has the seat
+pub record IsPassed (seats : List (Option Seat)) (seat : Seat) (next : Option ℕ) : Type 0 where
+  pub upto : ℕ
+  pub within : upto ≤ length seats
+  pub next_is : next ≡ last_below (stands seats (chain_of seat)) upto
+  pub passed : (k : ℕ) → upto ≤ k → k < length seats → is_seat seat (get_or seats k None) ≡ false
+
+pub passed_none : (seats : List (Option Seat)) (seat : Seat) (next : Option ℕ) → next ≡ last_below (stands seats (chain_of seat)) (length seats) → IsPassed seats seat next
+passed_none seats seat next is = record {
+  upto = length seats;
+  within = omega arith;
+  next_is = is;
+  passed = λ k past under. absurd (omega (arith, past, under));
+}
+
+-- the slot that comes next
+pub passed_slot : {seats : List (Option Seat)} {seat : Seat} {next : Option ℕ} (slot : ℕ) → (p : IsPassed seats seat next) → next ≡ Some slot
+    → IsLast (stands seats (chain_of seat)) p.upto slot
+passed_slot {seats} {seat} slot p is = last_some (stands seats (chain_of seat)) p.upto slot (sym p.next_is ∙ is)
+
+pub passed_within : {seats : List (Option Seat)} {seat : Seat} {next : Option ℕ} (slot : ℕ) → IsPassed seats seat next → next ≡ Some slot → slot < length seats
+passed_within slot p is = omega (arith, (passed_slot slot p is).below, p.within)
+
+-- it hasn't the seat
+pub passed_more : {seats : List (Option Seat)} {seat : Seat} {next : Option ℕ} (slot : ℕ) (next' : Option ℕ) → IsPassed seats seat next → next ≡ Some slot
+    → is_seat seat (get_or seats slot None) ≡ false → next' ≡ last_below (stands seats (chain_of seat)) slot → IsPassed seats seat next'
+passed_more {seats} {seat} slot next' p is lacks leads = record {
+  upto = slot;
+  within = omega (arith, passed_within slot p is);
+  next_is = leads;
+  passed = λ k past under.
+      elim (cases_order k slot) [
+        | inl same ↦ ap (λ n. is_seat seat (get_or seats n None)) same ∙ lacks
+        | inr (inl below) ↦ absurd (omega (arith, past, below))
+        | inr (inr above) ↦
+            elim (cases_lt k p.upto) [
+              | inl between ↦ not_there seat (get_or seats k None) ((passed_slot slot p is).after k above between)
+              | inr later ↦ p.passed k later under
+            ]
+      ];
+}
+
+-- none comes next
+pub passed_all : {seats : List (Option Seat)} {seat : Seat} {next : Option ℕ} → IsPassed seats seat next → next ≡ None → None ≡ position (is_seat seat) seats
+passed_all {seats} {seat} p is =
+    position_none (is_seat seat) seats None (λ k within.
+    elim (cases_lt k p.upto) [
+      | inl between ↦ not_there seat (get_or seats k None) (last_none (stands seats (chain_of seat)) p.upto (sym p.next_is ∙ is) k between)
+      | inr later ↦ p.passed k later within
+    ])
+
+-- ---- the walk to what is above a slot
+
+end_within : (test : ℕ → Bool) (slot all : ℕ) (above : Option ℕ) → IfSome above (λ (a : ℕ). (slot < a) × (a < all) × (test a ≡ true)) → end_of above all ≤ all
+end_within test slot all None there = omega arith
+end_within test slot all (Some a) there = omega (arith, there.1)
+
+pub climbed : (test : ℕ → Bool) (slot all : ℕ) (above : Option ℕ) {next : Option ℕ} (place : ℕ) → IfSome above (λ (a : ℕ). (slot < a) × (a < all) × (test a ≡ true))
+    → next ≡ last_below test (end_of above all) → next ≡ Some place → (place < all) × (test place ≡ true)
+climbed test slot all above place there leads is =
+    let l = last_some test (end_of above all) place (sym leads ∙ is) in
+    (omega (arith, l.below, end_within test slot all above there), l.passes)
+
+-- it ends at a slot that isn't above
+pub above_found : (test : ℕ → Bool) (slot all : ℕ) (above : Option ℕ) {next : Option ℕ} (place : ℕ) → IfSome above (λ (a : ℕ). (slot < a) × (a < all) × (test a ≡ true))
+    → next ≡ last_below test (end_of above all) → next ≡ Some place → place ≤ slot → IsAbove test slot all above
+above_found test slot all above place there leads is under = record {
+  there = there;
+  between = λ k past before. (last_some test (end_of above all) place (sym leads ∙ is)).after k (omega (arith, past, under)) before;
+}
+
+-- or at the chain's end
+pub above_last : (test : ℕ → Bool) (slot all : ℕ) (above : Option ℕ) {next : Option ℕ} → IfSome above (λ (a : ℕ). (slot < a) × (a < all) × (test a ≡ true))
+    → next ≡ last_below test (end_of above all) → next ≡ None → IsAbove test slot all above
+above_last test slot all above there leads is = record {
+  there = there;
+  between = λ k past before. last_none test (end_of above all) (sym leads ∙ is) k before;
+}

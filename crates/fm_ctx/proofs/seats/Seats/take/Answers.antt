@@ -1,0 +1,14 @@
+use Rattle.std.proofs.Common.{List, Option, None, ap, get_or, sym, subst, ◌∙◌}
+use Rattle.std.proofs.lemmas.List.{get_or_default}
+use Rattle.fm_ctx.specs.declared.seat.Seat.{Seat}
+use Rattle.fm_ctx.specs.Seats.{IsChained}
+use Rattle.fm_ctx.proofs.Chains.{chained_taken}
+use Rattle.fm_ctx.proofs.seats.Seats.take.Goals as goal
+
+pub invariant_of-self : goal.invariant_of-self
+invariant_of-self c =
+    let chained = subst (λ (s : List (Option Seat)). IsChained c.self.inside.firsts.items c.self.inside.nexts.items s) c.self.view_is c.self.invariant in
+    let read = get_or_default c.args.self.now c.args.slot None c.index.result.now c.requires ∙ sym (c.index.ensures ∙ ap (λ (s : List (Option Seat)). get_or s c.args.slot c.index.result.now) c.self.view_is) in
+    rw (c.lead.ensures.firsts, c.lead.ensures.nexts, c.self.view_is)
+    (chained_taken c.chain-chain.result c.args.slot c.in-Some.seat c.above-above.result c.index-next.result.now chained c.chain-chain.ensures.within c.chain-chain.ensures.chain
+    (read ∙ c.in-Some.is) c.above-above.ensures c.index-next.ensures)

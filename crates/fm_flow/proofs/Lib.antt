@@ -9,3 +9,4 @@ pub mod Flows
 pub mod Places
 pub mod Balances
 pub mod Owes
+mod Seeing

@@ -7,3 +7,4 @@ pub mod Counts
 pub mod Table
 pub mod Creates
 pub mod Verdict
+pub mod Seen

@@ -8,6 +8,7 @@ mod answered;
 mod entries;
 mod entry;
 mod flow;
+pub mod laws;
 mod lent;
 mod operation_record;
 mod stage;

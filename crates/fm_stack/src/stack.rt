@@ -565,6 +565,18 @@ mod tests {
         Ok(instance)
     }
 
+    // An instance with a number in its name, attached at an altitude.
+    fn attached(
+        stack: &mut Stack,
+        filter: FilterId,
+        volume: VolumeId,
+        number: usize,
+        altitude: &[u8],
+    ) -> Result<InstanceId, Status> {
+        let at = (name(number)?, Altitude::read(altitude)?);
+        attach_at(stack, filter, volume, at, true)
+    }
+
     #[test]
     fn highest_first(rt: HostRuntime) -> Result<(), Fail> {
         let mut stack = Stack::new(rt.alloc());
@@ -577,35 +589,11 @@ mod tests {
             registration(OpMask::NONE, OpMask::READ),
         )?;
         let volume = stack.mount(Name::read(b"disk")?)?;
-        let low = attach_at(
-            &mut stack,
-            before,
-            volume,
-            (name(0)?, Altitude::read(b"100")?),
-            true,
-        )?;
-        let high = attach_at(
-            &mut stack,
-            after,
-            volume,
-            (name(1)?, Altitude::read(b"300")?),
-            true,
-        )?;
-        let middle = attach_at(
-            &mut stack,
-            after,
-            volume,
-            (name(2)?, Altitude::read(b"200.5")?),
-            true,
-        )?;
+        let low = attached(&mut stack, before, volume, 0, b"100")?;
+        let high = attached(&mut stack, after, volume, 1, b"300")?;
+        let middle = attached(&mut stack, after, volume, 2, b"200.5")?;
         let born = stack.births();
-        let late = attach_at(
-            &mut stack,
-            before,
-            volume,
-            (name(3)?, Altitude::read(b"400")?),
-            true,
-        )?;
+        let late = attached(&mut stack, before, volume, 3, b"400")?;
         let read = Operation::Read;
         assert_eq!(rt;
             stack.next_below(volume, None, born, read),

@@ -21,6 +21,8 @@ mod operations;
 mod place;
 mod readers;
 mod returned;
+#[cfg(test)]
+mod run_tests;
 mod runs;
 mod state;
 mod target;

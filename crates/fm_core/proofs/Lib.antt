@@ -1,3 +1,4 @@
+pub mod Paths
 pub mod Changes
 pub mod Attached
 pub mod Operated

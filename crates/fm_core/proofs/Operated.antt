@@ -10,6 +10,7 @@ use Rattle.fm_types.specs.declared.ids.WorkerId.{WorkerId}
 use Rattle.fm_types.specs.declared.ids.CtxId.{CtxId}
 use Rattle.fm_types.specs.declared.status.Status.{Status}
 use Rattle.fm_types.specs.declared.status.Status.TheVariants as status
+use Rattle.fm_data.specs.declared.base_call.BaseCall.{BaseCall}
 use Rattle.fm_data.specs.declared.params.Params.{Params}
 use Rattle.fm_data.specs.declared.params.Params.TheVariants as params
 use Rattle.fm_data.specs.declared.answer.Answer.{Answer}
@@ -225,20 +226,25 @@ next_tied old k o lies drains result t kept after' s finds reply after matched b
 
 -- ---- operations begin, are answered by the base and collected: nothing is carried otherwise
 
-pub begin_tied : (kept : ContextsKept) (v : VolumeId) (stream : Option StreamId) (handle : Option HandleId) (p : Params) (result : Result OpId Status) (f g : FlowTable) (b : ℕ)
-    → AnswersOrMemory (first_of ((is_full f, status.TooMany) ∷ [])) result f g (λ (o : OpId). (o.0 ≡ f.next) × (g ≡ begun v stream handle b p f)) → IsTied kept f → IsTied kept g
-begin_tied kept v stream handle p (Err why) f g b h tied = subst (IsTied kept) (sym h.1) tied
-begin_tied kept v stream handle p (Ok o) f g b h tied =
-    subst (IsTied kept) (sym h.1.1) (λ c. tied c ∙ sym (total_push (carried_by c) f.operations (begun_record f.next v stream handle b p) refl))
+-- the table of operations took one more, or wanted memory for it
+abbrev pub Took : FlowTable → VolumeId → Option StreamId → Option HandleId → ℕ → Option (List ℕ) → Params → Result OpId Status → FlowTable → Type 0
+Took f v stream handle b path p result g =
+    AnswersOrMemory (first_of ((is_full f, status.TooMany) ∷ [])) result f g (λ (o : OpId). (o.0 ≡ f.next) × (g ≡ begun v stream handle b path p f))
 
-base_same : (call : Params) (given : Answer) (h : HandleId) (r : FlowRecord) (c : CtxId) → carried_by c (base_after call given h r) ≡ carried_by c r
+pub begin_tied : (kept : ContextsKept) (v : VolumeId) (stream : Option StreamId) (handle : Option HandleId) (path : Option (List ℕ)) (p : Params) (result : Result OpId Status)
+    (f g : FlowTable) (b : ℕ) → Took f v stream handle b path p result g → IsTied kept f → IsTied kept g
+begin_tied kept v stream handle path p (Err why) f g b h tied = subst (IsTied kept) (sym h.1) tied
+begin_tied kept v stream handle path p (Ok o) f g b h tied =
+    subst (IsTied kept) (sym h.1.1) (λ c. tied c ∙ sym (total_push (carried_by c) f.operations (begun_record f.next v stream handle b path p) refl))
+
+base_same : (call : BaseCall) (given : Answer) (h : HandleId) (r : FlowRecord) (c : CtxId) → carried_by c (base_after call given h r) ≡ carried_by c r
 base_same call given h r c = by_fit (base_fits call given r)
   where
     by_fit : (b : Bool) → carried_by c (cond b (base_returned_of call given h r) r) ≡ carried_by c r
     by_fit true = base_returned_carries c call given h r
     by_fit false = refl
 
-pub base_tied : (kept : ContextsKept) (o : OpId) (call : Params) (given : Answer) (h : HandleId) (f g : FlowTable) → g ≡ changed o (base_after call given h) f → IsTied kept f → IsTied kept g
+pub base_tied : (kept : ContextsKept) (o : OpId) (call : BaseCall) (given : Answer) (h : HandleId) (f g : FlowTable) → g ≡ changed o (base_after call given h) f → IsTied kept f → IsTied kept g
 base_tied kept o call given h f g e tied = subst (IsTied kept) (sym e) (λ c. tied c ∙ by_record (operation_at o f) refl c)
   where
     by_record : (m : Option FlowRecord) → operation_at o f ≡ m → (c : CtxId) → carried c f ≡ carried c (changed o (base_after call given h) f)
@@ -594,7 +600,7 @@ pre_refused old k given lent h = refused_at (worker_at old.workers k) h
     refused_at None h = (refl, refl)
 
 -- streams and handles after the base's answer, as the code finds them
-base_files : (old : World) (o : OpId) (why : Status) (step : FlowRecord → FlowRecord) (answer : Result (Unit {0}) (Params × Answer)) (t : FlowTable) (f : FileTable)
+base_files : (old : World) (o : OpId) (why : Status) (step : FlowRecord → FlowRecord) (answer : Result (Unit {0}) (BaseCall × Answer)) (t : FlowTable) (f : FileTable)
     → (is_ok answer ≡ true → t ≡ changed o step old.flow)
     → f ≡ after_answer old.files t (option_map target_in (operation_at o old.flow)) (cond (is_ok answer) (Some why) None)
     → f ≡ cond (is_ok answer) (filed_base old o (changed o step old.flow) why) old.files
@@ -603,7 +609,7 @@ base_files old o why step (Ok done) t f leads e =
     e ∙ ap (λ (u : FlowTable). answered u why (option_map target_in (operation_at o old.flow)) old.files) (leads refl)
     ∙ answered_told old.files (changed o step old.flow) why (operation_at o old.flow)
 
-pub base_returns : (old : World) (k : WorkerId) (o : OpId) (call : Params) (given : Answer) (handle : HandleId) (answer : Result (Unit {0}) (Params × Answer)) (t : FlowTable) (ws : List Worker)
+pub base_returns : (old : World) (k : WorkerId) (o : OpId) (call : BaseCall) (given : Answer) (handle : HandleId) (answer : Result (Unit {0}) (BaseCall × Answer)) (t : FlowTable) (ws : List Worker)
     (done : ContextTable) (fs : FileTable) → worker_at old.workers k ≡ Some (place.Base o) → IsSound old → handle ≡ record { 0 = old.files.next }
     → answer ≡ told (base_reply call given) (Err (call, given)) o old.flow
     → t ≡ changed o (base_after call given handle) old.flow → ws ≡ after_return old.workers k (is_ok answer)
@@ -638,7 +644,7 @@ base_room old k o why false at small s = no_answer (option_map target_in (operat
     no_answer None = tt
     no_answer (Some x) = tt
 
-pub base_refused : (old : World) (k : WorkerId) (call : Params) (given : Answer) → base_of (worker_at old.workers k) ≡ None → BaseReturns old k call given (Err status.WrongStep) old
+pub base_refused : (old : World) (k : WorkerId) (call : BaseCall) (given : Answer) → base_of (worker_at old.workers k) ≡ None → BaseReturns old k call given (Err status.WrongStep) old
 unfolding BaseReturns
 base_refused old k call given h = refused_at (worker_at old.workers k) h
   where
@@ -765,15 +771,15 @@ volume_refused w v many = by_row (slice_get w.stack.volumes v.0) refl
         ∙ ap (λ y. others (stack.is_mounted y)) e)
 
 -- an operation began, where nothing refused it but want of memory
-pub begun_as : (old : World) (refusal : Option Status) (v : VolumeId) (stream : Option StreamId) (handle : Option HandleId) (p : Params) (result : Result OpId Status) (t : FlowTable)
-    (f g : FileTable) → refusal ≡ None → is_full old.flow ≡ false
-    → AnswersOrMemory (first_of ((is_full old.flow, status.TooMany) ∷ [])) result old.flow t (λ (o : OpId). (o.0 ≡ old.flow.next) × (t ≡ begun v stream handle old.stack.births p old.flow))
+pub begun_as : (old : World) (refusal : Option Status) (v : VolumeId) (stream : Option StreamId) (handle : Option HandleId) (path : Option (List ℕ)) (p : Params)
+    (result : Result OpId Status) (t : FlowTable) (f g : FileTable) → refusal ≡ None → is_full old.flow ≡ false
+    → Took old.flow v stream handle old.stack.births path p result t
     → f ≡ cond (is_ok result) g old.files
     → AnswersOrMemory refusal result old (record old { flow = t; files = f })
-    (λ (o : OpId). (o.0 ≡ old.flow.next) × (◌≡◌ {A = World} (record old { flow = t; files = f }) (record old { flow = begun v stream handle old.stack.births p old.flow; files = g })))
-begun_as old refusal v stream handle p (Ok o) t f g free room h files =
-    (free, (h.1.0, ap (λ x. record old { flow = x; files = f }) h.1.1 ∙ ap (λ x. record old { flow = begun v stream handle old.stack.births p old.flow; files = x }) files))
-begun_as old refusal v stream handle p (Err why) t f g free room h files =
+    (λ (o : OpId). (o.0 ≡ old.flow.next) × (◌≡◌ {A = World} (record old { flow = t; files = f }) (record old { flow = begun v stream handle old.stack.births path p old.flow; files = g })))
+begun_as old refusal v stream handle path p (Ok o) t f g free room h files =
+    (free, (h.1.0, ap (λ x. record old { flow = x; files = f }) h.1.1 ∙ ap (λ x. record old { flow = begun v stream handle old.stack.births path p old.flow; files = x }) files))
+begun_as old refusal v stream handle path p (Err why) t f g free room h files =
     let memory : why ≡ status.NoMemory = subst (λ b. IsRefusalOrMemory (cond b (Some status.TooMany) None) why) room h.0 in
     (subst (λ r. IsRefusalOrMemory r why) (sym free) memory, ap (λ x. record old { flow = x; files = f }) h.1 ∙ ap (λ x. record old { files = x }) files)
 
@@ -781,26 +787,22 @@ begun_as old refusal v stream handle p (Err why) t f g free room h files =
 
 pub creates : (old : World) (v : VolumeId) (path : List ℕ) (mode : CreateMode) (result : Result OpId Status) (t : FlowTable) (f : FileTable)
     → first_of (volume_refusals old v (is_full old.flow || has_no_handle_left old)) ≡ None
-    → AnswersOrMemory (first_of ((is_full old.flow, status.TooMany) ∷ [])) result old.flow t
-    (λ (o : OpId). (o.0 ≡ old.flow.next) × (t ≡ begun v (Some (stream_for v path old.flow.next old.files)) None old.stack.births (params.Create path mode) old.flow))
+    → Took old.flow v (Some (stream_for v path old.flow.next old.files)) None old.stack.births (Some path) (params.Create path mode) result t
     → f ≡ cond (is_ok result) (created v path old.flow.next old.files) old.files
     → Begins old (begin.Create v path mode) result (record old { flow = t; files = f })
 unfolding Begins
 creates old v path mode result t f free h files =
-    begun_as old (first_of (volume_refusals old v (is_full old.flow || has_no_handle_left old))) v (Some (stream_for v path old.flow.next old.files)) None (params.Create path mode)
-    result t f (created v path old.flow.next old.files) free (or_left (is_full old.flow) (has_no_handle_left old) (full_from _ _ (is_full old.flow || has_no_handle_left old) free)) h files
+    begun_as old (first_of (volume_refusals old v (is_full old.flow || has_no_handle_left old))) v (Some (stream_for v path old.flow.next old.files)) None (Some path)
+    (params.Create path mode) result t f (created v path old.flow.next old.files) free (or_left (is_full old.flow) (has_no_handle_left old) (full_from _ _ (is_full old.flow || has_no_handle_left old) free)) h files
 
 pub lists : (old : World) (v : VolumeId) (result : Result OpId Status) (t : FlowTable) → first_of (volume_refusals old v (is_full old.flow)) ≡ None
-    → AnswersOrMemory (first_of ((is_full old.flow, status.TooMany) ∷ [])) result old.flow t
-    (λ (o : OpId). (o.0 ≡ old.flow.next) × (t ≡ begun v None None old.stack.births params.List old.flow))
-    → Begins old (begin.List v) result (record old { flow = t })
+    → Took old.flow v None None old.stack.births None params.List result t → Begins old (begin.List v) result (record old { flow = t })
 unfolding Begins
 lists old v result t free h = by_result result h
   where
-    by_result : (result : Result OpId Status) → AnswersOrMemory (first_of ((is_full old.flow, status.TooMany) ∷ [])) result old.flow t
-        (λ (o : OpId). (o.0 ≡ old.flow.next) × (t ≡ begun v None None old.stack.births params.List old.flow))
+    by_result : (result : Result OpId Status) → Took old.flow v None None old.stack.births None params.List result t
         → AnswersOrMemory (first_of (volume_refusals old v (is_full old.flow))) result old (record old { flow = t })
-        (λ (o : OpId). (o.0 ≡ old.flow.next) × (◌≡◌ {A = World} (record old { flow = t }) (record old { flow = begun v None None old.stack.births params.List old.flow })))
+        (λ (o : OpId). (o.0 ≡ old.flow.next) × (◌≡◌ {A = World} (record old { flow = t }) (record old { flow = begun v None None old.stack.births None params.List old.flow })))
     by_result (Ok o) h = (free, (h.1.0, ap (λ x. record old { flow = x }) h.1.1))
     by_result (Err why) h =
         let memory : why ≡ status.NoMemory = subst (λ b. IsRefusalOrMemory (cond b (Some status.TooMany) None) why) (full_from _ _ (is_full old.flow) free) h.0 in
@@ -817,9 +819,8 @@ begin_wants old what h = (subst (λ r. IsRefusalOrMemory r status.NoMemory) (sym
 
 -- ---- an operation on a handle begins
 
-pub asks : (old : World) (h : HandleId) (p : Params) (x : FileHandle) (v : VolumeId) (result : Result OpId Status) (t : FlowTable) (f : FileTable) → IsAsked old h p x v
-    → AnswersOrMemory (first_of ((is_full old.flow, status.TooMany) ∷ [])) result old.flow t
-    (λ (o : OpId). (o.0 ≡ old.flow.next) × (t ≡ begun v (Some x.stream) (Some h) old.stack.births p old.flow))
+pub asks : (old : World) (h : HandleId) (p : Params) (x : FileHandle) (v : VolumeId) (result : Result OpId Status) (t : FlowTable) (f : FileTable)
+    → (asked : IsAsked old h p x v) → Took old.flow v (Some x.stream) (Some h) old.stack.births (Some asked.stream.path) p result t
     → f ≡ cond (is_ok result) (moved_on (operation_of p) h old.flow.next old.files) old.files
     → Asks old h p result (record old { flow = t; files = f })
 unfolding Asks
@@ -829,9 +830,8 @@ asks old h p x v result t f asked event files =
     let on : refused_on old p x (Some y) ≡ None = ap (refused_on old p x) (sym asked.there) ∙ ap (refused_at old p) (sym asked.handle) ∙ parts.1 in
     let room = full_from _ _ (is_full old.flow) (none_else (phase_refusal old.flow (operation_of p) x.phase) _ on) in
     let here : asked_begun old h p ≡ begun_on old h p x (Some y) = ap (begun_at old h p) asked.handle ∙ ap (begun_on old h p x) asked.there in
-    let begun' = begun_as old (asked_refused old h p) y.volume (Some x.stream) (Some h) p result t f (moved_on (operation_of p) h old.flow.next old.files) asked.free room
-    (subst (λ (u : VolumeId). AnswersOrMemory (first_of ((is_full old.flow, status.TooMany) ∷ [])) result old.flow t
-    (λ (o : OpId). (o.0 ≡ old.flow.next) × (t ≡ begun u (Some x.stream) (Some h) old.stack.births p old.flow))) (sym asked.volume) event) files in
+    let begun' = begun_as old (asked_refused old h p) y.volume (Some x.stream) (Some h) (Some y.path) p result t f (moved_on (operation_of p) h old.flow.next old.files) asked.free room
+    (subst (λ (u : VolumeId). Took old.flow u (Some x.stream) (Some h) old.stack.births (Some y.path) p result t) (sym asked.volume) event) files in
     subst (λ (w : World). AnswersOrMemory (asked_refused old h p) result old (record old { flow = t; files = f })
     (λ (o : OpId). (o.0 ≡ old.flow.next) × (◌≡◌ {A = World} (record old { flow = t; files = f }) w))) (sym here) begun'
 
@@ -844,6 +844,10 @@ asks_sound old h p (Ok o) new e none s = subst IsSound (sym e.1.1) (asked_sound 
 pub asks_refused : (old : World) (h : HandleId) (p : Params) (why : Status) → asked_refused old h p ≡ Some why → Asks old h p (Err why) old
 unfolding Asks
 asks_refused old h p why e = (subst (λ r. IsRefusalOrMemory r why) (sym e) refl, refl)
+
+pub asks_want : (old : World) (h : HandleId) (p : Params) → asked_refused old h p ≡ None → Asks old h p (Err status.NoMemory) old
+unfolding Asks
+asks_want old h p free = (subst (λ r. IsRefusalOrMemory r status.NoMemory) (sym free) refl, refl)
 
 -- which the event is of, for a request
 pub asks_begins : (old : World) (h : HandleId) (asked : FileRequest) (result : Result OpId Status) (new : World) → Asks old h (params_of asked) result new

@@ -11,13 +11,9 @@ use Rattle.fm_types.specs.declared.status.Status.{Status}
 use Rattle.fm_flow.specs.Answered.{is_success}
 use Rattle.fm_flow.specs.Creates.{is_create}
 use Rattle.fm_flow.specs.Record.{FlowRecord}
-use Rattle.fm_flow.specs.Table.{FlowTable, operation_at}
-use Rattle.fm_types.specs.declared.ids.OpId.{OpId}
-use Rattle.fm_types.specs.declared.ids.StreamId.{StreamId}
-use Rattle.fm_world.specs.declared.file.FileStream.{FileStream}
-use Rattle.fm_world.specs.World.{World}
+use Rattle.fm_flow.specs.Table.{FlowTable}
 use Rattle.fm_flow.specs.declared.entry.PreState.{PreState}
-use Rattle.fm_world.specs.Files.{FileTable, stream_at, after_base, after_pre}
+use Rattle.fm_world.specs.Files.{FileTable, after_base, after_pre}
 use Rattle.fm_world.specs.Events.{is_created_on}
 use Rattle.fm_core.specs.declared.target.Target.{Target}
 
@@ -57,16 +53,3 @@ HasRoom f _ _ = Unit {0}
 abbrev pub is_completed_create : PreState → Operation → Bool
 is_completed_create (state.Completed why) kind.Create = true
 is_completed_create _ _ = false
-
--- ---- the file of an operation
-
-abbrev pub stream_if : Option StreamId → FileTable → Option FileStream
-stream_if None f = None
-stream_if (Some s) f = stream_at s f
-
-abbrev pub stream_in : Option FlowRecord → FileTable → Option FileStream
-stream_in None f = None
-stream_in (Some r) f = stream_if r.stream f
-
-abbrev pub file_in : World → OpId → Option FileStream
-file_in w o = stream_in (operation_at o w.flow) w.files

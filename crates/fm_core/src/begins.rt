@@ -17,7 +17,7 @@ use crate::state::State;
 use fm_data::Params;
 use fm_flow::Flow;
 use fm_stack::VolumePhase;
-use fm_types::{CreateMode, HandleId, OpId, Operation, RelPath, Status, VolumeId};
+use fm_types::{CreateMode, HandleId, OpId, Operation, RelPath, SharedPath, Status, VolumeId};
 use fm_world::{Begin, FileHandle, HandlePhase};
 
 /// Whether a volume in that phase is in use.
@@ -74,7 +74,7 @@ fn phase_refusal(flow: &Flow, operation: Operation, phase: HandlePhase) -> Optio
 }
 
 /// A create that began is on its path's stream.
-fn note_create(files: &mut Files, has_begun: bool, volume: VolumeId, path: RelPath, number: u64)
+fn note_create(files: &mut Files, has_begun: bool, volume: VolumeId, path: SharedPath, number: u64)
     requires { length files.old.table.streams < files.old.room }
     ensures { files.new.table ≡ cond has_begun (created volume path number files.old.table) files.old.table }
 {
@@ -146,8 +146,7 @@ impl State {
         if let Some(refusal) = self.volume_refusal(volume, self.flow.is_full()) {
             return Err(refusal);
         }
-        self.flow
-            .begin(volume, None, None, self.stack.births(), Params::List)
+        self.flow.begin(volume, None, None, self.stack.births(), None, Params::List)
     }
 
     /// Whether a create has no room for its handle, or no number.
@@ -190,15 +189,21 @@ impl State {
         requires { first_of (volume_refusals self.old volume (is_full self.old.flow || has_no_handle_left self.old)) ≡ None }
         ensures { Begins self.old (Begin.Create volume path mode) result self.new }
     {
-        let Ok(()) = self.files.reserve_stream() else {
+        let Ok(paths) = self.files.prepare(volume, path) else {
             return Err(Status::NoMemory);
         };
         let number = self.flow.next_number();
-        let stream = self.files.stream_for(volume, &path, number);
+        let stream = self.files.stream_for(volume, paths.stream.path(), number);
         let born = self.stack.births();
-        let params = Params::Create { path, mode };
-        let begun = self.flow.begin(volume, Some(stream), None, born, params);
-        note_create(&mut self.files, begun.is_ok(), volume, path, number);
+        let params = Params::Create {
+            path: paths.params,
+            mode,
+        };
+        let path = Some(paths.operation);
+        let begun = self
+            .flow
+            .begin(volume, Some(stream), None, born, path, params);
+        note_create(&mut self.files, begun.is_ok(), volume, paths.stream, number);
         begun
     }
 
@@ -247,11 +252,16 @@ impl State {
         requires asked { IsAsked self.old handle params row volume }
         ensures { Asks self.old handle params result self.new }
     {
+        let Ok(path) = self.files.path_of(row.stream) else {
+            return Err(Status::NoMemory);
+        };
         let operation = params.operation();
         let number = self.flow.next_number();
         let born = self.stack.births();
         let stream = Some(row.stream);
-        let begun = self.flow.begin(volume, stream, Some(handle), born, params);
+        let begun = self
+            .flow
+            .begin(volume, stream, Some(handle), born, path, params);
         note_begin(&mut self.files, begun.is_ok(), operation, handle, number);
         begun
     }

@@ -3,7 +3,7 @@
 use crate::state::State;
 use fm_altitude::Altitude;
 use fm_ctx::{Count, SetMode};
-use fm_data::{Answer, CallbackData, Completion, Params, PostVerdict, PreVerdict};
+use fm_data::{Answer, BaseCall, CallbackData, Completion, Params, PostVerdict, PreVerdict};
 use fm_flow::FlowAction;
 use fm_types::{
     Bytes, ContextKind, ContextMask, CreateMode, CtxId, FilterId, HandleId, Name, OpId, OpMask,
@@ -40,7 +40,13 @@ fn ask(state: &mut State, handle: u64, request: FileRequest) -> Result<OpId, Sta
 }
 
 // The base answers a call with a status and one byte.
-fn answer(alloc: Global, state: &mut State, call: Params, status: Status) -> Result<(), Status> {
+fn answer(
+    alloc: Global,
+    state: &mut State,
+    worker: WorkerId,
+    call: BaseCall,
+    status: Status,
+) -> Result<(), Status> {
     let mut bytes = Bytes::new(alloc);
     bytes.set_len(1)?;
     let given = Answer {
@@ -48,7 +54,7 @@ fn answer(alloc: Global, state: &mut State, call: Params, status: Status) -> Res
         information: 7,
         bytes,
     };
-    match state.base_returned(WORKER, call, given) {
+    match state.base_returned(worker, call, given) {
         Ok(()) => Ok(()),
         Err(refused) => Err(refused.status),
     }
@@ -66,7 +72,7 @@ fn run(
         match state.next(WORKER, operation)? {
             FlowAction::Base(call) => {
                 is_called = true;
-                answer(alloc, state, call, status)?;
+                answer(alloc, state, WORKER, call, status)?;
             }
             FlowAction::Moved => {}
             _ => break,
@@ -115,112 +121,6 @@ fn opened_twice(alloc: Global) -> Result<State, Status> {
         succeed(alloc, &mut state, opening)?;
     }
     Ok(state)
-}
-
-#[test]
-fn delete_on_close(rt: HostRuntime) -> Result<(), Fail> {
-    let mut state = opened_twice(rt.alloc())?;
-    let marking = ask(&mut state, 0, FileRequest::SetDelete)?;
-    assert_eq!(rt;
-        succeed(rt.alloc(), &mut state, marking),
-        Ok((false, Status::Success, 0, 0))
-    );
-    let late = create(&mut state, CreateMode::Existing)?;
-    assert_eq!(rt;
-        succeed(rt.alloc(), &mut state, late),
-        Ok((false, Status::DeletePending, 0, 0))
-    );
-    let cleanup = ask(&mut state, 0, FileRequest::Cleanup)?;
-    assert_eq!(rt;
-        succeed(rt.alloc(), &mut state, cleanup),
-        Ok((false, Status::Success, 0, 0))
-    );
-    let close = ask(&mut state, 0, FileRequest::Close)?;
-    assert_eq!(rt;
-        succeed(rt.alloc(), &mut state, close),
-        Ok((false, Status::Success, 0, 0))
-    );
-    let cleanup = ask(&mut state, 1, FileRequest::Cleanup)?;
-    succeed(rt.alloc(), &mut state, cleanup)?;
-    let close = ask(&mut state, 1, FileRequest::Close)?;
-    assert!(rt;
-        state
-            .file_of(close)
-            .is_some_and(|file| file.is_marked && file.volume == VOLUME)
-    );
-    assert_eq!(rt;
-        succeed(rt.alloc(), &mut state, close),
-        Ok((true, Status::Success, 0, 0))
-    );
-    assert_eq!(rt; state.handles(), 0);
-    let again = create(&mut state, CreateMode::New)?;
-    assert_eq!(rt;
-        succeed(rt.alloc(), &mut state, again),
-        Ok((true, Status::Success, 2, 0))
-    );
-    Ok(())
-}
-
-#[test]
-fn first_call_fails(rt: HostRuntime) -> Result<(), Fail> {
-    let mut state = mounted(rt.alloc())?;
-    let first = create(&mut state, CreateMode::Always)?;
-    assert_eq!(rt;
-        run(rt.alloc(), &mut state, first, Status::DeviceFault),
-        Ok((true, Status::DeviceFault, 0, 0))
-    );
-    assert!(rt; state.file_of(first).is_none());
-    assert_eq!(rt;
-        ask(&mut state, 0, FileRequest::Flush),
-        Err(Status::NoHandle)
-    );
-    Ok(())
-}
-
-#[test]
-fn close_fails(rt: HostRuntime) -> Result<(), Fail> {
-    let mut state = mounted(rt.alloc())?;
-    let first = create(&mut state, CreateMode::Always)?;
-    succeed(rt.alloc(), &mut state, first)?;
-    let marking = ask(&mut state, 0, FileRequest::SetDelete)?;
-    succeed(rt.alloc(), &mut state, marking)?;
-    assert_eq!(rt;
-        ask(&mut state, 0, FileRequest::Close),
-        Err(Status::WrongStep)
-    );
-    let cleanup = ask(&mut state, 0, FileRequest::Cleanup)?;
-    assert_eq!(rt;
-        ask(&mut state, 0, FileRequest::Close),
-        Err(Status::WrongStep)
-    );
-    succeed(rt.alloc(), &mut state, cleanup)?;
-    assert_eq!(rt;
-        ask(&mut state, 0, FileRequest::Flush),
-        Err(Status::NoHandle)
-    );
-    assert_eq!(rt;
-        ask(&mut state, 0, FileRequest::Cleanup),
-        Err(Status::WrongStep)
-    );
-    let close = ask(&mut state, 0, FileRequest::Close)?;
-    assert_eq!(rt;
-        ask(&mut state, 0, FileRequest::Close),
-        Err(Status::NoHandle)
-    );
-    assert_eq!(rt;
-        run(rt.alloc(), &mut state, close, Status::DeviceFault),
-        Ok((true, Status::DeviceFault, 0, 0))
-    );
-    assert_eq!(rt;
-        ask(&mut state, 0, FileRequest::Cleanup),
-        Err(Status::NoHandle)
-    );
-    let again = create(&mut state, CreateMode::Existing)?;
-    assert_eq!(rt;
-        succeed(rt.alloc(), &mut state, again),
-        Ok((true, Status::Success, 1, 0))
-    );
-    Ok(())
 }
 
 #[test]
@@ -321,35 +221,6 @@ fn enter(state: &mut State, operation: OpId) -> Result<CallbackData, Status> {
     }
 }
 
-#[test]
-fn complete_in_preoperation(rt: HostRuntime) -> Result<(), Fail> {
-    let mut state = filtered(rt.alloc())?;
-    let first = create(&mut state, CreateMode::Always)?;
-    assert!(rt; state.file_of(first).is_some());
-    let data = enter(&mut state, first)?;
-    return_pre(&mut state, PreVerdict::Complete(Status::AccessDenied), data)?;
-    assert!(rt; state.file_of(first).is_none());
-    assert!(rt; matches!(state.next(WORKER, first), Ok(FlowAction::Done)));
-    let reply = state.collect(first)?;
-    assert_eq!(rt;
-        (reply.status, reply.information),
-        (Status::AccessDenied, 0)
-    );
-    let second = create(&mut state, CreateMode::Always)?;
-    let data = enter(&mut state, second)?;
-    return_pre(&mut state, PreVerdict::NoCallback, data)?;
-    assert!(rt;
-        state
-            .post_returned(WORKER, PostVerdict::Finished, None)
-            .is_err()
-    );
-    assert_eq!(rt;
-        succeed(rt.alloc(), &mut state, second),
-        Ok((true, Status::Success, 0, 0))
-    );
-    Ok(())
-}
-
 // A create whose preoperation sends a stream context along.
 fn carry(rt: &impl Abort, alloc: Global, state: &mut State) -> Result<(OpId, CtxId), Fail> {
     let creating = create(state, CreateMode::Always)?;
@@ -387,7 +258,7 @@ fn come_back(
     let FlowAction::Base(call) = state.next(WORKER, creating)? else {
         return Err(Status::WrongStep);
     };
-    answer(alloc, state, call, status)?;
+    answer(alloc, state, WORKER, call, status)?;
     match state.next(WORKER, creating)? {
         FlowAction::Post(_, data, _) => Ok(data),
         _ => Err(Status::WrongStep),
@@ -463,4 +334,117 @@ fn contexts_of_a_stream_that_a_create_keeps(rt: HostRuntime) -> Result<(), Fail>
     return_pre(&mut state, PreVerdict::Complete(Status::AccessDenied), data)?;
     assert_eq!(rt; state.count(context), Count::Due);
     cleans(&rt, &mut state, context)
+}
+
+/// The worker of the operation that is crossed.
+const READER: WorkerId = WorkerId(1);
+
+// A read on its way, with what its worker was given.
+#[derive(Drop)]
+enum Reading {
+    Begun,
+    InPre(CallbackData),
+    InBase(BaseCall),
+    InPost(CallbackData),
+}
+
+// What a read finds next, if it isn't done.
+fn found(state: &mut State, read: OpId) -> Result<Option<Reading>, Status> {
+    for _ in 0..2 {
+        match state.next(READER, read)? {
+            FlowAction::Pre(_, data) => return Ok(Some(Reading::InPre(data))),
+            FlowAction::Base(call) => return Ok(Some(Reading::InBase(call))),
+            FlowAction::Post(_, data, _) => return Ok(Some(Reading::InPost(data))),
+            FlowAction::Moved => {}
+            _ => return Ok(None),
+        }
+    }
+    Ok(None)
+}
+
+// A read returns what its worker was given, and goes on.
+fn go_on(
+    alloc: Global,
+    state: &mut State,
+    read: OpId,
+    reading: Reading,
+) -> Result<Option<Reading>, Status> {
+    match reading {
+        Reading::Begun => {}
+        Reading::InPre(data) => {
+            let completion = Completion {
+                number: 0,
+                context: None,
+            };
+            let verdict = PreVerdict::WithCallback(completion);
+            if state.pre_returned(READER, verdict, data).is_err() {
+                return Err(Status::BadRequest);
+            }
+        }
+        Reading::InBase(call) => answer(alloc, state, READER, call, Status::Success)?,
+        Reading::InPost(data) => {
+            let verdict = PostVerdict::Finished;
+            if state.post_returned(READER, verdict, Some(data)).is_err() {
+                return Err(Status::BadRequest);
+            }
+        }
+    }
+    found(state, read)
+}
+
+// The handle closes, so that its stream is torn down, and its path is opened again.
+fn reopen(alloc: Global, state: &mut State) -> Result<(), Status> {
+    let cleanup = ask(state, 0, FileRequest::Cleanup)?;
+    pass(alloc, state, cleanup)?;
+    let close = ask(state, 0, FileRequest::Close)?;
+    pass(alloc, state, close)?;
+    let creating = create(state, CreateMode::Existing)?;
+    pass(alloc, state, creating)
+}
+
+// Whether a call reads the file that the operation was begun on.
+fn reads_the_file(call: &BaseCall) -> bool {
+    call.volume == VOLUME
+        && matches!(call.params, Params::Read { offset: 0, len: 9 })
+        && call
+            .path
+            .as_ref()
+            .is_some_and(|path| path.path().text() == b"f".as_slice())
+}
+
+// Whichever of its stages a read has reached when its handle closes and its path gets another stream: before the base it finds no handle, and a call that
+// was made is of the file as it was.
+#[test]
+fn crossed_by_a_close(rt: HostRuntime) -> Result<(), Fail> {
+    for steps in 0..4u32 {
+        let mut state = filtered(rt.alloc())?;
+        let creating = create(&mut state, CreateMode::Always)?;
+        pass(rt.alloc(), &mut state, creating)?;
+        let read = ask(&mut state, 0, FileRequest::Read { offset: 0, len: 9 })?;
+        let mut reading = Some(Reading::Begun);
+        for step in 0..8u32 {
+            if step == steps {
+                reopen(rt.alloc(), &mut state)?;
+            }
+            let Some(reached) = reading else {
+                break;
+            };
+            if let Reading::InBase(call) = &reached {
+                assert!(rt; reads_the_file(call));
+            }
+            reading = go_on(rt.alloc(), &mut state, read, reached)?;
+        }
+        let reply = state.collect(read)?;
+        let expected = if steps < 2 {
+            (Status::NoHandle, 0, 0)
+        } else {
+            (Status::Success, 1, 1)
+        };
+        assert_eq!(rt;
+            (reply.status, reply.information, reply.bytes.len()),
+            expected
+        );
+        assert_eq!(rt; state.handles(), 1);
+    }
+    Ok(())
 }

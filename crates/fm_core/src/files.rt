@@ -5,10 +5,11 @@ ghost use Rattle.fm_types.specs.Lists.{change_first, without_first};
 ghost use Rattle.fm_world.specs.Files.{empty_files, is_handle, is_stream, is_at_path, with_phase, with_mark, stream_at, stream_of_path, handle_at, has_handle_on, has_other_handle, is_marked, stream_for, created, phased, marked, opened, closed, torn_down, left, after_base};
 ghost use Rattle.fm_types.specs.declared.operation.Operation.TheVariants as Operation_of;
 ghost use Rattle.fm_flow.specs.Answered.{is_success};
-ghost use Rattle.fm_core.specs.Targets.{opens, stream_if};
+ghost use Rattle.fm_core.specs.FilesKept.{paths_of};
+ghost use Rattle.fm_core.specs.Targets.{opens};
 
 use crate::target::Target;
-use fm_types::{HandleId, Operation, RelPath, Status, StreamId, VolumeId};
+use fm_types::{HandleId, Operation, RelPath, SharedPath, Status, StreamId, VolumeId};
 use fm_world::{FileHandle, FileStream, HandlePhase};
 use std::alloc::{AllocError, Global};
 use std::marker::Model;
@@ -16,9 +17,19 @@ use std::marker::Model;
 /// How many handles are open at most, counting those that creates under way may give.
 pub(crate) const MAX_HANDLES: usize = 4096;
 
+/// A path with an owner for each that a create has: the stream, where the create brings one along, the
+/// operation, and its parameters.
+#[derive(Drop)]
+pub(crate) struct CreatePaths {
+    pub stream: SharedPath,
+    pub operation: SharedPath,
+    pub params: SharedPath,
+}
+
 /// The streams in the order of their creates, and the open handles in the order of their numbers.
 #[derive(Drop)]
 pub(crate) struct Files {
+    alloc: Global,
     streams: Vec<FileStream>,
     handles: Vec<FileHandle>,
     next: u64,
@@ -41,6 +52,7 @@ impl Files {
         ensures { IfOk result (λ files. files.table ≡ empty_files) }
     {
         Ok(Files {
+            alloc,
             streams: Vec::new(alloc),
             handles: Vec::with_capacity(alloc, MAX_HANDLES)?,
             next: 0,
@@ -74,16 +86,6 @@ impl Files {
         ensures { option_copied result ≡ stream_at stream self.now.table }
     {
         stream_in(&self.streams, stream)
-    }
-
-    /// The stream of an operation that is on one.
-    pub(crate) fn stream_if(&self, stream: Option<StreamId>) -> Option<&FileStream>
-        ensures { option_copied result ≡ stream_if stream self.now.table }
-    {
-        match stream {
-            Some(stream) => self.stream(stream),
-            None => None,
-        }
     }
 
     /// The volume of a stream that wasn't torn down.
@@ -130,20 +132,54 @@ impl Files {
         }
     }
 
-    /// Makes room for one more stream.
-    pub(crate) fn reserve_stream(&mut self) -> Result<(), AllocError>
+    /// The path of a stream that wasn't torn down, with one more owner; the error says that no more can
+    /// be counted.
+    pub(crate) fn path_of(&self, stream: StreamId) -> Result<Option<SharedPath>, AllocError>
+        ensures { IfOk result (λ path. path ≡ option_map (λ (row : FileStream). row.path) (stream_at stream self.now.table)) }
+    {
+        match self.stream(stream) {
+            Some(row) => Ok(Some(row.path.share()?)),
+            None => Ok(None),
+        }
+    }
+
+    /// Makes room for one more stream, and gives a path its owners. Where it has a stream, it is shared
+    /// with that. The error says that memory was refused.
+    pub(crate) fn prepare(
+        &mut self,
+        volume: VolumeId,
+        path: RelPath,
+    ) -> Result<CreatePaths, AllocError>
         ensures table { self.new.table ≡ self.old.table }
         ensures room { OnOk result (length self.new.table.streams < self.new.room) }
+        ensures paths { IfOk result (λ paths. paths ≡ paths_of path) }
     {
-        self.streams.try_reserve(1)
+        self.streams.try_reserve(1)?;
+        let stream = self.shared(volume, path)?;
+        let operation = stream.share()?;
+        let params = stream.share()?;
+        Ok(CreatePaths {
+            stream,
+            operation,
+            params,
+        })
+    }
+
+    fn shared(&self, volume: VolumeId, path: RelPath) -> Result<SharedPath, AllocError>
+        ensures { IfOk result (λ shared. shared ≡ path) }
+    {
+        match stream_of_path(&self.streams, volume, &path) {
+            Some(row) => row.path.share(),
+            None => SharedPath::new(self.alloc, path),
+        }
     }
 
     /// A create of that number begins on a path: where it has no stream yet, it brings one along.
-    pub(crate) fn create(&mut self, volume: VolumeId, path: RelPath, number: u64)
+    pub(crate) fn create(&mut self, volume: VolumeId, path: SharedPath, number: u64)
         requires { length self.old.table.streams < self.old.room }
         ensures { self.new.table ≡ created volume path number self.old.table }
     {
-        if stream_of_path(&self.streams, volume, &path).is_none() {
+        if stream_of_path(&self.streams, volume, path.path()).is_none() {
             self.streams.push_reserved(FileStream {
                 number: StreamId(number),
                 volume,
@@ -290,7 +326,7 @@ fn stream_of_path<'a>(
 {
     streams
         .iter()
-        .find(|row| row.volume.0 == volume.0 && row.path == *path)
+        .find(|row| row.volume.0 == volume.0 && row.path.path() == path)
 }
 
 fn phase_in(handles: &mut Vec<FileHandle>, handle: HandleId, phase: HandlePhase)

@@ -38,6 +38,5 @@ pub use fm_flow::{
 };
 pub use fm_stack::{FilterPhase, Phase};
 pub use fm_world::{
-    Begin, FileHandle, FileRequest, FileStream, HandlePhase, Refused, SetAnswer, Step, StepReply,
-    Worker,
+    Begin, FileHandle, FileRequest, HandlePhase, Refused, SetAnswer, Step, StepReply, Worker,
 };

@@ -16,7 +16,7 @@ use crate::returned::{answer_strange, answer_strange_data, note_return};
 use crate::state::State;
 use crate::target::target_of;
 use crate::workers::{note_next, put};
-use fm_data::{Answer, CallbackData, Params, PostVerdict, PreVerdict};
+use fm_data::{Answer, BaseCall, CallbackData, PostVerdict, PreVerdict};
 use fm_flow::FlowAction;
 use fm_types::{HandleId, InstanceId, OpId, Status, WorkerId};
 use fm_world::{Refused, Worker};
@@ -83,15 +83,15 @@ impl State {
         answer_strange(answer)
     }
 
-    /// The base call that the worker is in returns, with the parameters that it was lent and its answer. The contexts that are set on a handle that closes,
+    /// The base call that the worker is in returns, with what it was asked and its answer. The contexts that are set on a handle that closes,
     /// or on a stream that is torn down, lose their links. Refused, nothing changed and both handed back:
-    /// 30 where the worker is in no base call, 32 where the parameters are strange or more than 32,768 bytes come back.
+    /// 30 where the worker is in no base call, 32 where the call is strange (of another volume, file or operation, or past a limit) or more than 32,768 bytes come back.
     pub fn base_returned(
         &mut self,
         worker: WorkerId,
-        call: Params,
+        call: BaseCall,
         given: Answer,
-    ) -> Result<(), Refused<(Params, Answer)>>
+    ) -> Result<(), Refused<(BaseCall, Answer)>>
         ensures event { BaseReturns self.old worker call given (status_of result) self.new }
         ensures hand { KeepsHands self.old self.new }
         ensures back { IfErr result (λ refused. refused.handed_back ≡ (call, given)) }

@@ -9,16 +9,13 @@ ghost use Rattle.fm_stack.specs.declared.instance.Instance.{Instance};
 ghost use Rattle.fm_flow.specs.Record.{FlowRecord};
 ghost use Rattle.fm_flow.specs.Steps.{is_done};
 ghost use Rattle.fm_flow.specs.Table.{operation_at};
-ghost use Rattle.fm_core.specs.Targets.{file_in};
 
 use crate::state::State;
-use crate::target::target_of;
 use crate::workers::WORKERS;
 use fm_ctx::Count;
 use fm_flow::Entry;
 use fm_stack::{FilterPhase, Phase};
 use fm_types::{CtxId, FilterId, HandleId, InstanceId, OpId, VolumeId, WorkerId};
-use fm_world::FileStream;
 
 impl State {
     /// How many filters were registered: the ids given out are those below.
@@ -28,33 +25,12 @@ impl State {
         self.stack.filters()
     }
 
-    /// The file that an operation is on (`FLT_RELATED_OBJECTS`), as long as its stream isn't torn down:
-    /// the volume and the path that a call of the base is for. None for a listing.
-    pub fn file_of(&self, operation: OpId) -> Option<&FileStream>
-        ensures { option_copied result ≡ file_in self.now operation }
-    {
-        match target_of(&self.flow, operation) {
-            Some(target) => self.files.stream_if(target.stream),
-            None => None,
-        }
-    }
-
     /// The handle that an operation is on, or that a create has given; none where it has none.
     pub fn handle_of(&self, operation: OpId) -> Option<HandleId>
         ensures { result ≡ option_and_then (λ (r : FlowRecord). r.handle) (operation_at operation self.now.flow) }
     {
         match self.flow.record(operation) {
             Some(record) => record.handle(),
-            None => None,
-        }
-    }
-
-    /// The volume of an operation; none where it isn't there.
-    pub fn volume_at(&self, operation: OpId) -> Option<VolumeId>
-        ensures { result ≡ option_map (λ (r : FlowRecord). r.volume) (operation_at operation self.now.flow) }
-    {
-        match self.flow.record(operation) {
-            Some(record) => Some(record.volume()),
             None => None,
         }
     }

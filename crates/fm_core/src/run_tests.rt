@@ -3,11 +3,11 @@
 use crate::runs::run;
 use fm_altitude::Altitude;
 use fm_ctx::{Count, SetMode};
-use fm_data::{Answer, CallbackData, Completion, Params, PostVerdict, PreVerdict};
+use fm_data::{Answer, BaseCall, CallbackData, Completion, Params, PostVerdict, PreVerdict};
 use fm_flow::FlowAction;
 use fm_types::{
     Bytes, ContextKind, ContextMask, CreateMode, CtxId, FilterId, HandleId, Name, OpId, OpMask,
-    Registration, RelPath, Status, VolumeId, WorkerId,
+    Registration, RelPath, SharedPath, Status, VolumeId, WorkerId,
 };
 use fm_world::{Begin, FileRequest, SetAnswer, Step, StepReply};
 use std::alloc::Global;
@@ -54,20 +54,25 @@ fn opening(number: u64) -> Result<Step, Status> {
     })
 }
 
-fn creation() -> Result<Params, Status> {
+fn creation(alloc: Global) -> Result<Params, Status> {
     Ok(Params::Create {
-        path: RelPath::read(b"f")?,
+        path: SharedPath::new(alloc, RelPath::read(b"f")?)?,
         mode: CreateMode::Always,
+    })
+}
+
+// What the create asks of the base.
+fn creation_call(alloc: Global) -> Result<BaseCall, Status> {
+    Ok(BaseCall {
+        volume: VOLUME,
+        path: Some(SharedPath::new(alloc, RelPath::read(b"f")?)?),
+        params: creation(alloc)?,
     })
 }
 
 // The data that a callback of the create brings back.
 fn creation_data(alloc: Global) -> Result<CallbackData, Status> {
-    let params = Params::Create {
-        path: RelPath::read(b"f")?,
-        mode: CreateMode::Always,
-    };
-    Ok(CallbackData::new(alloc, params))
+    Ok(CallbackData::new(alloc, creation(alloc)?))
 }
 
 fn set() -> Step {
@@ -123,7 +128,7 @@ fn up(alloc: Global, number: u64, status: Status) -> Result<Step, Status> {
         0 | 2 | 5 => next(CREATING),
         1 => Step::BaseReturned {
             worker: WORKER,
-            call: creation()?,
+            call: creation_call(alloc)?,
             answer: Answer {
                 status,
                 information: 0,

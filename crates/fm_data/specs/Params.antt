@@ -4,6 +4,8 @@ use Rattle.std.specs.Cmp.Lexicographic.{pointwise}
 use Rattle.fm_types.specs.Masks.{operation_bit}
 use Rattle.fm_types.specs.declared.operation.Operation.{Operation}
 use Rattle.fm_types.specs.declared.operation.Operation.TheVariants as kind
+use Rattle.fm_types.specs.declared.ids.VolumeId.{VolumeId}
+use Rattle.fm_data.specs.declared.base_call.BaseCall.{BaseCall}
 use Rattle.fm_data.specs.declared.params.Params.{Params}
 use Rattle.fm_data.specs.declared.params.Params.TheVariants as params
 
@@ -52,9 +54,14 @@ same_path None (Some b) = false
 same_path (Some a) None = false
 same_path (Some a) (Some b) = pointwise ◌==◌ a b
 
--- these are parameters of such an operation, a create's on that path
+-- a create's parameters name that path; others name none
+abbrev pub are_on : Option (List ℕ) → Params → Bool
+are_on path (params.Create own mode) = same_path (Some own) path
+are_on path _ = true
+
+-- these are parameters of such an operation on the file of that path
 abbrev pub are_for : Operation → Option (List ℕ) → Params → Bool
-are_for operation path p = same_operation (operation_of p) operation && same_path (path_of p) path
+are_for operation path p = same_operation (operation_of p) operation && are_on path p
 
 -- and within the limits
 abbrev pub fit : Operation → Option (List ℕ) → Params → Bool
@@ -63,3 +70,7 @@ fit operation path p = are_for operation path p && is_within_limits p
 -- what a filter may put in place of parameters: others of the same operation, a create's on the same path
 abbrev pub may_replace : Params → Params → Bool
 may_replace received p = fit (operation_of received) (path_of received) p
+
+-- a call that an operation may hand back: of its volume and its file, with its parameters
+abbrev pub call_fits : Operation → VolumeId → Option (List ℕ) → BaseCall → Bool
+call_fits operation volume path call = (call.volume.0 == volume.0) && (same_path call.path path && fit operation path call.params)

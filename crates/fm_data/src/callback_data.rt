@@ -6,7 +6,7 @@ ghost use Rattle.fm_data.specs.Data.{IsData, current_of, fresh_data, answered_da
 
 use crate::answer::Answer;
 use crate::params::{MAX_TRANSFER, Params};
-use fm_types::{Bytes, Operation, RelPath, Status};
+use fm_types::{Bytes, Operation, SharedPath, Status};
 use std::alloc::Global;
 use std::marker::Model;
 
@@ -173,7 +173,7 @@ impl CallbackData {
 
     /// Whether a callback of such an operation may hand this back: what it received and what it put
     /// in its place are parameters of that operation, a create's on that path.
-    pub fn fits(&self, operation: Operation, path: &Option<RelPath>) -> bool
+    pub fn fits(&self, operation: Operation, path: &Option<SharedPath>) -> bool
         ensures { result ≡ data_fits operation path.now self.now }
     {
         self.received.fit(operation, path)
@@ -181,7 +181,7 @@ impl CallbackData {
             && self.answer.bytes.len() as u64 <= MAX_TRANSFER
     }
 
-    fn has_fitting_change(&self, operation: Operation, path: &Option<RelPath>) -> bool
+    fn has_fitting_change(&self, operation: Operation, path: &Option<SharedPath>) -> bool
         ensures { result ≡ change_passes (fit operation path.now) self.now.changed }
     {
         match &self.changed {

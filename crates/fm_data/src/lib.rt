@@ -3,12 +3,14 @@
 #![tactic(auto)]
 
 mod answer;
+mod base_call;
 mod callback_data;
 mod params;
 mod request;
 mod verdict;
 
 pub use crate::answer::Answer;
+pub use crate::base_call::BaseCall;
 pub use crate::callback_data::{CallbackData, Parts};
 pub use crate::params::{MAX_END, MAX_TRANSFER, Params};
 pub use crate::request::{Reply, Request};

@@ -1,9 +1,9 @@
 //! The parameters of an operation, with the limits on what they ask for.
 
 ghost use Rattle.std.specs.Prelude.{◌≡◌, ◌+◌, ◌^◌, nat_le};
-ghost use Rattle.fm_data.specs.Params.{operation_of, path_of, length_of, end_of, is_within_limits, same_operation, same_path, are_for, fit, may_replace};
+ghost use Rattle.fm_data.specs.Params.{operation_of, length_of, end_of, is_within_limits, same_operation, are_on, are_for, fit, may_replace, path_of};
 
-use fm_types::{Bytes, CreateMode, OpMask, Operation, RelPath};
+use fm_types::{Bytes, CreateMode, OpMask, Operation, SharedPath};
 
 /// How many bytes one operation reads, writes or lists at most.
 pub const MAX_TRANSFER: u64 = 32_768;
@@ -15,7 +15,7 @@ pub const MAX_END: u64 = 1 << 40;
 #[derive(Drop)]
 pub enum Params {
     /// Opens the file of that path.
-    Create { path: RelPath, mode: CreateMode },
+    Create { path: SharedPath, mode: CreateMode },
     /// Reads at most `len` bytes from `offset` on.
     Read { offset: u64, len: u32 },
     /// Writes the bytes at `offset`.
@@ -55,16 +55,6 @@ impl Params {
         }
     }
 
-    /// A copy of the path that a create names.
-    pub fn path(&self) -> Option<RelPath>
-        ensures { result ≡ path_of self.now }
-    {
-        match self {
-            Params::Create { path, .. } => Some(*path),
-            _ => None,
-        }
-    }
-
     /// Whether they ask for at most 32,768 bytes and name no end of a file past 2^40. Offset and
     /// length are added without wrapping.
     pub fn is_within_limits(&self) -> bool
@@ -94,8 +84,9 @@ impl Params {
         }
     }
 
-    /// Whether these are parameters of such an operation, a create's on that path.
-    pub fn are_for(&self, operation: Operation, path: &Option<RelPath>) -> bool
+    /// Whether these are parameters of such an operation on the file of that path: a create names it,
+    /// and others name none.
+    pub fn are_for(&self, operation: Operation, path: &Option<SharedPath>) -> bool
         ensures { result ≡ are_for operation path.now self.now }
     {
         self.are_of(operation) && self.are_on(path)
@@ -108,20 +99,21 @@ impl Params {
         OpMask::of(self.operation()).0 == OpMask::of(operation).0
     }
 
-    fn are_on(&self, path: &Option<RelPath>) -> bool
-        ensures { result ≡ same_path (path_of self.now) path.now }
+    /// Whether a create names that path; others name none.
+    pub fn are_on(&self, path: &Option<SharedPath>) -> bool
+        ensures { result ≡ are_on path.now self.now }
     {
-        match path {
-            Some(path) => match self {
-                Params::Create { path: own, .. } => own == path,
-                _ => false,
+        match self {
+            Params::Create { path: own, .. } => match path {
+                Some(path) => own.path() == path.path(),
+                None => false,
             },
-            None => !matches!(self, Params::Create { .. }),
+            _ => true,
         }
     }
 
     /// Whether these are such parameters and within the limits.
-    pub fn fit(&self, operation: Operation, path: &Option<RelPath>) -> bool
+    pub fn fit(&self, operation: Operation, path: &Option<SharedPath>) -> bool
         ensures { result ≡ fit operation path.now self.now }
     {
         self.are_for(operation, path) && self.is_within_limits()
@@ -136,14 +128,14 @@ impl Params {
     }
 
     fn are_beside(&self, received: &Params) -> bool
-        ensures { result ≡ same_path (path_of self.now) (path_of received.now) }
+        ensures { result ≡ are_on (path_of received.now) self.now }
     {
-        match received {
-            Params::Create { path, .. } => match self {
-                Params::Create { path: own, .. } => own == path,
+        match self {
+            Params::Create { path: own, .. } => match received {
+                Params::Create { path, .. } => own.path() == path.path(),
                 _ => false,
             },
-            _ => !matches!(self, Params::Create { .. }),
+            _ => true,
         }
     }
 }

@@ -6,6 +6,7 @@ use Rattle.fm_types.specs.declared.ids.InstanceId.{InstanceId}
 use Rattle.fm_types.specs.declared.ids.WorkerId.{WorkerId}
 use Rattle.fm_types.specs.declared.ids.CtxId.{CtxId}
 use Rattle.fm_types.specs.declared.status.Status.TheVariants.{WrongStep}
+use Rattle.fm_data.specs.declared.base_call.BaseCall.{BaseCall}
 use Rattle.fm_data.specs.declared.params.Params.{Params}
 use Rattle.fm_data.specs.declared.answer.Answer.{Answer}
 use Rattle.fm_data.specs.declared.verdict.PostVerdict.{PostVerdict}
@@ -264,14 +265,14 @@ pre_returned_carries c state d r st h = carried_pre_settled PreRunning r.entries
 pub pre_returned_flies : (j : ℕ) (state : PreState) (d : Data) (r : FlowRecord) → r.stage ≡ PreRunning → IsSound r → flight j r ≡ flight j (pre_returned_of state d r) + leaves_at j (last_visited r.entries) (leaves_by state)
 pre_returned_flies j state d r st h = flight_pre_settled PreRunning r.entries state j refl (subst (λ s. IsCourse s r.entries) st h.course)
 
-pub base_returned_carries : (c : CtxId) (call : Params) (answer : Answer) (handle : HandleId) (r : FlowRecord) → carried_by c (base_returned_of call answer handle r) ≡ carried_by c r
+pub base_returned_carries : (c : CtxId) (call : BaseCall) (answer : Answer) (handle : HandleId) (r : FlowRecord) → carried_by c (base_returned_of call answer handle r) ≡ carried_by c r
 base_returned_carries c call answer handle r =
-    let counts = base_counted call answer handle in
+    let counts = base_counted call.params answer handle in
     ap (carried_among c) (owed_push_none r.entries (Base counts.status counts.information) refl (λ i. refl))
 
-pub base_returned_flies : (j : ℕ) (call : Params) (answer : Answer) (handle : HandleId) (r : FlowRecord) → flight j (base_returned_of call answer handle r) ≡ flight j r
+pub base_returned_flies : (j : ℕ) (call : BaseCall) (answer : Answer) (handle : HandleId) (r : FlowRecord) → flight j (base_returned_of call answer handle r) ≡ flight j r
 base_returned_flies j call answer handle r =
-    let counts = base_counted call answer handle in
+    let counts = base_counted call.params answer handle in
     let k = ap (λ xs. times j (instances xs)) (owed_push_none r.entries (Base counts.status counts.information) refl (λ i. refl)) in
     let o = opens_push j r.entries (Base counts.status counts.information) in
     omega (arith, k, o)

@@ -15,11 +15,12 @@ use Rattle.fm_types.specs.declared.ids.StreamId.{StreamId}
 use Rattle.fm_types.specs.declared.ids.HandleId.{HandleId}
 use Rattle.fm_types.specs.declared.ids.WorkerId.{WorkerId}
 use Rattle.fm_types.specs.declared.status.Status.TheVariants.{WrongStep}
+use Rattle.fm_data.specs.declared.base_call.BaseCall.{BaseCall}
 use Rattle.fm_data.specs.declared.params.Params.{Params}
 use Rattle.fm_data.specs.declared.answer.Answer.{Answer}
 use Rattle.fm_data.specs.declared.verdict.PostVerdict.{PostVerdict}
 use Rattle.fm_data.specs.Data.{Data, data_fits}
-use Rattle.fm_data.specs.Params.{operation_of, path_of, is_within_limits, same_operation, same_path, are_for, fit}
+use Rattle.fm_data.specs.Params.{operation_of, is_within_limits, same_operation, are_on, are_for, fit}
 use Rattle.fm_flow.specs.declared.action.Below.{Below}
 use Rattle.fm_flow.specs.declared.action.Below.TheVariants as below
 use Rattle.fm_flow.specs.declared.entry.Ask.{Ask}
@@ -158,22 +159,15 @@ pub flow_changes : (t : FlowTable) (o : OpId) (f : FlowRecord → FlowRecord) �
 flow_changes t o f h number collected sound =
     changes t o f h number (λ x. let e : ◌≡◌ {A = ℕ} (cond (counted (f x)) 1 0) (cond (counted x) 1 0) = ap (λ b. cond (not b) 1 0) (collected x) in omega (arith, e)) sound
 
-same_path_self : (xs : List ℕ) → pointwise ◌==◌ xs xs ≡ true
-same_path_self [] = refl
-same_path_self (x ∷ xs) = and_from (x == x) (pointwise ◌==◌ xs xs) (eq-eqb x x refl) (same_path_self xs)
+pub fit_own : (path : Option (List ℕ)) (p : Params) → are_on path p ≡ true → is_within_limits p ≡ true → fit (operation_of p) path p ≡ true
+fit_own path p on h = and_from (are_for (operation_of p) path p) (is_within_limits p) (and_from (same_operation (operation_of p) (operation_of p)) (are_on path p) (eq-eqb _ _ refl) on) h
 
-same_path_own : (path : Option (List ℕ)) → same_path path path ≡ true
-same_path_own None = refl
-same_path_own (Some xs) = same_path_self xs
-
-pub fit_own : (p : Params) → is_within_limits p ≡ true → fit (operation_of p) (path_of p) p ≡ true
-fit_own p h = and_from (are_for (operation_of p) (path_of p) p) (is_within_limits p) (and_from (same_operation (operation_of p) (operation_of p)) (same_path (path_of p) (path_of p)) (eq-eqb _ _ refl) (same_path_own (path_of p))) h
-
-pub sound_begun : (number : ℕ) (v : VolumeId) (stream : Option StreamId) (handle : Option HandleId) (born : ℕ) (p : Params) → is_within_limits p ≡ true → IsSound (begun_record number v stream handle born p)
-sound_begun number v stream handle born p within = record {
+pub sound_begun : (number : ℕ) (v : VolumeId) (stream : Option StreamId) (handle : Option HandleId) (born : ℕ) (path : Option (List ℕ)) (p : Params)
+    → are_on path p ≡ true → is_within_limits p ≡ true → IsSound (begun_record number v stream handle born path p)
+sound_begun number v stream handle born path p on within = record {
   course = course_start;
   here = refl;
-  params = fit_own p within;
+  params = fit_own path p on within;
   kept = λ k d l. absurd (omega arith);
   places = omega arith;
   bytes = omega arith;
@@ -184,12 +178,12 @@ or_parts : (a b : Bool) → (a || b) ≡ false → a ≡ false
 or_parts false b h = refl
 or_parts true b h = h
 
-pub flow_begins : (v : VolumeId) (stream : Option StreamId) (handle : Option HandleId) (born : ℕ) (p : Params) (t : FlowTable) → is_within_limits p ≡ true → IsFlow t → is_full t ≡ false
-    → IsFlow (begun v stream handle born p t)
-flow_begins v stream handle born p t within h full =
-    let fresh = begun_record t.next v stream handle born p in
+pub flow_begins : (v : VolumeId) (stream : Option StreamId) (handle : Option HandleId) (born : ℕ) (path : Option (List ℕ)) (p : Params) (t : FlowTable)
+    → are_on path p ≡ true → is_within_limits p ≡ true → IsFlow t → is_full t ≡ false → IsFlow (begun v stream handle born path p t)
+flow_begins v stream handle born path p t on within h full =
+    let fresh = begun_record t.next v stream handle born path p in
     record {
-      sound = All-push IsSound t.operations fresh h.sound (sound_begun t.next v stream handle born p within);
+      sound = All-push IsSound t.operations fresh h.sound (sound_begun t.next v stream handle born path p on within);
       ascending = all_pairs_push (λ (r s : FlowRecord). r.number.0 < s.number.0) t.operations fresh h.ascending (λ k d l. h.below k d l);
       below = All-push (λ (r : FlowRecord). r.number.0 < t.next + 1) t.operations fresh
           (All-weaker (λ (r : FlowRecord). r.number.0 < t.next) (λ (r : FlowRecord). r.number.0 < t.next + 1) (λ r k. omega (arith, k)) t.operations h.below)
@@ -326,7 +320,7 @@ pre_stays state d r = elim (data_fits r.operation r.path d) as (λ b. Stays r (c
 pub post_after_stays : (v : PostVerdict) (d : Data) (r : FlowRecord) → Stays r (post_after v d r)
 post_after_stays v d r = elim (data_fits r.operation r.path d) as (λ b. Stays r (cond b (post_returned_of v d r) r)) [ true ↦ record { number = refl; collected = refl } | false ↦ stays r ]
 
-pub base_stays : (call : Params) (answer : Answer) (handle : HandleId) (r : FlowRecord) → Stays r (base_after call answer handle r)
+pub base_stays : (call : BaseCall) (answer : Answer) (handle : HandleId) (r : FlowRecord) → Stays r (base_after call answer handle r)
 base_stays call answer handle r = elim (base_fits call answer r) as (λ b. Stays r (cond b (base_returned_of call answer handle r) r)) [ true ↦ record { number = refl; collected = refl } | false ↦ stays r ]
 
 pub drain_stays : (i : InstanceId) (r : FlowRecord) → Stays r (drain_returned_of i r)
@@ -346,7 +340,7 @@ sound_post_after v d r st h = elim (cases_Bool (data_fits r.operation r.path d))
   | inr e ↦ rw e h
 ]
 
-pub sound_base_after : (call : Params) (answer : Answer) (handle : HandleId) (r : FlowRecord) → r.stage ≡ InBase → IsSound r → IsSound (base_after call answer handle r)
+pub sound_base_after : (call : BaseCall) (answer : Answer) (handle : HandleId) (r : FlowRecord) → r.stage ≡ InBase → IsSound r → IsSound (base_after call answer handle r)
 sound_base_after call answer handle r st h = elim (cases_Bool (base_fits call answer r)) [
   | inl e ↦ rw e (sound_base call answer handle r st e h)
   | inr e ↦ rw e h

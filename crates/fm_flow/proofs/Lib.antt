@@ -6,6 +6,7 @@ pub mod Settled
 pub mod Counting
 pub mod Soundness
 pub mod Flows
+pub mod Paths
 pub mod Places
 pub mod Balances
 pub mod Owes

@@ -1,5 +1,5 @@
 -- Each step keeps the laws of an operation.
-use Rattle.std.proofs.Common.{◌≡◌, ℕ, ◌+◌, ◌<◌, ◌≤◌, Bool, true, false, cond, not, ◌&&◌, List, [], ◌∷◌, ◌++◌, length, map, take, All, Option, Some, None, is_some, nat_le, unwrap_or, slice_get, refl, sym, ap, ap₂, ◌∙◌, subst, arith, append-nil}
+use Rattle.std.proofs.Common.{◌≡◌, ℕ, ◌+◌, ◌<◌, ◌≤◌, ◌==◌, Bool, true, false, cond, not, ◌&&◌, List, [], ◌∷◌, ◌++◌, length, map, take, All, Option, Some, None, is_some, nat_le, unwrap_or, slice_get, refl, sym, ap, ap₂, ◌∙◌, subst, arith, append-nil}
 use Rattle.std.proofs.lemmas.List.{length-append, length-take}
 use Rattle.std.proofs.lemmas.List.Elements.{All-append, All-take, All-nil, All-push}
 use Rattle.std.proofs.lemmas.Bool.Decides.{nat_tests}
@@ -8,11 +8,12 @@ use Rattle.fm_types.specs.declared.ids.InstanceId.{InstanceId}
 use Rattle.fm_types.specs.declared.ids.WorkerId.{WorkerId}
 use Rattle.fm_types.specs.declared.operation.Operation.{Operation}
 use Rattle.fm_types.specs.declared.status.Status.{Status}
+use Rattle.fm_data.specs.declared.base_call.BaseCall.{BaseCall}
 use Rattle.fm_data.specs.declared.params.Params.{Params}
 use Rattle.fm_data.specs.declared.answer.Answer.{Answer}
 use Rattle.fm_data.specs.declared.verdict.PostVerdict.{PostVerdict}
 use Rattle.fm_data.specs.declared.verdict.PostVerdict.TheVariants as verdict
-use Rattle.fm_data.specs.Params.{is_within_limits, fit}
+use Rattle.fm_data.specs.Params.{is_within_limits, same_path, fit, call_fits}
 use Rattle.fm_data.specs.Data.{Data, change_passes, data_fits}
 use Rattle.fm_flow.specs.declared.stage.Stage.{Stage}
 use Rattle.fm_flow.specs.declared.stage.Stage.TheVariants.{Descending, PreRunning, InBase, Ascending, PostRunning, InDrain}
@@ -133,16 +134,16 @@ counted_short call answer handle h = elim (is_success answer.status) as (λ b. l
   | false ↦ omega arith
 ]
 
-pub sound_base_returned : (call : Params) (answer : Answer) (handle : HandleId) (r : FlowRecord) → r.stage ≡ InBase → fit r.operation r.path call ≡ true → length answer.bytes ≤ 32768
+pub sound_base_returned : (call : BaseCall) (answer : Answer) (handle : HandleId) (r : FlowRecord) → r.stage ≡ InBase → fit r.operation r.path call.params ≡ true → length answer.bytes ≤ 32768
     → IsSound r → IsSound (base_returned_of call answer handle r)
 sound_base_returned call answer handle r st fits short h =
-    let counts = base_counted call answer handle in record {
+    let counts = base_counted call.params answer handle in record {
       course = course_base InBase r.entries counts.status counts.information refl refl (at_stage r InBase st h);
       here = refl;
       params = fits;
       kept = h.kept;
       places = let a = visited_same r.entries (Base counts.status counts.information) refl in let b = places_at r InBase st h in omega (arith, a, b);
-      bytes = counted_short call answer handle short;
+      bytes = counted_short call.params answer handle short;
       collected = uncollected r h (rw st refl);
     }
 
@@ -307,8 +308,9 @@ pub head_of : (asks : List Ask) (ask : Ask) → slice_get asks 0 ≡ Some ask �
 head_of [] ask is = cc
 head_of (other ∷ asks) ask is = let e : other ≡ ask = cc in ap (λ a. a ∷ asks) e
 
-pub sound_base : (call : Params) (answer : Answer) (handle : HandleId) (r : FlowRecord) → r.stage ≡ InBase → base_fits call answer r ≡ true → IsSound r → IsSound (base_returned_of call answer handle r)
+pub sound_base : (call : BaseCall) (answer : Answer) (handle : HandleId) (r : FlowRecord) → r.stage ≡ InBase → base_fits call answer r ≡ true → IsSound r → IsSound (base_returned_of call answer handle r)
 sound_base call answer handle r st fits h =
-    let parts = both (fit r.operation r.path call) (nat_le (length answer.bytes) 32768) fits in
+    let parts = both (call_fits r.operation r.volume r.path call) (nat_le (length answer.bytes) 32768) fits in
+    let own = both (call.volume.0 == r.volume.0) (same_path call.path r.path && fit r.operation r.path call.params) parts.0 in
     let short : length answer.bytes ≤ 32768 = grind (arith, nat_tests, parts.1) in
-    sound_base_returned call answer handle r st parts.0 short h
+    sound_base_returned call answer handle r st (both (same_path call.path r.path) (fit r.operation r.path call.params) own.1).1 short h

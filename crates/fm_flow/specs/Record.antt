@@ -19,7 +19,7 @@ pub record FlowRecord : Type 0 where
   pub handle : Option HandleId
   -- how many instances were born before it began
   pub born : ℕ
-  -- the path that a create names
+  -- the path of the file that it is on, as it was when it began; a listing has none
   pub path : Option (List ℕ)
   -- its parameters as the next callback finds them; none while a callback or the base has them
   pub params : Option Params

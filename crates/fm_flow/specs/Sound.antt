@@ -95,3 +95,10 @@ pub record IsSound (r : FlowRecord) : Type 0 where
   pub bytes : length r.answer.bytes ≤ 32768
   -- only a done operation's answer is handed out
   pub collected : r.collected ≡ true → is_done r ≡ true
+
+-- the path that the base will be told is at hand until it is called
+abbrev pub HasPath : Stage → Option (List ℕ) → Option (List ℕ) → Type 0
+HasPath Descending path given = given ≡ path
+HasPath PreRunning path given = given ≡ path
+HasPath PreHeld path given = given ≡ path
+HasPath _ path given = ⊤

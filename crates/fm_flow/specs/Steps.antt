@@ -7,11 +7,12 @@ use Rattle.fm_types.specs.declared.status.Status.{Status}
 use Rattle.fm_types.specs.declared.status.Status.TheVariants.{WrongStep}
 use Rattle.fm_types.specs.declared.operation.Operation.{Operation}
 use Rattle.fm_types.specs.declared.operation.Operation.TheVariants as kind
+use Rattle.fm_data.specs.declared.base_call.BaseCall.{BaseCall}
 use Rattle.fm_data.specs.declared.params.Params.{Params}
 use Rattle.fm_data.specs.declared.answer.Answer.{Answer}
 use Rattle.fm_data.specs.declared.verdict.PostVerdict.{PostVerdict}
 use Rattle.fm_data.specs.declared.verdict.PostVerdict.TheVariants as verdict
-use Rattle.fm_data.specs.Params.{fit}
+use Rattle.fm_data.specs.Params.{call_fits}
 use Rattle.fm_data.specs.Data.{Data, current_of, fresh_data, answered_data, data_fits}
 use Rattle.fm_flow.specs.declared.stage.Stage.{Stage}
 use Rattle.fm_flow.specs.declared.stage.Stage.TheVariants.{Descending, PreRunning, PreHeld, InBase, Ascending, PostRunning, PostHeld, InDrain}
@@ -73,8 +74,12 @@ abbrev pub call_pre : WorkerId → InstanceId → FlowRecord → Option Params �
 call_pre worker i r (Some params) = turn (Ok (action.Pre i (fresh_data params))) (record (with_visit worker i pre.Running r) { params = None })
 call_pre worker i r None = turn (Err WrongStep) r
 
+-- what the base is asked: on the operation's volume, of the file that it is on
+abbrev pub call_of : FlowRecord → Params → BaseCall
+call_of r params = record { volume = r.volume; path = r.path; params = params }
+
 abbrev pub call_base : FlowRecord → Option Params → Turned
-call_base r (Some params) = turn (Ok (action.Base params)) (record r { stage = InBase; params = None })
+call_base r (Some params) = turn (Ok (action.Base (call_of r params))) (record r { stage = InBase; params = None })
 call_base r None = turn (Err WrongStep) r
 
 abbrev pub with_base : Answer → FlowRecord → FlowRecord
@@ -182,9 +187,9 @@ abbrev pub pre_returned_of : PreState → Data → FlowRecord → FlowRecord
 pre_returned_of state returned r = record (pre_settled state r) { params = Some (current_of returned); kept = r.kept ++ kept_of returned.received returned.changed }
 
 -- the base answers, and gives the parameters back; a create's success gives the handle of that number
-abbrev pub base_returned_of : Params → Answer → HandleId → FlowRecord → FlowRecord
+abbrev pub base_returned_of : BaseCall → Answer → HandleId → FlowRecord → FlowRecord
 base_returned_of call answer handle r =
-    record (with_base (base_counted call answer handle) r) { params = Some call; handle = handle_given call answer.status handle r.handle }
+    record (with_base (base_counted call.params answer handle) r) { params = Some call.params; handle = handle_given call.params answer.status handle r.handle }
 
 abbrev pub post_state : PostVerdict → PostState
 post_state verdict.Finished = post.Finished
@@ -226,11 +231,11 @@ pre_after state returned r = cond (data_fits r.operation r.path returned) (pre_r
 abbrev pub post_after : PostVerdict → Data → FlowRecord → FlowRecord
 post_after verdict returned r = cond (data_fits r.operation r.path returned) (post_returned_of verdict returned r) r
 
-abbrev pub base_fits : Params → Answer → FlowRecord → Bool
-base_fits call answer r = fit r.operation r.path call && nat_le (length answer.bytes) 32768
+abbrev pub base_fits : BaseCall → Answer → FlowRecord → Bool
+base_fits call answer r = call_fits r.operation r.volume r.path call && nat_le (length answer.bytes) 32768
 
-abbrev pub base_reply : Params → Answer → FlowRecord → Result ⊤ (Params × Answer)
+abbrev pub base_reply : BaseCall → Answer → FlowRecord → Result ⊤ (BaseCall × Answer)
 base_reply call answer r = cond (base_fits call answer r) (Ok tt) (Err (call, answer))
 
-abbrev pub base_after : Params → Answer → HandleId → FlowRecord → FlowRecord
+abbrev pub base_after : BaseCall → Answer → HandleId → FlowRecord → FlowRecord
 base_after call answer handle r = cond (base_fits call answer r) (base_returned_of call answer handle r) r

@@ -11,7 +11,7 @@ use Rattle.fm_types.specs.declared.status.Status.{Status}
 use Rattle.fm_types.specs.declared.status.Status.TheVariants.{Success, WrongStep}
 use Rattle.fm_data.specs.declared.params.Params.{Params}
 use Rattle.fm_data.specs.declared.answer.Answer.{Answer}
-use Rattle.fm_data.specs.Params.{operation_of, path_of}
+use Rattle.fm_data.specs.Params.{operation_of}
 use Rattle.fm_flow.specs.declared.stage.Stage.{Stage}
 use Rattle.fm_flow.specs.declared.stage.Stage.TheVariants.{Descending}
 use Rattle.fm_flow.specs.declared.action.Below.{Below}
@@ -57,15 +57,15 @@ under_way rs = count_by (λ r. not r.collected) rs
 abbrev pub is_full : FlowTable → Bool
 is_full t = nat_le 256 (under_way t.operations) || (t.next == 2 ^ 64 - 1)
 
-abbrev pub begun_record : ℕ → VolumeId → Option StreamId → Option HandleId → ℕ → Params → FlowRecord
-begun_record number volume stream handle born params = record {
+abbrev pub begun_record : ℕ → VolumeId → Option StreamId → Option HandleId → ℕ → Option (List ℕ) → Params → FlowRecord
+begun_record number volume stream handle born path params = record {
   number = record { 0 = number };
   operation = operation_of params;
   volume = volume;
   stream = stream;
   handle = handle;
   born = born;
-  path = path_of params;
+  path = path;
   params = Some params;
   answer = bare_answer Success;
   stage = Descending;
@@ -74,8 +74,8 @@ begun_record number volume stream handle born params = record {
   collected = false;
 }
 
-abbrev pub begun : VolumeId → Option StreamId → Option HandleId → ℕ → Params → FlowTable → FlowTable
-begun volume stream handle born params t = record { operations = t.operations ++ begun_record t.next volume stream handle born params ∷ []; next = t.next + 1 }
+abbrev pub begun : VolumeId → Option StreamId → Option HandleId → ℕ → Option (List ℕ) → Params → FlowTable → FlowTable
+begun volume stream handle born path params t = record { operations = t.operations ++ begun_record t.next volume stream handle born path params ∷ []; next = t.next + 1 }
 
 -- ---- collect
 

@@ -1,6 +1,6 @@
 //! What an operation's next step needs to know, and what it is.
 
-use fm_data::{CallbackData, Completion, Params};
+use fm_data::{BaseCall, CallbackData, Completion};
 use fm_types::{InstanceId, Status};
 
 /// What lies below an operation on its way down.
@@ -19,8 +19,8 @@ pub enum Below {
 pub enum FlowAction {
     /// Call that instance's preoperation with the data.
     Pre(InstanceId, CallbackData),
-    /// Call the base with the parameters.
-    Base(Params),
+    /// Ask the base, of that volume and file, with the parameters.
+    Base(BaseCall),
     /// Call that instance's postoperation with the data and its completion.
     Post(InstanceId, CallbackData, Completion),
     /// Give that instance its completion back, for it is torn down.

@@ -3,7 +3,7 @@
 ghost use Rattle.std.specs.Prelude.{◌≡◌, ◌<◌, ◌^◌, ◌∷◌, [], ℕ, true, length, Option, Some, None, Ok, Err, IsTrue, option_copied, position, find, count_by, not};
 ghost use Rattle.std.specs.List.{list_any};
 ghost use Rattle.fm_types.specs.Refusals.{AnswersOrMemory, first_of};
-ghost use Rattle.fm_data.specs.Params.{is_within_limits};
+ghost use Rattle.fm_data.specs.Params.{is_within_limits, are_on};
 ghost use Rattle.fm_flow.specs.Verdict.{is_counted};
 ghost use Rattle.fm_flow.specs.Steps.{next_of, data_reply, pre_after, base_reply, base_after, post_after, drain_returned_of};
 ghost use Rattle.fm_flow.specs.Creates.{is_creating, is_on_stream, has_create_on, creates, is_over};
@@ -13,8 +13,8 @@ use crate::action::{Below, FlowAction};
 use crate::entry::PreState;
 use crate::operation_record::OperationRecord;
 use crate::stage::Stage;
-use fm_data::{Answer, CallbackData, Params, PostVerdict};
-use fm_types::{HandleId, InstanceId, OpId, Status, StreamId, VolumeId, WorkerId};
+use fm_data::{Answer, BaseCall, CallbackData, Params, PostVerdict};
+use fm_types::{HandleId, InstanceId, OpId, SharedPath, Status, StreamId, VolumeId, WorkerId};
 use std::alloc::Global;
 use std::marker::Model;
 
@@ -179,7 +179,8 @@ impl Flow {
     }
 
     /// Begins an operation, with all the memory that it will need (`FLT_CALLBACK_DATA` is made for a
-    /// request). The parameters have to be within the limits. Refused with 29 at 256 operations whose
+    /// request). `path` is that of the file that it is on, which a create names; a listing has none. The
+    /// parameters have to be within the limits. Refused with 29 at 256 operations whose
     /// answer wasn't handed out, and where the numbers run out; with 1 where memory is refused.
     /// A refusal changes nothing.
     pub fn begin(
@@ -188,17 +189,19 @@ impl Flow {
         stream: Option<StreamId>,
         handle: Option<HandleId>,
         born: u64,
+        path: Option<SharedPath>,
         params: Params,
     ) -> Result<OpId, Status>
-        requires { IsTrue (is_within_limits params) }
-        ensures { AnswersOrMemory (first_of ((is_full self.old, Status.TooMany) ∷ [])) result self.old self.new (λ o. (o.0 ≡ self.old.next) × (self.new ≡ begun volume stream handle born params self.old)) }
+        requires limits { IsTrue (is_within_limits params) }
+        requires file { are_on path params ≡ true }
+        ensures { AnswersOrMemory (first_of ((is_full self.old, Status.TooMany) ∷ [])) result self.old self.new (λ o. (o.0 ≡ self.old.next) × (self.new ≡ begun volume stream handle born path params self.old)) }
     {
         if self.is_full() {
             return Err(Status::TooMany);
         }
         let number = OpId(self.next);
         let record = OperationRecord::begin(
-            self.alloc, number, volume, stream, handle, born, params,
+            self.alloc, number, volume, stream, handle, born, path, params,
         )?;
         self.operations.push(record)?;
         self.next += 1;
@@ -235,7 +238,7 @@ impl Flow {
         operation.pre_returned(state, lent)
     }
 
-    /// The base answers an operation, and gives the call's parameters back. `handle` is the number that
+    /// The base answers an operation, and gives its call back. `handle` is the number that
     /// a create's success gives its handle. What counts of a success is the number of bytes read,
     /// written or listed, the size or the handle, and of a fault its status alone. The operation has to be at
     /// the base. A call that isn't of the operation and an answer of more than 32,768 bytes are handed
@@ -243,10 +246,10 @@ impl Flow {
     pub fn base_returned(
         &mut self,
         number: OpId,
-        call: Params,
+        call: BaseCall,
         answer: Answer,
         handle: HandleId,
-    ) -> Result<(), (Params, Answer)>
+    ) -> Result<(), (BaseCall, Answer)>
         requires { StandsAt Stage.InBase (operation_at number self.old) }
         ensures reply { result ≡ told (base_reply call answer) (Err (call, answer)) number self.old }
         ensures after { self.new ≡ changed number (base_after call answer handle) self.old }
@@ -320,8 +323,8 @@ mod tests {
     #[test]
     fn operations_are_numbered(rt: HostRuntime) -> Result<(), Fail> {
         let mut flow = Flow::new(rt.alloc());
-        let first = flow.begin(VolumeId(0), None, None, 3, Params::List)?;
-        let second = flow.begin(VolumeId(1), None, Some(HandleId(4)), 3, Params::Flush)?;
+        let first = flow.begin(VolumeId(0), None, None, 3, None, Params::List)?;
+        let second = flow.begin(VolumeId(1), None, Some(HandleId(4)), 3, None, Params::Flush)?;
         assert_eq!(rt; first, OpId(0));
         assert_eq!(rt; second, OpId(1));
         assert_eq!(rt;

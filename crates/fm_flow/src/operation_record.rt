@@ -2,7 +2,7 @@
 
 ghost use Rattle.std.specs.Prelude.{◌≡◌, ℕ, ◌<◌, ◌≤◌, true, false, length, IsTrue, IfOk, Ok, Err, Some, None, option_map, slice_get, if◌then◌else◌};
 ghost use Rattle.std.specs.List.{list_any};
-ghost use Rattle.fm_data.specs.Params.{is_within_limits, fit};
+ghost use Rattle.fm_data.specs.Params.{is_within_limits, are_on, fit, call_fits};
 ghost use Rattle.fm_data.specs.Data.{data_fits};
 ghost use Rattle.fm_flow.specs.Entries.{times, visited, last_visited, owed};
 ghost use Rattle.fm_flow.specs.Verdict.{is_counted};
@@ -18,9 +18,11 @@ use crate::answered::{bare_answer, base_counted, handle_given};
 use crate::entry::{Ask, DrainVisit, Entry, PostState, PostVisit, PreState, PreVisit};
 use crate::stage::Stage;
 use crate::{entries, lent};
-use fm_data::{Answer, CallbackData, Completion, MAX_TRANSFER, Params, Parts, PostVerdict};
+use fm_data::{
+    Answer, BaseCall, CallbackData, Completion, MAX_TRANSFER, Params, Parts, PostVerdict,
+};
 use fm_types::{
-    Bytes, HandleId, InstanceId, OpId, Operation, RelPath, Status, StreamId, VolumeId, WorkerId,
+    Bytes, HandleId, InstanceId, OpId, Operation, SharedPath, Status, StreamId, VolumeId, WorkerId,
 };
 use std::alloc::{AllocError, Global};
 use std::marker::Model;
@@ -42,7 +44,9 @@ pub struct OperationRecord {
     stream: Option<StreamId>,
     handle: Option<HandleId>,
     born: u64,
-    path: Option<RelPath>,
+    path: Option<SharedPath>,
+    // the same path, for the base's call, so that `next` takes no memory
+    lent_path: Option<SharedPath>,
     params: Option<Params>,
     answer: Answer,
     stage: Stage,
@@ -59,11 +63,11 @@ impl Model for OperationRecord {
 
     ghost use Rattle.fm_flow.specs.Answered.{bare_answer};
     ghost use Rattle.fm_flow.specs.Creates.{is_creating, is_unanswered};
-    ghost use Rattle.fm_flow.specs.Sound.{IsSound};
+    ghost use Rattle.fm_flow.specs.Sound.{IsSound, HasPath};
 
     ghost view = { λ o. record { number = o.number; operation = o.operation; volume = o.volume; stream = o.stream; handle = o.handle; born = o.born; path = o.path; params = o.params; answer = o.answer; stage = o.stage; entries = o.entries.items; kept = o.kept.items; collected = o.is_collected } };
 
-    ghost invariant = { λ o. IsSound (record { number = o.number; operation = o.operation; volume = o.volume; stream = o.stream; handle = o.handle; born = o.born; path = o.path; params = o.params; answer = o.answer; stage = o.stage; entries = o.entries.items; kept = o.kept.items; collected = o.is_collected }) × ((65 ≤ vec_capacity o.entries) × (32 ≤ vec_capacity o.kept)) };
+    ghost invariant = { λ o. IsSound (record { number = o.number; operation = o.operation; volume = o.volume; stream = o.stream; handle = o.handle; born = o.born; path = o.path; params = o.params; answer = o.answer; stage = o.stage; entries = o.entries.items; kept = o.kept.items; collected = o.is_collected }) × ((65 ≤ vec_capacity o.entries) × ((32 ≤ vec_capacity o.kept) × HasPath o.stage o.path o.lent_path)) };
 }
 
 impl OperationRecord {
@@ -75,11 +79,14 @@ impl OperationRecord {
         stream: Option<StreamId>,
         handle: Option<HandleId>,
         born: u64,
+        path: Option<SharedPath>,
         params: Params,
     ) -> Result<OperationRecord, AllocError>
-        requires { IsTrue (is_within_limits params) }
-        ensures { IfOk result (λ r. r ≡ begun_record number.0 volume stream handle born params) }
+        requires limits { IsTrue (is_within_limits params) }
+        requires file { are_on path params ≡ true }
+        ensures { IfOk result (λ r. r ≡ begun_record number.0 volume stream handle born path params) }
     {
+        let lent_path = shared(&path)?;
         let entries = Vec::with_capacity(alloc, MAX_ENTRIES)?;
         let kept = Vec::with_capacity(alloc, MAX_VISITS)?;
         Ok(OperationRecord {
@@ -90,7 +97,8 @@ impl OperationRecord {
             stream,
             handle,
             born,
-            path: params.path(),
+            path,
+            lent_path,
             params: Some(params),
             answer: bare_answer(alloc, Status::Success),
             stage: Stage::Descending,
@@ -142,8 +150,8 @@ impl OperationRecord {
         self.born
     }
 
-    /// The path that it names, if it is a create.
-    pub fn path(&self) -> &Option<RelPath>
+    /// The path of the file that it is on, as it was when the operation began; a listing has none.
+    pub fn path(&self) -> &Option<SharedPath>
         ensures { result.now ≡ self.now.path }
     {
         &self.path
@@ -306,7 +314,11 @@ impl OperationRecord {
             unreachable!();
         };
         self.stage = Stage::InBase;
-        FlowAction::Base(params)
+        FlowAction::Base(BaseCall {
+            volume: self.volume,
+            path: self.lent_path.take(),
+            params,
+        })
     }
 
     fn answer_known(&mut self, status: Status)
@@ -428,35 +440,37 @@ impl OperationRecord {
         self.stage = pre_leads(state);
     }
 
-    /// The base answers, and gives the parameters back. Parameters that aren't of this operation and
+    /// The base answers, and gives its call back. A call that isn't of this operation and
     /// an answer of more than 32,768 bytes are handed back, and nothing changes.
     pub(crate) fn base_returned(
         &mut self,
-        call: Params,
+        call: BaseCall,
         answer: Answer,
         handle: HandleId,
-    ) -> Result<(), (Params, Answer)>
+    ) -> Result<(), (BaseCall, Answer)>
         requires { self.old.stage ≡ Stage.InBase }
         ensures reply { result ≡ base_reply call answer self.old }
         ensures after { self.new ≡ base_after call answer handle self.old }
     {
-        if !call.fit(self.operation, &self.path) || answer.bytes.len() as u64 > MAX_TRANSFER {
+        if !call.fits(self.operation, self.volume, &self.path)
+            || answer.bytes.len() as u64 > MAX_TRANSFER
+        {
             return Err((call, answer));
         }
         self.take_base(call, answer, handle);
         Ok(())
     }
 
-    fn take_base(&mut self, call: Params, answer: Answer, handle: HandleId)
+    fn take_base(&mut self, call: BaseCall, answer: Answer, handle: HandleId)
         requires stage { self.old.stage ≡ Stage.InBase }
         requires fits { base_fits call answer self.old ≡ true }
         ensures { self.new ≡ base_returned_of call answer handle self.old }
     {
-        self.handle = handle_given(&call, answer.status, handle, self.handle);
-        let answer = base_counted(self.alloc, &call, answer, handle);
+        self.handle = handle_given(&call.params, answer.status, handle, self.handle);
+        let answer = base_counted(self.alloc, &call.params, answer, handle);
         self.entries
             .push_reserved(Entry::Base(answer.status, answer.information));
-        self.params = Some(call);
+        self.params = Some(call.params);
         self.answer = answer;
         self.stage = Stage::Ascending;
     }
@@ -533,6 +547,16 @@ impl OperationRecord {
     {
         let OperationRecord { answer, .. } = self;
         answer
+    }
+}
+
+// One more owner of a path.
+fn shared(path: &Option<SharedPath>) -> Result<Option<SharedPath>, AllocError>
+    ensures { IfOk result (λ shared. shared ≡ path.now) }
+{
+    match path {
+        Some(path) => Ok(Some(path.share()?)),
+        None => Ok(None),
     }
 }
 

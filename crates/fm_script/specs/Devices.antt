@@ -59,7 +59,6 @@ abbrev pub answer_to : List ℕ → Params → Folder → Answer
 answer_to path (params.Read offset len) folder = told_as (told (bytes_from offset len) path folder)
 answer_to path params.QuerySize folder = sized_as (told size_of path folder)
 answer_to path params.Flush folder = done_as (told presence_of path folder)
-answer_to path params.List folder = told_as (listed folder)
 answer_to path call folder = made_as (made_by path call folder)
 
 -- a call on a file is answered and makes what the folder before it says, or memory is wanting and nothing changes
@@ -68,11 +67,20 @@ Carries path call old new answer =
     (answer ≢ bare NoMemory → (answer ≡ answer_to path call old) × (new ≡ made_of (made_by path call old) old))
     × (answer ≡ bare NoMemory → new ≡ old)
 
--- a call past the limits is refused; a call with no path is a listing
+-- a call past the limits is refused
 abbrev pub CarriesWithin : Bool → List ℕ → Params → Folder → Folder → Answer → Type 0
 CarriesWithin true path call old new answer = Carries path call old new answer
 CarriesWithin false path call old new answer = (answer ≡ bare BadRequest) × (new ≡ old)
 
+abbrev pub is_listing : Params → Bool
+is_listing params.List = true
+is_listing _ = false
+
+-- a listing asks for no file; any other call without one is refused
+abbrev pub CarriesOn : Bool → Option (List ℕ) → Params → Folder → Folder → Answer → Type 0
+CarriesOn true path call old new answer = (answer ≢ bare NoMemory → answer ≡ told_as (listed old)) × (new ≡ old)
+CarriesOn false None call old new answer = (answer ≡ bare BadRequest) × (new ≡ old)
+CarriesOn false (Some path) call old new answer = CarriesWithin (is_within_limits call) path call old new answer
+
 abbrev pub CarriesAny : Option (List ℕ) → Params → Folder → Folder → Answer → Type 0
-CarriesAny None call old new answer = (answer ≢ bare NoMemory → answer ≡ told_as (listed old)) × (new ≡ old)
-CarriesAny (Some path) call old new answer = CarriesWithin (is_within_limits call) path call old new answer
+CarriesAny path call old new answer = CarriesOn (is_listing call) path call old new answer

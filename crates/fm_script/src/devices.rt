@@ -3,12 +3,12 @@
 
 ghost use Rattle.std.specs.Prelude.{◌≡◌, ◌<◌, ◌≤◌, ◌++◌, ◌∷◌, [], true, false, cond, nat_lt, length, slice_index_or, slice_set, OnOk, OnErr};
 ghost use Rattle.std.specs.FinMap.{empty};
-ghost use Rattle.fm_script.specs.Devices.{bare, done_as, told_as, sized_as, one_more, is_failing, CarriesWithin, CarriesAny};
+ghost use Rattle.fm_script.specs.Devices.{bare, done_as, told_as, sized_as, one_more, is_failing, is_listing, CarriesWithin, CarriesAny};
 ghost use Rattle.fm_data.specs.Params.{is_within_limits};
 
 use fm_base::{Base, MemoryBase};
-use fm_data::{Answer, Params};
-use fm_types::{Bytes, RelPath, Status};
+use fm_data::{Answer, BaseCall, Params};
+use fm_types::{Bytes, RelPath, SharedPath, Status};
 use std::alloc::{AllocError, Global};
 
 /// The devices of a script.
@@ -67,17 +67,17 @@ impl Devices {
         self.failures
     }
 
-    /// Makes the call of a volume's device. A path is missing for a listing alone. One that is to fail is answered with 18, one of a volume that isn't there with
-    /// 7, and both change nothing. Any other is answered, and changes its volume's folder, as that folder says, unless memory is wanting, when it changes
-    /// nothing. All other volumes stay.
-    pub fn call(&mut self, volume: usize, path: Option<RelPath>, call: &Params) -> Answer
+    /// Makes the call of a volume's device. One that is to fail is answered with 18, one of a volume that isn't there with
+    /// 7, one that names no file and is no listing with 32, and these change nothing. Any other is answered, and changes its volume's folder, as that folder
+    /// says, unless memory is wanting, when it changes nothing. All other volumes stay.
+    pub fn call(&mut self, call: &BaseCall) -> Answer
         ensures counted { self.new.calls ≡ one_more self.old.calls }
         ensures failures { self.new.failures ≡ cond (is_failing self.new.calls self.old.failing.items) (one_more self.old.failures) self.old.failures }
         ensures failing { self.new.failing ≡ self.old.failing }
         ensures fails { is_failing self.new.calls self.old.failing.items ≡ true → (result ≡ bare Status.DeviceFault) × (self.new.volumes ≡ self.old.volumes) }
-        ensures absent { is_failing self.new.calls self.old.failing.items ≡ false → length self.old.volumes.items ≤ volume → (result ≡ bare Status.NoVolume) × (self.new.volumes ≡ self.old.volumes) }
-        ensures carried { is_failing self.new.calls self.old.failing.items ≡ false → volume < length self.old.volumes.items → CarriesAny path call.now (slice_index_or self.old.volumes.items volume empty) (slice_index_or self.new.volumes.items volume empty) result }
-        ensures others { self.new.volumes.items ≡ slice_set self.old.volumes.items volume (slice_index_or self.new.volumes.items volume empty) }
+        ensures absent { is_failing self.new.calls self.old.failing.items ≡ false → length self.old.volumes.items ≤ call.now.volume.0 → (result ≡ bare Status.NoVolume) × (self.new.volumes ≡ self.old.volumes) }
+        ensures carried { is_failing self.new.calls self.old.failing.items ≡ false → call.now.volume.0 < length self.old.volumes.items → CarriesAny call.now.path call.now.params (slice_index_or self.old.volumes.items call.now.volume.0 empty) (slice_index_or self.new.volumes.items call.now.volume.0 empty) result }
+        ensures others { self.new.volumes.items ≡ slice_set self.old.volumes.items call.now.volume.0 (slice_index_or self.new.volumes.items call.now.volume.0 empty) }
     {
         self.calls = self.calls.saturating_add(1);
         if is_failing(&self.failing, self.calls) {
@@ -85,10 +85,10 @@ impl Devices {
             return refused(self.alloc, Status::DeviceFault);
         }
         let alloc = self.alloc;
-        let Some(base) = self.volumes.get_mut(volume) else {
+        let Some(base) = self.volumes.get_mut(usize::from(call.volume.0)) else {
             return refused(alloc, Status::NoVolume);
         };
-        on_volume(alloc, base, path, call)
+        on_volume(alloc, base, &call.path, &call.params)
     }
 }
 
@@ -101,13 +101,27 @@ fn is_failing(failing: &[u64], number: u64) -> bool
 
 // A call of a volume's device.
 #[tactic(auto, using(crate::proofs::DeviceAnswers::told_said))]
-fn on_volume(alloc: Global, base: &mut MemoryBase, path: Option<RelPath>, call: &Params) -> Answer
-    ensures { CarriesAny path call.now base.old base.new result }
+fn on_volume(
+    alloc: Global,
+    base: &mut MemoryBase,
+    path: &Option<SharedPath>,
+    call: &Params,
+) -> Answer
+    ensures { CarriesAny path.now call.now base.old base.new result }
 {
-    match path {
-        Some(path) => on_file(alloc, base, &path, call),
-        None => told(alloc, base.list()),
+    if is_listing(call) {
+        return told(alloc, base.list());
     }
+    match path {
+        Some(path) => on_file(alloc, base, path.path(), call),
+        None => refused(alloc, Status::BadRequest),
+    }
+}
+
+fn is_listing(call: &Params) -> bool
+    ensures { result ≡ is_listing call.now }
+{
+    matches!(call, Params::List)
 }
 
 fn refused(alloc: Global, status: Status) -> Answer
@@ -159,9 +173,8 @@ fn on_file(alloc: Global, base: &mut MemoryBase, path: &RelPath, call: &Params) 
         Params::QuerySize => sized(alloc, base.size(path)),
         Params::SetSize { size } => done(alloc, base.set_size(path, *size)),
         Params::Flush => done(alloc, base.flush(path)),
-        Params::List => told(alloc, base.list()),
         Params::Close => done(alloc, base.unlink(path)),
-        Params::SetDelete | Params::Cleanup => done(alloc, Ok(())),
+        Params::List | Params::SetDelete | Params::Cleanup => done(alloc, Ok(())),
     }
 }
 

@@ -10,7 +10,7 @@ use crate::command::{Callbacks, Verdict};
 use crate::devices::Devices;
 use fm_altitude::Altitude;
 use fm_core::{Action, Begin, Refused, State};
-use fm_data::{Answer, CallbackData, Completion, Params, PostVerdict, PreVerdict};
+use fm_data::{Answer, BaseCall, CallbackData, Completion, PostVerdict, PreVerdict};
 use fm_stack::Phase;
 use fm_types::{
     Bytes, ContextMask, CtxId, FilterId, InstanceId, Name, OpId, OpMask, Registration, Status,
@@ -27,7 +27,7 @@ const WORKERS: u8 = 16;
 enum Held {
     Nothing,
     Pre(CallbackData),
-    Base(OpId, Params),
+    Base(OpId, BaseCall),
     Post(Option<CallbackData>),
 }
 

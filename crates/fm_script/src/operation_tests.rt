@@ -3,7 +3,7 @@
 use fm_altitude::Altitude;
 use fm_base::{Base, MemoryBase};
 use fm_core::{Action, Begin, FileRequest, State};
-use fm_data::{Answer, CallbackData, Completion, Params, PostVerdict, PreVerdict};
+use fm_data::{Answer, BaseCall, CallbackData, Completion, Params, PostVerdict, PreVerdict};
 use fm_types::{
     Bytes, ContextMask, CreateMode, HandleId, InstanceId, Name, OpId, OpMask, Operation,
     Registration, RelPath, Status, VolumeId, WorkerId,
@@ -238,12 +238,11 @@ impl Run {
     }
 
     // The device makes the call.
-    fn base(&mut self, operation: OpId, call: Params) -> Result<(), Status> {
-        let Some(file) = self.state.file_of(operation) else {
+    fn base(&mut self, call: BaseCall) -> Result<(), Status> {
+        let Some(path) = &call.path else {
             return Err(Status::NoObject);
         };
-        let path = file.path;
-        let answer = call_base(self.alloc, &mut self.base, &path, &call)?;
+        let answer = call_base(self.alloc, &mut self.base, path.path(), &call.params)?;
         self.way.push(DEVICE)?;
         match self.state.base_returned(WORKER, call, answer) {
             Ok(()) => Ok(()),
@@ -288,7 +287,7 @@ impl Run {
         for _ in 0..WAY.len() {
             match self.state.next(WORKER, operation)? {
                 Action::Pre(instance, data) => self.pre(operation, instance, data)?,
-                Action::Base(call) => self.base(operation, call)?,
+                Action::Base(call) => self.base(call)?,
                 Action::Post(instance, data, completion) => self.post(
                     rt, operation, instance, data, completion,
                 )?,

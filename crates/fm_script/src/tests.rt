@@ -81,7 +81,7 @@ fn lines(alloc: Global, rt: &impl Abort, text: &str) -> Vec<u8> {
 }
 
 // Rows: a name, the input and the output, lines divided by `; `.
-const ROWS: [(&str, &str, &str); 29] = [
+const ROWS: [(&str, &str, &str); 33] = [
     (
         "altitude_order",
         "load f; mount v; attach f0 v0 a 03333; attach f0 v0 b 100.123456; list v0; go w0 o0",
@@ -227,6 +227,26 @@ const ROWS: [(&str, &str, &str); 29] = [
         "mount v; create v0 a/../b always; create v0 a some; create v1 a always; read h0 0 1; create v0 a always; go w0 o0; read h0 0 1; go w0 o1; write h0 1 4142; go w0 o2; size h0; go w0 o3; read h0 0 9; go w0 o4; setsize h0 1; go w0 o5; size h0; go w0 o6; read h0 0 32769; read h0 0 4294967296; setsize h0 1099511627777; read h0 x 1; write h0 0 414; flush h0; go w0 o7; failures; fail 1; failures; close h0",
         "ok v0; no 15; no 32; no 7; no 14; ok o0; base 0; reply 0 0 -; ok o1; base 31; reply 31 0 -; ok o2; base 0; reply 0 2 -; ok o3; base 0; reply 0 3 -; ok o4; base 0; reply 0 3 004142; ok o5; base 0; reply 0 0 -; ok o6; base 0; reply 0 1 -; no 32; no 32; no 32; no 32; no 32; ok o7; base 0; reply 0 0 -; failures 0; ok; failures 0; no 30",
     ),
+    (
+        "closed_under_a_base_call",
+        "mount v; create v0 x always; go w0 o0; write h0 0 4142; go w0 o1; read h0 0 9; next w0 o2; cleanup h0; go w1 o3; close h0; go w1 o4; base w0; collect o2; create v0 x existing; go w0 o5; write h1 1 43; next w0 o6; cleanup h1; go w1 o7; close h1; go w1 o8; base w0; collect o6; create v0 x existing; go w0 o9; setsize h2 3; next w0 o10; cleanup h2; go w1 o11; close h2; go w1 o12; base w0; collect o10; create v0 x existing; go w0 o13; size h3; next w0 o14; cleanup h3; go w1 o15; close h3; go w1 o16; base w0; collect o14; create v0 x existing; go w0 o17; flush h4; next w0 o18; cleanup h4; go w1 o19; close h4; go w1 o20; base w0; collect o18; create v0 x existing; go w0 o21; read h5 0 9; go w0 o22",
+        "ok v0; ok o0; base 0; reply 0 0 -; ok o1; base 0; reply 0 2 -; ok o2; base; ok o3; base 0; reply 0 0 -; ok o4; base 0; reply 0 0 -; ok; reply 0 2 4142; ok o5; base 0; reply 0 1 -; ok o6; base; ok o7; base 0; reply 0 0 -; ok o8; base 0; reply 0 0 -; ok; reply 0 1 -; ok o9; base 0; reply 0 2 -; ok o10; base; ok o11; base 0; reply 0 0 -; ok o12; base 0; reply 0 0 -; ok; reply 0 0 -; ok o13; base 0; reply 0 3 -; ok o14; base; ok o15; base 0; reply 0 0 -; ok o16; base 0; reply 0 0 -; ok; reply 0 3 -; ok o17; base 0; reply 0 4 -; ok o18; base; ok o19; base 0; reply 0 0 -; ok o20; base 0; reply 0 0 -; ok; reply 0 0 -; ok o21; base 0; reply 0 5 -; ok o22; base 0; reply 0 3 414300",
+    ),
+    (
+        "deleted_under_a_base_call",
+        "mount v; create v0 x always; go w0 o0; delete h0; go w0 o1; read h0 0 9; next w1 o2; write h0 0 41; next w2 o3; size h0; next w3 o4; setsize h0 2; next w4 o5; flush h0; next w5 o6; cleanup h0; go w0 o7; close h0; go w0 o8; base w1; collect o2; base w2; collect o3; base w3; collect o4; base w4; collect o5; base w5; collect o6; list v0; go w0 o9",
+        "ok v0; ok o0; base 0; reply 0 0 -; ok o1; base 0; reply 0 0 -; ok o2; base; ok o3; base; ok o4; base; ok o5; base; ok o6; base; ok o7; base 0; reply 0 0 -; ok o8; base 0; reply 0 0 -; ok; reply 19 0 -; ok; reply 19 0 -; ok; reply 19 0 -; ok; reply 19 0 -; ok; reply 19 0 -; ok o9; base 0; reply 0 0 -",
+    ),
+    (
+        "two_volumes",
+        "mount v; mount w; create v0 a always; go w0 o0; create v1 b always; go w0 o1; write h1 0 414243; go w0 o2; read h1 1 9; go w0 o3; size h0; go w0 o4; list v0; go w0 o5; list v1; go w0 o6; cleanup h1; go w0 o7; close h1; go w0 o8; read h1 0 9; read h0 0 0; go w0 o9",
+        "ok v0; ok v1; ok o0; base 0; reply 0 0 -; ok o1; base 0; reply 0 1 -; ok o2; base 0; reply 0 3 -; ok o3; base 0; reply 0 2 4243; ok o4; base 0; reply 0 0 -; ok o5; base 0; reply 0 2 610a; ok o6; base 0; reply 0 2 620a; ok o7; base 0; reply 0 0 -; ok o8; base 0; reply 0 0 -; no 14; ok o9; base 0; reply 0 0 -",
+    ),
+    (
+        "setup_and_plans",
+        "load f; mount v; setup w15 f0 v0 a 100; attach f0 v0 b 200; setdone w15 yes; plan i0 none; setup w0 f0 v0 c 300; attach f0 v0 d 400; alloc w0 instance 01; set w0 c0 keep; alloc w0 instance 02; set w0 c1 keep; setdone w0 yes; due w1; count c1; cleaned w1; count c1; list v0; go w0 o0",
+        "ok f0; ok v0; ok i0; ok i1; ok; ok; ok i2; no 30; ok c0; ok; ok c1; no 22; ok; cleanup c1; cleaning; ok; cleaned; ok o0; pre i2 with; pre i1 with; pre i0 none; base 0; post i1; post i2; reply 0 0 -",
+    ),
 ];
 
 // Runs the input in pieces of so many bytes, and compares what it prints.
@@ -323,6 +343,16 @@ fn thirty_two_instances(rt: HostRuntime) -> Result<(), Fail> {
         }
     }
     writeln!(output, "no 29")?;
+    input.extend_from_slice(b"list v0\ngo w0 o0\n")?;
+    output.extend_from_slice(b"ok o0\n")?;
+    for number in (0..32u32).rev() {
+        writeln!(output, "pre i{number} with")?;
+    }
+    writeln!(output, "base 0")?;
+    for number in 0..32u32 {
+        writeln!(output, "post i{number}")?;
+    }
+    writeln!(output, "reply 0 0 -")?;
     compare(
         &rt,
         alloc,

@@ -9,6 +9,7 @@ mod name;
 mod operation;
 mod path;
 mod registration;
+mod shared_path;
 mod status;
 mod text;
 
@@ -19,4 +20,5 @@ pub use crate::name::Name;
 pub use crate::operation::{CreateMode, OpMask, Operation};
 pub use crate::path::RelPath;
 pub use crate::registration::Registration;
+pub use crate::shared_path::SharedPath;
 pub use crate::status::Status;

@@ -265,10 +265,10 @@ creates_push : (t : FlowTable) (r : FlowRecord) → count_by is_creating (t.oper
 creates_push t r = sum_by_push (λ (x : FlowRecord). cond (is_creating x) 1 0) t.operations r
 
 -- an operation that is no create begins
-pub filed_begins : (f g : FileTable) (t : FlowTable) (v : VolumeId) (stream : Option StreamId) (handle : Option HandleId) (born : ℕ) (p : Params)
-    → is_create (operation_of p) ≡ false → Shrinks f g → IsFiled f t → IsFiled g (begun v stream handle born p t)
-filed_begins f g t v stream handle born p none shrinks h =
-    let fresh = begun_record t.next v stream handle born p in
+pub filed_begins : (f g : FileTable) (t : FlowTable) (v : VolumeId) (stream : Option StreamId) (handle : Option HandleId) (born : ℕ) (name : Option (List ℕ)) (p : Params)
+    → is_create (operation_of p) ≡ false → Shrinks f g → IsFiled f t → IsFiled g (begun v stream handle born name p t)
+filed_begins f g t v stream handle born name p none shrinks h =
+    let fresh = begun_record t.next v stream handle born name p in
     let counts = creates_push t fresh in
     let zero' : ◌≡◌ {A = ℕ} (cond (is_creating fresh) 1 0) 0 = ap (λ b. cond (b && true) 1 0) none in
     let next = shrinks.next in
@@ -285,10 +285,10 @@ created_shrinks v path n f = in_case (stream_of_path v path f)
     in_case None = record { next = refl; handles = omega arith }
 
 -- a create begins where there is room for its handle
-pub filed_creates : (f : FileTable) (t : FlowTable) (v : VolumeId) (path : List ℕ) (stream : Option StreamId) (handle : Option HandleId) (born : ℕ) (p : Params)
-    → nat_le 4096 (length f.handles + creates t) ≡ false → IsFiled f t → IsFiled (created v path t.next f) (begun v stream handle born p t)
-filed_creates f t v path stream handle born p room h =
-    let fresh = begun_record t.next v stream handle born p in
+pub filed_creates : (f : FileTable) (t : FlowTable) (v : VolumeId) (path : List ℕ) (stream : Option StreamId) (handle : Option HandleId) (born : ℕ) (name : Option (List ℕ)) (p : Params)
+    → nat_le 4096 (length f.handles + creates t) ≡ false → IsFiled f t → IsFiled (created v path t.next f) (begun v stream handle born name p t)
+filed_creates f t v path stream handle born name p room h =
+    let fresh = begun_record t.next v stream handle born name p in
     let counts = creates_push t fresh in
     let shrinks = created_shrinks v path t.next f in
     let next = shrinks.next in

@@ -15,6 +15,7 @@ use Rattle.fm_types.specs.declared.operation.Operation.TheVariants as kind
 use Rattle.fm_types.specs.declared.status.Status.{Status}
 use Rattle.fm_types.specs.declared.status.Status.TheVariants as status
 use Rattle.fm_types.proofs.Lists.{slice_get-set_same}
+use Rattle.fm_data.specs.declared.base_call.BaseCall.{BaseCall}
 use Rattle.fm_data.specs.declared.params.Params.{Params}
 use Rattle.fm_data.specs.declared.params.Params.TheVariants as params
 use Rattle.fm_data.specs.declared.answer.Answer.{Answer}
@@ -159,10 +160,10 @@ files_owned : {w : World} (files : FileTable) → IsOwned w → IsOwned (record 
 files_owned files h = record { lawful = h.lawful; cleaning = h.cleaning; holders = h.holders; completions = h.completions; fits = h.fits; quiet = h.quiet; totals = h.totals }
 
 -- a new operation is owed nothing and in flight nowhere
-operation_owned : (old : World) (v : VolumeId) (stream : Option StreamId) (handle : Option HandleId) (p : Params) (files : FileTable) → IsOwned old
-    → IsOwned (record old { flow = begun v stream handle old.stack.births p old.flow; files = files })
-operation_owned old v stream handle p files k =
-    let r = begun_record old.flow.next v stream handle old.stack.births p in
+operation_owned : (old : World) (v : VolumeId) (stream : Option StreamId) (handle : Option HandleId) (path : Option (List ℕ)) (p : Params) (files : FileTable) → IsOwned old
+    → IsOwned (record old { flow = begun v stream handle old.stack.births path p old.flow; files = files })
+operation_owned old v stream handle path p files k =
+    let r = begun_record old.flow.next v stream handle old.stack.births path p in
     record {
       lawful = lawful_alike (λ c. sym (total_push (carried_by c) old.flow.operations r refl)) k.lawful;
       cleaning = k.cleaning;
@@ -176,22 +177,22 @@ operation_owned old v stream handle p files k =
 
 on_owned : (old : World) (h : HandleId) (p : Params) (x : FileHandle) (m : Option FileStream) → IsOwned old → IsOwned (begun_on old h p x m)
 on_owned old h p x None s = s
-on_owned old h p x (Some y) s = operation_owned old y.volume (Some x.stream) (Some h) p (moved_on (operation_of p) h old.flow.next old.files) s
+on_owned old h p x (Some y) s = operation_owned old y.volume (Some x.stream) (Some h) (Some y.path) p (moved_on (operation_of p) h old.flow.next old.files) s
 
 at_owned : (old : World) (h : HandleId) (p : Params) (m : Option FileHandle) → IsOwned old → IsOwned (begun_at old h p m)
 at_owned old h p None s = s
 at_owned old h p (Some x) s = on_owned old h p x (stream_at x.stream old.files) s
 
 after_begin_owned : (old : World) (what : Begin) → IsOwned old → IsOwned (after_begin old what)
-after_begin_owned old (begin.List v) s = operation_owned old v None None params.List old.files s
+after_begin_owned old (begin.List v) s = operation_owned old v None None None params.List old.files s
 after_begin_owned old (begin.Create v path mode) s =
-    operation_owned old v (Some (stream_for v path old.flow.next old.files)) None (params.Create path mode) (created v path old.flow.next old.files) s
+    operation_owned old v (Some (stream_for v path old.flow.next old.files)) None (Some path) (params.Create path mode) (created v path old.flow.next old.files) s
 after_begin_owned old (begin.OnHandle h asked) s = at_owned old h (params_of asked) (handle_at h old.files) s
 
 on_filed : (old : World) (h : HandleId) (p : Params) (x : FileHandle) (m : Option FileStream) → is_create (operation_of p) ≡ false → FiledIn old → FiledIn (begun_on old h p x m)
 on_filed old h p x None none s = s
 on_filed old h p x (Some y) none s =
-    filed_begins old.files (moved_on (operation_of p) h old.flow.next old.files) old.flow y.volume (Some x.stream) (Some h) old.stack.births p
+    filed_begins old.files (moved_on (operation_of p) h old.flow.next old.files) old.flow y.volume (Some x.stream) (Some h) old.stack.births (Some y.path) p
     none (moved_shrinks (operation_of p) h old.flow.next old.files) s
 
 at_filed : (old : World) (h : HandleId) (p : Params) (m : Option FileHandle) → is_create (operation_of p) ≡ false → FiledIn old → FiledIn (begun_at old h p m)
@@ -199,11 +200,11 @@ at_filed old h p None none s = s
 at_filed old h p (Some x) none s = on_filed old h p x (stream_at x.stream old.files) none s
 
 after_begin_filed : (old : World) (what : Begin) → begin_refused old what ≡ None → FiledIn old → FiledIn (after_begin old what)
-after_begin_filed old (begin.List v) free s = filed_begins old.files old.files old.flow v None None old.stack.births params.List refl (shrinks_same old.files) s
+after_begin_filed old (begin.List v) free s = filed_begins old.files old.files old.flow v None None old.stack.births None params.List refl (shrinks_same old.files) s
 after_begin_filed old (begin.Create v path mode) free s =
     let many = full_from _ _ (is_full old.flow || has_no_handle_left old) free in
     let room = nat_le 4096 (length old.files.handles + creates old.flow) in
-    filed_creates old.files old.flow v path (Some (stream_for v path old.flow.next old.files)) None old.stack.births (params.Create path mode)
+    filed_creates old.files old.flow v path (Some (stream_for v path old.flow.next old.files)) None old.stack.births (Some path) (params.Create path mode)
     (or_left room (old.files.next == 2 ^ 64 - 1) (or_right (is_full old.flow) (has_no_handle_left old) many)) s
 after_begin_filed old (begin.OnHandle h asked) free s = at_filed old h (params_of asked) (handle_at h old.files) (asks_no_create asked) s
 
@@ -227,7 +228,7 @@ pub asked_sound : (old : World) (h : HandleId) (p : Params) → asked_refused ol
 asked_sound old h p free none s =
     let parts = asked_within (is_within_limits p) (refused_at old p (handle_at h old.files)) free in
     record {
-      under_way = begins_at old h p (handle_at h old.files) parts.0 parts.1 s.under_way;
+      under_way = begins_at old h p (handle_at h old.files) none parts.0 parts.1 s.under_way;
       owned = at_owned old h p (handle_at h old.files) s.owned;
       filed = at_filed old h p (handle_at h old.files) none s.filed;
       links = at_named old h p (handle_at h old.files) s.links;
@@ -667,14 +668,14 @@ pre_sound old k given lent result new h s =
 
 -- ---- the base's call returns
 
-base_at : (old : World) (k : WorkerId) (call : Params) (given : Answer) (result : Result (Unit {0}) Status) (new : World) (m : Option Worker)
+base_at : (old : World) (k : WorkerId) (call : BaseCall) (given : Answer) (result : Result (Unit {0}) Status) (new : World) (m : Option Worker)
     → worker_at old.workers k ≡ m → BaseReturnsAt old k call given result new m → IsSound old → IsOwned new
 base_at old k call given result new (Some (place.Base o)) at h s =
     let there = tied_there old.workers old.flow k (place.Base o) o AtBase s.under_way.workers at (eq-eqb o.0 o.0 refl) in
     let r = there.0 in
     let handle : HandleId = record { 0 = old.files.next } in
     let f = base_step old call given in
-    let counts = base_counted call given handle in
+    let counts = base_counted call.params given handle in
     let slots = old.contexts.slots in
     let asks = found_holds (λ (x : FlowRecord). All (AskCarries old.stack slots) (owed x.entries)) (is_number o) old.flow.operations r s.owned.completions there.1 in
     let none = empty_hand old k (place.Base o) at refl s.owned in
@@ -694,7 +695,7 @@ base_at old k call given result new (Some (place.Drain o i)) at h s = subst IsOw
 base_at old k call given result new (Some (place.Cleanup c)) at h s = subst IsOwned (sym h.1) s.owned
 base_at old k call given result new None at h s = subst IsOwned (sym h.1) s.owned
 
-base_filed : (old : World) (k : WorkerId) (call : Params) (given : Answer) (result : Result (Unit {0}) Status) (new : World) (m : Option Worker)
+base_filed : (old : World) (k : WorkerId) (call : BaseCall) (given : Answer) (result : Result (Unit {0}) Status) (new : World) (m : Option Worker)
     → worker_at old.workers k ≡ m → BaseReturnsAt old k call given result new m → IsSound old → FiledIn new
 base_filed old k call given result new (Some (place.Base o)) at h s =
     let there = tied_there old.workers old.flow k (place.Base o) o AtBase s.under_way.workers at (eq-eqb o.0 o.0 refl) in
@@ -716,7 +717,7 @@ base_filed old k call given result new (Some (place.Drain o i)) at h s = subst F
 base_filed old k call given result new (Some (place.Cleanup c)) at h s = subst FiledIn (sym h.1) s.filed
 base_filed old k call given result new None at h s = subst FiledIn (sym h.1) s.filed
 
-base_named : (old : World) (k : WorkerId) (call : Params) (given : Answer) (result : Result (Unit {0}) Status) (new : World) (m : Option Worker)
+base_named : (old : World) (k : WorkerId) (call : BaseCall) (given : Answer) (result : Result (Unit {0}) Status) (new : World) (m : Option Worker)
     → BaseReturnsAt old k call given result new m → NamedIn old → NamedIn new
 base_named old k call given result new (Some (place.Base o)) h s =
     unless_cases NamedIn status.BadRequest (told (base_fits call given) false o old.flow) result old new
@@ -729,7 +730,7 @@ base_named old k call given result new (Some (place.Drain o i)) h s = subst Name
 base_named old k call given result new (Some (place.Cleanup c)) h s = subst NamedIn (sym h.1) s
 base_named old k call given result new None h s = subst NamedIn (sym h.1) s
 
-pub base_sound : (old : World) (k : WorkerId) (call : Params) (given : Answer) (result : Result (Unit {0}) Status) (new : World)
+pub base_sound : (old : World) (k : WorkerId) (call : BaseCall) (given : Answer) (result : Result (Unit {0}) Status) (new : World)
     → BaseReturns old k call given result new → IsSound old → IsSound new
 unfolding BaseReturns
 base_sound old k call given result new h s =

@@ -13,6 +13,7 @@ use Rattle.fm_types.specs.declared.ids.WorkerId.{WorkerId}
 use Rattle.fm_types.specs.declared.registration.Registration.{Registration}
 use Rattle.fm_types.specs.declared.status.Status.{Status}
 use Rattle.fm_types.specs.Refusals.{Answers, AnswersOrMemory}
+use Rattle.fm_data.specs.declared.base_call.BaseCall.{BaseCall}
 use Rattle.fm_data.specs.declared.params.Params.{Params}
 use Rattle.fm_data.specs.declared.answer.Answer.{Answer}
 use Rattle.fm_data.specs.declared.verdict.PreVerdict.{PreVerdict}
@@ -351,7 +352,7 @@ pub pre_hand : (old : World) (k : WorkerId) (given : PreVerdict) (lent : Data) (
 unfolding PreReturns
 pre_hand old k given lent result new h = pre_at_hand old k given lent result new (worker_at old.workers k) h
 
-base_at_hands : (old : World) (k : WorkerId) (call : Params) (given : Answer) (result : Result (Unit {0}) Status) (new : World) (m : Option Worker)
+base_at_hands : (old : World) (k : WorkerId) (call : BaseCall) (given : Answer) (result : Result (Unit {0}) Status) (new : World) (m : Option Worker)
     → BaseReturnsAt old k call given result new m → KeepsHands old new
 base_at_hands old k call given result new None h = λ n. stays n old new h.1
 base_at_hands old k call given result new (Some place.Idle) h = λ n. stays n old new h.1
@@ -365,7 +366,7 @@ base_at_hands old k call given result new (Some (place.Post o i)) h = λ n. stay
 base_at_hands old k call given result new (Some (place.Drain o i)) h = λ n. stays n old new h.1
 base_at_hands old k call given result new (Some (place.Cleanup c)) h = λ n. stays n old new h.1
 
-pub base_hands : (old : World) (k : WorkerId) (call : Params) (given : Answer) (result : Result (Unit {0}) Status) (new : World) → BaseReturns old k call given result new
+pub base_hands : (old : World) (k : WorkerId) (call : BaseCall) (given : Answer) (result : Result (Unit {0}) Status) (new : World) → BaseReturns old k call given result new
     → KeepsHands old new
 unfolding BaseReturns
 base_hands old k call given result new h = base_at_hands old k call given result new (worker_at old.workers k) h

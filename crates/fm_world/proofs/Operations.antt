@@ -1,6 +1,7 @@
 -- The events on operations keep a World sound.
 use Rattle.std.proofs.Common.{◌≡◌, ℕ, suc, ◌<◌, ◌==◌, Bool, true, false, cond, not, List, [], ◌∷◌, ◌++◌, Option, Some, None, Result, Ok, Err, length, get_or, refl, ap, sym, ◌∙◌, subst, inl, inr, ◌⊎◌, arith, length-set}
 use Rattle.std.specs.Prelude.{All, AllPairs, slice_get, option_map, unwrap_or, find, nat_le, count_by, ◌||◌}
+use Rattle.std.specs.Cmp.Lexicographic.{bytes_decides}
 use Rattle.std.specs.List.{list_any}
 use Rattle.std.proofs.lemmas.Bool.{false≢true, eqb-true, eq-eqb, ne_eqb, cases_Bool, cases_eq, and_parts, and_from, leb-true}
 use Rattle.std.proofs.lemmas.Option.{none-some, same_Some}
@@ -13,6 +14,7 @@ use Rattle.fm_types.specs.declared.operation.Operation.TheVariants as kind
 use Rattle.fm_types.specs.declared.status.Status.{Status}
 use Rattle.fm_types.specs.declared.status.Status.TheVariants as status
 use Rattle.fm_types.specs.Refusals.{first_of}
+use Rattle.fm_data.specs.declared.base_call.BaseCall.{BaseCall}
 use Rattle.fm_data.specs.declared.params.Params.{Params}
 use Rattle.fm_data.specs.declared.params.Params.TheVariants as params
 use Rattle.fm_data.specs.declared.answer.Answer.{Answer}
@@ -21,7 +23,7 @@ use Rattle.fm_data.specs.declared.verdict.PreVerdict.TheVariants as verdict
 use Rattle.fm_data.specs.declared.verdict.PostVerdict.{PostVerdict}
 use Rattle.fm_data.specs.declared.verdict.PostVerdict.TheVariants as answer
 use Rattle.fm_data.specs.Data.{Data, data_fits}
-use Rattle.fm_data.specs.Params.{fit, is_within_limits, operation_of}
+use Rattle.fm_data.specs.Params.{fit, are_on, is_within_limits, operation_of}
 use Rattle.fm_stack.specs.StackWorld.{StackWorld}
 use Rattle.fm_stack.specs.Stacks.{IsStack}
 use Rattle.fm_ctx.specs.Bags.{hand_of}
@@ -41,6 +43,7 @@ use Rattle.fm_flow.specs.Steps.{Turned, next_of, next_at, descend, ascend, call_
 use Rattle.fm_flow.specs.Sound.{walk, way_of}
 use Rattle.fm_flow.specs.Sound as flow
 use Rattle.fm_flow.specs.Counts.{is_running_drain}
+use Rattle.fm_flow.specs.Creates.{is_create}
 use Rattle.fm_flow.specs.Table.{FlowTable, IsFlow, operation_at, changed, told, begun, begun_record, is_full, is_number, collected_of, collected_in, is_collectable, marked, removed, without_first}
 use Rattle.fm_flow.specs.Verdict.{verdict_counted, completed_as}
 use Rattle.fm_world.specs.declared.step.Begin.{Begin}
@@ -55,11 +58,12 @@ use Rattle.fm_world.specs.Headline.{Spot, AtPre, AtBase, AtPost, AtDrain, spot_a
 use Rattle.fm_world.specs.Descent.{is_among}
 use Rattle.fm_world.specs.Sound.{IsUnderWay, IsAmong, is_in_setup}
 use Rattle.fm_types.proofs.Firsts.{change_none, found_holds, all_change, all_without, find_without}
+use Rattle.fm_world.proofs.Filing.{asks_no_create}
 use Rattle.fm_world.proofs.Ties.{counted_from, one, count_moves, AreTied, Matches, is_running, quiet_is_none, quiet_is_nowhere, tied_moves, tied_stays, tied_there, matches_idle, matches_pre, matches_base, matches_post, matches_drain, spot_pre, spot_base, spot_post, spot_drain}
 use Rattle.fm_world.proofs.Amongs.{is_up, no_base, visit_last, post_last, among_visits, among_other, among_base, among_settles, among_begins, settle_pre_visit, settle_pre_base, settle_post_visit, settle_post_base, settle_drain_visit, settle_drain_base}
 use Rattle.fm_world.proofs.Descents.{next_unseen, room_is, or_left, or_right}
 use Rattle.fm_world.proofs.Keeps.{unless_cases, idle_there, whatever_contexts, whatever_files, loses_under_way}
-use Rattle.fm_flow.proofs.Soundness.{sound_pre_returned, sound_base_returned, sound_post_returned, sound_drain_returned}
+use Rattle.fm_flow.proofs.Soundness.{sound_pre_returned, sound_base, sound_post_returned, sound_drain_returned}
 use Rattle.fm_stack.proofs.Visits.{is_to_visit_few}
 use Rattle.fm_flow.proofs.Flows.{flow_begins, flow_changes, flow_collects, sound_next}
 use Rattle.fm_types.specs.declared.ids.HandleId.{HandleId}
@@ -123,41 +127,56 @@ full_from false true c h = cc
 full_from true b c h = cc
 
 -- an operation on a volume of which no more than 32 instances may be visited
-operation_begins : (old : World) (v : VolumeId) (stream : Option StreamId) (handle : Option HandleId) (p : Params) (files : FileTable) → is_within_limits p ≡ true → is_full old.flow ≡ false
-    → IsUnderWay old → IsUnderWay (record old { flow = begun v stream handle old.stack.births p old.flow; files = files })
-operation_begins old v stream handle p files within free s =
-    let fresh = begun_record old.flow.next v stream handle old.stack.births p in
-    let t = begun v stream handle old.stack.births p old.flow in
+operation_begins : (old : World) (v : VolumeId) (stream : Option StreamId) (handle : Option HandleId) (path : Option (List ℕ)) (p : Params) (files : FileTable)
+    → are_on path p ≡ true → is_within_limits p ≡ true → is_full old.flow ≡ false
+    → IsUnderWay old → IsUnderWay (record old { flow = begun v stream handle old.stack.births path p old.flow; files = files })
+operation_begins old v stream handle path p files on within free s =
+    let fresh = begun_record old.flow.next v stream handle old.stack.births path p in
+    let t = begun v stream handle old.stack.births path p old.flow in
     whatever_files (record old { flow = t }) old.contexts files
     (flow_moves old t old.workers
-    (flow_begins v stream handle old.stack.births p old.flow within s.flow free)
+    (flow_begins v stream handle old.stack.births path p old.flow on within s.flow free)
     (All-push (IsAmong old.stack) old.flow.operations fresh s.among
     (among_begins old.stack v fresh.operation (is_to_visit_few old.stack s.stack v old.stack.births fresh.operation)))
     s.hands
     (λ o spot. s.workers o spot ∙ sym (stands_push o spot old.flow.operations fresh (quiet_is_none Descending [] refl spot)))
     (λ i. refl) s)
 
+-- a create alone names a path
+names_none : (path : Option (List ℕ)) (p : Params) → is_create (operation_of p) ≡ false → are_on path p ≡ true
+names_none path (params.Create own mode) none = cc
+names_none path (params.Read offset len) none = refl
+names_none path (params.Write offset bytes) none = refl
+names_none path params.QuerySize none = refl
+names_none path (params.SetSize size) none = refl
+names_none path params.Flush none = refl
+names_none path params.List none = refl
+names_none path params.SetDelete none = refl
+names_none path params.Cleanup none = refl
+names_none path params.Close none = refl
+
 -- what doesn't refuse an operation on a handle
-begins_on : (old : World) (h : HandleId) (p : Params) (x : FileHandle) (m : Option FileStream) → is_within_limits p ≡ true
+begins_on : (old : World) (h : HandleId) (p : Params) (x : FileHandle) (m : Option FileStream) → is_create (operation_of p) ≡ false → is_within_limits p ≡ true
     → refused_on old p x m ≡ None → IsUnderWay old → IsUnderWay (begun_on old h p x m)
-begins_on old h p x None within free s = s
-begins_on old h p x (Some y) within free s =
-    operation_begins old y.volume (Some x.stream) (Some h) p (moved_on (operation_of p) h old.flow.next old.files) within
+begins_on old h p x None none within free s = s
+begins_on old h p x (Some y) none within free s =
+    operation_begins old y.volume (Some x.stream) (Some h) (Some y.path) p (moved_on (operation_of p) h old.flow.next old.files) (names_none (Some y.path) p none) within
     (full_from _ _ (is_full old.flow) (none_else (phase_refusal old.flow (operation_of p) x.phase) _ free)) s
 
-pub begins_at : (old : World) (h : HandleId) (p : Params) (m : Option FileHandle) → is_within_limits p ≡ true
+pub begins_at : (old : World) (h : HandleId) (p : Params) (m : Option FileHandle) → is_create (operation_of p) ≡ false → is_within_limits p ≡ true
     → refused_at old p m ≡ None → IsUnderWay old → IsUnderWay (begun_at old h p m)
-begins_at old h p None within free s = s
-begins_at old h p (Some x) within free s = begins_on old h p x (stream_at x.stream old.files) within free s
+begins_at old h p None none within free s = s
+begins_at old h p (Some x) none within free s = begins_on old h p x (stream_at x.stream old.files) none within free s
 
 after_begin_keeps : (old : World) (what : Begin) → begin_refused old what ≡ None → IsUnderWay old → IsUnderWay (after_begin old what)
-after_begin_keeps old (begin.List v) free s = operation_begins old v None None params.List old.files refl (full_from _ _ (is_full old.flow) free) s
+after_begin_keeps old (begin.List v) free s = operation_begins old v None None None params.List old.files refl refl (full_from _ _ (is_full old.flow) free) s
 after_begin_keeps old (begin.Create v path mode) free s =
-    operation_begins old v (Some (stream_for v path old.flow.next old.files)) None (params.Create path mode) (created v path old.flow.next old.files) refl
+    operation_begins old v (Some (stream_for v path old.flow.next old.files)) None (Some path) (params.Create path mode) (created v path old.flow.next old.files)
+    ((bytes_decides path path).1 refl) refl
     (or_left (is_full old.flow) (has_no_handle_left old) (full_from _ _ (is_full old.flow || has_no_handle_left old) free)) s
 after_begin_keeps old (begin.OnHandle h asked) free s =
     let parts = asked_within (is_within_limits (params_of asked)) (refused_at old (params_of asked) (handle_at h old.files)) free in
-    begins_at old h (params_of asked) (handle_at h old.files) parts.0 parts.1 s
+    begins_at old h (params_of asked) (handle_at h old.files) (asks_no_create asked) parts.0 parts.1 s
 
 pub begin_keeps : (old : World) (what : Begin) (result : Result OpId Status) (new : World) → Begins old what result new → IsUnderWay old → IsUnderWay new
 unfolding Begins
@@ -554,7 +573,7 @@ pub pre_keeps : (old : World) (k : WorkerId) (given : PreVerdict) (lent : Data) 
 unfolding PreReturns
 pre_keeps old k given lent result new h s = pre_at old k given lent result new (worker_at old.workers k) refl h s
 
-base_at : (old : World) (k : WorkerId) (call : Params) (given : Answer) (result : Result (Unit {0}) Status) (new : World) (m : Option Worker)
+base_at : (old : World) (k : WorkerId) (call : BaseCall) (given : Answer) (result : Result (Unit {0}) Status) (new : World) (m : Option Worker)
     → worker_at old.workers k ≡ m → BaseReturnsAt old k call given result new m → IsUnderWay old → IsUnderWay new
 base_at old k call given result new (Some (place.Base o)) at h s =
     let there = tied_there old.workers old.flow k (place.Base o) o AtBase s.workers at (eq-eqb o.0 o.0 refl) in
@@ -565,15 +584,13 @@ base_at old k call given result new (Some (place.Base o)) at h s =
     let none = no_base r.stage r.entries sound.course.order (ap (λ x. is_up (way_of x)) stage) in
     let handle : HandleId = record { 0 = old.files.next } in
     let step = base_step old call given in
-    let counts = base_counted call given handle in
+    let counts = base_counted call.params given handle in
     unless_cases IsUnderWay status.BadRequest (told (base_fits call given) false o old.flow) result old new
     ((result ≡ Ok tt) × LosesLinks (base_returned old k o call given) new) h
     (λ fits event. loses_under_way (base_returned old k o call given) new event.1 (whatever_files (returned old k o step) old.contexts (filed_base old o (changed o step old.flow) given.status)
     (return_keeps old k (place.Base o) o r step at there.1 (λ x. refl) (λ x. refl)
     (subst (Matches o (place.Base o)) (sym (ap (λ a. spot_at a r.entries) stage)) (matches_base o)) refl (λ j. refl)
-    (let good = and_parts (fit r.operation r.path call) (nat_le (length given.bytes) 32768)
-    (sym (told_there (base_fits call given) false o old.flow r there.1) ∙ fits) in
-    sound_base_returned call given handle r stage good.0 (leb-true (length given.bytes) 32768 good.1) sound)
+    (sound_base call given handle r stage (sym (told_there (base_fits call given) false o old.flow r there.1) ∙ fits) sound)
     (among_base old.stack r.volume r.born r.operation r.entries r.stage counts.status counts.information none (among.base stage) among) s))) s
 base_at old k call given result new (Some place.Idle) at h s = subst IsUnderWay (sym h.1) s
 base_at old k call given result new (Some (place.Setup i)) at h s = subst IsUnderWay (sym h.1) s
@@ -583,7 +600,7 @@ base_at old k call given result new (Some (place.Cleanup c)) at h s = subst IsUn
 base_at old k call given result new (Some (place.Drain o i)) at h s = subst IsUnderWay (sym h.1) s
 base_at old k call given result new None at h s = subst IsUnderWay (sym h.1) s
 
-pub base_keeps : (old : World) (k : WorkerId) (call : Params) (given : Answer) (result : Result (Unit {0}) Status) (new : World)
+pub base_keeps : (old : World) (k : WorkerId) (call : BaseCall) (given : Answer) (result : Result (Unit {0}) Status) (new : World)
     → BaseReturns old k call given result new → IsUnderWay old → IsUnderWay new
 unfolding BaseReturns
 base_keeps old k call given result new h s = base_at old k call given result new (worker_at old.workers k) refl h s

@@ -16,6 +16,7 @@ use Rattle.fm_types.specs.declared.registration.Registration.{Registration}
 use Rattle.fm_types.specs.declared.operation.Operation.{Operation}
 use Rattle.fm_types.specs.declared.operation.Operation.TheVariants as kind
 use Rattle.fm_types.specs.Refusals.{first_of, AnswersOrMemory}
+use Rattle.fm_data.specs.declared.base_call.BaseCall.{BaseCall}
 use Rattle.fm_data.specs.declared.params.Params.{Params}
 use Rattle.fm_data.specs.declared.params.Params.TheVariants as params
 use Rattle.fm_data.specs.declared.answer.Answer.{Answer}
@@ -147,7 +148,7 @@ moved_on _ h n t = t
 abbrev pub begun_on : World → HandleId → Params → FileHandle → Option FileStream → World
 begun_on w h p x None = w
 begun_on w h p x (Some y) = record w {
-  flow = begun y.volume (Some x.stream) (Some h) w.stack.births p w.flow;
+  flow = begun y.volume (Some x.stream) (Some h) w.stack.births (Some y.path) p w.flow;
   files = moved_on (operation_of p) h w.flow.next w.files;
 }
 
@@ -160,12 +161,12 @@ asked_begun w h p = begun_at w h p (handle_at h w.files)
 
 abbrev pub created_begun : World → VolumeId → List ℕ → CreateMode → World
 created_begun w v path mode = record w {
-  flow = begun v (Some (stream_for v path w.flow.next w.files)) None w.stack.births (params.Create path mode) w.flow;
+  flow = begun v (Some (stream_for v path w.flow.next w.files)) None w.stack.births (Some path) (params.Create path mode) w.flow;
   files = created v path w.flow.next w.files;
 }
 
 abbrev pub after_begin : World → Begin → World
-after_begin w (begin.List v) = record w { flow = begun v None None w.stack.births params.List w.flow }
+after_begin w (begin.List v) = record w { flow = begun v None None w.stack.births None params.List w.flow }
 after_begin w (begin.Create v path mode) = created_begun w v path mode
 after_begin w (begin.OnHandle h asked) = asked_begun w h (params_of asked)
 
@@ -371,20 +372,20 @@ PreReturnsAt old k given lent result new _ = (result ≡ Err status.WrongStep) �
 unfoldable pub PreReturns : World → WorkerId → PreVerdict → Data → Result (Unit {0}) Status → World → Type 0
 PreReturns old k given lent result new = PreReturnsAt old k given lent result new (worker_at old.workers k)
 
-abbrev pub base_step : World → Params → Answer → FlowRecord → FlowRecord
+abbrev pub base_step : World → BaseCall → Answer → FlowRecord → FlowRecord
 base_step w call answer = base_returned_of call answer (record { 0 = w.files.next })
 
-abbrev pub base_returned : World → WorkerId → OpId → Params → Answer → World
+abbrev pub base_returned : World → WorkerId → OpId → BaseCall → Answer → World
 base_returned w k o call answer = record (returned w k o (base_step w call answer)) { files = filed_base w o (changed o (base_step w call answer) w.flow) answer.status }
 
-abbrev pub BaseReturnsAt : World → WorkerId → Params → Answer → Result (Unit {0}) Status → World → Option Worker → Type 0
+abbrev pub BaseReturnsAt : World → WorkerId → BaseCall → Answer → Result (Unit {0}) Status → World → Option Worker → Type 0
 BaseReturnsAt old k call answer result new (Some (place.Base o)) =
     Unless status.BadRequest (told (base_fits call answer) false o old.flow) result old new
     ((result ≡ Ok tt)
     × LosesLinks (base_returned old k o call answer) new)
 BaseReturnsAt old k call answer result new _ = (result ≡ Err status.WrongStep) × (new ≡ old)
 
-unfoldable pub BaseReturns : World → WorkerId → Params → Answer → Result (Unit {0}) Status → World → Type 0
+unfoldable pub BaseReturns : World → WorkerId → BaseCall → Answer → Result (Unit {0}) Status → World → Type 0
 BaseReturns old k call answer result new = BaseReturnsAt old k call answer result new (worker_at old.workers k)
 
 -- a postoperation brings its data back; a drain has none, and its verdict counts as Finished

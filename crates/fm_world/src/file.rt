@@ -1,15 +1,16 @@
 //! Streams and handles: what operations on files are on.
 
-use fm_types::{HandleId, OpId, RelPath, StreamId, VolumeId};
+use fm_types::{HandleId, OpId, SharedPath, StreamId, VolumeId};
 
 /// A file's data, as long as a handle or a create under way is on it (`FLT_RELATED_OBJECTS`, by its
 /// `FsContext`): one for each path of a volume.
-#[derive(Clone, Copy, Debug)]
+#[derive(Drop)]
 pub struct FileStream {
     /// The number of the create that it came with.
     pub number: StreamId,
     pub volume: VolumeId,
-    pub path: RelPath,
+    /// Where the file is; the operations on it share the path.
+    pub path: SharedPath,
     /// Whether the file is to be unlinked when the last handle closes (`FileDispositionInformation`).
     pub is_marked: bool,
 }

@@ -6,7 +6,7 @@ ghost use Rattle.fm_world.specs.Requests.{params_of};
 use crate::set_answer::SetAnswer;
 use fm_altitude::Altitude;
 use fm_ctx::{Due, SetMode};
-use fm_data::{Answer, CallbackData, Params, PostVerdict, PreVerdict};
+use fm_data::{Answer, BaseCall, CallbackData, Params, PostVerdict, PreVerdict};
 use fm_flow::FlowAction;
 use fm_types::{
     Bytes, ContextKind, CreateMode, CtxId, FilterId, HandleId, InstanceId, Name, OpId,
@@ -113,7 +113,7 @@ pub enum Step {
     /// The base call that the worker is in returns.
     BaseReturned {
         worker: WorkerId,
-        call: Params,
+        call: BaseCall,
         answer: Answer,
     },
     /// The postoperation callback or the drain that the worker is in returns.

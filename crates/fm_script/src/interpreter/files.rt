@@ -2,7 +2,7 @@
 
 use super::{Held, Interpreter, after, worker_of};
 use fm_core::{Begin, Entry, FileRequest, Refused};
-use fm_types::{Bytes, CreateMode, HandleId, OpId, RelPath, Status, VolumeId};
+use fm_types::{Bytes, CreateMode, HandleId, OpId, RelPath, Status};
 
 impl Interpreter {
     /// `create`: an operation begins on the volume.
@@ -59,8 +59,7 @@ impl Interpreter {
                 return Err(Status::WrongStep);
             }
         };
-        let (volume, path) = self.place_of(operation);
-        let answer = self.devices.call(usize::from(volume.0), path, &call);
+        let answer = self.devices.call(&call);
         let status = answer.status;
         match self.state.base_returned(worker, call, answer) {
             Ok(()) => {
@@ -85,18 +84,6 @@ impl Interpreter {
             Some(Entry::Base(status, _)) => Some(*status),
             _ => None,
         }
-    }
-
-    // The volume and the path of an operation.
-    fn place_of(&self, operation: OpId) -> (VolumeId, Option<RelPath>) {
-        match self.state.file_of(operation) {
-            Some(file) => (file.volume, Some(file.path)),
-            None => (self.volume_of_listing(operation), None),
-        }
-    }
-
-    fn volume_of_listing(&self, operation: OpId) -> VolumeId {
-        self.state.volume_at(operation).unwrap_or(VolumeId(0))
     }
 
     // A create that succeeded gave a handle.

@@ -24,11 +24,11 @@ invariant_of-self c =
     let free = subst (λ (w : World). first_of (volume_refusals w c.args.volume (is_full old.flow)) ≡ None) (sym c.self.view_is)
     (subst (λ b. first_of (volume_refusals c.args.self.now c.args.volume b) ≡ None) c.is_full.ensures (sym c.volume_refusal.ensures ∙ c.in_default.is)) in
     let event = subst (λ (b : ℕ). AnswersOrMemory (first_of ((is_full old.flow, TooMany) ∷ [])) c.begin.result old.flow c.begin.new.self
-    (λ (o : OpId). (o.0 ≡ old.flow.next) × (c.begin.new.self ≡ begun c.args.volume None None b params.List old.flow))) c.births.ensures c.begin.ensures in
+    (λ (o : OpId). (o.0 ≡ old.flow.next) × (c.begin.new.self ≡ begun c.args.volume None None b None params.List old.flow))) c.births.ensures c.begin.ensures in
     record {
       sound = begin_sound old (begin.List c.args.volume) c.begin.result (record old { flow = c.begin.new.self })
           (lists old c.args.volume c.begin.result c.begin.new.self free event) c.self.invariant.sound;
-      tied = begin_tied c.self.inside.contexts c.args.volume None None params.List c.begin.result c.self.inside.flow c.begin.new.self old.stack.births event c.self.invariant.tied;
+      tied = begin_tied c.self.inside.contexts c.args.volume None None None params.List c.begin.result c.self.inside.flow c.begin.new.self old.stack.births event c.self.invariant.tied;
     }
 
 pub returns : goal.returns
@@ -37,6 +37,6 @@ returns c =
     let free = subst (λ (w : World). first_of (volume_refusals w c.args.volume (is_full old.flow)) ≡ None) (sym c.self.view_is)
     (subst (λ b. first_of (volume_refusals c.args.self.now c.args.volume b) ≡ None) c.is_full.ensures (sym c.volume_refusal.ensures ∙ c.in_default.is)) in
     let event = subst (λ (b : ℕ). AnswersOrMemory (first_of ((is_full old.flow, TooMany) ∷ [])) c.begin.result old.flow c.begin.new.self
-    (λ (o : OpId). (o.0 ≡ old.flow.next) × (c.begin.new.self ≡ begun c.args.volume None None b params.List old.flow))) c.births.ensures c.begin.ensures in
+    (λ (o : OpId). (o.0 ≡ old.flow.next) × (c.begin.new.self ≡ begun c.args.volume None None b None params.List old.flow))) c.births.ensures c.begin.ensures in
     subst (λ (w : World). Begins w (begin.List c.args.volume) c.begin.result (record old { flow = c.begin.new.self })) c.self.view_is
     (lists old c.args.volume c.begin.result c.begin.new.self free event)

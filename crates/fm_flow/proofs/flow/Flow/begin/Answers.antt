@@ -6,4 +6,4 @@ use Rattle.fm_flow.proofs.flow.Flow.begin.Goals as goal
 pub invariant_of-self-2 : goal.invariant_of-self-2
 invariant_of-self-2 c =
     let full = ap is_full c.self.view_is ∙ sym c.is_full.ensures ∙ c.if-is_full.false in
-    rw (c.in_ok-push.ensures.items, c.in_ok-record.ensures) (flow_begins c.args.volume c.args.stream c.args.handle c.args.born c.args.params _ c.requires c.self.invariant full)
+    rw (c.in_ok-push.ensures.items, c.in_ok-record.ensures) (flow_begins c.args.volume c.args.stream c.args.handle c.args.born c.args.path c.args.params _ c.requires.file c.requires.limits c.self.invariant full)

@@ -6,4 +6,4 @@ use Rattle.fm_flow.proofs.operation_record.OperationRecord.answer_known.Goals as
 pub invariant_of-self : goal.invariant_of-self
 invariant_of-self c =
     let stage = ap (λ (r : FlowRecord). r.stage) c.self.view_is ∙ c.requires in
-    (rw (c.push_reserved.ensures.items, c.bare_answer.ensures) (sound_known c.args.status _ stage c.self.invariant.0), (omega arith, omega arith))
+    (rw (c.push_reserved.ensures.items, c.bare_answer.ensures) (sound_known c.args.status _ stage c.self.invariant.0), (omega arith, (omega arith, tt)))

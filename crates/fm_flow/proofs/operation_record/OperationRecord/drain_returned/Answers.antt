@@ -6,4 +6,4 @@ use Rattle.fm_flow.proofs.operation_record.OperationRecord.drain_returned.Goals 
 pub invariant_of-self : goal.invariant_of-self
 invariant_of-self c =
     let stage = ap (λ (r : FlowRecord). r.stage) c.self.view_is ∙ c.requires in
-    (rw (c.settle_drain.ensures.items) (sound_drain_returned c.args.instance _ stage c.self.invariant.0), (omega arith, omega arith))
+    (rw (c.settle_drain.ensures.items) (sound_drain_returned c.args.instance _ stage c.self.invariant.0), (omega arith, (omega arith, tt)))

@@ -9,4 +9,4 @@ pub invariant_of-self : goal.invariant_of-self
 invariant_of-self c =
     let stage = ap (λ (r : FlowRecord). r.stage) c.self.view_is ∙ c.requires.stage in
     let next = head_of _ c.args.ask (ap (λ (r : FlowRecord). slice_get (owed r.entries) 0) c.self.view_is ∙ c.requires.next) in
-    (rw (c.push_reserved.ensures.items, c.take.ensures.after, c.lend_answer-answer.ensures.left) (sound_give_post c.args.worker c.args.ask _ _ c.in-Some.params stage next c.self.invariant.0), (omega arith, omega arith))
+    (rw (c.push_reserved.ensures.items, c.take.ensures.after, c.lend_answer-answer.ensures.left) (sound_give_post c.args.worker c.args.ask _ _ c.in-Some.params stage next c.self.invariant.0), (omega arith, (omega arith, tt)))

@@ -1,6 +1,8 @@
 use Rattle.std.proofs.Common.{ap, ◌∙◌, arith}
 use Rattle.fm_flow.specs.Record.{FlowRecord}
 use Rattle.fm_data.specs.Data.{data_fits}
+use Rattle.fm_flow.specs.Steps.{post_state}
+use Rattle.fm_flow.proofs.Paths.{path_up}
 use Rattle.fm_flow.proofs.Soundness.{sound_post_returned}
 use Rattle.fm_flow.proofs.operation_record.OperationRecord.take_post.Goals as goal
 
@@ -8,4 +10,4 @@ pub invariant_of-self : goal.invariant_of-self
 invariant_of-self c =
     let stage = ap (λ (r : FlowRecord). r.stage) c.self.view_is ∙ c.requires.stage in
     let fits = ap (λ (r : FlowRecord). data_fits r.operation r.path c.args.lent) c.self.view_is ∙ c.requires.fits in
-    (rw (c.settle_post.ensures.items, c.post_leads-self-inside.ensures, c.post_state-state.ensures, c.take_answer.ensures, c.into_parts-received.ensures.received, c.into_parts-received.ensures.answer) (sound_post_returned c.args.verdict c.args.lent _ stage fits c.self.invariant.0), (omega arith, omega arith))
+    (rw (c.settle_post.ensures.items, c.post_leads-self-inside.ensures, c.post_state-state.ensures, c.take_answer.ensures, c.into_parts-received.ensures.received, c.into_parts-received.ensures.answer) (sound_post_returned c.args.verdict c.args.lent _ stage fits c.self.invariant.0), (omega arith, (omega arith, rw (c.post_leads-self-inside.ensures, c.post_state-state.ensures) (path_up (post_state c.args.verdict) c.self.inside.path c.self.inside.lent_path))))

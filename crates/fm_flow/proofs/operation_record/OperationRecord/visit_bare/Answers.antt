@@ -12,4 +12,4 @@ invariant_of-self c =
     let visits = ap (λ (r : FlowRecord). length (visited r.entries)) c.self.view_is in
     let few : length (visited c.self.inside.entries.items) < 32 = omega (arith, visits, c.requires.few) in
     let place : c.len-place.result ≡ length c.self.inside.kept.items = search rules in
-    (rw (c.push_reserved.ensures.items, place, stage) (sound_bare c.args.worker c.args.instance _ stage fresh few c.self.invariant.0), (omega arith, omega arith))
+    (rw (c.push_reserved.ensures.items, place, stage) (sound_bare c.args.worker c.args.instance _ stage fresh few c.self.invariant.0), (omega arith, (omega arith, c.self.invariant.1.1.1)))

@@ -11,8 +11,6 @@ mod bodies;
 mod caller;
 mod cleanups;
 mod contexts;
-#[cfg(test)]
-mod file_tests;
 mod files;
 mod hands;
 mod instances;
@@ -21,13 +19,9 @@ mod operations;
 mod place;
 mod readers;
 mod returned;
-#[cfg(test)]
-mod run_tests;
 mod runs;
 mod state;
 mod target;
-#[cfg(test)]
-mod tests;
 mod workers;
 
 pub use crate::runs::run;

@@ -15,8 +15,6 @@ mod row;
 mod seat;
 mod seats;
 mod set_reply;
-#[cfg(test)]
-mod tests;
 
 pub use crate::contexts::Contexts;
 pub use crate::count::Count;

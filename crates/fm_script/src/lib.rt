@@ -11,14 +11,10 @@ mod interpreter;
 mod keyword;
 mod line;
 mod number;
-#[cfg(test)]
-mod operation_tests;
 mod output;
 mod reading;
 mod runner;
 mod script_end;
-#[cfg(test)]
-mod tests;
 mod words;
 
 pub use crate::command::{Callbacks, Command, Verdict};

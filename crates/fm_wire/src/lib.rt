@@ -15,5 +15,3 @@ pub use crate::decoder::Decoder;
 pub use crate::encoding::encode;
 pub use crate::frame::{Body, Control, Frame};
 
-#[cfg(test)]
-mod tests;

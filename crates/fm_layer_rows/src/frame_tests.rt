@@ -1,11 +1,11 @@
 //! Frames with their bytes, written by hand from the table.
 
-use super::*;
 use fm_altitude::Altitude;
 use fm_data::{Reply, Request};
 use fm_types::{
     Bytes, CreateMode, FilterId, HandleId, InstanceId, Name, OpId, RelPath, Status, VolumeId,
 };
+use fm_wire::{Body, Control, Decoder, Frame, encode};
 use std::alloc::Global;
 use std::process::Abort;
 use std::test::Fail;

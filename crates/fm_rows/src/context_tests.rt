@@ -1,7 +1,7 @@
 //! Contexts in the events of the manager: who owns them, when they go, and what callbacks may do with them.
 
-use crate::state::State;
 use fm_altitude::Altitude;
+use fm_core::State;
 use fm_ctx::{Count, SetMode};
 use fm_data::{Answer, CallbackData, Completion, PostVerdict, PreVerdict};
 use fm_flow::FlowAction;

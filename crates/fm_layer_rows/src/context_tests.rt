@@ -2,12 +2,7 @@
 
 ghost use Rattle.std.specs.Prelude.{◌<◌};
 
-use crate::contexts::Contexts;
-use crate::count::Count;
-use crate::due::Due;
-use crate::object::Object;
-use crate::owner::Owner;
-use crate::set_reply::{SetMode, SetReply};
+use fm_ctx::{Contexts, Count, Due, Object, Owner, SetMode, SetReply};
 use fm_types::{
     Bytes, ContextKind, CtxId, FilterId, HandleId, InstanceId, Status, StreamId, VolumeId, WorkerId,
 };

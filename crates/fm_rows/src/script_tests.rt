@@ -1,6 +1,6 @@
 //! Rows of input and output, and readers and writers that fail.
 
-use crate::{ScriptEnd, script};
+use fm_script::{ScriptEnd, script};
 use std::alloc::{AllocError, Global};
 use std::cell::Cell;
 use std::io;

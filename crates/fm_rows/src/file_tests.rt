@@ -1,7 +1,7 @@
 //! Operations on files: which of them call the base, and what its answers make of handles and streams.
 
-use crate::state::State;
 use fm_altitude::Altitude;
+use fm_core::State;
 use fm_ctx::{Count, SetMode};
 use fm_data::{Answer, BaseCall, CallbackData, Completion, Params, PostVerdict, PreVerdict};
 use fm_flow::FlowAction;

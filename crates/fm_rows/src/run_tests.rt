@@ -1,7 +1,7 @@
 //! The steps of a create that carries a context along, and of its handle's end, as one list.
 
-use crate::runs::run;
 use fm_altitude::Altitude;
+use fm_core::run;
 use fm_ctx::{Count, SetMode};
 use fm_data::{Answer, BaseCall, CallbackData, Completion, Params, PostVerdict, PreVerdict};
 use fm_flow::FlowAction;
@@ -54,25 +54,22 @@ fn opening(number: u64) -> Result<Step, Status> {
     })
 }
 
-fn creation(alloc: Global) -> Result<Params, Status> {
-    Ok(Params::Create {
-        path: SharedPath::new(alloc, RelPath::read(b"f")?)?,
-        mode: CreateMode::Always,
-    })
-}
-
 // What the create asks of the base.
 fn creation_call(alloc: Global) -> Result<BaseCall, Status> {
+    let path = SharedPath::new(alloc, RelPath::read(b"f")?)?;
+    let mode = CreateMode::Always;
     Ok(BaseCall {
         volume: VOLUME,
-        path: Some(SharedPath::new(alloc, RelPath::read(b"f")?)?),
-        params: creation(alloc)?,
+        path: Some(path.share()?),
+        params: Params::Create { path, mode },
     })
 }
 
 // The data that a callback of the create brings back.
 fn creation_data(alloc: Global) -> Result<CallbackData, Status> {
-    Ok(CallbackData::new(alloc, creation(alloc)?))
+    let path = SharedPath::new(alloc, RelPath::read(b"f")?)?;
+    let mode = CreateMode::Always;
+    Ok(CallbackData::new(alloc, Params::Create { path, mode }))
 }
 
 fn set() -> Step {

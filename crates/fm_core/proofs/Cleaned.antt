@@ -32,11 +32,11 @@ use Rattle.fm_ctx.proofs.Slots.{there_changed}
 use Rattle.fm_world.specs.declared.worker.Worker.{Worker}
 use Rattle.fm_world.specs.declared.worker.Worker.TheVariants as place
 use Rattle.fm_world.specs.World.{World}
-use Rattle.fm_world.specs.Workers.{worker_at, put, is_idle}
+use Rattle.fm_world.specs.Workers.{worker_at, put, is_idle, cleanup_in}
 use Rattle.fm_world.specs.Events.{Unless}
 use Rattle.fm_world.specs.ContextEvents.{TakesDue, after_due, Cleans, CleansAt, totalled_for, filter_of, Finishes, is_gone_at, finish_refused}
 use Rattle.fm_world.specs.Owners.{row_at}
-use Rattle.fm_core.specs.Callers.{cleanup_of, filter_at, refused_in}
+use Rattle.fm_core.specs.Callers.{filter_at, refused_in}
 use Rattle.fm_core.specs.Fields.{IsTied}
 use Rattle.fm_core.proofs.Called.{table_tied}
 
@@ -85,7 +85,7 @@ due_tied kept after f k e tied = table_tied kept after (after_take_due kept.tabl
 
 -- ---- cleaned
 
-pub cleanup_is : (m : Option Worker) (c : CtxId) → cleanup_of m ≡ Some c → m ≡ Some (place.Cleanup c)
+pub cleanup_is : (m : Option Worker) (c : CtxId) → cleanup_in m ≡ Some c → m ≡ Some (place.Cleanup c)
 cleanup_is (Some (place.Cleanup d)) c h = ap (λ x. Some (place.Cleanup x)) (same_Some d c h)
 cleanup_is (Some place.Idle) c h = absurd (none-some c h)
 cleanup_is (Some (place.Setup i)) c h = absurd (none-some c h)
@@ -95,11 +95,11 @@ cleanup_is (Some (place.Post o i)) c h = absurd (none-some c h)
 cleanup_is (Some (place.Drain o i)) c h = absurd (none-some c h)
 cleanup_is None c h = absurd (none-some c h)
 
-pub clean_refused : (w : World) (k : WorkerId) (number : ℕ) → cleanup_of (worker_at w.workers k) ≡ None → Cleans w k number (Err status.WrongStep) w
+pub clean_refused : (w : World) (k : WorkerId) (number : ℕ) → cleanup_in (worker_at w.workers k) ≡ None → Cleans w k number (Err status.WrongStep) w
 unfolding Cleans
 clean_refused w k number h = at_place (worker_at w.workers k) h
   where
-    at_place : (m : Option Worker) → cleanup_of m ≡ None → CleansAt w k number (Err status.WrongStep) w m
+    at_place : (m : Option Worker) → cleanup_in m ≡ None → CleansAt w k number (Err status.WrongStep) w m
     at_place (Some (place.Cleanup c)) h = absurd (none-some c (sym h))
     at_place (Some place.Idle) h = (refl, refl)
     at_place (Some (place.Setup i)) h = (refl, refl)

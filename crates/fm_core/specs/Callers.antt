@@ -2,7 +2,6 @@
 use Rattle.std.specs.Prelude.{Bool, true, false, Option, Some, None, option_map}
 use Rattle.fm_types.specs.declared.context_kind.ContextKind.{ContextKind}
 use Rattle.fm_types.specs.declared.context_kind.ContextKind.TheVariants as kind
-use Rattle.fm_types.specs.declared.ids.CtxId.{CtxId}
 use Rattle.fm_types.specs.declared.ids.FilterId.{FilterId}
 use Rattle.fm_types.specs.declared.status.Status.{Status}
 use Rattle.fm_types.specs.declared.status.Status.TheVariants as status
@@ -14,8 +13,6 @@ use Rattle.fm_ctx.specs.declared.object.Object.{Object}
 use Rattle.fm_ctx.specs.declared.object.Object.TheVariants as object
 use Rattle.fm_ctx.specs.declared.owner.Owner.{Owner}
 use Rattle.fm_ctx.specs.declared.owner.Owner.TheVariants as owner
-use Rattle.fm_world.specs.declared.worker.Worker.{Worker}
-use Rattle.fm_world.specs.declared.worker.Worker.TheVariants as place
 use Rattle.fm_world.specs.Owners.{has_kind, is_closing, filter_by}
 use Rattle.fm_world.specs.ContextEvents.{Callback}
 use Rattle.fm_core.specs.declared.caller.Caller.{Caller}
@@ -41,11 +38,6 @@ has_kind_at s (Some row) kind = has_kind s row kind
 abbrev pub is_closing_at : StackWorld → Option Instance → Bool
 is_closing_at s None = true
 is_closing_at s (Some row) = is_closing s row
-
--- the context whose cleanup it is
-abbrev pub cleanup_of : Option Worker → Option CtxId
-cleanup_of (Some (place.Cleanup c)) = Some c
-cleanup_of _ = None
 
 -- the filter of an owner, if it is there
 abbrev pub filter_at : StackWorld → Option Owner → Option FilterId

@@ -5,7 +5,8 @@ ghost use Rattle.fm_types.specs.Lists.{updated};
 ghost use Rattle.fm_ctx.specs.declared.due.Due.{Due as DueContext};
 ghost use Rattle.fm_world.specs.ContextEvents.{TakesDue, Cleans, Finishes, after_due, totalled_for};
 ghost use Rattle.fm_world.specs.Hands.{KeepsHands};
-ghost use Rattle.fm_core.specs.Callers.{cleanup_of, filter_at, refused_in};
+ghost use Rattle.fm_world.specs.Workers.{cleanup_in};
+ghost use Rattle.fm_core.specs.Callers.{filter_at, refused_in};
 
 use crate::state::State;
 use crate::workers::put;
@@ -16,11 +17,16 @@ use fm_world::Worker;
 
 /// The context whose cleanup callback it is.
 fn cleanup_of(place: Option<Worker>) -> Option<CtxId>
-    ensures { result ≡ cleanup_of place }
+    ensures { result ≡ cleanup_in place }
 {
-    match place {
-        Some(Worker::Cleanup(context)) => Some(context),
-        _ => None,
+    match place? {
+        Worker::Cleanup(context) => Some(context),
+        Worker::Idle
+        | Worker::Setup(_)
+        | Worker::Pre(_, _)
+        | Worker::Base(_)
+        | Worker::Post(_, _)
+        | Worker::Drain(_, _) => None,
     }
 }
 

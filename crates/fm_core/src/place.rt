@@ -10,9 +10,14 @@ use fm_world::Worker;
 pub(crate) fn setup_of(place: Option<Worker>) -> Option<InstanceId>
     ensures { result ≡ setup_of place }
 {
-    match place {
-        Some(Worker::Setup(instance)) => Some(instance),
-        _ => None,
+    match place? {
+        Worker::Setup(instance) => Some(instance),
+        Worker::Idle
+        | Worker::Pre(_, _)
+        | Worker::Base(_)
+        | Worker::Post(_, _)
+        | Worker::Drain(_, _)
+        | Worker::Cleanup(_) => None,
     }
 }
 
@@ -20,9 +25,14 @@ pub(crate) fn setup_of(place: Option<Worker>) -> Option<InstanceId>
 pub(crate) fn pre_of(place: Option<Worker>) -> Option<(OpId, InstanceId)>
     ensures { result ≡ pre_of place }
 {
-    match place {
-        Some(Worker::Pre(operation, instance)) => Some((operation, instance)),
-        _ => None,
+    match place? {
+        Worker::Pre(operation, instance) => Some((operation, instance)),
+        Worker::Idle
+        | Worker::Setup(_)
+        | Worker::Base(_)
+        | Worker::Post(_, _)
+        | Worker::Drain(_, _)
+        | Worker::Cleanup(_) => None,
     }
 }
 
@@ -30,9 +40,14 @@ pub(crate) fn pre_of(place: Option<Worker>) -> Option<(OpId, InstanceId)>
 pub(crate) fn base_of(place: Option<Worker>) -> Option<OpId>
     ensures { result ≡ base_of place }
 {
-    match place {
-        Some(Worker::Base(operation)) => Some(operation),
-        _ => None,
+    match place? {
+        Worker::Base(operation) => Some(operation),
+        Worker::Idle
+        | Worker::Setup(_)
+        | Worker::Pre(_, _)
+        | Worker::Post(_, _)
+        | Worker::Drain(_, _)
+        | Worker::Cleanup(_) => None,
     }
 }
 
@@ -40,9 +55,14 @@ pub(crate) fn base_of(place: Option<Worker>) -> Option<OpId>
 pub(crate) fn post_of(place: Option<Worker>) -> Option<(OpId, InstanceId)>
     ensures { result ≡ post_of place }
 {
-    match place {
-        Some(Worker::Post(operation, instance)) => Some((operation, instance)),
-        _ => None,
+    match place? {
+        Worker::Post(operation, instance) => Some((operation, instance)),
+        Worker::Idle
+        | Worker::Setup(_)
+        | Worker::Pre(_, _)
+        | Worker::Base(_)
+        | Worker::Drain(_, _)
+        | Worker::Cleanup(_) => None,
     }
 }
 
@@ -50,8 +70,13 @@ pub(crate) fn post_of(place: Option<Worker>) -> Option<(OpId, InstanceId)>
 pub(crate) fn drain_of(place: Option<Worker>) -> Option<(OpId, InstanceId)>
     ensures { result ≡ drain_of place }
 {
-    match place {
-        Some(Worker::Drain(operation, instance)) => Some((operation, instance)),
-        _ => None,
+    match place? {
+        Worker::Drain(operation, instance) => Some((operation, instance)),
+        Worker::Idle
+        | Worker::Setup(_)
+        | Worker::Pre(_, _)
+        | Worker::Base(_)
+        | Worker::Post(_, _)
+        | Worker::Cleanup(_) => None,
     }
 }

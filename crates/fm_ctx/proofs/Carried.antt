@@ -149,8 +149,8 @@ carried_allocated kept w c x new matched =
     after = kept_allocated kept w c x
 
     within : IsNew kept.table.slots c → c.slot ≤ length kept.carried
-    within (inl (past, first)) = omega (arith, past, matched)
-    within (inr (s, there, cleaned, next)) = omega (arith, slice_get_within kept.table.slots c.slot s there, matched)
+    within (inl (past, first, room)) = omega (arith, past, matched)
+    within (inr (s, there, free, next)) = omega (arith, slice_get_within kept.table.slots c.slot s there, matched)
 
     split : (d : CtxId) → is_id d c ≡ false → (b : Bool) → is_some (context_at kept.table.slots d) ≡ b → carried_of kept d ≡ carried_of after d
     split d other false is =

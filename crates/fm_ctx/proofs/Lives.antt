@@ -11,7 +11,7 @@ use Rattle.fm_ctx.specs.Laws.{IsLawful, has_link, is_waiting}
 use Rattle.fm_ctx.specs.Births.{IsNew, new_slot, placed, allocated}
 use Rattle.fm_ctx.specs.Cleanup.{emptied, taken_due, cleaned}
 use Rattle.fm_ctx.proofs.Bags.{by_id, is_id-refl, held_push, small_push, first_placed, places_taken, places_cleaned}
-use Rattle.fm_ctx.proofs.Slots.{new_absent, context_at-placed, context_at-placed_other, count_placed, length_placed, context_at-here, context_at-other, count_changed, there_changed}
+use Rattle.fm_ctx.proofs.Slots.{new_absent, context_at-placed, context_at-placed_other, count_placed, few_placed, context_at-here, context_at-other, count_changed, there_changed}
 use Rattle.fm_ctx.proofs.Counts.{links_kept}
 use Rattle.fm_ctx.proofs.Moves.{Moves, lawful_moved, within_hands, few_changed, once_changed, still}
 
@@ -39,8 +39,8 @@ count_allocated carried t w c x within new bare d =
     omega (arith, links_allocated t.slots c x new bare d, held_push t.hands w c within d)
 
 pub allocate_keeps : {carried : CtxId → ℕ} {t : ContextTable} (w : ℕ) (c : CtxId) (x : Context) → IsLawful carried t → w < 48 → IsNew t.slots c → x.link ≡ None
-    → length t.slots < 65536 → length (hand_of t.hands w) < 16 → IsLawful carried (allocated t w c x)
-allocate_keeps {carried} {t} w c x law worker new bare few room =
+    → length (hand_of t.hands w) < 16 → IsLawful carried (allocated t w c x)
+allocate_keeps {carried} {t} w c x law worker new bare room =
     let within = within_hands w law worker in
     let counts = count_allocated carried t w c x within new bare in
     let t' = allocated t w c x in
@@ -63,7 +63,7 @@ allocate_keeps {carried} {t} w c x law worker new bare few room =
       workers = length-set t.hands w (hand_of t.hands w ++ c ∷ []) ∙ law.workers;
       cleaners = law.cleaners;
       small = small_push t.hands w c law.small room;
-      few = omega (arith, length_placed t.slots c x, few);
+      few = few_placed t.slots c x new law.few;
     }
 
 -- ---- cleaning up

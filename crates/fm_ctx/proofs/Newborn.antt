@@ -1,6 +1,7 @@
 -- A new row stands for a new context.
-use Rattle.std.proofs.Common.{◌≡◌, ℕ, ◌+◌, ◌<◌, ◌≤◌, true, false, cond, eqb, List, [], ◌∷◌, ◌++◌, length, slice_get, slice_set, Some, None, option_and_then, refl, sym, ap, ◌∙◌, arith, inl, inr, eq-eqb, ne_eqb, length-append}
+use Rattle.std.proofs.Common.{◌≡◌, ℕ, ◌+◌, ◌<◌, ◌≤◌, ◌&&◌, ◌||◌, Bool, true, false, cond, not, nat_lt, nat_le, eqb, List, [], ◌∷◌, ◌++◌, length, slice_get, slice_set, Some, None, is_none, option_and_then, refl, sym, ap, ◌∙◌, arith, inl, inr, eq-eqb, ne_eqb, leb-false, length-append}
 use Rattle.std.proofs.lemmas.Bool.{cases_order, true≢false}
+use Rattle.std.proofs.lemmas.Bool.Decides.{nat_tests}
 use Rattle.std.proofs.lemmas.Option.{slice_get_past}
 use Rattle.std.proofs.lemmas.List.{length-map, map_push}
 use Rattle.std.proofs.lemmas.List.Sums.{count_by-le-length}
@@ -10,7 +11,7 @@ use Rattle.fm_ctx.specs.declared.row.Row.{Row}
 use Rattle.fm_ctx.specs.Bags.{one, is_id, hand_of}
 use Rattle.fm_ctx.specs.Table.{Slot}
 use Rattle.fm_ctx.specs.Kept.{ContextsKept, carried_of, carried_none}
-use Rattle.fm_ctx.specs.Births.{IsNew, placed, new_slot, allocated, kept_allocated}
+use Rattle.fm_ctx.specs.Births.{last_generation, has_free_slot, is_out_of_slots, IsNew, placed, new_slot, allocated, kept_allocated}
 use Rattle.fm_ctx.specs.Rows.{context_of, slot_of, slots_of, carried_in, row_in, row_at, stored, count_of_row, is_referenced, IsSound}
 use Rattle.fm_ctx.proofs.Bags.{by_id, is_id-refl}
 use Rattle.fm_ctx.proofs.Slots.{other_generation}
@@ -61,16 +62,41 @@ stored_pushed rows r c past first fresh =
     let same : stored (rows ++ r ∷ []) d ≡ stored rows d = ap count_of_row (row_pushed-other rows r c d past first other) in
     omega (arith, same, ap one other))
 
+-- no slot is used again
+none_free : (slots : List Slot) → has_free_slot slots ≡ false
+unfolding last_generation
+none_free [] = refl
+none_free (s ∷ slots) = ap (λ b. (is_none s.context && b) || has_free_slot slots) (never s.generation) ∙ by_context (is_none s.context) (none_free slots)
+  where
+    never : (n : ℕ) → nat_lt n 0 ≡ false
+    never n = grind (arith, nat_tests)
+
+    by_context : (b : Bool) → has_free_slot slots ≡ false → ((b && false) || has_free_slot slots) ≡ false
+    by_context true none = none
+    by_context false none = none
+
+pub out_of_slots : (slots : List Slot) → is_out_of_slots slots ≡ nat_le 65536 (length slots)
+unfolding is_out_of_slots
+out_of_slots slots = ap (λ b. nat_le 65536 (length slots) && not b) (none_free slots) ∙ by_length (nat_le 65536 (length slots))
+  where
+    by_length : (b : Bool) → (b && true) ≡ b
+    by_length true = refl
+    by_length false = refl
+
+-- a new slot, where none is free and there is room
+pub is_new : (slots : List Slot) (c : CtxId) → c.slot ≡ length slots → c.generation ≡ 0 → is_out_of_slots slots ≡ false → IsNew slots c
+is_new slots c past first free = inl (past, first, leb-false 65536 (length slots) (sym (out_of_slots slots) ∙ free))
+
 pub sound_allocated : {rows : List Row} {kept : ContextsKept} {capacity : ℕ} (room : ℕ) (w : ℕ) (r : Row) (c : CtxId) → IsSound rows kept capacity → kept.table.slots ≡ slots_of rows
-    → length kept.carried ≡ length kept.table.slots → w < 48 → c.slot ≡ length rows → c.generation ≡ 0 → IsFresh r → length rows < 65536 → length (hand_of kept.table.hands w) < 16
+    → length kept.carried ≡ length kept.table.slots → w < 48 → c.slot ≡ length rows → c.generation ≡ 0 → IsFresh r → is_out_of_slots kept.table.slots ≡ false → length (hand_of kept.table.hands w) < 16
     → length kept.table.due + (length rows + 1) ≤ room → IsSound (rows ++ r ∷ []) (kept_allocated kept w c (context_of r)) room
-sound_allocated {rows} {kept} room w r c s slots matched worker past first fresh few hand_room due_room =
+sound_allocated {rows} {kept} room w r c s slots matched worker past first fresh free hand_room due_room =
     let as_long : length kept.table.slots ≡ length rows = ap length slots ∙ length-map rows slot_of in
-    let new : IsNew kept.table.slots c = inl (past ∙ sym as_long, first) in
+    let new = is_new kept.table.slots c (past ∙ sym as_long) first free in
     let same = carried_allocated kept w c (context_of r) new matched in
     let t' = allocated kept.table w c (context_of r) in
     record {
-      lawful = lawful_alike same (allocate_keeps w c (context_of r) s.lawful worker new fresh.link (omega (arith, as_long, few)) hand_room);
+      lawful = lawful_alike same (allocate_keeps w c (context_of r) s.lawful worker new fresh.link hand_room);
       counted = λ d.
           omega (
             arith,

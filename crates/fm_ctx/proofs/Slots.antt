@@ -1,6 +1,6 @@
 -- The context that an id names, after changes of slots.
-use Rattle.std.proofs.Common.{◌≡◌, ℕ, ◌+◌, ◌<◌, ◌≤◌, Bool, true, false, cond, eqb, List, [], ◌∷◌, ◌++◌, length, set, slice_get, count_by, Option, Some, None, is_some, option_map, option_and_then, refl, sym, ap, subst, ◌∙◌, arith, inl, inr, eq-eqb, eqb-true, length-append, length-set}
-use Rattle.std.proofs.lemmas.Bool.{cases_Bool, cases_eq, cases_order, cases_lt, and_from, ne_eqb, eqb-false, true≢false}
+use Rattle.std.proofs.Common.{◌≡◌, ℕ, ◌+◌, ◌<◌, ◌≤◌, Bool, true, false, cond, eqb, List, [], ◌∷◌, ◌++◌, length, set, slice_get, count_by, Option, Some, None, is_some, is_none, option_map, option_and_then, nat_lt, refl, sym, ap, subst, ◌∙◌, arith, inl, inr, eq-eqb, eqb-true, length-append, length-set}
+use Rattle.std.proofs.lemmas.Bool.{cases_Bool, cases_eq, cases_order, cases_lt, and_from, and_parts, ne_eqb, eqb-false, true≢false}
 use Rattle.std.proofs.lemmas.Option.{slice_get_within, slice_get_past}
 use Rattle.std.proofs.lemmas.List.{set_past}
 use Rattle.std.proofs.lemmas.List.Sums.{sum_by-set}
@@ -8,7 +8,7 @@ use Rattle.fm_types.specs.declared.ids.CtxId.{CtxId}
 use Rattle.fm_types.proofs.Lists.{updated_none, updated-same, updated-other, slice_get-append_left, slice_get-push, slice_get-set_same, slice_get-set_other, count_by-push, count_by-updated}
 use Rattle.fm_ctx.specs.Bags.{one, is_id}
 use Rattle.fm_ctx.specs.Table.{Context, Slot, context_in, context_at, link_count, changed_slot, change_context}
-use Rattle.fm_ctx.specs.Births.{IsNew, new_slot, placed}
+use Rattle.fm_ctx.specs.Births.{IsNew, is_free, last_generation, new_slot, placed}
 use Rattle.fm_ctx.proofs.Bags.{by_id, is_id-refl}
 
 pub none_from : {X : Type 0} (o : Option X) → is_some o ≡ false → o ≡ None
@@ -95,19 +95,27 @@ pub cond_same : {X : Type 0} (b : Bool) (x : X) → cond b x x ≡ x
 cond_same true x = refl
 cond_same false x = refl
 
+-- a free slot has no context
+free_cleaned : (s : Slot) → is_free s ≡ true → s.context ≡ None
+free_cleaned s free = by_context s.context (and_parts (is_none s.context) (nat_lt s.generation last_generation) free).0
+  where
+    by_context : (o : Option Context) → is_none o ≡ true → o ≡ None
+    by_context None none = refl
+    by_context (Some x) none = absurd (true≢false (sym none))
+
 -- an id that is new names nothing
 pub new_absent : (slots : List Slot) (c : CtxId) → IsNew slots c → context_at slots c ≡ None
 unfolding context_at
-new_absent slots c (inl (past, first)) =
+new_absent slots c (inl (past, first, room)) =
     let none : slice_get slots c.slot ≡ None = slice_get_past slots c.slot (omega (arith, past)) in
     rw none refl
-new_absent slots c (inr (s, there, cleaned, next)) =
-    rw (there, cleaned) (cond_same (eqb c.generation s.generation) None)
+new_absent slots c (inr (s, there, free, next)) =
+    rw (there, free_cleaned s free) (cond_same (eqb c.generation s.generation) None)
 
 placed_here : (slots : List Slot) (c : CtxId) (x : Context) → IsNew slots c → slice_get (placed slots c x) c.slot ≡ Some (new_slot c x)
-placed_here slots c x (inl (past, first)) =
+placed_here slots c x (inl (past, first, room)) =
     rw (eq-eqb c.slot (length slots) past) (subst (λ n. slice_get (slots ++ new_slot c x ∷ []) n ≡ Some (new_slot c x)) (sym past) (slice_get-push slots (new_slot c x)))
-placed_here slots c x (inr (s, there, cleaned, next)) =
+placed_here slots c x (inr (s, there, free, next)) =
     let within : c.slot < length slots = slice_get_within slots c.slot s there in
     rw (ne_eqb c.slot (length slots) (λ e. omega (arith, e, within))) (slice_get-set_same slots c.slot (new_slot c x) within)
 
@@ -117,7 +125,7 @@ unfolding context_at
 context_at-placed slots c x new = rw (placed_here slots c x new, eq-eqb c.generation c.generation refl) refl
 
 placed_apart : (slots : List Slot) (c : CtxId) (x : Context) (k : ℕ) → IsNew slots c → (k ≡ c.slot → ⊥) → slice_get (placed slots c x) k ≡ slice_get slots k
-placed_apart slots c x k (inl (past, first)) apart =
+placed_apart slots c x k (inl (past, first, room)) apart =
     let pushed : placed slots c x ≡ slots ++ new_slot c x ∷ [] = rw (eq-eqb c.slot (length slots) past) refl in
     elim (cases_order k (length slots)) [
       | inl is ↦ absurd (apart (is ∙ sym past))
@@ -127,17 +135,17 @@ placed_apart slots c x k (inl (past, first)) apart =
           ∙ slice_get_past (slots ++ new_slot c x ∷ []) k (omega (arith, above, length-append slots (new_slot c x ∷ [])))
           ∙ sym (slice_get_past slots k (omega (arith, above)))
     ]
-placed_apart slots c x k (inr (s, there, cleaned, next)) apart =
+placed_apart slots c x k (inr (s, there, free, next)) apart =
     let within : c.slot < length slots = slice_get_within slots c.slot s there in
     let written : placed slots c x ≡ set slots c.slot (new_slot c x) = rw (ne_eqb c.slot (length slots) (λ e. omega (arith, e, within))) refl in
     ap (λ (ss : List Slot). slice_get ss k) written ∙ slice_get-set_other slots c.slot k (new_slot c x) apart
 
 -- the slot of a new context had none before
 absent_before : (slots : List Slot) (c d : CtxId) → IsNew slots c → option_and_then (context_in d) (slice_get slots c.slot) ≡ None
-absent_before slots c d (inl (past, first)) =
+absent_before slots c d (inl (past, first, room)) =
     let none : slice_get slots c.slot ≡ None = slice_get_past slots c.slot (omega (arith, past)) in
     rw none refl
-absent_before slots c d (inr (s, there, cleaned, next)) = rw (there, cleaned) (cond_same (eqb d.generation s.generation) None)
+absent_before slots c d (inr (s, there, free, next)) = rw (there, free_cleaned s free) (cond_same (eqb d.generation s.generation) None)
 
 -- all others stay
 pub context_at-placed_other : (slots : List Slot) (c : CtxId) (x : Context) (d : CtxId) → IsNew slots c → is_id d c ≡ false
@@ -207,6 +215,14 @@ length_placed slots c x = split (eqb c.slot (length slots))
     split : (b : Bool) → length (cond b (slots ++ new_slot c x ∷ []) (set slots c.slot (new_slot c x))) ≤ length slots + 1
     split true = omega (arith, length-append slots (new_slot c x ∷ []))
     split false = omega (arith, length-set slots c.slot (new_slot c x))
+
+-- a new slot, or one that was there
+pub few_placed : (slots : List Slot) (c : CtxId) (x : Context) → IsNew slots c → length slots ≤ 65536 → length (placed slots c x) ≤ 65536
+few_placed slots c x (inl (past, first, room)) few = omega (arith, length_placed slots c x, room)
+few_placed slots c x (inr (s, there, free, next)) few =
+    let within : c.slot < length slots = slice_get_within slots c.slot s there in
+    let written : placed slots c x ≡ set slots c.slot (new_slot c x) = rw (ne_eqb c.slot (length slots) (λ e. omega (arith, e, within))) refl in
+    omega (arith, ap length written, length-set slots c.slot (new_slot c x), few)
 
 -- no id of the slot of a new context named one before
 pub new_slot_absent : (slots : List Slot) (c d : CtxId) → IsNew slots c → d.slot ≡ c.slot → context_at slots d ≡ None

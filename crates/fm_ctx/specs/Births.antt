@@ -1,5 +1,6 @@
 -- New contexts: which slot one gets, and when there is no room.
-use Rattle.std.specs.Prelude.{◌≡◌, ◌⊎◌, ℕ, ◌+◌, ◌==◌, ◌||◌, cond, nat_lt, nat_le, List, [], ◌∷◌, ◌++◌, length, slice_get, slice_set, Option, Some, None}
+use Rattle.std.specs.Prelude.{◌≡◌, ◌⊎◌, ℕ, ◌+◌, ◌<◌, ◌==◌, ◌&&◌, ◌||◌, Bool, true, not, cond, nat_lt, nat_le, List, [], ◌∷◌, ◌++◌, length, slice_get, slice_set, Option, Some, None, is_none}
+use Rattle.std.specs.List.{list_any}
 use Rattle.fm_types.specs.declared.ids.CtxId.{CtxId}
 use Rattle.fm_types.specs.declared.ids.VolumeId.{VolumeId}
 use Rattle.fm_types.specs.declared.context_kind.ContextKind.{ContextKind}
@@ -11,11 +12,26 @@ use Rattle.fm_ctx.specs.Bags.{hand_of, is_hand_full}
 use Rattle.fm_ctx.specs.Table.{Context, Slot, ContextTable}
 use Rattle.fm_ctx.specs.Kept.{ContextsKept, carried_none}
 
--- an id that was never given: of a new slot, or the next generation of a slot whose context is cleaned
+-- the last generation that a slot is given: with 0 each slot is used once
+unfoldable pub last_generation : ℕ
+last_generation = 0
+
+-- a slot that may be used again: its context is cleaned, and a next generation is left to it
+abbrev pub is_free : Slot → Bool
+is_free s = is_none s.context && nat_lt s.generation last_generation
+
+abbrev pub has_free_slot : List Slot → Bool
+has_free_slot slots = list_any is_free slots
+
+-- 65,536 slots, and none of them free
+unfoldable pub is_out_of_slots : List Slot → Bool
+is_out_of_slots slots = nat_le 65536 (length slots) && not (has_free_slot slots)
+
+-- an id that was never given: of a new slot, where there are fewer than 65,536, or the next generation of a free one
 abbrev pub IsNew : List Slot → CtxId → Type 0
 IsNew slots c =
-    ((c.slot ≡ length slots) × (c.generation ≡ 0))
-    ⊎ ((s : Slot) × (slice_get slots c.slot ≡ Some s) × (s.context ≡ None) × (c.generation ≡ s.generation + 1))
+    ((c.slot ≡ length slots) × (c.generation ≡ 0) × (length slots < 65536))
+    ⊎ ((s : Slot) × (slice_get slots c.slot ≡ Some s) × (is_free s ≡ true) × (c.generation ≡ s.generation + 1))
 
 abbrev pub new_slot : CtxId → Context → Slot
 new_slot c x = record { generation = c.generation; context = Some x }
@@ -38,7 +54,7 @@ allocated t w c x =
 abbrev pub kept_allocated : ContextsKept → ℕ → CtxId → Context → ContextsKept
 kept_allocated kept w c x = record { table = allocated kept.table w c x; carried = carried_none kept.carried c }
 
--- a body of 4,096 bytes at most, and 65,536 contexts
+-- a body of 4,096 bytes at most, and a slot for the context
 abbrev pub allocate_refusal : ContextTable → ℕ → List ℕ → Option Status
 allocate_refusal t w body =
-    first_of ((nat_lt 4096 (length body) || nat_le 65536 (length t.slots), status.TooMany) ∷ (is_hand_full t.hands w, status.HandFull) ∷ [])
+    first_of ((nat_lt 4096 (length body) || is_out_of_slots t.slots, status.TooMany) ∷ (is_hand_full t.hands w, status.HandFull) ∷ [])

@@ -39,9 +39,6 @@ const WORKERS: usize = 48;
 /// How many bytes the body of a context has at most.
 const MAX_BODY: usize = 4096;
 
-/// How many contexts may be allocated in one run.
-const MAX_CONTEXTS: usize = 65536;
-
 /// The contexts by their ids, what each worker holds, and which contexts wait to be cleaned up.
 /// Contracts see a table of slots by number, and for each slot how many references completions carry.
 #[derive(Drop)]
@@ -117,8 +114,8 @@ impl Contexts {
 impl Contexts {
     /// Allocates a context (`FltAllocateContext`): it isn't linked, and its one reference is in the
     /// worker's hand. Makes the room that its cleanup will need. Refused, with nothing changed, in this
-    /// order: `TooMany` (29) where the body has more than 4,096 bytes or 65,536 contexts were
-    /// allocated, `HandFull` (26), `NoMemory` (1).
+    /// order: `TooMany` (29) where the body has more than 4,096 bytes, or where there are 65,536 slots
+    /// and none is free (so far each is used once), `HandFull` (26), `NoMemory` (1).
     pub fn allocate(
         &mut self,
         worker: WorkerId,
@@ -130,7 +127,7 @@ impl Contexts {
         requires { worker.0 < 48 }
         ensures { AnswersOrMemory (allocate_refusal self.old.table worker.0 body) result self.old self.new (λ (id : CtxId). IsNew self.old.table.slots id × (self.new ≡ kept_allocated self.old worker.0 id (new_context kind owner volume body))) }
     {
-        if body.len() > MAX_BODY || self.rows.len() >= MAX_CONTEXTS {
+        if body.len() > MAX_BODY || self.is_out_of_slots() {
             return Err(Status::TooMany);
         }
         if self.is_hand_full(worker) {

@@ -4,6 +4,7 @@ pub mod Answered
 pub mod Steps
 pub mod Sound
 pub mod Counts
+pub mod Flights
 pub mod Table
 pub mod Creates
 pub mod Verdict

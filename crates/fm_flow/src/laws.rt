@@ -1,8 +1,14 @@
 //! The laws of operations, as functions that promise them and do nothing.
 
+ghost use Rattle.fm_flow.specs.Flights.{InFlightOnce};
 ghost use Rattle.fm_flow.specs.Seen.{ParametersSeen};
 
 /// A preoperation's change of parameters goes down; its own postoperation, and those above, see what their preoperations received.
 pub fn parameters_seen()
     ensures { ParametersSeen }
+{}
+
+/// An operation counts at most once at an instance, however many entries of it name the instance: the number in flight there is a number of operations.
+pub fn in_flight_once()
+    ensures { InFlightOnce }
 {}

@@ -1,5 +1,5 @@
 -- Allocating, setting, getting and deleting contexts keep a World sound.
-use Rattle.std.proofs.Common.{◌≡◌, ℕ, ◌<◌, ◌&&◌, ◌||◌, slice_get, Bool, true, false, cond, List, [], ◌∷◌, ◌++◌, length, nat_le, nat_lt, Option, Some, None, Result, Ok, Err, is_some, is_none, option_map, not, refl, ap, sym, ◌∙◌, subst}
+use Rattle.std.proofs.Common.{◌≡◌, ℕ, ◌<◌, ◌&&◌, ◌||◌, slice_get, Bool, true, false, cond, List, [], ◌∷◌, ◌++◌, length, nat_lt, Option, Some, None, Result, Ok, Err, is_some, is_none, option_map, not, refl, ap, sym, ◌∙◌, subst}
 use Rattle.std.specs.Option.{option_and_then}
 use Rattle.std.proofs.lemmas.Bool.{false≢true, and_parts, and_from, leb-false, eq-eqb, lt-ltb}
 use Rattle.std.proofs.lemmas.Option.{none-some, same_Some}
@@ -21,7 +21,7 @@ use Rattle.fm_ctx.specs.declared.owner.Owner.TheVariants as owner
 use Rattle.fm_ctx.specs.declared.set_reply.SetMode.{SetMode}
 use Rattle.fm_ctx.specs.declared.set_reply.SetMode.TheVariants.{Keep, Replace}
 use Rattle.fm_ctx.specs.Bags.{holds, hand_of, is_hand_full}
-use Rattle.fm_ctx.specs.Births.{allocated, allocate_refusal}
+use Rattle.fm_ctx.specs.Births.{allocated, allocate_refusal, is_out_of_slots}
 use Rattle.fm_ctx.specs.Laws.{IsLawful}
 use Rattle.fm_ctx.specs.Links.{holder, set_after, set_mode_after, kept_after, unlinked_for, linked, with_link, get_refusal, delete_after, delete_refusal, IsUnlinkedOf}
 use Rattle.fm_ctx.specs.Objects.{same_owner, is_to}
@@ -65,7 +65,7 @@ allocate_sound old k what body (Ok c) new h s =
     in_callback old k (Ok c) new _ (callback_of old k) refl h (λ at i event.
     let full = is_hand_full old.contexts.hands k.0 in
     let big = nat_lt 4096 (length body) in
-    let many = nat_le 65536 (length old.contexts.slots) in
+    let many = is_out_of_slots old.contexts.slots in
     let listed = none_of (not (has_kind old.stack at.row what)) status.NotRegistered (allocate_refusal old.contexts k.0 body) event.0 in
     let few = none_of (big || many) status.TooMany (first_of ((full, status.HandFull) ∷ [])) listed.1 in
     let room = none_of full status.HandFull None few.1 in
@@ -82,7 +82,7 @@ allocate_sound old k what body (Ok c) new h s =
     subst IsSound (sym event.1.1)
     (sound_with old t
     (contexts_owned old t k (hand_of old.contexts.hands k.0 ++ c ∷ [])
-    (allocate_keeps k.0 c x s.owned.lawful i.worker fresh refl (leb-false 65536 (length old.contexts.slots) (or_right big many few.0))
+    (allocate_keeps k.0 c x s.owned.lawful i.worker fresh refl
     (leb-false 16 (length (hand_of old.contexts.hands k.0)) room.0))
     refl owners refl i.worker (one_more old t k at c i s.owned owners own)
     (passes_placed (fits old.stack) old.contexts.slots c x fit s.owned.fits) s.owned)

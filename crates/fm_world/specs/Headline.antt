@@ -55,10 +55,16 @@ pub data Spot : Type 0 where
 -- whether a worker is there, inside operation o
 abbrev pub is_in_at : OpId → Spot → Worker → Bool
 is_in_at o (AtPre i) (place.Pre p j) = (p.0 == o.0) && (j.0 == i)
+is_in_at o _ (place.Pre p j) = false
 is_in_at o AtBase (place.Base p) = p.0 == o.0
+is_in_at o _ (place.Base p) = false
 is_in_at o (AtPost i) (place.Post p j) = (p.0 == o.0) && (j.0 == i)
+is_in_at o _ (place.Post p j) = false
 is_in_at o (AtDrain i) (place.Drain p j) = (p.0 == o.0) && (j.0 == i)
-is_in_at o _ _ = false
+is_in_at o _ (place.Drain p j) = false
+is_in_at o _ place.Idle = false
+is_in_at o _ (place.Setup i) = false
+is_in_at o _ (place.Cleanup c) = false
 
 -- where an operation has a worker, by its stage and its last entry; nowhere, where it is with none
 abbrev pub spot_at : Stage → List Entry → Option Spot

@@ -29,15 +29,14 @@ use Rattle.fm_world.specs.declared.worker.Worker.{Worker}
 use Rattle.fm_world.specs.declared.worker.Worker.TheVariants as place
 
 -- the instance whose callback a worker is in: for an operation, or for its setup
-abbrev pub called_for : Worker → Option InstanceId
-called_for (place.Pre o i) = Some i
-called_for (place.Post o i) = Some i
-called_for (place.Drain o i) = Some i
-called_for _ = None
-
 abbrev pub instance_in : Worker → Option InstanceId
 instance_in (place.Setup i) = Some i
-instance_in a = called_for a
+instance_in (place.Pre o i) = Some i
+instance_in (place.Post o i) = Some i
+instance_in (place.Drain o i) = Some i
+instance_in place.Idle = None
+instance_in (place.Base o) = None
+instance_in (place.Cleanup c) = None
 
 abbrev pub place_in : Option Worker → Option InstanceId
 place_in m = option_and_then instance_in m
@@ -53,7 +52,10 @@ abbrev pub operation_in : Worker → Option OpId
 operation_in (place.Pre o i) = Some o
 operation_in (place.Post o i) = Some o
 operation_in (place.Drain o i) = Some o
-operation_in _ = None
+operation_in place.Idle = None
+operation_in (place.Setup i) = None
+operation_in (place.Base o) = None
+operation_in (place.Cleanup c) = None
 
 abbrev pub file_at : FlowTable → Option OpId → Option FileObject
 file_at t None = None

@@ -48,7 +48,12 @@ IsAmong s r = IsAmongAt s r.volume r.born r.operation r.entries r.stage
 -- whether a worker is in the setup callback of that instance
 abbrev pub is_in_setup : ℕ → Worker → Bool
 is_in_setup i (place.Setup j) = j.0 == i
-is_in_setup i _ = false
+is_in_setup i place.Idle = false
+is_in_setup i (place.Pre o j) = false
+is_in_setup i (place.Base o) = false
+is_in_setup i (place.Post o j) = false
+is_in_setup i (place.Drain o j) = false
+is_in_setup i (place.Cleanup c) = false
 
 abbrev pub setup_row : Option Instance → ℕ
 setup_row None = 0

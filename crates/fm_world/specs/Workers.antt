@@ -25,7 +25,13 @@ is_idle _ = false
 -- which context a worker cleans up
 abbrev pub cleanup_in : Option Worker → Option CtxId
 cleanup_in (Some (place.Cleanup c)) = Some c
-cleanup_in _ = None
+cleanup_in (Some place.Idle) = None
+cleanup_in (Some (place.Setup i)) = None
+cleanup_in (Some (place.Pre o i)) = None
+cleanup_in (Some (place.Base o)) = None
+cleanup_in (Some (place.Post o i)) = None
+cleanup_in (Some (place.Drain o i)) = None
+cleanup_in None = None
 
 -- the workers after an attach: where it succeeds, this one is in the new instance's setup callback
 abbrev pub after_attach : List Worker → WorkerId → Result InstanceId Status → List Worker

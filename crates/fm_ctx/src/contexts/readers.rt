@@ -2,6 +2,7 @@
 
 ghost use Rattle.std.specs.Prelude.{cond, ◌≡◌, ◌<◌, true, is_some, length};
 ghost use Rattle.fm_ctx.specs.Bags.{holds, hand_of, is_hand_full, cleaning_of};
+ghost use Rattle.fm_ctx.specs.Births.{is_out_of_slots};
 ghost use Rattle.fm_ctx.specs.Table.{context_at, link_at, owner_at, kind_at};
 ghost use Rattle.fm_ctx.specs.Kept.{carried_of};
 ghost use Rattle.fm_ctx.specs.declared.count.Count.TheVariants as Count;
@@ -13,6 +14,9 @@ use crate::object::Object;
 use crate::owner::Owner;
 use crate::{hand, row};
 use fm_types::{ContextKind, CtxId, WorkerId};
+
+/// How many slots there are at most.
+const MAX_SLOTS: usize = 65536;
 
 impl Contexts {
     /// Whether the worker holds a reference to that context; what is held isn't cleaned.
@@ -37,6 +41,13 @@ impl Contexts {
         ensures { result ≡ is_hand_full self.now.table.hands worker.0 }
     {
         self.hands[worker.0 as usize].is_full()
+    }
+
+    // Whether a new context finds no slot: as none is used again, whether all are used.
+    pub(super) fn is_out_of_slots(&self) -> bool
+        ensures { result ≡ is_out_of_slots self.now.table.slots }
+    {
+        self.rows.len() >= MAX_SLOTS
     }
 
     /// What the context is set on, if it is and isn't cleaned.

@@ -14,6 +14,8 @@ pub mod Linking
 pub mod Cleanups
 pub mod Owning
 pub mod Filing
+pub mod Streams
+pub mod Filed
 pub mod Losing
 pub mod Flowing
 pub mod Handing

@@ -1,4 +1,5 @@
 pub mod Files
+pub mod FileLaws
 pub mod World
 pub mod Links
 pub mod Requests

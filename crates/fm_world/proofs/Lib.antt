@@ -6,6 +6,7 @@ pub mod Amongs
 pub mod Keeps
 pub mod Operations
 pub mod Runs
+pub mod Lasting
 pub mod Belonging
 pub mod Fitting
 pub mod Callbacks

@@ -10,5 +10,6 @@ pub mod ContextEvents
 pub mod Steps
 pub mod Descent
 pub mod Headline
+pub mod Lasting
 pub mod Sound
 pub mod Hands

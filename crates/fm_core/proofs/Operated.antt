@@ -173,7 +173,7 @@ next_room old k o lies drains result small s reply = by_result result lies reply
     by_result : (result : Result FlowAction Status) (lies : Below) → result ≡ told (λ r. (next_of k lies drains r).reply) (Err status.WrongStep) o old.flow
         → HasRoom old.files (option_map target_in (operation_at o old.flow)) (answer_known result lies)
     by_result (Ok action.Moved) (below.Known why) reply =
-        room_at old o why (operation_at o old.flow) refl small s.filed
+        room_at old o why (operation_at o old.flow) refl small s.filed.room
         (λ r at. (was_known k why drains r (reply ∙ told_there (λ (x : FlowRecord). (next_of k (below.Known why) drains x).reply) (Err status.WrongStep) o old.flow r at)).unanswered)
     by_result (Ok action.Moved) (below.Instance i b) reply = no_answer (option_map target_in (operation_at o old.flow))
     by_result (Ok action.Moved) below.Call reply = no_answer (option_map target_in (operation_at o old.flow))
@@ -636,7 +636,7 @@ pub base_room : (old : World) (k : WorkerId) (o : OpId) (why : Status) (b : Bool
     → HasRoom old.files (option_map target_in (operation_at o old.flow)) (cond b (Some why) None)
 base_room old k o why true at small s =
     let there = in_base old k o s at in
-    room_at old o why (operation_at o old.flow) refl small s.filed
+    room_at old o why (operation_at o old.flow) refl small s.filed.room
     (λ r e. ap is_unanswered (ap (λ (x : FlowRecord). x.stage) (same_Some r there.0 (sym e ∙ there.1)) ∙ there.2))
 base_room old k o why false at small s = no_answer (option_map target_in (operation_at o old.flow))
   where

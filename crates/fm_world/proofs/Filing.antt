@@ -180,7 +180,7 @@ unwound_none : (place : ℕ) (r : FlowRecord) (m : Option Params) → is_unanswe
 unwound_none place r (Some p) h = h
 unwound_none place r None h = h
 
-ascend_none : (k : WorkerId) (drains : Bool) (r : FlowRecord) (m : Option Ask) → is_unanswered r.stage ≡ false → is_unanswered (ascend k drains r m).after.stage ≡ false
+pub ascend_none : (k : WorkerId) (drains : Bool) (r : FlowRecord) (m : Option Ask) → is_unanswered r.stage ≡ false → is_unanswered (ascend k drains r m).after.stage ≡ false
 ascend_none k drains r None h = h
 ascend_none k true r (Some ask) h = refl
 ascend_none k false r (Some ask) h = taken (may_take k ask)

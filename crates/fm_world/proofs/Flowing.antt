@@ -71,7 +71,7 @@ use Rattle.fm_world.specs.Workers.{worker_at, put, is_idle, after_next, cleanup_
 use Rattle.fm_world.specs.Owners.{row_at, place_in, HoldsIn, CarriesIn, AskCarries, fits, is_flown, is_flown_by}
 use Rattle.fm_world.specs.Events.{Begins, Nexts, NextsOver, FindsBelow, LiesBelow, PreReturns, PreReturnsAt, BaseReturns, BaseReturnsAt, PostReturns, PostReturnsAt, ReturnsFrom, Collects, brought, received, returned, drains_at, state_at, state_given, held_context, of_hand, sent, sent_in, carries_after, has_post, begin_refused, begun_on, begun_at, after_begin, moved_on, has_no_handle_left, filed_next, filed_pre, filed_base, filed_record, is_created_on, base_step, base_returned, NextsAt, PreReturnsOver, asked_refused, asked_begun, refused_at}
 use Rattle.fm_world.specs.Headline.{AtPre, AtBase, AtPost, AtDrain}
-use Rattle.fm_world.specs.Sound.{IsSound, IsUnderWay, IsOwned, IsAmong, IsFiled}
+use Rattle.fm_world.specs.Sound.{IsSound, IsUnderWay, IsOwned, IsAmong, IsFileSound}
 use Rattle.fm_world.proofs.Belonging.{owners_same, filters_same, belongs_still, AllHold, AllCarry, all_hold, others_stay, held_has}
 use Rattle.fm_world.proofs.Callbacks.{same_hands}
 use Rattle.fm_world.specs.Links.{names_there, LosesLinks}
@@ -91,7 +91,8 @@ use Rattle.fm_world.specs.Requests.{params_of}
 use Rattle.fm_data.specs.Params.{operation_of, is_within_limits}
 use Rattle.fm_flow.specs.Answered.{base_counted}
 use Rattle.fm_flow.specs.Creates.{creates, is_unanswered, is_create}
-use Rattle.fm_world.proofs.Filing.{shrinks_same, moved_shrinks, pre_shrinks, filed_step, filed_answered, answered_none, not_more_none, not_more_same, next_not_more, was_known, filed_begins, filed_creates, filed_collects, asks_no_create}
+use Rattle.fm_world.proofs.Filing.{was_known, filed_creates, asks_no_create}
+use Rattle.fm_world.proofs.Filed.{SameFile, file_step, file_answered, file_pre, file_lists, file_begins, file_creates, file_collects, is_known, next_same_file, known_answered, base_answered, answered_same, fits_create}
 use Rattle.fm_world.proofs.Descents.{or_left, or_right}
 
 -- ---- one operation changes
@@ -189,24 +190,25 @@ after_begin_owned old (begin.Create v path mode) s =
     operation_owned old v (Some (stream_for v path old.flow.next old.files)) None (Some path) (params.Create path mode) (created v path old.flow.next old.files) s
 after_begin_owned old (begin.OnHandle h asked) s = at_owned old h (params_of asked) (handle_at h old.files) s
 
-on_filed : (old : World) (h : HandleId) (p : Params) (x : FileHandle) (m : Option FileStream) → is_create (operation_of p) ≡ false → FiledIn old → FiledIn (begun_on old h p x m)
-on_filed old h p x None none s = s
-on_filed old h p x (Some y) none s =
-    filed_begins old.files (moved_on (operation_of p) h old.flow.next old.files) old.flow y.volume (Some x.stream) (Some h) old.stack.births (Some y.path) p
-    none (moved_shrinks (operation_of p) h old.flow.next old.files) s
+on_filed : (old : World) (h : HandleId) (p : Params) (x : FileHandle) (m : Option FileStream) → handle_at h old.files ≡ Some x → is_create (operation_of p) ≡ false
+    → FiledIn old → FiledIn (begun_on old h p x m)
+on_filed old h p x None at none s = s
+on_filed old h p x (Some y) at none s = file_begins old.files old.flow y.volume h x old.stack.births (Some y.path) p at none s
 
-at_filed : (old : World) (h : HandleId) (p : Params) (m : Option FileHandle) → is_create (operation_of p) ≡ false → FiledIn old → FiledIn (begun_at old h p m)
-at_filed old h p None none s = s
-at_filed old h p (Some x) none s = on_filed old h p x (stream_at x.stream old.files) none s
+at_filed : (old : World) (h : HandleId) (p : Params) (m : Option FileHandle) → handle_at h old.files ≡ m → is_create (operation_of p) ≡ false → FiledIn old
+    → FiledIn (begun_at old h p m)
+at_filed old h p None at none s = s
+at_filed old h p (Some x) at none s = on_filed old h p x (stream_at x.stream old.files) at none s
 
 after_begin_filed : (old : World) (what : Begin) → begin_refused old what ≡ None → FiledIn old → FiledIn (after_begin old what)
-after_begin_filed old (begin.List v) free s = filed_begins old.files old.files old.flow v None None old.stack.births None params.List refl (shrinks_same old.files) s
+after_begin_filed old (begin.List v) free s = file_lists old.files old.flow v old.stack.births s
 after_begin_filed old (begin.Create v path mode) free s =
     let many = full_from _ _ (is_full old.flow || has_no_handle_left old) free in
     let room = nat_le 4096 (length old.files.handles + creates old.flow) in
-    filed_creates old.files old.flow v path (Some (stream_for v path old.flow.next old.files)) None old.stack.births (Some path) (params.Create path mode)
-    (or_left room (old.files.next == 2 ^ 64 - 1) (or_right (is_full old.flow) (has_no_handle_left old) many)) s
-after_begin_filed old (begin.OnHandle h asked) free s = at_filed old h (params_of asked) (handle_at h old.files) (asks_no_create asked) s
+    file_creates old.files old.flow v path old.stack.births (Some path) (params.Create path mode) refl
+    (filed_creates old.files old.flow v path (Some (stream_for v path old.flow.next old.files)) None old.stack.births (Some path) (params.Create path mode)
+    (or_left room (old.files.next == 2 ^ 64 - 1) (or_right (is_full old.flow) (has_no_handle_left old) many)) s.room) s
+after_begin_filed old (begin.OnHandle h asked) free s = at_filed old h (params_of asked) (handle_at h old.files) refl (asks_no_create asked) s
 
 on_named : (old : World) (h : HandleId) (p : Params) (x : FileHandle) (m : Option FileStream) → NamedIn old → NamedIn (begun_on old h p x m)
 on_named old h p x None s = s
@@ -230,7 +232,7 @@ asked_sound old h p free none s =
     record {
       under_way = begins_at old h p (handle_at h old.files) none parts.0 parts.1 s.under_way;
       owned = at_owned old h p (handle_at h old.files) s.owned;
-      filed = at_filed old h p (handle_at h old.files) none s.filed;
+      filed = at_filed old h p (handle_at h old.files) refl none s.filed;
       links = at_named old h p (handle_at h old.files) s.links;
     }
 
@@ -391,29 +393,30 @@ next_owned old k o lies result new (Some r) at idle finds h s =
 -- an answer that was known counts at once
 known_filed : (old : World) (k : WorkerId) (o : OpId) (r : FlowRecord) (lies : Below) (drains : Bool) (result : Result FlowAction Status) → operation_at o old.flow ≡ Some r
     → result ≡ (next_of k lies drains r).reply → FiledIn old
-    → IsFiled (filed_next old o (changed o (λ (x : FlowRecord). (next_of k lies drains x).after) old.flow) result lies) (changed o (λ (x : FlowRecord). (next_of k lies drains x).after) old.flow)
+    → IsFileSound (filed_next old o (changed o (λ (x : FlowRecord). (next_of k lies drains x).after) old.flow) result lies) (changed o (λ (x : FlowRecord). (next_of k lies drains x).after) old.flow)
 known_filed old k o r lies drains result at reply s = by_result result lies reply
   where
-    still : (lies : Below) → FiledIn old → IsFiled old.files (changed o (λ (x : FlowRecord). (next_of k lies drains x).after) old.flow)
-    still lies s = filed_step old.files old.files old.flow o r (λ (x : FlowRecord). (next_of k lies drains x).after) at (next_not_more k lies drains r) (shrinks_same old.files) s
+    still : (lies : Below) → (is_known lies ≡ true → Ok action.Moved ≡ (next_of k lies drains r).reply → ⊥)
+        → IsFileSound old.files (changed o (λ (x : FlowRecord). (next_of k lies drains x).after) old.flow)
+    still lies other = file_step old.files old.flow o r (λ (x : FlowRecord). (next_of k lies drains x).after) at (next_same_file k lies drains r other) s
 
     by_result : (result : Result FlowAction Status) (lies : Below) → result ≡ (next_of k lies drains r).reply
-        → IsFiled (filed_next old o (changed o (λ (x : FlowRecord). (next_of k lies drains x).after) old.flow) result lies) (changed o (λ (x : FlowRecord). (next_of k lies drains x).after) old.flow)
+        → IsFileSound (filed_next old o (changed o (λ (x : FlowRecord). (next_of k lies drains x).after) old.flow) result lies) (changed o (λ (x : FlowRecord). (next_of k lies drains x).after) old.flow)
     by_result (Ok action.Moved) (below.Known why) reply =
         let f = λ (x : FlowRecord). (next_of k (below.Known why) drains x).after in
         let t = changed o f old.flow in
         let was = was_known k why drains r reply in
-        subst (λ (files : FileTable). IsFiled files t) (sym (told_there (filed_record old.files t why) old.files o old.flow r at))
-        (filed_answered old.files old.flow o r f r.operation r.stream r.handle why (is_created_on r.stream t) at refl was.unanswered was.none s)
-    by_result (Ok action.Moved) (below.Instance i b) reply = still (below.Instance i b) s
-    by_result (Ok action.Moved) below.Call reply = still below.Call s
-    by_result (Ok (action.Pre i lent)) lies reply = still lies s
-    by_result (Ok (action.Base call)) lies reply = still lies s
-    by_result (Ok (action.Post i lent completion)) lies reply = still lies s
-    by_result (Ok (action.Drain i completion)) lies reply = still lies s
-    by_result (Ok action.Held) lies reply = still lies s
-    by_result (Ok action.Done) lies reply = still lies s
-    by_result (Err why) lies reply = still lies s
+        subst (λ (files : FileTable). IsFileSound files t) (sym (told_there (filed_record old.files t why) old.files o old.flow r at))
+        (file_answered old.files old.flow o r f why at was.unanswered (known_answered old.files k why drains r was.none) s)
+    by_result (Ok action.Moved) (below.Instance i b) reply = still (below.Instance i b) (λ known moved. false≢true known)
+    by_result (Ok action.Moved) below.Call reply = still below.Call (λ known moved. false≢true known)
+    by_result (Ok (action.Pre i lent)) lies reply = still lies (λ known moved. (cc))
+    by_result (Ok (action.Base call)) lies reply = still lies (λ known moved. (cc))
+    by_result (Ok (action.Post i lent completion)) lies reply = still lies (λ known moved. (cc))
+    by_result (Ok (action.Drain i completion)) lies reply = still lies (λ known moved. (cc))
+    by_result (Ok action.Held) lies reply = still lies (λ known moved. (cc))
+    by_result (Ok action.Done) lies reply = still lies (λ known moved. (cc))
+    by_result (Err why) lies reply = still lies (λ known moved. (cc))
 
 next_filed_at : (old : World) (k : WorkerId) (o : OpId) (lies : Below) (result : Result FlowAction Status) (new : World) (m : Option FlowRecord)
     → operation_at o old.flow ≡ m → NextsOver old k o lies result new → FiledIn old → FiledIn new
@@ -630,9 +633,8 @@ pre_filed old k given lent result new (Some (place.Pre o i)) at h s =
     unless_cases FiledIn status.BadRequest (told (λ r. data_fits r.operation r.path lent) false o old.flow) result old new
     ((result ≡ Ok tt) × PreReturnsOver old k o f state new) h
     (λ fits event. loses_filed event.1.0 new event.1.2 (subst FiledIn (sym event.1.1.1)
-    (subst (λ (files : FileTable). IsFiled files (changed o f old.flow)) (sym (told_there read old.files o old.flow r there.1))
-    (filed_step old.files (read r) old.flow o r f there.1 (not_more_same r (f r) refl (ap is_unanswered there.2))
-    (pre_shrinks state r.operation r.stream (is_created_on r.stream (changed o f old.flow)) old.files) s.filed)))) s.filed
+    (subst (λ (files : FileTable). IsFileSound files (changed o f old.flow)) (sym (told_there read old.files o old.flow r there.1))
+    (file_pre old.files old.flow o r state lent there.1 there.2 s.filed)))) s.filed
 pre_filed old k given lent result new (Some place.Idle) at h s = subst FiledIn (sym h.1) s.filed
 pre_filed old k given lent result new (Some (place.Setup i)) at h s = subst FiledIn (sym h.1) s.filed
 pre_filed old k given lent result new (Some (place.Base o)) at h s = subst FiledIn (sym h.1) s.filed
@@ -706,9 +708,9 @@ base_filed old k call given result new (Some (place.Base o)) at h s =
     unless_cases FiledIn status.BadRequest (told (base_fits call given) false o old.flow) result old new
     ((result ≡ Ok tt) × LosesLinks (base_returned old k o call given) new) h
     (λ fits event. loses_filed (base_returned old k o call given) new event.1
-    (subst (λ (files : FileTable). IsFiled files t) (sym (told_there (filed_record old.files t given.status) old.files o old.flow r there.1))
-    (filed_answered old.files old.flow o r f r.operation r.stream r.handle given.status (is_created_on r.stream t) there.1 refl (ap is_unanswered stage)
-    (answered_none (f r) refl) s.filed))) s.filed
+    (subst (λ (files : FileTable). IsFileSound files t) (sym (told_there (filed_record old.files t given.status) old.files o old.flow r there.1))
+    (file_answered old.files old.flow o r f given.status there.1 (ap is_unanswered stage)
+    (base_answered old.files call given r (fits_create call given r (sym (told_there (base_fits call given) false o old.flow r there.1) ∙ fits))) s.filed))) s.filed
 base_filed old k call given result new (Some place.Idle) at h s = subst FiledIn (sym h.1) s.filed
 base_filed old k call given result new (Some (place.Setup i)) at h s = subst FiledIn (sym h.1) s.filed
 base_filed old k call given result new (Some (place.Pre o i)) at h s = subst FiledIn (sym h.1) s.filed
@@ -797,9 +799,8 @@ post_at old k given None result new None at h s = subst IsOwned (sym h.1) s.owne
 
 -- a step of an operation that has its answer
 answered_filed : (old : World) (k : WorkerId) (o : OpId) (r : FlowRecord) (f : FlowRecord → FlowRecord) (new : World) → operation_at o old.flow ≡ Some r
-    → is_unanswered (f r).stage ≡ false → ReturnsFrom old k o f old.contexts new → IsSound old → FiledIn new
-answered_filed old k o r f new at answered e s =
-    subst FiledIn (sym e.1) (filed_step old.files old.files old.flow o r f at (not_more_none r (f r) (answered_none (f r) answered)) (shrinks_same old.files) s.filed)
+    → SameFile r (f r) → ReturnsFrom old k o f old.contexts new → IsSound old → FiledIn new
+answered_filed old k o r f new at same e s = subst FiledIn (sym e.1) (file_step old.files old.flow o r f at same s.filed)
 
 post_answered : (given : PostVerdict) → is_unanswered (post_leads (post_state given)) ≡ false
 post_answered given'.Finished = refl
@@ -812,11 +813,12 @@ post_filed old k given (Some lent) result new (Some (place.Post o i)) at h s =
     let f = post_returned_of given lent in
     unless_cases FiledIn status.BadRequest (told (λ r. data_fits r.operation r.path lent) false o old.flow) result old new
     ((result ≡ Ok tt) × ReturnsFrom old k o f old.contexts new) h
-    (λ fits event. answered_filed old k o there.0 f new there.1 (post_answered given) event.1 s) s.filed
+    (λ fits event. answered_filed old k o there.0 f new there.1
+    (answered_same there.0 (f there.0) refl refl (ap is_unanswered there.2) (post_answered given)) event.1 s) s.filed
 post_filed old k given None result new (Some (place.Post o i)) at h s = subst FiledIn (sym h.1) s.filed
 post_filed old k given None result new (Some (place.Drain o i)) at h s =
     let there = drain_record old k o i at s.under_way in
-    answered_filed old k o there.0 (drain_returned_of i) new there.1 refl h.1 s
+    answered_filed old k o there.0 (drain_returned_of i) new there.1 (answered_same there.0 (drain_returned_of i there.0) refl refl (ap is_unanswered there.2) refl) h.1 s
 post_filed old k given (Some lent) result new (Some (place.Drain o i)) at h s = subst FiledIn (sym h.1) s.filed
 post_filed old k given (Some lent) result new (Some place.Idle) at h s = subst FiledIn (sym h.1) s.filed
 post_filed old k given (Some lent) result new (Some (place.Setup i)) at h s = subst FiledIn (sym h.1) s.filed
@@ -950,6 +952,6 @@ collect_sound old o result new h s =
     record {
       under_way = collect_keeps old o result new h s.under_way;
       owned = subst IsOwned (sym h.1) (collect_at old o (operation_at o old.flow) refl s.owned);
-      filed = subst FiledIn (sym h.1) (filed_collects old.files o old.flow s.filed);
+      filed = subst FiledIn (sym h.1) (file_collects old.files o old.flow s.filed);
       links = subst NamedIn (sym h.1) s.links;
     }

@@ -29,7 +29,7 @@ use Rattle.fm_world.specs.World.{World}
 use Rattle.fm_world.specs.Workers.{worker_at, put, is_idle, after_attach}
 use Rattle.fm_world.specs.Events.{Registers, Mounts, Attaches, SetsUp, SetsUpAt, Unless}
 use Rattle.fm_world.specs.Headline.{Spot, AtPre, AtBase, AtPost, AtDrain, is_in_at}
-use Rattle.fm_world.specs.Sound.{IsUnderWay, IsAmong, is_in_setup, setup_row, IsFiled}
+use Rattle.fm_world.specs.Sound.{IsUnderWay, IsAmong, is_in_setup, setup_row, IsFileSound}
 use Rattle.fm_world.proofs.Counts.{count-some}
 use Rattle.fm_world.proofs.Ties.{one, count_moves, idle_is_in_none}
 use Rattle.fm_world.proofs.Amongs.{among_follows}
@@ -40,7 +40,7 @@ use Rattle.fm_world.specs.Files.{FileTable}
 
 -- streams, handles and the creates under way
 abbrev pub FiledIn : World → Type 0
-FiledIn w = IsFiled w.files w.flow
+FiledIn w = IsFileSound w.files w.flow
 
 -- contexts don't matter here
 pub whatever_contexts : (w : World) (t : ContextTable) (totals : List ℕ) → IsUnderWay w → IsUnderWay (record w { contexts = t; totals = totals })

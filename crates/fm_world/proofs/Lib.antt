@@ -6,6 +6,7 @@ pub mod Amongs
 pub mod Keeps
 pub mod Operations
 pub mod Runs
+pub mod Lasting
 pub mod Belonging
 pub mod Fitting
 pub mod Callbacks
@@ -14,6 +15,8 @@ pub mod Linking
 pub mod Cleanups
 pub mod Owning
 pub mod Filing
+pub mod Streams
+pub mod Filed
 pub mod Losing
 pub mod Flowing
 pub mod Handing

@@ -43,6 +43,7 @@ use Rattle.fm_world.proofs.Counts.{count-cons}
 use Rattle.fm_world.proofs.Ties.{idle_is_in_none}
 use Rattle.fm_world.proofs.Callbacks.{reference_sound, release_sound, read_body_sound, write_body_sound, bump_sound}
 use Rattle.fm_world.proofs.Cleanups.{take_due_sound, cleaned_sound, finish_sound}
+use Rattle.fm_world.proofs.Filed.{file_empty}
 use Rattle.fm_world.proofs.Flowing.{begin_sound, next_sound, pre_sound, base_sound, post_sound, collect_sound}
 use Rattle.fm_world.proofs.Linking.{allocate_sound, set_sound, get_sound, delete_sound}
 use Rattle.fm_world.proofs.Owning.{register_sound, mount_sound, attach_sound, setup_sound}
@@ -113,7 +114,7 @@ empty_owned = record {
 }
 
 pub empty_sound : IsSound empty_world
-empty_sound = record { under_way = empty_under_way; owned = empty_owned; filed = record { numbers = omega arith; few = omega arith }; links = All-nil (λ (x : Slot). names_there empty_files x.context ≡ true) }
+empty_sound = record { under_way = empty_under_way; owned = empty_owned; filed = file_empty; links = All-nil (λ (x : Slot). names_there empty_files x.context ≡ true) }
 
 -- ---- the Headline
 
@@ -166,6 +167,7 @@ headline_from w s =
       one_per_owner = k.lawful.once;
       there = k.fits;
       links = s.links;
+      files = s.filed.hold;
       holders = k.holders;
       completions = k.completions;
       detached = λ i gone. (

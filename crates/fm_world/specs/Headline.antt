@@ -25,6 +25,7 @@ use Rattle.fm_world.specs.declared.step.Step.{Step}
 use Rattle.fm_world.specs.declared.step.StepReply.{StepReply}
 use Rattle.fm_world.specs.declared.worker.Worker.{Worker}
 use Rattle.fm_world.specs.declared.worker.Worker.TheVariants as place
+use Rattle.fm_world.specs.FileLaws.{FilesHold}
 use Rattle.fm_world.specs.Links.{names_there}
 use Rattle.fm_world.specs.World.{World, carries, reference_count, empty_world}
 use Rattle.fm_world.specs.Workers.{worker_at, cleanup_in}
@@ -108,6 +109,8 @@ pub record Headline (w : World) : Type 0 where
   pub there : All (λ (s : Slot). fits w.stack s.context ≡ true) w.contexts.slots
   -- that is, an open handle, or a stream that wasn't torn down
   pub links : All (λ (s : Slot). names_there w.files s.context ≡ true) w.contexts.slots
+  -- the streams are those that an open handle or a create under way is on, and each number and each path stands once
+  pub files : FilesHold w.files w.flow
   -- a worker's references are to contexts of the instance whose callback it is in, or to volume contexts of its filter; so are those that
   -- a completion carries, of the instance that it is owed to
   pub holders : (k : WorkerId) → All (HoldsIn w.stack w.contexts.slots (place_in (worker_at w.workers k))) (hand_of w.contexts.hands k.0)

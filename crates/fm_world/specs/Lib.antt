@@ -1,4 +1,5 @@
 pub mod Files
+pub mod FileLaws
 pub mod World
 pub mod Links
 pub mod Requests
@@ -9,5 +10,6 @@ pub mod ContextEvents
 pub mod Steps
 pub mod Descent
 pub mod Headline
+pub mod Lasting
 pub mod Sound
 pub mod Hands

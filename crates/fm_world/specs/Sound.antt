@@ -22,7 +22,9 @@ use Rattle.fm_stack.specs.Next.{NonePasses, is_candidate}
 use Rattle.fm_stack.specs.Stacks.{IsStack}
 use Rattle.fm_world.specs.declared.worker.Worker.{Worker}
 use Rattle.fm_world.specs.declared.worker.Worker.TheVariants as place
+use Rattle.fm_world.specs.declared.file.FileStream.{FileStream}
 use Rattle.fm_world.specs.Files.{FileTable}
+use Rattle.fm_world.specs.FileLaws.{FilesHold}
 use Rattle.fm_world.specs.Links.{names_there}
 use Rattle.fm_world.specs.World.{World, carries}
 use Rattle.fm_world.specs.Workers.{worker_at, cleanup_in}
@@ -87,8 +89,14 @@ pub record IsFiled (files : FileTable) (flow : FlowTable) : Type 0 where
   pub numbers : files.next + creates flow ≤ flow.next
   pub few : length files.handles + creates flow ≤ 4096
 
+pub record IsFileSound (files : FileTable) (flow : FlowTable) : Type 0 where
+  pub room : IsFiled files flow
+  pub hold : FilesHold files flow
+  -- a stream has the number of its create, so that the next one's is new
+  pub born : All (λ (x : FileStream). x.number.0 < flow.next) files.streams
+
 pub record IsSound (w : World) : Type 0 where
   pub under_way : IsUnderWay w
   pub owned : IsOwned w
-  pub filed : IsFiled w.files w.flow
+  pub filed : IsFileSound w.files w.flow
   pub links : All (λ (s : Slot). names_there w.files s.context ≡ true) w.contexts.slots

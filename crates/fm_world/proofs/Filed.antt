@@ -1,0 +1,580 @@
+-- What holds of streams and handles is kept by every step of an operation.
+use Rattle.std.proofs.Common.{◌≡◌, ℕ, ◌+◌, ◌<◌, ◌==◌, Bool, true, false, cond, not, List, [], ◌∷◌, ◌++◌, find, Option, Some, None, Ok, Err, refl, ap, sym, ◌∙◌, subst, inl, inr, ◌⊎◌, arith, slice_get}
+use Rattle.std.specs.Prelude.{◌&&◌, All, nat_le, length}
+use Rattle.std.specs.List.{list_any}
+use Rattle.std.proofs.lemmas.Bool.{cases_Bool, false≢true, eq-eqb, ne_eqb, and_from, and_parts}
+use Rattle.std.proofs.lemmas.List.Elements.{All-nil, All-push, All-weaker}
+use Rattle.std.proofs.lemmas.Option.{same_Some}
+use Rattle.fm_types.specs.Lists.{change_first, without_first}
+use Rattle.fm_types.proofs.Firsts.{found_holds, all_change, all_without}
+use Rattle.fm_types.specs.declared.ids.HandleId.{HandleId}
+use Rattle.fm_types.specs.declared.ids.OpId.{OpId}
+use Rattle.fm_types.specs.declared.ids.StreamId.{StreamId}
+use Rattle.fm_types.specs.declared.ids.VolumeId.{VolumeId}
+use Rattle.fm_types.specs.declared.ids.WorkerId.{WorkerId}
+use Rattle.fm_types.specs.declared.operation.Operation.{Operation}
+use Rattle.fm_types.specs.declared.operation.Operation.TheVariants as kind
+use Rattle.fm_types.specs.declared.status.Status.{Status}
+use Rattle.fm_types.specs.declared.status.Status.TheVariants as status
+use Rattle.fm_data.specs.declared.answer.Answer.{Answer}
+use Rattle.fm_data.specs.declared.params.Params.{Params}
+use Rattle.fm_data.specs.declared.params.Params.TheVariants as params
+use Rattle.fm_data.specs.Data.{Data}
+use Rattle.fm_data.specs.Params.{operation_of, path_of, same_operation, same_path, are_for, fit, is_within_limits}
+use Rattle.fm_flow.specs.declared.action.Below.{Below}
+use Rattle.fm_flow.specs.declared.action.Below.TheVariants as below
+use Rattle.fm_flow.specs.declared.action.FlowAction.TheVariants as action
+use Rattle.fm_flow.specs.declared.entry.Ask.{Ask}
+use Rattle.fm_flow.specs.declared.entry.PreState.{PreState}
+use Rattle.fm_flow.specs.declared.entry.PreState.TheVariants as state
+use Rattle.fm_flow.specs.declared.stage.Stage.{Stage}
+use Rattle.fm_flow.specs.declared.stage.Stage.TheVariants.{Descending, PreRunning, PreHeld, InBase, Ascending, PostRunning, PostHeld, InDrain}
+use Rattle.fm_flow.specs.Answered.{is_success, handle_given}
+use Rattle.fm_flow.specs.Counts.{is_running_drain}
+use Rattle.fm_flow.specs.Creates.{is_create, is_unanswered, is_creating, is_on_stream}
+use Rattle.fm_flow.specs.Entries.{owed}
+use Rattle.fm_flow.specs.Record.{FlowRecord}
+use Rattle.fm_flow.specs.Steps.{turn, next_of, next_at, descend, ascend, call_pre, call_base, call_post, give_post, unwound, unwound_to, may_take, pre_leads, pre_returned_of, base_returned_of, base_fits, is_done, done_at}
+use Rattle.fm_flow.specs.Table.{FlowTable, empty_table, is_number, operation_at, changed, removed, begun, begun_record, collected_of, collected_in, is_collectable, marked}
+use Rattle.fm_world.specs.declared.file.FileHandle.{FileHandle}
+use Rattle.fm_world.specs.declared.file.FileStream.{FileStream}
+use Rattle.fm_world.specs.declared.file.HandlePhase.TheVariants as phase
+use Rattle.fm_world.specs.Events.{moved_on, is_created_on}
+use Rattle.fm_world.specs.Files.{FileTable, empty_files, is_handle, handle_at, opened, closed, left, created, stream_for, after_base, after_pre}
+use Rattle.fm_world.specs.Files as files
+use Rattle.fm_world.specs.FileLaws.{is_in_use, has_stream, has_stream_of, IsCreatedOn, IsOnHandle}
+use Rattle.fm_world.specs.Sound.{IsFiled, IsFileSound}
+use Rattle.fm_world.proofs.Filing.{shrinks_same, moved_shrinks, pre_shrinks, filed_step, filed_answered, filed_begins, filed_collects, answered_none, not_more_same, ascend_none}
+use Rattle.fm_world.proofs.Streams.{Stands, InUse, is_creating_on, stands_among, stands_opened, stands_closed, stands_phased, stands_marked, stands_left, stands_created, created_there, on_open, use_but, use_more, use_same, use_opened, use_left, use_closed, use_phased, use_marked, use_created, creating_same, creating_ended, any_without, any_before, any_pushed}
+
+-- ---- the parts
+
+stands_in : (f : FileTable) (t : FlowTable) → IsFileSound f t → Stands f t.operations t.next
+stands_in f t h = record {
+  handles_on = h.hold.handles_on;
+  creates_on = h.hold.creates_on;
+  streams = h.hold.streams;
+  born = h.born;
+  paths = h.hold.paths;
+  handles = h.hold.handles;
+  given = h.hold.given;
+  operations_on = h.hold.operations_on;
+}
+
+abbrev Holds : FileTable → List FlowRecord → ℕ → Type 0
+Holds f rs n = Stands f rs n × InUse f rs
+
+holds_in : (f : FileTable) (t : FlowTable) → IsFileSound f t → Holds f t.operations t.next
+holds_in f t h = (stands_in f t h, h.hold.in_use)
+
+sound_from : (f : FileTable) (t : FlowTable) → IsFiled f t → Holds f t.operations t.next → IsFileSound f t
+sound_from f t room holds = record {
+  room = room;
+  hold = record {
+    handles_on = holds.0.handles_on;
+    creates_on = holds.0.creates_on;
+    in_use = holds.1;
+    streams = holds.0.streams;
+    paths = holds.0.paths;
+    handles = holds.0.handles;
+    given = holds.0.given;
+    operations_on = holds.0.operations_on;
+  };
+  born = holds.0.born;
+}
+
+-- ---- one operation takes a step
+
+stands_step : (f : FileTable) (rs : List FlowRecord) (n : ℕ) (test : FlowRecord → Bool) (step : FlowRecord → FlowRecord) (r : FlowRecord) → find test rs ≡ Some r
+    → IsCreatedOn f (step r) → IsOnHandle f (step r).stream (step r).handle → Stands f rs n → Stands f (change_first test step rs) n
+stands_step f rs n test step r at creates on h =
+    stands_among f rs (change_first test step rs) n n
+    (all_change (IsCreatedOn f) test step rs (λ x found. subst (λ (y : FlowRecord). IsCreatedOn f (step y)) (same_Some r x (sym at ∙ found)) creates) h.creates_on)
+    (all_change (λ (y : FlowRecord). IsOnHandle f y.stream y.handle) test step rs
+    (λ x found. subst (λ (y : FlowRecord). IsOnHandle f (step y).stream (step y).handle) (same_Some r x (sym at ∙ found)) on) h.operations_on)
+    (omega arith) h
+
+-- an operation is on what it was on, and a create under way where it was one
+pub record SameFile (r s : FlowRecord) : Type 0 where
+  pub stream : s.stream ≡ r.stream
+  pub handle : s.handle ≡ r.handle
+  pub creating : is_creating s ≡ is_creating r
+
+on_same : (f : FileTable) (r s : FlowRecord) → s.stream ≡ r.stream → s.handle ≡ r.handle → IsOnHandle f r.stream r.handle → IsOnHandle f s.stream s.handle
+on_same f r s stream handle on = subst (λ m. IsOnHandle f m s.handle) (sym stream) (subst (IsOnHandle f r.stream) (sym handle) on)
+
+holds_step : (f : FileTable) (rs : List FlowRecord) (n : ℕ) (test : FlowRecord → Bool) (step : FlowRecord → FlowRecord) (r : FlowRecord) → find test rs ≡ Some r
+    → SameFile r (step r) → Holds f rs n → Holds f (change_first test step rs) n
+holds_step f rs n test step r at same h =
+    let creates = found_holds (IsCreatedOn f) test rs r h.0.creates_on at in
+    let on = found_holds (λ (y : FlowRecord). IsOnHandle f y.stream y.handle) test rs r h.0.operations_on at in (
+      stands_step f rs n test step r at
+          (λ c. subst (λ m. has_stream_of f m ≡ true) (sym same.stream) (creates (sym same.creating ∙ c)))
+          (on_same f r (step r) same.stream same.handle on) h.0,
+      use_same f rs (change_first test step rs) (creating_same test step rs r at same.stream same.creating) h.1,
+    )
+
+pub file_step : (f : FileTable) (t : FlowTable) (o : OpId) (r : FlowRecord) (step : FlowRecord → FlowRecord) → operation_at o t ≡ Some r → SameFile r (step r)
+    → IsFileSound f t → IsFileSound f (changed o step t)
+file_step f t o r step at same h =
+    let counts : ◌≡◌ {A = ℕ} (cond (is_creating (step r)) 1 0) (cond (is_creating r) 1 0) = ap (λ b. cond b 1 0) same.creating in
+    sound_from f (changed o step t) (filed_step f f t o r step at (omega (arith, counts)) (shrinks_same f) h.room)
+    (holds_step f t.operations t.next (is_number o) step r at same (holds_in f t h))
+
+-- ---- an operation is answered
+
+-- it is no create under way any more, and has the handle that it had, or a create that succeeded the next
+pub record IsAnswered (f : FileTable) (why : Status) (r s : FlowRecord) : Type 0 where
+  pub stream : s.stream ≡ r.stream
+  pub ended : is_creating s ≡ false
+  pub handle : (s.handle ≡ r.handle) ⊎ ((s.handle ≡ Some (record { 0 = f.next })) × (is_success why ≡ true) × (is_create r.operation ≡ true))
+
+not_created : (f : FileTable) (s : FlowRecord) → is_creating s ≡ false → IsCreatedOn f s
+not_created f s ended = λ creating. absurd (false≢true (sym ended ∙ creating))
+
+-- the handle that a create is given
+on_given : (s : StreamId) (f : FileTable) → All (λ (x : FileHandle). x.number.0 < f.next) f.handles → IsOnHandle (opened s f) (Some s) (Some (record { 0 = f.next }))
+on_given s f given =
+    let g : HandleId = record { 0 = f.next } in (
+      omega arith,
+      All-push (λ (x : FileHandle). is_handle g x ≡ true → is_on_stream x.stream (Some s) ≡ true) f.handles (files.fresh_handle s f.next)
+          (All-weaker (λ (x : FileHandle). x.number.0 < f.next) (λ (x : FileHandle). is_handle g x ≡ true → is_on_stream x.stream (Some s) ≡ true)
+          (λ x below is. absurd (false≢true (sym (ne_eqb x.number.0 f.next (λ e. omega (arith, e, below))) ∙ is))) f.handles given)
+          (λ is. eq-eqb s.0 s.0 refl),
+    )
+
+-- a create that succeeded
+holds_opened : (f : FileTable) (rs : List FlowRecord) (n : ℕ) (test : FlowRecord → Bool) (step : FlowRecord → FlowRecord) (r : FlowRecord) (s : StreamId) (why : Status) → find test rs ≡ Some r
+    → r.stream ≡ Some s → is_creating r ≡ true → IsAnswered f why r (step r) → Holds f rs n → Holds (opened s f) (change_first test step rs) n
+holds_opened f rs n test step r s why at stream was answered h =
+    let qs = change_first test step rs in
+    let there = subst (λ m. has_stream_of f m ≡ true) stream (found_holds (IsCreatedOn f) test rs r h.0.creates_on at was) in
+    let stands = stands_opened s f rs n there h.0 in
+    let on : IsOnHandle (opened s f) (step r).stream (step r).handle =
+    elim answered.handle [
+      | inl same ↦ on_same (opened s f) r (step r) answered.stream same (found_holds (λ (y : FlowRecord). IsOnHandle (opened s f) y.stream y.handle) test rs r stands.operations_on at)
+      | inr new ↦ subst (λ m. IsOnHandle (opened s f) m (step r).handle) (sym (answered.stream ∙ stream)) (subst (IsOnHandle (opened s f) (Some s)) (sym new.0) (on_given s f h.0.given))
+    ] in (
+      stands_step (opened s f) rs n test step r at (not_created (opened s f) (step r) answered.ended) on stands,
+      use_opened s f qs (use_but s f rs qs (creating_ended test step rs r s at stream answered.ended) h.1),
+    )
+
+-- a create that failed
+holds_ended : (f : FileTable) (rs : List FlowRecord) (n : ℕ) (test : FlowRecord → Bool) (step : FlowRecord → FlowRecord) (r : FlowRecord) (s : StreamId) (b : Bool) → find test rs ≡ Some r
+    → r.stream ≡ Some s → (step r).stream ≡ r.stream → (step r).handle ≡ r.handle → is_creating (step r) ≡ false → list_any (is_creating_on s) (change_first test step rs) ≡ b
+    → Holds f rs n → Holds (left s b f) (change_first test step rs) n
+holds_ended f rs n test step r s b at stream same handle ended is h =
+    let qs = change_first test step rs in
+    let on = found_holds (λ (y : FlowRecord). IsOnHandle f y.stream y.handle) test rs r h.0.operations_on at in
+    let stands = stands_step f rs n test step r at (not_created f (step r) ended) (on_same f r (step r) same handle on) h.0 in (
+      stands_left s b f qs n is stands,
+      use_left s b f qs is stands.streams (use_but s f rs qs (creating_ended test step rs r s at stream ended) h.1),
+    )
+
+-- a close
+holds_closed : (f : FileTable) (rs : List FlowRecord) (n : ℕ) (test : FlowRecord → Bool) (step : FlowRecord → FlowRecord) (r : FlowRecord) (s : StreamId) (g : HandleId) (b : Bool)
+    → find test rs ≡ Some r → r.stream ≡ Some s → r.handle ≡ Some g → SameFile r (step r) → list_any (is_creating_on s) (change_first test step rs) ≡ b
+    → Holds f rs n → Holds (left s b (closed g f)) (change_first test step rs) n
+holds_closed f rs n test step r s g b at stream handle same is h =
+    let qs = change_first test step rs in
+    let on = found_holds (λ (y : FlowRecord). IsOnHandle f y.stream y.handle) test rs r h.0.operations_on at in
+    let on' : IsOnHandle f (Some s) (Some g) = subst (λ m. IsOnHandle f m (Some g)) stream (subst (IsOnHandle f r.stream) handle on) in
+    let stepped = holds_step f rs n test step r at same h in
+    let stands = stands_closed g f qs n stepped.0 in (
+      stands_left s b (closed g f) qs n is stands,
+      use_left s b (closed g f) qs is stands.streams (use_closed s g f qs on' stepped.1),
+    )
+
+holds_marked : (s : StreamId) (b : Bool) (f : FileTable) (rs : List FlowRecord) (n : ℕ) → Holds f rs n → Holds (cond b (files.marked s f) f) rs n
+holds_marked s true f rs n h = (stands_marked s f rs n h.0, use_marked s f rs h.1)
+holds_marked s false f rs n h = h
+
+-- no create
+same_answered : (f : FileTable) (why : Status) (r s : FlowRecord) → is_create r.operation ≡ false → IsAnswered f why r s → SameFile r s
+same_answered f why r s none answered = record {
+  stream = answered.stream;
+  handle = elim answered.handle [ inl same ↦ same | inr new ↦ absurd (false≢true (sym none ∙ new.2)) ];
+  creating = answered.ended ∙ sym (ap (λ b. b && is_unanswered r.stage) none);
+}
+
+-- a create under way is on a stream
+create_on_none : (f : FileTable) (rs : List FlowRecord) (n : ℕ) (test : FlowRecord → Bool) (r : FlowRecord) → find test rs ≡ Some r → r.stream ≡ None → is_creating r ≡ true → Stands f rs n → ⊥
+create_on_none f rs n test r at none creating h =
+    false≢true (subst (λ m. has_stream_of f m ≡ true) none (found_holds (IsCreatedOn f) test rs r h.creates_on at creating))
+
+holds_answered : (f : FileTable) (t : FlowTable) (o : OpId) (r : FlowRecord) (step : FlowRecord → FlowRecord) (operation : Operation) (s : Option StreamId) (h : Option HandleId)
+    (why : Status) (b : Bool) → operation_at o t ≡ Some r → r.operation ≡ operation → r.stream ≡ s → r.handle ≡ h → is_unanswered r.stage ≡ true → IsAnswered f why r (step r)
+    → is_created_on s (changed o step t) ≡ b → Holds f t.operations t.next → Holds (after_base operation s h why b f) (changed o step t).operations t.next
+holds_answered f t o r step kind.Create (Some s) h why b at same stream handle unanswered answered is k =
+    let was : is_creating r ≡ true = and_from (is_create r.operation) (is_unanswered r.stage) (ap is_create same) unanswered in
+    elim (cases_Bool (is_success why)) [
+      | inl e ↦ subst (λ c. Holds (cond c (opened s f) (left s b f)) (changed o step t).operations t.next) (sym e)
+          (holds_opened f t.operations t.next (is_number o) step r s why at stream was answered k)
+      | inr e ↦
+          let kept : (step r).handle ≡ r.handle = elim answered.handle [ inl same ↦ same | inr new ↦ absurd (false≢true (sym e ∙ new.1)) ] in
+          subst (λ c. Holds (cond c (opened s f) (left s b f)) (changed o step t).operations t.next) (sym e)
+          (holds_ended f t.operations t.next (is_number o) step r s b at stream answered.stream kept answered.ended is k)
+    ]
+holds_answered f t o r step kind.Create None h why b at same stream handle unanswered answered is k =
+    absurd (create_on_none f t.operations t.next (is_number o) r at stream (and_from (is_create r.operation) (is_unanswered r.stage) (ap is_create same) unanswered) k.0)
+holds_answered f t o r step kind.SetDelete (Some s) h why b at same stream handle unanswered answered is k =
+    holds_marked s (is_success why) f (changed o step t).operations t.next
+    (holds_step f t.operations t.next (is_number o) step r at (same_answered f why r (step r) (ap is_create same) answered) k)
+holds_answered f t o r step kind.Close (Some s) (Some g) why b at same stream handle unanswered answered is k =
+    holds_closed f t.operations t.next (is_number o) step r s g b at stream handle (same_answered f why r (step r) (ap is_create same) answered) is k
+holds_answered f t o r step kind.SetDelete None h why b at same stream handle unanswered answered is k =
+    holds_step f t.operations t.next (is_number o) step r at (same_answered f why r (step r) (ap is_create same) answered) k
+holds_answered f t o r step kind.Close None h why b at same stream handle unanswered answered is k =
+    holds_step f t.operations t.next (is_number o) step r at (same_answered f why r (step r) (ap is_create same) answered) k
+holds_answered f t o r step kind.Close (Some s) None why b at same stream handle unanswered answered is k =
+    holds_step f t.operations t.next (is_number o) step r at (same_answered f why r (step r) (ap is_create same) answered) k
+holds_answered f t o r step kind.Read s h why b at same stream handle unanswered answered is k =
+    holds_step f t.operations t.next (is_number o) step r at (same_answered f why r (step r) (ap is_create same) answered) k
+holds_answered f t o r step kind.Write s h why b at same stream handle unanswered answered is k =
+    holds_step f t.operations t.next (is_number o) step r at (same_answered f why r (step r) (ap is_create same) answered) k
+holds_answered f t o r step kind.QuerySize s h why b at same stream handle unanswered answered is k =
+    holds_step f t.operations t.next (is_number o) step r at (same_answered f why r (step r) (ap is_create same) answered) k
+holds_answered f t o r step kind.SetSize s h why b at same stream handle unanswered answered is k =
+    holds_step f t.operations t.next (is_number o) step r at (same_answered f why r (step r) (ap is_create same) answered) k
+holds_answered f t o r step kind.Flush s h why b at same stream handle unanswered answered is k =
+    holds_step f t.operations t.next (is_number o) step r at (same_answered f why r (step r) (ap is_create same) answered) k
+holds_answered f t o r step kind.List s h why b at same stream handle unanswered answered is k =
+    holds_step f t.operations t.next (is_number o) step r at (same_answered f why r (step r) (ap is_create same) answered) k
+holds_answered f t o r step kind.Cleanup s h why b at same stream handle unanswered answered is k =
+    holds_step f t.operations t.next (is_number o) step r at (same_answered f why r (step r) (ap is_create same) answered) k
+
+-- the base answers an operation
+pub file_answered : (f : FileTable) (t : FlowTable) (o : OpId) (r : FlowRecord) (step : FlowRecord → FlowRecord) (why : Status) → operation_at o t ≡ Some r
+    → is_unanswered r.stage ≡ true → IsAnswered f why r (step r) → IsFileSound f t
+    → IsFileSound (after_base r.operation r.stream r.handle why (is_created_on r.stream (changed o step t)) f) (changed o step t)
+file_answered f t o r step why at unanswered answered h =
+    let b = is_created_on r.stream (changed o step t) in
+    sound_from (after_base r.operation r.stream r.handle why b f) (changed o step t)
+    (filed_answered f t o r step r.operation r.stream r.handle why b at refl unanswered answered.ended h.room)
+    (holds_answered f t o r step r.operation r.stream r.handle why b at refl refl refl unanswered answered refl (holds_in f t h))
+
+given_handle : (call : Params) (why : Status) (g : HandleId) (before : Option HandleId)
+    → (handle_given call why g before ≡ before) ⊎ ((handle_given call why g before ≡ Some g) × (is_success why ≡ true) × (is_create (operation_of call) ≡ true))
+given_handle (params.Create path mode) status.Success g before = inr (refl, refl, refl)
+given_handle (params.Create path mode) _ g before = inl refl
+given_handle _ why g before = inl refl
+
+same_create : (a b : Operation) → same_operation a b ≡ true → is_create a ≡ is_create b
+same_create kind.Create kind.Create h = refl
+same_create kind.Create _ h = absurd (false≢true h)
+same_create _ kind.Create h = absurd (false≢true h)
+same_create _ _ h = refl
+
+-- a call that fits an operation is a create's where that is one
+pub fits_create : (call : Params) (given : Answer) (r : FlowRecord) → base_fits call given r ≡ true → is_create (operation_of call) ≡ is_create r.operation
+fits_create call given r fits =
+    let fit' = (and_parts (fit r.operation r.path call) (nat_le (length given.bytes) 32768) fits).0 in
+    let for' = (and_parts (are_for r.operation r.path call) (is_within_limits call) fit').0 in
+    same_create (operation_of call) r.operation (and_parts (same_operation (operation_of call) r.operation) (same_path (path_of call) r.path) for').0
+
+-- what the base's answer leaves of an operation
+pub base_answered : (f : FileTable) (call : Params) (given : Answer) (r : FlowRecord) → is_create (operation_of call) ≡ is_create r.operation
+    → IsAnswered f given.status r (base_returned_of call given (record { 0 = f.next }) r)
+base_answered f call given r same =
+    let g : HandleId = record { 0 = f.next } in
+    record {
+      stream = refl;
+      ended = answered_none (base_returned_of call given g r) refl;
+      handle = elim (given_handle call given.status g r.handle) [ inl kept ↦ inl kept | inr new ↦ inr (new.0, new.1, sym same ∙ new.2) ];
+    }
+
+-- ---- next
+
+-- what an operation is on stays
+abbrev KeepsFile : FlowRecord → FlowRecord → Type 0
+KeepsFile r s = (s.stream ≡ r.stream) × (s.handle ≡ r.handle)
+
+unwound_file : (place : ℕ) (r : FlowRecord) (m : Option Params) → KeepsFile r (unwound_to place r m)
+unwound_file place r (Some p) = (refl, refl)
+unwound_file place r None = (refl, refl)
+
+post_file : (k : WorkerId) (ask : Ask) (r : FlowRecord) (m : Option Params) → KeepsFile r (give_post k ask r m).after
+post_file k ask r (Some p) = (refl, refl)
+post_file k ask r None = (refl, refl)
+
+up_file : (k : WorkerId) (drains : Bool) (r : FlowRecord) (m : Option Ask) → KeepsFile r (ascend k drains r m).after
+up_file k drains r None = (refl, refl)
+up_file k true r (Some ask) = (refl, refl)
+up_file k false r (Some ask) = taken (may_take k ask)
+  where
+    taken : (b : Bool) → KeepsFile r (cond b (call_post k ask r) (turn (Err status.WrongStep) r)).after
+    taken true =
+        let u = unwound_file ask.place r (slice_get r.kept ask.place) in
+        let p = post_file k ask (unwound ask.place r) (unwound ask.place r).params in
+        (p.0 ∙ u.0, p.1 ∙ u.1)
+    taken false = (refl, refl)
+
+down_file : (k : WorkerId) (lies : Below) (r : FlowRecord) → KeepsFile r (descend k lies r).after
+down_file k (below.Instance i true) r = called r.params
+  where
+    called : (m : Option Params) → KeepsFile r (call_pre k i r m).after
+    called (Some p) = (refl, refl)
+    called None = (refl, refl)
+down_file k (below.Instance i false) r = (refl, refl)
+down_file k below.Call r = based r.params
+  where
+    based : (m : Option Params) → KeepsFile r (call_base r m).after
+    based (Some p) = (refl, refl)
+    based None = (refl, refl)
+down_file k (below.Known why) r = (refl, refl)
+
+next_file_at : (k : WorkerId) (lies : Below) (drains : Bool) (r : FlowRecord) (stage : Stage) → KeepsFile r (next_at k lies drains r stage).after
+next_file_at k lies drains r Descending = down_file k lies r
+next_file_at k lies drains r Ascending = up_file k drains r (slice_get (owed r.entries) 0)
+next_file_at k lies drains r PreRunning = (refl, refl)
+next_file_at k lies drains r PreHeld = (refl, refl)
+next_file_at k lies drains r InBase = (refl, refl)
+next_file_at k lies drains r PostRunning = (refl, refl)
+next_file_at k lies drains r PostHeld = (refl, refl)
+next_file_at k lies drains r (InDrain i) = (refl, refl)
+
+next_file : (k : WorkerId) (lies : Below) (drains : Bool) (r : FlowRecord) → KeepsFile r (next_of k lies drains r).after
+next_file k lies drains r = elim r.collected as (λ b. KeepsFile r (cond b (turn (Err status.WrongStep) r) (next_at k lies drains r r.stage)).after) [
+  | true ↦ (refl, refl)
+  | false ↦ next_file_at k lies drains r r.stage
+]
+
+abbrev pub is_known : Below → Bool
+is_known (below.Known why) = true
+is_known _ = false
+
+-- unless it moves over an answer that is known, a create under way stays one
+down_creating : (k : WorkerId) (lies : Below) (r : FlowRecord) → r.stage ≡ Descending → (is_known lies ≡ true → Ok action.Moved ≡ (descend k lies r).reply → ⊥)
+    → is_creating (descend k lies r).after ≡ is_creating r
+down_creating k (below.Instance i true) r e other = called r.params
+  where
+    called : (m : Option Params) → is_creating (call_pre k i r m).after ≡ is_creating r
+    called (Some p) = sym (ap (λ x. is_create r.operation && is_unanswered x) e)
+    called None = refl
+down_creating k (below.Instance i false) r e other = sym (ap (λ x. is_create r.operation && is_unanswered x) e)
+down_creating k below.Call r e other = based r.params
+  where
+    based : (m : Option Params) → is_creating (call_base r m).after ≡ is_creating r
+    based (Some p) = sym (ap (λ x. is_create r.operation && is_unanswered x) e)
+    based None = refl
+down_creating k (below.Known why) r e other = absurd (other refl refl)
+
+creating_at : (k : WorkerId) (lies : Below) (drains : Bool) (r : FlowRecord) (stage : Stage) → r.stage ≡ stage
+    → (is_known lies ≡ true → Ok action.Moved ≡ (next_at k lies drains r stage).reply → ⊥) → is_creating (next_at k lies drains r stage).after ≡ is_creating r
+creating_at k lies drains r Descending e other = down_creating k lies r e other
+creating_at k lies drains r Ascending e other =
+    let after = (ascend k drains r (slice_get (owed r.entries) 0)).after in
+    answered_none after (ascend_none k drains r (slice_get (owed r.entries) 0) (ap is_unanswered e)) ∙ sym (answered_none r (ap is_unanswered e))
+creating_at k lies drains r PreRunning e other = refl
+creating_at k lies drains r PreHeld e other = refl
+creating_at k lies drains r InBase e other = refl
+creating_at k lies drains r PostRunning e other = refl
+creating_at k lies drains r PostHeld e other = refl
+creating_at k lies drains r (InDrain i) e other = refl
+
+pub next_same_file : (k : WorkerId) (lies : Below) (drains : Bool) (r : FlowRecord) → (is_known lies ≡ true → Ok action.Moved ≡ (next_of k lies drains r).reply → ⊥)
+    → SameFile r (next_of k lies drains r).after
+next_same_file k lies drains r other =
+    let file = next_file k lies drains r in
+    record { stream = file.0; handle = file.1; creating = by_collected r.collected other }
+  where
+    by_collected : (b : Bool) → (is_known lies ≡ true → Ok action.Moved ≡ (cond b (turn (Err status.WrongStep) r) (next_at k lies drains r r.stage)).reply → ⊥)
+        → is_creating (cond b (turn (Err status.WrongStep) r) (next_at k lies drains r r.stage)).after ≡ is_creating r
+    by_collected true other = refl
+    by_collected false other = creating_at k lies drains r r.stage refl other
+
+-- a known answer gives no handle
+pub known_answered : (f : FileTable) (k : WorkerId) (why : Status) (drains : Bool) (r : FlowRecord) → is_creating (next_of k (below.Known why) drains r).after ≡ false
+    → IsAnswered f why r (next_of k (below.Known why) drains r).after
+known_answered f k why drains r ended =
+    let file = next_file k (below.Known why) drains r in
+    record { stream = file.0; ended = ended; handle = inl file.1 }
+
+-- what has its answer keeps it
+pub answered_same : (r s : FlowRecord) → s.stream ≡ r.stream → s.handle ≡ r.handle → is_unanswered r.stage ≡ false → is_unanswered s.stage ≡ false → SameFile r s
+answered_same r s stream handle was is = record { stream = stream; handle = handle; creating = answered_none s is ∙ sym (answered_none r was) }
+
+-- ---- a preoperation returns
+
+pre_same : (given : PreState) (lent : Data) (r : FlowRecord) → r.stage ≡ PreRunning → is_unanswered (pre_leads given) ≡ true → SameFile r (pre_returned_of given lent r)
+pre_same given lent r stage unanswered = record {
+  stream = refl;
+  handle = refl;
+  creating = ap (λ b. is_create r.operation && b) (unanswered ∙ sym (ap is_unanswered stage));
+}
+
+-- what is no create stays none
+pre_other : (given : PreState) (lent : Data) (r : FlowRecord) → is_create r.operation ≡ false → SameFile r (pre_returned_of given lent r)
+pre_other given lent r none = record {
+  stream = refl;
+  handle = refl;
+  creating = ap (λ b. b && is_unanswered (pre_leads given)) none ∙ sym (ap (λ b. b && is_unanswered r.stage) none);
+}
+
+holds_pre : (f : FileTable) (t : FlowTable) (o : OpId) (r : FlowRecord) (given : PreState) (lent : Data) (operation : Operation) (s : Option StreamId) (b : Bool)
+    → operation_at o t ≡ Some r → r.operation ≡ operation → r.stream ≡ s → r.stage ≡ PreRunning → is_created_on s (changed o (pre_returned_of given lent) t) ≡ b
+    → Holds f t.operations t.next → Holds (after_pre given operation s b f) (changed o (pre_returned_of given lent) t).operations t.next
+holds_pre f t o r (state.Completed why) lent kind.Create (Some s) b at same stream stage is h =
+    let step = pre_returned_of (state.Completed why) lent in
+    holds_ended f t.operations t.next (is_number o) step r s b at stream refl refl (answered_none (step r) refl) is h
+holds_pre f t o r (state.Completed why) lent kind.Create None b at same stream stage is h =
+    absurd (create_on_none f t.operations t.next (is_number o) r at stream (and_from (is_create r.operation) (is_unanswered r.stage) (ap is_create same) (ap is_unanswered stage)) h.0)
+holds_pre f t o r (state.Completed why) lent kind.Read s b at same stream stage is h =
+    holds_step f t.operations t.next (is_number o) (pre_returned_of (state.Completed why) lent) r at (pre_other (state.Completed why) lent r (ap is_create same)) h
+holds_pre f t o r (state.Completed why) lent kind.Write s b at same stream stage is h =
+    holds_step f t.operations t.next (is_number o) (pre_returned_of (state.Completed why) lent) r at (pre_other (state.Completed why) lent r (ap is_create same)) h
+holds_pre f t o r (state.Completed why) lent kind.QuerySize s b at same stream stage is h =
+    holds_step f t.operations t.next (is_number o) (pre_returned_of (state.Completed why) lent) r at (pre_other (state.Completed why) lent r (ap is_create same)) h
+holds_pre f t o r (state.Completed why) lent kind.SetSize s b at same stream stage is h =
+    holds_step f t.operations t.next (is_number o) (pre_returned_of (state.Completed why) lent) r at (pre_other (state.Completed why) lent r (ap is_create same)) h
+holds_pre f t o r (state.Completed why) lent kind.Flush s b at same stream stage is h =
+    holds_step f t.operations t.next (is_number o) (pre_returned_of (state.Completed why) lent) r at (pre_other (state.Completed why) lent r (ap is_create same)) h
+holds_pre f t o r (state.Completed why) lent kind.List s b at same stream stage is h =
+    holds_step f t.operations t.next (is_number o) (pre_returned_of (state.Completed why) lent) r at (pre_other (state.Completed why) lent r (ap is_create same)) h
+holds_pre f t o r (state.Completed why) lent kind.SetDelete s b at same stream stage is h =
+    holds_step f t.operations t.next (is_number o) (pre_returned_of (state.Completed why) lent) r at (pre_other (state.Completed why) lent r (ap is_create same)) h
+holds_pre f t o r (state.Completed why) lent kind.Cleanup s b at same stream stage is h =
+    holds_step f t.operations t.next (is_number o) (pre_returned_of (state.Completed why) lent) r at (pre_other (state.Completed why) lent r (ap is_create same)) h
+holds_pre f t o r (state.Completed why) lent kind.Close s b at same stream stage is h =
+    holds_step f t.operations t.next (is_number o) (pre_returned_of (state.Completed why) lent) r at (pre_other (state.Completed why) lent r (ap is_create same)) h
+holds_pre f t o r state.Held lent operation s b at same stream stage is h =
+    holds_step f t.operations t.next (is_number o) (pre_returned_of state.Held lent) r at (pre_same state.Held lent r stage refl) h
+holds_pre f t o r state.Running lent operation s b at same stream stage is h =
+    holds_step f t.operations t.next (is_number o) (pre_returned_of state.Running lent) r at (pre_same state.Running lent r stage refl) h
+holds_pre f t o r (state.Asked completion) lent operation s b at same stream stage is h =
+    holds_step f t.operations t.next (is_number o) (pre_returned_of (state.Asked completion) lent) r at (pre_same (state.Asked completion) lent r stage refl) h
+holds_pre f t o r (state.Synchronized completion) lent operation s b at same stream stage is h =
+    holds_step f t.operations t.next (is_number o) (pre_returned_of (state.Synchronized completion) lent) r at (pre_same (state.Synchronized completion) lent r stage refl) h
+holds_pre f t o r state.Passed lent operation s b at same stream stage is h =
+    holds_step f t.operations t.next (is_number o) (pre_returned_of state.Passed lent) r at (pre_same state.Passed lent r stage refl) h
+
+pub file_pre : (f : FileTable) (t : FlowTable) (o : OpId) (r : FlowRecord) (given : PreState) (lent : Data) → operation_at o t ≡ Some r → r.stage ≡ PreRunning → IsFileSound f t
+    → IsFileSound (after_pre given r.operation r.stream (is_created_on r.stream (changed o (pre_returned_of given lent) t)) f) (changed o (pre_returned_of given lent) t)
+file_pre f t o r given lent at stage h =
+    let step = pre_returned_of given lent in
+    let b = is_created_on r.stream (changed o step t) in
+    let g = after_pre given r.operation r.stream b f in
+    sound_from g (changed o step t)
+    (filed_step f g t o r step at (not_more_same r (step r) refl (ap is_unanswered stage)) (pre_shrinks given r.operation r.stream b f) h.room)
+    (holds_pre f t o r given lent r.operation r.stream b at refl refl stage refl (holds_in f t h))
+
+-- ---- begin and collect
+
+holds_pushed : (f : FileTable) (rs : List FlowRecord) (n : ℕ) (r : FlowRecord) → IsCreatedOn f r → IsOnHandle f r.stream r.handle → Stands f rs n → Stands f (rs ++ r ∷ []) (n + 1)
+holds_pushed f rs n r creates on h =
+    stands_among f rs (rs ++ r ∷ []) n (n + 1) (All-push (IsCreatedOn f) rs r h.creates_on creates)
+    (All-push (λ (y : FlowRecord). IsOnHandle f y.stream y.handle) rs r h.operations_on on) (omega arith) h
+
+holds_moved : (operation : Operation) (g : HandleId) (n : ℕ) (f : FileTable) (rs : List FlowRecord) (m : ℕ) → Holds f rs m → Holds (moved_on operation g n f) rs m
+holds_moved kind.Cleanup g n f rs m h = let p = phase.CleaningUp (record { 0 = n }) in (stands_phased g p f rs m h.0, use_phased g p f rs h.1)
+holds_moved kind.Close g n f rs m h = (stands_phased g phase.Closing f rs m h.0, use_phased g phase.Closing f rs h.1)
+holds_moved kind.Create g n f rs m h = h
+holds_moved kind.Read g n f rs m h = h
+holds_moved kind.Write g n f rs m h = h
+holds_moved kind.QuerySize g n f rs m h = h
+holds_moved kind.SetSize g n f rs m h = h
+holds_moved kind.Flush g n f rs m h = h
+holds_moved kind.List g n f rs m h = h
+holds_moved kind.SetDelete g n f rs m h = h
+
+holds_begins : (f : FileTable) (t : FlowTable) (r : FlowRecord) → is_creating r ≡ false → IsOnHandle f r.stream r.handle → Holds f t.operations t.next
+    → Holds f (t.operations ++ r ∷ []) (t.next + 1)
+holds_begins f t r none on h = (
+  holds_pushed f t.operations t.next r (not_created f r none) on h.0,
+  use_more f t.operations (t.operations ++ r ∷ []) (λ q e. any_before (is_creating_on q) t.operations (r ∷ []) e) h.1,
+)
+
+not_creating : (p : Params) → is_create (operation_of p) ≡ false → is_create (operation_of p) && true ≡ false
+not_creating p none = ap (λ b. b && true) none
+
+-- a listing begins
+pub file_lists : (f : FileTable) (t : FlowTable) (v : VolumeId) (born : ℕ) → IsFileSound f t → IsFileSound f (begun v None None born None params.List t)
+file_lists f t v born h =
+    sound_from f (begun v None None born None params.List t) (filed_begins f f t v None None born None params.List refl (shrinks_same f) h.room)
+    (holds_begins f t (begun_record t.next v None None born None params.List) refl tt (holds_in f t h))
+
+-- an operation on an open handle begins
+pub file_begins : (f : FileTable) (t : FlowTable) (v : VolumeId) (g : HandleId) (x : FileHandle) (born : ℕ) (name : Option (List ℕ)) (p : Params) → handle_at g f ≡ Some x
+    → is_create (operation_of p) ≡ false
+    → IsFileSound f t → IsFileSound (moved_on (operation_of p) g t.next f) (begun v (Some x.stream) (Some g) born name p t)
+file_begins f t v g x born name p at none h =
+    let holds = holds_in f t h in
+    let r = begun_record t.next v (Some x.stream) (Some g) born name p in
+    sound_from (moved_on (operation_of p) g t.next f) (begun v (Some x.stream) (Some g) born name p t)
+    (filed_begins f (moved_on (operation_of p) g t.next f) t v (Some x.stream) (Some g) born name p none (moved_shrinks (operation_of p) g t.next f) h.room)
+    (holds_moved (operation_of p) g t.next f (t.operations ++ r ∷ []) (t.next + 1)
+    (holds_begins f t r (not_creating p none) (on_open f t.operations t.next g x at holds.0) holds))
+
+-- a create begins
+pub file_creates : (f : FileTable) (t : FlowTable) (v : VolumeId) (path : List ℕ) (born : ℕ) (name : Option (List ℕ)) (p : Params) → is_create (operation_of p) ≡ true
+    → IsFiled (created v path t.next f) (begun v (Some (stream_for v path t.next f)) None born name p t) → IsFileSound f t
+    → IsFileSound (created v path t.next f) (begun v (Some (stream_for v path t.next f)) None born name p t)
+file_creates f t v path born name p create room h =
+    let holds = holds_in f t h in
+    let s = stream_for v path t.next f in
+    let g = created v path t.next f in
+    let r = begun_record t.next v (Some s) None born name p in
+    let qs = t.operations ++ r ∷ [] in
+    let stands = stands_created v path t.next f t.operations holds.0 in
+    let here : is_creating_on s r ≡ true = and_from (is_creating r) (s.0 == s.0) (ap (λ b. b && true) create) (eq-eqb s.0 s.0 refl) in
+    sound_from g (begun v (Some s) None born name p t) room (
+      stands_among g t.operations qs (t.next + 1) (t.next + 1) (All-push (IsCreatedOn g) t.operations r stands.creates_on (λ creating. created_there v path t.next f))
+          (All-push (λ (y : FlowRecord). IsOnHandle g y.stream y.handle) t.operations r stands.operations_on tt) (omega arith) stands,
+      use_created v path t.next f qs (any_pushed (is_creating_on s) t.operations r here)
+          (use_more f t.operations qs (λ q e. any_before (is_creating_on q) t.operations (r ∷ []) e) holds.1),
+    )
+
+-- an operation that is done was no create under way
+done_none : (r : FlowRecord) → is_done r ≡ true → is_creating r ≡ false
+done_none r done = answered_none r (at_stage r.stage (owed r.entries) done)
+  where
+    at_stage : (stage : Stage) (asks : List Ask) → done_at stage asks ≡ true → is_unanswered stage ≡ false
+    at_stage Ascending asks h = refl
+    at_stage PostRunning asks h = refl
+    at_stage PostHeld asks h = refl
+    at_stage (InDrain i) asks h = refl
+    at_stage Descending asks h = absurd (false≢true h)
+    at_stage PreRunning asks h = absurd (false≢true h)
+    at_stage PreHeld asks h = absurd (false≢true h)
+    at_stage InBase asks h = absurd (false≢true h)
+
+holds_collected : (f : FileTable) (o : OpId) (t : FlowTable) (m : Option FlowRecord) → operation_at o t ≡ m → Holds f t.operations t.next
+    → Holds f (collected_in o t m).operations (collected_in o t m).next
+holds_collected f o t None at h = h
+holds_collected f o t (Some r) at h = by_collectable (is_collectable r) refl
+  where
+    by_drain : (b : Bool) → is_done r ≡ true → Holds f (cond b (changed o marked t) (removed o t)).operations (cond b (changed o marked t) (removed o t)).next
+    by_drain true done = holds_step f t.operations t.next (is_number o) marked r at (record { stream = refl; handle = refl; creating = refl }) h
+    by_drain false done =
+        let gone = λ (q : StreamId) (x : FlowRecord) (found : operation_at o t ≡ Some x).
+        subst (λ (y : FlowRecord). is_creating_on q y ≡ false) (same_Some r x (sym at ∙ found)) (ap (λ b. b && is_on_stream q r.stream) (done_none r done)) in (
+          stands_among f t.operations (without_first (is_number o) t.operations) t.next t.next (all_without (IsCreatedOn f) (is_number o) t.operations h.0.creates_on)
+              (all_without (λ (y : FlowRecord). IsOnHandle f y.stream y.handle) (is_number o) t.operations h.0.operations_on) (omega arith) h.0,
+          use_same f t.operations (without_first (is_number o) t.operations) (λ q. any_without (is_creating_on q) (is_number o) t.operations (λ x found. gone q x found)) h.1,
+        )
+
+    by_collectable : (a : Bool) → is_collectable r ≡ a
+        → Holds f (cond a (cond (list_any is_running_drain r.entries) (changed o marked t) (removed o t)) t).operations
+        (cond a (cond (list_any is_running_drain r.entries) (changed o marked t) (removed o t)) t).next
+    by_collectable false is = h
+    by_collectable true is = by_drain (list_any is_running_drain r.entries) (and_parts (not r.collected) (is_done r) is).1
+
+pub file_collects : (f : FileTable) (o : OpId) (t : FlowTable) → IsFileSound f t → IsFileSound f (collected_of o t)
+file_collects f o t h = sound_from f (collected_of o t) (filed_collects f o t h.room) (holds_collected f o t (operation_at o t) refl (holds_in f t h))
+
+-- no stream, no handle
+pub file_empty : IsFileSound empty_files empty_table
+file_empty = record {
+  room = record { numbers = omega arith; few = omega arith };
+  hold = record {
+    handles_on = All-nil (λ (x : FileHandle). has_stream empty_files x.stream ≡ true);
+    creates_on = All-nil (IsCreatedOn empty_files);
+    in_use = All-nil (λ (x : FileStream). is_in_use empty_files empty_table x ≡ true);
+    streams = λ i j d p q. absurd (omega arith);
+    paths = λ i j d p q. absurd (omega arith);
+    handles = λ i j d p q. absurd (omega arith);
+    given = All-nil (λ (x : FileHandle). x.number.0 < 0);
+    operations_on = All-nil (λ (r : FlowRecord). IsOnHandle empty_files r.stream r.handle);
+  };
+  born = All-nil (λ (x : FileStream). x.number.0 < 0);
+}

@@ -1,0 +1,625 @@
+-- Each event leaves slots as they are, or of a later generation: so an id that was given isn't given again, and what was cleaned stays cleaned.
+use Rattle.std.proofs.Common.{◌≡◌, ℕ, ◌<◌, ◌≤◌, ◌==◌, Bool, true, false, cond, List, [], ◌∷◌, ◌++◌, length, map, slice_get, Option, Some, None, Result, Ok, Err, option_map, refl, ap, sym, ◌∙◌, subst, inl, inr, ◌⊎◌, arith}
+use Rattle.std.specs.Prelude.{◌&&◌, option_and_then, slice_set}
+use Rattle.std.proofs.lemmas.Bool.{cases_Bool, cases_eq, eq-eqb, ne_eqb}
+use Rattle.std.proofs.lemmas.Option.{none-some, same_Some, slice_get-map, slice_get_within}
+use Rattle.fm_types.proofs.Lists.{slice_get-kept, slice_get-push, slice_get-set_same, slice_get-set_other, updated-same, updated-other}
+use Rattle.fm_types.specs.declared.context_kind.ContextKind.{ContextKind}
+use Rattle.fm_types.specs.declared.ids.CtxId.{CtxId}
+use Rattle.fm_types.specs.declared.ids.FilterId.{FilterId}
+use Rattle.fm_types.specs.declared.ids.InstanceId.{InstanceId}
+use Rattle.fm_types.specs.declared.ids.OpId.{OpId}
+use Rattle.fm_types.specs.declared.ids.VolumeId.{VolumeId}
+use Rattle.fm_types.specs.declared.ids.WorkerId.{WorkerId}
+use Rattle.fm_types.specs.declared.registration.Registration.{Registration}
+use Rattle.fm_types.specs.declared.status.Status.{Status}
+use Rattle.fm_types.specs.declared.status.Status.TheVariants as status
+use Rattle.fm_types.specs.Refusals.{Answers, AnswersOrMemory}
+use Rattle.fm_data.specs.declared.answer.Answer.{Answer}
+use Rattle.fm_data.specs.declared.params.Params.{Params}
+use Rattle.fm_data.specs.declared.verdict.PostVerdict.{PostVerdict}
+use Rattle.fm_data.specs.declared.verdict.PreVerdict.{PreVerdict}
+use Rattle.fm_data.specs.Data.{Data, data_fits}
+use Rattle.fm_flow.specs.declared.action.FlowAction.{FlowAction}
+use Rattle.fm_flow.specs.declared.action.FlowAction.TheVariants as action
+use Rattle.fm_flow.specs.Steps.{base_fits}
+use Rattle.fm_flow.specs.Table.{told}
+use Rattle.fm_ctx.specs.declared.due.Due.{Due}
+use Rattle.fm_ctx.specs.declared.object.Object.{Object}
+use Rattle.fm_ctx.specs.declared.set_reply.SetMode.{SetMode}
+use Rattle.fm_ctx.specs.declared.set_reply.SetMode.TheVariants.{Keep, Replace}
+use Rattle.fm_ctx.specs.Bags.{is_hand_full}
+use Rattle.fm_ctx.specs.Births.{IsNew, new_slot, placed}
+use Rattle.fm_ctx.specs.Bodies.{with_body}
+use Rattle.fm_ctx.specs.Cleanup.{emptied, due_of, taken_of}
+use Rattle.fm_ctx.specs.Links.{with_link, set_after, set_mode_after, unlinked_for, delete_after, linked, holder}
+use Rattle.fm_ctx.specs.Settling.{swept, swept_slot}
+use Rattle.fm_ctx.specs.Table.{Context, Slot, ContextTable, context_in, context_at, changed_slot, change_context}
+use Rattle.fm_world.specs.declared.file.FileHandle.{FileHandle}
+use Rattle.fm_world.specs.declared.file.FileStream.{FileStream}
+use Rattle.fm_world.specs.declared.set_answer.SetAnswer.{SetAnswer}
+use Rattle.fm_world.specs.declared.step.Begin.{Begin}
+use Rattle.fm_world.specs.declared.step.Begin.TheVariants as begin
+use Rattle.fm_world.specs.declared.step.Step.{Step}
+use Rattle.fm_world.specs.declared.step.Step.TheVariants as step
+use Rattle.fm_world.specs.declared.step.StepReply.{StepReply}
+use Rattle.fm_world.specs.declared.step.StepReply.TheVariants as reply
+use Rattle.fm_world.specs.declared.worker.Worker.{Worker}
+use Rattle.fm_world.specs.declared.worker.Worker.TheVariants as place
+use Rattle.fm_world.specs.ContextEvents.{Callback, InCallbackOf, callback_of, object_for, set_refused, SetsOn, SetsUnless, SetsIn, there_at, CleansAt, Allocates, Sets, Gets, Deletes, References, Releases, ReadsBody, WritesBody, Bumps, TakesDue, Cleans, Finishes}
+use Rattle.fm_world.specs.Events.{Unless, Registers, Mounts, Attaches, SetsUp, SetsUpAt, EmptiesUnless, Begins, Nexts, NextsAt, PreReturns, PreReturnsAt, BaseReturns, BaseReturnsAt, PostReturns, PostReturnsAt, Collects, begun_on, begun_at, after_begin, brought, received, sent}
+use Rattle.fm_world.specs.Files.{handle_at, stream_at}
+use Rattle.fm_world.specs.Lasting.{given_by, due_by, Comes, IsGone, ContextsLast}
+use Rattle.fm_world.specs.Links.{LosesLinks}
+use Rattle.fm_world.specs.Requests.{params_of}
+use Rattle.fm_world.specs.Steps.{Steps, Run}
+use Rattle.fm_world.specs.World.{World, carries, empty_world}
+use Rattle.fm_world.specs.Workers.{worker_at, is_idle}
+use Rattle.fm_world.proofs.Keeps.{unless_cases}
+
+-- ---- slots
+
+-- a slot later on: of the same generation, with no context where it had none; or of a later generation
+abbrev SlotLater : Slot → Slot → Type 0
+SlotLater s t = ((t.generation ≡ s.generation) × (s.context ≡ None → t.context ≡ None)) ⊎ (s.generation < t.generation)
+
+abbrev pub SlotsStay : List Slot → List Slot → Type 0
+SlotsStay old new = (k : ℕ) (s : Slot) → slice_get old k ≡ Some s → (t : Slot) × (slice_get new k ≡ Some t) × SlotLater s t
+
+slots_same : (old new : List Slot) → new ≡ old → SlotsStay old new
+slots_same old new e = λ k s there. (s, ap (λ (xs : List Slot). slice_get xs k) e ∙ there, inl (refl, λ none. none))
+
+later_after : (s t u : Slot) → SlotLater s t → SlotLater t u → SlotLater s u
+later_after s t u (inl a) (inl b) = inl (b.0 ∙ a.0, λ none. b.1 (a.1 none))
+later_after s t u (inl a) (inr b) = let same = a.0 in inr (omega (arith, same, b))
+later_after s t u (inr a) (inl b) = let same = b.0 in inr (omega (arith, same, a))
+later_after s t u (inr a) (inr b) = inr (omega (arith, a, b))
+
+slots_after : (old mid new : List Slot) → SlotsStay old mid → SlotsStay mid new → SlotsStay old new
+slots_after old mid new f g = λ k s there.
+    let a = f k s there in
+    let b = g k a.0 a.1 in
+    (b.0, b.1, later_after s a.0 b.0 a.2 b.2)
+
+changed_later : (f : Option Context → Option Context) (c : CtxId) (s : Slot) → f None ≡ None → SlotLater s (changed_slot f c s)
+changed_later f c s none =
+    elim (cases_Bool (c.generation == s.generation)) [
+      | inl e ↦ subst (λ b. SlotLater s (cond b (record s { context = f s.context }) s)) (sym e) (inl (refl, λ gone. ap f gone ∙ none))
+      | inr e ↦ subst (λ b. SlotLater s (cond b (record s { context = f s.context }) s)) (sym e) (inl (refl, λ gone. gone))
+    ]
+
+slots_changed : (f : Option Context → Option Context) (slots : List Slot) (c : CtxId) → f None ≡ None → SlotsStay slots (change_context f slots c)
+slots_changed f slots c none = λ k s there.
+    elim (cases_eq k c.slot) [
+      | inl is ↦
+          let here : slice_get slots c.slot ≡ Some s = ap (slice_get slots) (sym is) ∙ there in
+          (changed_slot f c s, ap (slice_get (change_context f slots c)) is ∙ updated-same (changed_slot f c) slots c.slot s here, changed_later f c s none)
+      | inr other ↦ (s, updated-other (changed_slot f c) slots c.slot k other ∙ there, inl (refl, λ gone. gone))
+    ]
+
+slots_swept : (test : Context → Bool) (slots : List Slot) → SlotsStay slots (map (swept_slot test) slots)
+slots_swept test slots = λ k s there.
+    (swept_slot test s, slice_get-map (swept_slot test) slots k ∙ ap (option_map (swept_slot test)) there, inl (refl, λ gone. ap (option_map (swept test)) gone))
+
+slots_placed : (slots : List Slot) (c : CtxId) (x : Context) → IsNew slots c → SlotsStay slots (placed slots c x)
+slots_placed slots c x (inl new) = λ k s there. (
+  s,
+  ap (λ b. slice_get (cond b (slots ++ new_slot c x ∷ []) (slice_set slots c.slot (new_slot c x))) k) (eq-eqb c.slot (length slots) new.0)
+      ∙ slice_get-kept slots (new_slot c x ∷ []) k s there,
+  inl (refl, λ gone. gone),
+)
+slots_placed slots c x (inr new) = λ k s there.
+    let within = slice_get_within slots c.slot new.0 new.1 in
+    let is : slice_get (placed slots c x) k ≡ slice_get (slice_set slots c.slot (new_slot c x)) k =
+    ap (λ b. slice_get (cond b (slots ++ new_slot c x ∷ []) (slice_set slots c.slot (new_slot c x))) k) (ne_eqb c.slot (length slots) (λ e. omega (arith, e, within))) in
+    elim (cases_eq k c.slot) [
+      | inl here ↦
+          let same : new.0 ≡ s = same_Some new.0 s (sym new.1 ∙ ap (slice_get slots) (sym here) ∙ there) in
+          let generation : new.0.generation ≡ s.generation = ap (λ (y : Slot). y.generation) same in
+          let next = new.3 in (
+            new_slot c x,
+            is ∙ ap (slice_get (slice_set slots c.slot (new_slot c x))) here ∙ slice_get-set_same slots c.slot (new_slot c x) within,
+            inr (omega (arith, generation, next)),
+          )
+      | inr other ↦ (s, is ∙ slice_get-set_other slots c.slot k (new_slot c x) other ∙ there, inl (refl, λ gone. gone))
+    ]
+
+-- ---- ids
+
+-- an id of a slot's last generation, or of an earlier one
+abbrev pub WasGiven : List Slot → CtxId → Type 0
+WasGiven slots c = (s : Slot) × (slice_get slots c.slot ≡ Some s) × (c.generation ≤ s.generation)
+
+given_stays : (old new : List Slot) (c : CtxId) → SlotsStay old new → WasGiven old c → WasGiven new c
+given_stays old new c stay was =
+    let t = stay c.slot was.0 was.1 in
+    (t.0, t.1, later_generation was.0 t.0 t.2 was.2)
+  where
+    later_generation : (s t : Slot) → SlotLater s t → c.generation ≤ s.generation → c.generation ≤ t.generation
+    later_generation s t (inl a) below = let same = a.0 in omega (arith, same, below)
+    later_generation s t (inr a) below = omega (arith, a, below)
+
+gone_stays : (old new : List Slot) (c : CtxId) → SlotsStay old new → WasGiven old c → context_at old c ≡ None → context_at new c ≡ None
+unfolding context_at
+gone_stays old new c stay was gone =
+    let t = stay c.slot was.0 was.1 in
+    ap (option_and_then (context_in c)) t.1 ∙ in_slot was.0 t.0 t.2 was.2 (sym (ap (option_and_then (context_in c)) was.1) ∙ gone)
+  where
+    in_slot : (s t : Slot) → SlotLater s t → c.generation ≤ s.generation → context_in c s ≡ None → context_in c t ≡ None
+    in_slot s t (inl a) below none =
+        elim (cases_Bool (c.generation == s.generation)) [
+          | inl is ↦
+              let gone' : s.context ≡ None = sym (ap (λ b. cond b s.context None) is) ∙ none in
+              ap (λ n. cond (c.generation == n) t.context None) a.0 ∙ ap (λ b. cond b t.context None) is ∙ a.1 gone'
+          | inr other ↦ ap (λ n. cond (c.generation == n) t.context None) a.0 ∙ ap (λ b. cond b t.context None) other
+        ]
+    in_slot s t (inr a) below none = ap (λ b. cond b t.context None) (ne_eqb c.generation t.generation (λ e. omega (arith, e, a, below)))
+
+-- an id that was given isn't new
+given_not_new : (slots : List Slot) (c : CtxId) → WasGiven slots c → IsNew slots c → ⊥
+given_not_new slots c was (inl new) = let within = slice_get_within slots c.slot was.0 was.1 in let past = new.0 in omega (arith, within, past)
+given_not_new slots c was (inr new) =
+    let same : was.0.generation ≡ new.0.generation = ap (λ (y : Slot). y.generation) (same_Some was.0 new.0 (sym was.1 ∙ new.1)) in
+    let next = new.3 in
+    let below = was.2 in
+    omega (arith, same, next, below)
+
+given_placed : (slots : List Slot) (c : CtxId) (x : Context) → IsNew slots c → WasGiven (placed slots c x) c
+given_placed slots c x (inl new) = (
+  new_slot c x,
+  ap (λ b. slice_get (cond b (slots ++ new_slot c x ∷ []) (slice_set slots c.slot (new_slot c x))) c.slot) (eq-eqb c.slot (length slots) new.0)
+      ∙ ap (slice_get (slots ++ new_slot c x ∷ [])) new.0 ∙ slice_get-push slots (new_slot c x),
+  omega arith,
+)
+given_placed slots c x (inr new) =
+    let within = slice_get_within slots c.slot new.0 new.1 in (
+      new_slot c x,
+      ap (λ b. slice_get (cond b (slots ++ new_slot c x ∷ []) (slice_set slots c.slot (new_slot c x))) c.slot) (ne_eqb c.slot (length slots) (λ e. omega (arith, e, within)))
+          ∙ slice_get-set_same slots c.slot (new_slot c x) within,
+      omega arith,
+    )
+
+-- ---- events
+
+abbrev pub Stay : World → World → Type 0
+Stay old new = SlotsStay old.contexts.slots new.contexts.slots
+
+stay_same : (old new : World) → new.contexts.slots ≡ old.contexts.slots → Stay old new
+stay_same old new e = slots_same old.contexts.slots new.contexts.slots e
+
+stay_still : (old new : World) → new ≡ old → Stay old new
+stay_still old new e = stay_same old new (ap (λ (w : World). w.contexts.slots) e)
+
+-- what the event makes of the World is known
+stay_made : (old made new : World) → new ≡ made → Stay old made → Stay old new
+stay_made old made new e h = subst (Stay old) (sym e) h
+
+stay_loses : (old mid new : World) → LosesLinks mid new → Stay old mid → Stay old new
+stay_loses old mid new h stay =
+    slots_after old.contexts.slots mid.contexts.slots new.contexts.slots stay
+    (subst (SlotsStay mid.contexts.slots) (sym h.0.slots) (slots_swept _ mid.contexts.slots))
+
+stay_unless : {T : Type 0} (refusal : Status) (b : Bool) (result : Result T Status) (old new : World) (Event : Type 0) → Unless refusal b result old new Event → (Event → Stay old new)
+    → Stay old new
+stay_unless refusal b result old new Event h event = unless_cases (Stay old) refusal b result old new Event h (λ is e. event e) (stay_still old old refl)
+
+stay_answers : {T : Type 0} (refusal : Option Status) (result : Result T Status) (old new : World) (E : T → Type 0) → Answers refusal result old new E → ((v : T) → E v → Stay old new)
+    → Stay old new
+stay_answers refusal (Ok v) old new E h event = event v h.1
+stay_answers refusal (Err why) old new E h event = stay_still old new h.1
+
+stay_memory : {T : Type 0} (refusal : Option Status) (result : Result T Status) (old new : World) (E : T → Type 0) → AnswersOrMemory refusal result old new E
+    → ((v : T) → E v → Stay old new) → Stay old new
+stay_memory refusal (Ok v) old new E h event = event v h.1
+stay_memory refusal (Err why) old new E h event = stay_still old new h.1
+
+stay_called : {T : Type 0} (result : Result T Status) (old new : World) (Event : Callback → Type 0) (m : Option Callback) → InCallbackOf result old new Event m
+    → ((at : Callback) → Event at → Stay old new) → Stay old new
+stay_called result old new Event None h event = stay_still old new h.1
+stay_called result old new Event (Some at) h event = event at h
+
+-- filters, volumes, instances
+
+register_stay : (old : World) (name : List ℕ) (registration : Registration) (result : Result FilterId Status) (new : World) → Registers old name registration result new → Stay old new
+unfolding Registers
+register_stay old name registration result new h = stay_made old (record old { stack = new.stack }) new h.1 (stay_still old old refl)
+
+mount_stay : (old : World) (name : List ℕ) (result : Result VolumeId Status) (new : World) → Mounts old name result new → Stay old new
+unfolding Mounts
+mount_stay old name result new h = stay_made old (record old { stack = new.stack }) new h.1 (stay_still old old refl)
+
+attach_stay : (old : World) (k : WorkerId) (f : FilterId) (v : VolumeId) (name altitude : List ℕ) (result : Result InstanceId Status) (new : World)
+    → Attaches old k f v name altitude result new → Stay old new
+unfolding Attaches
+attach_stay old k f v name altitude result new h =
+    stay_unless status.WrongStep (is_idle (worker_at old.workers k)) result old new _ h (λ e. stay_same old new (ap (λ (w : World). w.contexts.slots) e.1))
+
+setup_at_stay : (old : World) (k : WorkerId) (accept : Bool) (result : Result (Unit {0}) Status) (new : World) (m : Option Worker) → SetsUpAt old k accept result new m → Stay old new
+setup_at_stay old k accept result new (Some (place.Setup i)) (event, left, leaves, empties, e) =
+    slots_after old.contexts.slots left.slots new.contexts.slots (slots_same old.contexts.slots left.slots leaves.slots) (by_result result empties)
+  where
+    by_result : (result : Result (Unit {0}) Status) → EmptiesUnless result i old left new.contexts → SlotsStay left.slots new.contexts.slots
+    by_result (Ok done) same = slots_same left.slots new.contexts.slots (ap (λ (t : ContextTable). t.slots) same)
+    by_result (Err why) sweeps = subst (SlotsStay left.slots) (sym sweeps.slots) (slots_swept _ left.slots)
+setup_at_stay old k accept result new None h = stay_still old new h.1
+setup_at_stay old k accept result new (Some place.Idle) h = stay_still old new h.1
+setup_at_stay old k accept result new (Some (place.Pre o i)) h = stay_still old new h.1
+setup_at_stay old k accept result new (Some (place.Base o)) h = stay_still old new h.1
+setup_at_stay old k accept result new (Some (place.Post o i)) h = stay_still old new h.1
+setup_at_stay old k accept result new (Some (place.Drain o i)) h = stay_still old new h.1
+setup_at_stay old k accept result new (Some (place.Cleanup c)) h = stay_still old new h.1
+
+setup_stay : (old : World) (k : WorkerId) (accept : Bool) (result : Result (Unit {0}) Status) (new : World) → SetsUp old k accept result new → Stay old new
+unfolding SetsUp
+setup_stay old k accept result new h = setup_at_stay old k accept result new (worker_at old.workers k) h
+
+-- operations
+
+begun_contexts : (old : World) (what : Begin) → (after_begin old what).contexts ≡ old.contexts
+begun_contexts old (begin.List v) = refl
+begun_contexts old (begin.Create v path mode) = refl
+begun_contexts old (begin.OnHandle h asked) = by_handle (handle_at h old.files)
+  where
+    by_stream : (x : FileHandle) (m : Option FileStream) → (begun_on old h (params_of asked) x m).contexts ≡ old.contexts
+    by_stream x None = refl
+    by_stream x (Some y) = refl
+
+    by_handle : (m : Option FileHandle) → (begun_at old h (params_of asked) m).contexts ≡ old.contexts
+    by_handle None = refl
+    by_handle (Some x) = by_stream x (stream_at x.stream old.files)
+
+begin_stay : (old : World) (what : Begin) (result : Result OpId Status) (new : World) → Begins old what result new → Stay old new
+unfolding Begins
+begin_stay old what result new h =
+    stay_memory _ result old new _ h (λ o e. stay_same old new (ap (λ (w : World). w.contexts.slots) e.1 ∙ ap (λ (t : ContextTable). t.slots) (begun_contexts old what)))
+
+brought_slots : (t : ContextTable) (k : WorkerId) (m : Option CtxId) → (brought t k m).slots ≡ t.slots
+brought_slots t k None = refl
+brought_slots t k (Some c) = refl
+
+received_slots : (t : ContextTable) (k : WorkerId) (result : Result FlowAction Status) → (received t k result).slots ≡ t.slots
+received_slots t k (Ok (action.Post i lent completion)) = brought_slots t k completion.context
+received_slots t k (Ok (action.Drain i completion)) = brought_slots t k completion.context
+received_slots t k _ = refl
+
+next_stay : (old : World) (k : WorkerId) (o : OpId) (result : Result FlowAction Status) (new : World) → Nexts old k o result new → Stay old new
+unfolding Nexts
+next_stay old k o result new h =
+    stay_unless status.WrongStep (is_idle (worker_at old.workers k)) result old new (NextsAt old k o result new) h
+    (λ e. stay_loses old e.2 new e.4 (stay_same old e.2 (ap (λ (w : World). w.contexts.slots) e.3.1 ∙ received_slots old.contexts k result)))
+
+sent_slots : (t : ContextTable) (k : WorkerId) (m : Option CtxId) → (sent t k m).slots ≡ t.slots
+sent_slots t k None = refl
+sent_slots t k (Some c) = refl
+
+pre_at_stay : (old : World) (k : WorkerId) (given : PreVerdict) (lent : Data) (result : Result (Unit {0}) Status) (new : World) (m : Option Worker)
+    → PreReturnsAt old k given lent result new m → Stay old new
+pre_at_stay old k given lent result new (Some (place.Pre o i)) h =
+    stay_unless status.BadRequest (told (λ r. data_fits r.operation r.path lent) false o old.flow) result old new _ h
+    (λ e. stay_loses old e.1.0 new e.1.2 (stay_same old e.1.0 (e.1.1.0.slots ∙ sent_slots old.contexts k _)))
+pre_at_stay old k given lent result new None h = stay_still old new h.1
+pre_at_stay old k given lent result new (Some place.Idle) h = stay_still old new h.1
+pre_at_stay old k given lent result new (Some (place.Setup i)) h = stay_still old new h.1
+pre_at_stay old k given lent result new (Some (place.Base o)) h = stay_still old new h.1
+pre_at_stay old k given lent result new (Some (place.Post o i)) h = stay_still old new h.1
+pre_at_stay old k given lent result new (Some (place.Drain o i)) h = stay_still old new h.1
+pre_at_stay old k given lent result new (Some (place.Cleanup c)) h = stay_still old new h.1
+
+pre_stay : (old : World) (k : WorkerId) (given : PreVerdict) (lent : Data) (result : Result (Unit {0}) Status) (new : World) → PreReturns old k given lent result new → Stay old new
+unfolding PreReturns
+pre_stay old k given lent result new h = pre_at_stay old k given lent result new (worker_at old.workers k) h
+
+base_at_stay : (old : World) (k : WorkerId) (call : Params) (given : Answer) (result : Result (Unit {0}) Status) (new : World) (m : Option Worker)
+    → BaseReturnsAt old k call given result new m → Stay old new
+base_at_stay old k call given result new (Some (place.Base o)) h =
+    stay_unless status.BadRequest (told (base_fits call given) false o old.flow) result old new _ h (λ e. stay_loses old _ new e.1 (stay_still old old refl))
+base_at_stay old k call given result new None h = stay_still old new h.1
+base_at_stay old k call given result new (Some place.Idle) h = stay_still old new h.1
+base_at_stay old k call given result new (Some (place.Setup i)) h = stay_still old new h.1
+base_at_stay old k call given result new (Some (place.Pre o i)) h = stay_still old new h.1
+base_at_stay old k call given result new (Some (place.Post o i)) h = stay_still old new h.1
+base_at_stay old k call given result new (Some (place.Drain o i)) h = stay_still old new h.1
+base_at_stay old k call given result new (Some (place.Cleanup c)) h = stay_still old new h.1
+
+base_stay : (old : World) (k : WorkerId) (call : Params) (given : Answer) (result : Result (Unit {0}) Status) (new : World) → BaseReturns old k call given result new → Stay old new
+unfolding BaseReturns
+base_stay old k call given result new h = base_at_stay old k call given result new (worker_at old.workers k) h
+
+post_at_stay : (old : World) (k : WorkerId) (given : PostVerdict) (lent : Option Data) (result : Result (Unit {0}) Status) (new : World) (m : Option Worker)
+    → PostReturnsAt old k given lent result new m → Stay old new
+post_at_stay old k given (Some lent) result new (Some (place.Post o i)) h =
+    stay_unless status.BadRequest (told (λ r. data_fits r.operation r.path lent) false o old.flow) result old new _ h (λ e. stay_same old new e.1.0.slots)
+post_at_stay old k given None result new (Some (place.Drain o i)) h = stay_same old new h.1.0.slots
+post_at_stay old k given None result new (Some (place.Post o i)) h = stay_still old new h.1
+post_at_stay old k given (Some lent) result new (Some (place.Drain o i)) h = stay_still old new h.1
+post_at_stay old k given lent result new None h = stay_still old new (refused_still lent h)
+  where
+    refused_still : (lent : Option Data) → PostReturnsAt old k given lent result new None → new ≡ old
+    refused_still (Some lent) h = h.1
+    refused_still None h = h.1
+post_at_stay old k given (Some lent) result new (Some place.Idle) h = stay_still old new h.1
+post_at_stay old k given (Some lent) result new (Some (place.Setup i)) h = stay_still old new h.1
+post_at_stay old k given (Some lent) result new (Some (place.Pre o i)) h = stay_still old new h.1
+post_at_stay old k given (Some lent) result new (Some (place.Base o)) h = stay_still old new h.1
+post_at_stay old k given (Some lent) result new (Some (place.Cleanup c)) h = stay_still old new h.1
+post_at_stay old k given None result new (Some place.Idle) h = stay_still old new h.1
+post_at_stay old k given None result new (Some (place.Setup i)) h = stay_still old new h.1
+post_at_stay old k given None result new (Some (place.Pre o i)) h = stay_still old new h.1
+post_at_stay old k given None result new (Some (place.Base o)) h = stay_still old new h.1
+post_at_stay old k given None result new (Some (place.Cleanup c)) h = stay_still old new h.1
+
+post_stay : (old : World) (k : WorkerId) (given : PostVerdict) (lent : Option Data) (result : Result (Unit {0}) Status) (new : World) → PostReturns old k given lent result new
+    → Stay old new
+unfolding PostReturns
+post_stay old k given lent result new h = post_at_stay old k given lent result new (worker_at old.workers k) h
+
+collect_stay : (old : World) (o : OpId) (result : Result Answer Status) (new : World) → Collects old o result new → Stay old new
+unfolding Collects
+collect_stay old o result new h = stay_same old new (ap (λ (w : World). w.contexts.slots) h.1)
+
+-- contexts
+
+-- the event makes that table
+stay_table : (old new : World) (t : ContextTable) → new ≡ record old { contexts = t } → SlotsStay old.contexts.slots t.slots → Stay old new
+stay_table old new t e h = stay_made old (record old { contexts = t }) new e h
+
+allocate_stay : (old : World) (k : WorkerId) (kind : ContextKind) (body : List ℕ) (result : Result CtxId Status) (new : World) → Allocates old k kind body result new → Stay old new
+unfolding Allocates
+allocate_stay old k kind body result new h =
+    stay_called result old new _ (callback_of old k) h
+    (λ at e. stay_memory _ result old new _ e (λ c f. stay_table old new _ f.1 (slots_placed old.contexts.slots c _ f.0)))
+
+unlinked_slots : (carried : CtxId → ℕ) (t : ContextTable) (w : ℕ) (wants : Bool) (c : CtxId) → SlotsStay t.slots (unlinked_for carried t w wants c).slots
+unlinked_slots carried t w true c = slots_changed (option_map (with_link None)) t.slots c refl
+unlinked_slots carried t w false c = slots_changed (option_map (with_link None)) t.slots c refl
+
+linked_slots : (t : ContextTable) (c : CtxId) (object : Object) → SlotsStay t.slots (linked t c object).slots
+linked_slots t c object = slots_changed (option_map (with_link (Some object))) t.slots c refl
+
+moded_slots : (carried : CtxId → ℕ) (t : ContextTable) (w : ℕ) (c : CtxId) (object : Object) (mode : SetMode) (wants : Bool) (found : CtxId) (full : Bool)
+    → SlotsStay t.slots (cond full t (set_mode_after carried t w c object mode wants found)).slots
+moded_slots carried t w c object mode wants found true = slots_same t.slots t.slots refl
+moded_slots carried t w c object Keep true found false = slots_same t.slots t.slots refl
+moded_slots carried t w c object Keep false found false = slots_same t.slots t.slots refl
+moded_slots carried t w c object Replace wants found false =
+    let u = unlinked_for carried t w wants found in
+    slots_after t.slots u.slots (linked u c object).slots (unlinked_slots carried t w wants found) (linked_slots u c object)
+
+set_slots : (carried : CtxId → ℕ) (t : ContextTable) (w : ℕ) (c : CtxId) (object : Object) (mode : SetMode) (wants : Bool) (m : Option CtxId)
+    → SlotsStay t.slots (set_after carried t w c object mode wants m).slots
+set_slots carried t w c object mode wants None = linked_slots t c object
+set_slots carried t w c object mode wants (Some found) = moded_slots carried t w c object mode wants found (wants && is_hand_full t.hands w)
+
+set_on_stay : (old : World) (k : WorkerId) (c : CtxId) (mode : SetMode) (wants : Bool) (result : SetAnswer) (new : World) (m : Option Context) (o : Option Object)
+    → SetsOn old k c mode wants result new m o → Stay old new
+set_on_stay old k c mode wants result new (Some x) (Some object) h =
+    stay_table old new _ h.1 (set_slots (carries old) old.contexts k.0 c object mode wants (holder old.contexts.slots x.owner object))
+set_on_stay old k c mode wants result new (Some x) None h = absurd h
+set_on_stay old k c mode wants result new None o h = absurd h
+
+set_unless_stay : (old : World) (k : WorkerId) (c : CtxId) (mode : SetMode) (wants : Bool) (result : SetAnswer) (new : World) (at : Callback) (refusal : Option Status)
+    → SetsUnless old k c mode wants result new at refusal → Stay old new
+set_unless_stay old k c mode wants result new at (Some refusal) h = stay_still old new h.1
+set_unless_stay old k c mode wants result new at None h =
+    set_on_stay old k c mode wants result new (context_at old.contexts.slots c) (object_for at (context_at old.contexts.slots c)) h
+
+set_in_stay : (old : World) (k : WorkerId) (c : CtxId) (mode : SetMode) (wants : Bool) (result : SetAnswer) (new : World) (m : Option Callback)
+    → SetsIn old k c mode wants result new m → Stay old new
+set_in_stay old k c mode wants result new None h = stay_still old new h.1
+set_in_stay old k c mode wants result new (Some at) h = set_unless_stay old k c mode wants result new at (set_refused old k c at) h
+
+set_stay : (old : World) (k : WorkerId) (c : CtxId) (mode : SetMode) (wants : Bool) (result : SetAnswer) (new : World) → Sets old k c mode wants result new → Stay old new
+unfolding Sets
+set_stay old k c mode wants result new h = set_in_stay old k c mode wants result new (callback_of old k) h
+
+get_stay : (old : World) (k : WorkerId) (kind : ContextKind) (result : Result CtxId Status) (new : World) → Gets old k kind result new → Stay old new
+unfolding Gets
+get_stay old k kind result new h =
+    stay_called result old new _ (callback_of old k) h
+    (λ at e. stay_answers _ result old new _ e (λ c f. stay_same old new (ap (λ (w : World). w.contexts.slots) f.1)))
+
+deleted_slots : (carried : CtxId → ℕ) (t : ContextTable) (w : ℕ) (wants : Bool) (m : Option CtxId) → SlotsStay t.slots (delete_after carried t w wants m).slots
+deleted_slots carried t w wants None = slots_same t.slots t.slots refl
+deleted_slots carried t w wants (Some c) = unlinked_slots carried t w wants c
+
+delete_stay : (old : World) (k : WorkerId) (kind : ContextKind) (wants : Bool) (result : Result (Option CtxId) Status) (new : World) → Deletes old k kind wants result new → Stay old new
+unfolding Deletes
+delete_stay old k kind wants result new h =
+    stay_called result old new _ (callback_of old k) h
+    (λ at e. stay_answers _ result old new _ e (λ c f. stay_table old new _ f.1 (deleted_slots (carries old) old.contexts k.0 wants (there_at old kind at))))
+
+reference_stay : (old : World) (k : WorkerId) (c : CtxId) (result : Result (Unit {0}) Status) (new : World) → References old k c result new → Stay old new
+unfolding References
+reference_stay old k c result new h =
+    stay_called result old new _ (callback_of old k) h
+    (λ at e. stay_answers _ result old new _ e (λ v f. stay_same old new (ap (λ (w : World). w.contexts.slots) f)))
+
+release_stay : (old : World) (k : WorkerId) (c : CtxId) (result : Result (Unit {0}) Status) (new : World) → Releases old k c result new → Stay old new
+unfolding Releases
+release_stay old k c result new h =
+    stay_called result old new _ (callback_of old k) h
+    (λ at e. stay_answers _ result old new _ e (λ v f. stay_same old new (ap (λ (w : World). w.contexts.slots) f)))
+
+read_stay : (old : World) (k : WorkerId) (c : CtxId) (result : Result (List ℕ) Status) (new : World) → ReadsBody old k c result new → Stay old new
+unfolding ReadsBody
+read_stay old k c result new h =
+    stay_called result old new _ (callback_of old k) h (λ at e. stay_memory _ result old new _ e (λ body f. stay_still old new f.1))
+
+write_stay : (old : World) (k : WorkerId) (c : CtxId) (bytes : List ℕ) (result : Result (Unit {0}) Status) (new : World) → WritesBody old k c bytes result new → Stay old new
+unfolding WritesBody
+write_stay old k c bytes result new h =
+    stay_called result old new _ (callback_of old k) h
+    (λ at e. stay_answers _ result old new _ e (λ v f. stay_table old new _ f (slots_changed (option_map (with_body bytes)) old.contexts.slots c refl)))
+
+bump_stay : (old : World) (k : WorkerId) (c : CtxId) (at by : ℕ) (result : Result ℕ Status) (new : World) → Bumps old k c at by result new → Stay old new
+unfolding Bumps
+bump_stay old k c at by result new h =
+    stay_called result old new _ (callback_of old k) h
+    (λ x e. stay_answers _ result old new _ e (λ n f. stay_table old new _ f.1 (slots_changed (option_map (with_body _)) old.contexts.slots c refl)))
+
+taken_slots : (t : ContextTable) (w : ℕ) (m : Option CtxId) → SlotsStay t.slots (taken_of t w m).slots
+taken_slots t w None = slots_same t.slots t.slots refl
+taken_slots t w (Some c) = slots_changed (option_map emptied) t.slots c refl
+
+due_stay : (old : World) (k : WorkerId) (result : Result (Option Due) Status) (new : World) → TakesDue old k result new → Stay old new
+unfolding TakesDue
+due_stay old k result new h =
+    stay_unless status.WrongStep (is_idle (worker_at old.workers k)) result old new _ h
+    (λ e. stay_made old _ new e.1 (taken_slots old.contexts k.0 (slice_get old.contexts.due 0)))
+
+cleans_at_stay : (old : World) (k : WorkerId) (number : ℕ) (result : Result (Unit {0}) Status) (new : World) (m : Option Worker) → CleansAt old k number result new m → Stay old new
+cleans_at_stay old k number result new (Some (place.Cleanup c)) h = stay_made old _ new h.1 (slots_changed (λ (x : Option Context). None) old.contexts.slots c refl)
+cleans_at_stay old k number result new None h = stay_still old new h.1
+cleans_at_stay old k number result new (Some place.Idle) h = stay_still old new h.1
+cleans_at_stay old k number result new (Some (place.Setup i)) h = stay_still old new h.1
+cleans_at_stay old k number result new (Some (place.Pre o i)) h = stay_still old new h.1
+cleans_at_stay old k number result new (Some (place.Base o)) h = stay_still old new h.1
+cleans_at_stay old k number result new (Some (place.Post o i)) h = stay_still old new h.1
+cleans_at_stay old k number result new (Some (place.Drain o i)) h = stay_still old new h.1
+
+cleaned_stay : (old : World) (k : WorkerId) (number : ℕ) (result : Result (Unit {0}) Status) (new : World) → Cleans old k number result new → Stay old new
+unfolding Cleans
+cleaned_stay old k number result new h = cleans_at_stay old k number result new (worker_at old.workers k) h
+
+finish_stay : (old : World) (i : InstanceId) (result : Result (Unit {0}) Status) (new : World) → Finishes old i result new → Stay old new
+unfolding Finishes
+finish_stay old i result new h = stay_answers _ result old new _ h (λ v f. stay_same old new (ap (λ (w : World). w.contexts.slots) f))
+
+-- every event
+
+step_stays : (old : World) (s : Step) (r : StepReply) (new : World) → Steps old s r new → Stay old new
+step_stays old (step.Register name registration) (reply.Filter r) new h = register_stay old name registration r new h
+step_stays old (step.Mount name) (reply.Volume r) new h = mount_stay old name r new h
+step_stays old (step.Attach k f v name altitude) (reply.Instance r) new h = attach_stay old k f v name altitude r new h
+step_stays old (step.SetupDone k accept) (reply.Done r) new h = setup_stay old k accept r new h
+step_stays old (step.Begin what) (reply.Operation r) new h = begin_stay old what r new h
+step_stays old (step.Next k o) (reply.Action r) new h = next_stay old k o r new h
+step_stays old (step.PreReturned k verdict lent) (reply.Done r) new h = pre_stay old k verdict lent r new h
+step_stays old (step.BaseReturned k call given) (reply.Done r) new h = base_stay old k call given r new h
+step_stays old (step.PostReturned k verdict lent) (reply.Done r) new h = post_stay old k verdict lent r new h
+step_stays old (step.Collect o) (reply.Answer r) new h = collect_stay old o r new h
+step_stays old (step.Allocate k what body) (reply.Context r) new h = allocate_stay old k what body r new h
+step_stays old (step.Set k c mode wants) (reply.Set r) new h = set_stay old k c mode wants r new h
+step_stays old (step.Get k what) (reply.Context r) new h = get_stay old k what r new h
+step_stays old (step.Delete k what wants) (reply.Old r) new h = delete_stay old k what wants r new h
+step_stays old (step.Reference k c) (reply.Done r) new h = reference_stay old k c r new h
+step_stays old (step.Release k c) (reply.Done r) new h = release_stay old k c r new h
+step_stays old (step.ReadBody k c) (reply.Body r) new h = read_stay old k c r new h
+step_stays old (step.WriteBody k c bytes) (reply.Done r) new h = write_stay old k c bytes r new h
+step_stays old (step.Bump k c at by) (reply.Number r) new h = bump_stay old k c at by r new h
+step_stays old (step.TakeDue k) (reply.Due r) new h = due_stay old k r new h
+step_stays old (step.Cleaned k number) (reply.Done r) new h = cleaned_stay old k number r new h
+step_stays old (step.Finish i) (reply.Done r) new h = finish_stay old i r new h
+step_stays old (step.Register name registration) _ new h = absurd h
+step_stays old (step.Mount name) _ new h = absurd h
+step_stays old (step.Attach k f v name altitude) _ new h = absurd h
+step_stays old (step.SetupDone k accept) _ new h = absurd h
+step_stays old (step.Begin what) _ new h = absurd h
+step_stays old (step.Next k o) _ new h = absurd h
+step_stays old (step.PreReturned k verdict lent) _ new h = absurd h
+step_stays old (step.BaseReturned k call given) _ new h = absurd h
+step_stays old (step.PostReturned k verdict lent) _ new h = absurd h
+step_stays old (step.Collect o) _ new h = absurd h
+step_stays old (step.Allocate k what body) _ new h = absurd h
+step_stays old (step.Set k c mode wants) _ new h = absurd h
+step_stays old (step.Get k what) _ new h = absurd h
+step_stays old (step.Delete k what wants) _ new h = absurd h
+step_stays old (step.Reference k c) _ new h = absurd h
+step_stays old (step.Release k c) _ new h = absurd h
+step_stays old (step.ReadBody k c) _ new h = absurd h
+step_stays old (step.WriteBody k c bytes) _ new h = absurd h
+step_stays old (step.Bump k c at by) _ new h = absurd h
+step_stays old (step.TakeDue k) _ new h = absurd h
+step_stays old (step.Cleaned k number) _ new h = absurd h
+step_stays old (step.Finish i) _ new h = absurd h
+
+-- ---- what is given, and what is due
+
+called_cases : {T : Type 0} (P : Type 0) (v : T) (old new : World) (Event : Callback → Type 0) (m : Option Callback) → InCallbackOf (Ok v) old new Event m → ((at : Callback) → Event at → P)
+    → P
+called_cases P v old new Event None h event = cc
+called_cases P v old new Event (Some at) h event = event at h
+
+-- a context that is allocated is new, and was given from then on
+allocated_new : (old : World) (k : WorkerId) (kind : ContextKind) (body : List ℕ) (c : CtxId) (new : World) → Allocates old k kind body (Ok c) new
+    → IsNew old.contexts.slots c × WasGiven new.contexts.slots c
+unfolding Allocates
+allocated_new old k kind body c new h =
+    called_cases (IsNew old.contexts.slots c × WasGiven new.contexts.slots c) c old new _ (callback_of old k) h
+    (λ at e. (e.1.0, subst (λ (w : World). WasGiven w.contexts.slots c) (sym e.1.1) (given_placed old.contexts.slots c _ e.1.0)))
+
+step_gives : (old : World) (s : Step) (r : StepReply) (new : World) (c : CtxId) → Steps old s r new → given_by s r ≡ Some c → IsNew old.contexts.slots c × WasGiven new.contexts.slots c
+step_gives old (step.Allocate k kind body) (reply.Context (Ok d)) new c h is =
+    subst (λ x. IsNew old.contexts.slots x × WasGiven new.contexts.slots x) (same_Some d c is) (allocated_new old k kind body d new h)
+step_gives old _ _ new c h is = absurd (none-some c is)
+
+-- a context that is due isn't cleaned
+reply_there : (slots : List Slot) (due : Due) (m : Option CtxId) → Some due ≡ option_and_then (λ (c : CtxId). option_map (due_of c) (context_at slots c)) m → context_at slots due.id ≡ None → ⊥
+reply_there slots due None h gone = cc
+reply_there slots due (Some c) h gone = there (context_at slots c) refl h
+  where
+    there : (o : Option Context) → context_at slots c ≡ o → Some due ≡ option_map (due_of c) o → ⊥
+    there None is h = cc
+    there (Some x) is h =
+        let same : due.id ≡ c = ap (λ (d : Due). d.id) (same_Some due (due_of c x) h) in
+        none-some x (sym gone ∙ ap (context_at slots) same ∙ is)
+
+unless_ok : {T : Type 0} (refusal : Status) (b : Bool) (v : T) (old new : World) (Event : Type 0) → Unless refusal b (Ok v) old new Event → Event
+unless_ok refusal true v old new Event h = h
+unless_ok refusal false v old new Event h = cc
+
+taken_there : (old : World) (k : WorkerId) (due : Due) (new : World) → TakesDue old k (Ok (Some due)) new → IsGone old due.id → ⊥
+unfolding TakesDue
+taken_there old k due new h gone =
+    reply_there old.contexts.slots due (slice_get old.contexts.due 0)
+    (ap reply_of (unless_ok status.WrongStep (is_idle (worker_at old.workers k)) (Some due) old new _ h).0) gone
+  where
+    reply_of : Result (Option Due) Status → Option Due
+    reply_of (Ok o) = o
+    reply_of (Err why) = None
+
+step_due : (old : World) (s : Step) (r : StepReply) (new : World) (c : CtxId) → Steps old s r new → due_by s r ≡ Some c → IsGone old c → ⊥
+step_due old (step.TakeDue k) (reply.Due (Ok (Some due))) new c h is gone =
+    taken_there old k due new h (subst (IsGone old) (sym (same_Some due.id c is)) gone)
+step_due old _ _ new c h is gone = absurd (none-some c is)
+
+-- ---- lists of events
+
+run_stays : (old : World) (steps : List Step) (replies : List StepReply) (new : World) → Run old steps replies new → Stay old new
+run_stays old [] [] new h = stay_still old new h
+run_stays old (s ∷ steps) (r ∷ replies) new h =
+    slots_after old.contexts.slots h.0.contexts.slots new.contexts.slots (step_stays old s r h.0 h.1) (run_stays h.0 steps replies new h.2)
+run_stays old [] (r ∷ replies) new h = absurd h
+run_stays old (s ∷ steps) [] new h = absurd h
+
+run_gives : (old : World) (steps : List Step) (replies : List StepReply) (new : World) (c : CtxId) → Run old steps replies new → Comes given_by steps replies c
+    → WasGiven new.contexts.slots c
+run_gives old (s ∷ steps) (r ∷ replies) new c h (inl now) =
+    given_stays h.0.contexts.slots new.contexts.slots c (run_stays h.0 steps replies new h.2) (step_gives old s r h.0 c h.1 now).1
+run_gives old (s ∷ steps) (r ∷ replies) new c h (inr later) = run_gives h.0 steps replies new c h.2 later
+run_gives old [] replies new c h comes = absurd comes
+run_gives old (s ∷ steps) [] new c h comes = absurd comes
+
+never_again : (old : World) (steps : List Step) (replies : List StepReply) (new : World) (c : CtxId) → Run old steps replies new → WasGiven old.contexts.slots c
+    → Comes given_by steps replies c → ⊥
+never_again old (s ∷ steps) (r ∷ replies) new c h was (inl now) = given_not_new old.contexts.slots c was (step_gives old s r h.0 c h.1 now).0
+never_again old (s ∷ steps) (r ∷ replies) new c h was (inr later) =
+    never_again h.0 steps replies new c h.2 (given_stays old.contexts.slots h.0.contexts.slots c (step_stays old s r h.0 h.1) was) later
+never_again old [] replies new c h was comes = comes
+never_again old (s ∷ steps) [] new c h was comes = comes
+
+never_due : (old : World) (steps : List Step) (replies : List StepReply) (new : World) (c : CtxId) → Run old steps replies new → WasGiven old.contexts.slots c → IsGone old c
+    → Comes due_by steps replies c → ⊥
+never_due old (s ∷ steps) (r ∷ replies) new c h was gone (inl now) = step_due old s r h.0 c h.1 now gone
+never_due old (s ∷ steps) (r ∷ replies) new c h was gone (inr later) =
+    let stays = step_stays old s r h.0 h.1 in
+    never_due h.0 steps replies new c h.2 (given_stays old.contexts.slots h.0.contexts.slots c stays was) (gone_stays old.contexts.slots h.0.contexts.slots c stays was gone) later
+never_due old [] replies new c h was gone comes = comes
+never_due old (s ∷ steps) [] new c h was gone comes = comes
+
+pub contexts_last : ContextsLast
+contexts_last steps replies mid later answers new first then c comes =
+    let was = run_gives empty_world steps replies mid c first comes in (
+      never_again mid later answers new c then was,
+      λ gone. (gone_stays mid.contexts.slots new.contexts.slots c (run_stays mid later answers new then) was gone, never_due mid later answers new c then was gone),
+    )

@@ -38,3 +38,8 @@ TellsKnown wanted (Some folder) result = Tells (wanted folder) result
 abbrev pub faults_after : {T : Type 0} → ℕ → Result T Status → ℕ
 faults_after faults (Err DeviceFault) = min (faults + 1) (2 ^ 64 - 1)
 faults_after faults _ = faults
+
+-- how many calls were made after one more, until the count is full, of a base that counts them
+abbrev pub calls_after : Option ℕ → Option ℕ
+calls_after None = None
+calls_after (Some calls) = Some (min (calls + 1) (2 ^ 64 - 1))

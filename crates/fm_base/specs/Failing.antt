@@ -1,7 +1,8 @@
 -- A base one of whose device calls fails.
-use Rattle.std.specs.Prelude.{◌≡◌, ◌≢◌, ℕ, ◌+◌, ◌-◌, ◌^◌, min, Result, Err}
+use Rattle.std.specs.Prelude.{◌≡◌, ◌≢◌, ℕ, ◌+◌, ◌-◌, ◌^◌, min, Option, Result, Err}
 use Rattle.fm_types.specs.declared.status.Status.{Status}
 use Rattle.fm_types.specs.declared.status.Status.TheVariants.{DeviceFault}
+use Rattle.fm_base.specs.Answers.{calls_after}
 
 -- the base that it is like, which call is to fail, counted from 1, how many were made, and how many failed here
 pub record Failing (B : Type 0) : Type 0 where
@@ -22,10 +23,10 @@ faults_of faults s = min (faults s.base + s.failures) (2 ^ 64 - 1)
 abbrev pub Fails : {B T : Type 0} → Failing B → Failing B → Result T Status → Type 0
 Fails old new result = (result ≡ Err DeviceFault) × (new ≡ record old { calls = counted old.calls; failures = counted old.failures })
 
--- any other call leaves what the base makes of it
-abbrev pub Passes : {B : Type 0} → Failing B → Failing B → Type 0
-Passes old new = new ≡ record old { base = new.base; calls = counted old.calls }
+-- any other call leaves what the base makes of one call of its own
+abbrev pub Passes : {B : Type 0} → (B → Option ℕ) → Failing B → Failing B → Type 0
+Passes calls old new = (new ≡ record old { base = new.base; calls = counted old.calls }) × (calls new.base ≡ calls_after (calls old.base))
 
 -- every call is counted
-abbrev pub FailsNth : {B T : Type 0} → Failing B → Failing B → Result T Status → Type 0
-FailsNth old new result = (old.calls + 1 ≡ old.number → Fails old new result) × (old.calls + 1 ≢ old.number → Passes old new)
+abbrev pub FailsNth : {B T : Type 0} → (B → Option ℕ) → Failing B → Failing B → Result T Status → Type 0
+FailsNth calls old new result = (old.calls + 1 ≡ old.number → Fails old new result) × (old.calls + 1 ≢ old.number → Passes calls old new)

@@ -1,9 +1,9 @@
 //! A base one of whose calls fails.
 
-ghost use Rattle.std.specs.Prelude.{◌≡◌, ◌≢◌, ◌+◌, ◌^◌, ◌≤◌, cond, length, IsSome, IfOk, IsTrue, ◌↔◌};
+ghost use Rattle.std.specs.Prelude.{◌≡◌, ◌≢◌, ◌+◌, ◌^◌, ◌≤◌, cond, length, Some, IsSome, IfOk, IsTrue, ◌↔◌};
 ghost use Rattle.fm_types.specs.ByteLists.{resized, written};
 ghost use Rattle.fm_base.specs.Folders.{created, changed, unlinked, told, bytes_from, size_of, presence_of, listed};
-ghost use Rattle.fm_base.specs.Answers.{MakesKnown, TellsKnown, faults_after};
+ghost use Rattle.fm_base.specs.Answers.{MakesKnown, TellsKnown, faults_after, calls_after};
 ghost use Rattle.fm_base.specs.Failing.{counted, faults_of, FailsNth};
 
 use crate::base::Base;
@@ -72,10 +72,13 @@ impl<B: Base> Base for FailNth<B> {
 
     ghost faults = { faults_of B.faults };
 
+    ghost calls = { λ s. Some s.calls };
+
     fn create(&mut self, path: &RelPath, mode: CreateMode) -> Result<(), Status>
         ensures makes { MakesKnown path.now (created mode path.now) (B.folder self.old.base) (B.folder self.new.base) result }
         ensures counts { faults_of B.faults self.new ≡ faults_after (faults_of B.faults self.old) result }
-        ensures nth { FailsNth self.old self.new result }
+        ensures nth { FailsNth B.calls self.old self.new result }
+        ensures once { Some self.new.calls ≡ calls_after (Some self.old.calls) }
     {
         if self.count_call() {
             return Err(Status::DeviceFault);
@@ -88,7 +91,8 @@ impl<B: Base> Base for FailNth<B> {
         ensures within { IfOk result (λ bytes. length bytes ≤ len) }
         ensures same { B.folder self.new.base ≡ B.folder self.old.base }
         ensures counts { faults_of B.faults self.new ≡ faults_after (faults_of B.faults self.old) result }
-        ensures nth { FailsNth self.old self.new result }
+        ensures nth { FailsNth B.calls self.old self.new result }
+        ensures once { Some self.new.calls ≡ calls_after (Some self.old.calls) }
     {
         if self.count_call() {
             return Err(Status::DeviceFault);
@@ -100,7 +104,8 @@ impl<B: Base> Base for FailNth<B> {
         requires { offset + length bytes.now ≤ 2 ^ 40 }
         ensures makes { MakesKnown path.now (changed (written offset bytes.now) path.now) (B.folder self.old.base) (B.folder self.new.base) result }
         ensures counts { faults_of B.faults self.new ≡ faults_after (faults_of B.faults self.old) result }
-        ensures nth { FailsNth self.old self.new result }
+        ensures nth { FailsNth B.calls self.old self.new result }
+        ensures once { Some self.new.calls ≡ calls_after (Some self.old.calls) }
     {
         if self.count_call() {
             return Err(Status::DeviceFault);
@@ -113,7 +118,8 @@ impl<B: Base> Base for FailNth<B> {
         ensures same { B.folder self.new.base ≡ B.folder self.old.base }
         ensures steady { IsSome (B.folder self.old.base) → result ≢ Err Status.NoMemory }
         ensures counts { faults_of B.faults self.new ≡ faults_after (faults_of B.faults self.old) result }
-        ensures nth { FailsNth self.old self.new result }
+        ensures nth { FailsNth B.calls self.old self.new result }
+        ensures once { Some self.new.calls ≡ calls_after (Some self.old.calls) }
     {
         if self.count_call() {
             return Err(Status::DeviceFault);
@@ -125,7 +131,8 @@ impl<B: Base> Base for FailNth<B> {
         requires { size ≤ 2 ^ 40 }
         ensures makes { MakesKnown path.now (changed (resized size) path.now) (B.folder self.old.base) (B.folder self.new.base) result }
         ensures counts { faults_of B.faults self.new ≡ faults_after (faults_of B.faults self.old) result }
-        ensures nth { FailsNth self.old self.new result }
+        ensures nth { FailsNth B.calls self.old self.new result }
+        ensures once { Some self.new.calls ≡ calls_after (Some self.old.calls) }
     {
         if self.count_call() {
             return Err(Status::DeviceFault);
@@ -138,7 +145,8 @@ impl<B: Base> Base for FailNth<B> {
         ensures same { B.folder self.new.base ≡ B.folder self.old.base }
         ensures steady { IsSome (B.folder self.old.base) → result ≢ Err Status.NoMemory }
         ensures counts { faults_of B.faults self.new ≡ faults_after (faults_of B.faults self.old) result }
-        ensures nth { FailsNth self.old self.new result }
+        ensures nth { FailsNth B.calls self.old self.new result }
+        ensures once { Some self.new.calls ≡ calls_after (Some self.old.calls) }
     {
         if self.count_call() {
             return Err(Status::DeviceFault);
@@ -151,7 +159,8 @@ impl<B: Base> Base for FailNth<B> {
         ensures within { IfOk result (λ names. length names ≤ 32768) }
         ensures same { B.folder self.new.base ≡ B.folder self.old.base }
         ensures counts { faults_of B.faults self.new ≡ faults_after (faults_of B.faults self.old) result }
-        ensures nth { FailsNth self.old self.new result }
+        ensures nth { FailsNth B.calls self.old self.new result }
+        ensures once { Some self.new.calls ≡ calls_after (Some self.old.calls) }
     {
         if self.count_call() {
             return Err(Status::DeviceFault);
@@ -163,7 +172,8 @@ impl<B: Base> Base for FailNth<B> {
         ensures makes { MakesKnown path.now (unlinked path.now) (B.folder self.old.base) (B.folder self.new.base) result }
         ensures steady { IsSome (B.folder self.old.base) → result ≢ Err Status.NoMemory }
         ensures counts { faults_of B.faults self.new ≡ faults_after (faults_of B.faults self.old) result }
-        ensures nth { FailsNth self.old self.new result }
+        ensures nth { FailsNth B.calls self.old self.new result }
+        ensures once { Some self.new.calls ≡ calls_after (Some self.old.calls) }
     {
         if self.count_call() {
             return Err(Status::DeviceFault);

@@ -181,12 +181,14 @@ impl MemoryBase {
 }
 
 impl Base for MemoryBase {
-    ghost use Rattle.std.specs.Prelude.{Some};
+    ghost use Rattle.std.specs.Prelude.{Some, None};
     ghost use Rattle.fm_base.specs.Folders.{Folder};
 
     ghost folder = { λ base. Some base };
 
     ghost faults = { λ _. 0 };
+
+    ghost calls = { λ _. None };
 
     fn create(&mut self, path: &RelPath, mode: CreateMode) -> Result<(), Status>
         ensures makes { Makes path.now (created mode path.now) self.old self.new result }

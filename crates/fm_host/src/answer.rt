@@ -1,7 +1,6 @@
 //! What the host tells, as a base answers it.
 
 ghost use Rattle.std.specs.Prelude.{◌≡◌, IfErr};
-ghost use Rattle.std.specs.IoError.{error_kind};
 ghost use Rattle.fm_base.specs.Answers.{faults_after};
 ghost use Rattle.fm_host.specs.Told.{status_of, answer_of, IsHostRefusal};
 
@@ -9,15 +8,16 @@ use fm_types::Status;
 use std::io;
 use std::io::ErrorKind;
 
-/// The status for an error of the host: 19 where a file, or a folder above it, isn't there, 20 where a
-/// file is there already, 1 where memory was refused, and 18 for all else.
+/// The status for an error: 19 where a file, or a folder above it, isn't there, 20 where a file is there
+/// already, 1 where a growth of this program's own was refused, and 18 for all else, also where the host
+/// wants memory, which its error then says by a number of the host's.
 fn status_of(error: &io::Error) -> Status
-    ensures { result ≡ status_of (error_kind error.now) }
+    ensures { result ≡ status_of error.now }
 {
     match error.kind() {
         ErrorKind::NotFound | ErrorKind::NotADirectory => Status::FileNotFound,
         ErrorKind::AlreadyExists => Status::AlreadyExists,
-        ErrorKind::OutOfMemory => Status::NoMemory,
+        ErrorKind::OutOfMemory if error.raw_os_error().is_none() => Status::NoMemory,
         _ => Status::DeviceFault,
     }
 }

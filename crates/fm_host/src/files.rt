@@ -3,6 +3,7 @@
 
 ghost use Rattle.std.specs.Prelude.{◌≤◌, IfOk, IfSome, length};
 
+use crate::kinds::file_size;
 use crate::paths::joined;
 use fm_types::{Bytes, CreateMode, RelPath};
 use std::fs::{File, OpenFile, OpenOptions};
@@ -13,10 +14,7 @@ use std::{fs, io};
 // How many bytes a file has; a folder is no file.
 fn size_at(rt: &impl Files, path: &str) -> io::Result<u64> {
     let metadata = fs::metadata(rt, path)?;
-    if metadata.is_dir() {
-        return Err(io::Error::from(ErrorKind::IsADirectory));
-    }
-    Ok(metadata.len())
+    file_size(metadata.is_dir(), metadata.len())
 }
 
 fn open_existing(rt: &impl Files, path: &str) -> io::Result<()> {

@@ -7,10 +7,10 @@ ghost use Rattle.fm_host.specs.Told.{IsHostRefusal};
 
 use crate::answer::answer;
 use crate::files;
+use crate::kinds::folder_there;
 use crate::names::listing;
 use fm_base::Base;
 use fm_types::{Bytes, CreateMode, RelPath, Status};
-use std::io::ErrorKind;
 use std::marker::Model;
 use std::rt::Files;
 use std::{fs, io};
@@ -38,9 +38,7 @@ impl<R: Files + AllocGlobal + Clone + Drop> Model for HostBase<R> {
 
 // The runtime and the folder's path, once it is sure that the folder is there.
 fn folder_at<R: Files + AllocGlobal + Clone>(rt: &R, folder: &str) -> io::Result<(R, String)> {
-    if !fs::metadata(rt, folder)?.is_dir() {
-        return Err(io::Error::from(ErrorKind::NotADirectory));
-    }
+    folder_there(fs::metadata(rt, folder)?.is_dir())?;
     let path = String::from_str(rt.alloc(), folder)?;
     Ok((rt.clone()?, path))
 }
@@ -69,6 +67,8 @@ impl<R: Files + AllocGlobal + Clone + Drop> Base for HostBase<R> {
     ghost folder = { λ _. None };
 
     ghost faults = { λ failures. failures };
+
+    ghost calls = { λ _. None };
 
     fn create(&mut self, path: &RelPath, mode: CreateMode) -> Result<(), Status>
         ensures counts { self.new ≡ faults_after self.old result }

@@ -5,6 +5,7 @@
 mod answer;
 mod files;
 mod host_base;
+mod kinds;
 mod names;
 mod paths;
 

@@ -5,30 +5,22 @@ ghost use Rattle.std.specs.List.{sum_by};
 ghost use Rattle.fm_base.specs.Folders.{lines_of};
 ghost use Rattle.fm_host.specs.Names.{line_length, IsListing};
 
+use crate::kinds::listed_name;
 use fm_types::{Bytes, RelPath};
 use std::alloc::{AllocError, Global};
 use std::fs::DirEntry;
-use std::io::ErrorKind;
 use std::rt::Files;
 use std::{fs, io};
 
 /// How many bytes a listing has at most.
 const MAX_LISTING: usize = 32_768;
 
-// The entry's name, where it is one that a base may have and not that of a folder. An entry that went
-// away meanwhile has none.
+// The name under which the entry is listed, if it is.
 fn name_of<R: Files + AllocGlobal + Clone + Drop>(
     entry: &DirEntry<R>,
 ) -> io::Result<Option<RelPath>> {
-    let Ok(name) = RelPath::read(entry.file_name().as_bytes()) else {
-        return Ok(None);
-    };
-    match entry.file_type() {
-        Ok(file_type) if file_type.is_dir() => Ok(None),
-        Ok(_) => Ok(Some(name)),
-        Err(error) if error.kind() == ErrorKind::NotFound => Ok(None),
-        Err(error) => Err(error),
-    }
+    let is_folder = entry.file_type().map(|file_type| file_type.is_dir());
+    listed_name(entry.file_name().as_bytes(), is_folder)
 }
 
 // The names in the order in which the host gives them; None where their lines have too many bytes.

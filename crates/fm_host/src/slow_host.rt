@@ -1,5 +1,5 @@
 //! A host for tests: it gives and takes bytes one by one, is interrupted before each of them, may fail at
-//! one place of its file, and lists what names it is told to.
+//! one place of its file or where a file is synced, and lists what names it is told to.
 
 ghost use Rattle.std.specs.Prelude.{◌≡◌, ◌≤◌, length};
 
@@ -12,7 +12,7 @@ use std::rt::Files;
 /// What names a folder of the slow host has.
 #[derive(Clone, Copy)]
 pub enum Names {
-    /// Names of which some are no paths, one is that of a folder, and one goes away.
+    /// Names of which some are no paths, one is that of a folder, one goes away, and one is hidden.
     Mixed,
     /// Three names, one of which isn't UTF-8.
     NotText,
@@ -20,13 +20,19 @@ pub enum Names {
     Long(u64),
 }
 
+/// What Linux answers where it wants memory itself.
+const ENOMEM: i32 = 12;
+
 /// Every path is that of a file of the 8 bytes `abcdefgh`, but for those that end in `root` and `folder`
-/// (folders), `gone` (not there) and `memory` (memory is refused).
+/// (folders), `gone` (not there), `memory` (a growth of this program's is refused) and `crowded` (the host
+/// wants memory).
 #[derive(Clone, Drop)]
 pub struct SlowHost {
     memory: Global,
     /// The place at which reads and writes fail.
     pub fails_at: u64,
+    /// Whether a file can't be synced.
+    pub fails_to_sync: bool,
     /// What names are in each folder.
     pub names: Names,
 }
@@ -37,6 +43,7 @@ impl SlowHost {
         SlowHost {
             memory,
             fails_at: u64::MAX,
+            fails_to_sync: false,
             names: Names::Long(0),
         }
     }
@@ -56,6 +63,7 @@ pub struct SlowFile {
     at: u64,
     is_interrupted: bool,
     fails_at: u64,
+    fails_to_sync: bool,
 }
 
 impl SlowFile {
@@ -121,6 +129,9 @@ impl OpenFile for SlowFile {
     }
 
     fn sync_all(&self) -> io::Result<()> {
+        if self.fails_to_sync {
+            return Err(io::Error::from(ErrorKind::StorageFull));
+        }
         Ok(())
     }
 
@@ -149,7 +160,7 @@ impl Read for NamesLeft {
         let names = self.names;
         self.names = Names::Long(0);
         match names {
-            Names::Mixed => Ok(give(buf, b"b\0.\0a c\0..\0\x01\0\xc3\xa9\0folder\0gone\0a\0")),
+            Names::Mixed => Ok(give(buf, b"b\0.\0a c\0..\0\x01\0\xc3\xa9\0folder\0gone\0.b\0a\0")),
             Names::NotText => Ok(give(buf, b"a\0\xff\0b\0")),
             Names::Long(0) => Ok(0),
             Names::Long(count) => {
@@ -172,6 +183,7 @@ impl Files for SlowHost {
             at: 0,
             is_interrupted: false,
             fails_at: self.fails_at,
+            fails_to_sync: self.fails_to_sync,
         })
     }
 
@@ -188,6 +200,9 @@ impl Files for SlowHost {
         }
         if path.ends_with("memory") {
             return Err(io::Error::from(AllocError));
+        }
+        if path.ends_with("crowded") {
+            return Err(io::Error::from_raw_os_error(ENOMEM));
         }
         Ok(Metadata::of_file(8))
     }

@@ -108,7 +108,8 @@ fn folders_are_no_files(rt: HostRuntime) -> Result<(), Fail> {
     let mut base = HostBase::new(&rt, folder.as_str())?;
     base.create(&RelPath::read(b"inner/x")?, CreateMode::New)?;
     base.create(&RelPath::read(b"y")?, CreateMode::New)?;
-    assert_eq!(rt; base.list()?.as_slice(), b"y\n".as_slice());
+    base.create(&RelPath::read(b".hidden")?, CreateMode::New)?;
+    assert_eq!(rt; base.list()?.as_slice(), b".hidden\ny\n".as_slice());
     assert_eq!(rt;
         base.size(&RelPath::read(b"inner")?),
         Err(Status::DeviceFault)
@@ -118,8 +119,15 @@ fn folders_are_no_files(rt: HostRuntime) -> Result<(), Fail> {
         Err(Status::DeviceFault)
     );
     assert_eq!(rt; base.failures(), 2);
+    let file = format!(in rt.alloc(); "{folder}/y")?;
+    assert_eq!(rt;
+        HostBase::new(&rt, file.as_str()).err(),
+        Some(Status::FileNotFound),
+        "y is no folder"
+    );
     base.unlink(&RelPath::read(b"inner/x")?)?;
     base.unlink(&RelPath::read(b"y")?)?;
+    base.unlink(&RelPath::read(b".hidden")?)?;
     fs::remove_dir(&rt, inner.as_str())?;
     fs::remove_dir(&rt, folder.as_str())?;
     Ok(())
@@ -157,6 +165,11 @@ fn fails_in_mid_stream(rt: HostRuntime) -> Result<(), Fail> {
         Err(Status::NoMemory)
     );
     assert_eq!(rt; base.failures(), 2, "want of memory is no fault");
+    assert_eq!(rt;
+        base.size(&RelPath::read(b"crowded")?),
+        Err(Status::DeviceFault)
+    );
+    assert_eq!(rt; base.failures(), 3, "the host's own is one");
     Ok(())
 }
 
@@ -165,7 +178,7 @@ fn names_of_a_host(rt: HostRuntime) -> Result<(), Fail> {
     let mut host = SlowHost::new(rt.alloc());
     host.names = Names::Mixed;
     let mut base = HostBase::new(&host, "root")?;
-    assert_eq!(rt; base.list()?.as_slice(), b"a\na c\nb\n".as_slice());
+    assert_eq!(rt; base.list()?.as_slice(), b".b\na\na c\nb\n".as_slice());
     host.names = Names::NotText;
     let mut base = HostBase::new(&host, "root")?;
     assert_eq!(rt;
@@ -181,6 +194,18 @@ fn names_of_a_host(rt: HostRuntime) -> Result<(), Fail> {
     let mut base = HostBase::new(&host, "root")?;
     assert_eq!(rt; base.list().err(), Some(Status::TooMany));
     assert_eq!(rt; base.failures(), 0);
+    Ok(())
+}
+
+#[test]
+fn synced_by_flush(rt: HostRuntime) -> Result<(), Fail> {
+    let mut host = SlowHost::new(rt.alloc());
+    host.fails_to_sync = true;
+    let mut base = HostBase::new(&host, "root")?;
+    let file = RelPath::read(b"file")?;
+    assert_eq!(rt; base.write(&file, 0, b"x"), Ok(()), "nothing is synced");
+    assert_eq!(rt; base.flush(&file), Err(Status::DeviceFault));
+    assert_eq!(rt; base.failures(), 1);
     Ok(())
 }
 

@@ -7,7 +7,7 @@ use mathlib.Core.Option.{some}
 use lib.ListN.{get_elem?}
 use Rattle.fm_rundown.specs.declared.view.VolumeView.{VolumeView}
 use Rattle.fm_rundown.specs.Views.{no_pass}
-use Rattle.fm_rundown.specs.Kinds.{Kind, is_closing_word, one_more, one_less, gained, lost, tried, undone, saw_closing, saw_drained, closed, most_passes, enters, undoes, leaves, closes, looks}
+use Rattle.fm_rundown.specs.Kinds.{Kind, is_closing_word, one_more, one_less, gained, lost, tried, undone, saw_closing, saw_drained, closed, took_look, most_passes, enters, undoes, leaves, closes, looks}
 use Rattle.fm_rundown.specs.Counts.{passes_of, is_closed, is_seen_drained, NobodyHolds, Fits, IsCounted}
 use Rattle.fm_rundown.proofs.Words.{lowest_bit, or_one}
 use Rattle.fm_rundown.proofs.Lists.{found, sum_changed, all_found, any_changed, any_passes, any_none, any_pushed}
@@ -174,15 +174,17 @@ looks_keeps word ps k p few counted at may =
     let bit = closing_bit word ps counted in
     let fits = all_found (Fits (is_closed ps)) ps k p counted.1 at in
     let After : VolumeView → Type 0 = λ q. IsCounted word (set ps k q) in
-    cond_both (is_closing_word word) (cond (word == 1) (saw_drained p) (saw_closing p)) p After
-    (λ is. cond_both (word == 1) (saw_drained p) (saw_closing p) After
-    (λ one. recounted word word ps k p (saw_drained p) at counted refl refl ((λ _. sym bit ∙ is), (λ _. sym bit ∙ is), fits.2, fits.3)
+    let drained = saw_drained (took_look p) in
+    let closing = saw_closing (took_look p) in
+    cond_both (is_closing_word word) (cond (word == 1) drained closing) (took_look p) After
+    (λ is. cond_both (word == 1) drained closing After
+    (λ one. recounted word word ps k p drained at counted refl refl ((λ _. sym bit ∙ is), (λ _. sym bit ∙ is), fits.2, fits.3)
     (λ _.
     let free = nobody_at_one word ps counted (eqb-true word 1 one) in
-    All-set IsFree ps k (saw_drained p) (all_found IsFree ps k p free at) free))
-    (λ _. recounted word word ps k p (saw_closing p) at counted refl refl ((λ _. sym bit ∙ is), fits.1, fits.2, fits.3)
-    (nobody_stays ps k p (saw_closing p) at refl (omega arith) counted.2)))
-    (λ _. recounted word word ps k p p at counted refl refl fits (nobody_stays ps k p p at refl (omega arith) counted.2))
+    All-set IsFree ps k drained (all_found IsFree ps k p free at) free))
+    (λ _. recounted word word ps k p closing at counted refl refl ((λ _. sym bit ∙ is), fits.1, fits.2, fits.3)
+    (nobody_stays ps k p closing at refl (omega arith) counted.2)))
+    (λ _. recounted word word ps k p (took_look p) at counted refl refl fits (nobody_stays ps k p (took_look p) at refl (omega arith) counted.2))
 
 pub closes_keeps : Keeps closes
 closes_keeps word ps k p few counted at may =

@@ -8,7 +8,7 @@ use Rattle.atomic_table.proofs.Lists.{at_map}
 use Rattle.fm_rundown.specs.declared.view.VolumeView.{VolumeView}
 use Rattle.fm_rundown.specs.declared.view.SeatView.{SeatView}
 use Rattle.fm_rundown.specs.Views.{most_volumes, volume_of, changed}
-use Rattle.fm_rundown.specs.Kinds.{is_closing_word, gained, tried, saw_closing, saw_drained, most_passes}
+use Rattle.fm_rundown.specs.Kinds.{is_closing_word, gained, tried, saw_closing, saw_drained, took_look, most_passes}
 use Rattle.fm_rundown.specs.Counts.{is_seen_drained, NobodyHolds}
 use Rattle.fm_rundown.specs.Rule.{GateState, IsKept, column}
 use Rattle.fm_rundown.specs.Schedules.{Call, enter, undo, leave, close, look, kind_of, Step, after_step}
@@ -53,8 +53,10 @@ stays_seen leave found p seen = seen
 stays_seen close found p seen = seen
 stays_seen look found p seen =
     let Seen : VolumeView → Type 0 = λ q. q.is_drained ≡ true in
-    cond_both (is_closing_word found) (cond (found == 1) (saw_drained p) (saw_closing p)) p Seen
-    (λ _. cond_both (found == 1) (saw_drained p) (saw_closing p) Seen (λ _. refl) (λ _. seen)) (λ _. seen)
+    let drained = saw_drained (took_look p) in
+    let closing = saw_closing (took_look p) in
+    cond_both (is_closing_word found) (cond (found == 1) drained closing) (took_look p) Seen
+    (λ _. cond_both (found == 1) drained closing Seen (λ _. refl) (λ _. seen)) (λ _. seen)
 
 seen_after_step : (seats v : ℕ) (s : GateState) (step : Step) (seat : SeatView) → IsKept seats s → get_elem? s.views step.seat ≡ some seat
     → step.volume < most_volumes

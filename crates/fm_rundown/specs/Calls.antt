@@ -12,7 +12,7 @@ use Rattle.fm_rundown.specs.declared.look.Look.TheVariants.{Open, Closing, Drain
 use Rattle.fm_rundown.specs.Views.{most_volumes, volume_of, changed}
 use Rattle.fm_rundown.specs.Rule.{most_seats}
 use Rattle.fm_rundown.specs.Seats.{view_of, volumes_of, seats_of, passes_held}
-use Rattle.fm_rundown.specs.Kinds.{gained, lost, saw_closing, saw_drained, closed, most_passes}
+use Rattle.fm_rundown.specs.Kinds.{gained, lost, saw_closing, saw_drained, closed, took_look, most_passes}
 
 -- a call on a volume: refused with 7, and nothing changed, exactly where the gate hasn't the volume; else what the call says of the seat
 abbrev pub OnVolume : {T : Type 0} → (ℕ → SeatView → Result T Status → SeatView → Type 0) → RundownGate → ℕ → GateSeat → Result T Status → GateSeat
@@ -47,11 +47,12 @@ Leaves v old result new =
 abbrev pub Closes : ℕ → SeatView → Result (Unit {0}) Status → SeatView → Type 0
 Closes v old result new = MatchResult result (λ _. new ≡ changed v closed old) (λ _. ⊥)
 
--- `look`: what it answers is what the seat has then seen; a volume that the seat has seen closing isn't open, and of a drained one it holds no pass
+-- `look`: whatever it answers, it has taken one look; what it answers is what the seat has then seen; a volume that the seat has seen closing isn't
+-- open, and of a drained one it holds no pass
 abbrev pub Sees : ℕ → SeatView → Look → SeatView → Type 0
-Sees v old Open new = IsUnseen v old × (new ≡ old)
-Sees v old Closing new = new ≡ changed v saw_closing old
-Sees v old Drained new = ((volume_of v old).held ≡ 0) × (new ≡ changed v saw_drained old)
+Sees v old Open new = IsUnseen v old × (new ≡ changed v took_look old)
+Sees v old Closing new = new ≡ changed v (λ p. saw_closing (took_look p)) old
+Sees v old Drained new = ((volume_of v old).held ≡ 0) × (new ≡ changed v (λ p. saw_drained (took_look p)) old)
 
 abbrev pub Looks : ℕ → SeatView → Result Look Status → SeatView → Type 0
 Looks v old result new = MatchResult result (λ look. Sees v old look new) (λ _. ⊥)

@@ -37,6 +37,9 @@ saw_drained p = record p { is_closing = true; is_drained = true }
 abbrev pub closed : VolumeView → VolumeView
 closed p = record p { is_closing = true; has_closed = true }
 
+abbrev pub took_look : VolumeView → VolumeView
+took_look p = record p { looks = p.looks + 1 }
+
 -- a seat holds at most so many passes of a volume
 abbrev pub most_passes : ℕ
 most_passes = 1000
@@ -45,9 +48,9 @@ most_passes = 1000
 abbrev pub entered : ℕ → VolumeView → VolumeView
 entered found p = cond (is_closing_word found) (saw_closing (tried p)) (cond (nat_lt p.held most_passes) (gained p) (tried p))
 
--- `look` sees that the volume is closing, and that it is drained where the word is 1: closing, and no pass
+-- `look` is counted; it sees that the volume is closing, and that it is drained where the word is 1: closing, and no pass
 abbrev pub looked : ℕ → VolumeView → VolumeView
-looked found p = cond (is_closing_word found) (cond (found == 1) (saw_drained p) (saw_closing p)) p
+looked found p = cond (is_closing_word found) (cond (found == 1) (saw_drained (took_look p)) (saw_closing (took_look p))) (took_look p)
 
 -- ---- the kinds of steps ----
 

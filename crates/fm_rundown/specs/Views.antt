@@ -9,7 +9,7 @@ most_volumes = 8
 
 -- no pass, and nothing seen or done
 abbrev pub no_pass : VolumeView
-no_pass = record { held = 0; tentative = 0; is_closing = false; is_drained = false; has_closed = false }
+no_pass = record { held = 0; tentative = 0; is_closing = false; is_drained = false; has_closed = false; looks = 0 }
 
 -- a seat at its beginning, with so many others to be made of it
 abbrev pub fresh_seat : ℕ → SeatView

@@ -14,6 +14,8 @@ pub struct VolumeView {
     pub is_drained: bool,
     /// Whether it has closed the volume itself.
     pub has_closed: bool,
+    /// How many looks it has taken at the volume.
+    pub looks: u64,
 }
 
 /// What a seat knows of each volume, and how many seats are still to be made of it.

@@ -1,5 +1,5 @@
 -- Sets of operations and of kinds of contexts, as bits.
-use Rattle.std.specs.Prelude.{ℕ, Bool, ◌==◌}
+use Rattle.std.specs.Prelude.{◌≡◌, ℕ, Bool, true, false, ◌==◌}
 use Rattle.std.specs.Int.RustNames.{bit_and}
 use Rattle.fm_types.specs.declared.operation.Operation.{Operation}
 use Rattle.fm_types.specs.declared.operation.Operation.TheVariants.{Create, Read, Write, QuerySize, SetSize, Flush, List, SetDelete, Cleanup, Close}
@@ -23,6 +23,14 @@ operation_bit Close = 512
 abbrev pub has_operation : ℕ → Operation → Bool
 has_operation mask operation = bit_and mask (operation_bit operation) == operation_bit operation
 
+-- every operation is in the set
+abbrev pub HasEveryOperation : ℕ → Type 0
+HasEveryOperation mask = (operation : Operation) → has_operation mask operation ≡ true
+
+-- no operation is in the set
+abbrev pub HasNoOperation : ℕ → Type 0
+HasNoOperation mask = (operation : Operation) → has_operation mask operation ≡ false
+
 -- the bit of a kind of context in a set of kinds
 abbrev pub context_bit : ContextKind → ℕ
 context_bit Volume = 1
@@ -33,3 +41,11 @@ context_bit Handle = 8
 -- whether a set of kinds has that one
 abbrev pub has_context : ℕ → ContextKind → Bool
 has_context mask kind = bit_and mask (context_bit kind) == context_bit kind
+
+-- every kind of context is in the set
+abbrev pub HasEveryContext : ℕ → Type 0
+HasEveryContext mask = (kind : ContextKind) → has_context mask kind ≡ true
+
+-- no kind of context is in the set
+abbrev pub HasNoContext : ℕ → Type 0
+HasNoContext mask = (kind : ContextKind) → has_context mask kind ≡ false

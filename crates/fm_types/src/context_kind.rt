@@ -1,7 +1,7 @@
 //! The four kinds of objects that a filter's contexts may be set on, and sets of them.
 
-ghost use Rattle.std.specs.Prelude.{⊤, ◌≡◌, [], ◌∷◌, codes};
-ghost use Rattle.fm_types.specs.Masks.{context_bit, has_context};
+ghost use Rattle.std.specs.Prelude.{⊤, ◌≡◌, ◌<◌, ◌^◌, [], ◌∷◌, codes};
+ghost use Rattle.fm_types.specs.Masks.{context_bit, has_context, HasEveryContext, HasNoContext};
 
 use bitflags::{Flag, Flags, bitflag_items};
 
@@ -67,6 +67,12 @@ impl ContextMask {
             ContextKind::Handle => ContextMask::HANDLE,
         }
     }
+
+    /// Every kind of context is in `ALL`, none is in `NONE`, and nothing else is in either.
+    pub fn laws()
+        ensures all { HasEveryContext ContextMask.ALL.0 × (ContextMask.ALL.0 < 2 ^ 4) }
+        ensures none { HasNoContext ContextMask.NONE.0 × (ContextMask.NONE.0 < 2 ^ 4) }
+    {}
 
     /// Whether that kind of context is in the set.
     pub fn has(self, kind: ContextKind) -> bool

@@ -1,7 +1,7 @@
 //! The ten kinds of operations, and sets of them: what a filter's callbacks are registered for.
 
-ghost use Rattle.std.specs.Prelude.{⊤, ◌≡◌, [], ◌∷◌, codes};
-ghost use Rattle.fm_types.specs.Masks.{operation_bit, has_operation};
+ghost use Rattle.std.specs.Prelude.{⊤, ◌≡◌, ◌<◌, ◌^◌, [], ◌∷◌, codes};
+ghost use Rattle.fm_types.specs.Masks.{operation_bit, has_operation, HasEveryOperation, HasNoOperation};
 
 use bitflags::{Flag, Flags, bitflag_items};
 
@@ -96,6 +96,12 @@ impl OpMask {
             Operation::Close => OpMask::CLOSE,
         }
     }
+
+    /// Every kind of operation is in `ALL`, none is in `NONE`, and nothing else is in either.
+    pub fn laws()
+        ensures all { HasEveryOperation OpMask.ALL.0 × (OpMask.ALL.0 < 2 ^ 10) }
+        ensures none { HasNoOperation OpMask.NONE.0 × (OpMask.NONE.0 < 2 ^ 10) }
+    {}
 
     /// Whether that kind of operation is in the set.
     pub fn has(self, operation: Operation) -> bool

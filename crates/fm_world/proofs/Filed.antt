@@ -17,10 +17,11 @@ use Rattle.fm_types.specs.declared.operation.Operation.TheVariants as kind
 use Rattle.fm_types.specs.declared.status.Status.{Status}
 use Rattle.fm_types.specs.declared.status.Status.TheVariants as status
 use Rattle.fm_data.specs.declared.answer.Answer.{Answer}
+use Rattle.fm_data.specs.declared.base_call.BaseCall.{BaseCall}
 use Rattle.fm_data.specs.declared.params.Params.{Params}
 use Rattle.fm_data.specs.declared.params.Params.TheVariants as params
 use Rattle.fm_data.specs.Data.{Data}
-use Rattle.fm_data.specs.Params.{operation_of, path_of, same_operation, same_path, are_for, fit, is_within_limits}
+use Rattle.fm_data.specs.Params.{operation_of, same_operation, same_path, are_on, are_for, fit, call_fits, is_within_limits}
 use Rattle.fm_flow.specs.declared.action.Below.{Below}
 use Rattle.fm_flow.specs.declared.action.Below.TheVariants as below
 use Rattle.fm_flow.specs.declared.action.FlowAction.TheVariants as action
@@ -266,21 +267,23 @@ same_create _ kind.Create h = absurd (false≢true h)
 same_create _ _ h = refl
 
 -- a call that fits an operation is a create's where that is one
-pub fits_create : (call : Params) (given : Answer) (r : FlowRecord) → base_fits call given r ≡ true → is_create (operation_of call) ≡ is_create r.operation
+pub fits_create : (call : BaseCall) (given : Answer) (r : FlowRecord) → base_fits call given r ≡ true → is_create (operation_of call.params) ≡ is_create r.operation
 fits_create call given r fits =
-    let fit' = (and_parts (fit r.operation r.path call) (nat_le (length given.bytes) 32768) fits).0 in
-    let for' = (and_parts (are_for r.operation r.path call) (is_within_limits call) fit').0 in
-    same_create (operation_of call) r.operation (and_parts (same_operation (operation_of call) r.operation) (same_path (path_of call) r.path) for').0
+    let fits' = (and_parts (call_fits r.operation r.volume r.path call) (nat_le (length given.bytes) 32768) fits).0 in
+    let own = (and_parts (call.volume.0 == r.volume.0) (same_path call.path r.path && fit r.operation r.path call.params) fits').1 in
+    let fit' = (and_parts (same_path call.path r.path) (fit r.operation r.path call.params) own).1 in
+    let for' = (and_parts (are_for r.operation r.path call.params) (is_within_limits call.params) fit').0 in
+    same_create (operation_of call.params) r.operation (and_parts (same_operation (operation_of call.params) r.operation) (are_on r.path call.params) for').0
 
 -- what the base's answer leaves of an operation
-pub base_answered : (f : FileTable) (call : Params) (given : Answer) (r : FlowRecord) → is_create (operation_of call) ≡ is_create r.operation
+pub base_answered : (f : FileTable) (call : BaseCall) (given : Answer) (r : FlowRecord) → is_create (operation_of call.params) ≡ is_create r.operation
     → IsAnswered f given.status r (base_returned_of call given (record { 0 = f.next }) r)
 base_answered f call given r same =
     let g : HandleId = record { 0 = f.next } in
     record {
       stream = refl;
       ended = answered_none (base_returned_of call given g r) refl;
-      handle = elim (given_handle call given.status g r.handle) [ inl kept ↦ inl kept | inr new ↦ inr (new.0, new.1, sym same ∙ new.2) ];
+      handle = elim (given_handle call.params given.status g r.handle) [ inl kept ↦ inl kept | inr new ↦ inr (new.0, new.1, sym same ∙ new.2) ];
     }
 
 -- ---- next

@@ -16,7 +16,7 @@ use Rattle.fm_types.specs.declared.status.Status.{Status}
 use Rattle.fm_types.specs.declared.status.Status.TheVariants as status
 use Rattle.fm_types.specs.Refusals.{Answers, AnswersOrMemory}
 use Rattle.fm_data.specs.declared.answer.Answer.{Answer}
-use Rattle.fm_data.specs.declared.params.Params.{Params}
+use Rattle.fm_data.specs.declared.base_call.BaseCall.{BaseCall}
 use Rattle.fm_data.specs.declared.verdict.PostVerdict.{PostVerdict}
 use Rattle.fm_data.specs.declared.verdict.PreVerdict.{PreVerdict}
 use Rattle.fm_data.specs.Data.{Data, data_fits}
@@ -309,7 +309,7 @@ pre_stay : (old : World) (k : WorkerId) (given : PreVerdict) (lent : Data) (resu
 unfolding PreReturns
 pre_stay old k given lent result new h = pre_at_stay old k given lent result new (worker_at old.workers k) h
 
-base_at_stay : (old : World) (k : WorkerId) (call : Params) (given : Answer) (result : Result (Unit {0}) Status) (new : World) (m : Option Worker)
+base_at_stay : (old : World) (k : WorkerId) (call : BaseCall) (given : Answer) (result : Result (Unit {0}) Status) (new : World) (m : Option Worker)
     → BaseReturnsAt old k call given result new m → Stay old new
 base_at_stay old k call given result new (Some (place.Base o)) h =
     stay_unless status.BadRequest (told (base_fits call given) false o old.flow) result old new _ h (λ e. stay_loses old _ new e.1 (stay_still old old refl))
@@ -321,7 +321,7 @@ base_at_stay old k call given result new (Some (place.Post o i)) h = stay_still 
 base_at_stay old k call given result new (Some (place.Drain o i)) h = stay_still old new h.1
 base_at_stay old k call given result new (Some (place.Cleanup c)) h = stay_still old new h.1
 
-base_stay : (old : World) (k : WorkerId) (call : Params) (given : Answer) (result : Result (Unit {0}) Status) (new : World) → BaseReturns old k call given result new → Stay old new
+base_stay : (old : World) (k : WorkerId) (call : BaseCall) (given : Answer) (result : Result (Unit {0}) Status) (new : World) → BaseReturns old k call given result new → Stay old new
 unfolding BaseReturns
 base_stay old k call given result new h = base_at_stay old k call given result new (worker_at old.workers k) h
 

@@ -44,7 +44,7 @@ use Rattle.fm_world.specs.declared.worker.Worker.TheVariants as place
 use Rattle.fm_world.specs.World.{World}
 use Rattle.fm_world.specs.Workers.{worker_at, put, is_idle, cleanup_in}
 use Rattle.fm_world.specs.Headline.{Spot, AtPre, AtBase, AtPost, AtDrain, is_in_at}
-use Rattle.fm_world.specs.Owners.{row_at, place_in, fits, owner_fits, link_fits, is_left_by, keeps_links_by, is_flown_by, belongs, belongs_by, HoldsIn, CarriesIn, AskCarries}
+use Rattle.fm_world.specs.Owners.{row_at, place_in, fits, owner_fits, link_fits, may_link, is_left_by, keeps_links_by, is_flown_by, belongs, belongs_by, HoldsIn, CarriesIn, AskCarries}
 use Rattle.fm_world.specs.ContextEvents.{after_due, TakesDue, totalled_for, filter_of, CleansAt, Cleans, is_gone_at, Finishes}
 use Rattle.fm_world.specs.Sound.{IsSound, IsUnderWay, IsOwned, is_in_setup, setup_row}
 use Rattle.fm_world.proofs.Belonging.{owners_changed, owners_same, belongs_still, filters_same, FiltersStay, AllHold, all_hold, all_hold_still, others_stay, all_carry_still}
@@ -138,7 +138,7 @@ all_both : {X : Type 0} (P Q R : X → Type 0) (xs : List X) → ((x : X) → P 
 all_both P Q R [] f p q = All-nil R
 all_both P Q R (x ∷ xs) f p q = All-cons R x xs (f x (All-head P x xs p) (All-head Q x xs q)) (all_both P Q R xs f (All-tail P x xs p) (All-tail Q x xs q))
 
-none_one : (b : Bool) → one b ≡ 0 → b ≡ false
+pub none_one : (b : Bool) → one b ≡ 0 → b ≡ false
 none_one true h = absurd (omega (arith, h))
 none_one false h = refl
 
@@ -330,11 +330,15 @@ finish_fits s i row (Some x) there emptying fit closed =
       | inl e ↦ absurd (true≢false (sym (ap (λ own. same_owner (owner.Instance i) own) is ∙ eq-eqb i.0 j.0 (sym e)) ∙ closed))
       | inr apart ↦ ap is_left_by (same j apart) ∙ left
     ]) parts.0)
-    (link_stays s t x x.link (omega arith) (λ j is own keeps.
-    elim (cases_eq j.0 i.0) [
-      | inl e ↦ absurd (true≢false (sym (sym (ap (λ n. keeps_links_by (slice_get s.instances n)) e) ∙ keeps) ∙ ap keeps_links_by there ∙ (emptying_rests row emptying).0))
-      | inr apart ↦ ap keeps_links_by (same j apart) ∙ keeps
-    ]) parts.1)
+    (link_stays s t x x.link (λ v h. h) (λ linked. at_owner x.owner refl) parts.1)
+  where
+    at_owner : (o : Owner) → x.owner ≡ o → may_link s o ≡ true → may_link (finished s i) o ≡ true
+    at_owner (owner.Filter f) own h = refl
+    at_owner (owner.Instance j) own h =
+        elim (cases_eq j.0 i.0) [
+          | inl e ↦ absurd (true≢false (sym (ap (same_owner (owner.Instance i)) own ∙ eq-eqb i.0 j.0 (sym e)) ∙ closed))
+          | inr apart ↦ ap keeps_links_by (updated-other finish_row s.instances i.0 j.0 apart) ∙ h
+        ]
 
 pub finish_sound : (old : World) (i : InstanceId) (result : Result (Unit {0}) Status) (new : World) → Finishes old i result new → IsSound old → IsSound new
 unfolding Finishes

@@ -1,6 +1,6 @@
 -- What a context names is there: what changes of contexts and of instances leave of it.
-use Rattle.std.proofs.Common.{◌≡◌, ◌≤◌, ◌<◌, Bool, true, false, cond, List, [], ◌∷◌, ◌++◌, length, map, Option, Some, None, option_map, slice_get, refl, ap, sym, ◌∙◌, inl, inr, arith, nat_lt}
-use Rattle.std.specs.Prelude.{All, slice_set, ◌&&◌, ◌==◌}
+use Rattle.std.proofs.Common.{◌≡◌, ℕ, ◌≤◌, ◌<◌, Bool, true, false, cond, List, [], ◌∷◌, ◌++◌, length, map, Option, Some, None, is_some, option_map, slice_get, refl, ap, sym, ◌∙◌, inl, inr, arith}
+use Rattle.std.specs.Prelude.{All, slice_set, ◌==◌}
 use Rattle.std.specs.Option.{option_and_then}
 use Rattle.std.proofs.lemmas.Bool.{false≢true, cases_Bool, and_parts, and_from, lt-ltb, ltb-true}
 use Rattle.std.proofs.lemmas.List.Elements.{All-weaker, All-map, All-push}
@@ -16,10 +16,9 @@ use Rattle.fm_ctx.specs.declared.owner.Owner.{Owner}
 use Rattle.fm_ctx.specs.declared.owner.Owner.TheVariants as owner
 use Rattle.fm_ctx.specs.Births.{new_slot, placed}
 use Rattle.fm_ctx.specs.Links.{with_link}
-use Rattle.fm_ctx.specs.Objects.{same_owner}
 use Rattle.fm_ctx.specs.Settling.{swept, swept_slot}
 use Rattle.fm_ctx.specs.Table.{Context, Slot, context_at, context_in, changed_slot, change_context}
-use Rattle.fm_world.specs.Owners.{row_at, fits, owner_fits, link_fits, is_left_by, keeps_links_by, is_volume, is_instance}
+use Rattle.fm_world.specs.Owners.{row_at, fits, owner_fits, link_fits, may_link, suits, holds_links_by, is_left_by, keeps_links_by, is_volume}
 
 -- a test of all contexts
 abbrev pub AllPass : (Option Context → Bool) → List Slot → Type 0
@@ -103,36 +102,43 @@ owner_stays s t kind.Instance (owner.Instance i) more left h = left i refl h
 owner_stays s t kind.Stream (owner.Instance i) more left h = left i refl h
 owner_stays s t kind.Handle (owner.Instance i) more left h = left i refl h
 
-pub link_stays : (s t : StackWorld) (x : Context) (l : Option Object) → length s.volumes ≤ length t.volumes
-    → ((j : InstanceId) → l ≡ Some (object.Instance j) → same_owner (owner.Instance j) x.owner ≡ true → keeps_links_by (row_at s j) ≡ true → keeps_links_by (row_at t j) ≡ true)
-    → link_fits s x l ≡ true → link_fits t x l ≡ true
-link_stays s t x None more keeps h = refl
-link_stays s t x (Some (object.Volume v)) more keeps h =
-    let parts = and_parts (is_volume x.kind) (nat_lt v.0 (length s.volumes)) h in
-    let below : v.0 < length s.volumes = ltb-true v.0 (length s.volumes) parts.1 in
-    and_from (is_volume x.kind) (nat_lt v.0 (length t.volumes)) parts.0 (lt-ltb v.0 (length t.volumes) (omega (arith, below, more)))
-link_stays s t x (Some (object.Instance i)) more keeps h =
-    let parts = and_parts (is_instance x.kind) (same_owner (owner.Instance i) x.owner && keeps_links_by (row_at s i)) h in
-    let own = and_parts (same_owner (owner.Instance i) x.owner) (keeps_links_by (row_at s i)) parts.1 in
-    and_from (is_instance x.kind) (same_owner (owner.Instance i) x.owner && keeps_links_by (row_at t i)) parts.0
-    (and_from (same_owner (owner.Instance i) x.owner) (keeps_links_by (row_at t i)) own.0 (keeps i refl own.0 own.1))
-link_stays s t x (Some (object.Stream r)) more keeps h = h
-link_stays s t x (Some (object.Handle r)) more keeps h = h
+-- no volume's contexts are unlinked
+abbrev pub VolumesStay : StackWorld → StackWorld → Type 0
+VolumesStay s t = (v : ℕ) → holds_links_by (slice_get s.volumes v) ≡ true → holds_links_by (slice_get t.volumes v) ≡ true
+
+pub link_stays : (s t : StackWorld) (x : Context) (l : Option Object) → VolumesStay s t
+    → (is_some l ≡ true → may_link s x.owner ≡ true → may_link t x.owner ≡ true) → link_fits s x l ≡ true → link_fits t x l ≡ true
+link_stays s t x None volumes may h = refl
+link_stays s t x (Some o) volumes may h =
+    let parts = and_parts (may_link s x.owner) (suits s x o) h in
+    and_from (may_link t x.owner) (suits t x o) (may refl parts.0) (at_object o parts.1)
+  where
+    at_object : (o : Object) → suits s x o ≡ true → suits t x o ≡ true
+    at_object (object.Volume v) h =
+        let parts = and_parts (is_volume x.kind) (holds_links_by (slice_get s.volumes v.0)) h in
+        and_from (is_volume x.kind) (holds_links_by (slice_get t.volumes v.0)) parts.0 (volumes v.0 parts.1)
+    at_object (object.Instance i) h = h
+    at_object (object.Stream r) h = h
+    at_object (object.Handle r) h = h
 
 -- instances go on: none is detached, and none is emptied
 pub record GoesOn (s t : StackWorld) : Type 0 where
   pub filters : length s.filters ≤ length t.filters
-  pub volumes : length s.volumes ≤ length t.volumes
+  pub volumes : VolumesStay s t
   pub left : (j : InstanceId) → is_left_by (row_at s j) ≡ true → is_left_by (row_at t j) ≡ true
   pub keeps : (j : InstanceId) → keeps_links_by (row_at s j) ≡ true → keeps_links_by (row_at t j) ≡ true
 
 pub fits_on : (s t : StackWorld) (slots : List Slot) → GoesOn s t → AllFit s slots → AllFit t slots
 fits_on s t slots on h = All-weaker (λ (x : Slot). fits s x.context ≡ true) (λ (x : Slot). fits t x.context ≡ true) (λ x fit. at_context x.context fit) slots h
   where
+    at_owner : (o : Owner) → may_link s o ≡ true → may_link t o ≡ true
+    at_owner (owner.Filter f) h = refl
+    at_owner (owner.Instance j) h = on.keeps j h
+
     at_context : (o : Option Context) → fits s o ≡ true → fits t o ≡ true
     at_context None fit = refl
     at_context (Some x) fit =
         let parts = and_parts (owner_fits s x.kind x.owner) (link_fits s x x.link) fit in
         and_from (owner_fits t x.kind x.owner) (link_fits t x x.link)
         (owner_stays s t x.kind x.owner on.filters (λ j is. on.left j) parts.0)
-        (link_stays s t x x.link on.volumes (λ j is own. on.keeps j) parts.1)
+        (link_stays s t x x.link on.volumes (λ linked. at_owner x.owner) parts.1)

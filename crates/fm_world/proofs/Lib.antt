@@ -13,6 +13,7 @@ pub mod Callbacks
 pub mod Flights
 pub mod Linking
 pub mod Cleanups
+mod Emptied
 pub mod Owning
 pub mod Filing
 pub mod Streams

@@ -13,7 +13,12 @@ use Rattle.fm_types.specs.declared.status.Status.TheVariants as status
 use Rattle.fm_types.specs.Refusals.{first_of}
 use Rattle.fm_types.proofs.Lists.{all_at}
 use Rattle.fm_stack.specs.declared.instance.Instance.{Instance}
+use Rattle.fm_stack.specs.declared.volume.Volume.{Volume}
+use Rattle.fm_stack.specs.declared.volume.VolumePhase.{VolumePhase}
+use Rattle.fm_stack.specs.declared.volume.VolumePhase.TheVariants as phase
 use Rattle.fm_stack.specs.StackWorld.{StackWorld}
+use Rattle.fm_stack.specs.Instances.{is_setup, is_attached}
+use Rattle.fm_stack.specs.Events.{is_mounted, is_mounted_phase}
 use Rattle.fm_ctx.specs.declared.object.Object.{Object}
 use Rattle.fm_ctx.specs.declared.object.Object.TheVariants as object
 use Rattle.fm_ctx.specs.declared.owner.Owner.{Owner}
@@ -35,12 +40,12 @@ use Rattle.fm_world.specs.declared.set_answer.SetAnswer.{SetAnswer}
 use Rattle.fm_world.specs.World.{World, carries}
 use Rattle.fm_world.specs.Links.{is_there, names_there}
 use Rattle.fm_world.specs.declared.file.FileObject.{FileObject}
-use Rattle.fm_world.specs.Owners.{row_at, has_kind, owner_by, object_by, is_closing, is_left_by, keeps_links_by, is_volume, is_instance, is_of_stream, is_of_handle, fits, owner_fits, link_fits, belongs, belongs_by}
+use Rattle.fm_world.specs.Owners.{row_at, has_kind, owner_by, object_by, is_closing, is_left_by, keeps_links_by, may_link, suits, holds_links, holds_links_by, is_volume, is_instance, is_of_stream, is_of_handle, fits, owner_fits, link_fits, belongs, belongs_by}
 use Rattle.fm_world.specs.ContextEvents.{Callback, callback_of, with_contexts, before, context_by, Allocates, object_for, is_past, set_refused, SetsOn, SetsUnless, SetsIn, Sets, there_at, object_refused, Gets, Deletes}
 use Rattle.fm_world.specs.Sound.{IsSound, IsOwned}
 use Rattle.fm_world.proofs.Belonging.{owners_changed, owners_placed, belongs_still, filters_same}
 use Rattle.fm_world.proofs.Callbacks.{IsIn, is_in, in_callback, contexts_owned, sound_with, in_hand, one_more, same_hand, same_hands, none_of, not_false, grabbed_sound}
-use Rattle.fm_world.proofs.Descents.{or_right}
+use Rattle.fm_world.proofs.Descents.{or_left, or_right}
 use Rattle.fm_world.proofs.Fitting.{AllFit, AllPass, passes_changed, passes_placed, fits_unlinked, fits_linked}
 use Rattle.fm_world.proofs.Flights.{callback_left}
 
@@ -230,26 +235,42 @@ record MaySet (w : World) (k : WorkerId) (at : Callback) (c : CtxId) (x : Contex
   pub link : link_fits w.stack x (Some o) ≡ true
   pub here : is_there w.files (Some o) ≡ true
 
-object_fits : (w : World) (at : Callback) (x : Context) (a : ContextKind) (o : Object) → x.kind ≡ a → at.row.volume.0 < length w.stack.volumes
-    → keeps_links_by (row_at w.stack at.instance) ≡ true → same_owner (owner_by at.row at.instance a) x.owner ≡ true
-    → object_by at.row at.instance at.file a ≡ Some o → link_fits w.stack x (Some o) ≡ true
-object_fits w at x kind.Volume o is volume links' own e =
-    subst (λ p. link_fits w.stack x (Some p) ≡ true) (same_Some (object.Volume at.row.volume) o e)
-    (and_from (is_volume x.kind) (nat_lt at.row.volume.0 (length w.stack.volumes)) (ap is_volume is) (lt-ltb at.row.volume.0 (length w.stack.volumes) volume))
-object_fits w at x kind.Instance o is volume links' own e =
-    subst (λ p. link_fits w.stack x (Some p) ≡ true) (same_Some (object.Instance at.instance) o e)
-    (and_from (is_instance x.kind) (same_owner (owner.Instance at.instance) x.owner && keeps_links_by (row_at w.stack at.instance)) (ap is_instance is)
-    (and_from (same_owner (owner.Instance at.instance) x.owner) (keeps_links_by (row_at w.stack at.instance)) own links'))
-object_fits w at x kind.Stream o is volume links' own e = of_file at.file e
+-- what a callback allocates may be linked, where its instance isn't being emptied
+callback_links : (s : StackWorld) (row : Instance) (i : InstanceId) (a : ContextKind) → keeps_links_by (row_at s i) ≡ true → may_link s (owner_by row i a) ≡ true
+callback_links s row i kind.Volume h = refl
+callback_links s row i kind.Instance h = h
+callback_links s row i kind.Stream h = h
+callback_links s row i kind.Handle h = h
+
+-- a volume in use holds its links
+mounted_holds : (m : Option Volume) → is_mounted m ≡ true → holds_links_by m ≡ true
+mounted_holds None h = absurd (false≢true h)
+mounted_holds (Some volume) h = at_phase volume.phase h
   where
-    of_file : (file : Option FileObject) → option_map (λ (f : FileObject). object.Stream f.stream) file ≡ Some o → link_fits w.stack x (Some o) ≡ true
-    of_file None e = absurd (none-some o e)
-    of_file (Some f) e = subst (λ p. link_fits w.stack x (Some p) ≡ true) (same_Some (object.Stream f.stream) o e) (ap is_of_stream is)
-object_fits w at x kind.Handle o is volume links' own e = of_file at.file e
+    at_phase : (p : VolumePhase) → is_mounted_phase p ≡ true → holds_links p ≡ true
+    at_phase phase.Mounted h = refl
+    at_phase phase.Dismounting h = refl
+    at_phase phase.Emptied h = absurd (false≢true h)
+    at_phase phase.Finished h = absurd (false≢true h)
+
+object_suits : (w : World) (at : Callback) (x : Context) (a : ContextKind) (o : Object) → x.kind ≡ a → is_mounted (slice_get w.stack.volumes at.row.volume.0) ≡ true
+    → same_owner (owner_by at.row at.instance a) x.owner ≡ true → object_by at.row at.instance at.file a ≡ Some o → suits w.stack x o ≡ true
+object_suits w at x kind.Volume o is mounted own e =
+    subst (λ p. suits w.stack x p ≡ true) (same_Some (object.Volume at.row.volume) o e)
+    (and_from (is_volume x.kind) (holds_links_by (slice_get w.stack.volumes at.row.volume.0)) (ap is_volume is) (mounted_holds (slice_get w.stack.volumes at.row.volume.0) mounted))
+object_suits w at x kind.Instance o is mounted own e =
+    subst (λ p. suits w.stack x p ≡ true) (same_Some (object.Instance at.instance) o e)
+    (and_from (is_instance x.kind) (same_owner (owner.Instance at.instance) x.owner) (ap is_instance is) own)
+object_suits w at x kind.Stream o is mounted own e = of_file at.file e
   where
-    of_file : (file : Option FileObject) → option_map (λ (f : FileObject). object.Handle f.handle) file ≡ Some o → link_fits w.stack x (Some o) ≡ true
+    of_file : (file : Option FileObject) → option_map (λ (f : FileObject). object.Stream f.stream) file ≡ Some o → suits w.stack x o ≡ true
     of_file None e = absurd (none-some o e)
-    of_file (Some f) e = subst (λ p. link_fits w.stack x (Some p) ≡ true) (same_Some (object.Handle f.handle) o e) (ap is_of_handle is)
+    of_file (Some f) e = subst (λ p. suits w.stack x p ≡ true) (same_Some (object.Stream f.stream) o e) (ap is_of_stream is)
+object_suits w at x kind.Handle o is mounted own e = of_file at.file e
+  where
+    of_file : (file : Option FileObject) → option_map (λ (f : FileObject). object.Handle f.handle) file ≡ Some o → suits w.stack x o ≡ true
+    of_file None e = absurd (none-some o e)
+    of_file (Some f) e = subst (λ p. suits w.stack x p ≡ true) (same_Some (object.Handle f.handle) o e) (ap is_of_handle is)
 
 may_set : (w : World) (k : WorkerId) (at : Callback) (c : CtxId) (x : Context) (o : Object) → IsIn w k at → IsSound w → set_refused w k c at ≡ None
     → context_at w.contexts.slots c ≡ Some x → object_for at (Some x) ≡ Some o → MaySet w k at c x o
@@ -263,6 +284,8 @@ may_set w k at c x o i s free there of =
     let some = none_of (is_none object') status.NoObject (first_of ((is_past w at object', status.DeletingObject) ∷ [])) linked'.1 in
     let open' = none_of (is_past w at object') status.DeletingObject None some.1 in
     let gone = or_right (is_closing w.stack at.row) (not (is_there w.files object')) open'.0 in
+    let used = is_mounted (slice_get w.stack.volumes at.row.volume.0) in
+    let live = or_right (not (is_setup at.row.phase || is_attached at.row.phase)) (not used) (or_left (is_closing w.stack at.row) (not (is_there w.files object')) open'.0) in
     let has = not_false (holds (hand_of w.contexts.hands k.0) c) held.0 in
     let belong = in_hand w k at c i s.owned has in
     let own : same_owner (owner_by at.row at.instance x.kind) x.owner ≡ true =
@@ -272,7 +295,10 @@ may_set w k at c x o i s free there of =
       there = there;
       bare = none_from x.link (sym (ap (λ m. is_some (option_and_then (λ (y : Context). y.link) m)) there) ∙ linked'.0);
       own = own;
-      link = object_fits w at x x.kind o refl i.placed.volume (callback_left w k at.instance at.row s i.place i.there).1 own of;
+      link = and_from (may_link w.stack x.owner) (suits w.stack x o)
+          (subst (λ y. may_link w.stack y ≡ true) (same_owner-same (owner_by at.row at.instance x.kind) x.owner own)
+          (callback_links w.stack at.row at.instance x.kind (callback_left w k at.instance at.row s i.place i.there).1))
+          (object_suits w at x x.kind o refl (not_false used live) own of);
       here = ap (is_there w.files) (sym of ∙ ap (object_for at) (sym there)) ∙ not_false (is_there w.files object') gone;
     }
 

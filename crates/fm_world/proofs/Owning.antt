@@ -1,7 +1,7 @@
 -- The events on filters, volumes and instances leave contexts as the World says.
 use Rattle.std.proofs.Common.{◌≡◌, ◌≢◌, ℕ, ◌<◌, ◌≤◌, Bool, true, false, cond, not, List, [], ◌∷◌, ◌++◌, length, map, Option, Some, None, Result, Ok, Err, is_some, slice_get, refl, ap, sym, ◌∙◌, subst, inl, inr, ◌⊎◌, arith}
 use Rattle.std.specs.Prelude.{All, slice_set}
-use Rattle.std.proofs.lemmas.Bool.{false≢true, true≢false, cases_Bool, cases_eq, and_parts, and_from}
+use Rattle.std.proofs.lemmas.Bool.{false≢true, true≢false, cases_Bool, cases_eq, and_parts, and_from, eq-eqb}
 use Rattle.std.proofs.lemmas.Option.{same_Some, slice_get_within}
 use Rattle.std.proofs.lemmas.List.{length-append}
 use Rattle.std.proofs.lemmas.List.Elements.{All-nil, All-head}
@@ -17,10 +17,12 @@ use Rattle.fm_types.proofs.Lists.{slice_get-kept, slice_get-set_same, slice_get-
 use Rattle.fm_stack.specs.declared.instance.Instance.{Instance}
 use Rattle.fm_stack.specs.declared.instance.Phase.{Phase}
 use Rattle.fm_stack.specs.declared.instance.Phase.TheVariants as phase
+use Rattle.fm_stack.specs.declared.volume.Volume.{Volume}
 use Rattle.fm_stack.specs.StackWorld.{StackWorld}
 use Rattle.fm_stack.specs.Instances.{is_setup, is_detached}
 use Rattle.fm_stack.specs.Events.{refuse_row, accept_row}
 use Rattle.fm_stack.specs.Events as stack
+use Rattle.fm_ctx.specs.declared.owner.Owner.{Owner}
 use Rattle.fm_ctx.specs.declared.owner.Owner.TheVariants as owner
 use Rattle.fm_ctx.specs.Bags.{hand_of, cleaning_of}
 use Rattle.fm_ctx.specs.Laws.{IsLawful}
@@ -33,12 +35,12 @@ use Rattle.fm_world.specs.declared.worker.Worker.{Worker}
 use Rattle.fm_world.specs.declared.worker.Worker.TheVariants as place
 use Rattle.fm_world.specs.World.{World, carries}
 use Rattle.fm_world.specs.Workers.{worker_at, put, is_idle, after_attach, cleanup_in}
-use Rattle.fm_world.specs.Owners.{row_at, place_in, fits, owner_fits, link_fits, is_left_by, keeps_links, keeps_links_by, is_flown, is_flown_by, HoldsIn}
+use Rattle.fm_world.specs.Owners.{row_at, place_in, fits, owner_fits, link_fits, may_link, holds_links_by, is_left_by, keeps_links, keeps_links_by, is_flown, is_flown_by, HoldsIn}
 use Rattle.fm_world.specs.Events.{Registers, Mounts, Attaches, SetsUp, SetsUpAt, EmptiesUnless}
 use Rattle.fm_world.specs.Sound.{IsSound, IsOwned}
 use Rattle.fm_world.proofs.Belonging.{OwnersStay, owners_same, owners_swept, owners_after, FiltersStay, belongs_still, AllHold, all_hold, all_hold_still, others_stay, all_carry_still}
 use Rattle.fm_world.proofs.Callbacks.{same_hands}
-use Rattle.fm_world.proofs.Fitting.{AllFit, AllPass, fits_on, passes_swept, owner_stays, link_stays}
+use Rattle.fm_world.proofs.Fitting.{AllFit, AllPass, VolumesStay, fits_on, passes_swept, owner_stays, link_stays}
 use Rattle.fm_world.proofs.Losing.{NamedIn, passes_unlinked}
 use Rattle.fm_world.specs.Links.{names_there}
 use Rattle.fm_world.specs.Files.{FileTable}
@@ -85,7 +87,7 @@ rows_flown s t on j h =
     ]
 
 -- instances go on, and contexts and workers stay
-pub stack_owned : (w : World) (t : StackWorld) → RowsGoOn w.stack t → length w.stack.filters ≤ length t.filters → length w.stack.volumes ≤ length t.volumes
+pub stack_owned : (w : World) (t : StackWorld) → RowsGoOn w.stack t → length w.stack.filters ≤ length t.filters → VolumesStay w.stack t
     → IsOwned w → IsOwned (record w { stack = t })
 stack_owned w t on filters volumes h =
     let slots = w.contexts.slots in
@@ -105,6 +107,13 @@ stack_owned w t on filters volumes h =
 longer_push : {X : Type 0} (xs : List X) (x : X) → length xs ≤ length (xs ++ x ∷ [])
 longer_push xs x = omega (arith, length-append xs (x ∷ []))
 
+volumes_push : (xs : List Volume) (x : Volume) (v : ℕ) → holds_links_by (slice_get xs v) ≡ true → holds_links_by (slice_get (xs ++ x ∷ []) v) ≡ true
+volumes_push xs x v h = at_volume (slice_get xs v) refl h
+  where
+    at_volume : (m : Option Volume) → slice_get xs v ≡ m → holds_links_by m ≡ true → holds_links_by (slice_get (xs ++ x ∷ []) v) ≡ true
+    at_volume None there h = absurd (false≢true h)
+    at_volume (Some y) there h = ap holds_links_by (slice_get-kept xs (x ∷ []) v y there) ∙ h
+
 pub register_sound : (old : World) (name : List ℕ) (registration : Registration) (result : Result FilterId Status) (new : World)
     → Registers old name registration result new → IsSound old → IsSound new
 unfolding Registers stack.Registers
@@ -115,7 +124,7 @@ register_sound old name registration result new h s = record { under_way = regis
     owned (Ok f) h =
         let t = stack.registered old.stack name registration in
         subst IsOwned (sym (h.1 ∙ ap (λ x. record old { stack = x }) h.0.1.1))
-        (stack_owned old t (λ j row there. (row, there, refl, inl refl)) (longer_push old.stack.filters (stack.new_filter name registration)) (omega arith) s.owned)
+        (stack_owned old t (λ j row there. (row, there, refl, inl refl)) (longer_push old.stack.filters (stack.new_filter name registration)) (λ v h. h) s.owned)
 
 pub mount_sound : (old : World) (name : List ℕ) (result : Result VolumeId Status) (new : World) → Mounts old name result new → IsSound old → IsSound new
 unfolding Mounts stack.Mounts
@@ -126,7 +135,7 @@ mount_sound old name result new h s = record { under_way = mount_keeps old name 
     owned (Ok v) h =
         let t = stack.mounted old.stack name in
         subst IsOwned (sym (h.1 ∙ ap (λ x. record old { stack = x }) h.0.1.1))
-        (stack_owned old t (λ j row there. (row, there, refl, inl refl)) (omega arith) (longer_push old.stack.volumes (stack.new_volume name)) s.owned)
+        (stack_owned old t (λ j row there. (row, there, refl, inl refl)) (omega arith) (volumes_push old.stack.volumes (stack.new_volume name)) s.owned)
 
 -- ---- workers go into callbacks and come back
 
@@ -166,7 +175,7 @@ attach_owned old k f v name altitude (Ok i) new at worker h e s =
     let on : RowsGoOn old.stack t = λ j row there. (row, slice_get-kept old.stack.instances (stack.new_instance f v name altitude ∷ []) j row there, refl, inl refl) in
     let still = belongs_still old.stack slots t slots (rows_filters old.stack t on) (owners_same slots slots refl) in
     let none = empty_hand old k place.Idle at refl s in
-    let base = stack_owned old t on (omega arith) (omega arith) s in
+    let base = stack_owned old t on (omega arith) (λ v h. h) s in
     subst IsOwned (sym (e ∙ ap (λ x. record old { stack = x; workers = workers }) h.1.1))
     (record {
       lawful = s.lawful;
@@ -291,13 +300,17 @@ refused_fits s i row x there fit = by_test (is_linked_of (owner.Instance i) x) r
     by_test true is = and_from (owner_fits (stack.refused s i) x.kind x.owner) true owned refl
     by_test false is =
         and_from (owner_fits (stack.refused s i) x.kind x.owner) (link_fits (stack.refused s i) x x.link) owned
-        (link_stays s (stack.refused s i) x x.link (omega arith) (λ j linked own keeps.
-        elim (cases_eq j.0 i.0) [
-          | inl e ↦
-              let mine : same_owner (owner.Instance i) x.owner ≡ true = subst (λ n. same_owner (owner.Instance (record { 0 = n })) x.owner ≡ true) e own in
-              absurd (true≢false (sym (and_from (is_some x.link) (same_owner (owner.Instance i) x.owner) (ap is_some linked) mine) ∙ is))
-          | inr apart ↦ ap keeps_links_by (refused_row s i j apart) ∙ keeps
-        ]) parts.1)
+        (link_stays s (stack.refused s i) x x.link (λ v h. h) (λ linked. at_owner linked x.owner refl) parts.1)
+      where
+        at_owner : is_some x.link ≡ true → (o : Owner) → x.owner ≡ o → may_link s o ≡ true → may_link (stack.refused s i) o ≡ true
+        at_owner linked (owner.Filter f) own h = refl
+        at_owner linked (owner.Instance j) own h =
+            elim (cases_eq j.0 i.0) [
+              | inl e ↦
+                  let mine : same_owner (owner.Instance i) x.owner ≡ true = ap (same_owner (owner.Instance i)) own ∙ eq-eqb i.0 j.0 (sym e) in
+                  absurd (true≢false (sym (and_from (is_some x.link) (same_owner (owner.Instance i) x.owner) linked mine) ∙ is))
+              | inr apart ↦ ap keeps_links_by (refused_row s i j apart) ∙ h
+            ]
 
 setup_owned : (old : World) (k : WorkerId) (i : InstanceId) (accept : Bool) (result : Result (Unit {0}) Status) (new : World) (left : ContextTable)
     → worker_at old.workers k ≡ Some (place.Setup i) → stack.SetsUp old.stack i accept result new.stack → Leaves (carries old) old.contexts left k.0
@@ -310,7 +323,7 @@ setup_owned old k i accept (Ok done) new left at h leaves empties e s =
     let on = accepted_on old.stack i row.0 row.1 row.2 in
     let worker : k.0 < 48 = subst (λ n. k.0 < n) s.under_way.hands (slice_get_within old.workers k.0 (place.Setup i) at) in
     let fit = fits_on old.stack t old.contexts.slots
-    (record { filters = omega arith; volumes = omega arith; left = rows_left old.stack t on; keeps = rows_keep old.stack t on }) s.owned.fits in
+    (record { filters = omega arith; volumes = λ v h. h; left = rows_left old.stack t on; keeps = rows_keep old.stack t on }) s.owned.fits in
     subst IsOwned (sym (e ∙ ap (λ x. record old { stack = x; workers = put old.workers k place.Idle; contexts = new.contexts }) h.1
     ∙ ap (λ c. record old { stack = t; workers = put old.workers k place.Idle; contexts = c }) empties))
     (setup_returns old k i t left at worker (rows_filters old.stack t on) (owners_same old.contexts.slots left.slots leaves.slots) s.owned leaves.hands leaves.cleaning

@@ -40,6 +40,7 @@ use Rattle.fm_world.specs.Steps.{Steps, Run, RunThrough}
 use Rattle.fm_world.specs.Headline.{Headline, RulesKeepHeadline, is_in_at, DescendsIn, IsAscent, IsInOrder}
 use Rattle.fm_world.specs.Sound.{IsSound, IsUnderWay, IsOwned, IsAmong, is_in_setup}
 use Rattle.fm_world.proofs.Counts.{count-cons}
+use Rattle.fm_world.proofs.Emptied.{emptied_counts}
 use Rattle.fm_world.proofs.Ties.{idle_is_in_none}
 use Rattle.fm_world.proofs.Callbacks.{reference_sound, release_sound, read_body_sound, write_body_sound, bump_sound}
 use Rattle.fm_world.proofs.Cleanups.{take_due_sound, cleaned_sound, finish_sound}
@@ -170,6 +171,7 @@ headline_from w s =
       files = s.filed.hold;
       holders = k.holders;
       completions = k.completions;
+      emptied = λ i c gone owned. emptied_counts w i c s gone owned;
       detached = λ i gone. (
         none_counted (owner.Instance i) w.contexts.slots
             (All-weaker (λ (x : Slot). fits w.stack x.context ≡ true) (λ (x : Slot). is_open (owner.Instance i) x.context ≡ false)

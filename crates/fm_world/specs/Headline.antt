@@ -18,7 +18,7 @@ use Rattle.fm_ctx.specs.declared.owner.Owner.TheVariants as owner
 use Rattle.fm_ctx.specs.Bags.{one, places, cleaning_of, hand_of}
 use Rattle.fm_ctx.specs.Counting.{open_of}
 use Rattle.fm_ctx.specs.Laws.{has_link, is_waiting}
-use Rattle.fm_ctx.specs.Table.{Slot, context_at}
+use Rattle.fm_ctx.specs.Table.{Slot, context_at, owner_at}
 use Rattle.fm_stack.specs.StackWorld.{StackWorld}
 use Rattle.fm_stack.specs.Instances.{clashes}
 use Rattle.fm_world.specs.declared.step.Step.{Step}
@@ -29,7 +29,7 @@ use Rattle.fm_world.specs.FileLaws.{FilesHold}
 use Rattle.fm_world.specs.Links.{names_there}
 use Rattle.fm_world.specs.World.{World, carries, reference_count, empty_world}
 use Rattle.fm_world.specs.Workers.{worker_at, cleanup_in}
-use Rattle.fm_world.specs.Owners.{row_at, place_in, is_left_by, fits, HoldsIn, AskCarries}
+use Rattle.fm_world.specs.Owners.{row_at, place_in, is_left_by, keeps_links_by, fits, HoldsIn, AskCarries}
 use Rattle.fm_world.specs.Steps.{Run}
 use Rattle.fm_world.specs.Descent.{IsDescent}
 
@@ -105,9 +105,9 @@ pub record Headline (w : World) : Type 0 where
   pub cleanups : (k : WorkerId) → cleaning_of w.contexts.cleaning k.0 ≡ cleanup_in (worker_at w.workers k)
   -- no object has two contexts of one owner
   pub one_per_owner : (o : Owner) (object : Object) → count_by (has_link o object) w.contexts.slots ≤ 1
-  -- a context's owner isn't gone; a link names an object of the context's kind that is still there
+  -- a context's owner isn't gone; a link names an object of the context's kind that is still there: a volume or an instance that wasn't emptied
   pub there : All (λ (s : Slot). fits w.stack s.context ≡ true) w.contexts.slots
-  -- that is, an open handle, or a stream that wasn't torn down
+  -- an open handle, or a stream that wasn't torn down
   pub links : All (λ (s : Slot). names_there w.files s.context ≡ true) w.contexts.slots
   -- the streams are those that an open handle or a create under way is on, and each number and each path stands once
   pub files : FilesHold w.files w.flow
@@ -115,6 +115,8 @@ pub record Headline (w : World) : Type 0 where
   -- a completion carries, of the instance that it is owed to
   pub holders : (k : WorkerId) → All (HoldsIn w.stack w.contexts.slots (place_in (worker_at w.workers k))) (hand_of w.contexts.hands k.0)
   pub completions : All (λ (r : FlowRecord). All (AskCarries w.stack w.contexts.slots) (owed r.entries)) w.flow.operations
+  -- of what an instance owns that was emptied, nothing is linked, held or carried
+  pub emptied : (i : InstanceId) (c : CtxId) → keeps_links_by (row_at w.stack i) ≡ false → owner_at w.contexts.slots c ≡ Some (owner.Instance i) → reference_count w c ≡ 0
   -- a detached instance owns no context that isn't cleaned, and nothing is in flight at it
   pub detached : (i : InstanceId) → is_left_by (row_at w.stack i) ≡ false → (open_of w.contexts.slots (owner.Instance i) ≡ 0) × (in_flight i.0 w.flow ≡ 0)
 

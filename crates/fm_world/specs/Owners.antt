@@ -13,6 +13,9 @@ use Rattle.fm_stack.specs.declared.filter.Filter.{Filter}
 use Rattle.fm_stack.specs.declared.instance.Instance.{Instance}
 use Rattle.fm_stack.specs.declared.instance.Phase.{Phase}
 use Rattle.fm_stack.specs.declared.instance.Phase.TheVariants as phase
+use Rattle.fm_stack.specs.declared.volume.Volume.{Volume}
+use Rattle.fm_stack.specs.declared.volume.VolumePhase.{VolumePhase}
+use Rattle.fm_stack.specs.declared.volume.VolumePhase.TheVariants as volume_phase
 use Rattle.fm_stack.specs.StackWorld.{StackWorld}
 use Rattle.fm_stack.specs.Instances.{is_setup, is_attached, is_detached}
 use Rattle.fm_stack.specs.Events.{is_mounted}
@@ -127,6 +130,17 @@ abbrev pub keeps_links_by : Option Instance → Bool
 keeps_links_by None = false
 keeps_links_by (Some row) = keeps_links row.phase
 
+-- a volume whose contexts a dismount didn't unlink
+abbrev pub holds_links : VolumePhase → Bool
+holds_links volume_phase.Mounted = true
+holds_links volume_phase.Dismounting = true
+holds_links volume_phase.Emptied = false
+holds_links volume_phase.Finished = false
+
+abbrev pub holds_links_by : Option Volume → Bool
+holds_links_by None = false
+holds_links_by (Some volume) = holds_links volume.phase
+
 -- a filter owns volume contexts, an instance all others
 abbrev pub owner_fits : StackWorld → ContextKind → Owner → Bool
 owner_fits s kind.Volume (owner.Filter f) = nat_lt f.0 (length s.filters)
@@ -134,13 +148,21 @@ owner_fits s kind.Volume (owner.Instance i) = false
 owner_fits s _ (owner.Filter f) = false
 owner_fits s _ (owner.Instance i) = is_left_by (row_at s i)
 
--- a link is to an object of the context's kind: a volume that is there, the owner itself, which isn't being emptied, a stream or a handle
+-- whose contexts may be linked: a filter's, and those of an instance that isn't being emptied
+abbrev pub may_link : StackWorld → Owner → Bool
+may_link s (owner.Filter f) = true
+may_link s (owner.Instance i) = keeps_links_by (row_at s i)
+
+-- an object of the context's kind: a volume that is there and wasn't emptied, the owner itself, a stream or a handle
+abbrev pub suits : StackWorld → Context → Object → Bool
+suits s x (object.Volume v) = is_volume x.kind && holds_links_by (slice_get s.volumes v.0)
+suits s x (object.Instance i) = is_instance x.kind && same_owner (owner.Instance i) x.owner
+suits s x (object.Stream r) = is_of_stream x.kind
+suits s x (object.Handle h) = is_of_handle x.kind
+
 abbrev pub link_fits : StackWorld → Context → Option Object → Bool
 link_fits s x None = true
-link_fits s x (Some (object.Volume v)) = is_volume x.kind && nat_lt v.0 (length s.volumes)
-link_fits s x (Some (object.Instance i)) = is_instance x.kind && (same_owner (owner.Instance i) x.owner && keeps_links_by (row_at s i))
-link_fits s x (Some (object.Stream r)) = is_of_stream x.kind
-link_fits s x (Some (object.Handle h)) = is_of_handle x.kind
+link_fits s x (Some o) = may_link s x.owner && suits s x o
 
 abbrev pub fits : StackWorld → Option Context → Bool
 fits s None = true

@@ -314,25 +314,3 @@ impl Flow {
         Ok(self.operations.remove(place).into_answer())
     }
 }
-
-#[cfg(test)]
-mod tests {
-    use super::*;
-    use std::test::Fail;
-
-    #[test]
-    fn operations_are_numbered(rt: HostRuntime) -> Result<(), Fail> {
-        let mut flow = Flow::new(rt.alloc());
-        let first = flow.begin(VolumeId(0), None, None, 3, None, Params::List)?;
-        let second = flow.begin(VolumeId(1), None, Some(HandleId(4)), 3, None, Params::Flush)?;
-        assert_eq!(rt; first, OpId(0));
-        assert_eq!(rt; second, OpId(1));
-        assert_eq!(rt;
-            flow.record(second).map(|operation| operation.stage()),
-            Some(Stage::Descending)
-        );
-        assert!(rt; flow.record(OpId(2)).is_none());
-        assert!(rt; flow.collect(first).is_err());
-        Ok(())
-    }
-}

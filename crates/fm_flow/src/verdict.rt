@@ -42,35 +42,3 @@ fn create_completed(status: Status) -> Status
         status => status,
     }
 }
-
-#[cfg(test)]
-mod tests {
-    use super::*;
-    use fm_data::Completion;
-    use std::test::Fail;
-
-    #[test]
-    fn the_verdict_that_counts(rt: HostRuntime) -> Result<(), Fail> {
-        let completion = Completion {
-            number: 7,
-            context: None,
-        };
-        let ask = PreVerdict::WithCallback(completion);
-        assert_eq!(rt;
-            counted(ask, Operation::Read, true),
-            PreState::Asked(completion)
-        );
-        assert_eq!(rt; counted(ask, Operation::Read, false), PreState::Passed);
-        let complete = PreVerdict::Complete(Status::Success);
-        assert_eq!(rt; counted(complete, Operation::Close, true), PreState::Passed);
-        assert_eq!(rt;
-            counted(complete, Operation::Create, true),
-            PreState::Completed(Status::AccessDenied)
-        );
-        assert_eq!(rt;
-            counted(complete, Operation::Read, true),
-            PreState::Completed(Status::Success)
-        );
-        Ok(())
-    }
-}

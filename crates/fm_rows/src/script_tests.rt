@@ -81,7 +81,7 @@ fn lines(alloc: Global, rt: &impl Abort, text: &str) -> Vec<u8> {
 }
 
 // Rows: a name, the input and the output, lines divided by `; `.
-const ROWS: [(&str, &str, &str); 33] = [
+const ROWS: [(&str, &str, &str); 34] = [
     (
         "altitude_order",
         "load f; mount v; attach f0 v0 a 03333; attach f0 v0 b 100.123456; list v0; go w0 o0",
@@ -246,6 +246,11 @@ const ROWS: [(&str, &str, &str); 33] = [
         "setup_and_plans",
         "load f; mount v; setup w15 f0 v0 a 100; attach f0 v0 b 200; setdone w15 yes; plan i0 none; setup w0 f0 v0 c 300; attach f0 v0 d 400; alloc w0 instance 01; set w0 c0 keep; alloc w0 instance 02; set w0 c1 keep; setdone w0 yes; due w1; count c1; cleaned w1; count c1; list v0; go w0 o0",
         "ok f0; ok v0; ok i0; ok i1; ok; ok; ok i2; no 30; ok c0; ok; ok c1; no 22; ok; cleanup c1; cleaning; ok; cleaned; ok o0; pre i2 with; pre i1 with; pre i0 none; base 0; post i1; post i2; reply 0 0 -",
+    ),
+    (
+        "born_later",
+        "load f; mount v; attach f0 v0 a 100; list v0; attach f0 v0 b 200; go w0 o0; list v0; go w0 o1; setup w0 f0 v0 c 300; setdone w0 no; attach f0 v0 c 400; attach f0 v0 d 0300.0; finish i2; attach f0 v0 c 300; list v0; go w0 o2",
+        "ok f0; ok v0; ok i0; ok o0; ok i1; pre i0 with; base 0; post i0; reply 0 0 -; ok o1; pre i1 with; pre i0 with; base 0; post i0; post i1; reply 0 0 -; ok i2; no 11; no 4; no 5; ok; ok i3; ok o2; pre i3 with; pre i1 with; pre i0 with; base 0; post i0; post i1; post i3; reply 0 0 -",
     ),
 ];
 

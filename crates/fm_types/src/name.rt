@@ -136,29 +136,3 @@ impl Hash for Name {
         self.text().hash(state);
     }
 }
-
-#[cfg(test)]
-mod tests {
-    use super::*;
-    use std::test::Fail;
-
-    #[test]
-    fn name_grammar(rt: HostRuntime) -> Result<(), Fail> {
-        let name = Name::read(b"a-1")?;
-        assert_eq!(rt; name.text(), b"a-1".as_slice());
-        assert_eq!(rt; Name::read(b"a b"), Err(Status::BadName));
-        assert_eq!(rt; Name::read(b""), Err(Status::BadName));
-        assert!(rt; Name::read(&[b'a'; 32]).is_ok(), "32 letters");
-        assert_eq!(rt; Name::read(&[b'a'; 33]), Err(Status::BadName), "33 letters");
-        Ok(())
-    }
-
-    #[test]
-    fn names_compare_as_texts(rt: HostRuntime) -> Result<(), Fail> {
-        let name = Name::read(b"filter")?;
-        assert_eq!(rt; name, name.clone()?);
-        assert_ne!(rt; name, Name::read(b"Filter")?);
-        assert!(rt; Name::read(b"Filter")? < name);
-        Ok(())
-    }
-}

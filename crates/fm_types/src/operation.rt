@@ -110,18 +110,3 @@ impl OpMask {
         self.contains(OpMask::of(operation))
     }
 }
-
-#[cfg(test)]
-mod tests {
-    use super::*;
-
-    #[test]
-    fn masks(rt: HostRuntime) {
-        let mask = OpMask::READ | OpMask::CLOSE;
-        assert!(rt; mask.has(Operation::Read));
-        assert!(rt; mask.has(Operation::Close));
-        assert!(rt; !mask.has(Operation::Write));
-        assert!(rt; OpMask::ALL.has(Operation::List));
-        assert!(rt; !OpMask::NONE.has(Operation::List));
-    }
-}

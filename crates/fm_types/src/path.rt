@@ -148,26 +148,3 @@ impl Hash for RelPath {
         self.text().hash(state);
     }
 }
-
-#[cfg(test)]
-mod tests {
-    use super::*;
-    use std::test::Fail;
-
-    #[test]
-    fn path_grammar(rt: HostRuntime) -> Result<(), Fail> {
-        let path = RelPath::read(b"a/b c/..d")?;
-        assert_eq!(rt; path.text(), b"a/b c/..d".as_slice());
-        assert_eq!(rt; RelPath::read(b"a/../b"), Err(Status::BadPath));
-        assert_eq!(rt; RelPath::read(b"/a"), Err(Status::BadPath));
-        assert_eq!(rt; RelPath::read(b"a//b"), Err(Status::BadPath));
-        assert_eq!(rt; RelPath::read(b""), Err(Status::BadPath));
-        assert!(rt; RelPath::read(&[b'a'; 255]).is_ok(), "255 letters");
-        assert_eq!(rt;
-            RelPath::read(&[b'a'; 256]),
-            Err(Status::BadPath),
-            "256 letters"
-        );
-        Ok(())
-    }
-}

@@ -8,5 +8,6 @@ pub mod Soundness
 pub mod Flows
 pub mod Places
 pub mod Balances
+pub mod Drains
 pub mod Owes
 mod Seeing

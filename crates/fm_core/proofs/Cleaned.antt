@@ -88,6 +88,7 @@ due_tied kept after f k e tied = table_tied kept after (after_take_due kept.tabl
 pub cleanup_is : (m : Option Worker) (c : CtxId) → cleanup_in m ≡ Some c → m ≡ Some (place.Cleanup c)
 cleanup_is (Some (place.Cleanup d)) c h = ap (λ x. Some (place.Cleanup x)) (same_Some d c h)
 cleanup_is (Some place.Idle) c h = absurd (none-some c h)
+cleanup_is (Some (place.EarlyDrain o i)) c h = absurd (none-some c h)
 cleanup_is (Some (place.Setup i)) c h = absurd (none-some c h)
 cleanup_is (Some (place.Pre o i)) c h = absurd (none-some c h)
 cleanup_is (Some (place.Base o)) c h = absurd (none-some c h)
@@ -102,6 +103,7 @@ clean_refused w k number h = at_place (worker_at w.workers k) h
     at_place : (m : Option Worker) → cleanup_in m ≡ None → CleansAt w k number (Err status.WrongStep) w m
     at_place (Some (place.Cleanup c)) h = absurd (none-some c (sym h))
     at_place (Some place.Idle) h = (refl, refl)
+    at_place (Some (place.EarlyDrain o i)) h = (refl, refl)
     at_place (Some (place.Setup i)) h = (refl, refl)
     at_place (Some (place.Pre o i)) h = (refl, refl)
     at_place (Some (place.Base o)) h = (refl, refl)

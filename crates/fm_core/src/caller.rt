@@ -57,7 +57,8 @@ fn instance_in(place: Worker) -> Option<InstanceId>
         Worker::Setup(instance)
         | Worker::Pre(_, instance)
         | Worker::Post(_, instance)
-        | Worker::Drain(_, instance) => Some(instance),
+        | Worker::Drain(_, instance)
+        | Worker::EarlyDrain(_, instance) => Some(instance),
         Worker::Idle | Worker::Base(_) | Worker::Cleanup(_) => None,
     }
 }
@@ -67,9 +68,10 @@ fn operation_in(place: Worker) -> Option<OpId>
     ensures { result ≡ operation_in place }
 {
     match place {
-        Worker::Pre(operation, _) | Worker::Post(operation, _) | Worker::Drain(operation, _) => {
-            Some(operation)
-        }
+        Worker::Pre(operation, _)
+        | Worker::Post(operation, _)
+        | Worker::Drain(operation, _)
+        | Worker::EarlyDrain(operation, _) => Some(operation),
         Worker::Idle | Worker::Setup(_) | Worker::Base(_) | Worker::Cleanup(_) => None,
     }
 }

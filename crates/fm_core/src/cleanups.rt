@@ -26,7 +26,8 @@ fn cleanup_of(place: Option<Worker>) -> Option<CtxId>
         | Worker::Pre(_, _)
         | Worker::Base(_)
         | Worker::Post(_, _)
-        | Worker::Drain(_, _) => None,
+        | Worker::Drain(_, _)
+        | Worker::EarlyDrain(_, _) => None,
     }
 }
 

@@ -17,6 +17,7 @@ pub(crate) fn setup_of(place: Option<Worker>) -> Option<InstanceId>
         | Worker::Base(_)
         | Worker::Post(_, _)
         | Worker::Drain(_, _)
+        | Worker::EarlyDrain(_, _)
         | Worker::Cleanup(_) => None,
     }
 }
@@ -32,6 +33,7 @@ pub(crate) fn pre_of(place: Option<Worker>) -> Option<(OpId, InstanceId)>
         | Worker::Base(_)
         | Worker::Post(_, _)
         | Worker::Drain(_, _)
+        | Worker::EarlyDrain(_, _)
         | Worker::Cleanup(_) => None,
     }
 }
@@ -47,6 +49,7 @@ pub(crate) fn base_of(place: Option<Worker>) -> Option<OpId>
         | Worker::Pre(_, _)
         | Worker::Post(_, _)
         | Worker::Drain(_, _)
+        | Worker::EarlyDrain(_, _)
         | Worker::Cleanup(_) => None,
     }
 }
@@ -62,6 +65,7 @@ pub(crate) fn post_of(place: Option<Worker>) -> Option<(OpId, InstanceId)>
         | Worker::Pre(_, _)
         | Worker::Base(_)
         | Worker::Drain(_, _)
+        | Worker::EarlyDrain(_, _)
         | Worker::Cleanup(_) => None,
     }
 }
@@ -77,6 +81,7 @@ pub(crate) fn drain_of(place: Option<Worker>) -> Option<(OpId, InstanceId)>
         | Worker::Pre(_, _)
         | Worker::Base(_)
         | Worker::Post(_, _)
+        | Worker::EarlyDrain(_, _)
         | Worker::Cleanup(_) => None,
     }
 }

@@ -42,15 +42,15 @@ pub and_false : (b : Bool) → one (b && false) ≡ 0
 and_false true = refl
 and_false false = refl
 
-same_either : (b : Bool) (n : ℕ) → cond b n n ≡ n
+pub same_either : (b : Bool) (n : ℕ) → cond b n n ≡ n
 same_either true n = refl
 same_either false n = refl
 
-cond_sum : (b : Bool) (n m : ℕ) → cond b (n + m) 0 ≡ cond b n 0 + cond b m 0
+pub cond_sum : (b : Bool) (n m : ℕ) → cond b (n + m) 0 ≡ cond b n 0 + cond b m 0
 cond_sum true n m = refl
 cond_sum false n m = refl
 
-one_of_and : (a b : Bool) → one (a && b) ≡ cond a (one b) 0
+pub one_of_and : (a b : Bool) → one (a && b) ≡ cond a (one b) 0
 one_of_and true b = refl
 one_of_and false b = refl
 
@@ -184,7 +184,8 @@ drain_here i j visit is =
     let k : one ((visit.instance.0 == j) && visit.is_running) ≡ cond (i == j) (one visit.is_running) 0 = ap (λ n. one ((n == j) && visit.is_running)) e ∙ one_of_and (i == j) visit.is_running in
     omega (arith, z, k)
 
-drain_at : (i j : ℕ) (visit : DrainVisit) → one ((visit.instance.0 == j) && visit.is_running) ≡ one ((visit.instance.0 == j) && (not (visit.instance.0 == i) && visit.is_running)) + cond (i == j) (one ((visit.instance.0 == i) && visit.is_running)) 0
+pub drain_at : (i j : ℕ) (visit : DrainVisit)
+    → one ((visit.instance.0 == j) && visit.is_running) ≡ one ((visit.instance.0 == j) && (not (visit.instance.0 == i) && visit.is_running)) + cond (i == j) (one ((visit.instance.0 == i) && visit.is_running)) 0
 drain_at i j visit = elim (either (visit.instance.0 == i)) [
   | inl is ↦ rw is (drain_here i j visit is)
   | inr differs ↦ rw differs (let h : cond {A = ℕ} (i == j) 0 0 ≡ 0 = same_either (i == j) 0 in omega (arith, h))

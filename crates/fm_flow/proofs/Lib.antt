@@ -9,5 +9,6 @@ pub mod Flows
 pub mod Paths
 pub mod Places
 pub mod Balances
+pub mod Drains
 pub mod Owes
 mod Seeing

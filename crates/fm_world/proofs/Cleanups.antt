@@ -43,7 +43,7 @@ use Rattle.fm_world.specs.declared.worker.Worker.{Worker}
 use Rattle.fm_world.specs.declared.worker.Worker.TheVariants as place
 use Rattle.fm_world.specs.World.{World}
 use Rattle.fm_world.specs.Workers.{worker_at, put, is_idle, cleanup_in}
-use Rattle.fm_world.specs.Headline.{Spot, AtPre, AtBase, AtPost, AtDrain, is_in_at}
+use Rattle.fm_world.specs.Headline.{Spot, AtPre, AtBase, AtPost, AtDrain, is_in_at, is_in_drain}
 use Rattle.fm_world.specs.Owners.{row_at, place_in, fits, owner_fits, link_fits, may_link, is_left_by, keeps_links_by, is_flown_by, belongs, belongs_by, HoldsIn, CarriesIn, AskCarries}
 use Rattle.fm_world.specs.ContextEvents.{after_due, TakesDue, totalled_for, filter_of, CleansAt, Cleans, is_gone_at, Finishes}
 use Rattle.fm_world.specs.Sound.{IsSound, IsUnderWay, IsOwned, is_in_setup, setup_row}
@@ -52,6 +52,7 @@ use Rattle.fm_world.proofs.Callbacks.{none_of, not_false, same_hands}
 use Rattle.fm_world.specs.Links.{names_there}
 use Rattle.fm_world.proofs.Fitting.{passes_changed, owner_stays, link_stays}
 use Rattle.fm_world.proofs.Counts.{count-cons}
+use Rattle.fm_world.proofs.Draining.{moves_undrained}
 use Rattle.fm_world.proofs.Keeps.{unless_cases, idle_there, moves_outside, workers_move, stack_moves, whatever_contexts}
 use Rattle.fm_world.proofs.Operations.{setups_stay}
 use Rattle.fm_world.proofs.Ties.{idle_is_in_none}
@@ -66,9 +67,10 @@ cleanup_in_none c p (AtDrain i) = refl
 
 worker_moves : (w : World) (k : WorkerId) (a b : Worker) → worker_at w.workers k ≡ Some a
     → ((p : OpId) (s : Spot) → is_in_at p s a ≡ false) → ((p : OpId) (s : Spot) → is_in_at p s b ≡ false)
+    → ((p : OpId) (i : ℕ) → is_in_drain p i a ≡ false) → ((p : OpId) (i : ℕ) → is_in_drain p i b ≡ false)
     → ((i : ℕ) → is_in_setup i a ≡ false) → ((i : ℕ) → is_in_setup i b ≡ false) → IsUnderWay w → IsUnderWay (record w { workers = put w.workers k b })
-worker_moves w k a b at na nb sa sb s =
-    workers_move w (put w.workers k b) (length-set w.workers k.0 b ∙ s.hands) (moves_outside w.workers k a b at na nb) (setups_stay w.workers k a b at sa sb) s
+worker_moves w k a b at na nb da db sa sb s =
+    workers_move w (put w.workers k b) (length-set w.workers k.0 b ∙ s.hands) (moves_outside w.workers k a b at na nb) (moves_undrained w.workers k a b at da db) (setups_stay w.workers k a b at sa sb) s
 
 -- the tie of cleanups and places, where one worker goes elsewhere
 cleaning_moves : (w : World) (k : WorkerId) (o : Option CtxId) (b : Worker) → k.0 < length w.workers → k.0 < length w.contexts.cleaning → o ≡ cleanup_in (Some b)
@@ -118,7 +120,7 @@ take_due_at old k new (Some c) at first e s =
     subst IsSound (sym e)
     (record {
       under_way = whatever_contexts (record old { workers = put old.workers k (place.Cleanup c) }) (taken_due old.contexts k.0 c) old.totals
-          (worker_moves old k place.Idle (place.Cleanup c) at idle_is_in_none (cleanup_in_none c) (λ i. refl) (λ i. refl) s.under_way);
+          (worker_moves old k place.Idle (place.Cleanup c) at idle_is_in_none (cleanup_in_none c) (λ p i. refl) (λ p i. refl) (λ i. refl) (λ i. refl) s.under_way);
       owned = taken_owned old k c at first s;
       filed = s.filed;
       links = passes_changed (names_there old.files) (option_map emptied) old.contexts.slots c refl (λ x there named. named) s.links;
@@ -253,12 +255,13 @@ cleaned_at old k number result new (Some (place.Cleanup c)) at h s =
     subst IsSound (sym h.1)
     (record {
       under_way = whatever_contexts (record old { workers = put old.workers k place.Idle }) (cleaned old.contexts k.0 c) totals
-          (worker_moves old k (place.Cleanup c) place.Idle at (cleanup_in_none c) idle_is_in_none (λ i. refl) (λ i. refl) s.under_way);
+          (worker_moves old k (place.Cleanup c) place.Idle at (cleanup_in_none c) idle_is_in_none (λ p i. refl) (λ p i. refl) (λ i. refl) (λ i. refl) s.under_way);
       owned = cleaned_owned old k c number at s;
       filed = s.filed;
       links = passes_changed (names_there old.files) (λ (x : Option Context). None) old.contexts.slots c refl (λ x there named. refl) s.links;
     })
 cleaned_at old k number result new (Some place.Idle) at h s = subst IsSound (sym h.1) s
+cleaned_at old k number result new (Some (place.EarlyDrain o i)) at h s = subst IsSound (sym h.1) s
 cleaned_at old k number result new (Some (place.Setup i)) at h s = subst IsSound (sym h.1) s
 cleaned_at old k number result new (Some (place.Pre o i)) at h s = subst IsSound (sym h.1) s
 cleaned_at old k number result new (Some (place.Base o)) at h s = subst IsSound (sym h.1) s
@@ -357,7 +360,7 @@ finish_sound old i (Ok done) new h s =
     subst IsSound (sym h.1)
     (record {
       under_way = stack_moves old t old.workers (finished_keeps old.stack i s.under_way.stack row.0 row.1 row.2) (finished_follows old.stack i) s.under_way.hands
-          (λ o spot. refl)
+          (λ o spot. refl) (λ o n. refl)
           (λ j. s.under_way.setups j ∙ sym (setup_kept finish_row old.stack.instances i.0 j row.0 row.1 (sym (not_setup row.0.phase row.2))))
           s.under_way;
       filed = s.filed;

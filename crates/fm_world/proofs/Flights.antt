@@ -1,5 +1,5 @@
 -- Where a worker is in a callback of an instance, the instance is there and takes contexts.
-use Rattle.std.proofs.Common.{◌≡◌, ℕ, ◌≤◌, ◌==◌, Bool, true, cond, List, [], ◌∷◌, Option, Some, None, find, refl, ap, sym, ◌∙◌, subst, inl, inr, ◌⊎◌, arith}
+use Rattle.std.proofs.Common.{◌≡◌, ℕ, ◌≤◌, ◌==◌, ◌&&◌, Bool, true, cond, List, [], ◌∷◌, Option, Some, None, find, refl, ap, sym, ◌∙◌, subst, inl, inr, ◌⊎◌, arith}
 use Rattle.std.proofs.lemmas.Bool.{false≢true, cases_Bool, eq-eqb, and_from}
 use Rattle.std.proofs.lemmas.Option.{none-some, same_Some}
 use Rattle.fm_types.specs.declared.ids.InstanceId.{InstanceId}
@@ -13,22 +13,24 @@ use Rattle.fm_flow.specs.declared.entry.PreState.TheVariants as pre
 use Rattle.fm_flow.specs.declared.entry.PostState.TheVariants as post
 use Rattle.fm_flow.specs.declared.stage.Stage.TheVariants.{PreRunning, PostRunning}
 use Rattle.fm_flow.specs.Entries.{last_visited, last_posted}
-use Rattle.fm_flow.specs.Counts.{flight, leaves_at, drain_opens}
+use Rattle.fm_flow.specs.Counts.{flight, leaves_at}
 use Rattle.fm_flow.specs.Record.{FlowRecord}
 use Rattle.fm_flow.specs.Sound.{IsCourse}
 use Rattle.fm_flow.specs.Sound as flow
 use Rattle.fm_flow.specs.Table.{is_number, total, in_flight}
-use Rattle.fm_flow.proofs.Counting.{flight_pre_settled, flight_post_settled, opens_drain_settled}
+use Rattle.fm_flow.proofs.Counting.{flight_pre_settled, flight_post_settled}
+use Rattle.fm_flow.proofs.Drains.{drains_open}
 use Rattle.fm_types.proofs.Firsts.{found_holds}
 use Rattle.fm_world.specs.declared.worker.Worker.{Worker}
 use Rattle.fm_world.specs.declared.worker.Worker.TheVariants as place
 use Rattle.fm_world.specs.World.{World}
 use Rattle.fm_world.specs.Workers.{worker_at}
-use Rattle.fm_world.specs.Headline.{AtPre, AtPost, AtDrain}
+use Rattle.fm_world.specs.Headline.{AtPre, AtPost, is_in_drain}
 use Rattle.fm_world.specs.Owners.{row_at, place_in, is_flown, is_flown_by, is_left_by, keeps_links_by}
 use Rattle.fm_world.specs.Sound.{IsSound, IsUnderWay}
 use Rattle.fm_world.proofs.Keeps.{setup_place}
-use Rattle.fm_world.proofs.Ties.{tied_there, spot_pre, spot_post, spot_drain}
+use Rattle.fm_world.proofs.Draining.{drained_there}
+use Rattle.fm_world.proofs.Ties.{tied_there, spot_pre, spot_post}
 
 -- what one operation counts for, all of them do
 pub total_found : (f : FlowRecord → ℕ) (test : FlowRecord → Bool) (rs : List FlowRecord) (r : FlowRecord) → find test rs ≡ Some r → f r ≤ total f rs
@@ -61,16 +63,10 @@ post_flies w k o i s at =
     let flies = flight_post_settled PostRunning r.entries post.Finished i.0 refl (subst (λ x. IsCourse x r.entries) spot.0 sound.course) in
     omega (arith, flies, here i.0 (last_posted r.entries) spot.1, total_found (flight i.0) (is_number o) w.flow.operations r there.1)
 
-pub drain_flies : (w : World) (k : WorkerId) (o : OpId) (i : InstanceId) → IsUnderWay w → worker_at w.workers k ≡ Some (place.Drain o i) → 1 ≤ in_flight i.0 w.flow
-drain_flies w k o i s at =
-    let there = tied_there w.workers w.flow k (place.Drain o i) o (AtDrain i.0) s.workers at (and_from (o.0 == o.0) (i.0 == i.0) (eq-eqb o.0 o.0 refl) (eq-eqb i.0 i.0 refl)) in
-    let r = there.0 in
-    let stage = spot_drain i r.stage r.entries there.2 in
-    let sound = found_holds flow.IsSound (is_number o) w.flow.operations r s.flow.sound there.1 in
-    let course = subst (λ x. IsCourse x r.entries) stage sound.course in
-    let opens = opens_drain_settled i.0 i.0 r.entries in
-    let one : cond (i.0 == i.0) (drain_opens i.0 r.entries) 0 ≡ 1 = ap (λ b. cond b (drain_opens i.0 r.entries) 0) (eq-eqb i.0 i.0 refl) ∙ course.drain in
-    omega (arith, opens, one, total_found (flight i.0) (is_number o) w.flow.operations r there.1)
+pub drain_flies : (w : World) (k : WorkerId) (a : Worker) (o : OpId) (i : InstanceId) → IsUnderWay w → worker_at w.workers k ≡ Some a → is_in_drain o i.0 a ≡ true → 1 ≤ in_flight i.0 w.flow
+drain_flies w k a o i s at inside =
+    let there = drained_there w.workers w.flow k a o i.0 s.drains at inside in
+    omega (arith, there.2, drains_open i.0 there.0.entries, total_found (flight i.0) (is_number o) w.flow.operations there.0 there.1)
 
 -- in its setup, or operations may be in flight at it
 abbrev pub IsOpen : Phase → Type 0
@@ -82,6 +78,9 @@ flown_row w i row s there flies =
       | inl e ↦ inr e
       | inr e ↦ let none = s.owned.quiet i (ap is_flown_by there ∙ e) in absurd (omega (arith, none, flies))
     ]
+
+in_it : (o : OpId) (j : InstanceId) → ((o.0 == o.0) && (j.0 == j.0)) ≡ true
+in_it o j = and_from (o.0 == o.0) (j.0 == j.0) (eq-eqb o.0 o.0 refl) (eq-eqb j.0 j.0 refl)
 
 open_at : (w : World) (k : WorkerId) (i : InstanceId) (row : Instance) (m : Option Worker) → IsSound w → worker_at w.workers k ≡ m → place_in m ≡ Some i
     → row_at w.stack i ≡ Some row → IsOpen row.phase
@@ -98,7 +97,9 @@ open_at w k i row (Some (place.Pre o j)) s at is there =
 open_at w k i row (Some (place.Post o j)) s at is there =
     flown_row w i row s there (subst (λ (x : InstanceId). 1 ≤ in_flight x.0 w.flow) (same_Some j i is) (post_flies w k o j s.under_way at))
 open_at w k i row (Some (place.Drain o j)) s at is there =
-    flown_row w i row s there (subst (λ (x : InstanceId). 1 ≤ in_flight x.0 w.flow) (same_Some j i is) (drain_flies w k o j s.under_way at))
+    flown_row w i row s there (subst (λ (x : InstanceId). 1 ≤ in_flight x.0 w.flow) (same_Some j i is) (drain_flies w k (place.Drain o j) o j s.under_way at (in_it o j)))
+open_at w k i row (Some (place.EarlyDrain o j)) s at is there =
+    flown_row w i row s there (subst (λ (x : InstanceId). 1 ≤ in_flight x.0 w.flow) (same_Some j i is) (drain_flies w k (place.EarlyDrain o j) o j s.under_way at (in_it o j)))
 
 pub callback_open : (w : World) (k : WorkerId) (i : InstanceId) (row : Instance) → IsSound w → place_in (worker_at w.workers k) ≡ Some i
     → row_at w.stack i ≡ Some row → IsOpen row.phase

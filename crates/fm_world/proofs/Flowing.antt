@@ -615,6 +615,7 @@ pre_at old k given lent result new (Some (place.Pre o i)) at h s =
         subst (λ p. HoldsIn w.stack w.contexts.slots p d) (ap place_in at)
         (held_has (HoldsIn w.stack w.contexts.slots (place_in (worker_at w.workers k))) (hand_of w.contexts.hands k.0) d (s.owned.holders k) (has d refl))
 pre_at old k given lent result new (Some place.Idle) at h s = subst IsOwned (sym h.1) s.owned
+pre_at old k given lent result new (Some (place.EarlyDrain o i)) at h s = subst IsOwned (sym h.1) s.owned
 pre_at old k given lent result new (Some (place.Setup i)) at h s = subst IsOwned (sym h.1) s.owned
 pre_at old k given lent result new (Some (place.Base o)) at h s = subst IsOwned (sym h.1) s.owned
 pre_at old k given lent result new (Some (place.Post o i)) at h s = subst IsOwned (sym h.1) s.owned
@@ -636,6 +637,7 @@ pre_filed old k given lent result new (Some (place.Pre o i)) at h s =
     (subst (λ (files : FileTable). IsFileSound files (changed o f old.flow)) (sym (told_there read old.files o old.flow r there.1))
     (file_pre old.files old.flow o r state lent there.1 there.2 s.filed)))) s.filed
 pre_filed old k given lent result new (Some place.Idle) at h s = subst FiledIn (sym h.1) s.filed
+pre_filed old k given lent result new (Some (place.EarlyDrain o i)) at h s = subst FiledIn (sym h.1) s.filed
 pre_filed old k given lent result new (Some (place.Setup i)) at h s = subst FiledIn (sym h.1) s.filed
 pre_filed old k given lent result new (Some (place.Base o)) at h s = subst FiledIn (sym h.1) s.filed
 pre_filed old k given lent result new (Some (place.Post o i)) at h s = subst FiledIn (sym h.1) s.filed
@@ -650,6 +652,7 @@ pre_named old k given lent result new (Some (place.Pre o i)) h s =
     unless_cases NamedIn status.BadRequest (told (λ r. data_fits r.operation r.path lent) false o old.flow) result old new
     ((result ≡ Ok tt) × PreReturnsOver old k o (pre_returned_of state lent) state new) h (λ fits event. loses_named event.1.0 new event.1.2) s
 pre_named old k given lent result new (Some place.Idle) h s = subst NamedIn (sym h.1) s
+pre_named old k given lent result new (Some (place.EarlyDrain o i)) h s = subst NamedIn (sym h.1) s
 pre_named old k given lent result new (Some (place.Setup i)) h s = subst NamedIn (sym h.1) s
 pre_named old k given lent result new (Some (place.Base o)) h s = subst NamedIn (sym h.1) s
 pre_named old k given lent result new (Some (place.Post o i)) h s = subst NamedIn (sym h.1) s
@@ -690,6 +693,7 @@ base_at old k call given result new (Some (place.Base o)) at h s =
     (subst (All (AskCarries old.stack slots)) (sym (owed_push_none r.entries (Base counts.status counts.information) refl (λ i. refl))) asks)
     (quieter old o r f there.1 (λ i. omega (arith, base_returned_flies i call given handle r)) s.owned.quiet) s.owned))) s.owned
 base_at old k call given result new (Some place.Idle) at h s = subst IsOwned (sym h.1) s.owned
+base_at old k call given result new (Some (place.EarlyDrain o i)) at h s = subst IsOwned (sym h.1) s.owned
 base_at old k call given result new (Some (place.Setup i)) at h s = subst IsOwned (sym h.1) s.owned
 base_at old k call given result new (Some (place.Pre o i)) at h s = subst IsOwned (sym h.1) s.owned
 base_at old k call given result new (Some (place.Post o i)) at h s = subst IsOwned (sym h.1) s.owned
@@ -712,6 +716,7 @@ base_filed old k call given result new (Some (place.Base o)) at h s =
     (file_answered old.files old.flow o r f given.status there.1 (ap is_unanswered stage)
     (base_answered old.files call given r (fits_create call given r (sym (told_there (base_fits call given) false o old.flow r there.1) ∙ fits))) s.filed))) s.filed
 base_filed old k call given result new (Some place.Idle) at h s = subst FiledIn (sym h.1) s.filed
+base_filed old k call given result new (Some (place.EarlyDrain o i)) at h s = subst FiledIn (sym h.1) s.filed
 base_filed old k call given result new (Some (place.Setup i)) at h s = subst FiledIn (sym h.1) s.filed
 base_filed old k call given result new (Some (place.Pre o i)) at h s = subst FiledIn (sym h.1) s.filed
 base_filed old k call given result new (Some (place.Post o i)) at h s = subst FiledIn (sym h.1) s.filed
@@ -725,6 +730,7 @@ base_named old k call given result new (Some (place.Base o)) h s =
     unless_cases NamedIn status.BadRequest (told (base_fits call given) false o old.flow) result old new
     ((result ≡ Ok tt) × LosesLinks (base_returned old k o call given) new) h (λ fits event. loses_named (base_returned old k o call given) new event.1) s
 base_named old k call given result new (Some place.Idle) h s = subst NamedIn (sym h.1) s
+base_named old k call given result new (Some (place.EarlyDrain o i)) h s = subst NamedIn (sym h.1) s
 base_named old k call given result new (Some (place.Setup i)) h s = subst NamedIn (sym h.1) s
 base_named old k call given result new (Some (place.Pre o i)) h s = subst NamedIn (sym h.1) s
 base_named old k call given result new (Some (place.Post o i)) h s = subst NamedIn (sym h.1) s
@@ -785,12 +791,14 @@ post_at old k given None result new (Some (place.Post o i)) at h s = subst IsOwn
 post_at old k given None result new (Some (place.Drain o i)) at h s = drain_given old k o i new at h.1 s
 post_at old k given (Some lent) result new (Some (place.Drain o i)) at h s = subst IsOwned (sym h.1) s.owned
 post_at old k given (Some lent) result new (Some place.Idle) at h s = subst IsOwned (sym h.1) s.owned
+post_at old k given (Some lent) result new (Some (place.EarlyDrain o i)) at h s = subst IsOwned (sym h.1) s.owned
 post_at old k given (Some lent) result new (Some (place.Setup i)) at h s = subst IsOwned (sym h.1) s.owned
 post_at old k given (Some lent) result new (Some (place.Pre o i)) at h s = subst IsOwned (sym h.1) s.owned
 post_at old k given (Some lent) result new (Some (place.Base o)) at h s = subst IsOwned (sym h.1) s.owned
 post_at old k given (Some lent) result new (Some (place.Cleanup c)) at h s = subst IsOwned (sym h.1) s.owned
 post_at old k given (Some lent) result new None at h s = subst IsOwned (sym h.1) s.owned
 post_at old k given None result new (Some place.Idle) at h s = subst IsOwned (sym h.1) s.owned
+post_at old k given None result new (Some (place.EarlyDrain o i)) at h s = subst IsOwned (sym h.1) s.owned
 post_at old k given None result new (Some (place.Setup i)) at h s = subst IsOwned (sym h.1) s.owned
 post_at old k given None result new (Some (place.Pre o i)) at h s = subst IsOwned (sym h.1) s.owned
 post_at old k given None result new (Some (place.Base o)) at h s = subst IsOwned (sym h.1) s.owned
@@ -821,12 +829,14 @@ post_filed old k given None result new (Some (place.Drain o i)) at h s =
     answered_filed old k o there.0 (drain_returned_of i) new there.1 (answered_same there.0 (drain_returned_of i there.0) refl refl (ap is_unanswered there.2) refl) h.1 s
 post_filed old k given (Some lent) result new (Some (place.Drain o i)) at h s = subst FiledIn (sym h.1) s.filed
 post_filed old k given (Some lent) result new (Some place.Idle) at h s = subst FiledIn (sym h.1) s.filed
+post_filed old k given (Some lent) result new (Some (place.EarlyDrain o i)) at h s = subst FiledIn (sym h.1) s.filed
 post_filed old k given (Some lent) result new (Some (place.Setup i)) at h s = subst FiledIn (sym h.1) s.filed
 post_filed old k given (Some lent) result new (Some (place.Pre o i)) at h s = subst FiledIn (sym h.1) s.filed
 post_filed old k given (Some lent) result new (Some (place.Base o)) at h s = subst FiledIn (sym h.1) s.filed
 post_filed old k given (Some lent) result new (Some (place.Cleanup c)) at h s = subst FiledIn (sym h.1) s.filed
 post_filed old k given (Some lent) result new None at h s = subst FiledIn (sym h.1) s.filed
 post_filed old k given None result new (Some place.Idle) at h s = subst FiledIn (sym h.1) s.filed
+post_filed old k given None result new (Some (place.EarlyDrain o i)) at h s = subst FiledIn (sym h.1) s.filed
 post_filed old k given None result new (Some (place.Setup i)) at h s = subst FiledIn (sym h.1) s.filed
 post_filed old k given None result new (Some (place.Pre o i)) at h s = subst FiledIn (sym h.1) s.filed
 post_filed old k given None result new (Some (place.Base o)) at h s = subst FiledIn (sym h.1) s.filed
@@ -847,12 +857,14 @@ post_named old k given None result new (Some (place.Drain o i)) h s = left_named
 post_named old k given None result new (Some (place.Post o i)) h s = subst NamedIn (sym h.1) s
 post_named old k given (Some lent) result new (Some (place.Drain o i)) h s = subst NamedIn (sym h.1) s
 post_named old k given (Some lent) result new (Some place.Idle) h s = subst NamedIn (sym h.1) s
+post_named old k given (Some lent) result new (Some (place.EarlyDrain o i)) h s = subst NamedIn (sym h.1) s
 post_named old k given (Some lent) result new (Some (place.Setup i)) h s = subst NamedIn (sym h.1) s
 post_named old k given (Some lent) result new (Some (place.Pre o i)) h s = subst NamedIn (sym h.1) s
 post_named old k given (Some lent) result new (Some (place.Base o)) h s = subst NamedIn (sym h.1) s
 post_named old k given (Some lent) result new (Some (place.Cleanup c)) h s = subst NamedIn (sym h.1) s
 post_named old k given (Some lent) result new None h s = subst NamedIn (sym h.1) s
 post_named old k given None result new (Some place.Idle) h s = subst NamedIn (sym h.1) s
+post_named old k given None result new (Some (place.EarlyDrain o i)) h s = subst NamedIn (sym h.1) s
 post_named old k given None result new (Some (place.Setup i)) h s = subst NamedIn (sym h.1) s
 post_named old k given None result new (Some (place.Pre o i)) h s = subst NamedIn (sym h.1) s
 post_named old k given None result new (Some (place.Base o)) h s = subst NamedIn (sym h.1) s

@@ -220,6 +220,7 @@ cleaned_at_hands : (old : World) (k : WorkerId) (number : ℕ) (result : Result 
     → CleansAt old k number result new m → KeepsHands old new
 cleaned_at_hands old k number result new None h = λ n. stays n old new h.1
 cleaned_at_hands old k number result new (Some place.Idle) h = λ n. stays n old new h.1
+cleaned_at_hands old k number result new (Some (place.EarlyDrain o i)) h = λ n. stays n old new h.1
 cleaned_at_hands old k number result new (Some (place.Setup i)) h = λ n. stays n old new h.1
 cleaned_at_hands old k number result new (Some (place.Pre o i)) h = λ n. stays n old new h.1
 cleaned_at_hands old k number result new (Some (place.Base o)) h = λ n. stays n old new h.1
@@ -266,6 +267,7 @@ setup_at_hand : (old : World) (k : WorkerId) (accept : Bool) (result : Result (U
     → OnlyHandOf k.0 old new
 setup_at_hand old k accept result new None h = stays k.0 old new h.1
 setup_at_hand old k accept result new (Some place.Idle) h = stays k.0 old new h.1
+setup_at_hand old k accept result new (Some (place.EarlyDrain o i)) h = stays k.0 old new h.1
 setup_at_hand old k accept result new (Some (place.Setup i)) (event, left, l, e, rest) =
     let there = left_hand (carries old) k.0 old.contexts.hands old.contexts left l (no_change k.0 old.contexts.hands old.contexts.hands refl) in
     differs k.0 old new (there.0, emptied_hands result i old left new.contexts e ∙ there.1)
@@ -336,6 +338,7 @@ pre_at_hand : (old : World) (k : WorkerId) (given : PreVerdict) (lent : Data) (r
     → PreReturnsAt old k given lent result new m → OnlyHandOf k.0 old new
 pre_at_hand old k given lent result new None h = stays k.0 old new h.1
 pre_at_hand old k given lent result new (Some place.Idle) h = stays k.0 old new h.1
+pre_at_hand old k given lent result new (Some (place.EarlyDrain o i)) h = stays k.0 old new h.1
 pre_at_hand old k given lent result new (Some (place.Setup i)) h = stays k.0 old new h.1
 pre_at_hand old k given lent result new (Some (place.Pre o i)) h =
     let step = pre_returned_of (state_at old k o i given) lent in
@@ -356,6 +359,7 @@ base_at_hands : (old : World) (k : WorkerId) (call : BaseCall) (given : Answer) 
     → BaseReturnsAt old k call given result new m → KeepsHands old new
 base_at_hands old k call given result new None h = λ n. stays n old new h.1
 base_at_hands old k call given result new (Some place.Idle) h = λ n. stays n old new h.1
+base_at_hands old k call given result new (Some (place.EarlyDrain o i)) h = λ n. stays n old new h.1
 base_at_hands old k call given result new (Some (place.Setup i)) h = λ n. stays n old new h.1
 base_at_hands old k call given result new (Some (place.Pre o i)) h = λ n. stays n old new h.1
 base_at_hands old k call given result new (Some (place.Base o)) h =
@@ -383,6 +387,7 @@ post_at_hand old k given (Some lent) result new (Some (place.Post o i)) h =
 post_at_hand old k given None result new (Some (place.Drain o i)) h = returned_hand old k o (drain_returned_of i) old.contexts new h.1.0 (unmoved old k)
 post_at_hand old k given None result new None h = stays k.0 old new h.1
 post_at_hand old k given None result new (Some place.Idle) h = stays k.0 old new h.1
+post_at_hand old k given None result new (Some (place.EarlyDrain o i)) h = stays k.0 old new h.1
 post_at_hand old k given None result new (Some (place.Setup i)) h = stays k.0 old new h.1
 post_at_hand old k given None result new (Some (place.Pre o i)) h = stays k.0 old new h.1
 post_at_hand old k given None result new (Some (place.Base o)) h = stays k.0 old new h.1
@@ -390,6 +395,7 @@ post_at_hand old k given None result new (Some (place.Post o i)) h = stays k.0 o
 post_at_hand old k given None result new (Some (place.Cleanup c)) h = stays k.0 old new h.1
 post_at_hand old k given (Some lent) result new None h = stays k.0 old new h.1
 post_at_hand old k given (Some lent) result new (Some place.Idle) h = stays k.0 old new h.1
+post_at_hand old k given (Some lent) result new (Some (place.EarlyDrain o i)) h = stays k.0 old new h.1
 post_at_hand old k given (Some lent) result new (Some (place.Setup i)) h = stays k.0 old new h.1
 post_at_hand old k given (Some lent) result new (Some (place.Pre o i)) h = stays k.0 old new h.1
 post_at_hand old k given (Some lent) result new (Some (place.Base o)) h = stays k.0 old new h.1

@@ -266,6 +266,7 @@ pre_at_none old k given lent result new (Some (place.Pre o i)) h =
     (λ e. loses_none k.0 result old e.1.0 new e.1.2 (returned_none old k o step kept result e.1.0 e.0 e.1.1.0))
 pre_at_none old k given lent result new None h = refused_none k.0 result _ old new h
 pre_at_none old k given lent result new (Some place.Idle) h = refused_none k.0 result _ old new h
+pre_at_none old k given lent result new (Some (place.EarlyDrain o i)) h = refused_none k.0 result _ old new h
 pre_at_none old k given lent result new (Some (place.Setup i)) h = refused_none k.0 result _ old new h
 pre_at_none old k given lent result new (Some (place.Base o)) h = refused_none k.0 result _ old new h
 pre_at_none old k given lent result new (Some (place.Post o i)) h = refused_none k.0 result _ old new h
@@ -286,6 +287,7 @@ post_at_none old k given (Some lent) result new (Some (place.Post o i)) h =
 post_at_none old k given None result new (Some (place.Drain o i)) h = returned_none old k o (drain_returned_of i) old.contexts result new h.0 h.1.0
 post_at_none old k given None result new None h = refused_none k.0 result _ old new h
 post_at_none old k given None result new (Some place.Idle) h = refused_none k.0 result _ old new h
+post_at_none old k given None result new (Some (place.EarlyDrain o i)) h = refused_none k.0 result _ old new h
 post_at_none old k given None result new (Some (place.Setup i)) h = refused_none k.0 result _ old new h
 post_at_none old k given None result new (Some (place.Pre o i)) h = refused_none k.0 result _ old new h
 post_at_none old k given None result new (Some (place.Base o)) h = refused_none k.0 result _ old new h
@@ -293,6 +295,7 @@ post_at_none old k given None result new (Some (place.Post o i)) h = refused_non
 post_at_none old k given None result new (Some (place.Cleanup c)) h = refused_none k.0 result _ old new h
 post_at_none old k given (Some lent) result new None h = refused_none k.0 result _ old new h
 post_at_none old k given (Some lent) result new (Some place.Idle) h = refused_none k.0 result _ old new h
+post_at_none old k given (Some lent) result new (Some (place.EarlyDrain o i)) h = refused_none k.0 result _ old new h
 post_at_none old k given (Some lent) result new (Some (place.Setup i)) h = refused_none k.0 result _ old new h
 post_at_none old k given (Some lent) result new (Some (place.Pre o i)) h = refused_none k.0 result _ old new h
 post_at_none old k given (Some lent) result new (Some (place.Base o)) h = refused_none k.0 result _ old new h
@@ -310,6 +313,7 @@ setup_at_left old k accept result new (Some (place.Setup i)) (event, left, l, e,
     ap (λ (hands : List (List CtxId)). length (hand_of hands k.0)) (emptied_hands result i old left new.contexts e ∙ l.hands) ∙ emptied old.contexts.hands k.0
 setup_at_left old k accept result new None h = ap (hand_len k.0) h.1
 setup_at_left old k accept result new (Some place.Idle) h = ap (hand_len k.0) h.1
+setup_at_left old k accept result new (Some (place.EarlyDrain o i)) h = ap (hand_len k.0) h.1
 setup_at_left old k accept result new (Some (place.Pre o i)) h = ap (hand_len k.0) h.1
 setup_at_left old k accept result new (Some (place.Base o)) h = ap (hand_len k.0) h.1
 setup_at_left old k accept result new (Some (place.Post o i)) h = ap (hand_len k.0) h.1

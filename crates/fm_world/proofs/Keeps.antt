@@ -28,10 +28,11 @@ use Rattle.fm_world.specs.Links.{LosesLinks}
 use Rattle.fm_world.specs.World.{World}
 use Rattle.fm_world.specs.Workers.{worker_at, put, is_idle, after_attach}
 use Rattle.fm_world.specs.Events.{Registers, Mounts, Attaches, SetsUp, SetsUpAt, Unless}
-use Rattle.fm_world.specs.Headline.{Spot, AtPre, AtBase, AtPost, AtDrain, is_in_at}
+use Rattle.fm_world.specs.Headline.{Spot, AtPre, AtBase, AtPost, AtDrain, is_in_at, is_in_drain}
 use Rattle.fm_world.specs.Sound.{IsUnderWay, IsAmong, is_in_setup, setup_row, IsFileSound}
 use Rattle.fm_world.proofs.Counts.{count-some}
 use Rattle.fm_world.proofs.Ties.{one, count_moves, idle_is_in_none}
+use Rattle.fm_world.proofs.Draining.{moves_undrained}
 use Rattle.fm_world.proofs.Amongs.{among_follows}
 use Rattle.fm_stack.proofs.Registering.{registered_keeps, registered_follows, mounted_keeps, mounted_follows}
 use Rattle.fm_stack.proofs.Attaching.{attached_keeps, attached_follows}
@@ -44,39 +45,43 @@ FiledIn w = IsFileSound w.files w.flow
 
 -- contexts don't matter here
 pub whatever_contexts : (w : World) (t : ContextTable) (totals : List ℕ) → IsUnderWay w → IsUnderWay (record w { contexts = t; totals = totals })
-whatever_contexts w t totals h = record { stack = h.stack; flow = h.flow; among = h.among; hands = h.hands; workers = h.workers; setups = h.setups }
+whatever_contexts w t totals h = record { stack = h.stack; flow = h.flow; among = h.among; hands = h.hands; workers = h.workers; drains = h.drains; setups = h.setups }
 
 pub loses_under_way : (old new : World) → LosesLinks old new → IsUnderWay old → IsUnderWay new
 loses_under_way old new h s = subst IsUnderWay (sym h.1) (whatever_contexts old new.contexts old.totals s)
 
 -- nor do streams and handles
 pub whatever_files : (w : World) (t : ContextTable) (files : FileTable) → IsUnderWay w → IsUnderWay (record w { contexts = t; files = files })
-whatever_files w t files h = record { stack = h.stack; flow = h.flow; among = h.among; hands = h.hands; workers = h.workers; setups = h.setups }
+whatever_files w t files h = record { stack = h.stack; flow = h.flow; among = h.among; hands = h.hands; workers = h.workers; drains = h.drains; setups = h.setups }
 
 -- workers move outside operations and setups
 pub workers_move : (w : World) (workers : List Worker) → length workers ≡ 48
     → ((o : OpId) (spot : Spot) → count_by (is_in_at o spot) workers ≡ count_by (is_in_at o spot) w.workers)
+    → ((o : OpId) (i : ℕ) → count_by (is_in_drain o i) workers ≡ count_by (is_in_drain o i) w.workers)
     → ((i : ℕ) → count_by (is_in_setup i) workers ≡ count_by (is_in_setup i) w.workers) → IsUnderWay w → IsUnderWay (record w { workers = workers })
-workers_move w workers hands same setups h = record {
+workers_move w workers hands same drains setups h = record {
   stack = h.stack;
   flow = h.flow;
   among = h.among;
   hands = hands;
   workers = λ o spot. same o spot ∙ h.workers o spot;
+  drains = λ o i. drains o i ∙ h.drains o i;
   setups = λ i. setups i ∙ h.setups i;
 }
 
 -- filters, volumes and instances change, workers move outside operations
 pub stack_moves : (w : World) (t : StackWorld) (workers : List Worker) → IsStack t → Follows w.stack t → length workers ≡ 48
     → ((o : OpId) (spot : Spot) → count_by (is_in_at o spot) workers ≡ count_by (is_in_at o spot) w.workers)
+    → ((o : OpId) (i : ℕ) → count_by (is_in_drain o i) workers ≡ count_by (is_in_drain o i) w.workers)
     → ((i : ℕ) → count_by (is_in_setup i) workers ≡ setup_row (slice_get t.instances i))
     → IsUnderWay w → IsUnderWay (record w { stack = t; workers = workers })
-stack_moves w t workers stack follows hands same setups h = record {
+stack_moves w t workers stack follows hands same drains setups h = record {
   stack = stack;
   flow = h.flow;
   among = All-weaker (IsAmong w.stack) (IsAmong t) (λ r k. among_follows w.stack t r.volume r.born r.operation r.entries r.stage follows k) w.flow.operations h.among;
   hands = hands;
   workers = λ o spot. same o spot ∙ h.workers o spot;
+  drains = λ o i. drains o i ∙ h.drains o i;
   setups = setups;
 }
 
@@ -90,7 +95,7 @@ unfolding Registers stack.Registers
 register_keeps old name registration (Ok f) new h s =
     subst IsUnderWay (sym (same_rest old new (stack.registered old.stack name registration) h.0.1.1 h.1))
     (stack_moves old (stack.registered old.stack name registration) old.workers (registered_keeps old.stack name registration s.stack h.0.0)
-    (registered_follows old.stack name registration s.stack) s.hands (λ o spot. refl) s.setups s)
+    (registered_follows old.stack name registration s.stack) s.hands (λ o spot. refl) (λ o i. refl) s.setups s)
 register_keeps old name registration (Err why) new h s = subst IsUnderWay (sym (same_rest old new old.stack h.0.1 h.1)) s
 
 pub mount_keeps : (old : World) (name : List ℕ) (result : Result VolumeId Status) (new : World) → Mounts old name result new → IsUnderWay old → IsUnderWay new
@@ -98,7 +103,7 @@ unfolding Mounts stack.Mounts
 mount_keeps old name (Ok v) new h s =
     subst IsUnderWay (sym (same_rest old new (stack.mounted old.stack name) h.0.1.1 h.1))
     (stack_moves old (stack.mounted old.stack name) old.workers (mounted_keeps old.stack name s.stack h.0.0)
-    (mounted_follows old.stack name s.stack) s.hands (λ o spot. refl) s.setups s)
+    (mounted_follows old.stack name s.stack) s.hands (λ o spot. refl) (λ o i. refl) s.setups s)
 mount_keeps old name (Err why) new h s = subst IsUnderWay (sym (same_rest old new old.stack h.0.1 h.1)) s
 
 -- ---- attach
@@ -159,6 +164,7 @@ attach_at old k f v name altitude (Ok i) new idle h e s =
     (stack_moves old t workers (attached_keeps old.stack f v name altitude s.stack h.0) (attached_follows old.stack f v name altitude s.stack)
     (length-set old.workers k.0 (place.Setup i) ∙ s.hands)
     (moves_outside old.workers k place.Idle (place.Setup i) idle idle_is_in_none (setup_in_none i))
+    (moves_undrained old.workers k place.Idle (place.Setup i) idle (λ p n. refl) (λ p n. refl))
     (λ j.
     let moves = count_moves (is_in_setup j) old.workers k place.Idle (place.Setup i) idle in
     let rows = setup_push old.stack.instances (stack.new_instance f v name altitude) j refl in
@@ -215,6 +221,7 @@ setup_ends : (old : World) (k : WorkerId) (i : InstanceId) (t : StackWorld) (cha
 setup_ends old k i t change row at there was is rows stack follows s =
     stack_moves old t (put old.workers k place.Idle) stack follows (length-set old.workers k.0 place.Idle ∙ s.hands)
     (moves_outside old.workers k (place.Setup i) place.Idle at (setup_in_none i) idle_is_in_none)
+    (moves_undrained old.workers k (place.Setup i) place.Idle at (λ p n. refl) (λ p n. refl))
     (λ j.
     let moves = count_moves (is_in_setup j) old.workers k (place.Setup i) place.Idle at in
     let after = setup_updated change old.stack.instances i.0 j row there was is in
@@ -247,6 +254,7 @@ setup_cases : (old : World) (k : WorkerId) (accept : Bool) (result : Result (Uni
     → worker_at old.workers k ≡ m → SetsUpAt old k accept result new m → IsUnderWay old → IsUnderWay new
 setup_cases old k accept result new (Some (place.Setup i)) at h s = setup_at old k i accept result new at h.0 h.4 s
 setup_cases old k accept result new (Some place.Idle) at h s = subst IsUnderWay (sym h.1) s
+setup_cases old k accept result new (Some (place.EarlyDrain o i)) at h s = subst IsUnderWay (sym h.1) s
 setup_cases old k accept result new (Some (place.Pre o i)) at h s = subst IsUnderWay (sym h.1) s
 setup_cases old k accept result new (Some (place.Base o)) at h s = subst IsUnderWay (sym h.1) s
 setup_cases old k accept result new (Some (place.Post o i)) at h s = subst IsUnderWay (sym h.1) s

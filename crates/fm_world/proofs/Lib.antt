@@ -2,6 +2,7 @@ pub mod Counts
 pub mod Altitudes
 pub mod Descents
 pub mod Ties
+mod Draining
 pub mod Amongs
 pub mod Keeps
 pub mod Operations

@@ -1,5 +1,5 @@
 -- The events on operations keep a World sound.
-use Rattle.std.proofs.Common.{◌≡◌, ℕ, suc, ◌<◌, ◌==◌, Bool, true, false, cond, not, List, [], ◌∷◌, ◌++◌, Option, Some, None, Result, Ok, Err, length, get_or, refl, ap, sym, ◌∙◌, subst, inl, inr, ◌⊎◌, arith, length-set}
+use Rattle.std.proofs.Common.{◌≡◌, ℕ, suc, ◌+◌, ◌<◌, ◌==◌, Bool, true, false, cond, not, List, [], ◌∷◌, ◌++◌, Option, Some, None, Result, Ok, Err, length, get_or, refl, ap, sym, ◌∙◌, subst, inl, inr, ◌⊎◌, arith, length-set}
 use Rattle.std.specs.Prelude.{All, AllPairs, slice_get, option_map, unwrap_or, find, nat_le, count_by, ◌||◌}
 use Rattle.std.specs.Cmp.Lexicographic.{bytes_decides}
 use Rattle.std.specs.List.{list_any}
@@ -32,7 +32,7 @@ use Rattle.fm_flow.specs.declared.action.Below.TheVariants as below
 use Rattle.fm_flow.specs.declared.action.FlowAction.{FlowAction}
 use Rattle.fm_flow.specs.declared.action.FlowAction.TheVariants as action
 use Rattle.fm_flow.specs.declared.entry.Ask.{Ask}
-use Rattle.fm_flow.specs.declared.entry.Entry.TheVariants.{Post, Drain}
+use Rattle.fm_flow.specs.declared.entry.Entry.TheVariants.{Base, Post, Drain}
 use Rattle.fm_flow.specs.declared.entry.PreState.TheVariants as pre
 use Rattle.fm_flow.specs.declared.entry.PostState.TheVariants as post
 use Rattle.fm_flow.specs.declared.stage.Stage.{Stage}
@@ -42,8 +42,9 @@ use Rattle.fm_flow.specs.Entries.{visited, owed, has_base, settle_pre, settle_po
 use Rattle.fm_flow.specs.Steps.{Turned, next_of, next_at, descend, ascend, call_pre, call_base, call_post, give_post, unwound, unwound_to, may_take, pre_leads, post_leads, pre_returned_of, post_returned_of, post_state, drain_returned_of, base_fits, is_done, done_at, MayLieBelow}
 use Rattle.fm_flow.specs.Sound.{walk, way_of}
 use Rattle.fm_flow.specs.Sound as flow
-use Rattle.fm_flow.specs.Counts.{is_running_drain}
+use Rattle.fm_flow.specs.Counts.{is_running_drain, drain_opens}
 use Rattle.fm_flow.specs.Creates.{is_create}
+use Rattle.fm_flow.proofs.Drains.{drains_push, drains_pre_settled, drains_post_settled, drains_drain_settled, none_running}
 use Rattle.fm_flow.specs.Table.{FlowTable, IsFlow, operation_at, changed, told, begun, begun_record, is_full, is_number, collected_of, collected_in, is_collectable, marked, removed, without_first}
 use Rattle.fm_flow.specs.Verdict.{verdict_counted, completed_as}
 use Rattle.fm_world.specs.declared.step.Begin.{Begin}
@@ -54,12 +55,13 @@ use Rattle.fm_world.specs.World.{World}
 use Rattle.fm_world.specs.Workers.{worker_at, put, is_idle, after_next}
 use Rattle.fm_world.specs.Events.{Begins, Nexts, NextsOver, LiesBelow, FindsBelow, PreReturns, PreReturnsAt, BaseReturns, BaseReturnsAt, PostReturns, PostReturnsAt, Collects, ReturnsFrom, returned, received, state_at, state_given, drains_at, of_hand, has_post, or_else, begin_refused, refused_on, refused_at, begun_on, begun_at, after_begin, moved_on, has_no_handle_left, flow_after_next, filed_next, filed_pre, filed_base, base_step, base_returned, NextsAt, PreReturnsOver}
 use Rattle.fm_world.specs.Links.{LosesLinks}
-use Rattle.fm_world.specs.Headline.{Spot, AtPre, AtBase, AtPost, AtDrain, spot_at, spot_of, is_spot, stands_at}
+use Rattle.fm_world.specs.Headline.{Spot, AtPre, AtBase, AtPost, AtDrain, spot_at, spot_of, is_spot}
 use Rattle.fm_world.specs.Descent.{is_among}
 use Rattle.fm_world.specs.Sound.{IsUnderWay, IsAmong, is_in_setup}
 use Rattle.fm_types.proofs.Firsts.{change_none, found_holds, all_change, all_without, find_without}
 use Rattle.fm_world.proofs.Filing.{asks_no_create}
 use Rattle.fm_world.proofs.Ties.{counted_from, one, count_moves, AreTied, Matches, is_running, quiet_is_none, quiet_is_nowhere, tied_moves, tied_stays, tied_there, matches_idle, matches_pre, matches_base, matches_post, matches_drain, spot_pre, spot_base, spot_post, spot_drain}
+use Rattle.fm_world.proofs.Draining.{AreDrained, InDrains, in_no_drain, in_a_drain, drained_moves, drained_stays, next_drained}
 use Rattle.fm_world.proofs.Amongs.{is_up, no_base, visit_last, post_last, among_visits, among_other, among_base, among_settles, among_begins, settle_pre_visit, settle_pre_base, settle_post_visit, settle_post_base, settle_drain_visit, settle_drain_base}
 use Rattle.fm_world.proofs.Descents.{next_unseen, room_is, or_left, or_right}
 use Rattle.fm_world.proofs.Keeps.{unless_cases, idle_there, whatever_contexts, whatever_files, loses_under_way}
@@ -77,34 +79,35 @@ use Rattle.fm_flow.specs.Answered.{base_counted}
 
 -- operations change, and workers with them
 flow_moves : (w : World) (t : FlowTable) (workers : List Worker) → IsFlow t → All (IsAmong w.stack) t.operations → length workers ≡ 48
-    → AreTied workers t → ((i : ℕ) → count_by (is_in_setup i) workers ≡ count_by (is_in_setup i) w.workers)
+    → AreTied workers t → AreDrained workers t → ((i : ℕ) → count_by (is_in_setup i) workers ≡ count_by (is_in_setup i) w.workers)
     → IsUnderWay w → IsUnderWay (record w { flow = t; workers = workers })
-flow_moves w t workers flow among hands tied setups h = record {
+flow_moves w t workers flow among hands tied drained setups h = record {
   stack = h.stack;
   flow = flow;
   among = among;
   hands = hands;
   workers = tied;
+  drains = drained;
   setups = λ i. setups i ∙ h.setups i;
 }
 
 -- ---- begin
 
-stands_push : (p : OpId) (s : Spot) (rs : List FlowRecord) (r : FlowRecord) → is_spot s (spot_of r) ≡ false
-    → unwrap_or (option_map (λ (x : FlowRecord). one (is_spot s (spot_of x))) (find (is_number p) (rs ++ r ∷ []))) 0
-    ≡ unwrap_or (option_map (λ (x : FlowRecord). one (is_spot s (spot_of x))) (find (is_number p) rs)) 0
-stands_push p s [] r h =
-    let read = λ (m : Option FlowRecord). unwrap_or (option_map (λ (x : FlowRecord). one (is_spot s (spot_of x))) m) 0 in
+-- what is told of operations stays where one comes of which nothing is told
+told_push : (read : FlowRecord → ℕ) (p : OpId) (rs : List FlowRecord) (r : FlowRecord) → read r ≡ 0
+    → unwrap_or (option_map read (find (is_number p) (rs ++ r ∷ []))) 0 ≡ unwrap_or (option_map read (find (is_number p) rs)) 0
+told_push read p [] r h =
+    let tell = λ (m : Option FlowRecord). unwrap_or (option_map read m) 0 in
     elim (cases_Bool (is_number p r)) [
-      | inl e ↦ ap (λ b. read (cond b (Some r) None)) e ∙ ap one h
-      | inr e ↦ ap (λ b. read (cond b (Some r) None)) e
+      | inl e ↦ ap (λ b. tell (cond b (Some r) None)) e ∙ h
+      | inr e ↦ ap (λ b. tell (cond b (Some r) None)) e
     ]
-stands_push p s (x ∷ rs) r h =
-    let read = λ (m : Option FlowRecord). unwrap_or (option_map (λ (y : FlowRecord). one (is_spot s (spot_of y))) m) 0 in
+told_push read p (x ∷ rs) r h =
+    let tell = λ (m : Option FlowRecord). unwrap_or (option_map read m) 0 in
     elim (cases_Bool (is_number p x)) [
-      | inl e ↦ ap (λ b. read (cond b (Some x) (find (is_number p) (rs ++ r ∷ [])))) e ∙ sym (ap (λ b. read (cond b (Some x) (find (is_number p) rs))) e)
-      | inr e ↦ ap (λ b. read (cond b (Some x) (find (is_number p) (rs ++ r ∷ [])))) e ∙ stands_push p s rs r h
-          ∙ sym (ap (λ b. read (cond b (Some x) (find (is_number p) rs))) e)
+      | inl e ↦ ap (λ b. tell (cond b (Some x) (find (is_number p) (rs ++ r ∷ [])))) e ∙ sym (ap (λ b. tell (cond b (Some x) (find (is_number p) rs))) e)
+      | inr e ↦ ap (λ b. tell (cond b (Some x) (find (is_number p) (rs ++ r ∷ [])))) e ∙ told_push read p rs r h
+          ∙ sym (ap (λ b. tell (cond b (Some x) (find (is_number p) rs))) e)
     ]
 
 -- what doesn't refuse first, and what doesn't refuse then
@@ -139,7 +142,8 @@ operation_begins old v stream handle path p files on within free s =
     (All-push (IsAmong old.stack) old.flow.operations fresh s.among
     (among_begins old.stack v fresh.operation (is_to_visit_few old.stack s.stack v old.stack.births fresh.operation)))
     s.hands
-    (λ o spot. s.workers o spot ∙ sym (stands_push o spot old.flow.operations fresh (quiet_is_none Descending [] refl spot)))
+    (λ o spot. s.workers o spot ∙ sym (told_push (λ (x : FlowRecord). one (is_spot spot (spot_of x))) o old.flow.operations fresh (ap one (quiet_is_none Descending [] refl spot))))
+    (λ o i. s.drains o i ∙ sym (told_push (λ (x : FlowRecord). drain_opens i x.entries) o old.flow.operations fresh refl))
     (λ i. refl) s)
 
 -- a create alone names a path
@@ -426,14 +430,15 @@ unchanged_flow t o f h = ap (λ (rs : List FlowRecord). record t { operations = 
 -- one operation changes, a worker with it
 step_keeps : (w : World) (o : OpId) (r : FlowRecord) (f : FlowRecord → FlowRecord) (workers : List Worker) → operation_at o w.flow ≡ Some r
     → ((x : FlowRecord) → (f x).number.0 ≡ x.number.0) → ((x : FlowRecord) → (f x).collected ≡ x.collected) → flow.IsSound (f r) → IsAmong w.stack (f r)
-    → length workers ≡ 48 → AreTied workers (changed o f w.flow) → ((i : ℕ) → count_by (is_in_setup i) workers ≡ count_by (is_in_setup i) w.workers)
+    → length workers ≡ 48 → AreTied workers (changed o f w.flow) → AreDrained workers (changed o f w.flow)
+    → ((i : ℕ) → count_by (is_in_setup i) workers ≡ count_by (is_in_setup i) w.workers)
     → IsUnderWay w → IsUnderWay (record w { flow = changed o f w.flow; workers = workers })
-step_keeps w o r f workers at number collected sound among hands tied setups s =
+step_keeps w o r f workers at number collected sound among hands tied drained setups s =
     flow_moves w (changed o f w.flow) workers
     (flow_changes w.flow o f s.flow number collected (λ x e. subst (λ y. flow.IsSound (f y)) (same_Some r x (sym at ∙ e)) sound))
     (all_change (IsAmong w.stack) (is_number o) f w.flow.operations
     (λ x e. subst (λ y. IsAmong w.stack (f y)) (same_Some r x (sym at ∙ e)) among) s.among)
-    hands tied setups s
+    hands tied drained setups s
 
 -- no worker goes into or out of a setup callback
 pub setups_stay : (workers : List Worker) (k : WorkerId) (a b : Worker) → worker_at workers k ≡ Some a → ((i : ℕ) → is_in_setup i a ≡ false)
@@ -476,13 +481,14 @@ next_there old k o lies result new (Some r) at idle finds h s =
     let leads = leads_of old.stack k o r lies d old.workers s.stack sound (λ e. (finds e).0) among in
     let after = after_next old.workers k o (next_of k lies d r).reply in
     let filed = filed_next old o (changed o f old.flow) result lies in
+    let drained = next_drained old.workers old.flow k o lies d r idle at (next_number k lies d) s.drains in
     let built : (ws : List Worker) → after ≡ ws → length ws ≡ 48 → AreTied ws (changed o f old.flow)
     → ((i : ℕ) → count_by (is_in_setup i) ws ≡ count_by (is_in_setup i) old.workers) → IsUnderWay new =
     λ ws e hands tied setups. subst IsUnderWay
     (sym (h.1 ∙ ap (λ x. record old { flow = changed o f old.flow; workers = x; contexts = received old.contexts k result; files = filed }) (ap (after_next old.workers k o) reply ∙ e)))
     (whatever_files (record old { flow = changed o f old.flow; workers = ws }) (received old.contexts k result) filed
     (step_keeps old o r f ws at (next_number k lies d) (next_collected k lies d) (sound_next k lies d r sound (λ e. may_visit old.stack r lies among (finds e).0))
-    leads.among hands tied setups s)) in
+    leads.among hands tied (subst (λ (x : List Worker). AreDrained x (changed o f old.flow)) e drained) setups s)) in
     elim leads.how [
       | inl stays ↦ built old.workers stays.0 s.hands (tied_stays old.workers old.flow o r f at (next_number k lies d) stays.1 s.workers) (λ i. refl)
       | inr goes ↦ built (put old.workers k goes.0) goes.1 (length-set old.workers k.0 goes.0 ∙ s.hands)
@@ -500,13 +506,14 @@ next_keeps old k o result new h s =
 -- ---- callbacks and calls return
 
 -- a worker leaves an operation, which then stands where no worker is inside it
-return_keeps : (old : World) (k : WorkerId) (a : Worker) (o : OpId) (r : FlowRecord) (f : FlowRecord → FlowRecord) → worker_at old.workers k ≡ Some a
+return_keeps : (old : World) (k : WorkerId) (a : Worker) (o : OpId) (r : FlowRecord) (f : FlowRecord → FlowRecord) (n : ℕ → ℕ) → worker_at old.workers k ≡ Some a
     → operation_at o old.flow ≡ Some r → ((x : FlowRecord) → (f x).number.0 ≡ x.number.0) → ((x : FlowRecord) → (f x).collected ≡ x.collected)
-    → Matches o a (spot_of r) → is_running (f r).stage ≡ false → ((i : ℕ) → is_in_setup i a ≡ false)
-    → flow.IsSound (f r) → IsAmong old.stack (f r) → IsUnderWay old → IsUnderWay (returned old k o f)
-return_keeps old k a o r f at there number collected matches quiet outside sound among s =
+    → Matches o a (spot_of r) → is_running (f r).stage ≡ false → InDrains o a n → ((i : ℕ) → drain_opens i (f r).entries + n i ≡ drain_opens i r.entries)
+    → ((i : ℕ) → is_in_setup i a ≡ false) → flow.IsSound (f r) → IsAmong old.stack (f r) → IsUnderWay old → IsUnderWay (returned old k o f)
+return_keeps old k a o r f n at there number collected matches quiet from even outside sound among s =
     step_keeps old o r f (put old.workers k place.Idle) there number collected sound among (length-set old.workers k.0 place.Idle ∙ s.hands)
     (tied_moves old.workers old.flow k a place.Idle o r f at there number matches (matches_idle o (f r).stage (f r).entries quiet) s.workers)
+    (drained_moves old.workers old.flow k a place.Idle o r f n (λ i. 0) at there number from (in_no_drain o place.Idle (λ p i. refl)) (λ i. omega (arith, even i)) s.drains)
     (setups_stay old.workers k a place.Idle at outside (λ i. refl)) s
 
 -- what is told of an operation that is there
@@ -555,12 +562,14 @@ pre_at old k given lent result new (Some (place.Pre o i)) at h s =
     ((result ≡ Ok tt) × PreReturnsOver old k o (pre_returned_of state lent) state new) h
     (λ fits event. loses_under_way event.1.0 new event.1.2 (subst IsUnderWay (sym event.1.1.1)
     (whatever_files (returned old k o (pre_returned_of state lent)) event.1.0.contexts (filed_pre old o (changed o (pre_returned_of state lent) old.flow) state)
-    (return_keeps old k (place.Pre o i) o r (pre_returned_of state lent) at there.1 (λ x. refl) (λ x. refl)
-    (subst (Matches o (place.Pre o i)) (sym (ap (λ a. spot_at a r.entries) stage ∙ ap (option_map AtPre) spot.1)) (matches_pre o i)) quiet (λ j. refl)
+    (return_keeps old k (place.Pre o i) o r (pre_returned_of state lent) (λ j. 0) at there.1 (λ x. refl) (λ x. refl)
+    (subst (Matches o (place.Pre o i)) (sym (ap (λ a. spot_at a r.entries) stage ∙ ap (option_map AtPre) spot.1)) (matches_pre o i)) quiet
+    (in_no_drain o (place.Pre o i) (λ p j. refl)) (λ j. omega (arith, drains_pre_settled j state r.entries)) (λ j. refl)
     (sound_pre_returned state lent r stage (counted_from state quiet) (sym (told_there (λ (x : FlowRecord). data_fits x.operation x.path lent) false o old.flow r there.1) ∙ fits) sound)
     (among_settles old.stack r.volume r.born r.operation r.entries r.stage (pre_leads state) (settle_pre state) (settle_pre_visit state) (settle_pre_base state)
     (not_base_of (pre_leads state) quiet) among) s)))) s
 pre_at old k given lent result new (Some place.Idle) at h s = subst IsUnderWay (sym h.1) s
+pre_at old k given lent result new (Some (place.EarlyDrain o i)) at h s = subst IsUnderWay (sym h.1) s
 pre_at old k given lent result new (Some (place.Setup i)) at h s = subst IsUnderWay (sym h.1) s
 pre_at old k given lent result new (Some (place.Base o)) at h s = subst IsUnderWay (sym h.1) s
 pre_at old k given lent result new (Some (place.Post o i)) at h s = subst IsUnderWay (sym h.1) s
@@ -588,11 +597,13 @@ base_at old k call given result new (Some (place.Base o)) at h s =
     unless_cases IsUnderWay status.BadRequest (told (base_fits call given) false o old.flow) result old new
     ((result ≡ Ok tt) × LosesLinks (base_returned old k o call given) new) h
     (λ fits event. loses_under_way (base_returned old k o call given) new event.1 (whatever_files (returned old k o step) old.contexts (filed_base old o (changed o step old.flow) given.status)
-    (return_keeps old k (place.Base o) o r step at there.1 (λ x. refl) (λ x. refl)
-    (subst (Matches o (place.Base o)) (sym (ap (λ a. spot_at a r.entries) stage)) (matches_base o)) refl (λ j. refl)
+    (return_keeps old k (place.Base o) o r step (λ j. 0) at there.1 (λ x. refl) (λ x. refl)
+    (subst (Matches o (place.Base o)) (sym (ap (λ a. spot_at a r.entries) stage)) (matches_base o)) refl
+    (in_no_drain o (place.Base o) (λ p j. refl)) (λ j. omega (arith, drains_push j r.entries (Base counts.status counts.information))) (λ j. refl)
     (sound_base call given handle r stage (sym (told_there (base_fits call given) false o old.flow r there.1) ∙ fits) sound)
     (among_base old.stack r.volume r.born r.operation r.entries r.stage counts.status counts.information none (among.base stage) among) s))) s
 base_at old k call given result new (Some place.Idle) at h s = subst IsUnderWay (sym h.1) s
+base_at old k call given result new (Some (place.EarlyDrain o i)) at h s = subst IsUnderWay (sym h.1) s
 base_at old k call given result new (Some (place.Setup i)) at h s = subst IsUnderWay (sym h.1) s
 base_at old k call given result new (Some (place.Pre o i)) at h s = subst IsUnderWay (sym h.1) s
 base_at old k call given result new (Some (place.Post o i)) at h s = subst IsUnderWay (sym h.1) s
@@ -622,8 +633,9 @@ post_given old k o i given lent result new at h s =
     unless_cases IsUnderWay status.BadRequest (told (λ r. data_fits r.operation r.path lent) false o old.flow) result old new
     ((result ≡ Ok tt) × ReturnsFrom old k o (post_returned_of given lent) old.contexts new) h
     (λ fits event. subst IsUnderWay (sym event.1.1) (whatever_contexts (returned old k o (post_returned_of given lent)) new.contexts old.totals
-    (return_keeps old k (place.Post o i) o r (post_returned_of given lent) at there.1 (λ x. refl) (λ x. refl)
-    (subst (Matches o (place.Post o i)) (sym (ap (λ a. spot_at a r.entries) stage ∙ ap (option_map AtPost) spot.1)) (matches_post o i)) (post_quiet given) (λ j. refl)
+    (return_keeps old k (place.Post o i) o r (post_returned_of given lent) (λ j. 0) at there.1 (λ x. refl) (λ x. refl)
+    (subst (Matches o (place.Post o i)) (sym (ap (λ a. spot_at a r.entries) stage ∙ ap (option_map AtPost) spot.1)) (matches_post o i)) (post_quiet given)
+    (in_no_drain o (place.Post o i) (λ p j. refl)) (λ j. omega (arith, drains_post_settled j state r.entries)) (λ j. refl)
     (sound_post_returned given lent r stage (sym (told_there (λ (x : FlowRecord). data_fits x.operation x.path lent) false o old.flow r there.1) ∙ fits) sound)
     (among_settles old.stack r.volume r.born r.operation r.entries r.stage (post_leads state) (settle_post state) (settle_post_visit state) (settle_post_base state)
     (not_base_of (post_leads state) (post_quiet given)) among) s))) s
@@ -636,9 +648,13 @@ drain_given old k o i new at e s =
     let stage : r.stage ≡ InDrain i = spot_drain i r.stage r.entries there.2 in
     let sound = found_holds flow.IsSound (is_number o) old.flow.operations r s.flow.sound there.1 in
     let among = found_holds (IsAmong old.stack) (is_number o) old.flow.operations r s.among there.1 in
+    let runs = subst (λ x. flow.HasItsDrain x r.entries) stage sound.course.drain in
+    let even : (j : ℕ) → drain_opens j (drain_returned_of i r).entries + one (i.0 == j) ≡ drain_opens j r.entries = λ j.
+    let ends : cond (i.0 == j) (drain_opens i.0 r.entries) 0 ≡ one (i.0 == j) = ap (λ n. cond (i.0 == j) n 0) runs in
+    omega (arith, drains_drain_settled i.0 j r.entries, ends) in
     subst IsUnderWay (sym e.1) (whatever_contexts (returned old k o (drain_returned_of i)) new.contexts old.totals
-    (return_keeps old k (place.Drain o i) o r (drain_returned_of i) at there.1 (λ x. refl) (λ x. refl)
-    (subst (Matches o (place.Drain o i)) (sym (ap (λ a. spot_at a r.entries) stage)) (matches_drain o i)) refl (λ j. refl) (sound_drain_returned i r stage sound)
+    (return_keeps old k (place.Drain o i) o r (drain_returned_of i) (λ j. one (i.0 == j)) at there.1 (λ x. refl) (λ x. refl)
+    (subst (Matches o (place.Drain o i)) (sym (ap (λ a. spot_at a r.entries) stage)) (matches_drain o i)) refl (in_a_drain o i) even (λ j. refl) (sound_drain_returned i r stage sound)
     (among_settles old.stack r.volume r.born r.operation r.entries r.stage Ascending (settle_drain i.0) (settle_drain_visit i.0) (settle_drain_base i.0)
     (not_base_of Ascending refl) among) s))
 
@@ -649,12 +665,14 @@ post_at old k given None result new (Some (place.Post o i)) at h s = subst IsUnd
 post_at old k given None result new (Some (place.Drain o i)) at h s = drain_given old k o i new at h.1 s
 post_at old k given (Some lent) result new (Some (place.Drain o i)) at h s = subst IsUnderWay (sym h.1) s
 post_at old k given (Some lent) result new (Some place.Idle) at h s = subst IsUnderWay (sym h.1) s
+post_at old k given (Some lent) result new (Some (place.EarlyDrain o i)) at h s = subst IsUnderWay (sym h.1) s
 post_at old k given (Some lent) result new (Some (place.Setup i)) at h s = subst IsUnderWay (sym h.1) s
 post_at old k given (Some lent) result new (Some (place.Pre o i)) at h s = subst IsUnderWay (sym h.1) s
 post_at old k given (Some lent) result new (Some (place.Base o)) at h s = subst IsUnderWay (sym h.1) s
 post_at old k given (Some lent) result new (Some (place.Cleanup c)) at h s = subst IsUnderWay (sym h.1) s
 post_at old k given (Some lent) result new None at h s = subst IsUnderWay (sym h.1) s
 post_at old k given None result new (Some place.Idle) at h s = subst IsUnderWay (sym h.1) s
+post_at old k given None result new (Some (place.EarlyDrain o i)) at h s = subst IsUnderWay (sym h.1) s
 post_at old k given None result new (Some (place.Setup i)) at h s = subst IsUnderWay (sym h.1) s
 post_at old k given None result new (Some (place.Pre o i)) at h s = subst IsUnderWay (sym h.1) s
 post_at old k given None result new (Some (place.Base o)) at h s = subst IsUnderWay (sym h.1) s
@@ -702,17 +720,18 @@ found_once o (x ∷ rs) r pairs h =
           ∙ found_once o rs r (λ i j d p q. pairs (suc i) (suc j) d (omega arith) (omega arith)) (sym (ap (λ b. cond b (Some x) (find (is_number o) rs)) e) ∙ h)
     ]
 
-tied_without : (workers : List Worker) (t : FlowTable) (o : OpId) (r : FlowRecord) → AllPairs Ascends t.operations → operation_at o t ≡ Some r
-    → is_running r.stage ≡ false → AreTied workers t → AreTied workers (removed o t)
-tied_without workers t o r pairs at quiet tied p s =
-    let read = λ (m : Option FlowRecord). unwrap_or (option_map (λ (x : FlowRecord). one (is_spot s (spot_of x))) m) 0 in
-    tied p s ∙ elim (cases_eq o.0 p.0) [
+-- what is told of operations stays where one goes of which nothing was told
+told_without : (read : FlowRecord → ℕ) (p : OpId) (t : FlowTable) (o : OpId) (r : FlowRecord) → AllPairs Ascends t.operations → operation_at o t ≡ Some r
+    → read r ≡ 0 → told read 0 p t ≡ told read 0 p (removed o t)
+told_without read p t o r pairs at none =
+    let tell = λ (m : Option FlowRecord). unwrap_or (option_map read m) 0 in
+    elim (cases_eq o.0 p.0) [
       | inl e ↦
-          let before : stands_at p s t ≡ 0 = ap read (subst (λ n. find (λ (x : FlowRecord). x.number.0 == n) t.operations ≡ Some r) e at) ∙ ap one (quiet_is_none r.stage r.entries quiet s) in
-          let after : stands_at p s (removed o t) ≡ 0 =
-          ap read (subst (λ n. find (λ (x : FlowRecord). x.number.0 == n) (without_first (is_number o) t.operations) ≡ None) e (found_once o t.operations r pairs at)) in
+          let before : told read 0 p t ≡ 0 = ap tell (subst (λ n. find (λ (x : FlowRecord). x.number.0 == n) t.operations ≡ Some r) e at) ∙ none in
+          let after : told read 0 p (removed o t) ≡ 0 =
+          ap tell (subst (λ n. find (λ (x : FlowRecord). x.number.0 == n) (without_first (is_number o) t.operations) ≡ None) e (found_once o t.operations r pairs at)) in
           before ∙ sym after
-      | inr e ↦ sym (ap read (find_without (is_number o) (is_number p) t.operations
+      | inr e ↦ sym (ap tell (find_without (is_number o) (is_number p) t.operations
           (λ x k. ne_eqb x.number.0 p.0 (λ q. e (sym (eqb-true x.number.0 o.0 k) ∙ q)))))
     ]
 
@@ -735,13 +754,17 @@ collect_at old o (Some r) at same s =
                 (flow_moves old (changed o marked old.flow) old.workers (subst IsFlow is flow)
                 (all_change (IsAmong old.stack) (is_number o) marked old.flow.operations
                 (λ x h. found_holds (IsAmong old.stack) (is_number o) old.flow.operations x s.among h) s.among)
-                s.hands (tied_stays old.workers old.flow o r marked at (λ x. refl) (λ x. refl) s.workers) (λ i. refl) s)
+                s.hands (tied_stays old.workers old.flow o r marked at (λ x. refl) (λ x. refl) s.workers)
+                (drained_stays old.workers old.flow o r marked at (λ x. refl) (λ i. refl) s.drains) (λ i. refl) s)
             | inr d ↦
                 let is : after a b ≡ removed o old.flow = ap (λ x. after x b) e ∙ ap (λ y. after true y) d in
                 subst (λ t. IsUnderWay (record old { flow = t })) (sym is)
                 (flow_moves old (removed o old.flow) old.workers (subst IsFlow is flow)
                 (all_without (IsAmong old.stack) (is_number o) old.flow.operations s.among)
-                s.hands (tied_without old.workers old.flow o r s.flow.ascending at quiet s.workers) (λ i. refl) s)
+                s.hands
+                (λ p spot. s.workers p spot ∙ told_without (λ (x : FlowRecord). one (is_spot spot (spot_of x))) p old.flow o r s.flow.ascending at (ap one (quiet_is_none r.stage r.entries quiet spot)))
+                (λ p i. s.drains p i ∙ told_without (λ (x : FlowRecord). drain_opens i x.entries) p old.flow o r s.flow.ascending at (none_running i r.entries d))
+                (λ i. refl) s)
           ]
     ]
 

@@ -346,6 +346,7 @@ setup_cases : (old : World) (k : WorkerId) (accept : Bool) (result : Result (Uni
     → worker_at old.workers k ≡ m → SetsUpAt old k accept result new m → IsSound old → IsOwned new
 setup_cases old k accept result new (Some (place.Setup i)) at h s = setup_owned old k i accept result new h.1 at h.0 h.2 h.3 h.4 s
 setup_cases old k accept result new (Some place.Idle) at h s = subst IsOwned (sym h.1) s.owned
+setup_cases old k accept result new (Some (place.EarlyDrain o i)) at h s = subst IsOwned (sym h.1) s.owned
 setup_cases old k accept result new (Some (place.Pre o i)) at h s = subst IsOwned (sym h.1) s.owned
 setup_cases old k accept result new (Some (place.Base o)) at h s = subst IsOwned (sym h.1) s.owned
 setup_cases old k accept result new (Some (place.Post o i)) at h s = subst IsOwned (sym h.1) s.owned
@@ -375,6 +376,7 @@ setup_sound old k accept result new h s = record {
     setup_filed : (m : Option Worker) → SetsUpAt old k accept result new m → FiledIn new
     setup_filed (Some (place.Setup i)) h = subst FiledIn (sym h.4) s.filed
     setup_filed (Some place.Idle) h = subst FiledIn (sym h.1) s.filed
+    setup_filed (Some (place.EarlyDrain o i)) h = subst FiledIn (sym h.1) s.filed
     setup_filed (Some (place.Pre o i)) h = subst FiledIn (sym h.1) s.filed
     setup_filed (Some (place.Base o)) h = subst FiledIn (sym h.1) s.filed
     setup_filed (Some (place.Post o i)) h = subst FiledIn (sym h.1) s.filed
@@ -385,6 +387,7 @@ setup_sound old k accept result new h s = record {
     setup_named : (m : Option Worker) → SetsUpAt old k accept result new m → NamedIn new
     setup_named (Some (place.Setup i)) h = subst NamedIn (sym h.4) (emptied_named old.files result i old h.1 old.contexts new.contexts h.2.slots h.3 s.links)
     setup_named (Some place.Idle) h = subst NamedIn (sym h.1) s.links
+    setup_named (Some (place.EarlyDrain o i)) h = subst NamedIn (sym h.1) s.links
     setup_named (Some (place.Pre o i)) h = subst NamedIn (sym h.1) s.links
     setup_named (Some (place.Base o)) h = subst NamedIn (sym h.1) s.links
     setup_named (Some (place.Post o i)) h = subst NamedIn (sym h.1) s.links

@@ -37,7 +37,7 @@ use Rattle.fm_world.specs.Files.{empty_files}
 use Rattle.fm_world.specs.Links.{names_there}
 use Rattle.fm_world.specs.World.{World, empty_world, empty_stack}
 use Rattle.fm_world.specs.Steps.{Steps, Run, RunThrough}
-use Rattle.fm_world.specs.Headline.{Headline, RulesKeepHeadline, is_in_at, DescendsIn, IsAscent, IsInOrder}
+use Rattle.fm_world.specs.Headline.{Headline, RulesKeepHeadline, is_in_at, is_in_drain, DescendsIn, IsAscent, IsInOrder}
 use Rattle.fm_world.specs.Sound.{IsSound, IsUnderWay, IsOwned, IsAmong, is_in_setup}
 use Rattle.fm_world.proofs.Counts.{count-cons}
 use Rattle.fm_world.proofs.Emptied.{emptied_counts}
@@ -81,6 +81,7 @@ empty_under_way = record {
   among = All-nil (IsAmong empty_stack);
   hands = length-replicate 48 place.Idle;
   workers = λ o spot. count-replicate (is_in_at o spot) 48 place.Idle (idle_is_in_none o spot);
+  drains = λ o i. count-replicate (is_in_drain o i) 48 place.Idle refl;
   setups = λ i. count-replicate (is_in_setup i) 48 place.Idle refl;
 }
 
@@ -162,6 +163,7 @@ headline_from w s =
       ascents = All-weaker flow.IsSound IsAscent (λ r k. k.course.ascent) w.flow.operations h.flow.sound;
       orders = All-weaker flow.IsSound IsInOrder (λ r k. k.course.order) w.flow.operations h.flow.sound;
       workers = h.workers;
+      drains = h.drains;
       alive = k.lawful.alive;
       cleaned_once = k.lawful.waits;
       cleanups = λ n. k.cleaning n.0;

@@ -14,13 +14,14 @@ use Rattle.fm_flow.specs.Verdict.{is_counted}
 use Rattle.fm_flow.specs.declared.stage.Stage.{Stage}
 use Rattle.fm_flow.specs.declared.stage.Stage.TheVariants.{PreRunning, InBase, PostRunning, InDrain}
 use Rattle.fm_flow.specs.Record.{FlowRecord}
-use Rattle.fm_flow.specs.Table.{FlowTable, is_number, operation_at, changed}
+use Rattle.fm_flow.specs.Table.{FlowTable, is_number, operation_at, changed, told}
 use Rattle.fm_world.specs.declared.worker.Worker.{Worker}
 use Rattle.fm_world.specs.declared.worker.Worker.TheVariants as place
 use Rattle.fm_world.specs.Workers.{worker_at, put}
 use Rattle.fm_flow.specs.declared.entry.Entry.{Entry}
 use Rattle.fm_flow.specs.Entries.{last_visited, last_posted}
 use Rattle.fm_world.specs.Headline.{Spot, AtPre, AtBase, AtPost, AtDrain, is_in_at, spot_at, spot_of, is_spot, stands_at}
+use Rattle.fm_flow.proofs.Counting.{one_of_and}
 use Rattle.fm_world.proofs.Counts.{count-some}
 use Rattle.fm_types.proofs.Firsts.{find_changed, find_unchanged}
 
@@ -43,28 +44,35 @@ Matches o a spot = (p : OpId) (s : Spot) → is_in_at p s a ≡ ((o.0 == p.0) &&
 abbrev standing : Spot → FlowRecord → ℕ
 standing s r = one (is_spot s (spot_of r))
 
--- how an operation stands after a change of one
-pub stands_changed : (p : OpId) (s : Spot) (t : FlowTable) (o : OpId) (r : FlowRecord) (f : FlowRecord → FlowRecord) → operation_at o t ≡ Some r
+-- what is counted of an operation, after a change of one
+pub told_changed : (read : FlowRecord → ℕ) (p : OpId) (t : FlowTable) (o : OpId) (r : FlowRecord) (f : FlowRecord → FlowRecord) → operation_at o t ≡ Some r
     → ((x : FlowRecord) → (f x).number.0 ≡ x.number.0)
-    → stands_at p s (changed o f t) + one ((o.0 == p.0) && is_spot s (spot_of r)) ≡ stands_at p s t + one ((o.0 == p.0) && is_spot s (spot_of (f r)))
-stands_changed p s t o r f h same =
-    let read = λ (m : Option FlowRecord). unwrap_or (option_map (standing s) m) 0 in
+    → told read 0 p (changed o f t) + cond (o.0 == p.0) (read r) 0 ≡ told read 0 p t + cond (o.0 == p.0) (read (f r)) 0
+told_changed read p t o r f h same =
+    let tell = λ (m : Option FlowRecord). unwrap_or (option_map read m) 0 in
     elim (cases_eq o.0 p.0) [
       | inl e ↦
           let there : find (is_number p) t.operations ≡ Some r = subst (λ n. find (λ x. x.number.0 == n) t.operations ≡ Some r) e h in
-          let after : stands_at p s (changed o f t) ≡ one (is_spot s (spot_of (f r))) =
-          subst (λ n. unwrap_or (option_map (standing s) (find (λ x. x.number.0 == n) (changed o f t).operations)) 0 ≡ one (is_spot s (spot_of (f r)))) e
-          (ap read (find_changed (is_number o) f t.operations (λ x. ap (λ n. n == o.0) (same x)) ∙ ap (option_map f) h)) in
-          let before : stands_at p s t ≡ one (is_spot s (spot_of r)) = ap read there in
+          let after : told read 0 p (changed o f t) ≡ read (f r) =
+          subst (λ n. tell (find (λ x. x.number.0 == n) (changed o f t).operations) ≡ read (f r)) e
+          (ap tell (find_changed (is_number o) f t.operations (λ x. ap (λ n. n == o.0) (same x)) ∙ ap (option_map f) h)) in
+          let before : told read 0 p t ≡ read r = ap tell there in
           rw (after, before, eq-eqb o.0 p.0 e) (omega arith)
       | inr e ↦
           let apart : (x : FlowRecord) → (x.number.0 == o.0) ≡ true → ((x.number.0 == p.0) ≡ false) × (((f x).number.0 == p.0) ≡ false) =
           λ x k.
           let other : (x.number.0 == p.0) ≡ false = ne_eqb x.number.0 p.0 (λ q. e (sym (eqb-true x.number.0 o.0 k) ∙ q)) in
           (other, ap (λ n. n == p.0) (same x) ∙ other) in
-          let after : stands_at p s (changed o f t) ≡ stands_at p s t = ap read (find_unchanged (is_number o) (is_number p) f t.operations apart) in
+          let after : told read 0 p (changed o f t) ≡ told read 0 p t = ap tell (find_unchanged (is_number o) (is_number p) f t.operations apart) in
           rw (after, ne_eqb o.0 p.0 e) (omega arith)
     ]
+
+-- how an operation stands then
+pub stands_changed : (p : OpId) (s : Spot) (t : FlowTable) (o : OpId) (r : FlowRecord) (f : FlowRecord → FlowRecord) → operation_at o t ≡ Some r
+    → ((x : FlowRecord) → (f x).number.0 ≡ x.number.0)
+    → stands_at p s (changed o f t) + one ((o.0 == p.0) && is_spot s (spot_of r)) ≡ stands_at p s t + one ((o.0 == p.0) && is_spot s (spot_of (f r)))
+stands_changed p s t o r f h same =
+    omega (arith, told_changed (standing s) p t o r f h same, one_of_and (o.0 == p.0) (is_spot s (spot_of r)), one_of_and (o.0 == p.0) (is_spot s (spot_of (f r))))
 
 abbrev pub AreTied : List Worker → FlowTable → Type 0
 AreTied workers t = (p : OpId) (s : Spot) → count_by (is_in_at p s) workers ≡ stands_at p s t

@@ -9,6 +9,7 @@ use Rattle.fm_flow.specs.declared.stage.Stage.TheVariants.{Descending, PreRunnin
 use Rattle.fm_flow.specs.Record.{FlowRecord}
 use Rattle.fm_flow.specs.declared.entry.Entry.{Entry}
 use Rattle.fm_flow.specs.Entries.{visited, last_visited, last_posted, has_base, posted, owed, undrained, instances}
+use Rattle.fm_flow.specs.Counts.{drain_opens}
 use Rattle.fm_flow.specs.Sound.{walk, way_of}
 use Rattle.fm_flow.specs.Table.{FlowTable, told}
 use Rattle.fm_flow.specs.Table.{in_flight}
@@ -46,7 +47,7 @@ IsInOrder r = walk Descending r.entries ≡ Some (way_of r.stage)
 abbrev pub DescendsIn : StackWorld → FlowRecord → Type 0
 DescendsIn s r = IsDescent s r.volume r.born r.operation (visited r.entries) (has_base r.entries)
 
--- where an operation has a worker: inside an instance's preoperation, the base's call, an instance's postoperation or its drain
+-- where `next` has brought an operation to a worker: inside an instance's preoperation, the base's call, an instance's postoperation or its drain
 pub data Spot : Type 0 where
   AtPre : (i : ℕ) → Spot
   AtBase : Spot
@@ -63,11 +64,12 @@ is_in_at o (AtPost i) (place.Post p j) = (p.0 == o.0) && (j.0 == i)
 is_in_at o _ (place.Post p j) = false
 is_in_at o (AtDrain i) (place.Drain p j) = (p.0 == o.0) && (j.0 == i)
 is_in_at o _ (place.Drain p j) = false
+is_in_at o _ (place.EarlyDrain p j) = false
 is_in_at o _ place.Idle = false
 is_in_at o _ (place.Setup i) = false
 is_in_at o _ (place.Cleanup c) = false
 
--- where an operation has a worker, by its stage and its last entry; nowhere, where it is with none
+-- where that is, by its stage and its last entry; nowhere, where it is with no worker
 abbrev pub spot_at : Stage → List Entry → Option Spot
 spot_at PreRunning entries = option_map AtPre (last_visited entries)
 spot_at InBase entries = Some AtBase
@@ -89,14 +91,31 @@ is_spot _ _ = false
 abbrev pub stands_at : OpId → Spot → FlowTable → ℕ
 stands_at o spot flow = told (λ r. cond (is_spot spot (spot_of r)) 1 0) 0 o flow
 
+-- whether a worker is in a drain of an instance, inside operation o: one that `next` gave, or one that was taken early
+abbrev pub is_in_drain : OpId → ℕ → Worker → Bool
+is_in_drain o i (place.Drain p j) = (p.0 == o.0) && (j.0 == i)
+is_in_drain o i (place.EarlyDrain p j) = (p.0 == o.0) && (j.0 == i)
+is_in_drain o i place.Idle = false
+is_in_drain o i (place.Setup j) = false
+is_in_drain o i (place.Pre p j) = false
+is_in_drain o i (place.Base p) = false
+is_in_drain o i (place.Post p j) = false
+is_in_drain o i (place.Cleanup c) = false
+
+-- how many drains of an instance run in the operation of that number
+abbrev pub drains_running : OpId → ℕ → FlowTable → ℕ
+drains_running o i flow = told (λ r. drain_opens i r.entries) 0 o flow
+
 pub record Headline (w : World) : Type 0 where
   -- on one volume, instances that aren't detached have distinct names and distinct altitudes
   pub apart : AllPairs (λ a b. clashes a b ≡ false) w.stack.instances
   pub descents : All (DescendsIn w.stack) w.flow.operations
   pub ascents : All IsAscent w.flow.operations
   pub orders : All IsInOrder w.flow.operations
-  -- exactly one worker is inside the callback or the call that an operation is in, and none inside any other of it
+  -- exactly one worker is inside the callback or the call that an operation is in, and none inside any other that `next` gives
   pub workers : (o : OpId) (spot : Spot) → count_by (is_in_at o spot) w.workers ≡ stands_at o spot w.flow
+  -- exactly one is inside each drain that runs, also inside one that was taken early, beside which the operation goes on
+  pub drains : (o : OpId) (i : ℕ) → count_by (is_in_drain o i) w.workers ≡ drains_running o i w.flow
   -- a context has references of what links it, of what holds it and of what carries it: whatever has one isn't cleaned
   pub alive : (c : CtxId) → context_at w.contexts.slots c ≡ None → reference_count w c ≡ 0
   -- a context without references is in one place, once: it is due, or one worker cleans it up; one with references is in none

@@ -37,6 +37,7 @@ instance_in (place.Setup i) = Some i
 instance_in (place.Pre o i) = Some i
 instance_in (place.Post o i) = Some i
 instance_in (place.Drain o i) = Some i
+instance_in (place.EarlyDrain o i) = Some i
 instance_in place.Idle = None
 instance_in (place.Base o) = None
 instance_in (place.Cleanup c) = None
@@ -55,6 +56,7 @@ abbrev pub operation_in : Worker → Option OpId
 operation_in (place.Pre o i) = Some o
 operation_in (place.Post o i) = Some o
 operation_in (place.Drain o i) = Some o
+operation_in (place.EarlyDrain o i) = Some o
 operation_in place.Idle = None
 operation_in (place.Setup i) = None
 operation_in (place.Base o) = None

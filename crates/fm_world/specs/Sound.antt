@@ -30,7 +30,7 @@ use Rattle.fm_world.specs.World.{World, carries}
 use Rattle.fm_world.specs.Workers.{worker_at, cleanup_in}
 use Rattle.fm_world.specs.Owners.{row_at, place_in, HoldsIn, AskCarries, fits, is_flown_by}
 use Rattle.fm_world.specs.Descent.{IsDescent, HasRoom}
-use Rattle.fm_world.specs.Headline.{Spot, is_in_at, stands_at}
+use Rattle.fm_world.specs.Headline.{Spot, is_in_at, stands_at, is_in_drain, drains_running}
 
 -- nothing is left for an operation to visit that visited the cursor last
 abbrev pub NoneLeft : StackWorld → VolumeId → Option ℕ → ℕ → Operation → Type 0
@@ -55,6 +55,7 @@ is_in_setup i (place.Pre o j) = false
 is_in_setup i (place.Base o) = false
 is_in_setup i (place.Post o j) = false
 is_in_setup i (place.Drain o j) = false
+is_in_setup i (place.EarlyDrain o j) = false
 is_in_setup i (place.Cleanup c) = false
 
 abbrev pub setup_row : Option Instance → ℕ
@@ -68,6 +69,7 @@ pub record IsUnderWay (w : World) : Type 0 where
   pub among : All (IsAmong w.stack) w.flow.operations
   pub hands : length w.workers ≡ 48
   pub workers : (o : OpId) (spot : Spot) → count_by (is_in_at o spot) w.workers ≡ stands_at o spot w.flow
+  pub drains : (o : OpId) (i : ℕ) → count_by (is_in_drain o i) w.workers ≡ drains_running o i w.flow
   pub setups : (i : ℕ) → count_by (is_in_setup i) w.workers ≡ setup_row (slice_get w.stack.instances i)
 
 -- ---- contexts

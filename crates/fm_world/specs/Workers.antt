@@ -31,6 +31,7 @@ cleanup_in (Some (place.Pre o i)) = None
 cleanup_in (Some (place.Base o)) = None
 cleanup_in (Some (place.Post o i)) = None
 cleanup_in (Some (place.Drain o i)) = None
+cleanup_in (Some (place.EarlyDrain o i)) = None
 cleanup_in None = None
 
 -- the workers after an attach: where it succeeds, this one is in the new instance's setup callback

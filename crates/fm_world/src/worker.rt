@@ -17,6 +17,9 @@ pub enum Worker {
     Post(OpId, InstanceId),
     /// In a drain of the instance: it has its completion of the operation back.
     Drain(OpId, InstanceId),
+    /// In a drain of the instance that was taken early: it has its completion back, and the operation goes on meanwhile, perhaps to its end. No event leads
+    /// here so far.
+    EarlyDrain(OpId, InstanceId),
     /// In the cleanup callback of a context.
     Cleanup(CtxId),
 }

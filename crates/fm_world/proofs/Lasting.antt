@@ -247,6 +247,7 @@ setup_at_stay old k accept result new (Some (place.Pre o i)) h = stay_still old 
 setup_at_stay old k accept result new (Some (place.Base o)) h = stay_still old new h.1
 setup_at_stay old k accept result new (Some (place.Post o i)) h = stay_still old new h.1
 setup_at_stay old k accept result new (Some (place.Drain o i)) h = stay_still old new h.1
+setup_at_stay old k accept result new (Some (place.EarlyDrain o i)) h = stay_still old new h.1
 setup_at_stay old k accept result new (Some (place.Cleanup c)) h = stay_still old new h.1
 
 setup_stay : (old : World) (k : WorkerId) (accept : Bool) (result : Result (Unit {0}) Status) (new : World) → SetsUp old k accept result new → Stay old new
@@ -303,6 +304,7 @@ pre_at_stay old k given lent result new (Some (place.Setup i)) h = stay_still ol
 pre_at_stay old k given lent result new (Some (place.Base o)) h = stay_still old new h.1
 pre_at_stay old k given lent result new (Some (place.Post o i)) h = stay_still old new h.1
 pre_at_stay old k given lent result new (Some (place.Drain o i)) h = stay_still old new h.1
+pre_at_stay old k given lent result new (Some (place.EarlyDrain o i)) h = stay_still old new h.1
 pre_at_stay old k given lent result new (Some (place.Cleanup c)) h = stay_still old new h.1
 
 pre_stay : (old : World) (k : WorkerId) (given : PreVerdict) (lent : Data) (result : Result (Unit {0}) Status) (new : World) → PreReturns old k given lent result new → Stay old new
@@ -319,6 +321,7 @@ base_at_stay old k call given result new (Some (place.Setup i)) h = stay_still o
 base_at_stay old k call given result new (Some (place.Pre o i)) h = stay_still old new h.1
 base_at_stay old k call given result new (Some (place.Post o i)) h = stay_still old new h.1
 base_at_stay old k call given result new (Some (place.Drain o i)) h = stay_still old new h.1
+base_at_stay old k call given result new (Some (place.EarlyDrain o i)) h = stay_still old new h.1
 base_at_stay old k call given result new (Some (place.Cleanup c)) h = stay_still old new h.1
 
 base_stay : (old : World) (k : WorkerId) (call : BaseCall) (given : Answer) (result : Result (Unit {0}) Status) (new : World) → BaseReturns old k call given result new → Stay old new
@@ -341,11 +344,13 @@ post_at_stay old k given (Some lent) result new (Some place.Idle) h = stay_still
 post_at_stay old k given (Some lent) result new (Some (place.Setup i)) h = stay_still old new h.1
 post_at_stay old k given (Some lent) result new (Some (place.Pre o i)) h = stay_still old new h.1
 post_at_stay old k given (Some lent) result new (Some (place.Base o)) h = stay_still old new h.1
+post_at_stay old k given (Some lent) result new (Some (place.EarlyDrain o i)) h = stay_still old new h.1
 post_at_stay old k given (Some lent) result new (Some (place.Cleanup c)) h = stay_still old new h.1
 post_at_stay old k given None result new (Some place.Idle) h = stay_still old new h.1
 post_at_stay old k given None result new (Some (place.Setup i)) h = stay_still old new h.1
 post_at_stay old k given None result new (Some (place.Pre o i)) h = stay_still old new h.1
 post_at_stay old k given None result new (Some (place.Base o)) h = stay_still old new h.1
+post_at_stay old k given None result new (Some (place.EarlyDrain o i)) h = stay_still old new h.1
 post_at_stay old k given None result new (Some (place.Cleanup c)) h = stay_still old new h.1
 
 post_stay : (old : World) (k : WorkerId) (given : PostVerdict) (lent : Option Data) (result : Result (Unit {0}) Status) (new : World) → PostReturns old k given lent result new
@@ -476,6 +481,7 @@ cleans_at_stay old k number result new (Some (place.Pre o i)) h = stay_still old
 cleans_at_stay old k number result new (Some (place.Base o)) h = stay_still old new h.1
 cleans_at_stay old k number result new (Some (place.Post o i)) h = stay_still old new h.1
 cleans_at_stay old k number result new (Some (place.Drain o i)) h = stay_still old new h.1
+cleans_at_stay old k number result new (Some (place.EarlyDrain o i)) h = stay_still old new h.1
 
 cleaned_stay : (old : World) (k : WorkerId) (number : ℕ) (result : Result (Unit {0}) Status) (new : World) → Cleans old k number result new → Stay old new
 unfolding Cleans

@@ -292,12 +292,12 @@ not_setup phase.Stopping h = absurd (false≢true h)
 not_setup phase.Completing h = absurd (false≢true h)
 not_setup phase.Detached h = absurd (false≢true h)
 
--- of an instance that is being emptied: no link, and nothing is in flight
-emptying_rests : (row : Instance) → is_emptying row.phase ≡ true → (keeps_links_by (Some row) ≡ false) × (is_flown_by (Some row) ≡ false)
+-- nothing is in flight at an instance that is being emptied
+emptying_rests : (row : Instance) → is_emptying row.phase ≡ true → is_flown_by (Some row) ≡ false
 emptying_rests row h = at_phase row.phase h
   where
-    at_phase : (p : Phase) → is_emptying p ≡ true → (keeps_links_by (Some (record row { phase = p })) ≡ false) × (is_flown_by (Some (record row { phase = p })) ≡ false)
-    at_phase phase.Emptying h = (refl, refl)
+    at_phase : (p : Phase) → is_emptying p ≡ true → is_flown_by (Some (record row { phase = p })) ≡ false
+    at_phase phase.Emptying h = refl
     at_phase phase.Setup h = absurd (false≢true h)
     at_phase phase.Attached h = absurd (false≢true h)
     at_phase phase.Stopping h = absurd (false≢true h)
@@ -320,10 +320,9 @@ none_open o (x ∷ slots) h =
     let split = count-cons (λ (y : Slot). is_open o y.context) x slots in
     All-cons (λ (x : Slot). is_open o x.context ≡ false) x slots (none_one (is_open o x.context) (omega (arith, split, h))) (none_open o slots (omega (arith, split, h)))
 
-finish_fits : (s : StackWorld) (i : InstanceId) (row : Instance) (o : Option Context) → row_at s i ≡ Some row → is_emptying row.phase ≡ true
-    → fits s o ≡ true → is_open (owner.Instance i) o ≡ false → fits (finished s i) o ≡ true
-finish_fits s i row None there emptying fit closed = refl
-finish_fits s i row (Some x) there emptying fit closed =
+finish_fits : (s : StackWorld) (i : InstanceId) (o : Option Context) → fits s o ≡ true → is_open (owner.Instance i) o ≡ false → fits (finished s i) o ≡ true
+finish_fits s i None fit closed = refl
+finish_fits s i (Some x) fit closed =
     let t = finished s i in
     let parts = and_parts (owner_fits s x.kind x.owner) (link_fits s x x.link) fit in
     let same : (j : InstanceId) → j.0 ≢ i.0 → row_at t j ≡ row_at s j = λ j apart. updated-other finish_row s.instances i.0 j.0 apart in
@@ -371,10 +370,10 @@ finish_sound old i (Ok done) new h s =
         holders = all_hold_still old.stack old.contexts.slots t old.contexts.slots old.workers old.contexts.hands still k.holders;
         completions = all_carry_still old.stack old.contexts.slots t old.contexts.slots old.flow.operations still k.completions;
         fits = all_both (λ (x : Slot). fits old.stack x.context ≡ true) (λ (x : Slot). is_open (owner.Instance i) x.context ≡ false) (λ (x : Slot). fits t x.context ≡ true)
-            old.contexts.slots (λ x fit shut. finish_fits old.stack i row.0 x.context row.1 row.2 fit shut) k.fits (none_open (owner.Instance i) old.contexts.slots closed);
+            old.contexts.slots (λ x fit shut. finish_fits old.stack i x.context fit shut) k.fits (none_open (owner.Instance i) old.contexts.slots closed);
         quiet = λ j rests.
             elim (cases_eq j.0 i.0) [
-              | inl e ↦ k.quiet j (ap (λ n. is_flown_by (slice_get old.stack.instances n)) e ∙ ap is_flown_by row.1 ∙ (emptying_rests row.0 row.2).1)
+              | inl e ↦ k.quiet j (ap (λ n. is_flown_by (slice_get old.stack.instances n)) e ∙ ap is_flown_by row.1 ∙ emptying_rests row.0 row.2)
               | inr apart ↦ k.quiet j (ap is_flown_by (sym (updated-other finish_row old.stack.instances i.0 j.0 apart)) ∙ rests)
             ];
         totals = k.totals;

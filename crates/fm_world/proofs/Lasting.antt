@@ -21,7 +21,6 @@ use Rattle.fm_data.specs.declared.verdict.PostVerdict.{PostVerdict}
 use Rattle.fm_data.specs.declared.verdict.PreVerdict.{PreVerdict}
 use Rattle.fm_data.specs.Data.{Data, data_fits}
 use Rattle.fm_flow.specs.declared.action.FlowAction.{FlowAction}
-use Rattle.fm_flow.specs.declared.action.FlowAction.TheVariants as action
 use Rattle.fm_flow.specs.Steps.{base_fits}
 use Rattle.fm_flow.specs.Table.{told}
 use Rattle.fm_ctx.specs.declared.due.Due.{Due}
@@ -47,7 +46,7 @@ use Rattle.fm_world.specs.declared.step.StepReply.TheVariants as reply
 use Rattle.fm_world.specs.declared.worker.Worker.{Worker}
 use Rattle.fm_world.specs.declared.worker.Worker.TheVariants as place
 use Rattle.fm_world.specs.ContextEvents.{Callback, InCallbackOf, callback_of, object_for, set_refused, SetsOn, SetsUnless, SetsIn, there_at, CleansAt, Allocates, Sets, Gets, Deletes, References, Releases, ReadsBody, WritesBody, Bumps, TakesDue, Cleans, Finishes}
-use Rattle.fm_world.specs.Events.{Unless, Registers, Mounts, Attaches, SetsUp, SetsUpAt, EmptiesUnless, Begins, Nexts, NextsAt, PreReturns, PreReturnsAt, BaseReturns, BaseReturnsAt, PostReturns, PostReturnsAt, Collects, begun_on, begun_at, after_begin, brought, received, sent}
+use Rattle.fm_world.specs.Events.{Unless, Registers, Mounts, Attaches, SetsUp, SetsUpAt, EmptiesUnless, Begins, Nexts, NextsAt, PreReturns, PreReturnsAt, BaseReturns, BaseReturnsAt, PostReturns, PostReturnsAt, Collects, begun_on, begun_at, after_begin, sent}
 use Rattle.fm_world.specs.Files.{handle_at, stream_at}
 use Rattle.fm_world.specs.Lasting.{given_by, due_by, Comes, IsGone, ContextsLast}
 use Rattle.fm_world.specs.Links.{LosesLinks}
@@ -55,7 +54,8 @@ use Rattle.fm_world.specs.Requests.{params_of}
 use Rattle.fm_world.specs.Steps.{Steps, Run}
 use Rattle.fm_world.specs.World.{World, carries, empty_world}
 use Rattle.fm_world.specs.Workers.{worker_at, is_idle}
-use Rattle.fm_world.proofs.Keeps.{unless_cases}
+use Rattle.fm_world.proofs.Keeps.{known_cases, unless_cases}
+use Rattle.fm_world.proofs.Losing.{received_slots}
 
 -- ---- slots
 
@@ -273,20 +273,13 @@ unfolding Begins
 begin_stay old what result new h =
     stay_memory _ result old new _ h (λ o e. stay_same old new (ap (λ (w : World). w.contexts.slots) e.1 ∙ ap (λ (t : ContextTable). t.slots) (begun_contexts old what)))
 
-brought_slots : (t : ContextTable) (k : WorkerId) (m : Option CtxId) → (brought t k m).slots ≡ t.slots
-brought_slots t k None = refl
-brought_slots t k (Some c) = refl
-
-received_slots : (t : ContextTable) (k : WorkerId) (result : Result FlowAction Status) → (received t k result).slots ≡ t.slots
-received_slots t k (Ok (action.Post i lent completion)) = brought_slots t k completion.context
-received_slots t k (Ok (action.Drain i completion)) = brought_slots t k completion.context
-received_slots t k _ = refl
-
 next_stay : (old : World) (k : WorkerId) (o : OpId) (result : Result FlowAction Status) (new : World) → Nexts old k o result new → Stay old new
 unfolding Nexts
 next_stay old k o result new h =
     stay_unless status.WrongStep (is_idle (worker_at old.workers k)) result old new (NextsAt old k o result new) h
-    (λ e. stay_loses old e.2 new e.4 (stay_same old e.2 (ap (λ (w : World). w.contexts.slots) e.3.1 ∙ received_slots old.contexts k result)))
+    (λ e.
+    let stay = stay_same old e.2 (ap (λ (w : World). w.contexts.slots) e.3.1 ∙ received_slots old.contexts k result) in
+    known_cases (Stay old) result e.0 e.2 new e.4 (λ loses. stay_loses old e.2 new loses stay) stay)
 
 sent_slots : (t : ContextTable) (k : WorkerId) (m : Option CtxId) → (sent t k m).slots ≡ t.slots
 sent_slots t k None = refl

@@ -19,5 +19,6 @@ pub mod Streams
 pub mod Filed
 pub mod Losing
 pub mod Flowing
+pub mod Resting
 pub mod Handing
 pub mod Holdings

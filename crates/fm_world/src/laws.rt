@@ -10,7 +10,7 @@ pub fn rules_keep_headline()
 {}
 
 /// Whatever events follow others: no context that was allocated is allocated again, under the same slot and generation; and one that is cleaned stays so,
-/// and no worker gets it for its cleanup again (`PFLT_CONTEXT_CLEANUP_CALLBACK` is called once for each).
+/// and no worker gets it for its cleanup again (`PFLT_CONTEXT_CLEANUP_CALLBACK`).
 pub fn contexts_last()
     ensures { ContextsLast }
 {}

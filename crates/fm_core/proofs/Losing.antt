@@ -1,5 +1,5 @@
 -- Links that go with what they name: what the code unlinks is all that is gone.
-use Rattle.std.proofs.Common.{◌≡◌, ℕ, Bool, true, false, cond, not, List, [], ◌∷◌, map, find, Option, Some, None, Result, is_some, option_map, eqb-true, refl, ap, ap₂, sym, ◌∙◌, subst, inl, inr}
+use Rattle.std.proofs.Common.{◌≡◌, ℕ, Bool, true, false, cond, not, List, [], ◌∷◌, map, find, Option, Some, None, Result, Ok, is_some, option_map, eqb-true, refl, ap, ap₂, sym, ◌∙◌, subst, inl, inr}
 use Rattle.std.specs.Prelude.{All, ◌==◌, ◌&&◌, ◌||◌}
 use Rattle.std.proofs.lemmas.Bool.{false≢true, true≢false, cases_Bool}
 use Rattle.std.proofs.lemmas.List.Elements.{All-nil, All-cons, All-head, All-tail, All-weaker}
@@ -28,7 +28,7 @@ use Rattle.fm_ctx.proofs.Leaving.{settles_none, settles_both, context_at-swept}
 use Rattle.fm_world.specs.Files.{FileTable, is_stream, is_handle, with_mark, marked, fresh_handle, opened, closed, torn_down, left, has_handle_on, after_base, after_pre}
 use Rattle.fm_world.specs.Links.{is_there, names_there, is_on_gone, LosesLinks}
 use Rattle.fm_world.specs.World.{World, carries}
-use Rattle.fm_world.specs.Events.{is_created_on}
+use Rattle.fm_world.specs.Events.{LosesByKnown, is_created_on}
 use Rattle.fm_world.proofs.Fitting.{AllPass}
 use Rattle.fm_world.proofs.Losing.{found_before, found_changed}
 use Rattle.fm_core.specs.Fields.{IsTied}
@@ -36,7 +36,9 @@ use Rattle.fm_core.specs.Lost.{Sweeping, handle_lost, stream_lost, handle_lost_b
 use Rattle.fm_types.specs.declared.ids.OpId.{OpId}
 use Rattle.fm_types.specs.declared.ids.WorkerId.{WorkerId}
 use Rattle.fm_flow.specs.declared.action.Below.{Below}
+use Rattle.fm_flow.specs.declared.action.Below.TheVariants as below
 use Rattle.fm_flow.specs.declared.action.FlowAction.{FlowAction}
+use Rattle.fm_flow.specs.declared.action.FlowAction.TheVariants as action
 use Rattle.fm_flow.specs.Table.{operation_at}
 use Rattle.fm_world.specs.declared.worker.Worker.{Worker}
 use Rattle.fm_world.specs.Events.{sent_in}
@@ -404,14 +406,26 @@ pub next_loses : (old : World) (k : WorkerId) (o : OpId) (lies : Below) (result 
     (known : Option Status) (b : Bool) (m : Option Target) → IsSound old → old.contexts ≡ kept.table → brought ≡ kept_brought kept k.0 (back_in result) → IsTied brought t
     → known ≡ answer_known result lies → m ≡ option_map target_in (operation_at o old.flow)
     → fs ≡ after_answer old.files t (option_map target_in (operation_at o old.flow)) (answer_known result lies) → b ≡ is_some known → UnlinksWhere b fs m brought after
-    → LosesLinks (record old { flow = t; workers = ws; contexts = brought.table; files = fs }) (record old { flow = t; workers = ws; contexts = after.table; files = fs })
+    → LosesByKnown result lies (record old { flow = t; workers = ws; contexts = brought.table; files = fs }) (record old { flow = t; workers = ws; contexts = after.table; files = fs })
 next_loses old k o lies result t ws kept brought after fs known b m s same brings tied is at files has unlinks =
-    let target = option_map target_in (operation_at o old.flow) in
-    let slots : brought.table.slots ≡ old.contexts.slots =
-    ap (λ (x : ContextsKept). x.table.slots) brings ∙ brought_slots kept k.0 (back_in result) ∙ ap (λ (x : ContextTable). x.slots) (sym same) in
-    answer_loses (record old { flow = t; workers = ws; contexts = brought.table; files = fs }) brought after old.files t target (answer_known result lies) refl tied
-    (subst (AllPass (names_there old.files)) (sym slots) s.links) files
-    (unlinks_by b (is_some (answer_known result lies)) fs m target brought after (has ∙ ap (λ (x : Option Status). is_some x) is) at unlinks)
+    by_result result lies files (unlinks_by b (is_some (answer_known result lies)) fs m target brought after (has ∙ ap (λ (x : Option Status). is_some x) is) at unlinks)
+  where
+    target : Option Target
+    target = option_map target_in (operation_at o old.flow)
+
+    mid : World
+    mid = record old { flow = t; workers = ws; contexts = brought.table; files = fs }
+
+    slots : brought.table.slots ≡ old.contexts.slots
+    slots = ap (λ (x : ContextsKept). x.table.slots) brings ∙ brought_slots kept k.0 (back_in result) ∙ ap (λ (x : ContextTable). x.slots) (sym same)
+
+    by_result : (result : Result FlowAction Status) (lies : Below) → fs ≡ after_answer old.files t target (answer_known result lies)
+        → UnlinksWhere (is_some (answer_known result lies)) fs target brought after → LosesByKnown result lies mid (record mid { contexts = after.table })
+    by_result (Ok action.Moved) (below.Known why) files unlinks =
+        answer_loses mid brought after old.files t target (Some why) refl tied (subst (AllPass (names_there old.files)) (sym slots) s.links) files unlinks
+    by_result (Ok action.Moved) (below.Instance i b) files unlinks = ap (λ (x : ContextsKept). record mid { contexts = x.table }) unlinks
+    by_result (Ok action.Moved) below.Call files unlinks = ap (λ (x : ContextsKept). record mid { contexts = x.table }) unlinks
+    by_result _ lies files unlinks = ap (λ (x : ContextsKept). record mid { contexts = x.table }) unlinks
 
 pub base_loses : (old : World) (o : OpId) (why : Status) (has : Bool) (t : FlowTable) (ws : List Worker) (kept after : ContextsKept) (fs : FileTable) (b : Bool) (m : Option Target)
     → IsSound old → old.contexts ≡ kept.table → IsTied kept t → m ≡ option_map target_in (operation_at o old.flow)

@@ -40,7 +40,7 @@ use Rattle.fm_world.specs.declared.worker.Worker.TheVariants as place
 use Rattle.fm_world.specs.World.{World, carries}
 use Rattle.fm_world.specs.Workers.{worker_at, put, is_idle, after_next}
 use Rattle.fm_world.specs.Links.{LosesLinks}
-use Rattle.fm_world.specs.Events.{Begins, Nexts, NextsAt, FindsBelow, PreReturnsOver, base_returned, Unless, PreReturns, PreReturnsAt, BaseReturns, BaseReturnsAt, PostReturns, PostReturnsAt, Collects, drains_at, received, ReturnsFrom, sent, sent_in, of_hand, carries_after, state_at, state_given, has_post, returned, filed_record, filed_next, filed_base, filed_pre, is_created_on, PreReturnsFrom, volume_refusals, has_no_handle_left, moved_on, begin_refused, asked_refused, asked_begun, refused_at, refused_on, begun_at, begun_on, or_else}
+use Rattle.fm_world.specs.Events.{LosesByKnown, Begins, Nexts, NextsAt, FindsBelow, PreReturnsOver, base_returned, Unless, PreReturns, PreReturnsAt, BaseReturns, BaseReturnsAt, PostReturns, PostReturnsAt, Collects, drains_at, received, ReturnsFrom, sent, sent_in, of_hand, carries_after, state_at, state_given, has_post, returned, filed_record, filed_next, filed_base, filed_pre, is_created_on, PreReturnsFrom, volume_refusals, has_no_handle_left, moved_on, begin_refused, asked_refused, asked_begun, refused_at, refused_on, begun_at, begun_on, or_else}
 use Rattle.fm_world.specs.Headline.{Spot, AtPre, AtBase, AtPost, AtDrain, is_in_at, is_spot, spot_at}
 use Rattle.fm_world.specs.Sound.{IsSound, IsAmong, IsFiled}
 use Rattle.fm_types.proofs.Firsts.{found_holds}
@@ -128,7 +128,7 @@ pub nexts : (old : World) (k : WorkerId) (o : OpId) (lies : Below) (drains : Boo
     → result ≡ told (λ r. (next_of k lies drains r).reply) (Err status.WrongStep) o old.flow
     → t ≡ changed o (λ r. (next_of k lies drains r).after) old.flow → ws ≡ after_next old.workers k o result → cs ≡ received old.contexts k result
     → fs ≡ after_answer old.files t (option_map target_in (operation_at o old.flow)) (answer_known result lies)
-    → LosesLinks (record old { flow = t; workers = ws; contexts = cs; files = fs }) (record old { flow = t; workers = ws; contexts = after'; files = fs })
+    → LosesByKnown result lies (record old { flow = t; workers = ws; contexts = cs; files = fs }) (record old { flow = t; workers = ws; contexts = after'; files = fs })
     → Nexts old k o result (record old { flow = t; workers = ws; contexts = after'; files = fs })
 unfolding Nexts
 nexts old k o lies drains result t ws cs after' fs idle finds same reply after workers contexts files loses =

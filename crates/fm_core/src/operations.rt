@@ -1,7 +1,7 @@
 //! Events on operations.
 
-ghost use Rattle.std.specs.Prelude.{◌≡◌, IfErr, Some, None, Ok};
-ghost use Rattle.fm_world.specs.Workers.{worker_at};
+ghost use Rattle.std.specs.Prelude.{◌≡◌, true, IfErr, Some, None, Ok};
+ghost use Rattle.fm_world.specs.Workers.{worker_at, gives_nothing};
 ghost use Rattle.fm_core.specs.Places.{post_of, drain_of};
 ghost use Rattle.fm_world.specs.Events.{Nexts, PreReturns, BaseReturns, PostReturns, Collects};
 ghost use Rattle.fm_world.specs.Hands.{OnlyHandOf, KeepsHands, HoldsMore, HoldsNone, given_by_next};
@@ -26,9 +26,10 @@ impl State {
     /// a filter resumes it, or nothing more. After a callback or a call the worker is inside it. Refused with 30, nothing changed: where the worker
     /// isn't idle or isn't there, where there is no such operation or another worker is inside it, and where the next callback is a synchronized
     /// postoperation of another worker. The context that a completion carries is in the worker's hand again. Where the base's answer was known and took
-    /// away a handle or a stream, the contexts set on it lose their links. It takes no memory.
+    /// away a handle or a stream, the contexts set on it lose their links. Where the operation is held or done nothing changes either. It takes no memory.
     pub fn next(&mut self, worker: WorkerId, operation: OpId) -> Result<FlowAction, Status>
         ensures event { Nexts self.old worker operation result self.new }
+        ensures nothing { gives_nothing result ≡ true → self.new ≡ self.old }
         ensures hand { OnlyHandOf worker.0 self.old self.new }
         ensures held { HoldsMore worker.0 result given_by_next self.old self.new }
     {

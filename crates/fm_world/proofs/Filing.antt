@@ -15,7 +15,6 @@ use Rattle.fm_types.specs.declared.status.Status.TheVariants as status
 use Rattle.fm_types.proofs.Firsts.{count_changed, count_without, found_counts, length_change, length_without}
 use Rattle.fm_data.specs.declared.params.Params.{Params}
 use Rattle.fm_data.specs.Params.{operation_of}
-use Rattle.fm_flow.specs.declared.action.Below.{Below}
 use Rattle.fm_flow.specs.declared.action.Below.TheVariants as below
 use Rattle.fm_flow.specs.declared.action.FlowAction.TheVariants as action
 use Rattle.fm_flow.specs.declared.entry.Ask.{Ask}
@@ -27,7 +26,7 @@ use Rattle.fm_flow.specs.Answered.{is_success}
 use Rattle.fm_flow.specs.Creates.{is_create, is_unanswered, is_creating, creates}
 use Rattle.fm_flow.specs.Entries.{owed}
 use Rattle.fm_flow.specs.Record.{FlowRecord}
-use Rattle.fm_flow.specs.Steps.{Turned, turn, next_of, next_at, descend, ascend, call_pre, call_base, call_post, give_post, unwound, unwound_to, may_take}
+use Rattle.fm_flow.specs.Steps.{Turned, turn, next_of, next_at, descend, ascend, call_post, give_post, unwound, unwound_to, may_take}
 use Rattle.fm_flow.specs.Table.{FlowTable, is_number, operation_at, changed, removed, begun, begun_record, collected_of, collected_in, is_collectable, marked}
 use Rattle.fm_world.specs.declared.file.HandlePhase.TheVariants as phase
 use Rattle.fm_world.specs.declared.file.FileStream.{FileStream}
@@ -169,9 +168,6 @@ not_more_same r s same unanswered =
 
 -- ---- next
 
-not_more_still : (r : FlowRecord) → NotMore r r
-not_more_still r = omega arith
-
 post_none : (k : WorkerId) (ask : Ask) (r : FlowRecord) (m : Option Params) → is_unanswered r.stage ≡ false → is_unanswered (give_post k ask r m).after.stage ≡ false
 post_none k ask r (Some p) h = refl
 post_none k ask r None h = h
@@ -188,38 +184,6 @@ ascend_none k false r (Some ask) h = taken (may_take k ask)
     taken : (b : Bool) → is_unanswered (cond b (call_post k ask r) (turn (Err status.WrongStep) r)).after.stage ≡ false
     taken true = post_none k ask (unwound ask.place r) (unwound ask.place r).params (unwound_none ask.place r (slice_get r.kept ask.place) h)
     taken false = h
-
-down_same : (k : WorkerId) (lies : Below) (r : FlowRecord) → (descend k lies r).after.operation ≡ r.operation
-down_same k (below.Instance i true) r = called r.params
-  where
-    called : (m : Option Params) → (call_pre k i r m).after.operation ≡ r.operation
-    called (Some p) = refl
-    called None = refl
-down_same k (below.Instance i false) r = refl
-down_same k below.Call r = based r.params
-  where
-    based : (m : Option Params) → (call_base r m).after.operation ≡ r.operation
-    based (Some p) = refl
-    based None = refl
-down_same k (below.Known why) r = refl
-
-not_more_at : (k : WorkerId) (lies : Below) (drains : Bool) (r : FlowRecord) (stage : Stage) → r.stage ≡ stage → NotMore r (next_at k lies drains r stage).after
-not_more_at k lies drains r Descending e = not_more_same r (descend k lies r).after (down_same k lies r) (ap is_unanswered e)
-not_more_at k lies drains r Ascending e =
-    let after = (ascend k drains r (slice_get (owed r.entries) 0)).after in
-    not_more_none r after (answered_none after (ascend_none k drains r (slice_get (owed r.entries) 0) (ap is_unanswered e)))
-not_more_at k lies drains r PreRunning e = not_more_still r
-not_more_at k lies drains r PreHeld e = not_more_still r
-not_more_at k lies drains r InBase e = not_more_still r
-not_more_at k lies drains r PostRunning e = not_more_still r
-not_more_at k lies drains r PostHeld e = not_more_still r
-not_more_at k lies drains r (InDrain i) e = not_more_still r
-
-pub next_not_more : (k : WorkerId) (lies : Below) (drains : Bool) (r : FlowRecord) → NotMore r (next_of k lies drains r).after
-next_not_more k lies drains r = elim r.collected as (λ b. NotMore r (cond b (turn (Err status.WrongStep) r) (next_at k lies drains r r.stage)).after) [
-  | true ↦ not_more_still r
-  | false ↦ not_more_at k lies drains r r.stage refl
-]
 
 -- what an operation is where `next` answers that it moved over a known answer
 pub record WasKnown (r : FlowRecord) (turned : Turned) : Type 0 where

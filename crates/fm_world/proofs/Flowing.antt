@@ -69,15 +69,15 @@ use Rattle.fm_world.specs.declared.worker.Worker.TheVariants as place
 use Rattle.fm_world.specs.World.{World, carries}
 use Rattle.fm_world.specs.Workers.{worker_at, put, is_idle, after_next, cleanup_in}
 use Rattle.fm_world.specs.Owners.{row_at, place_in, HoldsIn, CarriesIn, AskCarries, fits, is_flown, is_flown_by}
-use Rattle.fm_world.specs.Events.{Begins, Nexts, NextsOver, FindsBelow, LiesBelow, PreReturns, PreReturnsAt, BaseReturns, BaseReturnsAt, PostReturns, PostReturnsAt, ReturnsFrom, Collects, brought, received, returned, drains_at, state_at, state_given, held_context, of_hand, sent, sent_in, carries_after, has_post, begin_refused, begun_on, begun_at, after_begin, moved_on, has_no_handle_left, filed_next, filed_pre, filed_base, filed_record, is_created_on, base_step, base_returned, NextsAt, PreReturnsOver, asked_refused, asked_begun, refused_at}
+use Rattle.fm_world.specs.Events.{LosesByKnown, Begins, Nexts, NextsOver, FindsBelow, LiesBelow, PreReturns, PreReturnsAt, BaseReturns, BaseReturnsAt, PostReturns, PostReturnsAt, ReturnsFrom, Collects, brought, received, returned, drains_at, state_at, state_given, held_context, of_hand, sent, sent_in, carries_after, has_post, begin_refused, begun_on, begun_at, after_begin, moved_on, has_no_handle_left, filed_next, filed_pre, filed_base, filed_record, is_created_on, base_step, base_returned, NextsAt, PreReturnsOver, asked_refused, asked_begun, refused_at}
 use Rattle.fm_world.specs.Headline.{AtPre, AtBase, AtPost, AtDrain}
 use Rattle.fm_world.specs.Sound.{IsSound, IsUnderWay, IsOwned, IsAmong, IsFileSound}
 use Rattle.fm_world.proofs.Belonging.{owners_same, filters_same, belongs_still, AllHold, AllCarry, all_hold, others_stay, held_has}
 use Rattle.fm_world.proofs.Callbacks.{same_hands}
 use Rattle.fm_world.specs.Links.{names_there, LosesLinks}
 use Rattle.fm_world.proofs.Fitting.{AllPass}
-use Rattle.fm_world.proofs.Keeps.{unless_cases, idle_there, FiledIn}
-use Rattle.fm_world.proofs.Losing.{NamedIn, loses_filed, loses_owned, loses_named, named_more, created_there, moved_there}
+use Rattle.fm_world.proofs.Keeps.{known_cases, unless_cases, idle_there, FiledIn}
+use Rattle.fm_world.proofs.Losing.{NamedIn, received_slots, loses_filed, loses_owned, loses_named, named_more, created_there, moved_there}
 use Rattle.fm_world.proofs.Operations.{begin_keeps, next_keeps, pre_keeps, base_keeps, post_keeps, collect_keeps, may_visit, told_there, full_from, not_there, begins_at, asked_within}
 use Rattle.fm_world.proofs.Owning.{empty_hand, cleaning_stays}
 use Rattle.fm_world.proofs.Ties.{tied_there, spot_pre, spot_post, spot_drain, spot_base}
@@ -434,12 +434,35 @@ unfolding Nexts
 next_filed old k o result new h s =
     unless_cases FiledIn status.WrongStep (is_idle (worker_at old.workers k)) result old new
     (NextsAt old k o result new) h
-    (λ idle event. loses_filed event.2 new event.4 (next_filed_at old k o event.0 result event.2 (operation_at o old.flow) refl event.3 s)) s
+    (λ idle event.
+    let filed = next_filed_at old k o event.0 result event.2 (operation_at o old.flow) refl event.3 s in
+    known_cases FiledIn result event.0 event.2 new event.4 (λ loses. loses_filed event.2 new loses filed) filed) s
+
+-- links go with what a known answer takes away; all else is there still
+named_over : (old : World) (k : WorkerId) (o : OpId) (lies : Below) (result : Result FlowAction Status) (mid new : World) → NextsOver old k o lies result mid
+    → LosesByKnown result lies mid new → NamedIn old → NamedIn new
+named_over old k o lies result mid new over h s = by_result result lies over h
+  where
+    still : (result : Result FlowAction Status) → AllPass (names_there old.files) (received old.contexts k result).slots
+    still result = subst (AllPass (names_there old.files)) (sym (received_slots old.contexts k result)) s
+
+    by_result : (result : Result FlowAction Status) (lies : Below) → NextsOver old k o lies result mid → LosesByKnown result lies mid new → NamedIn new
+    by_result (Ok action.Moved) (below.Known why) over h = loses_named mid new h
+    by_result (Ok action.Moved) (below.Instance i b) over h = subst NamedIn (sym (h ∙ over.1)) (still (Ok action.Moved))
+    by_result (Ok action.Moved) below.Call over h = subst NamedIn (sym (h ∙ over.1)) (still (Ok action.Moved))
+    by_result (Ok (action.Pre i lent)) lies over h = subst NamedIn (sym (h ∙ over.1)) (still (Ok (action.Pre i lent)))
+    by_result (Ok (action.Base call)) lies over h = subst NamedIn (sym (h ∙ over.1)) (still (Ok (action.Base call)))
+    by_result (Ok (action.Post i lent completion)) lies over h = subst NamedIn (sym (h ∙ over.1)) (still (Ok (action.Post i lent completion)))
+    by_result (Ok (action.Drain i completion)) lies over h = subst NamedIn (sym (h ∙ over.1)) (still (Ok (action.Drain i completion)))
+    by_result (Ok action.Held) lies over h = subst NamedIn (sym (h ∙ over.1)) (still (Ok action.Held))
+    by_result (Ok action.Done) lies over h = subst NamedIn (sym (h ∙ over.1)) (still (Ok action.Done))
+    by_result (Err why) lies over h = subst NamedIn (sym (h ∙ over.1)) (still (Err why))
 
 next_named : (old : World) (k : WorkerId) (o : OpId) (result : Result FlowAction Status) (new : World) → Nexts old k o result new → NamedIn old → NamedIn new
 unfolding Nexts
 next_named old k o result new h s =
-    unless_cases NamedIn status.WrongStep (is_idle (worker_at old.workers k)) result old new (NextsAt old k o result new) h (λ idle event. loses_named event.2 new event.4) s
+    unless_cases NamedIn status.WrongStep (is_idle (worker_at old.workers k)) result old new (NextsAt old k o result new) h
+    (λ idle event. named_over old k o event.0 result event.2 new event.3 event.4 s) s
 
 pub next_sound : (old : World) (k : WorkerId) (o : OpId) (result : Result FlowAction Status) (new : World) → Nexts old k o result new → IsSound old → IsSound new
 unfolding Nexts
@@ -454,8 +477,9 @@ next_sound old k o result new h s = record {
     owned =
         unless_cases IsOwned status.WrongStep (is_idle (worker_at old.workers k)) result old new
         (NextsAt old k o result new) h
-        (λ idle event. loses_owned event.2 new event.4
-        (next_owned old k o event.0 result event.2 (operation_at o old.flow) refl (idle_there old.workers k idle) event.1 event.3 s)) s.owned
+        (λ idle event.
+        let owned = next_owned old k o event.0 result event.2 (operation_at o old.flow) refl (idle_there old.workers k idle) event.1 event.3 s in
+        known_cases IsOwned result event.0 event.2 new event.4 (λ loses. loses_owned event.2 new loses owned) owned) s.owned
 
 -- ---- callbacks return
 

@@ -39,6 +39,7 @@ use Rattle.fm_world.specs.declared.step.Begin.{Begin}
 use Rattle.fm_world.specs.declared.step.Begin.TheVariants as begin
 use Rattle.fm_world.specs.declared.worker.Worker.{Worker}
 use Rattle.fm_world.specs.declared.worker.Worker.TheVariants as place
+use Rattle.fm_world.proofs.Keeps.{known_cases}
 use Rattle.fm_world.specs.Hands.{pairs_in, OnlyHandOf, KeepsHands}
 use Rattle.fm_world.specs.World.{World, carries}
 use Rattle.fm_world.specs.Workers.{worker_at, is_idle, after_attach}
@@ -324,7 +325,9 @@ unfolding Nexts
 next_hand old k o result new h =
     unless k.0 _ (is_idle (worker_at old.workers k)) result old new
     (NextsAt old k o result new) h
-    (λ e. loses_hand k.0 old e.2 new e.4 (by_table k.0 old e.2 (received old.contexts k result) (ap (λ (w : World). w.contexts) e.3.1) (received_hand old.contexts k result)))
+    (λ e.
+    let only = by_table k.0 old e.2 (received old.contexts k result) (ap (λ (w : World). w.contexts) e.3.1) (received_hand old.contexts k result) in
+    known_cases (OnlyHandOf k.0 old) result e.0 e.2 new e.4 (λ loses. loses_hand k.0 old e.2 new loses only) only)
 
 sent_hand : (t : ContextTable) (k : WorkerId) (m : Option CtxId) → DifferAt k.0 t.hands (sent t k m).hands
 sent_hand t k None = no_change k.0 t.hands t.hands refl

@@ -39,7 +39,7 @@ use Rattle.fm_world.specs.ContextEvents.{Callback, callback_of, InCallbackOf, ob
 use Rattle.fm_world.specs.Sound.{IsSound}
 use Rattle.fm_world.proofs.Callbacks.{is_in, none_of, not_false}
 use Rattle.fm_world.proofs.Handing.{emptied_hands}
-use Rattle.fm_world.proofs.Keeps.{idle_there}
+use Rattle.fm_world.proofs.Keeps.{known_cases, idle_there}
 use Rattle.fm_ctx.specs.Settling.{Leaves}
 
 -- a worker in a callback has a hand
@@ -228,8 +228,8 @@ next_by : (old : World) (k : WorkerId) (o : OpId) (result : Result FlowAction St
     → Unless status.WrongStep b result old new (NextsAt old k o result new)
     → HoldsMore k.0 result given_by_next old new
 next_by old k o result new true s is event =
-    loses_more k.0 result given_by_next old event.2 new event.4
-    (received_more old event.2 k result (ap (λ (w : World). w.contexts) event.3.1) (placed_hand old k place.Idle s (idle_there old.workers k is)))
+    let more = received_more old event.2 k result (ap (λ (w : World). w.contexts) event.3.1) (placed_hand old k place.Idle s (idle_there old.workers k is)) in
+    known_cases (HoldsMore k.0 result given_by_next old) result event.0 event.2 new event.4 (λ loses. loses_more k.0 result given_by_next old event.2 new loses more) more
 next_by old k o result new false s is h = outside_more k.0 result given_by_next old new h
 
 pub next_more : (old : World) (k : WorkerId) (o : OpId) (result : Result FlowAction Status) (new : World) → IsSound old → Nexts old k o result new

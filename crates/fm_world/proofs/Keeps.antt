@@ -21,13 +21,17 @@ use Rattle.fm_stack.specs.Instances.{is_setup}
 use Rattle.fm_stack.specs.Events as stack
 use Rattle.fm_stack.specs.Follows.{Follows}
 use Rattle.fm_stack.specs.Stacks.{IsStack}
+use Rattle.fm_flow.specs.declared.action.Below.{Below}
+use Rattle.fm_flow.specs.declared.action.Below.TheVariants as below
+use Rattle.fm_flow.specs.declared.action.FlowAction.{FlowAction}
+use Rattle.fm_flow.specs.declared.action.FlowAction.TheVariants as action
 use Rattle.fm_ctx.specs.Table.{ContextTable}
 use Rattle.fm_world.specs.declared.worker.Worker.{Worker}
 use Rattle.fm_world.specs.declared.worker.Worker.TheVariants as place
 use Rattle.fm_world.specs.Links.{LosesLinks}
 use Rattle.fm_world.specs.World.{World}
 use Rattle.fm_world.specs.Workers.{worker_at, put, is_idle, after_attach}
-use Rattle.fm_world.specs.Events.{Registers, Mounts, Attaches, SetsUp, SetsUpAt, Unless}
+use Rattle.fm_world.specs.Events.{LosesByKnown, Registers, Mounts, Attaches, SetsUp, SetsUpAt, Unless}
 use Rattle.fm_world.specs.Headline.{Spot, AtPre, AtBase, AtPost, AtDrain, is_in_at, is_in_drain}
 use Rattle.fm_world.specs.Sound.{IsUnderWay, IsAmong, is_in_setup, setup_row, IsFileSound}
 use Rattle.fm_world.proofs.Counts.{count-some}
@@ -49,6 +53,13 @@ whatever_contexts w t totals h = record { stack = h.stack; flow = h.flow; among 
 
 pub loses_under_way : (old new : World) → LosesLinks old new → IsUnderWay old → IsUnderWay new
 loses_under_way old new h s = subst IsUnderWay (sym h.1) (whatever_contexts old new.contexts old.totals s)
+
+-- where links go by a known answer, and where nothing goes
+pub known_cases : (P : World → Type 0) (result : Result FlowAction Status) (lies : Below) (mid new : World) → LosesByKnown result lies mid new → (LosesLinks mid new → P new) → P mid → P new
+known_cases P (Ok action.Moved) (below.Known why) mid new h lost same = lost h
+known_cases P (Ok action.Moved) (below.Instance i b) mid new h lost same = subst P (sym h) same
+known_cases P (Ok action.Moved) below.Call mid new h lost same = subst P (sym h) same
+known_cases P _ lies mid new h lost same = subst P (sym h) same
 
 -- nor do streams and handles
 pub whatever_files : (w : World) (t : ContextTable) (files : FileTable) → IsUnderWay w → IsUnderWay (record w { contexts = t; files = files })

@@ -1,7 +1,7 @@
 -- Each event leaves slots as they are, or of a later generation: so an id that was given isn't given again, and what was cleaned stays cleaned.
-use Rattle.std.proofs.Common.{◌≡◌, ℕ, ◌<◌, ◌≤◌, ◌==◌, Bool, true, false, cond, List, [], ◌∷◌, ◌++◌, length, map, slice_get, Option, Some, None, Result, Ok, Err, option_map, refl, ap, sym, ◌∙◌, subst, inl, inr, ◌⊎◌, arith}
+use Rattle.std.proofs.Common.{◌≡◌, ℕ, zero, suc, ◌<◌, ◌≤◌, ◌==◌, Bool, true, false, cond, List, [], ◌∷◌, ◌++◌, length, map, slice_get, Option, Some, None, Result, Ok, Err, option_map, refl, ap, sym, ◌∙◌, subst, inl, inr, ◌⊎◌, arith}
 use Rattle.std.specs.Prelude.{◌&&◌, option_and_then, slice_set}
-use Rattle.std.proofs.lemmas.Bool.{cases_Bool, cases_eq, eq-eqb, ne_eqb}
+use Rattle.std.proofs.lemmas.Bool.{cases_Bool, cases_eq, eqb-true, eq-eqb, ne_eqb}
 use Rattle.std.proofs.lemmas.Option.{none-some, same_Some, slice_get-map, slice_get_within}
 use Rattle.fm_types.proofs.Lists.{slice_get-kept, slice_get-push, slice_get-set_same, slice_get-set_other, updated-same, updated-other}
 use Rattle.fm_types.specs.declared.context_kind.ContextKind.{ContextKind}
@@ -28,10 +28,14 @@ use Rattle.fm_ctx.specs.declared.due.Due.{Due}
 use Rattle.fm_ctx.specs.declared.object.Object.{Object}
 use Rattle.fm_ctx.specs.declared.set_reply.SetMode.{SetMode}
 use Rattle.fm_ctx.specs.declared.set_reply.SetMode.TheVariants.{Keep, Replace}
-use Rattle.fm_ctx.specs.Bags.{is_hand_full}
+use Rattle.fm_ctx.specs.Bags.{one, is_id, cleaning_of, is_hand_full}
+use Rattle.fm_ctx.specs.Laws.{is_waiting}
+use Rattle.fm_ctx.proofs.Bags.{is_id-refl, first_placed, places_cleaned}
+use Rattle.fm_ctx.proofs.Slots.{context_at-here}
+use Rattle.std.proofs.lemmas.List.{get_or-set_same, get_or-set_other}
 use Rattle.fm_ctx.specs.Births.{IsNew, new_slot, placed}
 use Rattle.fm_ctx.specs.Bodies.{with_body}
-use Rattle.fm_ctx.specs.Cleanup.{emptied, due_of, taken_of}
+use Rattle.fm_ctx.specs.Cleanup.{emptied, due_of, taken_due, taken_of, cleaned}
 use Rattle.fm_ctx.specs.Links.{with_link, set_after, set_mode_after, unlinked_for, delete_after, linked, holder}
 use Rattle.fm_ctx.specs.Settling.{swept, swept_slot}
 use Rattle.fm_ctx.specs.Table.{Context, Slot, ContextTable, context_in, context_at, changed_slot, change_context}
@@ -47,15 +51,18 @@ use Rattle.fm_world.specs.declared.step.StepReply.TheVariants as reply
 use Rattle.fm_world.specs.declared.worker.Worker.{Worker}
 use Rattle.fm_world.specs.declared.worker.Worker.TheVariants as place
 use Rattle.fm_world.specs.ContextEvents.{Callback, InCallbackOf, callback_of, object_for, set_refused, SetsOn, SetsUnless, SetsIn, there_at, CleansAt, Allocates, Sets, Gets, Deletes, References, Releases, ReadsBody, WritesBody, Bumps, TakesDue, Cleans, Finishes}
-use Rattle.fm_world.specs.Events.{Unless, Registers, Mounts, Attaches, SetsUp, SetsUpAt, EmptiesUnless, Begins, Nexts, NextsAt, PreReturns, PreReturnsAt, BaseReturns, BaseReturnsAt, PostReturns, PostReturnsAt, Collects, begun_on, begun_at, after_begin, brought, received, sent}
+use Rattle.fm_world.specs.Events.{Unless, brought, received, Registers, Mounts, Attaches, SetsUp, SetsUpAt, EmptiesUnless, Begins, Nexts, NextsAt, PreReturns, PreReturnsAt, BaseReturns, BaseReturnsAt, PostReturns, PostReturnsAt, Collects, begun_on, begun_at, after_begin, sent}
 use Rattle.fm_world.specs.Files.{handle_at, stream_at}
 use Rattle.fm_world.specs.Lasting.{given_by, due_by, Comes, IsGone, ContextsLast}
 use Rattle.fm_world.specs.Links.{LosesLinks}
 use Rattle.fm_world.specs.Requests.{params_of}
 use Rattle.fm_world.specs.Steps.{Steps, Run}
 use Rattle.fm_world.specs.World.{World, carries, empty_world}
-use Rattle.fm_world.specs.Workers.{worker_at, is_idle}
-use Rattle.fm_world.proofs.Keeps.{unless_cases}
+use Rattle.fm_world.specs.Sound.{IsSound}
+use Rattle.fm_world.specs.Workers.{worker_at, is_idle, cleanup_in}
+use Rattle.fm_world.proofs.Keeps.{known_cases, unless_cases, idle_there}
+use Rattle.fm_world.proofs.Runs.{step_keeps, run_keeps, empty_sound}
+use Rattle.fm_world.proofs.Losing.{received_slots}
 
 -- ---- slots
 
@@ -179,25 +186,32 @@ given_placed slots c x (inr new) =
       omega arith,
     )
 
+-- ---- tables of contexts
+
+-- slots stay, and so does what is being cleaned up
+abbrev TableStays : ContextTable → ContextTable → Type 0
+TableStays a b = SlotsStay a.slots b.slots × (b.cleaning ≡ a.cleaning)
+
+table_same : (a b : ContextTable) → b.slots ≡ a.slots → b.cleaning ≡ a.cleaning → TableStays a b
+table_same a b slots cleaning = (slots_same a.slots b.slots slots, cleaning)
+
+table_still : (a b : ContextTable) → b ≡ a → TableStays a b
+table_still a b e = table_same a b (ap (λ (t : ContextTable). t.slots) e) (ap (λ (t : ContextTable). t.cleaning) e)
+
+table_after : (a b c : ContextTable) → TableStays a b → TableStays b c → TableStays a c
+table_after a b c f g = (slots_after a.slots b.slots c.slots f.0 g.0, g.1 ∙ f.1)
+
 -- ---- events
 
-abbrev pub Stay : World → World → Type 0
-Stay old new = SlotsStay old.contexts.slots new.contexts.slots
-
-stay_same : (old new : World) → new.contexts.slots ≡ old.contexts.slots → Stay old new
-stay_same old new e = slots_same old.contexts.slots new.contexts.slots e
+abbrev Stay : World → World → Type 0
+Stay old new = TableStays old.contexts new.contexts
 
 stay_still : (old new : World) → new ≡ old → Stay old new
-stay_still old new e = stay_same old new (ap (λ (w : World). w.contexts.slots) e)
-
--- what the event makes of the World is known
-stay_made : (old made new : World) → new ≡ made → Stay old made → Stay old new
-stay_made old made new e h = subst (Stay old) (sym e) h
+stay_still old new e = table_still old.contexts new.contexts (ap (λ (w : World). w.contexts) e)
 
 stay_loses : (old mid new : World) → LosesLinks mid new → Stay old mid → Stay old new
 stay_loses old mid new h stay =
-    slots_after old.contexts.slots mid.contexts.slots new.contexts.slots stay
-    (subst (SlotsStay mid.contexts.slots) (sym h.0.slots) (slots_swept _ mid.contexts.slots))
+    table_after old.contexts mid.contexts new.contexts stay (subst (SlotsStay mid.contexts.slots) (sym h.0.slots) (slots_swept _ mid.contexts.slots), h.0.cleaning)
 
 stay_unless : {T : Type 0} (refusal : Status) (b : Bool) (result : Result T Status) (old new : World) (Event : Type 0) → Unless refusal b result old new Event → (Event → Stay old new)
     → Stay old new
@@ -222,25 +236,25 @@ stay_called result old new Event (Some at) h event = event at h
 
 register_stay : (old : World) (name : List ℕ) (registration : Registration) (result : Result FilterId Status) (new : World) → Registers old name registration result new → Stay old new
 unfolding Registers
-register_stay old name registration result new h = stay_made old (record old { stack = new.stack }) new h.1 (stay_still old old refl)
+register_stay old name registration result new h = table_still old.contexts new.contexts (ap (λ (w : World). w.contexts) h.1)
 
 mount_stay : (old : World) (name : List ℕ) (result : Result VolumeId Status) (new : World) → Mounts old name result new → Stay old new
 unfolding Mounts
-mount_stay old name result new h = stay_made old (record old { stack = new.stack }) new h.1 (stay_still old old refl)
+mount_stay old name result new h = table_still old.contexts new.contexts (ap (λ (w : World). w.contexts) h.1)
 
 attach_stay : (old : World) (k : WorkerId) (f : FilterId) (v : VolumeId) (name altitude : List ℕ) (result : Result InstanceId Status) (new : World)
     → Attaches old k f v name altitude result new → Stay old new
 unfolding Attaches
 attach_stay old k f v name altitude result new h =
-    stay_unless status.WrongStep (is_idle (worker_at old.workers k)) result old new _ h (λ e. stay_same old new (ap (λ (w : World). w.contexts.slots) e.1))
+    stay_unless status.WrongStep (is_idle (worker_at old.workers k)) result old new _ h (λ e. table_still old.contexts new.contexts (ap (λ (w : World). w.contexts) e.1))
 
 setup_at_stay : (old : World) (k : WorkerId) (accept : Bool) (result : Result (Unit {0}) Status) (new : World) (m : Option Worker) → SetsUpAt old k accept result new m → Stay old new
 setup_at_stay old k accept result new (Some (place.Setup i)) (event, left, leaves, empties, e) =
-    slots_after old.contexts.slots left.slots new.contexts.slots (slots_same old.contexts.slots left.slots leaves.slots) (by_result result empties)
+    table_after old.contexts left new.contexts (table_same old.contexts left leaves.slots leaves.cleaning) (by_result result empties)
   where
-    by_result : (result : Result (Unit {0}) Status) → EmptiesUnless result i old left new.contexts → SlotsStay left.slots new.contexts.slots
-    by_result (Ok done) same = slots_same left.slots new.contexts.slots (ap (λ (t : ContextTable). t.slots) same)
-    by_result (Err why) sweeps = subst (SlotsStay left.slots) (sym sweeps.slots) (slots_swept _ left.slots)
+    by_result : (result : Result (Unit {0}) Status) → EmptiesUnless result i old left new.contexts → TableStays left new.contexts
+    by_result (Ok done) same = table_still left new.contexts same
+    by_result (Err why) sweeps = (subst (SlotsStay left.slots) (sym sweeps.slots) (slots_swept _ left.slots), sweeps.cleaning)
 setup_at_stay old k accept result new None h = stay_still old new h.1
 setup_at_stay old k accept result new (Some place.Idle) h = stay_still old new h.1
 setup_at_stay old k accept result new (Some (place.Pre o i)) h = stay_still old new h.1
@@ -272,32 +286,40 @@ begun_contexts old (begin.OnHandle h asked) = by_handle (handle_at h old.files)
 begin_stay : (old : World) (what : Begin) (result : Result OpId Status) (new : World) → Begins old what result new → Stay old new
 unfolding Begins
 begin_stay old what result new h =
-    stay_memory _ result old new _ h (λ o e. stay_same old new (ap (λ (w : World). w.contexts.slots) e.1 ∙ ap (λ (t : ContextTable). t.slots) (begun_contexts old what)))
+    stay_memory _ result old new _ h (λ o e. table_still old.contexts new.contexts (ap (λ (w : World). w.contexts) e.1 ∙ begun_contexts old what))
 
-brought_slots : (t : ContextTable) (k : WorkerId) (m : Option CtxId) → (brought t k m).slots ≡ t.slots
-brought_slots t k None = refl
-brought_slots t k (Some c) = refl
+brought_cleaning : (t : ContextTable) (k : WorkerId) (m : Option CtxId) → (brought t k m).cleaning ≡ t.cleaning
+brought_cleaning t k None = refl
+brought_cleaning t k (Some c) = refl
 
-received_slots : (t : ContextTable) (k : WorkerId) (result : Result FlowAction Status) → (received t k result).slots ≡ t.slots
-received_slots t k (Ok (action.Post i lent completion)) = brought_slots t k completion.context
-received_slots t k (Ok (action.Drain i completion)) = brought_slots t k completion.context
-received_slots t k _ = refl
+received_cleaning : (t : ContextTable) (k : WorkerId) (result : Result FlowAction Status) → (received t k result).cleaning ≡ t.cleaning
+received_cleaning t k (Ok (action.Post i lent completion)) = brought_cleaning t k completion.context
+received_cleaning t k (Ok (action.Drain i completion)) = brought_cleaning t k completion.context
+received_cleaning t k _ = refl
 
 next_stay : (old : World) (k : WorkerId) (o : OpId) (result : Result FlowAction Status) (new : World) → Nexts old k o result new → Stay old new
 unfolding Nexts
 next_stay old k o result new h =
     stay_unless status.WrongStep (is_idle (worker_at old.workers k)) result old new (NextsAt old k o result new) h
-    (λ e. stay_loses old e.2 new e.4 (stay_same old e.2 (ap (λ (w : World). w.contexts.slots) e.3.1 ∙ received_slots old.contexts k result)))
+    (λ e.
+    let same = ap (λ (w : World). w.contexts) e.3.1 in
+    let stay = table_same old.contexts e.2.contexts (ap (λ (t : ContextTable). t.slots) same ∙ received_slots old.contexts k result)
+    (ap (λ (t : ContextTable). t.cleaning) same ∙ received_cleaning old.contexts k result) in
+    known_cases (Stay old) result e.0 e.2 new e.4 (λ loses. stay_loses old e.2 new loses stay) stay)
 
 sent_slots : (t : ContextTable) (k : WorkerId) (m : Option CtxId) → (sent t k m).slots ≡ t.slots
 sent_slots t k None = refl
 sent_slots t k (Some c) = refl
 
+sent_cleaning : (t : ContextTable) (k : WorkerId) (m : Option CtxId) → (sent t k m).cleaning ≡ t.cleaning
+sent_cleaning t k None = refl
+sent_cleaning t k (Some c) = refl
+
 pre_at_stay : (old : World) (k : WorkerId) (given : PreVerdict) (lent : Data) (result : Result (Unit {0}) Status) (new : World) (m : Option Worker)
     → PreReturnsAt old k given lent result new m → Stay old new
 pre_at_stay old k given lent result new (Some (place.Pre o i)) h =
     stay_unless status.BadRequest (told (λ r. data_fits r.operation r.path lent) false o old.flow) result old new _ h
-    (λ e. stay_loses old e.1.0 new e.1.2 (stay_same old e.1.0 (e.1.1.0.slots ∙ sent_slots old.contexts k _)))
+    (λ e. stay_loses old e.1.0 new e.1.2 (table_same old.contexts e.1.0.contexts (e.1.1.0.slots ∙ sent_slots old.contexts k _) (e.1.1.0.cleaning ∙ sent_cleaning old.contexts k _)))
 pre_at_stay old k given lent result new None h = stay_still old new h.1
 pre_at_stay old k given lent result new (Some place.Idle) h = stay_still old new h.1
 pre_at_stay old k given lent result new (Some (place.Setup i)) h = stay_still old new h.1
@@ -331,8 +353,8 @@ base_stay old k call given result new h = base_at_stay old k call given result n
 post_at_stay : (old : World) (k : WorkerId) (given : PostVerdict) (lent : Option Data) (result : Result (Unit {0}) Status) (new : World) (m : Option Worker)
     → PostReturnsAt old k given lent result new m → Stay old new
 post_at_stay old k given (Some lent) result new (Some (place.Post o i)) h =
-    stay_unless status.BadRequest (told (λ r. data_fits r.operation r.path lent) false o old.flow) result old new _ h (λ e. stay_same old new e.1.0.slots)
-post_at_stay old k given None result new (Some (place.Drain o i)) h = stay_same old new h.1.0.slots
+    stay_unless status.BadRequest (told (λ r. data_fits r.operation r.path lent) false o old.flow) result old new _ h (λ e. table_same old.contexts new.contexts e.1.0.slots e.1.0.cleaning)
+post_at_stay old k given None result new (Some (place.Drain o i)) h = table_same old.contexts new.contexts h.1.0.slots h.1.0.cleaning
 post_at_stay old k given None result new (Some (place.Post o i)) h = stay_still old new h.1
 post_at_stay old k given (Some lent) result new (Some (place.Drain o i)) h = stay_still old new h.1
 post_at_stay old k given lent result new None h = stay_still old new (refused_still lent h)
@@ -360,45 +382,45 @@ post_stay old k given lent result new h = post_at_stay old k given lent result n
 
 collect_stay : (old : World) (o : OpId) (result : Result Answer Status) (new : World) → Collects old o result new → Stay old new
 unfolding Collects
-collect_stay old o result new h = stay_same old new (ap (λ (w : World). w.contexts.slots) h.1)
+collect_stay old o result new h = table_still old.contexts new.contexts (ap (λ (w : World). w.contexts) h.1)
 
 -- contexts
 
 -- the event makes that table
-stay_table : (old new : World) (t : ContextTable) → new ≡ record old { contexts = t } → SlotsStay old.contexts.slots t.slots → Stay old new
-stay_table old new t e h = stay_made old (record old { contexts = t }) new e h
+stay_table : (old new : World) (t : ContextTable) → new ≡ record old { contexts = t } → TableStays old.contexts t → Stay old new
+stay_table old new t e h = subst (TableStays old.contexts) (sym (ap (λ (w : World). w.contexts) e)) h
 
 allocate_stay : (old : World) (k : WorkerId) (kind : ContextKind) (body : List ℕ) (result : Result CtxId Status) (new : World) → Allocates old k kind body result new → Stay old new
 unfolding Allocates
 allocate_stay old k kind body result new h =
     stay_called result old new _ (callback_of old k) h
-    (λ at e. stay_memory _ result old new _ e (λ c f. stay_table old new _ f.1 (slots_placed old.contexts.slots c _ f.0)))
+    (λ at e. stay_memory _ result old new _ e (λ c f. stay_table old new _ f.1 (slots_placed old.contexts.slots c _ f.0, refl)))
 
-unlinked_slots : (carried : CtxId → ℕ) (t : ContextTable) (w : ℕ) (wants : Bool) (c : CtxId) → SlotsStay t.slots (unlinked_for carried t w wants c).slots
-unlinked_slots carried t w true c = slots_changed (option_map (with_link None)) t.slots c refl
-unlinked_slots carried t w false c = slots_changed (option_map (with_link None)) t.slots c refl
+unlinked_stays : (carried : CtxId → ℕ) (t : ContextTable) (w : ℕ) (wants : Bool) (c : CtxId) → TableStays t (unlinked_for carried t w wants c)
+unlinked_stays carried t w true c = (slots_changed (option_map (with_link None)) t.slots c refl, refl)
+unlinked_stays carried t w false c = (slots_changed (option_map (with_link None)) t.slots c refl, refl)
 
-linked_slots : (t : ContextTable) (c : CtxId) (object : Object) → SlotsStay t.slots (linked t c object).slots
-linked_slots t c object = slots_changed (option_map (with_link (Some object))) t.slots c refl
+linked_stays : (t : ContextTable) (c : CtxId) (object : Object) → TableStays t (linked t c object)
+linked_stays t c object = (slots_changed (option_map (with_link (Some object))) t.slots c refl, refl)
 
-moded_slots : (carried : CtxId → ℕ) (t : ContextTable) (w : ℕ) (c : CtxId) (object : Object) (mode : SetMode) (wants : Bool) (found : CtxId) (full : Bool)
-    → SlotsStay t.slots (cond full t (set_mode_after carried t w c object mode wants found)).slots
-moded_slots carried t w c object mode wants found true = slots_same t.slots t.slots refl
-moded_slots carried t w c object Keep true found false = slots_same t.slots t.slots refl
-moded_slots carried t w c object Keep false found false = slots_same t.slots t.slots refl
-moded_slots carried t w c object Replace wants found false =
+moded_stays : (carried : CtxId → ℕ) (t : ContextTable) (w : ℕ) (c : CtxId) (object : Object) (mode : SetMode) (wants : Bool) (found : CtxId) (full : Bool)
+    → TableStays t (cond full t (set_mode_after carried t w c object mode wants found))
+moded_stays carried t w c object mode wants found true = table_still t t refl
+moded_stays carried t w c object Keep true found false = (slots_same t.slots t.slots refl, refl)
+moded_stays carried t w c object Keep false found false = table_still t t refl
+moded_stays carried t w c object Replace wants found false =
     let u = unlinked_for carried t w wants found in
-    slots_after t.slots u.slots (linked u c object).slots (unlinked_slots carried t w wants found) (linked_slots u c object)
+    table_after t u (linked u c object) (unlinked_stays carried t w wants found) (linked_stays u c object)
 
-set_slots : (carried : CtxId → ℕ) (t : ContextTable) (w : ℕ) (c : CtxId) (object : Object) (mode : SetMode) (wants : Bool) (m : Option CtxId)
-    → SlotsStay t.slots (set_after carried t w c object mode wants m).slots
-set_slots carried t w c object mode wants None = linked_slots t c object
-set_slots carried t w c object mode wants (Some found) = moded_slots carried t w c object mode wants found (wants && is_hand_full t.hands w)
+set_stays : (carried : CtxId → ℕ) (t : ContextTable) (w : ℕ) (c : CtxId) (object : Object) (mode : SetMode) (wants : Bool) (m : Option CtxId)
+    → TableStays t (set_after carried t w c object mode wants m)
+set_stays carried t w c object mode wants None = linked_stays t c object
+set_stays carried t w c object mode wants (Some found) = moded_stays carried t w c object mode wants found (wants && is_hand_full t.hands w)
 
 set_on_stay : (old : World) (k : WorkerId) (c : CtxId) (mode : SetMode) (wants : Bool) (result : SetAnswer) (new : World) (m : Option Context) (o : Option Object)
     → SetsOn old k c mode wants result new m o → Stay old new
 set_on_stay old k c mode wants result new (Some x) (Some object) h =
-    stay_table old new _ h.1 (set_slots (carries old) old.contexts k.0 c object mode wants (holder old.contexts.slots x.owner object))
+    stay_table old new _ h.1 (set_stays (carries old) old.contexts k.0 c object mode wants (holder old.contexts.slots x.owner object))
 set_on_stay old k c mode wants result new (Some x) None h = absurd h
 set_on_stay old k c mode wants result new None o h = absurd h
 
@@ -421,29 +443,29 @@ get_stay : (old : World) (k : WorkerId) (kind : ContextKind) (result : Result Ct
 unfolding Gets
 get_stay old k kind result new h =
     stay_called result old new _ (callback_of old k) h
-    (λ at e. stay_answers _ result old new _ e (λ c f. stay_same old new (ap (λ (w : World). w.contexts.slots) f.1)))
+    (λ at e. stay_answers _ result old new _ e (λ c f. stay_table old new _ f.1 (slots_same old.contexts.slots old.contexts.slots refl, refl)))
 
-deleted_slots : (carried : CtxId → ℕ) (t : ContextTable) (w : ℕ) (wants : Bool) (m : Option CtxId) → SlotsStay t.slots (delete_after carried t w wants m).slots
-deleted_slots carried t w wants None = slots_same t.slots t.slots refl
-deleted_slots carried t w wants (Some c) = unlinked_slots carried t w wants c
+deleted_stays : (carried : CtxId → ℕ) (t : ContextTable) (w : ℕ) (wants : Bool) (m : Option CtxId) → TableStays t (delete_after carried t w wants m)
+deleted_stays carried t w wants None = table_still t t refl
+deleted_stays carried t w wants (Some c) = unlinked_stays carried t w wants c
 
 delete_stay : (old : World) (k : WorkerId) (kind : ContextKind) (wants : Bool) (result : Result (Option CtxId) Status) (new : World) → Deletes old k kind wants result new → Stay old new
 unfolding Deletes
 delete_stay old k kind wants result new h =
     stay_called result old new _ (callback_of old k) h
-    (λ at e. stay_answers _ result old new _ e (λ c f. stay_table old new _ f.1 (deleted_slots (carries old) old.contexts k.0 wants (there_at old kind at))))
+    (λ at e. stay_answers _ result old new _ e (λ c f. stay_table old new _ f.1 (deleted_stays (carries old) old.contexts k.0 wants (there_at old kind at))))
 
 reference_stay : (old : World) (k : WorkerId) (c : CtxId) (result : Result (Unit {0}) Status) (new : World) → References old k c result new → Stay old new
 unfolding References
 reference_stay old k c result new h =
     stay_called result old new _ (callback_of old k) h
-    (λ at e. stay_answers _ result old new _ e (λ v f. stay_same old new (ap (λ (w : World). w.contexts.slots) f)))
+    (λ at e. stay_answers _ result old new _ e (λ v f. stay_table old new _ f (slots_same old.contexts.slots old.contexts.slots refl, refl)))
 
 release_stay : (old : World) (k : WorkerId) (c : CtxId) (result : Result (Unit {0}) Status) (new : World) → Releases old k c result new → Stay old new
 unfolding Releases
 release_stay old k c result new h =
     stay_called result old new _ (callback_of old k) h
-    (λ at e. stay_answers _ result old new _ e (λ v f. stay_same old new (ap (λ (w : World). w.contexts.slots) f)))
+    (λ at e. stay_answers _ result old new _ e (λ v f. stay_table old new _ f (slots_same old.contexts.slots old.contexts.slots refl, refl)))
 
 read_stay : (old : World) (k : WorkerId) (c : CtxId) (result : Result (List ℕ) Status) (new : World) → ReadsBody old k c result new → Stay old new
 unfolding ReadsBody
@@ -454,90 +476,127 @@ write_stay : (old : World) (k : WorkerId) (c : CtxId) (bytes : List ℕ) (result
 unfolding WritesBody
 write_stay old k c bytes result new h =
     stay_called result old new _ (callback_of old k) h
-    (λ at e. stay_answers _ result old new _ e (λ v f. stay_table old new _ f (slots_changed (option_map (with_body bytes)) old.contexts.slots c refl)))
+    (λ at e. stay_answers _ result old new _ e (λ v f. stay_table old new _ f (slots_changed (option_map (with_body bytes)) old.contexts.slots c refl, refl)))
 
 bump_stay : (old : World) (k : WorkerId) (c : CtxId) (at by : ℕ) (result : Result ℕ Status) (new : World) → Bumps old k c at by result new → Stay old new
 unfolding Bumps
 bump_stay old k c at by result new h =
     stay_called result old new _ (callback_of old k) h
-    (λ x e. stay_answers _ result old new _ e (λ n f. stay_table old new _ f.1 (slots_changed (option_map (with_body _)) old.contexts.slots c refl)))
+    (λ x e. stay_answers _ result old new _ e (λ n f. stay_table old new _ f.1 (slots_changed (option_map (with_body _)) old.contexts.slots c refl, refl)))
 
 taken_slots : (t : ContextTable) (w : ℕ) (m : Option CtxId) → SlotsStay t.slots (taken_of t w m).slots
 taken_slots t w None = slots_same t.slots t.slots refl
 taken_slots t w (Some c) = slots_changed (option_map emptied) t.slots c refl
 
-due_stay : (old : World) (k : WorkerId) (result : Result (Option Due) Status) (new : World) → TakesDue old k result new → Stay old new
+-- what a worker cleans up it cleans up still, or it is cleaned
+abbrev CleansOn : World → World → Type 0
+CleansOn old new = (k : ℕ) (c : CtxId) → cleaning_of old.contexts.cleaning k ≡ Some c → (cleaning_of new.contexts.cleaning k ≡ Some c) ⊎ IsGone new c
+
+abbrev Lasts : World → World → Type 0
+Lasts old new = SlotsStay old.contexts.slots new.contexts.slots × CleansOn old new
+
+lasts : (old new : World) → Stay old new → Lasts old new
+lasts old new stay = (stay.0, λ k c busy. inl (ap (λ (xs : List (Option CtxId)). cleaning_of xs k) stay.1 ∙ busy))
+
+taken_on : (t : ContextTable) (w : ℕ) (m : Option CtxId) (k : ℕ) (c : CtxId) → cleaning_of t.cleaning w ≡ None → cleaning_of t.cleaning k ≡ Some c
+    → cleaning_of (taken_of t w m).cleaning k ≡ Some c
+taken_on t w None k c idle busy = busy
+taken_on t w (Some d) k c idle busy =
+    elim (cases_eq k w) [
+      | inl is ↦ absurd (none-some c (sym (ap (cleaning_of t.cleaning) is ∙ idle) ∙ busy))
+      | inr other ↦ get_or-set_other t.cleaning w k (Some d) None other ∙ busy
+    ]
+
+due_lasts : (old : World) (k : WorkerId) (result : Result (Option Due) Status) (new : World) → TakesDue old k result new → IsSound old → Lasts old new
 unfolding TakesDue
-due_stay old k result new h =
-    stay_unless status.WrongStep (is_idle (worker_at old.workers k)) result old new _ h
-    (λ e. stay_made old _ new e.1 (taken_slots old.contexts k.0 (slice_get old.contexts.due 0)))
+due_lasts old k result new h s =
+    unless_cases (Lasts old) status.WrongStep (is_idle (worker_at old.workers k)) result old new _ h
+    (λ is e. subst (Lasts old) (sym e.1) (
+      taken_slots old.contexts k.0 (slice_get old.contexts.due 0),
+      λ n c busy. inl (taken_on old.contexts k.0 (slice_get old.contexts.due 0) n c (s.owned.cleaning k.0 ∙ ap cleanup_in (idle_there old.workers k is)) busy),
+    )) (lasts old old (stay_still old old refl))
 
-cleans_at_stay : (old : World) (k : WorkerId) (number : ℕ) (result : Result (Unit {0}) Status) (new : World) (m : Option Worker) → CleansAt old k number result new m → Stay old new
-cleans_at_stay old k number result new (Some (place.Cleanup c)) h = stay_made old _ new h.1 (slots_changed (λ (x : Option Context). None) old.contexts.slots c refl)
-cleans_at_stay old k number result new None h = stay_still old new h.1
-cleans_at_stay old k number result new (Some place.Idle) h = stay_still old new h.1
-cleans_at_stay old k number result new (Some (place.Setup i)) h = stay_still old new h.1
-cleans_at_stay old k number result new (Some (place.Pre o i)) h = stay_still old new h.1
-cleans_at_stay old k number result new (Some (place.Base o)) h = stay_still old new h.1
-cleans_at_stay old k number result new (Some (place.Post o i)) h = stay_still old new h.1
-cleans_at_stay old k number result new (Some (place.Drain o i)) h = stay_still old new h.1
-cleans_at_stay old k number result new (Some (place.EarlyDrain o i)) h = stay_still old new h.1
+cleaned_on : (old : World) (w : WorkerId) (d : CtxId) (new : World) → new.contexts ≡ cleaned old.contexts w.0 d → cleaning_of old.contexts.cleaning w.0 ≡ Some d → CleansOn old new
+cleaned_on old w d new made own = λ k c busy.
+    elim (cases_eq k w.0) [
+      | inl is ↦
+          let same : d ≡ c = same_Some d c (sym own ∙ ap (cleaning_of old.contexts.cleaning) (sym is) ∙ busy) in
+          inr (ap (λ (t : ContextTable). context_at t.slots c) made
+          ∙ subst (λ x. context_at (cleaned old.contexts w.0 d).slots x ≡ None) same (context_at-here (λ (x : Option Context). None) old.contexts.slots d refl))
+      | inr other ↦ inl (ap (λ (t : ContextTable). cleaning_of t.cleaning k) made ∙ get_or-set_other old.contexts.cleaning w.0 k None None other ∙ busy)
+    ]
 
-cleaned_stay : (old : World) (k : WorkerId) (number : ℕ) (result : Result (Unit {0}) Status) (new : World) → Cleans old k number result new → Stay old new
+cleans_at_lasts : (old : World) (k : WorkerId) (number : ℕ) (result : Result (Unit {0}) Status) (new : World) (m : Option Worker) → worker_at old.workers k ≡ m
+    → CleansAt old k number result new m → IsSound old → Lasts old new
+cleans_at_lasts old k number result new (Some (place.Cleanup c)) at h s =
+    let made = ap (λ (w : World). w.contexts) h.1 in (
+      subst (λ (t : ContextTable). SlotsStay old.contexts.slots t.slots) (sym made) (slots_changed (λ (x : Option Context). None) old.contexts.slots c refl),
+      cleaned_on old k c new made (s.owned.cleaning k.0 ∙ ap cleanup_in at),
+    )
+cleans_at_lasts old k number result new None at h s = lasts old new (stay_still old new h.1)
+cleans_at_lasts old k number result new (Some place.Idle) at h s = lasts old new (stay_still old new h.1)
+cleans_at_lasts old k number result new (Some (place.Setup i)) at h s = lasts old new (stay_still old new h.1)
+cleans_at_lasts old k number result new (Some (place.Pre o i)) at h s = lasts old new (stay_still old new h.1)
+cleans_at_lasts old k number result new (Some (place.Base o)) at h s = lasts old new (stay_still old new h.1)
+cleans_at_lasts old k number result new (Some (place.Post o i)) at h s = lasts old new (stay_still old new h.1)
+cleans_at_lasts old k number result new (Some (place.Drain o i)) at h s = lasts old new (stay_still old new h.1)
+cleans_at_lasts old k number result new (Some (place.EarlyDrain o i)) at h s = lasts old new (stay_still old new h.1)
+
+cleaned_lasts : (old : World) (k : WorkerId) (number : ℕ) (result : Result (Unit {0}) Status) (new : World) → Cleans old k number result new → IsSound old → Lasts old new
 unfolding Cleans
-cleaned_stay old k number result new h = cleans_at_stay old k number result new (worker_at old.workers k) h
+cleaned_lasts old k number result new h s = cleans_at_lasts old k number result new (worker_at old.workers k) refl h s
 
 finish_stay : (old : World) (i : InstanceId) (result : Result (Unit {0}) Status) (new : World) → Finishes old i result new → Stay old new
 unfolding Finishes
-finish_stay old i result new h = stay_answers _ result old new _ h (λ v f. stay_same old new (ap (λ (w : World). w.contexts.slots) f))
+finish_stay old i result new h = stay_answers _ result old new _ h (λ v f. table_still old.contexts new.contexts (ap (λ (w : World). w.contexts) f))
 
 -- every event
 
-step_stays : (old : World) (s : Step) (r : StepReply) (new : World) → Steps old s r new → Stay old new
-step_stays old (step.Register name registration) (reply.Filter r) new h = register_stay old name registration r new h
-step_stays old (step.Mount name) (reply.Volume r) new h = mount_stay old name r new h
-step_stays old (step.Attach k f v name altitude) (reply.Instance r) new h = attach_stay old k f v name altitude r new h
-step_stays old (step.SetupDone k accept) (reply.Done r) new h = setup_stay old k accept r new h
-step_stays old (step.Begin what) (reply.Operation r) new h = begin_stay old what r new h
-step_stays old (step.Next k o) (reply.Action r) new h = next_stay old k o r new h
-step_stays old (step.PreReturned k verdict lent) (reply.Done r) new h = pre_stay old k verdict lent r new h
-step_stays old (step.BaseReturned k call given) (reply.Done r) new h = base_stay old k call given r new h
-step_stays old (step.PostReturned k verdict lent) (reply.Done r) new h = post_stay old k verdict lent r new h
-step_stays old (step.Collect o) (reply.Answer r) new h = collect_stay old o r new h
-step_stays old (step.Allocate k what body) (reply.Context r) new h = allocate_stay old k what body r new h
-step_stays old (step.Set k c mode wants) (reply.Set r) new h = set_stay old k c mode wants r new h
-step_stays old (step.Get k what) (reply.Context r) new h = get_stay old k what r new h
-step_stays old (step.Delete k what wants) (reply.Old r) new h = delete_stay old k what wants r new h
-step_stays old (step.Reference k c) (reply.Done r) new h = reference_stay old k c r new h
-step_stays old (step.Release k c) (reply.Done r) new h = release_stay old k c r new h
-step_stays old (step.ReadBody k c) (reply.Body r) new h = read_stay old k c r new h
-step_stays old (step.WriteBody k c bytes) (reply.Done r) new h = write_stay old k c bytes r new h
-step_stays old (step.Bump k c at by) (reply.Number r) new h = bump_stay old k c at by r new h
-step_stays old (step.TakeDue k) (reply.Due r) new h = due_stay old k r new h
-step_stays old (step.Cleaned k number) (reply.Done r) new h = cleaned_stay old k number r new h
-step_stays old (step.Finish i) (reply.Done r) new h = finish_stay old i r new h
-step_stays old (step.Register name registration) _ new h = absurd h
-step_stays old (step.Mount name) _ new h = absurd h
-step_stays old (step.Attach k f v name altitude) _ new h = absurd h
-step_stays old (step.SetupDone k accept) _ new h = absurd h
-step_stays old (step.Begin what) _ new h = absurd h
-step_stays old (step.Next k o) _ new h = absurd h
-step_stays old (step.PreReturned k verdict lent) _ new h = absurd h
-step_stays old (step.BaseReturned k call given) _ new h = absurd h
-step_stays old (step.PostReturned k verdict lent) _ new h = absurd h
-step_stays old (step.Collect o) _ new h = absurd h
-step_stays old (step.Allocate k what body) _ new h = absurd h
-step_stays old (step.Set k c mode wants) _ new h = absurd h
-step_stays old (step.Get k what) _ new h = absurd h
-step_stays old (step.Delete k what wants) _ new h = absurd h
-step_stays old (step.Reference k c) _ new h = absurd h
-step_stays old (step.Release k c) _ new h = absurd h
-step_stays old (step.ReadBody k c) _ new h = absurd h
-step_stays old (step.WriteBody k c bytes) _ new h = absurd h
-step_stays old (step.Bump k c at by) _ new h = absurd h
-step_stays old (step.TakeDue k) _ new h = absurd h
-step_stays old (step.Cleaned k number) _ new h = absurd h
-step_stays old (step.Finish i) _ new h = absurd h
+step_lasts : (old : World) (x : Step) (r : StepReply) (new : World) → Steps old x r new → IsSound old → Lasts old new
+step_lasts old (step.Register name registration) (reply.Filter r) new h s = lasts old new (register_stay old name registration r new h)
+step_lasts old (step.Mount name) (reply.Volume r) new h s = lasts old new (mount_stay old name r new h)
+step_lasts old (step.Attach k f v name altitude) (reply.Instance r) new h s = lasts old new (attach_stay old k f v name altitude r new h)
+step_lasts old (step.SetupDone k accept) (reply.Done r) new h s = lasts old new (setup_stay old k accept r new h)
+step_lasts old (step.Begin what) (reply.Operation r) new h s = lasts old new (begin_stay old what r new h)
+step_lasts old (step.Next k o) (reply.Action r) new h s = lasts old new (next_stay old k o r new h)
+step_lasts old (step.PreReturned k verdict lent) (reply.Done r) new h s = lasts old new (pre_stay old k verdict lent r new h)
+step_lasts old (step.BaseReturned k call given) (reply.Done r) new h s = lasts old new (base_stay old k call given r new h)
+step_lasts old (step.PostReturned k verdict lent) (reply.Done r) new h s = lasts old new (post_stay old k verdict lent r new h)
+step_lasts old (step.Collect o) (reply.Answer r) new h s = lasts old new (collect_stay old o r new h)
+step_lasts old (step.Allocate k what body) (reply.Context r) new h s = lasts old new (allocate_stay old k what body r new h)
+step_lasts old (step.Set k c mode wants) (reply.Set r) new h s = lasts old new (set_stay old k c mode wants r new h)
+step_lasts old (step.Get k what) (reply.Context r) new h s = lasts old new (get_stay old k what r new h)
+step_lasts old (step.Delete k what wants) (reply.Old r) new h s = lasts old new (delete_stay old k what wants r new h)
+step_lasts old (step.Reference k c) (reply.Done r) new h s = lasts old new (reference_stay old k c r new h)
+step_lasts old (step.Release k c) (reply.Done r) new h s = lasts old new (release_stay old k c r new h)
+step_lasts old (step.ReadBody k c) (reply.Body r) new h s = lasts old new (read_stay old k c r new h)
+step_lasts old (step.WriteBody k c bytes) (reply.Done r) new h s = lasts old new (write_stay old k c bytes r new h)
+step_lasts old (step.Bump k c at by) (reply.Number r) new h s = lasts old new (bump_stay old k c at by r new h)
+step_lasts old (step.TakeDue k) (reply.Due r) new h s = due_lasts old k r new h s
+step_lasts old (step.Cleaned k number) (reply.Done r) new h s = cleaned_lasts old k number r new h s
+step_lasts old (step.Finish i) (reply.Done r) new h s = lasts old new (finish_stay old i r new h)
+step_lasts old (step.Register name registration) _ new h s = absurd h
+step_lasts old (step.Mount name) _ new h s = absurd h
+step_lasts old (step.Attach k f v name altitude) _ new h s = absurd h
+step_lasts old (step.SetupDone k accept) _ new h s = absurd h
+step_lasts old (step.Begin what) _ new h s = absurd h
+step_lasts old (step.Next k o) _ new h s = absurd h
+step_lasts old (step.PreReturned k verdict lent) _ new h s = absurd h
+step_lasts old (step.BaseReturned k call given) _ new h s = absurd h
+step_lasts old (step.PostReturned k verdict lent) _ new h s = absurd h
+step_lasts old (step.Collect o) _ new h s = absurd h
+step_lasts old (step.Allocate k what body) _ new h s = absurd h
+step_lasts old (step.Set k c mode wants) _ new h s = absurd h
+step_lasts old (step.Get k what) _ new h s = absurd h
+step_lasts old (step.Delete k what wants) _ new h s = absurd h
+step_lasts old (step.Reference k c) _ new h s = absurd h
+step_lasts old (step.Release k c) _ new h s = absurd h
+step_lasts old (step.ReadBody k c) _ new h s = absurd h
+step_lasts old (step.WriteBody k c bytes) _ new h s = absurd h
+step_lasts old (step.Bump k c at by) _ new h s = absurd h
+step_lasts old (step.TakeDue k) _ new h s = absurd h
+step_lasts old (step.Cleaned k number) _ new h s = absurd h
+step_lasts old (step.Finish i) _ new h s = absurd h
 
 -- ---- what is given, and what is due
 
@@ -559,73 +618,155 @@ step_gives old (step.Allocate k kind body) (reply.Context (Ok d)) new c h is =
     subst (λ x. IsNew old.contexts.slots x × WasGiven new.contexts.slots x) (same_Some d c is) (allocated_new old k kind body d new h)
 step_gives old _ _ new c h is = absurd (none-some c is)
 
--- a context that is due isn't cleaned
-reply_there : (slots : List Slot) (due : Due) (m : Option CtxId) → Some due ≡ option_and_then (λ (c : CtxId). option_map (due_of c) (context_at slots c)) m → context_at slots due.id ≡ None → ⊥
-reply_there slots due None h gone = cc
-reply_there slots due (Some c) h gone = there (context_at slots c) refl h
+-- a context that a worker cleans up isn't due
+abbrev InCleanup : World → CtxId → Type 0
+InCleanup w c = (k : ℕ) × (cleaning_of w.contexts.cleaning k ≡ Some c)
+
+-- due or cleaned up in one place, once
+not_due : (old : World) (c : CtxId) → IsSound old → InCleanup old c → slice_get old.contexts.due 0 ≡ Some c → ⊥
+not_due old c s busy first =
+    let law = s.owned.lawful in
+    let within : busy.0 < length old.contexts.cleaning = cleaner_within old.contexts.cleaning busy.0 c busy.1 in
+    let both = places_cleaned old.contexts.due old.contexts.cleaning busy.0 c within busy.1 c in
+    let due = first_placed old.contexts.due (slice_set old.contexts.cleaning busy.0 None) c first in
+    let self : one (is_id c c) ≡ 1 = ap one (is_id-refl c) in
+    omega (arith, both, due, self, law.waits c, at_most_one (is_waiting (carries old) old.contexts c))
   where
-    there : (o : Option Context) → context_at slots c ≡ o → Some due ≡ option_map (due_of c) o → ⊥
+    at_most_one : (b : Bool) → one b ≤ 1
+    at_most_one true = omega arith
+    at_most_one false = omega arith
+
+    cleaner_within : (xs : List (Option CtxId)) (k : ℕ) (c : CtxId) → cleaning_of xs k ≡ Some c → k < length xs
+    cleaner_within [] k c h = absurd (none-some c h)
+    cleaner_within (x ∷ xs) zero c h = omega arith
+    cleaner_within (x ∷ xs) (suc k) c h = let rest = cleaner_within xs k c h in omega (arith, rest)
+
+-- a context that is being cleaned up, or is cleaned
+abbrev CameDue : World → CtxId → Type 0
+CameDue w c = WasGiven w.contexts.slots c × (IsGone w c ⊎ InCleanup w c)
+
+due_stays : (old new : World) (c : CtxId) → Lasts old new → CameDue old c → CameDue new c
+due_stays old new c last (was, inl gone) =
+    (given_stays old.contexts.slots new.contexts.slots c last.0 was, inl (gone_stays old.contexts.slots new.contexts.slots c last.0 was gone))
+due_stays old new c last (was, inr busy) = (
+  given_stays old.contexts.slots new.contexts.slots c last.0 was,
+  elim (last.1 busy.0 c busy.1) [ inl still ↦ inr (busy.0, still) | inr gone ↦ inl gone ],
+)
+
+-- a worker that is handed a context cleans it up from then on, and it was neither cleaned nor being cleaned up
+record IsHanded (old new : World) (c : CtxId) : Type 0 where
+  came : CameDue new c
+  fresh : CameDue old c → ⊥
+
+given_there : (slots : List Slot) (c : CtxId) (x : Context) → context_at slots c ≡ Some x → WasGiven slots c
+unfolding context_at
+given_there slots c x h = by_slot (slice_get slots c.slot) refl h
+  where
+    by_slot : (m : Option Slot) → slice_get slots c.slot ≡ m → option_and_then (context_in c) m ≡ Some x → WasGiven slots c
+    by_slot None there h = absurd (none-some x h)
+    by_slot (Some s) there h =
+        elim (cases_Bool (c.generation == s.generation)) [
+          | inl is ↦ let same = eqb-true c.generation s.generation is in (s, there, omega (arith, same))
+          | inr other ↦ absurd (none-some x (sym (ap (λ b. cond b s.context None) other) ∙ h))
+        ]
+
+reply_is : (slots : List Slot) (due : Due) (m : Option CtxId) → Some due ≡ option_and_then (λ (c : CtxId). option_map (due_of c) (context_at slots c)) m
+    → (m ≡ Some due.id) × ((x : Context) × (context_at slots due.id ≡ Some x))
+reply_is slots due None h = cc
+reply_is slots due (Some c) h = there (context_at slots c) refl h
+  where
+    there : (o : Option Context) → context_at slots c ≡ o → Some due ≡ option_map (due_of c) o → (Some c ≡ Some due.id) × ((x : Context) × (context_at slots due.id ≡ Some x))
     there None is h = cc
     there (Some x) is h =
         let same : due.id ≡ c = ap (λ (d : Due). d.id) (same_Some due (due_of c x) h) in
-        none-some x (sym gone ∙ ap (context_at slots) same ∙ is)
+        (ap (λ (d : CtxId). Some d) (sym same), (x, ap (context_at slots) same ∙ is))
 
-unless_ok : {T : Type 0} (refusal : Status) (b : Bool) (v : T) (old new : World) (Event : Type 0) → Unless refusal b (Ok v) old new Event → Event
-unless_ok refusal true v old new Event h = h
+unless_ok : {T : Type 0} (refusal : Status) (b : Bool) (v : T) (old new : World) (Event : Type 0) → Unless refusal b (Ok v) old new Event → (b ≡ true) × Event
+unless_ok refusal true v old new Event h = (refl, h)
 unless_ok refusal false v old new Event h = cc
 
-taken_there : (old : World) (k : WorkerId) (due : Due) (new : World) → TakesDue old k (Ok (Some due)) new → IsGone old due.id → ⊥
+taken_handed : (old : World) (k : WorkerId) (due : Due) (new : World) → TakesDue old k (Ok (Some due)) new → IsSound old → IsHanded old new due.id
 unfolding TakesDue
-taken_there old k due new h gone =
-    reply_there old.contexts.slots due (slice_get old.contexts.due 0)
-    (ap reply_of (unless_ok status.WrongStep (is_idle (worker_at old.workers k)) (Some due) old new _ h).0) gone
+taken_handed old k due new h s =
+    let e = unless_ok status.WrongStep (is_idle (worker_at old.workers k)) (Some due) old new _ h in
+    let reply = reply_is old.contexts.slots due (slice_get old.contexts.due 0) (ap reply_of e.1.0) in
+    let t = taken_due old.contexts k.0 due.id in
+    let made : new.contexts ≡ t = ap (λ (w : World). w.contexts) e.1.1 ∙ ap (taken_of old.contexts k.0) reply.0 in
+    let was = given_there old.contexts.slots due.id reply.1.0 reply.1.1 in
+    let within : k.0 < length old.contexts.cleaning =
+    subst (λ n. k.0 < n) (s.under_way.hands ∙ sym s.owned.lawful.cleaners) (slice_get_within old.workers k.0 place.Idle (idle_there old.workers k e.0)) in
+    record {
+      came = subst (λ (u : ContextTable). WasGiven u.slots due.id × ((context_at u.slots due.id ≡ None) ⊎ ((n : ℕ) × (cleaning_of u.cleaning n ≡ Some due.id)))) (sym made) (
+        given_stays old.contexts.slots t.slots due.id (slots_changed (option_map emptied) old.contexts.slots due.id refl) was,
+        inr (k.0, get_or-set_same old.contexts.cleaning k.0 (Some due.id) None within),
+      );
+      fresh = λ came. elim came.1 [
+        | inl gone ↦ none-some reply.1.0 (sym gone ∙ reply.1.1)
+        | inr busy ↦ not_due old due.id s busy reply.0
+      ];
+    }
   where
     reply_of : Result (Option Due) Status → Option Due
     reply_of (Ok o) = o
     reply_of (Err why) = None
 
-step_due : (old : World) (s : Step) (r : StepReply) (new : World) (c : CtxId) → Steps old s r new → due_by s r ≡ Some c → IsGone old c → ⊥
-step_due old (step.TakeDue k) (reply.Due (Ok (Some due))) new c h is gone =
-    taken_there old k due new h (subst (IsGone old) (sym (same_Some due.id c is)) gone)
-step_due old _ _ new c h is gone = absurd (none-some c is)
+step_due : (old : World) (x : Step) (r : StepReply) (new : World) (c : CtxId) → Steps old x r new → due_by x r ≡ Some c → IsSound old → IsHanded old new c
+step_due old (step.TakeDue k) (reply.Due (Ok (Some due))) new c h is s = subst (IsHanded old new) (same_Some due.id c is) (taken_handed old k due new h s)
+step_due old _ _ new c h is s = absurd (none-some c is)
 
 -- ---- lists of events
 
-run_stays : (old : World) (steps : List Step) (replies : List StepReply) (new : World) → Run old steps replies new → Stay old new
-run_stays old [] [] new h = stay_still old new h
-run_stays old (s ∷ steps) (r ∷ replies) new h =
-    slots_after old.contexts.slots h.0.contexts.slots new.contexts.slots (step_stays old s r h.0 h.1) (run_stays h.0 steps replies new h.2)
-run_stays old [] (r ∷ replies) new h = absurd h
-run_stays old (s ∷ steps) [] new h = absurd h
+run_stays : (old : World) (steps : List Step) (replies : List StepReply) (new : World) → Run old steps replies new → IsSound old → SlotsStay old.contexts.slots new.contexts.slots
+run_stays old [] [] new h s = slots_same old.contexts.slots new.contexts.slots (ap (λ (w : World). w.contexts.slots) h)
+run_stays old (x ∷ steps) (r ∷ replies) new h s =
+    slots_after old.contexts.slots h.0.contexts.slots new.contexts.slots (step_lasts old x r h.0 h.1 s).0 (run_stays h.0 steps replies new h.2 (step_keeps old x r h.0 h.1 s))
+run_stays old [] (r ∷ replies) new h s = absurd h
+run_stays old (x ∷ steps) [] new h s = absurd h
 
-run_gives : (old : World) (steps : List Step) (replies : List StepReply) (new : World) (c : CtxId) → Run old steps replies new → Comes given_by steps replies c
+run_gives : (old : World) (steps : List Step) (replies : List StepReply) (new : World) (c : CtxId) → Run old steps replies new → IsSound old → Comes given_by steps replies c
     → WasGiven new.contexts.slots c
-run_gives old (s ∷ steps) (r ∷ replies) new c h (inl now) =
-    given_stays h.0.contexts.slots new.contexts.slots c (run_stays h.0 steps replies new h.2) (step_gives old s r h.0 c h.1 now).1
-run_gives old (s ∷ steps) (r ∷ replies) new c h (inr later) = run_gives h.0 steps replies new c h.2 later
-run_gives old [] replies new c h comes = absurd comes
-run_gives old (s ∷ steps) [] new c h comes = absurd comes
+run_gives old (x ∷ steps) (r ∷ replies) new c h s (inl now) =
+    given_stays h.0.contexts.slots new.contexts.slots c (run_stays h.0 steps replies new h.2 (step_keeps old x r h.0 h.1 s)) (step_gives old x r h.0 c h.1 now).1
+run_gives old (x ∷ steps) (r ∷ replies) new c h s (inr later) = run_gives h.0 steps replies new c h.2 (step_keeps old x r h.0 h.1 s) later
+run_gives old [] replies new c h s comes = absurd comes
+run_gives old (x ∷ steps) [] new c h s comes = absurd comes
 
-never_again : (old : World) (steps : List Step) (replies : List StepReply) (new : World) (c : CtxId) → Run old steps replies new → WasGiven old.contexts.slots c
+never_again : (old : World) (steps : List Step) (replies : List StepReply) (new : World) (c : CtxId) → Run old steps replies new → IsSound old → WasGiven old.contexts.slots c
     → Comes given_by steps replies c → ⊥
-never_again old (s ∷ steps) (r ∷ replies) new c h was (inl now) = given_not_new old.contexts.slots c was (step_gives old s r h.0 c h.1 now).0
-never_again old (s ∷ steps) (r ∷ replies) new c h was (inr later) =
-    never_again h.0 steps replies new c h.2 (given_stays old.contexts.slots h.0.contexts.slots c (step_stays old s r h.0 h.1) was) later
-never_again old [] replies new c h was comes = comes
-never_again old (s ∷ steps) [] new c h was comes = comes
+never_again old (x ∷ steps) (r ∷ replies) new c h s was (inl now) = given_not_new old.contexts.slots c was (step_gives old x r h.0 c h.1 now).0
+never_again old (x ∷ steps) (r ∷ replies) new c h s was (inr later) =
+    never_again h.0 steps replies new c h.2 (step_keeps old x r h.0 h.1 s) (given_stays old.contexts.slots h.0.contexts.slots c (step_lasts old x r h.0 h.1 s).0 was) later
+never_again old [] replies new c h s was comes = comes
+never_again old (x ∷ steps) [] new c h s was comes = comes
 
-never_due : (old : World) (steps : List Step) (replies : List StepReply) (new : World) (c : CtxId) → Run old steps replies new → WasGiven old.contexts.slots c → IsGone old c
+run_due_stays : (old : World) (steps : List Step) (replies : List StepReply) (new : World) (c : CtxId) → Run old steps replies new → IsSound old → CameDue old c → CameDue new c
+run_due_stays old [] [] new c h s came = subst (λ (w : World). CameDue w c) (sym h) came
+run_due_stays old (x ∷ steps) (r ∷ replies) new c h s came =
+    run_due_stays h.0 steps replies new c h.2 (step_keeps old x r h.0 h.1 s) (due_stays old h.0 c (step_lasts old x r h.0 h.1 s) came)
+run_due_stays old [] (r ∷ replies) new c h s came = absurd h
+run_due_stays old (x ∷ steps) [] new c h s came = absurd h
+
+run_due : (old : World) (steps : List Step) (replies : List StepReply) (new : World) (c : CtxId) → Run old steps replies new → IsSound old → Comes due_by steps replies c → CameDue new c
+run_due old (x ∷ steps) (r ∷ replies) new c h s (inl now) =
+    run_due_stays h.0 steps replies new c h.2 (step_keeps old x r h.0 h.1 s) (step_due old x r h.0 c h.1 now s).came
+run_due old (x ∷ steps) (r ∷ replies) new c h s (inr later) = run_due h.0 steps replies new c h.2 (step_keeps old x r h.0 h.1 s) later
+run_due old [] replies new c h s comes = absurd comes
+run_due old (x ∷ steps) [] new c h s comes = absurd comes
+
+never_due : (old : World) (steps : List Step) (replies : List StepReply) (new : World) (c : CtxId) → Run old steps replies new → IsSound old → CameDue old c
     → Comes due_by steps replies c → ⊥
-never_due old (s ∷ steps) (r ∷ replies) new c h was gone (inl now) = step_due old s r h.0 c h.1 now gone
-never_due old (s ∷ steps) (r ∷ replies) new c h was gone (inr later) =
-    let stays = step_stays old s r h.0 h.1 in
-    never_due h.0 steps replies new c h.2 (given_stays old.contexts.slots h.0.contexts.slots c stays was) (gone_stays old.contexts.slots h.0.contexts.slots c stays was gone) later
-never_due old [] replies new c h was gone comes = comes
-never_due old (s ∷ steps) [] new c h was gone comes = comes
+never_due old (x ∷ steps) (r ∷ replies) new c h s came (inl now) = (step_due old x r h.0 c h.1 now s).fresh came
+never_due old (x ∷ steps) (r ∷ replies) new c h s came (inr later) =
+    never_due h.0 steps replies new c h.2 (step_keeps old x r h.0 h.1 s) (due_stays old h.0 c (step_lasts old x r h.0 h.1 s) came) later
+never_due old [] replies new c h s came comes = comes
+never_due old (x ∷ steps) [] new c h s came comes = comes
 
 pub contexts_last : ContextsLast
-contexts_last steps replies mid later answers new first then c comes =
-    let was = run_gives empty_world steps replies mid c first comes in (
-      never_again mid later answers new c then was,
-      λ gone. (gone_stays mid.contexts.slots new.contexts.slots c (run_stays mid later answers new then) was gone, never_due mid later answers new c then was gone),
+contexts_last steps replies mid later answers new first then c =
+    let sound = run_keeps empty_world steps replies mid first empty_sound in (
+      λ given. never_again mid later answers new c then sound (run_gives empty_world steps replies mid c first empty_sound given),
+      λ due. never_due mid later answers new c then sound (run_due empty_world steps replies mid c first empty_sound due),
+      λ given gone.
+          let was = run_gives empty_world steps replies mid c first empty_sound given in
+          (gone_stays mid.contexts.slots new.contexts.slots c (run_stays mid later answers new then sound) was gone, never_due mid later answers new c then sound (was, inl gone)),
     )

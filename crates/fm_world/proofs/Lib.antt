@@ -21,5 +21,6 @@ pub mod Streams
 pub mod Filed
 pub mod Losing
 pub mod Flowing
+pub mod Resting
 pub mod Handing
 pub mod Holdings

@@ -1,24 +1,28 @@
 -- Links that go with what they name leave a World sound.
-use Rattle.std.proofs.Common.{◌≡◌, ℕ, Bool, true, false, cond, not, List, [], ◌∷◌, ◌++◌, map, find, Option, Some, None, is_some, refl, ap, sym, ◌∙◌, subst, arith}
+use Rattle.std.proofs.Common.{◌≡◌, ℕ, Bool, true, false, cond, not, List, [], ◌∷◌, ◌++◌, map, find, Option, Some, None, Result, Ok, is_some, refl, ap, sym, ◌∙◌, subst, arith}
 use Rattle.std.proofs.lemmas.Bool.{false≢true}
 use Rattle.std.proofs.lemmas.List.Elements.{All-weaker, All-nil, All-cons}
 use Rattle.fm_types.specs.Lists.{change_first}
+use Rattle.fm_types.specs.declared.ids.CtxId.{CtxId}
 use Rattle.fm_types.specs.declared.ids.HandleId.{HandleId}
 use Rattle.fm_types.specs.declared.ids.VolumeId.{VolumeId}
 use Rattle.fm_types.specs.declared.ids.WorkerId.{WorkerId}
 use Rattle.fm_types.specs.declared.operation.Operation.{Operation}
 use Rattle.fm_types.specs.declared.operation.Operation.TheVariants as kind
+use Rattle.fm_types.specs.declared.status.Status.{Status}
+use Rattle.fm_flow.specs.declared.action.FlowAction.{FlowAction}
+use Rattle.fm_flow.specs.declared.action.FlowAction.TheVariants as action
 use Rattle.fm_ctx.specs.declared.object.Object.{Object}
 use Rattle.fm_ctx.specs.declared.object.Object.TheVariants as object
 use Rattle.fm_ctx.specs.Bags.{hand_of}
 use Rattle.fm_ctx.specs.Links.{with_link}
 use Rattle.fm_ctx.specs.Settling.{swept, swept_slot}
-use Rattle.fm_ctx.specs.Table.{Context, Slot}
+use Rattle.fm_ctx.specs.Table.{Context, Slot, ContextTable}
 use Rattle.fm_ctx.proofs.Leaving.{sweep_keeps}
 use Rattle.fm_world.specs.declared.file.FileStream.{FileStream}
 use Rattle.fm_world.specs.declared.file.HandlePhase.{HandlePhase}
 use Rattle.fm_world.specs.declared.file.HandlePhase.TheVariants as phase
-use Rattle.fm_world.specs.Events.{moved_on}
+use Rattle.fm_world.specs.Events.{brought, received, moved_on}
 use Rattle.fm_world.specs.Files.{FileTable, is_stream, is_handle, stream_of_path, fresh_stream, created, created_in, with_phase, phased}
 use Rattle.fm_world.specs.Links.{is_there, names_there, is_on_gone, LosesLinks}
 use Rattle.fm_world.specs.Owners.{fits}
@@ -77,6 +81,15 @@ loses_named old new h =
     All-any : (slots : List Slot) → AllPass (λ o. true) slots
     All-any [] = All-nil (λ (x : Slot). true ≡ true)
     All-any (x ∷ slots) = All-cons (λ (x : Slot). true ≡ true) x slots refl (All-any slots)
+
+brought_slots : (t : ContextTable) (k : WorkerId) (m : Option CtxId) → (brought t k m).slots ≡ t.slots
+brought_slots t k None = refl
+brought_slots t k (Some c) = refl
+
+pub received_slots : (t : ContextTable) (k : WorkerId) (result : Result FlowAction Status) → (received t k result).slots ≡ t.slots
+received_slots t k (Ok (action.Post i lent completion)) = brought_slots t k completion.context
+received_slots t k (Ok (action.Drain i completion)) = brought_slots t k completion.context
+received_slots t k _ = refl
 
 -- ---- streams and handles come, and stay
 

@@ -64,7 +64,7 @@ use Rattle.fm_world.proofs.Ties.{counted_from, one, count_moves, AreTied, Matche
 use Rattle.fm_world.proofs.Draining.{AreDrained, InDrains, in_no_drain, in_a_drain, drained_moves, drained_stays, next_drained}
 use Rattle.fm_world.proofs.Amongs.{is_up, no_base, visit_last, post_last, among_visits, among_other, among_base, among_settles, among_begins, settle_pre_visit, settle_pre_base, settle_post_visit, settle_post_base, settle_drain_visit, settle_drain_base}
 use Rattle.fm_world.proofs.Descents.{next_unseen, room_is, or_left, or_right}
-use Rattle.fm_world.proofs.Keeps.{unless_cases, idle_there, whatever_contexts, whatever_files, loses_under_way}
+use Rattle.fm_world.proofs.Keeps.{known_cases, unless_cases, idle_there, whatever_contexts, whatever_files, loses_under_way}
 use Rattle.fm_flow.proofs.Soundness.{sound_pre_returned, sound_base, sound_post_returned, sound_drain_returned}
 use Rattle.fm_stack.proofs.Visits.{is_to_visit_few}
 use Rattle.fm_flow.proofs.Flows.{flow_begins, flow_changes, flow_collects, sound_next}
@@ -501,7 +501,9 @@ unfolding Nexts
 next_keeps old k o result new h s =
     unless_cases IsUnderWay status.WrongStep (is_idle (worker_at old.workers k)) result old new
     (NextsAt old k o result new) h
-    (λ idle event. loses_under_way event.2 new event.4 (next_there old k o event.0 result event.2 (operation_at o old.flow) refl (idle_there old.workers k idle) event.1 event.3 s)) s
+    (λ idle event.
+    let there = next_there old k o event.0 result event.2 (operation_at o old.flow) refl (idle_there old.workers k idle) event.1 event.3 s in
+    known_cases IsUnderWay result event.0 event.2 new event.4 (λ loses. loses_under_way event.2 new loses there) there) s
 
 -- ---- callbacks and calls return
 

@@ -228,7 +228,7 @@ step_keeps old (step.TakeDue k) _ new h s = absurd h
 step_keeps old (step.Cleaned k number) _ new h s = absurd h
 step_keeps old (step.Finish i) _ new h s = absurd h
 
-run_keeps : (old : World) (steps : List Step) (replies : List StepReply) (new : World) → Run old steps replies new → IsSound old → IsSound new
+pub run_keeps : (old : World) (steps : List Step) (replies : List StepReply) (new : World) → Run old steps replies new → IsSound old → IsSound new
 run_keeps old [] [] new h s = subst IsSound (sym h) s
 run_keeps old (x ∷ steps) (r ∷ replies) new h s = run_keeps h.0 steps replies new h.2 (step_keeps old x r h.0 h.1 s)
 run_keeps old [] (r ∷ replies) new h s = absurd h

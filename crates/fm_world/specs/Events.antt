@@ -288,10 +288,15 @@ NextsOver old k o lies result new =
       files = filed_next old o (flow_after_next old k o lies) result lies;
     })
 
+-- an answer that was known without a call may take away what links name; else nothing goes
+abbrev pub LosesByKnown : Result FlowAction Status → Below → World → World → Type 0
+LosesByKnown (Ok action.Moved) (below.Known status) mid new = LosesLinks mid new
+LosesByKnown result lies mid new = new ≡ mid
+
 -- what is below is found, the operation goes on, and the links to what is gone by then go
 abbrev pub NextsAt : World → WorkerId → OpId → Result FlowAction Status → World → Type 0
 NextsAt old k o result new =
-    (lies : Below) × FindsBelow old.stack old.files old.flow (operation_at o old.flow) lies × (mid : World) × NextsOver old k o lies result mid × LosesLinks mid new
+    (lies : Below) × FindsBelow old.stack old.files old.flow (operation_at o old.flow) lies × (mid : World) × NextsOver old k o lies result mid × LosesByKnown result lies mid new
 
 -- by an idle worker
 unfoldable pub Nexts : World → WorkerId → OpId → Result FlowAction Status → World → Type 0

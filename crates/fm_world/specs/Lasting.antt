@@ -29,9 +29,11 @@ Comes by (s ∷ steps) [] c = ⊥
 abbrev pub IsGone : World → CtxId → Type 0
 IsGone w c = context_at w.contexts.slots c ≡ None
 
--- Whatever events follow others, with every answer that the rules allow: no context that was allocated is allocated again; and one that was allocated
--- and is cleaned stays so, and no worker gets it for its cleanup again.
+-- Whatever events follow others, with every answer that the rules allow: no context that was allocated is allocated again; none that a worker got for its
+-- cleanup is got for its cleanup again; and one that was allocated and is cleaned stays so, and doesn't come to its cleanup any more.
 abbrev pub ContextsLast : Type 0
 ContextsLast = (steps : List Step) (replies : List StepReply) (mid : World) (later : List Step) (answers : List StepReply) (new : World)
-    → Run empty_world steps replies mid → Run mid later answers new → (c : CtxId) → Comes given_by steps replies c
-    → (Comes given_by later answers c → ⊥) × (IsGone mid c → IsGone new c × (Comes due_by later answers c → ⊥))
+    → Run empty_world steps replies mid → Run mid later answers new → (c : CtxId)
+    → (Comes given_by steps replies c → Comes given_by later answers c → ⊥)
+    × (Comes due_by steps replies c → Comes due_by later answers c → ⊥)
+    × (Comes given_by steps replies c → IsGone mid c → IsGone new c × (Comes due_by later answers c → ⊥))

@@ -39,6 +39,13 @@ abbrev pub after_attach : List Worker → WorkerId → Result InstanceId Status 
 after_attach workers k (Ok i) = put workers k (place.Setup i)
 after_attach workers k (Err status) = workers
 
+-- a `next` that gives nothing to do: a filter holds the operation, or it is done, or the `next` is refused
+abbrev pub gives_nothing : Result FlowAction Status → Bool
+gives_nothing (Ok action.Held) = true
+gives_nothing (Ok action.Done) = true
+gives_nothing (Err status) = true
+gives_nothing _ = false
+
 -- the workers after a `next`: this one is inside the callback or the call that it was given
 abbrev pub after_next : List Worker → WorkerId → OpId → Result FlowAction Status → List Worker
 after_next workers k o (Ok (action.Pre i lent)) = put workers k (place.Pre o i)

@@ -9,8 +9,8 @@ pub fn rules_keep_headline()
     ensures { RulesKeepHeadline }
 {}
 
-/// Whatever events follow others: no context that was allocated is allocated again, under the same slot and generation; and one that is cleaned stays so,
-/// and no worker gets it for its cleanup again (`PFLT_CONTEXT_CLEANUP_CALLBACK` is called once for each).
+/// Whatever events follow others: no context that was allocated is allocated again, under the same slot and generation; none that a worker got for its
+/// cleanup is got again, so that `PFLT_CONTEXT_CLEANUP_CALLBACK` is called once for each; and one that is cleaned stays so.
 pub fn contexts_last()
     ensures { ContextsLast }
 {}

@@ -1,7 +1,8 @@
 //! The model of the filter manager, with no code but types: what a World is, which events there are, what each answers and makes of a World, and what
 //! holds of every World that a list of events leads to.
 //!
-//! `specs/` says it, each file to be read aloud: `World`, `Workers`, `Files`, `Owners`, `Links`, `Events`, `ContextEvents`, `Steps`, `Descent`, `Headline`. `laws` has the proofs as public functions.
+//! `specs/` says it, each file to be read aloud: `World`, `Workers`, `Files`, `FileLaws`, `Owners`, `Links`, `Events`, `ContextEvents`, `Steps`, `Descent`, `Headline`,
+//! `Lasting`. `laws` has the proofs as public functions.
 #![tactic(auto)]
 
 mod file;

@@ -5,6 +5,7 @@ use Rattle.fm_world.specs.Events.{Nexts}
 use Rattle.fm_world.proofs.Keeps.{idle_there}
 use Rattle.fm_world.proofs.Flowing.{next_sound}
 use Rattle.fm_world.proofs.Holdings.{next_more}
+use Rattle.fm_world.proofs.Resting.{next_changes_nothing}
 use Rattle.fm_world.specs.Sound.{IsSound}
 use Rattle.fm_core.specs.Fields.{world_of}
 use Rattle.fm_core.proofs.Operated.{nexts, next_room, next_refused, next_requires, next_brings, next_tied}
@@ -69,6 +70,9 @@ returns-clause-event c =
     (nexts old c.args.worker c.args.operation c.lies_below-below.result c.drains_next-drains.result c.next-answer.result c.next-answer.new.self c.note_next.new.workers
     c.bring_back.new.contexts.table c.unlink_lost.new.contexts.table c.note_answer.new.files.table idle c.lies_below-below.ensures.finds c.drains_next-drains.ensures c.next-answer.ensures.reply c.next-answer.ensures.after
     c.note_next.ensures (next_table c.self.inside.contexts c.bring_back.new.contexts c.args.worker c.next-answer.result c.bring_back.ensures) files loses)
+
+pub returns-clause-nothing : goal.returns-clause-nothing
+returns-clause-nothing c = next_changes_nothing _ _ _ _ _ (returns-clause-event c)
 
 pub returns-clause-held : goal.returns-clause-held
 returns-clause-held c = next_more _ _ _ _ _ (subst IsSound c.self.view_is c.self.invariant.sound) (returns-clause-event c)

@@ -9,6 +9,8 @@ mod file_command;
 mod hexadecimal;
 mod interpreter;
 mod keyword;
+#[cfg(test)]
+mod limit_tests;
 mod line;
 mod number;
 #[cfg(test)]

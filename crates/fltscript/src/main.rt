@@ -6,19 +6,10 @@
 use fm_script::{ScriptEnd, script};
 use std::process::ExitCode;
 
-/// The exit status where there was no memory.
-const NO_MEMORY: u8 = 1;
-
-/// The exit status where a read or a write failed.
-const FAULT: u8 = 3;
-
 fn main(rt: HostRuntime) -> ExitCode {
-    match script(rt.alloc(), rt.stdin(), rt.stdout()) {
-        ScriptEnd::Ended => ExitCode::SUCCESS,
-        ScriptEnd::NoMemory => ExitCode::from(NO_MEMORY),
-        ScriptEnd::ReadFault | ScriptEnd::WriteFault => {
-            let _ = println!(rt; "fault");
-            ExitCode::from(FAULT)
-        }
+    let end = script(rt.alloc(), rt.stdin(), rt.stdout());
+    if matches!(end, ScriptEnd::ReadFault | ScriptEnd::WriteFault) {
+        let _ = println!(rt; "fault");
     }
+    ExitCode::from(end.status())
 }

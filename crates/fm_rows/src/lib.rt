@@ -7,6 +7,8 @@ mod context_tests;
 #[cfg(test)]
 mod file_tests;
 #[cfg(test)]
+mod limit_tests;
+#[cfg(test)]
 mod operation_tests;
 #[cfg(test)]
 mod run_tests;

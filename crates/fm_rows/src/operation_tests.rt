@@ -1,4 +1,5 @@
-//! Two hundred operations on one file, through eight instances that change what is written on its way down and put it back on the way up.
+//! Two hundred operations on one file, through eight instances that change what is written on its way down and put it back on the way up; and
+//! the longest write.
 
 use fm_altitude::Altitude;
 use fm_base::{Base, MemoryBase};
@@ -166,6 +167,15 @@ fn bytes_for(alloc: Global, step: u8) -> Result<Bytes, AllocError> {
     for at in 0..3 + u32::from(step) * 29 % 500 {
         let byte = (at % 251) as u8;
         bytes.push(byte.wrapping_mul(7).wrapping_add(step))?;
+    }
+    Ok(Bytes::from_vec(bytes))
+}
+
+// So many bytes, the neighbours of which differ.
+fn long_bytes(alloc: Global, len: u32) -> Result<Bytes, AllocError> {
+    let mut bytes = Vec::new(alloc);
+    for at in 0..len {
+        bytes.push((at % 251) as u8)?;
     }
     Ok(Bytes::from_vec(bytes))
 }
@@ -413,5 +423,25 @@ fn two_hundred_operations(rt: HostRuntime) -> Result<(), Fail> {
         run.step(&rt, step)?;
     }
     run.compare(&rt)?;
+    Ok(())
+}
+
+#[test]
+fn longest_write(rt: HostRuntime) -> Result<(), Fail> {
+    let mut run = Run::new(rt.alloc())?;
+    run.create(&rt)?;
+    let bytes = long_bytes(rt.alloc(), 32_768)?;
+    note(&mut run.written, 0, bytes.as_slice())?;
+    let written = run.ask(&rt, FileRequest::Write { offset: 0, bytes })?;
+    assert_eq!(rt; written.information, 32_768);
+    let len = 32_768;
+    let read = run.ask(&rt, FileRequest::Read { offset: 0, len })?;
+    assert_eq!(rt; read.bytes.as_slice(), run.written.as_slice());
+    run.compare(&rt)?;
+    let bytes = long_bytes(rt.alloc(), 32_769)?;
+    assert_eq!(rt;
+        run.ask(&rt, FileRequest::Write { offset: 0, bytes }).err(),
+        Some(Status::BadRequest)
+    );
     Ok(())
 }

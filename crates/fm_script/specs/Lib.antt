@@ -6,3 +6,4 @@ pub mod Keywords
 pub mod ContextCommands
 pub mod FileCommands
 pub mod Devices
+pub mod Ends

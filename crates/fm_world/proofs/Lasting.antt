@@ -255,7 +255,13 @@ setup_at_stay old k accept result new (Some (place.Setup i)) (event, left, leave
     by_result : (result : Result (Unit {0}) Status) → EmptiesUnless result i old left new.contexts → TableStays left new.contexts
     by_result (Ok done) same = table_still left new.contexts same
     by_result (Err why) sweeps = (subst (SlotsStay left.slots) (sym sweeps.slots) (slots_swept _ left.slots), sweeps.cleaning)
-setup_at_stay old k accept result new _ h = stay_still old new h.1
+setup_at_stay old k accept result new None h = stay_still old new h.1
+setup_at_stay old k accept result new (Some place.Idle) h = stay_still old new h.1
+setup_at_stay old k accept result new (Some (place.Pre o i)) h = stay_still old new h.1
+setup_at_stay old k accept result new (Some (place.Base o)) h = stay_still old new h.1
+setup_at_stay old k accept result new (Some (place.Post o i)) h = stay_still old new h.1
+setup_at_stay old k accept result new (Some (place.Drain o i)) h = stay_still old new h.1
+setup_at_stay old k accept result new (Some (place.Cleanup c)) h = stay_still old new h.1
 
 setup_stay : (old : World) (k : WorkerId) (accept : Bool) (result : Result (Unit {0}) Status) (new : World) → SetsUp old k accept result new → Stay old new
 unfolding SetsUp
@@ -313,7 +319,13 @@ pre_at_stay : (old : World) (k : WorkerId) (given : PreVerdict) (lent : Data) (r
 pre_at_stay old k given lent result new (Some (place.Pre o i)) h =
     stay_unless status.BadRequest (told (λ r. data_fits r.operation r.path lent) false o old.flow) result old new _ h
     (λ e. stay_loses old e.1.0 new e.1.2 (table_same old.contexts e.1.0.contexts (e.1.1.0.slots ∙ sent_slots old.contexts k _) (e.1.1.0.cleaning ∙ sent_cleaning old.contexts k _)))
-pre_at_stay old k given lent result new _ h = stay_still old new h.1
+pre_at_stay old k given lent result new None h = stay_still old new h.1
+pre_at_stay old k given lent result new (Some place.Idle) h = stay_still old new h.1
+pre_at_stay old k given lent result new (Some (place.Setup i)) h = stay_still old new h.1
+pre_at_stay old k given lent result new (Some (place.Base o)) h = stay_still old new h.1
+pre_at_stay old k given lent result new (Some (place.Post o i)) h = stay_still old new h.1
+pre_at_stay old k given lent result new (Some (place.Drain o i)) h = stay_still old new h.1
+pre_at_stay old k given lent result new (Some (place.Cleanup c)) h = stay_still old new h.1
 
 pre_stay : (old : World) (k : WorkerId) (given : PreVerdict) (lent : Data) (result : Result (Unit {0}) Status) (new : World) → PreReturns old k given lent result new → Stay old new
 unfolding PreReturns
@@ -323,7 +335,13 @@ base_at_stay : (old : World) (k : WorkerId) (call : Params) (given : Answer) (re
     → BaseReturnsAt old k call given result new m → Stay old new
 base_at_stay old k call given result new (Some (place.Base o)) h =
     stay_unless status.BadRequest (told (base_fits call given) false o old.flow) result old new _ h (λ e. stay_loses old _ new e.1 (stay_still old old refl))
-base_at_stay old k call given result new _ h = stay_still old new h.1
+base_at_stay old k call given result new None h = stay_still old new h.1
+base_at_stay old k call given result new (Some place.Idle) h = stay_still old new h.1
+base_at_stay old k call given result new (Some (place.Setup i)) h = stay_still old new h.1
+base_at_stay old k call given result new (Some (place.Pre o i)) h = stay_still old new h.1
+base_at_stay old k call given result new (Some (place.Post o i)) h = stay_still old new h.1
+base_at_stay old k call given result new (Some (place.Drain o i)) h = stay_still old new h.1
+base_at_stay old k call given result new (Some (place.Cleanup c)) h = stay_still old new h.1
 
 base_stay : (old : World) (k : WorkerId) (call : Params) (given : Answer) (result : Result (Unit {0}) Status) (new : World) → BaseReturns old k call given result new → Stay old new
 unfolding BaseReturns
@@ -334,7 +352,23 @@ post_at_stay : (old : World) (k : WorkerId) (given : PostVerdict) (lent : Option
 post_at_stay old k given (Some lent) result new (Some (place.Post o i)) h =
     stay_unless status.BadRequest (told (λ r. data_fits r.operation r.path lent) false o old.flow) result old new _ h (λ e. table_same old.contexts new.contexts e.1.0.slots e.1.0.cleaning)
 post_at_stay old k given None result new (Some (place.Drain o i)) h = table_same old.contexts new.contexts h.1.0.slots h.1.0.cleaning
-post_at_stay old k given _ result new _ h = stay_still old new h.1
+post_at_stay old k given None result new (Some (place.Post o i)) h = stay_still old new h.1
+post_at_stay old k given (Some lent) result new (Some (place.Drain o i)) h = stay_still old new h.1
+post_at_stay old k given lent result new None h = stay_still old new (refused_still lent h)
+  where
+    refused_still : (lent : Option Data) → PostReturnsAt old k given lent result new None → new ≡ old
+    refused_still (Some lent) h = h.1
+    refused_still None h = h.1
+post_at_stay old k given (Some lent) result new (Some place.Idle) h = stay_still old new h.1
+post_at_stay old k given (Some lent) result new (Some (place.Setup i)) h = stay_still old new h.1
+post_at_stay old k given (Some lent) result new (Some (place.Pre o i)) h = stay_still old new h.1
+post_at_stay old k given (Some lent) result new (Some (place.Base o)) h = stay_still old new h.1
+post_at_stay old k given (Some lent) result new (Some (place.Cleanup c)) h = stay_still old new h.1
+post_at_stay old k given None result new (Some place.Idle) h = stay_still old new h.1
+post_at_stay old k given None result new (Some (place.Setup i)) h = stay_still old new h.1
+post_at_stay old k given None result new (Some (place.Pre o i)) h = stay_still old new h.1
+post_at_stay old k given None result new (Some (place.Base o)) h = stay_still old new h.1
+post_at_stay old k given None result new (Some (place.Cleanup c)) h = stay_still old new h.1
 
 post_stay : (old : World) (k : WorkerId) (given : PostVerdict) (lent : Option Data) (result : Result (Unit {0}) Status) (new : World) → PostReturns old k given lent result new
     → Stay old new
@@ -494,7 +528,13 @@ cleans_at_lasts old k number result new (Some (place.Cleanup c)) at h s =
       subst (λ (t : ContextTable). SlotsStay old.contexts.slots t.slots) (sym made) (slots_changed (λ (x : Option Context). None) old.contexts.slots c refl),
       cleaned_on old k c new made (s.owned.cleaning k.0 ∙ ap cleanup_in at),
     )
-cleans_at_lasts old k number result new _ at h s = lasts old new (stay_still old new h.1)
+cleans_at_lasts old k number result new None at h s = lasts old new (stay_still old new h.1)
+cleans_at_lasts old k number result new (Some place.Idle) at h s = lasts old new (stay_still old new h.1)
+cleans_at_lasts old k number result new (Some (place.Setup i)) at h s = lasts old new (stay_still old new h.1)
+cleans_at_lasts old k number result new (Some (place.Pre o i)) at h s = lasts old new (stay_still old new h.1)
+cleans_at_lasts old k number result new (Some (place.Base o)) at h s = lasts old new (stay_still old new h.1)
+cleans_at_lasts old k number result new (Some (place.Post o i)) at h s = lasts old new (stay_still old new h.1)
+cleans_at_lasts old k number result new (Some (place.Drain o i)) at h s = lasts old new (stay_still old new h.1)
 
 cleaned_lasts : (old : World) (k : WorkerId) (number : ℕ) (result : Result (Unit {0}) Status) (new : World) → Cleans old k number result new → IsSound old → Lasts old new
 unfolding Cleans
@@ -529,7 +569,28 @@ step_lasts old (step.Bump k c at by) (reply.Number r) new h s = lasts old new (b
 step_lasts old (step.TakeDue k) (reply.Due r) new h s = due_lasts old k r new h s
 step_lasts old (step.Cleaned k number) (reply.Done r) new h s = cleaned_lasts old k number r new h s
 step_lasts old (step.Finish i) (reply.Done r) new h s = lasts old new (finish_stay old i r new h)
-step_lasts old _ _ new h s = absurd h
+step_lasts old (step.Register name registration) _ new h s = absurd h
+step_lasts old (step.Mount name) _ new h s = absurd h
+step_lasts old (step.Attach k f v name altitude) _ new h s = absurd h
+step_lasts old (step.SetupDone k accept) _ new h s = absurd h
+step_lasts old (step.Begin what) _ new h s = absurd h
+step_lasts old (step.Next k o) _ new h s = absurd h
+step_lasts old (step.PreReturned k verdict lent) _ new h s = absurd h
+step_lasts old (step.BaseReturned k call given) _ new h s = absurd h
+step_lasts old (step.PostReturned k verdict lent) _ new h s = absurd h
+step_lasts old (step.Collect o) _ new h s = absurd h
+step_lasts old (step.Allocate k what body) _ new h s = absurd h
+step_lasts old (step.Set k c mode wants) _ new h s = absurd h
+step_lasts old (step.Get k what) _ new h s = absurd h
+step_lasts old (step.Delete k what wants) _ new h s = absurd h
+step_lasts old (step.Reference k c) _ new h s = absurd h
+step_lasts old (step.Release k c) _ new h s = absurd h
+step_lasts old (step.ReadBody k c) _ new h s = absurd h
+step_lasts old (step.WriteBody k c bytes) _ new h s = absurd h
+step_lasts old (step.Bump k c at by) _ new h s = absurd h
+step_lasts old (step.TakeDue k) _ new h s = absurd h
+step_lasts old (step.Cleaned k number) _ new h s = absurd h
+step_lasts old (step.Finish i) _ new h s = absurd h
 
 -- ---- what is given, and what is due
 

@@ -229,19 +229,7 @@ holds_answered f t o r step kind.Close None h why b at same stream handle unansw
     holds_step f t.operations t.next (is_number o) step r at (same_answered f why r (step r) (ap is_create same) answered) k
 holds_answered f t o r step kind.Close (Some s) None why b at same stream handle unanswered answered is k =
     holds_step f t.operations t.next (is_number o) step r at (same_answered f why r (step r) (ap is_create same) answered) k
-holds_answered f t o r step kind.Read s h why b at same stream handle unanswered answered is k =
-    holds_step f t.operations t.next (is_number o) step r at (same_answered f why r (step r) (ap is_create same) answered) k
-holds_answered f t o r step kind.Write s h why b at same stream handle unanswered answered is k =
-    holds_step f t.operations t.next (is_number o) step r at (same_answered f why r (step r) (ap is_create same) answered) k
-holds_answered f t o r step kind.QuerySize s h why b at same stream handle unanswered answered is k =
-    holds_step f t.operations t.next (is_number o) step r at (same_answered f why r (step r) (ap is_create same) answered) k
-holds_answered f t o r step kind.SetSize s h why b at same stream handle unanswered answered is k =
-    holds_step f t.operations t.next (is_number o) step r at (same_answered f why r (step r) (ap is_create same) answered) k
-holds_answered f t o r step kind.Flush s h why b at same stream handle unanswered answered is k =
-    holds_step f t.operations t.next (is_number o) step r at (same_answered f why r (step r) (ap is_create same) answered) k
-holds_answered f t o r step kind.List s h why b at same stream handle unanswered answered is k =
-    holds_step f t.operations t.next (is_number o) step r at (same_answered f why r (step r) (ap is_create same) answered) k
-holds_answered f t o r step kind.Cleanup s h why b at same stream handle unanswered answered is k =
+holds_answered f t o r step _ s h why b at same stream handle unanswered answered is k =
     holds_step f t.operations t.next (is_number o) step r at (same_answered f why r (step r) (ap is_create same) answered) k
 
 -- the base answers an operation
@@ -422,23 +410,7 @@ holds_pre f t o r (state.Completed why) lent kind.Create (Some s) b at same stre
     holds_ended f t.operations t.next (is_number o) step r s b at stream refl refl (answered_none (step r) refl) is h
 holds_pre f t o r (state.Completed why) lent kind.Create None b at same stream stage is h =
     absurd (create_on_none f t.operations t.next (is_number o) r at stream (and_from (is_create r.operation) (is_unanswered r.stage) (ap is_create same) (ap is_unanswered stage)) h.0)
-holds_pre f t o r (state.Completed why) lent kind.Read s b at same stream stage is h =
-    holds_step f t.operations t.next (is_number o) (pre_returned_of (state.Completed why) lent) r at (pre_other (state.Completed why) lent r (ap is_create same)) h
-holds_pre f t o r (state.Completed why) lent kind.Write s b at same stream stage is h =
-    holds_step f t.operations t.next (is_number o) (pre_returned_of (state.Completed why) lent) r at (pre_other (state.Completed why) lent r (ap is_create same)) h
-holds_pre f t o r (state.Completed why) lent kind.QuerySize s b at same stream stage is h =
-    holds_step f t.operations t.next (is_number o) (pre_returned_of (state.Completed why) lent) r at (pre_other (state.Completed why) lent r (ap is_create same)) h
-holds_pre f t o r (state.Completed why) lent kind.SetSize s b at same stream stage is h =
-    holds_step f t.operations t.next (is_number o) (pre_returned_of (state.Completed why) lent) r at (pre_other (state.Completed why) lent r (ap is_create same)) h
-holds_pre f t o r (state.Completed why) lent kind.Flush s b at same stream stage is h =
-    holds_step f t.operations t.next (is_number o) (pre_returned_of (state.Completed why) lent) r at (pre_other (state.Completed why) lent r (ap is_create same)) h
-holds_pre f t o r (state.Completed why) lent kind.List s b at same stream stage is h =
-    holds_step f t.operations t.next (is_number o) (pre_returned_of (state.Completed why) lent) r at (pre_other (state.Completed why) lent r (ap is_create same)) h
-holds_pre f t o r (state.Completed why) lent kind.SetDelete s b at same stream stage is h =
-    holds_step f t.operations t.next (is_number o) (pre_returned_of (state.Completed why) lent) r at (pre_other (state.Completed why) lent r (ap is_create same)) h
-holds_pre f t o r (state.Completed why) lent kind.Cleanup s b at same stream stage is h =
-    holds_step f t.operations t.next (is_number o) (pre_returned_of (state.Completed why) lent) r at (pre_other (state.Completed why) lent r (ap is_create same)) h
-holds_pre f t o r (state.Completed why) lent kind.Close s b at same stream stage is h =
+holds_pre f t o r (state.Completed why) lent _ s b at same stream stage is h =
     holds_step f t.operations t.next (is_number o) (pre_returned_of (state.Completed why) lent) r at (pre_other (state.Completed why) lent r (ap is_create same)) h
 holds_pre f t o r state.Held lent operation s b at same stream stage is h =
     holds_step f t.operations t.next (is_number o) (pre_returned_of state.Held lent) r at (pre_same state.Held lent r stage refl) h
@@ -471,14 +443,7 @@ holds_pushed f rs n r creates on h =
 holds_moved : (operation : Operation) (g : HandleId) (n : ℕ) (f : FileTable) (rs : List FlowRecord) (m : ℕ) → Holds f rs m → Holds (moved_on operation g n f) rs m
 holds_moved kind.Cleanup g n f rs m h = let p = phase.CleaningUp (record { 0 = n }) in (stands_phased g p f rs m h.0, use_phased g p f rs h.1)
 holds_moved kind.Close g n f rs m h = (stands_phased g phase.Closing f rs m h.0, use_phased g phase.Closing f rs h.1)
-holds_moved kind.Create g n f rs m h = h
-holds_moved kind.Read g n f rs m h = h
-holds_moved kind.Write g n f rs m h = h
-holds_moved kind.QuerySize g n f rs m h = h
-holds_moved kind.SetSize g n f rs m h = h
-holds_moved kind.Flush g n f rs m h = h
-holds_moved kind.List g n f rs m h = h
-holds_moved kind.SetDelete g n f rs m h = h
+holds_moved _ g n f rs m h = h
 
 holds_begins : (f : FileTable) (t : FlowTable) (r : FlowRecord) → is_creating r ≡ false → IsOnHandle f r.stream r.handle → Holds f t.operations t.next
     → Holds f (t.operations ++ r ∷ []) (t.next + 1)

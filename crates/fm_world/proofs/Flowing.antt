@@ -450,13 +450,7 @@ named_over old k o lies result mid new over h s = by_result result lies over h
     by_result (Ok action.Moved) (below.Known why) over h = loses_named mid new h
     by_result (Ok action.Moved) (below.Instance i b) over h = subst NamedIn (sym (h ∙ over.1)) (still (Ok action.Moved))
     by_result (Ok action.Moved) below.Call over h = subst NamedIn (sym (h ∙ over.1)) (still (Ok action.Moved))
-    by_result (Ok (action.Pre i lent)) lies over h = subst NamedIn (sym (h ∙ over.1)) (still (Ok (action.Pre i lent)))
-    by_result (Ok (action.Base call)) lies over h = subst NamedIn (sym (h ∙ over.1)) (still (Ok (action.Base call)))
-    by_result (Ok (action.Post i lent completion)) lies over h = subst NamedIn (sym (h ∙ over.1)) (still (Ok (action.Post i lent completion)))
-    by_result (Ok (action.Drain i completion)) lies over h = subst NamedIn (sym (h ∙ over.1)) (still (Ok (action.Drain i completion)))
-    by_result (Ok action.Held) lies over h = subst NamedIn (sym (h ∙ over.1)) (still (Ok action.Held))
-    by_result (Ok action.Done) lies over h = subst NamedIn (sym (h ∙ over.1)) (still (Ok action.Done))
-    by_result (Err why) lies over h = subst NamedIn (sym (h ∙ over.1)) (still (Err why))
+    by_result result lies over h = subst NamedIn (sym (h ∙ over.1)) (still result)
 
 next_named : (old : World) (k : WorkerId) (o : OpId) (result : Result FlowAction Status) (new : World) → Nexts old k o result new → NamedIn old → NamedIn new
 unfolding Nexts

@@ -448,3 +448,47 @@ fn crossed_by_a_close(rt: HostRuntime) -> Result<(), Fail> {
     }
     Ok(())
 }
+
+// A read that a filter holds, on its way down or up.
+fn held(alloc: Global, state: &mut State, is_up: bool) -> Result<OpId, Status> {
+    let read = ask(state, 0, FileRequest::Read { offset: 0, len: 9 })?;
+    let mut reading = found(state, read)?;
+    if is_up {
+        for _ in 0..2 {
+            reading = match reading {
+                Some(reached) => go_on(alloc, state, read, reached)?,
+                None => None,
+            };
+        }
+    }
+    let is_taken = match reading {
+        Some(Reading::InPre(data)) => state
+            .pre_returned(READER, PreVerdict::Pending, data)
+            .is_ok(),
+        Some(Reading::InPost(data)) => state
+            .post_returned(READER, PostVerdict::MoreProcessing, Some(data))
+            .is_ok(),
+        _ => false,
+    };
+    if is_taken {
+        Ok(read)
+    } else {
+        Err(Status::WrongStep)
+    }
+}
+
+// One that is held stays so when its handle closes and its path gets another stream.
+#[test]
+fn crossed_while_held(rt: HostRuntime) -> Result<(), Fail> {
+    for is_up in [false, true] {
+        let mut state = filtered(rt.alloc())?;
+        let creating = create(&mut state, CreateMode::Always)?;
+        pass(rt.alloc(), &mut state, creating)?;
+        let read = held(rt.alloc(), &mut state, is_up)?;
+        reopen(rt.alloc(), &mut state)?;
+        assert!(rt; matches!(state.next(READER, read), Ok(FlowAction::Held)));
+        assert!(rt; matches!(state.collect(read), Err(Status::WrongStep)));
+        assert_eq!(rt; state.handles(), 1);
+    }
+    Ok(())
+}

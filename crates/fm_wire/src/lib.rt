@@ -14,4 +14,3 @@ mod stream;
 pub use crate::decoder::Decoder;
 pub use crate::encoding::encode;
 pub use crate::frame::{Body, Control, Frame};
-

@@ -1,10 +1,8 @@
-//! Contexts in the events of the manager: who owns them, when they go, and what callbacks may do with them.
+//! Contexts at the end of an instance, and what each refusal of memory leaves of the state.
 
 use fm_altitude::Altitude;
 use fm_core::State;
 use fm_ctx::{Count, SetMode};
-use fm_data::{Answer, CallbackData, Completion, PostVerdict, PreVerdict};
-use fm_flow::FlowAction;
 use fm_stack::Phase;
 use fm_types::{
     Bytes, ContextKind, ContextMask, CtxId, FilterId, InstanceId, Name, OpId, OpMask, Registration,
@@ -63,36 +61,6 @@ fn allocate(
 }
 
 #[test]
-fn volume_context(rt: HostRuntime) -> Result<(), Fail> {
-    let mut state = in_setup(rt.alloc())?;
-    let first = allocate(rt.alloc(), &mut state, ContextKind::Volume, 8)?;
-    assert_eq!(rt;
-        state.set(WORKER, first, SetMode::Keep, false),
-        SetAnswer::Linked(None)
-    );
-    assert_eq!(rt; state.bump(WORKER, first, 0, 5), Ok(5));
-    state.setup_done(WORKER, true)?;
-    assert_eq!(rt; state.count(first), Count::Live(1));
-    assert_eq!(rt; state.leaks(), 1);
-    attach(&mut state, b"b", b"200")?;
-    assert_eq!(rt; state.get(WORKER, ContextKind::Volume), Ok(first));
-    assert_eq!(rt; state.bump(WORKER, first, 0, 2), Ok(7));
-    let second = allocate(rt.alloc(), &mut state, ContextKind::Volume, 8)?;
-    assert_eq!(rt;
-        state.set(WORKER, second, SetMode::Keep, true),
-        SetAnswer::AlreadyDefined(Some(first))
-    );
-    assert_eq!(rt; state.count(first), Count::Live(3));
-    assert_eq!(rt;
-        state.set(WORKER, second, SetMode::Replace, false),
-        SetAnswer::Linked(None)
-    );
-    assert_eq!(rt; state.count(first), Count::Live(2));
-    assert_eq!(rt; state.count(second), Count::Live(2));
-    Ok(())
-}
-
-#[test]
 fn refused_setup(rt: HostRuntime) -> Result<(), Fail> {
     let mut state = in_setup(rt.alloc())?;
     let id = allocate(rt.alloc(), &mut state, ContextKind::Instance, 1)?;
@@ -118,124 +86,6 @@ fn refused_setup(rt: HostRuntime) -> Result<(), Fail> {
     assert_eq!(rt; state.phase(INSTANCE), Some(Phase::Detached));
     assert_eq!(rt; state.finish(INSTANCE), Err(Status::NoInstance));
     assert_eq!(rt; state.release(WORKER, id), Err(Status::WrongStep));
-    Ok(())
-}
-
-#[test]
-fn what_a_callback_may_do(rt: HostRuntime) -> Result<(), Fail> {
-    let mut state = in_setup(rt.alloc())?;
-    assert_eq!(rt;
-        allocate(rt.alloc(), &mut state, ContextKind::Stream, 1),
-        Err(Status::NotRegistered)
-    );
-    assert_eq!(rt;
-        allocate(rt.alloc(), &mut state, ContextKind::Instance, 4097),
-        Err(Status::TooMany)
-    );
-    let id = allocate(rt.alloc(), &mut state, ContextKind::Instance, 2)?;
-    assert_eq!(rt;
-        state.get(WORKER, ContextKind::Instance),
-        Err(Status::NoContext)
-    );
-    assert_eq!(rt;
-        state.get(WORKER, ContextKind::Handle),
-        Err(Status::NotRegistered)
-    );
-    assert_eq!(rt;
-        state.set(WORKER, id, SetMode::Keep, false),
-        SetAnswer::Linked(None)
-    );
-    assert_eq!(rt;
-        state.set(WORKER, id, SetMode::Keep, false),
-        SetAnswer::Refused(Status::AlreadyLinked)
-    );
-    state.write_body(WORKER, id, b"ab")?;
-    assert_eq!(rt; state.read_body(WORKER, id)?.as_slice(), b"ab".as_slice());
-    assert_eq!(rt;
-        state.delete(WORKER, ContextKind::Instance, true),
-        Ok(Some(id))
-    );
-    assert_eq!(rt; state.count(id), Count::Live(2));
-    state.release(WORKER, id)?;
-    state.release(WORKER, id)?;
-    assert_eq!(rt; state.release(WORKER, id), Err(Status::NotHeld));
-    assert_eq!(rt; state.count(id), Count::Due);
-    assert_eq!(rt; state.reference(WorkerId(1), id), Err(Status::WrongStep));
-    Ok(())
-}
-
-// The worker's preoperation asks for its postoperation, with a context that goes along.
-fn ask(alloc: Global, state: &mut State, operation: OpId) -> Result<CtxId, Status> {
-    match state.next(WORKER, operation)? {
-        FlowAction::Pre(_, data) => {
-            let id = allocate(alloc, state, ContextKind::Instance, 1)?;
-            let completion = Completion {
-                number: 3,
-                context: Some(id),
-            };
-            match state.pre_returned(WORKER, PreVerdict::WithCallback(completion), data) {
-                Ok(()) => Ok(id),
-                Err(refused) => Err(refused.status),
-            }
-        }
-        _ => Err(Status::WrongStep),
-    }
-}
-
-// The base answers with success and nothing.
-fn answer(alloc: Global, state: &mut State, operation: OpId) -> Result<(), Status> {
-    match state.next(WORKER, operation)? {
-        FlowAction::Base(call) => {
-            let answer = Answer {
-                status: Status::Success,
-                information: 0,
-                bytes: Bytes::new(alloc),
-            };
-            match state.base_returned(WORKER, call, answer) {
-                Ok(()) => Ok(()),
-                Err(refused) => Err(refused.status),
-            }
-        }
-        _ => Err(Status::WrongStep),
-    }
-}
-
-// The worker's postoperation begins.
-fn post(state: &mut State, operation: OpId) -> Result<(CallbackData, Completion), Status> {
-    match state.next(WORKER, operation)? {
-        FlowAction::Post(_, data, completion) => Ok((data, completion)),
-        _ => Err(Status::WrongStep),
-    }
-}
-
-#[test]
-fn carried_by_a_completion(rt: HostRuntime) -> Result<(), Fail> {
-    let mut state = in_setup(rt.alloc())?;
-    state.setup_done(WORKER, true)?;
-    let operation = state.begin(Begin::List {
-        volume: VolumeId(0),
-    })?;
-    let id = ask(rt.alloc(), &mut state, operation)?;
-    assert_eq!(rt;
-        (state.hand_len(WORKER), state.count(id), state.leaks()),
-        (0, Count::Live(1), 0)
-    );
-    answer(rt.alloc(), &mut state, operation)?;
-    let (data, completion) = post(&mut state, operation)?;
-    assert_eq!(rt; (completion.number, completion.context), (3, Some(id)));
-    assert_eq!(rt;
-        (state.hand_len(WORKER), state.count(id)),
-        (1, Count::Live(1))
-    );
-    assert!(rt;
-        state
-            .post_returned(WORKER, PostVerdict::Finished, Some(data))
-            .is_ok()
-    );
-    assert_eq!(rt;
-        (state.hand_len(WORKER), state.count(id), state.leaks()),
-        (0, Count::Due, 1)
-    );
     Ok(())
 }
 

@@ -365,31 +365,33 @@ fn crossed_by_a_close(rt: HostRuntime) -> Result<(), Fail> {
     Ok(())
 }
 
-// A read that a filter holds, on its way down or up.
-fn held(alloc: Global, state: &mut State, is_up: bool) -> Result<OpId, Status> {
+// A read that a filter holds on its way down.
+fn held_down(state: &mut State) -> Result<OpId, Status> {
     let read = ask(state, 0, FileRequest::Read { offset: 0, len: 9 })?;
-    let mut reading = found(state, read)?;
-    if is_up {
-        for _ in 0..2 {
-            reading = match reading {
-                Some(reached) => go_on(alloc, state, read, reached)?,
-                None => None,
-            };
-        }
-    }
-    let is_taken = match reading {
-        Some(Reading::InPre(data)) => state
-            .pre_returned(READER, PreVerdict::Pending, data)
-            .is_ok(),
-        Some(Reading::InPost(data)) => state
-            .post_returned(READER, PostVerdict::MoreProcessing, Some(data))
-            .is_ok(),
-        _ => false,
+    let Some(Reading::InPre(data)) = found(state, read)? else {
+        return Err(Status::WrongStep);
     };
-    if is_taken {
-        Ok(read)
-    } else {
-        Err(Status::WrongStep)
+    match state.pre_returned(READER, PreVerdict::Pending, data) {
+        Ok(()) => Ok(read),
+        Err(refused) => Err(refused.status),
+    }
+}
+
+// A read that a filter holds on its way up.
+fn held_up(alloc: Global, state: &mut State) -> Result<OpId, Status> {
+    let read = ask(state, 0, FileRequest::Read { offset: 0, len: 9 })?;
+    let Some(down) = found(state, read)? else {
+        return Err(Status::WrongStep);
+    };
+    let Some(below) = go_on(alloc, state, read, down)? else {
+        return Err(Status::WrongStep);
+    };
+    let Some(Reading::InPost(data)) = go_on(alloc, state, read, below)? else {
+        return Err(Status::WrongStep);
+    };
+    match state.post_returned(READER, PostVerdict::MoreProcessing, Some(data)) {
+        Ok(()) => Ok(read),
+        Err(refused) => Err(refused.status),
     }
 }
 
@@ -400,7 +402,11 @@ fn crossed_while_held(rt: HostRuntime) -> Result<(), Fail> {
         let mut state = filtered(rt.alloc())?;
         let creating = create(&mut state, CreateMode::Always)?;
         pass(rt.alloc(), &mut state, creating)?;
-        let read = held(rt.alloc(), &mut state, is_up)?;
+        let read = if is_up {
+            held_up(rt.alloc(), &mut state)?
+        } else {
+            held_down(&mut state)?
+        };
         reopen(rt.alloc(), &mut state)?;
         assert!(rt; matches!(state.next(READER, read), Ok(FlowAction::Held)));
         assert!(rt; matches!(state.collect(read), Err(Status::WrongStep)));

@@ -30,7 +30,7 @@ pub use fm_ctx::{Count, Due, Object, Owner, SetMode};
 pub use fm_flow::{
     Ask, DrainVisit, Entry, FlowAction as Action, PostState, PostVisit, PreState, PreVisit, Stage,
 };
-pub use fm_stack::{FilterPhase, Phase};
+pub use fm_stack::{FilterPhase, Phase, VolumePhase};
 pub use fm_world::{
     Begin, FileHandle, FileRequest, HandlePhase, Refused, SetAnswer, Step, StepReply, Worker,
 };

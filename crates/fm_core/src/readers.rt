@@ -6,6 +6,7 @@ ghost use Rattle.fm_ctx.specs.Counting.{born, cleaned_count, count_reply};
 ghost use Rattle.fm_world.specs.World.{carries};
 ghost use Rattle.fm_stack.specs.declared.filter.Filter.{Filter};
 ghost use Rattle.fm_stack.specs.declared.instance.Instance.{Instance};
+ghost use Rattle.fm_stack.specs.declared.volume.Volume.{Volume};
 ghost use Rattle.fm_flow.specs.Record.{FlowRecord};
 ghost use Rattle.fm_flow.specs.Steps.{is_done};
 ghost use Rattle.fm_flow.specs.Table.{operation_at};
@@ -14,7 +15,7 @@ use crate::state::State;
 use crate::workers::WORKERS;
 use fm_ctx::Count;
 use fm_flow::Entry;
-use fm_stack::{FilterPhase, Phase};
+use fm_stack::{FilterPhase, Phase, VolumePhase};
 use fm_types::{CtxId, FilterId, HandleId, InstanceId, OpId, VolumeId, WorkerId};
 
 impl State {
@@ -54,6 +55,27 @@ impl State {
         ensures { result ≡ option_map (λ (row : Instance). row.phase) (slice_get self.now.stack.instances instance.0) }
     {
         self.stack.phase(instance)
+    }
+
+    /// How far the life of a volume has come; none where it isn't there.
+    pub fn volume_phase(&self, volume: VolumeId) -> Option<VolumePhase>
+        ensures { result ≡ option_map (λ (row : Volume). row.phase) (slice_get self.now.stack.volumes volume.0) }
+    {
+        self.stack.volume_phase(volume)
+    }
+
+    /// How many operations were begun: the numbers given out are those below.
+    pub fn operations_begun(&self) -> u64
+        ensures { result ≡ self.now.flow.next }
+    {
+        self.flow.next_number()
+    }
+
+    /// How many handles were given: the numbers given out are those below.
+    pub fn handles_given(&self) -> u64
+        ensures { result ≡ self.now.files.next }
+    {
+        self.files.next_number()
     }
 
     /// How far the life of a filter has come; none where it isn't there.

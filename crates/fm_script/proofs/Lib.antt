@@ -1,4 +1,4 @@
 pub mod Spellings
 pub mod Numbers
 pub mod Kept
-mod DeviceAnswers
+pub mod Going

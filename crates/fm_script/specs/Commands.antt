@@ -9,8 +9,8 @@ use Rattle.fm_types.specs.Statuses.{number_of}
 use Rattle.fm_altitude.specs.Grammar.{IsAltitude, canonical}
 use Rattle.fm_script.specs.declared.command.Callbacks.{Callbacks}
 use Rattle.fm_script.specs.declared.command.Callbacks.TheVariants.{Both, PreOnly, PostOnly, Bare}
-use Rattle.fm_script.specs.declared.command.Verdict.{Verdict}
-use Rattle.fm_script.specs.declared.command.Verdict.TheVariants as verdict
+use Rattle.fm_data.specs.declared.verdict.PreVerdict.{PreVerdict}
+use Rattle.fm_data.specs.declared.verdict.PreVerdict.TheVariants as verdict
 use Rattle.fm_script.specs.declared.command.Command.{Command}
 use Rattle.fm_script.specs.declared.command.Command.TheVariants as command
 use Rattle.fm_script.specs.declared.keyword.Keyword.{Keyword}
@@ -152,35 +152,39 @@ Creates _ result = result ≡ Err BadRequest
 -- ---- what a preoperation answers
 
 -- a word that is the number of a status which a filter may give, any but Busy
-abbrev pub IsStatus : List ℕ → Verdict → Type 0
+abbrev pub IsStatus : List ℕ → PreVerdict → Type 0
 IsStatus word (verdict.Complete status) = (number_read word ≡ Some (number_of status)) × (number_of status < 34)
 IsStatus word _ = ⊥
 
 abbrev pub IsNoStatus : List ℕ → Type 0
 IsNoStatus word = (n : ℕ) → number_read word ≡ Some n → 34 ≤ n
 
-abbrev pub bare_verdict : List ℕ → Result Verdict Status
-bare_verdict word = cond (bytes_eq word (codes "with")) (Ok verdict.With) (cond (bytes_eq word (codes "none")) (Ok verdict.NoCallback) (Err BadRequest))
+-- a script's completions carry the number 0, and no context that the line doesn't name
+abbrev pub with_callback : PreVerdict
+with_callback = verdict.WithCallback (record { number = 0; context = None })
 
-abbrev pub ReadsComplete : List ℕ → Result Verdict Status → Type 0
+abbrev pub bare_verdict : List ℕ → Result PreVerdict Status
+bare_verdict word = cond (bytes_eq word (codes "with")) (Ok with_callback) (cond (bytes_eq word (codes "none")) (Ok verdict.NoCallback) (Err BadRequest))
+
+abbrev pub ReadsComplete : List ℕ → Result PreVerdict Status → Type 0
 ReadsComplete word result = MatchResult result (IsStatus word) (λ why. (why ≡ BadRequest) × IsNoStatus word)
 
-abbrev pub ReadsVerdict : List (List ℕ) → Result Verdict Status → Type 0
+abbrev pub ReadsVerdict : List (List ℕ) → Result PreVerdict Status → Type 0
 ReadsVerdict (word ∷ []) result = result ≡ bare_verdict word
 ReadsVerdict (word ∷ status ∷ []) result =
     Either (bytes_eq word (codes "complete")) (ReadsComplete status result) (result ≡ Err BadRequest)
 ReadsVerdict _ result = result ≡ Err BadRequest
 
-abbrev pub with_verdict : Result Verdict Status → (Verdict → Command) → Result Command Status
+abbrev pub with_verdict : Result PreVerdict Status → (PreVerdict → Command) → Result Command Status
 with_verdict (Ok v) make = Ok (make v)
 with_verdict (Err status) make = Err status
 
 -- a command of an id and a verdict
-abbrev pub Answers : Option ℕ → List (List ℕ) → (ℕ → Verdict → Command) → Result Command Status → Type 0
+abbrev pub Answers : Option ℕ → List (List ℕ) → (ℕ → PreVerdict → Command) → Result Command Status → Type 0
 Answers None words make result = result ≡ Err BadRequest
-Answers (Some n) words make result = (read : Result Verdict Status) × ReadsVerdict words read × (result ≡ with_verdict read (make n))
+Answers (Some n) words make result = (read : Result PreVerdict Status) × ReadsVerdict words read × (result ≡ with_verdict read (make n))
 
-abbrev pub AnswersFor : (List ℕ → Option ℕ) → List (List ℕ) → (ℕ → Verdict → Command) → Result Command Status → Type 0
+abbrev pub AnswersFor : (List ℕ → Option ℕ) → List (List ℕ) → (ℕ → PreVerdict → Command) → Result Command Status → Type 0
 AnswersFor id (word ∷ words) make result = Answers (id word) words make result
 AnswersFor id [] make result = result ≡ Err BadRequest
 

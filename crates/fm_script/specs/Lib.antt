@@ -7,3 +7,8 @@ pub mod ContextCommands
 pub mod FileCommands
 pub mod Devices
 pub mod Ends
+pub mod Ids
+pub mod Tasks
+pub mod Sayings
+pub mod Runs
+pub mod Lines

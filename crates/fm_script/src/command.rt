@@ -12,6 +12,7 @@ use crate::file_command::{FileCommand, FileKeyword, read_create_mode};
 use crate::keyword::Keyword;
 use crate::number::{read_id, read_status};
 use fm_altitude::Altitude;
+use fm_data::{Completion, PreVerdict};
 use fm_types::{CreateMode, Name, RelPath, Status};
 
 /// Which callbacks a filter that a script loads has for each operation.
@@ -27,16 +28,11 @@ pub enum Callbacks {
     Bare,
 }
 
-/// What a preoperation callback of a script answers.
-#[derive(Clone, Copy, Debug, PartialEq, Eq)]
-pub enum Verdict {
-    /// The operation goes on, and comes back to the instance.
-    With,
-    /// The operation goes on, and doesn't come back to the instance.
-    NoCallback,
-    /// The operation ends here with that status.
-    Complete(Status),
-}
+/// The verdict `with`: a script's completions carry the number 0, and no context that the line doesn't name.
+pub const WITH: PreVerdict = PreVerdict::WithCallback(Completion {
+    number: 0,
+    context: None,
+});
 
 /// A command that was read. Its ids are numbers as they stood in the line: whether they are there is asked when the command is run.
 #[derive(Clone, Copy, Debug)]
@@ -88,7 +84,7 @@ pub enum Command {
     /// `pre W with`, `none` or `complete S`: the worker's preoperation callback returns.
     Pre {
         worker: u64,
-        verdict: Verdict,
+        verdict: PreVerdict,
     },
     /// `pre W with C`: the same, and a context goes along with the completion.
     PreWith {
@@ -98,7 +94,7 @@ pub enum Command {
     /// `plan I with`, `none` or `complete S`: what `go` will answer for the instance's preoperation callbacks.
     Plan {
         instance: u64,
-        verdict: Verdict,
+        verdict: PreVerdict,
     },
     /// `base W`: the worker's base call returns.
     Base {
@@ -409,7 +405,7 @@ fn read_post(words: &[&[u8]]) -> Result<Command, Status>
     }
 }
 
-fn read_verdict(words: &[&[u8]]) -> Result<Verdict, Status>
+fn read_verdict(words: &[&[u8]]) -> Result<PreVerdict, Status>
     ensures { ReadsVerdict (map (λ word. word.now) words.now) result }
 {
     match words {
@@ -420,24 +416,24 @@ fn read_verdict(words: &[&[u8]]) -> Result<Verdict, Status>
 }
 
 // A verdict of one word.
-fn read_bare_verdict(word: &[u8]) -> Result<Verdict, Status>
+fn read_bare_verdict(word: &[u8]) -> Result<PreVerdict, Status>
     ensures { result ≡ bare_verdict word.now }
 {
     if word == b"with".as_slice() {
-        Ok(Verdict::With)
+        Ok(WITH)
     } else if word == b"none".as_slice() {
-        Ok(Verdict::NoCallback)
+        Ok(PreVerdict::NoCallback)
     } else {
         Err(Status::BadRequest)
     }
 }
 
 // The operation ends with the status of that number, from 0 to 33.
-fn read_complete(word: &[u8]) -> Result<Verdict, Status>
+fn read_complete(word: &[u8]) -> Result<PreVerdict, Status>
     ensures { ReadsComplete word.now result }
 {
     match read_status(word) {
-        Some(status) => Ok(Verdict::Complete(status)),
+        Some(status) => Ok(PreVerdict::Complete(status)),
         None => Err(Status::BadRequest),
     }
 }

@@ -1,21 +1,33 @@
-//! Runs the commands of a script, line by line, and prints what they answer.
+//! Runs a script line by line, and prints what each line answers.
 
-mod contexts;
-mod files;
-mod instances;
-mod operations;
+ghost use Rattle.std.specs.Prelude.{◌≡◌, map};
+ghost use Rattle.fm_script.specs.Lines.{Brings, OrMemory, ReadsTask, RunsLine, is_silent, takes_bytes};
+ghost use Rattle.fm_script.specs.Runs.{Goes, Performs};
+ghost use Rattle.fm_script.specs.Words.{words_of};
+ghost use Rattle.fm_script.specs.declared.task.Task.TheVariants as TaskOf;
 
 use crate::command::Command;
+use crate::context_command::ContextCommand;
+use crate::file_command::FileCommand;
+use crate::hexadecimal::read_hex;
 use crate::interpreter::Interpreter;
 use crate::output::Output;
+use crate::said::{
+    Said, Word, phase_word, said_attached, said_count, said_done, said_given, said_of,
+};
 use crate::script_end::ScriptEnd;
+use crate::task::{Task, task_of};
 use crate::words::split_words;
-use fm_types::Status;
-use std::alloc::Global;
+use fm_core::Step;
+use fm_types::{Bytes, InstanceId, OpId, Status, WorkerId};
+use std::alloc::{AllocError, Global};
 use std::io::Write;
 
 /// The most bytes of a line.
 const MAX_LINE: usize = 4096;
+
+/// The most steps that one operation takes: 32 visits down, a base call, as many callbacks up, and the end.
+const MAX_STEPS: u32 = 66;
 
 /// A script's interpreter with its output.
 #[derive(Drop)]
@@ -28,12 +40,11 @@ pub struct Runner<W: Write + Drop> {
 impl<W: Write + Drop> Runner<W> {
     /// A runner that has run no line.
     pub fn new(alloc: Global, writer: W) -> Result<Self, ScriptEnd> {
-        let output = Output::new(alloc, writer)?;
         let interpreter = Interpreter::new(alloc).map_err(|_| ScriptEnd::NoMemory)?;
         Ok(Runner {
             alloc,
             interpreter,
-            output,
+            output: Output::new(alloc, writer),
         })
     }
 
@@ -43,77 +54,176 @@ impl<W: Write + Drop> Runner<W> {
     }
 
     /// Runs one line, of which at most 4,097 bytes are given: one that is longer than 4,096 is refused. An empty line and a comment do nothing.
-    pub fn run(&mut self, line: &[u8]) -> Result<(), ScriptEnd> {
+    pub fn run(&mut self, line: &[u8]) -> Result<(), ScriptEnd>
+        ensures { RunsLine line.now self.old.interpreter self.new.interpreter }
+    {
         if line.len() > MAX_LINE {
-            return self.output.refusal(Status::BadRequest);
+            return self.output.say(&Said::Refused(Status::BadRequest));
         }
-        if line.is_empty() || line.starts_with(b"#") {
+        if is_silent(line) {
             return Ok(());
         }
-        let words = split_words(self.alloc, line).map_err(|_| ScriptEnd::NoMemory)?;
-        match Command::read(words.as_slice()) {
-            Ok(command) => self.run_command(command, words.as_slice()),
-            Err(status) => self.output.refusal(status),
+        match self.read(line) {
+            Ok(task) => self.perform(task),
+            Err(status) => self.output.say(&Said::Refused(status)),
         }
     }
 
-    // The bytes that a command may need are the last of the line's words.
-    fn run_command(&mut self, command: Command, words: &[&[u8]]) -> Result<(), ScriptEnd> {
-        match command {
-            Command::Load { name, callbacks } => self.load(name, callbacks),
-            Command::Mount { name } => self.mount(name),
-            Command::Attach {
+    // What a line has to be done.
+    fn read(&self, line: &[u8]) -> Result<Task, Status>
+        ensures { OrMemory result (ReadsTask (words_of line.now) self.now.interpreter result) }
+    {
+        let words = split_words(self.alloc, line)?;
+        self.read_words(words.as_slice())
+    }
+
+    // The same by its words.
+    fn read_words(&self, words: &[&[u8]]) -> Result<Task, Status>
+        ensures { OrMemory result (ReadsTask (map (λ word. word.now) words.now) self.now.interpreter result) }
+    {
+        let command = Command::read(words)?;
+        let bytes = self.bytes_of(&command, words)?;
+        let state = self.interpreter.state();
+        task_of(state, self.interpreter.contexts(), bytes, command)
+    }
+
+    // The bytes that a command's fourth word spells, where it takes some.
+    fn bytes_of(&self, command: &Command, words: &[&[u8]]) -> Result<Bytes, Status>
+        ensures { OrMemory result (Brings (takes_bytes command.now) (map (λ word. word.now) words.now) result) }
+    {
+        if !takes_bytes(command) {
+            return Ok(Bytes::new(self.alloc));
+        }
+        let word = words.get(3).ok_or(Status::BadRequest)?;
+        let bytes = read_hex(self.alloc, word)?.ok_or(Status::BadRequest)?;
+        Ok(Bytes::from_vec(bytes))
+    }
+
+    // Makes one event, and prints what it answers.
+    fn event(&mut self, step: Step) -> Result<(), ScriptEnd>
+        ensures { Performs (TaskOf.Event step) self.old.interpreter self.new.interpreter }
+    {
+        match self.interpreter.event(step) {
+            Ok(reply) => {
+                let line = said_of(self.interpreter.contexts(), reply);
+                self.output.say(&line)
+            }
+            Err(_) => Err(ScriptEnd::NoMemory),
+        }
+    }
+
+    // A worker takes the operation's steps, and answers each, until the operation is held or done.
+    #[tactic(auto, using(crate::proofs::Going::goes_then, crate::proofs::Going::goes_none))]
+    fn go(&mut self, worker: WorkerId, operation: OpId) -> Result<(), ScriptEnd>
+        ensures { Goes worker operation self.old.interpreter self.new.interpreter }
+    {
+        for _ in 0..MAX_STEPS {
+            let turn = self.interpreter.turn(worker, operation);
+            if let Some(line) = &turn.said {
+                self.output.say(line)?;
+            }
+            if let Some(line) = &turn.last {
+                return self.output.say(line);
+            }
+        }
+        self.output.say(&Said::Refused(Status::WrongStep))
+    }
+
+    // An instance's phase.
+    fn phase(&mut self, instance: InstanceId) -> Result<(), ScriptEnd>
+        ensures { self.new.interpreter ≡ self.old.interpreter }
+    {
+        let line = match self.interpreter.state().phase(instance) {
+            Some(phase) => Said::Plain(phase_word(phase)),
+            None => Said::Refused(Status::NoInstance),
+        };
+        self.output.say(&line)
+    }
+
+    // `ok`, unless there was no memory for the script's own note.
+    fn noted(&mut self, outcome: Result<(), AllocError>) -> Result<(), ScriptEnd>
+        ensures { self.new.interpreter ≡ self.old.interpreter }
+    {
+        match outcome {
+            Ok(()) => self.output.say(&Said::Plain(Word::Ok)),
+            Err(_) => Err(ScriptEnd::NoMemory),
+        }
+    }
+
+    // Does it, and prints what it answers.
+    fn perform(&mut self, task: Task) -> Result<(), ScriptEnd>
+        ensures { Performs task self.old.interpreter self.new.interpreter }
+    {
+        match task {
+            Task::Event(step) => self.event(step),
+            Task::Attach {
                 filter,
                 volume,
                 name,
                 altitude,
-            } => self.attach(filter, volume, name, altitude),
-            Command::Setup {
-                worker,
-                filter,
-                volume,
-                name,
-                altitude,
-            } => self.setup(worker, filter, volume, name, altitude),
-            Command::SetDone { worker, accept } => self.set_done(worker, accept),
-            Command::Create { volume, path, mode } => self.create(volume, path, mode),
-            Command::List { volume } => self.list(volume),
-            Command::Next { worker, operation } => self.next(worker, operation),
-            Command::Pre { worker, verdict } => self.pre(worker, verdict),
-            Command::PreWith { worker, context } => self.pre_with(worker, context),
-            Command::Plan { instance, verdict } => self.plan(instance, verdict),
-            Command::Base { worker } => self.base(worker),
-            Command::Post { worker } => self.post(worker),
-            Command::Go { worker, operation } => self.go(worker, operation),
-            Command::Collect { operation } => self.collect(operation),
-            Command::Phase { instance } => self.phase(instance),
-            Command::Finish { instance } => self.finish(instance),
-            Command::Context(command) => self.run_on_contexts(command, words),
-            Command::File(command) => self.run_on_files(command, words),
+            } => {
+                let answer = self.interpreter.attach(filter, volume, name, altitude);
+                self.output.say(&said_attached(answer))
+            }
+            Task::Next { worker, operation } => {
+                let answer = self.interpreter.next(worker, operation);
+                self.output.say(&said_given(answer))
+            }
+            Task::Pre { worker, verdict } => {
+                let answer = self.interpreter.pre(worker, verdict);
+                self.output.say(&said_done(answer))
+            }
+            Task::Base { worker } => {
+                let answer = self.interpreter.base(worker).map(|_| ());
+                self.output.say(&said_done(answer))
+            }
+            Task::Post { worker } => {
+                let answer = self.interpreter.post(worker);
+                self.output.say(&said_done(answer))
+            }
+            Task::Go { worker, operation } => self.go(worker, operation),
+            Task::Plan { instance, verdict } => {
+                let planned = self.interpreter.plan(instance, verdict);
+                self.noted(planned)
+            }
+            Task::Phase(instance) => self.phase(instance),
+            Task::Count(context) => {
+                let count = self.interpreter.state().count(context);
+                self.output.say(&said_count(count))
+            }
+            Task::Leaks => {
+                let leaks = self.interpreter.state().leaks();
+                self.output.say(&Said::Number(Word::Leaks, leaks))
+            }
+            Task::Fail(number) => {
+                let noted = self.interpreter.fail(number);
+                self.noted(noted)
+            }
+            Task::Failures => {
+                let failures = self.interpreter.failures();
+                self.output.say(&Said::Number(Word::Failures, failures))
+            }
         }
     }
+}
 
-    // `ok`, or a refusal.
-    fn ok(&mut self, outcome: Result<(), Status>) -> Result<(), ScriptEnd> {
-        match outcome {
-            Ok(()) => self.output.line("ok"),
-            Err(status) => self.refuse(status),
-        }
+// A line that asks for nothing.
+fn is_silent(line: &[u8]) -> bool
+    ensures { result ≡ is_silent line.now }
+{
+    match line {
+        [] => true,
+        [first, ..] => *first == b'#',
     }
+}
 
-    // `ok` and the id that was given out, or a refusal.
-    fn given(&mut self, letter: char, outcome: Result<u64, Status>) -> Result<(), ScriptEnd> {
-        match outcome {
-            Ok(id) => self.output.id("ok", letter, id),
-            Err(status) => self.refuse(status),
-        }
-    }
-
-    // A refusal. Want of memory ends the script.
-    fn refuse(&mut self, status: Status) -> Result<(), ScriptEnd> {
-        match status {
-            Status::NoMemory => Err(ScriptEnd::NoMemory),
-            _ => self.output.refusal(status),
-        }
-    }
+// Whether the command's fourth word is bytes.
+fn takes_bytes(command: &Command) -> bool
+    ensures { result ≡ takes_bytes command.now }
+{
+    matches!(
+        command,
+        Command::Context(ContextCommand::Allocate { .. } | ContextCommand::WriteBody { .. })
+            | Command::File(FileCommand::Write { .. }),
+    )
 }

@@ -1,4 +1,4 @@
--- What the calls of a base in memory say, as a script's devices answer it.
+-- What the calls of a base in memory say, as an operation is answered.
 use Rattle.std.specs.Prelude.{◌≡◌, ◌≢◌, ℕ, List, Result, Ok, Err, refl}
 use Rattle.std.proofs.Common.{sym, ap, ◌∙◌}
 use Rattle.fm_types.specs.declared.status.Status.{Status}
@@ -6,7 +6,7 @@ use Rattle.fm_types.specs.declared.status.Status.TheVariants.{Success, NoMemory,
 use Rattle.fm_data.specs.declared.answer.Answer.{Answer}
 use Rattle.fm_base.specs.Folders.{Folder}
 use Rattle.fm_base.specs.Answers.{Makes, Tells}
-use Rattle.fm_script.specs.Devices.{bare, done_as, told_as, made_as, made_of}
+use Rattle.fm_device.specs.Devices.{bare, done_as, told_as, made_as, made_of}
 
 -- a call that makes something of the folder
 pub made_said : (path : List ℕ) (wanted : Folder → Result Folder Status) (old new : Folder) (result : Result (Unit {0}) Status)

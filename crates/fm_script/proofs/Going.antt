@@ -1,0 +1,58 @@
+-- The turns of a `go`, one after the other.
+use Rattle.std.proofs.Common.{◌≡◌, List, [], ◌∷◌, ◌++◌, Result, refl, sym, subst}
+use Rattle.fm_types.specs.declared.ids.OpId.{OpId}
+use Rattle.fm_types.specs.declared.ids.WorkerId.{WorkerId}
+use Rattle.fm_types.specs.declared.status.Status.{Status}
+use Rattle.fm_data.specs.declared.answer.Answer.{Answer}
+use Rattle.fm_data.specs.declared.verdict.PreVerdict.{PreVerdict}
+use Rattle.fm_data.specs.declared.verdict.PostVerdict.TheVariants.{Finished}
+use Rattle.fm_world.specs.Events.{Collects}
+use Rattle.fm_world.specs.declared.step.Step.TheVariants as step
+use Rattle.fm_world.specs.declared.step.StepReply.TheVariants as reply
+use Rattle.fm_session.specs.declared.lent.Given.{Given}
+use Rattle.fm_session.specs.Sessions.{LendsNext, LentPreReturns, LentPostReturns, LentBaseReturns}
+use Rattle.fm_script.specs.Devices.{Calls}
+use Rattle.fm_script.specs.Runs.{Acts, BySession, Goes, IsTurn, KeepsLists, Turns}
+use Rattle.fm_script.specs.declared.interpreter.Interpreter.{Interpreter}
+use Rattle.fm_script.specs.declared.task.Task.{Task}
+use Rattle.fm_script.specs.declared.task.Task.TheVariants as task
+
+turns_then : (k : WorkerId) (o : OpId) (first second : List Task) (old mid new : Interpreter)
+    → Turns k o first old mid → Turns k o second mid new → Turns k o (second ++ first) old new
+turns_then k o first [] old mid new before after = subst (λ (i : Interpreter). Turns k o first old i) (sym after) before
+turns_then k o first (t ∷ second) old mid new before (is, between, after, acts) =
+    (is, between, turns_then k o first second old mid between before after, acts)
+
+pub goes_then : (k : WorkerId) (o : OpId) (old mid new : Interpreter) → Goes k o old mid → Goes k o mid new → Goes k o old new
+unfolding Goes
+goes_then k o old mid new (first, before) (second, after) = (second ++ first, turns_then k o first second old mid new before after)
+
+pub goes_none : (k : WorkerId) (o : OpId) (i : Interpreter) → Goes k o i i
+unfolding Goes
+goes_none k o i = ([], refl)
+
+one : (k : WorkerId) (o : OpId) (t : Task) (old new : Interpreter) → IsTurn k o t → Acts t old new → Goes k o old new
+unfolding Goes
+one k o t old new is acts = (t ∷ [], (is, old, refl, acts))
+
+pub goes_next : (k : WorkerId) (o : OpId) (r : Result Given Status) (old new : Interpreter)
+    → LendsNext old.session k o r new.session → BySession old new → Goes k o old new
+goes_next k o r old new event rest = one k o (task.Next k o) old new (refl, refl) (r, event, rest)
+
+pub goes_pre : (k : WorkerId) (o : OpId) (answer : PreVerdict) (r : Result (Unit {0}) Status) (old new : Interpreter)
+    → LentPreReturns old.session k answer r new.session → BySession old new → Goes k o old new
+goes_pre k o answer r old new event rest = one k o (task.Pre k answer) old new refl (r, event, rest)
+
+pub goes_post : (k : WorkerId) (o : OpId) (r : Result (Unit {0}) Status) (old new : Interpreter)
+    → LentPostReturns old.session k Finished r new.session → BySession old new → Goes k o old new
+goes_post k o r old new event rest = one k o (task.Post k) old new refl (r, event, rest)
+
+pub goes_base : (k : WorkerId) (o : OpId) (r : Result Status Status) (old new : Interpreter)
+    → LentBaseReturns Calls old.session old.devices k r new.session new.devices → KeepsLists old new → Goes k o old new
+goes_base k o r old new event lists = one k o (task.Base k) old new refl (r, event, lists)
+
+pub goes_collect : (k : WorkerId) (o : OpId) (r : Result Answer Status) (old new : Interpreter)
+    → Collects old.session.world o r new.session.world → new.session.lent ≡ old.session.lent → BySession old new → Goes k o old new
+goes_collect k o r old new event lent rest =
+    one k o (task.Event (step.Collect o)) old new refl
+    (reply.Answer r, record { event = event; lent = lent; devices = rest.0; plans = rest.1.plans; contexts = rest.1.contexts })

@@ -1,0 +1,349 @@
+//! The lines that a script prints: which one for which answer, and the bytes of each.
+
+ghost use Rattle.std.specs.Prelude.{◌≡◌, ◌++◌, ◌∷◌, [], IfOk, decimal, position};
+ghost use Rattle.fm_script.specs.Sayings.{is_context, phase_word, refused_text, reply_text, said_context, said_count, said_done, said_due, said_given, said_new, said_of, said_old, said_set, text_with, verdict_text, word_text};
+ghost use Rattle.fm_script.specs.declared.said.Said.TheVariants as SaidOf;
+ghost use Rattle.fm_script.specs.declared.said.Word.TheVariants as WordOf;
+ghost use Rattle.fm_session.specs.Sessions.{given_after_next};
+
+use crate::hexadecimal::write_hex;
+use fm_core::{Action, Count, Due, Phase, SetAnswer, StepReply};
+use fm_data::{Answer, PreVerdict};
+use fm_session::Given;
+use fm_types::{Bytes, CtxId, InstanceId, Status};
+use std::alloc::AllocError;
+
+/// The words that lines begin with.
+#[derive(Clone, Copy, Debug, PartialEq, Eq)]
+pub enum Word {
+    Ok,
+    Pre,
+    Base,
+    Post,
+    Drain,
+    Moved,
+    Held,
+    Done,
+    Body,
+    Cleanup,
+    None,
+    Count,
+    Due,
+    Cleaning,
+    Cleaned,
+    Setup,
+    Attached,
+    Stopping,
+    Completing,
+    Emptying,
+    Detached,
+    Leaks,
+    Failures,
+}
+
+/// One line that a script prints.
+#[derive(Drop)]
+pub enum Said {
+    /// A word.
+    Plain(Word),
+    /// A word and an id, which is a letter and a number.
+    Id(Word, u8, u64),
+    /// A word and a number.
+    Number(Word, u64),
+    /// `no` and the number of a refusal; behind that of Busy stands how many there are.
+    Refused(Status),
+    /// `no 22` and the context that is set already, by its number.
+    Defined(u64),
+    /// A word and bytes.
+    Told(Word, Bytes),
+    /// `reply`, and an operation's answer.
+    Replied(Answer),
+    /// `pre`, the number of an instance, and what its preoperation callback answers in a `go`.
+    Answered(u64, PreVerdict),
+    /// `base`, and the status of a base entry in a `go`.
+    Based(Status),
+}
+
+/// The line for what an event answered, by the contexts in the order of their allocation.
+pub fn said_of(contexts: &[CtxId], reply: StepReply) -> Said
+    ensures { result ≡ said_of contexts.now reply }
+{
+    match reply {
+        StepReply::Filter(Ok(filter)) => Said::Id(Word::Ok, b'f', u64::from(filter.0)),
+        StepReply::Volume(Ok(volume)) => Said::Id(Word::Ok, b'v', u64::from(volume.0)),
+        StepReply::Instance(Ok(instance)) => Said::Id(Word::Ok, b'i', u64::from(instance.0)),
+        StepReply::Operation(Ok(operation)) => Said::Id(Word::Ok, b'o', operation.0),
+        StepReply::Action(answer) => said_action(answer),
+        StepReply::Done(answer) => said_done(answer),
+        StepReply::Answer(Ok(answer)) => Said::Replied(answer),
+        StepReply::Context(Ok(context)) => said_context(Word::Ok, contexts, context),
+        StepReply::Set(answer) => said_set(contexts, answer),
+        StepReply::Old(answer) => said_old(contexts, answer),
+        StepReply::Body(Ok(bytes)) => Said::Told(Word::Body, bytes),
+        StepReply::Number(Ok(number)) => Said::Number(Word::Ok, number),
+        StepReply::Due(answer) => said_due(contexts, answer),
+        StepReply::Filter(Err(status))
+        | StepReply::Volume(Err(status))
+        | StepReply::Instance(Err(status))
+        | StepReply::Operation(Err(status))
+        | StepReply::Answer(Err(status))
+        | StepReply::Context(Err(status))
+        | StepReply::Body(Err(status))
+        | StepReply::Number(Err(status)) => Said::Refused(status),
+    }
+}
+
+/// The line for an instance that was attached.
+pub fn said_attached(answer: Result<InstanceId, Status>) -> Said
+    ensures { result ≡ said_new (λ i. SaidOf.Id WordOf.Ok 105 i.0) answer }
+{
+    match answer {
+        Ok(instance) => Said::Id(Word::Ok, b'i', u64::from(instance.0)),
+        Err(status) => Said::Refused(status),
+    }
+}
+
+/// The line for what a worker has to do next.
+pub fn said_given(answer: Result<Given, Status>) -> Said
+    ensures { result ≡ said_given answer }
+{
+    match answer {
+        Ok(Given::Pre(instance)) => Said::Id(Word::Pre, b'i', u64::from(instance.0)),
+        Ok(Given::Base) => Said::Plain(Word::Base),
+        Ok(Given::Post(instance, _)) => Said::Id(Word::Post, b'i', u64::from(instance.0)),
+        Ok(Given::Drain(instance, _)) => Said::Id(Word::Drain, b'i', u64::from(instance.0)),
+        Ok(Given::Moved) => Said::Plain(Word::Moved),
+        Ok(Given::Held) => Said::Plain(Word::Held),
+        Ok(Given::Done) => Said::Plain(Word::Done),
+        Err(status) => Said::Refused(status),
+    }
+}
+
+// The same of an action with what it lends.
+fn said_action(answer: Result<Action, Status>) -> Said
+    ensures { result ≡ said_given (given_after_next answer) }
+{
+    match answer {
+        Ok(action) => said_given(Ok(Given::of(&action))),
+        Err(status) => Said::Refused(status),
+    }
+}
+
+/// The line for what answers nothing but how it went.
+pub fn said_done(answer: Result<(), Status>) -> Said
+    ensures { result ≡ said_done answer }
+{
+    match answer {
+        Ok(()) => Said::Plain(Word::Ok),
+        Err(status) => Said::Refused(status),
+    }
+}
+
+// The number of a context in the order of allocation.
+fn number_of(contexts: &[CtxId], context: CtxId) -> Option<usize>
+    ensures { result ≡ position (is_context context) contexts.now }
+{
+    contexts.iter().position(|own| own.slot == context.slot && own.generation == context.generation)
+}
+
+// A word and a context.
+fn said_context(word: Word, contexts: &[CtxId], context: CtxId) -> Said
+    ensures { result ≡ said_context (SaidOf.Id word 99) contexts.now context }
+{
+    match number_of(contexts, context) {
+        Some(number) => Said::Id(word, b'c', number as u64),
+        None => Said::Refused(Status::NotHeld),
+    }
+}
+
+fn said_set(contexts: &[CtxId], answer: SetAnswer) -> Said
+    ensures { result ≡ said_set contexts.now answer }
+{
+    match answer {
+        SetAnswer::Linked(None) => Said::Plain(Word::Ok),
+        SetAnswer::Linked(Some(old)) => said_context(Word::Ok, contexts, old),
+        SetAnswer::AlreadyDefined(None) => Said::Refused(Status::AlreadyDefined),
+        SetAnswer::AlreadyDefined(Some(old)) => said_defined(contexts, old),
+        SetAnswer::Refused(status) => Said::Refused(status),
+    }
+}
+
+// Another context is set already.
+fn said_defined(contexts: &[CtxId], context: CtxId) -> Said
+    ensures { result ≡ said_context SaidOf.Defined contexts.now context }
+{
+    match number_of(contexts, context) {
+        Some(number) => Said::Defined(number as u64),
+        None => Said::Refused(Status::NotHeld),
+    }
+}
+
+fn said_old(contexts: &[CtxId], answer: Result<Option<CtxId>, Status>) -> Said
+    ensures { result ≡ said_old contexts.now answer }
+{
+    match answer {
+        Ok(None) => Said::Plain(Word::Ok),
+        Ok(Some(old)) => said_context(Word::Ok, contexts, old),
+        Err(status) => Said::Refused(status),
+    }
+}
+
+fn said_due(contexts: &[CtxId], answer: Result<Option<Due>, Status>) -> Said
+    ensures { result ≡ said_due contexts.now answer }
+{
+    match answer {
+        Ok(None) => Said::Plain(Word::None),
+        Ok(Some(due)) => said_context(Word::Cleanup, contexts, due.id),
+        Err(status) => Said::Refused(status),
+    }
+}
+
+/// The line for how far a context's life has come.
+pub fn said_count(count: Count) -> Said
+    ensures { result ≡ said_count count }
+{
+    match count {
+        Count::Live(number) => Said::Number(Word::Count, number),
+        Count::Due => Said::Plain(Word::Due),
+        Count::Cleaning => Said::Plain(Word::Cleaning),
+        Count::Cleaned => Said::Plain(Word::Cleaned),
+        Count::Absent => Said::Refused(Status::NotHeld),
+    }
+}
+
+/// The word for an instance's phase.
+pub fn phase_word(phase: Phase) -> Word
+    ensures { result ≡ phase_word phase }
+{
+    match phase {
+        Phase::Setup => Word::Setup,
+        Phase::Attached => Word::Attached,
+        Phase::Stopping => Word::Stopping,
+        Phase::Completing => Word::Completing,
+        Phase::Emptying => Word::Emptying,
+        Phase::Detached => Word::Detached,
+    }
+}
+
+impl Word {
+    // How it is spelled.
+    fn text(self) -> &'static [u8]
+        ensures { result.now ≡ word_text self }
+    {
+        match self {
+            Word::Ok => b"ok",
+            Word::Pre => b"pre",
+            Word::Base => b"base",
+            Word::Post => b"post",
+            Word::Drain => b"drain",
+            Word::Moved => b"moved",
+            Word::Held => b"held",
+            Word::Done => b"done",
+            Word::Body => b"body",
+            Word::Cleanup => b"cleanup",
+            Word::None => b"none",
+            Word::Count => b"count",
+            Word::Due => b"due",
+            Word::Cleaning => b"cleaning",
+            Word::Cleaned => b"cleaned",
+            Word::Setup => b"setup",
+            Word::Attached => b"attached",
+            Word::Stopping => b"stopping",
+            Word::Completing => b"completing",
+            Word::Emptying => b"emptying",
+            Word::Detached => b"detached",
+            Word::Leaks => b"leaks",
+            Word::Failures => b"failures",
+        }
+    }
+}
+
+impl Said {
+    /// Appends the line, with its line feed. It fails where there is no memory for it; then the text may end with a beginning of the line.
+    pub fn print(&self, text: &mut Vec<u8>) -> Result<(), AllocError>
+        ensures { IfOk result (λ _. text.new.items ≡ text_with text.old.items self.now) }
+    {
+        match self {
+            Said::Plain(word) => text.extend_from_slice(word.text())?,
+            Said::Id(word, letter, number) => {
+                text.extend_from_slice(word.text())?;
+                text.push(b' ')?;
+                text.push(*letter)?;
+                print_number(text, *number)?;
+            }
+            Said::Number(word, number) => {
+                text.extend_from_slice(word.text())?;
+                text.push(b' ')?;
+                print_number(text, *number)?;
+            }
+            Said::Refused(status) => print_refusal(text, *status)?,
+            Said::Defined(number) => {
+                text.extend_from_slice(b"no 22 c")?;
+                print_number(text, *number)?;
+            }
+            Said::Told(word, bytes) => {
+                text.extend_from_slice(word.text())?;
+                text.push(b' ')?;
+                write_hex(text, bytes.as_slice())?;
+            }
+            Said::Replied(answer) => print_reply(text, answer)?,
+            Said::Answered(instance, verdict) => {
+                text.extend_from_slice(b"pre i")?;
+                print_number(text, *instance)?;
+                print_verdict(text, *verdict)?;
+            }
+            Said::Based(status) => {
+                text.extend_from_slice(b"base ")?;
+                print_number(text, u64::from(status.number()))?;
+            }
+        }
+        text.push(b'\n')?;
+        Ok(())
+    }
+}
+
+// Appends a number.
+fn print_number(text: &mut Vec<u8>, number: u64) -> Result<(), AllocError>
+    ensures { IfOk result (λ _. text.new.items ≡ text.old.items ++ decimal number) }
+{
+    let mut buffer = itoa::Buffer::new();
+    text.extend_from_slice(buffer.format(number).as_bytes())
+}
+
+fn print_refusal(text: &mut Vec<u8>, status: Status) -> Result<(), AllocError>
+    ensures { IfOk result (λ _. text.new.items ≡ refused_text text.old.items status) }
+{
+    text.extend_from_slice(b"no ")?;
+    print_number(text, u64::from(status.number()))?;
+    if let Status::Busy(count) = status {
+        text.push(b' ')?;
+        print_number(text, count)?;
+    }
+    Ok(())
+}
+
+fn print_verdict(text: &mut Vec<u8>, verdict: PreVerdict) -> Result<(), AllocError>
+    ensures { IfOk result (λ _. text.new.items ≡ verdict_text text.old.items verdict) }
+{
+    match verdict {
+        PreVerdict::WithCallback(_) => text.extend_from_slice(b" with"),
+        PreVerdict::Synchronize(_) => text.extend_from_slice(b" sync"),
+        PreVerdict::NoCallback => text.extend_from_slice(b" none"),
+        PreVerdict::Complete(status) => {
+            text.extend_from_slice(b" complete ")?;
+            print_number(text, u64::from(status.number()))
+        }
+        PreVerdict::Pending => text.extend_from_slice(b" pend"),
+    }
+}
+
+fn print_reply(text: &mut Vec<u8>, answer: &Answer) -> Result<(), AllocError>
+    ensures { IfOk result (λ _. text.new.items ≡ reply_text text.old.items answer.now) }
+{
+    text.extend_from_slice(b"reply ")?;
+    print_number(text, u64::from(answer.status.number()))?;
+    text.push(b' ')?;
+    print_number(text, answer.information)?;
+    text.push(b' ')?;
+    write_hex(text, answer.bytes.as_slice())
+}

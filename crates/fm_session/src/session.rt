@@ -1,0 +1,255 @@
+//! The state, and what its workers were lent.
+
+ghost use Rattle.std.specs.Prelude.{◌≡◌, IfErr, IfNone, IfOk, IfSome};
+ghost use Rattle.fm_world.specs.World.{empty_world};
+ghost use Rattle.fm_world.specs.Events.{Attaches, BaseReturns, Collects, SetsUp};
+ghost use Rattle.fm_world.specs.Steps.{Steps};
+ghost use Rattle.fm_session.specs.Sessions.{LendsNext, LentPreReturns, LentPostReturns, LentBaseReturns, lent_to, lend, pre_in, post_in, base_in, post_lent, lent_back};
+ghost use Rattle.fm_session.specs.declared.lent.Lent.{Lent};
+ghost use Rattle.fm_session.specs.declared.lent.Lent.TheVariants as lent;
+
+use crate::lent::{Given, Lent};
+use fm_altitude::Altitude;
+use fm_core::{Refused, State, Step, StepReply};
+use fm_data::{Answer, BaseCall, CallbackData, PostVerdict, PreVerdict};
+use fm_device::Device;
+use fm_types::{FilterId, InstanceId, Name, OpId, Status, VolumeId, WorkerId};
+use std::alloc::Global;
+use std::marker::Model;
+use std::mem;
+
+/// How many workers there are.
+const WORKERS: usize = 48;
+
+/// A state, and for each worker what it was lent. Contracts see both.
+#[derive(Drop)]
+pub struct Session {
+    state: State,
+    lent: Vec<Lent>,
+}
+
+impl Model for Session {
+    ghost use Rattle.fm_session.specs.Sessions.{Lending};
+
+    ghost Value = { Lending };
+
+    ghost view = { λ s. record { world = s.state; lent = s.lent.items } };
+}
+
+impl Session {
+    /// The state before the first event. Refused with 1 where memory was refused.
+    pub fn new(alloc: Global) -> Result<Self, Status>
+        ensures empty { IfOk result (λ session. session.world ≡ empty_world) }
+        ensures memory { IfErr result (λ status. status ≡ Status.NoMemory) }
+    {
+        let state = State::new(alloc)?;
+        let mut lent = Vec::new(alloc);
+        for _ in 0..WORKERS {
+            lent.push(Lent::Nothing)?;
+        }
+        Ok(Session { state, lent })
+    }
+
+    /// The state, to be read.
+    pub fn state(&self) -> &State
+        ensures { result.now ≡ self.now.world }
+    {
+        &self.state
+    }
+
+    /// Makes one event, as `State::step` does. What it lends or takes back is the caller's: the session keeps nothing of it.
+    pub fn step(&mut self, step: Step) -> StepReply
+        ensures event { Steps self.old.world step result self.new.world }
+        ensures lent { self.new.lent ≡ self.old.lent }
+    {
+        self.state.step(step)
+    }
+
+    /// The worker attaches an instance (`State::attach`).
+    pub fn attach(
+        &mut self,
+        worker: WorkerId,
+        filter: FilterId,
+        volume: VolumeId,
+        name: Name,
+        altitude: Altitude,
+    ) -> Result<InstanceId, Status>
+        ensures event { Attaches self.old.world worker filter volume name altitude result self.new.world }
+        ensures lent { self.new.lent ≡ self.old.lent }
+    {
+        self.state.attach(worker, filter, volume, name, altitude)
+    }
+
+    /// The setup callback that the worker is in returns (`State::setup_done`).
+    pub fn setup_done(&mut self, worker: WorkerId, accept: bool) -> Result<(), Status>
+        ensures event { SetsUp self.old.world worker accept result self.new.world }
+        ensures lent { self.new.lent ≡ self.old.lent }
+    {
+        self.state.setup_done(worker, accept)
+    }
+
+    /// A worker takes the next step of an operation (`State::next`), and keeps here what it is lent.
+    pub fn next(&mut self, worker: WorkerId, operation: OpId) -> Result<Given, Status>
+        ensures { LendsNext self.old worker operation result self.new }
+    {
+        let action = self.state.next(worker, operation)?;
+        let given = Given::of(&action);
+        self.lend(worker, Lent::by(action));
+        Ok(given)
+    }
+
+    /// The worker's preoperation callback returns with what it was lent (`State::pre_returned`). Refused with 30, nothing changed, where it was lent no
+    /// such data. Where the event is refused the worker still has it.
+    #[tactic(auto, using(crate::proofs::Returns::pre_back))]
+    pub fn pre_returned(&mut self, worker: WorkerId, verdict: PreVerdict) -> Result<(), Status>
+        ensures { LentPreReturns self.old worker verdict result self.new }
+    {
+        let Some(data) = self.take_pre(worker) else {
+            return Err(Status::WrongStep);
+        };
+        match self.state.pre_returned(worker, verdict, data) {
+            Ok(()) => Ok(()),
+            Err(refused) => {
+                self.lend(worker, Lent::Pre(refused.handed_back));
+                Err(refused.status)
+            }
+        }
+    }
+
+    /// The worker's postoperation callback returns with what it was lent, or its drain with nothing (`State::post_returned`). Refused with 30, nothing
+    /// changed, where it was lent neither. Where the event is refused the worker still has it.
+    #[tactic(auto, using(crate::proofs::Returns::post_back))]
+    pub fn post_returned(&mut self, worker: WorkerId, verdict: PostVerdict) -> Result<(), Status>
+        ensures { LentPostReturns self.old worker verdict result self.new }
+    {
+        let Some(data) = self.take_post(worker) else {
+            return Err(Status::WrongStep);
+        };
+        match self.state.post_returned(worker, verdict, data) {
+            Ok(()) => Ok(()),
+            Err(refused) => {
+                self.lend(worker, post_lent(refused.handed_back));
+                Err(refused.status)
+            }
+        }
+    }
+
+    /// The device carries out the call that the worker was lent, and the worker's call returns (`State::base_returned`): the status that the device
+    /// answered. Refused with 30, nothing changed and no call made, where the worker was lent no call. Where the event is refused it still has it.
+    #[tactic(auto, using(crate::proofs::Returns::base_back))]
+    pub fn call_base<D: Device>(
+        &mut self,
+        worker: WorkerId,
+        device: &mut D,
+    ) -> Result<Status, Status>
+        ensures { LentBaseReturns D.carries self.old device.old worker result self.new device.new }
+    {
+        let Some(call) = self.take_base(worker) else {
+            return Err(Status::WrongStep);
+        };
+        let answer = device.call(&call);
+        let status = answer.status;
+        self.return_base(worker, call, answer)?;
+        Ok(status)
+    }
+
+    /// Hands out the answer of a done operation (`State::collect`).
+    pub fn collect(&mut self, operation: OpId) -> Result<Answer, Status>
+        ensures event { Collects self.old.world operation result self.new.world }
+        ensures lent { self.new.lent ≡ self.old.lent }
+    {
+        self.state.collect(operation)
+    }
+
+    // A call that was taken from the worker returns. Where that is refused the worker has it again.
+    fn return_base(
+        &mut self,
+        worker: WorkerId,
+        call: BaseCall,
+        answer: Answer,
+    ) -> Result<(), Status>
+        ensures event { BaseReturns self.old.world worker call answer result self.new.world }
+        ensures lent { self.new.lent ≡ lent_back self.old.lent worker (lent.Base call) result }
+    {
+        match self.state.base_returned(worker, call, answer) {
+            Ok(()) => Ok(()),
+            Err(
+                Refused {
+                    status,
+                    handed_back: (call, _),
+                },
+            ) => {
+                self.lend(worker, Lent::Base(call));
+                Err(status)
+            }
+        }
+    }
+
+    // Keeps what the worker is lent.
+    fn lend(&mut self, worker: WorkerId, lent: Lent)
+        ensures { self.new ≡ record self.old { lent = lend self.old.lent worker lent } }
+    {
+        if let Some(place) = self.lent.get_mut(usize::from(worker.0)) {
+            *place = lent;
+        }
+    }
+
+    // Takes the data of the preoperation that the worker is in.
+    fn take_pre(&mut self, worker: WorkerId) -> Option<CallbackData>
+        ensures is { result ≡ pre_in (lent_to self.old.lent worker) }
+        ensures some { IfSome result (λ _. self.new ≡ record self.old { lent = lend self.old.lent worker lent.Nothing }) }
+        ensures none { IfNone result (self.new ≡ self.old) }
+    {
+        let place = self.lent.get_mut(usize::from(worker.0))?;
+        match mem::replace(place, Lent::Nothing) {
+            Lent::Pre(data) => Some(data),
+            other => {
+                *place = other;
+                None
+            }
+        }
+    }
+
+    // Takes the data of the postoperation that the worker is in, or none of its drain.
+    fn take_post(&mut self, worker: WorkerId) -> Option<Option<CallbackData>>
+        ensures is { result ≡ post_in (lent_to self.old.lent worker) }
+        ensures some { IfSome result (λ _. self.new ≡ record self.old { lent = lend self.old.lent worker lent.Nothing }) }
+        ensures none { IfNone result (self.new ≡ self.old) }
+    {
+        let place = self.lent.get_mut(usize::from(worker.0))?;
+        match mem::replace(place, Lent::Nothing) {
+            Lent::Post(data) => Some(Some(data)),
+            Lent::Drain => Some(None),
+            other => {
+                *place = other;
+                None
+            }
+        }
+    }
+
+    // Takes the base call that the worker is in.
+    fn take_base(&mut self, worker: WorkerId) -> Option<BaseCall>
+        ensures is { result ≡ base_in (lent_to self.old.lent worker) }
+        ensures some { IfSome result (λ _. self.new ≡ record self.old { lent = lend self.old.lent worker lent.Nothing }) }
+        ensures none { IfNone result (self.new ≡ self.old) }
+    {
+        let place = self.lent.get_mut(usize::from(worker.0))?;
+        match mem::replace(place, Lent::Nothing) {
+            Lent::Base(call) => Some(call),
+            other => {
+                *place = other;
+                None
+            }
+        }
+    }
+}
+
+// What a postoperation's data is lent as; a drain has none.
+fn post_lent(given: Option<CallbackData>) -> Lent
+    ensures { result ≡ post_lent given }
+{
+    match given {
+        Some(data) => Lent::Post(data),
+        None => Lent::Drain,
+    }
+}

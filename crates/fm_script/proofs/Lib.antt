@@ -2,3 +2,4 @@ pub mod Spellings
 pub mod Numbers
 pub mod Kept
 pub mod Going
+pub mod Running

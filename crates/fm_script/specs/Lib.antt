@@ -12,3 +12,4 @@ pub mod Tasks
 pub mod Sayings
 pub mod Runs
 pub mod Lines
+pub mod Events

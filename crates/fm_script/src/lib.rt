@@ -10,6 +10,7 @@ mod hexadecimal;
 mod ids;
 mod interpreter;
 mod keyword;
+pub mod laws;
 mod line;
 mod number;
 mod output;

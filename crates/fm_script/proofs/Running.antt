@@ -1,0 +1,161 @@
+-- Whatever a task makes is a run of the events that it names.
+use Rattle.std.proofs.Common.{◌≡◌, ◌⊎◌, inl, inr, true, List, [], ◌∷◌, ◌++◌, Option, Some, None, Result, Ok, Err, refl, sym, ap, subst, ◌∙◌}
+use Rattle.std.specs.List.{AllByRecursion}
+use Rattle.fm_types.specs.declared.ids.InstanceId.{InstanceId}
+use Rattle.fm_types.specs.declared.ids.OpId.{OpId}
+use Rattle.fm_types.specs.declared.ids.WorkerId.{WorkerId}
+use Rattle.fm_types.specs.declared.status.Status.{Status}
+use Rattle.fm_data.specs.Data.{Data}
+use Rattle.fm_data.specs.declared.answer.Answer.{Answer}
+use Rattle.fm_data.specs.declared.base_call.BaseCall.{BaseCall}
+use Rattle.fm_data.specs.declared.verdict.PreVerdict.{PreVerdict}
+use Rattle.fm_data.specs.declared.verdict.PostVerdict.TheVariants.{Finished}
+use Rattle.fm_flow.specs.declared.action.FlowAction.{FlowAction}
+use Rattle.fm_world.specs.World.{World}
+use Rattle.fm_world.specs.Steps.{Run, Steps}
+use Rattle.fm_world.specs.declared.step.Step.{Step}
+use Rattle.fm_world.specs.declared.step.Step.TheVariants as step
+use Rattle.fm_world.specs.declared.step.StepReply.{StepReply}
+use Rattle.fm_world.specs.declared.step.StepReply.TheVariants as reply
+use Rattle.fm_session.specs.declared.lent.Given.{Given}
+use Rattle.fm_session.specs.Sessions.{Lending, LendsNext, LentPreReturns, LentPostReturns, LentBaseReturns, ReturnsPre, ReturnsPost, ReturnsBase, pre_in, post_in, base_in, lent_to}
+use Rattle.fm_script.specs.Devices.{Calls}
+use Rattle.fm_script.specs.Events.{IsBase, IsPost, IsPre, Names, RunsBy, TasksAreRuns}
+use Rattle.fm_script.specs.Runs.{Accepts, Acts, AttachesAndAccepts, Goes, IsTurn, Performs, Turns, worker_0}
+use Rattle.fm_script.specs.declared.devices.Devices.{Devices}
+use Rattle.fm_script.specs.declared.interpreter.Interpreter.{Interpreter}
+use Rattle.fm_script.specs.declared.task.Task.{Task}
+use Rattle.fm_script.specs.declared.task.Task.TheVariants as task
+
+-- a run of events that pass a test
+record RunOf (P : Step → Type 0) (old new : World) : Type 0 where
+  steps : List Step
+  replies : List StepReply
+  run : Run old steps replies new
+  passed : AllByRecursion P steps
+
+none : (P : Step → Type 0) (old new : World) → new ≡ old → RunOf P old new
+none P old new same = record { steps = []; replies = []; run = same; passed = tt }
+
+one : (P : Step → Type 0) (old new : World) (s : Step) (r : StepReply) → P s → Steps old s r new → RunOf P old new
+one P old new s r passes event = record { steps = s ∷ []; replies = r ∷ []; run = (new, event, refl); passed = (passes, tt) }
+
+run_then : (first second : List Step) (fr sr : List StepReply) (old mid new : World)
+    → Run old first fr mid → Run mid second sr new → Run old (first ++ second) (fr ++ sr) new
+run_then [] second [] sr old mid new before after = subst (λ (w : World). Run w second sr new) before after
+run_then [] second (r ∷ fr) sr old mid new before after = absurd before
+run_then (s ∷ first) second [] sr old mid new before after = absurd before
+run_then (s ∷ first) second (r ∷ fr) sr old mid new (between, event, before) after =
+    (between, event, run_then first second fr sr between mid new before after)
+
+all_then : (P : Step → Type 0) (first second : List Step) → AllByRecursion P first → AllByRecursion P second → AllByRecursion P (first ++ second)
+all_then P [] second before after = after
+all_then P (s ∷ first) second (here, before) after = (here, all_then P first second before after)
+
+both : {P : Step → Type 0} {old mid new : World} → RunOf P old mid → RunOf P mid new → RunOf P old new
+both {P} {old} {mid} {new} before after = record {
+  steps = before.steps ++ after.steps;
+  replies = before.replies ++ after.replies;
+  run = run_then before.steps after.steps before.replies after.replies old mid new before.run after.run;
+  passed = all_then P before.steps after.steps before.passed after.passed;
+}
+
+-- ---- returns
+
+pre_runs : {P : Step → Type 0} (old new : Lending) (k : WorkerId) (answer : PreVerdict) (r : Result (Unit {0}) Status) (lent : Option Data)
+    → ((own : Data) → P (step.PreReturned k answer own)) → ReturnsPre old k answer r new lent → RunOf P old.world new.world
+pre_runs {P} old new k answer r None is (_, same) = none P old.world new.world (ap (λ (l : Lending). l.world) same)
+pre_runs {P} old new k answer r (Some own) is (event, _) = one P old.world new.world (step.PreReturned k answer own) (reply.Done r) (is own) event
+
+post_runs : {P : Step → Type 0} (old new : Lending) (k : WorkerId) (r : Result (Unit {0}) Status) (lent : Option (Option Data))
+    → ((own : Option Data) → P (step.PostReturned k Finished own)) → ReturnsPost old k Finished r new lent → RunOf P old.world new.world
+post_runs {P} old new k r None is (_, same) = none P old.world new.world (ap (λ (l : Lending). l.world) same)
+post_runs {P} old new k r (Some own) is (event, _) = one P old.world new.world (step.PostReturned k Finished own) (reply.Done r) (is own) event
+
+base_runs : {P : Step → Type 0} (old new : Lending) (below after : Devices) (k : WorkerId) (r : Result Status Status) (lent : Option BaseCall)
+    → ((call : BaseCall) (answer : Answer) → P (step.BaseReturned k call answer)) → ReturnsBase Calls old below k r new after lent → RunOf P old.world new.world
+base_runs {P} old new below after k r None is ((_, same), _) = none P old.world new.world (ap (λ (l : Lending). l.world) same)
+base_runs {P} old new below after k r (Some call) is (answer, own, _, event, _, _) =
+    one P old.world new.world (step.BaseReturned k call answer) (reply.Done own) (is call answer) event
+
+-- ---- tasks
+
+acts_run : {P : Step → Type 0} (t : Task) (old new : Interpreter) → ((s : Step) → Names t s → P s) → Acts t old new → RunOf P old.session.world new.session.world
+acts_run {P} (task.Event s) old new is (r, made) = one P old.session.world new.session.world s r (is s refl) made.event
+acts_run {P} (task.Next k o) old new is (r, (own, event, _, _), _) =
+    one P old.session.world new.session.world (step.Next k o) (reply.Action own) (is (step.Next k o) refl) event
+acts_run {P} (task.Pre k answer) old new is (r, event, _) =
+    pre_runs old.session new.session k answer r (pre_in (lent_to old.session.lent k)) (λ own. is (step.PreReturned k answer own) (own, refl)) event
+acts_run {P} (task.Base k) old new is (r, event, _) =
+    base_runs old.session new.session old.devices new.devices k r (base_in (lent_to old.session.lent k))
+    (λ call answer. is (step.BaseReturned k call answer) (call, answer, refl)) event
+acts_run {P} (task.Post k) old new is (r, event, _) =
+    post_runs old.session new.session k r (post_in (lent_to old.session.lent k)) (λ own. is (step.PostReturned k Finished own) (own, refl)) event
+acts_run {P} (task.Attach f v name altitude) old new is acts = absurd acts
+acts_run {P} (task.Go by own) old new is acts = absurd acts
+acts_run {P} (task.Plan i answer) old new is acts = absurd acts
+acts_run {P} (task.Phase i) old new is acts = absurd acts
+acts_run {P} (task.Count c) old new is acts = absurd acts
+acts_run {P} task.Leaks old new is acts = absurd acts
+acts_run {P} (task.Fail n) old new is acts = absurd acts
+acts_run {P} task.Failures old new is acts = absurd acts
+
+turn_named : (k : WorkerId) (o : OpId) (t : Task) → IsTurn k o t → (s : Step) → Names t s → Names (task.Go k o) s
+turn_named k o (task.Next by own) (worker, operation) s is = inl (is ∙ ap (λ (w : WorkerId). step.Next w own) worker ∙ ap (step.Next k) operation)
+turn_named k o (task.Pre by answer) worker s (own, is) = inr (inl (answer, own, is ∙ ap (λ (w : WorkerId). step.PreReturned w answer own) worker))
+turn_named k o (task.Base by) worker s (call, answer, is) =
+    inr (inr (inl (call, answer, is ∙ ap (λ (w : WorkerId). step.BaseReturned w call answer) worker)))
+turn_named k o (task.Post by) worker s (own, is) = inr (inr (inr (inl (own, is ∙ ap (λ (w : WorkerId). step.PostReturned w Finished own) worker))))
+turn_named k o (task.Event own) collects s is = inr (inr (inr (inr (is ∙ collects))))
+turn_named k o (task.Attach f v name altitude) turn s is = absurd turn
+turn_named k o (task.Go by own) turn s is = absurd turn
+turn_named k o (task.Plan i answer) turn s is = absurd turn
+turn_named k o (task.Phase i) turn s is = absurd turn
+turn_named k o (task.Count c) turn s is = absurd turn
+turn_named k o task.Leaks turn s is = absurd turn
+turn_named k o (task.Fail n) turn s is = absurd turn
+turn_named k o task.Failures turn s is = absurd turn
+
+turns_run : (k : WorkerId) (o : OpId) (turns : List Task) (old new : Interpreter) → Turns k o turns old new
+    → RunOf (Names (task.Go k o)) old.session.world new.session.world
+turns_run k o [] old new same =
+    none (Names (task.Go k o)) old.session.world new.session.world (ap (λ (i : Interpreter). i.session.world) same)
+turns_run k o (t ∷ before) old new (is, mid, first, acts) = both (turns_run k o before old mid first) (acts_run t mid new (turn_named k o t is) acts)
+
+goes_run : (k : WorkerId) (o : OpId) (old new : Interpreter) → Goes k o old new → RunOf (Names (task.Go k o)) old.session.world new.session.world
+unfolding Goes
+goes_run k o old new (turns, all) = turns_run k o turns old new all
+
+accepts_run : {P : Step → Type 0} (mid new : World) (r result : Result InstanceId Status) → P (step.SetupDone worker_0 true) → Accepts mid r result new → RunOf P mid new
+accepts_run {P} mid new (Ok i) result is (done, event, _) = one P mid new (step.SetupDone worker_0 true) (reply.Done done) is event
+accepts_run {P} mid new (Err status) result is (same, _) = none P mid new same
+
+runs_by : (t : Task) (old new : Interpreter) → RunOf (Names t) old.session.world new.session.world → RunsBy t old new
+runs_by t old new own = record { steps = own.steps; replies = own.replies; run = own.run; named = own.passed }
+
+still : (t : Task) (old new : Interpreter) → new.session ≡ old.session → RunsBy t old new
+still t old new same = runs_by t old new (none (Names t) old.session.world new.session.world (ap (λ (l : Lending). l.world) same))
+
+acts_by : (t : Task) (old new : Interpreter) → Acts t old new → RunsBy t old new
+acts_by t old new acts = runs_by t old new (acts_run t old new (λ s is. is) acts)
+
+pub tasks_are_runs : TasksAreRuns
+unfolding TasksAreRuns
+tasks_are_runs (task.Event s) old new (inl acts) = acts_by (task.Event s) old new acts
+tasks_are_runs (task.Event s) old new (inr stays) = still (task.Event s) old new stays.0.session
+tasks_are_runs (task.Attach f v name altitude) old new (result, (r, mid, attaches, accepts), _, _) =
+    runs_by (task.Attach f v name altitude) old new
+    (both (one (Names (task.Attach f v name altitude)) old.session.world mid (step.Attach worker_0 f v name altitude) (reply.Instance r) (inl refl) attaches)
+    (accepts_run mid new.session.world r result (inr refl) accepts))
+tasks_are_runs (task.Next k o) old new acts = acts_by (task.Next k o) old new acts
+tasks_are_runs (task.Pre k answer) old new acts = acts_by (task.Pre k answer) old new acts
+tasks_are_runs (task.Base k) old new acts = acts_by (task.Base k) old new acts
+tasks_are_runs (task.Post k) old new acts = acts_by (task.Post k) old new acts
+tasks_are_runs (task.Go k o) old new goes = runs_by (task.Go k o) old new (goes_run k o old new goes)
+tasks_are_runs (task.Plan i answer) old new (inl plans) = still (task.Plan i answer) old new plans.manager.session
+tasks_are_runs (task.Plan i answer) old new (inr stays) = still (task.Plan i answer) old new stays.0.session
+tasks_are_runs (task.Phase i) old new stays = still (task.Phase i) old new stays.0.session
+tasks_are_runs (task.Count c) old new stays = still (task.Count c) old new stays.0.session
+tasks_are_runs task.Leaks old new stays = still task.Leaks old new stays.0.session
+tasks_are_runs task.Failures old new stays = still task.Failures old new stays.0.session
+tasks_are_runs (task.Fail n) old new fails = still (task.Fail n) old new fails.session

@@ -1,5 +1,5 @@
 -- Whatever a task makes is a run of the events that it names.
-use Rattle.std.proofs.Common.{◌≡◌, ◌⊎◌, inl, inr, true, List, [], ◌∷◌, ◌++◌, Option, Some, None, Result, Ok, Err, refl, sym, ap, subst, ◌∙◌}
+use Rattle.std.proofs.Common.{◌≡◌, inl, inr, true, List, [], ◌∷◌, ◌++◌, Option, Some, None, Result, Ok, Err, refl, ap, subst, ◌∙◌}
 use Rattle.std.specs.List.{AllByRecursion}
 use Rattle.fm_types.specs.declared.ids.InstanceId.{InstanceId}
 use Rattle.fm_types.specs.declared.ids.OpId.{OpId}
@@ -10,18 +10,16 @@ use Rattle.fm_data.specs.declared.answer.Answer.{Answer}
 use Rattle.fm_data.specs.declared.base_call.BaseCall.{BaseCall}
 use Rattle.fm_data.specs.declared.verdict.PreVerdict.{PreVerdict}
 use Rattle.fm_data.specs.declared.verdict.PostVerdict.TheVariants.{Finished}
-use Rattle.fm_flow.specs.declared.action.FlowAction.{FlowAction}
 use Rattle.fm_world.specs.World.{World}
 use Rattle.fm_world.specs.Steps.{Run, Steps}
 use Rattle.fm_world.specs.declared.step.Step.{Step}
 use Rattle.fm_world.specs.declared.step.Step.TheVariants as step
 use Rattle.fm_world.specs.declared.step.StepReply.{StepReply}
 use Rattle.fm_world.specs.declared.step.StepReply.TheVariants as reply
-use Rattle.fm_session.specs.declared.lent.Given.{Given}
-use Rattle.fm_session.specs.Sessions.{Lending, LendsNext, LentPreReturns, LentPostReturns, LentBaseReturns, ReturnsPre, ReturnsPost, ReturnsBase, pre_in, post_in, base_in, lent_to}
+use Rattle.fm_session.specs.Sessions.{Lending, ReturnsPre, ReturnsPost, ReturnsBase, pre_in, post_in, base_in, lent_to}
 use Rattle.fm_script.specs.Devices.{Calls}
-use Rattle.fm_script.specs.Events.{IsBase, IsPost, IsPre, Names, RunsBy, TasksAreRuns}
-use Rattle.fm_script.specs.Runs.{Accepts, Acts, AttachesAndAccepts, Goes, IsTurn, Performs, Turns, worker_0}
+use Rattle.fm_script.specs.Events.{Names, RunsBy, TasksAreRuns}
+use Rattle.fm_script.specs.Runs.{Accepts, Acts, Goes, IsTurn, Turns, worker_0}
 use Rattle.fm_script.specs.declared.devices.Devices.{Devices}
 use Rattle.fm_script.specs.declared.interpreter.Interpreter.{Interpreter}
 use Rattle.fm_script.specs.declared.task.Task.{Task}

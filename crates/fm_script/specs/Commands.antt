@@ -17,11 +17,9 @@ use Rattle.fm_script.specs.declared.keyword.Keyword.{Keyword}
 use Rattle.fm_script.specs.declared.keyword.Keyword.TheVariants as keyword
 use Rattle.fm_script.specs.Keywords.{keyword_read}
 use Rattle.fm_script.specs.declared.context_command.ContextCommand.{ContextCommand}
-use Rattle.fm_script.specs.declared.context_command.ContextKeyword.{ContextKeyword}
-use Rattle.fm_script.specs.ContextCommands.{context_keyword_read, context_read}
+use Rattle.fm_script.specs.ContextCommands.{context_read}
 use Rattle.fm_script.specs.declared.file_command.FileCommand.{FileCommand}
-use Rattle.fm_script.specs.declared.file_command.FileKeyword.{FileKeyword}
-use Rattle.fm_script.specs.FileCommands.{create_mode_read, file_keyword_read, file_read}
+use Rattle.fm_script.specs.FileCommands.{create_mode_read, file_read}
 use Rattle.fm_script.specs.Numbers.{number_read, id_read}
 
 -- the letters of ids: c, f, i, o, v, w
@@ -212,6 +210,12 @@ abbrev pub post_read : List (List ℕ) → Result Command Status
 post_read (worker ∷ word ∷ []) = cond (bytes_eq word (codes "done")) (made command.Post (id_or_bad (worker_id worker))) (Err BadRequest)
 post_read _ = Err BadRequest
 
+-- a command on contexts, or else on files
+abbrev pub context_or_file : Option ContextCommand → Option FileCommand → Result Command Status
+context_or_file (Some c) other = Ok (command.Context c)
+context_or_file None (Some c) = Ok (command.File c)
+context_or_file None None = Err BadRequest
+
 -- what the words behind a keyword are read as
 abbrev pub ReadsAs : Keyword → List (List ℕ) → Result Command Status → Type 0
 ReadsAs keyword.Load words result = Loads words result
@@ -230,30 +234,13 @@ ReadsAs keyword.Setup words result = SetsUp words result
 ReadsAs keyword.SetDone words result = result ≡ set_done_read words
 ReadsAs keyword.Finish words result = result ≡ made command.Finish (one_id 105 words)
 ReadsAs keyword.Create words result = Creates words result
+ReadsAs other words result = result ≡ context_or_file (context_read other words) (file_read other words)
 
--- a command on contexts
-abbrev pub on_contexts : Option ContextCommand → Result Command Status
-on_contexts None = Err BadRequest
-on_contexts (Some c) = Ok (command.Context c)
-
--- a command on files
-abbrev pub on_files : Option FileCommand → Result Command Status
-on_files None = Err BadRequest
-on_files (Some c) = Ok (command.File c)
-
-abbrev pub file_or_bad : Option FileKeyword → List (List ℕ) → Result Command Status
-file_or_bad None words = Err BadRequest
-file_or_bad (Some k) words = on_files (file_read k words)
-
-abbrev pub context_or_file : Option ContextKeyword → List ℕ → List (List ℕ) → Result Command Status
-context_or_file None word words = file_or_bad (file_keyword_read word) words
-context_or_file (Some k) word words = on_contexts (context_read k words)
-
-abbrev pub ReadsBehind : Option Keyword → List ℕ → List (List ℕ) → Result Command Status → Type 0
-ReadsBehind None word words result = result ≡ context_or_file (context_keyword_read word) word words
-ReadsBehind (Some k) word words result = ReadsAs k words result
+abbrev pub ReadsBehind : Option Keyword → List (List ℕ) → Result Command Status → Type 0
+ReadsBehind None words result = result ≡ Err BadRequest
+ReadsBehind (Some k) words result = ReadsAs k words result
 
 -- what the words of a line are read as
 abbrev pub Reads : List (List ℕ) → Result Command Status → Type 0
 Reads [] result = result ≡ Err BadRequest
-Reads (word ∷ words) result = ReadsBehind (keyword_read word) word words result
+Reads (word ∷ words) result = ReadsBehind (keyword_read word) words result

@@ -1,50 +1,14 @@
 -- Which command on contexts the words of a line spell.
-use Rattle.std.specs.Prelude.{ℕ, Bool, true, false, List, [], ◌∷◌, Option, Some, None, codes, bytes_eq, cond, find}
+use Rattle.std.specs.Prelude.{ℕ, Bool, true, false, List, [], ◌∷◌, Option, Some, None, codes, bytes_eq, cond}
 use Rattle.fm_types.specs.declared.context_kind.ContextKind.{ContextKind}
 use Rattle.fm_types.specs.declared.context_kind.ContextKind.TheVariants as kind
 use Rattle.fm_ctx.specs.declared.set_reply.SetMode.{SetMode}
 use Rattle.fm_ctx.specs.declared.set_reply.SetMode.TheVariants as mode
-use Rattle.fm_script.specs.declared.context_command.ContextKeyword.{ContextKeyword}
-use Rattle.fm_script.specs.declared.context_command.ContextKeyword.TheVariants as keyword
+use Rattle.fm_script.specs.declared.keyword.Keyword.{Keyword}
+use Rattle.fm_script.specs.declared.keyword.Keyword.TheVariants as keyword
 use Rattle.fm_script.specs.declared.context_command.ContextCommand.{ContextCommand}
 use Rattle.fm_script.specs.declared.context_command.ContextCommand.TheVariants as command
 use Rattle.fm_script.specs.Numbers.{number_read, id_read}
-
-abbrev pub context_spelling : ContextKeyword → List ℕ
-context_spelling keyword.Alloc = codes "alloc"
-context_spelling keyword.Set = codes "set"
-context_spelling keyword.Get = codes "get"
-context_spelling keyword.Del = codes "del"
-context_spelling keyword.Ref = codes "ref"
-context_spelling keyword.Rel = codes "rel"
-context_spelling keyword.Body = codes "body"
-context_spelling keyword.WBody = codes "wbody"
-context_spelling keyword.Bump = codes "bump"
-context_spelling keyword.Due = codes "due"
-context_spelling keyword.Cleaned = codes "cleaned"
-context_spelling keyword.Count = codes "count"
-context_spelling keyword.Leaks = codes "leaks"
-
-abbrev pub all_context_keywords : List ContextKeyword
-all_context_keywords =
-    keyword.Alloc
-    ∷ keyword.Set
-    ∷ keyword.Get
-    ∷ keyword.Del
-    ∷ keyword.Ref
-    ∷ keyword.Rel
-    ∷ keyword.Body
-    ∷ keyword.WBody
-    ∷ keyword.Bump
-    ∷ keyword.Due
-    ∷ keyword.Cleaned
-    ∷ keyword.Count
-    ∷ keyword.Leaks
-    ∷ []
-
--- the keyword that a word is
-unfoldable pub context_keyword_read : List ℕ → Option ContextKeyword
-context_keyword_read word = find (λ k. bytes_eq (context_spelling k) word) all_context_keywords
 
 -- ---- words
 
@@ -133,7 +97,7 @@ leaks_read [] = Some command.Leaks
 leaks_read _ = None
 
 -- what the words behind a keyword are read as
-abbrev pub context_read : ContextKeyword → List (List ℕ) → Option ContextCommand
+abbrev pub context_read : Keyword → List (List ℕ) → Option ContextCommand
 context_read keyword.Alloc words = allocate_read words
 context_read keyword.Set words = set_read words
 context_read keyword.Get words = get_read words
@@ -147,3 +111,4 @@ context_read keyword.Due words = of_worker command.TakeDue (only_id 119 words)
 context_read keyword.Cleaned words = of_worker command.Cleaned (only_id 119 words)
 context_read keyword.Count words = of_worker command.Count (only_id 99 words)
 context_read keyword.Leaks words = leaks_read words
+context_read _ words = None

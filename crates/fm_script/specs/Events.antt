@@ -2,7 +2,6 @@
 -- and its operation.
 use Rattle.std.specs.Prelude.{◌≡◌, ◌⊎◌, true, List, Option}
 use Rattle.std.specs.List.{AllByRecursion}
-use Rattle.fm_types.specs.declared.ids.OpId.{OpId}
 use Rattle.fm_types.specs.declared.ids.WorkerId.{WorkerId}
 use Rattle.fm_data.specs.Data.{Data}
 use Rattle.fm_data.specs.declared.answer.Answer.{Answer}

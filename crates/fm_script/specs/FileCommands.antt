@@ -1,42 +1,12 @@
 -- The commands on files: how a line spells them, and what their words are read as.
-use Rattle.std.specs.Prelude.{ℕ, cond, List, [], ◌∷◌, Option, Some, None, find, codes, bytes_eq}
+use Rattle.std.specs.Prelude.{ℕ, cond, List, [], ◌∷◌, Option, Some, None, codes, bytes_eq}
 use Rattle.fm_types.specs.declared.operation.CreateMode.{CreateMode}
 use Rattle.fm_types.specs.declared.operation.CreateMode.TheVariants as create
 use Rattle.fm_script.specs.Numbers.{number_read, id_read}
-use Rattle.fm_script.specs.declared.file_command.FileKeyword.{FileKeyword}
-use Rattle.fm_script.specs.declared.file_command.FileKeyword.TheVariants as keyword
+use Rattle.fm_script.specs.declared.keyword.Keyword.{Keyword}
+use Rattle.fm_script.specs.declared.keyword.Keyword.TheVariants as keyword
 use Rattle.fm_script.specs.declared.file_command.FileCommand.{FileCommand}
 use Rattle.fm_script.specs.declared.file_command.FileCommand.TheVariants as command
-
-abbrev pub file_spelling : FileKeyword → List ℕ
-file_spelling keyword.Read = codes "read"
-file_spelling keyword.Write = codes "write"
-file_spelling keyword.Size = codes "size"
-file_spelling keyword.SetSize = codes "setsize"
-file_spelling keyword.Flush = codes "flush"
-file_spelling keyword.Delete = codes "delete"
-file_spelling keyword.Cleanup = codes "cleanup"
-file_spelling keyword.Close = codes "close"
-file_spelling keyword.Fail = codes "fail"
-file_spelling keyword.Failures = codes "failures"
-
-abbrev pub all_file_keywords : List FileKeyword
-all_file_keywords =
-    keyword.Read
-    ∷ keyword.Write
-    ∷ keyword.Size
-    ∷ keyword.SetSize
-    ∷ keyword.Flush
-    ∷ keyword.Delete
-    ∷ keyword.Cleanup
-    ∷ keyword.Close
-    ∷ keyword.Fail
-    ∷ keyword.Failures
-    ∷ []
-
--- the keyword that a word is
-unfoldable pub file_keyword_read : List ℕ → Option FileKeyword
-file_keyword_read word = find (λ k. bytes_eq (file_spelling k) word) all_file_keywords
 
 -- ---- words
 
@@ -90,7 +60,7 @@ failures_read [] = Some command.Failures
 failures_read _ = None
 
 -- what the words behind a keyword are read as
-abbrev pub file_read : FileKeyword → List (List ℕ) → Option FileCommand
+abbrev pub file_read : Keyword → List (List ℕ) → Option FileCommand
 file_read keyword.Read words = read_read words
 file_read keyword.Write words = write_read words
 file_read keyword.Size words = of_handle command.QuerySize (only_handle words)
@@ -101,3 +71,4 @@ file_read keyword.Cleanup words = of_handle command.Cleanup (only_handle words)
 file_read keyword.Close words = of_handle command.Close (only_handle words)
 file_read keyword.Fail words = fail_read words
 file_read keyword.Failures words = failures_read words
+file_read _ words = None

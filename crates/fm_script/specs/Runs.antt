@@ -18,7 +18,7 @@ use Rattle.fm_world.specs.declared.step.Step.TheVariants as step
 use Rattle.fm_world.specs.declared.step.StepReply.{StepReply}
 use Rattle.fm_world.specs.declared.step.StepReply.TheVariants as reply
 use Rattle.fm_session.specs.declared.lent.Given.{Given}
-use Rattle.fm_session.specs.Sessions.{Lending, LendsNext, LentPreReturns, LentPostReturns, LentBaseReturns}
+use Rattle.fm_session.specs.Sessions.{LendsNext, LentPreReturns, LentPostReturns, LentBaseReturns}
 use Rattle.fm_script.specs.Devices.{Calls}
 use Rattle.fm_script.specs.Commands.{with_callback}
 use Rattle.fm_script.specs.declared.interpreter.Interpreter.{Interpreter}

@@ -12,7 +12,6 @@ use Rattle.fm_stack.specs.declared.instance.Phase.TheVariants as phase
 use Rattle.fm_ctx.specs.declared.due.Due.{Due}
 use Rattle.fm_ctx.specs.declared.count.Count.{Count}
 use Rattle.fm_ctx.specs.declared.count.Count.TheVariants as count
-use Rattle.fm_flow.specs.declared.action.FlowAction.{FlowAction}
 use Rattle.fm_world.specs.declared.set_answer.SetAnswer.{SetAnswer}
 use Rattle.fm_world.specs.declared.set_answer.SetAnswer.TheVariants as set
 use Rattle.fm_world.specs.declared.step.StepReply.{StepReply}

@@ -1,11 +1,9 @@
 -- What the commands stand for: the ids that they name are there, or the command is refused, each kind of id before the next, and workers last.
-use Rattle.std.specs.Prelude.{ℕ, Bool, true, false, cond, nat_lt, min, ◌^◌, ◌-◌, List, [], Option, Some, None, Result, Ok, Err}
-use Rattle.fm_types.specs.declared.ids.HandleId.{HandleId}
+use Rattle.std.specs.Prelude.{ℕ, true, false, min, ◌^◌, ◌-◌, List, Some, Result, Ok, Err}
 use Rattle.fm_types.specs.declared.ids.CtxId.{CtxId}
 use Rattle.fm_types.specs.declared.ids.WorkerId.{WorkerId}
 use Rattle.fm_types.specs.declared.registration.Registration.{Registration}
 use Rattle.fm_types.specs.declared.status.Status.{Status}
-use Rattle.fm_data.specs.declared.verdict.PreVerdict.{PreVerdict}
 use Rattle.fm_data.specs.declared.verdict.PreVerdict.TheVariants as verdict
 use Rattle.fm_world.specs.World.{World}
 use Rattle.fm_world.specs.declared.step.Begin.TheVariants as begin

@@ -3,12 +3,12 @@
 ghost use Rattle.std.specs.Prelude.{◌≡◌, map};
 ghost use Rattle.fm_script.specs.Numbers.{id_read};
 ghost use Rattle.fm_script.specs.declared.command.Command.TheVariants as CommandOf;
-ghost use Rattle.fm_script.specs.Commands.{Reads, ReadsAs, Loads, Mounts, Attaches, AnswersFor, ReadsVerdict, ReadsComplete, callbacks_read, step_read, post_read, bare_verdict, one_id, id_or_bad, worker_id, instance_id, AnswersPre, sends_context, pre_with_read, SetsUp, ids_of, filter_id, volume_id, set_done_read, context_or_file, file_or_bad, Creates};
-ghost use Rattle.fm_script.specs.ContextCommands.{context_keyword_read};
-ghost use Rattle.fm_script.specs.FileCommands.{file_keyword_read};
+ghost use Rattle.fm_script.specs.Commands.{Reads, ReadsAs, Loads, Mounts, Attaches, AnswersFor, ReadsVerdict, ReadsComplete, callbacks_read, step_read, post_read, bare_verdict, one_id, id_or_bad, worker_id, instance_id, AnswersPre, sends_context, pre_with_read, SetsUp, ids_of, filter_id, volume_id, set_done_read, context_or_file, Creates};
+ghost use Rattle.fm_script.specs.ContextCommands.{context_read};
+ghost use Rattle.fm_script.specs.FileCommands.{file_read};
 
-use crate::context_command::{ContextCommand, ContextKeyword};
-use crate::file_command::{FileCommand, FileKeyword, read_create_mode};
+use crate::context_command::ContextCommand;
+use crate::file_command::{FileCommand, read_create_mode};
 use crate::keyword::Keyword;
 use crate::number::{read_id, read_status};
 use fm_altitude::Altitude;
@@ -138,31 +138,18 @@ impl Command {
         };
         match Keyword::read(first) {
             Some(keyword) => read_as(keyword, words),
-            None => read_other(first, words),
+            None => Err(Status::BadRequest),
         }
     }
 }
 
 // Reads a command on contexts or on files.
-fn read_other(first: &[u8], words: &[&[u8]]) -> Result<Command, Status>
-    ensures { result ≡ context_or_file (context_keyword_read first.now) first.now (map (λ word. word.now) words.now) }
+fn read_other(keyword: Keyword, words: &[&[u8]]) -> Result<Command, Status>
+    ensures { result ≡ context_or_file (context_read keyword (map (λ word. word.now) words.now)) (file_read keyword (map (λ word. word.now) words.now)) }
 {
-    let Some(keyword) = ContextKeyword::read(first) else {
-        return read_on_files(first, words);
-    };
-    match ContextCommand::read(keyword, words) {
-        Some(command) => Ok(Command::Context(command)),
-        None => Err(Status::BadRequest),
+    if let Some(command) = ContextCommand::read(keyword, words) {
+        return Ok(Command::Context(command));
     }
-}
-
-// Reads a command on a handle or on the device.
-fn read_on_files(first: &[u8], words: &[&[u8]]) -> Result<Command, Status>
-    ensures { result ≡ file_or_bad (file_keyword_read first.now) (map (λ word. word.now) words.now) }
-{
-    let Some(keyword) = FileKeyword::read(first) else {
-        return Err(Status::BadRequest);
-    };
     match FileCommand::read(keyword, words) {
         Some(command) => Ok(Command::File(command)),
         None => Err(Status::BadRequest),
@@ -206,6 +193,7 @@ fn read_as(keyword: Keyword, words: &[&[u8]]) -> Result<Command, Status>
             instance: one_id(b'i', words)?,
         }),
         Keyword::Create => read_create(words),
+        other => read_other(other, words),
     }
 }
 

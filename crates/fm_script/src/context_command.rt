@@ -1,78 +1,12 @@
 //! The commands on contexts, and how the words of a line spell them.
 
 ghost use Rattle.std.specs.Prelude.{◌≡◌, map};
-ghost use Rattle.fm_script.specs.ContextCommands.{allocate_read, bump_read, context_keyword_read, context_read, context_spelling, delete_read, get_read, kind_read, mode_read, old_read, only_id, set_read, worker_and_context, write_body_read};
+ghost use Rattle.fm_script.specs.ContextCommands.{allocate_read, bump_read, context_read, delete_read, get_read, kind_read, mode_read, old_read, only_id, set_read, worker_and_context, write_body_read};
 
+use crate::keyword::Keyword;
 use crate::number::{read_id, read_number};
 use fm_core::SetMode;
 use fm_types::ContextKind;
-
-/// What the first word of a line on contexts asks for.
-#[derive(Clone, Copy, Debug, PartialEq, Eq)]
-pub enum ContextKeyword {
-    Alloc,
-    Set,
-    Get,
-    Del,
-    Ref,
-    Rel,
-    Body,
-    WBody,
-    Bump,
-    Due,
-    Cleaned,
-    Count,
-    Leaks,
-}
-
-const ALL: [ContextKeyword; 13] = [
-    ContextKeyword::Alloc,
-    ContextKeyword::Set,
-    ContextKeyword::Get,
-    ContextKeyword::Del,
-    ContextKeyword::Ref,
-    ContextKeyword::Rel,
-    ContextKeyword::Body,
-    ContextKeyword::WBody,
-    ContextKeyword::Bump,
-    ContextKeyword::Due,
-    ContextKeyword::Cleaned,
-    ContextKeyword::Count,
-    ContextKeyword::Leaks,
-];
-
-impl ContextKeyword {
-    /// The keyword that a word is, if it is one.
-    #[tactic(auto, unfolding(crate::specs::ContextCommands::context_keyword_read))]
-    pub fn read(word: &[u8]) -> Option<ContextKeyword>
-        ensures { result ≡ context_keyword_read word.now }
-    {
-        ALL.iter()
-            .copied()
-            .find(|keyword| keyword.spelling() == word)
-    }
-
-    // How a line spells it.
-    fn spelling(self) -> &'static [u8]
-        ensures { result.now ≡ context_spelling self }
-    {
-        match self {
-            ContextKeyword::Alloc => b"alloc",
-            ContextKeyword::Set => b"set",
-            ContextKeyword::Get => b"get",
-            ContextKeyword::Del => b"del",
-            ContextKeyword::Ref => b"ref",
-            ContextKeyword::Rel => b"rel",
-            ContextKeyword::Body => b"body",
-            ContextKeyword::WBody => b"wbody",
-            ContextKeyword::Bump => b"bump",
-            ContextKeyword::Due => b"due",
-            ContextKeyword::Cleaned => b"cleaned",
-            ContextKeyword::Count => b"count",
-            ContextKeyword::Leaks => b"leaks",
-        }
-    }
-}
 
 /// A command on contexts that was read. A context is meant by its number in the order of allocation. Bytes stay in the line, whose last word they are:
 /// they are read when the command is run, since that takes memory.
@@ -145,42 +79,43 @@ pub enum ContextCommand {
 }
 
 impl ContextCommand {
-    /// Reads the words behind a keyword; none where there is another number of words, or one that can't be read.
-    pub fn read(keyword: ContextKeyword, words: &[&[u8]]) -> Option<ContextCommand>
+    /// Reads the words behind a keyword; none where it is none of these commands, where there is another number of words, or one that can't be read.
+    pub fn read(keyword: Keyword, words: &[&[u8]]) -> Option<ContextCommand>
         ensures { result ≡ context_read keyword (map (λ word. word.now) words.now) }
     {
         match keyword {
-            ContextKeyword::Alloc => read_allocate(words),
-            ContextKeyword::Set => read_set(words),
-            ContextKeyword::Get => read_get(words),
-            ContextKeyword::Del => read_delete(words),
-            ContextKeyword::Ref => {
+            Keyword::Alloc => read_allocate(words),
+            Keyword::Set => read_set(words),
+            Keyword::Get => read_get(words),
+            Keyword::Del => read_delete(words),
+            Keyword::Ref => {
                 let (worker, context) = worker_and_context(words)?;
                 Some(ContextCommand::Reference { worker, context })
             }
-            ContextKeyword::Rel => {
+            Keyword::Rel => {
                 let (worker, context) = worker_and_context(words)?;
                 Some(ContextCommand::Release { worker, context })
             }
-            ContextKeyword::Body => {
+            Keyword::Body => {
                 let (worker, context) = worker_and_context(words)?;
                 Some(ContextCommand::ReadBody { worker, context })
             }
-            ContextKeyword::WBody => read_write_body(words),
-            ContextKeyword::Bump => read_bump(words),
-            ContextKeyword::Due => Some(ContextCommand::TakeDue {
+            Keyword::WBody => read_write_body(words),
+            Keyword::Bump => read_bump(words),
+            Keyword::Due => Some(ContextCommand::TakeDue {
                 worker: one_id(b'w', words)?,
             }),
-            ContextKeyword::Cleaned => Some(ContextCommand::Cleaned {
+            Keyword::Cleaned => Some(ContextCommand::Cleaned {
                 worker: one_id(b'w', words)?,
             }),
-            ContextKeyword::Count => Some(ContextCommand::Count {
+            Keyword::Count => Some(ContextCommand::Count {
                 context: one_id(b'c', words)?,
             }),
-            ContextKeyword::Leaks => match words {
+            Keyword::Leaks => match words {
                 [] => Some(ContextCommand::Leaks),
                 _ => None,
             },
+            _ => None,
         }
     }
 }

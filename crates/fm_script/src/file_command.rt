@@ -1,68 +1,11 @@
 //! The commands on files, and how the words of a line spell them.
 
 ghost use Rattle.std.specs.Prelude.{◌≡◌, map};
-ghost use Rattle.fm_script.specs.FileCommands.{create_mode_read, failures_read, file_keyword_read, file_read, file_spelling, handle_and_number, only_handle, read_read, write_read};
+ghost use Rattle.fm_script.specs.FileCommands.{create_mode_read, failures_read, file_read, handle_and_number, only_handle, read_read, write_read};
 
+use crate::keyword::Keyword;
 use crate::number::{read_id, read_number};
 use fm_types::CreateMode;
-
-/// What the first word of a line on handles and on the device asks for.
-#[derive(Clone, Copy, Debug, PartialEq, Eq)]
-pub enum FileKeyword {
-    Read,
-    Write,
-    Size,
-    SetSize,
-    Flush,
-    Delete,
-    Cleanup,
-    Close,
-    Fail,
-    Failures,
-}
-
-const ALL: [FileKeyword; 10] = [
-    FileKeyword::Read,
-    FileKeyword::Write,
-    FileKeyword::Size,
-    FileKeyword::SetSize,
-    FileKeyword::Flush,
-    FileKeyword::Delete,
-    FileKeyword::Cleanup,
-    FileKeyword::Close,
-    FileKeyword::Fail,
-    FileKeyword::Failures,
-];
-
-impl FileKeyword {
-    /// The keyword that a word is, if it is one.
-    #[tactic(auto, unfolding(crate::specs::FileCommands::file_keyword_read))]
-    pub fn read(word: &[u8]) -> Option<FileKeyword>
-        ensures { result ≡ file_keyword_read word.now }
-    {
-        ALL.iter()
-            .copied()
-            .find(|keyword| keyword.spelling() == word)
-    }
-
-    // How a line spells it.
-    fn spelling(self) -> &'static [u8]
-        ensures { result.now ≡ file_spelling self }
-    {
-        match self {
-            FileKeyword::Read => b"read",
-            FileKeyword::Write => b"write",
-            FileKeyword::Size => b"size",
-            FileKeyword::SetSize => b"setsize",
-            FileKeyword::Flush => b"flush",
-            FileKeyword::Delete => b"delete",
-            FileKeyword::Cleanup => b"cleanup",
-            FileKeyword::Close => b"close",
-            FileKeyword::Fail => b"fail",
-            FileKeyword::Failures => b"failures",
-        }
-    }
-}
 
 /// A command on a handle or on the device that was read. The bytes of a write stay in the line, whose last word they are: they are read when the
 /// command is run, since that takes memory.
@@ -91,42 +34,43 @@ pub enum FileCommand {
 }
 
 impl FileCommand {
-    /// Reads the words behind a keyword; none where there is another number of words, or one that can't be read.
-    pub fn read(keyword: FileKeyword, words: &[&[u8]]) -> Option<FileCommand>
+    /// Reads the words behind a keyword; none where it is none of these commands, where there is another number of words, or one that can't be read.
+    pub fn read(keyword: Keyword, words: &[&[u8]]) -> Option<FileCommand>
         ensures { result ≡ file_read keyword (map (λ word. word.now) words.now) }
     {
         match keyword {
-            FileKeyword::Read => read_read(words),
-            FileKeyword::Write => read_write(words),
-            FileKeyword::Size => Some(FileCommand::QuerySize {
+            Keyword::Read => read_read(words),
+            Keyword::Write => read_write(words),
+            Keyword::Size => Some(FileCommand::QuerySize {
                 handle: only_handle(words)?,
             }),
-            FileKeyword::SetSize => {
+            Keyword::SetSize => {
                 let (handle, size) = handle_and_number(words)?;
                 Some(FileCommand::SetSize { handle, size })
             }
-            FileKeyword::Flush => Some(FileCommand::Flush {
+            Keyword::Flush => Some(FileCommand::Flush {
                 handle: only_handle(words)?,
             }),
-            FileKeyword::Delete => Some(FileCommand::SetDelete {
+            Keyword::Delete => Some(FileCommand::SetDelete {
                 handle: only_handle(words)?,
             }),
-            FileKeyword::Cleanup => Some(FileCommand::Cleanup {
+            Keyword::Cleanup => Some(FileCommand::Cleanup {
                 handle: only_handle(words)?,
             }),
-            FileKeyword::Close => Some(FileCommand::Close {
+            Keyword::Close => Some(FileCommand::Close {
                 handle: only_handle(words)?,
             }),
-            FileKeyword::Fail => match words {
+            Keyword::Fail => match words {
                 [number] => Some(FileCommand::Fail {
                     number: read_number(number)?,
                 }),
                 _ => None,
             },
-            FileKeyword::Failures => match words {
+            Keyword::Failures => match words {
                 [] => Some(FileCommand::Failures),
                 _ => None,
             },
+            _ => None,
         }
     }
 }

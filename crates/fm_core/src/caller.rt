@@ -8,7 +8,6 @@ ghost use Rattle.fm_core.specs.Callers.{caller_of, owner_for, object_for, has_ki
 
 use crate::files::Files;
 use crate::state::State;
-use crate::target::target_of;
 use fm_ctx::{Object, Owner};
 use fm_flow::Flow;
 use fm_stack::{Phase, Stack, VolumePhase};
@@ -88,8 +87,8 @@ fn file_object(stream: Option<StreamId>, handle: Option<HandleId>) -> Option<Fil
 fn file_of(flow: &Flow, place: Worker) -> Option<FileObject>
     ensures { result ≡ file_of flow.now (Some place) }
 {
-    let target = target_of(flow, operation_in(place)?)?;
-    file_object(target.stream, target.handle)
+    let record = flow.record(operation_in(place)?)?;
+    file_object(record.stream(), record.handle())
 }
 
 /// Whether an object that a context may be set on is there: streams are torn down, and handles close.

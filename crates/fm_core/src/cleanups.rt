@@ -1,45 +1,17 @@
 //! Events that clean contexts up, and the end of an instance.
 
-ghost use Rattle.std.specs.Prelude.{◌≡◌, ◌+◌, ◌<◌, ◌%◌, ◌^◌, length, option_map};
+ghost use Rattle.std.specs.Prelude.{◌≡◌, ◌+◌, ◌<◌, ◌%◌, ◌^◌, length};
 ghost use Rattle.fm_types.specs.Lists.{updated};
-ghost use Rattle.fm_ctx.specs.declared.due.Due.{Due as DueContext};
-ghost use Rattle.fm_world.specs.ContextEvents.{TakesDue, Cleans, Finishes, after_due, totalled_for};
+ghost use Rattle.fm_world.specs.ContextEvents.{TakesDue, Cleans, Finishes, totalled_for};
 ghost use Rattle.fm_world.specs.Hands.{KeepsHands};
-ghost use Rattle.fm_world.specs.Workers.{cleanup_in};
 ghost use Rattle.fm_core.specs.Callers.{filter_at, refused_in};
 
 use crate::state::State;
-use crate::workers::put;
+use crate::workers::{cleanup_of, note_due, put};
 use fm_ctx::{Due, Owner};
 use fm_stack::{Phase, Stack};
-use fm_types::{CtxId, FilterId, InstanceId, Status, WorkerId};
+use fm_types::{FilterId, InstanceId, Status, WorkerId};
 use fm_world::Worker;
-
-/// The context whose cleanup callback it is.
-fn cleanup_of(place: Option<Worker>) -> Option<CtxId>
-    ensures { result ≡ cleanup_in place }
-{
-    match place? {
-        Worker::Cleanup(context) => Some(context),
-        Worker::Idle
-        | Worker::Setup(_)
-        | Worker::Pre(_, _)
-        | Worker::Base(_)
-        | Worker::Post(_, _)
-        | Worker::Drain(_, _)
-        | Worker::EarlyDrain(_, _) => None,
-    }
-}
-
-/// After a context was taken: the worker is in its cleanup callback.
-fn note_due(workers: &mut [Worker], worker: WorkerId, due: &Option<Due>)
-    ensures { workers.new ≡ after_due workers.old worker (option_map (λ (d : DueContext). d.id) due.now) }
-{
-    match due {
-        Some(due) => put(workers, worker, Worker::Cleanup(due.id)),
-        None => {}
-    }
-}
 
 /// The filter of an owner, if it is there.
 fn filter_of(stack: &Stack, owner: Option<Owner>) -> Option<FilterId>

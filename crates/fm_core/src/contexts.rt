@@ -2,8 +2,8 @@
 
 ghost use Rattle.std.specs.Prelude.{◌≡◌, ◌+◌, ◌<◌, Some, None, Ok, MatchResult, slice_get};
 ghost use Rattle.fm_ctx.specs.Table.{Context, context_at};
-ghost use Rattle.fm_world.specs.ContextEvents.{Allocates, Sets, Gets, Deletes, References, Releases, callback_of, set_answer};
-ghost use Rattle.fm_world.specs.Hands.{OnlyHandOf, HoldsMore, HoldsOneFewer, hand_len, given_with, given_by_set};
+ghost use Rattle.fm_world.specs.ContextEvents.{Allocates, Sets, Gets, Deletes, callback_of, set_answer};
+ghost use Rattle.fm_world.specs.Hands.{OnlyHandOf, HoldsMore, hand_len, given_with, given_by_set};
 ghost use Rattle.fm_core.specs.Callers.{caller_of, has_kind_at};
 ghost use Rattle.fm_core.specs.Setting.{IsSettable, IsUnsettable, IsFound, IsNotFound};
 
@@ -167,31 +167,5 @@ impl State {
             Err(status) => return Err(status),
         };
         self.contexts.delete(worker, owner, object, wants_old)
-    }
-
-    /// Takes one more reference to a context that the worker holds (`FltReferenceContext`). Refused, nothing changed: 30 where the worker is in no callback
-    /// of an instance, 25 where it doesn't hold the context, 26 where its hand has 16 references. It takes no memory.
-    pub fn reference(&mut self, worker: WorkerId, context: CtxId) -> Result<(), Status>
-        ensures event { References self.old worker context result self.new }
-        ensures hand { OnlyHandOf worker.0 self.old self.new }
-        ensures held { HoldsMore worker.0 result (λ _. 1) self.old self.new }
-    {
-        let Some(_caller) = self.caller(worker) else {
-            return Err(Status::WrongStep);
-        };
-        self.contexts.reference(worker, context)
-    }
-
-    /// Gives up one reference of the worker's hand (`FltReleaseContext`): with the last one the context is due. Refused, nothing changed: 30 where the worker
-    /// is in no callback of an instance, 25 where it doesn't hold the context. It takes no memory.
-    pub fn release(&mut self, worker: WorkerId, context: CtxId) -> Result<(), Status>
-        ensures event { Releases self.old worker context result self.new }
-        ensures hand { OnlyHandOf worker.0 self.old self.new }
-        ensures held { HoldsOneFewer worker.0 result self.old self.new }
-    {
-        let Some(_caller) = self.caller(worker) else {
-            return Err(Status::WrongStep);
-        };
-        self.contexts.release(worker, context)
     }
 }

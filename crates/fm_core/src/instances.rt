@@ -5,10 +5,9 @@ ghost use Rattle.fm_world.specs.Events.{Registers, Mounts, Attaches, SetsUp};
 ghost use Rattle.fm_world.specs.Workers.{worker_at};
 ghost use Rattle.fm_world.specs.Hands.{OnlyHandOf, KeepsHands, hand_len, left_by_setup};
 
-use crate::hands::unlink_unless;
-use crate::place::setup_of;
+use crate::references::unlink_unless;
 use crate::state::State;
-use crate::workers::{note_attach, put};
+use crate::workers::{note_attach, put, setup_of};
 use fm_altitude::Altitude;
 use fm_types::{FilterId, InstanceId, Name, Registration, Status, VolumeId, WorkerId};
 use fm_world::Worker;

@@ -1,4 +1,4 @@
-//! How operations begin.
+//! Requests: how operations begin.
 
 ghost use Rattle.std.specs.Prelude.{◌≡◌, ◌<◌, ◌||◌, ◌∷◌, false, cond, Some, None, MatchResult, OnErr, length};
 ghost use Rattle.fm_types.specs.Refusals.{first_of};

@@ -1,5 +1,5 @@
 -- The events of callbacks on contexts, from what the layer of contexts did.
-use Rattle.std.proofs.Common.{◌≡◌, ℕ, Bool, true, false, not, List, length, Option, Some, None, Result, Ok, Err, is_some, option_map, slice_get, refl, ap, sym, ◌∙◌, subst}
+use Rattle.std.proofs.Common.{◌≡◌, ◌<◌, ℕ, Bool, true, false, not, List, length, Option, Some, None, Result, Ok, Err, is_some, option_map, slice_get, refl, ap, sym, ◌∙◌, subst}
 use Rattle.std.proofs.lemmas.Bool.{false≢true}
 use Rattle.std.proofs.lemmas.Option.{none-some, same_Some}
 use Rattle.fm_types.specs.declared.context_kind.ContextKind.{ContextKind}
@@ -22,16 +22,16 @@ use Rattle.fm_ctx.proofs.Slots.{there_changed}
 use Rattle.fm_world.specs.World.{World, carries}
 use Rattle.fm_world.specs.Owners.{row_at, has_kind, owner_by, object_by}
 use Rattle.fm_world.specs.ContextEvents.{Callback, callback_of, InCallback, InCallbackOf, with_contexts, before, context_by, allocate_refused, Allocates, References, Releases, ReadsBody, WritesBody, Bumps}
-use Rattle.fm_world.proofs.Callbacks.{callback_parts}
+use Rattle.fm_world.proofs.Callbacks.{callback_parts, is_in}
 use Rattle.fm_core.specs.declared.caller.Caller.{Caller}
 use Rattle.fm_core.specs.Callers.{caller_of, owner_for, has_kind_at, is_closing_at}
 use Rattle.fm_core.specs.Callers as caller
-use Rattle.fm_core.specs.Fields.{IsTied}
+use Rattle.fm_core.specs.Fields.{IsTied, IsState}
 use Rattle.fm_core.proofs.Holding.{tied_table}
 
 -- ---- whose callback it is
 
-pub called : (w : World) (k : WorkerId) (x : Caller) → option_map caller_of (callback_of w k) ≡ Some x → (at : Callback) × (callback_of w k ≡ Some at) × (caller_of at ≡ x)
+called : (w : World) (k : WorkerId) (x : Caller) → option_map caller_of (callback_of w k) ≡ Some x → (at : Callback) × (callback_of w k ≡ Some at) × (caller_of at ≡ x)
 called w k x h = at_callback (callback_of w k) refl h
   where
     at_callback : (m : Option Callback) → callback_of w k ≡ m → option_map caller_of m ≡ Some x → (at : Callback) × (callback_of w k ≡ Some at) × (caller_of at ≡ x)
@@ -45,12 +45,12 @@ uncalled w k h = at_callback (callback_of w k) refl h
     at_callback None is h = is
     at_callback (Some at) is h = absurd (none-some (caller_of at) (sym h))
 
-pub called_some : (w : World) (k : WorkerId) → is_some (option_map caller_of (callback_of w k)) ≡ true → (at : Callback) × (callback_of w k ≡ Some at)
-called_some w k h = at_callback (callback_of w k) refl h
-  where
-    at_callback : (m : Option Callback) → callback_of w k ≡ m → is_some (option_map caller_of m) ≡ true → (at : Callback) × (callback_of w k ≡ Some at)
-    at_callback None is h = absurd (false≢true h)
-    at_callback (Some at) is h = (at, is)
+-- of the state as the code finds it
+pub called_in : {old now : World} (k : WorkerId) (x : Caller) → old ≡ now → option_map caller_of (callback_of now k) ≡ Some x → (at : Callback) × (callback_of old k ≡ Some at) × (caller_of at ≡ x)
+called_in {old} k x same h = called old k x (subst (λ (w : World). option_map caller_of (callback_of w k) ≡ Some x) (sym same) h)
+
+pub called_within : {old now : World} {kept : ContextsKept} (k : WorkerId) (x : Caller) → IsState old kept → old ≡ now → option_map caller_of (callback_of now k) ≡ Some x → k.0 < 48
+called_within {old} k x s same h = let at = called_in k x same h in (is_in old k at.0 s.sound at.1).worker
 
 pub owner_same : (at : Callback) (k : ContextKind) → owner_for (caller_of at) k ≡ owner_by at.row at.instance k
 owner_same at kind.Volume = refl
@@ -74,8 +74,8 @@ pub in_callback : {T : Type 0} (old : World) (k : WorkerId) (result : Result T S
     → Event at → InCallback old k result new Event
 in_callback old k result new Event at is h = subst (InCallbackOf result old new Event) (sym is) h
 
-pub outside : (T : Type 0) (old : World) (k : WorkerId) (Event : Callback → Type 0) → callback_of old k ≡ None → InCallback {T = T} old k (Err status.WrongStep) old Event
-outside T old k Event is = subst (InCallbackOf (Err status.WrongStep) old old Event) (sym is) (refl, refl)
+pub outside : (T : Type 0) (old : World) (k : WorkerId) (Event : Callback → Type 0) → option_map caller_of (callback_of old k) ≡ None → InCallback {T = T} old k (Err status.WrongStep) old Event
+outside T old k Event is = subst (InCallbackOf (Err status.WrongStep) old old Event) (sym (uncalled old k is)) (refl, refl)
 
 -- what the layer answers, the World does
 pub answers_up : {T : Type 0} (w : World) (kept after : ContextsKept) (refusal : Option Status) (result : Result T Status) (E F : T → Type 0) → ((v : T) → E v → F v)
@@ -95,27 +95,33 @@ table_tied kept after t f there e tied = subst (λ x. IsTied x f) (sym e) (tied_
 
 -- ---- references
 
-pub referenced : (w : World) (k : WorkerId) (c : CtxId) (result : Result (Unit {0}) Status) (kept after : ContextsKept) (at : Callback) → callback_of w k ≡ Some at
+pub referenced : (w : World) {now : World} (k : WorkerId) (c : CtxId) (result : Result (Unit {0}) Status) (kept after : ContextsKept) (x : Caller) → with_contexts w kept.table ≡ now
+    → option_map caller_of (callback_of now k) ≡ Some x
     → Answers (reference_refusal kept.table k.0 c) result kept after (λ _. after ≡ record kept { table = grabbed kept.table k.0 c })
-    → References (with_contexts w kept.table) k c result (with_contexts w after.table)
+    → References now k c result (with_contexts w after.table)
 unfolding References
-referenced w k c result kept after at is h =
-    in_callback (with_contexts w kept.table) k result (with_contexts w after.table) _ at is
-    (answers_up w kept after (reference_refusal kept.table k.0 c) result _ _ (λ v e. ap (λ (x : ContextsKept). with_contexts w x.table) e) h)
+referenced w k c result kept after x same is h =
+    let at = called_in k x same is in
+    subst (λ (v : World). References v k c result (with_contexts w after.table)) same
+    (in_callback (with_contexts w kept.table) k result (with_contexts w after.table) _ at.0 at.1
+    (answers_up w kept after (reference_refusal kept.table k.0 c) result _ _ (λ v e. ap (λ (x : ContextsKept). with_contexts w x.table) e) h))
 
 pub reference_tied : (kept after : ContextsKept) (f : FlowTable) (k : WorkerId) (c : CtxId) (result : Result (Unit {0}) Status)
     → Answers (reference_refusal kept.table k.0 c) result kept after (λ _. after ≡ record kept { table = grabbed kept.table k.0 c }) → IsTied kept f → IsTied after f
 reference_tied kept after f k c result h tied =
     answers_tied kept after f (reference_refusal kept.table k.0 c) result _ (λ v e. table_tied kept after (grabbed kept.table k.0 c) f (λ d. refl) e tied) h tied
 
-pub released_up : (w : World) (k : WorkerId) (c : CtxId) (result : Result (Unit {0}) Status) (kept after : ContextsKept) (at : Callback) → callback_of w k ≡ Some at
+pub released_up : (w : World) {now : World} (k : WorkerId) (c : CtxId) (result : Result (Unit {0}) Status) (kept after : ContextsKept) (x : Caller) → with_contexts w kept.table ≡ now
+    → option_map caller_of (callback_of now k) ≡ Some x
     → IsTied kept w.flow → Answers (release_refusal kept.table k.0 c) result kept after (λ _. after ≡ record kept { table = released (carried_of kept) kept.table k.0 c })
-    → Releases (with_contexts w kept.table) k c result (with_contexts w after.table)
+    → Releases now k c result (with_contexts w after.table)
 unfolding Releases
-released_up w k c result kept after at is tied h =
-    in_callback (with_contexts w kept.table) k result (with_contexts w after.table) _ at is
+released_up w k c result kept after x same is tied h =
+    let at = called_in k x same is in
+    subst (λ (v : World). Releases v k c result (with_contexts w after.table)) same
+    (in_callback (with_contexts w kept.table) k result (with_contexts w after.table) _ at.0 at.1
     (answers_up w kept after (release_refusal kept.table k.0 c) result _ _
-    (λ v e. ap (λ (x : ContextsKept). with_contexts w x.table) e ∙ ap (with_contexts w) (released_alike (carried_of kept) (carries w) kept.table k.0 c (tied c))) h)
+    (λ v e. ap (λ (x : ContextsKept). with_contexts w x.table) e ∙ ap (with_contexts w) (released_alike (carried_of kept) (carries w) kept.table k.0 c (tied c))) h))
 
 pub release_tied : (kept after : ContextsKept) (f : FlowTable) (k : WorkerId) (c : CtxId) (result : Result (Unit {0}) Status)
     → Answers (release_refusal kept.table k.0 c) result kept after (λ _. after ≡ record kept { table = released (carried_of kept) kept.table k.0 c }) → IsTied kept f → IsTied after f
@@ -124,36 +130,50 @@ release_tied kept after f k c result h tied =
 
 -- ---- bodies
 
-pub body_read : (w : World) (k : WorkerId) (c : CtxId) (result : Result (List ℕ) Status) (kept : ContextsKept) (at : Callback) → callback_of w k ≡ Some at
+pub body_read : (w : World) {now : World} (k : WorkerId) (c : CtxId) (result : Result (List ℕ) Status) (kept : ContextsKept) (x : Caller) → with_contexts w kept.table ≡ now
+    → option_map caller_of (callback_of now k) ≡ Some x
     → AnswersOrMemory (read_refusal kept.table k.0 c) result kept kept (λ body. body ≡ body_at kept.table.slots c)
-    → ReadsBody (with_contexts w kept.table) k c result (with_contexts w kept.table)
+    → ReadsBody now k c result now
 unfolding ReadsBody
-body_read w k c (Ok body) kept at is h = in_callback (with_contexts w kept.table) k (Ok body) (with_contexts w kept.table) _ at is (h.0, (h.1, refl))
-body_read w k c (Err why) kept at is h = in_callback (with_contexts w kept.table) k (Err why) (with_contexts w kept.table) _ at is (h.0, refl)
+body_read w k c result kept x same is h =
+    let at = called_in k x same is in
+    subst (λ (v : World). ReadsBody v k c result v) same (in_callback (with_contexts w kept.table) k result (with_contexts w kept.table) _ at.0 at.1 (by_result result h))
+  where
+    by_result : (r : Result (List ℕ) Status) → AnswersOrMemory (read_refusal kept.table k.0 c) r kept kept (λ body. body ≡ body_at kept.table.slots c)
+        → AnswersOrMemory (read_refusal kept.table k.0 c) r (with_contexts w kept.table) (with_contexts w kept.table)
+        (λ body. (body ≡ body_at kept.table.slots c) × (with_contexts w kept.table ≡ with_contexts w kept.table))
+    by_result (Ok body) h = (h.0, (h.1, refl))
+    by_result (Err why) h = (h.0, refl)
 
 rewritten_there : (t : ContextTable) (c : CtxId) (bytes : List ℕ) (d : CtxId) → is_some (context_at (rewritten t c bytes).slots d) ≡ is_some (context_at t.slots d)
 rewritten_there t c bytes d = there_changed (with_body bytes) t.slots c d
 
-pub body_written : (w : World) (k : WorkerId) (c : CtxId) (bytes : List ℕ) (result : Result (Unit {0}) Status) (kept after : ContextsKept) (at : Callback) → callback_of w k ≡ Some at
+pub body_written : (w : World) {now : World} (k : WorkerId) (c : CtxId) (bytes : List ℕ) (result : Result (Unit {0}) Status) (kept after : ContextsKept) (x : Caller) → with_contexts w kept.table ≡ now
+    → option_map caller_of (callback_of now k) ≡ Some x
     → Answers (write_refusal kept.table k.0 c bytes) result kept after (λ _. after ≡ record kept { table = rewritten kept.table c bytes })
-    → WritesBody (with_contexts w kept.table) k c bytes result (with_contexts w after.table)
+    → WritesBody now k c bytes result (with_contexts w after.table)
 unfolding WritesBody
-body_written w k c bytes result kept after at is h =
-    in_callback (with_contexts w kept.table) k result (with_contexts w after.table) _ at is
-    (answers_up w kept after (write_refusal kept.table k.0 c bytes) result _ _ (λ v e. ap (λ (x : ContextsKept). with_contexts w x.table) e) h)
+body_written w k c bytes result kept after x same is h =
+    let at = called_in k x same is in
+    subst (λ (v : World). WritesBody v k c bytes result (with_contexts w after.table)) same
+    (in_callback (with_contexts w kept.table) k result (with_contexts w after.table) _ at.0 at.1
+    (answers_up w kept after (write_refusal kept.table k.0 c bytes) result _ _ (λ v e. ap (λ (x : ContextsKept). with_contexts w x.table) e) h))
 
 pub write_tied : (kept after : ContextsKept) (f : FlowTable) (k : WorkerId) (c : CtxId) (bytes : List ℕ) (result : Result (Unit {0}) Status)
     → Answers (write_refusal kept.table k.0 c bytes) result kept after (λ _. after ≡ record kept { table = rewritten kept.table c bytes }) → IsTied kept f → IsTied after f
 write_tied kept after f k c bytes result h tied =
     answers_tied kept after f (write_refusal kept.table k.0 c bytes) result _ (λ v e. table_tied kept after (rewritten kept.table c bytes) f (rewritten_there kept.table c bytes) e tied) h tied
 
-pub body_bumped : (w : World) (k : WorkerId) (c : CtxId) (place by : ℕ) (result : Result ℕ Status) (kept after : ContextsKept) (at : Callback) → callback_of w k ≡ Some at
+pub body_bumped : (w : World) {now : World} (k : WorkerId) (c : CtxId) (place by : ℕ) (result : Result ℕ Status) (kept after : ContextsKept) (x : Caller) → with_contexts w kept.table ≡ now
+    → option_map caller_of (callback_of now k) ≡ Some x
     → Answers (bump_refusal kept.table k.0 c place) result kept after (λ n. (n ≡ raised place by (body_at kept.table.slots c)) × (after ≡ record kept { table = bumped kept.table c place by }))
-    → Bumps (with_contexts w kept.table) k c place by result (with_contexts w after.table)
+    → Bumps now k c place by result (with_contexts w after.table)
 unfolding Bumps
-body_bumped w k c place by result kept after at is h =
-    in_callback (with_contexts w kept.table) k result (with_contexts w after.table) _ at is
-    (answers_up w kept after (bump_refusal kept.table k.0 c place) result _ _ (λ v e. (e.0, ap (λ (x : ContextsKept). with_contexts w x.table) e.1)) h)
+body_bumped w k c place by result kept after x same is h =
+    let at = called_in k x same is in
+    subst (λ (v : World). Bumps v k c place by result (with_contexts w after.table)) same
+    (in_callback (with_contexts w kept.table) k result (with_contexts w after.table) _ at.0 at.1
+    (answers_up w kept after (bump_refusal kept.table k.0 c place) result _ _ (λ v e. (e.0, ap (λ (x : ContextsKept). with_contexts w x.table) e.1)) h))
 
 pub bump_tied : (kept after : ContextsKept) (f : FlowTable) (k : WorkerId) (c : CtxId) (place by : ℕ) (result : Result ℕ Status)
     → Answers (bump_refusal kept.table k.0 c place) result kept after (λ n. (n ≡ raised place by (body_at kept.table.slots c)) × (after ≡ record kept { table = bumped kept.table c place by }))
@@ -167,24 +187,27 @@ registered : (w : World) (k : WorkerId) (at : Callback) (what : ContextKind) (b 
     → has_kind_at w.stack (slice_get w.stack.instances at.instance.0) what ≡ b → has_kind w.stack at.row what ≡ b
 registered w k at what b is h = sym (ap (λ m. has_kind_at w.stack m what) (callback_row w k at is)) ∙ h
 
-pub allocate_unregistered : (w : World) (k : WorkerId) (what : ContextKind) (body : List ℕ) (x : Caller) → option_map caller_of (callback_of w k) ≡ Some x
-    → has_kind_at w.stack (slice_get w.stack.instances x.instance.0) what ≡ false → Allocates w k what body (Err status.NotRegistered) w
+pub allocate_unregistered : {old now : World} (k : WorkerId) (what : ContextKind) (body : List ℕ) (x : Caller) → old ≡ now → option_map caller_of (callback_of now k) ≡ Some x
+    → has_kind_at old.stack (slice_get old.stack.instances x.instance.0) what ≡ false → Allocates now k what body (Err status.NotRegistered) now
 unfolding Allocates
-allocate_unregistered w k what body x is h =
-    let at = called w k x is in
-    let kind' = registered w k at.0 what false at.1 (ap (λ (y : Caller). has_kind_at w.stack (slice_get w.stack.instances y.instance.0) what) at.2 ∙ h) in
-    in_callback w k (Err status.NotRegistered) w _ at.0 at.1
-    (subst (λ r. IsRefusalOrMemory r status.NotRegistered) (sym (ap (λ b. before (not b) status.NotRegistered (allocate_refusal w.contexts k.0 body)) kind')) refl, refl)
+allocate_unregistered {old} k what body x same is h =
+    let at = called_in k x same is in
+    let kind' = registered old k at.0 what false at.1 (ap (λ (y : Caller). has_kind_at old.stack (slice_get old.stack.instances y.instance.0) what) at.2 ∙ h) in
+    subst (λ (w : World). Allocates w k what body (Err status.NotRegistered) w) same
+    (in_callback old k (Err status.NotRegistered) old _ at.0 at.1
+    (subst (λ r. IsRefusalOrMemory r status.NotRegistered) (sym (ap (λ b. before (not b) status.NotRegistered (allocate_refusal old.contexts k.0 body)) kind')) refl, refl))
 
-pub allocated_up : (w : World) (k : WorkerId) (what : ContextKind) (body : List ℕ) (x : Caller) (owner' : Owner) (result : Result CtxId Status) (kept after : ContextsKept)
-    → option_map caller_of (callback_of w k) ≡ Some x → has_kind_at w.stack (slice_get w.stack.instances x.instance.0) what ≡ true → owner' ≡ owner_for x what
+pub allocated_up : (w : World) {now : World} (k : WorkerId) (what : ContextKind) (body : List ℕ) (x : Caller) (owner' : Owner) (result : Result CtxId Status) (kept after : ContextsKept)
+    → with_contexts w kept.table ≡ now → option_map caller_of (callback_of now k) ≡ Some x → has_kind_at w.stack (slice_get w.stack.instances x.instance.0) what ≡ true → owner' ≡ owner_for x what
     → AnswersOrMemory (allocate_refusal kept.table k.0 body) result kept after (λ (c : CtxId). IsNew kept.table.slots c × (after ≡ kept_allocated kept k.0 c (new_context what owner' x.volume body)))
-    → Allocates (with_contexts w kept.table) k what body result (with_contexts w after.table)
+    → Allocates now k what body result (with_contexts w after.table)
 unfolding Allocates
-allocated_up w k what body x owner' result kept after is h own event = in_callback (with_contexts w kept.table) k result (with_contexts w after.table) _ at.0 at.1 (by_result result event)
+allocated_up w k what body x owner' result kept after now_is is h own event =
+    subst (λ (v : World). Allocates v k what body result (with_contexts w after.table)) now_is
+    (in_callback (with_contexts w kept.table) k result (with_contexts w after.table) _ at.0 at.1 (by_result result event))
   where
     at : (at : Callback) × (callback_of w k ≡ Some at) × (caller_of at ≡ x)
-    at = called w k x is
+    at = called_in k x now_is is
 
     kind' : has_kind w.stack at.0.row what ≡ true
     kind' = registered w k at.0 what true at.1 (ap (λ (y : Caller). has_kind_at w.stack (slice_get w.stack.instances y.instance.0) what) at.2 ∙ h)

@@ -33,7 +33,7 @@ use Rattle.fm_core.specs.Callers.{caller_of, owner_for, has_kind_at, is_closing_
 use Rattle.fm_core.specs.Callers as caller
 use Rattle.fm_core.specs.Fields.{IsTied}
 use Rattle.fm_core.specs.Setting.{is_past_at, object_of, set_refusal, find_refusal, IsSettable, IsFound}
-use Rattle.fm_core.proofs.Called.{called, owner_same, object_same, callback_row, in_callback, answers_up, answers_tied, table_tied}
+use Rattle.fm_core.proofs.Called.{called_in, uncalled, owner_same, object_same, callback_row, in_callback, answers_up, answers_tied, table_tied}
 
 -- ---- get and delete
 
@@ -96,29 +96,31 @@ pub get_gone : (w : World) (k : WorkerId) (what : ContextKind) (x : Caller) (o :
     → is_there w.files (Some o.1) ≡ false → Gets w k what (Err status.DeletingObject) w
 unfolding Gets
 get_gone w k what x o is found gone =
-    let at = called w k x is in
+    let at = called_in {old = w} k x refl is in
     in_callback w k (Err status.DeletingObject) w _ at.0 at.1
     (get_free w k at.0 x what o (get_refusal w.contexts k.0 (there_at w what at.0)) false at.1 at.2 found gone, refl)
 
 pub get_refused : (w : World) (k : WorkerId) (what : ContextKind) (x : Caller) (why : Status) → option_map caller_of (callback_of w k) ≡ Some x → find_refusal w x what ≡ Some why
     → Gets w k what (Err why) w
 unfolding Gets
-get_refused w k what x why is h = let at = called w k x is in in_callback w k (Err why) w _ at.0 at.1 (refused_as w k at.0 x what _ why at.1 at.2 h, refl)
+get_refused w k what x why is h = let at = called_in {old = w} k x refl is in in_callback w k (Err why) w _ at.0 at.1 (refused_as w k at.0 x what _ why at.1 at.2 h, refl)
 
-pub gotten : (w : World) (k : WorkerId) (what : ContextKind) (x : Caller) (o : Owner × Object) (result : Result CtxId Status) (kept after : ContextsKept)
-    → option_map caller_of (callback_of w k) ≡ Some x → IsFound (with_contexts w kept.table) x what o → is_there w.files (Some o.1) ≡ true
+pub gotten : (w : World) {now : World} (k : WorkerId) (what : ContextKind) (x : Caller) (o : Owner × Object) (result : Result CtxId Status) (kept after : ContextsKept)
+    → with_contexts w kept.table ≡ now → option_map caller_of (callback_of now k) ≡ Some x → IsFound now x what o → is_there w.files (Some o.1) ≡ true
     → Answers (get_refusal kept.table k.0 (holder kept.table.slots o.0 o.1)) result kept after
     (λ id. (holder kept.table.slots o.0 o.1 ≡ Some id) × (after ≡ record kept { table = grabbed kept.table k.0 id }))
-    → Gets (with_contexts w kept.table) k what result (with_contexts w after.table)
+    → Gets now k what result (with_contexts w after.table)
 unfolding Gets
-gotten w k what x o result kept after is found here event =
-    let at = called w k x is in
+gotten w k what x o result kept after now_is is found_now here event =
+    let at = called_in k x now_is is in
+    let found = subst (λ (v : World). IsFound v x what o) (sym now_is) found_now in
     let old = with_contexts w kept.table in
     let there : there_at old what at.0 ≡ holder kept.table.slots o.0 o.1 = found_there old at.0 x what o at.2 found in
-    in_callback old k result (with_contexts w after.table) _ at.0 at.1
+    subst (λ (v : World). Gets v k what result (with_contexts w after.table)) now_is
+    (in_callback old k result (with_contexts w after.table) _ at.0 at.1
     (subst (λ r. Answers r result old (with_contexts w after.table) (λ (c : CtxId). (there_at old what at.0 ≡ Some c) × (with_contexts w after.table ≡ with_contexts old (grabbed kept.table k.0 c))))
     (sym (get_free old k at.0 x what o (get_refusal kept.table k.0 (there_at old what at.0)) true at.1 at.2 found here ∙ ap (get_refusal kept.table k.0) there))
-    (answers_up w kept after (get_refusal kept.table k.0 (holder kept.table.slots o.0 o.1)) result _ _ (λ c e. (there ∙ e.0, ap (λ (y : ContextsKept). with_contexts w y.table) e.1)) event))
+    (answers_up w kept after (get_refusal kept.table k.0 (holder kept.table.slots o.0 o.1)) result _ _ (λ c e. (there ∙ e.0, ap (λ (y : ContextsKept). with_contexts w y.table) e.1)) event)))
 
 pub get_tied : (kept after : ContextsKept) (f : FlowTable) (k : WorkerId) (there : Option CtxId) (result : Result CtxId Status)
     → Answers (get_refusal kept.table k.0 there) result kept after (λ id. (there ≡ Some id) × (after ≡ record kept { table = grabbed kept.table k.0 id })) → IsTied kept f → IsTied after f
@@ -128,19 +130,21 @@ get_tied kept after f k there result h tied =
 pub delete_refused : (w : World) (k : WorkerId) (what : ContextKind) (wants : Bool) (x : Caller) (why : Status) → option_map caller_of (callback_of w k) ≡ Some x
     → find_refusal w x what ≡ Some why → Deletes w k what wants (Err why) w
 unfolding Deletes
-delete_refused w k what wants x why is h = let at = called w k x is in in_callback w k (Err why) w _ at.0 at.1 (refused_as w k at.0 x what _ why at.1 at.2 h, refl)
+delete_refused w k what wants x why is h = let at = called_in {old = w} k x refl is in in_callback w k (Err why) w _ at.0 at.1 (refused_as w k at.0 x what _ why at.1 at.2 h, refl)
 
-pub deleted : (w : World) (k : WorkerId) (what : ContextKind) (wants : Bool) (x : Caller) (o : Owner × Object) (result : Result (Option CtxId) Status) (kept after : ContextsKept)
-    → option_map caller_of (callback_of w k) ≡ Some x → IsFound (with_contexts w kept.table) x what o → IsTied kept w.flow
+pub deleted : (w : World) {now : World} (k : WorkerId) (what : ContextKind) (wants : Bool) (x : Caller) (o : Owner × Object) (result : Result (Option CtxId) Status) (kept after : ContextsKept)
+    → with_contexts w kept.table ≡ now → option_map caller_of (callback_of now k) ≡ Some x → IsFound now x what o → IsTied kept w.flow
     → Answers (delete_refusal kept.table k.0 wants (holder kept.table.slots o.0 o.1)) result kept after
     (λ c. (c ≡ delete_reply wants (holder kept.table.slots o.0 o.1)) × (after ≡ record kept { table = delete_after (carried_of kept) kept.table k.0 wants (holder kept.table.slots o.0 o.1) }))
-    → Deletes (with_contexts w kept.table) k what wants result (with_contexts w after.table)
+    → Deletes now k what wants result (with_contexts w after.table)
 unfolding Deletes
-deleted w k what wants x o result kept after is found tied event =
-    let at = called w k x is in
+deleted w k what wants x o result kept after now_is is found_now tied event =
+    let at = called_in k x now_is is in
+    let found = subst (λ (v : World). IsFound v x what o) (sym now_is) found_now in
     let old = with_contexts w kept.table in
     let there : there_at old what at.0 ≡ holder kept.table.slots o.0 o.1 = found_there old at.0 x what o at.2 found in
-    in_callback old k result (with_contexts w after.table) _ at.0 at.1
+    subst (λ (v : World). Deletes v k what wants result (with_contexts w after.table)) now_is
+    (in_callback old k result (with_contexts w after.table) _ at.0 at.1
     (subst (λ r. Answers r result old (with_contexts w after.table) (λ (c : Option CtxId). (c ≡ delete_reply wants (there_at old what at.0))
     × (with_contexts w after.table ≡ with_contexts old (delete_after (carries old) kept.table k.0 wants (there_at old what at.0)))))
     (sym (found_free old k at.0 x what (delete_refusal kept.table k.0 wants (there_at old what at.0)) at.1 at.2 found.free ∙ ap (delete_refusal kept.table k.0 wants) there))
@@ -150,7 +154,7 @@ deleted w k what wants x o result kept after is found tied event =
       ap (λ (y : ContextsKept). with_contexts w y.table) e.1
           ∙ ap (with_contexts w) (delete_alike (carried_of kept) (carries w) kept.table k.0 wants (holder kept.table.slots o.0 o.1) tied
           ∙ ap (delete_after (carries w) kept.table k.0 wants) (sym there)),
-    )) event))
+    )) event)))
 
 unlinked_there : (by : CtxId → ℕ) (t : ContextTable) (w : ℕ) (wants : Bool) (d : CtxId) (c : CtxId)
     → is_some (context_at (unlinked_for by t w wants d).slots c) ≡ is_some (context_at t.slots c)
@@ -184,15 +188,15 @@ set_same w k c at x is e =
     ∷ (is_none (object_for at (context_at w.contexts.slots c)), status.NoObject)
     ∷ (is_closing_at w.stack m || not (is_there w.files (object_for at (context_at w.contexts.slots c))), status.DeletingObject) ∷ [])) (callback_row w k at is)
 
-pub set_outside : (w : World) (k : WorkerId) (c : CtxId) (mode : SetMode) (wants : Bool) → callback_of w k ≡ None → Sets w k c mode wants (answer.Refused status.WrongStep) w
+pub set_outside : (w : World) (k : WorkerId) (c : CtxId) (mode : SetMode) (wants : Bool) → option_map caller_of (callback_of w k) ≡ None → Sets w k c mode wants (answer.Refused status.WrongStep) w
 unfolding Sets
-set_outside w k c mode wants is = subst (SetsIn w k c mode wants (answer.Refused status.WrongStep) w) (sym is) (refl, refl)
+set_outside w k c mode wants is = subst (SetsIn w k c mode wants (answer.Refused status.WrongStep) w) (sym (uncalled w k is)) (refl, refl)
 
 pub set_refused_as : (w : World) (k : WorkerId) (c : CtxId) (mode : SetMode) (wants : Bool) (x : Caller) (why : Status) → option_map caller_of (callback_of w k) ≡ Some x
     → set_refusal w k c x ≡ Some why → Sets w k c mode wants (answer.Refused why) w
 unfolding Sets
 set_refused_as w k c mode wants x why is h =
-    let at = called w k x is in
+    let at = called_in {old = w} k x refl is in
     subst (SetsIn w k c mode wants (answer.Refused why) w) (sym at.1)
     (subst (SetsUnless w k c mode wants (answer.Refused why) w at.0) (sym (sym (set_same w k c at.0 x at.1 at.2) ∙ h)) (refl, refl))
 
@@ -206,21 +210,23 @@ set_bare w k c x o h =
     let y = there_with (context_at w.contexts.slots c) o.0 h.owner in
     subst (IsUnlinkedOf o.0) (sym y.1) (sym (ap (option_and_then (λ (z : Context). z.link)) y.1) ∙ h.bare, y.2)
 
-pub set_up : (w : World) (k : WorkerId) (c : CtxId) (mode : SetMode) (wants : Bool) (x : Caller) (o : Owner × Object) (reply : SetReply) (result : SetAnswer) (kept after : ContextsKept)
-    → option_map caller_of (callback_of w k) ≡ Some x → IsSettable (with_contexts w kept.table) k c x o → IsTied kept w.flow → result ≡ set_answer reply
+pub set_up : (w : World) {now : World} (k : WorkerId) (c : CtxId) (mode : SetMode) (wants : Bool) (x : Caller) (o : Owner × Object) (reply : SetReply) (result : SetAnswer) (kept after : ContextsKept)
+    → with_contexts w kept.table ≡ now → option_map caller_of (callback_of now k) ≡ Some x → IsSettable now k c x o → IsTied kept w.flow → result ≡ set_answer reply
     → reply ≡ set_reply kept.table k.0 mode wants (holder kept.table.slots o.0 o.1)
     → after ≡ record kept { table = set_after (carried_of kept) kept.table k.0 c o.1 mode wants (holder kept.table.slots o.0 o.1) }
-    → Sets (with_contexts w kept.table) k c mode wants result (with_contexts w after.table)
+    → Sets now k c mode wants result (with_contexts w after.table)
 unfolding Sets
-set_up w k c mode wants x o reply result kept after is h tied answers replies step =
+set_up w k c mode wants x o reply result kept after now_is is able tied answers replies step =
     let old = with_contexts w kept.table in
     let new = with_contexts w after.table in
-    let at = called w k x is in
+    let at = called_in k x now_is is in
+    let h = subst (λ (v : World). IsSettable v k c x o) (sym now_is) able in
     let y = there_with (context_at kept.table.slots c) o.0 h.owner in
     let here : object_for at.0 (Some y.0) ≡ Some o.1 =
     sym (object_here at.0 (Some y.0)) ∙ ap (λ z. object_of z (Some y.0)) at.2 ∙ ap (object_of x) (sym y.1) ∙ h.object in
     let there = ap (λ own. holder kept.table.slots own o.1) (sym y.2) in
-    subst (SetsIn old k c mode wants result new) (sym at.1)
+    subst (λ (v : World). Sets v k c mode wants result new) now_is
+    (subst (SetsIn old k c mode wants result new) (sym at.1)
     (subst (SetsUnless old k c mode wants result new at.0) (sym (sym (set_same old k c at.0 x at.1 at.2) ∙ h.free))
     (subst (λ m. SetsOn old k c mode wants result new m (object_for at.0 m)) (sym y.1)
     (subst (SetsOn old k c mode wants result new (Some y.0)) (sym here) (
@@ -228,7 +234,7 @@ set_up w k c mode wants x o reply result kept after is h tied answers replies st
       ap (λ (z : ContextsKept). with_contexts w z.table) step
           ∙ ap (with_contexts w) (set_alike (carried_of kept) (carries w) kept.table k.0 c o.1 mode wants (holder kept.table.slots o.0 o.1) tied
           ∙ ap (set_after (carries w) kept.table k.0 c o.1 mode wants) there),
-    ))))
+    )))))
 
 linked_there : (t : ContextTable) (c : CtxId) (o : Object) (d : CtxId) → is_some (context_at (linked t c o).slots d) ≡ is_some (context_at t.slots d)
 linked_there t c o d = there_changed (with_link (Some o)) t.slots c d

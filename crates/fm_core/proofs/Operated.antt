@@ -617,21 +617,26 @@ begun_as old refusal v stream handle path p (Err why) t f g free room h files =
 
 -- ---- a create begins
 
-pub creates : (old : World) (v : VolumeId) (path : List ℕ) (mode : CreateMode) (result : Result OpId Status) (t : FlowTable) (f : FileTable)
-    → first_of (volume_refusals old v (is_full old.flow || has_no_handle_left old)) ≡ None
+pub creates : {old now : World} (v : VolumeId) (path : List ℕ) (mode : CreateMode) (result : Result OpId Status) (t : FlowTable) (f : FileTable)
+    → old ≡ now → first_of (volume_refusals now v (is_full now.flow || has_no_handle_left now)) ≡ None
     → Took old.flow v (Some (stream_for v path old.flow.next old.files)) None old.stack.births (Some path) (params.Create path mode) result t
     → f ≡ cond (is_ok result) (created v path old.flow.next old.files) old.files
-    → Begins old (begin.Create v path mode) result (record old { flow = t; files = f })
+    → Begins now (begin.Create v path mode) result (record old { flow = t; files = f })
 unfolding Begins
-creates old v path mode result t f free h files =
-    begun_as old (first_of (volume_refusals old v (is_full old.flow || has_no_handle_left old))) v (Some (stream_for v path old.flow.next old.files)) None (Some path)
-    (params.Create path mode) result t f (created v path old.flow.next old.files) free (or_left (is_full old.flow) (has_no_handle_left old) (full_from _ _ (is_full old.flow || has_no_handle_left old) free)) h files
+creates {old} v path mode result t f same free_now h files =
+    let free = subst (λ (w : World). first_of (volume_refusals w v (is_full w.flow || has_no_handle_left w)) ≡ None) (sym same) free_now in
+    subst (λ (w : World). Begins w (begin.Create v path mode) result (record old { flow = t; files = f })) same
+    (begun_as old (first_of (volume_refusals old v (is_full old.flow || has_no_handle_left old))) v (Some (stream_for v path old.flow.next old.files)) None (Some path)
+    (params.Create path mode) result t f (created v path old.flow.next old.files) free (or_left (is_full old.flow) (has_no_handle_left old) (full_from _ _ (is_full old.flow || has_no_handle_left old) free)) h files)
 
-pub lists : (old : World) (v : VolumeId) (result : Result OpId Status) (t : FlowTable) → first_of (volume_refusals old v (is_full old.flow)) ≡ None
-    → Took old.flow v None None old.stack.births None params.List result t → Begins old (begin.List v) result (record old { flow = t })
+pub lists : {old now : World} (v : VolumeId) (result : Result OpId Status) (t : FlowTable) → old ≡ now → first_of (volume_refusals now v (is_full old.flow)) ≡ None
+    → Took old.flow v None None old.stack.births None params.List result t → Begins now (begin.List v) result (record old { flow = t })
 unfolding Begins
-lists old v result t free h = by_result result h
+lists {old} v result t same free_now h = subst (λ (w : World). Begins w (begin.List v) result (record old { flow = t })) same (by_result result h)
   where
+    free : first_of (volume_refusals old v (is_full old.flow)) ≡ None
+    free = subst (λ (w : World). first_of (volume_refusals w v (is_full old.flow)) ≡ None) (sym same) free_now
+
     by_result : (result : Result OpId Status) → Took old.flow v None None old.stack.births None params.List result t
         → AnswersOrMemory (first_of (volume_refusals old v (is_full old.flow))) result old (record old { flow = t })
         (λ (o : OpId). (o.0 ≡ old.flow.next) × (◌≡◌ {A = World} (record old { flow = t }) (record old { flow = begun v None None old.stack.births None params.List old.flow })))
@@ -651,12 +656,12 @@ begin_wants old what h = (subst (λ r. IsRefusalOrMemory r status.NoMemory) (sym
 
 -- ---- an operation on a handle begins
 
-pub asks : (old : World) (h : HandleId) (p : Params) (x : FileHandle) (v : VolumeId) (result : Result OpId Status) (t : FlowTable) (f : FileTable)
-    → (asked : IsAsked old h p x v) → Took old.flow v (Some x.stream) (Some h) old.stack.births (Some asked.stream.path) p result t
+pub asks : {old now : World} (h : HandleId) (p : Params) (x : FileHandle) (v : VolumeId) (result : Result OpId Status) (t : FlowTable) (f : FileTable)
+    → old ≡ now → (asked : IsAsked old h p x v) → Took old.flow v (Some x.stream) (Some h) old.stack.births (Some asked.stream.path) p result t
     → f ≡ cond (is_ok result) (moved_on (operation_of p) h old.flow.next old.files) old.files
-    → Asks old h p result (record old { flow = t; files = f })
+    → Asks now h p result (record old { flow = t; files = f })
 unfolding Asks
-asks old h p x v result t f asked event files =
+asks {old} h p x v result t f same asked event files =
     let y = asked.stream in
     let parts = asked_within (is_within_limits p) (refused_at old p (handle_at h old.files)) asked.free in
     let on : refused_on old p x (Some y) ≡ None = ap (refused_on old p x) (sym asked.there) ∙ ap (refused_at old p) (sym asked.handle) ∙ parts.1 in
@@ -664,8 +669,9 @@ asks old h p x v result t f asked event files =
     let here : asked_begun old h p ≡ begun_on old h p x (Some y) = ap (begun_at old h p) asked.handle ∙ ap (begun_on old h p x) asked.there in
     let begun' = begun_as old (asked_refused old h p) y.volume (Some x.stream) (Some h) (Some y.path) p result t f (moved_on (operation_of p) h old.flow.next old.files) asked.free room
     (subst (λ (u : VolumeId). Took old.flow u (Some x.stream) (Some h) old.stack.births (Some y.path) p result t) (sym asked.volume) event) files in
-    subst (λ (w : World). AnswersOrMemory (asked_refused old h p) result old (record old { flow = t; files = f })
-    (λ (o : OpId). (o.0 ≡ old.flow.next) × (◌≡◌ {A = World} (record old { flow = t; files = f }) w))) (sym here) begun'
+    subst (λ (w : World). Asks w h p result (record old { flow = t; files = f })) same
+    (subst (λ (w : World). AnswersOrMemory (asked_refused old h p) result old (record old { flow = t; files = f })
+    (λ (o : OpId). (o.0 ≡ old.flow.next) × (◌≡◌ {A = World} (record old { flow = t; files = f }) w))) (sym here) begun')
 
 -- what is asked leaves a sound World
 pub asks_sound : (old : World) (h : HandleId) (p : Params) (result : Result OpId Status) (new : World) → Asks old h p result new → is_create (operation_of p) ≡ false → IsSound old → IsSound new
@@ -712,7 +718,7 @@ asked_on w h p x m within e there = asked_by w h p (Some x) within e ∙ ap (ref
 
 -- ---- collect
 
-pub collects : (old : World) (o : OpId) (result : Result Answer Status) (t : FlowTable) → result ≡ told collect_reply (Err status.WrongStep) o old.flow
-    → t ≡ collected_of o old.flow → Collects old o result (record old { flow = t })
+pub collects : {old now : World} (o : OpId) (result : Result Answer Status) (t : FlowTable) → old ≡ now → result ≡ told collect_reply (Err status.WrongStep) o old.flow
+    → t ≡ collected_of o old.flow → Collects now o result (record old { flow = t })
 unfolding Collects
-collects old o result t reply after = (reply, ap (λ x. record old { flow = x }) after)
+collects {old} o result t same reply after = subst (λ (w : World). Collects w o result (record old { flow = t })) same (reply, ap (λ x. record old { flow = x }) after)

@@ -8,7 +8,7 @@ ghost use Rattle.fm_world.specs.Events.{LiesBelow, AnswersBelow, base_known, kno
 use crate::files::Files;
 use fm_flow::{Ask, Below, Flow, OperationRecord, Stage};
 use fm_stack::{Phase, Stack};
-use fm_types::{HandleId, InstanceId, Operation, Status, StreamId};
+use fm_types::{HandleId, InstanceId, Operation, Role, Status, StreamId};
 
 /// Whether the filter of an instance has a callback before the operation.
 fn has_pre(stack: &Stack, instance: InstanceId, operation: Operation) -> bool
@@ -48,22 +48,16 @@ fn known_on(
 ) -> Option<Status>
     ensures { result ≡ known_on files.now.table flow.now operation stream handle }
 {
-    match operation {
-        Operation::SetDelete | Operation::Cleanup => Some(Status::Success),
-        Operation::Close => {
+    match operation.role() {
+        Role::Marks | Role::CleansUp => Some(Status::Success),
+        Role::Closes => {
             if unlinks(files, flow, stream, handle) {
                 None
             } else {
                 Some(Status::Success)
             }
         }
-        Operation::Create
-        | Operation::Read
-        | Operation::Write
-        | Operation::QuerySize
-        | Operation::SetSize
-        | Operation::Flush
-        | Operation::List => None,
+        Role::Opens | Role::Uses => None,
     }
 }
 

@@ -17,7 +17,9 @@ use crate::state::State;
 use fm_data::Params;
 use fm_flow::Flow;
 use fm_stack::VolumePhase;
-use fm_types::{CreateMode, HandleId, OpId, Operation, RelPath, SharedPath, Status, VolumeId};
+use fm_types::{
+    CreateMode, HandleId, OpId, Operation, RelPath, Role, SharedPath, Status, VolumeId,
+};
 use fm_world::{Begin, FileHandle, HandlePhase};
 
 /// Whether a volume in that phase is in use.
@@ -43,12 +45,12 @@ fn refusal_by(phase: Option<VolumePhase>, is_too_many: bool) -> Option<Status>
 fn phase_refusal(flow: &Flow, operation: Operation, phase: HandlePhase) -> Option<Status>
     ensures { result ≡ phase_refusal flow.now operation phase }
 {
-    match operation {
-        Operation::Cleanup => match phase {
+    match operation.role() {
+        Role::CleansUp => match phase {
             HandlePhase::Open => None,
             HandlePhase::CleaningUp(_) | HandlePhase::Closing => Some(Status::WrongStep),
         },
-        Operation::Close => match phase {
+        Role::Closes => match phase {
             HandlePhase::Open => Some(Status::WrongStep),
             HandlePhase::CleaningUp(cleanup) => {
                 if flow.is_over(cleanup) {
@@ -59,14 +61,7 @@ fn phase_refusal(flow: &Flow, operation: Operation, phase: HandlePhase) -> Optio
             }
             HandlePhase::Closing => Some(Status::NoHandle),
         },
-        Operation::Create
-        | Operation::Read
-        | Operation::Write
-        | Operation::QuerySize
-        | Operation::SetSize
-        | Operation::Flush
-        | Operation::List
-        | Operation::SetDelete => match phase {
+        Role::Opens | Role::Uses | Role::Marks => match phase {
             HandlePhase::Open => None,
             HandlePhase::CleaningUp(_) | HandlePhase::Closing => Some(Status::NoHandle),
         },
@@ -101,17 +96,10 @@ fn note_begin(
 fn move_on(files: &mut Files, operation: Operation, handle: HandleId, number: u64)
     ensures { files.new.table ≡ moved_on operation handle number files.old.table }
 {
-    match operation {
-        Operation::Cleanup => files.set_phase(handle, HandlePhase::CleaningUp(OpId(number))),
-        Operation::Close => files.set_phase(handle, HandlePhase::Closing),
-        Operation::Create
-        | Operation::Read
-        | Operation::Write
-        | Operation::QuerySize
-        | Operation::SetSize
-        | Operation::Flush
-        | Operation::List
-        | Operation::SetDelete => {}
+    match operation.role() {
+        Role::CleansUp => files.set_phase(handle, HandlePhase::CleaningUp(OpId(number))),
+        Role::Closes => files.set_phase(handle, HandlePhase::Closing),
+        Role::Opens | Role::Uses | Role::Marks => {}
     }
 }
 

@@ -10,7 +10,7 @@ use crate::caller::is_there;
 use crate::files::Files;
 use fm_ctx::{Contexts, Object};
 use fm_flow::{Below, Flow, FlowAction, OperationRecord, PreState};
-use fm_types::{HandleId, Operation, Status, StreamId};
+use fm_types::{HandleId, Operation, Role, Status, StreamId};
 
 /// What an operation is, and which stream and handle it is on (`FLT_RELATED_OBJECTS`).
 #[derive(Clone, Copy)]
@@ -109,17 +109,9 @@ fn is_completed_create(state: PreState, operation: Operation) -> bool
 fn handle_lost(target: Target) -> Option<Object>
     ensures { result ≡ handle_lost target }
 {
-    match target.operation {
-        Operation::Close => Some(Object::Handle(target.handle?)),
-        Operation::Create
-        | Operation::Read
-        | Operation::Write
-        | Operation::QuerySize
-        | Operation::SetSize
-        | Operation::Flush
-        | Operation::List
-        | Operation::SetDelete
-        | Operation::Cleanup => None,
+    match target.operation.role() {
+        Role::Closes => Some(Object::Handle(target.handle?)),
+        Role::Opens | Role::Uses | Role::Marks | Role::CleansUp => None,
     }
 }
 
@@ -127,16 +119,9 @@ fn handle_lost(target: Target) -> Option<Object>
 fn stream_lost(target: Target) -> Option<Object>
     ensures { result ≡ stream_lost target }
 {
-    match target.operation {
-        Operation::Create | Operation::Close => Some(Object::Stream(target.stream?)),
-        Operation::Read
-        | Operation::Write
-        | Operation::QuerySize
-        | Operation::SetSize
-        | Operation::Flush
-        | Operation::List
-        | Operation::SetDelete
-        | Operation::Cleanup => None,
+    match target.operation.role() {
+        Role::Opens | Role::Closes => Some(Object::Stream(target.stream?)),
+        Role::Uses | Role::Marks | Role::CleansUp => None,
     }
 }
 

@@ -1,6 +1,6 @@
 //! Whose callback a worker is in, and what follows from it for contexts: who owns them, and what they are set on.
 
-ghost use Rattle.std.specs.Prelude.{◌≡◌, Some, option_map, slice_get};
+ghost use Rattle.std.specs.Prelude.{◌≡◌, ◌<◌, Some, None, IfSome, IfNone, option_map, slice_get};
 ghost use Rattle.fm_world.specs.ContextEvents.{callback_of};
 ghost use Rattle.fm_world.specs.Links.{is_there};
 ghost use Rattle.fm_world.specs.Owners.{instance_in, operation_in, file_object, file_of};
@@ -130,7 +130,9 @@ pub(crate) fn is_closing(stack: &Stack, instance: InstanceId) -> bool
 impl State {
     /// Whose callback the worker is in.
     pub(crate) fn caller(&self, worker: WorkerId) -> Option<Caller>
-        ensures { result ≡ option_map caller_of (callback_of self.now worker) }
+        ensures callback { result ≡ option_map caller_of (callback_of self.now worker) }
+        ensures none { IfNone result (callback_of self.now worker ≡ None) }
+        ensures within { IfSome result (λ _. worker.0 < 48) }
     {
         let place = self.place(worker)?;
         let instance = instance_in(place)?;

@@ -98,6 +98,7 @@ pub(crate) fn unlink_unless(
 impl State {
     /// Takes one more reference to a context that the worker holds (`FltReferenceContext`). Refused, nothing changed: 30 where the worker is in no callback
     /// of an instance, 25 where it doesn't hold the context, 26 where its hand has 16 references. It takes no memory.
+    #[tactic(auto, unfolding(fm_world::specs::ContextEvents::References))]
     pub fn reference(&mut self, worker: WorkerId, context: CtxId) -> Result<(), Status>
         ensures event { References self.old worker context result self.new }
         ensures hand { OnlyHandOf worker.0 self.old self.new }
@@ -111,6 +112,7 @@ impl State {
 
     /// Gives up one reference of the worker's hand (`FltReleaseContext`): with the last one the context is due. Refused, nothing changed: 30 where the worker
     /// is in no callback of an instance, 25 where it doesn't hold the context. It takes no memory.
+    #[tactic(auto, unfolding(fm_world::specs::ContextEvents::Releases))]
     pub fn release(&mut self, worker: WorkerId, context: CtxId) -> Result<(), Status>
         ensures event { Releases self.old worker context result self.new }
         ensures hand { OnlyHandOf worker.0 self.old self.new }
@@ -124,6 +126,7 @@ impl State {
 
     /// A copy of the body of a context that the worker holds. Refused, nothing changed: 30 where the worker is in no callback of an instance, 25 where it
     /// doesn't hold the context, 1.
+    #[tactic(auto, unfolding(fm_world::specs::ContextEvents::ReadsBody))]
     pub fn read_body(&mut self, worker: WorkerId, context: CtxId) -> Result<Bytes, Status>
         ensures event { ReadsBody self.old worker context result self.new }
         ensures hand { KeepsHands self.old self.new }
@@ -136,6 +139,7 @@ impl State {
 
     /// Replaces the body of a context that the worker holds. Refused, nothing changed: 30 where the worker is in no callback of an instance, 25 where it
     /// doesn't hold the context, 32 where the bytes have another length than the body. It takes no memory.
+    #[tactic(auto, unfolding(fm_world::specs::ContextEvents::WritesBody))]
     pub fn write_body(
         &mut self,
         worker: WorkerId,
@@ -154,6 +158,7 @@ impl State {
     /// Adds to the number at a place of the body of a context that the worker holds, and answers the sum: eight bytes, the highest first, modulo 2^64. Refused,
     /// nothing changed: 30 where the worker is in no callback of an instance, 25 where it doesn't hold the context, 32 where the number would go past the
     /// body's end. It takes no memory.
+    #[tactic(auto, unfolding(fm_world::specs::ContextEvents::Bumps))]
     pub fn bump(
         &mut self,
         worker: WorkerId,

@@ -8,20 +8,13 @@ use Rattle.fm_core.proofs.Called.{allocate_tied, allocate_unregistered, allocate
 use Rattle.fm_core.specs.contracts.state.State.{the_view}
 use Rattle.fm_core.proofs.state.State.allocate.Goals as goal
 
-pub returns-in_default-clause-event : goal.returns-in_default-clause-event
-unfolding Allocates
-returns-in_default-clause-event c = outside _ c.args.self.now c.args.worker _ (sym c.caller.ensures ∙ c.in_default.is)
-
 pub returns-then-not-has_kind-clause-event : goal.returns-then-not-has_kind-clause-event
 returns-then-not-has_kind-clause-event c =
-    allocate_unregistered c.args.worker c.args.kind c.args.body c.in-Some.caller c.self.view_is (sym c.caller.ensures ∙ c.in-Some.is) (sym c.has_kind.ensures ∙ c.if-not-has_kind.true)
-
-pub allocate-requires : goal.allocate-requires
-allocate-requires c = called_within c.args.worker c.in-Some.caller c.self.invariant c.self.view_is (sym c.caller.ensures ∙ c.in-Some.is)
+    allocate_unregistered c.args.worker c.args.kind c.args.body c.in-Some.caller c.self.view_is (sym c.caller.ensures.callback ∙ c.in-Some.is) (sym c.has_kind.ensures ∙ c.if-not-has_kind.true)
 
 pub returns-clause-event : goal.returns-clause-event
 returns-clause-event c =
-    allocated_up (the_view c.self.inside) c.args.worker c.args.kind c.args.body c.in-Some.caller c.owner.result c.allocate.result c.self.inside.contexts c.allocate.new.self c.self.view_is (sym c.caller.ensures ∙ c.in-Some.is) (sym c.has_kind.ensures ∙ c.if-not-has_kind.false) c.owner.ensures
+    allocated_up (the_view c.self.inside) c.args.worker c.args.kind c.args.body c.in-Some.caller c.owner.result c.allocate.result c.self.inside.contexts c.allocate.new.self c.self.view_is (sym c.caller.ensures.callback ∙ c.in-Some.is) (sym c.has_kind.ensures ∙ c.if-not-has_kind.false) c.owner.ensures
     c.allocate.ensures
 
 pub invariant_of-self : goal.invariant_of-self

@@ -6,16 +6,9 @@ use Rattle.fm_core.proofs.Called.{body_bumped, bump_tied, called_within, outside
 use Rattle.fm_core.specs.contracts.state.State.{the_view}
 use Rattle.fm_core.proofs.state.State.bump.Goals as goal
 
-pub returns-in_default-clause-event : goal.returns-in_default-clause-event
-unfolding Bumps
-returns-in_default-clause-event c = outside _ c.args.self.now c.args.worker _ (sym c.caller.ensures ∙ c.in_default.is)
-
-pub bump-requires : goal.bump-requires
-bump-requires c = called_within c.args.worker c.in-Some._caller c.self.invariant c.self.view_is (sym c.caller.ensures ∙ c.in-Some.is)
-
 pub returns-clause-event : goal.returns-clause-event
 returns-clause-event c =
-    body_bumped (the_view c.self.inside) c.args.worker c.args.context c.args.place c.args.by c.bump.result c.self.inside.contexts c.bump.new.self c.in-Some._caller c.self.view_is (sym c.caller.ensures ∙ c.in-Some.is) c.bump.ensures
+    body_bumped (the_view c.self.inside) c.args.worker c.args.context c.args.place c.args.by c.bump.result c.self.inside.contexts c.bump.new.self c.in-Some._caller c.self.view_is (sym c.caller.ensures.callback ∙ c.in-Some.is) c.bump.ensures
 
 pub invariant_of-self : goal.invariant_of-self
 invariant_of-self c = record {

@@ -10,19 +10,12 @@ use Rattle.fm_core.proofs.Linked.{delete_refused, delete_tied, deleted}
 use Rattle.fm_core.specs.contracts.state.State.{the_view}
 use Rattle.fm_core.proofs.state.State.delete.Goals as goal
 
-pub returns-in_default-clause-event : goal.returns-in_default-clause-event
-unfolding Deletes
-returns-in_default-clause-event c = outside _ c.args.self.now c.args.worker _ (sym c.caller.ensures ∙ c.in_default.is)
-
 pub returns-in-Err-clause-event : goal.returns-in-Err-clause-event
-returns-in-Err-clause-event c = delete_refused c.args.self.now c.args.worker c.args.kind c.args.wants_old c.in-Some.caller c.in-Err.status (sym c.caller.ensures ∙ c.in-Some.is) c.in-Err.ensures
-
-pub delete-requires : goal.delete-requires
-delete-requires c = called_within c.args.worker c.in-Some.caller c.self.invariant c.self.view_is (sym c.caller.ensures ∙ c.in-Some.is)
+returns-in-Err-clause-event c = delete_refused c.args.self.now c.args.worker c.args.kind c.args.wants_old c.in-Some.caller c.in-Err.status (sym c.caller.ensures.callback ∙ c.in-Some.is) c.in-Err.ensures
 
 pub returns-clause-event : goal.returns-clause-event
 returns-clause-event c =
-    deleted (the_view c.self.inside) c.args.worker c.args.kind c.args.wants_old c.in-Some.caller c.in-Ok.found c.delete.result c.self.inside.contexts c.delete.new.self c.self.view_is (sym c.caller.ensures ∙ c.in-Some.is) c.in-Ok.ensures
+    deleted (the_view c.self.inside) c.args.worker c.args.kind c.args.wants_old c.in-Some.caller c.in-Ok.found c.delete.result c.self.inside.contexts c.delete.new.self c.self.view_is (sym c.caller.ensures.callback ∙ c.in-Some.is) c.in-Ok.ensures
     c.self.invariant.tied c.delete.ensures
 
 pub invariant_of-self : goal.invariant_of-self

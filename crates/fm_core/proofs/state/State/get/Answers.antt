@@ -11,24 +11,17 @@ use Rattle.fm_core.proofs.Linked.{get_gone, get_refused, get_tied, gotten}
 use Rattle.fm_core.specs.contracts.state.State.{the_view}
 use Rattle.fm_core.proofs.state.State.get.Goals as goal
 
-pub returns-in_default-clause-event : goal.returns-in_default-clause-event
-unfolding Gets
-returns-in_default-clause-event c = outside _ c.args.self.now c.args.worker _ (sym c.caller.ensures ∙ c.in_default.is)
-
 pub returns-in-Err-clause-event : goal.returns-in-Err-clause-event
-returns-in-Err-clause-event c = get_refused c.args.self.now c.args.worker c.args.kind c.in-Some.caller c.in-Err.status (sym c.caller.ensures ∙ c.in-Some.is) c.in-Err.ensures
+returns-in-Err-clause-event c = get_refused c.args.self.now c.args.worker c.args.kind c.in-Some.caller c.in-Err.status (sym c.caller.ensures.callback ∙ c.in-Some.is) c.in-Err.ensures
 
 pub returns-then-not-is_there-clause-event : goal.returns-then-not-is_there-clause-event
 returns-then-not-is_there-clause-event c =
-    get_gone c.args.self.now c.args.worker c.args.kind c.in-Some.caller c.in-Ok.found (sym c.caller.ensures ∙ c.in-Some.is) c.in-Ok.ensures
+    get_gone c.args.self.now c.args.worker c.args.kind c.in-Some.caller c.in-Ok.found (sym c.caller.ensures.callback ∙ c.in-Some.is) c.in-Ok.ensures
     (subst (λ (w : World). is_there w.files (Some c.in-Ok.found.1) ≡ false) c.self.view_is (sym c.is_there.ensures ∙ c.if-not-is_there.true))
-
-pub get-requires : goal.get-requires
-get-requires c = called_within c.args.worker c.in-Some.caller c.self.invariant c.self.view_is (sym c.caller.ensures ∙ c.in-Some.is)
 
 pub returns-clause-event : goal.returns-clause-event
 returns-clause-event c =
-    gotten (the_view c.self.inside) c.args.worker c.args.kind c.in-Some.caller c.in-Ok.found c.get.result c.self.inside.contexts c.get.new.self c.self.view_is (sym c.caller.ensures ∙ c.in-Some.is) c.in-Ok.ensures
+    gotten (the_view c.self.inside) c.args.worker c.args.kind c.in-Some.caller c.in-Ok.found c.get.result c.self.inside.contexts c.get.new.self c.self.view_is (sym c.caller.ensures.callback ∙ c.in-Some.is) c.in-Ok.ensures
     (sym c.is_there.ensures ∙ c.if-not-is_there.false) c.get.ensures
 
 pub invariant_of-self : goal.invariant_of-self

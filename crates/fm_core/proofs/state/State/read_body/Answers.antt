@@ -4,13 +4,6 @@ use Rattle.fm_core.proofs.Called.{body_read, called_within, outside}
 use Rattle.fm_core.specs.contracts.state.State.{the_view}
 use Rattle.fm_core.proofs.state.State.read_body.Goals as goal
 
-pub returns-in_default-clause-event : goal.returns-in_default-clause-event
-unfolding ReadsBody
-returns-in_default-clause-event c = outside _ c.args.self.now c.args.worker _ (sym c.caller.ensures ∙ c.in_default.is)
-
-pub read_body-requires : goal.read_body-requires
-read_body-requires c = called_within c.args.worker c.in-Some._caller c.self.invariant c.self.view_is (sym c.caller.ensures ∙ c.in-Some.is)
-
 pub returns-clause-event : goal.returns-clause-event
 returns-clause-event c =
-    body_read (the_view c.self.inside) c.args.worker c.args.context c.read_body.result c.self.inside.contexts c.in-Some._caller c.self.view_is (sym c.caller.ensures ∙ c.in-Some.is) c.read_body.ensures
+    body_read (the_view c.self.inside) c.args.worker c.args.context c.read_body.result c.self.inside.contexts c.in-Some._caller c.self.view_is (sym c.caller.ensures.callback ∙ c.in-Some.is) c.read_body.ensures

@@ -7,16 +7,9 @@ use Rattle.fm_core.proofs.Called.{called_within, outside, referenced, reference_
 use Rattle.fm_core.specs.contracts.state.State.{the_view}
 use Rattle.fm_core.proofs.state.State.reference.Goals as goal
 
-pub returns-in_default-clause-event : goal.returns-in_default-clause-event
-unfolding References
-returns-in_default-clause-event c = outside _ c.args.self.now c.args.worker _ (sym c.caller.ensures ∙ c.in_default.is)
-
-pub reference-requires : goal.reference-requires
-reference-requires c = called_within c.args.worker c.in-Some._caller c.self.invariant c.self.view_is (sym c.caller.ensures ∙ c.in-Some.is)
-
 pub returns-clause-event : goal.returns-clause-event
 returns-clause-event c =
-    referenced (the_view c.self.inside) c.args.worker c.args.context c.reference.result c.self.inside.contexts c.reference.new.self c.in-Some._caller c.self.view_is (sym c.caller.ensures ∙ c.in-Some.is) c.reference.ensures
+    referenced (the_view c.self.inside) c.args.worker c.args.context c.reference.result c.self.inside.contexts c.reference.new.self c.in-Some._caller c.self.view_is (sym c.caller.ensures.callback ∙ c.in-Some.is) c.reference.ensures
 
 pub invariant_of-self : goal.invariant_of-self
 invariant_of-self c = record {

@@ -7,16 +7,9 @@ use Rattle.fm_core.proofs.Called.{called_within, outside, released_up, release_t
 use Rattle.fm_core.specs.contracts.state.State.{the_view}
 use Rattle.fm_core.proofs.state.State.release.Goals as goal
 
-pub returns-in_default-clause-event : goal.returns-in_default-clause-event
-unfolding Releases
-returns-in_default-clause-event c = outside _ c.args.self.now c.args.worker _ (sym c.caller.ensures ∙ c.in_default.is)
-
-pub release-requires : goal.release-requires
-release-requires c = called_within c.args.worker c.in-Some._caller c.self.invariant c.self.view_is (sym c.caller.ensures ∙ c.in-Some.is)
-
 pub returns-clause-event : goal.returns-clause-event
 returns-clause-event c =
-    released_up (the_view c.self.inside) c.args.worker c.args.context c.release.result c.self.inside.contexts c.release.new.self c.in-Some._caller c.self.view_is (sym c.caller.ensures ∙ c.in-Some.is) c.self.invariant.tied c.release.ensures
+    released_up (the_view c.self.inside) c.args.worker c.args.context c.release.result c.self.inside.contexts c.release.new.self c.in-Some._caller c.self.view_is (sym c.caller.ensures.callback ∙ c.in-Some.is) c.self.invariant.tied c.release.ensures
 
 pub invariant_of-self : goal.invariant_of-self
 invariant_of-self c = record {

@@ -9,21 +9,12 @@ use Rattle.fm_core.proofs.Linked.{set_outside, set_refused_as, set_tied, set_up}
 use Rattle.fm_core.specs.contracts.state.State.{the_view}
 use Rattle.fm_core.proofs.state.State.set.Goals as goal
 
-pub returns-in_default-clause-event : goal.returns-in_default-clause-event
-returns-in_default-clause-event c = set_outside c.args.self.now c.args.worker c.args.context c.args.mode c.args.wants_old (sym c.caller.ensures ∙ c.in_default.is)
-
-pub settable-requires : goal.settable-requires
-settable-requires c = called_within c.args.worker c.in-Some.caller c.self.invariant c.self.view_is (sym c.caller.ensures ∙ c.in-Some.is)
-
 pub returns-in-Err-clause-event : goal.returns-in-Err-clause-event
-returns-in-Err-clause-event c = set_refused_as c.args.self.now c.args.worker c.args.context c.args.mode c.args.wants_old c.in-Some.caller c.in-Err.status (sym c.caller.ensures ∙ c.in-Some.is) c.in-Err.ensures
-
-pub set-reply-requires-clause-within : goal.set-reply-requires-clause-within
-set-reply-requires-clause-within c = called_within c.args.worker c.in-Some.caller c.self.invariant c.self.view_is (sym c.caller.ensures ∙ c.in-Some.is)
+returns-in-Err-clause-event c = set_refused_as c.args.self.now c.args.worker c.args.context c.args.mode c.args.wants_old c.in-Some.caller c.in-Err.status (sym c.caller.ensures.callback ∙ c.in-Some.is) c.in-Err.ensures
 
 pub returns-clause-event : goal.returns-clause-event
 returns-clause-event c =
-    set_up (the_view c.self.inside) c.args.worker c.args.context c.args.mode c.args.wants_old c.in-Some.caller c.in-Ok.found c.set-reply.result c.set_answer.result c.self.inside.contexts c.set-reply.new.self c.self.view_is (sym c.caller.ensures ∙ c.in-Some.is)
+    set_up (the_view c.self.inside) c.args.worker c.args.context c.args.mode c.args.wants_old c.in-Some.caller c.in-Ok.found c.set-reply.result c.set_answer.result c.self.inside.contexts c.set-reply.new.self c.self.view_is (sym c.caller.ensures.callback ∙ c.in-Some.is)
     c.in-Ok.ensures c.self.invariant.tied c.set_answer.ensures c.set-reply.ensures.reply c.set-reply.ensures.after
 
 pub invariant_of-self : goal.invariant_of-self

@@ -6,16 +6,9 @@ use Rattle.fm_core.proofs.Called.{body_written, called_within, outside, write_ti
 use Rattle.fm_core.specs.contracts.state.State.{the_view}
 use Rattle.fm_core.proofs.state.State.write_body.Goals as goal
 
-pub returns-in_default-clause-event : goal.returns-in_default-clause-event
-unfolding WritesBody
-returns-in_default-clause-event c = outside _ c.args.self.now c.args.worker _ (sym c.caller.ensures ∙ c.in_default.is)
-
-pub write_body-requires : goal.write_body-requires
-write_body-requires c = called_within c.args.worker c.in-Some._caller c.self.invariant c.self.view_is (sym c.caller.ensures ∙ c.in-Some.is)
-
 pub returns-clause-event : goal.returns-clause-event
 returns-clause-event c =
-    body_written (the_view c.self.inside) c.args.worker c.args.context c.args.bytes.now c.write_body.result c.self.inside.contexts c.write_body.new.self c.in-Some._caller c.self.view_is (sym c.caller.ensures ∙ c.in-Some.is) c.write_body.ensures
+    body_written (the_view c.self.inside) c.args.worker c.args.context c.args.bytes.now c.write_body.result c.self.inside.contexts c.write_body.new.self c.in-Some._caller c.self.view_is (sym c.caller.ensures.callback ∙ c.in-Some.is) c.write_body.ensures
 
 pub invariant_of-self : goal.invariant_of-self
 invariant_of-self c = record {

@@ -1,15 +1,12 @@
 -- What the layer of contexts keeps of references that completions carry stays what the operations' completions say.
-use Rattle.std.proofs.Common.{◌≡◌, ℕ, ◌+◌, ◌*◌, ◌<◌, ◌≤◌, ◌^◌, Bool, true, false, cond, not, List, [], ◌∷◌, length, Option, Some, None, Result, Ok, Err, is_some, slice_get, refl, ap, sym, ◌∙◌, subst, inl, inr, arith}
+use Rattle.std.proofs.Common.{◌≡◌, ℕ, ◌+◌, ◌*◌, ◌<◌, ◌≤◌, ◌^◌, Bool, true, false, cond, not, List, [], ◌∷◌, length, Option, Some, None, Ok, is_some, slice_get, refl, ap, sym, ◌∙◌, subst, inl, inr, arith}
 use Rattle.std.specs.Prelude.{All, slice_index}
 use Rattle.std.specs.Option.{option_and_then}
 use Rattle.std.proofs.lemmas.Bool.{false≢true, cases_Bool}
 use Rattle.std.proofs.lemmas.Option.{slice_get_within}
 use Rattle.std.proofs.lemmas.List.Elements.{All-head, All-tail}
 use Rattle.fm_types.specs.declared.ids.CtxId.{CtxId}
-use Rattle.fm_types.specs.declared.ids.OpId.{OpId}
 use Rattle.fm_types.specs.declared.ids.WorkerId.{WorkerId}
-use Rattle.fm_types.specs.declared.status.Status.{Status}
-use Rattle.fm_types.specs.declared.status.Status.TheVariants as status
 use Rattle.fm_ctx.specs.Bags.{one, is_id, holds, hand_of}
 use Rattle.fm_ctx.specs.Kept.{ContextsKept, carried_of}
 use Rattle.fm_ctx.specs.Laws.{IsLawful}
@@ -29,8 +26,8 @@ use Rattle.fm_flow.specs.Entries.{owed}
 use Rattle.fm_flow.specs.Record.{FlowRecord}
 use Rattle.fm_flow.specs.Sound as flow
 use Rattle.fm_flow.specs.Table.{FlowTable, IsFlow, carried, total, under_way}
-use Rattle.fm_world.specs.World.{World, empty_world}
-use Rattle.fm_world.specs.Events.{brought, received, sent, ReturnsFrom, Unless, returned, carries_after}
+use Rattle.fm_world.specs.World.{empty_world}
+use Rattle.fm_world.specs.Events.{brought, received, sent}
 use Rattle.fm_world.proofs.Counts.{count-cons}
 use Rattle.fm_world.proofs.Flowing.{done_owes}
 use Rattle.fm_stack.specs.StackWorld.{StackWorld}

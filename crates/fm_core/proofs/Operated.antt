@@ -1,6 +1,6 @@
 -- The events on operations, from what their parts did.
-use Rattle.std.proofs.Common.{◌≡◌, ℕ, zero, suc, ◌+◌, ◌<◌, ◌==◌, ◌&&◌, arith, Bool, true, false, cond, not, List, [], ◌∷◌, Option, Some, None, Result, Ok, Err, refl, ap, sym, ◌∙◌, subst, inl, inr, nat_le, nat_eq, length, ◌-◌, ◌^◌}
-use Rattle.std.specs.Prelude.{option_map, unwrap_or, slice_get, is_ok, is_some, IfErr, ◌||◌}
+use Rattle.std.proofs.Common.{◌≡◌, ℕ, zero, suc, ◌+◌, ◌<◌, ◌==◌, ◌&&◌, arith, Bool, true, false, cond, not, List, [], ◌∷◌, Option, Some, None, Result, Ok, Err, refl, ap, sym, ◌∙◌, subst, inl, inr, nat_le, nat_eq, length, ◌^◌}
+use Rattle.std.specs.Prelude.{option_map, unwrap_or, slice_get, is_ok, is_some, ◌||◌}
 use Rattle.std.proofs.lemmas.Bool.{false≢true, eq-eqb, and_from, lt-leb, leb-false, and_parts}
 use Rattle.std.proofs.lemmas.Option.{none-some, same_Some, slice_get_within}
 use Rattle.fm_types.specs.declared.ids.InstanceId.{InstanceId}
@@ -30,25 +30,24 @@ use Rattle.fm_flow.specs.declared.stage.Stage.{Stage}
 use Rattle.fm_flow.specs.declared.stage.Stage.TheVariants.{PreRunning, InBase, PostRunning, InDrain}
 use Rattle.fm_flow.specs.declared.entry.Entry.{Entry}
 use Rattle.fm_flow.specs.Record.{FlowRecord}
-use Rattle.fm_flow.specs.Steps.{next_of, pre_returned_of, pre_after, base_returned_of, base_after, base_reply, base_fits, post_returned_of, post_after, data_reply, drain_returned_of, MayLieBelow}
+use Rattle.fm_flow.specs.Steps.{next_of, pre_returned_of, base_returned_of, base_after, base_fits, post_returned_of, drain_returned_of, MayLieBelow}
 use Rattle.fm_flow.specs.Verdict.{verdict_counted}
 use Rattle.fm_types.specs.declared.operation.Operation.{Operation}
 use Rattle.fm_flow.specs.Table.{FlowTable, operation_at, changed, told, is_number, StandsAt, MayLieBelowOf, is_full, begun, begun_record, carried, collect_reply, collected_of}
 use Rattle.fm_world.specs.declared.step.Begin.TheVariants as begin
-use Rattle.fm_world.specs.declared.refused.Refused.{Refused}
 use Rattle.fm_world.specs.declared.worker.Worker.{Worker}
 use Rattle.fm_world.specs.declared.worker.Worker.TheVariants as place
 use Rattle.fm_world.specs.World.{World, carries}
 use Rattle.fm_world.specs.Workers.{worker_at, put, is_idle, after_next}
 use Rattle.fm_world.specs.Links.{LosesLinks}
-use Rattle.fm_world.specs.Events.{LosesByKnown, flow_after_next, drains_next, pre_step, base_step, Begins, Nexts, NextsAt, FindsBelow, PreReturnsOver, base_returned, Unless, PreReturns, PreReturnsAt, BaseReturns, BaseReturnsAt, PostReturns, PostReturnsAt, Collects, drains_at, received, ReturnsFrom, sent, sent_in, of_hand, carries_after, state_at, state_given, has_post, returned, filed_record, filed_next, filed_base, filed_pre, is_created_on, PreReturnsFrom, volume_refusals, has_no_handle_left, moved_on, begin_refused, asked_refused, asked_begun, refused_at, refused_on, begun_at, begun_on, or_else}
+use Rattle.fm_world.specs.Events.{LosesByKnown, flow_after_next, drains_next, pre_step, base_step, Begins, Nexts, NextsAt, FindsBelow, PreReturnsOver, base_returned, Unless, PreReturns, PreReturnsAt, BaseReturns, BaseReturnsAt, PostReturns, PostReturnsAt, Collects, drains_at, received, ReturnsFrom, sent, sent_in, of_hand, carries_after, state_at, state_given, has_post, returned, filed_record, filed_next, filed_base, filed_pre, is_created_on, volume_refusals, has_no_handle_left, moved_on, begin_refused, asked_refused, asked_begun, refused_at, refused_on, begun_at, begun_on, or_else}
 use Rattle.fm_world.specs.Headline.{Spot, AtPre, AtBase, AtPost, AtDrain, is_in_at, is_spot, spot_at}
-use Rattle.fm_world.specs.Sound.{IsSound, IsAmong, IsFiled}
+use Rattle.fm_world.specs.Sound.{IsSound, IsAmong}
 use Rattle.fm_types.proofs.Firsts.{found_holds}
 use Rattle.fm_core.proofs.Changes.{change_agrees, change_same}
 use Rattle.fm_world.proofs.Ties.{tied_there, spot_pre, spot_base, spot_post, spot_drain}
 use Rattle.fm_world.proofs.Keeps.{idle_there}
-use Rattle.fm_world.proofs.Operations.{may_visit, counted_quiet, told_there, unchanged_flow, full_from, none_else, asked_within}
+use Rattle.fm_world.proofs.Operations.{may_visit, told_there, unchanged_flow, full_from, none_else, asked_within}
 use Rattle.fm_ctx.specs.Bags.{hand_of, holds}
 use Rattle.fm_ctx.specs.Kept.{ContextsKept}
 use Rattle.fm_ctx.specs.Settling.{Leaves}
@@ -81,7 +80,7 @@ use Rattle.fm_world.specs.Files.{FileTable, stream_at, handle_at, stream_for, cr
 use Rattle.fm_world.specs.Requests.{params_of, phase_refusal}
 use Rattle.fm_world.proofs.Filing.{room_for, was_known}
 use Rattle.fm_world.proofs.Descents.{or_left}
-use Rattle.fm_core.specs.Targets.{target_in, answered, decided, known_in, HasRoom, opens}
+use Rattle.fm_core.specs.Targets.{target_in, answered, decided, known_in, HasRoom}
 use Rattle.fm_core.specs.declared.target.Target.{Target}
 use Rattle.fm_core.specs.Begun.{Asks, IsAsked, refusal_by}
 

@@ -1,5 +1,5 @@
 -- What becomes of a worker's hand where a callback begins with a completion, and where one ends.
-use Rattle.std.specs.Prelude.{◌≡◌, ◌<◌, ◌^◌, ℕ, Bool, true, false, Option, Some, None, Result, Ok, Err, length}
+use Rattle.std.specs.Prelude.{◌≡◌, ◌<◌, ◌^◌, ℕ, true, Option, Some, None, Result, Ok, Err, length}
 use Rattle.fm_types.specs.declared.ids.CtxId.{CtxId}
 use Rattle.fm_types.specs.declared.ids.InstanceId.{InstanceId}
 use Rattle.fm_types.specs.declared.status.Status.{Status}

@@ -1,5 +1,5 @@
 -- What an operation is on, and what an answer to it makes of streams and handles.
-use Rattle.std.specs.Prelude.{◌≡◌, ◌<◌, ◌-◌, ◌^◌, Bool, true, false, ◌&&◌, length, Option, Some, None, Result, Ok}
+use Rattle.std.specs.Prelude.{◌≡◌, ◌<◌, ◌-◌, ◌^◌, Bool, true, false, ◌&&◌, length, Option, Some, None}
 use Rattle.fm_types.specs.declared.operation.Operation.{Operation}
 use Rattle.fm_types.specs.declared.operation.Operation.TheVariants as kind
 use Rattle.fm_flow.specs.declared.action.Below.{Below}

@@ -1,10 +1,9 @@
 use Rattle.std.proofs.Common.{sym, ◌∙◌, subst}
 use Rattle.fm_ctx.specs.Births.{new_context, allocate_refusal}
-use Rattle.fm_world.specs.ContextEvents.{Allocates}
 use Rattle.fm_world.specs.Sound.{IsSound}
 use Rattle.fm_world.proofs.Linking.{allocate_sound}
 use Rattle.fm_world.proofs.Holdings.{allocate_more}
-use Rattle.fm_core.proofs.Called.{allocate_tied, allocate_unregistered, allocated_up, called_within, outside}
+use Rattle.fm_core.proofs.Called.{allocate_tied, allocate_unregistered, allocated_up}
 use Rattle.fm_core.specs.contracts.state.State.{the_view}
 use Rattle.fm_core.proofs.state.State.allocate.Goals as goal
 

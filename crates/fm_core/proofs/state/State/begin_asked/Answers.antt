@@ -1,6 +1,5 @@
-use Rattle.std.proofs.Common.{◌≡◌, ℕ, List, Option, Some, Err, ap, sym, ◌∙◌, subst}
+use Rattle.std.proofs.Common.{ℕ, List, Option, Some, ap, sym, ◌∙◌, subst}
 use Rattle.std.specs.Prelude.{cond, is_ok, option_map}
-use Rattle.fm_types.specs.declared.status.Status.TheVariants.{NoMemory}
 use Rattle.fm_data.specs.Params.{operation_of}
 use Rattle.fm_world.specs.declared.file.FileStream.{FileStream}
 use Rattle.fm_world.specs.World.{World}

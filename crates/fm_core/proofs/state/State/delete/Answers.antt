@@ -1,11 +1,9 @@
 use Rattle.std.proofs.Common.{sym, ◌∙◌, subst}
 use Rattle.fm_ctx.specs.Links.{holder}
-use Rattle.fm_world.specs.ContextEvents.{Deletes}
 use Rattle.fm_world.specs.Sound.{IsSound}
 use Rattle.fm_world.proofs.Linking.{delete_sound}
 use Rattle.fm_world.proofs.Handing.{delete_hand}
 use Rattle.fm_world.proofs.Holdings.{delete_more}
-use Rattle.fm_core.proofs.Called.{called_within, outside}
 use Rattle.fm_core.proofs.Linked.{delete_refused, delete_tied, deleted}
 use Rattle.fm_core.specs.contracts.state.State.{the_view}
 use Rattle.fm_core.proofs.state.State.delete.Goals as goal

@@ -2,11 +2,9 @@ use Rattle.std.proofs.Common.{◌≡◌, false, Some, sym, ◌∙◌, subst}
 use Rattle.fm_ctx.specs.Links.{holder}
 use Rattle.fm_world.specs.World.{World}
 use Rattle.fm_world.specs.Links.{is_there}
-use Rattle.fm_world.specs.ContextEvents.{Gets}
 use Rattle.fm_world.specs.Sound.{IsSound}
 use Rattle.fm_world.proofs.Linking.{get_sound}
 use Rattle.fm_world.proofs.Holdings.{get_more}
-use Rattle.fm_core.proofs.Called.{called_within, outside}
 use Rattle.fm_core.proofs.Linked.{get_gone, get_refused, get_tied, gotten}
 use Rattle.fm_core.specs.contracts.state.State.{the_view}
 use Rattle.fm_core.proofs.state.State.get.Goals as goal

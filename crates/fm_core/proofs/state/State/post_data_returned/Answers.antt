@@ -1,4 +1,4 @@
-use Rattle.std.proofs.Common.{◌≡◌, Result, Some, refl, ap, sym, ◌∙◌, subst}
+use Rattle.std.proofs.Common.{◌≡◌, Result, Some, refl, ap, sym, subst}
 use Rattle.fm_data.specs.Data.{Data, data_fits}
 use Rattle.fm_flow.specs.declared.stage.Stage.TheVariants.{PostRunning}
 use Rattle.fm_flow.specs.Record.{FlowRecord}

@@ -1,6 +1,5 @@
 use Rattle.std.proofs.Common.{sym, ◌∙◌}
-use Rattle.fm_world.specs.ContextEvents.{ReadsBody}
-use Rattle.fm_core.proofs.Called.{body_read, called_within, outside}
+use Rattle.fm_core.proofs.Called.{body_read}
 use Rattle.fm_core.specs.contracts.state.State.{the_view}
 use Rattle.fm_core.proofs.state.State.read_body.Goals as goal
 

@@ -1,9 +1,8 @@
 use Rattle.std.proofs.Common.{sym, ◌∙◌, subst}
-use Rattle.fm_world.specs.ContextEvents.{References}
 use Rattle.fm_world.specs.Sound.{IsSound}
 use Rattle.fm_world.proofs.Callbacks.{reference_sound}
 use Rattle.fm_world.proofs.Holdings.{reference_more}
-use Rattle.fm_core.proofs.Called.{called_within, outside, referenced, reference_tied}
+use Rattle.fm_core.proofs.Called.{referenced, reference_tied}
 use Rattle.fm_core.specs.contracts.state.State.{the_view}
 use Rattle.fm_core.proofs.state.State.reference.Goals as goal
 

@@ -4,8 +4,7 @@ use Rattle.fm_world.specs.Sound.{IsSound}
 use Rattle.fm_world.proofs.Linking.{set_sound}
 use Rattle.fm_world.proofs.Handing.{set_hand}
 use Rattle.fm_world.proofs.Holdings.{set_more}
-use Rattle.fm_core.proofs.Called.{called_within}
-use Rattle.fm_core.proofs.Linked.{set_outside, set_refused_as, set_tied, set_up}
+use Rattle.fm_core.proofs.Linked.{set_refused_as, set_tied, set_up}
 use Rattle.fm_core.specs.contracts.state.State.{the_view}
 use Rattle.fm_core.proofs.state.State.set.Goals as goal
 

@@ -58,6 +58,7 @@ fn add_total(totals: &mut [u64], filter: Option<FilterId>, number: u64)
 impl State {
     /// An idle worker takes the context that is due longest, and is in its filter's cleanup callback (`PFLT_CONTEXT_CLEANUP_CALLBACK`); none where none is due,
     /// and the worker stays idle. The context's body moves out with it. Refused, nothing changed, with 30 where the worker isn't idle. It takes no memory.
+    #[tactic(auto, unfolding(fm_world::specs::ContextEvents::TakesDue))]
     pub fn take_due(&mut self, worker: WorkerId) -> Result<Option<Due>, Status>
         ensures event { TakesDue self.old worker result self.new }
         ensures hand { KeepsHands self.old self.new }
@@ -72,6 +73,7 @@ impl State {
 
     /// The cleanup callback that the worker is in returns, with a number that is added to its filter's total, modulo 2^64: the context is gone. Refused,
     /// nothing changed, with 30 where the worker is in no cleanup callback. It takes no memory.
+    #[tactic(auto, unfolding(fm_world::specs::ContextEvents::Cleans))]
     pub fn cleaned(&mut self, worker: WorkerId, number: u64) -> Result<(), Status>
         ensures event { Cleans self.old worker number result self.new }
         ensures hand { KeepsHands self.old self.new }

@@ -23,6 +23,7 @@ impl State {
     /// isn't idle or isn't there, where there is no such operation or another worker is inside it, and where the next callback is a synchronized
     /// postoperation of another worker. The context that a completion carries is in the worker's hand again. Where the base's answer was known and took
     /// away a handle or a stream, the contexts set on it lose their links. Where the operation is held or done nothing changes either. It takes no memory.
+    #[tactic(auto, unfolding(fm_world::specs::Events::Nexts))]
     pub fn next(&mut self, worker: WorkerId, operation: OpId) -> Result<FlowAction, Status>
         ensures event { Nexts self.old worker operation result self.new }
         ensures nothing { gives_nothing result ≡ true → self.new ≡ self.old }
@@ -63,6 +64,7 @@ impl State {
     /// counts as having none where the hand has it not; what else is in the hand is released and counts as leaked. Where a create that it completes was all
     /// that kept its stream, the contexts set on that lose their links. Refused, nothing changed and the data handed back: 30
     /// where the worker is in no preoperation, 32 where the data is strange: of another operation, on another path of a create, or past a limit.
+    #[tactic(auto, unfolding(fm_world::specs::Events::PreReturns))]
     pub fn pre_returned(
         &mut self,
         worker: WorkerId,
@@ -109,6 +111,7 @@ impl State {
     /// The base call that the worker is in returns, with what it was asked and its answer. The contexts that are set on a handle that closes,
     /// or on a stream that is torn down, lose their links. Refused, nothing changed and both handed back:
     /// 30 where the worker is in no base call, 32 where the call is strange (of another volume, file or operation, or past a limit) or more than 32,768 bytes come back.
+    #[tactic(auto, unfolding(fm_world::specs::Events::BaseReturns))]
     pub fn base_returned(
         &mut self,
         worker: WorkerId,
@@ -152,6 +155,7 @@ impl State {
     /// The postoperation callback that the worker is in returns, with its verdict and its data; or the drain, which has no data and whose verdict counts
     /// as Finished. What is in the worker's hand is released and counts as leaked. Refused, nothing changed and the data handed back: 30 where the worker is in neither, 32 where the data is strange, where a
     /// postoperation has none or a drain has some.
+    #[tactic(auto, unfolding(fm_world::specs::Events::PostReturns))]
     pub fn post_returned(
         &mut self,
         worker: WorkerId,

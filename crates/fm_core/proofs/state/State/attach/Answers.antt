@@ -4,10 +4,6 @@ use Rattle.fm_world.proofs.Owning.{attach_sound}
 use Rattle.fm_core.proofs.Attached.{attaches, attach_refused}
 use Rattle.fm_core.proofs.state.State.attach.Goals as goal
 
-pub returns-then-not-is_idle-clause-event : goal.returns-then-not-is_idle-clause-event
-returns-then-not-is_idle-clause-event c =
-    attach_refused c.args.self.now c.args.worker c.args.filter c.args.volume c.args.name c.args.altitude (sym c.is_idle.ensures ∙ c.if-not-is_idle.true)
-
 pub returns-clause-event : goal.returns-clause-event
 returns-clause-event c =
     attaches c.args.worker c.args.filter c.args.volume c.args.name c.args.altitude c.attach-result.result c.attach-result.new.self c.note_attach.new.workers c.self.view_is

@@ -20,9 +20,6 @@ use Rattle.fm_core.specs.contracts.state.State.{the_view}
 use Rattle.fm_core.proofs.state.State.base_returned.Goals.{In-Some, After-base_returned}
 use Rattle.fm_core.proofs.state.State.base_returned.Goals as goal
 
-pub returns-in_default-clause-event : goal.returns-in_default-clause-event
-returns-in_default-clause-event c = base_refused c.args.self.now c.args.worker c.args.call c.args.given (unplaced base_of c.place.result _ c.base_of.result c.place.ensures c.base_of.ensures c.in_default.is)
-
 at : (c : In-Some) → worker_at (the_view c.self.inside).workers c.args.worker ≡ Some (place.Base c.in-Some.operation)
 at c = placed base_of place.Base c.args.worker c.in-Some.operation c.place.result c.base_of.result base_is c.self.view_is c.place.ensures c.base_of.ensures c.in-Some.is
 

@@ -9,9 +9,6 @@ use Rattle.fm_core.specs.contracts.state.State.{the_view}
 use Rattle.fm_core.proofs.state.State.cleaned.Goals.{In-Some}
 use Rattle.fm_core.proofs.state.State.cleaned.Goals as goal
 
-pub returns-in_default-clause-event : goal.returns-in_default-clause-event
-returns-in_default-clause-event c = clean_refused c.args.self.now c.args.worker c.args.number (unplaced cleanup_in c.place.result _ c.cleanup_of.result c.place.ensures c.cleanup_of.ensures c.in_default.is)
-
 at : (c : In-Some) → worker_at (the_view c.self.inside).workers c.args.worker ≡ Some (Cleanup c.in-Some.context)
 at c = placed cleanup_in Cleanup c.args.worker c.in-Some.context c.place.result c.cleanup_of.result cleanup_is c.self.view_is c.place.ensures c.cleanup_of.ensures c.in-Some.is
 

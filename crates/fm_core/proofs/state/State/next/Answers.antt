@@ -16,9 +16,6 @@ use Rattle.fm_core.specs.contracts.state.State.{the_view}
 use Rattle.fm_core.proofs.state.State.next.Goals.{After-next}
 use Rattle.fm_core.proofs.state.State.next.Goals as goal
 
-pub returns-then-not-is_idle-clause-event : goal.returns-then-not-is_idle-clause-event
-returns-then-not-is_idle-clause-event c = next_refused c.args.self.now c.args.worker c.args.operation (sym c.is_idle.ensures ∙ c.if-not-is_idle.true)
-
 pub returns-in_default-clause-event : goal.returns-in_default-clause-event
 returns-in_default-clause-event c =
     next_unknown c.args.self.now c.args.worker c.args.operation (sym c.is_idle.ensures ∙ c.if-not-is_idle.false)

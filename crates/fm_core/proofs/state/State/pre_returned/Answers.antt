@@ -21,9 +21,6 @@ use Rattle.fm_core.specs.contracts.state.State.{the_view}
 use Rattle.fm_core.proofs.state.State.pre_returned.Goals.{In-Some, After-pre_returned}
 use Rattle.fm_core.proofs.state.State.pre_returned.Goals as goal
 
-pub returns-in_default-clause-event : goal.returns-in_default-clause-event
-returns-in_default-clause-event c = pre_refused c.args.self.now c.args.worker c.args.verdict c.args.lent (unplaced pre_of c.place.result _ c.pre_of.result c.place.ensures c.pre_of.ensures c.in_default.is)
-
 at : (c : In-Some) → worker_at (the_view c.self.inside).workers c.args.worker ≡ Some (place.Pre c.in-Some.operation c.in-Some.instance)
 at c = placed pre_of (λ p. place.Pre p.0 p.1) c.args.worker (c.in-Some.operation, c.in-Some.instance) c.place.result c.pre_of.result pre_is c.self.view_is c.place.ensures c.pre_of.ensures c.in-Some.is
 

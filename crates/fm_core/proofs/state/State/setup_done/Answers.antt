@@ -13,9 +13,6 @@ use Rattle.fm_core.specs.contracts.state.State.{the_view}
 use Rattle.fm_core.proofs.state.State.setup_done.Goals.{In-Some}
 use Rattle.fm_core.proofs.state.State.setup_done.Goals as goal
 
-pub returns-in_default-clause-event : goal.returns-in_default-clause-event
-returns-in_default-clause-event c = setup_refused c.args.self.now c.args.worker c.args.accept (unplaced setup_of c.place.result _ c.setup_of.result c.place.ensures c.setup_of.ensures c.in_default.is)
-
 at : (c : In-Some) → worker_at (the_view c.self.inside).workers c.args.worker ≡ Some (place.Setup c.in-Some.instance)
 at c = placed setup_of place.Setup c.args.worker c.in-Some.instance c.place.result c.setup_of.result setup_is c.self.view_is c.place.ensures c.setup_of.ensures c.in-Some.is
 
@@ -38,9 +35,6 @@ invariant_of-self c = record {
   tied = setup_tied c.self.inside.contexts c.leave.new.self c.unlink_unless.new.contexts c.in-Some.instance c.args.worker.0 c.setup_done-result.result c.self.inside.flow
       c.leave.ensures.table c.leave.ensures.carried c.unlink_unless.ensures c.self.invariant.tied;
 }
-
-pub returns-in_default-clause-held : goal.returns-in_default-clause-held
-returns-in_default-clause-held c = setup_left _ _ _ _ _ (returns-in_default-clause-event c)
 
 pub returns-clause-held : goal.returns-clause-held
 returns-clause-held c = setup_left _ _ _ _ _ (returns-clause-event c)

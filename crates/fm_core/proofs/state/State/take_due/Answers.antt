@@ -10,9 +10,6 @@ use Rattle.fm_core.proofs.Operated.{within_at}
 use Rattle.fm_core.specs.contracts.state.State.{the_view}
 use Rattle.fm_core.proofs.state.State.take_due.Goals as goal
 
-pub returns-then-not-is_idle-clause-event : goal.returns-then-not-is_idle-clause-event
-returns-then-not-is_idle-clause-event c = due_refused c.args.self.now c.args.worker (sym c.is_idle.ensures ∙ c.if-not-is_idle.true)
-
 pub take_due-due-requires-clause-within : goal.take_due-due-requires-clause-within
 take_due-due-requires-clause-within c =
     within_at c.args.worker _ c.self.invariant (idle_there c.self.inside.workers c.args.worker

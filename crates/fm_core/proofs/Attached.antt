@@ -1,5 +1,5 @@
 -- The events on filters, volumes and instances, from what their parts did.
-use Rattle.std.proofs.Common.{◌≡◌, ℕ, Bool, true, false, List, Option, Some, None, Result, Ok, Err, refl, ap, sym, ◌∙◌, subst}
+use Rattle.std.proofs.Common.{◌≡◌, ℕ, Bool, true, List, Option, Some, Result, Ok, Err, ap, sym, ◌∙◌, subst}
 use Rattle.std.proofs.lemmas.Option.{none-some, same_Some}
 use Rattle.fm_types.specs.declared.ids.FilterId.{FilterId}
 use Rattle.fm_types.specs.declared.ids.VolumeId.{VolumeId}
@@ -39,15 +39,6 @@ attaches {old} {now} k f v name altitude result t ws same idle event workers =
     (stack.Attaches old.stack f v name altitude result t × (new ≡ record old { stack = t; workers = after_attach old.workers k result }))) (sym idle')
     (event, ap (λ x. record old { stack = t; workers = x }) workers))
 
-pub attach_refused : (old : World) (k : WorkerId) (f : FilterId) (v : VolumeId) (name altitude : List ℕ)
-    → is_idle (worker_at old.workers k) ≡ false → Attaches old k f v name altitude (Err status.WrongStep) old
-unfolding Attaches
-attach_refused old k f v name altitude busy =
-    let result : Result InstanceId Status = Err status.WrongStep in
-    subst (λ b. Unless status.WrongStep b result old old
-    (stack.Attaches old.stack f v name altitude result old.stack × (old ≡ record old { stack = old.stack; workers = after_attach old.workers k result })))
-    (sym busy) (refl, refl)
-
 pub sets_up : {old now : World} (k : WorkerId) (i : InstanceId) (accept : Bool) (result : Result (Unit {0}) Status) (t : StackWorld) (ws : List Worker) (kept left after : ContextsKept)
     → old ≡ now → worker_at old.workers k ≡ Some (place.Setup i) → stack.SetsUp old.stack i accept result t → ws ≡ put old.workers k place.Idle
     → old.contexts ≡ kept.table → Leaves (carried_of kept) kept.table left.table k.0 → left.carried ≡ kept.carried → SweepsUnless result i left after → IsTied kept old.flow
@@ -84,14 +75,6 @@ setup_tied kept left after i w result f leaves carried empties tied = swept_tied
 pub setup_is : (m : Option Worker) (i : InstanceId) → setup_of m ≡ Some i → m ≡ Some (place.Setup i)
 setup_is (Some (place.Setup j)) i h = ap (λ x. Some (place.Setup x)) (same_Some j i h)
 setup_is m i h = absurd (none-some i h)
-
-setup_refused_at : (old : World) (k : WorkerId) (accept : Bool) (m : Option Worker) → setup_of m ≡ None → SetsUpAt old k accept (Err status.WrongStep) old m
-setup_refused_at old k accept (Some (place.Setup i)) h = absurd (none-some i (sym h))
-setup_refused_at old k accept m h = (refl, refl)
-
-pub setup_refused : (old : World) (k : WorkerId) (accept : Bool) → setup_of (worker_at old.workers k) ≡ None → SetsUp old k accept (Err status.WrongStep) old
-unfolding SetsUp
-setup_refused old k accept h = setup_refused_at old k accept (worker_at old.workers k) h
 
 pub setup_at : (row : Option Instance) → (x : Instance) × (row ≡ Some x) × (is_setup x.phase ≡ true) → stack.is_setup_at row ≡ true
 setup_at row h = ap stack.is_setup_at h.1 ∙ h.2

@@ -1,5 +1,5 @@
 -- The events of callbacks on contexts, from what the layer of contexts did.
-use Rattle.std.proofs.Common.{◌≡◌, ◌<◌, ℕ, Bool, true, false, not, List, length, Option, Some, None, Result, Ok, Err, is_some, option_map, slice_get, refl, ap, sym, ◌∙◌, subst}
+use Rattle.std.proofs.Common.{◌≡◌, ℕ, Bool, true, not, List, length, Option, Some, None, Result, Ok, Err, is_some, option_map, slice_get, refl, ap, sym, ◌∙◌, subst}
 use Rattle.std.proofs.lemmas.Option.{none-some, same_Some}
 use Rattle.fm_types.specs.declared.context_kind.ContextKind.{ContextKind}
 use Rattle.fm_types.specs.declared.context_kind.ContextKind.TheVariants as kind
@@ -11,7 +11,7 @@ use Rattle.fm_types.specs.Refusals.{Answers, AnswersOrMemory, IsRefusalOrMemory}
 use Rattle.fm_flow.specs.Table.{FlowTable}
 use Rattle.fm_ctx.specs.declared.owner.Owner.{Owner}
 use Rattle.fm_ctx.specs.Births.{IsNew, new_context, allocated, kept_allocated, allocate_refusal}
-use Rattle.fm_ctx.specs.Bodies.{body_at, rewritten, with_body, read_refusal, write_refusal, bump_refusal, bumped, raised}
+use Rattle.fm_ctx.specs.Bodies.{body_at, rewritten, with_body, write_refusal, bump_refusal, bumped, raised}
 use Rattle.fm_ctx.specs.Kept.{ContextsKept, carried_of}
 use Rattle.fm_ctx.specs.References.{grabbed, released, reference_refusal, release_refusal}
 use Rattle.fm_ctx.specs.Table.{Context, ContextTable, context_at}
@@ -20,12 +20,12 @@ use Rattle.fm_ctx.proofs.Carried.{carried_allocated}
 use Rattle.fm_ctx.proofs.Slots.{there_changed}
 use Rattle.fm_world.specs.World.{World, carries}
 use Rattle.fm_world.specs.Owners.{row_at, has_kind, owner_by, object_by}
-use Rattle.fm_world.specs.ContextEvents.{Callback, callback_of, InCallback, InCallbackOf, with_contexts, before, context_by, allocate_refused, Allocates, References, Releases, ReadsBody, WritesBody, Bumps}
-use Rattle.fm_world.proofs.Callbacks.{callback_parts, is_in}
+use Rattle.fm_world.specs.ContextEvents.{Callback, callback_of, InCallback, InCallbackOf, with_contexts, before, context_by, allocate_refused, Allocates, References, Releases, WritesBody, Bumps}
+use Rattle.fm_world.proofs.Callbacks.{callback_parts}
 use Rattle.fm_core.specs.declared.caller.Caller.{Caller}
 use Rattle.fm_core.specs.Callers.{caller_of, owner_for, has_kind_at, is_closing_at}
 use Rattle.fm_core.specs.Callers as caller
-use Rattle.fm_core.specs.Fields.{IsTied, IsState}
+use Rattle.fm_core.specs.Fields.{IsTied}
 use Rattle.fm_core.proofs.Holding.{tied_table}
 
 -- ---- whose callback it is
@@ -47,9 +47,6 @@ uncalled w k h = at_callback (callback_of w k) refl h
 -- of the state as the code finds it
 pub called_in : {old now : World} (k : WorkerId) (x : Caller) → old ≡ now → option_map caller_of (callback_of now k) ≡ Some x → (at : Callback) × (callback_of old k ≡ Some at) × (caller_of at ≡ x)
 called_in {old} k x same h = called old k x (subst (λ (w : World). option_map caller_of (callback_of w k) ≡ Some x) (sym same) h)
-
-pub called_within : {old now : World} {kept : ContextsKept} (k : WorkerId) (x : Caller) → IsState old kept → old ≡ now → option_map caller_of (callback_of now k) ≡ Some x → k.0 < 48
-called_within {old} k x s same h = let at = called_in k x same h in (is_in old k at.0 s.sound at.1).worker
 
 pub owner_same : (at : Callback) (k : ContextKind) → owner_for (caller_of at) k ≡ owner_by at.row at.instance k
 owner_same at kind.Volume = refl
@@ -129,21 +126,6 @@ release_tied kept after f k c result h tied =
 
 -- ---- bodies
 
-pub body_read : (w : World) {now : World} (k : WorkerId) (c : CtxId) (result : Result (List ℕ) Status) (kept : ContextsKept) (x : Caller) → with_contexts w kept.table ≡ now
-    → option_map caller_of (callback_of now k) ≡ Some x
-    → AnswersOrMemory (read_refusal kept.table k.0 c) result kept kept (λ body. body ≡ body_at kept.table.slots c)
-    → ReadsBody now k c result now
-unfolding ReadsBody
-body_read w k c result kept x same is h =
-    let at = called_in k x same is in
-    subst (λ (v : World). ReadsBody v k c result v) same (in_callback (with_contexts w kept.table) k result (with_contexts w kept.table) _ at.0 at.1 (by_result result h))
-  where
-    by_result : (r : Result (List ℕ) Status) → AnswersOrMemory (read_refusal kept.table k.0 c) r kept kept (λ body. body ≡ body_at kept.table.slots c)
-        → AnswersOrMemory (read_refusal kept.table k.0 c) r (with_contexts w kept.table) (with_contexts w kept.table)
-        (λ body. (body ≡ body_at kept.table.slots c) × (with_contexts w kept.table ≡ with_contexts w kept.table))
-    by_result (Ok body) h = (h.0, (h.1, refl))
-    by_result (Err why) h = (h.0, refl)
-
 rewritten_there : (t : ContextTable) (c : CtxId) (bytes : List ℕ) (d : CtxId) → is_some (context_at (rewritten t c bytes).slots d) ≡ is_some (context_at t.slots d)
 rewritten_there t c bytes d = there_changed (with_body bytes) t.slots c d
 
@@ -185,16 +167,6 @@ bump_tied kept after f k c place by result h tied =
 registered : (w : World) (k : WorkerId) (at : Callback) (what : ContextKind) (b : Bool) → callback_of w k ≡ Some at
     → has_kind_at w.stack (slice_get w.stack.instances at.instance.0) what ≡ b → has_kind w.stack at.row what ≡ b
 registered w k at what b is h = sym (ap (λ m. has_kind_at w.stack m what) (callback_row w k at is)) ∙ h
-
-pub allocate_unregistered : {old now : World} (k : WorkerId) (what : ContextKind) (body : List ℕ) (x : Caller) → old ≡ now → option_map caller_of (callback_of now k) ≡ Some x
-    → has_kind_at old.stack (slice_get old.stack.instances x.instance.0) what ≡ false → Allocates now k what body (Err status.NotRegistered) now
-unfolding Allocates
-allocate_unregistered {old} k what body x same is h =
-    let at = called_in k x same is in
-    let kind' = registered old k at.0 what false at.1 (ap (λ (y : Caller). has_kind_at old.stack (slice_get old.stack.instances y.instance.0) what) at.2 ∙ h) in
-    subst (λ (w : World). Allocates w k what body (Err status.NotRegistered) w) same
-    (in_callback old k (Err status.NotRegistered) old _ at.0 at.1
-    (subst (λ r. IsRefusalOrMemory r status.NotRegistered) (sym (ap (λ b. before (not b) status.NotRegistered (allocate_refusal old.contexts k.0 body)) kind')) refl, refl))
 
 pub allocated_up : (w : World) {now : World} (k : WorkerId) (what : ContextKind) (body : List ℕ) (x : Caller) (owner' : Owner) (result : Result CtxId Status) (kept after : ContextsKept)
     → with_contexts w kept.table ≡ now → option_map caller_of (callback_of now k) ≡ Some x → has_kind_at w.stack (slice_get w.stack.instances x.instance.0) what ≡ true → owner' ≡ owner_for x what

@@ -1,7 +1,7 @@
 -- Cleaning contexts up and ending an instance, from what their parts did.
-use Rattle.std.proofs.Common.{◌≡◌, ℕ, ◌<◌, ◌≤◌, true, false, cond, not, List, [], ◌∷◌, Option, Some, None, Result, Ok, Err, is_some, option_map, nat_lt, slice_get, refl, ap, sym, ◌∙◌, subst, arith}
+use Rattle.std.proofs.Common.{◌≡◌, ℕ, ◌<◌, ◌≤◌, true, false, cond, not, List, [], ◌∷◌, Option, Some, None, Result, Ok, is_some, option_map, nat_lt, slice_get, refl, ap, sym, ◌∙◌, subst, arith}
 use Rattle.std.specs.Option.{option_and_then}
-use Rattle.std.proofs.lemmas.Bool.{false≢true, lt-ltb, le-ltb}
+use Rattle.std.proofs.lemmas.Bool.{false≢true, le-ltb}
 use Rattle.std.proofs.lemmas.Option.{none-some, same_Some}
 use Rattle.fm_types.specs.declared.ids.CtxId.{CtxId}
 use Rattle.fm_types.specs.declared.ids.FilterId.{FilterId}
@@ -41,13 +41,6 @@ use Rattle.fm_core.specs.Fields.{IsTied}
 use Rattle.fm_core.proofs.Called.{table_tied}
 
 -- ---- take_due
-
-pub due_refused : (w : World) (k : WorkerId) → is_idle (worker_at w.workers k) ≡ false → TakesDue w k (Err status.WrongStep) w
-unfolding TakesDue
-due_refused w k busy =
-    let result : Result (Option Due) Status = Err status.WrongStep in
-    subst (λ b. Unless status.WrongStep b result w w ((result ≡ Ok (due_reply w.contexts))
-    × (w ≡ record w { workers = after_due w.workers k (slice_get w.contexts.due 0); contexts = after_take_due w.contexts k.0 }))) (sym busy) (refl, refl)
 
 -- the context that is due is there, so it is the one that is told
 due_told : (t : ContextTable) (m : Option CtxId) → slice_get t.due 0 ≡ m → ((c : CtxId) → slice_get t.due 0 ≡ Some c → is_some (context_at t.slots c) ≡ true)
@@ -91,14 +84,6 @@ pub cleanup_is : (m : Option Worker) (c : CtxId) → cleanup_in m ≡ Some c →
 cleanup_is (Some (place.Cleanup d)) c h = ap (λ x. Some (place.Cleanup x)) (same_Some d c h)
 cleanup_is m c h = absurd (none-some c h)
 
-pub clean_refused : (w : World) (k : WorkerId) (number : ℕ) → cleanup_in (worker_at w.workers k) ≡ None → Cleans w k number (Err status.WrongStep) w
-unfolding Cleans
-clean_refused w k number h = at_place (worker_at w.workers k) h
-  where
-    at_place : (m : Option Worker) → cleanup_in m ≡ None → CleansAt w k number (Err status.WrongStep) w m
-    at_place (Some (place.Cleanup c)) h = absurd (none-some c (sym h))
-    at_place m h = (refl, refl)
-
 filter_same : (s : StackWorld) (m : Option Context) → filter_at s (option_map (λ (x : Context). x.owner) m) ≡ filter_of s m
 filter_same s None = refl
 filter_same s (Some x) = refl
@@ -132,16 +117,6 @@ clean_tied kept after f k c law worker busy e tied =
 abbrev pub phase_in : Option Instance → Option Phase
 phase_in m = option_map (λ (row : Instance). row.phase) m
 
--- an instance that can't end: it is gone, or not yet emptying
-early : (m : Option Instance) (why : Status) (later : Option Status) → refused_in (phase_in m) ≡ Some why
-    → cond (is_gone_at m) (Some status.NoInstance) (cond (not (is_emptying_at m)) (Some status.WrongStep) later) ≡ Some why
-early None why later h = h
-early (Some row) why later h = at_phase row.phase h
-  where
-    at_phase : (p : Phase) → refused_in (Some p) ≡ Some why → cond (is_detached p) (Some status.NoInstance) (cond (not (is_emptying p)) (Some status.WrongStep) later) ≡ Some why
-    at_phase phase.Emptying h = absurd (none-some why h)
-    at_phase p h = h
-
 -- what may end
 pub may_end : (m : Option Instance) → refused_in (phase_in m) ≡ None → (is_gone_at m ≡ false) × (is_emptying_at m ≡ true)
 may_end None h = absurd (none-some status.NoInstance (sym h))
@@ -152,12 +127,6 @@ may_end (Some row) h = at_phase row.phase h
     at_phase phase.Detached h = absurd (none-some status.NoInstance (sym h))
     at_phase p h = absurd (none-some status.WrongStep (sym h))
 
-pub finish_early : {w now : World} (i : InstanceId) (why : Status) → w ≡ now → refused_in (phase_in (row_at w.stack i)) ≡ Some why → Finishes now i (Err why) now
-unfolding Finishes
-finish_early {w} i why same h =
-    let open' = open_of w.contexts.slots (owner.Instance i) in
-    subst (λ (v : World). Finishes v i (Err why) v) same (early (row_at w.stack i) why (first_of ((nat_lt 0 open', status.Busy open') ∷ [])) h, refl)
-
 -- what is tested last, of an instance that may end
 finish_last : (w : World) (i : InstanceId) (n : ℕ) → refused_in (phase_in (row_at w.stack i)) ≡ None → n ≡ open_of w.contexts.slots (owner.Instance i)
     → finish_refused w i ≡ cond (nat_lt 0 n) (Some (status.Busy n)) None
@@ -167,12 +136,6 @@ finish_last w i n h count =
     ap (λ b. cond b (Some status.NoInstance) (first_of ((not (is_emptying_at (row_at w.stack i)), status.WrongStep) ∷ (nat_lt 0 open', status.Busy open') ∷ []))) ends.0
     ∙ ap (λ b. cond (not b) (Some status.WrongStep) (first_of ((nat_lt 0 open', status.Busy open') ∷ []))) ends.1
     ∙ ap (λ m. cond (nat_lt 0 m) (Some (status.Busy m)) None) (sym count)
-
-pub finish_busy : {w now : World} (i : InstanceId) (n : ℕ) → w ≡ now → refused_in (phase_in (row_at w.stack i)) ≡ None → n ≡ open_of w.contexts.slots (owner.Instance i)
-    → 0 < n → Finishes now i (Err (status.Busy n)) now
-unfolding Finishes
-finish_busy {w} i n same h count more =
-    subst (λ (v : World). Finishes v i (Err (status.Busy n)) v) same (finish_last w i n h count ∙ ap (λ b. cond b (Some (status.Busy n)) None) (lt-ltb 0 n more), refl)
 
 pub finishes : {w now : World} (i : InstanceId) (n : ℕ) (s : StackWorld) → w ≡ now → refused_in (phase_in (row_at w.stack i)) ≡ None
     → n ≡ open_of w.contexts.slots (owner.Instance i) → n ≤ 0 → s ≡ finished w.stack i → Finishes now i (Ok tt) (record w { stack = s })

@@ -16,14 +16,13 @@ use Rattle.fm_ctx.specs.declared.set_reply.SetMode.TheVariants.{Keep, Replace}
 use Rattle.fm_ctx.specs.declared.set_reply.SetReply.{SetReply}
 use Rattle.fm_ctx.specs.Bags.{holds, hand_of, is_hand_full}
 use Rattle.fm_ctx.specs.Kept.{ContextsKept, carried_of}
-use Rattle.fm_ctx.specs.Links.{holder, set_reply, set_after, set_mode_after, unlinked_for, linked, with_link, get_refusal, delete_reply, delete_after, delete_refusal, IsUnlinkedOf}
+use Rattle.fm_ctx.specs.Links.{holder, set_reply, set_after, set_mode_after, unlinked_for, linked, with_link, get_refusal, delete_reply, delete_after, delete_refusal}
 use Rattle.fm_ctx.specs.References.{grabbed}
 use Rattle.fm_ctx.specs.Table.{Context, Slot, ContextTable, context_at, link_at}
 use Rattle.fm_ctx.proofs.Alike.{set_alike, delete_alike}
 use Rattle.fm_ctx.proofs.Sets.{unlinked_slots}
 use Rattle.fm_ctx.proofs.Slots.{there_changed}
 use Rattle.fm_world.specs.declared.set_answer.SetAnswer.{SetAnswer}
-use Rattle.fm_world.specs.declared.set_answer.SetAnswer.TheVariants as answer
 use Rattle.fm_world.specs.World.{World, carries}
 use Rattle.fm_world.specs.Links.{is_there}
 use Rattle.fm_world.specs.Owners.{object_by}
@@ -33,7 +32,7 @@ use Rattle.fm_core.specs.Callers.{caller_of, owner_for, has_kind_at, is_closing_
 use Rattle.fm_core.specs.Callers as caller
 use Rattle.fm_core.specs.Fields.{IsTied}
 use Rattle.fm_core.specs.Setting.{is_past_at, object_of, set_refusal, find_refusal, IsSettable, IsFound}
-use Rattle.fm_core.proofs.Called.{called_in, uncalled, owner_same, object_same, callback_row, in_callback, answers_up, answers_tied, table_tied}
+use Rattle.fm_core.proofs.Called.{called_in, owner_same, object_same, callback_row, in_callback, answers_up, answers_tied, table_tied}
 
 -- ---- get and delete
 
@@ -91,14 +90,6 @@ get_free w k at x what o others b is e found here =
     let object' : object_by at.row at.instance at.file what ≡ Some o.1 = sym (object_same at what) ∙ ap (λ (y : Caller). caller.object_for y what) e ∙ found.object in
     found_free w k at x what (before (not (is_there w.files (object_by at.row at.instance at.file what))) status.DeletingObject others) is e found.free
     ∙ ap (λ c. before (not c) status.DeletingObject others) (ap (is_there w.files) object' ∙ here)
-
-pub get_gone : (w : World) (k : WorkerId) (what : ContextKind) (x : Caller) (o : Owner × Object) → option_map caller_of (callback_of w k) ≡ Some x → IsFound w x what o
-    → is_there w.files (Some o.1) ≡ false → Gets w k what (Err status.DeletingObject) w
-unfolding Gets
-get_gone w k what x o is found gone =
-    let at = called_in {old = w} k x refl is in
-    in_callback w k (Err status.DeletingObject) w _ at.0 at.1
-    (get_free w k at.0 x what o (get_refusal w.contexts k.0 (there_at w what at.0)) false at.1 at.2 found gone, refl)
 
 pub get_refused : (w : World) (k : WorkerId) (what : ContextKind) (x : Caller) (why : Status) → option_map caller_of (callback_of w k) ≡ Some x → find_refusal w x what ≡ Some why
     → Gets w k what (Err why) w
@@ -188,27 +179,10 @@ set_same w k c at x is e =
     ∷ (is_none (object_for at (context_at w.contexts.slots c)), status.NoObject)
     ∷ (is_closing_at w.stack m || not (is_there w.files (object_for at (context_at w.contexts.slots c))), status.DeletingObject) ∷ [])) (callback_row w k at is)
 
-pub set_outside : (w : World) (k : WorkerId) (c : CtxId) (mode : SetMode) (wants : Bool) → option_map caller_of (callback_of w k) ≡ None → Sets w k c mode wants (answer.Refused status.WrongStep) w
-unfolding Sets
-set_outside w k c mode wants is = subst (SetsIn w k c mode wants (answer.Refused status.WrongStep) w) (sym (uncalled w k is)) (refl, refl)
-
-pub set_refused_as : (w : World) (k : WorkerId) (c : CtxId) (mode : SetMode) (wants : Bool) (x : Caller) (why : Status) → option_map caller_of (callback_of w k) ≡ Some x
-    → set_refusal w k c x ≡ Some why → Sets w k c mode wants (answer.Refused why) w
-unfolding Sets
-set_refused_as w k c mode wants x why is h =
-    let at = called_in {old = w} k x refl is in
-    subst (SetsIn w k c mode wants (answer.Refused why) w) (sym at.1)
-    (subst (SetsUnless w k c mode wants (answer.Refused why) w at.0) (sym (sym (set_same w k c at.0 x at.1 at.2) ∙ h)) (refl, refl))
-
 -- the context is there, with its owner
 there_with : (m : Option Context) (own : Owner) → option_map (λ (x : Context). x.owner) m ≡ Some own → (x : Context) × (m ≡ Some x) × (x.owner ≡ own)
 there_with None own h = absurd (none-some own h)
 there_with (Some x) own h = (x, refl, same_Some x.owner own h)
-
-pub set_bare : (w : World) (k : WorkerId) (c : CtxId) (x : Caller) (o : Owner × Object) → IsSettable w k c x o → IsUnlinkedOf o.0 (context_at w.contexts.slots c)
-set_bare w k c x o h =
-    let y = there_with (context_at w.contexts.slots c) o.0 h.owner in
-    subst (IsUnlinkedOf o.0) (sym y.1) (sym (ap (option_and_then (λ (z : Context). z.link)) y.1) ∙ h.bare, y.2)
 
 pub set_up : (w : World) {now : World} (k : WorkerId) (c : CtxId) (mode : SetMode) (wants : Bool) (x : Caller) (o : Owner × Object) (reply : SetReply) (result : SetAnswer) (kept after : ContextsKept)
     → with_contexts w kept.table ≡ now → option_map caller_of (callback_of now k) ≡ Some x → IsSettable now k c x o → IsTied kept w.flow → result ≡ set_answer reply

@@ -152,9 +152,6 @@ lost_at f o x b is = by_link (is_to o x.link) refl
 pub nothing_lost : (f : FileTable) (o : Object) (x : Context) → is_there f (Some o) ≡ true → is_lost f (Some o) x ≡ false
 nothing_lost f o x is = lost_at f o x true is ∙ elim (is_to o x.link) as (λ a. (a && false) ≡ false) [ true ↦ refl | false ↦ refl ]
 
-pub all_lost : (f : FileTable) (o : Object) (x : Context) → is_there f (Some o) ≡ false → is_to o x.link ≡ is_lost f (Some o) x
-all_lost f o x is = sym (lost_at f o x false is ∙ elim (is_to o x.link) as (λ a. (a && true) ≡ a) [ true ↦ refl | false ↦ refl ])
-
 pub both_lost : (a b g : Bool) → ((a && g) || (b && g)) ≡ ((a || b) && g)
 both_lost true true true = refl
 both_lost true true false = refl

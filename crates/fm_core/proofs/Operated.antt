@@ -1,7 +1,7 @@
 -- The events on operations, from what their parts did.
-use Rattle.std.proofs.Common.{◌≡◌, ℕ, zero, suc, ◌+◌, ◌<◌, ◌==◌, ◌&&◌, arith, Bool, true, false, cond, not, List, [], ◌∷◌, Option, Some, None, Result, Ok, Err, refl, ap, sym, ◌∙◌, subst, inl, inr, nat_le, nat_eq, length, ◌^◌}
-use Rattle.std.specs.Prelude.{option_map, unwrap_or, slice_get, is_ok, is_some, ◌||◌}
-use Rattle.std.proofs.lemmas.Bool.{false≢true, eq-eqb, and_from, lt-leb, leb-false, and_parts}
+use Rattle.std.proofs.Common.{◌≡◌, ℕ, zero, suc, ◌+◌, ◌<◌, ◌==◌, ◌&&◌, arith, Bool, true, false, cond, List, [], ◌∷◌, Option, Some, None, Result, Ok, Err, refl, ap, sym, ◌∙◌, subst, inl, inr, nat_eq, length, ◌^◌}
+use Rattle.std.specs.Prelude.{option_map, unwrap_or, slice_get, is_ok, ◌||◌}
+use Rattle.std.proofs.lemmas.Bool.{eq-eqb, and_from, and_parts}
 use Rattle.std.proofs.lemmas.Option.{none-some, same_Some, slice_get_within}
 use Rattle.fm_types.specs.declared.ids.InstanceId.{InstanceId}
 use Rattle.fm_types.specs.declared.ids.OpId.{OpId}
@@ -19,7 +19,6 @@ use Rattle.fm_data.specs.declared.verdict.PostVerdict.{PostVerdict}
 use Rattle.fm_data.specs.Data.{Data, data_fits}
 use Rattle.fm_types.specs.Refusals.{first_of, AnswersOrMemory, IsRefusalOrMemory}
 use Rattle.fm_stack.specs.declared.volume.Volume.{Volume}
-use Rattle.fm_stack.specs.Events as stack
 use Rattle.fm_flow.specs.declared.action.Below.{Below}
 use Rattle.fm_flow.specs.declared.action.Below.TheVariants as below
 use Rattle.fm_flow.specs.declared.action.FlowAction.{FlowAction}
@@ -82,7 +81,7 @@ use Rattle.fm_world.proofs.Filing.{room_for, was_known}
 use Rattle.fm_world.proofs.Descents.{or_left}
 use Rattle.fm_core.specs.Targets.{target_in, answered, decided, known_in, HasRoom}
 use Rattle.fm_core.specs.declared.target.Target.{Target}
-use Rattle.fm_core.specs.Begun.{Asks, IsAsked, refusal_by}
+use Rattle.fm_core.specs.Begun.{Asks, IsAsked}
 
 -- ---- next
 
@@ -128,12 +127,6 @@ nexts old k o r lies result t ws cs fs new idle g workers contexts files loses =
     } = cc in
     let finds : FindsBelow old.stack old.files old.flow (operation_at o old.flow) lies = subst (λ m. FindsBelow old.stack old.files old.flow m lies) (sym g.at) g.finds in
     subst (λ b. Unless status.WrongStep b result old new (NextsAt old k o result new)) (sym idle) (lies, finds, mid, (g.reply, whole), loses)
-
-pub next_refused : (old : World) (k : WorkerId) (o : OpId) → is_idle (worker_at old.workers k) ≡ false → Nexts old k o (Err status.WrongStep) old
-unfolding Nexts
-next_refused old k o busy =
-    let result : Result FlowAction Status = Err status.WrongStep in
-    subst (λ b. Unless status.WrongStep b result old old (NextsAt old k o result old)) (sym busy) (refl, refl)
 
 -- there is no such operation
 pub next_unknown : (old : World) (k : WorkerId) (o : OpId) → is_idle (worker_at old.workers k) ≡ true → operation_at o old.flow ≡ None → Nexts old k o (Err status.WrongStep) old
@@ -289,9 +282,6 @@ pub placed : {A : Type 0} {old now : World} (read : Option Worker → Option A) 
     → ((x : Option Worker) (b : A) → read x ≡ Some b → x ≡ Some (to b)) → old ≡ now → here ≡ worker_at now.workers k → m ≡ read here → m ≡ Some a → worker_at old.workers k ≡ Some (to a)
 placed read to k a here m is same at reads found = located read to k a is same (ap read (sym at) ∙ sym reads ∙ found)
 
-pub unplaced : {A : Type 0} (read : Option Worker → Option A) (here there : Option Worker) (m : Option A) → here ≡ there → m ≡ read here → m ≡ None → read there ≡ None
-unplaced read here there m at reads none = ap read (sym at) ∙ sym reads ∙ none
-
 pub within_at : {old : World} {kept : ContextsKept} (k : WorkerId) (a : Worker) → IsState old kept → worker_at old.workers k ≡ Some a → k.0 < 48
 within_at {old} k a s at = subst (λ n. k.0 < n) s.sound.under_way.hands (slice_get_within old.workers k.0 a at)
 
@@ -443,14 +433,6 @@ pre_strange {old} k o i given lent back step t now_is at come =
     (subst (PreReturnsAt old k given lent (Err status.BadRequest) (record old { flow = t })) (sym at)
     (strange_refused old t (told (λ y. data_fits y.operation y.path lent) false o old.flow) _ come.0 come.1))
 
-pub pre_refused : (old : World) (k : WorkerId) (given : PreVerdict) (lent : Data) → pre_of (worker_at old.workers k) ≡ None → PreReturns old k given lent (Err status.WrongStep) old
-unfolding PreReturns
-pre_refused old k given lent h = refused_at (worker_at old.workers k) h
-  where
-    refused_at : (m : Option Worker) → pre_of m ≡ None → PreReturnsAt old k given lent (Err status.WrongStep) old m
-    refused_at (Some (place.Pre o i)) h = absurd (none-some (o, i) (sym h))
-    refused_at m h = (refl, refl)
-
 -- ---- the base's answer
 
 pub base_returns : {old now : World} {kept : ContextsKept} (k : WorkerId) (o : OpId) (r : FlowRecord) (call : BaseCall) (given : Answer) (t : FlowTable) (ws : List Worker) (after : ContextsKept)
@@ -487,14 +469,6 @@ base_strange {old} k o call given back step t now_is at come =
 pub base_room : {old : World} {kept : ContextsKept} (o : OpId) (why : Status) (r : FlowRecord) (x : Target) → IsState old kept → operation_at o old.flow ≡ Some r → r.stage ≡ InBase
     → old.flow.next < 2 ^ 64 → x ≡ target_in r → HasRoom old.files x why
 base_room {old} o why r x s at stage small is = subst (λ y. HasRoom old.files y why) (sym is) (has_room old o why r at small s.sound (ap is_unanswered stage))
-
-pub base_refused : (old : World) (k : WorkerId) (call : BaseCall) (given : Answer) → base_of (worker_at old.workers k) ≡ None → BaseReturns old k call given (Err status.WrongStep) old
-unfolding BaseReturns
-base_refused old k call given h = refused_at (worker_at old.workers k) h
-  where
-    refused_at : (m : Option Worker) → base_of m ≡ None → BaseReturnsAt old k call given (Err status.WrongStep) old m
-    refused_at (Some (place.Base o)) h = absurd (none-some o (sym h))
-    refused_at m h = (refl, refl)
 
 -- ---- a postoperation's end, and a drain's
 
@@ -544,62 +518,12 @@ drain_returns {old} {now} {kept} k o i given t ws after s now_is at step workers
     (subst (PostReturnsAt old k given None (Ok tt) (record old { flow = t; workers = ws; contexts = after.table })) (sym at)
     (refl, over old k o (drain_returned_of i) t ws kept after step workers contexts ends (drain_tied k o i s at)))
 
--- the refusals of a postoperation's return
-pub post_lacks : (old : World) (k : WorkerId) (given : PostVerdict) (p : OpId × InstanceId) → post_of (worker_at old.workers k) ≡ Some p
-    → PostReturns old k given None (Err status.BadRequest) old
-unfolding PostReturns
-post_lacks old k given p h =
-    subst (PostReturnsAt old k given None (Err status.BadRequest) old) (sym (post_is (worker_at old.workers k) p h)) (refl, refl)
-
-pub drain_brings : (old : World) (k : WorkerId) (given : PostVerdict) (lent : Option Data) (p : OpId × InstanceId) → drain_of (worker_at old.workers k) ≡ Some p
-    → is_some lent ≡ true → PostReturns old k given lent (Err status.BadRequest) old
-unfolding PostReturns
-drain_brings old k given None p h some = absurd (false≢true some)
-drain_brings old k given (Some lent) p h some =
-    subst (PostReturnsAt old k given (Some lent) (Err status.BadRequest) old) (sym (drain_is (worker_at old.workers k) p h)) (refl, refl)
-
-pub post_refused : (old : World) (k : WorkerId) (given : PostVerdict) (lent : Option Data) → post_of (worker_at old.workers k) ≡ None
-    → drain_of (worker_at old.workers k) ≡ None → PostReturns old k given lent (Err status.WrongStep) old
-unfolding PostReturns
-post_refused old k given lent h d = refused_at lent (worker_at old.workers k) h d
-  where
-    refused_at : (lent : Option Data) (m : Option Worker) → post_of m ≡ None → drain_of m ≡ None → PostReturnsAt old k given lent (Err status.WrongStep) old m
-    refused_at lent (Some (place.Post o i)) h d = absurd (none-some (o, i) (sym h))
-    refused_at lent (Some (place.Drain o i)) h d = absurd (none-some (o, i) (sym d))
-    refused_at (Some lent) m h d = (refl, refl)
-    refused_at None m h d = (refl, refl)
-
 -- ---- begin
 
 found : (xs : List Volume) (k : ℕ) → k < length xs → (x : Volume) × (slice_get xs k ≡ Some x)
 found [] k l = absurd (omega arith)
 found (x ∷ xs) zero l = (x, refl)
 found (x ∷ xs) (suc k) l = found xs k (omega arith)
-
--- what refuses an operation on a volume, by the volume's phase
-pub volume_refused : (w : World) (v : VolumeId) (many : Bool)
-    → refusal_by (option_map (λ (x : Volume). x.phase) (slice_get w.stack.volumes v.0)) many ≡ first_of (volume_refusals w v many)
-volume_refused w v many = by_row (slice_get w.stack.volumes v.0) refl
-  where
-    others : Bool → Option Status
-    others mounted = cond (not mounted) (Some status.Dismounting) (cond many (Some status.TooMany) None)
-
-    past : (b : Bool) → nat_le (length w.stack.volumes) v.0 ≡ b → slice_get w.stack.volumes v.0 ≡ None → b ≡ true
-    past true e h = refl
-    past false e h =
-        let there = found w.stack.volumes v.0 (leb-false (length w.stack.volumes) v.0 e) in
-        absurd (none-some there.0 (sym h ∙ there.1))
-
-    by_phase : (b : Bool) → cond b (cond many (Some status.TooMany) None) (Some status.Dismounting) ≡ others b
-    by_phase true = refl
-    by_phase false = refl
-
-    by_row : (m : Option Volume) → slice_get w.stack.volumes v.0 ≡ m → refusal_by (option_map (λ (x : Volume). x.phase) m) many ≡ first_of (volume_refusals w v many)
-    by_row None e = sym (ap (λ b. cond b (Some status.NoVolume) (others (stack.is_mounted (slice_get w.stack.volumes v.0)))) (past (nat_le (length w.stack.volumes) v.0) refl e))
-    by_row (Some x) e =
-        by_phase (stack.is_mounted_phase x.phase)
-        ∙ sym (ap (λ b. cond b (Some status.NoVolume) (others (stack.is_mounted (slice_get w.stack.volumes v.0)))) (lt-leb (length w.stack.volumes) v.0 (slice_get_within w.stack.volumes v.0 x e))
-        ∙ ap (λ y. others (stack.is_mounted y)) e)
 
 -- an operation began, where nothing refused it but want of memory
 pub begun_as : (old : World) (refusal : Option Status) (v : VolumeId) (stream : Option StreamId) (handle : Option HandleId) (path : Option (List ℕ)) (p : Params)
@@ -644,11 +568,6 @@ lists {old} v result t same free_now h = subst (λ (w : World). Begins w (begin.
         let memory : why ≡ status.NoMemory = subst (λ b. IsRefusalOrMemory (cond b (Some status.TooMany) None) why) (full_from _ _ (is_full old.flow) free) h.0 in
         (subst (λ r. IsRefusalOrMemory r why) (sym free) memory, ap (λ x. record old { flow = x }) h.1)
 
--- an event that is refused, and one that wants memory
-pub begin_refused_as : (old : World) (what : Begin) (why : Status) → begin_refused old what ≡ Some why → Begins old what (Err why) old
-unfolding Begins
-begin_refused_as old what why h = (subst (λ r. IsRefusalOrMemory r why) (sym h) refl, refl)
-
 pub begin_wants : (old : World) (what : Begin) → begin_refused old what ≡ None → Begins old what (Err status.NoMemory) old
 unfolding Begins
 begin_wants old what h = (subst (λ r. IsRefusalOrMemory r status.NoMemory) (sym h) refl, refl)
@@ -678,29 +597,11 @@ unfolding Asks
 asks_sound old h p (Err why) new e none s = subst IsSound (sym e.1) s
 asks_sound old h p (Ok o) new e none s = subst IsSound (sym e.1.1) (asked_sound old h p e.0 none s)
 
-pub asks_refused : (old : World) (h : HandleId) (p : Params) (why : Status) → asked_refused old h p ≡ Some why → Asks old h p (Err why) old
-unfolding Asks
-asks_refused old h p why e = (subst (λ r. IsRefusalOrMemory r why) (sym e) refl, refl)
-
-pub asks_want : (old : World) (h : HandleId) (p : Params) → asked_refused old h p ≡ None → Asks old h p (Err status.NoMemory) old
-unfolding Asks
-asks_want old h p free = (subst (λ r. IsRefusalOrMemory r status.NoMemory) (sym free) refl, refl)
-
 -- which the event is of, for a request
 pub asks_begins : (old : World) (h : HandleId) (asked : FileRequest) (result : Result OpId Status) (new : World) → Asks old h (params_of asked) result new
     → Begins old (begin.OnHandle h asked) result new
 unfolding Asks Begins
 asks_begins old h asked result new e = e
-
--- what refuses, in its order
-pub asked_past : (w : World) (h : HandleId) (p : Params) → is_within_limits p ≡ false → asked_refused w h p ≡ Some status.BadRequest
-asked_past w h p e = ap (λ b. cond b (refused_at w p (handle_at h w.files)) (Some status.BadRequest)) e
-
-asked_by : (w : World) (h : HandleId) (p : Params) (m : Option FileHandle) → is_within_limits p ≡ true → handle_at h w.files ≡ m → asked_refused w h p ≡ refused_at w p m
-asked_by w h p m within e = ap (λ b. cond b (refused_at w p (handle_at h w.files)) (Some status.BadRequest)) within ∙ ap (refused_at w p) e
-
-pub asked_unopened : (w : World) (h : HandleId) (p : Params) → is_within_limits p ≡ true → handle_at h w.files ≡ None → asked_refused w h p ≡ Some status.NoHandle
-asked_unopened w h p within e = asked_by w h p None within e
 
 pub asked_phase : (w : World) (h : HandleId) (p : Params) (x : FileHandle) (v : VolumeId) (why : Status) → is_within_limits p ≡ true → handle_at h w.files ≡ Some x
     → option_map (λ (y : FileStream). y.volume) (stream_at x.stream w.files) ≡ Some v → phase_refusal w.flow (operation_of p) x.phase ≡ Some why → asked_refused w h p ≡ Some why
@@ -710,10 +611,6 @@ asked_phase w h p x v why within open' there refuses =
     by_stream : (m : Option FileStream) → option_map (λ (y : FileStream). y.volume) m ≡ Some v → refused_on w p x m ≡ Some why
     by_stream None e = absurd (none-some v e)
     by_stream (Some y) e = ap (λ m. or_else m (first_of (volume_refusals w y.volume (is_full w.flow)))) refuses
-
-pub asked_on : (w : World) (h : HandleId) (p : Params) (x : FileHandle) (m : Option FileStream) → is_within_limits p ≡ true → handle_at h w.files ≡ Some x → stream_at x.stream w.files ≡ m
-    → asked_refused w h p ≡ refused_on w p x m
-asked_on w h p x m within e there = asked_by w h p (Some x) within e ∙ ap (refused_on w p x) there
 
 -- ---- collect
 

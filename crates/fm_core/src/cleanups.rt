@@ -90,6 +90,7 @@ impl State {
 
     /// Ends an instance whose contexts are all cleaned up: it is Detached, and its name and altitude are free. Refused, nothing changed: 8 where the
     /// instance isn't there or is Detached, 30 where it isn't Emptying, 34 with the number of its contexts that aren't cleaned. It takes no memory.
+    #[tactic(auto, unfolding(fm_world::specs::ContextEvents::Finishes))]
     pub fn finish(&mut self, instance: InstanceId) -> Result<(), Status>
         ensures event { Finishes self.old instance result self.new }
         ensures hand { KeepsHands self.old self.new }

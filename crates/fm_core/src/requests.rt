@@ -128,6 +128,7 @@ impl State {
     }
 
     /// Begins a listing.
+    #[tactic(auto, unfolding(fm_world::specs::Events::Begins))]
     fn begin_list(&mut self, volume: VolumeId) -> Result<OpId, Status>
         ensures { Begins self.old (Begin.List volume) result self.new }
     {
@@ -153,6 +154,7 @@ impl State {
     }
 
     /// Begins a create.
+    #[tactic(auto, unfolding(fm_world::specs::Events::Begins))]
     fn begin_create(
         &mut self,
         volume: VolumeId,
@@ -218,6 +220,7 @@ impl State {
     }
 
     /// Begins an operation on a handle.
+    #[tactic(auto, unfolding(crate::specs::Begun::Asks))]
     fn begin_on(&mut self, handle: HandleId, params: Params) -> Result<OpId, Status>
         requires { is_create (operation_of params) ≡ false }
         ensures { Asks self.old handle params result self.new }
@@ -229,6 +232,7 @@ impl State {
     }
 
     /// Begins an operation on a handle that nothing refuses but want of memory.
+    #[tactic(auto, unfolding(crate::specs::Begun::Asks))]
     fn begin_asked(
         &mut self,
         handle: HandleId,

@@ -3,13 +3,9 @@ use Rattle.fm_ctx.specs.Births.{new_context, allocate_refusal}
 use Rattle.fm_world.specs.Sound.{IsSound}
 use Rattle.fm_world.proofs.Linking.{allocate_sound}
 use Rattle.fm_world.proofs.Holdings.{allocate_more}
-use Rattle.fm_core.proofs.Called.{allocate_tied, allocate_unregistered, allocated_up}
+use Rattle.fm_core.proofs.Called.{allocate_tied, allocated_up}
 use Rattle.fm_core.specs.contracts.state.State.{the_view}
 use Rattle.fm_core.proofs.state.State.allocate.Goals as goal
-
-pub returns-then-not-has_kind-clause-event : goal.returns-then-not-has_kind-clause-event
-returns-then-not-has_kind-clause-event c =
-    allocate_unregistered c.args.worker c.args.kind c.args.body c.in-Some.caller c.self.view_is (sym c.caller.ensures.callback ∙ c.in-Some.is) (sym c.has_kind.ensures ∙ c.if-not-has_kind.true)
 
 pub returns-clause-event : goal.returns-clause-event
 returns-clause-event c =

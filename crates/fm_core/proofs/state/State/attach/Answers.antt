@@ -1,7 +1,7 @@
 use Rattle.std.proofs.Common.{sym, ◌∙◌, subst}
 use Rattle.fm_world.specs.Sound.{IsSound}
 use Rattle.fm_world.proofs.Owning.{attach_sound}
-use Rattle.fm_core.proofs.Attached.{attaches, attach_refused}
+use Rattle.fm_core.proofs.Attached.{attaches}
 use Rattle.fm_core.proofs.state.State.attach.Goals as goal
 
 pub returns-clause-event : goal.returns-clause-event

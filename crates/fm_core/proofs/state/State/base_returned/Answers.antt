@@ -15,7 +15,7 @@ use Rattle.fm_world.proofs.Flowing.{base_sound}
 use Rattle.fm_core.specs.Fields.{IsTied}
 use Rattle.fm_core.specs.Places.{base_of}
 use Rattle.fm_core.proofs.Losing.{sweeping_tied}
-use Rattle.fm_core.proofs.Operated.{Comes, comes, base_is, base_refused, base_returns, base_room, base_strange, base_tied, in_base, placed, stands_from, there_from, unplaced}
+use Rattle.fm_core.proofs.Operated.{Comes, comes, base_is, base_returns, base_room, base_strange, base_tied, in_base, placed, stands_from, there_from}
 use Rattle.fm_core.specs.contracts.state.State.{the_view}
 use Rattle.fm_core.proofs.state.State.base_returned.Goals.{In-Some, After-base_returned}
 use Rattle.fm_core.proofs.state.State.base_returned.Goals as goal

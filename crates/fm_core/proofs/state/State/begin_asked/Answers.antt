@@ -6,7 +6,7 @@ use Rattle.fm_world.specs.World.{World}
 use Rattle.fm_world.specs.Sound.{IsSound}
 use Rattle.fm_core.specs.Begun.{IsAsked}
 use Rattle.fm_world.specs.Events.{moved_on}
-use Rattle.fm_core.proofs.Operated.{Took, asks, asks_sound, asks_want, begin_tied}
+use Rattle.fm_core.proofs.Operated.{Took, asks, asks_sound, begin_tied}
 use Rattle.fm_core.specs.contracts.state.State.{the_view}
 use Rattle.fm_core.proofs.state.State.begin_asked.Goals as goal
 
@@ -30,6 +30,3 @@ invariant_of-self c = record {
   tied = begin_tied c.self.inside.contexts c.args.volume (Some c.args.row.stream) (Some c.args.handle) c.in-Ok.path c.args.params c.begin-begun.result c.self.inside.flow c.begin-begun.new.self
       c.births-born.result c.begin-begun.ensures c.self.invariant.tied;
 }
-
-pub returns-in_default : goal.returns-in_default
-returns-in_default c = asks_want c.args.self.now c.args.handle c.args.params c.requires.asked.free

@@ -1,20 +1,11 @@
-use Rattle.std.proofs.Common.{◌≡◌, ℕ, Some, None, sym, ◌∙◌, subst}
+use Rattle.std.proofs.Common.{◌≡◌, ℕ, None, sym, ◌∙◌, subst}
 use Rattle.fm_types.specs.Refusals.{first_of}
 use Rattle.fm_data.specs.declared.params.Params.TheVariants as params
-use Rattle.fm_flow.specs.Table.{is_full}
-use Rattle.fm_world.specs.World.{World}
 use Rattle.fm_world.specs.Events.{volume_refusals}
-use Rattle.fm_world.specs.declared.step.Begin.TheVariants as begin
 use Rattle.fm_world.specs.Sound.{IsSound}
 use Rattle.fm_world.proofs.Flowing.{begin_sound}
-use Rattle.fm_core.proofs.Operated.{Took, lists, begin_tied, begin_refused_as}
+use Rattle.fm_core.proofs.Operated.{Took, lists, begin_tied}
 use Rattle.fm_core.proofs.state.State.begin_list.Goals as goal
-
-pub returns-in-Some : goal.returns-in-Some
-returns-in-Some c =
-    begin_refused_as c.args.self.now (begin.List c.args.volume) c.in-Some.refusal
-    (subst (λ (w : World). first_of (volume_refusals c.args.self.now c.args.volume (is_full w.flow)) ≡ Some c.in-Some.refusal) c.self.view_is
-    (subst (λ b. first_of (volume_refusals c.args.self.now c.args.volume b) ≡ Some c.in-Some.refusal) c.is_full.ensures (sym c.volume_refusal.ensures ∙ c.in-Some.is)))
 
 pub returns : goal.returns
 returns c =

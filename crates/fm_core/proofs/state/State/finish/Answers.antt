@@ -2,15 +2,8 @@ use Rattle.std.proofs.Common.{sym, ◌∙◌, ap, subst}
 use Rattle.fm_world.specs.Sound.{IsSound}
 use Rattle.fm_world.proofs.Cleanups.{finish_sound}
 use Rattle.fm_core.specs.Callers.{refused_in}
-use Rattle.fm_core.proofs.Cleaned.{finish_early, finish_busy, finishes}
+use Rattle.fm_core.proofs.Cleaned.{finishes}
 use Rattle.fm_core.proofs.state.State.finish.Goals as goal
-
-pub returns-in-Some-clause-event : goal.returns-in-Some-clause-event
-returns-in-Some-clause-event c = finish_early c.args.instance c.in-Some.status c.self.view_is (ap refused_in (sym c.phase.ensures) ∙ sym c.refused_in.ensures ∙ c.in-Some.is)
-
-pub returns-then-open-gt0-clause-event : goal.returns-then-open-gt0-clause-event
-returns-then-open-gt0-clause-event c =
-    finish_busy c.args.instance c.open_of-open.result c.self.view_is (ap refused_in (sym c.phase.ensures) ∙ sym c.refused_in.ensures ∙ c.in_default.is) c.open_of-open.ensures c.if-open-gt0.true
 
 pub returns-clause-event : goal.returns-clause-event
 returns-clause-event c =

@@ -1,21 +1,14 @@
-use Rattle.std.proofs.Common.{◌≡◌, false, Some, sym, ◌∙◌, subst}
+use Rattle.std.proofs.Common.{sym, ◌∙◌, subst}
 use Rattle.fm_ctx.specs.Links.{holder}
-use Rattle.fm_world.specs.World.{World}
-use Rattle.fm_world.specs.Links.{is_there}
 use Rattle.fm_world.specs.Sound.{IsSound}
 use Rattle.fm_world.proofs.Linking.{get_sound}
 use Rattle.fm_world.proofs.Holdings.{get_more}
-use Rattle.fm_core.proofs.Linked.{get_gone, get_refused, get_tied, gotten}
+use Rattle.fm_core.proofs.Linked.{get_refused, get_tied, gotten}
 use Rattle.fm_core.specs.contracts.state.State.{the_view}
 use Rattle.fm_core.proofs.state.State.get.Goals as goal
 
 pub returns-in-Err-clause-event : goal.returns-in-Err-clause-event
 returns-in-Err-clause-event c = get_refused c.args.self.now c.args.worker c.args.kind c.in-Some.caller c.in-Err.status (sym c.caller.ensures.callback ∙ c.in-Some.is) c.in-Err.ensures
-
-pub returns-then-not-is_there-clause-event : goal.returns-then-not-is_there-clause-event
-returns-then-not-is_there-clause-event c =
-    get_gone c.args.self.now c.args.worker c.args.kind c.in-Some.caller c.in-Ok.found (sym c.caller.ensures.callback ∙ c.in-Some.is) c.in-Ok.ensures
-    (subst (λ (w : World). is_there w.files (Some c.in-Ok.found.1) ≡ false) c.self.view_is (sym c.is_there.ensures ∙ c.if-not-is_there.true))
 
 pub returns-clause-event : goal.returns-clause-event
 returns-clause-event c =

@@ -11,7 +11,7 @@ use Rattle.fm_world.proofs.Handing.{next_hand}
 use Rattle.fm_world.proofs.Holdings.{next_more}
 use Rattle.fm_world.proofs.Resting.{next_changes_nothing}
 use Rattle.fm_core.proofs.Losing.{sweeping_tied}
-use Rattle.fm_core.proofs.Operated.{Goes, goes, next_answers, next_brings, next_errs, next_leads, next_refused, next_requires, next_room, next_stays, next_tied, next_unknown}
+use Rattle.fm_core.proofs.Operated.{Goes, goes, next_answers, next_brings, next_errs, next_leads, next_requires, next_room, next_stays, next_tied, next_unknown}
 use Rattle.fm_core.specs.contracts.state.State.{the_view}
 use Rattle.fm_core.proofs.state.State.next.Goals.{After-next}
 use Rattle.fm_core.proofs.state.State.next.Goals as goal

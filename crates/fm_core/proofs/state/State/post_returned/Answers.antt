@@ -1,11 +1,5 @@
-use Rattle.std.proofs.Common.{Option, Err, sym, ◌∙◌, ap, subst}
-use Rattle.fm_types.specs.declared.status.Status.TheVariants.{BadRequest}
-use Rattle.fm_data.specs.Data.{Data}
-use Rattle.fm_world.specs.Events.{PostReturns}
 use Rattle.fm_world.proofs.Handing.{post_hand}
 use Rattle.fm_world.proofs.Holdings.{post_none}
-use Rattle.fm_core.specs.Places.{post_of, drain_of}
-use Rattle.fm_core.proofs.Operated.{post_lacks, post_refused, drain_brings}
 use Rattle.fm_core.proofs.state.State.post_returned.Goals as goal
 
 pub returns-in-Some-clause-hand : goal.returns-in-Some-clause-hand

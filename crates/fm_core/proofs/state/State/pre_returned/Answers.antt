@@ -16,7 +16,7 @@ use Rattle.fm_core.specs.Fields.{IsTied}
 use Rattle.fm_core.specs.Places.{pre_of}
 use Rattle.fm_core.proofs.Holding.{tied_ends}
 use Rattle.fm_core.proofs.Losing.{sweeping_tied}
-use Rattle.fm_core.proofs.Operated.{Comes, comes, in_pre, placed, pre_is, pre_refused, pre_returns, pre_sends, pre_state, pre_strange, pre_tied, stands_from, there_from, unplaced, within_at}
+use Rattle.fm_core.proofs.Operated.{Comes, comes, in_pre, placed, pre_is, pre_returns, pre_sends, pre_state, pre_strange, pre_tied, stands_from, there_from, within_at}
 use Rattle.fm_core.specs.contracts.state.State.{the_view}
 use Rattle.fm_core.proofs.state.State.pre_returned.Goals.{In-Some, After-pre_returned}
 use Rattle.fm_core.proofs.state.State.pre_returned.Goals as goal

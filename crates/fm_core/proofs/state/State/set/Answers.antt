@@ -4,12 +4,9 @@ use Rattle.fm_world.specs.Sound.{IsSound}
 use Rattle.fm_world.proofs.Linking.{set_sound}
 use Rattle.fm_world.proofs.Handing.{set_hand}
 use Rattle.fm_world.proofs.Holdings.{set_more}
-use Rattle.fm_core.proofs.Linked.{set_refused_as, set_tied, set_up}
+use Rattle.fm_core.proofs.Linked.{set_tied, set_up}
 use Rattle.fm_core.specs.contracts.state.State.{the_view}
 use Rattle.fm_core.proofs.state.State.set.Goals as goal
-
-pub returns-in-Err-clause-event : goal.returns-in-Err-clause-event
-returns-in-Err-clause-event c = set_refused_as c.args.self.now c.args.worker c.args.context c.args.mode c.args.wants_old c.in-Some.caller c.in-Err.status (sym c.caller.ensures.callback ∙ c.in-Some.is) c.in-Err.ensures
 
 pub returns-clause-event : goal.returns-clause-event
 returns-clause-event c =

@@ -7,8 +7,8 @@ use Rattle.fm_world.proofs.Keeps.{setup_place}
 use Rattle.fm_world.proofs.Owning.{setup_sound}
 use Rattle.fm_world.proofs.Holdings.{setup_left}
 use Rattle.fm_core.specs.Places.{setup_of}
-use Rattle.fm_core.proofs.Attached.{sets_up, setup_tied, setup_refused, setup_is, setup_at}
-use Rattle.fm_core.proofs.Operated.{placed, unplaced, within_at}
+use Rattle.fm_core.proofs.Attached.{sets_up, setup_tied, setup_is, setup_at}
+use Rattle.fm_core.proofs.Operated.{placed, within_at}
 use Rattle.fm_core.specs.contracts.state.State.{the_view}
 use Rattle.fm_core.proofs.state.State.setup_done.Goals.{In-Some}
 use Rattle.fm_core.proofs.state.State.setup_done.Goals as goal

@@ -5,7 +5,7 @@ use Rattle.fm_world.specs.Workers.{is_idle, worker_at}
 use Rattle.fm_world.specs.Sound.{IsSound}
 use Rattle.fm_world.proofs.Keeps.{idle_there}
 use Rattle.fm_world.proofs.Cleanups.{take_due_sound}
-use Rattle.fm_core.proofs.Cleaned.{due_refused, due_taken, due_tied}
+use Rattle.fm_core.proofs.Cleaned.{due_taken, due_tied}
 use Rattle.fm_core.proofs.Operated.{within_at}
 use Rattle.fm_core.specs.contracts.state.State.{the_view}
 use Rattle.fm_core.proofs.state.State.take_due.Goals as goal

@@ -27,7 +27,8 @@ use Rattle.fm_core.specs.Hands.{SweepsUnless}
 use Rattle.fm_core.specs.Places.{setup_of}
 use Rattle.fm_core.proofs.Losing.{sweeping_tied}
 
-pub attaches : {old now : World} (k : WorkerId) (f : FilterId) (v : VolumeId) (name altitude : List ℕ) (result : Result InstanceId Status) (t : StackWorld) (ws : List Worker)
+pub attaches : {old now : World} (k : WorkerId) (f : FilterId) (v : VolumeId) (name altitude : List ℕ) (result : Result InstanceId Status) (t : StackWorld)
+    (ws : List Worker)
     → old ≡ now → is_idle (worker_at now.workers k) ≡ true → stack.Attaches old.stack f v name altitude result t → ws ≡ after_attach old.workers k result
     → Attaches now k f v name altitude result (record old { stack = t; workers = ws })
 unfolding Attaches
@@ -39,9 +40,11 @@ attaches {old} {now} k f v name altitude result t ws same idle event workers =
     (stack.Attaches old.stack f v name altitude result t × (new ≡ record old { stack = t; workers = after_attach old.workers k result }))) (sym idle')
     (event, ap (λ x. record old { stack = t; workers = x }) workers))
 
-pub sets_up : {old now : World} (k : WorkerId) (i : InstanceId) (accept : Bool) (result : Result (Unit {0}) Status) (t : StackWorld) (ws : List Worker) (kept left after : ContextsKept)
+pub sets_up : {old now : World} (k : WorkerId) (i : InstanceId) (accept : Bool) (result : Result (Unit {0}) Status) (t : StackWorld) (ws : List Worker)
+    (kept left after : ContextsKept)
     → old ≡ now → worker_at old.workers k ≡ Some (place.Setup i) → stack.SetsUp old.stack i accept result t → ws ≡ put old.workers k place.Idle
-    → old.contexts ≡ kept.table → Leaves (carried_of kept) kept.table left.table k.0 → left.carried ≡ kept.carried → SweepsUnless result i left after → IsTied kept old.flow
+    → old.contexts ≡ kept.table → Leaves (carried_of kept) kept.table left.table k.0 → left.carried ≡ kept.carried → SweepsUnless result i left after
+    → IsTied kept old.flow
     → SetsUp now k accept result (record old { stack = t; workers = ws; contexts = after.table })
 unfolding SetsUp
 sets_up {old} k i accept result t ws kept left after same at event workers contexts leaves carried empties tied =

@@ -52,9 +52,11 @@ due_told t (Some c) is there = at_context (context_at t.slots c) (there c is)
     at_context None h = absurd (false≢true h)
     at_context (Some x) h = refl
 
-pub due_taken : (w : World) {now : World} (k : WorkerId) (kept after : ContextsKept) (ws : List Worker) (result : Option Due) → record w { contexts = kept.table } ≡ now → is_idle (worker_at now.workers k) ≡ true
+pub due_taken : (w : World) {now : World} (k : WorkerId) (kept after : ContextsKept) (ws : List Worker) (result : Option Due)
+    → record w { contexts = kept.table } ≡ now → is_idle (worker_at now.workers k) ≡ true
     → ((c : CtxId) → slice_get kept.table.due 0 ≡ Some c → is_some (context_at kept.table.slots c) ≡ true)
-    → result ≡ due_reply kept.table → after ≡ record kept { table = after_take_due kept.table k.0 } → ws ≡ after_due w.workers k (option_map (λ (d : Due). d.id) result)
+    → result ≡ due_reply kept.table → after ≡ record kept { table = after_take_due kept.table k.0 }
+    → ws ≡ after_due w.workers k (option_map (λ (d : Due). d.id) result)
     → TakesDue now k (Ok result) (record w { workers = ws; contexts = after.table })
 unfolding TakesDue
 due_taken w k kept after ws result same idle_now there reply step workers =
@@ -75,7 +77,8 @@ taken_there : (t : ContextTable) (w : ℕ) (m : Option CtxId) (c : CtxId) → is
 taken_there t w None c = refl
 taken_there t w (Some d) c = there_changed emptied t.slots d c
 
-pub due_tied : (kept after : ContextsKept) (f : FlowTable) (k : WorkerId) → after ≡ record kept { table = after_take_due kept.table k.0 } → IsTied kept f → IsTied after f
+pub due_tied : (kept after : ContextsKept) (f : FlowTable) (k : WorkerId) → after ≡ record kept { table = after_take_due kept.table k.0 } → IsTied kept f
+    → IsTied after f
 due_tied kept after f k e tied = table_tied kept after (after_take_due kept.table k.0) f (taken_there kept.table k.0 (slice_get kept.table.due 0)) e tied
 
 -- ---- cleaned
@@ -88,8 +91,10 @@ filter_same : (s : StackWorld) (m : Option Context) → filter_at s (option_map 
 filter_same s None = refl
 filter_same s (Some x) = refl
 
-pub cleans : (w : World) {now : World} (k : WorkerId) (number : ℕ) (c : CtxId) (kept after : ContextsKept) (own : Option Owner) (f : Option FilterId) (ws : List Worker) (ts : List ℕ)
-    → record w { contexts = kept.table } ≡ now → worker_at w.workers k ≡ Some (place.Cleanup c) → own ≡ option_map (λ (x : Context). x.owner) (context_at kept.table.slots c) → f ≡ filter_at w.stack own
+pub cleans : (w : World) {now : World} (k : WorkerId) (number : ℕ) (c : CtxId) (kept after : ContextsKept) (own : Option Owner) (f : Option FilterId)
+    (ws : List Worker) (ts : List ℕ)
+    → record w { contexts = kept.table } ≡ now → worker_at w.workers k ≡ Some (place.Cleanup c)
+    → own ≡ option_map (λ (x : Context). x.owner) (context_at kept.table.slots c) → f ≡ filter_at w.stack own
     → ts ≡ totalled_for f number w.totals → after ≡ record kept { table = cleaned kept.table k.0 c } → ws ≡ put w.workers k place.Idle
     → Cleans now k number (Ok tt) (record w { workers = ws; contexts = after.table; totals = ts })
 unfolding Cleans
@@ -101,7 +106,8 @@ cleans w k number c kept after own f ws ts now_is at owned filter totals step wo
       refl,
       ap (λ x. record w { workers = x; contexts = after.table; totals = ts }) workers
           ∙ ap (λ (x : ContextsKept). record w { workers = put w.workers k place.Idle; contexts = x.table; totals = ts }) step
-          ∙ ap (λ x. record w { workers = put w.workers k place.Idle; contexts = cleaned kept.table k.0 c; totals = x }) (totals ∙ ap (λ x. totalled_for x number w.totals) same),
+          ∙ ap (λ x. record w { workers = put w.workers k place.Idle; contexts = cleaned kept.table k.0 c; totals = x })
+          (totals ∙ ap (λ x. totalled_for x number w.totals) same),
     ))
 
 pub clean_tied : (kept after : ContextsKept) (f : FlowTable) (k : WorkerId) (c : CtxId) → IsLawful (λ d. carried d f) kept.table → k.0 < 48
@@ -133,7 +139,8 @@ finish_last : (w : World) (i : InstanceId) (n : ℕ) → refused_in (phase_in (r
 finish_last w i n h count =
     let open' = open_of w.contexts.slots (owner.Instance i) in
     let ends = may_end (row_at w.stack i) h in
-    ap (λ b. cond b (Some status.NoInstance) (first_of ((not (is_emptying_at (row_at w.stack i)), status.WrongStep) ∷ (nat_lt 0 open', status.Busy open') ∷ []))) ends.0
+    ap (λ b. cond b (Some status.NoInstance) (first_of ((not (is_emptying_at (row_at w.stack i)), status.WrongStep) ∷ (nat_lt 0 open', status.Busy open')
+    ∷ []))) ends.0
     ∙ ap (λ b. cond (not b) (Some status.WrongStep) (first_of ((nat_lt 0 open', status.Busy open') ∷ []))) ends.1
     ∙ ap (λ m. cond (nat_lt 0 m) (Some (status.Busy m)) None) (sym count)
 

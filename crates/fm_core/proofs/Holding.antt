@@ -67,7 +67,8 @@ pub sent_table : (kept : ContextsKept) (k : WorkerId) (m : Option CtxId) → (ke
 sent_table kept k None = refl
 sent_table kept k (Some c) = refl
 
-pub tied_sent : (kept : ContextsKept) (k : WorkerId) (m : Option CtxId) (f g : FlowTable) → IsLawful (λ c. carried c f) kept.table → length kept.carried ≡ length kept.table.slots
+pub tied_sent : (kept : ContextsKept) (k : WorkerId) (m : Option CtxId) (f g : FlowTable) → IsLawful (λ c. carried c f) kept.table
+    → length kept.carried ≡ length kept.table.slots
     → k.0 < length kept.table.hands → ((d : CtxId) → m ≡ Some d → holds (hand_of kept.table.hands k.0) d ≡ true)
     → ((c : CtxId) → carried c g ≡ carried c f + carried_in c (record { number = 0; context = m })) → IsTied kept f → IsTied (kept_sent kept k.0 m) g
 tied_sent kept k None f g law matched within has balance tied c = omega (arith, tied c, balance c)

@@ -36,7 +36,8 @@ use Rattle.fm_core.proofs.Called.{called_in, owner_same, object_same, callback_r
 
 -- ---- get and delete
 
-kept_refusal : (a b : Bool) (x y : Status) (r : Option Status) (why : Status) → cond a (Some x) (cond b (Some y) None) ≡ Some why → cond a (Some x) (cond b (Some y) r) ≡ Some why
+kept_refusal : (a b : Bool) (x y : Status) (r : Option Status) (why : Status) → cond a (Some x) (cond b (Some y) None) ≡ Some why
+    → cond a (Some x) (cond b (Some y) r) ≡ Some why
 kept_refusal true b x y r why h = h
 kept_refusal false true x y r why h = h
 kept_refusal false false x y r why h = absurd (none-some why h)
@@ -51,52 +52,63 @@ find_same : (w : World) (k : WorkerId) (at : Callback) (what : ContextKind) (oth
     → cond (not (has_kind_at w.stack (slice_get w.stack.instances at.instance.0) what)) (Some status.NotRegistered)
     (cond (is_none (object_by at.row at.instance at.file what)) (Some status.NoObject) others) ≡ object_refused w what at others
 find_same w k at what others is =
-    ap (λ m. cond (not (has_kind_at w.stack m what)) (Some status.NotRegistered) (cond (is_none (object_by at.row at.instance at.file what)) (Some status.NoObject) others))
+    ap (λ m. cond (not (has_kind_at w.stack m what)) (Some status.NotRegistered) (cond (is_none (object_by at.row at.instance at.file what))
+    (Some status.NoObject) others))
     (callback_row w k at is)
 
 find_of : (w : World) (k : WorkerId) (at : Callback) (x : Caller) (what : ContextKind) (m : Option Status) → caller_of at ≡ x → find_refusal w x what ≡ m
     → cond (not (has_kind_at w.stack (slice_get w.stack.instances at.instance.0) what)) (Some status.NotRegistered)
     (cond (is_none (object_by at.row at.instance at.file what)) (Some status.NoObject) None) ≡ m
 find_of w k at x what m e h =
-    ap (λ o. cond (not (has_kind_at w.stack (slice_get w.stack.instances at.instance.0) what)) (Some status.NotRegistered) (cond (is_none o) (Some status.NoObject) None))
+    ap (λ o. cond (not (has_kind_at w.stack (slice_get w.stack.instances at.instance.0) what)) (Some status.NotRegistered)
+    (cond (is_none o) (Some status.NoObject) None))
     (sym (object_same at what))
     ∙ ap (λ (y : Caller). find_refusal w y what) e ∙ h
 
-pub refused_as : (w : World) (k : WorkerId) (at : Callback) (x : Caller) (what : ContextKind) (others : Option Status) (why : Status) → callback_of w k ≡ Some at → caller_of at ≡ x
+pub refused_as : (w : World) (k : WorkerId) (at : Callback) (x : Caller) (what : ContextKind) (others : Option Status) (why : Status)
+    → callback_of w k ≡ Some at → caller_of at ≡ x
     → find_refusal w x what ≡ Some why → object_refused w what at others ≡ Some why
 refused_as w k at x what others why is e h =
     sym (find_same w k at what others is)
-    ∙ kept_refusal (not (has_kind_at w.stack (slice_get w.stack.instances at.instance.0) what)) (is_none (object_by at.row at.instance at.file what)) status.NotRegistered status.NoObject others why
+    ∙ kept_refusal (not (has_kind_at w.stack (slice_get w.stack.instances at.instance.0) what)) (is_none (object_by at.row at.instance at.file what))
+    status.NotRegistered status.NoObject others why
     (find_of w k at x what (Some why) e h)
 
 pub found_free : (w : World) (k : WorkerId) (at : Callback) (x : Caller) (what : ContextKind) (others : Option Status) → callback_of w k ≡ Some at → caller_of at ≡ x
     → find_refusal w x what ≡ None → object_refused w what at others ≡ others
 found_free w k at x what others is e h =
     sym (find_same w k at what others is)
-    ∙ no_refusal (not (has_kind_at w.stack (slice_get w.stack.instances at.instance.0) what)) (is_none (object_by at.row at.instance at.file what)) status.NotRegistered status.NoObject others
+    ∙ no_refusal (not (has_kind_at w.stack (slice_get w.stack.instances at.instance.0) what)) (is_none (object_by at.row at.instance at.file what))
+    status.NotRegistered status.NoObject others
     (find_of w k at x what None e h)
 
 found_there : (w : World) (at : Callback) (x : Caller) (what : ContextKind) (o : Owner × Object) → caller_of at ≡ x → IsFound w x what o
     → there_at w what at ≡ holder w.contexts.slots o.0 o.1
 found_there w at x what o e h =
-    ap (λ own. option_and_then (holder w.contexts.slots own) (object_by at.row at.instance at.file what)) (sym (owner_same at what) ∙ ap (λ (y : Caller). owner_for y what) e ∙ h.owner)
+    ap (λ own. option_and_then (holder w.contexts.slots own) (object_by at.row at.instance at.file what))
+    (sym (owner_same at what) ∙ ap (λ (y : Caller). owner_for y what) e ∙ h.owner)
     ∙ ap (option_and_then (holder w.contexts.slots o.0)) (sym (object_same at what) ∙ ap (λ (y : Caller). caller.object_for y what) e ∙ h.object)
 
 -- the tests of a get on an object of the callback's
-get_free : (w : World) (k : WorkerId) (at : Callback) (x : Caller) (what : ContextKind) (o : Owner × Object) (others : Option Status) (b : Bool) → callback_of w k ≡ Some at → caller_of at ≡ x
+get_free : (w : World) (k : WorkerId) (at : Callback) (x : Caller) (what : ContextKind) (o : Owner × Object) (others : Option Status) (b : Bool)
+    → callback_of w k ≡ Some at → caller_of at ≡ x
     → IsFound w x what o → is_there w.files (Some o.1) ≡ b
     → object_refused w what at (before (not (is_there w.files (object_by at.row at.instance at.file what))) status.DeletingObject others) ≡ before (not b) status.DeletingObject others
 get_free w k at x what o others b is e found here =
-    let object' : object_by at.row at.instance at.file what ≡ Some o.1 = sym (object_same at what) ∙ ap (λ (y : Caller). caller.object_for y what) e ∙ found.object in
+    let object' : object_by at.row at.instance at.file what ≡ Some o.1 = sym (object_same at what) ∙ ap (λ (y : Caller). caller.object_for y what) e ∙
+    found.object in
     found_free w k at x what (before (not (is_there w.files (object_by at.row at.instance at.file what))) status.DeletingObject others) is e found.free
     ∙ ap (λ c. before (not c) status.DeletingObject others) (ap (is_there w.files) object' ∙ here)
 
-pub get_refused : (w : World) (k : WorkerId) (what : ContextKind) (x : Caller) (why : Status) → option_map caller_of (callback_of w k) ≡ Some x → find_refusal w x what ≡ Some why
+pub get_refused : (w : World) (k : WorkerId) (what : ContextKind) (x : Caller) (why : Status) → option_map caller_of (callback_of w k) ≡ Some x
+    → find_refusal w x what ≡ Some why
     → Gets w k what (Err why) w
 unfolding Gets
-get_refused w k what x why is h = let at = called_in {old = w} k x refl is in in_callback w k (Err why) w _ at.0 at.1 (refused_as w k at.0 x what _ why at.1 at.2 h, refl)
+get_refused w k what x why is h =
+    let at = called_in {old = w} k x refl is in in_callback w k (Err why) w _ at.0 at.1 (refused_as w k at.0 x what _ why at.1 at.2 h, refl)
 
-pub gotten : (w : World) {now : World} (k : WorkerId) (what : ContextKind) (x : Caller) (o : Owner × Object) (result : Result CtxId Status) (kept after : ContextsKept)
+pub gotten : (w : World) {now : World} (k : WorkerId) (what : ContextKind) (x : Caller) (o : Owner × Object) (result : Result CtxId Status)
+    (kept after : ContextsKept)
     → with_contexts w kept.table ≡ now → option_map caller_of (callback_of now k) ≡ Some x → IsFound now x what o → is_there w.files (Some o.1) ≡ true
     → Answers (get_refusal kept.table k.0 (holder kept.table.slots o.0 o.1)) result kept after
     (λ id. (holder kept.table.slots o.0 o.1 ≡ Some id) × (after ≡ record kept { table = grabbed kept.table k.0 id }))
@@ -109,24 +121,32 @@ gotten w k what x o result kept after now_is is found_now here event =
     let there : there_at old what at.0 ≡ holder kept.table.slots o.0 o.1 = found_there old at.0 x what o at.2 found in
     subst (λ (v : World). Gets v k what result (with_contexts w after.table)) now_is
     (in_callback old k result (with_contexts w after.table) _ at.0 at.1
-    (subst (λ r. Answers r result old (with_contexts w after.table) (λ (c : CtxId). (there_at old what at.0 ≡ Some c) × (with_contexts w after.table ≡ with_contexts old (grabbed kept.table k.0 c))))
+    (subst (λ r. Answers r result old (with_contexts w after.table) (λ (c : CtxId). (there_at old what at.0 ≡ Some c) ×
+    (with_contexts w after.table ≡ with_contexts old (grabbed kept.table k.0 c))))
     (sym (get_free old k at.0 x what o (get_refusal kept.table k.0 (there_at old what at.0)) true at.1 at.2 found here ∙ ap (get_refusal kept.table k.0) there))
-    (answers_up w kept after (get_refusal kept.table k.0 (holder kept.table.slots o.0 o.1)) result _ _ (λ c e. (there ∙ e.0, ap (λ (y : ContextsKept). with_contexts w y.table) e.1)) event)))
+    (answers_up w kept after (get_refusal kept.table k.0 (holder kept.table.slots o.0 o.1)) result _ _
+    (λ c e. (there ∙ e.0, ap (λ (y : ContextsKept). with_contexts w y.table) e.1)) event)))
 
 pub get_tied : (kept after : ContextsKept) (f : FlowTable) (k : WorkerId) (there : Option CtxId) (result : Result CtxId Status)
-    → Answers (get_refusal kept.table k.0 there) result kept after (λ id. (there ≡ Some id) × (after ≡ record kept { table = grabbed kept.table k.0 id })) → IsTied kept f → IsTied after f
+    → Answers (get_refusal kept.table k.0 there) result kept after (λ id. (there ≡ Some id) × (after ≡ record kept { table = grabbed kept.table k.0 id }))
+    → IsTied kept f → IsTied after f
 get_tied kept after f k there result h tied =
     answers_tied kept after f (get_refusal kept.table k.0 there) result _ (λ c e. table_tied kept after (grabbed kept.table k.0 c) f (λ d. refl) e.1 tied) h tied
 
 pub delete_refused : (w : World) (k : WorkerId) (what : ContextKind) (wants : Bool) (x : Caller) (why : Status) → option_map caller_of (callback_of w k) ≡ Some x
     → find_refusal w x what ≡ Some why → Deletes w k what wants (Err why) w
 unfolding Deletes
-delete_refused w k what wants x why is h = let at = called_in {old = w} k x refl is in in_callback w k (Err why) w _ at.0 at.1 (refused_as w k at.0 x what _ why at.1 at.2 h, refl)
+delete_refused w k what wants x why is h =
+    let at = called_in {old = w} k x refl is in in_callback w k (Err why) w _ at.0 at.1 (refused_as w k at.0 x what _ why at.1 at.2 h, refl)
 
-pub deleted : (w : World) {now : World} (k : WorkerId) (what : ContextKind) (wants : Bool) (x : Caller) (o : Owner × Object) (result : Result (Option CtxId) Status) (kept after : ContextsKept)
+pub deleted : (w : World) {now : World} (k : WorkerId) (what : ContextKind) (wants : Bool) (x : Caller) (o : Owner × Object)
+    (result : Result (Option CtxId) Status) (kept after : ContextsKept)
     → with_contexts w kept.table ≡ now → option_map caller_of (callback_of now k) ≡ Some x → IsFound now x what o → IsTied kept w.flow
     → Answers (delete_refusal kept.table k.0 wants (holder kept.table.slots o.0 o.1)) result kept after
-    (λ c. (c ≡ delete_reply wants (holder kept.table.slots o.0 o.1)) × (after ≡ record kept { table = delete_after (carried_of kept) kept.table k.0 wants (holder kept.table.slots o.0 o.1) }))
+    (λ c. (c ≡ delete_reply wants (holder kept.table.slots o.0 o.1)) × (after ≡ record kept {
+      table = delete_after (carried_of kept) kept.table k.0 wants
+          (holder kept.table.slots o.0 o.1);
+    }))
     → Deletes now k what wants result (with_contexts w after.table)
 unfolding Deletes
 deleted w k what wants x o result kept after now_is is found_now tied event =
@@ -138,7 +158,8 @@ deleted w k what wants x o result kept after now_is is found_now tied event =
     (in_callback old k result (with_contexts w after.table) _ at.0 at.1
     (subst (λ r. Answers r result old (with_contexts w after.table) (λ (c : Option CtxId). (c ≡ delete_reply wants (there_at old what at.0))
     × (with_contexts w after.table ≡ with_contexts old (delete_after (carries old) kept.table k.0 wants (there_at old what at.0)))))
-    (sym (found_free old k at.0 x what (delete_refusal kept.table k.0 wants (there_at old what at.0)) at.1 at.2 found.free ∙ ap (delete_refusal kept.table k.0 wants) there))
+    (sym (found_free old k at.0 x what (delete_refusal kept.table k.0 wants (there_at old what at.0)) at.1 at.2 found.free ∙ ap
+    (delete_refusal kept.table k.0 wants) there))
     (answers_up w kept after (delete_refusal kept.table k.0 wants (holder kept.table.slots o.0 o.1)) result _ _
     (λ c e. (
       e.0 ∙ ap (delete_reply wants) (sym there),
@@ -159,10 +180,12 @@ deleted_there by t w wants (Some d) c = unlinked_there by t w wants d c
 
 pub delete_tied : (kept after : ContextsKept) (f : FlowTable) (k : WorkerId) (wants : Bool) (there : Option CtxId) (result : Result (Option CtxId) Status)
     → Answers (delete_refusal kept.table k.0 wants there) result kept after
-    (λ c. (c ≡ delete_reply wants there) × (after ≡ record kept { table = delete_after (carried_of kept) kept.table k.0 wants there })) → IsTied kept f → IsTied after f
+    (λ c. (c ≡ delete_reply wants there) × (after ≡ record kept { table = delete_after (carried_of kept) kept.table k.0 wants there })) → IsTied kept f → IsTied
+    after f
 delete_tied kept after f k wants there result h tied =
     answers_tied kept after f (delete_refusal kept.table k.0 wants there) result _
-    (λ c e. table_tied kept after (delete_after (carried_of kept) kept.table k.0 wants there) f (deleted_there (carried_of kept) kept.table k.0 wants there) e.1 tied) h tied
+    (λ c e. table_tied kept after (delete_after (carried_of kept) kept.table k.0 wants there) f (deleted_there (carried_of kept) kept.table k.0 wants there) e.1
+    tied) h tied
 
 -- ---- set
 
@@ -170,7 +193,8 @@ object_here : (at : Callback) (m : Option Context) → object_of (caller_of at) 
 object_here at None = refl
 object_here at (Some x) = object_same at x.kind
 
-set_same : (w : World) (k : WorkerId) (c : CtxId) (at : Callback) (x : Caller) → callback_of w k ≡ Some at → caller_of at ≡ x → set_refusal w k c x ≡ set_refused w k c at
+set_same : (w : World) (k : WorkerId) (c : CtxId) (at : Callback) (x : Caller) → callback_of w k ≡ Some at → caller_of at ≡ x
+    → set_refusal w k c x ≡ set_refused w k c at
 set_same w k c at x is e =
     ap (set_refusal w k c) (sym e)
     ∙ ap (λ o. first_of ((not (holds (hand_of w.contexts.hands k.0) c), status.NotHeld) ∷ (is_some (link_at w.contexts.slots c), status.AlreadyLinked)
@@ -184,7 +208,8 @@ there_with : (m : Option Context) (own : Owner) → option_map (λ (x : Context)
 there_with None own h = absurd (none-some own h)
 there_with (Some x) own h = (x, refl, same_Some x.owner own h)
 
-pub set_up : (w : World) {now : World} (k : WorkerId) (c : CtxId) (mode : SetMode) (wants : Bool) (x : Caller) (o : Owner × Object) (reply : SetReply) (result : SetAnswer) (kept after : ContextsKept)
+pub set_up : (w : World) {now : World} (k : WorkerId) (c : CtxId) (mode : SetMode) (wants : Bool) (x : Caller) (o : Owner × Object) (reply : SetReply)
+    (result : SetAnswer) (kept after : ContextsKept)
     → with_contexts w kept.table ≡ now → option_map caller_of (callback_of now k) ≡ Some x → IsSettable now k c x o → IsTied kept w.flow → result ≡ set_answer reply
     → reply ≡ set_reply kept.table k.0 mode wants (holder kept.table.slots o.0 o.1)
     → after ≡ record kept { table = set_after (carried_of kept) kept.table k.0 c o.1 mode wants (holder kept.table.slots o.0 o.1) }
@@ -232,4 +257,5 @@ set_there by t w c o mode wants (Some e) d = by_room (wants && is_hand_full t.ha
 
 pub set_tied : (kept after : ContextsKept) (f : FlowTable) (k : WorkerId) (c : CtxId) (o : Object) (mode : SetMode) (wants : Bool) (m : Option CtxId)
     → after ≡ record kept { table = set_after (carried_of kept) kept.table k.0 c o mode wants m } → IsTied kept f → IsTied after f
-set_tied kept after f k c o mode wants m e tied = table_tied kept after (set_after (carried_of kept) kept.table k.0 c o mode wants m) f (set_there (carried_of kept) kept.table k.0 c o mode wants m) e tied
+set_tied kept after f k c o mode wants m e tied =
+    table_tied kept after (set_after (carried_of kept) kept.table k.0 c o mode wants m) f (set_there (carried_of kept) kept.table k.0 c o mode wants m) e tied

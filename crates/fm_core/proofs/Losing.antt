@@ -56,7 +56,8 @@ slot_alike p q s h = ap (λ (o : Option Context). record s { context = o }) (by_
 
 slots_alike : (p q : Context → Bool) (slots : List Slot) → All (Agrees p q) slots → map (swept_slot p) slots ≡ map (swept_slot q) slots
 slots_alike p q [] h = refl
-slots_alike p q (s ∷ slots) h = ap₂ (λ (x : Slot) (xs : List Slot). x ∷ xs) (slot_alike p q s (All-head (Agrees p q) s slots h)) (slots_alike p q slots (All-tail (Agrees p q) s slots h))
+slots_alike p q (s ∷ slots) h =
+    ap₂ (λ (x : Slot) (xs : List Slot). x ∷ xs) (slot_alike p q s (All-head (Agrees p q) s slots h)) (slots_alike p q slots (All-tail (Agrees p q) s slots h))
 
 pub sweeps_as : (by : CtxId → ℕ) (p q : Context → Bool) (old new : ContextTable) → All (Agrees p q) old.slots → Sweeps by p old new → Sweeps by q old new
 sweeps_as by p q old new h s = record { slots = s.slots ∙ slots_alike p q old.slots h; hands = s.hands; cleaning = s.cleaning; leaks = s.leaks; settles = s.settles }
@@ -99,7 +100,8 @@ twice_swept p q x = by_first (p x)
 
 slots_twice : (p q : Context → Bool) (slots : List Slot) → map (swept_slot q) (map (swept_slot p) slots) ≡ map (swept_slot (λ x. p x || q x)) slots
 slots_twice p q [] = refl
-slots_twice p q (s ∷ slots) = ap₂ (λ (x : Slot) (xs : List Slot). x ∷ xs) (ap (λ (o : Option Context). record s { context = o }) (by_context s.context)) (slots_twice p q slots)
+slots_twice p q (s ∷ slots) =
+    ap₂ (λ (x : Slot) (xs : List Slot). x ∷ xs) (ap (λ (o : Option Context). record s { context = o }) (by_context s.context)) (slots_twice p q slots)
   where
     by_context : (o : Option Context) → option_map (swept q) (option_map (swept p) o) ≡ option_map (swept (λ x. p x || q x)) o
     by_context None = refl
@@ -153,14 +155,11 @@ pub nothing_lost : (f : FileTable) (o : Object) (x : Context) → is_there f (So
 nothing_lost f o x is = lost_at f o x true is ∙ elim (is_to o x.link) as (λ a. (a && false) ≡ false) [ true ↦ refl | false ↦ refl ]
 
 pub both_lost : (a b g : Bool) → ((a && g) || (b && g)) ≡ ((a || b) && g)
-both_lost true true true = refl
+both_lost true b true = refl
 both_lost true true false = refl
-both_lost true false true = refl
 both_lost true false false = refl
-both_lost false true true = refl
-both_lost false true false = refl
-both_lost false false true = refl
-both_lost false false false = refl
+both_lost false true g = refl
+both_lost false false g = refl
 
 -- ---- what is gone
 
@@ -204,7 +203,8 @@ found_without test other apart (x ∷ xs) h = by_test (test x) refl (found_witho
     later true fails more h = h
     later false fails more h = ap (λ c. is_some (cond c (Some x) (find test (without_first other xs)))) fails ∙ more h
 
-    by_test : (b : Bool) → test x ≡ b → (is_some (find test xs) ≡ true → is_some (find test (without_first other xs)) ≡ true) → is_some (cond b (Some x) (find test xs)) ≡ true
+    by_test : (b : Bool) → test x ≡ b → (is_some (find test xs) ≡ true → is_some (find test (without_first other xs)) ≡ true)
+        → is_some (cond b (Some x) (find test xs)) ≡ true
         → is_some (find test (cond (other x) xs (x ∷ without_first other xs))) ≡ true
     by_test true is more h = here (other x) (apart x is) is
     by_test false is more h = later (other x) is more h
@@ -216,9 +216,6 @@ other_number n a b apart same = elim (cases_Bool (n == a)) [
 ]
 
 torn_keeps : (s : StreamId) (f : FileTable) (a : Option Object) → KeepsBut f (torn_down s f) a (Some (object.Stream s))
-torn_keeps s f a None h = refl
-torn_keeps s f a (Some (object.Volume v)) h = refl
-torn_keeps s f a (Some (object.Instance i)) h = refl
 torn_keeps s f a (Some (object.Handle g)) h = or_first (is_there f (Some (object.Handle g))) _ h
 torn_keeps s f a (Some (object.Stream r)) h = by_number (s.0 == r.0) refl
   where
@@ -230,11 +227,9 @@ torn_keeps s f a (Some (object.Stream r)) h = by_number (s.0 == r.0) refl
     by_number false is =
         or_first (is_there (torn_down s f) gone) (is_named a gone || false)
         (found_without (is_stream r) (is_stream s) (λ x here. other_number x.number.0 s.0 r.0 is here) f.streams h)
+torn_keeps s f a l h = refl
 
 closed_keeps : (g : HandleId) (f : FileTable) (b : Option Object) → KeepsBut f (closed g f) (Some (object.Handle g)) b
-closed_keeps g f b None h = refl
-closed_keeps g f b (Some (object.Volume v)) h = refl
-closed_keeps g f b (Some (object.Instance i)) h = refl
 closed_keeps g f b (Some (object.Stream s)) h = or_first (is_there f (Some (object.Stream s))) _ h
 closed_keeps g f b (Some (object.Handle r)) h = by_number (g.0 == r.0) refl
   where
@@ -246,6 +241,7 @@ closed_keeps g f b (Some (object.Handle r)) h = by_number (g.0 == r.0) refl
     by_number false is =
         or_first (is_there (closed g f) gone) (is_named b gone)
         (found_without (is_handle r) (is_handle g) (λ x here. other_number x.number.0 g.0 r.0 is here) f.handles h)
+closed_keeps g f b l h = refl
 
 left_keeps : (s : StreamId) (c : Bool) (f : FileTable) (a : Option Object) → KeepsBut f (left s c f) a (Some (object.Stream s))
 left_keeps s c f a = by_use (has_handle_on s f || c)
@@ -255,22 +251,19 @@ left_keeps s c f a = by_use (has_handle_on s f || c)
     by_use false = torn_keeps s f a
 
 opened_keeps : (s : StreamId) (f : FileTable) (l : Option Object) → is_there f l ≡ true → is_there (opened s f) l ≡ true
-opened_keeps s f None h = refl
-opened_keeps s f (Some (object.Volume v)) h = refl
-opened_keeps s f (Some (object.Instance i)) h = refl
 opened_keeps s f (Some (object.Stream r)) h = h
 opened_keeps s f (Some (object.Handle g)) h = found_before (is_handle g) f.handles (fresh_handle s f.next ∷ []) h
+opened_keeps s f l h = refl
 
 marked_keeps : (s : StreamId) (f : FileTable) (l : Option Object) → is_there f l ≡ true → is_there (marked s f) l ≡ true
-marked_keeps s f None h = refl
-marked_keeps s f (Some (object.Volume v)) h = refl
-marked_keeps s f (Some (object.Instance i)) h = refl
 marked_keeps s f (Some (object.Stream r)) h = found_changed (is_stream r) (is_stream s) with_mark (λ x. refl) f.streams h
 marked_keeps s f (Some (object.Handle g)) h = h
+marked_keeps s f l h = refl
 
 -- the base's answer takes away a close's handle at most, and the stream of a close or a create
 base_keeps : (k : Operation) (s : Option StreamId) (h : Option HandleId) (why : Status) (c : Bool) (f : FileTable)
-    → KeepsBut f (after_base k s h why c f) (handle_lost_by k (record { operation = k; stream = s; handle = h })) (stream_lost_by k (record { operation = k; stream = s; handle = h }))
+    → KeepsBut f (after_base k s h why c f) (handle_lost_by k (record { operation = k; stream = s; handle = h }))
+    (stream_lost_by k (record { operation = k; stream = s; handle = h }))
 base_keeps kind.Create (Some s) h why c f = by_success (is_success why)
   where
     by_success : (b : Bool) → KeepsBut f (cond b (opened s f) (left s c f)) None (Some (object.Stream s))
@@ -284,13 +277,16 @@ base_keeps kind.SetDelete (Some s) h why c f = by_success (is_success why)
 base_keeps kind.Close (Some s) (Some h) why c f =
     keeps_then f (closed h f) (left s c (closed h f)) (Some (object.Handle h)) (Some (object.Stream s)) (closed_keeps h f (Some (object.Stream s)))
     (left_keeps s c (closed h f) (Some (object.Handle h)))
-base_keeps k s h why c f = keeps_same f (handle_lost_by k (record { operation = k; stream = s; handle = h })) (stream_lost_by k (record { operation = k; stream = s; handle = h }))
+base_keeps k s h why c f =
+    keeps_same f (handle_lost_by k (record { operation = k; stream = s; handle = h })) (stream_lost_by k (record { operation = k; stream = s; handle = h }))
 
 -- so does a filter's verdict
 pre_keeps : (given : PreState) (k : Operation) (s : Option StreamId) (h : Option HandleId) (c : Bool) (f : FileTable)
-    → KeepsBut f (after_pre given k s c f) (handle_lost_by k (record { operation = k; stream = s; handle = h })) (stream_lost_by k (record { operation = k; stream = s; handle = h }))
+    → KeepsBut f (after_pre given k s c f) (handle_lost_by k (record { operation = k; stream = s; handle = h }))
+    (stream_lost_by k (record { operation = k; stream = s; handle = h }))
 pre_keeps (state.Completed why) kind.Create (Some s) h c f = left_keeps s c f None
-pre_keeps given k s h c f = keeps_same f (handle_lost_by k (record { operation = k; stream = s; handle = h })) (stream_lost_by k (record { operation = k; stream = s; handle = h }))
+pre_keeps given k s h c f =
+    keeps_same f (handle_lost_by k (record { operation = k; stream = s; handle = h })) (stream_lost_by k (record { operation = k; stream = s; handle = h }))
 
 gone_but : (f g : FileTable) (x : Target) → KeepsBut f g (handle_lost x) (stream_lost x) → GoneAlone f g x
 gone_but f g x keeps y named = by_there (is_there g y.link) (is_named (handle_lost x) y.link || is_named (stream_lost x) y.link) (keeps y.link named)
@@ -301,14 +297,17 @@ gone_but f g x keeps y named = by_there (is_there g y.link) (is_named (handle_lo
     by_there false b h = sym (ap (λ c. c && true) h)
 
 pub answer_gone : (f g : FileTable) (t : FlowTable) (why : Status) (x : Target) → g ≡ answered t why x f → GoneAlone f g x
-answer_gone f g t why x e = subst (λ h. GoneAlone f h x) (sym e) (gone_but f (answered t why x f) x (base_keeps x.operation x.stream x.handle why (is_created_on x.stream t) f))
+answer_gone f g t why x e =
+    subst (λ h. GoneAlone f h x) (sym e) (gone_but f (answered t why x f) x (base_keeps x.operation x.stream x.handle why (is_created_on x.stream t) f))
 
 pub verdict_gone : (f g : FileTable) (t : FlowTable) (given : PreState) (x : Target) → g ≡ decided t given x f → GoneAlone f g x
-verdict_gone f g t given x e = subst (λ h. GoneAlone f h x) (sym e) (gone_but f (decided t given x f) x (pre_keeps given x.operation x.stream x.handle (is_created_on x.stream t) f))
+verdict_gone f g t given x e =
+    subst (λ h. GoneAlone f h x) (sym e) (gone_but f (decided t given x f) x (pre_keeps given x.operation x.stream x.handle (is_created_on x.stream t) f))
 
 -- ---- the World loses the links
 
-pub loses : (old mid : World) (kept after : ContextsKept) (x : Target) → IsSound old → mid.contexts ≡ kept.table → kept.table.slots ≡ old.contexts.slots → IsTied kept mid.flow
+pub loses : (old mid : World) (kept after : ContextsKept) (x : Target) → IsSound old → mid.contexts ≡ kept.table → kept.table.slots ≡ old.contexts.slots
+    → IsTied kept mid.flow
     → GoneAlone old.files mid.files x → Sweeping (is_lost_of mid.files x) kept after → LosesLinks mid (record mid { contexts = after.table })
 loses old mid kept after x s same slots tied gone sweeps = (
   sweeps_as (carries mid) (is_lost_of mid.files x) (is_on_gone mid.files) mid.contexts after.table

@@ -99,8 +99,10 @@ pub record Goes (old : World) (k : WorkerId) (o : OpId) (r : FlowRecord) (lies :
   pub reply : result ≡ told (λ r. (next_of k lies (drains_at old o) r).reply) (Err status.WrongStep) o old.flow
   pub after : t ≡ flow_after_next old k o lies
 
-pub goes : (old : World) (k : WorkerId) (o : OpId) (r : FlowRecord) (lies : Below) (drains : Bool) (result : Result FlowAction Status) (t : FlowTable) → operation_at o old.flow ≡ Some r
-    → FindsAt old.stack old.files old.flow r lies → drains ≡ drains_next old.stack r → result ≡ told (λ r. (next_of k lies drains r).reply) (Err status.WrongStep) o old.flow
+pub goes : (old : World) (k : WorkerId) (o : OpId) (r : FlowRecord) (lies : Below) (drains : Bool) (result : Result FlowAction Status) (t : FlowTable)
+    → operation_at o old.flow ≡ Some r
+    → FindsAt old.stack old.files old.flow r lies → drains ≡ drains_next old.stack r
+    → result ≡ told (λ r. (next_of k lies drains r).reply) (Err status.WrongStep) o old.flow
     → t ≡ changed o (λ r. (next_of k lies drains r).after) old.flow → Goes old k o r lies result t
 goes old k o r lies drains result t at finds same reply after =
     let drains' : drains ≡ drains_at old o = same ∙ sym (told_there (drains_next old.stack) false o old.flow r at) in record {
@@ -111,9 +113,11 @@ goes old k o r lies drains result t at finds same reply after =
     }
 
 -- the event, and what links lose after it
-nexts : (old : World) (k : WorkerId) (o : OpId) (r : FlowRecord) (lies : Below) (result : Result FlowAction Status) (t : FlowTable) (ws : List Worker) (cs : ContextTable) (fs : FileTable) (new : World)
+nexts : (old : World) (k : WorkerId) (o : OpId) (r : FlowRecord) (lies : Below) (result : Result FlowAction Status) (t : FlowTable) (ws : List Worker)
+    (cs : ContextTable) (fs : FileTable) (new : World)
     → is_idle (worker_at old.workers k) ≡ true → Goes old k o r lies result t → ws ≡ after_next old.workers k o result → cs ≡ received old.contexts k result
-    → fs ≡ filed_next old o t result lies → LosesByKnown result lies (record old { flow = t; workers = ws; contexts = cs; files = fs }) new → Nexts old k o result new
+    → fs ≡ filed_next old o t result lies → LosesByKnown result lies (record old { flow = t; workers = ws; contexts = cs; files = fs }) new
+    → Nexts old k o result new
 unfolding Nexts
 nexts old k o r lies result t ws cs fs new idle g workers contexts files loses =
     let mid : World = record old { flow = t; workers = ws; contexts = cs; files = fs } in
@@ -125,69 +129,85 @@ nexts old k o r lies result t ws cs fs new idle g workers contexts files loses =
       contexts = received old.contexts k result;
       files = filed_next old o (flow_after_next old k o lies) result lies;
     } = cc in
-    let finds : FindsBelow old.stack old.files old.flow (operation_at o old.flow) lies = subst (λ m. FindsBelow old.stack old.files old.flow m lies) (sym g.at) g.finds in
+    let finds : FindsBelow old.stack old.files old.flow (operation_at o old.flow) lies = subst (λ m. FindsBelow old.stack old.files old.flow m lies) (sym g.at)
+    g.finds in
     subst (λ b. Unless status.WrongStep b result old new (NextsAt old k o result new)) (sym idle) (lies, finds, mid, (g.reply, whole), loses)
 
 -- there is no such operation
-pub next_unknown : (old : World) (k : WorkerId) (o : OpId) → is_idle (worker_at old.workers k) ≡ true → operation_at o old.flow ≡ None → Nexts old k o (Err status.WrongStep) old
+pub next_unknown : (old : World) (k : WorkerId) (o : OpId) → is_idle (worker_at old.workers k) ≡ true → operation_at o old.flow ≡ None
+    → Nexts old k o (Err status.WrongStep) old
 unfolding Nexts
 next_unknown old k o idle none =
     let result : Result FlowAction Status = Err status.WrongStep in
     let f = λ (r : FlowRecord). (next_of k below.Call (drains_at old o) r) in
     let reply : result ≡ told (λ r. (f r).reply) result o old.flow = sym (ap (λ m. unwrap_or (option_map (λ r. (f r).reply) m) result) none) in
-    let after : old ≡ record old { flow = changed o (λ r. (f r).after) old.flow } = ap (λ t. record old { flow = t }) (sym (unchanged_flow old.flow o (λ r. (f r).after) none)) in
-    let finds : FindsBelow old.stack old.files old.flow (operation_at o old.flow) below.Call = subst (λ m. FindsBelow old.stack old.files old.flow m below.Call) (sym none) tt in
+    let after : old ≡ record old { flow = changed o (λ r. (f r).after) old.flow } = ap (λ t. record old { flow = t })
+    (sym (unchanged_flow old.flow o (λ r. (f r).after) none)) in
+    let finds : FindsBelow old.stack old.files old.flow (operation_at o old.flow) below.Call = subst (λ m. FindsBelow old.stack old.files old.flow m below.Call)
+    (sym none) tt in
     subst (λ b. Unless status.WrongStep b result old old (NextsAt old k o result old)) (sym idle) (below.Call, finds, old, (reply, after), refl)
 
-pub next_errs : {old now : World} (k : WorkerId) (o : OpId) (r : FlowRecord) (lies : Below) (why : Status) (t : FlowTable) → old ≡ now → is_idle (worker_at old.workers k) ≡ true
+pub next_errs : {old now : World} (k : WorkerId) (o : OpId) (r : FlowRecord) (lies : Below) (why : Status) (t : FlowTable) → old ≡ now
+    → is_idle (worker_at old.workers k) ≡ true
     → Goes old k o r lies (Err why) t → Nexts now k o (Err why) (record old { flow = t })
 next_errs {old} k o r lies why t same idle g =
     subst (λ (w : World). Nexts w k o (Err why) (record old { flow = t })) same
     (nexts old k o r lies (Err why) t old.workers old.contexts old.files (record old { flow = t }) idle g refl refl refl refl)
 
 -- without an answer that was known, streams, handles and links stay
-pub next_leads : {old now : World} {kept : ContextsKept} (k : WorkerId) (o : OpId) (r : FlowRecord) (lies : Below) (a : FlowAction) (t : FlowTable) (ws : List Worker) (brought : ContextsKept)
-    → IsState old kept → old ≡ now → is_idle (worker_at old.workers k) ≡ true → Goes old k o r lies (Ok a) t → ws ≡ after_next old.workers k o (Ok a) → old.contexts ≡ kept.table → brought ≡ kept_brought kept k.0 (back_in a)
+pub next_leads : {old now : World} {kept : ContextsKept} (k : WorkerId) (o : OpId) (r : FlowRecord) (lies : Below) (a : FlowAction) (t : FlowTable)
+    (ws : List Worker) (brought : ContextsKept)
+    → IsState old kept → old ≡ now → is_idle (worker_at old.workers k) ≡ true → Goes old k o r lies (Ok a) t → ws ≡ after_next old.workers k o (Ok a)
+    → old.contexts ≡ kept.table → brought ≡ kept_brought kept k.0 (back_in a)
     → known_in a lies ≡ None → Nexts now k o (Ok a) (record old { flow = t; workers = ws; contexts = brought.table })
 next_leads {old} {now} {kept} k o r lies a t ws brought s now_is idle g workers same brings unknown =
     let new : World = record old { flow = t; workers = ws; contexts = brought.table } in
     let still = by_action a lies new unknown in
     subst (λ (w : World). Nexts w k o (Ok a) new) now_is
-    (nexts old k o r lies (Ok a) t ws brought.table old.files new idle g workers (next_table kept brought k a brings ∙ ap (λ (x : ContextTable). received x k (Ok a)) (sym same)) still.0 still.1)
+    (nexts old k o r lies (Ok a) t ws brought.table old.files new idle g workers (next_table kept brought k a brings ∙ ap
+    (λ (x : ContextTable). received x k (Ok a)) (sym same)) still.0 still.1)
   where
     by_action : (a : FlowAction) (lies : Below) (w : World) → known_in a lies ≡ None → (old.files ≡ filed_next old o t (Ok a) lies) × LosesByKnown (Ok a) lies w w
     by_action action.Moved (below.Known why) w unknown = absurd (none-some why (sym unknown))
     by_action a lies w unknown = (refl, refl)
 
 -- with one, the operation is answered
-pub next_answers : {old now : World} {kept : ContextsKept} (k : WorkerId) (o : OpId) (r : FlowRecord) (lies : Below) (a : FlowAction) (t : FlowTable) (ws : List Worker) (brought after : ContextsKept)
-    (fs : FileTable) (x : Target) (why : Status) → IsState old kept → old ≡ now → is_idle (worker_at old.workers k) ≡ true → Goes old k o r lies (Ok a) t → ws ≡ after_next old.workers k o (Ok a) → old.contexts ≡ kept.table
-    → brought ≡ kept_brought kept k.0 (back_in a) → IsTied brought t → known_in a lies ≡ Some why → x ≡ target_in r → fs ≡ answered t why x old.files → Sweeping (is_lost_of fs x) brought after
+pub next_answers : {old now : World} {kept : ContextsKept} (k : WorkerId) (o : OpId) (r : FlowRecord) (lies : Below) (a : FlowAction) (t : FlowTable)
+    (ws : List Worker) (brought after : ContextsKept)
+    (fs : FileTable) (x : Target) (why : Status) → IsState old kept → old ≡ now → is_idle (worker_at old.workers k) ≡ true → Goes old k o r lies (Ok a) t → ws ≡
+    after_next old.workers k o (Ok a) → old.contexts ≡ kept.table
+    → brought ≡ kept_brought kept k.0 (back_in a) → IsTied brought t → known_in a lies ≡ Some why → x ≡ target_in r → fs ≡ answered t why x old.files
+    → Sweeping (is_lost_of fs x) brought after
     → Nexts now k o (Ok a) (record old { flow = t; workers = ws; contexts = after.table; files = fs })
 next_answers {old} {now} {kept} k o r lies a t ws brought after fs x why s now_is idle g workers same brings tied known is files sweeps =
     let mid : World = record old { flow = t; workers = ws; contexts = brought.table; files = fs } in
     let new : World = record old { flow = t; workers = ws; contexts = after.table; files = fs } in
-    let slots : brought.table.slots ≡ old.contexts.slots = ap (λ (y : ContextsKept). y.table.slots) brings ∙ brought_slots kept k.0 (back_in a) ∙ ap (λ (y : ContextTable). y.slots) (sym same) in
+    let slots : brought.table.slots ≡ old.contexts.slots = ap (λ (y : ContextsKept). y.table.slots) brings ∙ brought_slots kept k.0 (back_in a) ∙ ap
+    (λ (y : ContextTable). y.slots) (sym same) in
     let filed : fs ≡ filed_base old o t why =
     files ∙ ap (λ y. answered t why y old.files) is ∙ sym (told_there (filed_record old.files t why) old.files o old.flow r g.at) in
     let knows = by_action a lies mid new known in
     subst (λ (w : World). Nexts w k o (Ok a) new) now_is
-    (nexts old k o r lies (Ok a) t ws brought.table fs new idle g workers (next_table kept brought k a brings ∙ ap (λ (y : ContextTable). received y k (Ok a)) (sym same))
+    (nexts old k o r lies (Ok a) t ws brought.table fs new idle g workers (next_table kept brought k a brings ∙ ap (λ (y : ContextTable). received y k (Ok a))
+    (sym same))
     (filed ∙ sym knows.0) (knows.1 (loses old mid brought after x s.sound refl slots tied (answer_gone old.files fs t why x files) sweeps)))
   where
-    by_action : (a : FlowAction) (lies : Below) (m n : World) → known_in a lies ≡ Some why → (filed_next old o t (Ok a) lies ≡ filed_base old o t why) × (LosesLinks m n → LosesByKnown (Ok a) lies m n)
+    by_action : (a : FlowAction) (lies : Below) (m n : World) → known_in a lies ≡ Some why
+        → (filed_next old o t (Ok a) lies ≡ filed_base old o t why) × (LosesLinks m n → LosesByKnown (Ok a) lies m n)
     by_action action.Moved (below.Known st) m n known = (ap (filed_base old o t) (same_Some st why known), λ h. h)
     by_action a lies m n known = absurd (none-some why known)
 
 -- a handle that an answer gives has its room
-has_room : (old : World) (o : OpId) (why : Status) (r : FlowRecord) → operation_at o old.flow ≡ Some r → old.flow.next < 2 ^ 64 → IsSound old → is_unanswered r.stage ≡ true
+has_room : (old : World) (o : OpId) (why : Status) (r : FlowRecord) → operation_at o old.flow ≡ Some r → old.flow.next < 2 ^ 64 → IsSound old
+    → is_unanswered r.stage ≡ true
     → HasRoom old.files (target_in r) why
 has_room old o why r at small s down opens' =
     let creates' = (and_parts (is_create r.operation) (is_success why) opens').0 in
     let room = room_for old.files old.flow o r at (and_from (is_create r.operation) (is_unanswered r.stage) creates' down) s.filed.room in
     (room.0, let next = room.1 in omega (arith, next, small))
 
-pub next_room : {old : World} {kept : ContextsKept} (k : WorkerId) (o : OpId) (r : FlowRecord) (lies : Below) (a : FlowAction) (t : FlowTable) (x : Target) (why : Status) → IsState old kept
+pub next_room : {old : World} {kept : ContextsKept} (k : WorkerId) (o : OpId) (r : FlowRecord) (lies : Below) (a : FlowAction) (t : FlowTable) (x : Target)
+    (why : Status) → IsState old kept
     → old.flow.next < 2 ^ 64 → Goes old k o r lies (Ok a) t → known_in a lies ≡ Some why → x ≡ target_in r → HasRoom old.files x why
 next_room {old} k o r lies a t x why s small g known is = subst (λ y. HasRoom old.files y why) (sym is) (has_room old o why r g.at small s.sound
     (by_action a lies known (g.reply ∙ told_there (λ (y : FlowRecord). (next_of k lies (drains_at old o) y).reply) (Err status.WrongStep) o old.flow r g.at)))
@@ -197,7 +217,8 @@ next_room {old} k o r lies a t x why s small g known is = subst (λ y. HasRoom o
     by_action a lies known reply = absurd (none-some why known)
 
 -- what `next` hands out
-next_carried : (old : World) (k : WorkerId) (o : OpId) (r : FlowRecord) (lies : Below) (result : Result FlowAction Status) (t : FlowTable) → IsSound old → Goes old k o r lies result t
+next_carried : (old : World) (k : WorkerId) (o : OpId) (r : FlowRecord) (lies : Below) (result : Result FlowAction Status) (t : FlowTable) → IsSound old
+    → Goes old k o r lies result t
     → (c : CtxId) → carried c old.flow ≡ carried c t + handed c result
 next_carried old k o r lies result t s g c =
     let balance = next_balance old o k lies (drains_at old o) r g.at (λ e. (g.finds e).0) s c in
@@ -213,12 +234,15 @@ next_brings {old} {kept} k o r lies a t s idle g contexts =
     (sym (ap (λ (x : ContextTable). hand_of x.hands k.0) contexts) ∙ empty_hand old k place.Idle at refl s.sound.owned)
     (handed_balance old.flow t a (next_carried old k o r lies (Ok a) t s.sound g)) s.tied
 
-pub next_tied : {old : World} {kept : ContextsKept} (k : WorkerId) (o : OpId) (r : FlowRecord) (lies : Below) (a : FlowAction) (t : FlowTable) (brought' : ContextsKept) → IsState old kept
+pub next_tied : {old : World} {kept : ContextsKept} (k : WorkerId) (o : OpId) (r : FlowRecord) (lies : Below) (a : FlowAction) (t : FlowTable)
+    (brought' : ContextsKept) → IsState old kept
     → Goes old k o r lies (Ok a) t → length kept.carried ≡ length kept.table.slots → brought' ≡ kept_brought kept k.0 (back_in a) → IsTied brought' t
 next_tied {old} {kept} k o r lies a t brought' s g matched brings =
-    subst (λ x. IsTied x t) (sym brings) (tied_brought kept k (back_in a) old.flow t matched (handed_balance old.flow t a (next_carried old k o r lies (Ok a) t s.sound g)) s.tied)
+    subst (λ x. IsTied x t) (sym brings) (tied_brought kept k (back_in a) old.flow t matched (handed_balance old.flow t a
+    (next_carried old k o r lies (Ok a) t s.sound g)) s.tied)
 
-pub next_stays : {old : World} {kept : ContextsKept} (k : WorkerId) (o : OpId) (r : FlowRecord) (lies : Below) (why : Status) (t : FlowTable) → IsState old kept → Goes old k o r lies (Err why) t
+pub next_stays : {old : World} {kept : ContextsKept} (k : WorkerId) (o : OpId) (r : FlowRecord) (lies : Below) (why : Status) (t : FlowTable) → IsState old kept
+    → Goes old k o r lies (Err why) t
     → IsTied kept t
 next_stays {old} k o r lies why t s g c = let k = next_carried old k o r lies (Err why) t s.sound g c in omega (arith, s.tied c, k)
 
@@ -229,7 +253,8 @@ abbrev pub Took : FlowTable → VolumeId → Option StreamId → Option HandleId
 Took f v stream handle b path p result g =
     AnswersOrMemory (first_of ((is_full f, status.TooMany) ∷ [])) result f g (λ (o : OpId). (o.0 ≡ f.next) × (g ≡ begun v stream handle b path p f))
 
-pub begin_tied : (kept : ContextsKept) (v : VolumeId) (stream : Option StreamId) (handle : Option HandleId) (path : Option (List ℕ)) (p : Params) (result : Result OpId Status)
+pub begin_tied : (kept : ContextsKept) (v : VolumeId) (stream : Option StreamId) (handle : Option HandleId) (path : Option (List ℕ)) (p : Params)
+    (result : Result OpId Status)
     (f g : FlowTable) (b : ℕ) → Took f v stream handle b path p result g → IsTied kept f → IsTied kept g
 begin_tied kept v stream handle path p (Err why) f g b h tied = subst (IsTied kept) (sym h.1) tied
 begin_tied kept v stream handle path p (Ok o) f g b h tied =
@@ -242,7 +267,8 @@ base_same call given h r c = by_fit (base_fits call given r)
     by_fit true = base_returned_carries c call given h r
     by_fit false = refl
 
-pub base_tied : (kept : ContextsKept) (o : OpId) (call : BaseCall) (given : Answer) (h : HandleId) (f g : FlowTable) → g ≡ changed o (base_after call given h) f → IsTied kept f → IsTied kept g
+pub base_tied : (kept : ContextsKept) (o : OpId) (call : BaseCall) (given : Answer) (h : HandleId) (f g : FlowTable) → g ≡ changed o (base_after call given h) f
+    → IsTied kept f → IsTied kept g
 base_tied kept o call given h f g e tied = subst (IsTied kept) (sym e) (λ c. tied c ∙ by_record (operation_at o f) refl c)
   where
     by_record : (m : Option FlowRecord) → operation_at o f ≡ m → (c : CtxId) → carried c f ≡ carried c (changed o (base_after call given h) f)
@@ -274,12 +300,14 @@ drain_is (Some (place.Drain o i)) p h = ap (λ x. Some (place.Drain x.0 x.1)) (s
 drain_is m p h = absurd (none-some p h)
 
 -- as the code reads it
-pub located : {A : Type 0} {old now : World} (read : Option Worker → Option A) (to : A → Worker) (k : WorkerId) (a : A) → ((x : Option Worker) (b : A) → read x ≡ Some b → x ≡ Some (to b))
+pub located : {A : Type 0} {old now : World} (read : Option Worker → Option A) (to : A → Worker) (k : WorkerId) (a : A)
+    → ((x : Option Worker) (b : A) → read x ≡ Some b → x ≡ Some (to b))
     → old ≡ now → read (worker_at now.workers k) ≡ Some a → worker_at old.workers k ≡ Some (to a)
 located {old = old} {now} read to k a is same found = subst (λ (w : World). worker_at w.workers k ≡ Some (to a)) (sym same) (is (worker_at now.workers k) a found)
 
 pub placed : {A : Type 0} {old now : World} (read : Option Worker → Option A) (to : A → Worker) (k : WorkerId) (a : A) (here : Option Worker) (m : Option A)
-    → ((x : Option Worker) (b : A) → read x ≡ Some b → x ≡ Some (to b)) → old ≡ now → here ≡ worker_at now.workers k → m ≡ read here → m ≡ Some a → worker_at old.workers k ≡ Some (to a)
+    → ((x : Option Worker) (b : A) → read x ≡ Some b → x ≡ Some (to b)) → old ≡ now → here ≡ worker_at now.workers k → m ≡ read here → m ≡ Some a
+    → worker_at old.workers k ≡ Some (to a)
 placed read to k a here m is same at reads found = located read to k a is same (ap read (sym at) ∙ sym reads ∙ found)
 
 pub within_at : {old : World} {kept : ContextsKept} (k : WorkerId) (a : Worker) → IsState old kept → worker_at old.workers k ≡ Some a → k.0 < 48
@@ -312,7 +340,8 @@ pub in_drain : (old : World) (k : WorkerId) (o : OpId) (i : InstanceId) → IsSo
     → (r : FlowRecord) × (operation_at o old.flow ≡ Some r) × (r.stage ≡ InDrain i)
 in_drain old k o i s at = stands_in old k (place.Drain o i) o (AtDrain i.0) (InDrain i) s at (both o i) (spot_drain i)
 
-pub stands_from : (o : OpId) (t : FlowTable) (wanted : Stage) → (r : FlowRecord) × (operation_at o t ≡ Some r) × (r.stage ≡ wanted) → StandsAt wanted (operation_at o t)
+pub stands_from : (o : OpId) (t : FlowTable) (wanted : Stage) → (r : FlowRecord) × (operation_at o t ≡ Some r) × (r.stage ≡ wanted)
+    → StandsAt wanted (operation_at o t)
 stands_from o t wanted h = subst (StandsAt wanted) (sym h.1) h.2
 
 -- the operation that the callback or the call is of
@@ -338,8 +367,10 @@ abbrev pub Comes : {T : Type 0} → FlowTable → OpId → (FlowRecord → Bool)
 Comes t o fits step lent (Ok done) f = (told fits false o t ≡ true) × (f ≡ changed o step t)
 Comes t o fits step lent (Err back) f = (told fits false o t ≡ false) × (f ≡ t) × (back ≡ lent)
 
-pub comes : {T : Type 0} (t : FlowTable) (o : OpId) (r : FlowRecord) (fits : FlowRecord → Bool) (step : FlowRecord → FlowRecord) (lent : T) (answer : Result (Unit {0}) T) (f : FlowTable)
-    → operation_at o t ≡ Some r → answer ≡ told (λ x. cond (fits x) (Ok tt) (Err lent)) (Err lent) o t → f ≡ changed o (λ x. cond (fits x) (step x) x) t → Comes t o fits step lent answer f
+pub comes : {T : Type 0} (t : FlowTable) (o : OpId) (r : FlowRecord) (fits : FlowRecord → Bool) (step : FlowRecord → FlowRecord) (lent : T)
+    (answer : Result (Unit {0}) T) (f : FlowTable)
+    → operation_at o t ≡ Some r → answer ≡ told (λ x. cond (fits x) (Ok tt) (Err lent)) (Err lent) o t → f ≡ changed o (λ x. cond (fits x) (step x) x) t
+    → Comes t o fits step lent answer f
 comes t o r fits step lent answer f at reply after = by_fit answer (fits r) refl (reply ∙ told_there (λ x. cond (fits x) (Ok tt) (Err lent)) (Err lent) o t r at)
   where
     here : told fits false o t ≡ fits r
@@ -355,18 +386,21 @@ comes t o r fits step lent answer f at reply after = by_fit answer (fits r) refl
 strange_refused : (old : World) (f : FlowTable) (fits : Bool) (Event : Type 0) → fits ≡ false → f ≡ old.flow
     → Unless {T = Unit {0}} status.BadRequest fits (Err status.BadRequest) old (record old { flow = f }) Event
 strange_refused old f fits Event e same =
-    subst (λ b. Unless {T = Unit {0}} status.BadRequest b (Err status.BadRequest) old (record old { flow = f }) Event) (sym e) (refl, ap (λ t. record old { flow = t }) same)
+    subst (λ b. Unless {T = Unit {0}} status.BadRequest b (Err status.BadRequest) old (record old { flow = f }) Event) (sym e)
+    (refl, ap (λ t. record old { flow = t }) same)
 
 -- what fits is taken
 fits_taken : (old new : World) (fits : Bool) (Event : Type 0) → fits ≡ true → Event
     → Unless {T = Unit {0}} status.BadRequest fits (Ok (tt {0})) old new (◌≡◌ {A = Result (Unit {0}) Status} (Ok (tt {0})) (Ok (tt {0})) × Event)
 fits_taken old new fits Event e h =
-    subst (λ b. Unless {T = Unit {0}} status.BadRequest b (Ok (tt {0})) old new (◌≡◌ {A = Result (Unit {0}) Status} (Ok (tt {0})) (Ok (tt {0})) × Event)) (sym e) (refl, h)
+    subst (λ b. Unless {T = Unit {0}} status.BadRequest b (Ok (tt {0})) old new (◌≡◌ {A = Result (Unit {0}) Status} (Ok (tt {0})) (Ok (tt {0})) × Event))
+    (sym e) (refl, h)
 
 -- ---- a preoperation's end
 
 -- the verdict that counts
-pub pre_state : (old : World) (k : WorkerId) (o : OpId) (i : InstanceId) (r : FlowRecord) (given counted : PreVerdict) (has : Bool) (state : PreState) (operation : Operation) → operation_at o old.flow ≡ Some r
+pub pre_state : (old : World) (k : WorkerId) (o : OpId) (i : InstanceId) (r : FlowRecord) (given counted : PreVerdict) (has : Bool) (state : PreState)
+    (operation : Operation) → operation_at o old.flow ≡ Some r
     → operation ≡ r.operation → has ≡ has_post old.stack (slice_get old.stack.instances i.0) operation → counted ≡ of_hand (hand_of old.contexts.hands k.0) given
     → state ≡ verdict_counted counted operation has → state ≡ state_at old k o i given
 pre_state old k o i r given counted has state operation at is has_is counted_is state_is =
@@ -376,7 +410,8 @@ pre_state old k o i r given counted has state operation at is has_is counted_is 
     ∙ sym (told_there (state_given old.stack hand i given) pre.Passed o old.flow r at)
 
 -- the context that it sends along is in the hand, and few are carried
-pub pre_sends : {old : World} {kept : ContextsKept} (k : WorkerId) (o : OpId) (i : InstanceId) (given : PreVerdict) (state : PreState) (m : Option CtxId) → IsState old kept
+pub pre_sends : {old : World} {kept : ContextsKept} (k : WorkerId) (o : OpId) (i : InstanceId) (given : PreVerdict) (state : PreState) (m : Option CtxId)
+    → IsState old kept
     → worker_at old.workers k ≡ Some (place.Pre o i) → state ≡ state_at old k o i given → m ≡ sent_in state → old.contexts ≡ kept.table → MaySend kept k.0 m
 pre_sends {old} {kept} k o i given state m s at same sends contexts =
     may_send kept k m old.flow s.sound.under_way.flow s.tied
@@ -384,21 +419,29 @@ pre_sends {old} {kept} k o i given state m s at same sends contexts =
     (sent_is_held old k o i given at s.sound.under_way d (sym (sends ∙ ap sent_in same) ∙ e)))
 
 -- and completions carry it then
-pub pre_tied : {old : World} {kept : ContextsKept} (k : WorkerId) (o : OpId) (i : InstanceId) (given : PreVerdict) (lent : Data) (state : PreState) (m : Option CtxId) → IsState old kept
-    → worker_at old.workers k ≡ Some (place.Pre o i) → state ≡ state_at old k o i given → m ≡ sent_in state → old.contexts ≡ kept.table → length kept.carried ≡ length kept.table.slots
+pub pre_tied : {old : World} {kept : ContextsKept} (k : WorkerId) (o : OpId) (i : InstanceId) (given : PreVerdict) (lent : Data) (state : PreState)
+    (m : Option CtxId) → IsState old kept
+    → worker_at old.workers k ≡ Some (place.Pre o i) → state ≡ state_at old k o i given → m ≡ sent_in state → old.contexts ≡ kept.table
+    → length kept.carried ≡ length kept.table.slots
     → IsTied (kept_sent kept k.0 m) (changed o (pre_returned_of state lent) old.flow)
 pre_tied {old} {kept} k o i given lent state m s at same sends contexts matched =
     subst (λ x. IsTied (kept_sent kept k.0 x) (changed o (pre_returned_of state lent) old.flow)) (sym sends)
-    (tied_sent kept k (sent_in state) old.flow (changed o (pre_returned_of state lent) old.flow) (subst (IsLawful (carries old)) contexts s.sound.owned.lawful) matched
+    (tied_sent kept k (sent_in state) old.flow (changed o (pre_returned_of state lent) old.flow) (subst (IsLawful (carries old)) contexts s.sound.owned.lawful)
+    matched
     (subst (λ (t : ContextTable). k.0 < length t.hands) contexts
     (within_hands k.0 s.sound.owned.lawful (subst (λ n. k.0 < n) s.sound.under_way.hands (slice_get_within old.workers k.0 (place.Pre o i) at))))
-    (λ d e. subst (λ (t : ContextTable). holds (hand_of t.hands k.0) d ≡ true) contexts (sent_is_held old k o i given at s.sound.under_way d (sym (ap sent_in same) ∙ e)))
+    (λ d e. subst (λ (t : ContextTable). holds (hand_of t.hands k.0) d ≡ true) contexts (sent_is_held old k o i given at s.sound.under_way d
+    (sym (ap sent_in same) ∙ e)))
     (pre_balance old k o i state lent at s.sound.under_way) s.tied)
 
-pub pre_returns : {old now : World} {kept : ContextsKept} (k : WorkerId) (o : OpId) (i : InstanceId) (r : FlowRecord) (given : PreVerdict) (lent : Data) (state : PreState) (m : Option CtxId) (t : FlowTable)
-    (ws : List Worker) (left after : ContextsKept) (fs : FileTable) (x : Target) → IsState old kept → old ≡ now → worker_at old.workers k ≡ Some (place.Pre o i) → operation_at o old.flow ≡ Some r
-    → state ≡ state_at old k o i given → m ≡ sent_in state → Comes old.flow o (λ y. data_fits y.operation y.path lent) (pre_returned_of state lent) lent (Ok tt) t → ws ≡ put old.workers k place.Idle
-    → old.contexts ≡ kept.table → Ends (kept_sent kept k.0 m) left k.0 → IsTied (kept_sent kept k.0 m) (changed o (pre_returned_of state lent) old.flow) → x ≡ target_in r → fs ≡ decided t state x old.files
+pub pre_returns : {old now : World} {kept : ContextsKept} (k : WorkerId) (o : OpId) (i : InstanceId) (r : FlowRecord) (given : PreVerdict) (lent : Data)
+    (state : PreState) (m : Option CtxId) (t : FlowTable)
+    (ws : List Worker) (left after : ContextsKept) (fs : FileTable) (x : Target) → IsState old kept → old ≡ now → worker_at old.workers k ≡ Some
+    (place.Pre o i) → operation_at o old.flow ≡ Some r
+    → state ≡ state_at old k o i given → m ≡ sent_in state
+    → Comes old.flow o (λ y. data_fits y.operation y.path lent) (pre_returned_of state lent) lent (Ok tt) t → ws ≡ put old.workers k place.Idle
+    → old.contexts ≡ kept.table → Ends (kept_sent kept k.0 m) left k.0 → IsTied (kept_sent kept k.0 m) (changed o (pre_returned_of state lent) old.flow)
+    → x ≡ target_in r → fs ≡ decided t state x old.files
     → Sweeping (is_lost_of fs x) left after → PreReturns now k given lent (Ok tt) (record old { flow = t; workers = ws; contexts = after.table; files = fs })
 unfolding PreReturns
 pre_returns {old} {now} {kept} k o i r given lent state m t ws left after fs x s now_is at here same sends come workers contexts ends tied is files sweeps =
@@ -410,7 +453,8 @@ pre_returns {old} {now} {kept} k o i r given lent state m t ws left after fs x s
     let left_tied = subst (IsTied left) (sym flow) (tied_ends (kept_sent kept k.0 m) left k.0 (changed o step old.flow) ends tied) in
     let filed : fs ≡ filed_pre old o (changed o step old.flow) state =
     files ∙ ap (λ (y : Target). decided t state y old.files) is ∙ ap (λ (u : FlowTable). decided u state (target_in r) old.files) flow
-    ∙ sym (told_there (λ (y : FlowRecord). after_pre state y.operation y.stream (is_created_on y.stream (changed o step old.flow)) old.files) old.files o old.flow r here) in
+    ∙ sym (told_there (λ (y : FlowRecord). after_pre state y.operation y.stream (is_created_on y.stream (changed o step old.flow)) old.files) old.files o
+    old.flow r here) in
     let leaves : Leaves (carries_after old o step) (sent old.contexts k (sent_in state)) left.table k.0 =
     subst (λ z. Leaves (carries_after old o step) (sent old.contexts k z) left.table k.0) sends
     (subst (λ u. Leaves (carries_after old o step) (sent u k m) left.table k.0) (sym contexts) (ends_leaves kept left k m (changed o step old.flow) ends tied)) in
@@ -421,10 +465,12 @@ pre_returns {old} {now} {kept} k o i r given lent state m t ws left after fs x s
     ) in
     subst (λ (w : World). PreReturns w k given lent (Ok tt) new) now_is
     (subst (PreReturnsAt old k given lent (Ok tt) new) (sym at)
-    (fits_taken old new (told (λ y. data_fits y.operation y.path lent) false o old.flow) (PreReturnsOver old k o (pre_step old k o i given lent) (state_at old k o i given) new) come.0
+    (fits_taken old new (told (λ y. data_fits y.operation y.path lent) false o old.flow) (PreReturnsOver old k o (pre_step old k o i given lent)
+    (state_at old k o i given) new) come.0
     (subst (λ y. PreReturnsOver old k o (pre_returned_of y lent) y new) same over)))
 
-pub pre_strange : {old now : World} (k : WorkerId) (o : OpId) (i : InstanceId) (given : PreVerdict) (lent back : Data) (step : FlowRecord → FlowRecord) (t : FlowTable) → old ≡ now
+pub pre_strange : {old now : World} (k : WorkerId) (o : OpId) (i : InstanceId) (given : PreVerdict) (lent back : Data) (step : FlowRecord → FlowRecord)
+    (t : FlowTable) → old ≡ now
     → worker_at old.workers k ≡ Some (place.Pre o i) → Comes old.flow o (λ y. data_fits y.operation y.path lent) step lent (Err back) t
     → PreReturns now k given lent (Err status.BadRequest) (record old { flow = t })
 unfolding PreReturns
@@ -435,9 +481,11 @@ pre_strange {old} k o i given lent back step t now_is at come =
 
 -- ---- the base's answer
 
-pub base_returns : {old now : World} {kept : ContextsKept} (k : WorkerId) (o : OpId) (r : FlowRecord) (call : BaseCall) (given : Answer) (t : FlowTable) (ws : List Worker) (after : ContextsKept)
+pub base_returns : {old now : World} {kept : ContextsKept} (k : WorkerId) (o : OpId) (r : FlowRecord) (call : BaseCall) (given : Answer) (t : FlowTable)
+    (ws : List Worker) (after : ContextsKept)
     (fs : FileTable) (x : Target) → IsState old kept → old ≡ now → worker_at old.workers k ≡ Some (place.Base o) → operation_at o old.flow ≡ Some r
-    → Comes {T = BaseCall × Answer} old.flow o (base_fits call given) (base_step old call given) (call, given) (Ok tt) t → ws ≡ put old.workers k place.Idle → old.contexts ≡ kept.table → IsTied kept t
+    → Comes {T = BaseCall × Answer} old.flow o (base_fits call given) (base_step old call given) (call, given) (Ok tt) t → ws ≡ put old.workers k place.Idle
+    → old.contexts ≡ kept.table → IsTied kept t
     → x ≡ target_in r → fs ≡ answered t given.status x old.files → Sweeping (is_lost_of fs x) kept after
     → BaseReturns now k call given (Ok tt) (record old { flow = t; workers = ws; contexts = after.table; files = fs })
 unfolding BaseReturns
@@ -454,9 +502,11 @@ base_returns {old} {now} {kept} k o r call given t ws after fs x s now_is at her
     loses old mid kept after x s.sound contexts (ap (λ (y : ContextTable). y.slots) (sym contexts)) tied (answer_gone old.files fs t given.status x files) sweeps in
     subst (λ (w : World). BaseReturns w k call given (Ok tt) new) now_is
     (subst (BaseReturnsAt old k call given (Ok tt) new) (sym at)
-    (fits_taken old new (told (base_fits call given) false o old.flow) (LosesLinks (base_returned old k o call given) new) come.0 (subst (λ (w : World). LosesLinks w new) whole lost)))
+    (fits_taken old new (told (base_fits call given) false o old.flow) (LosesLinks (base_returned old k o call given) new) come.0
+    (subst (λ (w : World). LosesLinks w new) whole lost)))
 
-pub base_strange : {old now : World} (k : WorkerId) (o : OpId) (call : BaseCall) (given : Answer) (back : BaseCall × Answer) (step : FlowRecord → FlowRecord) (t : FlowTable)
+pub base_strange : {old now : World} (k : WorkerId) (o : OpId) (call : BaseCall) (given : Answer) (back : BaseCall × Answer) (step : FlowRecord → FlowRecord)
+    (t : FlowTable)
     → old ≡ now → worker_at old.workers k ≡ Some (place.Base o) → Comes {T = BaseCall × Answer} old.flow o (base_fits call given) step (call, given) (Err back) t
     → BaseReturns now k call given (Err status.BadRequest) (record old { flow = t })
 unfolding BaseReturns
@@ -466,22 +516,26 @@ base_strange {old} k o call given back step t now_is at come =
     (strange_refused old t (told (base_fits call given) false o old.flow) _ come.0 come.1))
 
 -- a create at the base has room for its handle
-pub base_room : {old : World} {kept : ContextsKept} (o : OpId) (why : Status) (r : FlowRecord) (x : Target) → IsState old kept → operation_at o old.flow ≡ Some r → r.stage ≡ InBase
+pub base_room : {old : World} {kept : ContextsKept} (o : OpId) (why : Status) (r : FlowRecord) (x : Target) → IsState old kept
+    → operation_at o old.flow ≡ Some r → r.stage ≡ InBase
     → old.flow.next < 2 ^ 64 → x ≡ target_in r → HasRoom old.files x why
 base_room {old} o why r x s at stage small is = subst (λ y. HasRoom old.files y why) (sym is) (has_room old o why r at small s.sound (ap is_unanswered stage))
 
 -- ---- a postoperation's end, and a drain's
 
 -- the event of a callback that is over
-over : (old : World) (k : WorkerId) (o : OpId) (step : FlowRecord → FlowRecord) (t : FlowTable) (ws : List Worker) (kept after : ContextsKept) → t ≡ changed o step old.flow
+over : (old : World) (k : WorkerId) (o : OpId) (step : FlowRecord → FlowRecord) (t : FlowTable) (ws : List Worker) (kept after : ContextsKept)
+    → t ≡ changed o step old.flow
     → ws ≡ put old.workers k place.Idle → old.contexts ≡ kept.table → Ends kept after k.0 → IsTied kept (changed o step old.flow)
     → ReturnsFrom old k o step old.contexts (record old { flow = t; workers = ws; contexts = after.table })
 over old k o step t ws kept after flow workers contexts ends tied = (
   subst (λ x. Leaves (carries_after old o step) x after.table k.0) (sym contexts) (leaves_alike tied ends.leaves),
-  let whole : ◌≡◌ {A = World} (record old { flow = t; workers = ws; contexts = after.table }) (record (returned old k o step) { contexts = after.table }) = cc in whole,
+  let whole : ◌≡◌ {A = World} (record old { flow = t; workers = ws; contexts = after.table }) (record (returned old k o step)
+      { contexts = after.table }) = cc in whole,
 )
 
-pub post_tied : {old : World} {kept : ContextsKept} (k : WorkerId) (o : OpId) (i : InstanceId) (given : PostVerdict) (lent : Data) → IsState old kept → worker_at old.workers k ≡ Some (place.Post o i)
+pub post_tied : {old : World} {kept : ContextsKept} (k : WorkerId) (o : OpId) (i : InstanceId) (given : PostVerdict) (lent : Data) → IsState old kept
+    → worker_at old.workers k ≡ Some (place.Post o i)
     → IsTied kept (changed o (post_returned_of given lent) old.flow)
 post_tied {old} k o i given lent s at c = s.tied c ∙ sym (post_balance old k o i given lent at s.sound.under_way c)
 
@@ -489,9 +543,12 @@ pub drain_tied : {old : World} {kept : ContextsKept} (k : WorkerId) (o : OpId) (
     → IsTied kept (changed o (drain_returned_of i) old.flow)
 drain_tied {old} k o i s at c = s.tied c ∙ sym (drain_balance old k o i at s.sound.under_way c)
 
-pub post_returns : {old now : World} {kept : ContextsKept} (k : WorkerId) (o : OpId) (i : InstanceId) (given : PostVerdict) (lent : Data) (t : FlowTable) (ws : List Worker) (after : ContextsKept)
-    → IsState old kept → old ≡ now → worker_at old.workers k ≡ Some (place.Post o i) → Comes old.flow o (λ y. data_fits y.operation y.path lent) (post_returned_of given lent) lent (Ok tt) t
-    → ws ≡ put old.workers k place.Idle → old.contexts ≡ kept.table → Ends kept after k.0 → PostReturns now k given (Some lent) (Ok tt) (record old { flow = t; workers = ws; contexts = after.table })
+pub post_returns : {old now : World} {kept : ContextsKept} (k : WorkerId) (o : OpId) (i : InstanceId) (given : PostVerdict) (lent : Data) (t : FlowTable)
+    (ws : List Worker) (after : ContextsKept)
+    → IsState old kept → old ≡ now → worker_at old.workers k ≡ Some (place.Post o i)
+    → Comes old.flow o (λ y. data_fits y.operation y.path lent) (post_returned_of given lent) lent (Ok tt) t
+    → ws ≡ put old.workers k place.Idle → old.contexts ≡ kept.table → Ends kept after k.0
+    → PostReturns now k given (Some lent) (Ok tt) (record old { flow = t; workers = ws; contexts = after.table })
 unfolding PostReturns
 post_returns {old} {now} {kept} k o i given lent t ws after s now_is at come workers contexts ends =
     let new : World = record old { flow = t; workers = ws; contexts = after.table } in
@@ -500,7 +557,8 @@ post_returns {old} {now} {kept} k o i given lent t ws after s now_is at come wor
     (fits_taken old new (told (λ y. data_fits y.operation y.path lent) false o old.flow) (ReturnsFrom old k o (post_returned_of given lent) old.contexts new) come.0
     (over old k o (post_returned_of given lent) t ws kept after come.1 workers contexts ends (post_tied k o i given lent s at))))
 
-pub post_strange : {old now : World} (k : WorkerId) (o : OpId) (i : InstanceId) (given : PostVerdict) (lent back : Data) (step : FlowRecord → FlowRecord) (t : FlowTable)
+pub post_strange : {old now : World} (k : WorkerId) (o : OpId) (i : InstanceId) (given : PostVerdict) (lent back : Data) (step : FlowRecord → FlowRecord)
+    (t : FlowTable)
     → old ≡ now → worker_at old.workers k ≡ Some (place.Post o i) → Comes old.flow o (λ y. data_fits y.operation y.path lent) step lent (Err back) t
     → PostReturns now k given (Some lent) (Err status.BadRequest) (record old { flow = t })
 unfolding PostReturns
@@ -509,8 +567,10 @@ post_strange {old} k o i given lent back step t now_is at come =
     (subst (PostReturnsAt old k given (Some lent) (Err status.BadRequest) (record old { flow = t })) (sym at)
     (strange_refused old t (told (λ y. data_fits y.operation y.path lent) false o old.flow) _ come.0 come.1))
 
-pub drain_returns : {old now : World} {kept : ContextsKept} (k : WorkerId) (o : OpId) (i : InstanceId) (given : PostVerdict) (t : FlowTable) (ws : List Worker) (after : ContextsKept)
-    → IsState old kept → old ≡ now → worker_at old.workers k ≡ Some (place.Drain o i) → t ≡ changed o (drain_returned_of i) old.flow → ws ≡ put old.workers k place.Idle
+pub drain_returns : {old now : World} {kept : ContextsKept} (k : WorkerId) (o : OpId) (i : InstanceId) (given : PostVerdict) (t : FlowTable) (ws : List Worker)
+    (after : ContextsKept)
+    → IsState old kept → old ≡ now → worker_at old.workers k ≡ Some (place.Drain o i) → t ≡ changed o (drain_returned_of i) old.flow
+    → ws ≡ put old.workers k place.Idle
     → old.contexts ≡ kept.table → Ends kept after k.0 → PostReturns now k given None (Ok tt) (record old { flow = t; workers = ws; contexts = after.table })
 unfolding PostReturns
 drain_returns {old} {now} {kept} k o i given t ws after s now_is at step workers contexts ends =
@@ -520,20 +580,25 @@ drain_returns {old} {now} {kept} k o i given t ws after s now_is at step workers
 
 -- ---- begin
 
-found : (xs : List Volume) (k : ℕ) → k < length xs → (x : Volume) × (slice_get xs k ≡ Some x)
-found [] k l = absurd (omega arith)
-found (x ∷ xs) zero l = (x, refl)
-found (x ∷ xs) (suc k) l = found xs k (omega arith)
-
 -- an operation began, where nothing refused it but want of memory
 pub begun_as : (old : World) (refusal : Option Status) (v : VolumeId) (stream : Option StreamId) (handle : Option HandleId) (path : Option (List ℕ)) (p : Params)
     (result : Result OpId Status) (t : FlowTable) (f g : FileTable) → refusal ≡ None → is_full old.flow ≡ false
     → Took old.flow v stream handle old.stack.births path p result t
     → f ≡ cond (is_ok result) g old.files
     → AnswersOrMemory refusal result old (record old { flow = t; files = f })
-    (λ (o : OpId). (o.0 ≡ old.flow.next) × (◌≡◌ {A = World} (record old { flow = t; files = f }) (record old { flow = begun v stream handle old.stack.births path p old.flow; files = g })))
-begun_as old refusal v stream handle path p (Ok o) t f g free room h files =
-    (free, (h.1.0, ap (λ x. record old { flow = x; files = f }) h.1.1 ∙ ap (λ x. record old { flow = begun v stream handle old.stack.births path p old.flow; files = x }) files))
+    (λ (o : OpId). (o.0 ≡ old.flow.next) × (◌≡◌ {A = World} (record old { flow = t; files = f }) (record old
+    { flow = begun v stream handle old.stack.births path p old.flow; files = g })))
+begun_as old refusal v stream handle path p (Ok o) t f g free room h files = (
+  free,
+  (
+    h.1.0,
+    ap (λ x. record old { flow = x; files = f }) h.1.1 ∙ ap (λ x. record old {
+      flow = begun v stream handle old.stack.births path p
+          old.flow;
+      files = x;
+    }) files,
+  ),
+)
 begun_as old refusal v stream handle path p (Err why) t f g free room h files =
     let memory : why ≡ status.NoMemory = subst (λ b. IsRefusalOrMemory (cond b (Some status.TooMany) None) why) room h.0 in
     (subst (λ r. IsRefusalOrMemory r why) (sym free) memory, ap (λ x. record old { flow = x; files = f }) h.1 ∙ ap (λ x. record old { files = x }) files)
@@ -549,8 +614,10 @@ unfolding Begins
 creates {old} v path mode result t f same free_now h files =
     let free = subst (λ (w : World). first_of (volume_refusals w v (is_full w.flow || has_no_handle_left w)) ≡ None) (sym same) free_now in
     subst (λ (w : World). Begins w (begin.Create v path mode) result (record old { flow = t; files = f })) same
-    (begun_as old (first_of (volume_refusals old v (is_full old.flow || has_no_handle_left old))) v (Some (stream_for v path old.flow.next old.files)) None (Some path)
-    (params.Create path mode) result t f (created v path old.flow.next old.files) free (or_left (is_full old.flow) (has_no_handle_left old) (full_from _ _ (is_full old.flow || has_no_handle_left old) free)) h files)
+    (begun_as old (first_of (volume_refusals old v (is_full old.flow || has_no_handle_left old))) v (Some (stream_for v path old.flow.next old.files)) None
+    (Some path)
+    (params.Create path mode) result t f (created v path old.flow.next old.files) free (or_left (is_full old.flow) (has_no_handle_left old)
+    (full_from _ _ (is_full old.flow || has_no_handle_left old) free)) h files)
 
 pub lists : {old now : World} (v : VolumeId) (result : Result OpId Status) (t : FlowTable) → old ≡ now → first_of (volume_refusals now v (is_full old.flow)) ≡ None
     → Took old.flow v None None old.stack.births None params.List result t → Begins now (begin.List v) result (record old { flow = t })
@@ -562,7 +629,8 @@ lists {old} v result t same free_now h = subst (λ (w : World). Begins w (begin.
 
     by_result : (result : Result OpId Status) → Took old.flow v None None old.stack.births None params.List result t
         → AnswersOrMemory (first_of (volume_refusals old v (is_full old.flow))) result old (record old { flow = t })
-        (λ (o : OpId). (o.0 ≡ old.flow.next) × (◌≡◌ {A = World} (record old { flow = t }) (record old { flow = begun v None None old.stack.births None params.List old.flow })))
+        (λ (o : OpId). (o.0 ≡ old.flow.next) × (◌≡◌ {A = World} (record old { flow = t }) (record old
+        { flow = begun v None None old.stack.births None params.List old.flow })))
     by_result (Ok o) h = (free, (h.1.0, ap (λ x. record old { flow = x }) h.1.1))
     by_result (Err why) h =
         let memory : why ≡ status.NoMemory = subst (λ b. IsRefusalOrMemory (cond b (Some status.TooMany) None) why) (full_from _ _ (is_full old.flow) free) h.0 in
@@ -585,14 +653,16 @@ asks {old} h p x v result t f same asked event files =
     let on : refused_on old p x (Some y) ≡ None = ap (refused_on old p x) (sym asked.there) ∙ ap (refused_at old p) (sym asked.handle) ∙ parts.1 in
     let room = full_from _ _ (is_full old.flow) (none_else (phase_refusal old.flow (operation_of p) x.phase) _ on) in
     let here : asked_begun old h p ≡ begun_on old h p x (Some y) = ap (begun_at old h p) asked.handle ∙ ap (begun_on old h p x) asked.there in
-    let begun' = begun_as old (asked_refused old h p) y.volume (Some x.stream) (Some h) (Some y.path) p result t f (moved_on (operation_of p) h old.flow.next old.files) asked.free room
+    let begun' = begun_as old (asked_refused old h p) y.volume (Some x.stream) (Some h) (Some y.path) p result t f
+    (moved_on (operation_of p) h old.flow.next old.files) asked.free room
     (subst (λ (u : VolumeId). Took old.flow u (Some x.stream) (Some h) old.stack.births (Some y.path) p result t) (sym asked.volume) event) files in
     subst (λ (w : World). Asks w h p result (record old { flow = t; files = f })) same
     (subst (λ (w : World). AnswersOrMemory (asked_refused old h p) result old (record old { flow = t; files = f })
     (λ (o : OpId). (o.0 ≡ old.flow.next) × (◌≡◌ {A = World} (record old { flow = t; files = f }) w))) (sym here) begun')
 
 -- what is asked leaves a sound World
-pub asks_sound : (old : World) (h : HandleId) (p : Params) (result : Result OpId Status) (new : World) → Asks old h p result new → is_create (operation_of p) ≡ false → IsSound old → IsSound new
+pub asks_sound : (old : World) (h : HandleId) (p : Params) (result : Result OpId Status) (new : World) → Asks old h p result new
+    → is_create (operation_of p) ≡ false → IsSound old → IsSound new
 unfolding Asks
 asks_sound old h p (Err why) new e none s = subst IsSound (sym e.1) s
 asks_sound old h p (Ok o) new e none s = subst IsSound (sym e.1.1) (asked_sound old h p e.0 none s)
@@ -604,9 +674,11 @@ unfolding Asks Begins
 asks_begins old h asked result new e = e
 
 pub asked_phase : (w : World) (h : HandleId) (p : Params) (x : FileHandle) (v : VolumeId) (why : Status) → is_within_limits p ≡ true → handle_at h w.files ≡ Some x
-    → option_map (λ (y : FileStream). y.volume) (stream_at x.stream w.files) ≡ Some v → phase_refusal w.flow (operation_of p) x.phase ≡ Some why → asked_refused w h p ≡ Some why
+    → option_map (λ (y : FileStream). y.volume) (stream_at x.stream w.files) ≡ Some v → phase_refusal w.flow (operation_of p) x.phase ≡ Some why
+    → asked_refused w h p ≡ Some why
 asked_phase w h p x v why within open' there refuses =
-    ap (λ b. cond b (refused_at w p (handle_at h w.files)) (Some status.BadRequest)) within ∙ ap (refused_at w p) open' ∙ by_stream (stream_at x.stream w.files) there
+    ap (λ b. cond b (refused_at w p (handle_at h w.files)) (Some status.BadRequest)) within ∙ ap (refused_at w p) open' ∙ by_stream (stream_at x.stream w.files)
+    there
   where
     by_stream : (m : Option FileStream) → option_map (λ (y : FileStream). y.volume) m ≡ Some v → refused_on w p x m ≡ Some why
     by_stream None e = absurd (none-some v e)
@@ -614,7 +686,9 @@ asked_phase w h p x v why within open' there refuses =
 
 -- ---- collect
 
-pub collects : {old now : World} (o : OpId) (result : Result Answer Status) (t : FlowTable) → old ≡ now → result ≡ told collect_reply (Err status.WrongStep) o old.flow
+pub collects : {old now : World} (o : OpId) (result : Result Answer Status) (t : FlowTable) → old ≡ now
+    → result ≡ told collect_reply (Err status.WrongStep) o old.flow
     → t ≡ collected_of o old.flow → Collects now o result (record old { flow = t })
 unfolding Collects
-collects {old} o result t same reply after = subst (λ (w : World). Collects w o result (record old { flow = t })) same (reply, ap (λ x. record old { flow = x }) after)
+collects {old} o result t same reply after =
+    subst (λ (w : World). Collects w o result (record old { flow = t })) same (reply, ap (λ x. record old { flow = x }) after)

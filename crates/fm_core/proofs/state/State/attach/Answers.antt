@@ -6,8 +6,10 @@ use Rattle.fm_core.proofs.state.State.attach.Goals as goal
 
 pub returns-clause-event : goal.returns-clause-event
 returns-clause-event c =
-    attaches c.args.worker c.args.filter c.args.volume c.args.name c.args.altitude c.attach-result.result c.attach-result.new.self c.note_attach.new.workers c.self.view_is
+    attaches c.args.worker c.args.filter c.args.volume c.args.name c.args.altitude c.attach-result.result c.attach-result.new.self c.note_attach.new.workers
+    c.self.view_is
     (sym c.is_idle.ensures ∙ c.if-not-is_idle.false) c.attach-result.ensures.event c.note_attach.ensures
 
 pub invariant_of-self : goal.invariant_of-self
-invariant_of-self c = record { sound = attach_sound _ _ _ _ _ _ _ _ (returns-clause-event c) (subst IsSound c.self.view_is c.self.invariant.sound); tied = c.self.invariant.tied }
+invariant_of-self c =
+    record { sound = attach_sound _ _ _ _ _ _ _ _ (returns-clause-event c) (subst IsSound c.self.view_is c.self.invariant.sound); tied = c.self.invariant.tied }

@@ -21,33 +21,41 @@ use Rattle.fm_core.proofs.state.State.base_returned.Goals.{In-Some, After-base_r
 use Rattle.fm_core.proofs.state.State.base_returned.Goals as goal
 
 at : (c : In-Some) → worker_at (the_view c.self.inside).workers c.args.worker ≡ Some (place.Base c.in-Some.operation)
-at c = placed base_of place.Base c.args.worker c.in-Some.operation c.place.result c.base_of.result base_is c.self.view_is c.place.ensures c.base_of.ensures c.in-Some.is
+at c =
+    placed base_of place.Base c.args.worker c.in-Some.operation c.place.result c.base_of.result base_is c.self.view_is c.place.ensures c.base_of.ensures c.in-Some.is
 
 pub unreachable-requires : goal.unreachable-requires
 unreachable-requires c =
-    there_from c.in-Some.operation c.self.inside.flow InBase (in_base _ c.args.worker c.in-Some.operation c.self.invariant.sound (at (goal.at.unreachable-requires c).In-Some))
+    there_from c.in-Some.operation c.self.inside.flow InBase (in_base _ c.args.worker c.in-Some.operation c.self.invariant.sound
+    (at (goal.at.unreachable-requires c).In-Some))
     (sym c.record.ensures ∙ ap option_copied c.in_default-record.is)
 
 pub base_returned-requires : goal.base_returned-requires
 base_returned-requires c =
-    stands_from c.in-Some.operation c.self.inside.flow InBase (in_base _ c.args.worker c.in-Some.operation c.self.invariant.sound (at (goal.at.base_returned-requires c).In-Some))
+    stands_from c.in-Some.operation c.self.inside.flow InBase (in_base _ c.args.worker c.in-Some.operation c.self.invariant.sound
+    (at (goal.at.base_returned-requires c).In-Some))
 
 -- the call and the answer fit, or they are strange
 came : (c : After-base_returned) (answer : Result (Unit {0}) (BaseCall × Answer)) → c.base_returned.result ≡ answer
-    → Comes {T = BaseCall × Answer} c.self.inside.flow c.in-Some.operation (base_fits c.args.call c.args.given) (base_step (the_view c.self.inside) c.args.call c.args.given) (c.args.call, c.args.given) answer
+    → Comes {T = BaseCall × Answer} c.self.inside.flow c.in-Some.operation (base_fits c.args.call c.args.given)
+    (base_step (the_view c.self.inside) c.args.call c.args.given) (c.args.call, c.args.given) answer
     c.base_returned.new.self
 came c answer is =
-    subst (λ a. Comes {T = BaseCall × Answer} c.self.inside.flow c.in-Some.operation (base_fits c.args.call c.args.given) (base_step (the_view c.self.inside) c.args.call c.args.given) (c.args.call, c.args.given) a
+    subst (λ a. Comes {T = BaseCall × Answer} c.self.inside.flow c.in-Some.operation (base_fits c.args.call c.args.given)
+    (base_step (the_view c.self.inside) c.args.call c.args.given) (c.args.call, c.args.given) a
     c.base_returned.new.self) is
-    (comes c.self.inside.flow c.in-Some.operation c.in-Some-record.record.now (base_fits c.args.call c.args.given) (base_step (the_view c.self.inside) c.args.call c.args.given) (c.args.call, c.args.given)
+    (comes c.self.inside.flow c.in-Some.operation c.in-Some-record.record.now (base_fits c.args.call c.args.given)
+    (base_step (the_view c.self.inside) c.args.call c.args.given) (c.args.call, c.args.given)
     c.base_returned.result c.base_returned.new.self (sym c.record.ensures ∙ ap option_copied c.in-Some-record.is) c.base_returned.ensures.reply
-    (subst (λ (n : ℕ). c.base_returned.new.self ≡ changed c.in-Some.operation (base_after c.args.call c.args.given (record { 0 = n })) c.self.inside.flow) c.next_number.ensures.result
+    (subst (λ (n : ℕ). c.base_returned.new.self ≡ changed c.in-Some.operation (base_after c.args.call c.args.given (record { 0 = n })) c.self.inside.flow)
+    c.next_number.ensures.result
     c.base_returned.ensures.after))
 
 pub returns-in-Err-clause-event : goal.returns-in-Err-clause-event
 returns-in-Err-clause-event c =
     let here = goal.at.returns-in-Err-clause-event c in
-    base_strange c.args.worker c.in-Some.operation c.args.call c.args.given c.in-Err.handed_back (base_step (the_view c.self.inside) c.args.call c.args.given) c.base_returned.new.self c.self.view_is
+    base_strange c.args.worker c.in-Some.operation c.args.call c.args.given c.in-Err.handed_back (base_step (the_view c.self.inside) c.args.call c.args.given)
+    c.base_returned.new.self c.self.view_is
     (at here.In-Some) (came here.After-base_returned _ c.in-Err.is)
 
 pub returns-in-Err-clause-back : goal.returns-in-Err-clause-back
@@ -69,14 +77,18 @@ note_answer-requires c =
 pub returns-clause-event : goal.returns-clause-event
 returns-clause-event c =
     let here = goal.at.returns-clause-event c in
-    let tied = base_tied c.self.inside.contexts c.in-Some.operation c.args.call c.args.given _ c.self.inside.flow c.base_returned.new.self c.base_returned.ensures.after c.self.invariant.tied in
-    base_returns c.args.worker c.in-Some.operation c.in-Some-record.record.now c.args.call c.args.given c.base_returned.new.self c.put.new.workers c.note_answer.new.contexts c.note_answer.new.files.table
-    c.target_of-target.result c.self.invariant c.self.view_is (at here.In-Some) (sym c.record.ensures ∙ ap option_copied c.in-Some-record.is) (came here.After-base_returned _ c.in_default-base_returned.is)
+    let tied = base_tied c.self.inside.contexts c.in-Some.operation c.args.call c.args.given _ c.self.inside.flow c.base_returned.new.self
+    c.base_returned.ensures.after c.self.invariant.tied in
+    base_returns c.args.worker c.in-Some.operation c.in-Some-record.record.now c.args.call c.args.given c.base_returned.new.self c.put.new.workers
+    c.note_answer.new.contexts c.note_answer.new.files.table
+    c.target_of-target.result c.self.invariant c.self.view_is (at here.In-Some) (sym c.record.ensures ∙ ap option_copied c.in-Some-record.is)
+    (came here.After-base_returned _ c.in_default-base_returned.is)
     c.put.ensures refl tied c.target_of-target.ensures c.note_answer.ensures.files c.note_answer.ensures.links
 
 pub invariant_of-self-2 : goal.invariant_of-self-2
 invariant_of-self-2 c = record {
   sound = base_sound _ _ _ _ _ _ (returns-clause-event c) (subst IsSound c.self.view_is c.self.invariant.sound);
   tied = sweeping_tied _ c.self.inside.contexts c.note_answer.new.contexts c.base_returned.new.self c.note_answer.ensures.links
-      (base_tied c.self.inside.contexts c.in-Some.operation c.args.call c.args.given _ c.self.inside.flow c.base_returned.new.self c.base_returned.ensures.after c.self.invariant.tied);
+      (base_tied c.self.inside.contexts c.in-Some.operation c.args.call c.args.given _ c.self.inside.flow c.base_returned.new.self c.base_returned.ensures.after
+      c.self.invariant.tied);
 }

@@ -21,17 +21,22 @@ pub returns : goal.returns
 returns c =
     let old = the_view c.self.inside in
     let given : c.in-Ok.paths ≡ paths_of c.args.path = c.in-Ok.ensures.paths in
-    let event = subst (λ (b : ℕ). Took old.flow c.args.volume (Some c.stream_for-stream.result) None b (Some c.args.path) (params.Create c.args.path c.args.mode) c.begin-begun.result c.begin-begun.new.self)
+    let event = subst (λ (b : ℕ). Took old.flow c.args.volume (Some c.stream_for-stream.result) None b (Some c.args.path)
+    (params.Create c.args.path c.args.mode) c.begin-begun.result c.begin-begun.new.self)
     c.births-born.ensures
-    (subst (λ (q : CreatePaths). Took old.flow c.args.volume (Some c.stream_for-stream.result) None c.births-born.result (Some q.operation) (params.Create q.params c.args.mode) c.begin-begun.result c.begin-begun.new.self)
+    (subst (λ (q : CreatePaths). Took old.flow c.args.volume (Some c.stream_for-stream.result) None c.births-born.result (Some q.operation)
+    (params.Create q.params c.args.mode) c.begin-begun.result c.begin-begun.new.self)
     given c.begin-begun.ensures) in
     let stream : c.stream_for-stream.result ≡ stream_for c.args.volume c.args.path old.flow.next old.files = c.stream_for-stream.ensures
-    ∙ ap (λ (q : List ℕ). stream_for c.args.volume q c.next_number-number.result c.prepare.new.self.table) (c.path.ensures ∙ ap (λ (q : CreatePaths). q.stream) given)
+    ∙ ap (λ (q : List ℕ). stream_for c.args.volume q c.next_number-number.result c.prepare.new.self.table)
+    (c.path.ensures ∙ ap (λ (q : CreatePaths). q.stream) given)
     ∙ ap (λ (f : FileTable). stream_for c.args.volume c.args.path c.next_number-number.result f) c.prepare.ensures.table
     ∙ ap (λ (n : ℕ). stream_for c.args.volume c.args.path n old.files) c.next_number-number.ensures.result in
-    let begins = subst (λ (s : StreamId). Took old.flow c.args.volume (Some s) None old.stack.births (Some c.args.path) (params.Create c.args.path c.args.mode) c.begin-begun.result c.begin-begun.new.self) stream event in
+    let begins = subst (λ (s : StreamId). Took old.flow c.args.volume (Some s) None old.stack.births (Some c.args.path) (params.Create c.args.path c.args.mode)
+    c.begin-begun.result c.begin-begun.new.self) stream event in
     let files = c.note_create.ensures
-    ∙ ap (λ (q : CreatePaths). cond c.is_ok.result (created c.args.volume q.stream c.next_number-number.result c.prepare.new.self.table) c.prepare.new.self.table) given
+    ∙ ap (λ (q : CreatePaths). cond c.is_ok.result (created c.args.volume q.stream c.next_number-number.result c.prepare.new.self.table)
+    c.prepare.new.self.table) given
     ∙ ap (λ b. cond b (created c.args.volume c.args.path c.next_number-number.result c.prepare.new.self.table) c.prepare.new.self.table) c.is_ok.ensures.value
     ∙ ap (λ (f : FileTable). cond (is_ok c.begin-begun.result) (created c.args.volume c.args.path c.next_number-number.result f) f) c.prepare.ensures.table
     ∙ ap (λ (n : ℕ). cond (is_ok c.begin-begun.result) (created c.args.volume c.args.path n old.files) old.files) c.next_number-number.ensures.result in
@@ -40,14 +45,17 @@ returns c =
 pub invariant_of-self-2 : goal.invariant_of-self-2
 invariant_of-self-2 c = record {
   sound = begin_sound _ _ _ _ (returns c) (subst IsSound c.self.view_is c.self.invariant.sound);
-  tied = begin_tied c.self.inside.contexts c.args.volume (Some c.stream_for-stream.result) None (Some c.in-Ok.paths.operation) (params.Create c.in-Ok.paths.params c.args.mode) c.begin-begun.result c.self.inside.flow c.begin-begun.new.self c.births-born.result c.begin-begun.ensures
+  tied = begin_tied c.self.inside.contexts c.args.volume (Some c.stream_for-stream.result) None (Some c.in-Ok.paths.operation)
+      (params.Create c.in-Ok.paths.params c.args.mode) c.begin-begun.result c.self.inside.flow c.begin-begun.new.self c.births-born.result c.begin-begun.ensures
       c.self.invariant.tied;
 }
 
 pub returns-in_default : goal.returns-in_default
 returns-in_default c =
     let old = the_view c.self.inside in
-    subst (λ (w : World). Begins w (begin.Create c.args.volume c.args.path c.args.mode) (Err NoMemory) (record old { files = c.prepare.new.self.table })) c.self.view_is
-    (subst (λ (f : FileTable). Begins old (begin.Create c.args.volume c.args.path c.args.mode) (Err NoMemory) (record old { files = f })) (sym c.prepare.ensures.table)
+    subst (λ (w : World). Begins w (begin.Create c.args.volume c.args.path c.args.mode) (Err NoMemory) (record old { files = c.prepare.new.self.table }))
+    c.self.view_is
+    (subst (λ (f : FileTable). Begins old (begin.Create c.args.volume c.args.path c.args.mode) (Err NoMemory) (record old { files = f }))
+    (sym c.prepare.ensures.table)
     (begin_wants old (begin.Create c.args.volume c.args.path c.args.mode)
     (subst (λ (w : World). first_of (volume_refusals w c.args.volume (is_full w.flow || has_no_handle_left w)) ≡ None) (sym c.self.view_is) c.requires)))

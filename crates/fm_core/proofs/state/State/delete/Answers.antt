@@ -9,17 +9,21 @@ use Rattle.fm_core.specs.contracts.state.State.{the_view}
 use Rattle.fm_core.proofs.state.State.delete.Goals as goal
 
 pub returns-in-Err-clause-event : goal.returns-in-Err-clause-event
-returns-in-Err-clause-event c = delete_refused c.args.self.now c.args.worker c.args.kind c.args.wants_old c.in-Some.caller c.in-Err.status (sym c.caller.ensures.callback ∙ c.in-Some.is) c.in-Err.ensures
+returns-in-Err-clause-event c =
+    delete_refused c.args.self.now c.args.worker c.args.kind c.args.wants_old c.in-Some.caller c.in-Err.status (sym c.caller.ensures.callback ∙ c.in-Some.is)
+    c.in-Err.ensures
 
 pub returns-clause-event : goal.returns-clause-event
 returns-clause-event c =
-    deleted (the_view c.self.inside) c.args.worker c.args.kind c.args.wants_old c.in-Some.caller c.in-Ok.found c.delete.result c.self.inside.contexts c.delete.new.self c.self.view_is (sym c.caller.ensures.callback ∙ c.in-Some.is) c.in-Ok.ensures
+    deleted (the_view c.self.inside) c.args.worker c.args.kind c.args.wants_old c.in-Some.caller c.in-Ok.found c.delete.result c.self.inside.contexts
+    c.delete.new.self c.self.view_is (sym c.caller.ensures.callback ∙ c.in-Some.is) c.in-Ok.ensures
     c.self.invariant.tied c.delete.ensures
 
 pub invariant_of-self : goal.invariant_of-self
 invariant_of-self c = record {
   sound = delete_sound _ _ _ _ _ _ (returns-clause-event c) (subst IsSound c.self.view_is c.self.invariant.sound);
-  tied = delete_tied c.self.inside.contexts c.delete.new.self c.self.inside.flow c.args.worker c.args.wants_old (holder c.self.inside.contexts.table.slots c.in-Ok.found.0 c.in-Ok.found.1) c.delete.result c.delete.ensures c.self.invariant.tied;
+  tied = delete_tied c.self.inside.contexts c.delete.new.self c.self.inside.flow c.args.worker c.args.wants_old
+      (holder c.self.inside.contexts.table.slots c.in-Ok.found.0 c.in-Ok.found.1) c.delete.result c.delete.ensures c.self.invariant.tied;
 }
 
 pub returns-clause-hand : goal.returns-clause-hand

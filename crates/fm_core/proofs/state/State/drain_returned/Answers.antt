@@ -14,20 +14,27 @@ use Rattle.fm_core.proofs.state.State.drain_returned.Goals as goal
 pub drain_returned-requires : goal.drain_returned-requires
 drain_returned-requires c =
     stands_from c.args.operation c.self.inside.flow (InDrain c.args.instance)
-    (in_drain _ c.args.worker c.args.operation c.args.instance c.self.invariant.sound (located drain_of (λ p. place.Drain p.0 p.1) c.args.worker (c.args.operation, c.args.instance) drain_is c.self.view_is c.requires))
+    (in_drain _ c.args.worker c.args.operation c.args.instance c.self.invariant.sound (located drain_of (λ p. place.Drain p.0 p.1) c.args.worker
+    (c.args.operation, c.args.instance) drain_is c.self.view_is c.requires))
 
 pub end_callback-requires-clause-within : goal.end_callback-requires-clause-within
-end_callback-requires-clause-within c = within_at c.args.worker _ c.self.invariant (located drain_of (λ p. place.Drain p.0 p.1) c.args.worker (c.args.operation, c.args.instance) drain_is c.self.view_is c.requires)
+end_callback-requires-clause-within c =
+    within_at c.args.worker _ c.self.invariant (located drain_of (λ p. place.Drain p.0 p.1) c.args.worker (c.args.operation, c.args.instance) drain_is
+    c.self.view_is c.requires)
 
 pub returns : goal.returns
 returns c =
-    drain_returns c.args.worker c.args.operation c.args.instance c.args._verdict c.drain_returned.new.self c.put.new.workers c.end_callback.new.contexts c.self.invariant c.self.view_is
-    (located drain_of (λ p. place.Drain p.0 p.1) c.args.worker (c.args.operation, c.args.instance) drain_is c.self.view_is c.requires) c.drain_returned.ensures c.put.ensures refl c.end_callback.ensures
+    drain_returns c.args.worker c.args.operation c.args.instance c.args._verdict c.drain_returned.new.self c.put.new.workers c.end_callback.new.contexts
+    c.self.invariant c.self.view_is
+    (located drain_of (λ p. place.Drain p.0 p.1) c.args.worker (c.args.operation, c.args.instance) drain_is c.self.view_is c.requires) c.drain_returned.ensures
+    c.put.ensures refl c.end_callback.ensures
 
 pub invariant_of-self : goal.invariant_of-self
 invariant_of-self c = record {
   sound = post_sound _ _ _ _ _ _ (returns c) (subst IsSound c.self.view_is c.self.invariant.sound);
   tied = subst (IsTied c.end_callback.new.contexts) (sym c.drain_returned.ensures)
-      (tied_ends c.self.inside.contexts c.end_callback.new.contexts c.args.worker.0 (changed c.args.operation (drain_returned_of c.args.instance) c.self.inside.flow) c.end_callback.ensures
-      (drain_tied c.args.worker c.args.operation c.args.instance c.self.invariant (located drain_of (λ p. place.Drain p.0 p.1) c.args.worker (c.args.operation, c.args.instance) drain_is c.self.view_is c.requires)));
+      (tied_ends c.self.inside.contexts c.end_callback.new.contexts c.args.worker.0 (changed c.args.operation (drain_returned_of c.args.instance)
+      c.self.inside.flow) c.end_callback.ensures
+      (drain_tied c.args.worker c.args.operation c.args.instance c.self.invariant (located drain_of (λ p. place.Drain p.0 p.1) c.args.worker
+      (c.args.operation, c.args.instance) drain_is c.self.view_is c.requires)));
 }

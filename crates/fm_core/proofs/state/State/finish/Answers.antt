@@ -7,8 +7,10 @@ use Rattle.fm_core.proofs.state.State.finish.Goals as goal
 
 pub returns-clause-event : goal.returns-clause-event
 returns-clause-event c =
-    finishes c.args.instance c.open_of-open.result c.finish.new.self c.self.view_is (ap refused_in (sym c.phase.ensures) ∙ sym c.refused_in.ensures ∙ c.in_default.is) c.open_of-open.ensures c.if-open-gt0.false
+    finishes c.args.instance c.open_of-open.result c.finish.new.self c.self.view_is (ap refused_in (sym c.phase.ensures) ∙ sym c.refused_in.ensures ∙
+    c.in_default.is) c.open_of-open.ensures c.if-open-gt0.false
     c.finish.ensures.event
 
 pub invariant_of-self : goal.invariant_of-self
-invariant_of-self c = record { sound = finish_sound _ _ _ _ (returns-clause-event c) (subst IsSound c.self.view_is c.self.invariant.sound); tied = c.self.invariant.tied }
+invariant_of-self c =
+    record { sound = finish_sound _ _ _ _ (returns-clause-event c) (subst IsSound c.self.view_is c.self.invariant.sound); tied = c.self.invariant.tied }

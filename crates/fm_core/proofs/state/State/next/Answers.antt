@@ -40,7 +40,8 @@ idle c = subst (λ (w : World). is_idle (worker_at w.workers c.args.worker) ≡ 
 pub returns-in-Err-clause-event : goal.returns-in-Err-clause-event
 returns-in-Err-clause-event c =
     let at = (goal.at.returns-in-Err-clause-event c).After-next in
-    next_errs c.args.worker c.args.operation c.in-Some.record.now c.lies_below-below.result c.in-Err.status c.next.new.self c.self.view_is (idle at) (went at _ c.in-Err.is)
+    next_errs c.args.worker c.args.operation c.in-Some.record.now c.lies_below-below.result c.in-Err.status c.next.new.self c.self.view_is (idle at)
+    (went at _ c.in-Err.is)
 
 pub invariant_of-self : goal.invariant_of-self
 invariant_of-self c = record {
@@ -55,18 +56,21 @@ returns-in-Err-clause-nothing c = next_changes_nothing _ _ _ _ _ (returns-in-Err
 pub bring_back-requires : goal.bring_back-requires
 bring_back-requires c =
     let at = (goal.at.bring_back-requires c).After-next in
-    next_brings c.args.worker c.args.operation c.in-Some.record.now c.lies_below-below.result c.in-Ok.action c.next.new.self c.self.invariant (idle at) (went at _ c.in-Ok.is) refl
+    next_brings c.args.worker c.args.operation c.in-Some.record.now c.lies_below-below.result c.in-Ok.action c.next.new.self c.self.invariant (idle at)
+    (went at _ c.in-Ok.is) refl
 
 pub returns-in_default-known_in-clause-event : goal.returns-in_default-known_in-clause-event
 returns-in_default-known_in-clause-event c =
     let at = (goal.at.returns-in_default-known_in-clause-event c).After-next in
-    next_leads c.args.worker c.args.operation c.in-Some.record.now c.lies_below-below.result c.in-Ok.action c.next.new.self c.note_next.new.workers c.bring_back.new.contexts c.self.invariant
+    next_leads c.args.worker c.args.operation c.in-Some.record.now c.lies_below-below.result c.in-Ok.action c.next.new.self c.note_next.new.workers
+    c.bring_back.new.contexts c.self.invariant
     c.self.view_is (idle at) (went at _ c.in-Ok.is) c.note_next.ensures refl c.bring_back.ensures (sym c.known_in.ensures ∙ c.in_default-known_in.is)
 
 pub invariant_of-self-in_default-known_in : goal.invariant_of-self-in_default-known_in
 invariant_of-self-in_default-known_in c = record {
   sound = next_sound _ _ _ _ _ (returns-in_default-known_in-clause-event c) (subst IsSound c.self.view_is c.self.invariant.sound);
-  tied = next_tied c.args.worker c.args.operation c.in-Some.record.now c.lies_below-below.result c.in-Ok.action c.next.new.self c.bring_back.new.contexts c.self.invariant
+  tied = next_tied c.args.worker c.args.operation c.in-Some.record.now c.lies_below-below.result c.in-Ok.action c.next.new.self c.bring_back.new.contexts
+      c.self.invariant
       (went (goal.at.invariant_of-self-in_default-known_in c).After-next _ c.in-Ok.is) c.laws.ensures.matched c.bring_back.ensures;
 }
 
@@ -81,23 +85,29 @@ returns-in_default-known_in-clause-held c = next_more _ _ _ _ _ (subst IsSound c
 
 pub note_answer-requires : goal.note_answer-requires
 note_answer-requires c =
-    next_room c.args.worker c.args.operation c.in-Some.record.now c.lies_below-below.result c.in-Ok.action c.next.new.self c.target_of-target.result c.in-Some-known_in.status c.self.invariant
-    c.next_number-next.ensures.number (went (goal.at.note_answer-requires c).After-next _ c.in-Ok.is) (sym c.known_in.ensures ∙ c.in-Some-known_in.is) c.target_of-target.ensures
+    next_room c.args.worker c.args.operation c.in-Some.record.now c.lies_below-below.result c.in-Ok.action c.next.new.self c.target_of-target.result
+    c.in-Some-known_in.status c.self.invariant
+    c.next_number-next.ensures.number (went (goal.at.note_answer-requires c).After-next _ c.in-Ok.is) (sym c.known_in.ensures ∙ c.in-Some-known_in.is)
+    c.target_of-target.ensures
 
 pub returns-clause-event : goal.returns-clause-event
 returns-clause-event c =
     let at = (goal.at.returns-clause-event c).After-next in
     let went' = went at _ c.in-Ok.is in
-    let tied = next_tied c.args.worker c.args.operation c.in-Some.record.now c.lies_below-below.result c.in-Ok.action c.next.new.self c.bring_back.new.contexts c.self.invariant
+    let tied = next_tied c.args.worker c.args.operation c.in-Some.record.now c.lies_below-below.result c.in-Ok.action c.next.new.self c.bring_back.new.contexts
+    c.self.invariant
     went' c.laws.ensures.matched c.bring_back.ensures in
-    next_answers c.args.worker c.args.operation c.in-Some.record.now c.lies_below-below.result c.in-Ok.action c.next.new.self c.note_next.new.workers c.bring_back.new.contexts
-    c.note_answer.new.contexts c.note_answer.new.files.table c.target_of-target.result c.in-Some-known_in.status c.self.invariant c.self.view_is (idle at) went' c.note_next.ensures refl c.bring_back.ensures
+    next_answers c.args.worker c.args.operation c.in-Some.record.now c.lies_below-below.result c.in-Ok.action c.next.new.self c.note_next.new.workers
+    c.bring_back.new.contexts
+    c.note_answer.new.contexts c.note_answer.new.files.table c.target_of-target.result c.in-Some-known_in.status c.self.invariant c.self.view_is (idle at) went'
+    c.note_next.ensures refl c.bring_back.ensures
     tied (sym c.known_in.ensures ∙ c.in-Some-known_in.is) c.target_of-target.ensures c.note_answer.ensures.files c.note_answer.ensures.links
 
 pub invariant_of-self-2 : goal.invariant_of-self-2
 invariant_of-self-2 c = record {
   sound = next_sound _ _ _ _ _ (returns-clause-event c) (subst IsSound c.self.view_is c.self.invariant.sound);
   tied = sweeping_tied _ c.bring_back.new.contexts c.note_answer.new.contexts c.next.new.self c.note_answer.ensures.links
-      (next_tied c.args.worker c.args.operation c.in-Some.record.now c.lies_below-below.result c.in-Ok.action c.next.new.self c.bring_back.new.contexts c.self.invariant
+      (next_tied c.args.worker c.args.operation c.in-Some.record.now c.lies_below-below.result c.in-Ok.action c.next.new.self c.bring_back.new.contexts
+      c.self.invariant
       (went (goal.at.invariant_of-self-2 c).After-next _ c.in-Ok.is) c.laws.ensures.matched c.bring_back.ensures);
 }

@@ -26,16 +26,20 @@ at c = located post_of (λ p. place.Post p.0 p.1) c.args.worker (c.args.operatio
 
 -- the data fits, or it is strange
 came : (c : After-post_returned) (answer : Result (Unit {0}) Data) → c.post_returned.result ≡ answer
-    → Comes c.self.inside.flow c.args.operation (λ (r : FlowRecord). data_fits r.operation r.path c.args.lent) (post_returned_of c.args.verdict c.args.lent) c.args.lent answer c.post_returned.new.self
+    → Comes c.self.inside.flow c.args.operation (λ (r : FlowRecord). data_fits r.operation r.path c.args.lent)
+    (post_returned_of c.args.verdict c.args.lent) c.args.lent answer c.post_returned.new.self
 came c answer is =
     let there = in_post (the_view c.self.inside) c.args.worker c.args.operation c.args.instance c.self.invariant.sound (at c) in
-    subst (λ a. Comes c.self.inside.flow c.args.operation (λ (r : FlowRecord). data_fits r.operation r.path c.args.lent) (post_returned_of c.args.verdict c.args.lent) c.args.lent a c.post_returned.new.self) is
-    (comes c.self.inside.flow c.args.operation there.0 _ _ c.args.lent c.post_returned.result c.post_returned.new.self there.1 c.post_returned.ensures.reply c.post_returned.ensures.after)
+    subst (λ a. Comes c.self.inside.flow c.args.operation (λ (r : FlowRecord). data_fits r.operation r.path c.args.lent)
+    (post_returned_of c.args.verdict c.args.lent) c.args.lent a c.post_returned.new.self) is
+    (comes c.self.inside.flow c.args.operation there.0 _ _ c.args.lent c.post_returned.result c.post_returned.new.self there.1 c.post_returned.ensures.reply
+    c.post_returned.ensures.after)
 
 pub returns-in-Err-clause-event : goal.returns-in-Err-clause-event
 returns-in-Err-clause-event c =
     let here = (goal.at.returns-in-Err-clause-event c).After-post_returned in
-    post_strange c.args.worker c.args.operation c.args.instance c.args.verdict c.args.lent c.in-Err.lent (post_returned_of c.args.verdict c.args.lent) c.post_returned.new.self c.self.view_is (at here)
+    post_strange c.args.worker c.args.operation c.args.instance c.args.verdict c.args.lent c.in-Err.lent (post_returned_of c.args.verdict c.args.lent)
+    c.post_returned.new.self c.self.view_is (at here)
     (came here _ c.in-Err.is)
 
 pub returns-in-Err-clause-back : goal.returns-in-Err-clause-back
@@ -53,7 +57,8 @@ end_callback-requires-clause-within c = within_at c.args.worker _ c.self.invaria
 pub returns-clause-event : goal.returns-clause-event
 returns-clause-event c =
     let here = (goal.at.returns-clause-event c).After-post_returned in
-    post_returns c.args.worker c.args.operation c.args.instance c.args.verdict c.args.lent c.post_returned.new.self c.put.new.workers c.end_callback.new.contexts c.self.invariant c.self.view_is (at here)
+    post_returns c.args.worker c.args.operation c.args.instance c.args.verdict c.args.lent c.post_returned.new.self c.put.new.workers
+    c.end_callback.new.contexts c.self.invariant c.self.view_is (at here)
     (came here _ c.in_default.is) c.put.ensures refl c.end_callback.ensures
 
 pub invariant_of-self-2 : goal.invariant_of-self-2
@@ -62,6 +67,7 @@ invariant_of-self-2 c =
     record {
       sound = post_sound _ _ _ _ _ _ (returns-clause-event c) (subst IsSound c.self.view_is c.self.invariant.sound);
       tied = subst (IsTied c.end_callback.new.contexts) (sym (came here _ c.in_default.is).1)
-          (tied_ends c.self.inside.contexts c.end_callback.new.contexts c.args.worker.0 (changed c.args.operation (post_returned_of c.args.verdict c.args.lent) c.self.inside.flow) c.end_callback.ensures
+          (tied_ends c.self.inside.contexts c.end_callback.new.contexts c.args.worker.0 (changed c.args.operation (post_returned_of c.args.verdict c.args.lent)
+          c.self.inside.flow) c.end_callback.ensures
           (post_tied c.args.worker c.args.operation c.args.instance c.args.verdict c.args.lent c.self.invariant (at here)));
     }

@@ -22,11 +22,14 @@ use Rattle.fm_core.proofs.state.State.pre_returned.Goals.{In-Some, After-pre_ret
 use Rattle.fm_core.proofs.state.State.pre_returned.Goals as goal
 
 at : (c : In-Some) → worker_at (the_view c.self.inside).workers c.args.worker ≡ Some (place.Pre c.in-Some.operation c.in-Some.instance)
-at c = placed pre_of (λ p. place.Pre p.0 p.1) c.args.worker (c.in-Some.operation, c.in-Some.instance) c.place.result c.pre_of.result pre_is c.self.view_is c.place.ensures c.pre_of.ensures c.in-Some.is
+at c =
+    placed pre_of (λ p. place.Pre p.0 p.1) c.args.worker (c.in-Some.operation, c.in-Some.instance) c.place.result c.pre_of.result pre_is c.self.view_is
+    c.place.ensures c.pre_of.ensures c.in-Some.is
 
 pub unreachable-requires : goal.unreachable-requires
 unreachable-requires c =
-    there_from c.in-Some.operation c.self.inside.flow PreRunning (in_pre _ c.args.worker c.in-Some.operation c.in-Some.instance c.self.invariant.sound (at (goal.at.unreachable-requires c).In-Some))
+    there_from c.in-Some.operation c.self.inside.flow PreRunning (in_pre _ c.args.worker c.in-Some.operation c.in-Some.instance c.self.invariant.sound
+    (at (goal.at.unreachable-requires c).In-Some))
     (sym c.record.ensures ∙ ap option_copied c.in_default-record.is)
 
 pub of_hand-verdict-requires : goal.of_hand-verdict-requires
@@ -39,15 +42,19 @@ pre_returned-requires-clause-stage c =
 
 -- the data fits, or it is strange
 came : (c : After-pre_returned) (answer : Result (Unit {0}) Data) → c.pre_returned.result ≡ answer
-    → Comes c.self.inside.flow c.in-Some.operation (λ (r : FlowRecord). data_fits r.operation r.path c.args.lent) (pre_returned_of c.counted-state.result c.args.lent) c.args.lent answer c.pre_returned.new.self
+    → Comes c.self.inside.flow c.in-Some.operation (λ (r : FlowRecord). data_fits r.operation r.path c.args.lent)
+    (pre_returned_of c.counted-state.result c.args.lent) c.args.lent answer c.pre_returned.new.self
 came c answer is =
-    subst (λ a. Comes c.self.inside.flow c.in-Some.operation (λ (r : FlowRecord). data_fits r.operation r.path c.args.lent) (pre_returned_of c.counted-state.result c.args.lent) c.args.lent a c.pre_returned.new.self) is
-    (comes c.self.inside.flow c.in-Some.operation c.in-Some-record.record.now _ _ c.args.lent c.pre_returned.result c.pre_returned.new.self (sym c.record.ensures ∙ ap option_copied c.in-Some-record.is)
+    subst (λ a. Comes c.self.inside.flow c.in-Some.operation (λ (r : FlowRecord). data_fits r.operation r.path c.args.lent)
+    (pre_returned_of c.counted-state.result c.args.lent) c.args.lent a c.pre_returned.new.self) is
+    (comes c.self.inside.flow c.in-Some.operation c.in-Some-record.record.now _ _ c.args.lent c.pre_returned.result c.pre_returned.new.self
+    (sym c.record.ensures ∙ ap option_copied c.in-Some-record.is)
     c.pre_returned.ensures.reply c.pre_returned.ensures.after)
 
 pub returns-in-Err-clause-event : goal.returns-in-Err-clause-event
 returns-in-Err-clause-event c =
-    pre_strange c.args.worker c.in-Some.operation c.in-Some.instance c.args.verdict c.args.lent c.in-Err.handed_back (pre_returned_of c.counted-state.result c.args.lent) c.pre_returned.new.self c.self.view_is
+    pre_strange c.args.worker c.in-Some.operation c.in-Some.instance c.args.verdict c.args.lent c.in-Err.handed_back
+    (pre_returned_of c.counted-state.result c.args.lent) c.pre_returned.new.self c.self.view_is
     (at (goal.at.returns-in-Err-clause-event c).In-Some) (came (goal.at.returns-in-Err-clause-event c).After-pre_returned _ c.in-Err.is)
 
 pub returns-in-Err-clause-back : goal.returns-in-Err-clause-back
@@ -62,8 +69,10 @@ invariant_of-self c = record {
 -- the verdict that counts
 state : (c : After-pre_returned) → c.counted-state.result ≡ state_at (the_view c.self.inside) c.args.worker c.in-Some.operation c.in-Some.instance c.args.verdict
 state c =
-    pre_state (the_view c.self.inside) c.args.worker c.in-Some.operation c.in-Some.instance c.in-Some-record.record.now c.args.verdict c.of_hand-verdict.result c.has_post-has_post.result c.counted-state.result
-    c.target_of-target.result.operation (sym c.record.ensures ∙ ap option_copied c.in-Some-record.is) (ap (λ x. x.operation) c.target_of-target.ensures) c.has_post-has_post.ensures c.of_hand-verdict.ensures
+    pre_state (the_view c.self.inside) c.args.worker c.in-Some.operation c.in-Some.instance c.in-Some-record.record.now c.args.verdict c.of_hand-verdict.result
+    c.has_post-has_post.result c.counted-state.result
+    c.target_of-target.result.operation (sym c.record.ensures ∙ ap option_copied c.in-Some-record.is) (ap (λ x. x.operation) c.target_of-target.ensures)
+    c.has_post-has_post.ensures c.of_hand-verdict.ensures
     c.counted-state.ensures.value
 
 pub end_callback-requires-clause-within : goal.end_callback-requires-clause-within
@@ -72,28 +81,35 @@ end_callback-requires-clause-within c = within_at c.args.worker _ c.self.invaria
 pub end_callback-requires-clause-sends : goal.end_callback-requires-clause-sends
 end_callback-requires-clause-sends c =
     let here = goal.at.end_callback-requires-clause-sends c in
-    pre_sends c.args.worker c.in-Some.operation c.in-Some.instance c.args.verdict c.counted-state.result c.sent_in.result c.self.invariant (at here.In-Some) (state here.After-pre_returned) c.sent_in.ensures refl
+    pre_sends c.args.worker c.in-Some.operation c.in-Some.instance c.args.verdict c.counted-state.result c.sent_in.result c.self.invariant (at here.In-Some)
+    (state here.After-pre_returned) c.sent_in.ensures refl
 
 pub returns-clause-event : goal.returns-clause-event
 returns-clause-event c =
     let here = goal.at.returns-clause-event c in
-    let tied = pre_tied c.args.worker c.in-Some.operation c.in-Some.instance c.args.verdict c.args.lent c.counted-state.result c.sent_in.result c.self.invariant (at here.In-Some) (state here.After-pre_returned)
+    let tied = pre_tied c.args.worker c.in-Some.operation c.in-Some.instance c.args.verdict c.args.lent c.counted-state.result c.sent_in.result c.self.invariant
+    (at here.In-Some) (state here.After-pre_returned)
     c.sent_in.ensures refl c.laws.ensures.matched in
-    pre_returns c.args.worker c.in-Some.operation c.in-Some.instance c.in-Some-record.record.now c.args.verdict c.args.lent c.counted-state.result c.sent_in.result c.pre_returned.new.self c.put.new.workers
-    c.end_callback.new.contexts c.note_verdict.new.contexts c.note_verdict.new.files.table c.target_of-target.result c.self.invariant c.self.view_is (at here.In-Some)
-    (sym c.record.ensures ∙ ap option_copied c.in-Some-record.is) (state here.After-pre_returned) c.sent_in.ensures (came here.After-pre_returned _ c.in_default-pre_returned.is) c.put.ensures refl
+    pre_returns c.args.worker c.in-Some.operation c.in-Some.instance c.in-Some-record.record.now c.args.verdict c.args.lent c.counted-state.result
+    c.sent_in.result c.pre_returned.new.self c.put.new.workers
+    c.end_callback.new.contexts c.note_verdict.new.contexts c.note_verdict.new.files.table c.target_of-target.result c.self.invariant c.self.view_is
+    (at here.In-Some)
+    (sym c.record.ensures ∙ ap option_copied c.in-Some-record.is) (state here.After-pre_returned) c.sent_in.ensures
+    (came here.After-pre_returned _ c.in_default-pre_returned.is) c.put.ensures refl
     c.end_callback.ensures tied c.target_of-target.ensures c.note_verdict.ensures.files c.note_verdict.ensures.links
 
 pub invariant_of-self-2 : goal.invariant_of-self-2
 invariant_of-self-2 c =
     let here = goal.at.invariant_of-self-2 c in
-    let tied = pre_tied c.args.worker c.in-Some.operation c.in-Some.instance c.args.verdict c.args.lent c.counted-state.result c.sent_in.result c.self.invariant (at here.In-Some) (state here.After-pre_returned)
+    let tied = pre_tied c.args.worker c.in-Some.operation c.in-Some.instance c.args.verdict c.args.lent c.counted-state.result c.sent_in.result c.self.invariant
+    (at here.In-Some) (state here.After-pre_returned)
     c.sent_in.ensures refl c.laws.ensures.matched in
     record {
       sound = pre_sound _ _ _ _ _ _ (returns-clause-event c) (subst IsSound c.self.view_is c.self.invariant.sound);
       tied = sweeping_tied _ c.end_callback.new.contexts c.note_verdict.new.contexts c.pre_returned.new.self c.note_verdict.ensures.links
           (subst (IsTied c.end_callback.new.contexts) (sym (came here.After-pre_returned _ c.in_default-pre_returned.is).1)
-          (tied_ends _ c.end_callback.new.contexts c.args.worker.0 (changed c.in-Some.operation (pre_returned_of c.counted-state.result c.args.lent) c.self.inside.flow) c.end_callback.ensures tied));
+          (tied_ends _ c.end_callback.new.contexts c.args.worker.0 (changed c.in-Some.operation (pre_returned_of c.counted-state.result c.args.lent)
+          c.self.inside.flow) c.end_callback.ensures tied));
     }
 
 pub returns-clause-hand : goal.returns-clause-hand

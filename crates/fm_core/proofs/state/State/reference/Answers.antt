@@ -8,12 +8,14 @@ use Rattle.fm_core.proofs.state.State.reference.Goals as goal
 
 pub returns-clause-event : goal.returns-clause-event
 returns-clause-event c =
-    referenced (the_view c.self.inside) c.args.worker c.args.context c.reference.result c.self.inside.contexts c.reference.new.self c.in-Some._caller c.self.view_is (sym c.caller.ensures.callback ∙ c.in-Some.is) c.reference.ensures
+    referenced (the_view c.self.inside) c.args.worker c.args.context c.reference.result c.self.inside.contexts c.reference.new.self c.in-Some._caller
+    c.self.view_is (sym c.caller.ensures.callback ∙ c.in-Some.is) c.reference.ensures
 
 pub invariant_of-self : goal.invariant_of-self
 invariant_of-self c = record {
   sound = reference_sound _ _ _ _ _ (returns-clause-event c) (subst IsSound c.self.view_is c.self.invariant.sound);
-  tied = reference_tied c.self.inside.contexts c.reference.new.self c.self.inside.flow c.args.worker c.args.context c.reference.result c.reference.ensures c.self.invariant.tied;
+  tied = reference_tied c.self.inside.contexts c.reference.new.self c.self.inside.flow c.args.worker c.args.context c.reference.result c.reference.ensures
+      c.self.invariant.tied;
 }
 
 pub returns-clause-held : goal.returns-clause-held

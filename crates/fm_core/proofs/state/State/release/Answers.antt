@@ -8,12 +8,14 @@ use Rattle.fm_core.proofs.state.State.release.Goals as goal
 
 pub returns-clause-event : goal.returns-clause-event
 returns-clause-event c =
-    released_up (the_view c.self.inside) c.args.worker c.args.context c.release.result c.self.inside.contexts c.release.new.self c.in-Some._caller c.self.view_is (sym c.caller.ensures.callback ∙ c.in-Some.is) c.self.invariant.tied c.release.ensures
+    released_up (the_view c.self.inside) c.args.worker c.args.context c.release.result c.self.inside.contexts c.release.new.self c.in-Some._caller
+    c.self.view_is (sym c.caller.ensures.callback ∙ c.in-Some.is) c.self.invariant.tied c.release.ensures
 
 pub invariant_of-self : goal.invariant_of-self
 invariant_of-self c = record {
   sound = release_sound _ _ _ _ _ (returns-clause-event c) (subst IsSound c.self.view_is c.self.invariant.sound);
-  tied = release_tied c.self.inside.contexts c.release.new.self c.self.inside.flow c.args.worker c.args.context c.release.result c.release.ensures c.self.invariant.tied;
+  tied = release_tied c.self.inside.contexts c.release.new.self c.self.inside.flow c.args.worker c.args.context c.release.result c.release.ensures
+      c.self.invariant.tied;
 }
 
 pub returns-clause-held : goal.returns-clause-held

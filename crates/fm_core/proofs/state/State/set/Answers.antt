@@ -10,7 +10,8 @@ use Rattle.fm_core.proofs.state.State.set.Goals as goal
 
 pub returns-clause-event : goal.returns-clause-event
 returns-clause-event c =
-    set_up (the_view c.self.inside) c.args.worker c.args.context c.args.mode c.args.wants_old c.in-Some.caller c.in-Ok.found c.set-reply.result c.set_answer.result c.self.inside.contexts c.set-reply.new.self c.self.view_is (sym c.caller.ensures.callback ∙ c.in-Some.is)
+    set_up (the_view c.self.inside) c.args.worker c.args.context c.args.mode c.args.wants_old c.in-Some.caller c.in-Ok.found c.set-reply.result
+    c.set_answer.result c.self.inside.contexts c.set-reply.new.self c.self.view_is (sym c.caller.ensures.callback ∙ c.in-Some.is)
     c.in-Ok.ensures c.self.invariant.tied c.set_answer.ensures c.set-reply.ensures.reply c.set-reply.ensures.after
 
 pub invariant_of-self : goal.invariant_of-self

@@ -14,7 +14,9 @@ use Rattle.fm_core.proofs.state.State.setup_done.Goals.{In-Some}
 use Rattle.fm_core.proofs.state.State.setup_done.Goals as goal
 
 at : (c : In-Some) → worker_at (the_view c.self.inside).workers c.args.worker ≡ Some (place.Setup c.in-Some.instance)
-at c = placed setup_of place.Setup c.args.worker c.in-Some.instance c.place.result c.setup_of.result setup_is c.self.view_is c.place.ensures c.setup_of.ensures c.in-Some.is
+at c =
+    placed setup_of place.Setup c.args.worker c.in-Some.instance c.place.result c.setup_of.result setup_is c.self.view_is c.place.ensures c.setup_of.ensures
+    c.in-Some.is
 
 pub leave-requires : goal.leave-requires
 leave-requires c = within_at c.args.worker _ c.self.invariant (at (goal.at.leave-requires c).In-Some)
@@ -26,13 +28,16 @@ setup_done-result-requires c =
 
 pub returns-clause-event : goal.returns-clause-event
 returns-clause-event c =
-    sets_up c.args.worker c.in-Some.instance c.args.accept c.setup_done-result.result c.setup_done-result.new.self c.put.new.workers c.self.inside.contexts c.leave.new.self c.unlink_unless.new.contexts
-    c.self.view_is (at (goal.at.returns-clause-event c).In-Some) c.setup_done-result.ensures.event c.put.ensures refl c.leave.ensures.table c.leave.ensures.carried c.unlink_unless.ensures c.self.invariant.tied
+    sets_up c.args.worker c.in-Some.instance c.args.accept c.setup_done-result.result c.setup_done-result.new.self c.put.new.workers c.self.inside.contexts
+    c.leave.new.self c.unlink_unless.new.contexts
+    c.self.view_is (at (goal.at.returns-clause-event c).In-Some) c.setup_done-result.ensures.event c.put.ensures refl c.leave.ensures.table
+    c.leave.ensures.carried c.unlink_unless.ensures c.self.invariant.tied
 
 pub invariant_of-self : goal.invariant_of-self
 invariant_of-self c = record {
   sound = setup_sound _ _ _ _ _ (returns-clause-event c) (subst IsSound c.self.view_is c.self.invariant.sound);
-  tied = setup_tied c.self.inside.contexts c.leave.new.self c.unlink_unless.new.contexts c.in-Some.instance c.args.worker.0 c.setup_done-result.result c.self.inside.flow
+  tied = setup_tied c.self.inside.contexts c.leave.new.self c.unlink_unless.new.contexts c.in-Some.instance c.args.worker.0 c.setup_done-result.result
+      c.self.inside.flow
       c.leave.ensures.table c.leave.ensures.carried c.unlink_unless.ensures c.self.invariant.tied;
 }
 

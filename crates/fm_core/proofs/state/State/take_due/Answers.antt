@@ -18,7 +18,8 @@ take_due-due-requires-clause-within c =
 pub returns-clause-event : goal.returns-clause-event
 returns-clause-event c =
     due_taken (the_view c.self.inside) c.args.worker c.self.inside.contexts c.take_due-due.new.self c.note_due.new.workers c.take_due-due.result c.self.view_is
-    (sym c.is_idle.ensures ∙ c.if-not-is_idle.false) (λ d. due_there d c.self.invariant.sound.owned.lawful) c.take_due-due.ensures.reply c.take_due-due.ensures.after c.note_due.ensures
+    (sym c.is_idle.ensures ∙ c.if-not-is_idle.false) (λ d. due_there d c.self.invariant.sound.owned.lawful) c.take_due-due.ensures.reply
+    c.take_due-due.ensures.after c.note_due.ensures
 
 pub invariant_of-self : goal.invariant_of-self
 invariant_of-self c = record {

@@ -109,6 +109,7 @@ impl State {
     /// open, is past its cleanup (for all but a close) or has begun its close; 30 for a second cleanup, and for a close before the cleanup is done;
     /// 33 where the volume is dismounting; 29 at 256 operations that weren't collected, at 4,096 handles with those that creates under way may give,
     /// and where numbers run out; 1.
+    #[tactic(auto, using(fm_world::proofs::Handing::begin_hands))]
     pub fn begin(&mut self, what: Begin) -> Result<OpId, Status>
         ensures event { Begins self.old what result self.new }
         ensures hand { KeepsHands self.old self.new }

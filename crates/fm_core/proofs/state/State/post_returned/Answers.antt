@@ -5,11 +5,5 @@ use Rattle.fm_core.proofs.state.State.post_returned.Goals as goal
 pub returns-in-Some-clause-hand : goal.returns-in-Some-clause-hand
 returns-in-Some-clause-hand c = post_hand _ _ _ _ _ _ c.post_data_returned.ensures.event
 
-pub returns-clause-hand : goal.returns-clause-hand
-returns-clause-hand c = post_hand _ _ _ _ _ _ c.drain_returned.ensures
-
 pub returns-in-Some-clause-held : goal.returns-in-Some-clause-held
 returns-in-Some-clause-held c = post_none _ _ _ _ _ _ c.post_data_returned.ensures.event
-
-pub returns-clause-held : goal.returns-clause-held
-returns-clause-held c = post_none _ _ _ _ _ _ c.drain_returned.ensures

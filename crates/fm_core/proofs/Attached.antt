@@ -1,5 +1,5 @@
 -- The events on filters, volumes and instances, from what their parts did.
-use Rattle.std.proofs.Common.{◌≡◌, ℕ, Bool, true, false, List, Option, Some, None, Result, Ok, Err, refl, ap, sym, ◌∙◌, subst}
+use Rattle.std.proofs.Common.{◌≡◌, ℕ, Bool, true, List, Option, Some, Result, Ok, Err, ap, sym, ◌∙◌, subst}
 use Rattle.std.proofs.lemmas.Option.{none-some, same_Some}
 use Rattle.fm_types.specs.declared.ids.FilterId.{FilterId}
 use Rattle.fm_types.specs.declared.ids.VolumeId.{VolumeId}
@@ -27,39 +27,36 @@ use Rattle.fm_core.specs.Hands.{SweepsUnless}
 use Rattle.fm_core.specs.Places.{setup_of}
 use Rattle.fm_core.proofs.Losing.{sweeping_tied}
 
-pub attaches : (old : World) (k : WorkerId) (f : FilterId) (v : VolumeId) (name altitude : List ℕ) (result : Result InstanceId Status) (t : StackWorld) (ws : List Worker)
-    → is_idle (worker_at old.workers k) ≡ true → stack.Attaches old.stack f v name altitude result t → ws ≡ after_attach old.workers k result
-    → Attaches old k f v name altitude result (record old { stack = t; workers = ws })
+pub attaches : {old now : World} (k : WorkerId) (f : FilterId) (v : VolumeId) (name altitude : List ℕ) (result : Result InstanceId Status) (t : StackWorld)
+    (ws : List Worker)
+    → old ≡ now → is_idle (worker_at now.workers k) ≡ true → stack.Attaches old.stack f v name altitude result t → ws ≡ after_attach old.workers k result
+    → Attaches now k f v name altitude result (record old { stack = t; workers = ws })
 unfolding Attaches
-attaches old k f v name altitude result t ws idle event workers =
+attaches {old} {now} k f v name altitude result t ws same idle event workers =
     let new : World = record old { stack = t; workers = ws } in
-    subst (λ b. Unless status.WrongStep b result old new
-    (stack.Attaches old.stack f v name altitude result t × (new ≡ record old { stack = t; workers = after_attach old.workers k result }))) (sym idle)
-    (event, ap (λ x. record old { stack = t; workers = x }) workers)
+    let idle' = subst (λ (w : World). is_idle (worker_at w.workers k) ≡ true) (sym same) idle in
+    subst (λ (w : World). Attaches w k f v name altitude result new) same
+    (subst (λ b. Unless status.WrongStep b result old new
+    (stack.Attaches old.stack f v name altitude result t × (new ≡ record old { stack = t; workers = after_attach old.workers k result }))) (sym idle')
+    (event, ap (λ x. record old { stack = t; workers = x }) workers))
 
-pub attach_refused : (old : World) (k : WorkerId) (f : FilterId) (v : VolumeId) (name altitude : List ℕ)
-    → is_idle (worker_at old.workers k) ≡ false → Attaches old k f v name altitude (Err status.WrongStep) old
-unfolding Attaches
-attach_refused old k f v name altitude busy =
-    let result : Result InstanceId Status = Err status.WrongStep in
-    subst (λ b. Unless status.WrongStep b result old old
-    (stack.Attaches old.stack f v name altitude result old.stack × (old ≡ record old { stack = old.stack; workers = after_attach old.workers k result })))
-    (sym busy) (refl, refl)
-
-pub sets_up : (old : World) (k : WorkerId) (i : InstanceId) (accept : Bool) (result : Result (Unit {0}) Status) (t : StackWorld) (ws : List Worker) (kept left after : ContextsKept)
-    → worker_at old.workers k ≡ Some (place.Setup i) → stack.SetsUp old.stack i accept result t → ws ≡ put old.workers k place.Idle
-    → old.contexts ≡ kept.table → Leaves (carried_of kept) kept.table left.table k.0 → left.carried ≡ kept.carried → SweepsUnless result i left after → IsTied kept old.flow
-    → SetsUp old k accept result (record old { stack = t; workers = ws; contexts = after.table })
+pub sets_up : {old now : World} (k : WorkerId) (i : InstanceId) (accept : Bool) (result : Result (Unit {0}) Status) (t : StackWorld) (ws : List Worker)
+    (kept left after : ContextsKept)
+    → old ≡ now → worker_at old.workers k ≡ Some (place.Setup i) → stack.SetsUp old.stack i accept result t → ws ≡ put old.workers k place.Idle
+    → old.contexts ≡ kept.table → Leaves (carried_of kept) kept.table left.table k.0 → left.carried ≡ kept.carried → SweepsUnless result i left after
+    → IsTied kept old.flow
+    → SetsUp now k accept result (record old { stack = t; workers = ws; contexts = after.table })
 unfolding SetsUp
-sets_up old k i accept result t ws kept left after at event workers contexts leaves carried empties tied =
+sets_up {old} k i accept result t ws kept left after same at event workers contexts leaves carried empties tied =
     let tied_left : IsTied left old.flow = λ c. carried_equal left kept leaves.slots carried c ∙ tied c in
-    subst (SetsUpAt old k accept result (record old { stack = t; workers = ws; contexts = after.table })) (sym at) (
+    subst (λ (w : World). SetsUp w k accept result (record old { stack = t; workers = ws; contexts = after.table })) same
+    (subst (SetsUpAt old k accept result (record old { stack = t; workers = ws; contexts = after.table })) (sym at) (
       event,
       left.table,
       subst (λ x. Leaves (carries old) x left.table k.0) (sym contexts) (leaves_alike tied leaves),
       emptied result empties tied_left,
       ap (λ x. record old { stack = t; workers = x; contexts = after.table }) workers,
-    )
+    ))
   where
     emptied : (r : Result (Unit {0}) Status) → SweepsUnless r i left after → IsTied left old.flow → EmptiesUnless r i old left.table after.table
     emptied (Ok done) e tied_left = ap (λ (x : ContextsKept). x.table) e
@@ -80,29 +77,7 @@ setup_tied kept left after i w result f leaves carried empties tied = swept_tied
 -- a place that is the setup callback of an instance, or isn't
 pub setup_is : (m : Option Worker) (i : InstanceId) → setup_of m ≡ Some i → m ≡ Some (place.Setup i)
 setup_is (Some (place.Setup j)) i h = ap (λ x. Some (place.Setup x)) (same_Some j i h)
-setup_is (Some place.Idle) i h = absurd (none-some i h)
-setup_is (Some (place.EarlyDrain o j)) i h = absurd (none-some i h)
-setup_is (Some (place.Pre o j)) i h = absurd (none-some i h)
-setup_is (Some (place.Base o)) i h = absurd (none-some i h)
-setup_is (Some (place.Post o j)) i h = absurd (none-some i h)
-setup_is (Some (place.Drain o j)) i h = absurd (none-some i h)
-setup_is (Some (place.Cleanup c)) i h = absurd (none-some i h)
-setup_is None i h = absurd (none-some i h)
-
-setup_refused_at : (old : World) (k : WorkerId) (accept : Bool) (m : Option Worker) → setup_of m ≡ None → SetsUpAt old k accept (Err status.WrongStep) old m
-setup_refused_at old k accept (Some (place.Setup i)) h = absurd (none-some i (sym h))
-setup_refused_at old k accept (Some place.Idle) h = (refl, refl)
-setup_refused_at old k accept (Some (place.EarlyDrain o i)) h = (refl, refl)
-setup_refused_at old k accept (Some (place.Pre o i)) h = (refl, refl)
-setup_refused_at old k accept (Some (place.Base o)) h = (refl, refl)
-setup_refused_at old k accept (Some (place.Post o i)) h = (refl, refl)
-setup_refused_at old k accept (Some (place.Drain o i)) h = (refl, refl)
-setup_refused_at old k accept (Some (place.Cleanup c)) h = (refl, refl)
-setup_refused_at old k accept None h = (refl, refl)
-
-pub setup_refused : (old : World) (k : WorkerId) (accept : Bool) → setup_of (worker_at old.workers k) ≡ None → SetsUp old k accept (Err status.WrongStep) old
-unfolding SetsUp
-setup_refused old k accept h = setup_refused_at old k accept (worker_at old.workers k) h
+setup_is m i h = absurd (none-some i h)
 
 pub setup_at : (row : Option Instance) → (x : Instance) × (row ≡ Some x) × (is_setup x.phase ≡ true) → stack.is_setup_at row ≡ true
 setup_at row h = ap stack.is_setup_at h.1 ∙ h.2

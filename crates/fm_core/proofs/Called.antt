@@ -1,6 +1,5 @@
 -- The events of callbacks on contexts, from what the layer of contexts did.
-use Rattle.std.proofs.Common.{◌≡◌, ℕ, Bool, true, false, not, List, length, Option, Some, None, Result, Ok, Err, is_some, option_map, slice_get, refl, ap, sym, ◌∙◌, subst}
-use Rattle.std.proofs.lemmas.Bool.{false≢true}
+use Rattle.std.proofs.Common.{◌≡◌, ℕ, Bool, true, not, List, length, Option, Some, None, Result, Ok, Err, is_some, option_map, slice_get, refl, ap, sym, ◌∙◌, subst}
 use Rattle.std.proofs.lemmas.Option.{none-some, same_Some}
 use Rattle.fm_types.specs.declared.context_kind.ContextKind.{ContextKind}
 use Rattle.fm_types.specs.declared.context_kind.ContextKind.TheVariants as kind
@@ -12,7 +11,7 @@ use Rattle.fm_types.specs.Refusals.{Answers, AnswersOrMemory, IsRefusalOrMemory}
 use Rattle.fm_flow.specs.Table.{FlowTable}
 use Rattle.fm_ctx.specs.declared.owner.Owner.{Owner}
 use Rattle.fm_ctx.specs.Births.{IsNew, new_context, allocated, kept_allocated, allocate_refusal}
-use Rattle.fm_ctx.specs.Bodies.{body_at, rewritten, with_body, read_refusal, write_refusal, bump_refusal, bumped, raised}
+use Rattle.fm_ctx.specs.Bodies.{body_at, rewritten, with_body, write_refusal, bump_refusal, bumped, raised}
 use Rattle.fm_ctx.specs.Kept.{ContextsKept, carried_of}
 use Rattle.fm_ctx.specs.References.{grabbed, released, reference_refusal, release_refusal}
 use Rattle.fm_ctx.specs.Table.{Context, ContextTable, context_at}
@@ -21,7 +20,7 @@ use Rattle.fm_ctx.proofs.Carried.{carried_allocated}
 use Rattle.fm_ctx.proofs.Slots.{there_changed}
 use Rattle.fm_world.specs.World.{World, carries}
 use Rattle.fm_world.specs.Owners.{row_at, has_kind, owner_by, object_by}
-use Rattle.fm_world.specs.ContextEvents.{Callback, callback_of, InCallback, InCallbackOf, with_contexts, before, context_by, allocate_refused, Allocates, References, Releases, ReadsBody, WritesBody, Bumps}
+use Rattle.fm_world.specs.ContextEvents.{Callback, callback_of, InCallback, InCallbackOf, with_contexts, before, context_by, allocate_refused, Allocates, References, Releases, WritesBody, Bumps}
 use Rattle.fm_world.proofs.Callbacks.{callback_parts}
 use Rattle.fm_core.specs.declared.caller.Caller.{Caller}
 use Rattle.fm_core.specs.Callers.{caller_of, owner_for, has_kind_at, is_closing_at}
@@ -31,7 +30,8 @@ use Rattle.fm_core.proofs.Holding.{tied_table}
 
 -- ---- whose callback it is
 
-pub called : (w : World) (k : WorkerId) (x : Caller) → option_map caller_of (callback_of w k) ≡ Some x → (at : Callback) × (callback_of w k ≡ Some at) × (caller_of at ≡ x)
+called : (w : World) (k : WorkerId) (x : Caller) → option_map caller_of (callback_of w k) ≡ Some x
+    → (at : Callback) × (callback_of w k ≡ Some at) × (caller_of at ≡ x)
 called w k x h = at_callback (callback_of w k) refl h
   where
     at_callback : (m : Option Callback) → callback_of w k ≡ m → option_map caller_of m ≡ Some x → (at : Callback) × (callback_of w k ≡ Some at) × (caller_of at ≡ x)
@@ -45,24 +45,18 @@ uncalled w k h = at_callback (callback_of w k) refl h
     at_callback None is h = is
     at_callback (Some at) is h = absurd (none-some (caller_of at) (sym h))
 
-pub called_some : (w : World) (k : WorkerId) → is_some (option_map caller_of (callback_of w k)) ≡ true → (at : Callback) × (callback_of w k ≡ Some at)
-called_some w k h = at_callback (callback_of w k) refl h
-  where
-    at_callback : (m : Option Callback) → callback_of w k ≡ m → is_some (option_map caller_of m) ≡ true → (at : Callback) × (callback_of w k ≡ Some at)
-    at_callback None is h = absurd (false≢true h)
-    at_callback (Some at) is h = (at, is)
+-- of the state as the code finds it
+pub called_in : {old now : World} (k : WorkerId) (x : Caller) → old ≡ now → option_map caller_of (callback_of now k) ≡ Some x
+    → (at : Callback) × (callback_of old k ≡ Some at) × (caller_of at ≡ x)
+called_in {old} k x same h = called old k x (subst (λ (w : World). option_map caller_of (callback_of w k) ≡ Some x) (sym same) h)
 
 pub owner_same : (at : Callback) (k : ContextKind) → owner_for (caller_of at) k ≡ owner_by at.row at.instance k
 owner_same at kind.Volume = refl
-owner_same at kind.Instance = refl
-owner_same at kind.Stream = refl
-owner_same at kind.Handle = refl
+owner_same at k = refl
 
 pub object_same : (at : Callback) (k : ContextKind) → caller.object_for (caller_of at) k ≡ object_by at.row at.instance at.file k
 object_same at kind.Volume = refl
-object_same at kind.Instance = refl
-object_same at kind.Stream = refl
-object_same at kind.Handle = refl
+object_same at k = refl
 
 -- the row of the callback's instance
 pub callback_row : (w : World) (k : WorkerId) (at : Callback) → callback_of w k ≡ Some at → row_at w.stack at.instance ≡ Some at.row
@@ -70,12 +64,14 @@ callback_row w k at is = (callback_parts w.stack _ _ at is).1
 
 -- ---- an event in a callback, and outside
 
-pub in_callback : {T : Type 0} (old : World) (k : WorkerId) (result : Result T Status) (new : World) (Event : Callback → Type 0) (at : Callback) → callback_of old k ≡ Some at
+pub in_callback : {T : Type 0} (old : World) (k : WorkerId) (result : Result T Status) (new : World) (Event : Callback → Type 0) (at : Callback)
+    → callback_of old k ≡ Some at
     → Event at → InCallback old k result new Event
 in_callback old k result new Event at is h = subst (InCallbackOf result old new Event) (sym is) h
 
-pub outside : (T : Type 0) (old : World) (k : WorkerId) (Event : Callback → Type 0) → callback_of old k ≡ None → InCallback {T = T} old k (Err status.WrongStep) old Event
-outside T old k Event is = subst (InCallbackOf (Err status.WrongStep) old old Event) (sym is) (refl, refl)
+pub outside : (T : Type 0) (old : World) (k : WorkerId) (Event : Callback → Type 0) → option_map caller_of (callback_of old k) ≡ None
+    → InCallback {T = T} old k (Err status.WrongStep) old Event
+outside T old k Event is = subst (InCallbackOf (Err status.WrongStep) old old Event) (sym (uncalled old k is)) (refl, refl)
 
 -- what the layer answers, the World does
 pub answers_up : {T : Type 0} (w : World) (kept after : ContextsKept) (refusal : Option Status) (result : Result T Status) (E F : T → Type 0) → ((v : T) → E v → F v)
@@ -83,83 +79,100 @@ pub answers_up : {T : Type 0} (w : World) (kept after : ContextsKept) (refusal :
 answers_up w kept after refusal (Ok v) E F f h = (h.0, f v h.1)
 answers_up w kept after refusal (Err why) E F f h = (h.0, ap (λ (x : ContextsKept). with_contexts w x.table) h.1)
 
-pub answers_tied : {T : Type 0} (kept after : ContextsKept) (f : FlowTable) (refusal : Option Status) (result : Result T Status) (E : T → Type 0) → ((v : T) → E v → IsTied after f)
+pub answers_tied : {T : Type 0} (kept after : ContextsKept) (f : FlowTable) (refusal : Option Status) (result : Result T Status) (E : T → Type 0)
+    → ((v : T) → E v → IsTied after f)
     → Answers refusal result kept after E → IsTied kept f → IsTied after f
 answers_tied kept after f refusal (Ok v) E g h tied = g v h.1
 answers_tied kept after f refusal (Err why) E g h tied = subst (λ x. IsTied x f) (sym h.1) tied
 
 -- a table that changes where each context stays
-pub table_tied : (kept after : ContextsKept) (t : ContextTable) (f : FlowTable) → ((c : CtxId) → is_some (context_at t.slots c) ≡ is_some (context_at kept.table.slots c))
+pub table_tied : (kept after : ContextsKept) (t : ContextTable) (f : FlowTable)
+    → ((c : CtxId) → is_some (context_at t.slots c) ≡ is_some (context_at kept.table.slots c))
     → after ≡ record kept { table = t } → IsTied kept f → IsTied after f
 table_tied kept after t f there e tied = subst (λ x. IsTied x f) (sym e) (tied_table kept t f there tied)
 
 -- ---- references
 
-pub referenced : (w : World) (k : WorkerId) (c : CtxId) (result : Result (Unit {0}) Status) (kept after : ContextsKept) (at : Callback) → callback_of w k ≡ Some at
+pub referenced : (w : World) {now : World} (k : WorkerId) (c : CtxId) (result : Result (Unit {0}) Status) (kept after : ContextsKept) (x : Caller)
+    → with_contexts w kept.table ≡ now
+    → option_map caller_of (callback_of now k) ≡ Some x
     → Answers (reference_refusal kept.table k.0 c) result kept after (λ _. after ≡ record kept { table = grabbed kept.table k.0 c })
-    → References (with_contexts w kept.table) k c result (with_contexts w after.table)
+    → References now k c result (with_contexts w after.table)
 unfolding References
-referenced w k c result kept after at is h =
-    in_callback (with_contexts w kept.table) k result (with_contexts w after.table) _ at is
-    (answers_up w kept after (reference_refusal kept.table k.0 c) result _ _ (λ v e. ap (λ (x : ContextsKept). with_contexts w x.table) e) h)
+referenced w k c result kept after x same is h =
+    let at = called_in k x same is in
+    subst (λ (v : World). References v k c result (with_contexts w after.table)) same
+    (in_callback (with_contexts w kept.table) k result (with_contexts w after.table) _ at.0 at.1
+    (answers_up w kept after (reference_refusal kept.table k.0 c) result _ _ (λ v e. ap (λ (x : ContextsKept). with_contexts w x.table) e) h))
 
 pub reference_tied : (kept after : ContextsKept) (f : FlowTable) (k : WorkerId) (c : CtxId) (result : Result (Unit {0}) Status)
     → Answers (reference_refusal kept.table k.0 c) result kept after (λ _. after ≡ record kept { table = grabbed kept.table k.0 c }) → IsTied kept f → IsTied after f
 reference_tied kept after f k c result h tied =
     answers_tied kept after f (reference_refusal kept.table k.0 c) result _ (λ v e. table_tied kept after (grabbed kept.table k.0 c) f (λ d. refl) e tied) h tied
 
-pub released_up : (w : World) (k : WorkerId) (c : CtxId) (result : Result (Unit {0}) Status) (kept after : ContextsKept) (at : Callback) → callback_of w k ≡ Some at
-    → IsTied kept w.flow → Answers (release_refusal kept.table k.0 c) result kept after (λ _. after ≡ record kept { table = released (carried_of kept) kept.table k.0 c })
-    → Releases (with_contexts w kept.table) k c result (with_contexts w after.table)
+pub released_up : (w : World) {now : World} (k : WorkerId) (c : CtxId) (result : Result (Unit {0}) Status) (kept after : ContextsKept) (x : Caller)
+    → with_contexts w kept.table ≡ now
+    → option_map caller_of (callback_of now k) ≡ Some x
+    → IsTied kept w.flow
+    → Answers (release_refusal kept.table k.0 c) result kept after (λ _. after ≡ record kept { table = released (carried_of kept) kept.table k.0 c })
+    → Releases now k c result (with_contexts w after.table)
 unfolding Releases
-released_up w k c result kept after at is tied h =
-    in_callback (with_contexts w kept.table) k result (with_contexts w after.table) _ at is
+released_up w k c result kept after x same is tied h =
+    let at = called_in k x same is in
+    subst (λ (v : World). Releases v k c result (with_contexts w after.table)) same
+    (in_callback (with_contexts w kept.table) k result (with_contexts w after.table) _ at.0 at.1
     (answers_up w kept after (release_refusal kept.table k.0 c) result _ _
-    (λ v e. ap (λ (x : ContextsKept). with_contexts w x.table) e ∙ ap (with_contexts w) (released_alike (carried_of kept) (carries w) kept.table k.0 c (tied c))) h)
+    (λ v e. ap (λ (x : ContextsKept). with_contexts w x.table) e ∙ ap (with_contexts w) (released_alike (carried_of kept) (carries w) kept.table k.0 c (tied c))) h))
 
 pub release_tied : (kept after : ContextsKept) (f : FlowTable) (k : WorkerId) (c : CtxId) (result : Result (Unit {0}) Status)
-    → Answers (release_refusal kept.table k.0 c) result kept after (λ _. after ≡ record kept { table = released (carried_of kept) kept.table k.0 c }) → IsTied kept f → IsTied after f
+    → Answers (release_refusal kept.table k.0 c) result kept after (λ _. after ≡ record kept { table = released (carried_of kept) kept.table k.0 c })
+    → IsTied kept f → IsTied after f
 release_tied kept after f k c result h tied =
-    answers_tied kept after f (release_refusal kept.table k.0 c) result _ (λ v e. table_tied kept after (released (carried_of kept) kept.table k.0 c) f (λ d. refl) e tied) h tied
+    answers_tied kept after f (release_refusal kept.table k.0 c) result _ (λ v e. table_tied kept after (released (carried_of kept) kept.table k.0 c) f
+    (λ d. refl) e tied) h tied
 
 -- ---- bodies
-
-pub body_read : (w : World) (k : WorkerId) (c : CtxId) (result : Result (List ℕ) Status) (kept : ContextsKept) (at : Callback) → callback_of w k ≡ Some at
-    → AnswersOrMemory (read_refusal kept.table k.0 c) result kept kept (λ body. body ≡ body_at kept.table.slots c)
-    → ReadsBody (with_contexts w kept.table) k c result (with_contexts w kept.table)
-unfolding ReadsBody
-body_read w k c (Ok body) kept at is h = in_callback (with_contexts w kept.table) k (Ok body) (with_contexts w kept.table) _ at is (h.0, (h.1, refl))
-body_read w k c (Err why) kept at is h = in_callback (with_contexts w kept.table) k (Err why) (with_contexts w kept.table) _ at is (h.0, refl)
 
 rewritten_there : (t : ContextTable) (c : CtxId) (bytes : List ℕ) (d : CtxId) → is_some (context_at (rewritten t c bytes).slots d) ≡ is_some (context_at t.slots d)
 rewritten_there t c bytes d = there_changed (with_body bytes) t.slots c d
 
-pub body_written : (w : World) (k : WorkerId) (c : CtxId) (bytes : List ℕ) (result : Result (Unit {0}) Status) (kept after : ContextsKept) (at : Callback) → callback_of w k ≡ Some at
+pub body_written : (w : World) {now : World} (k : WorkerId) (c : CtxId) (bytes : List ℕ) (result : Result (Unit {0}) Status) (kept after : ContextsKept)
+    (x : Caller) → with_contexts w kept.table ≡ now
+    → option_map caller_of (callback_of now k) ≡ Some x
     → Answers (write_refusal kept.table k.0 c bytes) result kept after (λ _. after ≡ record kept { table = rewritten kept.table c bytes })
-    → WritesBody (with_contexts w kept.table) k c bytes result (with_contexts w after.table)
+    → WritesBody now k c bytes result (with_contexts w after.table)
 unfolding WritesBody
-body_written w k c bytes result kept after at is h =
-    in_callback (with_contexts w kept.table) k result (with_contexts w after.table) _ at is
-    (answers_up w kept after (write_refusal kept.table k.0 c bytes) result _ _ (λ v e. ap (λ (x : ContextsKept). with_contexts w x.table) e) h)
+body_written w k c bytes result kept after x same is h =
+    let at = called_in k x same is in
+    subst (λ (v : World). WritesBody v k c bytes result (with_contexts w after.table)) same
+    (in_callback (with_contexts w kept.table) k result (with_contexts w after.table) _ at.0 at.1
+    (answers_up w kept after (write_refusal kept.table k.0 c bytes) result _ _ (λ v e. ap (λ (x : ContextsKept). with_contexts w x.table) e) h))
 
 pub write_tied : (kept after : ContextsKept) (f : FlowTable) (k : WorkerId) (c : CtxId) (bytes : List ℕ) (result : Result (Unit {0}) Status)
-    → Answers (write_refusal kept.table k.0 c bytes) result kept after (λ _. after ≡ record kept { table = rewritten kept.table c bytes }) → IsTied kept f → IsTied after f
+    → Answers (write_refusal kept.table k.0 c bytes) result kept after (λ _. after ≡ record kept { table = rewritten kept.table c bytes }) → IsTied kept f
+    → IsTied after f
 write_tied kept after f k c bytes result h tied =
-    answers_tied kept after f (write_refusal kept.table k.0 c bytes) result _ (λ v e. table_tied kept after (rewritten kept.table c bytes) f (rewritten_there kept.table c bytes) e tied) h tied
+    answers_tied kept after f (write_refusal kept.table k.0 c bytes) result _ (λ v e. table_tied kept after (rewritten kept.table c bytes) f
+    (rewritten_there kept.table c bytes) e tied) h tied
 
-pub body_bumped : (w : World) (k : WorkerId) (c : CtxId) (place by : ℕ) (result : Result ℕ Status) (kept after : ContextsKept) (at : Callback) → callback_of w k ≡ Some at
+pub body_bumped : (w : World) {now : World} (k : WorkerId) (c : CtxId) (place by : ℕ) (result : Result ℕ Status) (kept after : ContextsKept) (x : Caller)
+    → with_contexts w kept.table ≡ now
+    → option_map caller_of (callback_of now k) ≡ Some x
     → Answers (bump_refusal kept.table k.0 c place) result kept after (λ n. (n ≡ raised place by (body_at kept.table.slots c)) × (after ≡ record kept { table = bumped kept.table c place by }))
-    → Bumps (with_contexts w kept.table) k c place by result (with_contexts w after.table)
+    → Bumps now k c place by result (with_contexts w after.table)
 unfolding Bumps
-body_bumped w k c place by result kept after at is h =
-    in_callback (with_contexts w kept.table) k result (with_contexts w after.table) _ at is
-    (answers_up w kept after (bump_refusal kept.table k.0 c place) result _ _ (λ v e. (e.0, ap (λ (x : ContextsKept). with_contexts w x.table) e.1)) h)
+body_bumped w k c place by result kept after x same is h =
+    let at = called_in k x same is in
+    subst (λ (v : World). Bumps v k c place by result (with_contexts w after.table)) same
+    (in_callback (with_contexts w kept.table) k result (with_contexts w after.table) _ at.0 at.1
+    (answers_up w kept after (bump_refusal kept.table k.0 c place) result _ _ (λ v e. (e.0, ap (λ (x : ContextsKept). with_contexts w x.table) e.1)) h))
 
 pub bump_tied : (kept after : ContextsKept) (f : FlowTable) (k : WorkerId) (c : CtxId) (place by : ℕ) (result : Result ℕ Status)
     → Answers (bump_refusal kept.table k.0 c place) result kept after (λ n. (n ≡ raised place by (body_at kept.table.slots c)) × (after ≡ record kept { table = bumped kept.table c place by }))
     → IsTied kept f → IsTied after f
 bump_tied kept after f k c place by result h tied =
-    answers_tied kept after f (bump_refusal kept.table k.0 c place) result _ (λ v e. table_tied kept after (bumped kept.table c place by) f (rewritten_there kept.table c _) e.1 tied) h tied
+    answers_tied kept after f (bump_refusal kept.table k.0 c place) result _ (λ v e. table_tied kept after (bumped kept.table c place by) f
+    (rewritten_there kept.table c _) e.1 tied) h tied
 
 -- ---- allocate
 
@@ -167,24 +180,19 @@ registered : (w : World) (k : WorkerId) (at : Callback) (what : ContextKind) (b 
     → has_kind_at w.stack (slice_get w.stack.instances at.instance.0) what ≡ b → has_kind w.stack at.row what ≡ b
 registered w k at what b is h = sym (ap (λ m. has_kind_at w.stack m what) (callback_row w k at is)) ∙ h
 
-pub allocate_unregistered : (w : World) (k : WorkerId) (what : ContextKind) (body : List ℕ) (x : Caller) → option_map caller_of (callback_of w k) ≡ Some x
-    → has_kind_at w.stack (slice_get w.stack.instances x.instance.0) what ≡ false → Allocates w k what body (Err status.NotRegistered) w
-unfolding Allocates
-allocate_unregistered w k what body x is h =
-    let at = called w k x is in
-    let kind' = registered w k at.0 what false at.1 (ap (λ (y : Caller). has_kind_at w.stack (slice_get w.stack.instances y.instance.0) what) at.2 ∙ h) in
-    in_callback w k (Err status.NotRegistered) w _ at.0 at.1
-    (subst (λ r. IsRefusalOrMemory r status.NotRegistered) (sym (ap (λ b. before (not b) status.NotRegistered (allocate_refusal w.contexts k.0 body)) kind')) refl, refl)
-
-pub allocated_up : (w : World) (k : WorkerId) (what : ContextKind) (body : List ℕ) (x : Caller) (owner' : Owner) (result : Result CtxId Status) (kept after : ContextsKept)
-    → option_map caller_of (callback_of w k) ≡ Some x → has_kind_at w.stack (slice_get w.stack.instances x.instance.0) what ≡ true → owner' ≡ owner_for x what
+pub allocated_up : (w : World) {now : World} (k : WorkerId) (what : ContextKind) (body : List ℕ) (x : Caller) (owner' : Owner) (result : Result CtxId Status)
+    (kept after : ContextsKept)
+    → with_contexts w kept.table ≡ now → option_map caller_of (callback_of now k) ≡ Some x
+    → has_kind_at w.stack (slice_get w.stack.instances x.instance.0) what ≡ true → owner' ≡ owner_for x what
     → AnswersOrMemory (allocate_refusal kept.table k.0 body) result kept after (λ (c : CtxId). IsNew kept.table.slots c × (after ≡ kept_allocated kept k.0 c (new_context what owner' x.volume body)))
-    → Allocates (with_contexts w kept.table) k what body result (with_contexts w after.table)
+    → Allocates now k what body result (with_contexts w after.table)
 unfolding Allocates
-allocated_up w k what body x owner' result kept after is h own event = in_callback (with_contexts w kept.table) k result (with_contexts w after.table) _ at.0 at.1 (by_result result event)
+allocated_up w k what body x owner' result kept after now_is is h own event =
+    subst (λ (v : World). Allocates v k what body result (with_contexts w after.table)) now_is
+    (in_callback (with_contexts w kept.table) k result (with_contexts w after.table) _ at.0 at.1 (by_result result event))
   where
     at : (at : Callback) × (callback_of w k ≡ Some at) × (caller_of at ≡ x)
-    at = called w k x is
+    at = called_in k x now_is is
 
     kind' : has_kind w.stack at.0.row what ≡ true
     kind' = registered w k at.0 what true at.1 (ap (λ (y : Caller). has_kind_at w.stack (slice_get w.stack.instances y.instance.0) what) at.2 ∙ h)
@@ -208,7 +216,9 @@ allocated_up w k what body x owner' result kept after is h own event = in_callba
     by_result (Err why) e =
         (subst (λ r. IsRefusalOrMemory r why) (sym (free (allocate_refusal kept.table k.0 body))) e.0, ap (λ (y : ContextsKept). with_contexts w y.table) e.1)
 
-pub allocate_tied : (kept after : ContextsKept) (f : FlowTable) (k : WorkerId) (refusal : Option Status) (x : Context) (result : Result CtxId Status) → length kept.carried ≡ length kept.table.slots
+pub allocate_tied : (kept after : ContextsKept) (f : FlowTable) (k : WorkerId) (refusal : Option Status) (x : Context) (result : Result CtxId Status)
+    → length kept.carried ≡ length kept.table.slots
     → AnswersOrMemory refusal result kept after (λ (c : CtxId). IsNew kept.table.slots c × (after ≡ kept_allocated kept k.0 c x)) → IsTied kept f → IsTied after f
-allocate_tied kept after f k refusal x (Ok c) matched h tied = subst (λ y. IsTied y f) (sym h.1.1) (λ d. sym (carried_allocated kept k.0 c x h.1.0 matched d) ∙ tied d)
+allocate_tied kept after f k refusal x (Ok c) matched h tied =
+    subst (λ y. IsTied y f) (sym h.1.1) (λ d. sym (carried_allocated kept k.0 c x h.1.0 matched d) ∙ tied d)
 allocate_tied kept after f k refusal x (Err why) matched h tied = subst (λ y. IsTied y f) (sym h.1) tied

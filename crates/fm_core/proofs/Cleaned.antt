@@ -1,7 +1,7 @@
 -- Cleaning contexts up and ending an instance, from what their parts did.
-use Rattle.std.proofs.Common.{◌≡◌, ℕ, ◌<◌, ◌≤◌, true, false, cond, not, List, [], ◌∷◌, Option, Some, None, Result, Ok, Err, is_some, option_map, nat_lt, slice_get, refl, ap, sym, ◌∙◌, subst, arith}
+use Rattle.std.proofs.Common.{◌≡◌, ℕ, ◌<◌, ◌≤◌, true, false, cond, not, List, [], ◌∷◌, Option, Some, None, Result, Ok, is_some, option_map, nat_lt, slice_get, refl, ap, sym, ◌∙◌, subst, arith}
 use Rattle.std.specs.Option.{option_and_then}
-use Rattle.std.proofs.lemmas.Bool.{false≢true, lt-ltb, le-ltb}
+use Rattle.std.proofs.lemmas.Bool.{false≢true, le-ltb}
 use Rattle.std.proofs.lemmas.Option.{none-some, same_Some}
 use Rattle.fm_types.specs.declared.ids.CtxId.{CtxId}
 use Rattle.fm_types.specs.declared.ids.FilterId.{FilterId}
@@ -42,13 +42,6 @@ use Rattle.fm_core.proofs.Called.{table_tied}
 
 -- ---- take_due
 
-pub due_refused : (w : World) (k : WorkerId) → is_idle (worker_at w.workers k) ≡ false → TakesDue w k (Err status.WrongStep) w
-unfolding TakesDue
-due_refused w k busy =
-    let result : Result (Option Due) Status = Err status.WrongStep in
-    subst (λ b. Unless status.WrongStep b result w w ((result ≡ Ok (due_reply w.contexts))
-    × (w ≡ record w { workers = after_due w.workers k (slice_get w.contexts.due 0); contexts = after_take_due w.contexts k.0 }))) (sym busy) (refl, refl)
-
 -- the context that is due is there, so it is the one that is told
 due_told : (t : ContextTable) (m : Option CtxId) → slice_get t.due 0 ≡ m → ((c : CtxId) → slice_get t.due 0 ≡ Some c → is_some (context_at t.slots c) ≡ true)
     → option_map (λ (d : Due). d.id) (option_and_then (λ c. option_map (due_of c) (context_at t.slots c)) m) ≡ m
@@ -59,76 +52,63 @@ due_told t (Some c) is there = at_context (context_at t.slots c) (there c is)
     at_context None h = absurd (false≢true h)
     at_context (Some x) h = refl
 
-pub due_taken : (w : World) (k : WorkerId) (kept after : ContextsKept) (ws : List Worker) (result : Option Due) → is_idle (worker_at w.workers k) ≡ true
+pub due_taken : (w : World) {now : World} (k : WorkerId) (kept after : ContextsKept) (ws : List Worker) (result : Option Due)
+    → record w { contexts = kept.table } ≡ now → is_idle (worker_at now.workers k) ≡ true
     → ((c : CtxId) → slice_get kept.table.due 0 ≡ Some c → is_some (context_at kept.table.slots c) ≡ true)
-    → result ≡ due_reply kept.table → after ≡ record kept { table = after_take_due kept.table k.0 } → ws ≡ after_due w.workers k (option_map (λ (d : Due). d.id) result)
-    → TakesDue (record w { contexts = kept.table }) k (Ok result) (record w { workers = ws; contexts = after.table })
+    → result ≡ due_reply kept.table → after ≡ record kept { table = after_take_due kept.table k.0 }
+    → ws ≡ after_due w.workers k (option_map (λ (d : Due). d.id) result)
+    → TakesDue now k (Ok result) (record w { workers = ws; contexts = after.table })
 unfolding TakesDue
-due_taken w k kept after ws result idle there reply step workers =
+due_taken w k kept after ws result same idle_now there reply step workers =
     let old : World = record w { contexts = kept.table } in
     let new : World = record w { workers = ws; contexts = after.table } in
     let told = ap (option_map (λ (d : Due). d.id)) reply ∙ due_told kept.table (slice_get kept.table.due 0) refl there in
     let answer : Result (Option Due) Status = Ok result in
-    subst (λ b. Unless status.WrongStep b answer old new ((answer ≡ Ok (due_reply kept.table))
+    let idle = subst (λ (v : World). is_idle (worker_at v.workers k) ≡ true) (sym same) idle_now in
+    subst (λ (v : World). TakesDue v k answer new) same
+    (subst (λ b. Unless status.WrongStep b answer old new ((answer ≡ Ok (due_reply kept.table))
     × (new ≡ record old { workers = after_due w.workers k (slice_get kept.table.due 0); contexts = after_take_due kept.table k.0 }))) (sym idle) (
       ap Ok reply,
       ap (λ x. record w { workers = x; contexts = after.table }) (workers ∙ ap (after_due w.workers k) told)
           ∙ ap (λ (x : ContextsKept). record w { workers = after_due w.workers k (slice_get kept.table.due 0); contexts = x.table }) step,
-    )
+    ))
 
 taken_there : (t : ContextTable) (w : ℕ) (m : Option CtxId) (c : CtxId) → is_some (context_at (taken_of t w m).slots c) ≡ is_some (context_at t.slots c)
 taken_there t w None c = refl
 taken_there t w (Some d) c = there_changed emptied t.slots d c
 
-pub due_tied : (kept after : ContextsKept) (f : FlowTable) (k : WorkerId) → after ≡ record kept { table = after_take_due kept.table k.0 } → IsTied kept f → IsTied after f
+pub due_tied : (kept after : ContextsKept) (f : FlowTable) (k : WorkerId) → after ≡ record kept { table = after_take_due kept.table k.0 } → IsTied kept f
+    → IsTied after f
 due_tied kept after f k e tied = table_tied kept after (after_take_due kept.table k.0) f (taken_there kept.table k.0 (slice_get kept.table.due 0)) e tied
 
 -- ---- cleaned
 
 pub cleanup_is : (m : Option Worker) (c : CtxId) → cleanup_in m ≡ Some c → m ≡ Some (place.Cleanup c)
 cleanup_is (Some (place.Cleanup d)) c h = ap (λ x. Some (place.Cleanup x)) (same_Some d c h)
-cleanup_is (Some place.Idle) c h = absurd (none-some c h)
-cleanup_is (Some (place.EarlyDrain o i)) c h = absurd (none-some c h)
-cleanup_is (Some (place.Setup i)) c h = absurd (none-some c h)
-cleanup_is (Some (place.Pre o i)) c h = absurd (none-some c h)
-cleanup_is (Some (place.Base o)) c h = absurd (none-some c h)
-cleanup_is (Some (place.Post o i)) c h = absurd (none-some c h)
-cleanup_is (Some (place.Drain o i)) c h = absurd (none-some c h)
-cleanup_is None c h = absurd (none-some c h)
-
-pub clean_refused : (w : World) (k : WorkerId) (number : ℕ) → cleanup_in (worker_at w.workers k) ≡ None → Cleans w k number (Err status.WrongStep) w
-unfolding Cleans
-clean_refused w k number h = at_place (worker_at w.workers k) h
-  where
-    at_place : (m : Option Worker) → cleanup_in m ≡ None → CleansAt w k number (Err status.WrongStep) w m
-    at_place (Some (place.Cleanup c)) h = absurd (none-some c (sym h))
-    at_place (Some place.Idle) h = (refl, refl)
-    at_place (Some (place.EarlyDrain o i)) h = (refl, refl)
-    at_place (Some (place.Setup i)) h = (refl, refl)
-    at_place (Some (place.Pre o i)) h = (refl, refl)
-    at_place (Some (place.Base o)) h = (refl, refl)
-    at_place (Some (place.Post o i)) h = (refl, refl)
-    at_place (Some (place.Drain o i)) h = (refl, refl)
-    at_place None h = (refl, refl)
+cleanup_is m c h = absurd (none-some c h)
 
 filter_same : (s : StackWorld) (m : Option Context) → filter_at s (option_map (λ (x : Context). x.owner) m) ≡ filter_of s m
 filter_same s None = refl
 filter_same s (Some x) = refl
 
-pub cleans : (w : World) (k : WorkerId) (number : ℕ) (c : CtxId) (kept after : ContextsKept) (own : Option Owner) (f : Option FilterId) (ws : List Worker) (ts : List ℕ)
-    → worker_at w.workers k ≡ Some (place.Cleanup c) → own ≡ option_map (λ (x : Context). x.owner) (context_at kept.table.slots c) → f ≡ filter_at w.stack own
+pub cleans : (w : World) {now : World} (k : WorkerId) (number : ℕ) (c : CtxId) (kept after : ContextsKept) (own : Option Owner) (f : Option FilterId)
+    (ws : List Worker) (ts : List ℕ)
+    → record w { contexts = kept.table } ≡ now → worker_at w.workers k ≡ Some (place.Cleanup c)
+    → own ≡ option_map (λ (x : Context). x.owner) (context_at kept.table.slots c) → f ≡ filter_at w.stack own
     → ts ≡ totalled_for f number w.totals → after ≡ record kept { table = cleaned kept.table k.0 c } → ws ≡ put w.workers k place.Idle
-    → Cleans (record w { contexts = kept.table }) k number (Ok tt) (record w { workers = ws; contexts = after.table; totals = ts })
+    → Cleans now k number (Ok tt) (record w { workers = ws; contexts = after.table; totals = ts })
 unfolding Cleans
-cleans w k number c kept after own f ws ts at owned filter totals step workers =
+cleans w k number c kept after own f ws ts now_is at owned filter totals step workers =
     let old : World = record w { contexts = kept.table } in
     let same = filter ∙ ap (filter_at w.stack) owned ∙ filter_same w.stack (context_at kept.table.slots c) in
-    subst (CleansAt old k number (Ok tt) (record w { workers = ws; contexts = after.table; totals = ts })) (sym at) (
+    subst (λ (v : World). Cleans v k number (Ok tt) (record w { workers = ws; contexts = after.table; totals = ts })) now_is
+    (subst (CleansAt old k number (Ok tt) (record w { workers = ws; contexts = after.table; totals = ts })) (sym at) (
       refl,
       ap (λ x. record w { workers = x; contexts = after.table; totals = ts }) workers
           ∙ ap (λ (x : ContextsKept). record w { workers = put w.workers k place.Idle; contexts = x.table; totals = ts }) step
-          ∙ ap (λ x. record w { workers = put w.workers k place.Idle; contexts = cleaned kept.table k.0 c; totals = x }) (totals ∙ ap (λ x. totalled_for x number w.totals) same),
-    )
+          ∙ ap (λ x. record w { workers = put w.workers k place.Idle; contexts = cleaned kept.table k.0 c; totals = x })
+          (totals ∙ ap (λ x. totalled_for x number w.totals) same),
+    ))
 
 pub clean_tied : (kept after : ContextsKept) (f : FlowTable) (k : WorkerId) (c : CtxId) → IsLawful (λ d. carried d f) kept.table → k.0 < 48
     → cleaning_of kept.table.cleaning k.0 ≡ Some c → after ≡ record kept { table = cleaned kept.table k.0 c } → IsTied kept f → IsTied after f
@@ -143,38 +123,15 @@ clean_tied kept after f k c law worker busy e tied =
 abbrev pub phase_in : Option Instance → Option Phase
 phase_in m = option_map (λ (row : Instance). row.phase) m
 
--- an instance that can't end: it is gone, or not yet emptying
-early : (m : Option Instance) (why : Status) (later : Option Status) → refused_in (phase_in m) ≡ Some why
-    → cond (is_gone_at m) (Some status.NoInstance) (cond (not (is_emptying_at m)) (Some status.WrongStep) later) ≡ Some why
-early None why later h = h
-early (Some row) why later h = at_phase row.phase h
-  where
-    at_phase : (p : Phase) → refused_in (Some p) ≡ Some why → cond (is_detached p) (Some status.NoInstance) (cond (not (is_emptying p)) (Some status.WrongStep) later) ≡ Some why
-    at_phase phase.Setup h = h
-    at_phase phase.Attached h = h
-    at_phase phase.Stopping h = h
-    at_phase phase.Completing h = h
-    at_phase phase.Emptying h = absurd (none-some why h)
-    at_phase phase.Detached h = h
-
 -- what may end
 pub may_end : (m : Option Instance) → refused_in (phase_in m) ≡ None → (is_gone_at m ≡ false) × (is_emptying_at m ≡ true)
 may_end None h = absurd (none-some status.NoInstance (sym h))
 may_end (Some row) h = at_phase row.phase h
   where
     at_phase : (p : Phase) → refused_in (Some p) ≡ None → (is_detached p ≡ false) × (is_emptying p ≡ true)
-    at_phase phase.Setup h = absurd (none-some status.WrongStep (sym h))
-    at_phase phase.Attached h = absurd (none-some status.WrongStep (sym h))
-    at_phase phase.Stopping h = absurd (none-some status.WrongStep (sym h))
-    at_phase phase.Completing h = absurd (none-some status.WrongStep (sym h))
     at_phase phase.Emptying h = (refl, refl)
     at_phase phase.Detached h = absurd (none-some status.NoInstance (sym h))
-
-pub finish_early : (w : World) (i : InstanceId) (why : Status) → refused_in (phase_in (row_at w.stack i)) ≡ Some why → Finishes w i (Err why) w
-unfolding Finishes
-finish_early w i why h =
-    let open' = open_of w.contexts.slots (owner.Instance i) in
-    (early (row_at w.stack i) why (first_of ((nat_lt 0 open', status.Busy open') ∷ [])) h, refl)
+    at_phase p h = absurd (none-some status.WrongStep (sym h))
 
 -- what is tested last, of an instance that may end
 finish_last : (w : World) (i : InstanceId) (n : ℕ) → refused_in (phase_in (row_at w.stack i)) ≡ None → n ≡ open_of w.contexts.slots (owner.Instance i)
@@ -182,17 +139,14 @@ finish_last : (w : World) (i : InstanceId) (n : ℕ) → refused_in (phase_in (r
 finish_last w i n h count =
     let open' = open_of w.contexts.slots (owner.Instance i) in
     let ends = may_end (row_at w.stack i) h in
-    ap (λ b. cond b (Some status.NoInstance) (first_of ((not (is_emptying_at (row_at w.stack i)), status.WrongStep) ∷ (nat_lt 0 open', status.Busy open') ∷ []))) ends.0
+    ap (λ b. cond b (Some status.NoInstance) (first_of ((not (is_emptying_at (row_at w.stack i)), status.WrongStep) ∷ (nat_lt 0 open', status.Busy open')
+    ∷ []))) ends.0
     ∙ ap (λ b. cond (not b) (Some status.WrongStep) (first_of ((nat_lt 0 open', status.Busy open') ∷ []))) ends.1
     ∙ ap (λ m. cond (nat_lt 0 m) (Some (status.Busy m)) None) (sym count)
 
-pub finish_busy : (w : World) (i : InstanceId) (n : ℕ) → refused_in (phase_in (row_at w.stack i)) ≡ None → n ≡ open_of w.contexts.slots (owner.Instance i)
-    → 0 < n → Finishes w i (Err (status.Busy n)) w
+pub finishes : {w now : World} (i : InstanceId) (n : ℕ) (s : StackWorld) → w ≡ now → refused_in (phase_in (row_at w.stack i)) ≡ None
+    → n ≡ open_of w.contexts.slots (owner.Instance i) → n ≤ 0 → s ≡ finished w.stack i → Finishes now i (Ok tt) (record w { stack = s })
 unfolding Finishes
-finish_busy w i n h count more = (finish_last w i n h count ∙ ap (λ b. cond b (Some (status.Busy n)) None) (lt-ltb 0 n more), refl)
-
-pub finishes : (w : World) (i : InstanceId) (n : ℕ) (s : StackWorld) → refused_in (phase_in (row_at w.stack i)) ≡ None
-    → n ≡ open_of w.contexts.slots (owner.Instance i) → n ≤ 0 → s ≡ finished w.stack i → Finishes w i (Ok tt) (record w { stack = s })
-unfolding Finishes
-finishes w i n s h count none step =
+finishes {w} i n s same h count none step =
+    subst (λ (v : World). Finishes v i (Ok tt) (record w { stack = s })) same
     (finish_last w i n h count ∙ ap (λ b. cond b (Some (status.Busy n)) None) (le-ltb 0 n none), ap (λ x. record w { stack = x }) step)

@@ -1,15 +1,12 @@
 -- What the layer of contexts keeps of references that completions carry stays what the operations' completions say.
-use Rattle.std.proofs.Common.{◌≡◌, ℕ, ◌+◌, ◌*◌, ◌<◌, ◌≤◌, ◌^◌, Bool, true, false, cond, not, List, [], ◌∷◌, length, Option, Some, None, Result, Ok, Err, is_some, slice_get, refl, ap, sym, ◌∙◌, subst, inl, inr, arith}
+use Rattle.std.proofs.Common.{◌≡◌, ℕ, ◌+◌, ◌*◌, ◌<◌, ◌≤◌, ◌^◌, Bool, true, false, cond, not, List, [], ◌∷◌, length, Option, Some, None, Ok, is_some, slice_get, refl, ap, sym, ◌∙◌, subst, inl, inr, arith}
 use Rattle.std.specs.Prelude.{All, slice_index}
 use Rattle.std.specs.Option.{option_and_then}
 use Rattle.std.proofs.lemmas.Bool.{false≢true, cases_Bool}
 use Rattle.std.proofs.lemmas.Option.{slice_get_within}
 use Rattle.std.proofs.lemmas.List.Elements.{All-head, All-tail}
 use Rattle.fm_types.specs.declared.ids.CtxId.{CtxId}
-use Rattle.fm_types.specs.declared.ids.OpId.{OpId}
 use Rattle.fm_types.specs.declared.ids.WorkerId.{WorkerId}
-use Rattle.fm_types.specs.declared.status.Status.{Status}
-use Rattle.fm_types.specs.declared.status.Status.TheVariants as status
 use Rattle.fm_ctx.specs.Bags.{one, is_id, holds, hand_of}
 use Rattle.fm_ctx.specs.Kept.{ContextsKept, carried_of}
 use Rattle.fm_ctx.specs.Laws.{IsLawful}
@@ -29,8 +26,8 @@ use Rattle.fm_flow.specs.Entries.{owed}
 use Rattle.fm_flow.specs.Record.{FlowRecord}
 use Rattle.fm_flow.specs.Sound as flow
 use Rattle.fm_flow.specs.Table.{FlowTable, IsFlow, carried, total, under_way}
-use Rattle.fm_world.specs.World.{World, empty_world}
-use Rattle.fm_world.specs.Events.{brought, received, sent, ReturnsFrom, Unless, returned, carries_after}
+use Rattle.fm_world.specs.World.{empty_world}
+use Rattle.fm_world.specs.Events.{brought, received, sent}
 use Rattle.fm_world.proofs.Counts.{count-cons}
 use Rattle.fm_world.proofs.Flowing.{done_owes}
 use Rattle.fm_stack.specs.StackWorld.{StackWorld}
@@ -70,7 +67,8 @@ pub sent_table : (kept : ContextsKept) (k : WorkerId) (m : Option CtxId) → (ke
 sent_table kept k None = refl
 sent_table kept k (Some c) = refl
 
-pub tied_sent : (kept : ContextsKept) (k : WorkerId) (m : Option CtxId) (f g : FlowTable) → IsLawful (λ c. carried c f) kept.table → length kept.carried ≡ length kept.table.slots
+pub tied_sent : (kept : ContextsKept) (k : WorkerId) (m : Option CtxId) (f g : FlowTable) → IsLawful (λ c. carried c f) kept.table
+    → length kept.carried ≡ length kept.table.slots
     → k.0 < length kept.table.hands → ((d : CtxId) → m ≡ Some d → holds (hand_of kept.table.hands k.0) d ≡ true)
     → ((c : CtxId) → carried c g ≡ carried c f + carried_in c (record { number = 0; context = m })) → IsTied kept f → IsTied (kept_sent kept k.0 m) g
 tied_sent kept k None f g law matched within has balance tied c = omega (arith, tied c, balance c)
@@ -89,47 +87,32 @@ pub ends_leaves : (kept new : ContextsKept) (k : WorkerId) (m : Option CtxId) (f
 ends_leaves kept new k m f ends tied =
     subst (λ t. Leaves (λ c. carried c f) t new.table k.0) (sent_table kept k m) (leaves_alike tied ends.leaves)
 
--- a callback returned, or what it brought back was refused
-pub returns_with : (old : World) (k : WorkerId) (o : OpId) (step : FlowRecord → FlowRecord) (kept cs : ContextTable) (answer : Result (Unit {0}) Status) (new : World) (b : Bool)
-    → Unless status.BadRequest b answer old new ((answer ≡ Ok tt) × (new ≡ returned old k o step))
-    → (answer ≡ Ok tt → Leaves (carries_after old o step) kept cs k.0) → (answer ≡ Err status.BadRequest → cs ≡ old.contexts)
-    → Unless status.BadRequest b answer old (record new { contexts = cs }) ((answer ≡ Ok tt) × ReturnsFrom old k o step kept (record new { contexts = cs }))
-returns_with old k o step kept cs answer new true h leaves same = (h.0, (leaves h.0, ap (λ (x : World). record x { contexts = cs }) h.1))
-returns_with old k o step kept cs answer new false h leaves same =
-    (h.0, ap (λ (x : World). record x { contexts = cs }) h.1 ∙ ap (λ x. record old { contexts = x }) (same h.0))
-
 -- ---- a completion comes back
 
-pub brought_table : (kept : ContextsKept) (k : WorkerId) (reply : Result FlowAction Status) → (kept_brought kept k.0 (back_in reply)).table ≡ received kept.table k reply
-brought_table kept k (Ok (action.Post i lent completion)) = at_context completion.context
-  where
-    at_context : (m : Option CtxId) → (kept_brought kept k.0 m).table ≡ brought kept.table k m
-    at_context None = refl
-    at_context (Some c) = refl
-brought_table kept k (Ok (action.Drain i completion)) = at_context completion.context
-  where
-    at_context : (m : Option CtxId) → (kept_brought kept k.0 m).table ≡ brought kept.table k m
-    at_context None = refl
-    at_context (Some c) = refl
-brought_table kept k (Ok (action.Pre i lent)) = refl
-brought_table kept k (Ok (action.Base call)) = refl
-brought_table kept k (Ok action.Moved) = refl
-brought_table kept k (Ok action.Held) = refl
-brought_table kept k (Ok action.Done) = refl
-brought_table kept k (Err why) = refl
+brought_context : (kept : ContextsKept) (k : WorkerId) (m : Option CtxId) → (kept_brought kept k.0 m).table ≡ brought kept.table k m
+brought_context kept k None = refl
+brought_context kept k (Some c) = refl
 
-pub next_table : (kept after : ContextsKept) (k : WorkerId) (reply : Result FlowAction Status) → after ≡ kept_brought kept k.0 (back_in reply) → after.table ≡ received kept.table k reply
-next_table kept after k reply e = ap (λ (x : ContextsKept). x.table) e ∙ brought_table kept k reply
+brought_table : (kept : ContextsKept) (k : WorkerId) (a : FlowAction) → (kept_brought kept k.0 (back_in a)).table ≡ received kept.table k (Ok a)
+brought_table kept k (action.Post i lent completion) = brought_context kept k completion.context
+brought_table kept k (action.Drain i completion) = brought_context kept k completion.context
+brought_table kept k a = refl
 
-handed_back : (reply : Result FlowAction Status) (c : CtxId) → handed c reply ≡ carried_in c (record { number = 0; context = back_in reply })
-handed_back (Ok (action.Post i lent completion)) c = refl
-handed_back (Ok (action.Drain i completion)) c = refl
-handed_back (Ok (action.Pre i lent)) c = refl
-handed_back (Ok (action.Base call)) c = refl
-handed_back (Ok action.Moved) c = refl
-handed_back (Ok action.Held) c = refl
-handed_back (Ok action.Done) c = refl
-handed_back (Err why) c = refl
+pub next_table : (kept after : ContextsKept) (k : WorkerId) (a : FlowAction) → after ≡ kept_brought kept k.0 (back_in a) → after.table ≡ received kept.table k (Ok a)
+next_table kept after k a e = ap (λ (x : ContextsKept). x.table) e ∙ brought_table kept k a
+
+pub brought_slots : (kept : ContextsKept) (w : ℕ) (m : Option CtxId) → (kept_brought kept w m).table.slots ≡ kept.table.slots
+brought_slots kept w None = refl
+brought_slots kept w (Some c) = refl
+
+pub sent_slots : (kept : ContextsKept) (w : ℕ) (m : Option CtxId) → (kept_sent kept w m).table.slots ≡ kept.table.slots
+sent_slots kept w None = refl
+sent_slots kept w (Some c) = refl
+
+handed_back : (a : FlowAction) (c : CtxId) → handed c (Ok a) ≡ carried_in c (record { number = 0; context = back_in a })
+handed_back (action.Post i lent completion) c = refl
+handed_back (action.Drain i completion) c = refl
+handed_back a c = refl
 
 self_one : (c : CtxId) → one (is_id c c) ≡ 1
 self_one c = ap one (is_id-refl c)
@@ -158,9 +141,9 @@ tied_brought kept k (Some d) f g matched balance tied c =
     omega (arith, fewer, tied c, balance c)
 
 -- by what `next` answers
-pub handed_balance : (f g : FlowTable) (reply : Result FlowAction Status) → ((c : CtxId) → carried c f ≡ carried c g + handed c reply)
-    → (c : CtxId) → carried c f ≡ carried c g + carried_in c (record { number = 0; context = back_in reply })
-handed_balance f g reply balance c = let k = handed_back reply c in omega (arith, balance c, k)
+pub handed_balance : (f g : FlowTable) (a : FlowAction) → ((c : CtxId) → carried c f ≡ carried c g + handed c (Ok a))
+    → (c : CtxId) → carried c f ≡ carried c g + carried_in c (record { number = 0; context = back_in a })
+handed_balance f g a balance c = let k = handed_back a c in omega (arith, balance c, k)
 
 -- ---- few references are carried: 65 at most by an operation that wasn't collected, none by one that was
 

@@ -16,14 +16,13 @@ use Rattle.fm_ctx.specs.declared.set_reply.SetMode.TheVariants.{Keep, Replace}
 use Rattle.fm_ctx.specs.declared.set_reply.SetReply.{SetReply}
 use Rattle.fm_ctx.specs.Bags.{holds, hand_of, is_hand_full}
 use Rattle.fm_ctx.specs.Kept.{ContextsKept, carried_of}
-use Rattle.fm_ctx.specs.Links.{holder, set_reply, set_after, set_mode_after, unlinked_for, linked, with_link, get_refusal, delete_reply, delete_after, delete_refusal, IsUnlinkedOf}
+use Rattle.fm_ctx.specs.Links.{holder, set_reply, set_after, set_mode_after, unlinked_for, linked, with_link, get_refusal, delete_reply, delete_after, delete_refusal}
 use Rattle.fm_ctx.specs.References.{grabbed}
 use Rattle.fm_ctx.specs.Table.{Context, Slot, ContextTable, context_at, link_at}
 use Rattle.fm_ctx.proofs.Alike.{set_alike, delete_alike}
 use Rattle.fm_ctx.proofs.Sets.{unlinked_slots}
 use Rattle.fm_ctx.proofs.Slots.{there_changed}
 use Rattle.fm_world.specs.declared.set_answer.SetAnswer.{SetAnswer}
-use Rattle.fm_world.specs.declared.set_answer.SetAnswer.TheVariants as answer
 use Rattle.fm_world.specs.World.{World, carries}
 use Rattle.fm_world.specs.Links.{is_there}
 use Rattle.fm_world.specs.Owners.{object_by}
@@ -33,11 +32,12 @@ use Rattle.fm_core.specs.Callers.{caller_of, owner_for, has_kind_at, is_closing_
 use Rattle.fm_core.specs.Callers as caller
 use Rattle.fm_core.specs.Fields.{IsTied}
 use Rattle.fm_core.specs.Setting.{is_past_at, object_of, set_refusal, find_refusal, IsSettable, IsFound}
-use Rattle.fm_core.proofs.Called.{called, owner_same, object_same, callback_row, in_callback, answers_up, answers_tied, table_tied}
+use Rattle.fm_core.proofs.Called.{called_in, owner_same, object_same, callback_row, in_callback, answers_up, answers_tied, table_tied}
 
 -- ---- get and delete
 
-kept_refusal : (a b : Bool) (x y : Status) (r : Option Status) (why : Status) → cond a (Some x) (cond b (Some y) None) ≡ Some why → cond a (Some x) (cond b (Some y) r) ≡ Some why
+kept_refusal : (a b : Bool) (x y : Status) (r : Option Status) (why : Status) → cond a (Some x) (cond b (Some y) None) ≡ Some why
+    → cond a (Some x) (cond b (Some y) r) ≡ Some why
 kept_refusal true b x y r why h = h
 kept_refusal false true x y r why h = h
 kept_refusal false false x y r why h = absurd (none-some why h)
@@ -52,105 +52,121 @@ find_same : (w : World) (k : WorkerId) (at : Callback) (what : ContextKind) (oth
     → cond (not (has_kind_at w.stack (slice_get w.stack.instances at.instance.0) what)) (Some status.NotRegistered)
     (cond (is_none (object_by at.row at.instance at.file what)) (Some status.NoObject) others) ≡ object_refused w what at others
 find_same w k at what others is =
-    ap (λ m. cond (not (has_kind_at w.stack m what)) (Some status.NotRegistered) (cond (is_none (object_by at.row at.instance at.file what)) (Some status.NoObject) others))
+    ap (λ m. cond (not (has_kind_at w.stack m what)) (Some status.NotRegistered) (cond (is_none (object_by at.row at.instance at.file what))
+    (Some status.NoObject) others))
     (callback_row w k at is)
 
 find_of : (w : World) (k : WorkerId) (at : Callback) (x : Caller) (what : ContextKind) (m : Option Status) → caller_of at ≡ x → find_refusal w x what ≡ m
     → cond (not (has_kind_at w.stack (slice_get w.stack.instances at.instance.0) what)) (Some status.NotRegistered)
     (cond (is_none (object_by at.row at.instance at.file what)) (Some status.NoObject) None) ≡ m
 find_of w k at x what m e h =
-    ap (λ o. cond (not (has_kind_at w.stack (slice_get w.stack.instances at.instance.0) what)) (Some status.NotRegistered) (cond (is_none o) (Some status.NoObject) None))
+    ap (λ o. cond (not (has_kind_at w.stack (slice_get w.stack.instances at.instance.0) what)) (Some status.NotRegistered)
+    (cond (is_none o) (Some status.NoObject) None))
     (sym (object_same at what))
     ∙ ap (λ (y : Caller). find_refusal w y what) e ∙ h
 
-pub refused_as : (w : World) (k : WorkerId) (at : Callback) (x : Caller) (what : ContextKind) (others : Option Status) (why : Status) → callback_of w k ≡ Some at → caller_of at ≡ x
+pub refused_as : (w : World) (k : WorkerId) (at : Callback) (x : Caller) (what : ContextKind) (others : Option Status) (why : Status)
+    → callback_of w k ≡ Some at → caller_of at ≡ x
     → find_refusal w x what ≡ Some why → object_refused w what at others ≡ Some why
 refused_as w k at x what others why is e h =
     sym (find_same w k at what others is)
-    ∙ kept_refusal (not (has_kind_at w.stack (slice_get w.stack.instances at.instance.0) what)) (is_none (object_by at.row at.instance at.file what)) status.NotRegistered status.NoObject others why
+    ∙ kept_refusal (not (has_kind_at w.stack (slice_get w.stack.instances at.instance.0) what)) (is_none (object_by at.row at.instance at.file what))
+    status.NotRegistered status.NoObject others why
     (find_of w k at x what (Some why) e h)
 
 pub found_free : (w : World) (k : WorkerId) (at : Callback) (x : Caller) (what : ContextKind) (others : Option Status) → callback_of w k ≡ Some at → caller_of at ≡ x
     → find_refusal w x what ≡ None → object_refused w what at others ≡ others
 found_free w k at x what others is e h =
     sym (find_same w k at what others is)
-    ∙ no_refusal (not (has_kind_at w.stack (slice_get w.stack.instances at.instance.0) what)) (is_none (object_by at.row at.instance at.file what)) status.NotRegistered status.NoObject others
+    ∙ no_refusal (not (has_kind_at w.stack (slice_get w.stack.instances at.instance.0) what)) (is_none (object_by at.row at.instance at.file what))
+    status.NotRegistered status.NoObject others
     (find_of w k at x what None e h)
 
 found_there : (w : World) (at : Callback) (x : Caller) (what : ContextKind) (o : Owner × Object) → caller_of at ≡ x → IsFound w x what o
     → there_at w what at ≡ holder w.contexts.slots o.0 o.1
 found_there w at x what o e h =
-    ap (λ own. option_and_then (holder w.contexts.slots own) (object_by at.row at.instance at.file what)) (sym (owner_same at what) ∙ ap (λ (y : Caller). owner_for y what) e ∙ h.owner)
+    ap (λ own. option_and_then (holder w.contexts.slots own) (object_by at.row at.instance at.file what))
+    (sym (owner_same at what) ∙ ap (λ (y : Caller). owner_for y what) e ∙ h.owner)
     ∙ ap (option_and_then (holder w.contexts.slots o.0)) (sym (object_same at what) ∙ ap (λ (y : Caller). caller.object_for y what) e ∙ h.object)
 
 -- the tests of a get on an object of the callback's
-get_free : (w : World) (k : WorkerId) (at : Callback) (x : Caller) (what : ContextKind) (o : Owner × Object) (others : Option Status) (b : Bool) → callback_of w k ≡ Some at → caller_of at ≡ x
+get_free : (w : World) (k : WorkerId) (at : Callback) (x : Caller) (what : ContextKind) (o : Owner × Object) (others : Option Status) (b : Bool)
+    → callback_of w k ≡ Some at → caller_of at ≡ x
     → IsFound w x what o → is_there w.files (Some o.1) ≡ b
     → object_refused w what at (before (not (is_there w.files (object_by at.row at.instance at.file what))) status.DeletingObject others) ≡ before (not b) status.DeletingObject others
 get_free w k at x what o others b is e found here =
-    let object' : object_by at.row at.instance at.file what ≡ Some o.1 = sym (object_same at what) ∙ ap (λ (y : Caller). caller.object_for y what) e ∙ found.object in
+    let object' : object_by at.row at.instance at.file what ≡ Some o.1 = sym (object_same at what) ∙ ap (λ (y : Caller). caller.object_for y what) e ∙
+    found.object in
     found_free w k at x what (before (not (is_there w.files (object_by at.row at.instance at.file what))) status.DeletingObject others) is e found.free
     ∙ ap (λ c. before (not c) status.DeletingObject others) (ap (is_there w.files) object' ∙ here)
 
-pub get_gone : (w : World) (k : WorkerId) (what : ContextKind) (x : Caller) (o : Owner × Object) → option_map caller_of (callback_of w k) ≡ Some x → IsFound w x what o
-    → is_there w.files (Some o.1) ≡ false → Gets w k what (Err status.DeletingObject) w
-unfolding Gets
-get_gone w k what x o is found gone =
-    let at = called w k x is in
-    in_callback w k (Err status.DeletingObject) w _ at.0 at.1
-    (get_free w k at.0 x what o (get_refusal w.contexts k.0 (there_at w what at.0)) false at.1 at.2 found gone, refl)
-
-pub get_refused : (w : World) (k : WorkerId) (what : ContextKind) (x : Caller) (why : Status) → option_map caller_of (callback_of w k) ≡ Some x → find_refusal w x what ≡ Some why
+pub get_refused : (w : World) (k : WorkerId) (what : ContextKind) (x : Caller) (why : Status) → option_map caller_of (callback_of w k) ≡ Some x
+    → find_refusal w x what ≡ Some why
     → Gets w k what (Err why) w
 unfolding Gets
-get_refused w k what x why is h = let at = called w k x is in in_callback w k (Err why) w _ at.0 at.1 (refused_as w k at.0 x what _ why at.1 at.2 h, refl)
+get_refused w k what x why is h =
+    let at = called_in {old = w} k x refl is in in_callback w k (Err why) w _ at.0 at.1 (refused_as w k at.0 x what _ why at.1 at.2 h, refl)
 
-pub gotten : (w : World) (k : WorkerId) (what : ContextKind) (x : Caller) (o : Owner × Object) (result : Result CtxId Status) (kept after : ContextsKept)
-    → option_map caller_of (callback_of w k) ≡ Some x → IsFound (with_contexts w kept.table) x what o → is_there w.files (Some o.1) ≡ true
+pub gotten : (w : World) {now : World} (k : WorkerId) (what : ContextKind) (x : Caller) (o : Owner × Object) (result : Result CtxId Status)
+    (kept after : ContextsKept)
+    → with_contexts w kept.table ≡ now → option_map caller_of (callback_of now k) ≡ Some x → IsFound now x what o → is_there w.files (Some o.1) ≡ true
     → Answers (get_refusal kept.table k.0 (holder kept.table.slots o.0 o.1)) result kept after
     (λ id. (holder kept.table.slots o.0 o.1 ≡ Some id) × (after ≡ record kept { table = grabbed kept.table k.0 id }))
-    → Gets (with_contexts w kept.table) k what result (with_contexts w after.table)
+    → Gets now k what result (with_contexts w after.table)
 unfolding Gets
-gotten w k what x o result kept after is found here event =
-    let at = called w k x is in
+gotten w k what x o result kept after now_is is found_now here event =
+    let at = called_in k x now_is is in
+    let found = subst (λ (v : World). IsFound v x what o) (sym now_is) found_now in
     let old = with_contexts w kept.table in
     let there : there_at old what at.0 ≡ holder kept.table.slots o.0 o.1 = found_there old at.0 x what o at.2 found in
-    in_callback old k result (with_contexts w after.table) _ at.0 at.1
-    (subst (λ r. Answers r result old (with_contexts w after.table) (λ (c : CtxId). (there_at old what at.0 ≡ Some c) × (with_contexts w after.table ≡ with_contexts old (grabbed kept.table k.0 c))))
+    subst (λ (v : World). Gets v k what result (with_contexts w after.table)) now_is
+    (in_callback old k result (with_contexts w after.table) _ at.0 at.1
+    (subst (λ r. Answers r result old (with_contexts w after.table) (λ (c : CtxId). (there_at old what at.0 ≡ Some c) ×
+    (with_contexts w after.table ≡ with_contexts old (grabbed kept.table k.0 c))))
     (sym (get_free old k at.0 x what o (get_refusal kept.table k.0 (there_at old what at.0)) true at.1 at.2 found here ∙ ap (get_refusal kept.table k.0) there))
-    (answers_up w kept after (get_refusal kept.table k.0 (holder kept.table.slots o.0 o.1)) result _ _ (λ c e. (there ∙ e.0, ap (λ (y : ContextsKept). with_contexts w y.table) e.1)) event))
+    (answers_up w kept after (get_refusal kept.table k.0 (holder kept.table.slots o.0 o.1)) result _ _
+    (λ c e. (there ∙ e.0, ap (λ (y : ContextsKept). with_contexts w y.table) e.1)) event)))
 
 pub get_tied : (kept after : ContextsKept) (f : FlowTable) (k : WorkerId) (there : Option CtxId) (result : Result CtxId Status)
-    → Answers (get_refusal kept.table k.0 there) result kept after (λ id. (there ≡ Some id) × (after ≡ record kept { table = grabbed kept.table k.0 id })) → IsTied kept f → IsTied after f
+    → Answers (get_refusal kept.table k.0 there) result kept after (λ id. (there ≡ Some id) × (after ≡ record kept { table = grabbed kept.table k.0 id }))
+    → IsTied kept f → IsTied after f
 get_tied kept after f k there result h tied =
     answers_tied kept after f (get_refusal kept.table k.0 there) result _ (λ c e. table_tied kept after (grabbed kept.table k.0 c) f (λ d. refl) e.1 tied) h tied
 
 pub delete_refused : (w : World) (k : WorkerId) (what : ContextKind) (wants : Bool) (x : Caller) (why : Status) → option_map caller_of (callback_of w k) ≡ Some x
     → find_refusal w x what ≡ Some why → Deletes w k what wants (Err why) w
 unfolding Deletes
-delete_refused w k what wants x why is h = let at = called w k x is in in_callback w k (Err why) w _ at.0 at.1 (refused_as w k at.0 x what _ why at.1 at.2 h, refl)
+delete_refused w k what wants x why is h =
+    let at = called_in {old = w} k x refl is in in_callback w k (Err why) w _ at.0 at.1 (refused_as w k at.0 x what _ why at.1 at.2 h, refl)
 
-pub deleted : (w : World) (k : WorkerId) (what : ContextKind) (wants : Bool) (x : Caller) (o : Owner × Object) (result : Result (Option CtxId) Status) (kept after : ContextsKept)
-    → option_map caller_of (callback_of w k) ≡ Some x → IsFound (with_contexts w kept.table) x what o → IsTied kept w.flow
+pub deleted : (w : World) {now : World} (k : WorkerId) (what : ContextKind) (wants : Bool) (x : Caller) (o : Owner × Object)
+    (result : Result (Option CtxId) Status) (kept after : ContextsKept)
+    → with_contexts w kept.table ≡ now → option_map caller_of (callback_of now k) ≡ Some x → IsFound now x what o → IsTied kept w.flow
     → Answers (delete_refusal kept.table k.0 wants (holder kept.table.slots o.0 o.1)) result kept after
-    (λ c. (c ≡ delete_reply wants (holder kept.table.slots o.0 o.1)) × (after ≡ record kept { table = delete_after (carried_of kept) kept.table k.0 wants (holder kept.table.slots o.0 o.1) }))
-    → Deletes (with_contexts w kept.table) k what wants result (with_contexts w after.table)
+    (λ c. (c ≡ delete_reply wants (holder kept.table.slots o.0 o.1)) × (after ≡ record kept {
+      table = delete_after (carried_of kept) kept.table k.0 wants
+          (holder kept.table.slots o.0 o.1);
+    }))
+    → Deletes now k what wants result (with_contexts w after.table)
 unfolding Deletes
-deleted w k what wants x o result kept after is found tied event =
-    let at = called w k x is in
+deleted w k what wants x o result kept after now_is is found_now tied event =
+    let at = called_in k x now_is is in
+    let found = subst (λ (v : World). IsFound v x what o) (sym now_is) found_now in
     let old = with_contexts w kept.table in
     let there : there_at old what at.0 ≡ holder kept.table.slots o.0 o.1 = found_there old at.0 x what o at.2 found in
-    in_callback old k result (with_contexts w after.table) _ at.0 at.1
+    subst (λ (v : World). Deletes v k what wants result (with_contexts w after.table)) now_is
+    (in_callback old k result (with_contexts w after.table) _ at.0 at.1
     (subst (λ r. Answers r result old (with_contexts w after.table) (λ (c : Option CtxId). (c ≡ delete_reply wants (there_at old what at.0))
     × (with_contexts w after.table ≡ with_contexts old (delete_after (carries old) kept.table k.0 wants (there_at old what at.0)))))
-    (sym (found_free old k at.0 x what (delete_refusal kept.table k.0 wants (there_at old what at.0)) at.1 at.2 found.free ∙ ap (delete_refusal kept.table k.0 wants) there))
+    (sym (found_free old k at.0 x what (delete_refusal kept.table k.0 wants (there_at old what at.0)) at.1 at.2 found.free ∙ ap
+    (delete_refusal kept.table k.0 wants) there))
     (answers_up w kept after (delete_refusal kept.table k.0 wants (holder kept.table.slots o.0 o.1)) result _ _
     (λ c e. (
       e.0 ∙ ap (delete_reply wants) (sym there),
       ap (λ (y : ContextsKept). with_contexts w y.table) e.1
           ∙ ap (with_contexts w) (delete_alike (carried_of kept) (carries w) kept.table k.0 wants (holder kept.table.slots o.0 o.1) tied
           ∙ ap (delete_after (carries w) kept.table k.0 wants) (sym there)),
-    )) event))
+    )) event)))
 
 unlinked_there : (by : CtxId → ℕ) (t : ContextTable) (w : ℕ) (wants : Bool) (d : CtxId) (c : CtxId)
     → is_some (context_at (unlinked_for by t w wants d).slots c) ≡ is_some (context_at t.slots c)
@@ -164,10 +180,12 @@ deleted_there by t w wants (Some d) c = unlinked_there by t w wants d c
 
 pub delete_tied : (kept after : ContextsKept) (f : FlowTable) (k : WorkerId) (wants : Bool) (there : Option CtxId) (result : Result (Option CtxId) Status)
     → Answers (delete_refusal kept.table k.0 wants there) result kept after
-    (λ c. (c ≡ delete_reply wants there) × (after ≡ record kept { table = delete_after (carried_of kept) kept.table k.0 wants there })) → IsTied kept f → IsTied after f
+    (λ c. (c ≡ delete_reply wants there) × (after ≡ record kept { table = delete_after (carried_of kept) kept.table k.0 wants there })) → IsTied kept f → IsTied
+    after f
 delete_tied kept after f k wants there result h tied =
     answers_tied kept after f (delete_refusal kept.table k.0 wants there) result _
-    (λ c e. table_tied kept after (delete_after (carried_of kept) kept.table k.0 wants there) f (deleted_there (carried_of kept) kept.table k.0 wants there) e.1 tied) h tied
+    (λ c e. table_tied kept after (delete_after (carried_of kept) kept.table k.0 wants there) f (deleted_there (carried_of kept) kept.table k.0 wants there) e.1
+    tied) h tied
 
 -- ---- set
 
@@ -175,7 +193,8 @@ object_here : (at : Callback) (m : Option Context) → object_of (caller_of at) 
 object_here at None = refl
 object_here at (Some x) = object_same at x.kind
 
-set_same : (w : World) (k : WorkerId) (c : CtxId) (at : Callback) (x : Caller) → callback_of w k ≡ Some at → caller_of at ≡ x → set_refusal w k c x ≡ set_refused w k c at
+set_same : (w : World) (k : WorkerId) (c : CtxId) (at : Callback) (x : Caller) → callback_of w k ≡ Some at → caller_of at ≡ x
+    → set_refusal w k c x ≡ set_refused w k c at
 set_same w k c at x is e =
     ap (set_refusal w k c) (sym e)
     ∙ ap (λ o. first_of ((not (holds (hand_of w.contexts.hands k.0) c), status.NotHeld) ∷ (is_some (link_at w.contexts.slots c), status.AlreadyLinked)
@@ -184,43 +203,29 @@ set_same w k c at x is e =
     ∷ (is_none (object_for at (context_at w.contexts.slots c)), status.NoObject)
     ∷ (is_closing_at w.stack m || not (is_there w.files (object_for at (context_at w.contexts.slots c))), status.DeletingObject) ∷ [])) (callback_row w k at is)
 
-pub set_outside : (w : World) (k : WorkerId) (c : CtxId) (mode : SetMode) (wants : Bool) → callback_of w k ≡ None → Sets w k c mode wants (answer.Refused status.WrongStep) w
-unfolding Sets
-set_outside w k c mode wants is = subst (SetsIn w k c mode wants (answer.Refused status.WrongStep) w) (sym is) (refl, refl)
-
-pub set_refused_as : (w : World) (k : WorkerId) (c : CtxId) (mode : SetMode) (wants : Bool) (x : Caller) (why : Status) → option_map caller_of (callback_of w k) ≡ Some x
-    → set_refusal w k c x ≡ Some why → Sets w k c mode wants (answer.Refused why) w
-unfolding Sets
-set_refused_as w k c mode wants x why is h =
-    let at = called w k x is in
-    subst (SetsIn w k c mode wants (answer.Refused why) w) (sym at.1)
-    (subst (SetsUnless w k c mode wants (answer.Refused why) w at.0) (sym (sym (set_same w k c at.0 x at.1 at.2) ∙ h)) (refl, refl))
-
 -- the context is there, with its owner
 there_with : (m : Option Context) (own : Owner) → option_map (λ (x : Context). x.owner) m ≡ Some own → (x : Context) × (m ≡ Some x) × (x.owner ≡ own)
 there_with None own h = absurd (none-some own h)
 there_with (Some x) own h = (x, refl, same_Some x.owner own h)
 
-pub set_bare : (w : World) (k : WorkerId) (c : CtxId) (x : Caller) (o : Owner × Object) → IsSettable w k c x o → IsUnlinkedOf o.0 (context_at w.contexts.slots c)
-set_bare w k c x o h =
-    let y = there_with (context_at w.contexts.slots c) o.0 h.owner in
-    subst (IsUnlinkedOf o.0) (sym y.1) (sym (ap (option_and_then (λ (z : Context). z.link)) y.1) ∙ h.bare, y.2)
-
-pub set_up : (w : World) (k : WorkerId) (c : CtxId) (mode : SetMode) (wants : Bool) (x : Caller) (o : Owner × Object) (reply : SetReply) (result : SetAnswer) (kept after : ContextsKept)
-    → option_map caller_of (callback_of w k) ≡ Some x → IsSettable (with_contexts w kept.table) k c x o → IsTied kept w.flow → result ≡ set_answer reply
+pub set_up : (w : World) {now : World} (k : WorkerId) (c : CtxId) (mode : SetMode) (wants : Bool) (x : Caller) (o : Owner × Object) (reply : SetReply)
+    (result : SetAnswer) (kept after : ContextsKept)
+    → with_contexts w kept.table ≡ now → option_map caller_of (callback_of now k) ≡ Some x → IsSettable now k c x o → IsTied kept w.flow → result ≡ set_answer reply
     → reply ≡ set_reply kept.table k.0 mode wants (holder kept.table.slots o.0 o.1)
     → after ≡ record kept { table = set_after (carried_of kept) kept.table k.0 c o.1 mode wants (holder kept.table.slots o.0 o.1) }
-    → Sets (with_contexts w kept.table) k c mode wants result (with_contexts w after.table)
+    → Sets now k c mode wants result (with_contexts w after.table)
 unfolding Sets
-set_up w k c mode wants x o reply result kept after is h tied answers replies step =
+set_up w k c mode wants x o reply result kept after now_is is able tied answers replies step =
     let old = with_contexts w kept.table in
     let new = with_contexts w after.table in
-    let at = called w k x is in
+    let at = called_in k x now_is is in
+    let h = subst (λ (v : World). IsSettable v k c x o) (sym now_is) able in
     let y = there_with (context_at kept.table.slots c) o.0 h.owner in
     let here : object_for at.0 (Some y.0) ≡ Some o.1 =
     sym (object_here at.0 (Some y.0)) ∙ ap (λ z. object_of z (Some y.0)) at.2 ∙ ap (object_of x) (sym y.1) ∙ h.object in
     let there = ap (λ own. holder kept.table.slots own o.1) (sym y.2) in
-    subst (SetsIn old k c mode wants result new) (sym at.1)
+    subst (λ (v : World). Sets v k c mode wants result new) now_is
+    (subst (SetsIn old k c mode wants result new) (sym at.1)
     (subst (SetsUnless old k c mode wants result new at.0) (sym (sym (set_same old k c at.0 x at.1 at.2) ∙ h.free))
     (subst (λ m. SetsOn old k c mode wants result new m (object_for at.0 m)) (sym y.1)
     (subst (SetsOn old k c mode wants result new (Some y.0)) (sym here) (
@@ -228,7 +233,7 @@ set_up w k c mode wants x o reply result kept after is h tied answers replies st
       ap (λ (z : ContextsKept). with_contexts w z.table) step
           ∙ ap (with_contexts w) (set_alike (carried_of kept) (carries w) kept.table k.0 c o.1 mode wants (holder kept.table.slots o.0 o.1) tied
           ∙ ap (set_after (carries w) kept.table k.0 c o.1 mode wants) there),
-    ))))
+    )))))
 
 linked_there : (t : ContextTable) (c : CtxId) (o : Object) (d : CtxId) → is_some (context_at (linked t c o).slots d) ≡ is_some (context_at t.slots d)
 linked_there t c o d = there_changed (with_link (Some o)) t.slots c d
@@ -252,4 +257,5 @@ set_there by t w c o mode wants (Some e) d = by_room (wants && is_hand_full t.ha
 
 pub set_tied : (kept after : ContextsKept) (f : FlowTable) (k : WorkerId) (c : CtxId) (o : Object) (mode : SetMode) (wants : Bool) (m : Option CtxId)
     → after ≡ record kept { table = set_after (carried_of kept) kept.table k.0 c o mode wants m } → IsTied kept f → IsTied after f
-set_tied kept after f k c o mode wants m e tied = table_tied kept after (set_after (carried_of kept) kept.table k.0 c o mode wants m) f (set_there (carried_of kept) kept.table k.0 c o mode wants m) e tied
+set_tied kept after f k c o mode wants m e tied =
+    table_tied kept after (set_after (carried_of kept) kept.table k.0 c o mode wants m) f (set_there (carried_of kept) kept.table k.0 c o mode wants m) e tied

@@ -1,5 +1,5 @@
 -- A stream that is found by its path is at that path.
-use Rattle.std.proofs.Common.{◌≡◌, ℕ, ◌==◌, Bool, cond, List, [], ◌∷◌, Option, Some, sym, ap, ◌∙◌, inl, inr}
+use Rattle.std.proofs.Common.{◌≡◌, ℕ, ◌==◌, cond, List, [], ◌∷◌, Some, sym, ap, ◌∙◌, inl, inr}
 use Rattle.std.specs.Prelude.{find}
 use Rattle.std.specs.Cmp.Lexicographic.{pointwise, bytes_decides}
 use Rattle.std.proofs.lemmas.Bool.{cases_Bool, and_parts}

@@ -1,5 +1,5 @@
 -- What becomes of a worker's hand where a callback begins with a completion, and where one ends.
-use Rattle.std.specs.Prelude.{◌≡◌, ◌<◌, ◌^◌, ℕ, Bool, true, false, Option, Some, None, Result, Ok, Err, length}
+use Rattle.std.specs.Prelude.{◌≡◌, ◌<◌, ◌^◌, ℕ, true, Option, Some, None, Result, Ok, Err, length}
 use Rattle.fm_types.specs.declared.ids.CtxId.{CtxId}
 use Rattle.fm_types.specs.declared.ids.InstanceId.{InstanceId}
 use Rattle.fm_types.specs.declared.status.Status.{Status}
@@ -13,9 +13,9 @@ use Rattle.fm_flow.specs.declared.action.FlowAction.{FlowAction}
 use Rattle.fm_flow.specs.declared.action.FlowAction.TheVariants as action
 
 -- the context that a postoperation or a drain brings back
-abbrev pub back_in : Result FlowAction Status → Option CtxId
-back_in (Ok (action.Post i lent completion)) = completion.context
-back_in (Ok (action.Drain i completion)) = completion.context
+abbrev pub back_in : FlowAction → Option CtxId
+back_in (action.Post i lent completion) = completion.context
+back_in (action.Drain i completion) = completion.context
 back_in _ = None
 
 abbrev pub MayBring : ContextsKept → ℕ → Option CtxId → Type 0
@@ -39,11 +39,6 @@ kept_sent kept w (Some c) = record { table = handed_on kept.table w c; carried =
 pub record Ends (mid new : ContextsKept) (w : ℕ) : Type 0 where
   pub leaves : Leaves (carried_of mid) mid.table new.table w
   pub carried : new.carried ≡ mid.carried
-
--- where the callback returned
-abbrev pub EndsWhere : Bool → ContextsKept → Option CtxId → ContextsKept → ℕ → Type 0
-EndsWhere true old sent new w = Ends (kept_sent old w sent) new w
-EndsWhere false old sent new w = new ≡ old
 
 -- where an instance isn't attached, its contexts lose their links
 abbrev pub SweepsUnless : Result (Unit {0}) Status → InstanceId → ContextsKept → ContextsKept → Type 0

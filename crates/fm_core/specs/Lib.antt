@@ -1,6 +1,6 @@
 pub mod Places
 pub mod Returned
-pub mod Ahead
+pub mod Descent
 pub mod Fields
 pub mod Callers
 pub mod Hands

@@ -45,14 +45,6 @@ is_lost f o x = is_named o x.link && is_on_gone f x
 abbrev pub is_lost_of : FileTable → Target → Context → Bool
 is_lost_of f target x = (is_named (handle_lost target) x.link || is_named (stream_lost target) x.link) && is_on_gone f x
 
-abbrev pub is_lost_by : FileTable → Option Target → Context → Bool
-is_lost_by f None x = false
-is_lost_by f (Some target) x = is_lost_of f target x
-
-abbrev pub UnlinksWhere : Bool → FileTable → Option Target → ContextsKept → ContextsKept → Type 0
-UnlinksWhere true f target old new = Sweeping (is_lost_by f target) old new
-UnlinksWhere false f target old new = new ≡ old
-
 -- nothing else is gone
-abbrev pub GoneAlone : FileTable → FileTable → Option Target → Type 0
-GoneAlone f g target = (x : Context) → names_there f (Some x) ≡ true → is_on_gone g x ≡ is_lost_by g target x
+abbrev pub GoneAlone : FileTable → FileTable → Target → Type 0
+GoneAlone f g target = (x : Context) → names_there f (Some x) ≡ true → is_on_gone g x ≡ is_lost_of g target x

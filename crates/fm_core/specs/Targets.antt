@@ -1,5 +1,5 @@
 -- What an operation is on, and what an answer to it makes of streams and handles.
-use Rattle.std.specs.Prelude.{◌≡◌, ◌<◌, ◌-◌, ◌^◌, Bool, true, false, ◌&&◌, length, Option, Some, None, Result, Ok}
+use Rattle.std.specs.Prelude.{◌≡◌, ◌<◌, ◌-◌, ◌^◌, Bool, true, false, ◌&&◌, length, Option, Some, None}
 use Rattle.fm_types.specs.declared.operation.Operation.{Operation}
 use Rattle.fm_types.specs.declared.operation.Operation.TheVariants as kind
 use Rattle.fm_flow.specs.declared.action.Below.{Below}
@@ -24,31 +24,22 @@ target_in r = record { operation = r.operation; stream = r.stream; handle = r.ha
 abbrev pub opens : Target → Status → Bool
 opens x status = is_create x.operation && is_success status
 
--- after the base's answer to an operation, which is answered in that table
-abbrev pub answered : FlowTable → Status → Option Target → FileTable → FileTable
-answered t status None f = f
-answered t status (Some x) f = after_base x.operation x.stream x.handle status (is_created_on x.stream t) f
+-- after the base's answer, where the operation is answered in that table
+abbrev pub answered : FlowTable → Status → Target → FileTable → FileTable
+answered t status x f = after_base x.operation x.stream x.handle status (is_created_on x.stream t) f
 
 -- after the verdict of a filter
-abbrev pub decided : FlowTable → PreState → Option Target → FileTable → FileTable
-decided t given None f = f
-decided t given (Some x) f = after_pre given x.operation x.stream (is_created_on x.stream t) f
-
--- ---- answers
+abbrev pub decided : FlowTable → PreState → Target → FileTable → FileTable
+decided t given x f = after_pre given x.operation x.stream (is_created_on x.stream t) f
 
 -- the answer that `next` recorded without a call
-abbrev pub answer_known : Result FlowAction Status → Below → Option Status
-answer_known (Ok action.Moved) (below.Known status) = Some status
-answer_known _ _ = None
-
-abbrev pub after_answer : FileTable → FlowTable → Option Target → Option Status → FileTable
-after_answer f t x None = f
-after_answer f t x (Some status) = answered t status x f
+abbrev pub known_in : FlowAction → Below → Option Status
+known_in action.Moved (below.Known status) = Some status
+known_in _ _ = None
 
 -- a handle that the answer gives has its room and its number
-abbrev pub HasRoom : FileTable → Option Target → Option Status → Type 0
-HasRoom f (Some x) (Some status) = opens x status ≡ true → (length f.handles < 4096) × (f.next < 2 ^ 64 - 1)
-HasRoom f _ _ = Unit {0}
+abbrev pub HasRoom : FileTable → Target → Status → Type 0
+HasRoom f x status = opens x status ≡ true → (length f.handles < 4096) × (f.next < 2 ^ 64 - 1)
 
 abbrev pub is_completed_create : PreState → Operation → Bool
 is_completed_create (state.Completed why) kind.Create = true

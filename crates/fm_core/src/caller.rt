@@ -1,6 +1,6 @@
 //! Whose callback a worker is in, and what follows from it for contexts: who owns them, and what they are set on.
 
-ghost use Rattle.std.specs.Prelude.{◌≡◌, Some, option_map, slice_get};
+ghost use Rattle.std.specs.Prelude.{◌≡◌, ◌<◌, Some, None, IfSome, IfNone, option_map, slice_get};
 ghost use Rattle.fm_world.specs.ContextEvents.{callback_of};
 ghost use Rattle.fm_world.specs.Links.{is_there};
 ghost use Rattle.fm_world.specs.Owners.{instance_in, operation_in, file_object, file_of};
@@ -8,7 +8,6 @@ ghost use Rattle.fm_core.specs.Callers.{caller_of, owner_for, object_for, has_ki
 
 use crate::files::Files;
 use crate::state::State;
-use crate::target::target_of;
 use fm_ctx::{Object, Owner};
 use fm_flow::Flow;
 use fm_stack::{Phase, Stack, VolumePhase};
@@ -88,8 +87,8 @@ fn file_object(stream: Option<StreamId>, handle: Option<HandleId>) -> Option<Fil
 fn file_of(flow: &Flow, place: Worker) -> Option<FileObject>
     ensures { result ≡ file_of flow.now (Some place) }
 {
-    let target = target_of(flow, operation_in(place)?)?;
-    file_object(target.stream, target.handle)
+    let record = flow.record(operation_in(place)?)?;
+    file_object(record.stream(), record.handle())
 }
 
 /// Whether an object that a context may be set on is there: streams are torn down, and handles close.
@@ -131,7 +130,9 @@ pub(crate) fn is_closing(stack: &Stack, instance: InstanceId) -> bool
 impl State {
     /// Whose callback the worker is in.
     pub(crate) fn caller(&self, worker: WorkerId) -> Option<Caller>
-        ensures { result ≡ option_map caller_of (callback_of self.now worker) }
+        ensures callback { result ≡ option_map caller_of (callback_of self.now worker) }
+        ensures none { IfNone result (callback_of self.now worker ≡ None) }
+        ensures within { IfSome result (λ _. worker.0 < 48) }
     {
         let place = self.place(worker)?;
         let instance = instance_in(place)?;

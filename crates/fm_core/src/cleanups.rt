@@ -1,45 +1,17 @@
 //! Events that clean contexts up, and the end of an instance.
 
-ghost use Rattle.std.specs.Prelude.{◌≡◌, ◌+◌, ◌<◌, ◌%◌, ◌^◌, length, option_map};
+ghost use Rattle.std.specs.Prelude.{◌≡◌, ◌+◌, ◌<◌, ◌%◌, ◌^◌, length};
 ghost use Rattle.fm_types.specs.Lists.{updated};
-ghost use Rattle.fm_ctx.specs.declared.due.Due.{Due as DueContext};
-ghost use Rattle.fm_world.specs.ContextEvents.{TakesDue, Cleans, Finishes, after_due, totalled_for};
+ghost use Rattle.fm_world.specs.ContextEvents.{TakesDue, Cleans, Finishes, totalled_for};
 ghost use Rattle.fm_world.specs.Hands.{KeepsHands};
-ghost use Rattle.fm_world.specs.Workers.{cleanup_in};
 ghost use Rattle.fm_core.specs.Callers.{filter_at, refused_in};
 
 use crate::state::State;
-use crate::workers::put;
+use crate::workers::{cleanup_of, note_due, put};
 use fm_ctx::{Due, Owner};
 use fm_stack::{Phase, Stack};
-use fm_types::{CtxId, FilterId, InstanceId, Status, WorkerId};
+use fm_types::{FilterId, InstanceId, Status, WorkerId};
 use fm_world::Worker;
-
-/// The context whose cleanup callback it is.
-fn cleanup_of(place: Option<Worker>) -> Option<CtxId>
-    ensures { result ≡ cleanup_in place }
-{
-    match place? {
-        Worker::Cleanup(context) => Some(context),
-        Worker::Idle
-        | Worker::Setup(_)
-        | Worker::Pre(_, _)
-        | Worker::Base(_)
-        | Worker::Post(_, _)
-        | Worker::Drain(_, _)
-        | Worker::EarlyDrain(_, _) => None,
-    }
-}
-
-/// After a context was taken: the worker is in its cleanup callback.
-fn note_due(workers: &mut [Worker], worker: WorkerId, due: &Option<Due>)
-    ensures { workers.new ≡ after_due workers.old worker (option_map (λ (d : DueContext). d.id) due.now) }
-{
-    match due {
-        Some(due) => put(workers, worker, Worker::Cleanup(due.id)),
-        None => {}
-    }
-}
 
 /// The filter of an owner, if it is there.
 fn filter_of(stack: &Stack, owner: Option<Owner>) -> Option<FilterId>
@@ -86,6 +58,7 @@ fn add_total(totals: &mut [u64], filter: Option<FilterId>, number: u64)
 impl State {
     /// An idle worker takes the context that is due longest, and is in its filter's cleanup callback (`PFLT_CONTEXT_CLEANUP_CALLBACK`); none where none is due,
     /// and the worker stays idle. The context's body moves out with it. Refused, nothing changed, with 30 where the worker isn't idle. It takes no memory.
+    #[tactic(auto, unfolding(fm_world::specs::ContextEvents::TakesDue))]
     pub fn take_due(&mut self, worker: WorkerId) -> Result<Option<Due>, Status>
         ensures event { TakesDue self.old worker result self.new }
         ensures hand { KeepsHands self.old self.new }
@@ -100,6 +73,7 @@ impl State {
 
     /// The cleanup callback that the worker is in returns, with a number that is added to its filter's total, modulo 2^64: the context is gone. Refused,
     /// nothing changed, with 30 where the worker is in no cleanup callback. It takes no memory.
+    #[tactic(auto, unfolding(fm_world::specs::ContextEvents::Cleans))]
     pub fn cleaned(&mut self, worker: WorkerId, number: u64) -> Result<(), Status>
         ensures event { Cleans self.old worker number result self.new }
         ensures hand { KeepsHands self.old self.new }
@@ -116,6 +90,7 @@ impl State {
 
     /// Ends an instance whose contexts are all cleaned up: it is Detached, and its name and altitude are free. Refused, nothing changed: 8 where the
     /// instance isn't there or is Detached, 30 where it isn't Emptying, 34 with the number of its contexts that aren't cleaned. It takes no memory.
+    #[tactic(auto, unfolding(fm_world::specs::ContextEvents::Finishes))]
     pub fn finish(&mut self, instance: InstanceId) -> Result<(), Status>
         ensures event { Finishes self.old instance result self.new }
         ensures hand { KeepsHands self.old self.new }

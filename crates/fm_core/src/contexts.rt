@@ -2,8 +2,8 @@
 
 ghost use Rattle.std.specs.Prelude.{◌≡◌, ◌+◌, ◌<◌, Some, None, Ok, MatchResult, slice_get};
 ghost use Rattle.fm_ctx.specs.Table.{Context, context_at};
-ghost use Rattle.fm_world.specs.ContextEvents.{Allocates, Sets, Gets, Deletes, References, Releases, callback_of, set_answer};
-ghost use Rattle.fm_world.specs.Hands.{OnlyHandOf, HoldsMore, HoldsOneFewer, hand_len, given_with, given_by_set};
+ghost use Rattle.fm_world.specs.ContextEvents.{Allocates, Sets, Gets, Deletes, callback_of, set_answer};
+ghost use Rattle.fm_world.specs.Hands.{OnlyHandOf, HoldsMore, hand_len, given_with, given_by_set};
 ghost use Rattle.fm_core.specs.Callers.{caller_of, has_kind_at};
 ghost use Rattle.fm_core.specs.Setting.{IsSettable, IsUnsettable, IsFound, IsNotFound};
 
@@ -28,6 +28,7 @@ impl State {
     /// Allocates a context of a kind, with its body (`FltAllocateContext`): its one reference is in the worker's hand, and it belongs to the callback's
     /// instance, or to its filter where it is a volume context. Refused, nothing changed: 30 where the worker is in no callback of an instance, 21 where
     /// the filter didn't register the kind, 29 where the body has more than 4,096 bytes and at the 65,537th context, 26 where the hand has 16 references, 1.
+    #[tactic(auto, unfolding(fm_world::specs::ContextEvents::Allocates))]
     pub fn allocate(
         &mut self,
         worker: WorkerId,
@@ -86,6 +87,7 @@ impl State {
     /// where the context is set already, 27 where the callback has no such object (a create before it succeeded, a listing and a setup have neither stream nor
     /// handle), 13 where the instance is torn down, its volume dismounted, the handle closed or the stream torn down, 26 where the
     /// old one is wanted and the hand has 16 references. 22 where Keep finds one: where it is wanted, a reference to it is in the hand. It takes no memory.
+    #[tactic(auto, unfolding(fm_world::specs::ContextEvents::Sets))]
     pub fn set(
         &mut self,
         worker: WorkerId,
@@ -127,6 +129,7 @@ impl State {
     /// `FltGetStreamHandleContext`): a reference more, in the hand. Refused, nothing changed: 30 where the worker is in no callback of an instance, 21 where the
     /// filter didn't register the kind, 27 where the callback has no such object, 13 where the handle is closed or the stream torn down, 24 where none is set, 26
     /// where the hand has 16 references. It takes no memory.
+    #[tactic(auto, unfolding(fm_world::specs::ContextEvents::Gets))]
     pub fn get(&mut self, worker: WorkerId, kind: ContextKind) -> Result<CtxId, Status>
         ensures event { Gets self.old worker kind result self.new }
         ensures hand { OnlyHandOf worker.0 self.old self.new }
@@ -149,6 +152,7 @@ impl State {
     /// `FltDeleteStreamHandleContext`): its link's reference is released, or in the hand where it is wanted. Refused, nothing changed: 30 where the worker
     /// is in no callback of an instance, 21 where the filter didn't register the kind, 27 where the callback has no such object, 24 where none is set, 26
     /// where it is wanted and the hand has 16 references. It takes no memory.
+    #[tactic(auto, unfolding(fm_world::specs::ContextEvents::Deletes))]
     pub fn delete(
         &mut self,
         worker: WorkerId,
@@ -167,31 +171,5 @@ impl State {
             Err(status) => return Err(status),
         };
         self.contexts.delete(worker, owner, object, wants_old)
-    }
-
-    /// Takes one more reference to a context that the worker holds (`FltReferenceContext`). Refused, nothing changed: 30 where the worker is in no callback
-    /// of an instance, 25 where it doesn't hold the context, 26 where its hand has 16 references. It takes no memory.
-    pub fn reference(&mut self, worker: WorkerId, context: CtxId) -> Result<(), Status>
-        ensures event { References self.old worker context result self.new }
-        ensures hand { OnlyHandOf worker.0 self.old self.new }
-        ensures held { HoldsMore worker.0 result (λ _. 1) self.old self.new }
-    {
-        let Some(_caller) = self.caller(worker) else {
-            return Err(Status::WrongStep);
-        };
-        self.contexts.reference(worker, context)
-    }
-
-    /// Gives up one reference of the worker's hand (`FltReleaseContext`): with the last one the context is due. Refused, nothing changed: 30 where the worker
-    /// is in no callback of an instance, 25 where it doesn't hold the context. It takes no memory.
-    pub fn release(&mut self, worker: WorkerId, context: CtxId) -> Result<(), Status>
-        ensures event { Releases self.old worker context result self.new }
-        ensures hand { OnlyHandOf worker.0 self.old self.new }
-        ensures held { HoldsOneFewer worker.0 result self.old self.new }
-    {
-        let Some(_caller) = self.caller(worker) else {
-            return Err(Status::WrongStep);
-        };
-        self.contexts.release(worker, context)
     }
 }

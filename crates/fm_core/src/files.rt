@@ -3,13 +3,13 @@
 ghost use Rattle.std.specs.Prelude.{◌≡◌, ℕ, ◌<◌, ◌≤◌, ◌+◌, ◌-◌, ◌^◌, true, cond, Some, IfOk, OnOk, length, option_copied, option_map, find, position, vec_capacity};
 ghost use Rattle.fm_types.specs.Lists.{change_first, without_first};
 ghost use Rattle.fm_world.specs.Files.{empty_files, is_handle, is_stream, is_at_path, with_phase, with_mark, stream_at, stream_of_path, handle_at, has_handle_on, has_other_handle, is_marked, stream_for, created, phased, marked, opened, closed, torn_down, left, after_base};
-ghost use Rattle.fm_types.specs.declared.operation.Operation.TheVariants as Operation_of;
+ghost use Rattle.fm_types.specs.declared.operation.Operation.TheVariants as kind;
 ghost use Rattle.fm_flow.specs.Answered.{is_success};
 ghost use Rattle.fm_core.specs.FilesKept.{paths_of};
 ghost use Rattle.fm_core.specs.Targets.{opens};
 
 use crate::target::Target;
-use fm_types::{HandleId, Operation, RelPath, SharedPath, Status, StreamId, VolumeId};
+use fm_types::{HandleId, RelPath, Role, SharedPath, Status, StreamId, VolumeId};
 use fm_world::{FileHandle, FileStream, HandlePhase};
 use std::alloc::{AllocError, Global};
 use std::marker::Model;
@@ -243,17 +243,11 @@ impl Files {
         let Some(stream) = target.stream else {
             return;
         };
-        match target.operation {
-            Operation::Create => self.answer_create(stream, status, is_created),
-            Operation::SetDelete => self.answer_marking(stream, status),
-            Operation::Close => self.answer_close(stream, target.handle, is_created),
-            Operation::Read
-            | Operation::Write
-            | Operation::QuerySize
-            | Operation::SetSize
-            | Operation::Flush
-            | Operation::List
-            | Operation::Cleanup => {}
+        match target.operation.role() {
+            Role::Opens => self.answer_create(stream, status, is_created),
+            Role::Marks => self.answer_marking(stream, status),
+            Role::Closes => self.answer_close(stream, target.handle, is_created),
+            Role::Uses | Role::CleansUp => {}
         }
     }
 
@@ -278,7 +272,7 @@ impl Files {
     }
 
     fn answer_close(&mut self, stream: StreamId, handle: Option<HandleId>, is_created: bool)
-        ensures { self.new.table ≡ after_base Operation.Close (Some stream) handle Status.Success is_created self.old.table }
+        ensures { self.new.table ≡ after_base kind.Close (Some stream) handle Status.Success is_created self.old.table }
     {
         if let Some(handle) = handle {
             self.close(handle);
@@ -299,13 +293,13 @@ fn handle_in(handles: &[FileHandle], handle: HandleId) -> Option<&FileHandle>
     handles.iter().find(|row| row.number.0 == handle.0)
 }
 
-fn place_of_handle(handles: &[FileHandle], handle: HandleId) -> Option<usize>
+fn index_of_handle(handles: &[FileHandle], handle: HandleId) -> Option<usize>
     ensures { result ≡ position (is_handle handle) handles.now }
 {
     handles.iter().position(|row| row.number.0 == handle.0)
 }
 
-fn place_of_stream(streams: &[FileStream], stream: StreamId) -> Option<usize>
+fn index_of_stream(streams: &[FileStream], stream: StreamId) -> Option<usize>
     ensures { result ≡ position (is_stream stream) streams.now }
 {
     streams.iter().position(|row| row.number.0 == stream.0)
@@ -333,7 +327,7 @@ fn phase_in(handles: &mut Vec<FileHandle>, handle: HandleId, phase: HandlePhase)
     ensures items { handles.new.items ≡ change_first (is_handle handle) (with_phase phase) handles.old.items }
     ensures capacity { vec_capacity handles.new ≡ vec_capacity handles.old }
 {
-    if let Some(at) = place_of_handle(handles, handle) {
+    if let Some(at) = index_of_handle(handles, handle) {
         handles[at].phase = phase;
     }
 }
@@ -341,7 +335,7 @@ fn phase_in(handles: &mut Vec<FileHandle>, handle: HandleId, phase: HandlePhase)
 fn mark_in(streams: &mut Vec<FileStream>, stream: StreamId)
     ensures { streams.new.items ≡ change_first (is_stream stream) with_mark streams.old.items }
 {
-    if let Some(at) = place_of_stream(streams, stream) {
+    if let Some(at) = index_of_stream(streams, stream) {
         streams[at].is_marked = true;
     }
 }
@@ -350,7 +344,7 @@ fn close_in(handles: &mut Vec<FileHandle>, handle: HandleId)
     ensures items { handles.new.items ≡ without_first (is_handle handle) handles.old.items }
     ensures capacity { vec_capacity handles.new ≡ vec_capacity handles.old }
 {
-    if let Some(at) = place_of_handle(handles, handle) {
+    if let Some(at) = index_of_handle(handles, handle) {
         handles.remove(at);
     }
 }
@@ -358,7 +352,7 @@ fn close_in(handles: &mut Vec<FileHandle>, handle: HandleId)
 fn tear_in(streams: &mut Vec<FileStream>, stream: StreamId)
     ensures { streams.new.items ≡ without_first (is_stream stream) streams.old.items }
 {
-    if let Some(at) = place_of_stream(streams, stream) {
+    if let Some(at) = index_of_stream(streams, stream) {
         streams.remove(at);
     }
 }

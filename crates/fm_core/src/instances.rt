@@ -5,10 +5,9 @@ ghost use Rattle.fm_world.specs.Events.{Registers, Mounts, Attaches, SetsUp};
 ghost use Rattle.fm_world.specs.Workers.{worker_at};
 ghost use Rattle.fm_world.specs.Hands.{OnlyHandOf, KeepsHands, hand_len, left_by_setup};
 
-use crate::hands::unlink_unless;
-use crate::place::setup_of;
+use crate::references::unlink_unless;
 use crate::state::State;
-use crate::workers::{note_attach, put};
+use crate::workers::{note_attach, put, setup_of};
 use fm_altitude::Altitude;
 use fm_types::{FilterId, InstanceId, Name, Registration, Status, VolumeId, WorkerId};
 use fm_world::Worker;
@@ -37,6 +36,7 @@ impl State {
     /// Refused, nothing changed: 30 where the worker isn't idle or isn't there, 6 and 9 where the filter isn't there or isn't loaded, 7 and 33 where the
     /// volume isn't there or is dismounting, 4 and 5 where an instance on the volume that isn't detached has that name or an equal altitude, 29 at 32 such
     /// instances or at the 4,097th attach of a run, 1.
+    #[tactic(auto, unfolding(fm_world::specs::Events::Attaches))]
     pub fn attach(
         &mut self,
         worker: WorkerId,
@@ -60,6 +60,7 @@ impl State {
     /// begins from now on. Refused, nothing changed, with 30 where the worker is in no setup callback; and with 11 where the callback refused, or 13 where
     /// the filter isn't loaded any more or the volume is dismounting: then the callback returned all the same, the instance is Emptying, and its contexts lost
     /// their links. What the worker still held is released and counts as leaked. It takes no memory.
+    #[tactic(auto, unfolding(fm_world::specs::Events::SetsUp))]
     pub fn setup_done(&mut self, worker: WorkerId, accept: bool) -> Result<(), Status>
         ensures event { SetsUp self.old worker accept result self.new }
         ensures hand { OnlyHandOf worker.0 self.old self.new }

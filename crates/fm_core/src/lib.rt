@@ -4,21 +4,16 @@
 //! said by a relation of `fm_world` (its `specs/Events` and `specs/ContextEvents`), and every State keeps the Headline (`specs/Headline` there): `State::headline` says so.
 #![tactic(auto)]
 
-mod ahead;
-mod answers;
-mod begins;
-mod bodies;
 mod caller;
 mod cleanups;
 mod contexts;
+mod descent;
 mod files;
-mod hands;
 mod instances;
-mod links;
 mod operations;
-mod place;
 mod readers;
-mod returned;
+mod references;
+mod requests;
 mod runs;
 mod state;
 mod target;

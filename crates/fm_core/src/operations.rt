@@ -7,17 +7,13 @@ ghost use Rattle.fm_world.specs.Events.{Nexts, PreReturns, BaseReturns, PostRetu
 ghost use Rattle.fm_world.specs.Hands.{OnlyHandOf, KeepsHands, HoldsMore, HoldsNone, given_by_next};
 ghost use Rattle.fm_core.specs.Returned.{status_of};
 
-use crate::ahead::{drains_next, lies_below, state_given};
-use crate::answers::{known_in, note_answer, note_verdict, taken};
-use crate::hands::{bring_back, end_callback, of_hand, sent_in};
-use crate::links::unlink_lost;
-use crate::place::{base_of, drain_of, post_of, pre_of};
-use crate::returned::{answer_strange, answer_strange_data, note_return};
+use crate::descent::{drains_next, has_post, lies_below};
+use crate::references::{bring_back, end_callback, of_hand, sent_in};
 use crate::state::State;
-use crate::target::target_of;
-use crate::workers::{note_next, put};
+use crate::target::{known_in, note_answer, note_verdict, target_of};
+use crate::workers::{base_of, drain_of, note_next, post_of, pre_of, put};
 use fm_data::{Answer, BaseCall, CallbackData, PostVerdict, PreVerdict};
-use fm_flow::FlowAction;
+use fm_flow::{FlowAction, counted};
 use fm_types::{HandleId, InstanceId, OpId, Status, WorkerId};
 use fm_world::{Refused, Worker};
 
@@ -27,6 +23,7 @@ impl State {
     /// isn't idle or isn't there, where there is no such operation or another worker is inside it, and where the next callback is a synchronized
     /// postoperation of another worker. The context that a completion carries is in the worker's hand again. Where the base's answer was known and took
     /// away a handle or a stream, the contexts set on it lose their links. Where the operation is held or done nothing changes either. It takes no memory.
+    #[tactic(auto, unfolding(fm_world::specs::Events::Nexts))]
     pub fn next(&mut self, worker: WorkerId, operation: OpId) -> Result<FlowAction, Status>
         ensures event { Nexts self.old worker operation result self.new }
         ensures nothing { gives_nothing result ≡ true → self.new ≡ self.old }
@@ -36,24 +33,38 @@ impl State {
         if !self.is_idle(worker) {
             return Err(Status::WrongStep);
         }
+        let Some(record) = self.flow.record(operation) else {
+            return Err(Status::WrongStep);
+        };
+        let target = target_of(record);
+        let below = lies_below(&self.stack, &self.files, &self.flow, record);
+        let drains = drains_next(&self.stack, record);
         self.contexts.laws();
         let _next = self.flow.next_number();
-        let below = lies_below(&self.stack, &self.files, &self.flow, operation);
-        let drains = drains_next(&self.stack, &self.flow, operation);
-        let target = target_of(&self.flow, operation);
-        let answer = self.flow.next(operation, worker, below, drains);
-        bring_back(&mut self.contexts, worker, &answer);
-        note_next(&mut self.workers, worker, operation, &answer);
-        let known = known_in(&answer, below);
-        note_answer(&mut self.files, &self.flow, target, known);
-        unlink_lost(&mut self.contexts, &self.files, target, known.is_some());
-        answer
+        let action = match self.flow.next(operation, worker, below, drains) {
+            Ok(action) => action,
+            Err(status) => return Err(status),
+        };
+        bring_back(&mut self.contexts, worker, &action);
+        note_next(&mut self.workers, worker, operation, &action);
+        let Some(status) = known_in(&action, below) else {
+            return Ok(action);
+        };
+        note_answer(
+            &mut self.files,
+            &mut self.contexts,
+            &self.flow,
+            target,
+            status,
+        );
+        Ok(action)
     }
 
     /// The preoperation callback that the worker is in returns, with its verdict and its data. A completion takes a context of the worker's hand along, and
     /// counts as having none where the hand has it not; what else is in the hand is released and counts as leaked. Where a create that it completes was all
     /// that kept its stream, the contexts set on that lose their links. Refused, nothing changed and the data handed back: 30
     /// where the worker is in no preoperation, 32 where the data is strange: of another operation, on another path of a create, or past a limit.
+    #[tactic(auto, unfolding(fm_world::specs::Events::PreReturns))]
     pub fn pre_returned(
         &mut self,
         worker: WorkerId,
@@ -71,22 +82,36 @@ impl State {
                 handed_back: lent,
             });
         };
+        let Some(record) = self.flow.record(operation) else {
+            unreachable!();
+        };
+        let target = target_of(record);
+        let has_post = has_post(&self.stack, instance, target.operation);
         self.contexts.laws();
         let verdict = of_hand(&self.contexts, worker, verdict);
-        let state = state_given(&self.stack, &self.flow, operation, instance, verdict);
-        let sent = sent_in(&state);
-        let target = target_of(&self.flow, operation);
-        let answer = self.flow.pre_returned(operation, state, lent);
-        end_callback(&mut self.contexts, worker, sent, answer.is_ok());
-        note_return(&mut self.workers, worker, answer.is_ok());
-        note_verdict(&mut self.files, &self.flow, target, state, answer.is_ok());
-        unlink_lost(&mut self.contexts, &self.files, target, answer.is_ok());
-        answer_strange(answer)
+        let state = counted(verdict, target.operation, has_post);
+        if let Err(handed_back) = self.flow.pre_returned(operation, state, lent) {
+            return Err(Refused {
+                status: Status::BadRequest,
+                handed_back,
+            });
+        }
+        end_callback(&mut self.contexts, worker, sent_in(&state));
+        put(&mut self.workers, worker, Worker::Idle);
+        note_verdict(
+            &mut self.files,
+            &mut self.contexts,
+            &self.flow,
+            target,
+            state,
+        );
+        Ok(())
     }
 
     /// The base call that the worker is in returns, with what it was asked and its answer. The contexts that are set on a handle that closes,
     /// or on a stream that is torn down, lose their links. Refused, nothing changed and both handed back:
     /// 30 where the worker is in no base call, 32 where the call is strange (of another volume, file or operation, or past a limit) or more than 32,768 bytes come back.
+    #[tactic(auto, unfolding(fm_world::specs::Events::BaseReturns))]
     pub fn base_returned(
         &mut self,
         worker: WorkerId,
@@ -103,21 +128,34 @@ impl State {
                 handed_back: (call, given),
             });
         };
+        let Some(record) = self.flow.record(operation) else {
+            unreachable!();
+        };
+        let target = target_of(record);
         let _next = self.flow.next_number();
-        let target = target_of(&self.flow, operation);
         let handle = HandleId(self.files.next_number());
         let status = given.status;
-        let answer = self.flow.base_returned(operation, call, given, handle);
-        note_return(&mut self.workers, worker, answer.is_ok());
-        let status = taken(answer.is_ok(), status);
-        note_answer(&mut self.files, &self.flow, target, status);
-        unlink_lost(&mut self.contexts, &self.files, target, status.is_some());
-        answer_strange(answer)
+        if let Err(handed_back) = self.flow.base_returned(operation, call, given, handle) {
+            return Err(Refused {
+                status: Status::BadRequest,
+                handed_back,
+            });
+        }
+        put(&mut self.workers, worker, Worker::Idle);
+        note_answer(
+            &mut self.files,
+            &mut self.contexts,
+            &self.flow,
+            target,
+            status,
+        );
+        Ok(())
     }
 
     /// The postoperation callback that the worker is in returns, with its verdict and its data; or the drain, which has no data and whose verdict counts
     /// as Finished. What is in the worker's hand is released and counts as leaked. Refused, nothing changed and the data handed back: 30 where the worker is in neither, 32 where the data is strange, where a
     /// postoperation has none or a drain has some.
+    #[tactic(auto, using(fm_world::proofs::Handing::post_hand, fm_world::proofs::Holdings::post_none), unfolding(fm_world::specs::Events::PostReturns))]
     pub fn post_returned(
         &mut self,
         worker: WorkerId,
@@ -167,10 +205,15 @@ impl State {
         ensures event { PostReturns self.old worker verdict (Some lent) (status_of result) self.new }
         ensures back { IfErr result (λ refused. refused.handed_back ≡ Some lent) }
     {
-        let answer = self.flow.post_returned(operation, verdict, lent);
-        end_callback(&mut self.contexts, worker, None, answer.is_ok());
-        note_return(&mut self.workers, worker, answer.is_ok());
-        answer_strange_data(answer)
+        if let Err(lent) = self.flow.post_returned(operation, verdict, lent) {
+            return Err(Refused {
+                status: Status::BadRequest,
+                handed_back: Some(lent),
+            });
+        }
+        end_callback(&mut self.contexts, worker, None);
+        put(&mut self.workers, worker, Worker::Idle);
+        Ok(())
     }
 
     /// A drain returns.
@@ -185,7 +228,7 @@ impl State {
         ensures { PostReturns self.old worker _verdict None (Ok tt) self.new }
     {
         self.flow.drain_returned(operation, instance);
-        end_callback(&mut self.contexts, worker, None, true);
+        end_callback(&mut self.contexts, worker, None);
         put(&mut self.workers, worker, Worker::Idle);
     }
 

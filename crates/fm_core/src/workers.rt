@@ -1,14 +1,78 @@
-//! Where workers are, and where an event puts them.
+//! Where workers are, what a place says, and where an event puts a worker.
 
-ghost use Rattle.std.specs.Prelude.{◌≡◌, slice_set};
-ghost use Rattle.fm_world.specs.Workers.{put, after_attach, after_next};
+ghost use Rattle.std.specs.Prelude.{◌≡◌, Ok, option_map};
+ghost use Rattle.fm_ctx.specs.declared.due.Due.{Due as DueContext};
+ghost use Rattle.fm_world.specs.ContextEvents.{after_due};
+ghost use Rattle.fm_world.specs.Workers.{put, after_attach, after_next, cleanup_in};
+ghost use Rattle.fm_core.specs.Places.{setup_of, pre_of, base_of, post_of, drain_of};
 
+use fm_ctx::Due;
 use fm_flow::FlowAction;
-use fm_types::{InstanceId, OpId, Status, WorkerId};
+use fm_types::{CtxId, InstanceId, OpId, Status, WorkerId};
 use fm_world::Worker;
 
 /// How many workers there are.
 pub(crate) const WORKERS: usize = 48;
+
+/// The instance whose setup callback it is.
+pub(crate) fn setup_of(place: Option<Worker>) -> Option<InstanceId>
+    ensures { result ≡ setup_of place }
+{
+    match place? {
+        Worker::Setup(instance) => Some(instance),
+        _ => None,
+    }
+}
+
+/// The operation and the instance whose preoperation it is.
+pub(crate) fn pre_of(place: Option<Worker>) -> Option<(OpId, InstanceId)>
+    ensures { result ≡ pre_of place }
+{
+    match place? {
+        Worker::Pre(operation, instance) => Some((operation, instance)),
+        _ => None,
+    }
+}
+
+/// The operation whose base call it is.
+pub(crate) fn base_of(place: Option<Worker>) -> Option<OpId>
+    ensures { result ≡ base_of place }
+{
+    match place? {
+        Worker::Base(operation) => Some(operation),
+        _ => None,
+    }
+}
+
+/// The operation and the instance whose postoperation it is.
+pub(crate) fn post_of(place: Option<Worker>) -> Option<(OpId, InstanceId)>
+    ensures { result ≡ post_of place }
+{
+    match place? {
+        Worker::Post(operation, instance) => Some((operation, instance)),
+        _ => None,
+    }
+}
+
+/// The operation and the instance whose drain it is.
+pub(crate) fn drain_of(place: Option<Worker>) -> Option<(OpId, InstanceId)>
+    ensures { result ≡ drain_of place }
+{
+    match place? {
+        Worker::Drain(operation, instance) => Some((operation, instance)),
+        _ => None,
+    }
+}
+
+/// The context whose cleanup callback it is.
+pub(crate) fn cleanup_of(place: Option<Worker>) -> Option<CtxId>
+    ensures { result ≡ cleanup_in place }
+{
+    match place? {
+        Worker::Cleanup(context) => Some(context),
+        _ => None,
+    }
+}
 
 /// Puts a worker somewhere; nothing happens where there is no such worker.
 pub(crate) fn put(workers: &mut [Worker], worker: WorkerId, place: Worker)
@@ -39,23 +103,29 @@ pub(crate) fn note_next(
     workers: &mut [Worker],
     worker: WorkerId,
     operation: OpId,
-    answer: &Result<FlowAction, Status>,
+    action: &FlowAction,
 )
-    ensures { workers.new ≡ after_next workers.old worker operation answer.now }
+    ensures { workers.new ≡ after_next workers.old worker operation (Ok action.now) }
 {
-    match answer {
-        Ok(FlowAction::Pre(instance, _)) => put(workers, worker, Worker::Pre(operation, *instance)),
-        Ok(FlowAction::Base(_)) => put(workers, worker, Worker::Base(operation)),
-        Ok(FlowAction::Post(instance, _, _)) => put(
+    match action {
+        FlowAction::Pre(instance, _) => put(workers, worker, Worker::Pre(operation, *instance)),
+        FlowAction::Base(_) => put(workers, worker, Worker::Base(operation)),
+        FlowAction::Post(instance, _, _) => put(
             workers,
             worker,
             Worker::Post(operation, *instance),
         ),
-        Ok(FlowAction::Drain(instance, _)) => put(
-            workers,
-            worker,
-            Worker::Drain(operation, *instance),
-        ),
-        Ok(FlowAction::Moved | FlowAction::Held | FlowAction::Done) | Err(_) => {}
+        FlowAction::Drain(instance, _) => put(workers, worker, Worker::Drain(operation, *instance)),
+        FlowAction::Moved | FlowAction::Held | FlowAction::Done => {}
+    }
+}
+
+/// After a context was taken: the worker is in its cleanup callback.
+pub(crate) fn note_due(workers: &mut [Worker], worker: WorkerId, due: &Option<Due>)
+    ensures { workers.new ≡ after_due workers.old worker (option_map (λ (d : DueContext). d.id) due.now) }
+{
+    match due {
+        Some(due) => put(workers, worker, Worker::Cleanup(due.id)),
+        None => {}
     }
 }

@@ -8,3 +8,4 @@ pub mod Paths
 pub mod PathFields
 pub mod ByteLists
 pub mod Lists
+pub mod Roles

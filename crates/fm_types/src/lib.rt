@@ -17,7 +17,7 @@ pub use crate::bytes::Bytes;
 pub use crate::context_kind::{ContextKind, ContextMask};
 pub use crate::ids::{CtxId, FilterId, HandleId, InstanceId, OpId, StreamId, VolumeId, WorkerId};
 pub use crate::name::Name;
-pub use crate::operation::{CreateMode, OpMask, Operation};
+pub use crate::operation::{CreateMode, OpMask, Operation, Role};
 pub use crate::path::RelPath;
 pub use crate::registration::Registration;
 pub use crate::shared_path::SharedPath;

@@ -1,6 +1,7 @@
 //! The ten kinds of operations, and sets of them: what a filter's callbacks are registered for.
 
 ghost use Rattle.std.specs.Prelude.{⊤, ◌≡◌, ◌<◌, ◌^◌, [], ◌∷◌, codes};
+ghost use Rattle.fm_types.specs.Roles.{role_of};
 ghost use Rattle.fm_types.specs.Masks.{operation_bit, has_operation, HasEveryOperation, HasNoOperation};
 
 use bitflags::{Flag, Flags, bitflag_items};
@@ -18,6 +19,41 @@ pub enum Operation {
     SetDelete,
     Cleanup,
     Close,
+}
+
+/// What an operation does with the file that it is on.
+#[derive(Clone, Copy, Debug, PartialEq, Eq, Hash)]
+pub enum Role {
+    /// It gives a handle on it.
+    Opens,
+    /// It uses an open handle and leaves it as it is; or it lists a volume, and has no handle.
+    Uses,
+    /// It marks the file for deletion.
+    Marks,
+    /// It begins the handle's end.
+    CleansUp,
+    /// It closes the handle.
+    Closes,
+}
+
+impl Operation {
+    /// What it does with the file that it is on.
+    pub fn role(self) -> Role
+        ensures { result ≡ role_of self }
+    {
+        match self {
+            Operation::Create => Role::Opens,
+            Operation::Read
+            | Operation::Write
+            | Operation::QuerySize
+            | Operation::SetSize
+            | Operation::Flush
+            | Operation::List => Role::Uses,
+            Operation::SetDelete => Role::Marks,
+            Operation::Cleanup => Role::CleansUp,
+            Operation::Close => Role::Closes,
+        }
+    }
 }
 
 /// What a create does with a file that is there, and with one that isn't (the create disposition).

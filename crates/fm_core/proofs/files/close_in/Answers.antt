@@ -5,7 +5,10 @@ use Rattle.fm_core.proofs.files.close_in.Goals as goal
 
 pub returns-in-Some-clause-items : goal.returns-in-Some-clause-items
 returns-in-Some-clause-items c =
-    c.remove.ensures.items ∙ (stands_there (is_handle c.args.handle) c.args.handles.now.items c.in-Some.at c.remove.result (ap (position (is_handle c.args.handle)) (sym c.deref.ensures.value) ∙ sym c.place_of_handle.ensures ∙ c.in-Some.is)).goes
+    c.remove.ensures.items ∙ (stands_there (is_handle c.args.handle) c.args.handles.now.items c.in-Some.at c.remove.result
+    (ap (position (is_handle c.args.handle)) (sym c.deref.ensures.value) ∙ sym c.index_of_handle.ensures ∙ c.in-Some.is)).goes
 
 pub returns-in_default-clause-items : goal.returns-in_default-clause-items
-returns-in_default-clause-items c = sym (without_none (is_handle c.args.handle) c.args.handles.now.items (absent (is_handle c.args.handle) c.args.handles.now.items (ap (position (is_handle c.args.handle)) (sym c.deref.ensures.value) ∙ sym c.place_of_handle.ensures ∙ c.in_default.is)))
+returns-in_default-clause-items c =
+    sym (without_none (is_handle c.args.handle) c.args.handles.now.items (absent (is_handle c.args.handle) c.args.handles.now.items
+    (ap (position (is_handle c.args.handle)) (sym c.deref.ensures.value) ∙ sym c.index_of_handle.ensures ∙ c.in_default.is)))

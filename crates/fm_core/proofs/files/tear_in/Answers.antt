@@ -5,7 +5,10 @@ use Rattle.fm_core.proofs.files.tear_in.Goals as goal
 
 pub returns-in-Some : goal.returns-in-Some
 returns-in-Some c =
-    c.remove.ensures.items ∙ (stands_there (is_stream c.args.stream) c.args.streams.now.items c.in-Some.at c.remove.result (ap (position (is_stream c.args.stream)) (sym c.deref.ensures.value) ∙ sym c.place_of_stream.ensures ∙ c.in-Some.is)).goes
+    c.remove.ensures.items ∙ (stands_there (is_stream c.args.stream) c.args.streams.now.items c.in-Some.at c.remove.result
+    (ap (position (is_stream c.args.stream)) (sym c.deref.ensures.value) ∙ sym c.index_of_stream.ensures ∙ c.in-Some.is)).goes
 
 pub returns-in_default : goal.returns-in_default
-returns-in_default c = sym (without_none (is_stream c.args.stream) c.args.streams.now.items (absent (is_stream c.args.stream) c.args.streams.now.items (ap (position (is_stream c.args.stream)) (sym c.deref.ensures.value) ∙ sym c.place_of_stream.ensures ∙ c.in_default.is)))
+returns-in_default c =
+    sym (without_none (is_stream c.args.stream) c.args.streams.now.items (absent (is_stream c.args.stream) c.args.streams.now.items
+    (ap (position (is_stream c.args.stream)) (sym c.deref.ensures.value) ∙ sym c.index_of_stream.ensures ∙ c.in_default.is)))

@@ -6,12 +6,6 @@ use Rattle.fm_world.proofs.Handing.{begin_hands}
 use Rattle.fm_core.proofs.Operated.{asks_begins}
 use Rattle.fm_core.proofs.state.State.begin.Goals as goal
 
-pub returns-in-List-clause-hand : goal.returns-in-List-clause-hand
-returns-in-List-clause-hand c = begin_hands _ _ _ _ c.begin_list.ensures
-
-pub returns-in-Create-clause-hand : goal.returns-in-Create-clause-hand
-returns-in-Create-clause-hand c = begin_hands _ _ _ _ c.begin_create.ensures
-
 pub returns-in-OnHandle-clause-event : goal.returns-in-OnHandle-clause-event
 returns-in-OnHandle-clause-event c =
     subst (λ (b : Begin). Begins c.args.self.now b c.begin_on.result c.begin_on.new.self) (sym c.in-OnHandle.is)

@@ -1,50 +1,38 @@
-use Rattle.std.proofs.Common.{◌≡◌, ℕ, List, Option, Some, Err, ap, sym, ◌∙◌, subst}
+use Rattle.std.proofs.Common.{ℕ, List, Option, Some, ap, sym, ◌∙◌, subst}
 use Rattle.std.specs.Prelude.{cond, is_ok, option_map}
-use Rattle.fm_types.specs.declared.status.Status.TheVariants.{NoMemory}
 use Rattle.fm_data.specs.Params.{operation_of}
 use Rattle.fm_world.specs.declared.file.FileStream.{FileStream}
 use Rattle.fm_world.specs.World.{World}
-use Rattle.fm_core.specs.Fields.{world_of}
-use Rattle.fm_core.specs.Begun.{Asks, IsAsked}
+use Rattle.fm_world.specs.Sound.{IsSound}
+use Rattle.fm_core.specs.Begun.{IsAsked}
 use Rattle.fm_world.specs.Events.{moved_on}
-use Rattle.fm_core.proofs.Operated.{Took, asks, asks_sound, asks_want, begin_tied}
+use Rattle.fm_core.proofs.Operated.{Took, asks, asks_sound, begin_tied}
+use Rattle.fm_core.specs.contracts.state.State.{the_view}
 use Rattle.fm_core.proofs.state.State.begin_asked.Goals as goal
-
-pub invariant_of-self : goal.invariant_of-self
-invariant_of-self c =
-    let old : World = world_of c.self.inside.stack c.self.inside.flow c.self.inside.workers c.self.inside.contexts c.self.inside.totals c.self.inside.files in
-    let files = c.note_begin.ensures ∙ ap (λ b. cond b (moved_on c.operation-operation.result c.args.handle c.next_number-number.result old.files) old.files) c.is_ok.ensures.value
-    ∙ ap (λ x. cond (is_ok c.begin-begun.result) (moved_on x c.args.handle c.next_number-number.result old.files) old.files) c.operation-operation.ensures
-    ∙ ap (λ (n : ℕ). cond (is_ok c.begin-begun.result) (moved_on (operation_of c.args.params) c.args.handle n old.files) old.files) c.next_number-number.ensures.result in
-    let asked = subst (λ (w : World). IsAsked w c.args.handle c.args.params c.args.row c.args.volume) (sym c.self.view_is) c.requires.asked in
-    let path = c.in-Ok.ensures ∙ ap (option_map (λ (y : FileStream). y.path)) asked.there in
-    let event = subst (λ (b : ℕ). Took old.flow c.args.volume (Some c.args.row.stream) (Some c.args.handle) b (Some asked.stream.path) c.args.params c.begin-begun.result c.begin-begun.new.self)
-    c.births-born.ensures
-    (subst (λ (p : Option (List ℕ)). Took old.flow c.args.volume (Some c.args.row.stream) (Some c.args.handle) c.births-born.result p c.args.params c.begin-begun.result c.begin-begun.new.self)
-    path c.begin-begun.ensures) in
-    let is = asks old c.args.handle c.args.params c.args.row c.args.volume c.begin-begun.result c.begin-begun.new.self c.note_begin.new.files.table asked event files in
-    let new : World = record old { flow = c.begin-begun.new.self; files = c.note_begin.new.files.table } in
-    record {
-      sound = asks_sound old c.args.handle c.args.params c.begin-begun.result new is c.requires.none c.self.invariant.sound;
-      tied = begin_tied c.self.inside.contexts c.args.volume (Some c.args.row.stream) (Some c.args.handle) (Some asked.stream.path) c.args.params c.begin-begun.result c.self.inside.flow
-          c.begin-begun.new.self old.stack.births event c.self.invariant.tied;
-    }
 
 pub returns : goal.returns
 returns c =
-    let old : World = world_of c.self.inside.stack c.self.inside.flow c.self.inside.workers c.self.inside.contexts c.self.inside.totals c.self.inside.files in
-    let files = c.note_begin.ensures ∙ ap (λ b. cond b (moved_on c.operation-operation.result c.args.handle c.next_number-number.result old.files) old.files) c.is_ok.ensures.value
+    let old = the_view c.self.inside in
+    let files = c.note_begin.ensures ∙ ap (λ b. cond b (moved_on c.operation-operation.result c.args.handle c.next_number-number.result old.files) old.files)
+    c.is_ok.ensures.value
     ∙ ap (λ x. cond (is_ok c.begin-begun.result) (moved_on x c.args.handle c.next_number-number.result old.files) old.files) c.operation-operation.ensures
-    ∙ ap (λ (n : ℕ). cond (is_ok c.begin-begun.result) (moved_on (operation_of c.args.params) c.args.handle n old.files) old.files) c.next_number-number.ensures.result in
+    ∙ ap (λ (n : ℕ). cond (is_ok c.begin-begun.result) (moved_on (operation_of c.args.params) c.args.handle n old.files) old.files)
+    c.next_number-number.ensures.result in
     let asked = subst (λ (w : World). IsAsked w c.args.handle c.args.params c.args.row c.args.volume) (sym c.self.view_is) c.requires.asked in
     let path = c.in-Ok.ensures ∙ ap (option_map (λ (y : FileStream). y.path)) asked.there in
-    let event = subst (λ (b : ℕ). Took old.flow c.args.volume (Some c.args.row.stream) (Some c.args.handle) b (Some asked.stream.path) c.args.params c.begin-begun.result c.begin-begun.new.self)
+    let event = subst (λ (b : ℕ). Took old.flow c.args.volume (Some c.args.row.stream) (Some c.args.handle) b (Some asked.stream.path) c.args.params
+    c.begin-begun.result c.begin-begun.new.self)
     c.births-born.ensures
-    (subst (λ (p : Option (List ℕ)). Took old.flow c.args.volume (Some c.args.row.stream) (Some c.args.handle) c.births-born.result p c.args.params c.begin-begun.result c.begin-begun.new.self)
+    (subst (λ (p : Option (List ℕ)). Took old.flow c.args.volume (Some c.args.row.stream) (Some c.args.handle) c.births-born.result p c.args.params
+    c.begin-begun.result c.begin-begun.new.self)
     path c.begin-begun.ensures) in
-    let is = asks old c.args.handle c.args.params c.args.row c.args.volume c.begin-begun.result c.begin-begun.new.self c.note_begin.new.files.table asked event files in
-    let new : World = record old { flow = c.begin-begun.new.self; files = c.note_begin.new.files.table } in
-    subst (λ (w : World). Asks w c.args.handle c.args.params c.begin-begun.result new) c.self.view_is is
+    asks c.args.handle c.args.params c.args.row c.args.volume c.begin-begun.result c.begin-begun.new.self c.note_begin.new.files.table c.self.view_is asked
+    event files
 
-pub returns-in_default : goal.returns-in_default
-returns-in_default c = asks_want c.args.self.now c.args.handle c.args.params c.requires.asked.free
+pub invariant_of-self : goal.invariant_of-self
+invariant_of-self c = record {
+  sound = asks_sound _ _ _ _ _ (returns c) c.requires.none (subst IsSound c.self.view_is c.self.invariant.sound);
+  tied = begin_tied c.self.inside.contexts c.args.volume (Some c.args.row.stream) (Some c.args.handle) c.in-Ok.path c.args.params c.begin-begun.result
+      c.self.inside.flow c.begin-begun.new.self
+      c.births-born.result c.begin-begun.ensures c.self.invariant.tied;
+}

@@ -7,69 +7,55 @@ use Rattle.fm_data.specs.declared.params.Params.TheVariants as params
 use Rattle.fm_flow.specs.Table.{is_full}
 use Rattle.fm_world.specs.World.{World}
 use Rattle.fm_world.specs.Files.{FileTable, created, stream_for}
-use Rattle.fm_core.specs.Fields.{world_of}
 use Rattle.fm_core.specs.FilesKept.{paths_of}
 use Rattle.fm_core.specs.declared.files.CreatePaths.{CreatePaths}
 use Rattle.fm_world.specs.Events.{Begins, volume_refusals, has_no_handle_left}
 use Rattle.fm_world.specs.declared.step.Begin.TheVariants as begin
+use Rattle.fm_world.specs.Sound.{IsSound}
 use Rattle.fm_world.proofs.Flowing.{begin_sound}
 use Rattle.fm_core.proofs.Operated.{Took, creates, begin_tied, begin_wants}
+use Rattle.fm_core.specs.contracts.state.State.{the_view}
 use Rattle.fm_core.proofs.state.State.create_mounted.Goals as goal
-
-pub invariant_of-self-2 : goal.invariant_of-self-2
-invariant_of-self-2 c =
-    let old : World = world_of c.self.inside.stack c.self.inside.flow c.self.inside.workers c.self.inside.contexts c.self.inside.totals c.self.inside.files in
-    let given : c.in-Ok.paths ≡ paths_of c.args.path = c.in-Ok.ensures.paths in
-    let event = subst (λ (b : ℕ). Took old.flow c.args.volume (Some c.stream_for-stream.result) None b (Some c.args.path) (params.Create c.args.path c.args.mode) c.begin-begun.result c.begin-begun.new.self)
-    c.births-born.ensures
-    (subst (λ (q : CreatePaths). Took old.flow c.args.volume (Some c.stream_for-stream.result) None c.births-born.result (Some q.operation) (params.Create q.params c.args.mode) c.begin-begun.result c.begin-begun.new.self)
-    given c.begin-begun.ensures) in
-    let stream : c.stream_for-stream.result ≡ stream_for c.args.volume c.args.path old.flow.next old.files = c.stream_for-stream.ensures
-    ∙ ap (λ (q : List ℕ). stream_for c.args.volume q c.next_number-number.result c.prepare.new.self.table) (c.path.ensures ∙ ap (λ (q : CreatePaths). q.stream) given)
-    ∙ ap (λ (f : FileTable). stream_for c.args.volume c.args.path c.next_number-number.result f) c.prepare.ensures.table
-    ∙ ap (λ (n : ℕ). stream_for c.args.volume c.args.path n old.files) c.next_number-number.ensures.result in
-    let begins = subst (λ (s : StreamId). Took old.flow c.args.volume (Some s) None old.stack.births (Some c.args.path) (params.Create c.args.path c.args.mode) c.begin-begun.result c.begin-begun.new.self) stream event in
-    let files = c.note_create.ensures
-    ∙ ap (λ (q : CreatePaths). cond c.is_ok.result (created c.args.volume q.stream c.next_number-number.result c.prepare.new.self.table) c.prepare.new.self.table) given
-    ∙ ap (λ b. cond b (created c.args.volume c.args.path c.next_number-number.result c.prepare.new.self.table) c.prepare.new.self.table) c.is_ok.ensures.value
-    ∙ ap (λ (f : FileTable). cond (is_ok c.begin-begun.result) (created c.args.volume c.args.path c.next_number-number.result f) f) c.prepare.ensures.table
-    ∙ ap (λ (n : ℕ). cond (is_ok c.begin-begun.result) (created c.args.volume c.args.path n old.files) old.files) c.next_number-number.ensures.result in
-    let free = subst (λ (w : World). first_of (volume_refusals w c.args.volume (is_full w.flow || has_no_handle_left w)) ≡ None) (sym c.self.view_is) c.requires in
-    let is = creates old c.args.volume c.args.path c.args.mode c.begin-begun.result c.begin-begun.new.self c.note_create.new.files.table free begins files in
-    let new : World = record old { flow = c.begin-begun.new.self; files = c.note_create.new.files.table } in
-    record {
-      sound = begin_sound old (begin.Create c.args.volume c.args.path c.args.mode) c.begin-begun.result new is c.self.invariant.sound;
-      tied = begin_tied c.self.inside.contexts c.args.volume (Some c.stream_for-stream.result) None (Some c.args.path) (params.Create c.args.path c.args.mode) c.begin-begun.result c.self.inside.flow
-          c.begin-begun.new.self old.stack.births event c.self.invariant.tied;
-    }
 
 pub returns : goal.returns
 returns c =
-    let old : World = world_of c.self.inside.stack c.self.inside.flow c.self.inside.workers c.self.inside.contexts c.self.inside.totals c.self.inside.files in
+    let old = the_view c.self.inside in
     let given : c.in-Ok.paths ≡ paths_of c.args.path = c.in-Ok.ensures.paths in
-    let event = subst (λ (b : ℕ). Took old.flow c.args.volume (Some c.stream_for-stream.result) None b (Some c.args.path) (params.Create c.args.path c.args.mode) c.begin-begun.result c.begin-begun.new.self)
+    let event = subst (λ (b : ℕ). Took old.flow c.args.volume (Some c.stream_for-stream.result) None b (Some c.args.path)
+    (params.Create c.args.path c.args.mode) c.begin-begun.result c.begin-begun.new.self)
     c.births-born.ensures
-    (subst (λ (q : CreatePaths). Took old.flow c.args.volume (Some c.stream_for-stream.result) None c.births-born.result (Some q.operation) (params.Create q.params c.args.mode) c.begin-begun.result c.begin-begun.new.self)
+    (subst (λ (q : CreatePaths). Took old.flow c.args.volume (Some c.stream_for-stream.result) None c.births-born.result (Some q.operation)
+    (params.Create q.params c.args.mode) c.begin-begun.result c.begin-begun.new.self)
     given c.begin-begun.ensures) in
     let stream : c.stream_for-stream.result ≡ stream_for c.args.volume c.args.path old.flow.next old.files = c.stream_for-stream.ensures
-    ∙ ap (λ (q : List ℕ). stream_for c.args.volume q c.next_number-number.result c.prepare.new.self.table) (c.path.ensures ∙ ap (λ (q : CreatePaths). q.stream) given)
+    ∙ ap (λ (q : List ℕ). stream_for c.args.volume q c.next_number-number.result c.prepare.new.self.table)
+    (c.path.ensures ∙ ap (λ (q : CreatePaths). q.stream) given)
     ∙ ap (λ (f : FileTable). stream_for c.args.volume c.args.path c.next_number-number.result f) c.prepare.ensures.table
     ∙ ap (λ (n : ℕ). stream_for c.args.volume c.args.path n old.files) c.next_number-number.ensures.result in
-    let begins = subst (λ (s : StreamId). Took old.flow c.args.volume (Some s) None old.stack.births (Some c.args.path) (params.Create c.args.path c.args.mode) c.begin-begun.result c.begin-begun.new.self) stream event in
+    let begins = subst (λ (s : StreamId). Took old.flow c.args.volume (Some s) None old.stack.births (Some c.args.path) (params.Create c.args.path c.args.mode)
+    c.begin-begun.result c.begin-begun.new.self) stream event in
     let files = c.note_create.ensures
-    ∙ ap (λ (q : CreatePaths). cond c.is_ok.result (created c.args.volume q.stream c.next_number-number.result c.prepare.new.self.table) c.prepare.new.self.table) given
+    ∙ ap (λ (q : CreatePaths). cond c.is_ok.result (created c.args.volume q.stream c.next_number-number.result c.prepare.new.self.table)
+    c.prepare.new.self.table) given
     ∙ ap (λ b. cond b (created c.args.volume c.args.path c.next_number-number.result c.prepare.new.self.table) c.prepare.new.self.table) c.is_ok.ensures.value
     ∙ ap (λ (f : FileTable). cond (is_ok c.begin-begun.result) (created c.args.volume c.args.path c.next_number-number.result f) f) c.prepare.ensures.table
     ∙ ap (λ (n : ℕ). cond (is_ok c.begin-begun.result) (created c.args.volume c.args.path n old.files) old.files) c.next_number-number.ensures.result in
-    let free = subst (λ (w : World). first_of (volume_refusals w c.args.volume (is_full w.flow || has_no_handle_left w)) ≡ None) (sym c.self.view_is) c.requires in
-    let is = creates old c.args.volume c.args.path c.args.mode c.begin-begun.result c.begin-begun.new.self c.note_create.new.files.table free begins files in
-    let new : World = record old { flow = c.begin-begun.new.self; files = c.note_create.new.files.table } in
-    subst (λ (w : World). Begins w (begin.Create c.args.volume c.args.path c.args.mode) c.begin-begun.result new) c.self.view_is is
+    creates c.args.volume c.args.path c.args.mode c.begin-begun.result c.begin-begun.new.self c.note_create.new.files.table c.self.view_is c.requires begins files
+
+pub invariant_of-self-2 : goal.invariant_of-self-2
+invariant_of-self-2 c = record {
+  sound = begin_sound _ _ _ _ (returns c) (subst IsSound c.self.view_is c.self.invariant.sound);
+  tied = begin_tied c.self.inside.contexts c.args.volume (Some c.stream_for-stream.result) None (Some c.in-Ok.paths.operation)
+      (params.Create c.in-Ok.paths.params c.args.mode) c.begin-begun.result c.self.inside.flow c.begin-begun.new.self c.births-born.result c.begin-begun.ensures
+      c.self.invariant.tied;
+}
 
 pub returns-in_default : goal.returns-in_default
 returns-in_default c =
-    let old : World = world_of c.self.inside.stack c.self.inside.flow c.self.inside.workers c.self.inside.contexts c.self.inside.totals c.self.inside.files in
-    let free = subst (λ (w : World). first_of (volume_refusals w c.args.volume (is_full w.flow || has_no_handle_left w)) ≡ None) (sym c.self.view_is) c.requires in
-    let wants = begin_wants old (begin.Create c.args.volume c.args.path c.args.mode) free in
-    subst (λ (w : World). Begins w (begin.Create c.args.volume c.args.path c.args.mode) (Err NoMemory) (record old { files = c.prepare.new.self.table })) c.self.view_is
-    (subst (λ (f : FileTable). Begins old (begin.Create c.args.volume c.args.path c.args.mode) (Err NoMemory) (record old { files = f })) (sym c.prepare.ensures.table) wants)
+    let old = the_view c.self.inside in
+    subst (λ (w : World). Begins w (begin.Create c.args.volume c.args.path c.args.mode) (Err NoMemory) (record old { files = c.prepare.new.self.table }))
+    c.self.view_is
+    (subst (λ (f : FileTable). Begins old (begin.Create c.args.volume c.args.path c.args.mode) (Err NoMemory) (record old { files = f }))
+    (sym c.prepare.ensures.table)
+    (begin_wants old (begin.Create c.args.volume c.args.path c.args.mode)
+    (subst (λ (w : World). first_of (volume_refusals w c.args.volume (is_full w.flow || has_no_handle_left w)) ≡ None) (sym c.self.view_is) c.requires)))

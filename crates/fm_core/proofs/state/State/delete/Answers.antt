@@ -1,51 +1,30 @@
-use Rattle.std.proofs.Common.{◌≡◌, Some, sym, ◌∙◌, subst}
-use Rattle.std.specs.Prelude.{option_map}
+use Rattle.std.proofs.Common.{sym, ◌∙◌, subst}
 use Rattle.fm_ctx.specs.Links.{holder}
-use Rattle.fm_world.specs.World.{World}
-use Rattle.fm_world.specs.ContextEvents.{callback_of, Deletes}
-use Rattle.fm_world.proofs.Callbacks.{is_in}
+use Rattle.fm_world.specs.Sound.{IsSound}
 use Rattle.fm_world.proofs.Linking.{delete_sound}
 use Rattle.fm_world.proofs.Handing.{delete_hand}
 use Rattle.fm_world.proofs.Holdings.{delete_more}
-use Rattle.fm_world.specs.Sound.{IsSound}
-use Rattle.fm_core.specs.Callers.{caller_of}
-use Rattle.fm_core.specs.Fields.{world_of}
-use Rattle.fm_core.specs.Setting.{IsFound}
-use Rattle.fm_core.proofs.Called.{called, uncalled, outside}
-use Rattle.fm_core.proofs.Linked.{delete_refused, deleted, delete_tied}
+use Rattle.fm_core.proofs.Linked.{delete_refused, delete_tied, deleted}
+use Rattle.fm_core.specs.contracts.state.State.{the_view}
 use Rattle.fm_core.proofs.state.State.delete.Goals as goal
 
-pub returns-in_default-clause-event : goal.returns-in_default-clause-event
-unfolding Deletes
-returns-in_default-clause-event c = outside _ c.args.self.now c.args.worker _ (uncalled c.args.self.now c.args.worker (sym c.caller.ensures ∙ c.in_default.is))
-
 pub returns-in-Err-clause-event : goal.returns-in-Err-clause-event
-returns-in-Err-clause-event c = delete_refused c.args.self.now c.args.worker c.args.kind c.args.wants_old c.in-Some.caller c.in-Err.status (sym c.caller.ensures ∙ c.in-Some.is) c.in-Err.ensures
-
-pub delete-requires : goal.delete-requires
-delete-requires c =
-    let old : World = world_of c.self.inside.stack c.self.inside.flow c.self.inside.workers c.self.inside.contexts c.self.inside.totals c.self.inside.files in
-    let is = subst (λ (w : World). option_map caller_of (callback_of w c.args.worker) ≡ Some c.in-Some.caller) (sym c.self.view_is) (sym c.caller.ensures ∙ c.in-Some.is) in
-    let at = called old c.args.worker c.in-Some.caller is in
-    (is_in old c.args.worker at.0 c.self.invariant.sound at.1).worker
-
-pub invariant_of-self : goal.invariant_of-self
-invariant_of-self c =
-    let old : World = world_of c.self.inside.stack c.self.inside.flow c.self.inside.workers c.self.inside.contexts c.self.inside.totals c.self.inside.files in
-    let is = subst (λ (w : World). option_map caller_of (callback_of w c.args.worker) ≡ Some c.in-Some.caller) (sym c.self.view_is) (sym c.caller.ensures ∙ c.in-Some.is) in
-    let found = subst (λ (w : World). IsFound w c.in-Some.caller c.args.kind c.in-Ok.found) (sym c.self.view_is) c.in-Ok.ensures in
-    record {
-      sound = delete_sound old c.args.worker c.args.kind c.args.wants_old c.delete.result (record old { contexts = c.delete.new.self.table }) (deleted old c.args.worker c.args.kind c.args.wants_old c.in-Some.caller c.in-Ok.found c.delete.result c.self.inside.contexts c.delete.new.self is found c.self.invariant.tied c.delete.ensures) c.self.invariant.sound;
-      tied = delete_tied c.self.inside.contexts c.delete.new.self c.self.inside.flow c.args.worker c.args.wants_old (holder c.self.inside.contexts.table.slots c.in-Ok.found.0 c.in-Ok.found.1) c.delete.result c.delete.ensures
-          c.self.invariant.tied;
-    }
+returns-in-Err-clause-event c =
+    delete_refused c.args.self.now c.args.worker c.args.kind c.args.wants_old c.in-Some.caller c.in-Err.status (sym c.caller.ensures.callback ∙ c.in-Some.is)
+    c.in-Err.ensures
 
 pub returns-clause-event : goal.returns-clause-event
 returns-clause-event c =
-    let old : World = world_of c.self.inside.stack c.self.inside.flow c.self.inside.workers c.self.inside.contexts c.self.inside.totals c.self.inside.files in
-    let is = subst (λ (w : World). option_map caller_of (callback_of w c.args.worker) ≡ Some c.in-Some.caller) (sym c.self.view_is) (sym c.caller.ensures ∙ c.in-Some.is) in
-    let found = subst (λ (w : World). IsFound w c.in-Some.caller c.args.kind c.in-Ok.found) (sym c.self.view_is) c.in-Ok.ensures in
-    subst (λ (w : World). Deletes w c.args.worker c.args.kind c.args.wants_old c.delete.result (record old { contexts = c.delete.new.self.table })) c.self.view_is (deleted old c.args.worker c.args.kind c.args.wants_old c.in-Some.caller c.in-Ok.found c.delete.result c.self.inside.contexts c.delete.new.self is found c.self.invariant.tied c.delete.ensures)
+    deleted (the_view c.self.inside) c.args.worker c.args.kind c.args.wants_old c.in-Some.caller c.in-Ok.found c.delete.result c.self.inside.contexts
+    c.delete.new.self c.self.view_is (sym c.caller.ensures.callback ∙ c.in-Some.is) c.in-Ok.ensures
+    c.self.invariant.tied c.delete.ensures
+
+pub invariant_of-self : goal.invariant_of-self
+invariant_of-self c = record {
+  sound = delete_sound _ _ _ _ _ _ (returns-clause-event c) (subst IsSound c.self.view_is c.self.invariant.sound);
+  tied = delete_tied c.self.inside.contexts c.delete.new.self c.self.inside.flow c.args.worker c.args.wants_old
+      (holder c.self.inside.contexts.table.slots c.in-Ok.found.0 c.in-Ok.found.1) c.delete.result c.delete.ensures c.self.invariant.tied;
+}
 
 pub returns-clause-hand : goal.returns-clause-hand
 returns-clause-hand c = delete_hand _ _ _ _ _ _ (returns-clause-event c)

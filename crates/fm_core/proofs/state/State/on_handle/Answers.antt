@@ -2,13 +2,13 @@ use Rattle.std.proofs.Common.{◌≡◌, Some, ap, sym, ◌∙◌, subst}
 use Rattle.fm_world.specs.Events.{asked_refused}
 use Rattle.fm_world.specs.Requests.{phase_refusal}
 use Rattle.fm_world.specs.World.{World}
-use Rattle.fm_core.specs.Fields.{world_of}
 use Rattle.fm_core.proofs.Operated.{asked_phase}
+use Rattle.fm_core.specs.contracts.state.State.{the_view}
 use Rattle.fm_core.proofs.state.State.on_handle.Goals as goal
 
 pub returns-in-Some-phase_refusal : goal.returns-in-Some-phase_refusal
 returns-in-Some-phase_refusal c =
-    let old : World = world_of c.self.inside.stack c.self.inside.flow c.self.inside.workers c.self.inside.contexts c.self.inside.totals c.self.inside.files in
+    let old = the_view c.self.inside in
     subst (λ (w : World). asked_refused w c.args.handle c.args.params.now ≡ Some c.in-Some-phase_refusal.refusal) c.self.view_is
     (asked_phase old c.args.handle c.args.params.now c.in-Some.row c.in-Some-volume_of.volume c.in-Some-phase_refusal.refusal
     (sym c.is_within_limits.ensures ∙ c.if-not-is_within_limits.false) (sym c.handle.ensures ∙ c.in-Some.is) (sym c.volume_of.ensures ∙ c.in-Some-volume_of.is)

@@ -1,7 +1,7 @@
 use Rattle.std.proofs.Common.{Some, None, refl, sym, ◌∙◌, subst}
 use Rattle.fm_core.specs.Lost.{Sweeping, is_lost}
 use Rattle.fm_core.proofs.Losing.{sweeping_none, nothing_lost}
-use Rattle.fm_core.proofs.links.unlink_if_gone.Goals as goal
+use Rattle.fm_core.proofs.target.unlink_if_gone.Goals as goal
 
 pub returns-else-not-is_there : goal.returns-else-not-is_there
 returns-else-not-is_there c =

@@ -1,4 +1,4 @@
-//! How operations begin.
+//! Requests: how operations begin.
 
 ghost use Rattle.std.specs.Prelude.{◌≡◌, ◌<◌, ◌||◌, ◌∷◌, false, cond, Some, None, MatchResult, OnErr, length};
 ghost use Rattle.fm_types.specs.Refusals.{first_of};
@@ -17,7 +17,9 @@ use crate::state::State;
 use fm_data::Params;
 use fm_flow::Flow;
 use fm_stack::VolumePhase;
-use fm_types::{CreateMode, HandleId, OpId, Operation, RelPath, SharedPath, Status, VolumeId};
+use fm_types::{
+    CreateMode, HandleId, OpId, Operation, RelPath, Role, SharedPath, Status, VolumeId,
+};
 use fm_world::{Begin, FileHandle, HandlePhase};
 
 /// Whether a volume in that phase is in use.
@@ -43,12 +45,12 @@ fn refusal_by(phase: Option<VolumePhase>, is_too_many: bool) -> Option<Status>
 fn phase_refusal(flow: &Flow, operation: Operation, phase: HandlePhase) -> Option<Status>
     ensures { result ≡ phase_refusal flow.now operation phase }
 {
-    match operation {
-        Operation::Cleanup => match phase {
+    match operation.role() {
+        Role::CleansUp => match phase {
             HandlePhase::Open => None,
             HandlePhase::CleaningUp(_) | HandlePhase::Closing => Some(Status::WrongStep),
         },
-        Operation::Close => match phase {
+        Role::Closes => match phase {
             HandlePhase::Open => Some(Status::WrongStep),
             HandlePhase::CleaningUp(cleanup) => {
                 if flow.is_over(cleanup) {
@@ -59,14 +61,7 @@ fn phase_refusal(flow: &Flow, operation: Operation, phase: HandlePhase) -> Optio
             }
             HandlePhase::Closing => Some(Status::NoHandle),
         },
-        Operation::Create
-        | Operation::Read
-        | Operation::Write
-        | Operation::QuerySize
-        | Operation::SetSize
-        | Operation::Flush
-        | Operation::List
-        | Operation::SetDelete => match phase {
+        Role::Opens | Role::Uses | Role::Marks => match phase {
             HandlePhase::Open => None,
             HandlePhase::CleaningUp(_) | HandlePhase::Closing => Some(Status::NoHandle),
         },
@@ -101,17 +96,10 @@ fn note_begin(
 fn move_on(files: &mut Files, operation: Operation, handle: HandleId, number: u64)
     ensures { files.new.table ≡ moved_on operation handle number files.old.table }
 {
-    match operation {
-        Operation::Cleanup => files.set_phase(handle, HandlePhase::CleaningUp(OpId(number))),
-        Operation::Close => files.set_phase(handle, HandlePhase::Closing),
-        Operation::Create
-        | Operation::Read
-        | Operation::Write
-        | Operation::QuerySize
-        | Operation::SetSize
-        | Operation::Flush
-        | Operation::List
-        | Operation::SetDelete => {}
+    match operation.role() {
+        Role::CleansUp => files.set_phase(handle, HandlePhase::CleaningUp(OpId(number))),
+        Role::Closes => files.set_phase(handle, HandlePhase::Closing),
+        Role::Opens | Role::Uses | Role::Marks => {}
     }
 }
 
@@ -121,6 +109,7 @@ impl State {
     /// open, is past its cleanup (for all but a close) or has begun its close; 30 for a second cleanup, and for a close before the cleanup is done;
     /// 33 where the volume is dismounting; 29 at 256 operations that weren't collected, at 4,096 handles with those that creates under way may give,
     /// and where numbers run out; 1.
+    #[tactic(auto, using(fm_world::proofs::Handing::begin_hands))]
     pub fn begin(&mut self, what: Begin) -> Result<OpId, Status>
         ensures event { Begins self.old what result self.new }
         ensures hand { KeepsHands self.old self.new }
@@ -140,6 +129,7 @@ impl State {
     }
 
     /// Begins a listing.
+    #[tactic(auto, unfolding(fm_world::specs::Events::Begins))]
     fn begin_list(&mut self, volume: VolumeId) -> Result<OpId, Status>
         ensures { Begins self.old (Begin.List volume) result self.new }
     {
@@ -165,6 +155,7 @@ impl State {
     }
 
     /// Begins a create.
+    #[tactic(auto, unfolding(fm_world::specs::Events::Begins))]
     fn begin_create(
         &mut self,
         volume: VolumeId,
@@ -230,6 +221,7 @@ impl State {
     }
 
     /// Begins an operation on a handle.
+    #[tactic(auto, unfolding(crate::specs::Begun::Asks))]
     fn begin_on(&mut self, handle: HandleId, params: Params) -> Result<OpId, Status>
         requires { is_create (operation_of params) ≡ false }
         ensures { Asks self.old handle params result self.new }
@@ -241,6 +233,7 @@ impl State {
     }
 
     /// Begins an operation on a handle that nothing refuses but want of memory.
+    #[tactic(auto, unfolding(crate::specs::Begun::Asks))]
     fn begin_asked(
         &mut self,
         handle: HandleId,

@@ -1,16 +1,14 @@
-//! What an operation finds next, asked of the layers: the next instance below it, whether the next postoperation is a drain, which verdict counts.
+//! What an operation finds on its way: the next instance below it or the base, which callbacks an instance has, and whether an instance that asked is drained.
 
-ghost use Rattle.std.specs.Prelude.{◌≡◌, false, slice_get};
-ghost use Rattle.fm_flow.specs.Table.{operation_at, told};
-ghost use Rattle.fm_core.specs.Ahead.{IsDownOrCall, state_counted};
+ghost use Rattle.std.specs.Prelude.{◌≡◌, slice_get};
+ghost use Rattle.fm_core.specs.Descent.{FindsAt, IsDownOrCall};
 ghost use Rattle.fm_flow.specs.Creates.{is_create};
-ghost use Rattle.fm_world.specs.Events.{FindsBelow, LiesBelow, AnswersBelow, base_known, known_create, known_at, known_on, unlinks, has_pre, has_post, drains_next, is_stopping_ask};
+ghost use Rattle.fm_world.specs.Events.{LiesBelow, AnswersBelow, base_known, known_create, known_at, known_on, unlinks, has_pre, has_post, drains_next, is_stopping_ask};
 
 use crate::files::Files;
-use fm_data::PreVerdict;
-use fm_flow::{Ask, Below, Flow, OperationRecord, PreState, Stage, counted};
+use fm_flow::{Ask, Below, Flow, OperationRecord, Stage};
 use fm_stack::{Phase, Stack};
-use fm_types::{HandleId, InstanceId, OpId, Operation, Status, StreamId};
+use fm_types::{HandleId, InstanceId, Operation, Role, Status, StreamId};
 
 /// Whether the filter of an instance has a callback before the operation.
 fn has_pre(stack: &Stack, instance: InstanceId, operation: Operation) -> bool
@@ -23,7 +21,7 @@ fn has_pre(stack: &Stack, instance: InstanceId, operation: Operation) -> bool
 }
 
 /// Whether the filter of an instance has a callback after the operation.
-fn has_post(stack: &Stack, instance: InstanceId, operation: Operation) -> bool
+pub(crate) fn has_post(stack: &Stack, instance: InstanceId, operation: Operation) -> bool
     ensures { result ≡ has_post stack.now (slice_get stack.now.instances instance.0) operation }
 {
     match stack.registration_of(instance) {
@@ -50,22 +48,16 @@ fn known_on(
 ) -> Option<Status>
     ensures { result ≡ known_on files.now.table flow.now operation stream handle }
 {
-    match operation {
-        Operation::SetDelete | Operation::Cleanup => Some(Status::Success),
-        Operation::Close => {
+    match operation.role() {
+        Role::Marks | Role::CleansUp => Some(Status::Success),
+        Role::Closes => {
             if unlinks(files, flow, stream, handle) {
                 None
             } else {
                 Some(Status::Success)
             }
         }
-        Operation::Create
-        | Operation::Read
-        | Operation::Write
-        | Operation::QuerySize
-        | Operation::SetSize
-        | Operation::Flush
-        | Operation::List => None,
+        Role::Opens | Role::Uses => None,
     }
 }
 
@@ -143,16 +135,18 @@ fn found_below(stack: &Stack, files: &Files, flow: &Flow, operation: &OperationR
     }
 }
 
-/// The same for an operation by its number; it is looked up on the way down alone.
-pub(crate) fn lies_below(stack: &Stack, files: &Files, flow: &Flow, operation: OpId) -> Below
-    ensures finds { FindsBelow stack.now files.now.table flow.now (operation_at operation flow.now) result }
-    ensures down { IsDownOrCall (operation_at operation flow.now) result }
+/// The same, where it matters: on the way down.
+pub(crate) fn lies_below(
+    stack: &Stack,
+    files: &Files,
+    flow: &Flow,
+    operation: &OperationRecord,
+) -> Below
+    ensures finds { FindsAt stack.now files.now.table flow.now operation.now result }
+    ensures down { IsDownOrCall operation.now result }
 {
-    let Some(record) = flow.record(operation) else {
-        return Below::Call;
-    };
-    match record.stage() {
-        Stage::Descending => found_below(stack, files, flow, record),
+    match operation.stage() {
+        Stage::Descending => found_below(stack, files, flow, operation),
         _ => Below::Call,
     }
 }
@@ -168,31 +162,8 @@ fn is_stopping(stack: &Stack, ask: Option<Ask>) -> bool
 }
 
 /// Whether the next postoperation of an operation is a drain.
-pub(crate) fn drains_next(stack: &Stack, flow: &Flow, operation: OpId) -> bool
-    ensures { result ≡ told (drains_next stack.now) false operation flow.now }
+pub(crate) fn drains_next(stack: &Stack, operation: &OperationRecord) -> bool
+    ensures { result ≡ drains_next stack.now operation.now }
 {
-    match flow.record(operation) {
-        Some(record) => is_stopping(stack, record.next_owed()),
-        None => false,
-    }
-}
-
-/// The verdict of an instance that counts for an operation.
-pub(crate) fn state_given(
-    stack: &Stack,
-    flow: &Flow,
-    operation: OpId,
-    instance: InstanceId,
-    verdict: PreVerdict,
-) -> PreState
-    ensures { result ≡ told (state_counted stack.now instance verdict) PreState.Passed operation flow.now }
-{
-    match flow.record(operation) {
-        Some(record) => counted(
-            verdict,
-            record.operation(),
-            has_post(stack, instance, record.operation()),
-        ),
-        None => PreState::Passed,
-    }
+    is_stopping(stack, operation.next_owed())
 }

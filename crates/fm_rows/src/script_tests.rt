@@ -81,7 +81,7 @@ fn lines(alloc: Global, rt: &impl Abort, text: &str) -> Vec<u8> {
 }
 
 // Rows: a name, the input and the output, lines divided by `; `.
-const ROWS: [(&str, &str, &str); 39] = [
+const ROWS: [(&str, &str, &str); 40] = [
     (
         "altitude_order",
         "load f; mount v; attach f0 v0 a 03333; attach f0 v0 b 100.123456; list v0; go w0 o0",
@@ -276,6 +276,11 @@ const ROWS: [(&str, &str, &str); 39] = [
         "refused_setup",
         "load f; mount v; setup w0 f0 v0 a 100; alloc w0 instance 00; set w0 c0 keep; finish i0; setdone w0 no; count c0; finish i0; due w0; due w0; finish i0; cleaned w0; cleaned w0; count c0; finish i0; phase i0; finish i0; rel w0 c0",
         "ok f0; ok v0; ok i0; ok c0; ok; no 30; no 11; due; no 34 1; cleanup c0; no 30; no 34 1; ok; no 30; cleaned; ok; detached; no 8; no 30",
+    ),
+    (
+        "plan_after_setup",
+        "load f; mount v; setup w0 f0 v0 a 100; plan i0 none; setdone w0 yes; setup w0 f0 v0 b 200; setdone w0 yes; plan i1 complete 17; plan i0 with; list v0; go w0 o0; plan i1 none; list v0; go w0 o1",
+        "ok f0; ok v0; ok i0; ok; ok; ok i1; ok; ok; ok; ok o0; pre i1 complete 17; reply 17 0 -; ok; ok o1; pre i1 none; pre i0 with; base 0; post i0; reply 0 0 -",
     ),
 ];
 

@@ -6,6 +6,8 @@ use fm_core::State;
 use fm_ctx::Count;
 use fm_stack::Phase;
 use fm_types::{ContextKind, InstanceId, OpId, Operation, Status};
+use std::alloc::Global;
+use std::process::Abort;
 use std::test::Fail;
 
 // The events of a short life: each that takes memory is among them, and allocating often enough for the rows to grow.
@@ -28,45 +30,65 @@ const EVENTS: [Event; 16] = [
     Event::Begin(Operation::List),
 ];
 
-// What can be read of a state.
-fn shown(state: &State) -> ([usize; 3], [u64; 3], (Option<Phase>, Option<bool>, Count)) {
+// What can be read of a state: how many filters, instances, contexts in the hand, births, cleanups and leaks there are, ..
+fn numbers(state: &State) -> [u64; 6] {
+    [
+        state.filters() as u64,
+        state.instances() as u64,
+        state.hand_len(WORKER) as u64,
+        state.born(),
+        state.cleaned_count(),
+        state.leaks(),
+    ]
+}
+
+// .. and how far the instance, the operation and the context are.
+fn stages(state: &State) -> (Option<Phase>, Option<bool>, Count) {
     (
-        [state.filters(), state.instances(), state.hand_len(WORKER)],
-        [state.born(), state.cleaned_count(), state.leaks()],
-        (
-            state.phase(InstanceId(0)),
-            state.is_done(OpId(0)),
-            state.count(CONTEXT),
-        ),
+        state.phase(InstanceId(0)),
+        state.is_done(OpId(0)),
+        state.count(CONTEXT),
     )
 }
 
-// For `rt try --test --fail-alloc N`: whichever allocation is refused, once, the event answers 1 and nothing can be seen to have changed; asked again it
-// succeeds, and the end is the same.
+fn opened(alloc: Global) -> Result<State, Status> {
+    match State::new(alloc) {
+        Ok(state) => Ok(state),
+        Err(_) => State::new(alloc),
+    }
+}
+
+// What the event is told.
+fn ask(alloc: Global, state: &mut State, event: Event) -> Result<Told, Status> {
+    let step = step_of(alloc, event)?;
+    Ok(told_by(&state.step(step)))
+}
+
+// An event that is refused memory changes nothing that can be seen, and succeeds when it is asked again.
+fn ask_twice(
+    rt: &impl Abort,
+    alloc: Global,
+    state: &mut State,
+    event: Event,
+) -> Result<(), Status> {
+    let want = Told::Refused(Status::NoMemory);
+    let before = (numbers(state), stages(state));
+    if ask(alloc, state, event)? == want {
+        assert_eq!(rt; (numbers(state), stages(state)), before);
+        assert_ne!(rt; ask(alloc, state, event)?, want);
+    }
+    Ok(())
+}
+
+// For `rt try --test --fail-alloc N`: whichever allocation is refused, once, the end is the same.
 #[test]
 fn each_refusal_of_memory(rt: HostRuntime) -> Result<(), Fail> {
-    let alloc = rt.alloc();
-    let mut state = match State::new(alloc) {
-        Ok(state) => state,
-        Err(_) => State::new(alloc)?,
-    };
-    let want = Told::Refused(Status::NoMemory);
+    let mut state = opened(rt.alloc())?;
     for event in EVENTS {
-        let before = shown(&state);
-        let reply = told_by(&state.step(step_of(alloc, event)?));
-        if reply == want {
-            assert_eq!(rt; shown(&state), before);
-            let again = told_by(&state.step(step_of(alloc, event)?));
-            assert_ne!(rt; again, want);
-        }
+        ask_twice(&rt, rt.alloc(), &mut state, event)?;
     }
-    assert_eq!(rt;
-        shown(&state),
-        (
-            [1, 1, 0],
-            [10, 0, 10],
-            (Some(Phase::Attached), Some(false), Count::Due)
-        )
-    );
+    assert_eq!(rt; numbers(&state), [1, 1, 0, 10, 0, 10]);
+    let stages = stages(&state);
+    assert_eq!(rt; stages, (Some(Phase::Attached), Some(false), Count::Due));
     Ok(())
 }

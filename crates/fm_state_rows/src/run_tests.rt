@@ -7,7 +7,7 @@ use fm_core::{State, run};
 use fm_ctx::Count;
 use fm_data::{Completion, PostVerdict, PreVerdict};
 use fm_types::{ContextKind, FilterId, OpId, Operation, Status, WorkerId};
-use fm_world::Step;
+use fm_world::{Step, StepReply};
 use std::alloc::Global;
 use std::process::Abort;
 use std::test::Fail;
@@ -228,7 +228,15 @@ const LISTS: [List; 4] = [
     ),
 ];
 
-// The steps of a list.
+// The rows of a list in parts.
+fn rows_of(alloc: Global, parts: &[&[Row]]) -> Result<Vec<Row>, Status> {
+    let mut rows = Vec::new(alloc);
+    for part in parts {
+        rows.extend_from_slice(part)?;
+    }
+    Ok(rows)
+}
+
 fn steps_of(alloc: Global, rows: &[Row]) -> Result<Vec<Step>, Status> {
     let mut steps = Vec::new(alloc);
     for (event, _) in rows {
@@ -237,32 +245,38 @@ fn steps_of(alloc: Global, rows: &[Row]) -> Result<Vec<Step>, Status> {
     Ok(steps)
 }
 
-// Runs the events, and compares what each is told.
-fn check(rt: &impl Abort, alloc: Global, name: &str, rows: &[Row]) -> Result<State, Status> {
-    let (state, replies) = run(alloc, steps_of(alloc, rows)?)?;
+// What each event was told.
+fn compare(rt: &impl Abort, name: &str, rows: &[Row], replies: &[StepReply]) {
     assert_eq!(rt; replies.len(), rows.len(), "{name}");
     for (number, (reply, row)) in replies.iter().zip(rows).enumerate() {
         assert_eq!(rt; told_by(reply), row.1, "{name}, event {number}");
     }
-    Ok(state)
+}
+
+fn end_of(state: &State) -> (usize, u64, u64, Count) {
+    (
+        state.handles(),
+        state.leaks(),
+        state.total(FilterId(0)),
+        state.count(CONTEXT),
+    )
+}
+
+// Runs a list.
+fn check(rt: &impl Abort, alloc: Global, list: List) -> Result<(), Status> {
+    let (name, parts, end) = list;
+    let rows = rows_of(alloc, parts)?;
+    let steps = steps_of(alloc, &rows)?;
+    let (state, replies) = run(alloc, steps)?;
+    compare(rt, name, &rows, &replies);
+    assert_eq!(rt; end_of(&state), end, "{name}");
+    Ok(())
 }
 
 #[test]
 fn lists(rt: HostRuntime) -> Result<(), Fail> {
-    let alloc = rt.alloc();
-    for (name, parts, end) in LISTS {
-        let mut rows = Vec::new(alloc);
-        for part in parts {
-            rows.extend_from_slice(part)?;
-        }
-        let state = check(&rt, alloc, name, rows.as_slice())?;
-        let found = (
-            state.handles(),
-            state.leaks(),
-            state.total(FilterId(0)),
-            state.count(CONTEXT),
-        );
-        assert_eq!(rt; found, end, "{name}");
+    for list in LISTS {
+        check(&rt, rt.alloc(), list)?;
     }
     Ok(())
 }

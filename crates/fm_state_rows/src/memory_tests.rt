@@ -30,7 +30,7 @@ const EVENTS: [Event; 16] = [
     Event::Begin(Operation::List),
 ];
 
-// What can be read of a state: how many filters, instances, contexts in the hand, births, cleanups and leaks there are, ..
+// What can be read of a state: how many filters, instances, contexts in the hand, births, cleanups and leaks there are.
 fn numbers(state: &State) -> [u64; 6] {
     [
         state.filters() as u64,
@@ -42,7 +42,7 @@ fn numbers(state: &State) -> [u64; 6] {
     ]
 }
 
-// .. and how far the instance, the operation and the context are.
+// How far the instance, the operation and the context are.
 fn stages(state: &State) -> (Option<Phase>, Option<bool>, Count) {
     (
         state.phase(InstanceId(0)),
@@ -80,15 +80,25 @@ fn ask_twice(
     Ok(())
 }
 
+fn ask_all(rt: &impl Abort, alloc: Global, state: &mut State) -> Result<(), Status> {
+    for event in EVENTS {
+        ask_twice(rt, alloc, state, event)?;
+    }
+    Ok(())
+}
+
+// What can be read at the end.
+fn compare(rt: &impl Abort, state: &State) {
+    assert_eq!(rt; numbers(state), [1, 1, 0, 10, 0, 10]);
+    let stages = stages(state);
+    assert_eq!(rt; stages, (Some(Phase::Attached), Some(false), Count::Due));
+}
+
 // For `rt try --test --fail-alloc N`: whichever allocation is refused, once, the end is the same.
 #[test]
 fn each_refusal_of_memory(rt: HostRuntime) -> Result<(), Fail> {
     let mut state = opened(rt.alloc())?;
-    for event in EVENTS {
-        ask_twice(&rt, rt.alloc(), &mut state, event)?;
-    }
-    assert_eq!(rt; numbers(&state), [1, 1, 0, 10, 0, 10]);
-    let stages = stages(&state);
-    assert_eq!(rt; stages, (Some(Phase::Attached), Some(false), Count::Due));
+    ask_all(&rt, rt.alloc(), &mut state)?;
+    compare(&rt, &state);
     Ok(())
 }

@@ -13,23 +13,37 @@ struct Row {
     output: Vec<u8>,
 }
 
+// Lines, each with what it prints.
+type Lines = &'static [(&'static str, &'static str)];
+
+// A volume, and a file open by handle h0.
+const FILE: Lines = &[
+    ("mount v", "ok v0"),
+    ("create v0 f always", "ok o0"),
+    ("go w0 o0", "base 0\nreply 0 0 -"),
+];
+
 impl Row {
-    // A script that has a volume, and a file open by handle h0.
-    fn with_file(alloc: Global) -> Result<Row, Fail> {
-        let mut row = Row {
+    fn new(alloc: Global) -> Row {
+        Row {
             input: Vec::new(alloc),
             output: Vec::new(alloc),
-        };
-        row.line("mount v", "ok v0")?;
-        row.line("create v0 f always", "ok o0")?;
-        row.line("go w0 o0", "base 0\nreply 0 0 -")?;
+        }
+    }
+
+    // A script of these lines.
+    fn of(alloc: Global, lines: Lines) -> Result<Row, Fail> {
+        let mut row = Row::new(alloc);
+        row.add(lines)?;
         Ok(row)
     }
 
-    // A line and what it prints.
-    fn line(&mut self, input: &str, output: &str) -> Result<(), Fail> {
-        writeln!(self.input, "{input}")?;
-        writeln!(self.output, "{output}")?;
+    // Lines behind those that are there.
+    fn add(&mut self, lines: Lines) -> Result<(), Fail> {
+        for (input, output) in lines {
+            writeln!(self.input, "{input}")?;
+            writeln!(self.output, "{output}")?;
+        }
         Ok(())
     }
 
@@ -44,10 +58,7 @@ impl Row {
 
 // Lines that are given ids up to a limit, each with a name of its own, and one more.
 fn names_up_to(alloc: Global, word: &str, letter: char, most: u32) -> Result<Row, Fail> {
-    let mut row = Row {
-        input: Vec::new(alloc),
-        output: Vec::new(alloc),
-    };
+    let mut row = Row::new(alloc);
     for number in 0..most {
         writeln!(row.input, "{word} n{number}")?;
         writeln!(row.output, "ok {letter}{number}")?;
@@ -69,77 +80,111 @@ fn most_volumes(rt: HostRuntime) -> Result<(), Fail> {
     Ok(())
 }
 
-#[test]
-fn most_operations(rt: HostRuntime) -> Result<(), Fail> {
-    let mut row = Row::with_file(rt.alloc())?;
+// As many operations as may be under way, but for one.
+fn flushes(row: &mut Row) -> Result<(), Fail> {
     for number in 1..257u32 {
         writeln!(row.input, "flush h0")?;
         writeln!(row.output, "ok o{number}")?;
     }
-    row.line("flush h0", "no 29")?;
-    row.line("go w0 o7", "base 0\nreply 0 0 -")?;
-    row.line("flush h0", "ok o257")?;
+    Ok(())
+}
+
+const ONE_MORE_OPERATION: Lines = &[
+    ("flush h0", "no 29"),
+    ("go w0 o7", "base 0\nreply 0 0 -"),
+    ("flush h0", "ok o257"),
+];
+
+#[test]
+fn most_operations(rt: HostRuntime) -> Result<(), Fail> {
+    let mut row = Row::of(rt.alloc(), FILE)?;
+    flushes(&mut row)?;
+    row.add(ONE_MORE_OPERATION)?;
     row.run(&rt, rt.alloc());
     Ok(())
 }
 
-#[test]
-fn most_handles(rt: HostRuntime) -> Result<(), Fail> {
-    let mut row = Row::with_file(rt.alloc())?;
+// All handles that there may be, but for the first.
+fn creates(row: &mut Row) -> Result<(), Fail> {
     for number in 1..4096u32 {
         writeln!(row.input, "create v0 f always\ngo w0 o{number}")?;
         writeln!(row.output, "ok o{number}\nbase 0\nreply 0 {number} -")?;
     }
-    row.line("create v0 f always", "no 29")?;
-    row.line("cleanup h7", "ok o4096")?;
-    row.line("go w0 o4096", "base 0\nreply 0 0 -")?;
-    row.line("close h7", "ok o4097")?;
-    row.line("go w0 o4097", "base 0\nreply 0 0 -")?;
-    row.line("create v0 f always", "ok o4098")?;
-    row.line("create v0 f always", "no 29")?;
-    row.line("go w0 o4098", "base 0\nreply 0 4096 -")?;
+    Ok(())
+}
+
+const ONE_MORE_HANDLE: Lines = &[
+    ("create v0 f always", "no 29"),
+    ("cleanup h7", "ok o4096"),
+    ("go w0 o4096", "base 0\nreply 0 0 -"),
+    ("close h7", "ok o4097"),
+    ("go w0 o4097", "base 0\nreply 0 0 -"),
+    ("create v0 f always", "ok o4098"),
+    ("create v0 f always", "no 29"),
+    ("go w0 o4098", "base 0\nreply 0 4096 -"),
+];
+
+#[test]
+fn most_handles(rt: HostRuntime) -> Result<(), Fail> {
+    let mut row = Row::of(rt.alloc(), FILE)?;
+    creates(&mut row)?;
+    row.add(ONE_MORE_HANDLE)?;
     row.run(&rt, rt.alloc());
     Ok(())
 }
 
-#[test]
-fn longest_read(rt: HostRuntime) -> Result<(), Fail> {
-    let mut row = Row::with_file(rt.alloc())?;
-    row.line("setsize h0 40000", "ok o1")?;
-    row.line("go w0 o1", "base 0\nreply 0 0 -")?;
-    row.line("read h0 0 32769", "no 32")?;
-    row.line("read h0 0 32768", "ok o2")?;
-    write!(row.input, "go w0 o2\n")?;
+const LONG_READ: Lines = &[
+    ("setsize h0 40000", "ok o1"),
+    ("go w0 o1", "base 0\nreply 0 0 -"),
+    ("read h0 0 32769", "no 32"),
+    ("read h0 0 32768", "ok o2"),
+];
+
+// The read's way, and its reply.
+fn zeros(row: &mut Row) -> Result<(), Fail> {
+    writeln!(row.input, "go w0 o2")?;
     write!(row.output, "base 0\nreply 0 32768 ")?;
     for _ in 0..32_768 {
         write!(row.output, "00")?;
     }
     writeln!(row.output, "")?;
+    Ok(())
+}
+
+#[test]
+fn longest_read(rt: HostRuntime) -> Result<(), Fail> {
+    let mut row = Row::of(rt.alloc(), FILE)?;
+    row.add(LONG_READ)?;
+    zeros(&mut row)?;
     row.run(&rt, rt.alloc());
     Ok(())
 }
 
 // 2^40 is 1,099,511,627,776.
+const FAR_END: Lines = &[
+    ("write h0 1099511627775 41", "ok o1"),
+    ("go w0 o1", "base 0\nreply 0 1 -"),
+    ("write h0 1099511627776 41", "no 32"),
+    ("write h0 1099511627775 4142", "no 32"),
+    ("size h0", "ok o2"),
+    ("go w0 o2", "base 0\nreply 0 1099511627776 -"),
+    ("read h0 1099511627774 2", "ok o3"),
+    ("go w0 o3", "base 0\nreply 0 2 0041"),
+    ("read h0 1099511627775 2", "no 32"),
+    ("read h0 18446744073709551615 1", "no 32"),
+    ("setsize h0 0", "ok o4"),
+    ("go w0 o4", "base 0\nreply 0 0 -"),
+    ("setsize h0 1099511627777", "no 32"),
+    ("setsize h0 1099511627776", "ok o5"),
+    ("go w0 o5", "base 0\nreply 0 0 -"),
+    ("read h0 1099511627775 1", "ok o6"),
+    ("go w0 o6", "base 0\nreply 0 1 00"),
+];
+
 #[test]
 fn farthest_end(rt: HostRuntime) -> Result<(), Fail> {
-    let mut row = Row::with_file(rt.alloc())?;
-    row.line("write h0 1099511627775 41", "ok o1")?;
-    row.line("go w0 o1", "base 0\nreply 0 1 -")?;
-    row.line("write h0 1099511627776 41", "no 32")?;
-    row.line("write h0 1099511627775 4142", "no 32")?;
-    row.line("size h0", "ok o2")?;
-    row.line("go w0 o2", "base 0\nreply 0 1099511627776 -")?;
-    row.line("read h0 1099511627774 2", "ok o3")?;
-    row.line("go w0 o3", "base 0\nreply 0 2 0041")?;
-    row.line("read h0 1099511627775 2", "no 32")?;
-    row.line("read h0 18446744073709551615 1", "no 32")?;
-    row.line("setsize h0 0", "ok o4")?;
-    row.line("go w0 o4", "base 0\nreply 0 0 -")?;
-    row.line("setsize h0 1099511627777", "no 32")?;
-    row.line("setsize h0 1099511627776", "ok o5")?;
-    row.line("go w0 o5", "base 0\nreply 0 0 -")?;
-    row.line("read h0 1099511627775 1", "ok o6")?;
-    row.line("go w0 o6", "base 0\nreply 0 1 00")?;
+    let mut row = Row::of(rt.alloc(), FILE)?;
+    row.add(FAR_END)?;
     row.run(&rt, rt.alloc());
     Ok(())
 }

@@ -6,7 +6,7 @@ use fm_base::{Base, MemoryBase};
 use fm_core::{Action, Begin, FileRequest, State};
 use fm_data::{Answer, BaseCall, CallbackData, Completion, Params, PostVerdict, PreVerdict};
 use fm_types::{
-    Bytes, ContextMask, CreateMode, HandleId, InstanceId, Name, OpId, OpMask, Operation,
+    Bytes, ContextMask, CreateMode, FilterId, HandleId, InstanceId, Name, OpId, OpMask, Operation,
     Registration, RelPath, Status, VolumeId, WorkerId,
 };
 use std::alloc::{AllocError, Global};
@@ -191,6 +191,35 @@ fn note(written: &mut Vec<u8>, offset: usize, bytes: &[u8]) -> Result<(), AllocE
     Ok(())
 }
 
+// A filter that is called for all operations, and a volume.
+fn open(state: &mut State) -> Result<FilterId, Status> {
+    let registration = Registration {
+        pre: OpMask::ALL,
+        post: OpMask::ALL,
+        contexts: ContextMask::NONE,
+        query: false,
+        unload: false,
+    };
+    state.mount(Name::read(b"v")?)?;
+    state.register(Name::read(b"f")?, registration)
+}
+
+fn attach(state: &mut State, filter: FilterId, name: &[u8], altitude: &[u8]) -> Result<(), Status> {
+    let name = Name::read(name)?;
+    let altitude = Altitude::read(altitude)?;
+    state.attach(WORKER, filter, VOLUME, name, altitude)?;
+    state.setup_done(WORKER, true)
+}
+
+// The filter's instances on the volume.
+fn set_up(state: &mut State) -> Result<(), Status> {
+    let filter = open(state)?;
+    for (name, altitude) in INSTANCES {
+        attach(state, filter, name, altitude)?;
+    }
+    Ok(())
+}
+
 // A manager with its device, what each callback of the operation under way has seen, and what the client wrote.
 #[derive(Drop)]
 struct Run {
@@ -205,20 +234,7 @@ struct Run {
 impl Run {
     fn new(alloc: Global) -> Result<Run, Status> {
         let mut state = State::new(alloc)?;
-        let registration = Registration {
-            pre: OpMask::ALL,
-            post: OpMask::ALL,
-            contexts: ContextMask::NONE,
-            query: false,
-            unload: false,
-        };
-        let filter = state.register(Name::read(b"f")?, registration)?;
-        state.mount(Name::read(b"v")?)?;
-        for (name, altitude) in INSTANCES {
-            let altitude = Altitude::read(altitude)?;
-            state.attach(WORKER, filter, VOLUME, Name::read(name)?, altitude)?;
-            state.setup_done(WORKER, true)?;
-        }
+        set_up(&mut state)?;
         Ok(Run {
             alloc,
             state,
@@ -412,36 +428,50 @@ impl Run {
         assert_eq!(rt; self.base.size(&path)?, expected.len() as u64);
         Ok(())
     }
+
+    // A create, and all operations behind it.
+    fn all(&mut self, rt: &impl Abort) -> Result<(), Status> {
+        let opened = self.create(rt)?;
+        assert_eq!(rt; opened.information, 0);
+        for step in 1..OPERATIONS {
+            self.step(rt, step)?;
+        }
+        self.compare(rt)
+    }
+
+    // A create, the longest write, and a read of all of it.
+    fn longest(&mut self, rt: &impl Abort) -> Result<(), Status> {
+        self.create(rt)?;
+        let bytes = long_bytes(self.alloc, 32_768)?;
+        note(&mut self.written, 0, bytes.as_slice())?;
+        let written = self.ask(rt, FileRequest::Write { offset: 0, bytes })?;
+        assert_eq!(rt; written.information, 32_768);
+        let len = 32_768;
+        let read = self.ask(rt, FileRequest::Read { offset: 0, len })?;
+        assert_eq!(rt; read.bytes.as_slice(), self.written.as_slice());
+        self.compare(rt)
+    }
+
+    // A write of one byte more.
+    fn too_long(&mut self, rt: &impl Abort) -> Result<(), Status> {
+        let bytes = long_bytes(self.alloc, 32_769)?;
+        let refused = self.ask(rt, FileRequest::Write { offset: 0, bytes }).err();
+        assert_eq!(rt; refused, Some(Status::BadRequest));
+        Ok(())
+    }
 }
 
 #[test]
 fn two_hundred_operations(rt: HostRuntime) -> Result<(), Fail> {
     let mut run = Run::new(rt.alloc())?;
-    let opened = run.create(&rt)?;
-    assert_eq!(rt; opened.information, 0);
-    for step in 1..OPERATIONS {
-        run.step(&rt, step)?;
-    }
-    run.compare(&rt)?;
+    run.all(&rt)?;
     Ok(())
 }
 
 #[test]
 fn longest_write(rt: HostRuntime) -> Result<(), Fail> {
     let mut run = Run::new(rt.alloc())?;
-    run.create(&rt)?;
-    let bytes = long_bytes(rt.alloc(), 32_768)?;
-    note(&mut run.written, 0, bytes.as_slice())?;
-    let written = run.ask(&rt, FileRequest::Write { offset: 0, bytes })?;
-    assert_eq!(rt; written.information, 32_768);
-    let len = 32_768;
-    let read = run.ask(&rt, FileRequest::Read { offset: 0, len })?;
-    assert_eq!(rt; read.bytes.as_slice(), run.written.as_slice());
-    run.compare(&rt)?;
-    let bytes = long_bytes(rt.alloc(), 32_769)?;
-    assert_eq!(rt;
-        run.ask(&rt, FileRequest::Write { offset: 0, bytes }).err(),
-        Some(Status::BadRequest)
-    );
+    run.longest(&rt)?;
+    run.too_long(&rt)?;
     Ok(())
 }

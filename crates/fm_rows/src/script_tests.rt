@@ -81,7 +81,7 @@ fn lines(alloc: Global, rt: &impl Abort, text: &str) -> Vec<u8> {
 }
 
 // Rows: a name, the input and the output, lines divided by `; `.
-const ROWS: [(&str, &str, &str); 34] = [
+const ROWS: [(&str, &str, &str); 40] = [
     (
         "altitude_order",
         "load f; mount v; attach f0 v0 a 03333; attach f0 v0 b 100.123456; list v0; go w0 o0",
@@ -251,6 +251,36 @@ const ROWS: [(&str, &str, &str); 34] = [
         "born_later",
         "load f; mount v; attach f0 v0 a 100; list v0; attach f0 v0 b 200; go w0 o0; list v0; go w0 o1; setup w0 f0 v0 c 300; setdone w0 no; attach f0 v0 c 400; attach f0 v0 d 0300.0; finish i2; attach f0 v0 c 300; list v0; go w0 o2",
         "ok f0; ok v0; ok i0; ok o0; ok i1; pre i0 with; base 0; post i0; reply 0 0 -; ok o1; pre i1 with; pre i0 with; base 0; post i0; post i1; reply 0 0 -; ok i2; no 11; no 4; no 5; ok; ok i3; ok o2; pre i3 with; pre i1 with; pre i0 with; base 0; post i0; post i1; post i3; reply 0 0 -",
+    ),
+    (
+        "contexts_of_a_create",
+        "load f; mount v; attach f0 v0 a 100; create v0 f always; next w0 o0; alloc w0 stream -; set w0 c0 keep; pre w0 with c0; count c0; next w0 o0; base w0; next w0 o0; set w0 c0 keep; count c0; post w0 done; count c0; leaks; next w0 o0; collect o0; cleanup h0; go w0 o1; count c0; close h0; go w0 o2; count c0; due w0; due w1; cleaned w0; count c0; due w0; read h0 0 1",
+        "ok f0; ok v0; ok i0; ok o0; pre i0; ok c0; no 27; ok; count 1; base; ok; post i0; ok; count 2; ok; count 1; leaks 1; done; reply 0 0 -; ok o1; pre i0 with; base 0; post i0; reply 0 0 -; count 1; ok o2; pre i0 with; base 0; post i0; reply 0 0 -; due; cleanup c0; none; ok; cleaned; none; no 14",
+    ),
+    (
+        "contexts_of_a_failed_create",
+        "load f; mount v; attach f0 v0 a 100; create v0 f existing; next w0 o0; alloc w0 stream -; pre w0 with c0; next w0 o0; base w0; next w0 o0; set w0 c0 keep; post w0 done; count c0; leaks; due w0; cleaned w0; due w0; next w0 o0; collect o0",
+        "ok f0; ok v0; ok i0; ok o0; pre i0; ok c0; ok; base; ok; post i0; no 27; ok; due; leaks 1; cleanup c0; ok; none; done; reply 19 0 -",
+    ),
+    (
+        "contexts_of_a_stream_that_a_create_keeps",
+        "load f; mount v; attach f0 v0 a 100; create v0 f always; next w0 o0; alloc w0 stream -; pre w0 with c0; next w0 o0; base w0; next w0 o0; set w0 c0 keep; post w0 done; create v0 f existing; cleanup h0; go w0 o2; close h0; go w0 o3; count c0; next w1 o1; pre w1 complete 17; count c0; due w0; cleaned w0; due w0; next w1 o1; collect o1; list v0; go w0 o4",
+        "ok f0; ok v0; ok i0; ok o0; pre i0; ok c0; ok; base; ok; post i0; ok; ok; ok o1; ok o2; pre i0 with; base 0; post i0; reply 0 0 -; ok o3; pre i0 with; base 0; post i0; reply 0 0 -; count 1; pre i0; ok; due; cleanup c0; ok; none; done; reply 17 0 -; ok o4; pre i0 with; base 0; post i0; reply 0 2 660a",
+    ),
+    (
+        "crossed_by_a_close",
+        "load f; mount v; attach f0 v0 a 100; plan i0 none; create v0 x always; go w0 o0; write h0 0 00010203040506070809; go w0 o1; read h0 0 9; cleanup h0; go w0 o3; close h0; go w0 o4; create v0 x existing; go w0 o5; flush h0; next w1 o2; pre w1 with; next w1 o2; next w1 o2; post w1 done; next w1 o2; collect o2; read h1 0 9; next w1 o6; cleanup h1; go w0 o7; close h1; go w0 o8; create v0 x existing; go w0 o9; flush h1; pre w1 with; go w1 o6; read h2 0 9; next w1 o10; pre w1 with; next w1 o10; cleanup h2; go w0 o11; close h2; go w0 o12; create v0 x existing; go w0 o13; flush h2; base w1; go w1 o10; read h3 0 9; next w1 o14; pre w1 with; next w1 o14; base w1; next w1 o14; cleanup h3; go w0 o15; close h3; go w0 o16; create v0 x existing; go w0 o17; flush h3; post w1 done; next w1 o14; collect o14; size h4; go w0 o18",
+        "ok f0; ok v0; ok i0; ok; ok o0; pre i0 none; base 0; reply 0 0 -; ok o1; pre i0 none; base 0; reply 0 10 -; ok o2; ok o3; pre i0 none; base 0; reply 0 0 -; ok o4; pre i0 none; base 0; reply 0 0 -; ok o5; pre i0 none; base 0; reply 0 1 -; no 14; pre i0; ok; moved; post i0; ok; done; reply 14 0 -; ok o6; pre i0; ok o7; pre i0 none; base 0; reply 0 0 -; ok o8; pre i0 none; base 0; reply 0 0 -; ok o9; pre i0 none; base 0; reply 0 2 -; no 14; ok; base 14; post i0; reply 14 0 -; ok o10; pre i0; ok; base; ok o11; pre i0 none; base 0; reply 0 0 -; ok o12; pre i0 none; base 0; reply 0 0 -; ok o13; pre i0 none; base 0; reply 0 3 -; no 14; ok; post i0; reply 0 9 000102030405060708; ok o14; pre i0; ok; base; ok; post i0; ok o15; pre i0 none; base 0; reply 0 0 -; ok o16; pre i0 none; base 0; reply 0 0 -; ok o17; pre i0 none; base 0; reply 0 4 -; no 14; ok; done; reply 0 9 000102030405060708; ok o18; pre i0 none; base 0; reply 0 10 -",
+    ),
+    (
+        "refused_setup",
+        "load f; mount v; setup w0 f0 v0 a 100; alloc w0 instance 00; set w0 c0 keep; finish i0; setdone w0 no; count c0; finish i0; due w0; due w0; finish i0; cleaned w0; cleaned w0; count c0; finish i0; phase i0; finish i0; rel w0 c0",
+        "ok f0; ok v0; ok i0; ok c0; ok; no 30; no 11; due; no 34 1; cleanup c0; no 30; no 34 1; ok; no 30; cleaned; ok; detached; no 8; no 30",
+    ),
+    (
+        "plan_after_setup",
+        "load f; mount v; setup w0 f0 v0 a 100; plan i0 none; setdone w0 yes; setup w0 f0 v0 b 200; setdone w0 yes; plan i1 complete 17; plan i0 with; list v0; go w0 o0; plan i1 none; list v0; go w0 o1",
+        "ok f0; ok v0; ok i0; ok; ok; ok i1; ok; ok; ok; ok o0; pre i1 complete 17; reply 17 0 -; ok; ok o1; pre i1 none; pre i0 with; base 0; post i0; reply 0 0 -",
     ),
 ];
 

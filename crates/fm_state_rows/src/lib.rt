@@ -1,10 +1,12 @@
-//! Worked rows of the state: lists of events with their replies, operations whose file is closed and opened again on their way, and each refusal of memory.
-//! There is nothing here but tests, so that what they call is proved once, in its own crate.
+//! Worked rows of the state that no script can say, as lists of events with what each is told, and each refusal of memory. There is nothing here but
+//! tests, so that what they call is proved once, in its own crate.
 #![tactic(auto)]
 
 #[cfg(test)]
-mod context_tests;
+mod events;
 #[cfg(test)]
-mod file_tests;
+mod memory_tests;
 #[cfg(test)]
 mod run_tests;
+#[cfg(test)]
+mod told;

@@ -1,280 +1,282 @@
-//! The steps of a create that carries a context along, and of its handle's end, as one list.
+//! Lists of events with what each of them is told, which no script can say: data that isn't the operation's, an operation that a filter holds, and a base
+//! that tells more than it is asked.
 
-use fm_altitude::Altitude;
-use fm_core::run;
-use fm_ctx::{Count, SetMode};
-use fm_data::{Answer, BaseCall, CallbackData, Completion, Params, PostVerdict, PreVerdict};
-use fm_flow::FlowAction;
-use fm_types::{
-    Bytes, ContextKind, ContextMask, CreateMode, CtxId, FilterId, HandleId, Name, OpId, OpMask,
-    Registration, RelPath, SharedPath, Status, VolumeId, WorkerId,
-};
-use fm_world::{Begin, FileRequest, SetAnswer, Step, StepReply};
+use crate::events::{CONTEXT, Event, WORKER, step_of};
+use crate::told::{Told, told_by};
+use fm_core::{State, run};
+use fm_ctx::Count;
+use fm_data::{Completion, PostVerdict, PreVerdict};
+use fm_types::{ContextKind, FilterId, OpId, Operation, Status, WorkerId};
+use fm_world::{Step, StepReply};
 use std::alloc::Global;
+use std::process::Abort;
 use std::test::Fail;
 
-const WORKER: WorkerId = WorkerId(0);
+// An event, and what it is told.
+type Row = (Event, Told);
 
-const VOLUME: VolumeId = VolumeId(0);
+/// The worker of a read that another worker's close crosses.
+const READER: WorkerId = WorkerId(1);
 
-const CREATING: OpId = OpId(0);
+const FIRST: OpId = OpId(0);
 
-const CONTEXT: CtxId = CtxId {
-    slot: 0,
-    generation: 0,
-};
+const SECOND: OpId = OpId(1);
 
-// One instance of a filter that is registered for everything.
-fn opening(number: u64) -> Result<Step, Status> {
-    Ok(match number {
-        0 => Step::Register {
-            name: Name::read(b"f")?,
-            registration: Registration {
-                pre: OpMask::ALL,
-                post: OpMask::ALL,
-                contexts: ContextMask::ALL,
-                query: false,
-                unload: false,
-            },
-        },
-        1 => Step::Mount {
-            name: Name::read(b"v")?,
-        },
-        2 => Step::Attach {
-            worker: WORKER,
-            filter: FilterId(0),
-            volume: VOLUME,
-            name: Name::read(b"a")?,
-            altitude: Altitude::read(b"100")?,
-        },
-        _ => Step::SetupDone {
-            worker: WORKER,
-            accept: true,
-        },
-    })
-}
+const THIRD: OpId = OpId(2);
 
-// What the create asks of the base.
-fn creation_call(alloc: Global) -> Result<BaseCall, Status> {
-    let path = SharedPath::new(alloc, RelPath::read(b"f")?)?;
-    let mode = CreateMode::Always;
-    Ok(BaseCall {
-        volume: VOLUME,
-        path: Some(path.share()?),
-        params: Params::Create { path, mode },
-    })
-}
+const FOURTH: OpId = OpId(3);
 
-// The data that a callback of the create brings back.
-fn creation_data(alloc: Global) -> Result<CallbackData, Status> {
-    let path = SharedPath::new(alloc, RelPath::read(b"f")?)?;
-    let mode = CreateMode::Always;
-    Ok(CallbackData::new(alloc, Params::Create { path, mode }))
-}
+const FIFTH: OpId = OpId(4);
 
-fn set() -> Step {
-    Step::Set {
-        worker: WORKER,
-        context: CONTEXT,
-        mode: SetMode::Keep,
-        wants_old: false,
+// Asks for the postoperation.
+const WITH: PreVerdict = PreVerdict::WithCallback(Completion {
+    number: 0,
+    context: None,
+});
+
+// Asks for it, and sends the context along.
+const WITH_CONTEXT: PreVerdict = PreVerdict::WithCallback(Completion {
+    number: 0,
+    context: Some(CONTEXT),
+});
+
+// One instance of a filter.
+const OPENING: &[Row] = &[
+    (Event::Register, Told::Number(0)),
+    (Event::Mount, Told::Number(0)),
+    (Event::Attach, Told::Number(0)),
+    (Event::SetupDone(true), Told::Done),
+];
+
+// A create whose preoperation sends a stream context along, which its postoperation sets. Data and calls of another operation are strange, and the worker
+// stays where it is; the reply is handed out once.
+const CREATE_WITH_A_CONTEXT: &[Row] = &[
+    (Event::Begin(Operation::Create), Told::Number(0)),
+    (Event::Next(WORKER, FIRST), Told::Pre),
+    (Event::Allocate(ContextKind::Stream), Told::Context(CONTEXT)),
+    (Event::Set, Told::Refused(Status::NoObject)),
+    (
+        Event::Pre(WORKER, PreVerdict::NoCallback, Operation::Read),
+        Told::Refused(Status::BadRequest),
+    ),
+    (
+        Event::Pre(WORKER, WITH_CONTEXT, Operation::Create),
+        Told::Done,
+    ),
+    (Event::Next(WORKER, FIRST), Told::Base),
+    (
+        Event::Base(WORKER, Operation::Read),
+        Told::Refused(Status::BadRequest),
+    ),
+    (Event::Base(WORKER, Operation::Create), Told::Done),
+    (Event::Next(WORKER, FIRST), Told::Post),
+    (Event::Set, Told::Linked),
+    (
+        Event::Post(WORKER, PostVerdict::Finished, Operation::Read),
+        Told::Refused(Status::BadRequest),
+    ),
+    (
+        Event::Post(WORKER, PostVerdict::Finished, Operation::Create),
+        Told::Done,
+    ),
+    (Event::Next(WORKER, FIRST), Told::AllDone),
+    (Event::Collect(FIRST), Told::Answer(Status::Success, 0, 0)),
+    (Event::Collect(FIRST), Told::Refused(Status::WrongStep)),
+];
+
+// The handle's cleanup and close.
+const CLOSED: &[Row] = &[
+    (Event::Begin(Operation::Cleanup), Told::Number(1)),
+    (Event::Next(WORKER, SECOND), Told::Pre),
+    (
+        Event::Pre(WORKER, PreVerdict::NoCallback, Operation::Cleanup),
+        Told::Done,
+    ),
+    (Event::Next(WORKER, SECOND), Told::Moved),
+    (Event::Next(WORKER, SECOND), Told::AllDone),
+    (Event::Begin(Operation::Close), Told::Number(2)),
+    (Event::Next(WORKER, THIRD), Told::Pre),
+    (
+        Event::Pre(WORKER, PreVerdict::NoCallback, Operation::Close),
+        Told::Done,
+    ),
+    (Event::Next(WORKER, THIRD), Told::Moved),
+    (Event::Next(WORKER, THIRD), Told::AllDone),
+];
+
+// The context's cleanup, which adds 40 to its filter's total.
+const CLEANED: &[Row] = &[
+    (Event::TakeDue, Told::Due(Some(CONTEXT))),
+    (Event::Cleaned(40), Told::Done),
+    (Event::TakeDue, Told::Due(None)),
+];
+
+// A create that asks for no postoperation.
+const CREATED: &[Row] = &[
+    (Event::Begin(Operation::Create), Told::Number(0)),
+    (Event::Next(WORKER, FIRST), Told::Pre),
+    (
+        Event::Pre(WORKER, PreVerdict::NoCallback, Operation::Create),
+        Told::Done,
+    ),
+    (Event::Next(WORKER, FIRST), Told::Base),
+    (Event::Base(WORKER, Operation::Create), Told::Done),
+    (Event::Next(WORKER, FIRST), Told::AllDone),
+    (Event::Collect(FIRST), Told::Answer(Status::Success, 0, 0)),
+];
+
+// A read of which the base tells 7 and gives one byte: the information is the number of bytes.
+const READ: &[Row] = &[
+    (Event::Begin(Operation::Read), Told::Number(1)),
+    (Event::Next(READER, SECOND), Told::Pre),
+    (
+        Event::Pre(READER, PreVerdict::NoCallback, Operation::Read),
+        Told::Done,
+    ),
+    (Event::Next(READER, SECOND), Told::Base),
+    (Event::Base(READER, Operation::Read), Told::Done),
+    (Event::Next(READER, SECOND), Told::AllDone),
+    (Event::Collect(SECOND), Told::Answer(Status::Success, 1, 1)),
+];
+
+// A read that a filter holds on its way up.
+const HELD_UP: &[Row] = &[
+    (Event::Begin(Operation::Read), Told::Number(1)),
+    (Event::Next(READER, SECOND), Told::Pre),
+    (Event::Pre(READER, WITH, Operation::Read), Told::Done),
+    (Event::Next(READER, SECOND), Told::Base),
+    (Event::Base(READER, Operation::Read), Told::Done),
+    (Event::Next(READER, SECOND), Told::Post),
+    (
+        Event::Post(READER, PostVerdict::MoreProcessing, Operation::Read),
+        Told::Done,
+    ),
+];
+
+// A read that a filter holds on its way down.
+const HELD_DOWN: &[Row] = &[
+    (Event::Begin(Operation::Read), Told::Number(1)),
+    (Event::Next(READER, SECOND), Told::Pre),
+    (
+        Event::Pre(READER, PreVerdict::Pending, Operation::Read),
+        Told::Done,
+    ),
+];
+
+// The handle closes, so that its stream is torn down, and its path is opened again.
+const REOPENED: &[Row] = &[
+    (Event::Begin(Operation::Cleanup), Told::Number(2)),
+    (Event::Next(WORKER, THIRD), Told::Pre),
+    (
+        Event::Pre(WORKER, PreVerdict::NoCallback, Operation::Cleanup),
+        Told::Done,
+    ),
+    (Event::Next(WORKER, THIRD), Told::Moved),
+    (Event::Collect(THIRD), Told::Answer(Status::Success, 0, 0)),
+    (Event::Begin(Operation::Close), Told::Number(3)),
+    (Event::Next(WORKER, FOURTH), Told::Pre),
+    (
+        Event::Pre(WORKER, PreVerdict::NoCallback, Operation::Close),
+        Told::Done,
+    ),
+    (Event::Next(WORKER, FOURTH), Told::Moved),
+    (Event::Collect(FOURTH), Told::Answer(Status::Success, 0, 0)),
+    (Event::Begin(Operation::Create), Told::Number(4)),
+    (Event::Next(WORKER, FIFTH), Told::Pre),
+    (
+        Event::Pre(WORKER, PreVerdict::NoCallback, Operation::Create),
+        Told::Done,
+    ),
+    (Event::Next(WORKER, FIFTH), Told::Base),
+    (Event::Base(WORKER, Operation::Create), Told::Done),
+    (Event::Collect(FIFTH), Told::Answer(Status::Success, 1, 0)),
+];
+
+// The read is held as before.
+const STILL_HELD: &[Row] = &[
+    (Event::Next(READER, SECOND), Told::Held),
+    (Event::Collect(SECOND), Told::Refused(Status::WrongStep)),
+];
+
+// A list in parts, and what can be read of the state at its end: the open handles, the leaks, the filter's total, and the context's count.
+type List = (
+    &'static str,
+    &'static [&'static [Row]],
+    (usize, u64, u64, Count),
+);
+
+const LISTS: [List; 4] = [
+    (
+        "contexts_of_a_create",
+        &[OPENING, CREATE_WITH_A_CONTEXT, CLOSED, CLEANED],
+        (0, 1, 40, Count::Cleaned),
+    ),
+    (
+        "a_base_that_tells_more",
+        &[OPENING, CREATED, READ],
+        (1, 0, 0, Count::Absent),
+    ),
+    (
+        "held_on_its_way_down",
+        &[OPENING, CREATED, HELD_DOWN, REOPENED, STILL_HELD],
+        (1, 0, 0, Count::Absent),
+    ),
+    (
+        "held_on_its_way_up",
+        &[OPENING, CREATED, HELD_UP, REOPENED, STILL_HELD],
+        (1, 0, 0, Count::Absent),
+    ),
+];
+
+// The rows of a list in parts.
+fn rows_of(alloc: Global, parts: &[&[Row]]) -> Result<Vec<Row>, Status> {
+    let mut rows = Vec::new(alloc);
+    for part in parts {
+        rows.extend_from_slice(part)?;
     }
+    Ok(rows)
 }
 
-fn next(operation: OpId) -> Step {
-    Step::Next {
-        worker: WORKER,
-        operation,
-    }
-}
-
-// The create on its way down.
-fn down(alloc: Global, number: u64) -> Result<Step, Status> {
-    Ok(match number {
-        0 => Step::Begin(Begin::Create {
-            volume: VOLUME,
-            path: RelPath::read(b"f")?,
-            mode: CreateMode::Always,
-        }),
-        1 => next(CREATING),
-        2 => Step::Allocate {
-            worker: WORKER,
-            kind: ContextKind::Stream,
-            body: Bytes::new(alloc),
-        },
-        3 => set(),
-        4 => Step::PreReturned {
-            worker: WORKER,
-            verdict: PreVerdict::NoCallback,
-            data: CallbackData::new(alloc, Params::Read { offset: 0, len: 0 }),
-        },
-        _ => Step::PreReturned {
-            worker: WORKER,
-            verdict: PreVerdict::WithCallback(Completion {
-                number: 0,
-                context: Some(CONTEXT),
-            }),
-            data: creation_data(alloc)?,
-        },
-    })
-}
-
-// The base's answer, and the create on its way up.
-fn up(alloc: Global, number: u64, status: Status) -> Result<Step, Status> {
-    Ok(match number {
-        0 | 2 | 5 => next(CREATING),
-        1 => Step::BaseReturned {
-            worker: WORKER,
-            call: creation_call(alloc)?,
-            answer: Answer {
-                status,
-                information: 0,
-                bytes: Bytes::new(alloc),
-            },
-        },
-        3 => set(),
-        4 => Step::PostReturned {
-            worker: WORKER,
-            verdict: PostVerdict::Finished,
-            data: Some(creation_data(alloc)?),
-        },
-        _ => Step::Collect {
-            operation: CREATING,
-        },
-    })
-}
-
-// An operation on the handle that no postoperation is asked for.
-fn through(number: u64, operation: OpId, request: FileRequest, data: CallbackData) -> Step {
-    match number {
-        0 => Step::Begin(Begin::OnHandle {
-            handle: HandleId(0),
-            request,
-        }),
-        2 => Step::PreReturned {
-            worker: WORKER,
-            verdict: PreVerdict::NoCallback,
-            data,
-        },
-        _ => next(operation),
-    }
-}
-
-// The steps up to the create's reply.
-fn created(alloc: Global, status: Status) -> Result<Vec<Step>, Status> {
+fn steps_of(alloc: Global, rows: &[Row]) -> Result<Vec<Step>, Status> {
     let mut steps = Vec::new(alloc);
-    for number in 0..4 {
-        steps.push(opening(number)?)?;
-    }
-    for number in 0..6 {
-        steps.push(down(alloc, number)?)?;
-    }
-    for number in 0..7 {
-        steps.push(up(alloc, number, status)?)?;
+    for (event, _) in rows {
+        steps.push(step_of(alloc, *event)?)?;
     }
     Ok(steps)
 }
 
-// The handle's cleanup and close, and the context's cleanup.
-fn ended(alloc: Global, steps: &mut Vec<Step>) -> Result<(), Status> {
-    for number in 0..5 {
-        steps.push(through(
-            number,
-            OpId(1),
-            FileRequest::Cleanup,
-            CallbackData::new(alloc, Params::Cleanup),
-        ))?;
-    }
-    for number in 0..5 {
-        steps.push(through(
-            number,
-            OpId(2),
-            FileRequest::Close,
-            CallbackData::new(alloc, Params::Close),
-        ))?;
-    }
-    steps.push(Step::TakeDue { worker: WORKER })?;
-    steps.push(Step::Cleaned {
-        worker: WORKER,
-        number: 0,
-    })?;
-    steps.push(Step::TakeDue { worker: WORKER })?;
-    Ok(())
-}
-
-// Whether the context was allocated.
-fn is_allocated(reply: Option<&StepReply>) -> bool {
-    match reply {
-        Some(StepReply::Context(Ok(id))) => *id == CONTEXT,
-        _ => false,
+// What each event was told.
+fn compare(rt: &impl Abort, name: &str, rows: &[Row], replies: &[StepReply]) {
+    assert_eq!(rt; replies.len(), rows.len(), "{name}");
+    for (number, (reply, row)) in replies.iter().zip(rows).enumerate() {
+        assert_eq!(rt; told_by(reply), row.1, "{name}, event {number}");
     }
 }
 
-// Whether the context was handed out to be cleaned up.
-fn is_taken(reply: Option<&StepReply>) -> bool {
-    match reply {
-        Some(StepReply::Due(Ok(Some(due)))) => due.id == CONTEXT,
-        _ => false,
-    }
-}
-
-// Whether setting it was refused, as the callback has no stream.
-fn has_no_stream(reply: Option<&StepReply>) -> bool {
-    matches!(
-        reply,
-        Some(StepReply::Set(SetAnswer::Refused(Status::NoObject)))
+fn end_of(state: &State) -> (usize, u64, u64, Count) {
+    (
+        state.handles(),
+        state.leaks(),
+        state.total(FilterId(0)),
+        state.count(CONTEXT),
     )
 }
 
-#[test]
-fn steps_of_a_create(rt: HostRuntime) -> Result<(), Fail> {
-    let steps = created(rt.alloc(), Status::Success)?;
-    let (state, replies) = run(rt.alloc(), steps)?;
-    assert!(rt; is_allocated(replies.get(6)));
-    assert!(rt; has_no_stream(replies.get(7)));
-    assert!(rt;
-        matches!(
-            replies.get(8),
-            Some(StepReply::Done(Err(Status::BadRequest)))
-        )
-    );
-    assert!(rt; matches!(replies.get(9), Some(StepReply::Done(Ok(())))));
-    assert!(rt;
-        matches!(
-            replies.get(12),
-            Some(StepReply::Action(Ok(FlowAction::Post(_, _, _))))
-        )
-    );
-    assert!(rt;
-        matches!(
-            replies.get(13),
-            Some(StepReply::Set(SetAnswer::Linked(None)))
-        )
-    );
-    assert_eq!(rt; state.count(CONTEXT), Count::Live(1));
-    assert_eq!(rt; state.leaks(), 1);
+// Runs a list.
+fn check(rt: &impl Abort, alloc: Global, list: List) -> Result<(), Status> {
+    let (name, parts, end) = list;
+    let rows = rows_of(alloc, parts)?;
+    let steps = steps_of(alloc, &rows)?;
+    let (state, replies) = run(alloc, steps)?;
+    compare(rt, name, &rows, &replies);
+    assert_eq!(rt; end_of(&state), end, "{name}");
     Ok(())
 }
 
 #[test]
-fn steps_to_the_end_of_a_handle(rt: HostRuntime) -> Result<(), Fail> {
-    let mut steps = created(rt.alloc(), Status::Success)?;
-    ended(rt.alloc(), &mut steps)?;
-    let (state, replies) = run(rt.alloc(), steps)?;
-    assert!(rt; is_taken(replies.get(27)));
-    assert!(rt; matches!(replies.get(29), Some(StepReply::Due(Ok(None)))));
-    assert_eq!(rt; state.count(CONTEXT), Count::Cleaned);
-    assert_eq!(rt; state.handles(), 0);
-    Ok(())
-}
-
-#[test]
-fn steps_of_a_failed_create(rt: HostRuntime) -> Result<(), Fail> {
-    let mut steps = created(rt.alloc(), Status::FileNotFound)?;
-    steps.push(Step::TakeDue { worker: WORKER })?;
-    let (state, replies) = run(rt.alloc(), steps)?;
-    assert!(rt; has_no_stream(replies.get(13)));
-    assert!(rt; is_taken(replies.get(17)));
-    assert_eq!(rt; state.leaks(), 1);
+fn lists(rt: HostRuntime) -> Result<(), Fail> {
+    for list in LISTS {
+        check(&rt, rt.alloc(), list)?;
+    }
     Ok(())
 }

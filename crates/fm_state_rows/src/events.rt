@@ -1,0 +1,201 @@
+//! Events as values without texts and bytes, so that a list of them is data, and the steps that they stand for: all of one filter with one instance on one
+//! volume, and of one file there with its first handle.
+
+use fm_altitude::Altitude;
+use fm_ctx::SetMode;
+use fm_data::{Answer, BaseCall, CallbackData, Params, PostVerdict, PreVerdict};
+use fm_types::{
+    Bytes, ContextKind, ContextMask, CreateMode, CtxId, FilterId, HandleId, Name, OpId, OpMask,
+    Operation, Registration, RelPath, SharedPath, Status, VolumeId, WorkerId,
+};
+use fm_world::{Begin, FileRequest, Step};
+use std::alloc::Global;
+
+/// The worker of each event that names none.
+pub const WORKER: WorkerId = WorkerId(0);
+
+/// The first context that is allocated.
+pub const CONTEXT: CtxId = CtxId {
+    slot: 0,
+    generation: 0,
+};
+
+const VOLUME: VolumeId = VolumeId(0);
+
+/// An event.
+#[derive(Clone, Copy)]
+pub enum Event {
+    Register,
+    Mount,
+    Attach,
+    SetupDone(bool),
+    Begin(Operation),
+    Next(WorkerId, OpId),
+    /// The callback returns with data of an operation of that kind.
+    Pre(WorkerId, PreVerdict, Operation),
+    /// The base answers a call of that kind with a success that tells 7, and a byte.
+    Base(WorkerId, Operation),
+    /// The callback returns with data of an operation of that kind.
+    Post(WorkerId, PostVerdict, Operation),
+    Collect(OpId),
+    Allocate(ContextKind),
+    Set,
+    ReadBody,
+    TakeDue,
+    Cleaned(u64),
+}
+
+fn path() -> Result<RelPath, Status> {
+    RelPath::read(b"f")
+}
+
+// A filter that is called for all operations, and has contexts of all kinds.
+fn register() -> Result<Step, Status> {
+    let registration = Registration {
+        pre: OpMask::ALL,
+        post: OpMask::ALL,
+        contexts: ContextMask::ALL,
+        query: false,
+        unload: false,
+    };
+    Ok(Step::Register {
+        name: Name::read(b"f")?,
+        registration,
+    })
+}
+
+fn attach() -> Result<Step, Status> {
+    Ok(Step::Attach {
+        worker: WORKER,
+        filter: FilterId(0),
+        volume: VOLUME,
+        name: Name::read(b"a")?,
+        altitude: Altitude::read(b"100")?,
+    })
+}
+
+fn on_handle(request: FileRequest) -> Begin {
+    Begin::OnHandle {
+        handle: HandleId(0),
+        request,
+    }
+}
+
+fn begin(operation: Operation) -> Result<Begin, Status> {
+    Ok(match operation {
+        Operation::Create => Begin::Create {
+            volume: VOLUME,
+            path: path()?,
+            mode: CreateMode::Always,
+        },
+        Operation::Read => on_handle(FileRequest::Read { offset: 0, len: 9 }),
+        Operation::Cleanup => on_handle(FileRequest::Cleanup),
+        Operation::Close => on_handle(FileRequest::Close),
+        _ => Begin::List { volume: VOLUME },
+    })
+}
+
+// The parameters of the operation that `begin` begins.
+fn params(alloc: Global, operation: Operation) -> Result<Params, Status> {
+    Ok(match operation {
+        Operation::Create => Params::Create {
+            path: SharedPath::new(alloc, path()?)?,
+            mode: CreateMode::Always,
+        },
+        Operation::Read => Params::Read { offset: 0, len: 9 },
+        Operation::Cleanup => Params::Cleanup,
+        Operation::Close => Params::Close,
+        _ => Params::List,
+    })
+}
+
+// The data that a callback brings back.
+fn data(alloc: Global, operation: Operation) -> Result<CallbackData, Status> {
+    let params = params(alloc, operation)?;
+    if !params.is_within_limits() {
+        return Err(Status::BadRequest);
+    }
+    Ok(CallbackData::new(alloc, params))
+}
+
+fn call(alloc: Global, operation: Operation) -> Result<BaseCall, Status> {
+    Ok(BaseCall {
+        volume: VOLUME,
+        path: Some(SharedPath::new(alloc, path()?)?),
+        params: params(alloc, operation)?,
+    })
+}
+
+// So many zeros; memory that is refused is asked for again.
+fn zeros(alloc: Global, len: usize) -> Result<Bytes, Status> {
+    let mut zeros = Bytes::new(alloc);
+    if zeros.set_len(len).is_err() {
+        zeros.set_len(len)?;
+    }
+    Ok(zeros)
+}
+
+fn answer(alloc: Global) -> Result<Answer, Status> {
+    Ok(Answer {
+        status: Status::Success,
+        information: 7,
+        bytes: zeros(alloc, 1)?,
+    })
+}
+
+fn set() -> Step {
+    Step::Set {
+        worker: WORKER,
+        context: CONTEXT,
+        mode: SetMode::Keep,
+        wants_old: false,
+    }
+}
+
+/// The step that an event stands for.
+pub fn step_of(alloc: Global, event: Event) -> Result<Step, Status> {
+    Ok(match event {
+        Event::Register => register()?,
+        Event::Mount => Step::Mount {
+            name: Name::read(b"v")?,
+        },
+        Event::Attach => attach()?,
+        Event::SetupDone(accept) => Step::SetupDone {
+            worker: WORKER,
+            accept,
+        },
+        Event::Begin(operation) => Step::Begin(begin(operation)?),
+        Event::Next(worker, operation) => Step::Next { worker, operation },
+        Event::Pre(worker, verdict, operation) => Step::PreReturned {
+            worker,
+            verdict,
+            data: data(alloc, operation)?,
+        },
+        Event::Base(worker, operation) => Step::BaseReturned {
+            worker,
+            call: call(alloc, operation)?,
+            answer: answer(alloc)?,
+        },
+        Event::Post(worker, verdict, operation) => Step::PostReturned {
+            worker,
+            verdict,
+            data: Some(data(alloc, operation)?),
+        },
+        Event::Collect(operation) => Step::Collect { operation },
+        Event::Allocate(kind) => Step::Allocate {
+            worker: WORKER,
+            kind,
+            body: zeros(alloc, 2)?,
+        },
+        Event::Set => set(),
+        Event::ReadBody => Step::ReadBody {
+            worker: WORKER,
+            context: CONTEXT,
+        },
+        Event::TakeDue => Step::TakeDue { worker: WORKER },
+        Event::Cleaned(number) => Step::Cleaned {
+            worker: WORKER,
+            number,
+        },
+    })
+}

@@ -38,13 +38,6 @@ called w k x h = at_callback (callback_of w k) refl h
     at_callback None is h = absurd (none-some x h)
     at_callback (Some at) is h = (at, is, same_Some (caller_of at) x h)
 
-pub uncalled : (w : World) (k : WorkerId) → option_map caller_of (callback_of w k) ≡ None → callback_of w k ≡ None
-uncalled w k h = at_callback (callback_of w k) refl h
-  where
-    at_callback : (m : Option Callback) → callback_of w k ≡ m → option_map caller_of m ≡ None → callback_of w k ≡ None
-    at_callback None is h = is
-    at_callback (Some at) is h = absurd (none-some (caller_of at) (sym h))
-
 -- of the state as the code finds it
 pub called_in : {old now : World} (k : WorkerId) (x : Caller) → old ≡ now → option_map caller_of (callback_of now k) ≡ Some x
     → (at : Callback) × (callback_of old k ≡ Some at) × (caller_of at ≡ x)
@@ -62,16 +55,12 @@ object_same at k = refl
 pub callback_row : (w : World) (k : WorkerId) (at : Callback) → callback_of w k ≡ Some at → row_at w.stack at.instance ≡ Some at.row
 callback_row w k at is = (callback_parts w.stack _ _ at is).1
 
--- ---- an event in a callback, and outside
+-- ---- an event in a callback
 
 pub in_callback : {T : Type 0} (old : World) (k : WorkerId) (result : Result T Status) (new : World) (Event : Callback → Type 0) (at : Callback)
     → callback_of old k ≡ Some at
     → Event at → InCallback old k result new Event
 in_callback old k result new Event at is h = subst (InCallbackOf result old new Event) (sym is) h
-
-pub outside : (T : Type 0) (old : World) (k : WorkerId) (Event : Callback → Type 0) → option_map caller_of (callback_of old k) ≡ None
-    → InCallback {T = T} old k (Err status.WrongStep) old Event
-outside T old k Event is = subst (InCallbackOf (Err status.WrongStep) old old Event) (sym (uncalled old k is)) (refl, refl)
 
 -- what the layer answers, the World does
 pub answers_up : {T : Type 0} (w : World) (kept after : ContextsKept) (refusal : Option Status) (result : Result T Status) (E F : T → Type 0) → ((v : T) → E v → F v)

@@ -126,9 +126,9 @@ impl State {
     }
 
     /// Gets the context of a kind that is set on the callback's object (`FltGetVolumeContext`, `FltGetInstanceContext`, `FltGetStreamContext`,
-    /// `FltGetStreamHandleContext`): a reference more, in the hand. Refused, nothing changed: 30 where the worker is in no callback of an instance, 21 where the
-    /// filter didn't register the kind, 27 where the callback has no such object, 13 where the handle is closed or the stream torn down, 24 where none is set, 26
-    /// where the hand has 16 references. It takes no memory.
+    /// `FltGetStreamHandleContext`): a reference more, in the hand. Refused, nothing changed: 30 where the worker is in no callback of an instance, 21
+    /// where the filter didn't register the kind, 27 where the callback has no such object, 13 where the handle is closed or the stream torn down, 24 where
+    /// none is set, 26 where the hand has 16 references. It takes no memory.
     #[tactic(auto, unfolding(fm_world::specs::ContextEvents::Gets))]
     pub fn get(&mut self, worker: WorkerId, kind: ContextKind) -> Result<CtxId, Status>
         ensures event { Gets self.old worker kind result self.new }

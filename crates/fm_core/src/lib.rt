@@ -1,7 +1,8 @@
 //! The manager's state, and each event as one call on it.
 //!
-//! A call of `State` is one critical section: callbacks and base calls run between calls, played by the caller. What each call answers and changes is
-//! said by a relation of `fm_world` (its `specs/Events` and `specs/ContextEvents`), and every State keeps the Headline (`specs/Headline` there): `State::headline` says so.
+//! A call of `State` is one critical section: callbacks and base calls run between calls, played by the caller. What each call answers and changes is said
+//! by a relation of `fm_world` (its `specs/Events` and `specs/ContextEvents`), and every State keeps the Headline (`specs/Headline` there):
+//! `State::headline` says so.
 #![tactic(auto)]
 
 mod caller;

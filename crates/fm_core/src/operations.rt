@@ -108,9 +108,9 @@ impl State {
         Ok(())
     }
 
-    /// The base call that the worker is in returns, with what it was asked and its answer. The contexts that are set on a handle that closes,
-    /// or on a stream that is torn down, lose their links. Refused, nothing changed and both handed back:
-    /// 30 where the worker is in no base call, 32 where the call is strange (of another volume, file or operation, or past a limit) or more than 32,768 bytes come back.
+    /// The base call that the worker is in returns, with what it was asked and its answer. The contexts that are set on a handle that closes, or on a
+    /// stream that is torn down, lose their links. Refused, nothing changed and both handed back: 30 where the worker is in no base call, 32 where the call
+    /// is strange (of another volume, file or operation, or past a limit) or more than 32,768 bytes come back.
     #[tactic(auto, unfolding(fm_world::specs::Events::BaseReturns))]
     pub fn base_returned(
         &mut self,
@@ -152,9 +152,9 @@ impl State {
         Ok(())
     }
 
-    /// The postoperation callback that the worker is in returns, with its verdict and its data; or the drain, which has no data and whose verdict counts
-    /// as Finished. What is in the worker's hand is released and counts as leaked. Refused, nothing changed and the data handed back: 30 where the worker is in neither, 32 where the data is strange, where a
-    /// postoperation has none or a drain has some.
+    /// The postoperation callback that the worker is in returns, with its verdict and its data; or the drain, which has no data and whose verdict counts as
+    /// Finished. What is in the worker's hand is released and counts as leaked. Refused, nothing changed and the data handed back: 30 where the worker is
+    /// in neither, 32 where the data is strange, where a postoperation has none or a drain has some.
     #[tactic(auto, using(fm_world::proofs::Handing::post_hand, fm_world::proofs::Holdings::post_none), unfolding(fm_world::specs::Events::PostReturns))]
     pub fn post_returned(
         &mut self,

@@ -19,8 +19,8 @@ use std::marker::Model;
 /// How many filters are loaded at most.
 const FILTERS: usize = 16;
 
-/// The state of a filter manager: its filters, volumes and instances, its operations under way, the contexts, streams and handles, where each of 48 workers is, and what
-/// each filter's cleanups returned in all.
+/// The state of a filter manager: its filters, volumes and instances, its operations under way, the contexts, streams and handles, where each of 48 workers
+/// is, and what each filter's cleanups returned in all.
 #[derive(Drop)]
 pub struct State {
     pub(crate) stack: Stack,

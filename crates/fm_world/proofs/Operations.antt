@@ -67,7 +67,7 @@ use Rattle.fm_world.proofs.Descents.{next_unseen, room_is, or_left, or_right}
 use Rattle.fm_world.proofs.Keeps.{known_cases, unless_cases, idle_there, whatever_contexts, whatever_files, loses_under_way}
 use Rattle.fm_flow.proofs.Soundness.{sound_pre_returned, sound_base, sound_post_returned, sound_drain_returned}
 use Rattle.fm_stack.proofs.Visits.{is_to_visit_few}
-use Rattle.fm_flow.proofs.Flows.{flow_begins, flow_changes, flow_collects, sound_next}
+use Rattle.fm_flow.proofs.Flows.{flow_begins, flow_changes, flow_collects, next_stays, sound_next}
 use Rattle.fm_types.specs.declared.ids.HandleId.{HandleId}
 use Rattle.fm_types.specs.declared.ids.StreamId.{StreamId}
 use Rattle.fm_types.specs.declared.ids.VolumeId.{VolumeId}
@@ -188,102 +188,6 @@ begin_keeps old what (Err why) new h s = subst IsUnderWay (sym h.1) s
 begin_keeps old what (Ok o) new h s = subst IsUnderWay (sym h.1.1) (after_begin_keeps old what h.0 s)
 
 -- ---- next
-
-next_number : (k : WorkerId) (lies : Below) (drains : Bool) (r : FlowRecord) → (next_of k lies drains r).after.number.0 ≡ r.number.0
-next_number k lies drains r = collected_or r.collected
-  where
-    unwound_number : (place : ℕ) (r : FlowRecord) (m : Option Params) → (unwound_to place r m).number.0 ≡ r.number.0
-    unwound_number place r (Some p) = refl
-    unwound_number place r None = refl
-
-    post_number : (k : WorkerId) (ask : Ask) (r : FlowRecord) (m : Option Params) → (give_post k ask r m).after.number.0 ≡ r.number.0
-    post_number k ask r (Some p) = refl
-    post_number k ask r None = refl
-
-    ascend_number : (k : WorkerId) (drains : Bool) (r : FlowRecord) (m : Option Ask) → (ascend k drains r m).after.number.0 ≡ r.number.0
-    ascend_number k drains r None = refl
-    ascend_number k true r (Some ask) = refl
-    ascend_number k false r (Some ask) = taken (may_take k ask)
-      where
-        taken : (b : Bool) → (cond b (call_post k ask r) (record { reply = Err status.WrongStep; after = r })).after.number.0 ≡ r.number.0
-        taken true = post_number k ask (unwound ask.place r) (unwound ask.place r).params ∙ unwound_number ask.place r (slice_get r.kept ask.place)
-        taken false = refl
-
-    called : (k : WorkerId) (i : InstanceId) (r : FlowRecord) (m : Option Params) → (call_pre k i r m).after.number.0 ≡ r.number.0
-    called k i r (Some p) = refl
-    called k i r None = refl
-
-    based : (r : FlowRecord) (m : Option Params) → (call_base r m).after.number.0 ≡ r.number.0
-    based r (Some p) = refl
-    based r None = refl
-
-    descend_number : (k : WorkerId) (lies : Below) (r : FlowRecord) → (descend k lies r).after.number.0 ≡ r.number.0
-    descend_number k (below.Instance i true) r = called k i r r.params
-    descend_number k (below.Instance i false) r = refl
-    descend_number k below.Call r = based r r.params
-    descend_number k (below.Known status) r = refl
-
-    number_at : (stage : Stage) → (next_at k lies drains r stage).after.number.0 ≡ r.number.0
-    number_at Descending = descend_number k lies r
-    number_at Ascending = ascend_number k drains r (slice_get (owed r.entries) 0)
-    number_at PreRunning = refl
-    number_at PreHeld = refl
-    number_at InBase = refl
-    number_at PostRunning = refl
-    number_at PostHeld = refl
-    number_at (InDrain i) = refl
-
-    collected_or : (b : Bool) → (cond b (record { reply = Err status.WrongStep; after = r }) (next_at k lies drains r r.stage)).after.number.0 ≡ r.number.0
-    collected_or true = refl
-    collected_or false = number_at r.stage
-
-next_collected : (k : WorkerId) (lies : Below) (drains : Bool) (r : FlowRecord) → (next_of k lies drains r).after.collected ≡ r.collected
-next_collected k lies drains r = collected_or r.collected
-  where
-    unwound_collected : (place : ℕ) (r : FlowRecord) (m : Option Params) → (unwound_to place r m).collected ≡ r.collected
-    unwound_collected place r (Some p) = refl
-    unwound_collected place r None = refl
-
-    post_collected : (k : WorkerId) (ask : Ask) (r : FlowRecord) (m : Option Params) → (give_post k ask r m).after.collected ≡ r.collected
-    post_collected k ask r (Some p) = refl
-    post_collected k ask r None = refl
-
-    ascend_collected : (k : WorkerId) (drains : Bool) (r : FlowRecord) (m : Option Ask) → (ascend k drains r m).after.collected ≡ r.collected
-    ascend_collected k drains r None = refl
-    ascend_collected k true r (Some ask) = refl
-    ascend_collected k false r (Some ask) = taken (may_take k ask)
-      where
-        taken : (b : Bool) → (cond b (call_post k ask r) (record { reply = Err status.WrongStep; after = r })).after.collected ≡ r.collected
-        taken true = post_collected k ask (unwound ask.place r) (unwound ask.place r).params ∙ unwound_collected ask.place r (slice_get r.kept ask.place)
-        taken false = refl
-
-    called : (k : WorkerId) (i : InstanceId) (r : FlowRecord) (m : Option Params) → (call_pre k i r m).after.collected ≡ r.collected
-    called k i r (Some p) = refl
-    called k i r None = refl
-
-    based : (r : FlowRecord) (m : Option Params) → (call_base r m).after.collected ≡ r.collected
-    based r (Some p) = refl
-    based r None = refl
-
-    descend_collected : (k : WorkerId) (lies : Below) (r : FlowRecord) → (descend k lies r).after.collected ≡ r.collected
-    descend_collected k (below.Instance i true) r = called k i r r.params
-    descend_collected k (below.Instance i false) r = refl
-    descend_collected k below.Call r = based r r.params
-    descend_collected k (below.Known status) r = refl
-
-    collected_at : (stage : Stage) → (next_at k lies drains r stage).after.collected ≡ r.collected
-    collected_at Descending = descend_collected k lies r
-    collected_at Ascending = ascend_collected k drains r (slice_get (owed r.entries) 0)
-    collected_at PreRunning = refl
-    collected_at PreHeld = refl
-    collected_at InBase = refl
-    collected_at PostRunning = refl
-    collected_at PostHeld = refl
-    collected_at (InDrain i) = refl
-
-    collected_or : (b : Bool) → (cond b (record { reply = Err status.WrongStep; after = r }) (next_at k lies drains r r.stage)).after.collected ≡ r.collected
-    collected_or true = refl
-    collected_or false = collected_at r.stage
 
 -- what `next` makes of an operation and of the worker
 record Leads (s : StackWorld) (k : WorkerId) (o : OpId) (r : FlowRecord) (turned : Turned) (workers : List Worker) : Type 0 where
@@ -481,18 +385,19 @@ next_there old k o lies result new (Some r) at idle finds h s =
     let leads = leads_of old.stack k o r lies d old.workers s.stack sound (λ e. (finds e).0) among in
     let after = after_next old.workers k o (next_of k lies d r).reply in
     let filed = filed_next old o (changed o f old.flow) result lies in
-    let drained = next_drained old.workers old.flow k o lies d r idle at (next_number k lies d) s.drains in
+    let number : (x : FlowRecord) → (f x).number.0 ≡ x.number.0 = λ x. (next_stays k lies d x).number in
+    let drained = next_drained old.workers old.flow k o lies d r idle at number s.drains in
     let built : (ws : List Worker) → after ≡ ws → length ws ≡ 48 → AreTied ws (changed o f old.flow)
     → ((i : ℕ) → count_by (is_in_setup i) ws ≡ count_by (is_in_setup i) old.workers) → IsUnderWay new =
     λ ws e hands tied setups. subst IsUnderWay
     (sym (h.1 ∙ ap (λ x. record old { flow = changed o f old.flow; workers = x; contexts = received old.contexts k result; files = filed }) (ap (after_next old.workers k o) reply ∙ e)))
     (whatever_files (record old { flow = changed o f old.flow; workers = ws }) (received old.contexts k result) filed
-    (step_keeps old o r f ws at (next_number k lies d) (next_collected k lies d) (sound_next k lies d r sound (λ e. may_visit old.stack r lies among (finds e).0))
+    (step_keeps old o r f ws at number (λ x. (next_stays k lies d x).collected) (sound_next k lies d r sound (λ e. may_visit old.stack r lies among (finds e).0))
     leads.among hands tied (subst (λ (x : List Worker). AreDrained x (changed o f old.flow)) e drained) setups s)) in
     elim leads.how [
-      | inl stays ↦ built old.workers stays.0 s.hands (tied_stays old.workers old.flow o r f at (next_number k lies d) stays.1 s.workers) (λ i. refl)
+      | inl stays ↦ built old.workers stays.0 s.hands (tied_stays old.workers old.flow o r f at number stays.1 s.workers) (λ i. refl)
       | inr goes ↦ built (put old.workers k goes.0) goes.1 (length-set old.workers k.0 goes.0 ∙ s.hands)
-          (tied_moves old.workers old.flow k place.Idle goes.0 o r f idle at (next_number k lies d) goes.2 goes.3 s.workers)
+          (tied_moves old.workers old.flow k place.Idle goes.0 o r f idle at number goes.2 goes.3 s.workers)
           (setups_stay old.workers k place.Idle goes.0 idle (λ i. refl) goes.4)
     ]
 

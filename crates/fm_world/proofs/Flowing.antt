@@ -76,9 +76,11 @@ use Rattle.fm_world.proofs.Belonging.{owners_same, filters_same, belongs_still, 
 use Rattle.fm_world.proofs.Callbacks.{same_hands}
 use Rattle.fm_world.specs.Links.{names_there, LosesLinks}
 use Rattle.fm_world.proofs.Fitting.{AllPass}
-use Rattle.fm_world.proofs.Keeps.{known_cases, unless_cases, idle_there, FiledIn}
-use Rattle.fm_world.proofs.Losing.{NamedIn, received_slots, loses_filed, loses_owned, loses_named, named_more, created_there, moved_there}
-use Rattle.fm_world.proofs.Operations.{begin_keeps, next_keeps, pre_keeps, base_keeps, post_keeps, collect_keeps, may_visit, told_there, full_from, not_there, begins_at, asked_within}
+use Rattle.fm_world.proofs.Keeps.{known_cases, loses_under_way, FiledIn}
+use Rattle.fm_world.proofs.Losing.{NamedIn, received_slots, loses_filed, loses_owned, loses_named, loses_sound, named_more, created_there, moved_there}
+use Rattle.fm_world.proofs.Events.{Turns, next_by, pre_by, base_by, post_by}
+use Rattle.fm_world.specs.Events.{pre_step}
+use Rattle.fm_world.proofs.Operations.{begin_keeps, next_keeps, pre_keeps, base_keeps, post_keeps, drain_keeps, collect_keeps, inside_pre, inside_base, inside_post, inside_drain, may_visit, told_there, full_from, begins_at, asked_within}
 use Rattle.fm_world.proofs.Owning.{empty_hand, cleaning_stays}
 use Rattle.fm_world.proofs.Ties.{tied_there, spot_pre, spot_post, spot_drain, spot_base}
 use Rattle.fm_types.specs.declared.ids.HandleId.{HandleId}
@@ -138,6 +140,13 @@ step_owned w o r f k a b t hand at there worker na nb lawful slots hands cleanin
       quiet = quiet;
       totals = h.totals;
     }
+
+worker_below : (w : World) (k : WorkerId) (a : Worker) → worker_at w.workers k ≡ Some a → IsUnderWay w → k.0 < 48
+worker_below w k a at s = subst (λ n. k.0 < n) s.hands (slice_get_within w.workers k.0 a at)
+
+-- what an operation is owed
+asks_of : (w : World) (o : OpId) (r : FlowRecord) → operation_at o w.flow ≡ Some r → IsOwned w → All (AskCarries w.stack w.contexts.slots) (owed r.entries)
+asks_of w o r at h = found_holds (λ (x : FlowRecord). All (AskCarries w.stack w.contexts.slots) (owed x.entries)) (is_number o) w.flow.operations r h.completions at
 
 -- nothing is carried otherwise
 alike : (w : World) (o : OpId) (r : FlowRecord) (f : FlowRecord → FlowRecord) → operation_at o w.flow ≡ Some r → ((c : CtxId) → carried_by c (f r) ≡ carried_by c r)
@@ -330,65 +339,54 @@ brought_owned w o r f k b i (Some d) at idle worker nb pl balance own owes quiet
     (All-nil (HoldsIn w.stack w.contexts.slots (place_in (Some b)))))) owes quiet h
 
 -- the same, by what `next` answers
-next_by : (w : World) (o : OpId) (r : FlowRecord) (f : FlowRecord → FlowRecord) (k : WorkerId) (reply : Result FlowAction Status)
+next_by_reply : (w : World) (o : OpId) (r : FlowRecord) (f : FlowRecord → FlowRecord) (k : WorkerId) (reply : Result FlowAction Status)
     → operation_at o w.flow ≡ Some r → worker_at w.workers k ≡ Some place.Idle → k.0 < 48
     → ((c : CtxId) → carries w c ≡ carries_after w o f c + handed c reply) → WasOwed (AskCarries w.stack w.contexts.slots) reply
     → All (AskCarries w.stack w.contexts.slots) (owed (f r).entries)
     → ((j : InstanceId) → is_flown_by (row_at w.stack j) ≡ false → in_flight j.0 (changed o f w.flow) ≡ 0) → IsOwned w
     → IsOwned (record w { flow = changed o f w.flow; workers = after_next w.workers k o reply; contexts = received w.contexts k reply })
-next_by w o r f k (Ok (action.Pre i lent)) at idle worker balance was owes quiet h =
+next_by_reply w o r f k (Ok (action.Pre i lent)) at idle worker balance was owes quiet h =
     brought_owned w o r f k (place.Pre o i) i None at idle worker refl refl balance tt owes quiet h
-next_by w o r f k (Ok (action.Base call)) at idle worker balance was owes quiet h =
+next_by_reply w o r f k (Ok (action.Base call)) at idle worker balance was owes quiet h =
     let none = empty_hand w k place.Idle idle refl h in
     step_owned w o r f k place.Idle (place.Base o) w.contexts (hand_of w.contexts.hands k.0) at idle worker refl refl (lawful_alike (λ c. omega (arith, balance c)) h.lawful)
     refl (same_hands w.contexts.hands k.0) refl
     (subst (All (HoldsIn w.stack w.contexts.slots None)) (sym none) (All-nil (HoldsIn w.stack w.contexts.slots None))) owes quiet h
-next_by w o r f k (Ok (action.Post i lent completion)) at idle worker balance was owes quiet h =
+next_by_reply w o r f k (Ok (action.Post i lent completion)) at idle worker balance was owes quiet h =
     brought_owned w o r f k (place.Post o i) i completion.context at idle worker refl refl (λ c. balance c)
     (subst (λ (x : InstanceId). CarriesIn w.stack w.contexts.slots x completion.context) was.2
     (subst (λ (x : Completion). CarriesIn w.stack w.contexts.slots was.0.instance x.context) was.3 was.1)) owes quiet h
-next_by w o r f k (Ok (action.Drain i completion)) at idle worker balance was owes quiet h =
+next_by_reply w o r f k (Ok (action.Drain i completion)) at idle worker balance was owes quiet h =
     brought_owned w o r f k (place.Drain o i) i completion.context at idle worker refl refl (λ c. balance c)
     (subst (λ (x : InstanceId). CarriesIn w.stack w.contexts.slots x completion.context) was.2
     (subst (λ (x : Completion). CarriesIn w.stack w.contexts.slots was.0.instance x.context) was.3 was.1)) owes quiet h
-next_by w o r f k (Ok action.Moved) at idle worker balance was owes quiet h = flow_owned w o r f at (lawful_alike (λ c. omega (arith, balance c)) h.lawful) owes quiet h
-next_by w o r f k (Ok action.Held) at idle worker balance was owes quiet h = flow_owned w o r f at (lawful_alike (λ c. omega (arith, balance c)) h.lawful) owes quiet h
-next_by w o r f k (Ok action.Done) at idle worker balance was owes quiet h = flow_owned w o r f at (lawful_alike (λ c. omega (arith, balance c)) h.lawful) owes quiet h
-next_by w o r f k (Err why) at idle worker balance was owes quiet h = flow_owned w o r f at (lawful_alike (λ c. omega (arith, balance c)) h.lawful) owes quiet h
+next_by_reply w o r f k (Ok action.Moved) at idle worker balance was owes quiet h = flow_owned w o r f at (lawful_alike (λ c. omega (arith, balance c)) h.lawful) owes quiet h
+next_by_reply w o r f k (Ok action.Held) at idle worker balance was owes quiet h = flow_owned w o r f at (lawful_alike (λ c. omega (arith, balance c)) h.lawful) owes quiet h
+next_by_reply w o r f k (Ok action.Done) at idle worker balance was owes quiet h = flow_owned w o r f at (lawful_alike (λ c. omega (arith, balance c)) h.lawful) owes quiet h
+next_by_reply w o r f k (Err why) at idle worker balance was owes quiet h = flow_owned w o r f at (lawful_alike (λ c. omega (arith, balance c)) h.lawful) owes quiet h
 
-next_owned : (old : World) (k : WorkerId) (o : OpId) (lies : Below) (result : Result FlowAction Status) (new : World) (m : Option FlowRecord)
-    → operation_at o old.flow ≡ m → worker_at old.workers k ≡ Some place.Idle → FindsBelow old.stack old.files old.flow m lies → NextsOver old k o lies result new
-    → IsSound old → IsOwned new
-next_owned old k o lies result new None at idle finds h s =
+next_owned : (old : World) (k : WorkerId) (o : OpId) (result : Result FlowAction Status) (new : World) (e : Turns old k o result new) → IsSound old → IsOwned e.mid
+next_owned old k o result new e s =
+    let r = e.row in
     let d = drains_at old o in
-    let f = λ (x : FlowRecord). (next_of k lies d x).after in
-    let reply : result ≡ Err status.WrongStep =
-    h.0 ∙ ap (λ m. unwrap_or (option_map (λ (x : FlowRecord). (next_of k lies d x).reply) m) (Err status.WrongStep)) at in
-    subst IsOwned (sym (h.1 ∙ not_there old k o lies result at reply)) s.owned
-next_owned old k o lies result new (Some r) at idle finds h s =
-    let d = drains_at old o in
-    let f = λ (x : FlowRecord). (next_of k lies d x).after in
-    let turned = next_of k lies d r in
-    let reply : result ≡ turned.reply =
-    h.0 ∙ ap (λ m. unwrap_or (option_map (λ (x : FlowRecord). (next_of k lies d x).reply) m) (Err status.WrongStep)) at in
-    let sound = found_holds flow.IsSound (is_number o) old.flow.operations r s.under_way.flow.sound at in
-    let among = found_holds (IsAmong old.stack) (is_number o) old.flow.operations r s.under_way.among at in
-    let asks = found_holds (λ (x : FlowRecord). All (AskCarries old.stack old.contexts.slots) (owed x.entries)) (is_number o) old.flow.operations r s.owned.completions at in
-    let owes = next_owes (AskCarries old.stack old.contexts.slots) k lies d r
-    (λ e. (may_visit old.stack r lies among (finds e).0, may_ask old.stack old.contexts.slots k lies r)) sound asks in
-    let balance = next_balance old o k lies d r at (λ e. (finds e).0) s in
+    let f = λ (x : FlowRecord). (next_of k e.lies d x).after in
+    let turned = next_of k e.lies d r in
+    let sound = found_holds flow.IsSound (is_number o) old.flow.operations r s.under_way.flow.sound e.at in
+    let among = found_holds (IsAmong old.stack) (is_number o) old.flow.operations r s.under_way.among e.at in
+    let owes = next_owes (AskCarries old.stack old.contexts.slots) k e.lies d r
+    (λ down. (may_visit old.stack r e.lies among (e.finds down), may_ask old.stack old.contexts.slots k e.lies r)) sound (asks_of old o r e.at s.owned) in
     let quiet : (i : InstanceId) → is_flown_by (row_at old.stack i) ≡ false → in_flight i.0 (changed o f old.flow) ≡ 0 = λ i rests.
     omega (
       arith,
-      flight_changed old.flow o r f at i.0,
-      next_flies i.0 k lies d r (λ e. may_visit old.stack r lies among (finds e).0) sound,
-      next_enters i.0 k lies d r (λ e. lies_attached old.stack r lies i (finds e).0 rests),
+      flight_changed old.flow o r f e.at i.0,
+      next_flies i.0 k e.lies d r (λ down. may_visit old.stack r e.lies among (e.finds down)) sound,
+      next_enters i.0 k e.lies d r (λ down. lies_attached old.stack r e.lies i (e.finds down) rests),
       s.owned.quiet i rests,
     ) in
-    let worker : k.0 < 48 = subst (λ n. k.0 < n) s.under_way.hands (slice_get_within old.workers k.0 place.Idle idle) in
-    let filed = filed_next old o (changed o f old.flow) result lies in
-    subst IsOwned (sym (h.1 ∙ ap (λ x. record old { flow = changed o f old.flow; workers = after_next old.workers k o x; contexts = received old.contexts k x; files = filed }) reply))
-    (files_owned filed (next_by old o r f k turned.reply at idle worker balance owes.hands owes.owes quiet s.owned))
+    let filed = filed_next old o (changed o f old.flow) result e.lies in
+    subst IsOwned (sym (e.over.1 ∙ ap (λ x. record old { flow = changed o f old.flow; workers = after_next old.workers k o x; contexts = received old.contexts k x; files = filed }) e.reply))
+    (files_owned filed (next_by_reply old o r f k turned.reply e.at e.idle (worker_below old k place.Idle e.idle s.under_way) (next_balance old o k e.lies d r e.at e.finds s)
+    owes.hands owes.owes quiet s.owned))
 
 -- an answer that was known counts at once
 known_filed : (old : World) (k : WorkerId) (o : OpId) (r : FlowRecord) (lies : Below) (drains : Bool) (result : Result FlowAction Status) → operation_at o old.flow ≡ Some r
@@ -418,62 +416,33 @@ known_filed old k o r lies drains result at reply s = by_result result lies repl
     by_result (Ok action.Done) lies reply = still lies (λ known moved. (cc))
     by_result (Err why) lies reply = still lies (λ known moved. (cc))
 
-next_filed_at : (old : World) (k : WorkerId) (o : OpId) (lies : Below) (result : Result FlowAction Status) (new : World) (m : Option FlowRecord)
-    → operation_at o old.flow ≡ m → NextsOver old k o lies result new → FiledIn old → FiledIn new
-next_filed_at old k o lies result new None at h s =
-    let reply : result ≡ Err status.WrongStep =
-    h.0 ∙ ap (λ m. unwrap_or (option_map (λ (x : FlowRecord). (next_of k lies (drains_at old o) x).reply) m) (Err status.WrongStep)) at in
-    subst FiledIn (sym (h.1 ∙ not_there old k o lies result at reply)) s
-next_filed_at old k o lies result new (Some r) at h s =
-    let reply : result ≡ (next_of k lies (drains_at old o) r).reply =
-    h.0 ∙ ap (λ m. unwrap_or (option_map (λ (x : FlowRecord). (next_of k lies (drains_at old o) x).reply) m) (Err status.WrongStep)) at in
-    subst FiledIn (sym h.1) (known_filed old k o r lies (drains_at old o) result at reply s)
-
-next_filed : (old : World) (k : WorkerId) (o : OpId) (result : Result FlowAction Status) (new : World) → Nexts old k o result new → FiledIn old → FiledIn new
-unfolding Nexts
-next_filed old k o result new h s =
-    unless_cases FiledIn status.WrongStep (is_idle (worker_at old.workers k)) result old new
-    (NextsAt old k o result new) h
-    (λ idle event.
-    let filed = next_filed_at old k o event.0 result event.2 (operation_at o old.flow) refl event.3 s in
-    known_cases FiledIn result event.0 event.2 new event.4 (λ loses. loses_filed event.2 new loses filed) filed) s
+next_filed : (old : World) (k : WorkerId) (o : OpId) (result : Result FlowAction Status) (new : World) (e : Turns old k o result new) → FiledIn old → FiledIn e.mid
+next_filed old k o result new e s = subst FiledIn (sym e.over.1) (known_filed old k o e.row e.lies (drains_at old o) result e.at e.reply s)
 
 -- links go with what a known answer takes away; all else is there still
-named_over : (old : World) (k : WorkerId) (o : OpId) (lies : Below) (result : Result FlowAction Status) (mid new : World) → NextsOver old k o lies result mid
+next_named : (old : World) (k : WorkerId) (o : OpId) (lies : Below) (result : Result FlowAction Status) (mid new : World) → NextsOver old k o lies result mid
     → LosesByKnown result lies mid new → NamedIn old → NamedIn new
-named_over old k o lies result mid new over h s = by_result result lies over h
+next_named old k o lies result mid new over h s = by_result result lies over h
   where
     still : (result : Result FlowAction Status) → AllPass (names_there old.files) (received old.contexts k result).slots
     still result = subst (AllPass (names_there old.files)) (sym (received_slots old.contexts k result)) s
 
     by_result : (result : Result FlowAction Status) (lies : Below) → NextsOver old k o lies result mid → LosesByKnown result lies mid new → NamedIn new
     by_result (Ok action.Moved) (below.Known why) over h = loses_named mid new h
-    by_result (Ok action.Moved) (below.Instance i b) over h = subst NamedIn (sym (h ∙ over.1)) (still (Ok action.Moved))
-    by_result (Ok action.Moved) below.Call over h = subst NamedIn (sym (h ∙ over.1)) (still (Ok action.Moved))
     by_result result lies over h = subst NamedIn (sym (h ∙ over.1)) (still result)
 
-next_named : (old : World) (k : WorkerId) (o : OpId) (result : Result FlowAction Status) (new : World) → Nexts old k o result new → NamedIn old → NamedIn new
-unfolding Nexts
-next_named old k o result new h s =
-    unless_cases NamedIn status.WrongStep (is_idle (worker_at old.workers k)) result old new (NextsAt old k o result new) h
-    (λ idle event. named_over old k o event.0 result event.2 new event.3 event.4 s) s
-
 pub next_sound : (old : World) (k : WorkerId) (o : OpId) (result : Result FlowAction Status) (new : World) → Nexts old k o result new → IsSound old → IsSound new
-unfolding Nexts
-next_sound old k o result new h s = record {
-  under_way = next_keeps old k o result new h s.under_way;
-  owned = owned;
-  filed = next_filed old k o result new h s.filed;
-  links = next_named old k o result new h s.links;
-}
-  where
-    owned : IsOwned new
-    owned =
-        unless_cases IsOwned status.WrongStep (is_idle (worker_at old.workers k)) result old new
-        (NextsAt old k o result new) h
-        (λ idle event.
-        let owned = next_owned old k o event.0 result event.2 (operation_at o old.flow) refl (idle_there old.workers k idle) event.1 event.3 s in
-        known_cases IsOwned result event.0 event.2 new event.4 (λ loses. loses_owned event.2 new loses owned) owned) s.owned
+next_sound old k o result new h s =
+    next_by (λ _ w. IsSound w) old k o result new h (λ why. s) (λ e.
+    let u = next_keeps old k o result new e s.under_way in
+    let owned = next_owned old k o result new e s in
+    let filed = next_filed old k o result new e s.filed in
+    record {
+      under_way = known_cases IsUnderWay result e.lies e.mid new e.loses (λ loses. loses_under_way e.mid new loses u) u;
+      owned = known_cases IsOwned result e.lies e.mid new e.loses (λ loses. loses_owned e.mid new loses owned) owned;
+      filed = known_cases FiledIn result e.lies e.mid new e.loses (λ loses. loses_filed e.mid new loses filed) filed;
+      links = next_named old k o e.lies result e.mid new e.over e.loses s.links;
+    })
 
 -- ---- callbacks return
 
@@ -486,9 +455,6 @@ left_owned : (w : World) (o : OpId) (r : FlowRecord) (f : FlowRecord → FlowRec
 left_owned w o r f k a kept after at there worker na lawful slots cleaning hands leaves owes fewer h =
     step_owned w o r f k a place.Idle after [] at there worker na refl (leave_keeps k.0 lawful leaves) (leaves.slots ∙ slots) (leaves.hands ∙ hands) (leaves.cleaning ∙ cleaning)
     (All-nil (HoldsIn w.stack w.contexts.slots None)) owes (quieter w o r f at fewer h.quiet) h
-
-worker_below : (w : World) (k : WorkerId) (a : Worker) → worker_at w.workers k ≡ Some a → IsUnderWay w → k.0 < 48
-worker_below w k a at s = subst (λ n. k.0 < n) s.hands (slice_get_within w.workers k.0 a at)
 
 held_is : (hand : List CtxId) (m : Option CtxId) (d : CtxId) → held_context hand m ≡ Some d → holds hand d ≡ true
 held_is hand None d h = absurd (none-some d h)
@@ -548,357 +514,175 @@ sent_parts w o f k (Some d) worker law balance has =
 same_instance : (i j : InstanceId) → i.0 ≡ j.0 → i ≡ j
 same_instance i j e = ap (λ n. record { 0 = n }) e
 
--- the operation of a worker that is in a preoperation
-pub pre_record : (w : World) (k : WorkerId) (o : OpId) (i : InstanceId) → worker_at w.workers k ≡ Some (place.Pre o i) → IsUnderWay w
-    → (r : FlowRecord) × (operation_at o w.flow ≡ Some r) × (r.stage ≡ PreRunning) × (last_visited r.entries ≡ Some i.0)
-pre_record w k o i at s =
-    let there = tied_there w.workers w.flow k (place.Pre o i) o (AtPre i.0) s.workers at (and_from (o.0 == o.0) (i.0 == i.0) (eq-eqb o.0 o.0 refl) (eq-eqb i.0 i.0 refl)) in
-    let spot = spot_pre i.0 there.0.stage there.0.entries there.2 in
-    (there.0, there.1, spot.0, spot.1)
-
-pub post_record : (w : World) (k : WorkerId) (o : OpId) (i : InstanceId) → worker_at w.workers k ≡ Some (place.Post o i) → IsUnderWay w
-    → (r : FlowRecord) × (operation_at o w.flow ≡ Some r) × (r.stage ≡ PostRunning)
-post_record w k o i at s =
-    let there = tied_there w.workers w.flow k (place.Post o i) o (AtPost i.0) s.workers at (and_from (o.0 == o.0) (i.0 == i.0) (eq-eqb o.0 o.0 refl) (eq-eqb i.0 i.0 refl)) in
-    (there.0, there.1, (spot_post i.0 there.0.stage there.0.entries there.2).0)
-
-pub drain_record : (w : World) (k : WorkerId) (o : OpId) (i : InstanceId) → worker_at w.workers k ≡ Some (place.Drain o i) → IsUnderWay w
-    → (r : FlowRecord) × (operation_at o w.flow ≡ Some r) × (r.stage ≡ InDrain i)
-drain_record w k o i at s =
-    let there = tied_there w.workers w.flow k (place.Drain o i) o (AtDrain i.0) s.workers at (and_from (o.0 == o.0) (i.0 == i.0) (eq-eqb o.0 o.0 refl) (eq-eqb i.0 i.0 refl)) in
-    (there.0, there.1, spot_drain i there.0.stage there.0.entries there.2)
-
 -- what a preoperation sends along is carried from then on
 pub pre_balance : (w : World) (k : WorkerId) (o : OpId) (i : InstanceId) (state : PreState) (lent : Data) → worker_at w.workers k ≡ Some (place.Pre o i) → IsUnderWay w → (c : CtxId)
     → carries_after w o (pre_returned_of state lent) c ≡ carries w c + carried_in c (record { number = 0; context = sent_in state })
 pre_balance w k o i state lent at s c =
-    let r = pre_record w k o i at s in
-    let sound = found_holds flow.IsSound (is_number o) w.flow.operations r.0 s.flow.sound r.1 in
-    omega (arith, carried_changed w.flow o r.0 (pre_returned_of state lent) r.1 c, pre_returned_carries c state lent r.0 r.2 sound, taken_sent c state)
+    let x = inside_pre w k o i at s in
+    omega (arith, carried_changed w.flow o x.0.row (pre_returned_of state lent) x.0.at c, pre_returned_carries c state lent x.0.row x.1 x.0.sound, taken_sent c state)
 
 -- and it was in the hand
 pub sent_is_held : (w : World) (k : WorkerId) (o : OpId) (i : InstanceId) (given : PreVerdict) → worker_at w.workers k ≡ Some (place.Pre o i) → IsUnderWay w
     → (d : CtxId) → sent_in (state_at w k o i given) ≡ Some d → holds (hand_of w.contexts.hands k.0) d ≡ true
 sent_is_held w k o i given at s d e =
-    let r = pre_record w k o i at s in
+    let x = (inside_pre w k o i at s).0 in
     let hand = hand_of w.contexts.hands k.0 in
-    let is = told_there (state_given w.stack hand i given) pre.Passed o w.flow r.0 r.1 in
-    sent_held hand given r.0.operation (has_post w.stack (slice_get w.stack.instances i.0) r.0.operation) d (sym (ap sent_in is) ∙ e)
+    let is = told_there (state_given w.stack hand i given) pre.Passed o w.flow x.row x.at in
+    sent_held hand given x.row.operation (has_post w.stack (slice_get w.stack.instances i.0) x.row.operation) d (sym (ap sent_in is) ∙ e)
 
 pub post_balance : (w : World) (k : WorkerId) (o : OpId) (i : InstanceId) (given : PostVerdict) (lent : Data) → worker_at w.workers k ≡ Some (place.Post o i) → IsUnderWay w
     → (c : CtxId) → carries_after w o (post_returned_of given lent) c ≡ carries w c
 post_balance w k o i given lent at s c =
-    let r = post_record w k o i at s in
-    let sound = found_holds flow.IsSound (is_number o) w.flow.operations r.0 s.flow.sound r.1 in
-    omega (arith, carried_changed w.flow o r.0 (post_returned_of given lent) r.1 c, post_returned_carries c given lent r.0 r.2 sound)
+    let x = inside_post w k o i at s in
+    omega (arith, carried_changed w.flow o x.0.row (post_returned_of given lent) x.0.at c, post_returned_carries c given lent x.0.row x.1 x.0.sound)
 
 pub drain_balance : (w : World) (k : WorkerId) (o : OpId) (i : InstanceId) → worker_at w.workers k ≡ Some (place.Drain o i) → IsUnderWay w
     → (c : CtxId) → carries_after w o (drain_returned_of i) c ≡ carries w c
 drain_balance w k o i at s c =
-    let r = drain_record w k o i at s in
-    omega (arith, carried_changed w.flow o r.0 (drain_returned_of i) r.1 c, drain_returned_carries c i r.0)
+    let x = (inside_drain w k o i at s).0 in
+    omega (arith, carried_changed w.flow o x.row (drain_returned_of i) x.at c, drain_returned_carries c i x.row)
 
-pre_at : (old : World) (k : WorkerId) (given : PreVerdict) (lent : Data) (result : Result (Unit {0}) Status) (new : World) (m : Option Worker)
-    → worker_at old.workers k ≡ m → PreReturnsAt old k given lent result new m → IsSound old → IsOwned new
-pre_at old k given lent result new (Some (place.Pre o i)) at h s =
-    let there = pre_record old k o i at s.under_way in
-    let r = there.0 in
+-- a context that a preoperation sends along may be carried
+sent_owned : (w : World) (k : WorkerId) (o : OpId) (i : InstanceId) (m : Option CtxId) → worker_at w.workers k ≡ Some (place.Pre o i)
+    → ((d : CtxId) → m ≡ Some d → holds (hand_of w.contexts.hands k.0) d ≡ true) → IsSound w → CarriesIn w.stack w.contexts.slots i m
+sent_owned w k o i None at has s = tt
+sent_owned w k o i (Some d) at has s =
+    subst (λ p. HoldsIn w.stack w.contexts.slots p d) (ap place_in at)
+    (held_has (HoldsIn w.stack w.contexts.slots (place_in (worker_at w.workers k))) (hand_of w.contexts.hands k.0) d (s.owned.holders k) (has d refl))
+
+pre_owned : (old : World) (k : WorkerId) (o : OpId) (i : InstanceId) (given : PreVerdict) (lent : Data) (after : ContextTable) → worker_at old.workers k ≡ Some (place.Pre o i)
+    → Leaves (carries_after old o (pre_step old k o i given lent)) (sent old.contexts k (sent_in (state_at old k o i given))) after k.0 → IsSound old
+    → IsOwned (record (returned old k o (pre_step old k o i given lent)) { contexts = after })
+pre_owned old k o i given lent after at leaves s =
+    let x = inside_pre old k o i at s.under_way in
+    let r = x.0.row in
     let state = state_at old k o i given in
     let f = pre_returned_of state lent in
     let slots = old.contexts.slots in
-    let sound = found_holds flow.IsSound (is_number o) old.flow.operations r s.under_way.flow.sound there.1 in
-    let course = subst (λ x. IsCourse x r.entries) there.2 sound.course in
-    let asks = found_holds (λ (x : FlowRecord). All (AskCarries old.stack slots) (owed x.entries)) (is_number o) old.flow.operations r s.owned.completions there.1 in
+    let course = subst (λ x. IsCourse x r.entries) x.1 x.0.sound.course in
     let worker = worker_below old k (place.Pre o i) at s.under_way in
     let has = sent_is_held old k o i given at s.under_way in
-    let balance = pre_balance old k o i state lent at s.under_way in
-    let parts = sent_parts old o f k (sent_in state) worker s.owned.lawful balance has in
+    let parts = sent_parts old o f k (sent_in state) worker s.owned.lawful (pre_balance old k o i state lent at s.under_way) has in
     let settled = owed_pre_settled PreRunning r.entries state refl course in
-    let visited : settled.0.instance ≡ i = same_instance settled.0.instance i (same_Some settled.0.instance.0 i.0 (sym settled.1 ∙ there.3)) in
-    let own : CarriesIn old.stack slots i (sent_in state) = sent_owned old k o i (sent_in state) at has s in
+    let visited : settled.0.instance ≡ i = same_instance settled.0.instance i (same_Some settled.0.instance.0 i.0 (sym settled.1 ∙ x.2)) in
     let owes : All (AskCarries old.stack slots) (owed (f r).entries) =
     subst (All (AskCarries old.stack slots)) (sym settled.2)
-    (asked_carries old.stack slots settled.0 state (owed r.entries) (subst (λ x. CarriesIn old.stack slots x (sent_in state)) (sym visited) own) asks) in
-    unless_cases IsOwned status.BadRequest (told (λ r. data_fits r.operation r.path lent) false o old.flow) result old new
-    ((result ≡ Ok tt) × PreReturnsOver old k o f state new) h
-    (λ fits event. loses_owned event.1.0 new event.1.2 (subst IsOwned (sym event.1.1.1)
-    (files_owned (filed_pre old o (changed o f old.flow) state)
-    (left_owned old o r f k (place.Pre o i) (sent old.contexts k (sent_in state)) event.1.0.contexts there.1 at worker refl parts.0 parts.1 parts.2 parts.3 event.1.1.0 owes
-    (λ j. omega (arith, pre_returned_flies j state lent r there.2 sound)) s.owned)))) s.owned
-  where
-    sent_owned : (w : World) (k : WorkerId) (o : OpId) (i : InstanceId) (m : Option CtxId) → worker_at w.workers k ≡ Some (place.Pre o i)
-        → ((d : CtxId) → m ≡ Some d → holds (hand_of w.contexts.hands k.0) d ≡ true) → IsSound w → CarriesIn w.stack w.contexts.slots i m
-    sent_owned w k o i None at has s = tt
-    sent_owned w k o i (Some d) at has s =
-        subst (λ p. HoldsIn w.stack w.contexts.slots p d) (ap place_in at)
-        (held_has (HoldsIn w.stack w.contexts.slots (place_in (worker_at w.workers k))) (hand_of w.contexts.hands k.0) d (s.owned.holders k) (has d refl))
-pre_at old k given lent result new (Some place.Idle) at h s = subst IsOwned (sym h.1) s.owned
-pre_at old k given lent result new (Some (place.EarlyDrain o i)) at h s = subst IsOwned (sym h.1) s.owned
-pre_at old k given lent result new (Some (place.Setup i)) at h s = subst IsOwned (sym h.1) s.owned
-pre_at old k given lent result new (Some (place.Base o)) at h s = subst IsOwned (sym h.1) s.owned
-pre_at old k given lent result new (Some (place.Post o i)) at h s = subst IsOwned (sym h.1) s.owned
-pre_at old k given lent result new (Some (place.Drain o i)) at h s = subst IsOwned (sym h.1) s.owned
-pre_at old k given lent result new (Some (place.Cleanup c)) at h s = subst IsOwned (sym h.1) s.owned
-pre_at old k given lent result new None at h s = subst IsOwned (sym h.1) s.owned
+    (asked_carries old.stack slots settled.0 state (owed r.entries)
+    (subst (λ x. CarriesIn old.stack slots x (sent_in state)) (sym visited) (sent_owned old k o i (sent_in state) at has s)) (asks_of old o r x.0.at s.owned)) in
+    left_owned old o r f k (place.Pre o i) (sent old.contexts k (sent_in state)) after x.0.at at worker refl parts.0 parts.1 parts.2 parts.3 leaves owes
+    (λ j. omega (arith, pre_returned_flies j state lent r x.1 x.0.sound)) s.owned
 
-pre_filed : (old : World) (k : WorkerId) (given : PreVerdict) (lent : Data) (result : Result (Unit {0}) Status) (new : World) (m : Option Worker)
-    → worker_at old.workers k ≡ m → PreReturnsAt old k given lent result new m → IsSound old → FiledIn new
-pre_filed old k given lent result new (Some (place.Pre o i)) at h s =
-    let there = pre_record old k o i at s.under_way in
-    let r = there.0 in
+pre_filed : (old : World) (k : WorkerId) (o : OpId) (i : InstanceId) (given : PreVerdict) (lent : Data) → worker_at old.workers k ≡ Some (place.Pre o i) → IsSound old
+    → IsFileSound (filed_pre old o (changed o (pre_step old k o i given lent) old.flow) (state_at old k o i given)) (changed o (pre_step old k o i given lent) old.flow)
+pre_filed old k o i given lent at s =
+    let x = inside_pre old k o i at s.under_way in
     let state = state_at old k o i given in
-    let f = pre_returned_of state lent in
-    let read = λ (x : FlowRecord). after_pre state x.operation x.stream (is_created_on x.stream (changed o f old.flow)) old.files in
-    unless_cases FiledIn status.BadRequest (told (λ r. data_fits r.operation r.path lent) false o old.flow) result old new
-    ((result ≡ Ok tt) × PreReturnsOver old k o f state new) h
-    (λ fits event. loses_filed event.1.0 new event.1.2 (subst FiledIn (sym event.1.1.1)
-    (subst (λ (files : FileTable). IsFileSound files (changed o f old.flow)) (sym (told_there read old.files o old.flow r there.1))
-    (file_pre old.files old.flow o r state lent there.1 there.2 s.filed)))) s.filed
-pre_filed old k given lent result new (Some place.Idle) at h s = subst FiledIn (sym h.1) s.filed
-pre_filed old k given lent result new (Some (place.EarlyDrain o i)) at h s = subst FiledIn (sym h.1) s.filed
-pre_filed old k given lent result new (Some (place.Setup i)) at h s = subst FiledIn (sym h.1) s.filed
-pre_filed old k given lent result new (Some (place.Base o)) at h s = subst FiledIn (sym h.1) s.filed
-pre_filed old k given lent result new (Some (place.Post o i)) at h s = subst FiledIn (sym h.1) s.filed
-pre_filed old k given lent result new (Some (place.Drain o i)) at h s = subst FiledIn (sym h.1) s.filed
-pre_filed old k given lent result new (Some (place.Cleanup c)) at h s = subst FiledIn (sym h.1) s.filed
-pre_filed old k given lent result new None at h s = subst FiledIn (sym h.1) s.filed
-
-pre_named : (old : World) (k : WorkerId) (given : PreVerdict) (lent : Data) (result : Result (Unit {0}) Status) (new : World) (m : Option Worker)
-    → PreReturnsAt old k given lent result new m → NamedIn old → NamedIn new
-pre_named old k given lent result new (Some (place.Pre o i)) h s =
-    let state = state_at old k o i given in
-    unless_cases NamedIn status.BadRequest (told (λ r. data_fits r.operation r.path lent) false o old.flow) result old new
-    ((result ≡ Ok tt) × PreReturnsOver old k o (pre_returned_of state lent) state new) h (λ fits event. loses_named event.1.0 new event.1.2) s
-pre_named old k given lent result new (Some place.Idle) h s = subst NamedIn (sym h.1) s
-pre_named old k given lent result new (Some (place.EarlyDrain o i)) h s = subst NamedIn (sym h.1) s
-pre_named old k given lent result new (Some (place.Setup i)) h s = subst NamedIn (sym h.1) s
-pre_named old k given lent result new (Some (place.Base o)) h s = subst NamedIn (sym h.1) s
-pre_named old k given lent result new (Some (place.Post o i)) h s = subst NamedIn (sym h.1) s
-pre_named old k given lent result new (Some (place.Drain o i)) h s = subst NamedIn (sym h.1) s
-pre_named old k given lent result new (Some (place.Cleanup c)) h s = subst NamedIn (sym h.1) s
-pre_named old k given lent result new None h s = subst NamedIn (sym h.1) s
+    let t = changed o (pre_returned_of state lent) old.flow in
+    let read = λ (x : FlowRecord). after_pre state x.operation x.stream (is_created_on x.stream t) old.files in
+    subst (λ (files : FileTable). IsFileSound files t) (sym (told_there read old.files o old.flow x.0.row x.0.at))
+    (file_pre old.files old.flow o x.0.row state lent x.0.at x.1 s.filed)
 
 pub pre_sound : (old : World) (k : WorkerId) (given : PreVerdict) (lent : Data) (result : Result (Unit {0}) Status) (new : World)
     → PreReturns old k given lent result new → IsSound old → IsSound new
-unfolding PreReturns
 pre_sound old k given lent result new h s =
-    record {
-      under_way = pre_keeps old k given lent result new h s.under_way;
-      owned = pre_at old k given lent result new (worker_at old.workers k) refl h s;
-      filed = pre_filed old k given lent result new (worker_at old.workers k) refl h s;
-      links = pre_named old k given lent result new (worker_at old.workers k) h s.links;
-    }
+    pre_by (λ _ w. IsSound w) old k given lent result new h (λ why. s) (λ o i at fits e.
+    let filed = filed_pre old o (changed o (pre_step old k o i given lent) old.flow) (state_at old k o i given) in
+    loses_sound e.0 new e.2 (subst IsUnderWay (sym e.1.1) (pre_keeps old k o i given lent e.0.contexts filed at fits s.under_way))
+    (subst IsOwned (sym e.1.1) (files_owned filed (pre_owned old k o i given lent e.0.contexts at e.1.0 s))) (subst FiledIn (sym e.1.1) (pre_filed old k o i given lent at s)))
 
 -- ---- the base's call returns
 
-base_at : (old : World) (k : WorkerId) (call : BaseCall) (given : Answer) (result : Result (Unit {0}) Status) (new : World) (m : Option Worker)
-    → worker_at old.workers k ≡ m → BaseReturnsAt old k call given result new m → IsSound old → IsOwned new
-base_at old k call given result new (Some (place.Base o)) at h s =
-    let there = tied_there old.workers old.flow k (place.Base o) o AtBase s.under_way.workers at (eq-eqb o.0 o.0 refl) in
-    let r = there.0 in
+base_owned : (old : World) (k : WorkerId) (o : OpId) (call : BaseCall) (given : Answer) → worker_at old.workers k ≡ Some (place.Base o) → IsSound old
+    → IsOwned (base_returned old k o call given)
+base_owned old k o call given at s =
+    let x = inside_base old k o at s.under_way in
+    let r = x.0.row in
     let handle : HandleId = record { 0 = old.files.next } in
     let f = base_step old call given in
     let counts = base_counted call.params given handle in
     let slots = old.contexts.slots in
-    let asks = found_holds (λ (x : FlowRecord). All (AskCarries old.stack slots) (owed x.entries)) (is_number o) old.flow.operations r s.owned.completions there.1 in
     let none = empty_hand old k (place.Base o) at refl s.owned in
-    unless_cases IsOwned status.BadRequest (told (base_fits call given) false o old.flow) result old new
-    ((result ≡ Ok tt) × LosesLinks (base_returned old k o call given) new) h
-    (λ fits event. loses_owned (base_returned old k o call given) new event.1 (files_owned (filed_base old o (changed o f old.flow) given.status)
-    (step_owned old o r f k (place.Base o) place.Idle old.contexts (hand_of old.contexts.hands k.0) there.1 at (worker_below old k (place.Base o) at s.under_way) refl refl
-    (alike old o r f there.1 (λ c. base_returned_carries c call given handle r) s.owned.lawful) refl (same_hands old.contexts.hands k.0) refl
+    files_owned (filed_base old o (changed o f old.flow) given.status)
+    (step_owned old o r f k (place.Base o) place.Idle old.contexts (hand_of old.contexts.hands k.0) x.0.at at (worker_below old k (place.Base o) at s.under_way) refl refl
+    (alike old o r f x.0.at (λ c. base_returned_carries c call given handle r) s.owned.lawful) refl (same_hands old.contexts.hands k.0) refl
     (subst (All (HoldsIn old.stack slots None)) (sym none) (All-nil (HoldsIn old.stack slots None)))
-    (subst (All (AskCarries old.stack slots)) (sym (owed_push_none r.entries (Base counts.status counts.information) refl (λ i. refl))) asks)
-    (quieter old o r f there.1 (λ i. omega (arith, base_returned_flies i call given handle r)) s.owned.quiet) s.owned))) s.owned
-base_at old k call given result new (Some place.Idle) at h s = subst IsOwned (sym h.1) s.owned
-base_at old k call given result new (Some (place.EarlyDrain o i)) at h s = subst IsOwned (sym h.1) s.owned
-base_at old k call given result new (Some (place.Setup i)) at h s = subst IsOwned (sym h.1) s.owned
-base_at old k call given result new (Some (place.Pre o i)) at h s = subst IsOwned (sym h.1) s.owned
-base_at old k call given result new (Some (place.Post o i)) at h s = subst IsOwned (sym h.1) s.owned
-base_at old k call given result new (Some (place.Drain o i)) at h s = subst IsOwned (sym h.1) s.owned
-base_at old k call given result new (Some (place.Cleanup c)) at h s = subst IsOwned (sym h.1) s.owned
-base_at old k call given result new None at h s = subst IsOwned (sym h.1) s.owned
+    (subst (All (AskCarries old.stack slots)) (sym (owed_push_none r.entries (Base counts.status counts.information) refl (λ i. refl))) (asks_of old o r x.0.at s.owned))
+    (quieter old o r f x.0.at (λ i. omega (arith, base_returned_flies i call given handle r)) s.owned.quiet) s.owned)
 
-base_filed : (old : World) (k : WorkerId) (call : BaseCall) (given : Answer) (result : Result (Unit {0}) Status) (new : World) (m : Option Worker)
-    → worker_at old.workers k ≡ m → BaseReturnsAt old k call given result new m → IsSound old → FiledIn new
-base_filed old k call given result new (Some (place.Base o)) at h s =
-    let there = tied_there old.workers old.flow k (place.Base o) o AtBase s.under_way.workers at (eq-eqb o.0 o.0 refl) in
-    let r = there.0 in
-    let stage : r.stage ≡ InBase = spot_base r.stage r.entries there.2 in
+base_filed : (old : World) (k : WorkerId) (o : OpId) (call : BaseCall) (given : Answer) → worker_at old.workers k ≡ Some (place.Base o)
+    → told (base_fits call given) false o old.flow ≡ true → IsSound old → FiledIn (base_returned old k o call given)
+base_filed old k o call given at fits s =
+    let x = inside_base old k o at s.under_way in
+    let r = x.0.row in
     let f = base_step old call given in
     let t = changed o f old.flow in
-    unless_cases FiledIn status.BadRequest (told (base_fits call given) false o old.flow) result old new
-    ((result ≡ Ok tt) × LosesLinks (base_returned old k o call given) new) h
-    (λ fits event. loses_filed (base_returned old k o call given) new event.1
-    (subst (λ (files : FileTable). IsFileSound files t) (sym (told_there (filed_record old.files t given.status) old.files o old.flow r there.1))
-    (file_answered old.files old.flow o r f given.status there.1 (ap is_unanswered stage)
-    (base_answered old.files call given r (fits_create call given r (sym (told_there (base_fits call given) false o old.flow r there.1) ∙ fits))) s.filed))) s.filed
-base_filed old k call given result new (Some place.Idle) at h s = subst FiledIn (sym h.1) s.filed
-base_filed old k call given result new (Some (place.EarlyDrain o i)) at h s = subst FiledIn (sym h.1) s.filed
-base_filed old k call given result new (Some (place.Setup i)) at h s = subst FiledIn (sym h.1) s.filed
-base_filed old k call given result new (Some (place.Pre o i)) at h s = subst FiledIn (sym h.1) s.filed
-base_filed old k call given result new (Some (place.Post o i)) at h s = subst FiledIn (sym h.1) s.filed
-base_filed old k call given result new (Some (place.Drain o i)) at h s = subst FiledIn (sym h.1) s.filed
-base_filed old k call given result new (Some (place.Cleanup c)) at h s = subst FiledIn (sym h.1) s.filed
-base_filed old k call given result new None at h s = subst FiledIn (sym h.1) s.filed
-
-base_named : (old : World) (k : WorkerId) (call : BaseCall) (given : Answer) (result : Result (Unit {0}) Status) (new : World) (m : Option Worker)
-    → BaseReturnsAt old k call given result new m → NamedIn old → NamedIn new
-base_named old k call given result new (Some (place.Base o)) h s =
-    unless_cases NamedIn status.BadRequest (told (base_fits call given) false o old.flow) result old new
-    ((result ≡ Ok tt) × LosesLinks (base_returned old k o call given) new) h (λ fits event. loses_named (base_returned old k o call given) new event.1) s
-base_named old k call given result new (Some place.Idle) h s = subst NamedIn (sym h.1) s
-base_named old k call given result new (Some (place.EarlyDrain o i)) h s = subst NamedIn (sym h.1) s
-base_named old k call given result new (Some (place.Setup i)) h s = subst NamedIn (sym h.1) s
-base_named old k call given result new (Some (place.Pre o i)) h s = subst NamedIn (sym h.1) s
-base_named old k call given result new (Some (place.Post o i)) h s = subst NamedIn (sym h.1) s
-base_named old k call given result new (Some (place.Drain o i)) h s = subst NamedIn (sym h.1) s
-base_named old k call given result new (Some (place.Cleanup c)) h s = subst NamedIn (sym h.1) s
-base_named old k call given result new None h s = subst NamedIn (sym h.1) s
+    subst (λ (files : FileTable). IsFileSound files t) (sym (told_there (filed_record old.files t given.status) old.files o old.flow r x.0.at))
+    (file_answered old.files old.flow o r f given.status x.0.at (ap is_unanswered x.1)
+    (base_answered old.files call given r (fits_create call given r (sym (told_there (base_fits call given) false o old.flow r x.0.at) ∙ fits))) s.filed)
 
 pub base_sound : (old : World) (k : WorkerId) (call : BaseCall) (given : Answer) (result : Result (Unit {0}) Status) (new : World)
     → BaseReturns old k call given result new → IsSound old → IsSound new
-unfolding BaseReturns
 base_sound old k call given result new h s =
-    record {
-      under_way = base_keeps old k call given result new h s.under_way;
-      owned = base_at old k call given result new (worker_at old.workers k) refl h s;
-      filed = base_filed old k call given result new (worker_at old.workers k) refl h s;
-      links = base_named old k call given result new (worker_at old.workers k) h s.links;
-    }
+    base_by (λ _ w. IsSound w) old k call given result new h (λ why. s) (λ o at fits loses.
+    loses_sound (base_returned old k o call given) new loses
+    (base_keeps old k o call given old.contexts (filed_base old o (changed o (base_step old call given) old.flow) given.status) at fits s.under_way)
+    (base_owned old k o call given at s) (base_filed old k o call given at fits s))
 
 -- ---- postoperations and drains return
 
-post_given : (old : World) (k : WorkerId) (o : OpId) (i : InstanceId) (given : PostVerdict) (lent : Data) (result : Result (Unit {0}) Status) (new : World)
-    → worker_at old.workers k ≡ Some (place.Post o i) → PostReturnsAt old k given (Some lent) result new (Some (place.Post o i)) → IsSound old → IsOwned new
-post_given old k o i given lent result new at h s =
-    let there = post_record old k o i at s.under_way in
-    let r = there.0 in
-    let f = post_returned_of given lent in
-    let slots = old.contexts.slots in
-    let sound = found_holds flow.IsSound (is_number o) old.flow.operations r s.under_way.flow.sound there.1 in
-    let course = subst (λ x. IsCourse x r.entries) there.2 sound.course in
-    let asks = found_holds (λ (x : FlowRecord). All (AskCarries old.stack slots) (owed x.entries)) (is_number o) old.flow.operations r s.owned.completions there.1 in
-    unless_cases IsOwned status.BadRequest (told (λ r. data_fits r.operation r.path lent) false o old.flow) result old new
-    ((result ≡ Ok tt) × ReturnsFrom old k o f old.contexts new) h
-    (λ fits event. subst IsOwned (sym event.1.1)
-    (left_owned old o r f k (place.Post o i) old.contexts new.contexts there.1 at (worker_below old k (place.Post o i) at s.under_way) refl
-    (lawful_alike (λ c. sym (post_balance old k o i given lent at s.under_way c)) s.owned.lawful) refl refl refl event.1.0
-    (subst (All (AskCarries old.stack slots)) (sym (owed_post_settled PostRunning r.entries (post_state given) refl course)) asks)
-    (λ j. omega (arith, post_returned_flies j given lent r there.2 sound)) s.owned)) s.owned
+post_owned : (old : World) (k : WorkerId) (o : OpId) (i : InstanceId) (given : PostVerdict) (lent : Data) (after : ContextTable) → worker_at old.workers k ≡ Some (place.Post o i)
+    → Leaves (carries_after old o (post_returned_of given lent)) old.contexts after k.0 → IsSound old
+    → IsOwned (record (returned old k o (post_returned_of given lent)) { contexts = after })
+post_owned old k o i given lent after at leaves s =
+    let x = inside_post old k o i at s.under_way in
+    let r = x.0.row in
+    let course = subst (λ x. IsCourse x r.entries) x.1 x.0.sound.course in
+    left_owned old o r (post_returned_of given lent) k (place.Post o i) old.contexts after x.0.at at (worker_below old k (place.Post o i) at s.under_way) refl
+    (lawful_alike (λ c. sym (post_balance old k o i given lent at s.under_way c)) s.owned.lawful) refl refl refl leaves
+    (subst (All (AskCarries old.stack old.contexts.slots)) (sym (owed_post_settled PostRunning r.entries (post_state given) refl course)) (asks_of old o r x.0.at s.owned))
+    (λ j. omega (arith, post_returned_flies j given lent r x.1 x.0.sound)) s.owned
 
-drain_given : (old : World) (k : WorkerId) (o : OpId) (i : InstanceId) (new : World) → worker_at old.workers k ≡ Some (place.Drain o i)
-    → ReturnsFrom old k o (drain_returned_of i) old.contexts new → IsSound old → IsOwned new
-drain_given old k o i new at e s =
-    let there = drain_record old k o i at s.under_way in
-    let r = there.0 in
-    let f = drain_returned_of i in
-    let slots = old.contexts.slots in
-    let sound = found_holds flow.IsSound (is_number o) old.flow.operations r s.under_way.flow.sound there.1 in
-    let asks = found_holds (λ (x : FlowRecord). All (AskCarries old.stack slots) (owed x.entries)) (is_number o) old.flow.operations r s.owned.completions there.1 in
-    subst IsOwned (sym e.1)
-    (left_owned old o r f k (place.Drain o i) old.contexts new.contexts there.1 at (worker_below old k (place.Drain o i) at s.under_way) refl
-    (lawful_alike (λ c. sym (drain_balance old k o i at s.under_way c)) s.owned.lawful) refl refl refl e.0
-    (subst (All (AskCarries old.stack slots)) (sym (owed_drain_settled i.0 r.entries)) asks)
-    (λ j. omega (arith, drain_returned_flies j i r there.2 sound)) s.owned)
-
-post_at : (old : World) (k : WorkerId) (given : PostVerdict) (lent : Option Data) (result : Result (Unit {0}) Status) (new : World) (m : Option Worker)
-    → worker_at old.workers k ≡ m → PostReturnsAt old k given lent result new m → IsSound old → IsOwned new
-post_at old k given (Some lent) result new (Some (place.Post o i)) at h s = post_given old k o i given lent result new at h s
-post_at old k given None result new (Some (place.Post o i)) at h s = subst IsOwned (sym h.1) s.owned
-post_at old k given None result new (Some (place.Drain o i)) at h s = drain_given old k o i new at h.1 s
-post_at old k given (Some lent) result new (Some (place.Drain o i)) at h s = subst IsOwned (sym h.1) s.owned
-post_at old k given (Some lent) result new (Some place.Idle) at h s = subst IsOwned (sym h.1) s.owned
-post_at old k given (Some lent) result new (Some (place.EarlyDrain o i)) at h s = subst IsOwned (sym h.1) s.owned
-post_at old k given (Some lent) result new (Some (place.Setup i)) at h s = subst IsOwned (sym h.1) s.owned
-post_at old k given (Some lent) result new (Some (place.Pre o i)) at h s = subst IsOwned (sym h.1) s.owned
-post_at old k given (Some lent) result new (Some (place.Base o)) at h s = subst IsOwned (sym h.1) s.owned
-post_at old k given (Some lent) result new (Some (place.Cleanup c)) at h s = subst IsOwned (sym h.1) s.owned
-post_at old k given (Some lent) result new None at h s = subst IsOwned (sym h.1) s.owned
-post_at old k given None result new (Some place.Idle) at h s = subst IsOwned (sym h.1) s.owned
-post_at old k given None result new (Some (place.EarlyDrain o i)) at h s = subst IsOwned (sym h.1) s.owned
-post_at old k given None result new (Some (place.Setup i)) at h s = subst IsOwned (sym h.1) s.owned
-post_at old k given None result new (Some (place.Pre o i)) at h s = subst IsOwned (sym h.1) s.owned
-post_at old k given None result new (Some (place.Base o)) at h s = subst IsOwned (sym h.1) s.owned
-post_at old k given None result new (Some (place.Cleanup c)) at h s = subst IsOwned (sym h.1) s.owned
-post_at old k given None result new None at h s = subst IsOwned (sym h.1) s.owned
-
--- a step of an operation that has its answer
-answered_filed : (old : World) (k : WorkerId) (o : OpId) (r : FlowRecord) (f : FlowRecord → FlowRecord) (new : World) → operation_at o old.flow ≡ Some r
-    → SameFile r (f r) → ReturnsFrom old k o f old.contexts new → IsSound old → FiledIn new
-answered_filed old k o r f new at same e s = subst FiledIn (sym e.1) (file_step old.files old.flow o r f at same s.filed)
+drain_owned : (old : World) (k : WorkerId) (o : OpId) (i : InstanceId) (after : ContextTable) → worker_at old.workers k ≡ Some (place.Drain o i)
+    → Leaves (carries_after old o (drain_returned_of i)) old.contexts after k.0 → IsSound old → IsOwned (record (returned old k o (drain_returned_of i)) { contexts = after })
+drain_owned old k o i after at leaves s =
+    let x = inside_drain old k o i at s.under_way in
+    let r = x.0.row in
+    left_owned old o r (drain_returned_of i) k (place.Drain o i) old.contexts after x.0.at at (worker_below old k (place.Drain o i) at s.under_way) refl
+    (lawful_alike (λ c. sym (drain_balance old k o i at s.under_way c)) s.owned.lawful) refl refl refl leaves
+    (subst (All (AskCarries old.stack old.contexts.slots)) (sym (owed_drain_settled i.0 r.entries)) (asks_of old o r x.0.at s.owned))
+    (λ j. omega (arith, drain_returned_flies j i r x.1 x.0.sound)) s.owned
 
 post_answered : (given : PostVerdict) → is_unanswered (post_leads (post_state given)) ≡ false
 post_answered given'.Finished = refl
 post_answered given'.MoreProcessing = refl
 
-post_filed : (old : World) (k : WorkerId) (given : PostVerdict) (lent : Option Data) (result : Result (Unit {0}) Status) (new : World) (m : Option Worker)
-    → worker_at old.workers k ≡ m → PostReturnsAt old k given lent result new m → IsSound old → FiledIn new
-post_filed old k given (Some lent) result new (Some (place.Post o i)) at h s =
-    let there = post_record old k o i at s.under_way in
-    let f = post_returned_of given lent in
-    unless_cases FiledIn status.BadRequest (told (λ r. data_fits r.operation r.path lent) false o old.flow) result old new
-    ((result ≡ Ok tt) × ReturnsFrom old k o f old.contexts new) h
-    (λ fits event. answered_filed old k o there.0 f new there.1
-    (answered_same there.0 (f there.0) refl refl (ap is_unanswered there.2) (post_answered given)) event.1 s) s.filed
-post_filed old k given None result new (Some (place.Post o i)) at h s = subst FiledIn (sym h.1) s.filed
-post_filed old k given None result new (Some (place.Drain o i)) at h s =
-    let there = drain_record old k o i at s.under_way in
-    answered_filed old k o there.0 (drain_returned_of i) new there.1 (answered_same there.0 (drain_returned_of i there.0) refl refl (ap is_unanswered there.2) refl) h.1 s
-post_filed old k given (Some lent) result new (Some (place.Drain o i)) at h s = subst FiledIn (sym h.1) s.filed
-post_filed old k given (Some lent) result new (Some place.Idle) at h s = subst FiledIn (sym h.1) s.filed
-post_filed old k given (Some lent) result new (Some (place.EarlyDrain o i)) at h s = subst FiledIn (sym h.1) s.filed
-post_filed old k given (Some lent) result new (Some (place.Setup i)) at h s = subst FiledIn (sym h.1) s.filed
-post_filed old k given (Some lent) result new (Some (place.Pre o i)) at h s = subst FiledIn (sym h.1) s.filed
-post_filed old k given (Some lent) result new (Some (place.Base o)) at h s = subst FiledIn (sym h.1) s.filed
-post_filed old k given (Some lent) result new (Some (place.Cleanup c)) at h s = subst FiledIn (sym h.1) s.filed
-post_filed old k given (Some lent) result new None at h s = subst FiledIn (sym h.1) s.filed
-post_filed old k given None result new (Some place.Idle) at h s = subst FiledIn (sym h.1) s.filed
-post_filed old k given None result new (Some (place.EarlyDrain o i)) at h s = subst FiledIn (sym h.1) s.filed
-post_filed old k given None result new (Some (place.Setup i)) at h s = subst FiledIn (sym h.1) s.filed
-post_filed old k given None result new (Some (place.Pre o i)) at h s = subst FiledIn (sym h.1) s.filed
-post_filed old k given None result new (Some (place.Base o)) at h s = subst FiledIn (sym h.1) s.filed
-post_filed old k given None result new (Some (place.Cleanup c)) at h s = subst FiledIn (sym h.1) s.filed
-post_filed old k given None result new None at h s = subst FiledIn (sym h.1) s.filed
-
--- what a callback leaves behind has its links still
-left_named : (old : World) (k : WorkerId) (o : OpId) (step : FlowRecord → FlowRecord) (new : World) → ReturnsFrom old k o step old.contexts new → NamedIn old → NamedIn new
-left_named old k o step new h s = subst NamedIn (sym h.1) (subst (AllPass (names_there old.files)) (sym h.0.slots) s)
-
-post_named : (old : World) (k : WorkerId) (given : PostVerdict) (lent : Option Data) (result : Result (Unit {0}) Status) (new : World) (m : Option Worker)
-    → PostReturnsAt old k given lent result new m → NamedIn old → NamedIn new
-post_named old k given (Some lent) result new (Some (place.Post o i)) h s =
-    let f = post_returned_of given lent in
-    unless_cases NamedIn status.BadRequest (told (λ r. data_fits r.operation r.path lent) false o old.flow) result old new
-    ((result ≡ Ok tt) × ReturnsFrom old k o f old.contexts new) h (λ fits event. left_named old k o f new event.1 s) s
-post_named old k given None result new (Some (place.Drain o i)) h s = left_named old k o (drain_returned_of i) new h.1 s
-post_named old k given None result new (Some (place.Post o i)) h s = subst NamedIn (sym h.1) s
-post_named old k given (Some lent) result new (Some (place.Drain o i)) h s = subst NamedIn (sym h.1) s
-post_named old k given (Some lent) result new (Some place.Idle) h s = subst NamedIn (sym h.1) s
-post_named old k given (Some lent) result new (Some (place.EarlyDrain o i)) h s = subst NamedIn (sym h.1) s
-post_named old k given (Some lent) result new (Some (place.Setup i)) h s = subst NamedIn (sym h.1) s
-post_named old k given (Some lent) result new (Some (place.Pre o i)) h s = subst NamedIn (sym h.1) s
-post_named old k given (Some lent) result new (Some (place.Base o)) h s = subst NamedIn (sym h.1) s
-post_named old k given (Some lent) result new (Some (place.Cleanup c)) h s = subst NamedIn (sym h.1) s
-post_named old k given (Some lent) result new None h s = subst NamedIn (sym h.1) s
-post_named old k given None result new (Some place.Idle) h s = subst NamedIn (sym h.1) s
-post_named old k given None result new (Some (place.EarlyDrain o i)) h s = subst NamedIn (sym h.1) s
-post_named old k given None result new (Some (place.Setup i)) h s = subst NamedIn (sym h.1) s
-post_named old k given None result new (Some (place.Pre o i)) h s = subst NamedIn (sym h.1) s
-post_named old k given None result new (Some (place.Base o)) h s = subst NamedIn (sym h.1) s
-post_named old k given None result new (Some (place.Cleanup c)) h s = subst NamedIn (sym h.1) s
-post_named old k given None result new None h s = subst NamedIn (sym h.1) s
+-- a callback of an operation that has its answer returns: streams and handles stay, and what has a link has it still
+returned_sound : (old : World) (k : WorkerId) (o : OpId) (r : FlowRecord) (f : FlowRecord → FlowRecord) (new : World) → operation_at o old.flow ≡ Some r
+    → SameFile r (f r) → ReturnsFrom old k o f old.contexts new → IsUnderWay (record (returned old k o f) { contexts = new.contexts })
+    → IsOwned (record (returned old k o f) { contexts = new.contexts }) → IsSound old → IsSound new
+returned_sound old k o r f new at same e under_way owned s =
+    subst IsSound (sym e.1)
+    (record {
+      under_way = under_way;
+      owned = owned;
+      filed = file_step old.files old.flow o r f at same s.filed;
+      links = subst (AllPass (names_there old.files)) (sym e.0.slots) s.links;
+    })
 
 pub post_sound : (old : World) (k : WorkerId) (given : PostVerdict) (lent : Option Data) (result : Result (Unit {0}) Status) (new : World)
     → PostReturns old k given lent result new → IsSound old → IsSound new
-unfolding PostReturns
 post_sound old k given lent result new h s =
-    record {
-      under_way = post_keeps old k given lent result new h s.under_way;
-      owned = post_at old k given lent result new (worker_at old.workers k) refl h s;
-      filed = post_filed old k given lent result new (worker_at old.workers k) refl h s;
-      links = post_named old k given lent result new (worker_at old.workers k) h s.links;
-    }
+    post_by (λ _ w. IsSound w) old k given lent result new h (λ why. s)
+    (λ o i back at fits e.
+    let x = inside_post old k o i at s.under_way in
+    let f = post_returned_of given back in
+    returned_sound old k o x.0.row f new x.0.at (answered_same x.0.row (f x.0.row) refl refl (ap is_unanswered x.1) (post_answered given)) e
+    (post_keeps old k o i given back new.contexts at fits s.under_way) (post_owned old k o i given back new.contexts at e.0 s) s)
+    (λ o i at e.
+    let x = inside_drain old k o i at s.under_way in
+    let f = drain_returned_of i in
+    returned_sound old k o x.0.row f new x.0.at (answered_same x.0.row (f x.0.row) refl refl (ap is_unanswered x.1) refl) e
+    (drain_keeps old k o i new.contexts at s.under_way) (drain_owned old k o i new.contexts at e.0 s) s)
 
 -- ---- collect
 

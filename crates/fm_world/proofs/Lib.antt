@@ -24,4 +24,4 @@ pub mod Flowing
 pub mod Resting
 pub mod Handing
 pub mod Holdings
-mod Events
+pub mod Events

@@ -26,12 +26,12 @@ use Rattle.fm_world.specs.Events.{brought, received, moved_on}
 use Rattle.fm_world.specs.Files.{FileTable, is_stream, is_handle, stream_of_path, fresh_stream, created, created_in, with_phase, phased}
 use Rattle.fm_world.specs.Links.{is_there, names_there, is_on_gone, LosesLinks}
 use Rattle.fm_world.specs.Owners.{fits}
-use Rattle.fm_world.specs.Sound.{IsOwned}
+use Rattle.fm_world.specs.Sound.{IsOwned, IsSound, IsUnderWay}
 use Rattle.fm_world.specs.World.{World}
 use Rattle.fm_world.proofs.Belonging.{owners_after, owners_same, owners_swept}
 use Rattle.fm_world.proofs.Callbacks.{contexts_owned, same_hand, same_hands}
 use Rattle.fm_world.proofs.Fitting.{AllPass, passes_swept, fits_unlinked}
-use Rattle.fm_world.proofs.Keeps.{FiledIn}
+use Rattle.fm_world.proofs.Keeps.{FiledIn, loses_under_way}
 
 -- each link of a World names what is there
 abbrev pub NamedIn : World → Type 0
@@ -81,6 +81,15 @@ loses_named old new h =
     All-any : (slots : List Slot) → AllPass (λ o. true) slots
     All-any [] = All-nil (λ (x : Slot). true ≡ true)
     All-any (x ∷ slots) = All-cons (λ (x : Slot). true ≡ true) x slots refl (All-any slots)
+
+-- where all but the links held, all holds
+pub loses_sound : (old new : World) → LosesLinks old new → IsUnderWay old → IsOwned old → FiledIn old → IsSound new
+loses_sound old new h under_way owned filed = record {
+  under_way = loses_under_way old new h under_way;
+  owned = loses_owned old new h owned;
+  filed = loses_filed old new h filed;
+  links = loses_named old new h;
+}
 
 brought_slots : (t : ContextTable) (k : WorkerId) (m : Option CtxId) → (brought t k m).slots ≡ t.slots
 brought_slots t k None = refl

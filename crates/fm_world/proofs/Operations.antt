@@ -60,6 +60,13 @@ use Rattle.fm_world.specs.Descent.{is_among}
 use Rattle.fm_world.specs.Sound.{IsUnderWay, IsAmong, is_in_setup}
 use Rattle.fm_types.proofs.Firsts.{change_none, found_holds, all_change, all_without, find_without}
 use Rattle.fm_world.proofs.Filing.{asks_no_create}
+pub use Rattle.fm_world.proofs.Events.{unchanged_flow}
+use Rattle.fm_world.proofs.Events.{Turns}
+use Rattle.fm_flow.specs.Entries.{last_visited, last_posted}
+use Rattle.fm_ctx.specs.Table.{ContextTable}
+use Rattle.std.specs.Prelude.{◌&&◌}
+use Rattle.fm_world.specs.Headline.{is_in_at}
+use Rattle.fm_world.specs.Events.{pre_step}
 use Rattle.fm_world.proofs.Ties.{counted_from, one, count_moves, AreTied, Matches, is_running, quiet_is_none, quiet_is_nowhere, tied_moves, tied_stays, tied_there, matches_idle, matches_pre, matches_base, matches_post, matches_drain, spot_pre, spot_base, spot_post, spot_drain}
 use Rattle.fm_world.proofs.Draining.{AreDrained, InDrains, in_no_drain, in_a_drain, drained_moves, drained_stays, next_drained}
 use Rattle.fm_world.proofs.Amongs.{is_up, no_base, visit_last, post_last, among_visits, among_other, among_base, among_settles, among_begins, settle_pre_visit, settle_pre_base, settle_post_visit, settle_post_base, settle_drain_visit, settle_drain_base}
@@ -328,9 +335,6 @@ may_visit s r (below.Instance i is_called) h lies = (
 may_visit s r below.Call h lies = tt
 may_visit s r (below.Known status) h lies = tt
 
-pub unchanged_flow : (t : FlowTable) (o : OpId) (f : FlowRecord → FlowRecord) → operation_at o t ≡ None → changed o f t ≡ t
-unchanged_flow t o f h = ap (λ (rs : List FlowRecord). record t { operations = rs }) (change_none (is_number o) f t.operations h)
-
 -- one operation changes, a worker with it
 step_keeps : (w : World) (o : OpId) (r : FlowRecord) (f : FlowRecord → FlowRecord) (workers : List Worker) → operation_at o w.flow ≡ Some r
     → ((x : FlowRecord) → (f x).number.0 ≡ x.number.0) → ((x : FlowRecord) → (f x).collected ≡ x.collected) → flow.IsSound (f r) → IsAmong w.stack (f r)
@@ -353,243 +357,175 @@ setups_stay workers k a b h na nb i =
     let to : one (is_in_setup i b) ≡ 0 = ap one (nb i) in
     omega (arith, moves, from, to)
 
--- nothing changes where there is no such operation
-pub not_there : (old : World) (k : WorkerId) (o : OpId) (lies : Below) (result : Result FlowAction Status) → operation_at o old.flow ≡ None → result ≡ Err status.WrongStep
-    → record old {
-      flow = flow_after_next old k o lies;
-      workers = after_next old.workers k o result;
-      contexts = received old.contexts k result;
-      files = filed_next old o (flow_after_next old k o lies) result lies;
-    } ≡ old
-not_there old k o lies result at reply =
-    ap (λ t. record old { flow = t; workers = after_next old.workers k o result; contexts = received old.contexts k result; files = filed_next old o t result lies })
-    (unchanged_flow old.flow o (λ (x : FlowRecord). (next_of k lies (drains_at old o) x).after) at)
-    ∙ ap (λ x. record old { workers = after_next old.workers k o x; contexts = received old.contexts k x; files = filed_next old o old.flow x lies }) reply
-
-next_there : (old : World) (k : WorkerId) (o : OpId) (lies : Below) (result : Result FlowAction Status) (new : World) (m : Option FlowRecord)
-    → operation_at o old.flow ≡ m → worker_at old.workers k ≡ Some place.Idle → FindsBelow old.stack old.files old.flow m lies → NextsOver old k o lies result new
-    → IsUnderWay old → IsUnderWay new
-next_there old k o lies result new None at idle finds h s =
-    let d = drains_at old o in
-    let f = λ (x : FlowRecord). (next_of k lies d x).after in
-    let reply : result ≡ Err status.WrongStep =
-    h.0 ∙ ap (λ m. unwrap_or (option_map (λ (x : FlowRecord). (next_of k lies d x).reply) m) (Err status.WrongStep)) at in
-    subst IsUnderWay (sym (h.1 ∙ not_there old k o lies result at reply)) s
-next_there old k o lies result new (Some r) at idle finds h s =
-    let d = drains_at old o in
-    let f = λ (x : FlowRecord). (next_of k lies d x).after in
-    let reply : result ≡ (next_of k lies d r).reply =
-    h.0 ∙ ap (λ m. unwrap_or (option_map (λ (x : FlowRecord). (next_of k lies d x).reply) m) (Err status.WrongStep)) at in
-    let sound = found_holds flow.IsSound (is_number o) old.flow.operations r s.flow.sound at in
-    let among = found_holds (IsAmong old.stack) (is_number o) old.flow.operations r s.among at in
-    let leads = leads_of old.stack k o r lies d old.workers s.stack sound (λ e. (finds e).0) among in
-    let after = after_next old.workers k o (next_of k lies d r).reply in
-    let filed = filed_next old o (changed o f old.flow) result lies in
-    let number : (x : FlowRecord) → (f x).number.0 ≡ x.number.0 = λ x. (next_stays k lies d x).number in
-    let drained = next_drained old.workers old.flow k o lies d r idle at number s.drains in
-    let built : (ws : List Worker) → after ≡ ws → length ws ≡ 48 → AreTied ws (changed o f old.flow)
-    → ((i : ℕ) → count_by (is_in_setup i) ws ≡ count_by (is_in_setup i) old.workers) → IsUnderWay new =
-    λ ws e hands tied setups. subst IsUnderWay
-    (sym (h.1 ∙ ap (λ x. record old { flow = changed o f old.flow; workers = x; contexts = received old.contexts k result; files = filed }) (ap (after_next old.workers k o) reply ∙ e)))
-    (whatever_files (record old { flow = changed o f old.flow; workers = ws }) (received old.contexts k result) filed
-    (step_keeps old o r f ws at number (λ x. (next_stays k lies d x).collected) (sound_next k lies d r sound (λ e. may_visit old.stack r lies among (finds e).0))
-    leads.among hands tied (subst (λ (x : List Worker). AreDrained x (changed o f old.flow)) e drained) setups s)) in
-    elim leads.how [
-      | inl stays ↦ built old.workers stays.0 s.hands (tied_stays old.workers old.flow o r f at number stays.1 s.workers) (λ i. refl)
-      | inr goes ↦ built (put old.workers k goes.0) goes.1 (length-set old.workers k.0 goes.0 ∙ s.hands)
-          (tied_moves old.workers old.flow k place.Idle goes.0 o r f idle at number goes.2 goes.3 s.workers)
-          (setups_stay old.workers k place.Idle goes.0 idle (λ i. refl) goes.4)
-    ]
-
-pub next_keeps : (old : World) (k : WorkerId) (o : OpId) (result : Result FlowAction Status) (new : World) → Nexts old k o result new → IsUnderWay old → IsUnderWay new
-unfolding Nexts
-next_keeps old k o result new h s =
-    unless_cases IsUnderWay status.WrongStep (is_idle (worker_at old.workers k)) result old new
-    (NextsAt old k o result new) h
-    (λ idle event.
-    let there = next_there old k o event.0 result event.2 (operation_at o old.flow) refl (idle_there old.workers k idle) event.1 event.3 s in
-    known_cases IsUnderWay result event.0 event.2 new event.4 (λ loses. loses_under_way event.2 new loses there) there) s
-
--- ---- callbacks and calls return
-
--- a worker leaves an operation, which then stands where no worker is inside it
-return_keeps : (old : World) (k : WorkerId) (a : Worker) (o : OpId) (r : FlowRecord) (f : FlowRecord → FlowRecord) (n : ℕ → ℕ) → worker_at old.workers k ≡ Some a
-    → operation_at o old.flow ≡ Some r → ((x : FlowRecord) → (f x).number.0 ≡ x.number.0) → ((x : FlowRecord) → (f x).collected ≡ x.collected)
-    → Matches o a (spot_of r) → is_running (f r).stage ≡ false → InDrains o a n → ((i : ℕ) → drain_opens i (f r).entries + n i ≡ drain_opens i r.entries)
-    → ((i : ℕ) → is_in_setup i a ≡ false) → flow.IsSound (f r) → IsAmong old.stack (f r) → IsUnderWay old → IsUnderWay (returned old k o f)
-return_keeps old k a o r f n at there number collected matches quiet from even outside sound among s =
-    step_keeps old o r f (put old.workers k place.Idle) there number collected sound among (length-set old.workers k.0 place.Idle ∙ s.hands)
-    (tied_moves old.workers old.flow k a place.Idle o r f at there number matches (matches_idle o (f r).stage (f r).entries quiet) s.workers)
-    (drained_moves old.workers old.flow k a place.Idle o r f n (λ i. 0) at there number from (in_no_drain o place.Idle (λ p i. refl)) (λ i. omega (arith, even i)) s.drains)
-    (setups_stay old.workers k a place.Idle at outside (λ i. refl)) s
-
 -- what is told of an operation that is there
 pub told_there : {A : Type 0} (read : FlowRecord → A) (other : A) (o : OpId) (t : FlowTable) (r : FlowRecord) → operation_at o t ≡ Some r → told read other o t ≡ read r
 told_there read other o t r h = ap (λ m. unwrap_or (option_map read m) other) h
+
+pub next_keeps : (old : World) (k : WorkerId) (o : OpId) (result : Result FlowAction Status) (new : World) (e : Turns old k o result new) → IsUnderWay old → IsUnderWay e.mid
+next_keeps old k o result new e s =
+    let r = e.row in
+    let d = drains_at old o in
+    let f = λ (x : FlowRecord). (next_of k e.lies d x).after in
+    let sound = found_holds flow.IsSound (is_number o) old.flow.operations r s.flow.sound e.at in
+    let among = found_holds (IsAmong old.stack) (is_number o) old.flow.operations r s.among e.at in
+    let leads = leads_of old.stack k o r e.lies d old.workers s.stack sound e.finds among in
+    let filed = filed_next old o (changed o f old.flow) result e.lies in
+    let number : (x : FlowRecord) → (f x).number.0 ≡ x.number.0 = λ x. (next_stays k e.lies d x).number in
+    let drained = next_drained old.workers old.flow k o e.lies d r e.idle e.at number s.drains in
+    let built : (ws : List Worker) → after_next old.workers k o (next_of k e.lies d r).reply ≡ ws → length ws ≡ 48 → AreTied ws (changed o f old.flow)
+    → ((i : ℕ) → count_by (is_in_setup i) ws ≡ count_by (is_in_setup i) old.workers) → IsUnderWay e.mid =
+    λ ws is hands tied setups. subst IsUnderWay
+    (sym (e.over.1 ∙ ap (λ x. record old { flow = changed o f old.flow; workers = x; contexts = received old.contexts k result; files = filed }) (ap (after_next old.workers k o) e.reply ∙ is)))
+    (whatever_files (record old { flow = changed o f old.flow; workers = ws }) (received old.contexts k result) filed
+    (step_keeps old o r f ws e.at number (λ x. (next_stays k e.lies d x).collected) (sound_next k e.lies d r sound (λ down. may_visit old.stack r e.lies among (e.finds down)))
+    leads.among hands tied (subst (λ (x : List Worker). AreDrained x (changed o f old.flow)) is drained) setups s)) in
+    elim leads.how [
+      | inl stays ↦ built old.workers stays.0 s.hands (tied_stays old.workers old.flow o r f e.at number stays.1 s.workers) (λ i. refl)
+      | inr goes ↦ built (put old.workers k goes.0) goes.1 (length-set old.workers k.0 goes.0 ∙ s.hands)
+          (tied_moves old.workers old.flow k place.Idle goes.0 o r f e.idle e.at number goes.2 goes.3 s.workers)
+          (setups_stay old.workers k place.Idle goes.0 e.idle (λ i. refl) goes.4)
+    ]
+
+-- ---- callbacks and calls return
+
+-- the operation that a worker is inside of, by its spot
+pub record Inside (w : World) (o : OpId) (spot : Spot) : Type 0 where
+  pub row : FlowRecord
+  pub at : operation_at o w.flow ≡ Some row
+  pub stands : is_spot spot (spot_of row) ≡ true
+  pub sound : flow.IsSound row
+  pub among : IsAmong w.stack row
+
+inside : (w : World) (k : WorkerId) (a : Worker) (o : OpId) (spot : Spot) → worker_at w.workers k ≡ Some a → is_in_at o spot a ≡ true → IsUnderWay w → Inside w o spot
+inside w k a o spot at is s =
+    let there = tied_there w.workers w.flow k a o spot s.workers at is in
+    record {
+      row = there.0;
+      at = there.1;
+      stands = there.2;
+      sound = found_holds flow.IsSound (is_number o) w.flow.operations there.0 s.flow.sound there.1;
+      among = found_holds (IsAmong w.stack) (is_number o) w.flow.operations there.0 s.among there.1;
+    }
+
+both_same : (o : OpId) (i : InstanceId) → (o.0 == o.0) && (i.0 == i.0) ≡ true
+both_same o i = and_from (o.0 == o.0) (i.0 == i.0) (eq-eqb o.0 o.0 refl) (eq-eqb i.0 i.0 refl)
+
+pub inside_pre : (w : World) (k : WorkerId) (o : OpId) (i : InstanceId) → worker_at w.workers k ≡ Some (place.Pre o i) → IsUnderWay w
+    → (x : Inside w o (AtPre i.0)) × (x.row.stage ≡ PreRunning) × (last_visited x.row.entries ≡ Some i.0)
+inside_pre w k o i at s =
+    let x = inside w k (place.Pre o i) o (AtPre i.0) at (both_same o i) s in
+    let spot = spot_pre i.0 x.row.stage x.row.entries x.stands in
+    (x, spot.0, spot.1)
+
+pub inside_base : (w : World) (k : WorkerId) (o : OpId) → worker_at w.workers k ≡ Some (place.Base o) → IsUnderWay w → (x : Inside w o AtBase) × (x.row.stage ≡ InBase)
+inside_base w k o at s = let x = inside w k (place.Base o) o AtBase at (eq-eqb o.0 o.0 refl) s in (x, spot_base x.row.stage x.row.entries x.stands)
+
+pub inside_post : (w : World) (k : WorkerId) (o : OpId) (i : InstanceId) → worker_at w.workers k ≡ Some (place.Post o i) → IsUnderWay w
+    → (x : Inside w o (AtPost i.0)) × (x.row.stage ≡ PostRunning) × (last_posted x.row.entries ≡ Some i.0)
+inside_post w k o i at s =
+    let x = inside w k (place.Post o i) o (AtPost i.0) at (both_same o i) s in
+    let spot = spot_post i.0 x.row.stage x.row.entries x.stands in
+    (x, spot.0, spot.1)
+
+pub inside_drain : (w : World) (k : WorkerId) (o : OpId) (i : InstanceId) → worker_at w.workers k ≡ Some (place.Drain o i) → IsUnderWay w
+    → (x : Inside w o (AtDrain i.0)) × (x.row.stage ≡ InDrain i)
+inside_drain w k o i at s = let x = inside w k (place.Drain o i) o (AtDrain i.0) at (both_same o i) s in (x, spot_drain i x.row.stage x.row.entries x.stands)
+
+-- a worker leaves an operation, which then stands where no worker is inside it; contexts, streams and handles don't matter
+return_keeps : (old : World) (k : WorkerId) (a : Worker) (o : OpId) (r : FlowRecord) (f : FlowRecord → FlowRecord) (n : ℕ → ℕ) (t : ContextTable) (files : FileTable)
+    → worker_at old.workers k ≡ Some a
+    → operation_at o old.flow ≡ Some r → ((x : FlowRecord) → (f x).number.0 ≡ x.number.0) → ((x : FlowRecord) → (f x).collected ≡ x.collected)
+    → Matches o a (spot_of r) → is_running (f r).stage ≡ false → InDrains o a n → ((i : ℕ) → drain_opens i (f r).entries + n i ≡ drain_opens i r.entries)
+    → ((i : ℕ) → is_in_setup i a ≡ false) → flow.IsSound (f r) → IsAmong old.stack (f r) → IsUnderWay old
+    → IsUnderWay (record (returned old k o f) { contexts = t; files = files })
+return_keeps old k a o r f n t files at there number collected matches quiet from even outside sound among s =
+    whatever_files (returned old k o f) t files
+    (step_keeps old o r f (put old.workers k place.Idle) there number collected sound among (length-set old.workers k.0 place.Idle ∙ s.hands)
+    (tied_moves old.workers old.flow k a place.Idle o r f at there number matches (matches_idle o (f r).stage (f r).entries quiet) s.workers)
+    (drained_moves old.workers old.flow k a place.Idle o r f n (λ i. 0) at there number from (in_no_drain o place.Idle (λ p i. refl)) (λ i. omega (arith, even i)) s.drains)
+    (setups_stay old.workers k a place.Idle at outside (λ i. refl)) s)
 
 pub counted_quiet : (given : PreVerdict) (operation : Operation) (has_post : Bool) → is_running (pre_leads (verdict_counted given operation has_post)) ≡ false
 counted_quiet (verdict.WithCallback completion) operation true = refl
 counted_quiet (verdict.WithCallback completion) operation false = refl
 counted_quiet (verdict.Synchronize completion) operation true = refl
 counted_quiet (verdict.Synchronize completion) operation false = refl
-counted_quiet verdict.NoCallback operation b = refl
-counted_quiet verdict.Pending operation b = refl
 counted_quiet (verdict.Complete status) operation b = completed_quiet status operation
   where
     completed_quiet : (status : Status) (operation : Operation) → is_running (pre_leads (completed_as status operation)) ≡ false
     completed_quiet status kind.Create = refl
-    completed_quiet status kind.Read = refl
-    completed_quiet status kind.Write = refl
-    completed_quiet status kind.QuerySize = refl
-    completed_quiet status kind.SetSize = refl
-    completed_quiet status kind.Flush = refl
-    completed_quiet status kind.List = refl
-    completed_quiet status kind.SetDelete = refl
     completed_quiet status kind.Cleanup = refl
     completed_quiet status kind.Close = refl
+    completed_quiet status _ = refl
+counted_quiet _ operation b = refl
 
 not_base_of : (stage : Stage) → is_running stage ≡ false → stage ≡ InBase → ⊥
 not_base_of stage h e = false≢true (sym h ∙ ap is_running e)
 
-pre_at : (old : World) (k : WorkerId) (given : PreVerdict) (lent : Data) (result : Result (Unit {0}) Status) (new : World) (m : Option Worker)
-    → worker_at old.workers k ≡ m → PreReturnsAt old k given lent result new m → IsUnderWay old → IsUnderWay new
-pre_at old k given lent result new (Some (place.Pre o i)) at h s =
-    let there = tied_there old.workers old.flow k (place.Pre o i) o (AtPre i.0) s.workers at (and_from (o.0 == o.0) (i.0 == i.0) (eq-eqb o.0 o.0 refl) (eq-eqb i.0 i.0 refl)) in
-    let r = there.0 in
-    let spot = spot_pre i.0 r.stage r.entries there.2 in
-    let stage : r.stage ≡ PreRunning = spot.0 in
+pub pre_keeps : (old : World) (k : WorkerId) (o : OpId) (i : InstanceId) (given : PreVerdict) (lent : Data) (t : ContextTable) (files : FileTable)
+    → worker_at old.workers k ≡ Some (place.Pre o i) → told (λ r. data_fits r.operation r.path lent) false o old.flow ≡ true → IsUnderWay old
+    → IsUnderWay (record (returned old k o (pre_step old k o i given lent)) { contexts = t; files = files })
+pre_keeps old k o i given lent t files at fits s =
+    let x = inside_pre old k o i at s in
+    let r = x.0.row in
     let hand = hand_of old.contexts.hands k.0 in
     let state = state_at old k o i given in
     let quiet : is_running (pre_leads state) ≡ false =
-    ap (λ x. is_running (pre_leads x)) (told_there (state_given old.stack hand i given) pre.Passed o old.flow r there.1)
+    ap (λ x. is_running (pre_leads x)) (told_there (state_given old.stack hand i given) pre.Passed o old.flow r x.0.at)
     ∙ counted_quiet (of_hand hand given) r.operation (has_post old.stack (slice_get old.stack.instances i.0) r.operation) in
-    let sound = found_holds flow.IsSound (is_number o) old.flow.operations r s.flow.sound there.1 in
-    let among = found_holds (IsAmong old.stack) (is_number o) old.flow.operations r s.among there.1 in
-    unless_cases IsUnderWay status.BadRequest (told (λ r. data_fits r.operation r.path lent) false o old.flow) result old new
-    ((result ≡ Ok tt) × PreReturnsOver old k o (pre_returned_of state lent) state new) h
-    (λ fits event. loses_under_way event.1.0 new event.1.2 (subst IsUnderWay (sym event.1.1.1)
-    (whatever_files (returned old k o (pre_returned_of state lent)) event.1.0.contexts (filed_pre old o (changed o (pre_returned_of state lent) old.flow) state)
-    (return_keeps old k (place.Pre o i) o r (pre_returned_of state lent) (λ j. 0) at there.1 (λ x. refl) (λ x. refl)
-    (subst (Matches o (place.Pre o i)) (sym (ap (λ a. spot_at a r.entries) stage ∙ ap (option_map AtPre) spot.1)) (matches_pre o i)) quiet
+    return_keeps old k (place.Pre o i) o r (pre_returned_of state lent) (λ j. 0) t files at x.0.at (λ x. refl) (λ x. refl)
+    (subst (Matches o (place.Pre o i)) (sym (ap (λ a. spot_at a r.entries) x.1 ∙ ap (option_map AtPre) x.2)) (matches_pre o i)) quiet
     (in_no_drain o (place.Pre o i) (λ p j. refl)) (λ j. omega (arith, drains_pre_settled j state r.entries)) (λ j. refl)
-    (sound_pre_returned state lent r stage (counted_from state quiet) (sym (told_there (λ (x : FlowRecord). data_fits x.operation x.path lent) false o old.flow r there.1) ∙ fits) sound)
+    (sound_pre_returned state lent r x.1 (counted_from state quiet) (sym (told_there (λ (x : FlowRecord). data_fits x.operation x.path lent) false o old.flow r x.0.at) ∙ fits) x.0.sound)
     (among_settles old.stack r.volume r.born r.operation r.entries r.stage (pre_leads state) (settle_pre state) (settle_pre_visit state) (settle_pre_base state)
-    (not_base_of (pre_leads state) quiet) among) s)))) s
-pre_at old k given lent result new (Some place.Idle) at h s = subst IsUnderWay (sym h.1) s
-pre_at old k given lent result new (Some (place.EarlyDrain o i)) at h s = subst IsUnderWay (sym h.1) s
-pre_at old k given lent result new (Some (place.Setup i)) at h s = subst IsUnderWay (sym h.1) s
-pre_at old k given lent result new (Some (place.Base o)) at h s = subst IsUnderWay (sym h.1) s
-pre_at old k given lent result new (Some (place.Post o i)) at h s = subst IsUnderWay (sym h.1) s
-pre_at old k given lent result new (Some (place.Cleanup c)) at h s = subst IsUnderWay (sym h.1) s
-pre_at old k given lent result new (Some (place.Drain o i)) at h s = subst IsUnderWay (sym h.1) s
-pre_at old k given lent result new None at h s = subst IsUnderWay (sym h.1) s
+    (not_base_of (pre_leads state) quiet) x.0.among) s
 
-pub pre_keeps : (old : World) (k : WorkerId) (given : PreVerdict) (lent : Data) (result : Result (Unit {0}) Status) (new : World)
-    → PreReturns old k given lent result new → IsUnderWay old → IsUnderWay new
-unfolding PreReturns
-pre_keeps old k given lent result new h s = pre_at old k given lent result new (worker_at old.workers k) refl h s
-
-base_at : (old : World) (k : WorkerId) (call : BaseCall) (given : Answer) (result : Result (Unit {0}) Status) (new : World) (m : Option Worker)
-    → worker_at old.workers k ≡ m → BaseReturnsAt old k call given result new m → IsUnderWay old → IsUnderWay new
-base_at old k call given result new (Some (place.Base o)) at h s =
-    let there = tied_there old.workers old.flow k (place.Base o) o AtBase s.workers at (eq-eqb o.0 o.0 refl) in
-    let r = there.0 in
-    let stage : r.stage ≡ InBase = spot_base r.stage r.entries there.2 in
-    let sound = found_holds flow.IsSound (is_number o) old.flow.operations r s.flow.sound there.1 in
-    let among = found_holds (IsAmong old.stack) (is_number o) old.flow.operations r s.among there.1 in
-    let none = no_base r.stage r.entries sound.course.order (ap (λ x. is_up (way_of x)) stage) in
+pub base_keeps : (old : World) (k : WorkerId) (o : OpId) (call : BaseCall) (given : Answer) (t : ContextTable) (files : FileTable)
+    → worker_at old.workers k ≡ Some (place.Base o) → told (base_fits call given) false o old.flow ≡ true → IsUnderWay old
+    → IsUnderWay (record (returned old k o (base_step old call given)) { contexts = t; files = files })
+base_keeps old k o call given t files at fits s =
+    let x = inside_base old k o at s in
+    let r = x.0.row in
+    let none = no_base r.stage r.entries x.0.sound.course.order (ap (λ x. is_up (way_of x)) x.1) in
     let handle : HandleId = record { 0 = old.files.next } in
-    let step = base_step old call given in
     let counts = base_counted call.params given handle in
-    unless_cases IsUnderWay status.BadRequest (told (base_fits call given) false o old.flow) result old new
-    ((result ≡ Ok tt) × LosesLinks (base_returned old k o call given) new) h
-    (λ fits event. loses_under_way (base_returned old k o call given) new event.1 (whatever_files (returned old k o step) old.contexts (filed_base old o (changed o step old.flow) given.status)
-    (return_keeps old k (place.Base o) o r step (λ j. 0) at there.1 (λ x. refl) (λ x. refl)
-    (subst (Matches o (place.Base o)) (sym (ap (λ a. spot_at a r.entries) stage)) (matches_base o)) refl
+    return_keeps old k (place.Base o) o r (base_step old call given) (λ j. 0) t files at x.0.at (λ x. refl) (λ x. refl)
+    (subst (Matches o (place.Base o)) (sym (ap (λ a. spot_at a r.entries) x.1)) (matches_base o)) refl
     (in_no_drain o (place.Base o) (λ p j. refl)) (λ j. omega (arith, drains_push j r.entries (Base counts.status counts.information))) (λ j. refl)
-    (sound_base call given handle r stage (sym (told_there (base_fits call given) false o old.flow r there.1) ∙ fits) sound)
-    (among_base old.stack r.volume r.born r.operation r.entries r.stage counts.status counts.information none (among.base stage) among) s))) s
-base_at old k call given result new (Some place.Idle) at h s = subst IsUnderWay (sym h.1) s
-base_at old k call given result new (Some (place.EarlyDrain o i)) at h s = subst IsUnderWay (sym h.1) s
-base_at old k call given result new (Some (place.Setup i)) at h s = subst IsUnderWay (sym h.1) s
-base_at old k call given result new (Some (place.Pre o i)) at h s = subst IsUnderWay (sym h.1) s
-base_at old k call given result new (Some (place.Post o i)) at h s = subst IsUnderWay (sym h.1) s
-base_at old k call given result new (Some (place.Cleanup c)) at h s = subst IsUnderWay (sym h.1) s
-base_at old k call given result new (Some (place.Drain o i)) at h s = subst IsUnderWay (sym h.1) s
-base_at old k call given result new None at h s = subst IsUnderWay (sym h.1) s
-
-pub base_keeps : (old : World) (k : WorkerId) (call : BaseCall) (given : Answer) (result : Result (Unit {0}) Status) (new : World)
-    → BaseReturns old k call given result new → IsUnderWay old → IsUnderWay new
-unfolding BaseReturns
-base_keeps old k call given result new h s = base_at old k call given result new (worker_at old.workers k) refl h s
+    (sound_base call given handle r x.1 (sym (told_there (base_fits call given) false o old.flow r x.0.at) ∙ fits) x.0.sound)
+    (among_base old.stack r.volume r.born r.operation r.entries r.stage counts.status counts.information none (x.0.among.base x.1) x.0.among) s
 
 post_quiet : (given : PostVerdict) → is_running (post_leads (post_state given)) ≡ false
 post_quiet answer.Finished = refl
 post_quiet answer.MoreProcessing = refl
 
-post_given : (old : World) (k : WorkerId) (o : OpId) (i : InstanceId) (given : PostVerdict) (lent : Data) (result : Result (Unit {0}) Status) (new : World)
-    → worker_at old.workers k ≡ Some (place.Post o i) → PostReturnsAt old k given (Some lent) result new (Some (place.Post o i)) → IsUnderWay old → IsUnderWay new
-post_given old k o i given lent result new at h s =
-    let there = tied_there old.workers old.flow k (place.Post o i) o (AtPost i.0) s.workers at (and_from (o.0 == o.0) (i.0 == i.0) (eq-eqb o.0 o.0 refl) (eq-eqb i.0 i.0 refl)) in
-    let r = there.0 in
-    let spot = spot_post i.0 r.stage r.entries there.2 in
-    let stage : r.stage ≡ PostRunning = spot.0 in
+pub post_keeps : (old : World) (k : WorkerId) (o : OpId) (i : InstanceId) (given : PostVerdict) (lent : Data) (t : ContextTable)
+    → worker_at old.workers k ≡ Some (place.Post o i) → told (λ r. data_fits r.operation r.path lent) false o old.flow ≡ true → IsUnderWay old
+    → IsUnderWay (record (returned old k o (post_returned_of given lent)) { contexts = t })
+post_keeps old k o i given lent t at fits s =
+    let x = inside_post old k o i at s in
+    let r = x.0.row in
     let state = post_state given in
-    let sound = found_holds flow.IsSound (is_number o) old.flow.operations r s.flow.sound there.1 in
-    let among = found_holds (IsAmong old.stack) (is_number o) old.flow.operations r s.among there.1 in
-    unless_cases IsUnderWay status.BadRequest (told (λ r. data_fits r.operation r.path lent) false o old.flow) result old new
-    ((result ≡ Ok tt) × ReturnsFrom old k o (post_returned_of given lent) old.contexts new) h
-    (λ fits event. subst IsUnderWay (sym event.1.1) (whatever_contexts (returned old k o (post_returned_of given lent)) new.contexts old.totals
-    (return_keeps old k (place.Post o i) o r (post_returned_of given lent) (λ j. 0) at there.1 (λ x. refl) (λ x. refl)
-    (subst (Matches o (place.Post o i)) (sym (ap (λ a. spot_at a r.entries) stage ∙ ap (option_map AtPost) spot.1)) (matches_post o i)) (post_quiet given)
+    return_keeps old k (place.Post o i) o r (post_returned_of given lent) (λ j. 0) t old.files at x.0.at (λ x. refl) (λ x. refl)
+    (subst (Matches o (place.Post o i)) (sym (ap (λ a. spot_at a r.entries) x.1 ∙ ap (option_map AtPost) x.2)) (matches_post o i)) (post_quiet given)
     (in_no_drain o (place.Post o i) (λ p j. refl)) (λ j. omega (arith, drains_post_settled j state r.entries)) (λ j. refl)
-    (sound_post_returned given lent r stage (sym (told_there (λ (x : FlowRecord). data_fits x.operation x.path lent) false o old.flow r there.1) ∙ fits) sound)
+    (sound_post_returned given lent r x.1 (sym (told_there (λ (x : FlowRecord). data_fits x.operation x.path lent) false o old.flow r x.0.at) ∙ fits) x.0.sound)
     (among_settles old.stack r.volume r.born r.operation r.entries r.stage (post_leads state) (settle_post state) (settle_post_visit state) (settle_post_base state)
-    (not_base_of (post_leads state) (post_quiet given)) among) s))) s
+    (not_base_of (post_leads state) (post_quiet given)) x.0.among) s
 
-drain_given : (old : World) (k : WorkerId) (o : OpId) (i : InstanceId) (new : World) → worker_at old.workers k ≡ Some (place.Drain o i)
-    → ReturnsFrom old k o (drain_returned_of i) old.contexts new → IsUnderWay old → IsUnderWay new
-drain_given old k o i new at e s =
-    let there = tied_there old.workers old.flow k (place.Drain o i) o (AtDrain i.0) s.workers at (and_from (o.0 == o.0) (i.0 == i.0) (eq-eqb o.0 o.0 refl) (eq-eqb i.0 i.0 refl)) in
-    let r = there.0 in
-    let stage : r.stage ≡ InDrain i = spot_drain i r.stage r.entries there.2 in
-    let sound = found_holds flow.IsSound (is_number o) old.flow.operations r s.flow.sound there.1 in
-    let among = found_holds (IsAmong old.stack) (is_number o) old.flow.operations r s.among there.1 in
-    let runs = subst (λ x. flow.HasItsDrain x r.entries) stage sound.course.drain in
+pub drain_keeps : (old : World) (k : WorkerId) (o : OpId) (i : InstanceId) (t : ContextTable) → worker_at old.workers k ≡ Some (place.Drain o i) → IsUnderWay old
+    → IsUnderWay (record (returned old k o (drain_returned_of i)) { contexts = t })
+drain_keeps old k o i t at s =
+    let x = inside_drain old k o i at s in
+    let r = x.0.row in
+    let runs = subst (λ x. flow.HasItsDrain x r.entries) x.1 x.0.sound.course.drain in
     let even : (j : ℕ) → drain_opens j (drain_returned_of i r).entries + one (i.0 == j) ≡ drain_opens j r.entries = λ j.
     let ends : cond (i.0 == j) (drain_opens i.0 r.entries) 0 ≡ one (i.0 == j) = ap (λ n. cond (i.0 == j) n 0) runs in
     omega (arith, drains_drain_settled i.0 j r.entries, ends) in
-    subst IsUnderWay (sym e.1) (whatever_contexts (returned old k o (drain_returned_of i)) new.contexts old.totals
-    (return_keeps old k (place.Drain o i) o r (drain_returned_of i) (λ j. one (i.0 == j)) at there.1 (λ x. refl) (λ x. refl)
-    (subst (Matches o (place.Drain o i)) (sym (ap (λ a. spot_at a r.entries) stage)) (matches_drain o i)) refl (in_a_drain o i) even (λ j. refl) (sound_drain_returned i r stage sound)
+    return_keeps old k (place.Drain o i) o r (drain_returned_of i) (λ j. one (i.0 == j)) t old.files at x.0.at (λ x. refl) (λ x. refl)
+    (subst (Matches o (place.Drain o i)) (sym (ap (λ a. spot_at a r.entries) x.1)) (matches_drain o i)) refl (in_a_drain o i) even (λ j. refl) (sound_drain_returned i r x.1 x.0.sound)
     (among_settles old.stack r.volume r.born r.operation r.entries r.stage Ascending (settle_drain i.0) (settle_drain_visit i.0) (settle_drain_base i.0)
-    (not_base_of Ascending refl) among) s))
-
-post_at : (old : World) (k : WorkerId) (given : PostVerdict) (lent : Option Data) (result : Result (Unit {0}) Status) (new : World) (m : Option Worker)
-    → worker_at old.workers k ≡ m → PostReturnsAt old k given lent result new m → IsUnderWay old → IsUnderWay new
-post_at old k given (Some lent) result new (Some (place.Post o i)) at h s = post_given old k o i given lent result new at h s
-post_at old k given None result new (Some (place.Post o i)) at h s = subst IsUnderWay (sym h.1) s
-post_at old k given None result new (Some (place.Drain o i)) at h s = drain_given old k o i new at h.1 s
-post_at old k given (Some lent) result new (Some (place.Drain o i)) at h s = subst IsUnderWay (sym h.1) s
-post_at old k given (Some lent) result new (Some place.Idle) at h s = subst IsUnderWay (sym h.1) s
-post_at old k given (Some lent) result new (Some (place.EarlyDrain o i)) at h s = subst IsUnderWay (sym h.1) s
-post_at old k given (Some lent) result new (Some (place.Setup i)) at h s = subst IsUnderWay (sym h.1) s
-post_at old k given (Some lent) result new (Some (place.Pre o i)) at h s = subst IsUnderWay (sym h.1) s
-post_at old k given (Some lent) result new (Some (place.Base o)) at h s = subst IsUnderWay (sym h.1) s
-post_at old k given (Some lent) result new (Some (place.Cleanup c)) at h s = subst IsUnderWay (sym h.1) s
-post_at old k given (Some lent) result new None at h s = subst IsUnderWay (sym h.1) s
-post_at old k given None result new (Some place.Idle) at h s = subst IsUnderWay (sym h.1) s
-post_at old k given None result new (Some (place.EarlyDrain o i)) at h s = subst IsUnderWay (sym h.1) s
-post_at old k given None result new (Some (place.Setup i)) at h s = subst IsUnderWay (sym h.1) s
-post_at old k given None result new (Some (place.Pre o i)) at h s = subst IsUnderWay (sym h.1) s
-post_at old k given None result new (Some (place.Base o)) at h s = subst IsUnderWay (sym h.1) s
-post_at old k given None result new (Some (place.Cleanup c)) at h s = subst IsUnderWay (sym h.1) s
-post_at old k given None result new None at h s = subst IsUnderWay (sym h.1) s
-
-pub post_keeps : (old : World) (k : WorkerId) (given : PostVerdict) (lent : Option Data) (result : Result (Unit {0}) Status) (new : World)
-    → PostReturns old k given lent result new → IsUnderWay old → IsUnderWay new
-unfolding PostReturns
-post_keeps old k given lent result new h s = post_at old k given lent result new (worker_at old.workers k) refl h s
+    (not_base_of Ascending refl) x.0.among) s
 
 -- ---- collect
 

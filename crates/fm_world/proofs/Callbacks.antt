@@ -32,6 +32,7 @@ use Rattle.fm_world.specs.ContextEvents.{Callback, callback_in, callback_of, InC
 use Rattle.fm_world.specs.Sound.{IsSound, IsOwned}
 use Rattle.fm_world.proofs.Belonging.{OwnersStay, owners_same, owners_changed, belongs_still, filters_same, held_has, all_without, AllHold, all_hold, all_hold_still, nobody_moved, all_carry_still}
 use Rattle.fm_world.proofs.Fitting.{AllFit, AllPass, passes_changed}
+use Rattle.fm_world.proofs.Events.{asked_by, taken_by}
 use Rattle.fm_world.proofs.Keeps.{whatever_contexts}
 
 -- ---- the callback that a worker is in
@@ -69,12 +70,6 @@ is_in w k at s h =
       worker = subst (λ n. k.0 < n) s.under_way.hands within;
       placed = all_at (IsPlaced w.stack) w.stack.instances at.instance.0 at.row s.under_way.stack.placed parts.1;
     }
-
--- an event of a callback, or its refusal
-pub in_callback : {T : Type 0} (old : World) (k : WorkerId) (result : Result T Status) (new : World) (Event : Callback → Type 0) (m : Option Callback)
-    → callback_of old k ≡ m → InCallbackOf result old new Event m → ((at : Callback) → IsIn old k at → Event at → IsSound new) → IsSound old → IsSound new
-in_callback old k result new Event None is h event s = subst IsSound (sym h.1) s
-in_callback old k result new Event (Some at) is h event s = event at (is_in old k at s is) h
 
 -- ---- only contexts change
 
@@ -140,31 +135,30 @@ grabbed_sound w k at c i s lawful own =
 
 pub reference_sound : (old : World) (k : WorkerId) (c : CtxId) (result : Result (Unit {0}) Status) (new : World) → References old k c result new → IsSound old → IsSound new
 unfolding References
-reference_sound old k c (Err why) new h s = in_callback old k (Err why) new _ (callback_of old k) refl h (λ at i event. subst IsSound (sym event.1) s) s
-reference_sound old k c (Ok done) new h s =
-    in_callback old k (Ok done) new _ (callback_of old k) refl h (λ at i event.
-    let held = none_of (not (holds (hand_of old.contexts.hands k.0) c)) status.NotHeld (first_of ((is_hand_full old.contexts.hands k.0, status.HandFull) ∷ [])) event.0 in
+reference_sound old k c result new h s =
+    asked_by (λ _ w. IsSound w) old k result new _ _ h (λ why. s) (λ at is done free e.
+    let i = is_in old k at s is in
+    let held = none_of (not (holds (hand_of old.contexts.hands k.0) c)) status.NotHeld (first_of ((is_hand_full old.contexts.hands k.0, status.HandFull) ∷ [])) free in
     let room = none_of (is_hand_full old.contexts.hands k.0) status.HandFull None held.1 in
     let has = not_false (holds (hand_of old.contexts.hands k.0) c) held.0 in
     let law = s.owned.lawful in
-    subst IsSound (sym event.1)
+    subst IsSound (sym e)
     (grabbed_sound old k at c i s
     (reference_keeps k.0 c law i.worker (count_held (carries old) old.contexts k.0 c (within_hands k.0 law i.worker) has) (leb-false 16 (length (hand_of old.contexts.hands k.0)) room.0))
-    (in_hand old k at c i s.owned has))) s
+    (in_hand old k at c i s.owned has)))
 
 pub release_sound : (old : World) (k : WorkerId) (c : CtxId) (result : Result (Unit {0}) Status) (new : World) → Releases old k c result new → IsSound old → IsSound new
 unfolding Releases
-release_sound old k c (Err why) new h s = in_callback old k (Err why) new _ (callback_of old k) refl h (λ at i event. subst IsSound (sym event.1) s) s
-release_sound old k c (Ok done) new h s =
-    in_callback old k (Ok done) new _ (callback_of old k) refl h (λ at i event.
-    let held = none_of (not (holds (hand_of old.contexts.hands k.0) c)) status.NotHeld None event.0 in
-    let has = not_false (holds (hand_of old.contexts.hands k.0) c) held.0 in
+release_sound old k c result new h s =
+    asked_by (λ _ w. IsSound w) old k result new _ _ h (λ why. s) (λ at is done free e.
+    let i = is_in old k at s is in
+    let has = not_false (holds (hand_of old.contexts.hands k.0) c) (none_of (not (holds (hand_of old.contexts.hands k.0) c)) status.NotHeld None free).0 in
     let t = released (carries old) old.contexts k.0 c in
     let owners = owners_same old.contexts.slots t.slots refl in
-    subst IsSound (sym event.1)
+    subst IsSound (sym e)
     (sound_with old t
     (contexts_owned old t k (without c (hand_of old.contexts.hands k.0)) (release_keeps k.0 c s.owned.lawful i.worker has) refl owners refl i.worker
-    (all_without (HoldsIn old.stack t.slots (place_in (worker_at old.workers k))) c (hand_of old.contexts.hands k.0) (s.owned.holders k)) s.owned.fits s.owned) s.links s)) s
+    (all_without (HoldsIn old.stack t.slots (place_in (worker_at old.workers k))) c (hand_of old.contexts.hands k.0) (s.owned.holders k)) s.owned.fits s.owned) s.links s))
 
 pub same_hands : (hands : List (List CtxId)) (w : ℕ) → hands ≡ slice_set hands w (hand_of hands w)
 same_hands hands w = sym (set-get_or hands w [])
@@ -181,18 +175,15 @@ rewritten_sound w k at c bytes i s =
 
 pub read_body_sound : (old : World) (k : WorkerId) (c : CtxId) (result : Result (List ℕ) Status) (new : World) → ReadsBody old k c result new → IsSound old → IsSound new
 unfolding ReadsBody
-read_body_sound old k c (Err why) new h s = in_callback old k (Err why) new _ (callback_of old k) refl h (λ at i event. subst IsSound (sym event.1) s) s
-read_body_sound old k c (Ok body) new h s = in_callback old k (Ok body) new _ (callback_of old k) refl h (λ at i event. subst IsSound (sym event.1.1) s) s
+read_body_sound old k c result new h s = taken_by (λ _ w. IsSound w) old k result new _ _ h (λ why. s) (λ at is body free e. subst IsSound (sym e.1) s)
 
 pub write_body_sound : (old : World) (k : WorkerId) (c : CtxId) (bytes : List ℕ) (result : Result (Unit {0}) Status) (new : World)
     → WritesBody old k c bytes result new → IsSound old → IsSound new
 unfolding WritesBody
-write_body_sound old k c bytes (Err why) new h s = in_callback old k (Err why) new _ (callback_of old k) refl h (λ at i event. subst IsSound (sym event.1) s) s
-write_body_sound old k c bytes (Ok done) new h s =
-    in_callback old k (Ok done) new _ (callback_of old k) refl h (λ at i event. subst IsSound (sym event.1) (rewritten_sound old k at c bytes i s)) s
+write_body_sound old k c bytes result new h s =
+    asked_by (λ _ w. IsSound w) old k result new _ _ h (λ why. s) (λ at is done free e. subst IsSound (sym e) (rewritten_sound old k at c bytes (is_in old k at s is) s))
 
 pub bump_sound : (old : World) (k : WorkerId) (c : CtxId) (at by : ℕ) (result : Result ℕ Status) (new : World) → Bumps old k c at by result new → IsSound old → IsSound new
 unfolding Bumps
-bump_sound old k c at by (Err why) new h s = in_callback old k (Err why) new _ (callback_of old k) refl h (λ cb i event. subst IsSound (sym event.1) s) s
-bump_sound old k c at by (Ok n) new h s =
-    in_callback old k (Ok n) new _ (callback_of old k) refl h (λ cb i event. subst IsSound (sym event.1.1) (rewritten_sound old k cb c _ i s)) s
+bump_sound old k c at by result new h s =
+    asked_by (λ _ w. IsSound w) old k result new _ _ h (λ why. s) (λ cb is n free e. subst IsSound (sym e.1) (rewritten_sound old k cb c _ (is_in old k cb s is) s))

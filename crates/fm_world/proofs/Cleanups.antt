@@ -53,7 +53,8 @@ use Rattle.fm_world.specs.Links.{names_there}
 use Rattle.fm_world.proofs.Fitting.{passes_changed, owner_stays, link_stays}
 use Rattle.fm_world.proofs.Counts.{count-cons}
 use Rattle.fm_world.proofs.Draining.{moves_undrained}
-use Rattle.fm_world.proofs.Keeps.{unless_cases, idle_there, moves_outside, workers_move, stack_moves, whatever_contexts}
+use Rattle.fm_world.proofs.Events.{idle_by, cleaned_by}
+use Rattle.fm_world.proofs.Keeps.{moves_outside, workers_move, stack_moves, whatever_contexts}
 use Rattle.fm_world.proofs.Operations.{setups_stay}
 use Rattle.fm_world.proofs.Ties.{idle_is_in_none}
 
@@ -129,10 +130,7 @@ take_due_at old k new (Some c) at first e s =
 pub take_due_sound : (old : World) (k : WorkerId) (result : Result (Option Due) Status) (new : World) → TakesDue old k result new → IsSound old → IsSound new
 unfolding TakesDue
 take_due_sound old k result new h s =
-    unless_cases IsSound status.WrongStep (is_idle (worker_at old.workers k)) result old new
-    ((result ≡ Ok (due_reply old.contexts))
-    × (new ≡ record old { workers = after_due old.workers k (slice_get old.contexts.due 0); contexts = after_take_due old.contexts k.0 })) h
-    (λ idle event. take_due_at old k new (slice_get old.contexts.due 0) (idle_there old.workers k idle) refl event.1 s) s
+    idle_by (λ _ w. IsSound w) k result old new _ h (λ why. s) (λ at event. take_due_at old k new (slice_get old.contexts.due 0) at refl event.1 s)
 
 -- ---- cleaned
 
@@ -248,30 +246,17 @@ cleaned_owned w k c number at s =
       totals = totals_kept (filter_of w.stack (context_at w.contexts.slots c)) number w.totals h.totals;
     }
 
-cleaned_at : (old : World) (k : WorkerId) (number : ℕ) (result : Result (Unit {0}) Status) (new : World) (m : Option Worker)
-    → worker_at old.workers k ≡ m → CleansAt old k number result new m → IsSound old → IsSound new
-cleaned_at old k number result new (Some (place.Cleanup c)) at h s =
-    let totals = totalled_for (filter_of old.stack (context_at old.contexts.slots c)) number old.totals in
-    subst IsSound (sym h.1)
+pub cleaned_sound : (old : World) (k : WorkerId) (number : ℕ) (result : Result (Unit {0}) Status) (new : World) → Cleans old k number result new → IsSound old → IsSound new
+cleaned_sound old k number result new h s =
+    cleaned_by (λ _ w. IsSound w) old k number result new h (λ why. s) (λ c at e. subst IsSound (sym e.1)
     (record {
-      under_way = whatever_contexts (record old { workers = put old.workers k place.Idle }) (cleaned old.contexts k.0 c) totals
+      under_way = whatever_contexts (record old { workers = put old.workers k place.Idle }) (cleaned old.contexts k.0 c)
+          (totalled_for (filter_of old.stack (context_at old.contexts.slots c)) number old.totals)
           (worker_moves old k (place.Cleanup c) place.Idle at (cleanup_in_none c) idle_is_in_none (λ p i. refl) (λ p i. refl) (λ i. refl) (λ i. refl) s.under_way);
       owned = cleaned_owned old k c number at s;
       filed = s.filed;
       links = passes_changed (names_there old.files) (λ (x : Option Context). None) old.contexts.slots c refl (λ x there named. refl) s.links;
-    })
-cleaned_at old k number result new (Some place.Idle) at h s = subst IsSound (sym h.1) s
-cleaned_at old k number result new (Some (place.EarlyDrain o i)) at h s = subst IsSound (sym h.1) s
-cleaned_at old k number result new (Some (place.Setup i)) at h s = subst IsSound (sym h.1) s
-cleaned_at old k number result new (Some (place.Pre o i)) at h s = subst IsSound (sym h.1) s
-cleaned_at old k number result new (Some (place.Base o)) at h s = subst IsSound (sym h.1) s
-cleaned_at old k number result new (Some (place.Post o i)) at h s = subst IsSound (sym h.1) s
-cleaned_at old k number result new (Some (place.Drain o i)) at h s = subst IsSound (sym h.1) s
-cleaned_at old k number result new None at h s = subst IsSound (sym h.1) s
-
-pub cleaned_sound : (old : World) (k : WorkerId) (number : ℕ) (result : Result (Unit {0}) Status) (new : World) → Cleans old k number result new → IsSound old → IsSound new
-unfolding Cleans
-cleaned_sound old k number result new h s = cleaned_at old k number result new (worker_at old.workers k) refl h s
+    }))
 
 -- ---- the end of an instance
 

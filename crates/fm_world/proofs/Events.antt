@@ -30,7 +30,12 @@ use Rattle.fm_world.specs.declared.worker.Worker.TheVariants as place
 use Rattle.fm_world.specs.World.{World, carries}
 use Rattle.fm_world.specs.Workers.{worker_at, put, is_idle, after_next}
 use Rattle.fm_world.specs.Events.{Unless, SetsUp, SetsUpAt, EmptiesUnless, FindsBelow, LiesBelow, Nexts, NextsAt, NextsOver, LosesByKnown, PreReturns, PreReturnsAt, PreReturnsOver, BaseReturns, BaseReturnsAt, PostReturns, PostReturnsAt, ReturnsFrom, pre_step, state_at, base_returned, drains_at, received, filed_next, flow_after_next}
-use Rattle.fm_world.specs.ContextEvents.{Callback, InCallback, InCallbackOf, callback_of, Cleans, CleansAt, filter_of, totalled_for}
+use Rattle.fm_ctx.specs.declared.object.Object.{Object}
+use Rattle.fm_ctx.specs.declared.set_reply.SetMode.{SetMode}
+use Rattle.fm_ctx.specs.Table.{Context}
+use Rattle.fm_world.specs.declared.set_answer.SetAnswer.{SetAnswer}
+use Rattle.fm_world.specs.declared.set_answer.SetAnswer.TheVariants as answer
+use Rattle.fm_world.specs.ContextEvents.{Callback, InCallback, InCallbackOf, callback_of, Sets, SetsIn, SetsUnless, SetsOn, set_refused, object_for, Cleans, CleansAt, filter_of, totalled_for}
 use Rattle.fm_world.specs.Links.{LosesLinks}
 
 -- ---- refusals
@@ -82,6 +87,42 @@ called_by P old k result new Event h refused event = by_callback (callback_of ol
     by_callback : (m : Option Callback) → callback_of old k ≡ m → InCallbackOf result old new Event m → P result new
     by_callback None is h = refused_by P status.WrongStep result old new h refused
     by_callback (Some at) is h = event at is h
+
+-- an event of a callback with its refusals, and one that takes memory
+pub asked_by : {T : Type 0} (P : Result T Status → World → Type 0) (old : World) (k : WorkerId) (result : Result T Status) (new : World)
+    (refusal : Callback → Option Status) (E : Callback → T → Type 0) → InCallback old k result new (λ at. Answers (refusal at) result old new (E at)) → Refused P old
+    → ((at : Callback) → callback_of old k ≡ Some at → (v : T) → refusal at ≡ None → E at v → P (Ok v) new) → P result new
+asked_by P old k result new refusal E h refused event =
+    called_by P old k result new _ h refused (λ at is e. answers_by P (refusal at) result old new (E at) e refused (event at is))
+
+pub taken_by : {T : Type 0} (P : Result T Status → World → Type 0) (old : World) (k : WorkerId) (result : Result T Status) (new : World)
+    (refusal : Callback → Option Status) (E : Callback → T → Type 0) → InCallback old k result new (λ at. AnswersOrMemory (refusal at) result old new (E at)) → Refused P old
+    → ((at : Callback) → callback_of old k ≡ Some at → (v : T) → refusal at ≡ None → E at v → P (Ok v) new) → P result new
+taken_by P old k result new refusal E h refused event =
+    called_by P old k result new _ h refused (λ at is e. memory_by P (refusal at) result old new (E at) e refused (event at is))
+
+pub set_by : (P : SetAnswer → World → Type 0) (old : World) (k : WorkerId) (c : CtxId) (mode : SetMode) (wants : Bool) (result : SetAnswer) (new : World)
+    → Sets old k c mode wants result new → ((why : Status) → P (answer.Refused why) old)
+    → ((at : Callback) → callback_of old k ≡ Some at → set_refused old k c at ≡ None → (x : Context) (o : Object) → context_at old.contexts.slots c ≡ Some x
+    → object_for at (Some x) ≡ Some o → SetsOn old k c mode wants result new (Some x) (Some o) → P result new) → P result new
+unfolding Sets
+set_by P old k c mode wants result new h refused event = by_callback (callback_of old k) refl h
+  where
+    by_refusal : (why : Status) → (result ≡ answer.Refused why) × (new ≡ old) → P result new
+    by_refusal why h = subst (λ r. P r new) (sym h.0) (subst (P (answer.Refused why)) (sym h.1) (refused why))
+
+    on : (at : Callback) → callback_of old k ≡ Some at → set_refused old k c at ≡ None → (m : Option Context) → context_at old.contexts.slots c ≡ m
+        → (o : Option Object) → object_for at m ≡ o → SetsOn old k c mode wants result new m o → P result new
+    on at is free (Some x) there (Some o) of h = event at is free x o there of h
+    on at is free _ there _ of h = absurd h
+
+    unless : (at : Callback) → callback_of old k ≡ Some at → (m : Option Status) → set_refused old k c at ≡ m → SetsUnless old k c mode wants result new at m → P result new
+    unless at is (Some why) refusal h = by_refusal why h
+    unless at is None free h = on at is free (context_at old.contexts.slots c) refl (object_for at (context_at old.contexts.slots c)) refl h
+
+    by_callback : (m : Option Callback) → callback_of old k ≡ m → SetsIn old k c mode wants result new m → P result new
+    by_callback None is h = by_refusal status.WrongStep h
+    by_callback (Some at) is h = unless at is (set_refused old k c at) refl h
 
 -- ---- by the worker's place
 

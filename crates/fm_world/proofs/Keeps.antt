@@ -35,6 +35,7 @@ use Rattle.fm_world.specs.Events.{LosesByKnown, Registers, Mounts, Attaches, Set
 use Rattle.fm_world.specs.Headline.{Spot, AtPre, AtBase, AtPost, AtDrain, is_in_at, is_in_drain}
 use Rattle.fm_world.specs.Sound.{IsUnderWay, IsAmong, is_in_setup, setup_row, IsFileSound}
 use Rattle.fm_world.proofs.Counts.{count-some}
+pub use Rattle.fm_world.proofs.Events.{idle_there}
 use Rattle.fm_world.proofs.Ties.{one, count_moves, idle_is_in_none}
 use Rattle.fm_world.proofs.Draining.{moves_undrained}
 use Rattle.fm_world.proofs.Amongs.{among_follows}
@@ -57,9 +58,7 @@ loses_under_way old new h s = subst IsUnderWay (sym h.1) (whatever_contexts old 
 -- where links go by a known answer, and where nothing goes
 pub known_cases : (P : World → Type 0) (result : Result FlowAction Status) (lies : Below) (mid new : World) → LosesByKnown result lies mid new → (LosesLinks mid new → P new) → P mid → P new
 known_cases P (Ok action.Moved) (below.Known why) mid new h lost same = lost h
-known_cases P (Ok action.Moved) (below.Instance i b) mid new h lost same = subst P (sym h) same
-known_cases P (Ok action.Moved) below.Call mid new h lost same = subst P (sym h) same
-known_cases P _ lies mid new h lost same = subst P (sym h) same
+known_cases P _ _ mid new h lost same = subst P (sym h) same
 
 -- nor do streams and handles
 pub whatever_files : (w : World) (t : ContextTable) (files : FileTable) → IsUnderWay w → IsUnderWay (record w { contexts = t; files = files })
@@ -145,30 +144,16 @@ moves_outside workers k a b h na nb p s =
     let to : one (is_in_at p s b) ≡ 0 = ap one (nb p s) in
     omega (arith, moves, from, to)
 
-idle_at : (m : Option Worker) → is_idle m ≡ true → m ≡ Some place.Idle
-idle_at None h = absurd (false≢true h)
-idle_at (Some place.Idle) h = refl
-idle_at (Some _) h = absurd (false≢true h)
-
-pub idle_there : (workers : List Worker) (k : WorkerId) → is_idle (worker_at workers k) ≡ true → worker_at workers k ≡ Some place.Idle
-idle_there workers k h = idle_at (worker_at workers k) h
-
--- what an event says where its test fails, or passes
-pub unless_cases : {T : Type 0} (P : World → Type 0) (refusal : Status) (b : Bool) (result : Result T Status) (old new : World) (Event : Type 0)
-    → Unless refusal b result old new Event → (b ≡ true → Event → P new) → P old → P new
-unless_cases P refusal true result old new Event h event s = event refl h
-unless_cases P refusal false result old new Event h event s = subst P (sym h.1) s
-
 same_all : (old new : World) (t : StackWorld) (workers : List Worker) → new.stack ≡ t → new ≡ record old { stack = new.stack; workers = workers }
     → new ≡ record old { stack = t; workers = workers }
 same_all old new t workers e h = h ∙ ap (λ x. record old { stack = x; workers = workers }) e
 
-attach_at : (old : World) (k : WorkerId) (f : FilterId) (v : VolumeId) (name altitude : List ℕ) (result : Result InstanceId Status) (new : World)
+pub attach_keeps : (old : World) (k : WorkerId) (f : FilterId) (v : VolumeId) (name altitude : List ℕ) (result : Result InstanceId Status) (new : World)
     → worker_at old.workers k ≡ Some place.Idle → stack.Attaches old.stack f v name altitude result new.stack
     → new ≡ record old { stack = new.stack; workers = after_attach old.workers k result } → IsUnderWay old → IsUnderWay new
 unfolding stack.Attaches
-attach_at old k f v name altitude (Err why) new idle h e s = subst IsUnderWay (sym (same_all old new old.stack old.workers h.1 e)) s
-attach_at old k f v name altitude (Ok i) new idle h e s =
+attach_keeps old k f v name altitude (Err why) new idle h e s = subst IsUnderWay (sym (same_all old new old.stack old.workers h.1 e)) s
+attach_keeps old k f v name altitude (Ok i) new idle h e s =
     let t = stack.attached old.stack f v name altitude in
     let workers = put old.workers k (place.Setup i) in
     subst IsUnderWay (sym (same_all old new t workers h.1.1 e))
@@ -182,15 +167,6 @@ attach_at old k f v name altitude (Ok i) new idle h e s =
     let same : one (i.0 == j) ≡ one (length old.stack.instances == j) = ap (λ n. one (n == j)) h.1.0 in
     omega (arith, moves, rows, same, s.setups j))
     s)
-
-pub attach_keeps : (old : World) (k : WorkerId) (f : FilterId) (v : VolumeId) (name altitude : List ℕ) (result : Result InstanceId Status) (new : World)
-    → Attaches old k f v name altitude result new → IsUnderWay old → IsUnderWay new
-unfolding Attaches
-attach_keeps old k f v name altitude result new h s =
-    unless_cases IsUnderWay status.WrongStep (is_idle (worker_at old.workers k)) result old new
-    (stack.Attaches old.stack f v name altitude result new.stack
-    × (new ≡ record old { stack = new.stack; workers = after_attach old.workers k result }))
-    h (λ idle event. attach_at old k f v name altitude result new (idle_there old.workers k idle) event.0 event.1 s) s
 
 -- ---- the end of a setup callback
 
@@ -241,39 +217,21 @@ setup_ends old k i t change row at there was is rows stack follows s =
     omega (arith, moves, after, now, s.setups j))
     s
 
-setup_at : (old : World) (k : WorkerId) (i : InstanceId) (accept : Bool) (result : Result (Unit {0}) Status) (new : World)
+pub setup_keeps : (old : World) (k : WorkerId) (i : InstanceId) (accept : Bool) (result : Result (Unit {0}) Status) (new : World)
     → worker_at old.workers k ≡ Some (place.Setup i) → stack.SetsUp old.stack i accept result new.stack
     → new ≡ record old { stack = new.stack; workers = put old.workers k place.Idle; contexts = new.contexts } → IsUnderWay old → IsUnderWay new
 unfolding stack.SetsUp
-setup_at old k i accept (Ok done) new at h e s =
+setup_keeps old k i accept (Ok done) new at h e s =
     let row = setup_place old k i s at in
     let t = stack.accepted old.stack i in
     subst IsUnderWay (sym (e ∙ ap (λ x. record old { stack = x; workers = put old.workers k place.Idle; contexts = new.contexts }) h.1))
     (whatever_contexts (record old { stack = t; workers = put old.workers k place.Idle }) new.contexts old.totals
     (setup_ends old k i t (λ (r : Instance). record r { phase = phase.Attached; birth = old.stack.births }) row.0 at row.1 row.2 refl refl
     (accepted_keeps old.stack i s.stack row.0 row.1 row.2) (accepted_follows old.stack i s.stack row.0 row.1 row.2) s))
-setup_at old k i accept (Err why) new at h e s =
+setup_keeps old k i accept (Err why) new at h e s =
     let row = setup_place old k i s at in
     let t = stack.refused old.stack i in
     subst IsUnderWay (sym (e ∙ ap (λ x. record old { stack = x; workers = put old.workers k place.Idle; contexts = new.contexts }) h.1))
     (whatever_contexts (record old { stack = t; workers = put old.workers k place.Idle }) new.contexts old.totals
     (setup_ends old k i t (λ (r : Instance). record r { phase = phase.Emptying }) row.0 at row.1 row.2 refl refl
     (refused_keeps old.stack i s.stack row.0 row.1 row.2) (refused_follows old.stack i s.stack row.0 row.1 row.2) s))
-
--- which place a worker is in, or that the event refused
-setup_cases : (old : World) (k : WorkerId) (accept : Bool) (result : Result (Unit {0}) Status) (new : World) (m : Option Worker)
-    → worker_at old.workers k ≡ m → SetsUpAt old k accept result new m → IsUnderWay old → IsUnderWay new
-setup_cases old k accept result new (Some (place.Setup i)) at h s = setup_at old k i accept result new at h.0 h.4 s
-setup_cases old k accept result new (Some place.Idle) at h s = subst IsUnderWay (sym h.1) s
-setup_cases old k accept result new (Some (place.EarlyDrain o i)) at h s = subst IsUnderWay (sym h.1) s
-setup_cases old k accept result new (Some (place.Pre o i)) at h s = subst IsUnderWay (sym h.1) s
-setup_cases old k accept result new (Some (place.Base o)) at h s = subst IsUnderWay (sym h.1) s
-setup_cases old k accept result new (Some (place.Post o i)) at h s = subst IsUnderWay (sym h.1) s
-setup_cases old k accept result new (Some (place.Drain o i)) at h s = subst IsUnderWay (sym h.1) s
-setup_cases old k accept result new (Some (place.Cleanup c)) at h s = subst IsUnderWay (sym h.1) s
-setup_cases old k accept result new None at h s = subst IsUnderWay (sym h.1) s
-
-pub setup_keeps : (old : World) (k : WorkerId) (accept : Bool) (result : Result (Unit {0}) Status) (new : World)
-    → SetsUp old k accept result new → IsUnderWay old → IsUnderWay new
-unfolding SetsUp
-setup_keeps old k accept result new h s = setup_cases old k accept result new (worker_at old.workers k) refl h s

@@ -60,7 +60,9 @@ use Rattle.fm_world.specs.Steps.{Steps, Run}
 use Rattle.fm_world.specs.World.{World, carries, empty_world}
 use Rattle.fm_world.specs.Sound.{IsSound}
 use Rattle.fm_world.specs.Workers.{worker_at, is_idle, cleanup_in}
-use Rattle.fm_world.proofs.Keeps.{known_cases, unless_cases, idle_there}
+use Rattle.std.specs.Prelude.{IfOk}
+use Rattle.fm_world.proofs.Events.{memory_by, answers_by, asked_by, taken_by, idle_by, idle_there, setup_by, next_by, pre_by, base_by, post_by, cleaned_by, set_by}
+use Rattle.fm_world.proofs.Keeps.{known_cases}
 use Rattle.fm_world.proofs.Runs.{step_keeps, run_keeps, empty_sound}
 use Rattle.fm_world.proofs.Losing.{received_slots}
 
@@ -213,24 +215,9 @@ stay_loses : (old mid new : World) → LosesLinks mid new → Stay old mid → S
 stay_loses old mid new h stay =
     table_after old.contexts mid.contexts new.contexts stay (subst (SlotsStay mid.contexts.slots) (sym h.0.slots) (slots_swept _ mid.contexts.slots), h.0.cleaning)
 
-stay_unless : {T : Type 0} (refusal : Status) (b : Bool) (result : Result T Status) (old new : World) (Event : Type 0) → Unless refusal b result old new Event → (Event → Stay old new)
-    → Stay old new
-stay_unless refusal b result old new Event h event = unless_cases (Stay old) refusal b result old new Event h (λ is e. event e) (stay_still old old refl)
-
-stay_answers : {T : Type 0} (refusal : Option Status) (result : Result T Status) (old new : World) (E : T → Type 0) → Answers refusal result old new E → ((v : T) → E v → Stay old new)
-    → Stay old new
-stay_answers refusal (Ok v) old new E h event = event v h.1
-stay_answers refusal (Err why) old new E h event = stay_still old new h.1
-
-stay_memory : {T : Type 0} (refusal : Option Status) (result : Result T Status) (old new : World) (E : T → Type 0) → AnswersOrMemory refusal result old new E
-    → ((v : T) → E v → Stay old new) → Stay old new
-stay_memory refusal (Ok v) old new E h event = event v h.1
-stay_memory refusal (Err why) old new E h event = stay_still old new h.1
-
-stay_called : {T : Type 0} (result : Result T Status) (old new : World) (Event : Callback → Type 0) (m : Option Callback) → InCallbackOf result old new Event m
-    → ((at : Callback) → Event at → Stay old new) → Stay old new
-stay_called result old new Event None h event = stay_still old new h.1
-stay_called result old new Event (Some at) h event = event at h
+-- a refusal changes nothing
+pub refused : (old : World) → Status → Stay old old
+refused old why = stay_still old old refl
 
 -- filters, volumes, instances
 
@@ -246,27 +233,16 @@ attach_stay : (old : World) (k : WorkerId) (f : FilterId) (v : VolumeId) (name a
     → Attaches old k f v name altitude result new → Stay old new
 unfolding Attaches
 attach_stay old k f v name altitude result new h =
-    stay_unless status.WrongStep (is_idle (worker_at old.workers k)) result old new _ h (λ e. table_still old.contexts new.contexts (ap (λ (w : World). w.contexts) e.1))
-
-setup_at_stay : (old : World) (k : WorkerId) (accept : Bool) (result : Result (Unit {0}) Status) (new : World) (m : Option Worker) → SetsUpAt old k accept result new m → Stay old new
-setup_at_stay old k accept result new (Some (place.Setup i)) (event, left, leaves, empties, e) =
-    table_after old.contexts left new.contexts (table_same old.contexts left leaves.slots leaves.cleaning) (by_result result empties)
-  where
-    by_result : (result : Result (Unit {0}) Status) → EmptiesUnless result i old left new.contexts → TableStays left new.contexts
-    by_result (Ok done) same = table_still left new.contexts same
-    by_result (Err why) sweeps = (subst (SlotsStay left.slots) (sym sweeps.slots) (slots_swept _ left.slots), sweeps.cleaning)
-setup_at_stay old k accept result new None h = stay_still old new h.1
-setup_at_stay old k accept result new (Some place.Idle) h = stay_still old new h.1
-setup_at_stay old k accept result new (Some (place.Pre o i)) h = stay_still old new h.1
-setup_at_stay old k accept result new (Some (place.Base o)) h = stay_still old new h.1
-setup_at_stay old k accept result new (Some (place.Post o i)) h = stay_still old new h.1
-setup_at_stay old k accept result new (Some (place.Drain o i)) h = stay_still old new h.1
-setup_at_stay old k accept result new (Some (place.EarlyDrain o i)) h = stay_still old new h.1
-setup_at_stay old k accept result new (Some (place.Cleanup c)) h = stay_still old new h.1
+    idle_by (λ _ w. Stay old w) k result old new _ h (refused old) (λ at e. table_still old.contexts new.contexts (ap (λ (w : World). w.contexts) e.1))
 
 setup_stay : (old : World) (k : WorkerId) (accept : Bool) (result : Result (Unit {0}) Status) (new : World) → SetsUp old k accept result new → Stay old new
-unfolding SetsUp
-setup_stay old k accept result new h = setup_at_stay old k accept result new (worker_at old.workers k) h
+setup_stay old k accept result new h =
+    setup_by (λ _ w. Stay old w) old k accept result new h (refused old) (λ i at e.
+    table_after old.contexts e.1 new.contexts (table_same old.contexts e.1 e.2.slots e.2.cleaning) (by_result i e.1 result e.3))
+  where
+    by_result : (i : InstanceId) (left : ContextTable) (result : Result (Unit {0}) Status) → EmptiesUnless result i old left new.contexts → TableStays left new.contexts
+    by_result i left (Ok done) same = table_still left new.contexts same
+    by_result i left (Err why) sweeps = (subst (SlotsStay left.slots) (sym sweeps.slots) (slots_swept _ left.slots), sweeps.cleaning)
 
 -- operations
 
@@ -286,7 +262,7 @@ begun_contexts old (begin.OnHandle h asked) = by_handle (handle_at h old.files)
 begin_stay : (old : World) (what : Begin) (result : Result OpId Status) (new : World) → Begins old what result new → Stay old new
 unfolding Begins
 begin_stay old what result new h =
-    stay_memory _ result old new _ h (λ o e. table_still old.contexts new.contexts (ap (λ (w : World). w.contexts) e.1 ∙ begun_contexts old what))
+    memory_by (λ _ w. Stay old w) _ result old new _ h (refused old) (λ o free e. table_still old.contexts new.contexts (ap (λ (w : World). w.contexts) e.1 ∙ begun_contexts old what))
 
 brought_cleaning : (t : ContextTable) (k : WorkerId) (m : Option CtxId) → (brought t k m).cleaning ≡ t.cleaning
 brought_cleaning t k None = refl
@@ -298,14 +274,12 @@ received_cleaning t k (Ok (action.Drain i completion)) = brought_cleaning t k co
 received_cleaning t k _ = refl
 
 next_stay : (old : World) (k : WorkerId) (o : OpId) (result : Result FlowAction Status) (new : World) → Nexts old k o result new → Stay old new
-unfolding Nexts
 next_stay old k o result new h =
-    stay_unless status.WrongStep (is_idle (worker_at old.workers k)) result old new (NextsAt old k o result new) h
-    (λ e.
-    let same = ap (λ (w : World). w.contexts) e.3.1 in
-    let stay = table_same old.contexts e.2.contexts (ap (λ (t : ContextTable). t.slots) same ∙ received_slots old.contexts k result)
+    next_by (λ _ w. Stay old w) old k o result new h (refused old) (λ e.
+    let same = ap (λ (w : World). w.contexts) e.over.1 in
+    let stay = table_same old.contexts e.mid.contexts (ap (λ (t : ContextTable). t.slots) same ∙ received_slots old.contexts k result)
     (ap (λ (t : ContextTable). t.cleaning) same ∙ received_cleaning old.contexts k result) in
-    known_cases (Stay old) result e.0 e.2 new e.4 (λ loses. stay_loses old e.2 new loses stay) stay)
+    known_cases (Stay old) result e.lies e.mid new e.loses (λ loses. stay_loses old e.mid new loses stay) stay)
 
 sent_slots : (t : ContextTable) (k : WorkerId) (m : Option CtxId) → (sent t k m).slots ≡ t.slots
 sent_slots t k None = refl
@@ -315,70 +289,20 @@ sent_cleaning : (t : ContextTable) (k : WorkerId) (m : Option CtxId) → (sent t
 sent_cleaning t k None = refl
 sent_cleaning t k (Some c) = refl
 
-pre_at_stay : (old : World) (k : WorkerId) (given : PreVerdict) (lent : Data) (result : Result (Unit {0}) Status) (new : World) (m : Option Worker)
-    → PreReturnsAt old k given lent result new m → Stay old new
-pre_at_stay old k given lent result new (Some (place.Pre o i)) h =
-    stay_unless status.BadRequest (told (λ r. data_fits r.operation r.path lent) false o old.flow) result old new _ h
-    (λ e. stay_loses old e.1.0 new e.1.2 (table_same old.contexts e.1.0.contexts (e.1.1.0.slots ∙ sent_slots old.contexts k _) (e.1.1.0.cleaning ∙ sent_cleaning old.contexts k _)))
-pre_at_stay old k given lent result new None h = stay_still old new h.1
-pre_at_stay old k given lent result new (Some place.Idle) h = stay_still old new h.1
-pre_at_stay old k given lent result new (Some (place.Setup i)) h = stay_still old new h.1
-pre_at_stay old k given lent result new (Some (place.Base o)) h = stay_still old new h.1
-pre_at_stay old k given lent result new (Some (place.Post o i)) h = stay_still old new h.1
-pre_at_stay old k given lent result new (Some (place.Drain o i)) h = stay_still old new h.1
-pre_at_stay old k given lent result new (Some (place.EarlyDrain o i)) h = stay_still old new h.1
-pre_at_stay old k given lent result new (Some (place.Cleanup c)) h = stay_still old new h.1
-
 pre_stay : (old : World) (k : WorkerId) (given : PreVerdict) (lent : Data) (result : Result (Unit {0}) Status) (new : World) → PreReturns old k given lent result new → Stay old new
-unfolding PreReturns
-pre_stay old k given lent result new h = pre_at_stay old k given lent result new (worker_at old.workers k) h
-
-base_at_stay : (old : World) (k : WorkerId) (call : BaseCall) (given : Answer) (result : Result (Unit {0}) Status) (new : World) (m : Option Worker)
-    → BaseReturnsAt old k call given result new m → Stay old new
-base_at_stay old k call given result new (Some (place.Base o)) h =
-    stay_unless status.BadRequest (told (base_fits call given) false o old.flow) result old new _ h (λ e. stay_loses old _ new e.1 (stay_still old old refl))
-base_at_stay old k call given result new None h = stay_still old new h.1
-base_at_stay old k call given result new (Some place.Idle) h = stay_still old new h.1
-base_at_stay old k call given result new (Some (place.Setup i)) h = stay_still old new h.1
-base_at_stay old k call given result new (Some (place.Pre o i)) h = stay_still old new h.1
-base_at_stay old k call given result new (Some (place.Post o i)) h = stay_still old new h.1
-base_at_stay old k call given result new (Some (place.Drain o i)) h = stay_still old new h.1
-base_at_stay old k call given result new (Some (place.EarlyDrain o i)) h = stay_still old new h.1
-base_at_stay old k call given result new (Some (place.Cleanup c)) h = stay_still old new h.1
+pre_stay old k given lent result new h =
+    pre_by (λ _ w. Stay old w) old k given lent result new h (refused old) (λ o i at fits e.
+    stay_loses old e.0 new e.2 (table_same old.contexts e.0.contexts (e.1.0.slots ∙ sent_slots old.contexts k _) (e.1.0.cleaning ∙ sent_cleaning old.contexts k _)))
 
 base_stay : (old : World) (k : WorkerId) (call : BaseCall) (given : Answer) (result : Result (Unit {0}) Status) (new : World) → BaseReturns old k call given result new → Stay old new
-unfolding BaseReturns
-base_stay old k call given result new h = base_at_stay old k call given result new (worker_at old.workers k) h
-
-post_at_stay : (old : World) (k : WorkerId) (given : PostVerdict) (lent : Option Data) (result : Result (Unit {0}) Status) (new : World) (m : Option Worker)
-    → PostReturnsAt old k given lent result new m → Stay old new
-post_at_stay old k given (Some lent) result new (Some (place.Post o i)) h =
-    stay_unless status.BadRequest (told (λ r. data_fits r.operation r.path lent) false o old.flow) result old new _ h (λ e. table_same old.contexts new.contexts e.1.0.slots e.1.0.cleaning)
-post_at_stay old k given None result new (Some (place.Drain o i)) h = table_same old.contexts new.contexts h.1.0.slots h.1.0.cleaning
-post_at_stay old k given None result new (Some (place.Post o i)) h = stay_still old new h.1
-post_at_stay old k given (Some lent) result new (Some (place.Drain o i)) h = stay_still old new h.1
-post_at_stay old k given lent result new None h = stay_still old new (refused_still lent h)
-  where
-    refused_still : (lent : Option Data) → PostReturnsAt old k given lent result new None → new ≡ old
-    refused_still (Some lent) h = h.1
-    refused_still None h = h.1
-post_at_stay old k given (Some lent) result new (Some place.Idle) h = stay_still old new h.1
-post_at_stay old k given (Some lent) result new (Some (place.Setup i)) h = stay_still old new h.1
-post_at_stay old k given (Some lent) result new (Some (place.Pre o i)) h = stay_still old new h.1
-post_at_stay old k given (Some lent) result new (Some (place.Base o)) h = stay_still old new h.1
-post_at_stay old k given (Some lent) result new (Some (place.EarlyDrain o i)) h = stay_still old new h.1
-post_at_stay old k given (Some lent) result new (Some (place.Cleanup c)) h = stay_still old new h.1
-post_at_stay old k given None result new (Some place.Idle) h = stay_still old new h.1
-post_at_stay old k given None result new (Some (place.Setup i)) h = stay_still old new h.1
-post_at_stay old k given None result new (Some (place.Pre o i)) h = stay_still old new h.1
-post_at_stay old k given None result new (Some (place.Base o)) h = stay_still old new h.1
-post_at_stay old k given None result new (Some (place.EarlyDrain o i)) h = stay_still old new h.1
-post_at_stay old k given None result new (Some (place.Cleanup c)) h = stay_still old new h.1
+base_stay old k call given result new h =
+    base_by (λ _ w. Stay old w) old k call given result new h (refused old) (λ o at fits loses. stay_loses old _ new loses (stay_still old old refl))
 
 post_stay : (old : World) (k : WorkerId) (given : PostVerdict) (lent : Option Data) (result : Result (Unit {0}) Status) (new : World) → PostReturns old k given lent result new
     → Stay old new
-unfolding PostReturns
-post_stay old k given lent result new h = post_at_stay old k given lent result new (worker_at old.workers k) h
+post_stay old k given lent result new h =
+    post_by (λ _ w. Stay old w) old k given lent result new h (refused old)
+    (λ o i back at fits e. table_same old.contexts new.contexts e.0.slots e.0.cleaning) (λ o i at e. table_same old.contexts new.contexts e.0.slots e.0.cleaning)
 
 collect_stay : (old : World) (o : OpId) (result : Result Answer Status) (new : World) → Collects old o result new → Stay old new
 unfolding Collects
@@ -393,8 +317,7 @@ stay_table old new t e h = subst (TableStays old.contexts) (sym (ap (λ (w : Wor
 allocate_stay : (old : World) (k : WorkerId) (kind : ContextKind) (body : List ℕ) (result : Result CtxId Status) (new : World) → Allocates old k kind body result new → Stay old new
 unfolding Allocates
 allocate_stay old k kind body result new h =
-    stay_called result old new _ (callback_of old k) h
-    (λ at e. stay_memory _ result old new _ e (λ c f. stay_table old new _ f.1 (slots_placed old.contexts.slots c _ f.0, refl)))
+    taken_by (λ _ w. Stay old w) old k result new _ _ h (refused old) (λ at is c free e. stay_table old new _ e.1 (slots_placed old.contexts.slots c _ e.0, refl))
 
 unlinked_stays : (carried : CtxId → ℕ) (t : ContextTable) (w : ℕ) (wants : Bool) (c : CtxId) → TableStays t (unlinked_for carried t w wants c)
 unlinked_stays carried t w true c = (slots_changed (option_map (with_link None)) t.slots c refl, refl)
@@ -417,33 +340,15 @@ set_stays : (carried : CtxId → ℕ) (t : ContextTable) (w : ℕ) (c : CtxId) (
 set_stays carried t w c object mode wants None = linked_stays t c object
 set_stays carried t w c object mode wants (Some found) = moded_stays carried t w c object mode wants found (wants && is_hand_full t.hands w)
 
-set_on_stay : (old : World) (k : WorkerId) (c : CtxId) (mode : SetMode) (wants : Bool) (result : SetAnswer) (new : World) (m : Option Context) (o : Option Object)
-    → SetsOn old k c mode wants result new m o → Stay old new
-set_on_stay old k c mode wants result new (Some x) (Some object) h =
-    stay_table old new _ h.1 (set_stays (carries old) old.contexts k.0 c object mode wants (holder old.contexts.slots x.owner object))
-set_on_stay old k c mode wants result new (Some x) None h = absurd h
-set_on_stay old k c mode wants result new None o h = absurd h
-
-set_unless_stay : (old : World) (k : WorkerId) (c : CtxId) (mode : SetMode) (wants : Bool) (result : SetAnswer) (new : World) (at : Callback) (refusal : Option Status)
-    → SetsUnless old k c mode wants result new at refusal → Stay old new
-set_unless_stay old k c mode wants result new at (Some refusal) h = stay_still old new h.1
-set_unless_stay old k c mode wants result new at None h =
-    set_on_stay old k c mode wants result new (context_at old.contexts.slots c) (object_for at (context_at old.contexts.slots c)) h
-
-set_in_stay : (old : World) (k : WorkerId) (c : CtxId) (mode : SetMode) (wants : Bool) (result : SetAnswer) (new : World) (m : Option Callback)
-    → SetsIn old k c mode wants result new m → Stay old new
-set_in_stay old k c mode wants result new None h = stay_still old new h.1
-set_in_stay old k c mode wants result new (Some at) h = set_unless_stay old k c mode wants result new at (set_refused old k c at) h
-
 set_stay : (old : World) (k : WorkerId) (c : CtxId) (mode : SetMode) (wants : Bool) (result : SetAnswer) (new : World) → Sets old k c mode wants result new → Stay old new
-unfolding Sets
-set_stay old k c mode wants result new h = set_in_stay old k c mode wants result new (callback_of old k) h
+set_stay old k c mode wants result new h =
+    set_by (λ _ w. Stay old w) old k c mode wants result new h (refused old) (λ at is free x o there of e.
+    stay_table old new _ e.1 (set_stays (carries old) old.contexts k.0 c o mode wants (holder old.contexts.slots x.owner o)))
 
 get_stay : (old : World) (k : WorkerId) (kind : ContextKind) (result : Result CtxId Status) (new : World) → Gets old k kind result new → Stay old new
 unfolding Gets
 get_stay old k kind result new h =
-    stay_called result old new _ (callback_of old k) h
-    (λ at e. stay_answers _ result old new _ e (λ c f. stay_table old new _ f.1 (slots_same old.contexts.slots old.contexts.slots refl, refl)))
+    asked_by (λ _ w. Stay old w) old k result new _ _ h (refused old) (λ at is c free e. stay_table old new _ e.1 (table_still old.contexts old.contexts refl))
 
 deleted_stays : (carried : CtxId → ℕ) (t : ContextTable) (w : ℕ) (wants : Bool) (m : Option CtxId) → TableStays t (delete_after carried t w wants m)
 deleted_stays carried t w wants None = table_still t t refl
@@ -452,37 +357,32 @@ deleted_stays carried t w wants (Some c) = unlinked_stays carried t w wants c
 delete_stay : (old : World) (k : WorkerId) (kind : ContextKind) (wants : Bool) (result : Result (Option CtxId) Status) (new : World) → Deletes old k kind wants result new → Stay old new
 unfolding Deletes
 delete_stay old k kind wants result new h =
-    stay_called result old new _ (callback_of old k) h
-    (λ at e. stay_answers _ result old new _ e (λ c f. stay_table old new _ f.1 (deleted_stays (carries old) old.contexts k.0 wants (there_at old kind at))))
+    asked_by (λ _ w. Stay old w) old k result new _ _ h (refused old) (λ at is c free e. stay_table old new _ e.1 (deleted_stays (carries old) old.contexts k.0 wants (there_at old kind at)))
 
 reference_stay : (old : World) (k : WorkerId) (c : CtxId) (result : Result (Unit {0}) Status) (new : World) → References old k c result new → Stay old new
 unfolding References
 reference_stay old k c result new h =
-    stay_called result old new _ (callback_of old k) h
-    (λ at e. stay_answers _ result old new _ e (λ v f. stay_table old new _ f (slots_same old.contexts.slots old.contexts.slots refl, refl)))
+    asked_by (λ _ w. Stay old w) old k result new _ _ h (refused old) (λ at is v free e. stay_table old new _ e (table_still old.contexts old.contexts refl))
 
 release_stay : (old : World) (k : WorkerId) (c : CtxId) (result : Result (Unit {0}) Status) (new : World) → Releases old k c result new → Stay old new
 unfolding Releases
 release_stay old k c result new h =
-    stay_called result old new _ (callback_of old k) h
-    (λ at e. stay_answers _ result old new _ e (λ v f. stay_table old new _ f (slots_same old.contexts.slots old.contexts.slots refl, refl)))
+    asked_by (λ _ w. Stay old w) old k result new _ _ h (refused old) (λ at is v free e. stay_table old new _ e (table_still old.contexts old.contexts refl))
 
 read_stay : (old : World) (k : WorkerId) (c : CtxId) (result : Result (List ℕ) Status) (new : World) → ReadsBody old k c result new → Stay old new
 unfolding ReadsBody
 read_stay old k c result new h =
-    stay_called result old new _ (callback_of old k) h (λ at e. stay_memory _ result old new _ e (λ body f. stay_still old new f.1))
+    taken_by (λ _ w. Stay old w) old k result new _ _ h (refused old) (λ at is body free e. stay_still old new e.1)
 
 write_stay : (old : World) (k : WorkerId) (c : CtxId) (bytes : List ℕ) (result : Result (Unit {0}) Status) (new : World) → WritesBody old k c bytes result new → Stay old new
 unfolding WritesBody
 write_stay old k c bytes result new h =
-    stay_called result old new _ (callback_of old k) h
-    (λ at e. stay_answers _ result old new _ e (λ v f. stay_table old new _ f (slots_changed (option_map (with_body bytes)) old.contexts.slots c refl, refl)))
+    asked_by (λ _ w. Stay old w) old k result new _ _ h (refused old) (λ at is v free e. stay_table old new _ e (slots_changed (option_map (with_body bytes)) old.contexts.slots c refl, refl))
 
 bump_stay : (old : World) (k : WorkerId) (c : CtxId) (at by : ℕ) (result : Result ℕ Status) (new : World) → Bumps old k c at by result new → Stay old new
 unfolding Bumps
 bump_stay old k c at by result new h =
-    stay_called result old new _ (callback_of old k) h
-    (λ x e. stay_answers _ result old new _ e (λ n f. stay_table old new _ f.1 (slots_changed (option_map (with_body _)) old.contexts.slots c refl, refl)))
+    asked_by (λ _ w. Stay old w) old k result new _ _ h (refused old) (λ x is n free e. stay_table old new _ e.1 (slots_changed (option_map (with_body _)) old.contexts.slots c refl, refl))
 
 taken_slots : (t : ContextTable) (w : ℕ) (m : Option CtxId) → SlotsStay t.slots (taken_of t w m).slots
 taken_slots t w None = slots_same t.slots t.slots refl
@@ -510,11 +410,10 @@ taken_on t w (Some d) k c idle busy =
 due_lasts : (old : World) (k : WorkerId) (result : Result (Option Due) Status) (new : World) → TakesDue old k result new → IsSound old → Lasts old new
 unfolding TakesDue
 due_lasts old k result new h s =
-    unless_cases (Lasts old) status.WrongStep (is_idle (worker_at old.workers k)) result old new _ h
-    (λ is e. subst (Lasts old) (sym e.1) (
+    idle_by (λ _ w. Lasts old w) k result old new _ h (λ why. lasts old old (refused old why)) (λ at e. subst (Lasts old) (sym e.1) (
       taken_slots old.contexts k.0 (slice_get old.contexts.due 0),
-      λ n c busy. inl (taken_on old.contexts k.0 (slice_get old.contexts.due 0) n c (s.owned.cleaning k.0 ∙ ap cleanup_in (idle_there old.workers k is)) busy),
-    )) (lasts old old (stay_still old old refl))
+      λ n c busy. inl (taken_on old.contexts k.0 (slice_get old.contexts.due 0) n c (s.owned.cleaning k.0 ∙ ap cleanup_in at) busy),
+    ))
 
 cleaned_on : (old : World) (w : WorkerId) (d : CtxId) (new : World) → new.contexts ≡ cleaned old.contexts w.0 d → cleaning_of old.contexts.cleaning w.0 ≡ Some d → CleansOn old new
 cleaned_on old w d new made own = λ k c busy.
@@ -526,29 +425,17 @@ cleaned_on old w d new made own = λ k c busy.
       | inr other ↦ inl (ap (λ (t : ContextTable). cleaning_of t.cleaning k) made ∙ get_or-set_other old.contexts.cleaning w.0 k None None other ∙ busy)
     ]
 
-cleans_at_lasts : (old : World) (k : WorkerId) (number : ℕ) (result : Result (Unit {0}) Status) (new : World) (m : Option Worker) → worker_at old.workers k ≡ m
-    → CleansAt old k number result new m → IsSound old → Lasts old new
-cleans_at_lasts old k number result new (Some (place.Cleanup c)) at h s =
-    let made = ap (λ (w : World). w.contexts) h.1 in (
+cleaned_lasts : (old : World) (k : WorkerId) (number : ℕ) (result : Result (Unit {0}) Status) (new : World) → Cleans old k number result new → IsSound old → Lasts old new
+cleaned_lasts old k number result new h s =
+    cleaned_by (λ _ w. Lasts old w) old k number result new h (λ why. lasts old old (refused old why)) (λ c at e.
+    let made = ap (λ (w : World). w.contexts) e.1 in (
       subst (λ (t : ContextTable). SlotsStay old.contexts.slots t.slots) (sym made) (slots_changed (λ (x : Option Context). None) old.contexts.slots c refl),
       cleaned_on old k c new made (s.owned.cleaning k.0 ∙ ap cleanup_in at),
-    )
-cleans_at_lasts old k number result new None at h s = lasts old new (stay_still old new h.1)
-cleans_at_lasts old k number result new (Some place.Idle) at h s = lasts old new (stay_still old new h.1)
-cleans_at_lasts old k number result new (Some (place.Setup i)) at h s = lasts old new (stay_still old new h.1)
-cleans_at_lasts old k number result new (Some (place.Pre o i)) at h s = lasts old new (stay_still old new h.1)
-cleans_at_lasts old k number result new (Some (place.Base o)) at h s = lasts old new (stay_still old new h.1)
-cleans_at_lasts old k number result new (Some (place.Post o i)) at h s = lasts old new (stay_still old new h.1)
-cleans_at_lasts old k number result new (Some (place.Drain o i)) at h s = lasts old new (stay_still old new h.1)
-cleans_at_lasts old k number result new (Some (place.EarlyDrain o i)) at h s = lasts old new (stay_still old new h.1)
-
-cleaned_lasts : (old : World) (k : WorkerId) (number : ℕ) (result : Result (Unit {0}) Status) (new : World) → Cleans old k number result new → IsSound old → Lasts old new
-unfolding Cleans
-cleaned_lasts old k number result new h s = cleans_at_lasts old k number result new (worker_at old.workers k) refl h s
+    ))
 
 finish_stay : (old : World) (i : InstanceId) (result : Result (Unit {0}) Status) (new : World) → Finishes old i result new → Stay old new
 unfolding Finishes
-finish_stay old i result new h = stay_answers _ result old new _ h (λ v f. table_still old.contexts new.contexts (ap (λ (w : World). w.contexts) f))
+finish_stay old i result new h = answers_by (λ _ w. Stay old w) _ result old new _ h (refused old) (λ v free f. table_still old.contexts new.contexts (ap (λ (w : World). w.contexts) f))
 
 -- every event
 
@@ -575,47 +462,21 @@ step_lasts old (step.Bump k c at by) (reply.Number r) new h s = lasts old new (b
 step_lasts old (step.TakeDue k) (reply.Due r) new h s = due_lasts old k r new h s
 step_lasts old (step.Cleaned k number) (reply.Done r) new h s = cleaned_lasts old k number r new h s
 step_lasts old (step.Finish i) (reply.Done r) new h s = lasts old new (finish_stay old i r new h)
-step_lasts old (step.Register name registration) _ new h s = absurd h
-step_lasts old (step.Mount name) _ new h s = absurd h
-step_lasts old (step.Attach k f v name altitude) _ new h s = absurd h
-step_lasts old (step.SetupDone k accept) _ new h s = absurd h
-step_lasts old (step.Begin what) _ new h s = absurd h
-step_lasts old (step.Next k o) _ new h s = absurd h
-step_lasts old (step.PreReturned k verdict lent) _ new h s = absurd h
-step_lasts old (step.BaseReturned k call given) _ new h s = absurd h
-step_lasts old (step.PostReturned k verdict lent) _ new h s = absurd h
-step_lasts old (step.Collect o) _ new h s = absurd h
-step_lasts old (step.Allocate k what body) _ new h s = absurd h
-step_lasts old (step.Set k c mode wants) _ new h s = absurd h
-step_lasts old (step.Get k what) _ new h s = absurd h
-step_lasts old (step.Delete k what wants) _ new h s = absurd h
-step_lasts old (step.Reference k c) _ new h s = absurd h
-step_lasts old (step.Release k c) _ new h s = absurd h
-step_lasts old (step.ReadBody k c) _ new h s = absurd h
-step_lasts old (step.WriteBody k c bytes) _ new h s = absurd h
-step_lasts old (step.Bump k c at by) _ new h s = absurd h
-step_lasts old (step.TakeDue k) _ new h s = absurd h
-step_lasts old (step.Cleaned k number) _ new h s = absurd h
-step_lasts old (step.Finish i) _ new h s = absurd h
+step_lasts old _ _ new h s = absurd h
 
 -- ---- what is given, and what is due
 
-called_cases : {T : Type 0} (P : Type 0) (v : T) (old new : World) (Event : Callback → Type 0) (m : Option Callback) → InCallbackOf (Ok v) old new Event m → ((at : Callback) → Event at → P)
-    → P
-called_cases P v old new Event None h event = cc
-called_cases P v old new Event (Some at) h event = event at h
-
 -- a context that is allocated is new, and was given from then on
-allocated_new : (old : World) (k : WorkerId) (kind : ContextKind) (body : List ℕ) (c : CtxId) (new : World) → Allocates old k kind body (Ok c) new
-    → IsNew old.contexts.slots c × WasGiven new.contexts.slots c
+allocated_new : (old : World) (k : WorkerId) (kind : ContextKind) (body : List ℕ) (result : Result CtxId Status) (new : World) → Allocates old k kind body result new
+    → IfOk result (λ c. IsNew old.contexts.slots c × WasGiven new.contexts.slots c)
 unfolding Allocates
-allocated_new old k kind body c new h =
-    called_cases (IsNew old.contexts.slots c × WasGiven new.contexts.slots c) c old new _ (callback_of old k) h
-    (λ at e. (e.1.0, subst (λ (w : World). WasGiven w.contexts.slots c) (sym e.1.1) (given_placed old.contexts.slots c _ e.1.0)))
+allocated_new old k kind body result new h =
+    taken_by (λ r w. IfOk r (λ c. IsNew old.contexts.slots c × WasGiven w.contexts.slots c)) old k result new _ _ h (λ why. tt)
+    (λ at is c free e. (e.0, subst (λ (w : World). WasGiven w.contexts.slots c) (sym e.1) (given_placed old.contexts.slots c _ e.0)))
 
 step_gives : (old : World) (s : Step) (r : StepReply) (new : World) (c : CtxId) → Steps old s r new → given_by s r ≡ Some c → IsNew old.contexts.slots c × WasGiven new.contexts.slots c
 step_gives old (step.Allocate k kind body) (reply.Context (Ok d)) new c h is =
-    subst (λ x. IsNew old.contexts.slots x × WasGiven new.contexts.slots x) (same_Some d c is) (allocated_new old k kind body d new h)
+    subst (λ x. IsNew old.contexts.slots x × WasGiven new.contexts.slots x) (same_Some d c is) (allocated_new old k kind body (Ok d) new h)
 step_gives old _ _ new c h is = absurd (none-some c is)
 
 -- a context that a worker cleans up isn't due

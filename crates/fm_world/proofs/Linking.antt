@@ -44,7 +44,8 @@ use Rattle.fm_world.specs.Owners.{row_at, has_kind, owner_by, object_by, is_clos
 use Rattle.fm_world.specs.ContextEvents.{Callback, callback_of, with_contexts, before, context_by, Allocates, object_for, is_past, set_refused, SetsOn, SetsUnless, SetsIn, Sets, there_at, object_refused, Gets, Deletes}
 use Rattle.fm_world.specs.Sound.{IsSound, IsOwned}
 use Rattle.fm_world.proofs.Belonging.{owners_changed, owners_placed, belongs_still, filters_same}
-use Rattle.fm_world.proofs.Callbacks.{IsIn, is_in, in_callback, contexts_owned, sound_with, in_hand, one_more, same_hand, same_hands, none_of, not_false, grabbed_sound}
+use Rattle.fm_world.proofs.Events.{asked_by, taken_by, set_by}
+use Rattle.fm_world.proofs.Callbacks.{IsIn, is_in, contexts_owned, sound_with, in_hand, one_more, same_hand, same_hands, none_of, not_false, grabbed_sound}
 use Rattle.fm_world.proofs.Descents.{or_left, or_right}
 use Rattle.fm_world.proofs.Fitting.{AllFit, AllPass, passes_changed, passes_placed, fits_unlinked, fits_linked}
 use Rattle.fm_world.proofs.Flights.{callback_left}
@@ -65,17 +66,17 @@ owned_fits s row i kind.Handle below left = left
 pub allocate_sound : (old : World) (k : WorkerId) (what : ContextKind) (body : List ℕ) (result : Result CtxId Status) (new : World)
     → Allocates old k what body result new → IsSound old → IsSound new
 unfolding Allocates
-allocate_sound old k what body (Err why) new h s = in_callback old k (Err why) new _ (callback_of old k) refl h (λ at i event. subst IsSound (sym event.1) s) s
-allocate_sound old k what body (Ok c) new h s =
-    in_callback old k (Ok c) new _ (callback_of old k) refl h (λ at i event.
+allocate_sound old k what body result new h s =
+    taken_by (λ _ w. IsSound w) old k result new _ _ h (λ why. s) (λ at is c free event.
+    let i = is_in old k at s is in
     let full = is_hand_full old.contexts.hands k.0 in
     let big = nat_lt 4096 (length body) in
     let many = is_out_of_slots old.contexts.slots in
-    let listed = none_of (not (has_kind old.stack at.row what)) status.NotRegistered (allocate_refusal old.contexts k.0 body) event.0 in
+    let listed = none_of (not (has_kind old.stack at.row what)) status.NotRegistered (allocate_refusal old.contexts k.0 body) free in
     let few = none_of (big || many) status.TooMany (first_of ((full, status.HandFull) ∷ [])) listed.1 in
     let room = none_of full status.HandFull None few.1 in
     let x = context_by at what body in
-    let fresh = event.1.0 in
+    let fresh = event.0 in
     let t = allocated old.contexts k.0 c x in
     let owners = owners_placed old.contexts.slots c x fresh in
     let own : belongs old.stack t.slots at.instance c ≡ true =
@@ -84,14 +85,14 @@ allocate_sound old k what body (Ok c) new h s =
     let fit : fits old.stack (Some x) ≡ true =
     and_from (owner_fits old.stack what (owner_by at.row at.instance what)) true
     (owned_fits old.stack at.row at.instance what i.placed.filter (callback_left old k at.instance at.row s i.place i.there).0) refl in
-    subst IsSound (sym event.1.1)
+    subst IsSound (sym event.1)
     (sound_with old t
     (contexts_owned old t k (hand_of old.contexts.hands k.0 ++ c ∷ [])
     (allocate_keeps k.0 c x s.owned.lawful i.worker fresh refl
     (leb-false 16 (length (hand_of old.contexts.hands k.0)) room.0))
     refl owners refl i.worker (one_more old t k at c i s.owned owners own)
     (passes_placed (fits old.stack) old.contexts.slots c x fit s.owned.fits) s.owned)
-    (passes_placed (names_there old.files) old.contexts.slots c x refl s.links) s)) s
+    (passes_placed (names_there old.files) old.contexts.slots c x refl s.links) s))
 
 -- ---- get
 
@@ -149,21 +150,21 @@ asked_for w what at others h =
 
 pub get_sound : (old : World) (k : WorkerId) (what : ContextKind) (result : Result CtxId Status) (new : World) → Gets old k what result new → IsSound old → IsSound new
 unfolding Gets
-get_sound old k what (Err why) new h s = in_callback old k (Err why) new _ (callback_of old k) refl h (λ at i event. subst IsSound (sym event.1) s) s
-get_sound old k what (Ok c) new h s =
-    in_callback old k (Ok c) new _ (callback_of old k) refl h (λ at i event.
+get_sound old k what result new h s =
+    asked_by (λ _ w. IsSound w) old k result new _ _ h (λ why. s) (λ at is c free event.
+    let i = is_in old k at s is in
     let full = is_hand_full old.contexts.hands k.0 in
     let there = there_at old what at in
     let object' = object_by at.row at.instance at.file what in
-    let asked = asked_for old what at (before (not (is_there old.files object')) status.DeletingObject (get_refusal old.contexts k.0 there)) event.0 in
+    let asked = asked_for old what at (before (not (is_there old.files object')) status.DeletingObject (get_refusal old.contexts k.0 there)) free in
     let refusal = (none_of (not (is_there old.files object')) status.DeletingObject (get_refusal old.contexts k.0 there) asked).1 in
     let some = none_of (is_none there) status.NoContext (first_of ((full, status.HandFull) ∷ [])) refusal in
     let room = none_of full status.HandFull None some.1 in
-    let found = found_there old what at object' c event.1.0 in
-    subst IsSound (sym event.1.1)
+    let found = found_there old what at object' c event.0 in
+    subst IsSound (sym event.1)
     (grabbed_sound old k at c i s
     (get_keeps k.0 c (owner_by at.row at.instance what) found.0 s.owned.lawful i.worker found.2 (leb-false 16 (length (hand_of old.contexts.hands k.0)) room.0))
-    (held_for old k at what found.0 c i s.owned found.2))) s
+    (held_for old k at what found.0 c i s.owned found.2)))
 
 -- ---- delete
 
@@ -203,15 +204,15 @@ delete_at w k at what wants (Some d) is i s room =
 pub delete_sound : (old : World) (k : WorkerId) (what : ContextKind) (wants : Bool) (result : Result (Option CtxId) Status) (new : World)
     → Deletes old k what wants result new → IsSound old → IsSound new
 unfolding Deletes
-delete_sound old k what wants (Err why) new h s = in_callback old k (Err why) new _ (callback_of old k) refl h (λ at i event. subst IsSound (sym event.1) s) s
-delete_sound old k what wants (Ok c) new h s =
-    in_callback old k (Ok c) new _ (callback_of old k) refl h (λ at i event.
+delete_sound old k what wants result new h s =
+    asked_by (λ _ w. IsSound w) old k result new _ _ h (λ why. s) (λ at is c free event.
+    let i = is_in old k at s is in
     let there = there_at old what at in
     let full = wants && is_hand_full old.contexts.hands k.0 in
-    let refusal = asked_for old what at (delete_refusal old.contexts k.0 wants there) event.0 in
+    let refusal = asked_for old what at (delete_refusal old.contexts k.0 wants there) free in
     let some = none_of (is_none there) status.NoContext (first_of ((full, status.HandFull) ∷ [])) refusal in
     let room = none_of full status.HandFull None some.1 in
-    subst IsSound (sym event.1.1) (delete_at old k at what wants there refl i s room.0)) s
+    subst IsSound (sym event.1) (delete_at old k at what wants there refl i s room.0))
 
 -- ---- set
 
@@ -361,31 +362,14 @@ set_links w k c o mode wants (Some d) here h = by_room (wants && is_hand_full w.
     by_room true = h
     by_room false = by_mode mode
 
-set_on : (old : World) (k : WorkerId) (at : Callback) (c : CtxId) (mode : SetMode) (wants : Bool) (result : SetAnswer) (new : World) (m : Option Context) (o : Option Object)
-    → IsIn old k at → IsSound old → set_refused old k c at ≡ None → context_at old.contexts.slots c ≡ m → object_for at m ≡ o
-    → SetsOn old k c mode wants result new m o → IsSound new
-set_on old k at c mode wants result new None o i s free there of h = absurd h
-set_on old k at c mode wants result new (Some x) None i s free there of h = absurd h
-set_on old k at c mode wants result new (Some x) (Some o) i s free there of h =
-    let may = may_set old k at c x o i s free there of in
-    let bare : IsUnlinkedOf x.owner (context_at old.contexts.slots c) = subst (IsUnlinkedOf x.owner) (sym there) (may.bare, refl) in
-    let t = set_after (carries old) old.contexts k.0 c o mode wants (holder old.contexts.slots x.owner o) in
-    let lawful = set_keeps k.0 c x.owner o mode wants s.owned.lawful i.worker may.has bare in
-    subst IsSound (sym h.1) (sound_with old t (set_at old k at c x o mode wants (holder old.contexts.slots x.owner o) i s may refl lawful)
-    (set_links old k c o mode wants (holder old.contexts.slots x.owner o) may.here s.links) s)
-
-set_unless : (old : World) (k : WorkerId) (at : Callback) (c : CtxId) (mode : SetMode) (wants : Bool) (result : SetAnswer) (new : World) (m : Option Status)
-    → set_refused old k c at ≡ m → SetsUnless old k c mode wants result new at m → IsIn old k at → IsSound old → IsSound new
-set_unless old k at c mode wants result new (Some why) is h i s = subst IsSound (sym h.1) s
-set_unless old k at c mode wants result new None is h i s =
-    set_on old k at c mode wants result new (context_at old.contexts.slots c) (object_for at (context_at old.contexts.slots c)) i s is refl refl h
-
-set_in : (old : World) (k : WorkerId) (c : CtxId) (mode : SetMode) (wants : Bool) (result : SetAnswer) (new : World) (m : Option Callback)
-    → callback_of old k ≡ m → SetsIn old k c mode wants result new m → IsSound old → IsSound new
-set_in old k c mode wants result new None is h s = subst IsSound (sym h.1) s
-set_in old k c mode wants result new (Some at) is h s = set_unless old k at c mode wants result new (set_refused old k c at) refl h (is_in old k at s is) s
-
 pub set_sound : (old : World) (k : WorkerId) (c : CtxId) (mode : SetMode) (wants : Bool) (result : SetAnswer) (new : World)
     → Sets old k c mode wants result new → IsSound old → IsSound new
-unfolding Sets
-set_sound old k c mode wants result new h s = set_in old k c mode wants result new (callback_of old k) refl h s
+set_sound old k c mode wants result new h s =
+    set_by (λ _ w. IsSound w) old k c mode wants result new h (λ why. s) (λ at is free x o there of e.
+    let i = is_in old k at s is in
+    let may = may_set old k at c x o i s free there of in
+    let bare : IsUnlinkedOf x.owner (context_at old.contexts.slots c) = subst (IsUnlinkedOf x.owner) (sym there) (may.bare, refl) in
+    let before = holder old.contexts.slots x.owner o in
+    subst IsSound (sym e.1) (sound_with old (set_after (carries old) old.contexts k.0 c o mode wants before)
+    (set_at old k at c x o mode wants before i s may refl (set_keeps k.0 c x.owner o mode wants s.owned.lawful i.worker may.has bare))
+    (set_links old k c o mode wants before may.here s.links) s))

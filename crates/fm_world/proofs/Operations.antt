@@ -71,7 +71,7 @@ use Rattle.fm_world.proofs.Ties.{counted_from, one, count_moves, AreTied, Matche
 use Rattle.fm_world.proofs.Draining.{AreDrained, InDrains, in_no_drain, in_a_drain, drained_moves, drained_stays, next_drained}
 use Rattle.fm_world.proofs.Amongs.{is_up, no_base, visit_last, post_last, among_visits, among_other, among_base, among_settles, among_begins, settle_pre_visit, settle_pre_base, settle_post_visit, settle_post_base, settle_drain_visit, settle_drain_base}
 use Rattle.fm_world.proofs.Descents.{next_unseen, room_is, or_left, or_right}
-use Rattle.fm_world.proofs.Keeps.{known_cases, unless_cases, idle_there, whatever_contexts, whatever_files, loses_under_way}
+use Rattle.fm_world.proofs.Keeps.{whatever_files}
 use Rattle.fm_flow.proofs.Soundness.{sound_pre_returned, sound_base, sound_post_returned, sound_drain_returned}
 use Rattle.fm_stack.proofs.Visits.{is_to_visit_few}
 use Rattle.fm_flow.proofs.Flows.{flow_begins, flow_changes, flow_collects, next_stays, sound_next}

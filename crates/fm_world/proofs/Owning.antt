@@ -44,7 +44,8 @@ use Rattle.fm_world.proofs.Fitting.{AllFit, AllPass, VolumesStay, fits_on, passe
 use Rattle.fm_world.proofs.Losing.{NamedIn, passes_unlinked}
 use Rattle.fm_world.specs.Links.{names_there}
 use Rattle.fm_world.specs.Files.{FileTable}
-use Rattle.fm_world.proofs.Keeps.{register_keeps, mount_keeps, attach_keeps, setup_keeps, unless_cases, idle_there, setup_place, FiledIn}
+use Rattle.fm_world.proofs.Events.{idle_by, setup_by}
+use Rattle.fm_world.proofs.Keeps.{register_keeps, mount_keeps, attach_keeps, setup_keeps, idle_there, setup_place, FiledIn}
 
 -- ---- instances go on
 
@@ -194,22 +195,13 @@ attach_owned old k f v name altitude (Ok i) new at worker h e s =
 pub attach_sound : (old : World) (k : WorkerId) (f : FilterId) (v : VolumeId) (name altitude : List ℕ) (result : Result InstanceId Status) (new : World)
     → Attaches old k f v name altitude result new → IsSound old → IsSound new
 unfolding Attaches
-attach_sound old k f v name altitude result new h s = record {
-  under_way = attach_keeps old k f v name altitude result new h s.under_way;
-  owned = owned h;
-  filed = unless_cases FiledIn status.WrongStep (is_idle (worker_at old.workers k)) result old new _ h (λ idle event. subst FiledIn (sym event.1) s.filed) s.filed;
-  links = unless_cases NamedIn status.WrongStep (is_idle (worker_at old.workers k)) result old new _ h (λ idle event. subst NamedIn (sym event.1) s.links) s.links;
-}
-  where
-    owned : Attaches old k f v name altitude result new → IsOwned new
-    owned h =
-        unless_cases IsOwned status.WrongStep (is_idle (worker_at old.workers k)) result old new
-        (stack.Attaches old.stack f v name altitude result new.stack
-        × (new ≡ record old { stack = new.stack; workers = after_attach old.workers k result })) h
-        (λ idle event.
-        let at = idle_there old.workers k idle in
-        attach_owned old k f v name altitude result new at (subst (λ n. k.0 < n) s.under_way.hands (slice_get_within old.workers k.0 place.Idle at)) event.0 event.1 s.owned)
-        s.owned
+attach_sound old k f v name altitude result new h s =
+    idle_by (λ _ w. IsSound w) k result old new _ h (λ why. s) (λ at event. record {
+      under_way = attach_keeps old k f v name altitude result new at event.0 event.1 s.under_way;
+      owned = attach_owned old k f v name altitude result new at (subst (λ n. k.0 < n) s.under_way.hands (slice_get_within old.workers k.0 place.Idle at)) event.0 event.1 s.owned;
+      filed = subst FiledIn (sym event.1) s.filed;
+      links = subst NamedIn (sym event.1) s.links;
+    })
 
 -- ---- the end of a setup callback
 
@@ -342,18 +334,6 @@ setup_owned old k i accept (Err why) new left at h leaves empties e s =
     (sweep_keeps test (leave_keeps k.0 s.owned.lawful leaves) empties) (subst (AllFit t) (sym slots) fit)
     (λ j rests. refused_flown old.stack i j row.0 row.1 row.2 rests))
 
-setup_cases : (old : World) (k : WorkerId) (accept : Bool) (result : Result (Unit {0}) Status) (new : World) (m : Option Worker)
-    → worker_at old.workers k ≡ m → SetsUpAt old k accept result new m → IsSound old → IsOwned new
-setup_cases old k accept result new (Some (place.Setup i)) at h s = setup_owned old k i accept result new h.1 at h.0 h.2 h.3 h.4 s
-setup_cases old k accept result new (Some place.Idle) at h s = subst IsOwned (sym h.1) s.owned
-setup_cases old k accept result new (Some (place.EarlyDrain o i)) at h s = subst IsOwned (sym h.1) s.owned
-setup_cases old k accept result new (Some (place.Pre o i)) at h s = subst IsOwned (sym h.1) s.owned
-setup_cases old k accept result new (Some (place.Base o)) at h s = subst IsOwned (sym h.1) s.owned
-setup_cases old k accept result new (Some (place.Post o i)) at h s = subst IsOwned (sym h.1) s.owned
-setup_cases old k accept result new (Some (place.Drain o i)) at h s = subst IsOwned (sym h.1) s.owned
-setup_cases old k accept result new (Some (place.Cleanup c)) at h s = subst IsOwned (sym h.1) s.owned
-setup_cases old k accept result new None at h s = subst IsOwned (sym h.1) s.owned
-
 -- the contexts of a refused instance lose their links, and all others keep theirs
 emptied_named : (f : FileTable) (result : Result (Unit {0}) Status) (i : InstanceId) (w : World) (left t after : ContextTable) → left.slots ≡ t.slots → EmptiesUnless result i w left after
     → AllPass (names_there f) t.slots → AllPass (names_there f) after.slots
@@ -365,35 +345,10 @@ emptied_named f (Err why) i w left t after same h named =
 
 pub setup_sound : (old : World) (k : WorkerId) (accept : Bool) (result : Result (Unit {0}) Status) (new : World)
     → SetsUp old k accept result new → IsSound old → IsSound new
-unfolding SetsUp
-setup_sound old k accept result new h s = record {
-  under_way = setup_keeps old k accept result new h s.under_way;
-  owned = owned h;
-  filed = setup_filed (worker_at old.workers k) h;
-  links = setup_named (worker_at old.workers k) h;
-}
-  where
-    setup_filed : (m : Option Worker) → SetsUpAt old k accept result new m → FiledIn new
-    setup_filed (Some (place.Setup i)) h = subst FiledIn (sym h.4) s.filed
-    setup_filed (Some place.Idle) h = subst FiledIn (sym h.1) s.filed
-    setup_filed (Some (place.EarlyDrain o i)) h = subst FiledIn (sym h.1) s.filed
-    setup_filed (Some (place.Pre o i)) h = subst FiledIn (sym h.1) s.filed
-    setup_filed (Some (place.Base o)) h = subst FiledIn (sym h.1) s.filed
-    setup_filed (Some (place.Post o i)) h = subst FiledIn (sym h.1) s.filed
-    setup_filed (Some (place.Drain o i)) h = subst FiledIn (sym h.1) s.filed
-    setup_filed (Some (place.Cleanup c)) h = subst FiledIn (sym h.1) s.filed
-    setup_filed None h = subst FiledIn (sym h.1) s.filed
-
-    setup_named : (m : Option Worker) → SetsUpAt old k accept result new m → NamedIn new
-    setup_named (Some (place.Setup i)) h = subst NamedIn (sym h.4) (emptied_named old.files result i old h.1 old.contexts new.contexts h.2.slots h.3 s.links)
-    setup_named (Some place.Idle) h = subst NamedIn (sym h.1) s.links
-    setup_named (Some (place.EarlyDrain o i)) h = subst NamedIn (sym h.1) s.links
-    setup_named (Some (place.Pre o i)) h = subst NamedIn (sym h.1) s.links
-    setup_named (Some (place.Base o)) h = subst NamedIn (sym h.1) s.links
-    setup_named (Some (place.Post o i)) h = subst NamedIn (sym h.1) s.links
-    setup_named (Some (place.Drain o i)) h = subst NamedIn (sym h.1) s.links
-    setup_named (Some (place.Cleanup c)) h = subst NamedIn (sym h.1) s.links
-    setup_named None h = subst NamedIn (sym h.1) s.links
-
-    owned : SetsUp old k accept result new → IsOwned new
-    owned h = setup_cases old k accept result new (worker_at old.workers k) refl h s
+setup_sound old k accept result new h s =
+    setup_by (λ _ w. IsSound w) old k accept result new h (λ why. s) (λ i at e. record {
+      under_way = setup_keeps old k i accept result new at e.0 e.4 s.under_way;
+      owned = setup_owned old k i accept result new e.1 at e.0 e.2 e.3 e.4 s;
+      filed = subst FiledIn (sym e.4) s.filed;
+      links = subst NamedIn (sym e.4) (emptied_named old.files result i old e.1 old.contexts new.contexts e.2.slots e.3 s.links);
+    })

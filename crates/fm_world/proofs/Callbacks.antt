@@ -1,5 +1,5 @@
 -- The events of callbacks on contexts keep a World sound.
-use Rattle.std.proofs.Common.{◌≡◌, ℕ, ◌<◌, Bool, true, false, cond, not, List, [], ◌∷◌, ◌++◌, length, Option, Some, None, Result, Ok, Err, option_map, refl, ap, sym, ◌∙◌, subst}
+use Rattle.std.proofs.Common.{◌≡◌, ℕ, ◌<◌, Bool, true, false, cond, not, List, [], ◌∷◌, ◌++◌, length, Option, Some, None, Result, option_map, refl, ap, sym, ◌∙◌, subst}
 use Rattle.std.specs.Prelude.{All, slice_set}
 use Rattle.std.proofs.lemmas.Bool.{true≢false, leb-false}
 use Rattle.std.proofs.lemmas.Option.{none-some, same_Some, slice_get_within}
@@ -28,7 +28,7 @@ use Rattle.fm_world.specs.Workers.{worker_at}
 use Rattle.fm_world.specs.Links.{names_there}
 use Rattle.fm_world.specs.declared.file.FileObject.{FileObject}
 use Rattle.fm_world.specs.Owners.{file_of, row_at, place_in, belongs, HoldsIn, fits}
-use Rattle.fm_world.specs.ContextEvents.{Callback, callback_in, callback_of, InCallbackOf, with_contexts, References, Releases, ReadsBody, WritesBody, Bumps}
+use Rattle.fm_world.specs.ContextEvents.{Callback, callback_in, callback_of, with_contexts, References, Releases, ReadsBody, WritesBody, Bumps}
 use Rattle.fm_world.specs.Sound.{IsSound, IsOwned}
 use Rattle.fm_world.proofs.Belonging.{OwnersStay, owners_same, owners_changed, belongs_still, filters_same, held_has, all_without, AllHold, all_hold, all_hold_still, nobody_moved, all_carry_still}
 use Rattle.fm_world.proofs.Fitting.{AllFit, AllPass, passes_changed}

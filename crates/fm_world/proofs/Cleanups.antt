@@ -31,7 +31,7 @@ use Rattle.fm_ctx.specs.declared.due.Due.{Due}
 use Rattle.fm_ctx.specs.declared.owner.Owner.{Owner}
 use Rattle.fm_ctx.specs.declared.owner.Owner.TheVariants as owner
 use Rattle.fm_ctx.specs.Bags.{one, is_id, references, hand_of, cleaning_of, held}
-use Rattle.fm_ctx.specs.Cleanup.{due_reply, emptied, taken_due, taken_of, after_take_due, cleaned}
+use Rattle.fm_ctx.specs.Cleanup.{emptied, taken_due, taken_of, cleaned}
 use Rattle.fm_ctx.specs.Counting.{is_open, open_of}
 use Rattle.fm_ctx.specs.Objects.{same_owner}
 use Rattle.fm_ctx.specs.Table.{Context, Slot, context_at, change_context}
@@ -42,10 +42,10 @@ use Rattle.fm_ctx.proofs.Slots.{context_at-other}
 use Rattle.fm_world.specs.declared.worker.Worker.{Worker}
 use Rattle.fm_world.specs.declared.worker.Worker.TheVariants as place
 use Rattle.fm_world.specs.World.{World}
-use Rattle.fm_world.specs.Workers.{worker_at, put, is_idle, cleanup_in}
+use Rattle.fm_world.specs.Workers.{worker_at, put, cleanup_in}
 use Rattle.fm_world.specs.Headline.{Spot, AtPre, AtBase, AtPost, AtDrain, is_in_at, is_in_drain}
 use Rattle.fm_world.specs.Owners.{row_at, place_in, fits, owner_fits, link_fits, may_link, is_left_by, keeps_links_by, is_flown_by, belongs, belongs_by, HoldsIn, CarriesIn, AskCarries}
-use Rattle.fm_world.specs.ContextEvents.{after_due, TakesDue, totalled_for, filter_of, CleansAt, Cleans, is_gone_at, Finishes}
+use Rattle.fm_world.specs.ContextEvents.{after_due, TakesDue, totalled_for, filter_of, Cleans, is_gone_at, Finishes}
 use Rattle.fm_world.specs.Sound.{IsSound, IsUnderWay, IsOwned, is_in_setup, setup_row}
 use Rattle.fm_world.proofs.Belonging.{owners_changed, owners_same, belongs_still, filters_same, FiltersStay, AllHold, all_hold, all_hold_still, others_stay, all_carry_still}
 use Rattle.fm_world.proofs.Callbacks.{none_of, not_false, same_hands}

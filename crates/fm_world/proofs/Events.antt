@@ -14,28 +14,25 @@ use Rattle.fm_data.specs.declared.answer.Answer.{Answer}
 use Rattle.fm_data.specs.declared.verdict.PreVerdict.{PreVerdict}
 use Rattle.fm_data.specs.declared.verdict.PostVerdict.{PostVerdict}
 use Rattle.fm_data.specs.Data.{Data, data_fits}
-use Rattle.fm_stack.specs.Events as stack
-use Rattle.fm_ctx.specs.Settling.{Leaves}
-use Rattle.fm_ctx.specs.Table.{ContextTable, context_at}
-use Rattle.fm_ctx.specs.Cleanup.{cleaned}
+use Rattle.fm_ctx.specs.Table.{context_at}
 use Rattle.fm_flow.specs.declared.action.Below.{Below}
 use Rattle.fm_flow.specs.declared.action.FlowAction.{FlowAction}
 use Rattle.fm_flow.specs.declared.stage.Stage.TheVariants.{Descending}
 use Rattle.fm_flow.specs.Record.{FlowRecord}
-use Rattle.fm_flow.specs.Steps.{next_of, pre_returned_of, post_returned_of, drain_returned_of, base_fits}
+use Rattle.fm_flow.specs.Steps.{next_of, post_returned_of, drain_returned_of, base_fits}
 use Rattle.fm_flow.specs.Table.{FlowTable, operation_at, changed, told}
 use Rattle.fm_types.proofs.Firsts.{change_none}
 use Rattle.fm_world.specs.declared.worker.Worker.{Worker}
 use Rattle.fm_world.specs.declared.worker.Worker.TheVariants as place
-use Rattle.fm_world.specs.World.{World, carries}
-use Rattle.fm_world.specs.Workers.{worker_at, put, is_idle, after_next}
-use Rattle.fm_world.specs.Events.{Unless, SetsUp, SetsUpAt, EmptiesUnless, FindsBelow, LiesBelow, Nexts, NextsAt, NextsOver, LosesByKnown, PreReturns, PreReturnsAt, PreReturnsOver, BaseReturns, BaseReturnsAt, PostReturns, PostReturnsAt, ReturnsFrom, pre_step, state_at, base_returned, drains_at, received, filed_next, flow_after_next}
+use Rattle.fm_world.specs.World.{World}
+use Rattle.fm_world.specs.Workers.{worker_at, is_idle, after_next}
+use Rattle.fm_world.specs.Events.{Unless, SetsUp, SetsUpAt, FindsBelow, LiesBelow, Nexts, NextsAt, NextsOver, LosesByKnown, PreReturns, PreReturnsAt, PreReturnsOver, BaseReturns, BaseReturnsAt, PostReturns, PostReturnsAt, ReturnsFrom, pre_step, state_at, base_returned, drains_at, received, filed_next, flow_after_next}
 use Rattle.fm_ctx.specs.declared.object.Object.{Object}
 use Rattle.fm_ctx.specs.declared.set_reply.SetMode.{SetMode}
 use Rattle.fm_ctx.specs.Table.{Context}
 use Rattle.fm_world.specs.declared.set_answer.SetAnswer.{SetAnswer}
 use Rattle.fm_world.specs.declared.set_answer.SetAnswer.TheVariants as answer
-use Rattle.fm_world.specs.ContextEvents.{Callback, InCallback, InCallbackOf, callback_of, Sets, SetsIn, SetsUnless, SetsOn, set_refused, object_for, Cleans, CleansAt, filter_of, totalled_for}
+use Rattle.fm_world.specs.ContextEvents.{Callback, InCallback, InCallbackOf, callback_of, Sets, SetsIn, SetsUnless, SetsOn, set_refused, object_for, Cleans, CleansAt}
 use Rattle.fm_world.specs.Links.{LosesLinks}
 
 -- ---- refusals

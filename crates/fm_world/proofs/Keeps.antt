@@ -1,7 +1,7 @@
 -- The events on filters, volumes and instances keep a World sound.
 use Rattle.std.proofs.Common.{◌≡◌, ℕ, zero, suc, ◌+◌, ◌≤◌, ◌==◌, Bool, true, false, List, [], ◌∷◌, ◌++◌, Option, Some, None, Result, Ok, Err, length, refl, ap, sym, ◌∙◌, subst, arith, count_by, length-set}
 use Rattle.std.specs.Prelude.{slice_get}
-use Rattle.std.proofs.lemmas.Bool.{false≢true, eq-eqb}
+use Rattle.std.proofs.lemmas.Bool.{eq-eqb}
 use Rattle.std.proofs.lemmas.Bool.Decides.{nat_tests}
 use Rattle.std.proofs.lemmas.Option.{none-some, same_Some}
 use Rattle.std.proofs.lemmas.List.Elements.{All-weaker}
@@ -11,7 +11,6 @@ use Rattle.fm_types.specs.declared.ids.InstanceId.{InstanceId}
 use Rattle.fm_types.specs.declared.ids.WorkerId.{WorkerId}
 use Rattle.fm_types.specs.declared.ids.OpId.{OpId}
 use Rattle.fm_types.specs.declared.status.Status.{Status}
-use Rattle.fm_types.specs.declared.status.Status.TheVariants as status
 use Rattle.fm_types.specs.declared.registration.Registration.{Registration}
 use Rattle.fm_types.specs.Lists.{updated}
 use Rattle.fm_stack.specs.declared.instance.Instance.{Instance}
@@ -30,8 +29,8 @@ use Rattle.fm_world.specs.declared.worker.Worker.{Worker}
 use Rattle.fm_world.specs.declared.worker.Worker.TheVariants as place
 use Rattle.fm_world.specs.Links.{LosesLinks}
 use Rattle.fm_world.specs.World.{World}
-use Rattle.fm_world.specs.Workers.{worker_at, put, is_idle, after_attach}
-use Rattle.fm_world.specs.Events.{LosesByKnown, Registers, Mounts, Attaches, SetsUp, SetsUpAt, Unless}
+use Rattle.fm_world.specs.Workers.{worker_at, put, after_attach}
+use Rattle.fm_world.specs.Events.{LosesByKnown, Registers, Mounts}
 use Rattle.fm_world.specs.Headline.{Spot, AtPre, AtBase, AtPost, AtDrain, is_in_at, is_in_drain}
 use Rattle.fm_world.specs.Sound.{IsUnderWay, IsAmong, is_in_setup, setup_row, IsFileSound}
 use Rattle.fm_world.proofs.Counts.{count-some}

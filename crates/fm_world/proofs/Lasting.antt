@@ -14,16 +14,13 @@ use Rattle.fm_types.specs.declared.ids.WorkerId.{WorkerId}
 use Rattle.fm_types.specs.declared.registration.Registration.{Registration}
 use Rattle.fm_types.specs.declared.status.Status.{Status}
 use Rattle.fm_types.specs.declared.status.Status.TheVariants as status
-use Rattle.fm_types.specs.Refusals.{Answers, AnswersOrMemory}
 use Rattle.fm_data.specs.declared.answer.Answer.{Answer}
 use Rattle.fm_data.specs.declared.base_call.BaseCall.{BaseCall}
 use Rattle.fm_data.specs.declared.verdict.PostVerdict.{PostVerdict}
 use Rattle.fm_data.specs.declared.verdict.PreVerdict.{PreVerdict}
-use Rattle.fm_data.specs.Data.{Data, data_fits}
+use Rattle.fm_data.specs.Data.{Data}
 use Rattle.fm_flow.specs.declared.action.FlowAction.{FlowAction}
 use Rattle.fm_flow.specs.declared.action.FlowAction.TheVariants as action
-use Rattle.fm_flow.specs.Steps.{base_fits}
-use Rattle.fm_flow.specs.Table.{told}
 use Rattle.fm_ctx.specs.declared.due.Due.{Due}
 use Rattle.fm_ctx.specs.declared.object.Object.{Object}
 use Rattle.fm_ctx.specs.declared.set_reply.SetMode.{SetMode}
@@ -48,10 +45,9 @@ use Rattle.fm_world.specs.declared.step.Step.{Step}
 use Rattle.fm_world.specs.declared.step.Step.TheVariants as step
 use Rattle.fm_world.specs.declared.step.StepReply.{StepReply}
 use Rattle.fm_world.specs.declared.step.StepReply.TheVariants as reply
-use Rattle.fm_world.specs.declared.worker.Worker.{Worker}
 use Rattle.fm_world.specs.declared.worker.Worker.TheVariants as place
-use Rattle.fm_world.specs.ContextEvents.{Callback, InCallbackOf, callback_of, object_for, set_refused, SetsOn, SetsUnless, SetsIn, there_at, CleansAt, Allocates, Sets, Gets, Deletes, References, Releases, ReadsBody, WritesBody, Bumps, TakesDue, Cleans, Finishes}
-use Rattle.fm_world.specs.Events.{Unless, brought, received, Registers, Mounts, Attaches, SetsUp, SetsUpAt, EmptiesUnless, Begins, Nexts, NextsAt, PreReturns, PreReturnsAt, BaseReturns, BaseReturnsAt, PostReturns, PostReturnsAt, Collects, begun_on, begun_at, after_begin, sent}
+use Rattle.fm_world.specs.ContextEvents.{there_at, Allocates, Sets, Gets, Deletes, References, Releases, ReadsBody, WritesBody, Bumps, TakesDue, Cleans, Finishes}
+use Rattle.fm_world.specs.Events.{Unless, brought, received, Registers, Mounts, Attaches, SetsUp, EmptiesUnless, Begins, Nexts, PreReturns, BaseReturns, PostReturns, Collects, begun_on, begun_at, after_begin, sent}
 use Rattle.fm_world.specs.Files.{handle_at, stream_at}
 use Rattle.fm_world.specs.Lasting.{given_by, due_by, Comes, IsGone, ContextsLast}
 use Rattle.fm_world.specs.Links.{LosesLinks}

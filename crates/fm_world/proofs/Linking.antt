@@ -1,5 +1,5 @@
 -- Allocating, setting, getting and deleting contexts keep a World sound.
-use Rattle.std.proofs.Common.{◌≡◌, ℕ, ◌<◌, ◌&&◌, ◌||◌, slice_get, Bool, true, false, cond, List, [], ◌∷◌, ◌++◌, length, nat_lt, Option, Some, None, Result, Ok, Err, is_some, is_none, option_map, not, refl, ap, sym, ◌∙◌, subst}
+use Rattle.std.proofs.Common.{◌≡◌, ℕ, ◌<◌, ◌&&◌, ◌||◌, slice_get, Bool, true, false, cond, List, [], ◌∷◌, ◌++◌, length, nat_lt, Option, Some, None, Result, is_some, is_none, option_map, not, refl, ap, sym, ◌∙◌, subst}
 use Rattle.std.specs.Option.{option_and_then}
 use Rattle.std.proofs.lemmas.Bool.{false≢true, and_parts, and_from, leb-false, eq-eqb, lt-ltb}
 use Rattle.std.proofs.lemmas.Option.{none-some, same_Some}
@@ -41,7 +41,7 @@ use Rattle.fm_world.specs.World.{World, carries}
 use Rattle.fm_world.specs.Links.{is_there, names_there}
 use Rattle.fm_world.specs.declared.file.FileObject.{FileObject}
 use Rattle.fm_world.specs.Owners.{row_at, has_kind, owner_by, object_by, is_closing, is_left_by, keeps_links_by, may_link, suits, holds_links, holds_links_by, is_volume, is_instance, is_of_stream, is_of_handle, fits, owner_fits, link_fits, belongs, belongs_by}
-use Rattle.fm_world.specs.ContextEvents.{Callback, callback_of, with_contexts, before, context_by, Allocates, object_for, is_past, set_refused, SetsOn, SetsUnless, SetsIn, Sets, there_at, object_refused, Gets, Deletes}
+use Rattle.fm_world.specs.ContextEvents.{Callback, with_contexts, before, context_by, Allocates, object_for, is_past, set_refused, Sets, there_at, object_refused, Gets, Deletes}
 use Rattle.fm_world.specs.Sound.{IsSound, IsOwned}
 use Rattle.fm_world.proofs.Belonging.{owners_changed, owners_placed, belongs_still, filters_same}
 use Rattle.fm_world.proofs.Events.{asked_by, taken_by, set_by}

@@ -1,9 +1,9 @@
 -- The events on operations keep a World sound.
 use Rattle.std.proofs.Common.{◌≡◌, ℕ, suc, ◌+◌, ◌<◌, ◌==◌, Bool, true, false, cond, not, List, [], ◌∷◌, ◌++◌, Option, Some, None, Result, Ok, Err, length, get_or, refl, ap, sym, ◌∙◌, subst, inl, inr, ◌⊎◌, arith, length-set}
-use Rattle.std.specs.Prelude.{All, AllPairs, slice_get, option_map, unwrap_or, find, nat_le, count_by, ◌||◌}
+use Rattle.std.specs.Prelude.{All, AllPairs, slice_get, option_map, unwrap_or, find, count_by, ◌||◌}
 use Rattle.std.specs.Cmp.Lexicographic.{bytes_decides}
 use Rattle.std.specs.List.{list_any}
-use Rattle.std.proofs.lemmas.Bool.{false≢true, eqb-true, eq-eqb, ne_eqb, cases_Bool, cases_eq, and_parts, and_from, leb-true}
+use Rattle.std.proofs.lemmas.Bool.{false≢true, eqb-true, eq-eqb, ne_eqb, cases_Bool, cases_eq, and_parts, and_from}
 use Rattle.std.proofs.lemmas.Option.{none-some, same_Some}
 use Rattle.std.proofs.lemmas.List.Elements.{All-push, All-head, All-tail}
 use Rattle.fm_types.specs.declared.ids.InstanceId.{InstanceId}
@@ -23,7 +23,7 @@ use Rattle.fm_data.specs.declared.verdict.PreVerdict.TheVariants as verdict
 use Rattle.fm_data.specs.declared.verdict.PostVerdict.{PostVerdict}
 use Rattle.fm_data.specs.declared.verdict.PostVerdict.TheVariants as answer
 use Rattle.fm_data.specs.Data.{Data, data_fits}
-use Rattle.fm_data.specs.Params.{fit, are_on, is_within_limits, operation_of}
+use Rattle.fm_data.specs.Params.{are_on, is_within_limits, operation_of}
 use Rattle.fm_stack.specs.StackWorld.{StackWorld}
 use Rattle.fm_stack.specs.Stacks.{IsStack}
 use Rattle.fm_ctx.specs.Bags.{hand_of}
@@ -52,13 +52,12 @@ use Rattle.fm_world.specs.declared.step.Begin.TheVariants as begin
 use Rattle.fm_world.specs.declared.worker.Worker.{Worker}
 use Rattle.fm_world.specs.declared.worker.Worker.TheVariants as place
 use Rattle.fm_world.specs.World.{World}
-use Rattle.fm_world.specs.Workers.{worker_at, put, is_idle, after_next}
-use Rattle.fm_world.specs.Events.{Begins, Nexts, NextsOver, LiesBelow, FindsBelow, PreReturns, PreReturnsAt, BaseReturns, BaseReturnsAt, PostReturns, PostReturnsAt, Collects, ReturnsFrom, returned, received, state_at, state_given, drains_at, of_hand, has_post, or_else, begin_refused, refused_on, refused_at, begun_on, begun_at, after_begin, moved_on, has_no_handle_left, flow_after_next, filed_next, filed_pre, filed_base, base_step, base_returned, NextsAt, PreReturnsOver}
-use Rattle.fm_world.specs.Links.{LosesLinks}
+use Rattle.fm_world.specs.Workers.{worker_at, put, after_next}
+use Rattle.fm_world.specs.Events.{Begins, LiesBelow, Collects, returned, received, state_at, state_given, drains_at, of_hand, has_post, or_else, begin_refused, refused_on, refused_at, begun_on, begun_at, after_begin, moved_on, has_no_handle_left, filed_next, base_step}
 use Rattle.fm_world.specs.Headline.{Spot, AtPre, AtBase, AtPost, AtDrain, spot_at, spot_of, is_spot}
 use Rattle.fm_world.specs.Descent.{is_among}
 use Rattle.fm_world.specs.Sound.{IsUnderWay, IsAmong, is_in_setup}
-use Rattle.fm_types.proofs.Firsts.{change_none, found_holds, all_change, all_without, find_without}
+use Rattle.fm_types.proofs.Firsts.{found_holds, all_change, all_without, find_without}
 use Rattle.fm_world.proofs.Filing.{asks_no_create}
 pub use Rattle.fm_world.proofs.Events.{unchanged_flow}
 use Rattle.fm_world.proofs.Events.{Turns}

@@ -12,7 +12,6 @@ use Rattle.fm_types.specs.declared.ids.VolumeId.{VolumeId}
 use Rattle.fm_types.specs.declared.ids.WorkerId.{WorkerId}
 use Rattle.fm_types.specs.declared.registration.Registration.{Registration}
 use Rattle.fm_types.specs.declared.status.Status.{Status}
-use Rattle.fm_types.specs.declared.status.Status.TheVariants as status
 use Rattle.fm_types.proofs.Lists.{slice_get-kept, slice_get-set_same, slice_get-set_other, updated-same, updated-other}
 use Rattle.fm_stack.specs.declared.instance.Instance.{Instance}
 use Rattle.fm_stack.specs.declared.instance.Phase.{Phase}
@@ -34,9 +33,9 @@ use Rattle.fm_ctx.proofs.Moves.{within_hands}
 use Rattle.fm_world.specs.declared.worker.Worker.{Worker}
 use Rattle.fm_world.specs.declared.worker.Worker.TheVariants as place
 use Rattle.fm_world.specs.World.{World, carries}
-use Rattle.fm_world.specs.Workers.{worker_at, put, is_idle, after_attach, cleanup_in}
+use Rattle.fm_world.specs.Workers.{worker_at, put, after_attach, cleanup_in}
 use Rattle.fm_world.specs.Owners.{row_at, place_in, fits, owner_fits, link_fits, may_link, holds_links_by, is_left_by, keeps_links, keeps_links_by, is_flown, is_flown_by, HoldsIn}
-use Rattle.fm_world.specs.Events.{Registers, Mounts, Attaches, SetsUp, SetsUpAt, EmptiesUnless}
+use Rattle.fm_world.specs.Events.{Registers, Mounts, Attaches, SetsUp, EmptiesUnless}
 use Rattle.fm_world.specs.Sound.{IsSound, IsOwned}
 use Rattle.fm_world.proofs.Belonging.{OwnersStay, owners_same, owners_swept, owners_after, FiltersStay, belongs_still, AllHold, all_hold, all_hold_still, others_stay, all_carry_still}
 use Rattle.fm_world.proofs.Callbacks.{same_hands}
@@ -45,7 +44,7 @@ use Rattle.fm_world.proofs.Losing.{NamedIn, passes_unlinked}
 use Rattle.fm_world.specs.Links.{names_there}
 use Rattle.fm_world.specs.Files.{FileTable}
 use Rattle.fm_world.proofs.Events.{idle_by, setup_by}
-use Rattle.fm_world.proofs.Keeps.{register_keeps, mount_keeps, attach_keeps, setup_keeps, idle_there, setup_place, FiledIn}
+use Rattle.fm_world.proofs.Keeps.{register_keeps, mount_keeps, attach_keeps, setup_keeps, setup_place, FiledIn}
 
 -- ---- instances go on
 

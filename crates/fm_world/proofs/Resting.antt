@@ -19,11 +19,11 @@ use Rattle.fm_flow.specs.declared.stage.Stage.TheVariants.{Descending, PreRunnin
 use Rattle.fm_flow.specs.Entries.{owed}
 use Rattle.fm_flow.specs.Record.{FlowRecord}
 use Rattle.fm_flow.specs.Steps.{turn, next_of, next_at, descend, ascend, call_pre, call_base, call_post, give_post, unwound_to, may_take}
-use Rattle.fm_flow.specs.Table.{FlowTable, is_number, operation_at}
-use Rattle.fm_world.specs.Events.{Unless, Nexts, NextsAt, NextsOver, LosesByKnown, drains_at, flow_after_next}
+use Rattle.fm_flow.specs.Table.{FlowTable, is_number}
+use Rattle.fm_world.specs.Events.{Nexts, NextsOver, LosesByKnown, drains_at, flow_after_next}
 use Rattle.fm_world.specs.World.{World}
-use Rattle.fm_world.specs.Workers.{worker_at, is_idle, gives_nothing}
-use Rattle.fm_world.proofs.Operations.{unchanged_flow, told_there}
+use Rattle.fm_world.specs.Workers.{gives_nothing}
+use Rattle.fm_world.proofs.Events.{Turns, next_by}
 
 -- ---- the operation
 
@@ -93,31 +93,21 @@ change_same {A = A} test f (x ∷ rs) r found same =
           ∙ ap (λ (xs : List A). x ∷ xs) (change_same test f rs r (sym (ap (λ c. cond c (Some x) (find test rs)) e) ∙ found) same)
     ]
 
-flow_rests : (old : World) (k : WorkerId) (o : OpId) (lies : Below) (result : Result FlowAction Status) (mid : World) (m : Option FlowRecord) → operation_at o old.flow ≡ m
-    → NextsOver old k o lies result mid → gives_nothing result ≡ true → flow_after_next old k o lies ≡ old.flow
-flow_rests old k o lies result mid None at over h = unchanged_flow old.flow o (λ (x : FlowRecord). (next_of k lies (drains_at old o) x).after) at
-flow_rests old k o lies result mid (Some r) at over h =
+flow_rests : (old : World) (k : WorkerId) (o : OpId) (result : Result FlowAction Status) (new : World) (e : Turns old k o result new) → gives_nothing result ≡ true
+    → flow_after_next old k o e.lies ≡ old.flow
+flow_rests old k o result new e h =
     let d = drains_at old o in
-    let reply = over.0 ∙ told_there (λ (x : FlowRecord). (next_of k lies d x).reply) (Err status.WrongStep) o old.flow r at in
-    let rests = next_rests k lies d r (sym (ap gives_nothing reply) ∙ h) in
-    ap (λ (rs : List FlowRecord). record old.flow { operations = rs }) (change_same (is_number o) (λ (x : FlowRecord). (next_of k lies d x).after) old.flow.operations r at rests)
+    let rests = next_rests k e.lies d e.row (sym (ap gives_nothing e.reply) ∙ h) in
+    ap (λ (rs : List FlowRecord). record old.flow { operations = rs }) (change_same (is_number o) (λ (x : FlowRecord). (next_of k e.lies d x).after) old.flow.operations e.row e.at rests)
 
 over_rests : (old : World) (k : WorkerId) (o : OpId) (lies : Below) (result : Result FlowAction Status) (mid new : World) → NextsOver old k o lies result mid
-    → LosesByKnown result lies mid new → gives_nothing result ≡ true → new ≡ old
-over_rests old k o lies result mid new over loses h =
-    by_result result over loses h (ap (λ (t : FlowTable). record old { flow = t }) (flow_rests old k o lies result mid (operation_at o old.flow) refl over h))
-  where
-    by_result : (result : Result FlowAction Status) → NextsOver old k o lies result mid → LosesByKnown result lies mid new → gives_nothing result ≡ true
-        → record old { flow = flow_after_next old k o lies } ≡ old → new ≡ old
-    by_result (Ok action.Held) over loses h same = loses ∙ over.1 ∙ same
-    by_result (Ok action.Done) over loses h same = loses ∙ over.1 ∙ same
-    by_result (Err why) over loses h same = loses ∙ over.1 ∙ same
-    by_result _ over loses h same = absurd (false≢true h)
+    → LosesByKnown result lies mid new → gives_nothing result ≡ true → record old { flow = flow_after_next old k o lies } ≡ old → new ≡ old
+over_rests old k o lies (Ok action.Held) mid new over loses h same = loses ∙ over.1 ∙ same
+over_rests old k o lies (Ok action.Done) mid new over loses h same = loses ∙ over.1 ∙ same
+over_rests old k o lies (Err why) mid new over loses h same = loses ∙ over.1 ∙ same
+over_rests old k o lies _ mid new over loses h same = absurd (false≢true h)
 
 pub next_changes_nothing : (old : World) (k : WorkerId) (o : OpId) (result : Result FlowAction Status) (new : World) → Nexts old k o result new → gives_nothing result ≡ true → new ≡ old
-unfolding Nexts
-next_changes_nothing old k o result new h nothing = by_idle (is_idle (worker_at old.workers k)) h
-  where
-    by_idle : (b : Bool) → Unless status.WrongStep b result old new (NextsAt old k o result new) → new ≡ old
-    by_idle true e = over_rests old k o e.0 result e.2 new e.3 e.4 nothing
-    by_idle false e = e.1
+next_changes_nothing old k o result new h =
+    next_by (λ r w. gives_nothing result ≡ true → w ≡ old) old k o result new h (λ why nothing. refl) (λ e nothing.
+    over_rests old k o e.lies result e.mid new e.over e.loses nothing (ap (λ (t : FlowTable). record old { flow = t }) (flow_rests old k o result new e nothing)))

@@ -4,12 +4,8 @@ use Rattle.std.specs.Prelude.{slice_set, ◌&&◌}
 use Rattle.std.proofs.lemmas.List.{get_or-set_same}
 use Rattle.std.proofs.lemmas.Option.{slice_get_within}
 use Rattle.fm_types.specs.declared.context_kind.ContextKind.{ContextKind}
-use Rattle.fm_types.specs.declared.ids.CtxId.{CtxId}
 use Rattle.fm_types.specs.declared.ids.InstanceId.{InstanceId}
 use Rattle.fm_types.specs.declared.ids.OpId.{OpId}
-use Rattle.fm_types.specs.declared.ids.WorkerId.{WorkerId}
-use Rattle.fm_types.specs.declared.status.Status.{Status}
-use Rattle.fm_types.specs.declared.status.Status.TheVariants as status
 use Rattle.fm_data.specs.declared.verdict.PreVerdict.{PreVerdict}
 use Rattle.fm_data.specs.declared.verdict.PostVerdict.{PostVerdict}
 use Rattle.fm_data.specs.Data.{Data}
@@ -25,8 +21,8 @@ use Rattle.fm_ctx.specs.Table.{ContextTable}
 use Rattle.fm_ctx.proofs.Bags.{length-without}
 use Rattle.fm_world.specs.declared.set_answer.SetAnswer.{SetAnswer}
 use Rattle.fm_world.specs.Hands.{hand_len, HoldsMore, HoldsOneFewer, HoldsNone, given_with, given_by_set, given_by_next, left_by_setup}
-use Rattle.fm_world.specs.declared.worker.Worker.{Worker}
-use Rattle.fm_world.specs.declared.worker.Worker.TheVariants as place
+use Rattle.fm_world.proofs.Words.{CtxId, WorkerId}
+use Rattle.fm_world.proofs.Words.{Status, Worker}
 use Rattle.fm_world.specs.World.{World, carries}
 use Rattle.fm_world.specs.Workers.{worker_at}
 use Rattle.fm_world.specs.Events.{EmptiesUnless, SetsUpAt, SetsUp, brought, received, Nexts, PreReturns, PostReturns}
@@ -94,7 +90,7 @@ unfolding Releases
 release_fewer old k c result new s h =
     asked_by (λ r w. HoldsOneFewer k.0 r old w) old k result new _ _ h (λ why. refl) (λ at is v free e.
     ap (λ n. n + 1) (table_len k.0 old new _ e) ∙ one_fewer old.contexts.hands k.0 c (hand_there old k at s is)
-    (not_false (holds (hand_of old.contexts.hands k.0) c) (none_of (not (holds (hand_of old.contexts.hands k.0) c)) status.NotHeld None free).0))
+    (not_false (holds (hand_of old.contexts.hands k.0) c) (none_of (not (holds (hand_of old.contexts.hands k.0) c)) Status.NotHeld None free).0))
 
 delete_len : (carried : CtxId → ℕ) (t : ContextTable) (k : ℕ) (wants : Bool) (m : Option CtxId) → k < length t.hands
     → length (hand_of (delete_after carried t k wants m).hands k) ≡ length (hand_of t.hands k) + given_with (delete_reply wants m)
@@ -169,7 +165,7 @@ pub next_more : (old : World) (k : WorkerId) (o : OpId) (result : Result FlowAct
     → HoldsMore k.0 result given_by_next old new
 next_more old k o result new s h =
     next_by (λ r w. HoldsMore k.0 r given_by_next old w) old k o result new h (refused_more k.0 given_by_next old) (λ e.
-    let more = received_more old e.mid k result (ap (λ (w : World). w.contexts) e.over.1) (placed_hand old k place.Idle s e.idle) in
+    let more = received_more old e.mid k result (ap (λ (w : World). w.contexts) e.over.1) (placed_hand old k Worker.Idle s e.idle) in
     known_cases (HoldsMore k.0 result given_by_next old) result e.lies e.mid new e.loses (λ loses. loses_more k.0 result given_by_next old e.mid new loses more) more)
 
 -- ---- callbacks return
@@ -203,6 +199,6 @@ unfolding SetsUp
 setup_left old k accept result new h = by_place (worker_at old.workers k) h
   where
     by_place : (m : Option Worker) → SetsUpAt old k accept result new m → hand_len k.0 new ≡ left_by_setup m (hand_len k.0 old)
-    by_place (Some (place.Setup i)) (event, left, l, e, rest) =
+    by_place (Some (Worker.Setup i)) (event, left, l, e, rest) =
         ap (λ (hands : List (List CtxId)). length (hand_of hands k.0)) (emptied_hands result i old left new.contexts e ∙ l.hands) ∙ emptied old.contexts.hands k.0
     by_place _ h = ap (hand_len k.0) h.1

@@ -3,9 +3,9 @@ use Rattle.std.proofs.Common.{◌≡◌, ℕ, true, false, List, Option, Some, N
 use Rattle.std.specs.declared.cmp.Ordering.TheVariants.{Less, Equal, Greater}
 use Rattle.std.specs.Ordering.{is_lt, is_eq, ordering_reverse}
 use Rattle.std.proofs.lemmas.Cmp.{tied_itself}
+use Rattle.fm_world.proofs.Words.{is_lower, same_altitude, is_lower_option}
 use Rattle.fm_altitude.specs.Order.{altitude_cmp}
 use Rattle.fm_altitude.specs.Total.{altitude_total}
-use Rattle.fm_stack.specs.Instances.{is_lower, same_altitude, is_lower_option}
 
 less_from : (o : Ordering) → is_lt o ≡ true → o ≡ Less
 less_from Less h = refl

@@ -7,27 +7,11 @@ use Rattle.std.proofs.lemmas.Option.{same_Some, none-some, slice_get_within}
 use Rattle.std.proofs.lemmas.List.{append-nil}
 use Rattle.std.proofs.lemmas.List.Elements.{filter_map-append, All-nil, All-head, All-tail, All-push, All-weaker}
 use Rattle.std.proofs.lemmas.List.Folds.{list_any-append}
-use Rattle.fm_types.specs.declared.ids.VolumeId.{VolumeId}
-use Rattle.fm_types.specs.declared.status.Status.{Status}
-use Rattle.fm_types.specs.declared.operation.Operation.{Operation}
-use Rattle.fm_flow.specs.declared.stage.Stage.{Stage}
-use Rattle.fm_flow.specs.declared.stage.Stage.TheVariants.{Descending, InBase, Ascending, PostRunning, PostHeld}
-use Rattle.fm_flow.specs.declared.entry.Entry.{Entry}
-use Rattle.fm_flow.specs.declared.entry.Entry.TheVariants.{Pre, Base, Post, Drain}
-use Rattle.fm_flow.specs.declared.entry.PreVisit.{PreVisit}
+use Rattle.fm_world.proofs.Words.{VolumeId, Status, Operation, StackWorld, is_candidate, is_to_visit, IsHighest, Follows, IsStack, Stage, Descending, InBase}
+use Rattle.fm_world.proofs.Words.{Ascending, PostRunning, PostHeld, Entry, Pre, Base, Post, Drain, PreVisit, PreState, PostState, visit_of, visited}
+use Rattle.fm_world.proofs.Words.{last_visited, post_of, posted, last_posted, is_base, has_base, settle_pre, settle_post, settle_drain, post_leads, after}
+use Rattle.fm_world.proofs.Words.{walk, way_of, if_down, IsDescent, HasRoom, last_of, IsAmongAt, NoneLeft}
 use Rattle.fm_flow.specs.declared.entry.PostVisit.{PostVisit}
-use Rattle.fm_flow.specs.declared.entry.PreState.{PreState}
-use Rattle.fm_flow.specs.declared.entry.PostState.{PostState}
-use Rattle.fm_flow.specs.declared.entry.PostState.TheVariants as post
-use Rattle.fm_flow.specs.Entries.{visit_of, visited, last_visited, post_of, posted, last_posted, is_base, has_base, settle_pre, settle_post, settle_drain}
-use Rattle.fm_flow.specs.Steps.{post_leads}
-use Rattle.fm_flow.specs.Sound.{after, walk, way_of, if_down}
-use Rattle.fm_stack.specs.StackWorld.{StackWorld}
-use Rattle.fm_stack.specs.Next.{is_candidate, is_to_visit, IsHighest}
-use Rattle.fm_stack.specs.Follows.{Follows}
-use Rattle.fm_stack.specs.Stacks.{IsStack}
-use Rattle.fm_world.specs.Descent.{IsDescent, HasRoom, last_of}
-use Rattle.fm_world.specs.Sound.{IsAmongAt, NoneLeft}
 use Rattle.fm_world.proofs.Descents.{descent_begins, descent_visits, descent_reaches, descent_follows, none_follows, room_begins, room_visits, room_follows, last_of-cons, last_of-push}
 
 -- ---- an operation on its way down has no base entry
@@ -43,9 +27,9 @@ walk_on None es t h = absurd (none-some t h)
 walk_on (Some s) es t h = (s, refl, h)
 
 post_up : (state : PostState) → is_up (post_leads state) ≡ true
-post_up post.Running = refl
-post_up post.Held = refl
-post_up post.Finished = refl
+post_up PostState.Running = refl
+post_up PostState.Held = refl
+post_up PostState.Finished = refl
 
 after_up : (s : Stage) (e : Entry) (t : Stage) → is_up s ≡ true → after s e ≡ Some t → is_up t ≡ true
 after_up Ascending (Pre visit) t u h = absurd (none-some t h)

@@ -5,29 +5,10 @@ use Rattle.std.proofs.lemmas.Bool.{false≢true, cases_Bool, cases_eq}
 use Rattle.std.proofs.lemmas.Option.{none-some}
 use Rattle.std.proofs.lemmas.List.{get_or-set_same, get_or-set_other}
 use Rattle.std.proofs.lemmas.List.Elements.{All-nil, All-cons, All-head, All-tail, All-weaker}
-use Rattle.fm_types.specs.declared.context_kind.ContextKind.{ContextKind}
-use Rattle.fm_types.specs.declared.context_kind.ContextKind.TheVariants as kind
-use Rattle.fm_types.specs.declared.ids.CtxId.{CtxId}
-use Rattle.fm_types.specs.declared.ids.InstanceId.{InstanceId}
-use Rattle.fm_types.specs.declared.ids.WorkerId.{WorkerId}
-use Rattle.fm_types.proofs.Lists.{slice_get-set_other}
-use Rattle.fm_stack.specs.declared.instance.Instance.{Instance}
-use Rattle.fm_stack.specs.StackWorld.{StackWorld}
-use Rattle.fm_flow.specs.declared.entry.Ask.{Ask}
-use Rattle.fm_flow.specs.Record.{FlowRecord}
-use Rattle.fm_flow.specs.Entries.{owed}
-use Rattle.fm_ctx.specs.declared.owner.Owner.TheVariants as owner
-use Rattle.fm_ctx.specs.Bags.{is_id, holds, without, hand_of}
-use Rattle.fm_ctx.specs.Births.{IsNew, placed}
-use Rattle.fm_ctx.specs.Objects.{same_owner}
-use Rattle.fm_ctx.specs.Settling.{swept, swept_slot}
-use Rattle.fm_ctx.specs.Table.{Context, Slot, context_at, change_context}
-use Rattle.fm_ctx.proofs.Bags.{is_id-same, by_id}
-use Rattle.fm_ctx.proofs.Leaving.{context_at-swept}
-use Rattle.fm_ctx.proofs.Slots.{context_at-here, context_at-other, context_at-placed_other, new_absent}
-use Rattle.fm_world.specs.declared.worker.Worker.{Worker}
-use Rattle.fm_world.specs.Workers.{worker_at}
-use Rattle.fm_world.specs.Owners.{row_at, owner_by, place_in, belongs, belongs_by, HoldsIn, CarriesIn, AskCarries}
+use Rattle.fm_world.proofs.Words.{ContextKind, CtxId, InstanceId, WorkerId, slice_get-set_other, Instance, StackWorld, Owner, is_id, holds, without, hand_of}
+use Rattle.fm_world.proofs.Words.{IsNew, placed, same_owner, swept, swept_slot, Context, Slot, context_at, change_context, is_id-same, by_id}
+use Rattle.fm_world.proofs.Words.{context_at-swept, context_at-here, context_at-other, context_at-placed_other, new_absent, Ask, FlowRecord, owed, Worker}
+use Rattle.fm_world.proofs.Words.{worker_at, row_at, owner_by, place_in, belongs, belongs_by, HoldsIn, CarriesIn, AskCarries}
 
 -- ---- contexts keep their kind and owner
 
@@ -79,10 +60,10 @@ pub filters_same : (s : StackWorld) → FiltersStay s s
 filters_same s i row h = (row, h, refl)
 
 owner_follows : (a b : Instance) (i : InstanceId) (k : ContextKind) → b.filter ≡ a.filter → owner_by b i k ≡ owner_by a i k
-owner_follows a b i kind.Volume e = ap owner.Filter e
-owner_follows a b i kind.Instance e = refl
-owner_follows a b i kind.Stream e = refl
-owner_follows a b i kind.Handle e = refl
+owner_follows a b i ContextKind.Volume e = ap Owner.Filter e
+owner_follows a b i ContextKind.Instance e = refl
+owner_follows a b i ContextKind.Stream e = refl
+owner_follows a b i ContextKind.Handle e = refl
 
 -- what a callback may hold, it may hold still
 abbrev pub BelongsStill : StackWorld → List Slot → StackWorld → List Slot → Type 0

@@ -5,31 +5,12 @@ use Rattle.std.proofs.lemmas.Bool.{true≢false, leb-false}
 use Rattle.std.proofs.lemmas.Option.{none-some, same_Some, slice_get_within}
 use Rattle.std.proofs.lemmas.List.{set-get_or}
 use Rattle.std.proofs.lemmas.List.Elements.{All-push}
-use Rattle.fm_types.specs.declared.ids.CtxId.{CtxId}
-use Rattle.fm_types.specs.declared.ids.InstanceId.{InstanceId}
-use Rattle.fm_types.specs.declared.ids.WorkerId.{WorkerId}
-use Rattle.fm_types.specs.declared.status.Status.{Status}
-use Rattle.fm_types.specs.declared.status.Status.TheVariants as status
-use Rattle.fm_types.specs.Refusals.{first_of}
-use Rattle.fm_types.proofs.Lists.{all_at}
-use Rattle.fm_stack.specs.declared.instance.Instance.{Instance}
-use Rattle.fm_stack.specs.StackWorld.{StackWorld}
-use Rattle.fm_stack.specs.Stacks.{IsPlaced}
-use Rattle.fm_ctx.specs.Bags.{holds, hand_of, is_hand_full, cleaning_of, without}
-use Rattle.fm_ctx.specs.Bodies.{rewritten, with_body}
-use Rattle.fm_ctx.specs.Laws.{IsLawful}
-use Rattle.fm_ctx.specs.References.{grabbed, released}
-use Rattle.fm_ctx.specs.Table.{ContextTable}
+use Rattle.fm_world.proofs.Words.{CtxId, InstanceId, WorkerId, Status, first_of, all_at, Instance, StackWorld, IsPlaced, holds, hand_of, is_hand_full}
+use Rattle.fm_world.proofs.Words.{cleaning_of, without, rewritten, with_body, IsLawful, grabbed, released, ContextTable, within_hands, reference_keeps}
+use Rattle.fm_world.proofs.Words.{release_keeps, body_keeps, Worker, World, carries, worker_at, names_there, FileObject, file_of, row_at, place_in, belongs}
+use Rattle.fm_world.proofs.Words.{HoldsIn, fits, Callback, callback_in, callback_of, with_contexts, References, Releases, ReadsBody, WritesBody, Bumps}
+use Rattle.fm_world.proofs.Words.{IsSound, IsOwned}
 use Rattle.fm_ctx.proofs.Counts.{count_held}
-use Rattle.fm_ctx.proofs.Moves.{within_hands, reference_keeps, release_keeps, body_keeps}
-use Rattle.fm_world.specs.declared.worker.Worker.{Worker}
-use Rattle.fm_world.specs.World.{World, carries}
-use Rattle.fm_world.specs.Workers.{worker_at}
-use Rattle.fm_world.specs.Links.{names_there}
-use Rattle.fm_world.specs.declared.file.FileObject.{FileObject}
-use Rattle.fm_world.specs.Owners.{file_of, row_at, place_in, belongs, HoldsIn, fits}
-use Rattle.fm_world.specs.ContextEvents.{Callback, callback_in, callback_of, with_contexts, References, Releases, ReadsBody, WritesBody, Bumps}
-use Rattle.fm_world.specs.Sound.{IsSound, IsOwned}
 use Rattle.fm_world.proofs.Belonging.{OwnersStay, owners_same, owners_changed, belongs_still, filters_same, held_has, all_without, AllHold, all_hold, all_hold_still, nobody_moved, all_carry_still}
 use Rattle.fm_world.proofs.Fitting.{AllFit, AllPass, passes_changed}
 use Rattle.fm_world.proofs.Events.{asked_by, taken_by}
@@ -138,8 +119,8 @@ unfolding References
 reference_sound old k c result new h s =
     asked_by (λ _ w. IsSound w) old k result new _ _ h (λ why. s) (λ at is done free e.
     let i = is_in old k at s is in
-    let held = none_of (not (holds (hand_of old.contexts.hands k.0) c)) status.NotHeld (first_of ((is_hand_full old.contexts.hands k.0, status.HandFull) ∷ [])) free in
-    let room = none_of (is_hand_full old.contexts.hands k.0) status.HandFull None held.1 in
+    let held = none_of (not (holds (hand_of old.contexts.hands k.0) c)) Status.NotHeld (first_of ((is_hand_full old.contexts.hands k.0, Status.HandFull) ∷ [])) free in
+    let room = none_of (is_hand_full old.contexts.hands k.0) Status.HandFull None held.1 in
     let has = not_false (holds (hand_of old.contexts.hands k.0) c) held.0 in
     let law = s.owned.lawful in
     subst IsSound (sym e)
@@ -152,7 +133,7 @@ unfolding Releases
 release_sound old k c result new h s =
     asked_by (λ _ w. IsSound w) old k result new _ _ h (λ why. s) (λ at is done free e.
     let i = is_in old k at s is in
-    let has = not_false (holds (hand_of old.contexts.hands k.0) c) (none_of (not (holds (hand_of old.contexts.hands k.0) c)) status.NotHeld None free).0 in
+    let has = not_false (holds (hand_of old.contexts.hands k.0) c) (none_of (not (holds (hand_of old.contexts.hands k.0) c)) Status.NotHeld None free).0 in
     let t = released (carries old) old.contexts k.0 c in
     let owners = owners_same old.contexts.slots t.slots refl in
     subst IsSound (sym e)

@@ -5,17 +5,9 @@ use Rattle.std.proofs.lemmas.Option.{slice_get_within, slice_get-get_or, get_or_
 use Rattle.std.proofs.lemmas.List.{reverse-append}
 use Rattle.std.proofs.lemmas.List.Quantifiers.{all_pairs_push}
 use Rattle.std.proofs.lemmas.Bool.{cases_order, and_parts, and_from, and_right, eqb-true, eq-eqb, ne_eqb, false≢true}
-use Rattle.fm_types.specs.declared.ids.VolumeId.{VolumeId}
-use Rattle.fm_types.specs.declared.operation.Operation.{Operation}
-use Rattle.fm_stack.specs.declared.instance.Instance.{Instance}
-use Rattle.fm_stack.specs.declared.instance.Phase.{Phase}
-use Rattle.fm_stack.specs.declared.instance.Phase.TheVariants as phase
-use Rattle.fm_stack.specs.StackWorld.{StackWorld}
-use Rattle.fm_stack.specs.Instances.{is_lower, is_lower_at, is_lower_option, altitude_at, clashes, same_altitude, same_name, is_live_on, is_attached, is_detached}
-use Rattle.fm_stack.specs.Next.{is_to_visit, is_below_cursor, is_candidate, is_registered, IsHighest, NonePasses}
-use Rattle.fm_stack.specs.Follows.{Follows}
-use Rattle.fm_stack.specs.Stacks.{IsStack}
-use Rattle.fm_world.specs.Descent.{IsDescent, HasRoom, last_of, is_among}
+use Rattle.fm_world.proofs.Words.{VolumeId, Operation, Instance, Phase, StackWorld, is_lower, is_lower_at, is_lower_option, altitude_at, clashes}
+use Rattle.fm_world.proofs.Words.{same_altitude, same_name, is_live_on, is_attached, is_detached, is_to_visit, is_below_cursor, is_candidate, is_registered}
+use Rattle.fm_world.proofs.Words.{IsHighest, NonePasses, Follows, IsStack, IsDescent, HasRoom, last_of, is_among}
 use Rattle.fm_world.proofs.Counts.{count-some, count-le, count-lt}
 use Rattle.fm_world.proofs.Altitudes.{lower_irrefl, lower_or, same_sym, option_trans, option_irrefl, option_follows}
 
@@ -63,7 +55,7 @@ altitude_there : (s : StackWorld) (i : ℕ) (row : Instance) → slice_get s.ins
 altitude_there s i row h = ap (option_map (λ (r : Instance). r.altitude)) h
 
 attached_stays : (p : Phase) → is_attached p ≡ true → not (is_detached p) ≡ true
-attached_stays phase.Detached h = cc
+attached_stays Phase.Detached h = cc
 attached_stays _ h = refl
 
 -- what an operation is to visit

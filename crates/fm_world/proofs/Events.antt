@@ -2,38 +2,13 @@
 use Rattle.std.proofs.Common.{◌≡◌, ℕ, ◌==◌, List, Bool, true, false, Option, Some, None, Result, Ok, Err, refl, ap, sym, ◌∙◌, subst}
 use Rattle.std.proofs.lemmas.Bool.{false≢true}
 use Rattle.std.specs.Prelude.{option_map, unwrap_or}
-use Rattle.fm_types.specs.declared.ids.CtxId.{CtxId}
-use Rattle.fm_types.specs.declared.ids.InstanceId.{InstanceId}
-use Rattle.fm_types.specs.declared.ids.OpId.{OpId}
-use Rattle.fm_types.specs.declared.ids.WorkerId.{WorkerId}
-use Rattle.fm_types.specs.declared.status.Status.{Status}
-use Rattle.fm_types.specs.declared.status.Status.TheVariants as status
-use Rattle.fm_types.specs.Refusals.{Answers, AnswersOrMemory}
-use Rattle.fm_data.specs.declared.base_call.BaseCall.{BaseCall}
-use Rattle.fm_data.specs.declared.answer.Answer.{Answer}
-use Rattle.fm_data.specs.declared.verdict.PreVerdict.{PreVerdict}
-use Rattle.fm_data.specs.declared.verdict.PostVerdict.{PostVerdict}
-use Rattle.fm_data.specs.Data.{Data, data_fits}
-use Rattle.fm_ctx.specs.Table.{context_at}
-use Rattle.fm_flow.specs.declared.action.Below.{Below}
-use Rattle.fm_flow.specs.declared.action.FlowAction.{FlowAction}
-use Rattle.fm_flow.specs.declared.stage.Stage.TheVariants.{Descending}
-use Rattle.fm_flow.specs.Record.{FlowRecord}
-use Rattle.fm_flow.specs.Steps.{next_of, post_returned_of, drain_returned_of, base_fits}
-use Rattle.fm_flow.specs.Table.{FlowTable, operation_at, changed, told}
-use Rattle.fm_types.proofs.Firsts.{change_none}
-use Rattle.fm_world.specs.declared.worker.Worker.{Worker}
-use Rattle.fm_world.specs.declared.worker.Worker.TheVariants as place
-use Rattle.fm_world.specs.World.{World}
-use Rattle.fm_world.specs.Workers.{worker_at, is_idle, after_next}
-use Rattle.fm_world.specs.Events.{Unless, SetsUp, SetsUpAt, FindsBelow, LiesBelow, Nexts, NextsAt, NextsOver, LosesByKnown, PreReturns, PreReturnsAt, PreReturnsOver, BaseReturns, BaseReturnsAt, PostReturns, PostReturnsAt, ReturnsFrom, pre_step, state_at, base_returned, drains_at, received, filed_next, flow_after_next}
-use Rattle.fm_ctx.specs.declared.object.Object.{Object}
-use Rattle.fm_ctx.specs.declared.set_reply.SetMode.{SetMode}
-use Rattle.fm_ctx.specs.Table.{Context}
-use Rattle.fm_world.specs.declared.set_answer.SetAnswer.{SetAnswer}
-use Rattle.fm_world.specs.declared.set_answer.SetAnswer.TheVariants as answer
-use Rattle.fm_world.specs.ContextEvents.{Callback, InCallback, InCallbackOf, callback_of, Sets, SetsIn, SetsUnless, SetsOn, set_refused, object_for, Cleans, CleansAt}
-use Rattle.fm_world.specs.Links.{LosesLinks}
+use Rattle.fm_world.proofs.Words.{CtxId, InstanceId, OpId, WorkerId, Status, Answers, AnswersOrMemory, change_none, BaseCall, Answer, PreVerdict, PostVerdict}
+use Rattle.fm_world.proofs.Words.{Data, data_fits, context_at, Object, SetMode, Context, Below, FlowAction, Descending, FlowRecord, next_of, post_returned_of}
+use Rattle.fm_world.proofs.Words.{drain_returned_of, base_fits, FlowTable, operation_at, changed, told, Worker, World, worker_at, is_idle, after_next, Unless}
+use Rattle.fm_world.proofs.Words.{SetsUp, SetsUpAt, FindsBelow, LiesBelow, Nexts, NextsAt, NextsOver, LosesByKnown, PreReturns, PreReturnsAt, PreReturnsOver}
+use Rattle.fm_world.proofs.Words.{BaseReturns, BaseReturnsAt, PostReturns, PostReturnsAt, ReturnsFrom, pre_step, state_at, base_returned, drains_at, received}
+use Rattle.fm_world.proofs.Words.{filed_next, flow_after_next, SetAnswer, Callback, InCallback, InCallbackOf, callback_of, Sets, SetsIn, SetsUnless, SetsOn}
+use Rattle.fm_world.proofs.Words.{set_refused, object_for, Cleans, CleansAt, LosesLinks}
 
 -- ---- refusals
 
@@ -62,18 +37,18 @@ memory_by P refusal (Err why) old new E h refused event = subst (P (Err why)) (s
 
 -- ---- by an idle worker
 
-idle_at : (m : Option Worker) → is_idle m ≡ true → m ≡ Some place.Idle
-idle_at (Some place.Idle) h = refl
+idle_at : (m : Option Worker) → is_idle m ≡ true → m ≡ Some Worker.Idle
+idle_at (Some Worker.Idle) h = refl
 idle_at _ h = absurd (false≢true h)
 
-pub idle_there : (workers : List Worker) (k : WorkerId) → is_idle (worker_at workers k) ≡ true → worker_at workers k ≡ Some place.Idle
+pub idle_there : (workers : List Worker) (k : WorkerId) → is_idle (worker_at workers k) ≡ true → worker_at workers k ≡ Some Worker.Idle
 idle_there workers k h = idle_at (worker_at workers k) h
 
 pub idle_by : {T : Type 0} (P : Result T Status → World → Type 0) (k : WorkerId) (result : Result T Status) (old new : World) (Event : Type 0)
-    → Unless status.WrongStep (is_idle (worker_at old.workers k)) result old new Event → Refused P old → (worker_at old.workers k ≡ Some place.Idle → Event → P result new)
+    → Unless Status.WrongStep (is_idle (worker_at old.workers k)) result old new Event → Refused P old → (worker_at old.workers k ≡ Some Worker.Idle → Event → P result new)
     → P result new
 idle_by P k result old new Event h refused event =
-    unless_by P status.WrongStep (is_idle (worker_at old.workers k)) result old new Event h refused (λ idle e. event (idle_there old.workers k idle) e)
+    unless_by P Status.WrongStep (is_idle (worker_at old.workers k)) result old new Event h refused (λ idle e. event (idle_there old.workers k idle) e)
 
 -- ---- in a callback
 
@@ -82,7 +57,7 @@ pub called_by : {T : Type 0} (P : Result T Status → World → Type 0) (old : W
 called_by P old k result new Event h refused event = by_callback (callback_of old k) refl h
   where
     by_callback : (m : Option Callback) → callback_of old k ≡ m → InCallbackOf result old new Event m → P result new
-    by_callback None is h = refused_by P status.WrongStep result old new h refused
+    by_callback None is h = refused_by P Status.WrongStep result old new h refused
     by_callback (Some at) is h = event at is h
 
 -- an event of a callback with its refusals, and one that takes memory
@@ -99,14 +74,14 @@ taken_by P old k result new refusal E h refused event =
     called_by P old k result new _ h refused (λ at is e. memory_by P (refusal at) result old new (E at) e refused (event at is))
 
 pub set_by : (P : SetAnswer → World → Type 0) (old : World) (k : WorkerId) (c : CtxId) (mode : SetMode) (wants : Bool) (result : SetAnswer) (new : World)
-    → Sets old k c mode wants result new → ((why : Status) → P (answer.Refused why) old)
+    → Sets old k c mode wants result new → ((why : Status) → P (SetAnswer.Refused why) old)
     → ((at : Callback) → callback_of old k ≡ Some at → set_refused old k c at ≡ None → (x : Context) (o : Object) → context_at old.contexts.slots c ≡ Some x
     → object_for at (Some x) ≡ Some o → SetsOn old k c mode wants result new (Some x) (Some o) → P result new) → P result new
 unfolding Sets
 set_by P old k c mode wants result new h refused event = by_callback (callback_of old k) refl h
   where
-    by_refusal : (why : Status) → (result ≡ answer.Refused why) × (new ≡ old) → P result new
-    by_refusal why h = subst (λ r. P r new) (sym h.0) (subst (P (answer.Refused why)) (sym h.1) (refused why))
+    by_refusal : (why : Status) → (result ≡ SetAnswer.Refused why) × (new ≡ old) → P result new
+    by_refusal why h = subst (λ r. P r new) (sym h.0) (subst (P (SetAnswer.Refused why)) (sym h.1) (refused why))
 
     on : (at : Callback) → callback_of old k ≡ Some at → set_refused old k c at ≡ None → (m : Option Context) → context_at old.contexts.slots c ≡ m
         → (o : Option Object) → object_for at m ≡ o → SetsOn old k c mode wants result new m o → P result new
@@ -118,69 +93,69 @@ set_by P old k c mode wants result new h refused event = by_callback (callback_o
     unless at is None free h = on at is free (context_at old.contexts.slots c) refl (object_for at (context_at old.contexts.slots c)) refl h
 
     by_callback : (m : Option Callback) → callback_of old k ≡ m → SetsIn old k c mode wants result new m → P result new
-    by_callback None is h = by_refusal status.WrongStep h
+    by_callback None is h = by_refusal Status.WrongStep h
     by_callback (Some at) is h = unless at is (set_refused old k c at) refl h
 
 -- ---- by the worker's place
 
 pub setup_by : (P : Result (Unit {0}) Status → World → Type 0) (old : World) (k : WorkerId) (accept : Bool) (result : Result (Unit {0}) Status) (new : World)
     → SetsUp old k accept result new → Refused P old
-    → ((i : InstanceId) → worker_at old.workers k ≡ Some (place.Setup i) → SetsUpAt old k accept result new (Some (place.Setup i)) → P result new) → P result new
+    → ((i : InstanceId) → worker_at old.workers k ≡ Some (Worker.Setup i) → SetsUpAt old k accept result new (Some (Worker.Setup i)) → P result new) → P result new
 unfolding SetsUp
 setup_by P old k accept result new h refused event = by_place (worker_at old.workers k) refl h
   where
     by_place : (m : Option Worker) → worker_at old.workers k ≡ m → SetsUpAt old k accept result new m → P result new
-    by_place (Some (place.Setup i)) at h = event i at h
-    by_place _ at h = refused_by P status.WrongStep result old new h refused
+    by_place (Some (Worker.Setup i)) at h = event i at h
+    by_place _ at h = refused_by P Status.WrongStep result old new h refused
 
 pub pre_by : (P : Result (Unit {0}) Status → World → Type 0) (old : World) (k : WorkerId) (given : PreVerdict) (lent : Data) (result : Result (Unit {0}) Status) (new : World)
     → PreReturns old k given lent result new → Refused P old
-    → ((o : OpId) (i : InstanceId) → worker_at old.workers k ≡ Some (place.Pre o i) → told (λ r. data_fits r.operation r.path lent) false o old.flow ≡ true
+    → ((o : OpId) (i : InstanceId) → worker_at old.workers k ≡ Some (Worker.Pre o i) → told (λ r. data_fits r.operation r.path lent) false o old.flow ≡ true
     → PreReturnsOver old k o (pre_step old k o i given lent) (state_at old k o i given) new → P (Ok tt) new) → P result new
 unfolding PreReturns
 pre_by P old k given lent result new h refused event = by_place (worker_at old.workers k) refl h
   where
     by_place : (m : Option Worker) → worker_at old.workers k ≡ m → PreReturnsAt old k given lent result new m → P result new
-    by_place (Some (place.Pre o i)) at h = unless_by P _ _ result old new _ h refused (λ fits e. subst (λ r. P r new) (sym e.0) (event o i at fits e.1))
-    by_place _ at h = refused_by P status.WrongStep result old new h refused
+    by_place (Some (Worker.Pre o i)) at h = unless_by P _ _ result old new _ h refused (λ fits e. subst (λ r. P r new) (sym e.0) (event o i at fits e.1))
+    by_place _ at h = refused_by P Status.WrongStep result old new h refused
 
 pub base_by : (P : Result (Unit {0}) Status → World → Type 0) (old : World) (k : WorkerId) (call : BaseCall) (given : Answer) (result : Result (Unit {0}) Status) (new : World)
     → BaseReturns old k call given result new → Refused P old
-    → ((o : OpId) → worker_at old.workers k ≡ Some (place.Base o) → told (base_fits call given) false o old.flow ≡ true
+    → ((o : OpId) → worker_at old.workers k ≡ Some (Worker.Base o) → told (base_fits call given) false o old.flow ≡ true
     → LosesLinks (base_returned old k o call given) new → P (Ok tt) new) → P result new
 unfolding BaseReturns
 base_by P old k call given result new h refused event = by_place (worker_at old.workers k) refl h
   where
     by_place : (m : Option Worker) → worker_at old.workers k ≡ m → BaseReturnsAt old k call given result new m → P result new
-    by_place (Some (place.Base o)) at h = unless_by P _ _ result old new _ h refused (λ fits e. subst (λ r. P r new) (sym e.0) (event o at fits e.1))
-    by_place _ at h = refused_by P status.WrongStep result old new h refused
+    by_place (Some (Worker.Base o)) at h = unless_by P _ _ result old new _ h refused (λ fits e. subst (λ r. P r new) (sym e.0) (event o at fits e.1))
+    by_place _ at h = refused_by P Status.WrongStep result old new h refused
 
 -- a postoperation that brought its data back, or a drain
 pub post_by : (P : Result (Unit {0}) Status → World → Type 0) (old : World) (k : WorkerId) (given : PostVerdict) (lent : Option Data) (result : Result (Unit {0}) Status) (new : World)
     → PostReturns old k given lent result new → Refused P old
-    → ((o : OpId) (i : InstanceId) (back : Data) → worker_at old.workers k ≡ Some (place.Post o i) → told (λ r. data_fits r.operation r.path back) false o old.flow ≡ true
+    → ((o : OpId) (i : InstanceId) (back : Data) → worker_at old.workers k ≡ Some (Worker.Post o i) → told (λ r. data_fits r.operation r.path back) false o old.flow ≡ true
     → ReturnsFrom old k o (post_returned_of given back) old.contexts new → P (Ok tt) new)
-    → ((o : OpId) (i : InstanceId) → worker_at old.workers k ≡ Some (place.Drain o i) → ReturnsFrom old k o (drain_returned_of i) old.contexts new → P (Ok tt) new) → P result new
+    → ((o : OpId) (i : InstanceId) → worker_at old.workers k ≡ Some (Worker.Drain o i) → ReturnsFrom old k o (drain_returned_of i) old.contexts new → P (Ok tt) new) → P result new
 unfolding PostReturns
 post_by P old k given lent result new h refused post drain = by_place lent (worker_at old.workers k) refl h
   where
     by_place : (lent : Option Data) (m : Option Worker) → worker_at old.workers k ≡ m → PostReturnsAt old k given lent result new m → P result new
-    by_place (Some back) (Some (place.Post o i)) at h =
+    by_place (Some back) (Some (Worker.Post o i)) at h =
         unless_by P _ _ result old new _ h refused (λ fits e. subst (λ r. P r new) (sym e.0) (post o i back at fits e.1))
-    by_place None (Some (place.Drain o i)) at h = subst (λ r. P r new) (sym h.0) (drain o i at h.1)
-    by_place None (Some (place.Post o i)) at h = refused_by P status.BadRequest result old new h refused
-    by_place (Some back) (Some (place.Drain o i)) at h = refused_by P status.BadRequest result old new h refused
-    by_place _ _ at h = refused_by P status.WrongStep result old new h refused
+    by_place None (Some (Worker.Drain o i)) at h = subst (λ r. P r new) (sym h.0) (drain o i at h.1)
+    by_place None (Some (Worker.Post o i)) at h = refused_by P Status.BadRequest result old new h refused
+    by_place (Some back) (Some (Worker.Drain o i)) at h = refused_by P Status.BadRequest result old new h refused
+    by_place _ _ at h = refused_by P Status.WrongStep result old new h refused
 
 pub cleaned_by : (P : Result (Unit {0}) Status → World → Type 0) (old : World) (k : WorkerId) (number : ℕ) (result : Result (Unit {0}) Status) (new : World)
     → Cleans old k number result new → Refused P old
-    → ((c : CtxId) → worker_at old.workers k ≡ Some (place.Cleanup c) → CleansAt old k number result new (Some (place.Cleanup c)) → P result new) → P result new
+    → ((c : CtxId) → worker_at old.workers k ≡ Some (Worker.Cleanup c) → CleansAt old k number result new (Some (Worker.Cleanup c)) → P result new) → P result new
 unfolding Cleans
 cleaned_by P old k number result new h refused event = by_place (worker_at old.workers k) refl h
   where
     by_place : (m : Option Worker) → worker_at old.workers k ≡ m → CleansAt old k number result new m → P result new
-    by_place (Some (place.Cleanup c)) at h = event c at h
-    by_place _ at h = refused_by P status.WrongStep result old new h refused
+    by_place (Some (Worker.Cleanup c)) at h = event c at h
+    by_place _ at h = refused_by P Status.WrongStep result old new h refused
 
 -- ---- next
 
@@ -188,7 +163,7 @@ cleaned_by P old k number result new h refused event = by_place (worker_at old.w
 pub record Turns (old : World) (k : WorkerId) (o : OpId) (result : Result FlowAction Status) (new : World) : Type 0 where
   pub lies : Below
   pub row : FlowRecord
-  pub idle : worker_at old.workers k ≡ Some place.Idle
+  pub idle : worker_at old.workers k ≡ Some Worker.Idle
   pub at : operation_at o old.flow ≡ Some row
   pub finds : row.stage ≡ Descending → LiesBelow old.stack row lies
   pub reply : result ≡ (next_of k lies (drains_at old o) row).reply
@@ -200,7 +175,7 @@ pub unchanged_flow : (t : FlowTable) (o : OpId) (f : FlowRecord → FlowRecord) 
 unchanged_flow t o f h = ap (λ (rs : List FlowRecord). record t { operations = rs }) (change_none (λ r. r.number.0 == o.0) f t.operations h)
 
 -- nothing changes where there is no such operation
-not_there : (old : World) (k : WorkerId) (o : OpId) (lies : Below) (result : Result FlowAction Status) → operation_at o old.flow ≡ None → result ≡ Err status.WrongStep
+not_there : (old : World) (k : WorkerId) (o : OpId) (lies : Below) (result : Result FlowAction Status) → operation_at o old.flow ≡ None → result ≡ Err Status.WrongStep
     → record old {
       flow = flow_after_next old k o lies;
       workers = after_next old.workers k o result;
@@ -218,7 +193,7 @@ unfolding Nexts
 next_by P old k o result new h refused event =
     idle_by P k result old new (NextsAt old k o result new) h refused (λ idle e. by_operation idle e.0 e.1 e.2 e.3 e.4 (operation_at o old.flow) refl)
   where
-    by_operation : worker_at old.workers k ≡ Some place.Idle → (lies : Below) → FindsBelow old.stack old.files old.flow (operation_at o old.flow) lies
+    by_operation : worker_at old.workers k ≡ Some Worker.Idle → (lies : Below) → FindsBelow old.stack old.files old.flow (operation_at o old.flow) lies
         → (mid : World) → NextsOver old k o lies result mid → LosesByKnown result lies mid new → (m : Option FlowRecord) → operation_at o old.flow ≡ m → P result new
     by_operation idle lies finds mid over loses (Some r) at = event (record {
       lies = lies;
@@ -226,13 +201,13 @@ next_by P old k o result new h refused event =
       idle = idle;
       at = at;
       finds = λ down. (subst (λ m. FindsBelow old.stack old.files old.flow m lies) at finds down).0;
-      reply = over.0 ∙ ap (λ m. unwrap_or (option_map (λ (x : FlowRecord). (next_of k lies (drains_at old o) x).reply) m) (Err status.WrongStep)) at;
+      reply = over.0 ∙ ap (λ m. unwrap_or (option_map (λ (x : FlowRecord). (next_of k lies (drains_at old o) x).reply) m) (Err Status.WrongStep)) at;
       mid = mid;
       over = over;
       loses = loses;
     })
     by_operation idle lies finds mid over loses None at =
-        let reply : result ≡ Err status.WrongStep =
-        over.0 ∙ ap (λ m. unwrap_or (option_map (λ (x : FlowRecord). (next_of k lies (drains_at old o) x).reply) m) (Err status.WrongStep)) at in
+        let reply : result ≡ Err Status.WrongStep =
+        over.0 ∙ ap (λ m. unwrap_or (option_map (λ (x : FlowRecord). (next_of k lies (drains_at old o) x).reply) m) (Err Status.WrongStep)) at in
         let same : mid ≡ old = over.1 ∙ not_there old k o lies result at reply in
-        refused_by P status.WrongStep result old new (reply, subst (λ x. LosesByKnown x lies mid new) reply loses ∙ same) refused
+        refused_by P Status.WrongStep result old new (reply, subst (λ x. LosesByKnown x lies mid new) reply loses ∙ same) refused

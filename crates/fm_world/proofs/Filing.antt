@@ -3,42 +3,16 @@ use Rattle.std.proofs.Common.{◌≡◌, ℕ, ◌+◌, ◌≤◌, ◌<◌, Bool,
 use Rattle.std.specs.Prelude.{◌&&◌, ◌||◌, count_by, nat_le}
 use Rattle.std.proofs.lemmas.Bool.{leb-false}
 use Rattle.std.proofs.lemmas.List.Sums.{sum_by_push}
-use Rattle.fm_types.specs.declared.ids.HandleId.{HandleId}
-use Rattle.fm_types.specs.declared.ids.OpId.{OpId}
-use Rattle.fm_types.specs.declared.ids.StreamId.{StreamId}
-use Rattle.fm_types.specs.declared.ids.VolumeId.{VolumeId}
-use Rattle.fm_types.specs.declared.ids.WorkerId.{WorkerId}
-use Rattle.fm_types.specs.declared.operation.Operation.{Operation}
-use Rattle.fm_types.specs.declared.operation.Operation.TheVariants as kind
-use Rattle.fm_types.specs.declared.status.Status.{Status}
-use Rattle.fm_types.specs.declared.status.Status.TheVariants as status
-use Rattle.fm_types.proofs.Firsts.{count_changed, count_without, found_counts, length_change, length_without}
-use Rattle.fm_data.specs.declared.params.Params.{Params}
-use Rattle.fm_data.specs.Params.{operation_of}
-use Rattle.fm_flow.specs.declared.action.Below.TheVariants as below
-use Rattle.fm_flow.specs.declared.action.FlowAction.TheVariants as action
-use Rattle.fm_flow.specs.declared.entry.Ask.{Ask}
-use Rattle.fm_flow.specs.declared.entry.PreState.{PreState}
-use Rattle.fm_flow.specs.declared.entry.PreState.TheVariants as state
-use Rattle.fm_flow.specs.declared.stage.Stage.{Stage}
-use Rattle.fm_flow.specs.declared.stage.Stage.TheVariants.{Descending, PreRunning, PreHeld, InBase, Ascending, PostRunning, PostHeld, InDrain}
-use Rattle.fm_flow.specs.Answered.{is_success}
-use Rattle.fm_flow.specs.Creates.{is_create, is_unanswered, is_creating, creates}
-use Rattle.fm_flow.specs.Entries.{owed}
-use Rattle.fm_flow.specs.Record.{FlowRecord}
-use Rattle.fm_flow.specs.Steps.{Turned, turn, next_of, next_at, descend, ascend, call_post, give_post, unwound, unwound_to, may_take}
-use Rattle.fm_flow.specs.Table.{FlowTable, is_number, operation_at, changed, removed, begun, begun_record, collected_of, collected_in, is_collectable, marked}
-use Rattle.fm_world.specs.declared.file.HandlePhase.TheVariants as phase
-use Rattle.fm_world.specs.declared.file.FileStream.{FileStream}
-use Rattle.fm_world.specs.declared.step.FileRequest.{FileRequest}
-use Rattle.fm_world.specs.declared.step.FileRequest.TheVariants as request
-use Rattle.fm_world.specs.Files.{FileTable, is_handle, is_stream, with_phase, with_mark, phased, opened, closed, torn_down, left, created, created_in, stream_of_path, has_handle_on, after_base, after_pre}
-use Rattle.fm_world.specs.Files as files
-use Rattle.fm_world.specs.Requests.{params_of}
-use Rattle.fm_world.specs.Events.{moved_on}
-use Rattle.fm_world.specs.Sound.{IsFiled}
 use Rattle.std.specs.List.{list_any}
-use Rattle.fm_flow.specs.Counts.{is_running_drain}
+use Rattle.fm_world.proofs.Words.{HandleId, OpId, StreamId, VolumeId, WorkerId, Operation, Status, count_changed, count_without, found_counts, length_change}
+use Rattle.fm_world.proofs.Words.{length_without, Params, operation_of, Below, FlowAction, Ask, PreState, Stage, Descending, PreRunning, PreHeld, InBase}
+use Rattle.fm_world.proofs.Words.{Ascending, PostRunning, PostHeld, InDrain, is_success, is_create, is_unanswered, is_creating, creates, owed, FlowRecord}
+use Rattle.fm_world.proofs.Words.{Turned, turn, next_of, next_at, descend, ascend, call_post, give_post, unwound, unwound_to, may_take, FlowTable, is_number}
+use Rattle.fm_world.proofs.Words.{operation_at, changed, removed, begun, begun_record, collected_of, collected_in, is_collectable, marked, is_running_drain}
+use Rattle.fm_world.proofs.Words.{HandlePhase, FileStream, FileTable, is_handle, is_stream, with_phase, with_mark, phased, opened, closed, torn_down, left}
+use Rattle.fm_world.proofs.Words.{created, created_in, stream_of_path, has_handle_on, after_base, after_pre, params_of, moved_on, IsFiled}
+use Rattle.fm_world.specs.Files as files
+use Rattle.fm_world.specs.declared.step.FileRequest.{FileRequest}
 
 -- no handle is given
 pub record Shrinks (f g : FileTable) : Type 0 where
@@ -65,34 +39,34 @@ marked_shrinks s true f = record { next = refl; handles = omega arith }
 marked_shrinks s false f = shrinks_same f
 
 pub moved_shrinks : (operation : Operation) (h : HandleId) (n : ℕ) (f : FileTable) → Shrinks f (moved_on operation h n f)
-moved_shrinks kind.Cleanup h n f = record { next = refl; handles = let k = length_change (is_handle h) (with_phase (phase.CleaningUp (record { 0 = n }))) f.handles in omega (arith, k) }
-moved_shrinks kind.Close h n f = record { next = refl; handles = let k = length_change (is_handle h) (with_phase phase.Closing) f.handles in omega (arith, k) }
-moved_shrinks kind.Create h n f = shrinks_same f
-moved_shrinks kind.Read h n f = shrinks_same f
-moved_shrinks kind.Write h n f = shrinks_same f
-moved_shrinks kind.QuerySize h n f = shrinks_same f
-moved_shrinks kind.SetSize h n f = shrinks_same f
-moved_shrinks kind.Flush h n f = shrinks_same f
-moved_shrinks kind.List h n f = shrinks_same f
-moved_shrinks kind.SetDelete h n f = shrinks_same f
+moved_shrinks Operation.Cleanup h n f = record { next = refl; handles = let k = length_change (is_handle h) (with_phase (HandlePhase.CleaningUp (record { 0 = n }))) f.handles in omega (arith, k) }
+moved_shrinks Operation.Close h n f = record { next = refl; handles = let k = length_change (is_handle h) (with_phase HandlePhase.Closing) f.handles in omega (arith, k) }
+moved_shrinks Operation.Create h n f = shrinks_same f
+moved_shrinks Operation.Read h n f = shrinks_same f
+moved_shrinks Operation.Write h n f = shrinks_same f
+moved_shrinks Operation.QuerySize h n f = shrinks_same f
+moved_shrinks Operation.SetSize h n f = shrinks_same f
+moved_shrinks Operation.Flush h n f = shrinks_same f
+moved_shrinks Operation.List h n f = shrinks_same f
+moved_shrinks Operation.SetDelete h n f = shrinks_same f
 
 pub pre_shrinks : (given : PreState) (operation : Operation) (s : Option StreamId) (b : Bool) (f : FileTable) → Shrinks f (after_pre given operation s b f)
-pre_shrinks (state.Completed why) kind.Create (Some s) b f = left_shrinks s b f
-pre_shrinks (state.Completed why) kind.Create None b f = shrinks_same f
-pre_shrinks (state.Completed why) kind.Read s b f = shrinks_same f
-pre_shrinks (state.Completed why) kind.Write s b f = shrinks_same f
-pre_shrinks (state.Completed why) kind.QuerySize s b f = shrinks_same f
-pre_shrinks (state.Completed why) kind.SetSize s b f = shrinks_same f
-pre_shrinks (state.Completed why) kind.Flush s b f = shrinks_same f
-pre_shrinks (state.Completed why) kind.List s b f = shrinks_same f
-pre_shrinks (state.Completed why) kind.SetDelete s b f = shrinks_same f
-pre_shrinks (state.Completed why) kind.Cleanup s b f = shrinks_same f
-pre_shrinks (state.Completed why) kind.Close s b f = shrinks_same f
-pre_shrinks state.Running operation s b f = shrinks_same f
-pre_shrinks state.Held operation s b f = shrinks_same f
-pre_shrinks (state.Asked completion) operation s b f = shrinks_same f
-pre_shrinks (state.Synchronized completion) operation s b f = shrinks_same f
-pre_shrinks state.Passed operation s b f = shrinks_same f
+pre_shrinks (PreState.Completed why) Operation.Create (Some s) b f = left_shrinks s b f
+pre_shrinks (PreState.Completed why) Operation.Create None b f = shrinks_same f
+pre_shrinks (PreState.Completed why) Operation.Read s b f = shrinks_same f
+pre_shrinks (PreState.Completed why) Operation.Write s b f = shrinks_same f
+pre_shrinks (PreState.Completed why) Operation.QuerySize s b f = shrinks_same f
+pre_shrinks (PreState.Completed why) Operation.SetSize s b f = shrinks_same f
+pre_shrinks (PreState.Completed why) Operation.Flush s b f = shrinks_same f
+pre_shrinks (PreState.Completed why) Operation.List s b f = shrinks_same f
+pre_shrinks (PreState.Completed why) Operation.SetDelete s b f = shrinks_same f
+pre_shrinks (PreState.Completed why) Operation.Cleanup s b f = shrinks_same f
+pre_shrinks (PreState.Completed why) Operation.Close s b f = shrinks_same f
+pre_shrinks PreState.Running operation s b f = shrinks_same f
+pre_shrinks PreState.Held operation s b f = shrinks_same f
+pre_shrinks (PreState.Asked completion) operation s b f = shrinks_same f
+pre_shrinks (PreState.Synchronized completion) operation s b f = shrinks_same f
+pre_shrinks PreState.Passed operation s b f = shrinks_same f
 
 -- ---- one operation takes a step
 
@@ -129,26 +103,26 @@ not_more_none r s none = let k : ◌≡◌ {A = ℕ} (cond (is_creating s) 1 0) 
 pub filed_answered : (f : FileTable) (t : FlowTable) (o : OpId) (r : FlowRecord) (step : FlowRecord → FlowRecord) (operation : Operation) (s : Option StreamId) (h : Option HandleId)
     (why : Status) (b : Bool) → operation_at o t ≡ Some r → r.operation ≡ operation → is_unanswered r.stage ≡ true → is_creating (step r) ≡ false → IsFiled f t
     → IsFiled (after_base operation s h why b f) (changed o step t)
-filed_answered f t o r step kind.Create (Some s) h why b at same unanswered none k =
+filed_answered f t o r step Operation.Create (Some s) h why b at same unanswered none k =
     elim (is_success why) as (λ c. IsFiled (cond c (opened s f) (left s b f)) (changed o step t)) [
       | true ↦ filed_open f t o s r step at (ap (λ x. is_create x && is_unanswered r.stage) same ∙ unanswered) none k
       | false ↦ filed_step f (left s b f) t o r step at (not_more_none r (step r) none) (left_shrinks s b f) k
     ]
-filed_answered f t o r step kind.SetDelete (Some s) h why b at same unanswered none k =
+filed_answered f t o r step Operation.SetDelete (Some s) h why b at same unanswered none k =
     filed_step f (cond (is_success why) (files.marked s f) f) t o r step at (not_more_none r (step r) none) (marked_shrinks s (is_success why) f) k
-filed_answered f t o r step kind.Close (Some s) (Some h) why b at same unanswered none k =
+filed_answered f t o r step Operation.Close (Some s) (Some h) why b at same unanswered none k =
     filed_step f (left s b (closed h f)) t o r step at (not_more_none r (step r) none) (closed_shrinks h s b f) k
-filed_answered f t o r step kind.Create None h why b at same unanswered none k = filed_step f f t o r step at (not_more_none r (step r) none) (shrinks_same f) k
-filed_answered f t o r step kind.SetDelete None h why b at same unanswered none k = filed_step f f t o r step at (not_more_none r (step r) none) (shrinks_same f) k
-filed_answered f t o r step kind.Close None h why b at same unanswered none k = filed_step f f t o r step at (not_more_none r (step r) none) (shrinks_same f) k
-filed_answered f t o r step kind.Close (Some s) None why b at same unanswered none k = filed_step f f t o r step at (not_more_none r (step r) none) (shrinks_same f) k
-filed_answered f t o r step kind.Read s h why b at same unanswered none k = filed_step f f t o r step at (not_more_none r (step r) none) (shrinks_same f) k
-filed_answered f t o r step kind.Write s h why b at same unanswered none k = filed_step f f t o r step at (not_more_none r (step r) none) (shrinks_same f) k
-filed_answered f t o r step kind.QuerySize s h why b at same unanswered none k = filed_step f f t o r step at (not_more_none r (step r) none) (shrinks_same f) k
-filed_answered f t o r step kind.SetSize s h why b at same unanswered none k = filed_step f f t o r step at (not_more_none r (step r) none) (shrinks_same f) k
-filed_answered f t o r step kind.Flush s h why b at same unanswered none k = filed_step f f t o r step at (not_more_none r (step r) none) (shrinks_same f) k
-filed_answered f t o r step kind.List s h why b at same unanswered none k = filed_step f f t o r step at (not_more_none r (step r) none) (shrinks_same f) k
-filed_answered f t o r step kind.Cleanup s h why b at same unanswered none k = filed_step f f t o r step at (not_more_none r (step r) none) (shrinks_same f) k
+filed_answered f t o r step Operation.Create None h why b at same unanswered none k = filed_step f f t o r step at (not_more_none r (step r) none) (shrinks_same f) k
+filed_answered f t o r step Operation.SetDelete None h why b at same unanswered none k = filed_step f f t o r step at (not_more_none r (step r) none) (shrinks_same f) k
+filed_answered f t o r step Operation.Close None h why b at same unanswered none k = filed_step f f t o r step at (not_more_none r (step r) none) (shrinks_same f) k
+filed_answered f t o r step Operation.Close (Some s) None why b at same unanswered none k = filed_step f f t o r step at (not_more_none r (step r) none) (shrinks_same f) k
+filed_answered f t o r step Operation.Read s h why b at same unanswered none k = filed_step f f t o r step at (not_more_none r (step r) none) (shrinks_same f) k
+filed_answered f t o r step Operation.Write s h why b at same unanswered none k = filed_step f f t o r step at (not_more_none r (step r) none) (shrinks_same f) k
+filed_answered f t o r step Operation.QuerySize s h why b at same unanswered none k = filed_step f f t o r step at (not_more_none r (step r) none) (shrinks_same f) k
+filed_answered f t o r step Operation.SetSize s h why b at same unanswered none k = filed_step f f t o r step at (not_more_none r (step r) none) (shrinks_same f) k
+filed_answered f t o r step Operation.Flush s h why b at same unanswered none k = filed_step f f t o r step at (not_more_none r (step r) none) (shrinks_same f) k
+filed_answered f t o r step Operation.List s h why b at same unanswered none k = filed_step f f t o r step at (not_more_none r (step r) none) (shrinks_same f) k
+filed_answered f t o r step Operation.Cleanup s h why b at same unanswered none k = filed_step f f t o r step at (not_more_none r (step r) none) (shrinks_same f) k
 
 -- an operation that has an answer is no create under way
 pub answered_none : (r : FlowRecord) → is_unanswered r.stage ≡ false → is_creating r ≡ false
@@ -181,7 +155,7 @@ ascend_none k drains r None h = h
 ascend_none k true r (Some ask) h = refl
 ascend_none k false r (Some ask) h = taken (may_take k ask)
   where
-    taken : (b : Bool) → is_unanswered (cond b (call_post k ask r) (turn (Err status.WrongStep) r)).after.stage ≡ false
+    taken : (b : Bool) → is_unanswered (cond b (call_post k ask r) (turn (Err Status.WrongStep) r)).after.stage ≡ false
     taken true = post_none k ask (unwound ask.place r) (unwound ask.place r).params (unwound_none ask.place r (slice_get r.kept ask.place) h)
     taken false = h
 
@@ -190,22 +164,22 @@ pub record WasKnown (r : FlowRecord) (turned : Turned) : Type 0 where
   pub unanswered : is_unanswered r.stage ≡ true
   pub none : is_creating turned.after ≡ false
 
-moved_not_post : (k : WorkerId) (ask : Ask) (r : FlowRecord) (m : Option Params) → Ok action.Moved ≡ (give_post k ask r m).reply → ⊥
+moved_not_post : (k : WorkerId) (ask : Ask) (r : FlowRecord) (m : Option Params) → Ok FlowAction.Moved ≡ (give_post k ask r m).reply → ⊥
 moved_not_post k ask r (Some p) h = cc
 moved_not_post k ask r None h = cc
 
-moved_not_up : (k : WorkerId) (drains : Bool) (r : FlowRecord) (m : Option Ask) → Ok action.Moved ≡ (ascend k drains r m).reply → ⊥
+moved_not_up : (k : WorkerId) (drains : Bool) (r : FlowRecord) (m : Option Ask) → Ok FlowAction.Moved ≡ (ascend k drains r m).reply → ⊥
 moved_not_up k drains r None h = cc
 moved_not_up k true r (Some ask) h = cc
 moved_not_up k false r (Some ask) h = taken (may_take k ask) h
   where
-    taken : (b : Bool) → Ok action.Moved ≡ (cond b (call_post k ask r) (turn (Err status.WrongStep) r)).reply → ⊥
+    taken : (b : Bool) → Ok FlowAction.Moved ≡ (cond b (call_post k ask r) (turn (Err Status.WrongStep) r)).reply → ⊥
     taken true h = moved_not_post k ask (unwound ask.place r) (unwound ask.place r).params h
     taken false h = cc
 
-known_at : (k : WorkerId) (why : Status) (drains : Bool) (r : FlowRecord) (stage : Stage) → r.stage ≡ stage → Ok action.Moved ≡ (next_at k (below.Known why) drains r stage).reply
-    → WasKnown r (next_at k (below.Known why) drains r stage)
-known_at k why drains r Descending e h = record { unanswered = ap is_unanswered e; none = answered_none (descend k (below.Known why) r).after refl }
+known_at : (k : WorkerId) (why : Status) (drains : Bool) (r : FlowRecord) (stage : Stage) → r.stage ≡ stage → Ok FlowAction.Moved ≡ (next_at k (Below.Known why) drains r stage).reply
+    → WasKnown r (next_at k (Below.Known why) drains r stage)
+known_at k why drains r Descending e h = record { unanswered = ap is_unanswered e; none = answered_none (descend k (Below.Known why) r).after refl }
 known_at k why drains r Ascending e h = absurd (moved_not_up k drains r (slice_get (owed r.entries) 0) h)
 known_at k why drains r PreRunning e h = cc
 known_at k why drains r PreHeld e h = cc
@@ -214,12 +188,12 @@ known_at k why drains r PostRunning e h = cc
 known_at k why drains r PostHeld e h = cc
 known_at k why drains r (InDrain i) e h = cc
 
-pub was_known : (k : WorkerId) (why : Status) (drains : Bool) (r : FlowRecord) → Ok action.Moved ≡ (next_of k (below.Known why) drains r).reply
-    → WasKnown r (next_of k (below.Known why) drains r)
+pub was_known : (k : WorkerId) (why : Status) (drains : Bool) (r : FlowRecord) → Ok FlowAction.Moved ≡ (next_of k (Below.Known why) drains r).reply
+    → WasKnown r (next_of k (Below.Known why) drains r)
 was_known k why drains r h = by_collected r.collected h
   where
-    by_collected : (b : Bool) → Ok action.Moved ≡ (cond b (turn (Err status.WrongStep) r) (next_at k (below.Known why) drains r r.stage)).reply
-        → WasKnown r (cond b (turn (Err status.WrongStep) r) (next_at k (below.Known why) drains r r.stage))
+    by_collected : (b : Bool) → Ok FlowAction.Moved ≡ (cond b (turn (Err Status.WrongStep) r) (next_at k (Below.Known why) drains r r.stage)).reply
+        → WasKnown r (cond b (turn (Err Status.WrongStep) r) (next_at k (Below.Known why) drains r r.stage))
     by_collected true h = cc
     by_collected false h = known_at k why drains r r.stage refl h
 
@@ -263,14 +237,14 @@ filed_creates f t v path stream handle born name p room h =
     record { numbers = omega (arith, counts, at_most, next, numbers); few = omega (arith, counts, at_most, handles, small) }
 
 pub asks_no_create : (asked : FileRequest) → is_create (operation_of (params_of asked)) ≡ false
-asks_no_create (request.Read offset len) = refl
-asks_no_create (request.Write offset bytes) = refl
-asks_no_create request.QuerySize = refl
-asks_no_create (request.SetSize size) = refl
-asks_no_create request.Flush = refl
-asks_no_create request.SetDelete = refl
-asks_no_create request.Cleanup = refl
-asks_no_create request.Close = refl
+asks_no_create (FileRequest.Read offset len) = refl
+asks_no_create (FileRequest.Write offset bytes) = refl
+asks_no_create FileRequest.QuerySize = refl
+asks_no_create (FileRequest.SetSize size) = refl
+asks_no_create FileRequest.Flush = refl
+asks_no_create FileRequest.SetDelete = refl
+asks_no_create FileRequest.Cleanup = refl
+asks_no_create FileRequest.Close = refl
 
 collected_next : (o : OpId) (t : FlowTable) (m : Option FlowRecord) → (collected_in o t m).next ≡ t.next
 collected_next o t None = refl

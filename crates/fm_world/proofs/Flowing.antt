@@ -6,90 +6,38 @@ use Rattle.std.proofs.lemmas.Bool.{false≢true, true≢false, cases_Bool, and_p
 use Rattle.std.proofs.lemmas.Option.{none-some, same_Some, slice_get_within}
 use Rattle.std.proofs.lemmas.List.{set-set}
 use Rattle.std.proofs.lemmas.List.Elements.{All-nil, All-cons, All-push}
-use Rattle.fm_types.specs.declared.ids.CtxId.{CtxId}
-use Rattle.fm_types.specs.declared.ids.InstanceId.{InstanceId}
-use Rattle.fm_types.specs.declared.ids.OpId.{OpId}
-use Rattle.fm_types.specs.declared.ids.WorkerId.{WorkerId}
-use Rattle.fm_types.specs.declared.operation.Operation.{Operation}
-use Rattle.fm_types.specs.declared.operation.Operation.TheVariants as kind
-use Rattle.fm_types.specs.declared.status.Status.{Status}
-use Rattle.fm_types.proofs.Lists.{slice_get-set_same}
-use Rattle.fm_data.specs.declared.base_call.BaseCall.{BaseCall}
-use Rattle.fm_data.specs.declared.params.Params.{Params}
-use Rattle.fm_data.specs.declared.params.Params.TheVariants as params
-use Rattle.fm_data.specs.declared.answer.Answer.{Answer}
-use Rattle.fm_data.specs.declared.verdict.Completion.{Completion}
-use Rattle.fm_data.specs.declared.verdict.PreVerdict.{PreVerdict}
-use Rattle.fm_data.specs.declared.verdict.PreVerdict.TheVariants as verdict
-use Rattle.fm_data.specs.declared.verdict.PostVerdict.{PostVerdict}
-use Rattle.fm_data.specs.declared.verdict.PostVerdict.TheVariants as given'
-use Rattle.fm_data.specs.Data.{Data}
-use Rattle.fm_stack.specs.declared.instance.Phase.{Phase}
-use Rattle.fm_stack.specs.declared.instance.Phase.TheVariants as phase
-use Rattle.fm_stack.specs.StackWorld.{StackWorld}
-use Rattle.fm_stack.specs.Instances.{is_attached}
-use Rattle.fm_stack.specs.Next.{is_to_visit, is_below_cursor}
-use Rattle.fm_flow.specs.declared.action.Below.{Below}
-use Rattle.fm_flow.specs.declared.action.Below.TheVariants as below
-use Rattle.fm_flow.specs.declared.action.FlowAction.{FlowAction}
-use Rattle.fm_flow.specs.declared.action.FlowAction.TheVariants as action
-use Rattle.fm_flow.specs.declared.entry.Ask.{Ask}
-use Rattle.fm_flow.specs.declared.entry.PreState.{PreState}
-use Rattle.fm_flow.specs.declared.entry.PreState.TheVariants as pre
-use Rattle.fm_flow.specs.declared.entry.Entry.TheVariants.{Base}
-use Rattle.fm_flow.specs.declared.entry.PreVisit.{PreVisit}
-use Rattle.fm_flow.specs.declared.stage.Stage.{Stage}
-use Rattle.fm_flow.specs.declared.stage.Stage.TheVariants.{Descending, PreRunning, PreHeld, InBase, Ascending, PostRunning, PostHeld, InDrain}
-use Rattle.fm_flow.specs.Counts.{carried_in, carried_among, carried_by, is_running_drain, flight, handed, taken_by}
-use Rattle.fm_flow.specs.Entries.{ask_in, last_visited, owed}
-use Rattle.fm_flow.specs.Record.{FlowRecord}
-use Rattle.fm_flow.specs.Sound.{IsCourse}
+use Rattle.fm_world.proofs.Words.{CtxId, InstanceId, OpId, WorkerId, Operation, Status, slice_get-set_same, found_holds, all_change, all_without, HandleId}
+use Rattle.fm_world.proofs.Words.{StreamId, VolumeId, BaseCall, Params, Answer, PreVerdict, PostVerdict, Data, operation_of, is_within_limits, Phase}
+use Rattle.fm_world.proofs.Words.{StackWorld, is_attached, is_to_visit, is_below_cursor, holds, hand_of, without, IsLawful, grabbed, Leaves, Slot}
+use Rattle.fm_world.proofs.Words.{ContextTable, lawful_alike, leave_keeps, within_hands, carry_keeps, bring_keeps, Below, FlowAction, Ask, PreState, Base}
+use Rattle.fm_world.proofs.Words.{PreVisit, Stage, Descending, PreRunning, PreHeld, InBase, Ascending, PostRunning, PostHeld, InDrain, carried_in}
+use Rattle.fm_world.proofs.Words.{carried_among, carried_by, is_running_drain, flight, handed, taken_by, ask_in, last_visited, owed, FlowRecord, IsCourse}
+use Rattle.fm_world.proofs.Words.{next_of, pre_returned_of, post_returned_of, drain_returned_of, base_fits, post_state, is_done, done_at, post_leads}
+use Rattle.fm_world.proofs.Words.{FlowTable, operation_at, changed, told, total, carried, in_flight, begun, begun_record, is_number, is_collectable}
+use Rattle.fm_world.proofs.Words.{collected_in, marked, removed, is_full, verdict_counted, completed_as, owed_pre_settled, owed_post_settled}
+use Rattle.fm_world.proofs.Words.{owed_drain_settled, base_counted, creates, is_unanswered, is_create, Begin, Worker, World, carries, worker_at, put}
+use Rattle.fm_world.proofs.Words.{after_next, cleanup_in, row_at, place_in, HoldsIn, CarriesIn, AskCarries, fits, is_flown, is_flown_by, LosesByKnown, Begins}
+use Rattle.fm_world.proofs.Words.{Nexts, NextsOver, LiesBelow, PreReturns, BaseReturns, PostReturns, ReturnsFrom, Collects, brought, received, returned}
+use Rattle.fm_world.proofs.Words.{drains_at, state_at, state_given, held_context, of_hand, sent, sent_in, carries_after, has_post, begin_refused, begun_on}
+use Rattle.fm_world.proofs.Words.{begun_at, after_begin, moved_on, has_no_handle_left, filed_next, filed_pre, filed_base, filed_record, is_created_on}
+use Rattle.fm_world.proofs.Words.{base_step, base_returned, asked_refused, asked_begun, refused_at, IsSound, IsUnderWay, IsOwned, IsAmong, IsFileSound}
+use Rattle.fm_world.proofs.Words.{names_there, pre_step, FileHandle, FileStream, FileTable, stream_at, handle_at, stream_for, created, after_pre, params_of}
 use Rattle.fm_flow.specs.Sound as flow
-use Rattle.fm_flow.specs.Steps.{next_of, pre_returned_of, post_returned_of, drain_returned_of, base_fits, post_state, is_done, done_at, post_leads}
-use Rattle.fm_flow.specs.Table.{FlowTable, operation_at, changed, told, total, carried, in_flight, begun, begun_record, is_number, is_collectable, collected_in, marked, removed, without_first, is_full}
-use Rattle.fm_flow.specs.Verdict.{verdict_counted, completed_as}
-use Rattle.fm_flow.proofs.Balances.{next_carries, next_flies, next_enters, pre_returned_carries, pre_returned_flies, base_returned_carries, base_returned_flies, post_returned_carries, post_returned_flies, drain_returned_carries, drain_returned_flies, total_changed}
-use Rattle.fm_flow.proofs.Counting.{owed_pre_settled, owed_post_settled, owed_drain_settled}
+use Rattle.fm_data.specs.declared.verdict.Completion.{Completion}
+use Rattle.fm_flow.specs.Table.{without_first}
+use Rattle.fm_flow.proofs.Balances.{next_carries, next_flies, next_enters, pre_returned_carries, pre_returned_flies, base_returned_carries}
+use Rattle.fm_flow.proofs.Balances.{base_returned_flies, post_returned_carries, post_returned_flies, drain_returned_carries, drain_returned_flies}
+use Rattle.fm_flow.proofs.Balances.{total_changed}
 use Rattle.fm_flow.proofs.Owed.{owed_push_none}
 use Rattle.fm_flow.proofs.Owes.{WasOwed, MayAsk, next_owes}
-use Rattle.fm_types.proofs.Firsts.{found_holds, all_change, all_without}
-use Rattle.fm_ctx.specs.Bags.{holds, hand_of, without}
-use Rattle.fm_ctx.specs.Laws.{IsLawful}
-use Rattle.fm_ctx.specs.References.{grabbed}
-use Rattle.fm_ctx.specs.Settling.{Leaves}
-use Rattle.fm_ctx.specs.Table.{Slot, ContextTable}
-use Rattle.fm_ctx.proofs.Alike.{lawful_alike}
-use Rattle.fm_ctx.proofs.Leaving.{leave_keeps}
-use Rattle.fm_ctx.proofs.Moves.{within_hands, carry_keeps, bring_keeps}
-use Rattle.fm_world.specs.declared.step.Begin.{Begin}
-use Rattle.fm_world.specs.declared.step.Begin.TheVariants as begin
-use Rattle.fm_world.specs.declared.worker.Worker.{Worker}
-use Rattle.fm_world.specs.declared.worker.Worker.TheVariants as place
-use Rattle.fm_world.specs.World.{World, carries}
-use Rattle.fm_world.specs.Workers.{worker_at, put, after_next, cleanup_in}
-use Rattle.fm_world.specs.Owners.{row_at, place_in, HoldsIn, CarriesIn, AskCarries, fits, is_flown, is_flown_by}
-use Rattle.fm_world.specs.Events.{LosesByKnown, Begins, Nexts, NextsOver, LiesBelow, PreReturns, BaseReturns, PostReturns, ReturnsFrom, Collects, brought, received, returned, drains_at, state_at, state_given, held_context, of_hand, sent, sent_in, carries_after, has_post, begin_refused, begun_on, begun_at, after_begin, moved_on, has_no_handle_left, filed_next, filed_pre, filed_base, filed_record, is_created_on, base_step, base_returned, asked_refused, asked_begun, refused_at}
-use Rattle.fm_world.specs.Sound.{IsSound, IsUnderWay, IsOwned, IsAmong, IsFileSound}
 use Rattle.fm_world.proofs.Belonging.{owners_same, filters_same, belongs_still, AllHold, AllCarry, all_hold, others_stay, held_has}
 use Rattle.fm_world.proofs.Callbacks.{same_hands}
-use Rattle.fm_world.specs.Links.{names_there}
 use Rattle.fm_world.proofs.Fitting.{AllPass}
 use Rattle.fm_world.proofs.Keeps.{known_cases, loses_under_way, FiledIn}
 use Rattle.fm_world.proofs.Losing.{NamedIn, received_slots, loses_filed, loses_owned, loses_named, loses_sound, named_more, created_there, moved_there}
 use Rattle.fm_world.proofs.Events.{Turns, next_by, pre_by, base_by, post_by}
-use Rattle.fm_world.specs.Events.{pre_step}
 use Rattle.fm_world.proofs.Operations.{begin_keeps, next_keeps, pre_keeps, base_keeps, post_keeps, drain_keeps, collect_keeps, inside_pre, inside_base, inside_post, inside_drain, may_visit, told_there, full_from, begins_at, asked_within}
 use Rattle.fm_world.proofs.Owning.{empty_hand, cleaning_stays}
-use Rattle.fm_types.specs.declared.ids.HandleId.{HandleId}
-use Rattle.fm_types.specs.declared.ids.StreamId.{StreamId}
-use Rattle.fm_types.specs.declared.ids.VolumeId.{VolumeId}
-use Rattle.fm_world.specs.declared.file.FileHandle.{FileHandle}
-use Rattle.fm_world.specs.declared.file.FileStream.{FileStream}
-use Rattle.fm_world.specs.Files.{FileTable, stream_at, handle_at, stream_for, created, after_pre}
-use Rattle.fm_world.specs.Requests.{params_of}
-use Rattle.fm_data.specs.Params.{operation_of, is_within_limits}
-use Rattle.fm_flow.specs.Answered.{base_counted}
-use Rattle.fm_flow.specs.Creates.{creates, is_unanswered, is_create}
 use Rattle.fm_world.proofs.Filing.{was_known, filed_creates, asks_no_create}
 use Rattle.fm_world.proofs.Filed.{SameFile, file_step, file_answered, file_pre, file_lists, file_begins, file_creates, file_collects, is_known, next_same_file, known_answered, base_answered, answered_same, fits_create}
 use Rattle.fm_world.proofs.Descents.{or_left, or_right}
@@ -191,10 +139,10 @@ at_owned old h p None s = s
 at_owned old h p (Some x) s = on_owned old h p x (stream_at x.stream old.files) s
 
 after_begin_owned : (old : World) (what : Begin) → IsOwned old → IsOwned (after_begin old what)
-after_begin_owned old (begin.List v) s = operation_owned old v None None None params.List old.files s
-after_begin_owned old (begin.Create v path mode) s =
-    operation_owned old v (Some (stream_for v path old.flow.next old.files)) None (Some path) (params.Create path mode) (created v path old.flow.next old.files) s
-after_begin_owned old (begin.OnHandle h asked) s = at_owned old h (params_of asked) (handle_at h old.files) s
+after_begin_owned old (Begin.List v) s = operation_owned old v None None None Params.List old.files s
+after_begin_owned old (Begin.Create v path mode) s =
+    operation_owned old v (Some (stream_for v path old.flow.next old.files)) None (Some path) (Params.Create path mode) (created v path old.flow.next old.files) s
+after_begin_owned old (Begin.OnHandle h asked) s = at_owned old h (params_of asked) (handle_at h old.files) s
 
 on_filed : (old : World) (h : HandleId) (p : Params) (x : FileHandle) (m : Option FileStream) → handle_at h old.files ≡ Some x → is_create (operation_of p) ≡ false
     → FiledIn old → FiledIn (begun_on old h p x m)
@@ -207,14 +155,14 @@ at_filed old h p None at none s = s
 at_filed old h p (Some x) at none s = on_filed old h p x (stream_at x.stream old.files) at none s
 
 after_begin_filed : (old : World) (what : Begin) → begin_refused old what ≡ None → FiledIn old → FiledIn (after_begin old what)
-after_begin_filed old (begin.List v) free s = file_lists old.files old.flow v old.stack.births s
-after_begin_filed old (begin.Create v path mode) free s =
+after_begin_filed old (Begin.List v) free s = file_lists old.files old.flow v old.stack.births s
+after_begin_filed old (Begin.Create v path mode) free s =
     let many = full_from _ _ (is_full old.flow || has_no_handle_left old) free in
     let room = nat_le 4096 (length old.files.handles + creates old.flow) in
-    file_creates old.files old.flow v path old.stack.births (Some path) (params.Create path mode) refl
-    (filed_creates old.files old.flow v path (Some (stream_for v path old.flow.next old.files)) None old.stack.births (Some path) (params.Create path mode)
+    file_creates old.files old.flow v path old.stack.births (Some path) (Params.Create path mode) refl
+    (filed_creates old.files old.flow v path (Some (stream_for v path old.flow.next old.files)) None old.stack.births (Some path) (Params.Create path mode)
     (or_left room (old.files.next == 2 ^ 64 - 1) (or_right (is_full old.flow) (has_no_handle_left old) many)) s.room) s
-after_begin_filed old (begin.OnHandle h asked) free s = at_filed old h (params_of asked) (handle_at h old.files) refl (asks_no_create asked) s
+after_begin_filed old (Begin.OnHandle h asked) free s = at_filed old h (params_of asked) (handle_at h old.files) refl (asks_no_create asked) s
 
 on_named : (old : World) (h : HandleId) (p : Params) (x : FileHandle) (m : Option FileStream) → NamedIn old → NamedIn (begun_on old h p x m)
 on_named old h p x None s = s
@@ -226,10 +174,10 @@ at_named old h p None s = s
 at_named old h p (Some x) s = on_named old h p x (stream_at x.stream old.files) s
 
 after_begin_named : (old : World) (what : Begin) → NamedIn old → NamedIn (after_begin old what)
-after_begin_named old (begin.List v) s = s
-after_begin_named old (begin.Create v path mode) s =
+after_begin_named old (Begin.List v) s = s
+after_begin_named old (Begin.Create v path mode) s =
     named_more old.files (created v path old.flow.next old.files) old.contexts.slots (created_there v path old.flow.next old.files) s
-after_begin_named old (begin.OnHandle h asked) s = at_named old h (params_of asked) (handle_at h old.files) s
+after_begin_named old (Begin.OnHandle h asked) s = at_named old h (params_of asked) (handle_at h old.files) s
 
 -- an operation on a handle begins
 pub asked_sound : (old : World) (h : HandleId) (p : Params) → asked_refused old h p ≡ None → is_create (operation_of p) ≡ false → IsSound old → IsSound (asked_begun old h p)
@@ -270,16 +218,16 @@ flow_owned w o r f at lawful owes quiet h = record {
 
 -- what lies below on the way down is attached
 lies_attached : (s : StackWorld) (r : FlowRecord) (lies : Below) (i : InstanceId) → LiesBelow s r lies → is_flown_by (row_at s i) ≡ false
-    → (j : InstanceId) (called : Bool) → lies ≡ below.Instance j called → (j.0 == i.0) ≡ false
-lies_attached s r below.Call i below' rests j called e = absurd (call_is_not e)
+    → (j : InstanceId) (called : Bool) → lies ≡ Below.Instance j called → (j.0 == i.0) ≡ false
+lies_attached s r Below.Call i below' rests j called e = absurd (call_is_not e)
   where
-    call_is_not : below.Call ≡ below.Instance j called → ⊥
+    call_is_not : Below.Call ≡ Below.Instance j called → ⊥
     call_is_not e = cc
-lies_attached s r (below.Known why) i below' rests j called e = absurd (known_is_not e)
+lies_attached s r (Below.Known why) i below' rests j called e = absurd (known_is_not e)
   where
-    known_is_not : below.Known why ≡ below.Instance j called → ⊥
+    known_is_not : Below.Known why ≡ Below.Instance j called → ⊥
     known_is_not e = cc
-lies_attached s r (below.Instance l b) i below' rests j called e =
+lies_attached s r (Below.Instance l b) i below' rests j called e =
     let next = below'.0 in
     let passes = and_parts (is_to_visit s r.volume r.born r.operation next.row) (is_below_cursor s (last_visited r.entries) next.row) next.passes in
     let attached = and_parts (is_attached next.row.phase) _ passes.0 in
@@ -288,22 +236,22 @@ lies_attached s r (below.Instance l b) i below' rests j called e =
     ne_eqb j.0 i.0 (λ x. true≢false (sym flown ∙ ap (λ n. is_flown_by (slice_get s.instances n)) (same ∙ x) ∙ rests))
   where
     numbered : Below → ℕ
-    numbered (below.Instance n c) = n.0
+    numbered (Below.Instance n c) = n.0
     numbered _ = 0
 
     attached_flown : (p : Phase) → is_attached p ≡ true → is_flown p ≡ true
-    attached_flown phase.Attached h = refl
-    attached_flown phase.Setup h = absurd (false≢true h)
-    attached_flown phase.Stopping h = absurd (false≢true h)
-    attached_flown phase.Completing h = absurd (false≢true h)
-    attached_flown phase.Emptying h = absurd (false≢true h)
-    attached_flown phase.Detached h = absurd (false≢true h)
+    attached_flown Phase.Attached h = refl
+    attached_flown Phase.Setup h = absurd (false≢true h)
+    attached_flown Phase.Stopping h = absurd (false≢true h)
+    attached_flown Phase.Completing h = absurd (false≢true h)
+    attached_flown Phase.Emptying h = absurd (false≢true h)
+    attached_flown Phase.Detached h = absurd (false≢true h)
 
 may_ask : (s : StackWorld) (slots : List Slot) (k : WorkerId) (lies : Below) (r : FlowRecord) → MayAsk (AskCarries s slots) k lies r
-may_ask s slots k (below.Instance i false) r = tt
-may_ask s slots k (below.Instance i true) r = tt
-may_ask s slots k below.Call r = tt
-may_ask s slots k (below.Known why) r = tt
+may_ask s slots k (Below.Instance i false) r = tt
+may_ask s slots k (Below.Instance i true) r = tt
+may_ask s slots k Below.Call r = tt
+may_ask s slots k (Below.Known why) r = tt
 
 -- what `next` hands out is carried no more
 pub next_balance : (w : World) (o : OpId) (k : WorkerId) (lies : Below) (d : Bool) (r : FlowRecord) → operation_at o w.flow ≡ Some r
@@ -316,20 +264,20 @@ next_balance w o k lies d r at finds s c =
 
 -- a completion comes back to the worker that it is given to
 brought_owned : (w : World) (o : OpId) (r : FlowRecord) (f : FlowRecord → FlowRecord) (k : WorkerId) (b : Worker) (i : InstanceId) (m : Option CtxId)
-    → operation_at o w.flow ≡ Some r → worker_at w.workers k ≡ Some place.Idle → k.0 < 48 → cleanup_in (Some b) ≡ None → place_in (Some b) ≡ Some i
+    → operation_at o w.flow ≡ Some r → worker_at w.workers k ≡ Some Worker.Idle → k.0 < 48 → cleanup_in (Some b) ≡ None → place_in (Some b) ≡ Some i
     → ((c : CtxId) → carries w c ≡ carries_after w o f c + carried_in c (record { number = 0; context = m })) → CarriesIn w.stack w.contexts.slots i m
     → All (AskCarries w.stack w.contexts.slots) (owed (f r).entries)
     → ((j : InstanceId) → is_flown_by (row_at w.stack j) ≡ false → in_flight j.0 (changed o f w.flow) ≡ 0) → IsOwned w
     → IsOwned (record w { flow = changed o f w.flow; workers = put w.workers k b; contexts = brought w.contexts k m })
 brought_owned w o r f k b i None at idle worker nb pl balance own owes quiet h =
-    let none = empty_hand w k place.Idle idle refl h in
-    step_owned w o r f k place.Idle b w.contexts (hand_of w.contexts.hands k.0) at idle worker refl nb (lawful_alike (λ c. omega (arith, balance c)) h.lawful)
+    let none = empty_hand w k Worker.Idle idle refl h in
+    step_owned w o r f k Worker.Idle b w.contexts (hand_of w.contexts.hands k.0) at idle worker refl nb (lawful_alike (λ c. omega (arith, balance c)) h.lawful)
     refl (same_hands w.contexts.hands k.0) refl
     (subst (All (HoldsIn w.stack w.contexts.slots (place_in (Some b)))) (sym none) (All-nil (HoldsIn w.stack w.contexts.slots (place_in (Some b))))) owes quiet h
 brought_owned w o r f k b i (Some d) at idle worker nb pl balance own owes quiet h =
-    let none = empty_hand w k place.Idle idle refl h in
+    let none = empty_hand w k Worker.Idle idle refl h in
     let room : length (hand_of w.contexts.hands k.0) < 16 = subst (λ (ids : List CtxId). length ids < 16) (sym none) (omega arith) in
-    step_owned w o r f k place.Idle b (grabbed w.contexts k.0 d) (hand_of w.contexts.hands k.0 ++ d ∷ []) at idle worker refl nb
+    step_owned w o r f k Worker.Idle b (grabbed w.contexts k.0 d) (hand_of w.contexts.hands k.0 ++ d ∷ []) at idle worker refl nb
     (bring_keeps (carries_after w o f) k.0 d h.lawful worker (λ c. balance c) room) refl refl refl
     (subst (λ (ids : List CtxId). All (HoldsIn w.stack w.contexts.slots (place_in (Some b))) (ids ++ d ∷ [])) (sym none)
     (All-cons (HoldsIn w.stack w.contexts.slots (place_in (Some b))) d [] (subst (λ p. HoldsIn w.stack w.contexts.slots p d) (sym pl) own)
@@ -337,29 +285,29 @@ brought_owned w o r f k b i (Some d) at idle worker nb pl balance own owes quiet
 
 -- the same, by what `next` answers
 next_by_reply : (w : World) (o : OpId) (r : FlowRecord) (f : FlowRecord → FlowRecord) (k : WorkerId) (reply : Result FlowAction Status)
-    → operation_at o w.flow ≡ Some r → worker_at w.workers k ≡ Some place.Idle → k.0 < 48
+    → operation_at o w.flow ≡ Some r → worker_at w.workers k ≡ Some Worker.Idle → k.0 < 48
     → ((c : CtxId) → carries w c ≡ carries_after w o f c + handed c reply) → WasOwed (AskCarries w.stack w.contexts.slots) reply
     → All (AskCarries w.stack w.contexts.slots) (owed (f r).entries)
     → ((j : InstanceId) → is_flown_by (row_at w.stack j) ≡ false → in_flight j.0 (changed o f w.flow) ≡ 0) → IsOwned w
     → IsOwned (record w { flow = changed o f w.flow; workers = after_next w.workers k o reply; contexts = received w.contexts k reply })
-next_by_reply w o r f k (Ok (action.Pre i lent)) at idle worker balance was owes quiet h =
-    brought_owned w o r f k (place.Pre o i) i None at idle worker refl refl balance tt owes quiet h
-next_by_reply w o r f k (Ok (action.Base call)) at idle worker balance was owes quiet h =
-    let none = empty_hand w k place.Idle idle refl h in
-    step_owned w o r f k place.Idle (place.Base o) w.contexts (hand_of w.contexts.hands k.0) at idle worker refl refl (lawful_alike (λ c. omega (arith, balance c)) h.lawful)
+next_by_reply w o r f k (Ok (FlowAction.Pre i lent)) at idle worker balance was owes quiet h =
+    brought_owned w o r f k (Worker.Pre o i) i None at idle worker refl refl balance tt owes quiet h
+next_by_reply w o r f k (Ok (FlowAction.Base call)) at idle worker balance was owes quiet h =
+    let none = empty_hand w k Worker.Idle idle refl h in
+    step_owned w o r f k Worker.Idle (Worker.Base o) w.contexts (hand_of w.contexts.hands k.0) at idle worker refl refl (lawful_alike (λ c. omega (arith, balance c)) h.lawful)
     refl (same_hands w.contexts.hands k.0) refl
     (subst (All (HoldsIn w.stack w.contexts.slots None)) (sym none) (All-nil (HoldsIn w.stack w.contexts.slots None))) owes quiet h
-next_by_reply w o r f k (Ok (action.Post i lent completion)) at idle worker balance was owes quiet h =
-    brought_owned w o r f k (place.Post o i) i completion.context at idle worker refl refl (λ c. balance c)
+next_by_reply w o r f k (Ok (FlowAction.Post i lent completion)) at idle worker balance was owes quiet h =
+    brought_owned w o r f k (Worker.Post o i) i completion.context at idle worker refl refl (λ c. balance c)
     (subst (λ (x : InstanceId). CarriesIn w.stack w.contexts.slots x completion.context) was.2
     (subst (λ (x : Completion). CarriesIn w.stack w.contexts.slots was.0.instance x.context) was.3 was.1)) owes quiet h
-next_by_reply w o r f k (Ok (action.Drain i completion)) at idle worker balance was owes quiet h =
-    brought_owned w o r f k (place.Drain o i) i completion.context at idle worker refl refl (λ c. balance c)
+next_by_reply w o r f k (Ok (FlowAction.Drain i completion)) at idle worker balance was owes quiet h =
+    brought_owned w o r f k (Worker.Drain o i) i completion.context at idle worker refl refl (λ c. balance c)
     (subst (λ (x : InstanceId). CarriesIn w.stack w.contexts.slots x completion.context) was.2
     (subst (λ (x : Completion). CarriesIn w.stack w.contexts.slots was.0.instance x.context) was.3 was.1)) owes quiet h
-next_by_reply w o r f k (Ok action.Moved) at idle worker balance was owes quiet h = flow_owned w o r f at (lawful_alike (λ c. omega (arith, balance c)) h.lawful) owes quiet h
-next_by_reply w o r f k (Ok action.Held) at idle worker balance was owes quiet h = flow_owned w o r f at (lawful_alike (λ c. omega (arith, balance c)) h.lawful) owes quiet h
-next_by_reply w o r f k (Ok action.Done) at idle worker balance was owes quiet h = flow_owned w o r f at (lawful_alike (λ c. omega (arith, balance c)) h.lawful) owes quiet h
+next_by_reply w o r f k (Ok FlowAction.Moved) at idle worker balance was owes quiet h = flow_owned w o r f at (lawful_alike (λ c. omega (arith, balance c)) h.lawful) owes quiet h
+next_by_reply w o r f k (Ok FlowAction.Held) at idle worker balance was owes quiet h = flow_owned w o r f at (lawful_alike (λ c. omega (arith, balance c)) h.lawful) owes quiet h
+next_by_reply w o r f k (Ok FlowAction.Done) at idle worker balance was owes quiet h = flow_owned w o r f at (lawful_alike (λ c. omega (arith, balance c)) h.lawful) owes quiet h
 next_by_reply w o r f k (Err why) at idle worker balance was owes quiet h = flow_owned w o r f at (lawful_alike (λ c. omega (arith, balance c)) h.lawful) owes quiet h
 
 next_owned : (old : World) (k : WorkerId) (o : OpId) (result : Result FlowAction Status) (new : World) (e : Turns old k o result new) → IsSound old → IsOwned e.mid
@@ -382,7 +330,7 @@ next_owned old k o result new e s =
     ) in
     let filed = filed_next old o (changed o f old.flow) result e.lies in
     subst IsOwned (sym (e.over.1 ∙ ap (λ x. record old { flow = changed o f old.flow; workers = after_next old.workers k o x; contexts = received old.contexts k x; files = filed }) e.reply))
-    (files_owned filed (next_by_reply old o r f k turned.reply e.at e.idle (worker_below old k place.Idle e.idle s.under_way) (next_balance old o k e.lies d r e.at e.finds s)
+    (files_owned filed (next_by_reply old o r f k turned.reply e.at e.idle (worker_below old k Worker.Idle e.idle s.under_way) (next_balance old o k e.lies d r e.at e.finds s)
     owes.hands owes.owes quiet s.owned))
 
 -- an answer that was known counts at once
@@ -391,26 +339,26 @@ known_filed : (old : World) (k : WorkerId) (o : OpId) (r : FlowRecord) (lies : B
     → IsFileSound (filed_next old o (changed o (λ (x : FlowRecord). (next_of k lies drains x).after) old.flow) result lies) (changed o (λ (x : FlowRecord). (next_of k lies drains x).after) old.flow)
 known_filed old k o r lies drains result at reply s = by_result result lies reply
   where
-    still : (lies : Below) → (is_known lies ≡ true → Ok action.Moved ≡ (next_of k lies drains r).reply → ⊥)
+    still : (lies : Below) → (is_known lies ≡ true → Ok FlowAction.Moved ≡ (next_of k lies drains r).reply → ⊥)
         → IsFileSound old.files (changed o (λ (x : FlowRecord). (next_of k lies drains x).after) old.flow)
     still lies other = file_step old.files old.flow o r (λ (x : FlowRecord). (next_of k lies drains x).after) at (next_same_file k lies drains r other) s
 
     by_result : (result : Result FlowAction Status) (lies : Below) → result ≡ (next_of k lies drains r).reply
         → IsFileSound (filed_next old o (changed o (λ (x : FlowRecord). (next_of k lies drains x).after) old.flow) result lies) (changed o (λ (x : FlowRecord). (next_of k lies drains x).after) old.flow)
-    by_result (Ok action.Moved) (below.Known why) reply =
-        let f = λ (x : FlowRecord). (next_of k (below.Known why) drains x).after in
+    by_result (Ok FlowAction.Moved) (Below.Known why) reply =
+        let f = λ (x : FlowRecord). (next_of k (Below.Known why) drains x).after in
         let t = changed o f old.flow in
         let was = was_known k why drains r reply in
         subst (λ (files : FileTable). IsFileSound files t) (sym (told_there (filed_record old.files t why) old.files o old.flow r at))
         (file_answered old.files old.flow o r f why at was.unanswered (known_answered old.files k why drains r was.none) s)
-    by_result (Ok action.Moved) (below.Instance i b) reply = still (below.Instance i b) (λ known moved. false≢true known)
-    by_result (Ok action.Moved) below.Call reply = still below.Call (λ known moved. false≢true known)
-    by_result (Ok (action.Pre i lent)) lies reply = still lies (λ known moved. (cc))
-    by_result (Ok (action.Base call)) lies reply = still lies (λ known moved. (cc))
-    by_result (Ok (action.Post i lent completion)) lies reply = still lies (λ known moved. (cc))
-    by_result (Ok (action.Drain i completion)) lies reply = still lies (λ known moved. (cc))
-    by_result (Ok action.Held) lies reply = still lies (λ known moved. (cc))
-    by_result (Ok action.Done) lies reply = still lies (λ known moved. (cc))
+    by_result (Ok FlowAction.Moved) (Below.Instance i b) reply = still (Below.Instance i b) (λ known moved. false≢true known)
+    by_result (Ok FlowAction.Moved) Below.Call reply = still Below.Call (λ known moved. false≢true known)
+    by_result (Ok (FlowAction.Pre i lent)) lies reply = still lies (λ known moved. (cc))
+    by_result (Ok (FlowAction.Base call)) lies reply = still lies (λ known moved. (cc))
+    by_result (Ok (FlowAction.Post i lent completion)) lies reply = still lies (λ known moved. (cc))
+    by_result (Ok (FlowAction.Drain i completion)) lies reply = still lies (λ known moved. (cc))
+    by_result (Ok FlowAction.Held) lies reply = still lies (λ known moved. (cc))
+    by_result (Ok FlowAction.Done) lies reply = still lies (λ known moved. (cc))
     by_result (Err why) lies reply = still lies (λ known moved. (cc))
 
 next_filed : (old : World) (k : WorkerId) (o : OpId) (result : Result FlowAction Status) (new : World) (e : Turns old k o result new) → FiledIn old → FiledIn e.mid
@@ -425,7 +373,7 @@ next_named old k o lies result mid new over h s = by_result result lies over h
     still result = subst (AllPass (names_there old.files)) (sym (received_slots old.contexts k result)) s
 
     by_result : (result : Result FlowAction Status) (lies : Below) → NextsOver old k o lies result mid → LosesByKnown result lies mid new → NamedIn new
-    by_result (Ok action.Moved) (below.Known why) over h = loses_named mid new h
+    by_result (Ok FlowAction.Moved) (Below.Known why) over h = loses_named mid new h
     by_result result lies over h = subst NamedIn (sym (h ∙ over.1)) (still result)
 
 pub next_sound : (old : World) (k : WorkerId) (o : OpId) (result : Result FlowAction Status) (new : World) → Nexts old k o result new → IsSound old → IsSound new
@@ -450,7 +398,7 @@ left_owned : (w : World) (o : OpId) (r : FlowRecord) (f : FlowRecord → FlowRec
     → Leaves (carries_after w o f) kept after k.0 → All (AskCarries w.stack w.contexts.slots) (owed (f r).entries)
     → ((i : ℕ) → flight i (f r) ≤ flight i r) → IsOwned w → IsOwned (record (returned w k o f) { contexts = after })
 left_owned w o r f k a kept after at there worker na lawful slots cleaning hands leaves owes fewer h =
-    step_owned w o r f k a place.Idle after [] at there worker na refl (leave_keeps k.0 lawful leaves) (leaves.slots ∙ slots) (leaves.hands ∙ hands) (leaves.cleaning ∙ cleaning)
+    step_owned w o r f k a Worker.Idle after [] at there worker na refl (leave_keeps k.0 lawful leaves) (leaves.slots ∙ slots) (leaves.hands ∙ hands) (leaves.cleaning ∙ cleaning)
     (All-nil (HoldsIn w.stack w.contexts.slots None)) owes (quieter w o r f at fewer h.quiet) h
 
 held_is : (hand : List CtxId) (m : Option CtxId) (d : CtxId) → held_context hand m ≡ Some d → holds hand d ≡ true
@@ -462,41 +410,41 @@ held_is hand (Some e) d h =
     ]
 
 completed_sends : (status : Status) (operation : Operation) → sent_in (completed_as status operation) ≡ None
-completed_sends status kind.Cleanup = refl
-completed_sends status kind.Close = refl
-completed_sends status kind.Create = refl
+completed_sends status Operation.Cleanup = refl
+completed_sends status Operation.Close = refl
+completed_sends status Operation.Create = refl
 completed_sends status _ = refl
 
 -- a completion's context was in the hand
 sent_held : (hand : List CtxId) (given : PreVerdict) (operation : Operation) (b : Bool) (d : CtxId) → sent_in (verdict_counted (of_hand hand given) operation b) ≡ Some d
     → holds hand d ≡ true
-sent_held hand (verdict.WithCallback completion) operation true d h = held_is hand completion.context d h
-sent_held hand (verdict.WithCallback completion) operation false d h = absurd (none-some d h)
-sent_held hand (verdict.Synchronize completion) operation true d h = held_is hand completion.context d h
-sent_held hand (verdict.Synchronize completion) operation false d h = absurd (none-some d h)
-sent_held hand verdict.NoCallback operation b d h = absurd (none-some d h)
-sent_held hand (verdict.Complete status) operation b d h = absurd (none-some d (sym (completed_sends status operation) ∙ h))
-sent_held hand verdict.Pending operation b d h = absurd (none-some d h)
+sent_held hand (PreVerdict.WithCallback completion) operation true d h = held_is hand completion.context d h
+sent_held hand (PreVerdict.WithCallback completion) operation false d h = absurd (none-some d h)
+sent_held hand (PreVerdict.Synchronize completion) operation true d h = held_is hand completion.context d h
+sent_held hand (PreVerdict.Synchronize completion) operation false d h = absurd (none-some d h)
+sent_held hand PreVerdict.NoCallback operation b d h = absurd (none-some d h)
+sent_held hand (PreVerdict.Complete status) operation b d h = absurd (none-some d (sym (completed_sends status operation) ∙ h))
+sent_held hand PreVerdict.Pending operation b d h = absurd (none-some d h)
 
 taken_sent : (c : CtxId) (state : PreState) → taken_by c state ≡ carried_in c (record { number = 0; context = sent_in state })
-taken_sent c (pre.Asked completion) = refl
-taken_sent c (pre.Synchronized completion) = refl
-taken_sent c pre.Running = refl
-taken_sent c pre.Held = refl
-taken_sent c pre.Passed = refl
-taken_sent c (pre.Completed status) = refl
+taken_sent c (PreState.Asked completion) = refl
+taken_sent c (PreState.Synchronized completion) = refl
+taken_sent c PreState.Running = refl
+taken_sent c PreState.Held = refl
+taken_sent c PreState.Passed = refl
+taken_sent c (PreState.Completed status) = refl
 
 -- what the verdict asks for carries what it sends
 asked_carries : (s : StackWorld) (slots : List Slot) (visit : PreVisit) (state : PreState) (asks : List Ask) → CarriesIn s slots visit.instance (sent_in state)
     → All (AskCarries s slots) asks → All (AskCarries s slots) (option_to_list (ask_in visit state) ++ asks)
-asked_carries s slots visit (pre.Asked completion) asks own h =
+asked_carries s slots visit (PreState.Asked completion) asks own h =
     All-cons (AskCarries s slots) (record { instance = visit.instance; worker = visit.worker; completion = completion; is_synchronized = false; place = visit.place }) asks own h
-asked_carries s slots visit (pre.Synchronized completion) asks own h =
+asked_carries s slots visit (PreState.Synchronized completion) asks own h =
     All-cons (AskCarries s slots) (record { instance = visit.instance; worker = visit.worker; completion = completion; is_synchronized = true; place = visit.place }) asks own h
-asked_carries s slots visit pre.Running asks own h = h
-asked_carries s slots visit pre.Held asks own h = h
-asked_carries s slots visit pre.Passed asks own h = h
-asked_carries s slots visit (pre.Completed status) asks own h = h
+asked_carries s slots visit PreState.Running asks own h = h
+asked_carries s slots visit PreState.Held asks own h = h
+asked_carries s slots visit PreState.Passed asks own h = h
+asked_carries s slots visit (PreState.Completed status) asks own h = h
 
 -- the table after a context was sent along
 sent_parts : (w : World) (o : OpId) (f : FlowRecord → FlowRecord) (k : WorkerId) (m : Option CtxId) → k.0 < 48 → IsLawful (carries w) w.contexts
@@ -512,42 +460,42 @@ same_instance : (i j : InstanceId) → i.0 ≡ j.0 → i ≡ j
 same_instance i j e = ap (λ n. record { 0 = n }) e
 
 -- what a preoperation sends along is carried from then on
-pub pre_balance : (w : World) (k : WorkerId) (o : OpId) (i : InstanceId) (state : PreState) (lent : Data) → worker_at w.workers k ≡ Some (place.Pre o i) → IsUnderWay w → (c : CtxId)
+pub pre_balance : (w : World) (k : WorkerId) (o : OpId) (i : InstanceId) (state : PreState) (lent : Data) → worker_at w.workers k ≡ Some (Worker.Pre o i) → IsUnderWay w → (c : CtxId)
     → carries_after w o (pre_returned_of state lent) c ≡ carries w c + carried_in c (record { number = 0; context = sent_in state })
 pre_balance w k o i state lent at s c =
     let x = inside_pre w k o i at s in
     omega (arith, carried_changed w.flow o x.0.row (pre_returned_of state lent) x.0.at c, pre_returned_carries c state lent x.0.row x.1 x.0.sound, taken_sent c state)
 
 -- and it was in the hand
-pub sent_is_held : (w : World) (k : WorkerId) (o : OpId) (i : InstanceId) (given : PreVerdict) → worker_at w.workers k ≡ Some (place.Pre o i) → IsUnderWay w
+pub sent_is_held : (w : World) (k : WorkerId) (o : OpId) (i : InstanceId) (given : PreVerdict) → worker_at w.workers k ≡ Some (Worker.Pre o i) → IsUnderWay w
     → (d : CtxId) → sent_in (state_at w k o i given) ≡ Some d → holds (hand_of w.contexts.hands k.0) d ≡ true
 sent_is_held w k o i given at s d e =
     let x = (inside_pre w k o i at s).0 in
     let hand = hand_of w.contexts.hands k.0 in
-    let is = told_there (state_given w.stack hand i given) pre.Passed o w.flow x.row x.at in
+    let is = told_there (state_given w.stack hand i given) PreState.Passed o w.flow x.row x.at in
     sent_held hand given x.row.operation (has_post w.stack (slice_get w.stack.instances i.0) x.row.operation) d (sym (ap sent_in is) ∙ e)
 
-pub post_balance : (w : World) (k : WorkerId) (o : OpId) (i : InstanceId) (given : PostVerdict) (lent : Data) → worker_at w.workers k ≡ Some (place.Post o i) → IsUnderWay w
+pub post_balance : (w : World) (k : WorkerId) (o : OpId) (i : InstanceId) (given : PostVerdict) (lent : Data) → worker_at w.workers k ≡ Some (Worker.Post o i) → IsUnderWay w
     → (c : CtxId) → carries_after w o (post_returned_of given lent) c ≡ carries w c
 post_balance w k o i given lent at s c =
     let x = inside_post w k o i at s in
     omega (arith, carried_changed w.flow o x.0.row (post_returned_of given lent) x.0.at c, post_returned_carries c given lent x.0.row x.1 x.0.sound)
 
-pub drain_balance : (w : World) (k : WorkerId) (o : OpId) (i : InstanceId) → worker_at w.workers k ≡ Some (place.Drain o i) → IsUnderWay w
+pub drain_balance : (w : World) (k : WorkerId) (o : OpId) (i : InstanceId) → worker_at w.workers k ≡ Some (Worker.Drain o i) → IsUnderWay w
     → (c : CtxId) → carries_after w o (drain_returned_of i) c ≡ carries w c
 drain_balance w k o i at s c =
     let x = (inside_drain w k o i at s).0 in
     omega (arith, carried_changed w.flow o x.row (drain_returned_of i) x.at c, drain_returned_carries c i x.row)
 
 -- a context that a preoperation sends along may be carried
-sent_owned : (w : World) (k : WorkerId) (o : OpId) (i : InstanceId) (m : Option CtxId) → worker_at w.workers k ≡ Some (place.Pre o i)
+sent_owned : (w : World) (k : WorkerId) (o : OpId) (i : InstanceId) (m : Option CtxId) → worker_at w.workers k ≡ Some (Worker.Pre o i)
     → ((d : CtxId) → m ≡ Some d → holds (hand_of w.contexts.hands k.0) d ≡ true) → IsSound w → CarriesIn w.stack w.contexts.slots i m
 sent_owned w k o i None at has s = tt
 sent_owned w k o i (Some d) at has s =
     subst (λ p. HoldsIn w.stack w.contexts.slots p d) (ap place_in at)
     (held_has (HoldsIn w.stack w.contexts.slots (place_in (worker_at w.workers k))) (hand_of w.contexts.hands k.0) d (s.owned.holders k) (has d refl))
 
-pre_owned : (old : World) (k : WorkerId) (o : OpId) (i : InstanceId) (given : PreVerdict) (lent : Data) (after : ContextTable) → worker_at old.workers k ≡ Some (place.Pre o i)
+pre_owned : (old : World) (k : WorkerId) (o : OpId) (i : InstanceId) (given : PreVerdict) (lent : Data) (after : ContextTable) → worker_at old.workers k ≡ Some (Worker.Pre o i)
     → Leaves (carries_after old o (pre_step old k o i given lent)) (sent old.contexts k (sent_in (state_at old k o i given))) after k.0 → IsSound old
     → IsOwned (record (returned old k o (pre_step old k o i given lent)) { contexts = after })
 pre_owned old k o i given lent after at leaves s =
@@ -557,7 +505,7 @@ pre_owned old k o i given lent after at leaves s =
     let f = pre_returned_of state lent in
     let slots = old.contexts.slots in
     let course = subst (λ x. IsCourse x r.entries) x.1 x.0.sound.course in
-    let worker = worker_below old k (place.Pre o i) at s.under_way in
+    let worker = worker_below old k (Worker.Pre o i) at s.under_way in
     let has = sent_is_held old k o i given at s.under_way in
     let parts = sent_parts old o f k (sent_in state) worker s.owned.lawful (pre_balance old k o i state lent at s.under_way) has in
     let settled = owed_pre_settled PreRunning r.entries state refl course in
@@ -566,10 +514,10 @@ pre_owned old k o i given lent after at leaves s =
     subst (All (AskCarries old.stack slots)) (sym settled.2)
     (asked_carries old.stack slots settled.0 state (owed r.entries)
     (subst (λ x. CarriesIn old.stack slots x (sent_in state)) (sym visited) (sent_owned old k o i (sent_in state) at has s)) (asks_of old o r x.0.at s.owned)) in
-    left_owned old o r f k (place.Pre o i) (sent old.contexts k (sent_in state)) after x.0.at at worker refl parts.0 parts.1 parts.2 parts.3 leaves owes
+    left_owned old o r f k (Worker.Pre o i) (sent old.contexts k (sent_in state)) after x.0.at at worker refl parts.0 parts.1 parts.2 parts.3 leaves owes
     (λ j. omega (arith, pre_returned_flies j state lent r x.1 x.0.sound)) s.owned
 
-pre_filed : (old : World) (k : WorkerId) (o : OpId) (i : InstanceId) (given : PreVerdict) (lent : Data) → worker_at old.workers k ≡ Some (place.Pre o i) → IsSound old
+pre_filed : (old : World) (k : WorkerId) (o : OpId) (i : InstanceId) (given : PreVerdict) (lent : Data) → worker_at old.workers k ≡ Some (Worker.Pre o i) → IsSound old
     → IsFileSound (filed_pre old o (changed o (pre_step old k o i given lent) old.flow) (state_at old k o i given)) (changed o (pre_step old k o i given lent) old.flow)
 pre_filed old k o i given lent at s =
     let x = inside_pre old k o i at s.under_way in
@@ -589,7 +537,7 @@ pre_sound old k given lent result new h s =
 
 -- ---- the base's call returns
 
-base_owned : (old : World) (k : WorkerId) (o : OpId) (call : BaseCall) (given : Answer) → worker_at old.workers k ≡ Some (place.Base o) → IsSound old
+base_owned : (old : World) (k : WorkerId) (o : OpId) (call : BaseCall) (given : Answer) → worker_at old.workers k ≡ Some (Worker.Base o) → IsSound old
     → IsOwned (base_returned old k o call given)
 base_owned old k o call given at s =
     let x = inside_base old k o at s.under_way in
@@ -598,15 +546,15 @@ base_owned old k o call given at s =
     let f = base_step old call given in
     let counts = base_counted call.params given handle in
     let slots = old.contexts.slots in
-    let none = empty_hand old k (place.Base o) at refl s.owned in
+    let none = empty_hand old k (Worker.Base o) at refl s.owned in
     files_owned (filed_base old o (changed o f old.flow) given.status)
-    (step_owned old o r f k (place.Base o) place.Idle old.contexts (hand_of old.contexts.hands k.0) x.0.at at (worker_below old k (place.Base o) at s.under_way) refl refl
+    (step_owned old o r f k (Worker.Base o) Worker.Idle old.contexts (hand_of old.contexts.hands k.0) x.0.at at (worker_below old k (Worker.Base o) at s.under_way) refl refl
     (alike old o r f x.0.at (λ c. base_returned_carries c call given handle r) s.owned.lawful) refl (same_hands old.contexts.hands k.0) refl
     (subst (All (HoldsIn old.stack slots None)) (sym none) (All-nil (HoldsIn old.stack slots None)))
     (subst (All (AskCarries old.stack slots)) (sym (owed_push_none r.entries (Base counts.status counts.information) refl (λ i. refl))) (asks_of old o r x.0.at s.owned))
     (quieter old o r f x.0.at (λ i. omega (arith, base_returned_flies i call given handle r)) s.owned.quiet) s.owned)
 
-base_filed : (old : World) (k : WorkerId) (o : OpId) (call : BaseCall) (given : Answer) → worker_at old.workers k ≡ Some (place.Base o)
+base_filed : (old : World) (k : WorkerId) (o : OpId) (call : BaseCall) (given : Answer) → worker_at old.workers k ≡ Some (Worker.Base o)
     → told (base_fits call given) false o old.flow ≡ true → IsSound old → FiledIn (base_returned old k o call given)
 base_filed old k o call given at fits s =
     let x = inside_base old k o at s.under_way in
@@ -627,31 +575,31 @@ base_sound old k call given result new h s =
 
 -- ---- postoperations and drains return
 
-post_owned : (old : World) (k : WorkerId) (o : OpId) (i : InstanceId) (given : PostVerdict) (lent : Data) (after : ContextTable) → worker_at old.workers k ≡ Some (place.Post o i)
+post_owned : (old : World) (k : WorkerId) (o : OpId) (i : InstanceId) (given : PostVerdict) (lent : Data) (after : ContextTable) → worker_at old.workers k ≡ Some (Worker.Post o i)
     → Leaves (carries_after old o (post_returned_of given lent)) old.contexts after k.0 → IsSound old
     → IsOwned (record (returned old k o (post_returned_of given lent)) { contexts = after })
 post_owned old k o i given lent after at leaves s =
     let x = inside_post old k o i at s.under_way in
     let r = x.0.row in
     let course = subst (λ x. IsCourse x r.entries) x.1 x.0.sound.course in
-    left_owned old o r (post_returned_of given lent) k (place.Post o i) old.contexts after x.0.at at (worker_below old k (place.Post o i) at s.under_way) refl
+    left_owned old o r (post_returned_of given lent) k (Worker.Post o i) old.contexts after x.0.at at (worker_below old k (Worker.Post o i) at s.under_way) refl
     (lawful_alike (λ c. sym (post_balance old k o i given lent at s.under_way c)) s.owned.lawful) refl refl refl leaves
     (subst (All (AskCarries old.stack old.contexts.slots)) (sym (owed_post_settled PostRunning r.entries (post_state given) refl course)) (asks_of old o r x.0.at s.owned))
     (λ j. omega (arith, post_returned_flies j given lent r x.1 x.0.sound)) s.owned
 
-drain_owned : (old : World) (k : WorkerId) (o : OpId) (i : InstanceId) (after : ContextTable) → worker_at old.workers k ≡ Some (place.Drain o i)
+drain_owned : (old : World) (k : WorkerId) (o : OpId) (i : InstanceId) (after : ContextTable) → worker_at old.workers k ≡ Some (Worker.Drain o i)
     → Leaves (carries_after old o (drain_returned_of i)) old.contexts after k.0 → IsSound old → IsOwned (record (returned old k o (drain_returned_of i)) { contexts = after })
 drain_owned old k o i after at leaves s =
     let x = inside_drain old k o i at s.under_way in
     let r = x.0.row in
-    left_owned old o r (drain_returned_of i) k (place.Drain o i) old.contexts after x.0.at at (worker_below old k (place.Drain o i) at s.under_way) refl
+    left_owned old o r (drain_returned_of i) k (Worker.Drain o i) old.contexts after x.0.at at (worker_below old k (Worker.Drain o i) at s.under_way) refl
     (lawful_alike (λ c. sym (drain_balance old k o i at s.under_way c)) s.owned.lawful) refl refl refl leaves
     (subst (All (AskCarries old.stack old.contexts.slots)) (sym (owed_drain_settled i.0 r.entries)) (asks_of old o r x.0.at s.owned))
     (λ j. omega (arith, drain_returned_flies j i r x.1 x.0.sound)) s.owned
 
 post_answered : (given : PostVerdict) → is_unanswered (post_leads (post_state given)) ≡ false
-post_answered given'.Finished = refl
-post_answered given'.MoreProcessing = refl
+post_answered PostVerdict.Finished = refl
+post_answered PostVerdict.MoreProcessing = refl
 
 -- a callback of an operation that has its answer returns: streams and handles stay, and what has a link has it still
 returned_sound : (old : World) (k : WorkerId) (o : OpId) (r : FlowRecord) (f : FlowRecord → FlowRecord) (new : World) → operation_at o old.flow ≡ Some r

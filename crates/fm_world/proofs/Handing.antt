@@ -3,35 +3,12 @@ use Rattle.std.proofs.Common.{◌≡◌, ℕ, ◌+◌, Bool, true, false, cond, 
 use Rattle.std.specs.Prelude.{slice_set, ◌&&◌}
 use Rattle.std.proofs.lemmas.List.{set-get_or, set-set}
 use Rattle.std.proofs.lemmas.List.Sums.{sum_by-cons}
-use Rattle.fm_types.specs.declared.context_kind.ContextKind.{ContextKind}
-use Rattle.fm_types.specs.declared.ids.CtxId.{CtxId}
-use Rattle.fm_types.specs.declared.ids.OpId.{OpId}
-use Rattle.fm_types.specs.declared.ids.WorkerId.{WorkerId}
-use Rattle.fm_types.specs.declared.status.Status.{Status}
-use Rattle.fm_data.specs.declared.verdict.PreVerdict.{PreVerdict}
-use Rattle.fm_data.specs.declared.verdict.PostVerdict.{PostVerdict}
-use Rattle.fm_data.specs.Data.{Data}
-use Rattle.fm_flow.specs.Record.{FlowRecord}
-use Rattle.fm_ctx.specs.declared.object.Object.{Object}
-use Rattle.fm_ctx.specs.declared.set_reply.SetMode.{SetMode}
-use Rattle.fm_ctx.specs.declared.set_reply.SetMode.TheVariants.{Keep, Replace}
-use Rattle.fm_ctx.specs.Bags.{hand_of, is_hand_full}
-use Rattle.fm_ctx.specs.Links.{set_after, set_mode_after, delete_after, unlinked_for}
-use Rattle.fm_ctx.specs.Settling.{Leaves}
-use Rattle.fm_ctx.specs.Table.{ContextTable}
-use Rattle.fm_world.specs.declared.set_answer.SetAnswer.{SetAnswer}
-use Rattle.fm_world.specs.declared.step.Begin.{Begin}
-use Rattle.fm_world.specs.declared.step.Begin.TheVariants as begin
+use Rattle.fm_world.proofs.Words.{ContextKind, CtxId, OpId, WorkerId, Status, PreVerdict, PostVerdict, Data, Object, SetMode, Keep, Replace, hand_of}
+use Rattle.fm_world.proofs.Words.{is_hand_full, set_after, set_mode_after, delete_after, unlinked_for, Leaves, ContextTable, FlowRecord, SetAnswer, Begin}
+use Rattle.fm_world.proofs.Words.{pairs_in, OnlyHandOf, KeepsHands, World, carries, Begins, state_at, sent_in, sent, PreReturns, PostReturns, after_begin}
+use Rattle.fm_world.proofs.Words.{begun_on, begun_at, carries_after, there_at, Sets, Deletes, stream_at, handle_at, LosesLinks, params_of, FileHandle}
+use Rattle.fm_world.proofs.Words.{FileStream}
 use Rattle.fm_world.proofs.Events.{memory_by, asked_by, set_by, pre_by, post_by}
-use Rattle.fm_world.specs.Hands.{pairs_in, OnlyHandOf, KeepsHands}
-use Rattle.fm_world.specs.World.{World, carries}
-use Rattle.fm_world.specs.Events.{Begins, state_at, sent_in, sent, PreReturns, PostReturns, after_begin, begun_on, begun_at, carries_after}
-use Rattle.fm_world.specs.ContextEvents.{there_at, Sets, Deletes}
-use Rattle.fm_world.specs.Files.{stream_at, handle_at}
-use Rattle.fm_world.specs.Links.{LosesLinks}
-use Rattle.fm_world.specs.Requests.{params_of}
-use Rattle.fm_world.specs.declared.file.FileHandle.{FileHandle}
-use Rattle.fm_world.specs.declared.file.FileStream.{FileStream}
 
 -- ---- lists of hands
 
@@ -112,9 +89,9 @@ left_hand : (carried : CtxId → ℕ) (k : ℕ) (hands : List (List CtxId)) (kep
 left_hand carried k hands kept left l (hand, e) = ([], l.hands ∙ ap (λ (xs : List (List CtxId)). slice_set xs k []) e ∙ set-set hands k hand [])
 
 begun_hands : (old : World) (what : Begin) → (after_begin old what).contexts.hands ≡ old.contexts.hands
-begun_hands old (begin.List v) = refl
-begun_hands old (begin.Create v path mode) = refl
-begun_hands old (begin.OnHandle h asked) = by_handle (handle_at h old.files)
+begun_hands old (Begin.List v) = refl
+begun_hands old (Begin.Create v path mode) = refl
+begun_hands old (Begin.OnHandle h asked) = by_handle (handle_at h old.files)
   where
     by_stream : (x : FileHandle) (m : Option FileStream) → (begun_on old h (params_of asked) x m).contexts.hands ≡ old.contexts.hands
     by_stream x None = refl

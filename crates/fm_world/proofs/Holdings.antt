@@ -3,36 +3,16 @@ use Rattle.std.proofs.Common.{◌≡◌, ℕ, ◌+◌, ◌<◌, Bool, true, fals
 use Rattle.std.specs.Prelude.{slice_set, ◌&&◌}
 use Rattle.std.proofs.lemmas.List.{get_or-set_same}
 use Rattle.std.proofs.lemmas.Option.{slice_get_within}
-use Rattle.fm_types.specs.declared.context_kind.ContextKind.{ContextKind}
-use Rattle.fm_types.specs.declared.ids.InstanceId.{InstanceId}
-use Rattle.fm_types.specs.declared.ids.OpId.{OpId}
-use Rattle.fm_data.specs.declared.verdict.PreVerdict.{PreVerdict}
-use Rattle.fm_data.specs.declared.verdict.PostVerdict.{PostVerdict}
-use Rattle.fm_data.specs.Data.{Data}
-use Rattle.fm_flow.specs.declared.action.FlowAction.{FlowAction}
-use Rattle.fm_flow.specs.declared.action.FlowAction.TheVariants as action
-use Rattle.fm_ctx.specs.declared.object.Object.{Object}
-use Rattle.fm_ctx.specs.declared.set_reply.SetMode.{SetMode}
-use Rattle.fm_ctx.specs.declared.set_reply.SetMode.TheVariants.{Keep, Replace}
-use Rattle.fm_ctx.specs.declared.set_reply.SetReply.TheVariants as reply
-use Rattle.fm_ctx.specs.Bags.{hand_of, holds, is_hand_full, without}
-use Rattle.fm_ctx.specs.Links.{set_after, set_reply, set_mode_after, set_mode_reply, wanted, delete_after, delete_reply, holder}
-use Rattle.fm_ctx.specs.Table.{ContextTable}
-use Rattle.fm_ctx.proofs.Bags.{length-without}
-use Rattle.fm_world.specs.declared.set_answer.SetAnswer.{SetAnswer}
-use Rattle.fm_world.specs.Hands.{hand_len, HoldsMore, HoldsOneFewer, HoldsNone, given_with, given_by_set, given_by_next, left_by_setup}
-use Rattle.fm_world.proofs.Words.{CtxId, WorkerId}
-use Rattle.fm_world.proofs.Words.{Status, Worker}
-use Rattle.fm_world.specs.World.{World, carries}
-use Rattle.fm_world.specs.Workers.{worker_at}
-use Rattle.fm_world.specs.Events.{EmptiesUnless, SetsUpAt, SetsUp, brought, received, Nexts, PreReturns, PostReturns}
-use Rattle.fm_world.specs.Links.{LosesLinks}
-use Rattle.fm_world.specs.ContextEvents.{Callback, callback_of, set_answer, there_at, with_contexts, Allocates, Sets, Gets, Deletes, References, Releases}
-use Rattle.fm_world.specs.Sound.{IsSound}
+use Rattle.fm_world.proofs.Words.{ContextKind, InstanceId, OpId, CtxId, WorkerId, Status, PreVerdict, PostVerdict, Data, Object, SetMode, Keep, Replace}
+use Rattle.fm_world.proofs.Words.{hand_of, holds, is_hand_full, without, set_after, set_reply, set_mode_after, set_mode_reply, wanted, delete_after}
+use Rattle.fm_world.proofs.Words.{delete_reply, holder, ContextTable, length-without, Leaves, FlowAction, SetAnswer, hand_len, HoldsMore, HoldsOneFewer}
+use Rattle.fm_world.proofs.Words.{HoldsNone, given_with, given_by_set, given_by_next, left_by_setup, Worker, World, carries, worker_at, EmptiesUnless}
+use Rattle.fm_world.proofs.Words.{SetsUpAt, SetsUp, brought, received, Nexts, PreReturns, PostReturns, LosesLinks, Callback, callback_of, set_answer}
+use Rattle.fm_world.proofs.Words.{there_at, with_contexts, Allocates, Sets, Gets, Deletes, References, Releases, IsSound}
+use Rattle.fm_ctx.specs.declared.set_reply.SetReply.{SetReply}
 use Rattle.fm_world.proofs.Callbacks.{is_in, none_of, not_false}
 use Rattle.fm_world.proofs.Events.{asked_by, taken_by, set_by, next_by, pre_by, post_by}
 use Rattle.fm_world.proofs.Keeps.{known_cases}
-use Rattle.fm_ctx.specs.Settling.{Leaves}
 
 -- a worker in a callback has a hand
 hand_there : (old : World) (k : WorkerId) (at : Callback) → IsSound old → callback_of old k ≡ Some at → k.0 < length old.contexts.hands
@@ -108,7 +88,7 @@ delete_more old k what wants result new s h =
 
 moded_len : (carried : CtxId → ℕ) (t : ContextTable) (k : ℕ) (c : CtxId) (object : Object) (mode : SetMode) (wants : Bool) (found : CtxId) (full : Bool) → k < length t.hands
     → length (hand_of (cond full t (set_mode_after carried t k c object mode wants found)).hands k)
-    ≡ length (hand_of t.hands k) + given_by_set (set_answer (cond full reply.HandFull (set_mode_reply mode (wanted wants found))))
+    ≡ length (hand_of t.hands k) + given_by_set (set_answer (cond full SetReply.HandFull (set_mode_reply mode (wanted wants found))))
 moded_len carried t k c object mode wants found true within = no_more (length (hand_of t.hands k))
 moded_len carried t k c object Keep true found false within = one_more t.hands k found within
 moded_len carried t k c object Keep false found false within = no_more (length (hand_of t.hands k))
@@ -138,15 +118,15 @@ brought_len t k (Some c) within = one_more t.hands k.0 c within
 
 received_more : (old new : World) (k : WorkerId) (result : Result FlowAction Status) → new.contexts ≡ received old.contexts k result → k.0 < length old.contexts.hands
     → HoldsMore k.0 result given_by_next old new
-received_more old new k (Ok (action.Pre i lent)) e within = ap (λ (t : ContextTable). length (hand_of t.hands k.0)) e ∙ no_more (hand_len k.0 old)
-received_more old new k (Ok (action.Base call)) e within = ap (λ (t : ContextTable). length (hand_of t.hands k.0)) e ∙ no_more (hand_len k.0 old)
-received_more old new k (Ok (action.Post i lent completion)) e within =
+received_more old new k (Ok (FlowAction.Pre i lent)) e within = ap (λ (t : ContextTable). length (hand_of t.hands k.0)) e ∙ no_more (hand_len k.0 old)
+received_more old new k (Ok (FlowAction.Base call)) e within = ap (λ (t : ContextTable). length (hand_of t.hands k.0)) e ∙ no_more (hand_len k.0 old)
+received_more old new k (Ok (FlowAction.Post i lent completion)) e within =
     ap (λ (t : ContextTable). length (hand_of t.hands k.0)) e ∙ brought_len old.contexts k completion.context within
-received_more old new k (Ok (action.Drain i completion)) e within =
+received_more old new k (Ok (FlowAction.Drain i completion)) e within =
     ap (λ (t : ContextTable). length (hand_of t.hands k.0)) e ∙ brought_len old.contexts k completion.context within
-received_more old new k (Ok action.Moved) e within = ap (λ (t : ContextTable). length (hand_of t.hands k.0)) e ∙ no_more (hand_len k.0 old)
-received_more old new k (Ok action.Held) e within = ap (λ (t : ContextTable). length (hand_of t.hands k.0)) e ∙ no_more (hand_len k.0 old)
-received_more old new k (Ok action.Done) e within = ap (λ (t : ContextTable). length (hand_of t.hands k.0)) e ∙ no_more (hand_len k.0 old)
+received_more old new k (Ok FlowAction.Moved) e within = ap (λ (t : ContextTable). length (hand_of t.hands k.0)) e ∙ no_more (hand_len k.0 old)
+received_more old new k (Ok FlowAction.Held) e within = ap (λ (t : ContextTable). length (hand_of t.hands k.0)) e ∙ no_more (hand_len k.0 old)
+received_more old new k (Ok FlowAction.Done) e within = ap (λ (t : ContextTable). length (hand_of t.hands k.0)) e ∙ no_more (hand_len k.0 old)
 received_more old new k (Err why) e within = ap (λ (t : ContextTable). length (hand_of t.hands k.0)) e
 
 -- a worker that is there has a hand

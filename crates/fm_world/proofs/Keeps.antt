@@ -5,43 +5,19 @@ use Rattle.std.proofs.lemmas.Bool.{eq-eqb}
 use Rattle.std.proofs.lemmas.Bool.Decides.{nat_tests}
 use Rattle.std.proofs.lemmas.Option.{none-some, same_Some}
 use Rattle.std.proofs.lemmas.List.Elements.{All-weaker}
-use Rattle.fm_types.specs.declared.ids.FilterId.{FilterId}
-use Rattle.fm_types.specs.declared.ids.VolumeId.{VolumeId}
-use Rattle.fm_types.specs.declared.ids.InstanceId.{InstanceId}
-use Rattle.fm_types.specs.declared.ids.WorkerId.{WorkerId}
-use Rattle.fm_types.specs.declared.ids.OpId.{OpId}
-use Rattle.fm_types.specs.declared.status.Status.{Status}
-use Rattle.fm_types.specs.declared.registration.Registration.{Registration}
-use Rattle.fm_types.specs.Lists.{updated}
-use Rattle.fm_stack.specs.declared.instance.Instance.{Instance}
-use Rattle.fm_stack.specs.declared.instance.Phase.TheVariants as phase
-use Rattle.fm_stack.specs.StackWorld.{StackWorld}
-use Rattle.fm_stack.specs.Instances.{is_setup}
+use Rattle.fm_world.proofs.Words.{FilterId, VolumeId, InstanceId, WorkerId, OpId, Status, Registration, updated, Instance, Phase, StackWorld, is_setup}
+use Rattle.fm_world.proofs.Words.{Follows, IsStack, ContextTable, Below, FlowAction, Worker, LosesLinks, World, worker_at, put, after_attach, LosesByKnown}
+use Rattle.fm_world.proofs.Words.{Registers, Mounts, Spot, AtPre, AtBase, AtPost, AtDrain, is_in_at, is_in_drain, IsUnderWay, IsAmong, is_in_setup, setup_row}
+use Rattle.fm_world.proofs.Words.{IsFileSound, FileTable}
 use Rattle.fm_stack.specs.Events as stack
-use Rattle.fm_stack.specs.Follows.{Follows}
-use Rattle.fm_stack.specs.Stacks.{IsStack}
-use Rattle.fm_flow.specs.declared.action.Below.{Below}
-use Rattle.fm_flow.specs.declared.action.Below.TheVariants as below
-use Rattle.fm_flow.specs.declared.action.FlowAction.{FlowAction}
-use Rattle.fm_flow.specs.declared.action.FlowAction.TheVariants as action
-use Rattle.fm_ctx.specs.Table.{ContextTable}
-use Rattle.fm_world.specs.declared.worker.Worker.{Worker}
-use Rattle.fm_world.specs.declared.worker.Worker.TheVariants as place
-use Rattle.fm_world.specs.Links.{LosesLinks}
-use Rattle.fm_world.specs.World.{World}
-use Rattle.fm_world.specs.Workers.{worker_at, put, after_attach}
-use Rattle.fm_world.specs.Events.{LosesByKnown, Registers, Mounts}
-use Rattle.fm_world.specs.Headline.{Spot, AtPre, AtBase, AtPost, AtDrain, is_in_at, is_in_drain}
-use Rattle.fm_world.specs.Sound.{IsUnderWay, IsAmong, is_in_setup, setup_row, IsFileSound}
+use Rattle.fm_stack.proofs.Registering.{registered_keeps, registered_follows, mounted_keeps, mounted_follows}
+use Rattle.fm_stack.proofs.Attaching.{attached_keeps, attached_follows}
+use Rattle.fm_stack.proofs.SettingUp.{accepted_keeps, accepted_follows, refused_keeps, refused_follows}
 use Rattle.fm_world.proofs.Counts.{count-some}
 pub use Rattle.fm_world.proofs.Events.{idle_there}
 use Rattle.fm_world.proofs.Ties.{one, count_moves, idle_is_in_none}
 use Rattle.fm_world.proofs.Draining.{moves_undrained}
 use Rattle.fm_world.proofs.Amongs.{among_follows}
-use Rattle.fm_stack.proofs.Registering.{registered_keeps, registered_follows, mounted_keeps, mounted_follows}
-use Rattle.fm_stack.proofs.Attaching.{attached_keeps, attached_follows}
-use Rattle.fm_stack.proofs.SettingUp.{accepted_keeps, accepted_follows, refused_keeps, refused_follows}
-use Rattle.fm_world.specs.Files.{FileTable}
 
 -- streams, handles and the creates under way
 abbrev pub FiledIn : World → Type 0
@@ -56,7 +32,7 @@ loses_under_way old new h s = subst IsUnderWay (sym h.1) (whatever_contexts old 
 
 -- where links go by a known answer, and where nothing goes
 pub known_cases : (P : World → Type 0) (result : Result FlowAction Status) (lies : Below) (mid new : World) → LosesByKnown result lies mid new → (LosesLinks mid new → P new) → P mid → P new
-known_cases P (Ok action.Moved) (below.Known why) mid new h lost same = lost h
+known_cases P (Ok FlowAction.Moved) (Below.Known why) mid new h lost same = lost h
 known_cases P _ _ mid new h lost same = subst P (sym h) same
 
 -- nor do streams and handles
@@ -127,7 +103,7 @@ setup_push [] row (suc j) h = grind (arith, nat_tests)
 setup_push (x ∷ rows) row zero h = grind (arith, nat_tests)
 setup_push (x ∷ rows) row (suc j) h = setup_push rows row j h ∙ ap (λ b. setup_row (slice_get rows j) + one b) (sym (same_suc (length rows) j))
 
-setup_in_none : (i : InstanceId) (p : OpId) (s : Spot) → is_in_at p s (place.Setup i) ≡ false
+setup_in_none : (i : InstanceId) (p : OpId) (s : Spot) → is_in_at p s (Worker.Setup i) ≡ false
 setup_in_none i p (AtPre j) = refl
 setup_in_none i p AtBase = refl
 setup_in_none i p (AtPost j) = refl
@@ -148,20 +124,20 @@ same_all : (old new : World) (t : StackWorld) (workers : List Worker) → new.st
 same_all old new t workers e h = h ∙ ap (λ x. record old { stack = x; workers = workers }) e
 
 pub attach_keeps : (old : World) (k : WorkerId) (f : FilterId) (v : VolumeId) (name altitude : List ℕ) (result : Result InstanceId Status) (new : World)
-    → worker_at old.workers k ≡ Some place.Idle → stack.Attaches old.stack f v name altitude result new.stack
+    → worker_at old.workers k ≡ Some Worker.Idle → stack.Attaches old.stack f v name altitude result new.stack
     → new ≡ record old { stack = new.stack; workers = after_attach old.workers k result } → IsUnderWay old → IsUnderWay new
 unfolding stack.Attaches
 attach_keeps old k f v name altitude (Err why) new idle h e s = subst IsUnderWay (sym (same_all old new old.stack old.workers h.1 e)) s
 attach_keeps old k f v name altitude (Ok i) new idle h e s =
     let t = stack.attached old.stack f v name altitude in
-    let workers = put old.workers k (place.Setup i) in
+    let workers = put old.workers k (Worker.Setup i) in
     subst IsUnderWay (sym (same_all old new t workers h.1.1 e))
     (stack_moves old t workers (attached_keeps old.stack f v name altitude s.stack h.0) (attached_follows old.stack f v name altitude s.stack)
-    (length-set old.workers k.0 (place.Setup i) ∙ s.hands)
-    (moves_outside old.workers k place.Idle (place.Setup i) idle idle_is_in_none (setup_in_none i))
-    (moves_undrained old.workers k place.Idle (place.Setup i) idle (λ p n. refl) (λ p n. refl))
+    (length-set old.workers k.0 (Worker.Setup i) ∙ s.hands)
+    (moves_outside old.workers k Worker.Idle (Worker.Setup i) idle idle_is_in_none (setup_in_none i))
+    (moves_undrained old.workers k Worker.Idle (Worker.Setup i) idle (λ p n. refl) (λ p n. refl))
     (λ j.
-    let moves = count_moves (is_in_setup j) old.workers k place.Idle (place.Setup i) idle in
+    let moves = count_moves (is_in_setup j) old.workers k Worker.Idle (Worker.Setup i) idle in
     let rows = setup_push old.stack.instances (stack.new_instance f v name altitude) j refl in
     let same : one (i.0 == j) ≡ one (length old.stack.instances == j) = ap (λ n. one (n == j)) h.1.0 in
     omega (arith, moves, rows, same, s.setups j))
@@ -193,23 +169,23 @@ setup_there (Some row) h = (row, refl, true_of (is_setup row.phase) h)
     true_of false h = absurd (omega arith)
 
 -- the instance that a worker's setup callback is of, found through the worker
-pub setup_place : (w : World) (k : WorkerId) (i : InstanceId) → IsUnderWay w → worker_at w.workers k ≡ Some (place.Setup i)
+pub setup_place : (w : World) (k : WorkerId) (i : InstanceId) → IsUnderWay w → worker_at w.workers k ≡ Some (Worker.Setup i)
     → (row : Instance) × (slice_get w.stack.instances i.0 ≡ Some row) × (is_setup row.phase ≡ true)
 setup_place w k i s at =
-    let inside = count-some (is_in_setup i.0) w.workers k.0 (place.Setup i) at (eq-eqb i.0 i.0 refl) in
+    let inside = count-some (is_in_setup i.0) w.workers k.0 (Worker.Setup i) at (eq-eqb i.0 i.0 refl) in
     setup_there (slice_get w.stack.instances i.0) (omega (arith, inside, s.setups i.0))
 
 -- the callback returns, and the instance leaves its setup
 setup_ends : (old : World) (k : WorkerId) (i : InstanceId) (t : StackWorld) (change : Instance → Instance) (row : Instance)
-    → worker_at old.workers k ≡ Some (place.Setup i) → slice_get old.stack.instances i.0 ≡ Some row → is_setup row.phase ≡ true → is_setup (change row).phase ≡ false
+    → worker_at old.workers k ≡ Some (Worker.Setup i) → slice_get old.stack.instances i.0 ≡ Some row → is_setup row.phase ≡ true → is_setup (change row).phase ≡ false
     → t.instances ≡ updated change old.stack.instances i.0 → IsStack t → Follows old.stack t → IsUnderWay old
-    → IsUnderWay (record old { stack = t; workers = put old.workers k place.Idle })
+    → IsUnderWay (record old { stack = t; workers = put old.workers k Worker.Idle })
 setup_ends old k i t change row at there was is rows stack follows s =
-    stack_moves old t (put old.workers k place.Idle) stack follows (length-set old.workers k.0 place.Idle ∙ s.hands)
-    (moves_outside old.workers k (place.Setup i) place.Idle at (setup_in_none i) idle_is_in_none)
-    (moves_undrained old.workers k (place.Setup i) place.Idle at (λ p n. refl) (λ p n. refl))
+    stack_moves old t (put old.workers k Worker.Idle) stack follows (length-set old.workers k.0 Worker.Idle ∙ s.hands)
+    (moves_outside old.workers k (Worker.Setup i) Worker.Idle at (setup_in_none i) idle_is_in_none)
+    (moves_undrained old.workers k (Worker.Setup i) Worker.Idle at (λ p n. refl) (λ p n. refl))
     (λ j.
-    let moves = count_moves (is_in_setup j) old.workers k (place.Setup i) place.Idle at in
+    let moves = count_moves (is_in_setup j) old.workers k (Worker.Setup i) Worker.Idle at in
     let after = setup_updated change old.stack.instances i.0 j row there was is in
     let now : setup_row (slice_get t.instances j) ≡ setup_row (slice_get (updated change old.stack.instances i.0) j) =
     ap (λ (xs : List Instance). setup_row (slice_get xs j)) rows in
@@ -217,20 +193,20 @@ setup_ends old k i t change row at there was is rows stack follows s =
     s
 
 pub setup_keeps : (old : World) (k : WorkerId) (i : InstanceId) (accept : Bool) (result : Result (Unit {0}) Status) (new : World)
-    → worker_at old.workers k ≡ Some (place.Setup i) → stack.SetsUp old.stack i accept result new.stack
-    → new ≡ record old { stack = new.stack; workers = put old.workers k place.Idle; contexts = new.contexts } → IsUnderWay old → IsUnderWay new
+    → worker_at old.workers k ≡ Some (Worker.Setup i) → stack.SetsUp old.stack i accept result new.stack
+    → new ≡ record old { stack = new.stack; workers = put old.workers k Worker.Idle; contexts = new.contexts } → IsUnderWay old → IsUnderWay new
 unfolding stack.SetsUp
 setup_keeps old k i accept (Ok done) new at h e s =
     let row = setup_place old k i s at in
     let t = stack.accepted old.stack i in
-    subst IsUnderWay (sym (e ∙ ap (λ x. record old { stack = x; workers = put old.workers k place.Idle; contexts = new.contexts }) h.1))
-    (whatever_contexts (record old { stack = t; workers = put old.workers k place.Idle }) new.contexts old.totals
-    (setup_ends old k i t (λ (r : Instance). record r { phase = phase.Attached; birth = old.stack.births }) row.0 at row.1 row.2 refl refl
+    subst IsUnderWay (sym (e ∙ ap (λ x. record old { stack = x; workers = put old.workers k Worker.Idle; contexts = new.contexts }) h.1))
+    (whatever_contexts (record old { stack = t; workers = put old.workers k Worker.Idle }) new.contexts old.totals
+    (setup_ends old k i t (λ (r : Instance). record r { phase = Phase.Attached; birth = old.stack.births }) row.0 at row.1 row.2 refl refl
     (accepted_keeps old.stack i s.stack row.0 row.1 row.2) (accepted_follows old.stack i s.stack row.0 row.1 row.2) s))
 setup_keeps old k i accept (Err why) new at h e s =
     let row = setup_place old k i s at in
     let t = stack.refused old.stack i in
-    subst IsUnderWay (sym (e ∙ ap (λ x. record old { stack = x; workers = put old.workers k place.Idle; contexts = new.contexts }) h.1))
-    (whatever_contexts (record old { stack = t; workers = put old.workers k place.Idle }) new.contexts old.totals
-    (setup_ends old k i t (λ (r : Instance). record r { phase = phase.Emptying }) row.0 at row.1 row.2 refl refl
+    subst IsUnderWay (sym (e ∙ ap (λ x. record old { stack = x; workers = put old.workers k Worker.Idle; contexts = new.contexts }) h.1))
+    (whatever_contexts (record old { stack = t; workers = put old.workers k Worker.Idle }) new.contexts old.totals
+    (setup_ends old k i t (λ (r : Instance). record r { phase = Phase.Emptying }) row.0 at row.1 row.2 refl refl
     (refused_keeps old.stack i s.stack row.0 row.1 row.2) (refused_follows old.stack i s.stack row.0 row.1 row.2) s))

@@ -3,60 +3,19 @@ use Rattle.std.proofs.Common.{◌≡◌, ℕ, zero, suc, ◌<◌, ◌≤◌, ◌
 use Rattle.std.specs.Prelude.{◌&&◌, option_and_then, slice_set}
 use Rattle.std.proofs.lemmas.Bool.{cases_Bool, cases_eq, eqb-true, eq-eqb, ne_eqb}
 use Rattle.std.proofs.lemmas.Option.{none-some, same_Some, slice_get-map, slice_get_within}
-use Rattle.fm_types.proofs.Lists.{slice_get-kept, slice_get-push, slice_get-set_same, slice_get-set_other, updated-same, updated-other}
-use Rattle.fm_types.specs.declared.context_kind.ContextKind.{ContextKind}
-use Rattle.fm_types.specs.declared.ids.CtxId.{CtxId}
-use Rattle.fm_types.specs.declared.ids.FilterId.{FilterId}
-use Rattle.fm_types.specs.declared.ids.InstanceId.{InstanceId}
-use Rattle.fm_types.specs.declared.ids.OpId.{OpId}
-use Rattle.fm_types.specs.declared.ids.VolumeId.{VolumeId}
-use Rattle.fm_types.specs.declared.ids.WorkerId.{WorkerId}
-use Rattle.fm_types.specs.declared.registration.Registration.{Registration}
-use Rattle.fm_types.specs.declared.status.Status.{Status}
-use Rattle.fm_types.specs.declared.status.Status.TheVariants as status
-use Rattle.fm_data.specs.declared.answer.Answer.{Answer}
-use Rattle.fm_data.specs.declared.base_call.BaseCall.{BaseCall}
-use Rattle.fm_data.specs.declared.verdict.PostVerdict.{PostVerdict}
-use Rattle.fm_data.specs.declared.verdict.PreVerdict.{PreVerdict}
-use Rattle.fm_data.specs.Data.{Data}
-use Rattle.fm_flow.specs.declared.action.FlowAction.{FlowAction}
-use Rattle.fm_flow.specs.declared.action.FlowAction.TheVariants as action
-use Rattle.fm_ctx.specs.declared.due.Due.{Due}
-use Rattle.fm_ctx.specs.declared.object.Object.{Object}
-use Rattle.fm_ctx.specs.declared.set_reply.SetMode.{SetMode}
-use Rattle.fm_ctx.specs.declared.set_reply.SetMode.TheVariants.{Keep, Replace}
-use Rattle.fm_ctx.specs.Bags.{one, is_id, cleaning_of, is_hand_full}
-use Rattle.fm_ctx.specs.Laws.{is_waiting}
-use Rattle.fm_ctx.proofs.Bags.{is_id-refl, first_placed, places_cleaned}
-use Rattle.fm_ctx.proofs.Slots.{context_at-here}
 use Rattle.std.proofs.lemmas.List.{get_or-set_same, get_or-set_other}
-use Rattle.fm_ctx.specs.Births.{IsNew, new_slot, placed}
-use Rattle.fm_ctx.specs.Bodies.{with_body}
-use Rattle.fm_ctx.specs.Cleanup.{emptied, due_of, taken_due, taken_of, cleaned}
-use Rattle.fm_ctx.specs.Links.{with_link, set_after, set_mode_after, unlinked_for, delete_after, linked, holder}
-use Rattle.fm_ctx.specs.Settling.{swept, swept_slot}
-use Rattle.fm_ctx.specs.Table.{Context, Slot, ContextTable, context_in, context_at, changed_slot, change_context}
-use Rattle.fm_world.specs.declared.file.FileHandle.{FileHandle}
-use Rattle.fm_world.specs.declared.file.FileStream.{FileStream}
-use Rattle.fm_world.specs.declared.set_answer.SetAnswer.{SetAnswer}
-use Rattle.fm_world.specs.declared.step.Begin.{Begin}
-use Rattle.fm_world.specs.declared.step.Begin.TheVariants as begin
-use Rattle.fm_world.specs.declared.step.Step.{Step}
-use Rattle.fm_world.specs.declared.step.Step.TheVariants as step
-use Rattle.fm_world.specs.declared.step.StepReply.{StepReply}
-use Rattle.fm_world.specs.declared.step.StepReply.TheVariants as reply
-use Rattle.fm_world.specs.declared.worker.Worker.TheVariants as place
-use Rattle.fm_world.specs.ContextEvents.{there_at, Allocates, Sets, Gets, Deletes, References, Releases, ReadsBody, WritesBody, Bumps, TakesDue, Cleans, Finishes}
-use Rattle.fm_world.specs.Events.{Unless, brought, received, Registers, Mounts, Attaches, SetsUp, EmptiesUnless, Begins, Nexts, PreReturns, BaseReturns, PostReturns, Collects, begun_on, begun_at, after_begin, sent}
-use Rattle.fm_world.specs.Files.{handle_at, stream_at}
-use Rattle.fm_world.specs.Lasting.{given_by, due_by, Comes, IsGone, ContextsLast}
-use Rattle.fm_world.specs.Links.{LosesLinks}
-use Rattle.fm_world.specs.Requests.{params_of}
-use Rattle.fm_world.specs.Steps.{Steps, Run}
-use Rattle.fm_world.specs.World.{World, carries, empty_world}
-use Rattle.fm_world.specs.Sound.{IsSound}
-use Rattle.fm_world.specs.Workers.{worker_at, is_idle, cleanup_in}
 use Rattle.std.specs.Prelude.{IfOk}
+use Rattle.fm_world.proofs.Words.{slice_get-kept, slice_get-push, slice_get-set_same, slice_get-set_other, updated-same, updated-other, ContextKind, CtxId}
+use Rattle.fm_world.proofs.Words.{FilterId, InstanceId, OpId, VolumeId, WorkerId, Registration, Status, Answer, BaseCall, PostVerdict, PreVerdict, Data, Due}
+use Rattle.fm_world.proofs.Words.{Object, SetMode, Keep, Replace, one, is_id, cleaning_of, is_hand_full, is_waiting, is_id-refl, first_placed, places_cleaned}
+use Rattle.fm_world.proofs.Words.{context_at-here, IsNew, new_slot, placed, with_body, emptied, due_of, taken_due, taken_of, cleaned, with_link, set_after}
+use Rattle.fm_world.proofs.Words.{set_mode_after, unlinked_for, delete_after, linked, holder, swept, swept_slot, Context, Slot, ContextTable, context_in}
+use Rattle.fm_world.proofs.Words.{context_at, changed_slot, change_context, FlowAction, FileHandle, FileStream, SetAnswer, Begin, Step, StepReply, Worker}
+use Rattle.fm_world.proofs.Words.{there_at, Allocates, Sets, Gets, Deletes, References, Releases, ReadsBody, WritesBody, Bumps, TakesDue, Cleans, Finishes}
+use Rattle.fm_world.proofs.Words.{Unless, brought, received, Registers, Mounts, Attaches, SetsUp, EmptiesUnless, Begins, Nexts, PreReturns, BaseReturns}
+use Rattle.fm_world.proofs.Words.{PostReturns, Collects, begun_on, begun_at, after_begin, sent, handle_at, stream_at, LosesLinks, params_of, Steps, Run}
+use Rattle.fm_world.proofs.Words.{World, carries, empty_world, IsSound, worker_at, is_idle, cleanup_in}
+use Rattle.fm_world.specs.Lasting.{given_by, due_by, Comes, IsGone, ContextsLast}
 use Rattle.fm_world.proofs.Events.{memory_by, answers_by, asked_by, taken_by, idle_by, idle_there, setup_by, next_by, pre_by, base_by, post_by, cleaned_by, set_by}
 use Rattle.fm_world.proofs.Keeps.{known_cases}
 use Rattle.fm_world.proofs.Runs.{step_keeps, run_keeps, empty_sound}
@@ -243,9 +202,9 @@ setup_stay old k accept result new h =
 -- operations
 
 begun_contexts : (old : World) (what : Begin) → (after_begin old what).contexts ≡ old.contexts
-begun_contexts old (begin.List v) = refl
-begun_contexts old (begin.Create v path mode) = refl
-begun_contexts old (begin.OnHandle h asked) = by_handle (handle_at h old.files)
+begun_contexts old (Begin.List v) = refl
+begun_contexts old (Begin.Create v path mode) = refl
+begun_contexts old (Begin.OnHandle h asked) = by_handle (handle_at h old.files)
   where
     by_stream : (x : FileHandle) (m : Option FileStream) → (begun_on old h (params_of asked) x m).contexts ≡ old.contexts
     by_stream x None = refl
@@ -265,8 +224,8 @@ brought_cleaning t k None = refl
 brought_cleaning t k (Some c) = refl
 
 received_cleaning : (t : ContextTable) (k : WorkerId) (result : Result FlowAction Status) → (received t k result).cleaning ≡ t.cleaning
-received_cleaning t k (Ok (action.Post i lent completion)) = brought_cleaning t k completion.context
-received_cleaning t k (Ok (action.Drain i completion)) = brought_cleaning t k completion.context
+received_cleaning t k (Ok (FlowAction.Post i lent completion)) = brought_cleaning t k completion.context
+received_cleaning t k (Ok (FlowAction.Drain i completion)) = brought_cleaning t k completion.context
 received_cleaning t k _ = refl
 
 next_stay : (old : World) (k : WorkerId) (o : OpId) (result : Result FlowAction Status) (new : World) → Nexts old k o result new → Stay old new
@@ -436,28 +395,28 @@ finish_stay old i result new h = answers_by (λ _ w. Stay old w) _ result old ne
 -- every event
 
 step_lasts : (old : World) (x : Step) (r : StepReply) (new : World) → Steps old x r new → IsSound old → Lasts old new
-step_lasts old (step.Register name registration) (reply.Filter r) new h s = lasts old new (register_stay old name registration r new h)
-step_lasts old (step.Mount name) (reply.Volume r) new h s = lasts old new (mount_stay old name r new h)
-step_lasts old (step.Attach k f v name altitude) (reply.Instance r) new h s = lasts old new (attach_stay old k f v name altitude r new h)
-step_lasts old (step.SetupDone k accept) (reply.Done r) new h s = lasts old new (setup_stay old k accept r new h)
-step_lasts old (step.Begin what) (reply.Operation r) new h s = lasts old new (begin_stay old what r new h)
-step_lasts old (step.Next k o) (reply.Action r) new h s = lasts old new (next_stay old k o r new h)
-step_lasts old (step.PreReturned k verdict lent) (reply.Done r) new h s = lasts old new (pre_stay old k verdict lent r new h)
-step_lasts old (step.BaseReturned k call given) (reply.Done r) new h s = lasts old new (base_stay old k call given r new h)
-step_lasts old (step.PostReturned k verdict lent) (reply.Done r) new h s = lasts old new (post_stay old k verdict lent r new h)
-step_lasts old (step.Collect o) (reply.Answer r) new h s = lasts old new (collect_stay old o r new h)
-step_lasts old (step.Allocate k what body) (reply.Context r) new h s = lasts old new (allocate_stay old k what body r new h)
-step_lasts old (step.Set k c mode wants) (reply.Set r) new h s = lasts old new (set_stay old k c mode wants r new h)
-step_lasts old (step.Get k what) (reply.Context r) new h s = lasts old new (get_stay old k what r new h)
-step_lasts old (step.Delete k what wants) (reply.Old r) new h s = lasts old new (delete_stay old k what wants r new h)
-step_lasts old (step.Reference k c) (reply.Done r) new h s = lasts old new (reference_stay old k c r new h)
-step_lasts old (step.Release k c) (reply.Done r) new h s = lasts old new (release_stay old k c r new h)
-step_lasts old (step.ReadBody k c) (reply.Body r) new h s = lasts old new (read_stay old k c r new h)
-step_lasts old (step.WriteBody k c bytes) (reply.Done r) new h s = lasts old new (write_stay old k c bytes r new h)
-step_lasts old (step.Bump k c at by) (reply.Number r) new h s = lasts old new (bump_stay old k c at by r new h)
-step_lasts old (step.TakeDue k) (reply.Due r) new h s = due_lasts old k r new h s
-step_lasts old (step.Cleaned k number) (reply.Done r) new h s = cleaned_lasts old k number r new h s
-step_lasts old (step.Finish i) (reply.Done r) new h s = lasts old new (finish_stay old i r new h)
+step_lasts old (Step.Register name registration) (StepReply.Filter r) new h s = lasts old new (register_stay old name registration r new h)
+step_lasts old (Step.Mount name) (StepReply.Volume r) new h s = lasts old new (mount_stay old name r new h)
+step_lasts old (Step.Attach k f v name altitude) (StepReply.Instance r) new h s = lasts old new (attach_stay old k f v name altitude r new h)
+step_lasts old (Step.SetupDone k accept) (StepReply.Done r) new h s = lasts old new (setup_stay old k accept r new h)
+step_lasts old (Step.Begin what) (StepReply.Operation r) new h s = lasts old new (begin_stay old what r new h)
+step_lasts old (Step.Next k o) (StepReply.Action r) new h s = lasts old new (next_stay old k o r new h)
+step_lasts old (Step.PreReturned k verdict lent) (StepReply.Done r) new h s = lasts old new (pre_stay old k verdict lent r new h)
+step_lasts old (Step.BaseReturned k call given) (StepReply.Done r) new h s = lasts old new (base_stay old k call given r new h)
+step_lasts old (Step.PostReturned k verdict lent) (StepReply.Done r) new h s = lasts old new (post_stay old k verdict lent r new h)
+step_lasts old (Step.Collect o) (StepReply.Answer r) new h s = lasts old new (collect_stay old o r new h)
+step_lasts old (Step.Allocate k what body) (StepReply.Context r) new h s = lasts old new (allocate_stay old k what body r new h)
+step_lasts old (Step.Set k c mode wants) (StepReply.Set r) new h s = lasts old new (set_stay old k c mode wants r new h)
+step_lasts old (Step.Get k what) (StepReply.Context r) new h s = lasts old new (get_stay old k what r new h)
+step_lasts old (Step.Delete k what wants) (StepReply.Old r) new h s = lasts old new (delete_stay old k what wants r new h)
+step_lasts old (Step.Reference k c) (StepReply.Done r) new h s = lasts old new (reference_stay old k c r new h)
+step_lasts old (Step.Release k c) (StepReply.Done r) new h s = lasts old new (release_stay old k c r new h)
+step_lasts old (Step.ReadBody k c) (StepReply.Body r) new h s = lasts old new (read_stay old k c r new h)
+step_lasts old (Step.WriteBody k c bytes) (StepReply.Done r) new h s = lasts old new (write_stay old k c bytes r new h)
+step_lasts old (Step.Bump k c at by) (StepReply.Number r) new h s = lasts old new (bump_stay old k c at by r new h)
+step_lasts old (Step.TakeDue k) (StepReply.Due r) new h s = due_lasts old k r new h s
+step_lasts old (Step.Cleaned k number) (StepReply.Done r) new h s = cleaned_lasts old k number r new h s
+step_lasts old (Step.Finish i) (StepReply.Done r) new h s = lasts old new (finish_stay old i r new h)
 step_lasts old _ _ new h s = absurd h
 
 -- ---- what is given, and what is due
@@ -471,7 +430,7 @@ allocated_new old k kind body result new h =
     (λ at is c free e. (e.0, subst (λ (w : World). WasGiven w.contexts.slots c) (sym e.1) (given_placed old.contexts.slots c _ e.0)))
 
 step_gives : (old : World) (s : Step) (r : StepReply) (new : World) (c : CtxId) → Steps old s r new → given_by s r ≡ Some c → IsNew old.contexts.slots c × WasGiven new.contexts.slots c
-step_gives old (step.Allocate k kind body) (reply.Context (Ok d)) new c h is =
+step_gives old (Step.Allocate k kind body) (StepReply.Context (Ok d)) new c h is =
     subst (λ x. IsNew old.contexts.slots x × WasGiven new.contexts.slots x) (same_Some d c is) (allocated_new old k kind body (Ok d) new h)
 step_gives old _ _ new c h is = absurd (none-some c is)
 
@@ -545,13 +504,13 @@ unless_ok refusal false v old new Event h = cc
 taken_handed : (old : World) (k : WorkerId) (due : Due) (new : World) → TakesDue old k (Ok (Some due)) new → IsSound old → IsHanded old new due.id
 unfolding TakesDue
 taken_handed old k due new h s =
-    let e = unless_ok status.WrongStep (is_idle (worker_at old.workers k)) (Some due) old new _ h in
+    let e = unless_ok Status.WrongStep (is_idle (worker_at old.workers k)) (Some due) old new _ h in
     let reply = reply_is old.contexts.slots due (slice_get old.contexts.due 0) (ap reply_of e.1.0) in
     let t = taken_due old.contexts k.0 due.id in
     let made : new.contexts ≡ t = ap (λ (w : World). w.contexts) e.1.1 ∙ ap (taken_of old.contexts k.0) reply.0 in
     let was = given_there old.contexts.slots due.id reply.1.0 reply.1.1 in
     let within : k.0 < length old.contexts.cleaning =
-    subst (λ n. k.0 < n) (s.under_way.hands ∙ sym s.owned.lawful.cleaners) (slice_get_within old.workers k.0 place.Idle (idle_there old.workers k e.0)) in
+    subst (λ n. k.0 < n) (s.under_way.hands ∙ sym s.owned.lawful.cleaners) (slice_get_within old.workers k.0 Worker.Idle (idle_there old.workers k e.0)) in
     record {
       came = subst (λ (u : ContextTable). WasGiven u.slots due.id × ((context_at u.slots due.id ≡ None) ⊎ ((n : ℕ) × (cleaning_of u.cleaning n ≡ Some due.id)))) (sym made) (
         given_stays old.contexts.slots t.slots due.id (slots_changed (option_map emptied) old.contexts.slots due.id refl) was,
@@ -568,7 +527,7 @@ taken_handed old k due new h s =
     reply_of (Err why) = None
 
 step_due : (old : World) (x : Step) (r : StepReply) (new : World) (c : CtxId) → Steps old x r new → due_by x r ≡ Some c → IsSound old → IsHanded old new c
-step_due old (step.TakeDue k) (reply.Due (Ok (Some due))) new c h is s = subst (IsHanded old new) (same_Some due.id c is) (taken_handed old k due new h s)
+step_due old (Step.TakeDue k) (StepReply.Due (Ok (Some due))) new c h is s = subst (IsHanded old new) (same_Some due.id c is) (taken_handed old k due new h s)
 step_due old _ _ new c h is s = absurd (none-some c is)
 
 -- ---- lists of events

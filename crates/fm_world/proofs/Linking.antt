@@ -3,46 +3,19 @@ use Rattle.std.proofs.Common.{◌≡◌, ℕ, ◌<◌, ◌&&◌, ◌||◌, slice
 use Rattle.std.specs.Option.{option_and_then}
 use Rattle.std.proofs.lemmas.Bool.{false≢true, and_parts, and_from, leb-false, eq-eqb, lt-ltb}
 use Rattle.std.proofs.lemmas.Option.{none-some, same_Some}
-use Rattle.fm_types.specs.declared.context_kind.ContextKind.{ContextKind}
-use Rattle.fm_types.specs.declared.context_kind.ContextKind.TheVariants as kind
-use Rattle.fm_types.specs.declared.ids.CtxId.{CtxId}
-use Rattle.fm_types.specs.declared.ids.InstanceId.{InstanceId}
-use Rattle.fm_types.specs.declared.ids.WorkerId.{WorkerId}
-use Rattle.fm_types.specs.declared.status.Status.{Status}
-use Rattle.fm_types.specs.declared.status.Status.TheVariants as status
-use Rattle.fm_types.specs.Refusals.{first_of}
-use Rattle.fm_types.proofs.Lists.{all_at}
-use Rattle.fm_stack.specs.declared.instance.Instance.{Instance}
-use Rattle.fm_stack.specs.declared.volume.Volume.{Volume}
+use Rattle.fm_world.proofs.Words.{ContextKind, CtxId, InstanceId, WorkerId, Status, first_of, all_at, Instance, Volume, StackWorld, is_setup, is_attached}
+use Rattle.fm_world.proofs.Words.{is_mounted, is_mounted_phase, Object, Owner, SetMode, Keep, Replace, holds, hand_of, is_hand_full, allocated}
+use Rattle.fm_world.proofs.Words.{allocate_refusal, is_out_of_slots, IsLawful, holder, set_after, set_mode_after, kept_after, unlinked_for, linked, with_link}
+use Rattle.fm_world.proofs.Words.{get_refusal, delete_after, delete_refusal, IsUnlinkedOf, same_owner, is_to, Context, Slot, ContextTable, context_at}
+use Rattle.fm_world.proofs.Words.{link_at, allocate_keeps, context_at-placed, none_from, SetAnswer, World, carries, is_there, names_there, FileObject, row_at}
+use Rattle.fm_world.proofs.Words.{has_kind, owner_by, object_by, is_closing, is_left_by, keeps_links_by, may_link, suits, holds_links, holds_links_by}
+use Rattle.fm_world.proofs.Words.{is_volume, is_instance, is_of_stream, is_of_handle, fits, owner_fits, link_fits, belongs, belongs_by, Callback}
+use Rattle.fm_world.proofs.Words.{with_contexts, before, context_by, Allocates, object_for, is_past, set_refused, Sets, there_at, object_refused, Gets}
+use Rattle.fm_world.proofs.Words.{Deletes, IsSound, IsOwned}
 use Rattle.fm_stack.specs.declared.volume.VolumePhase.{VolumePhase}
-use Rattle.fm_stack.specs.declared.volume.VolumePhase.TheVariants as phase
-use Rattle.fm_stack.specs.StackWorld.{StackWorld}
-use Rattle.fm_stack.specs.Instances.{is_setup, is_attached}
-use Rattle.fm_stack.specs.Events.{is_mounted, is_mounted_phase}
-use Rattle.fm_ctx.specs.declared.object.Object.{Object}
-use Rattle.fm_ctx.specs.declared.object.Object.TheVariants as object
-use Rattle.fm_ctx.specs.declared.owner.Owner.{Owner}
-use Rattle.fm_ctx.specs.declared.owner.Owner.TheVariants as owner
-use Rattle.fm_ctx.specs.declared.set_reply.SetMode.{SetMode}
-use Rattle.fm_ctx.specs.declared.set_reply.SetMode.TheVariants.{Keep, Replace}
-use Rattle.fm_ctx.specs.Bags.{holds, hand_of, is_hand_full}
-use Rattle.fm_ctx.specs.Births.{allocated, allocate_refusal, is_out_of_slots}
-use Rattle.fm_ctx.specs.Laws.{IsLawful}
-use Rattle.fm_ctx.specs.Links.{holder, set_after, set_mode_after, kept_after, unlinked_for, linked, with_link, get_refusal, delete_after, delete_refusal, IsUnlinkedOf}
-use Rattle.fm_ctx.specs.Objects.{same_owner, is_to}
-use Rattle.fm_ctx.specs.Table.{Context, Slot, ContextTable, context_at, link_at}
 use Rattle.fm_ctx.proofs.Holders.{holder_some, holder_context, holder_linked}
-use Rattle.fm_ctx.proofs.Lives.{allocate_keeps}
 use Rattle.fm_ctx.proofs.Objects.{same_owner-same}
 use Rattle.fm_ctx.proofs.Sets.{room_if_wanted, set_keeps, get_keeps, delete_keeps, still_there}
-use Rattle.fm_ctx.proofs.Slots.{context_at-placed, none_from}
-use Rattle.fm_world.specs.declared.set_answer.SetAnswer.{SetAnswer}
-use Rattle.fm_world.specs.World.{World, carries}
-use Rattle.fm_world.specs.Links.{is_there, names_there}
-use Rattle.fm_world.specs.declared.file.FileObject.{FileObject}
-use Rattle.fm_world.specs.Owners.{row_at, has_kind, owner_by, object_by, is_closing, is_left_by, keeps_links_by, may_link, suits, holds_links, holds_links_by, is_volume, is_instance, is_of_stream, is_of_handle, fits, owner_fits, link_fits, belongs, belongs_by}
-use Rattle.fm_world.specs.ContextEvents.{Callback, with_contexts, before, context_by, Allocates, object_for, is_past, set_refused, Sets, there_at, object_refused, Gets, Deletes}
-use Rattle.fm_world.specs.Sound.{IsSound, IsOwned}
 use Rattle.fm_world.proofs.Belonging.{owners_changed, owners_placed, belongs_still, filters_same}
 use Rattle.fm_world.proofs.Events.{asked_by, taken_by, set_by}
 use Rattle.fm_world.proofs.Callbacks.{IsIn, is_in, contexts_owned, sound_with, in_hand, one_more, same_hand, same_hands, none_of, not_false, grabbed_sound}
@@ -51,17 +24,17 @@ use Rattle.fm_world.proofs.Fitting.{AllFit, AllPass, passes_changed, passes_plac
 use Rattle.fm_world.proofs.Flights.{callback_left}
 
 owner_refl : (o : Owner) → same_owner o o ≡ true
-owner_refl (owner.Filter f) = eq-eqb f.0 f.0 refl
-owner_refl (owner.Instance i) = eq-eqb i.0 i.0 refl
+owner_refl (Owner.Filter f) = eq-eqb f.0 f.0 refl
+owner_refl (Owner.Instance i) = eq-eqb i.0 i.0 refl
 
 -- ---- allocate
 
 owned_fits : (s : StackWorld) (row : Instance) (i : InstanceId) (k : ContextKind) → row.filter.0 < length s.filters → is_left_by (row_at s i) ≡ true
     → owner_fits s k (owner_by row i k) ≡ true
-owned_fits s row i kind.Volume below left = lt-ltb row.filter.0 (length s.filters) below
-owned_fits s row i kind.Instance below left = left
-owned_fits s row i kind.Stream below left = left
-owned_fits s row i kind.Handle below left = left
+owned_fits s row i ContextKind.Volume below left = lt-ltb row.filter.0 (length s.filters) below
+owned_fits s row i ContextKind.Instance below left = left
+owned_fits s row i ContextKind.Stream below left = left
+owned_fits s row i ContextKind.Handle below left = left
 
 pub allocate_sound : (old : World) (k : WorkerId) (what : ContextKind) (body : List ℕ) (result : Result CtxId Status) (new : World)
     → Allocates old k what body result new → IsSound old → IsSound new
@@ -72,9 +45,9 @@ allocate_sound old k what body result new h s =
     let full = is_hand_full old.contexts.hands k.0 in
     let big = nat_lt 4096 (length body) in
     let many = is_out_of_slots old.contexts.slots in
-    let listed = none_of (not (has_kind old.stack at.row what)) status.NotRegistered (allocate_refusal old.contexts k.0 body) free in
-    let few = none_of (big || many) status.TooMany (first_of ((full, status.HandFull) ∷ [])) listed.1 in
-    let room = none_of full status.HandFull None few.1 in
+    let listed = none_of (not (has_kind old.stack at.row what)) Status.NotRegistered (allocate_refusal old.contexts k.0 body) free in
+    let few = none_of (big || many) Status.TooMany (first_of ((full, Status.HandFull) ∷ [])) listed.1 in
+    let room = none_of full Status.HandFull None few.1 in
     let x = context_by at what body in
     let fresh = event.0 in
     let t = allocated old.contexts k.0 c x in
@@ -99,22 +72,22 @@ allocate_sound old k what body result new h s =
 -- a context of the owner that the callback's instance has for some kind: the callback may hold it
 owner_belongs : (s : StackWorld) (row : Instance) (i : InstanceId) (a b : ContextKind) → owner_fits s b (owner_by row i a) ≡ true
     → same_owner (owner_by row i b) (owner_by row i a) ≡ true
-owner_belongs s row i kind.Volume kind.Volume h = owner_refl (owner.Filter row.filter)
-owner_belongs s row i kind.Volume kind.Instance h = absurd (false≢true h)
-owner_belongs s row i kind.Volume kind.Stream h = absurd (false≢true h)
-owner_belongs s row i kind.Volume kind.Handle h = absurd (false≢true h)
-owner_belongs s row i kind.Instance kind.Volume h = absurd (false≢true h)
-owner_belongs s row i kind.Stream kind.Volume h = absurd (false≢true h)
-owner_belongs s row i kind.Handle kind.Volume h = absurd (false≢true h)
-owner_belongs s row i kind.Instance kind.Instance h = owner_refl (owner.Instance i)
-owner_belongs s row i kind.Instance kind.Stream h = owner_refl (owner.Instance i)
-owner_belongs s row i kind.Instance kind.Handle h = owner_refl (owner.Instance i)
-owner_belongs s row i kind.Stream kind.Instance h = owner_refl (owner.Instance i)
-owner_belongs s row i kind.Stream kind.Stream h = owner_refl (owner.Instance i)
-owner_belongs s row i kind.Stream kind.Handle h = owner_refl (owner.Instance i)
-owner_belongs s row i kind.Handle kind.Instance h = owner_refl (owner.Instance i)
-owner_belongs s row i kind.Handle kind.Stream h = owner_refl (owner.Instance i)
-owner_belongs s row i kind.Handle kind.Handle h = owner_refl (owner.Instance i)
+owner_belongs s row i ContextKind.Volume ContextKind.Volume h = owner_refl (Owner.Filter row.filter)
+owner_belongs s row i ContextKind.Volume ContextKind.Instance h = absurd (false≢true h)
+owner_belongs s row i ContextKind.Volume ContextKind.Stream h = absurd (false≢true h)
+owner_belongs s row i ContextKind.Volume ContextKind.Handle h = absurd (false≢true h)
+owner_belongs s row i ContextKind.Instance ContextKind.Volume h = absurd (false≢true h)
+owner_belongs s row i ContextKind.Stream ContextKind.Volume h = absurd (false≢true h)
+owner_belongs s row i ContextKind.Handle ContextKind.Volume h = absurd (false≢true h)
+owner_belongs s row i ContextKind.Instance ContextKind.Instance h = owner_refl (Owner.Instance i)
+owner_belongs s row i ContextKind.Instance ContextKind.Stream h = owner_refl (Owner.Instance i)
+owner_belongs s row i ContextKind.Instance ContextKind.Handle h = owner_refl (Owner.Instance i)
+owner_belongs s row i ContextKind.Stream ContextKind.Instance h = owner_refl (Owner.Instance i)
+owner_belongs s row i ContextKind.Stream ContextKind.Stream h = owner_refl (Owner.Instance i)
+owner_belongs s row i ContextKind.Stream ContextKind.Handle h = owner_refl (Owner.Instance i)
+owner_belongs s row i ContextKind.Handle ContextKind.Instance h = owner_refl (Owner.Instance i)
+owner_belongs s row i ContextKind.Handle ContextKind.Stream h = owner_refl (Owner.Instance i)
+owner_belongs s row i ContextKind.Handle ContextKind.Handle h = owner_refl (Owner.Instance i)
 
 -- what is set for that owner, the callback may hold
 held_for : (w : World) (k : WorkerId) (at : Callback) (a : ContextKind) (o : Object) (c : CtxId) → IsIn w k at → IsOwned w
@@ -145,8 +118,8 @@ found_there w what at (Some o) c h = (o, refl, h)
 asked_for : (w : World) (what : ContextKind) (at : Callback) (others : Option Status) → object_refused w what at others ≡ None → others ≡ None
 asked_for w what at others h =
     let object' = object_by at.row at.instance at.file what in
-    let listed = none_of (not (has_kind w.stack at.row what)) status.NotRegistered (before (is_none object') status.NoObject others) h in
-    (none_of (is_none object') status.NoObject others listed.1).1
+    let listed = none_of (not (has_kind w.stack at.row what)) Status.NotRegistered (before (is_none object') Status.NoObject others) h in
+    (none_of (is_none object') Status.NoObject others listed.1).1
 
 pub get_sound : (old : World) (k : WorkerId) (what : ContextKind) (result : Result CtxId Status) (new : World) → Gets old k what result new → IsSound old → IsSound new
 unfolding Gets
@@ -156,10 +129,10 @@ get_sound old k what result new h s =
     let full = is_hand_full old.contexts.hands k.0 in
     let there = there_at old what at in
     let object' = object_by at.row at.instance at.file what in
-    let asked = asked_for old what at (before (not (is_there old.files object')) status.DeletingObject (get_refusal old.contexts k.0 there)) free in
-    let refusal = (none_of (not (is_there old.files object')) status.DeletingObject (get_refusal old.contexts k.0 there) asked).1 in
-    let some = none_of (is_none there) status.NoContext (first_of ((full, status.HandFull) ∷ [])) refusal in
-    let room = none_of full status.HandFull None some.1 in
+    let asked = asked_for old what at (before (not (is_there old.files object')) Status.DeletingObject (get_refusal old.contexts k.0 there)) free in
+    let refusal = (none_of (not (is_there old.files object')) Status.DeletingObject (get_refusal old.contexts k.0 there) asked).1 in
+    let some = none_of (is_none there) Status.NoContext (first_of ((full, Status.HandFull) ∷ [])) refusal in
+    let room = none_of full Status.HandFull None some.1 in
     let found = found_there old what at object' c event.0 in
     subst IsSound (sym event.1)
     (grabbed_sound old k at c i s
@@ -210,8 +183,8 @@ delete_sound old k what wants result new h s =
     let there = there_at old what at in
     let full = wants && is_hand_full old.contexts.hands k.0 in
     let refusal = asked_for old what at (delete_refusal old.contexts k.0 wants there) free in
-    let some = none_of (is_none there) status.NoContext (first_of ((full, status.HandFull) ∷ [])) refusal in
-    let room = none_of full status.HandFull None some.1 in
+    let some = none_of (is_none there) Status.NoContext (first_of ((full, Status.HandFull) ∷ [])) refusal in
+    let room = none_of full Status.HandFull None some.1 in
     subst IsSound (sym event.1) (delete_at old k at what wants there refl i s room.0))
 
 -- ---- set
@@ -238,10 +211,10 @@ record MaySet (w : World) (k : WorkerId) (at : Callback) (c : CtxId) (x : Contex
 
 -- what a callback allocates may be linked, where its instance isn't being emptied
 callback_links : (s : StackWorld) (row : Instance) (i : InstanceId) (a : ContextKind) → keeps_links_by (row_at s i) ≡ true → may_link s (owner_by row i a) ≡ true
-callback_links s row i kind.Volume h = refl
-callback_links s row i kind.Instance h = h
-callback_links s row i kind.Stream h = h
-callback_links s row i kind.Handle h = h
+callback_links s row i ContextKind.Volume h = refl
+callback_links s row i ContextKind.Instance h = h
+callback_links s row i ContextKind.Stream h = h
+callback_links s row i ContextKind.Handle h = h
 
 -- a volume in use holds its links
 mounted_holds : (m : Option Volume) → is_mounted m ≡ true → holds_links_by m ≡ true
@@ -249,41 +222,41 @@ mounted_holds None h = absurd (false≢true h)
 mounted_holds (Some volume) h = at_phase volume.phase h
   where
     at_phase : (p : VolumePhase) → is_mounted_phase p ≡ true → holds_links p ≡ true
-    at_phase phase.Mounted h = refl
-    at_phase phase.Dismounting h = refl
-    at_phase phase.Emptied h = absurd (false≢true h)
-    at_phase phase.Finished h = absurd (false≢true h)
+    at_phase VolumePhase.Mounted h = refl
+    at_phase VolumePhase.Dismounting h = refl
+    at_phase VolumePhase.Emptied h = absurd (false≢true h)
+    at_phase VolumePhase.Finished h = absurd (false≢true h)
 
 object_suits : (w : World) (at : Callback) (x : Context) (a : ContextKind) (o : Object) → x.kind ≡ a → is_mounted (slice_get w.stack.volumes at.row.volume.0) ≡ true
     → same_owner (owner_by at.row at.instance a) x.owner ≡ true → object_by at.row at.instance at.file a ≡ Some o → suits w.stack x o ≡ true
-object_suits w at x kind.Volume o is mounted own e =
-    subst (λ p. suits w.stack x p ≡ true) (same_Some (object.Volume at.row.volume) o e)
+object_suits w at x ContextKind.Volume o is mounted own e =
+    subst (λ p. suits w.stack x p ≡ true) (same_Some (Object.Volume at.row.volume) o e)
     (and_from (is_volume x.kind) (holds_links_by (slice_get w.stack.volumes at.row.volume.0)) (ap is_volume is) (mounted_holds (slice_get w.stack.volumes at.row.volume.0) mounted))
-object_suits w at x kind.Instance o is mounted own e =
-    subst (λ p. suits w.stack x p ≡ true) (same_Some (object.Instance at.instance) o e)
-    (and_from (is_instance x.kind) (same_owner (owner.Instance at.instance) x.owner) (ap is_instance is) own)
-object_suits w at x kind.Stream o is mounted own e = of_file at.file e
+object_suits w at x ContextKind.Instance o is mounted own e =
+    subst (λ p. suits w.stack x p ≡ true) (same_Some (Object.Instance at.instance) o e)
+    (and_from (is_instance x.kind) (same_owner (Owner.Instance at.instance) x.owner) (ap is_instance is) own)
+object_suits w at x ContextKind.Stream o is mounted own e = of_file at.file e
   where
-    of_file : (file : Option FileObject) → option_map (λ (f : FileObject). object.Stream f.stream) file ≡ Some o → suits w.stack x o ≡ true
+    of_file : (file : Option FileObject) → option_map (λ (f : FileObject). Object.Stream f.stream) file ≡ Some o → suits w.stack x o ≡ true
     of_file None e = absurd (none-some o e)
-    of_file (Some f) e = subst (λ p. suits w.stack x p ≡ true) (same_Some (object.Stream f.stream) o e) (ap is_of_stream is)
-object_suits w at x kind.Handle o is mounted own e = of_file at.file e
+    of_file (Some f) e = subst (λ p. suits w.stack x p ≡ true) (same_Some (Object.Stream f.stream) o e) (ap is_of_stream is)
+object_suits w at x ContextKind.Handle o is mounted own e = of_file at.file e
   where
-    of_file : (file : Option FileObject) → option_map (λ (f : FileObject). object.Handle f.handle) file ≡ Some o → suits w.stack x o ≡ true
+    of_file : (file : Option FileObject) → option_map (λ (f : FileObject). Object.Handle f.handle) file ≡ Some o → suits w.stack x o ≡ true
     of_file None e = absurd (none-some o e)
-    of_file (Some f) e = subst (λ p. suits w.stack x p ≡ true) (same_Some (object.Handle f.handle) o e) (ap is_of_handle is)
+    of_file (Some f) e = subst (λ p. suits w.stack x p ≡ true) (same_Some (Object.Handle f.handle) o e) (ap is_of_handle is)
 
 may_set : (w : World) (k : WorkerId) (at : Callback) (c : CtxId) (x : Context) (o : Object) → IsIn w k at → IsSound w → set_refused w k c at ≡ None
     → context_at w.contexts.slots c ≡ Some x → object_for at (Some x) ≡ Some o → MaySet w k at c x o
 may_set w k at c x o i s free there of =
     let object' = object_for at (context_at w.contexts.slots c) in
-    let held = none_of (not (holds (hand_of w.contexts.hands k.0) c)) status.NotHeld
-    (first_of ((is_some (link_at w.contexts.slots c), status.AlreadyLinked) ∷ (is_none object', status.NoObject)
-    ∷ (is_past w at object', status.DeletingObject) ∷ [])) free in
-    let linked' = none_of (is_some (link_at w.contexts.slots c)) status.AlreadyLinked
-    (first_of ((is_none object', status.NoObject) ∷ (is_past w at object', status.DeletingObject) ∷ [])) held.1 in
-    let some = none_of (is_none object') status.NoObject (first_of ((is_past w at object', status.DeletingObject) ∷ [])) linked'.1 in
-    let open' = none_of (is_past w at object') status.DeletingObject None some.1 in
+    let held = none_of (not (holds (hand_of w.contexts.hands k.0) c)) Status.NotHeld
+    (first_of ((is_some (link_at w.contexts.slots c), Status.AlreadyLinked) ∷ (is_none object', Status.NoObject)
+    ∷ (is_past w at object', Status.DeletingObject) ∷ [])) free in
+    let linked' = none_of (is_some (link_at w.contexts.slots c)) Status.AlreadyLinked
+    (first_of ((is_none object', Status.NoObject) ∷ (is_past w at object', Status.DeletingObject) ∷ [])) held.1 in
+    let some = none_of (is_none object') Status.NoObject (first_of ((is_past w at object', Status.DeletingObject) ∷ [])) linked'.1 in
+    let open' = none_of (is_past w at object') Status.DeletingObject None some.1 in
     let gone = or_right (is_closing w.stack at.row) (not (is_there w.files object')) open'.0 in
     let used = is_mounted (slice_get w.stack.volumes at.row.volume.0) in
     let live = or_right (not (is_setup at.row.phase || is_attached at.row.phase)) (not used) (or_left (is_closing w.stack at.row) (not (is_there w.files object')) open'.0) in

@@ -6,82 +6,34 @@ use Rattle.std.specs.List.{list_any}
 use Rattle.std.proofs.lemmas.Bool.{false≢true, eqb-true, eq-eqb, ne_eqb, cases_Bool, cases_eq, and_parts, and_from}
 use Rattle.std.proofs.lemmas.Option.{none-some, same_Some}
 use Rattle.std.proofs.lemmas.List.Elements.{All-push, All-head, All-tail}
-use Rattle.fm_types.specs.declared.ids.InstanceId.{InstanceId}
-use Rattle.fm_types.specs.declared.ids.OpId.{OpId}
-use Rattle.fm_types.specs.declared.ids.WorkerId.{WorkerId}
-use Rattle.fm_types.specs.declared.operation.Operation.{Operation}
-use Rattle.fm_types.specs.declared.operation.Operation.TheVariants as kind
-use Rattle.fm_types.specs.declared.status.Status.{Status}
-use Rattle.fm_types.specs.declared.status.Status.TheVariants as status
-use Rattle.fm_types.specs.Refusals.{first_of}
-use Rattle.fm_data.specs.declared.base_call.BaseCall.{BaseCall}
-use Rattle.fm_data.specs.declared.params.Params.{Params}
-use Rattle.fm_data.specs.declared.params.Params.TheVariants as params
-use Rattle.fm_data.specs.declared.answer.Answer.{Answer}
-use Rattle.fm_data.specs.declared.verdict.PreVerdict.{PreVerdict}
-use Rattle.fm_data.specs.declared.verdict.PreVerdict.TheVariants as verdict
-use Rattle.fm_data.specs.declared.verdict.PostVerdict.{PostVerdict}
-use Rattle.fm_data.specs.declared.verdict.PostVerdict.TheVariants as answer
-use Rattle.fm_data.specs.Data.{Data, data_fits}
-use Rattle.fm_data.specs.Params.{are_on, is_within_limits, operation_of}
-use Rattle.fm_stack.specs.StackWorld.{StackWorld}
-use Rattle.fm_stack.specs.Stacks.{IsStack}
-use Rattle.fm_ctx.specs.Bags.{hand_of}
-use Rattle.fm_flow.specs.declared.action.Below.{Below}
-use Rattle.fm_flow.specs.declared.action.Below.TheVariants as below
-use Rattle.fm_flow.specs.declared.action.FlowAction.{FlowAction}
-use Rattle.fm_flow.specs.declared.action.FlowAction.TheVariants as action
-use Rattle.fm_flow.specs.declared.entry.Ask.{Ask}
-use Rattle.fm_flow.specs.declared.entry.Entry.TheVariants.{Base, Post, Drain}
-use Rattle.fm_flow.specs.declared.entry.PreState.TheVariants as pre
-use Rattle.fm_flow.specs.declared.entry.PostState.TheVariants as post
-use Rattle.fm_flow.specs.declared.stage.Stage.{Stage}
-use Rattle.fm_flow.specs.declared.stage.Stage.TheVariants.{Descending, PreRunning, PreHeld, InBase, Ascending, PostRunning, PostHeld, InDrain}
-use Rattle.fm_flow.specs.Record.{FlowRecord}
-use Rattle.fm_flow.specs.Entries.{visited, owed, has_base, settle_pre, settle_post, settle_drain, times}
-use Rattle.fm_flow.specs.Steps.{Turned, next_of, next_at, descend, ascend, call_pre, call_base, call_post, give_post, unwound, unwound_to, may_take, pre_leads, post_leads, pre_returned_of, post_returned_of, post_state, drain_returned_of, base_fits, is_done, done_at, MayLieBelow}
-use Rattle.fm_flow.specs.Sound.{walk, way_of}
+use Rattle.std.specs.Prelude.{◌&&◌}
+use Rattle.fm_world.proofs.Words.{InstanceId, OpId, WorkerId, Operation, Status, first_of, found_holds, all_change, all_without, find_without, HandleId}
+use Rattle.fm_world.proofs.Words.{StreamId, VolumeId, BaseCall, Params, Answer, PreVerdict, PostVerdict, Data, data_fits, are_on, is_within_limits}
+use Rattle.fm_world.proofs.Words.{operation_of, StackWorld, IsStack, hand_of, ContextTable, Below, FlowAction, Ask, Base, Post, Drain, PreState, PostState}
+use Rattle.fm_world.proofs.Words.{Stage, Descending, PreRunning, PreHeld, InBase, Ascending, PostRunning, PostHeld, InDrain, FlowRecord, visited, owed}
+use Rattle.fm_world.proofs.Words.{has_base, settle_pre, settle_post, settle_drain, times, Turned, next_of, next_at, descend, ascend, call_pre, call_base}
+use Rattle.fm_world.proofs.Words.{call_post, give_post, unwound, unwound_to, may_take, pre_leads, post_leads, pre_returned_of, post_returned_of, post_state}
+use Rattle.fm_world.proofs.Words.{drain_returned_of, base_fits, is_done, done_at, MayLieBelow, walk, way_of, is_running_drain, drain_opens, is_create}
+use Rattle.fm_world.proofs.Words.{drains_push, drains_pre_settled, drains_post_settled, drains_drain_settled, none_running, FlowTable, IsFlow, operation_at}
+use Rattle.fm_world.proofs.Words.{changed, told, begun, begun_record, is_full, is_number, collected_of, collected_in, is_collectable, marked, removed}
+use Rattle.fm_world.proofs.Words.{verdict_counted, completed_as, last_visited, last_posted, base_counted, Begin, Worker, World, worker_at, put, after_next}
+use Rattle.fm_world.proofs.Words.{Begins, LiesBelow, Collects, returned, received, state_at, state_given, drains_at, of_hand, has_post, or_else}
+use Rattle.fm_world.proofs.Words.{begin_refused, refused_on, refused_at, begun_on, begun_at, after_begin, moved_on, has_no_handle_left, filed_next, base_step}
+use Rattle.fm_world.proofs.Words.{Spot, AtPre, AtBase, AtPost, AtDrain, spot_at, spot_of, is_spot, is_among, IsUnderWay, IsAmong, is_in_setup, is_in_at}
+use Rattle.fm_world.proofs.Words.{pre_step, FileHandle, FileStream, FileTable, stream_at, handle_at, stream_for, created, params_of, phase_refusal}
 use Rattle.fm_flow.specs.Sound as flow
-use Rattle.fm_flow.specs.Counts.{is_running_drain, drain_opens}
-use Rattle.fm_flow.specs.Creates.{is_create}
-use Rattle.fm_flow.proofs.Drains.{drains_push, drains_pre_settled, drains_post_settled, drains_drain_settled, none_running}
-use Rattle.fm_flow.specs.Table.{FlowTable, IsFlow, operation_at, changed, told, begun, begun_record, is_full, is_number, collected_of, collected_in, is_collectable, marked, removed, without_first}
-use Rattle.fm_flow.specs.Verdict.{verdict_counted, completed_as}
-use Rattle.fm_world.specs.declared.step.Begin.{Begin}
-use Rattle.fm_world.specs.declared.step.Begin.TheVariants as begin
-use Rattle.fm_world.specs.declared.worker.Worker.{Worker}
-use Rattle.fm_world.specs.declared.worker.Worker.TheVariants as place
-use Rattle.fm_world.specs.World.{World}
-use Rattle.fm_world.specs.Workers.{worker_at, put, after_next}
-use Rattle.fm_world.specs.Events.{Begins, LiesBelow, Collects, returned, received, state_at, state_given, drains_at, of_hand, has_post, or_else, begin_refused, refused_on, refused_at, begun_on, begun_at, after_begin, moved_on, has_no_handle_left, filed_next, base_step}
-use Rattle.fm_world.specs.Headline.{Spot, AtPre, AtBase, AtPost, AtDrain, spot_at, spot_of, is_spot}
-use Rattle.fm_world.specs.Descent.{is_among}
-use Rattle.fm_world.specs.Sound.{IsUnderWay, IsAmong, is_in_setup}
-use Rattle.fm_types.proofs.Firsts.{found_holds, all_change, all_without, find_without}
+use Rattle.fm_flow.specs.Table.{without_first}
+use Rattle.fm_flow.proofs.Soundness.{sound_pre_returned, sound_base, sound_post_returned, sound_drain_returned}
+use Rattle.fm_stack.proofs.Visits.{is_to_visit_few}
+use Rattle.fm_flow.proofs.Flows.{flow_begins, flow_changes, flow_collects, next_stays, sound_next}
 use Rattle.fm_world.proofs.Filing.{asks_no_create}
 pub use Rattle.fm_world.proofs.Events.{unchanged_flow}
 use Rattle.fm_world.proofs.Events.{Turns}
-use Rattle.fm_flow.specs.Entries.{last_visited, last_posted}
-use Rattle.fm_ctx.specs.Table.{ContextTable}
-use Rattle.std.specs.Prelude.{◌&&◌}
-use Rattle.fm_world.specs.Headline.{is_in_at}
-use Rattle.fm_world.specs.Events.{pre_step}
 use Rattle.fm_world.proofs.Ties.{counted_from, one, count_moves, AreTied, Matches, is_running, quiet_is_none, quiet_is_nowhere, tied_moves, tied_stays, tied_there, matches_idle, matches_pre, matches_base, matches_post, matches_drain, spot_pre, spot_base, spot_post, spot_drain}
 use Rattle.fm_world.proofs.Draining.{AreDrained, InDrains, in_no_drain, in_a_drain, drained_moves, drained_stays, next_drained}
 use Rattle.fm_world.proofs.Amongs.{is_up, no_base, visit_last, post_last, among_visits, among_other, among_base, among_settles, among_begins, settle_pre_visit, settle_pre_base, settle_post_visit, settle_post_base, settle_drain_visit, settle_drain_base}
 use Rattle.fm_world.proofs.Descents.{next_unseen, room_is, or_left, or_right}
 use Rattle.fm_world.proofs.Keeps.{whatever_files}
-use Rattle.fm_flow.proofs.Soundness.{sound_pre_returned, sound_base, sound_post_returned, sound_drain_returned}
-use Rattle.fm_stack.proofs.Visits.{is_to_visit_few}
-use Rattle.fm_flow.proofs.Flows.{flow_begins, flow_changes, flow_collects, next_stays, sound_next}
-use Rattle.fm_types.specs.declared.ids.HandleId.{HandleId}
-use Rattle.fm_types.specs.declared.ids.StreamId.{StreamId}
-use Rattle.fm_types.specs.declared.ids.VolumeId.{VolumeId}
-use Rattle.fm_world.specs.declared.file.FileHandle.{FileHandle}
-use Rattle.fm_world.specs.declared.file.FileStream.{FileStream}
-use Rattle.fm_world.specs.Files.{FileTable, stream_at, handle_at, stream_for, created}
-use Rattle.fm_world.specs.Requests.{params_of, phase_refusal}
-use Rattle.fm_flow.specs.Answered.{base_counted}
 
 -- operations change, and workers with them
 flow_moves : (w : World) (t : FlowTable) (workers : List Worker) → IsFlow t → All (IsAmong w.stack) t.operations → length workers ≡ 48
@@ -125,11 +77,11 @@ pub none_first : (m n : Option Status) → or_else m n ≡ None → m ≡ None
 none_first (Some why) n h = cc
 none_first None n h = refl
 
-pub asked_within : (within : Bool) (m : Option Status) → cond within m (Some status.BadRequest) ≡ None → (within ≡ true) × (m ≡ None)
+pub asked_within : (within : Bool) (m : Option Status) → cond within m (Some Status.BadRequest) ≡ None → (within ≡ true) × (m ≡ None)
 asked_within true m h = (refl, h)
 asked_within false m h = cc
 
-pub full_from : (a b c : Bool) → first_of ((a, status.NoVolume) ∷ (b, status.Dismounting) ∷ (c, status.TooMany) ∷ []) ≡ None → c ≡ false
+pub full_from : (a b c : Bool) → first_of ((a, Status.NoVolume) ∷ (b, Status.Dismounting) ∷ (c, Status.TooMany) ∷ []) ≡ None → c ≡ false
 full_from false false false h = refl
 full_from false false true h = cc
 full_from false true c h = cc
@@ -154,16 +106,16 @@ operation_begins old v stream handle path p files on within free s =
 
 -- a create alone names a path
 names_none : (path : Option (List ℕ)) (p : Params) → is_create (operation_of p) ≡ false → are_on path p ≡ true
-names_none path (params.Create own mode) none = cc
-names_none path (params.Read offset len) none = refl
-names_none path (params.Write offset bytes) none = refl
-names_none path params.QuerySize none = refl
-names_none path (params.SetSize size) none = refl
-names_none path params.Flush none = refl
-names_none path params.List none = refl
-names_none path params.SetDelete none = refl
-names_none path params.Cleanup none = refl
-names_none path params.Close none = refl
+names_none path (Params.Create own mode) none = cc
+names_none path (Params.Read offset len) none = refl
+names_none path (Params.Write offset bytes) none = refl
+names_none path Params.QuerySize none = refl
+names_none path (Params.SetSize size) none = refl
+names_none path Params.Flush none = refl
+names_none path Params.List none = refl
+names_none path Params.SetDelete none = refl
+names_none path Params.Cleanup none = refl
+names_none path Params.Close none = refl
 
 -- what doesn't refuse an operation on a handle
 begins_on : (old : World) (h : HandleId) (p : Params) (x : FileHandle) (m : Option FileStream) → is_create (operation_of p) ≡ false → is_within_limits p ≡ true
@@ -179,12 +131,12 @@ begins_at old h p None none within free s = s
 begins_at old h p (Some x) none within free s = begins_on old h p x (stream_at x.stream old.files) none within free s
 
 after_begin_keeps : (old : World) (what : Begin) → begin_refused old what ≡ None → IsUnderWay old → IsUnderWay (after_begin old what)
-after_begin_keeps old (begin.List v) free s = operation_begins old v None None None params.List old.files refl refl (full_from _ _ (is_full old.flow) free) s
-after_begin_keeps old (begin.Create v path mode) free s =
-    operation_begins old v (Some (stream_for v path old.flow.next old.files)) None (Some path) (params.Create path mode) (created v path old.flow.next old.files)
+after_begin_keeps old (Begin.List v) free s = operation_begins old v None None None Params.List old.files refl refl (full_from _ _ (is_full old.flow) free) s
+after_begin_keeps old (Begin.Create v path mode) free s =
+    operation_begins old v (Some (stream_for v path old.flow.next old.files)) None (Some path) (Params.Create path mode) (created v path old.flow.next old.files)
     ((bytes_decides path path).1 refl) refl
     (or_left (is_full old.flow) (has_no_handle_left old) (full_from _ _ (is_full old.flow || has_no_handle_left old) free)) s
-after_begin_keeps old (begin.OnHandle h asked) free s =
+after_begin_keeps old (Begin.OnHandle h asked) free s =
     let parts = asked_within (is_within_limits (params_of asked)) (refused_at old (params_of asked) (handle_at h old.files)) free in
     begins_at old h (params_of asked) (handle_at h old.files) (asks_no_create asked) parts.0 parts.1 s
 
@@ -200,7 +152,7 @@ record Leads (s : StackWorld) (k : WorkerId) (o : OpId) (r : FlowRecord) (turned
   pub among : IsAmong s turned.after
   -- no worker moves, and the operation stands as before; or this one goes into the operation as its stage says
   pub how : ((after_next workers k o turned.reply ≡ workers) × ((x : Spot) → is_spot x (spot_of turned.after) ≡ is_spot x (spot_of r)))
-      ⊎ ((b : Worker) × (after_next workers k o turned.reply ≡ put workers k b) × (Matches o place.Idle (spot_of r)) × (Matches o b (spot_of turned.after))
+      ⊎ ((b : Worker) × (after_next workers k o turned.reply ≡ put workers k b) × (Matches o Worker.Idle (spot_of r)) × (Matches o b (spot_of turned.after))
       × ((i : ℕ) → is_in_setup i b ≡ false))
 
 -- nothing happened
@@ -210,16 +162,16 @@ leads_nowhere s k o r reply workers same h = record { among = h; how = inl (same
 
 leads_pre : (s : StackWorld) (k : WorkerId) (o : OpId) (r : FlowRecord) (i : InstanceId) (m : Option Params) (workers : List Worker) → IsStack s
     → r.stage ≡ Descending → has_base r.entries ≡ false
-    → LiesBelow s r (below.Instance i true) → IsAmong s r → Leads s k o r (call_pre k i r m) workers
-leads_pre s k o r i None workers stack e none lies h = leads_nowhere s k o r (Err status.WrongStep) workers refl h
+    → LiesBelow s r (Below.Instance i true) → IsAmong s r → Leads s k o r (call_pre k i r m) workers
+leads_pre s k o r i None workers stack e none lies h = leads_nowhere s k o r (Err Status.WrongStep) workers refl h
 leads_pre s k o r i (Some p) workers stack e none lies h = record {
   among = among_visits s r.volume r.born r.operation r.entries r.stage PreRunning
-      (record { instance = i; worker = k; state = pre.Running; place = length r.kept }) stack none (λ x. absurd (pre_is_not_base x)) lies.0 h;
+      (record { instance = i; worker = k; state = PreState.Running; place = length r.kept }) stack none (λ x. absurd (pre_is_not_base x)) lies.0 h;
   how = inr (
-    place.Pre o i,
+    Worker.Pre o i,
     refl,
     matches_idle o r.stage r.entries (ap is_running e),
-    subst (Matches o (place.Pre o i)) (sym (ap (option_map AtPre) (visit_last r.entries (record { instance = i; worker = k; state = pre.Running; place = length r.kept })))) (matches_pre o i),
+    subst (Matches o (Worker.Pre o i)) (sym (ap (option_map AtPre) (visit_last r.entries (record { instance = i; worker = k; state = PreState.Running; place = length r.kept })))) (matches_pre o i),
     λ j. refl,
   );
 }
@@ -228,27 +180,27 @@ leads_pre s k o r i (Some p) workers stack e none lies h = record {
     pre_is_not_base x = cc
 
 leads_base : (s : StackWorld) (k : WorkerId) (o : OpId) (r : FlowRecord) (m : Option Params) (workers : List Worker) → r.stage ≡ Descending
-    → LiesBelow s r below.Call → IsAmong s r → Leads s k o r (call_base r m) workers
-leads_base s k o r None workers e lies h = leads_nowhere s k o r (Err status.WrongStep) workers refl h
+    → LiesBelow s r Below.Call → IsAmong s r → Leads s k o r (call_base r m) workers
+leads_base s k o r None workers e lies h = leads_nowhere s k o r (Err Status.WrongStep) workers refl h
 leads_base s k o r (Some p) workers e lies h = record {
   among = record { descent = h.descent; room = h.room; there = h.there; base = λ x. lies };
-  how = inr (place.Base o, refl, matches_idle o r.stage r.entries (ap is_running e), matches_base o, λ j. refl);
+  how = inr (Worker.Base o, refl, matches_idle o r.stage r.entries (ap is_running e), matches_base o, λ j. refl);
 }
 
 leads_down : (s : StackWorld) (k : WorkerId) (o : OpId) (r : FlowRecord) (lies : Below) (workers : List Worker) → IsStack s
     → r.stage ≡ Descending → has_base r.entries ≡ false → LiesBelow s r lies → IsAmong s r → Leads s k o r (descend k lies r) workers
-leads_down s k o r (below.Instance i true) workers stack e none lies h = leads_pre s k o r i r.params workers stack e none lies h
-leads_down s k o r (below.Instance i false) workers stack e none lies h = record {
+leads_down s k o r (Below.Instance i true) workers stack e none lies h = leads_pre s k o r i r.params workers stack e none lies h
+leads_down s k o r (Below.Instance i false) workers stack e none lies h = record {
   among = among_visits s r.volume r.born r.operation r.entries r.stage Descending
-      (record { instance = i; worker = k; state = pre.Asked (record { number = 0; context = None }); place = length r.kept }) stack none
+      (record { instance = i; worker = k; state = PreState.Asked (record { number = 0; context = None }); place = length r.kept }) stack none
       (λ x. absurd (down_is_not_base x)) lies.0 h;
   how = inl (refl, λ x. ap (is_spot x) (sym (quiet_is_nowhere r.stage r.entries (ap is_running e))));
 }
   where
     down_is_not_base : Descending ≡ InBase → ⊥
     down_is_not_base x = cc
-leads_down s k o r below.Call workers stack e none lies h = leads_base s k o r r.params workers e lies h
-leads_down s k o r (below.Known status) workers stack e none lies h = record {
+leads_down s k o r Below.Call workers stack e none lies h = leads_base s k o r r.params workers e lies h
+leads_down s k o r (Below.Known status) workers stack e none lies h = record {
   among = among_base s r.volume r.born r.operation r.entries r.stage status 0 none lies h;
   how = inl (refl, λ x. ap (is_spot x) (sym (quiet_is_nowhere r.stage r.entries (ap is_running e))));
 }
@@ -264,12 +216,12 @@ leads_post : (s : StackWorld) (k : WorkerId) (o : OpId) (r u : FlowRecord) (ask 
 leads_post s k o r u ask None workers e same kept h = record { among = h; how = inl (refl, λ x. ap (is_spot x) (ap (λ a. spot_at a u.entries) same ∙ ap (spot_at r.stage) kept)) }
 leads_post s k o r u ask (Some p) workers e same kept h = record {
   among = among_other s u.volume u.born u.operation u.entries u.stage PostRunning
-      (Post (record { instance = ask.instance; worker = k; state = post.Running })) refl refl (λ x. absurd (post_is_not_base x)) h;
+      (Post (record { instance = ask.instance; worker = k; state = PostState.Running })) refl refl (λ x. absurd (post_is_not_base x)) h;
   how = inr (
-    place.Post o ask.instance,
+    Worker.Post o ask.instance,
     refl,
     matches_idle o r.stage r.entries (ap is_running e),
-    subst (Matches o (place.Post o ask.instance)) (sym (ap (option_map AtPost) (post_last u.entries (record { instance = ask.instance; worker = k; state = post.Running }))))
+    subst (Matches o (Worker.Post o ask.instance)) (sym (ap (option_map AtPost) (post_last u.entries (record { instance = ask.instance; worker = k; state = PostState.Running }))))
         (matches_post o ask.instance),
     λ j. refl,
   );
@@ -279,19 +231,19 @@ leads_post s k o r u ask (Some p) workers e same kept h = record {
     post_is_not_base x = cc
 
 leads_taken : (s : StackWorld) (k : WorkerId) (o : OpId) (r : FlowRecord) (ask : Ask) (workers : List Worker) (b : Bool) → r.stage ≡ Ascending → IsAmong s r
-    → Leads s k o r (cond b (call_post k ask r) (record { reply = Err status.WrongStep; after = r })) workers
+    → Leads s k o r (cond b (call_post k ask r) (record { reply = Err Status.WrongStep; after = r })) workers
 leads_taken s k o r ask workers true e h =
     let parts = unwound_parts ask.place r (slice_get r.kept ask.place) s h in
     leads_post s k o r (unwound ask.place r) ask (unwound ask.place r).params workers e parts.1 parts.2 parts.0
-leads_taken s k o r ask workers false e h = leads_nowhere s k o r (Err status.WrongStep) workers refl h
+leads_taken s k o r ask workers false e h = leads_nowhere s k o r (Err Status.WrongStep) workers refl h
 
 leads_up : (s : StackWorld) (k : WorkerId) (o : OpId) (r : FlowRecord) (drains : Bool) (m : Option Ask) (workers : List Worker) → r.stage ≡ Ascending → IsAmong s r
     → Leads s k o r (ascend k drains r m) workers
-leads_up s k o r drains None workers e h = leads_nowhere s k o r (Ok action.Done) workers refl h
+leads_up s k o r drains None workers e h = leads_nowhere s k o r (Ok FlowAction.Done) workers refl h
 leads_up s k o r true (Some ask) workers e h = record {
   among = among_other s r.volume r.born r.operation r.entries r.stage (InDrain ask.instance)
       (Drain (record { instance = ask.instance; is_running = true })) refl refl (λ x. absurd (drain_is_not_base x)) h;
-  how = inr (place.Drain o ask.instance, refl, matches_idle o r.stage r.entries (ap is_running e), matches_drain o ask.instance, λ j. refl);
+  how = inr (Worker.Drain o ask.instance, refl, matches_idle o r.stage r.entries (ap is_running e), matches_drain o ask.instance, λ j. refl);
 }
   where
     drain_is_not_base : InDrain ask.instance ≡ InBase → ⊥
@@ -303,20 +255,20 @@ leads_at : (s : StackWorld) (k : WorkerId) (o : OpId) (r : FlowRecord) (lies : B
 leads_at s k o r lies drains workers Descending stack e sound finds h =
     let order : walk Descending r.entries ≡ Some (way_of r.stage) = sound.course.order in
     leads_down s k o r lies workers stack e (no_base r.stage r.entries order (ap (λ x. is_up (way_of x)) e)) (finds e) h
-leads_at s k o r lies drains workers PreRunning stack e sound finds h = leads_nowhere s k o r (Err status.WrongStep) workers refl h
-leads_at s k o r lies drains workers PreHeld stack e sound finds h = leads_nowhere s k o r (Ok action.Held) workers refl h
-leads_at s k o r lies drains workers InBase stack e sound finds h = leads_nowhere s k o r (Err status.WrongStep) workers refl h
+leads_at s k o r lies drains workers PreRunning stack e sound finds h = leads_nowhere s k o r (Err Status.WrongStep) workers refl h
+leads_at s k o r lies drains workers PreHeld stack e sound finds h = leads_nowhere s k o r (Ok FlowAction.Held) workers refl h
+leads_at s k o r lies drains workers InBase stack e sound finds h = leads_nowhere s k o r (Err Status.WrongStep) workers refl h
 leads_at s k o r lies drains workers Ascending stack e sound finds h = leads_up s k o r drains (slice_get (owed r.entries) 0) workers e h
-leads_at s k o r lies drains workers PostRunning stack e sound finds h = leads_nowhere s k o r (Err status.WrongStep) workers refl h
-leads_at s k o r lies drains workers PostHeld stack e sound finds h = leads_nowhere s k o r (Ok action.Held) workers refl h
-leads_at s k o r lies drains workers (InDrain i) stack e sound finds h = leads_nowhere s k o r (Err status.WrongStep) workers refl h
+leads_at s k o r lies drains workers PostRunning stack e sound finds h = leads_nowhere s k o r (Err Status.WrongStep) workers refl h
+leads_at s k o r lies drains workers PostHeld stack e sound finds h = leads_nowhere s k o r (Ok FlowAction.Held) workers refl h
+leads_at s k o r lies drains workers (InDrain i) stack e sound finds h = leads_nowhere s k o r (Err Status.WrongStep) workers refl h
 
 leads_of : (s : StackWorld) (k : WorkerId) (o : OpId) (r : FlowRecord) (lies : Below) (drains : Bool) (workers : List Worker) → IsStack s
     → flow.IsSound r → (r.stage ≡ Descending → LiesBelow s r lies) → IsAmong s r → Leads s k o r (next_of k lies drains r) workers
 leads_of s k o r lies drains workers stack sound finds h =
-    let P : Bool → Type 0 = λ b. Leads s k o r (cond b (record { reply = Err status.WrongStep; after = r }) (next_at k lies drains r r.stage)) workers in
+    let P : Bool → Type 0 = λ b. Leads s k o r (cond b (record { reply = Err Status.WrongStep; after = r }) (next_at k lies drains r r.stage)) workers in
     elim (cases_Bool r.collected) [
-      | inl e ↦ subst P (sym e) (leads_nowhere s k o r (Err status.WrongStep) workers refl h)
+      | inl e ↦ subst P (sym e) (leads_nowhere s k o r (Err Status.WrongStep) workers refl h)
       | inr e ↦ subst P (sym e) (leads_at s k o r lies drains workers r.stage stack refl sound finds h)
     ]
 
@@ -327,12 +279,12 @@ times_unseen i (x ∷ xs) h =
     omega (arith, here, times_unseen i xs (or_right (x == i) (is_among xs i) h))
 
 pub may_visit : (s : StackWorld) (r : FlowRecord) (lies : Below) → IsAmong s r → LiesBelow s r lies → MayLieBelow lies r.entries
-may_visit s r (below.Instance i is_called) h lies = (
+may_visit s r (Below.Instance i is_called) h lies = (
   times_unseen i.0 (visited r.entries) (next_unseen s r.volume r.born r.operation (visited r.entries) i.0 (has_base r.entries) h.descent lies.0),
   room_is s r.volume r.born r.operation (visited r.entries) i.0 h.room lies.0,
 )
-may_visit s r below.Call h lies = tt
-may_visit s r (below.Known status) h lies = tt
+may_visit s r Below.Call h lies = tt
+may_visit s r (Below.Known status) h lies = tt
 
 -- one operation changes, a worker with it
 step_keeps : (w : World) (o : OpId) (r : FlowRecord) (f : FlowRecord → FlowRecord) (workers : List Worker) → operation_at o w.flow ≡ Some r
@@ -381,8 +333,8 @@ next_keeps old k o result new e s =
     elim leads.how [
       | inl stays ↦ built old.workers stays.0 s.hands (tied_stays old.workers old.flow o r f e.at number stays.1 s.workers) (λ i. refl)
       | inr goes ↦ built (put old.workers k goes.0) goes.1 (length-set old.workers k.0 goes.0 ∙ s.hands)
-          (tied_moves old.workers old.flow k place.Idle goes.0 o r f e.idle e.at number goes.2 goes.3 s.workers)
-          (setups_stay old.workers k place.Idle goes.0 e.idle (λ i. refl) goes.4)
+          (tied_moves old.workers old.flow k Worker.Idle goes.0 o r f e.idle e.at number goes.2 goes.3 s.workers)
+          (setups_stay old.workers k Worker.Idle goes.0 e.idle (λ i. refl) goes.4)
     ]
 
 -- ---- callbacks and calls return
@@ -409,26 +361,26 @@ inside w k a o spot at is s =
 both_same : (o : OpId) (i : InstanceId) → (o.0 == o.0) && (i.0 == i.0) ≡ true
 both_same o i = and_from (o.0 == o.0) (i.0 == i.0) (eq-eqb o.0 o.0 refl) (eq-eqb i.0 i.0 refl)
 
-pub inside_pre : (w : World) (k : WorkerId) (o : OpId) (i : InstanceId) → worker_at w.workers k ≡ Some (place.Pre o i) → IsUnderWay w
+pub inside_pre : (w : World) (k : WorkerId) (o : OpId) (i : InstanceId) → worker_at w.workers k ≡ Some (Worker.Pre o i) → IsUnderWay w
     → (x : Inside w o (AtPre i.0)) × (x.row.stage ≡ PreRunning) × (last_visited x.row.entries ≡ Some i.0)
 inside_pre w k o i at s =
-    let x = inside w k (place.Pre o i) o (AtPre i.0) at (both_same o i) s in
+    let x = inside w k (Worker.Pre o i) o (AtPre i.0) at (both_same o i) s in
     let spot = spot_pre i.0 x.row.stage x.row.entries x.stands in
     (x, spot.0, spot.1)
 
-pub inside_base : (w : World) (k : WorkerId) (o : OpId) → worker_at w.workers k ≡ Some (place.Base o) → IsUnderWay w → (x : Inside w o AtBase) × (x.row.stage ≡ InBase)
-inside_base w k o at s = let x = inside w k (place.Base o) o AtBase at (eq-eqb o.0 o.0 refl) s in (x, spot_base x.row.stage x.row.entries x.stands)
+pub inside_base : (w : World) (k : WorkerId) (o : OpId) → worker_at w.workers k ≡ Some (Worker.Base o) → IsUnderWay w → (x : Inside w o AtBase) × (x.row.stage ≡ InBase)
+inside_base w k o at s = let x = inside w k (Worker.Base o) o AtBase at (eq-eqb o.0 o.0 refl) s in (x, spot_base x.row.stage x.row.entries x.stands)
 
-pub inside_post : (w : World) (k : WorkerId) (o : OpId) (i : InstanceId) → worker_at w.workers k ≡ Some (place.Post o i) → IsUnderWay w
+pub inside_post : (w : World) (k : WorkerId) (o : OpId) (i : InstanceId) → worker_at w.workers k ≡ Some (Worker.Post o i) → IsUnderWay w
     → (x : Inside w o (AtPost i.0)) × (x.row.stage ≡ PostRunning) × (last_posted x.row.entries ≡ Some i.0)
 inside_post w k o i at s =
-    let x = inside w k (place.Post o i) o (AtPost i.0) at (both_same o i) s in
+    let x = inside w k (Worker.Post o i) o (AtPost i.0) at (both_same o i) s in
     let spot = spot_post i.0 x.row.stage x.row.entries x.stands in
     (x, spot.0, spot.1)
 
-pub inside_drain : (w : World) (k : WorkerId) (o : OpId) (i : InstanceId) → worker_at w.workers k ≡ Some (place.Drain o i) → IsUnderWay w
+pub inside_drain : (w : World) (k : WorkerId) (o : OpId) (i : InstanceId) → worker_at w.workers k ≡ Some (Worker.Drain o i) → IsUnderWay w
     → (x : Inside w o (AtDrain i.0)) × (x.row.stage ≡ InDrain i)
-inside_drain w k o i at s = let x = inside w k (place.Drain o i) o (AtDrain i.0) at (both_same o i) s in (x, spot_drain i x.row.stage x.row.entries x.stands)
+inside_drain w k o i at s = let x = inside w k (Worker.Drain o i) o (AtDrain i.0) at (both_same o i) s in (x, spot_drain i x.row.stage x.row.entries x.stands)
 
 -- a worker leaves an operation, which then stands where no worker is inside it; contexts, streams and handles don't matter
 return_keeps : (old : World) (k : WorkerId) (a : Worker) (o : OpId) (r : FlowRecord) (f : FlowRecord → FlowRecord) (n : ℕ → ℕ) (t : ContextTable) (files : FileTable)
@@ -439,22 +391,22 @@ return_keeps : (old : World) (k : WorkerId) (a : Worker) (o : OpId) (r : FlowRec
     → IsUnderWay (record (returned old k o f) { contexts = t; files = files })
 return_keeps old k a o r f n t files at there number collected matches quiet from even outside sound among s =
     whatever_files (returned old k o f) t files
-    (step_keeps old o r f (put old.workers k place.Idle) there number collected sound among (length-set old.workers k.0 place.Idle ∙ s.hands)
-    (tied_moves old.workers old.flow k a place.Idle o r f at there number matches (matches_idle o (f r).stage (f r).entries quiet) s.workers)
-    (drained_moves old.workers old.flow k a place.Idle o r f n (λ i. 0) at there number from (in_no_drain o place.Idle (λ p i. refl)) (λ i. omega (arith, even i)) s.drains)
-    (setups_stay old.workers k a place.Idle at outside (λ i. refl)) s)
+    (step_keeps old o r f (put old.workers k Worker.Idle) there number collected sound among (length-set old.workers k.0 Worker.Idle ∙ s.hands)
+    (tied_moves old.workers old.flow k a Worker.Idle o r f at there number matches (matches_idle o (f r).stage (f r).entries quiet) s.workers)
+    (drained_moves old.workers old.flow k a Worker.Idle o r f n (λ i. 0) at there number from (in_no_drain o Worker.Idle (λ p i. refl)) (λ i. omega (arith, even i)) s.drains)
+    (setups_stay old.workers k a Worker.Idle at outside (λ i. refl)) s)
 
 pub counted_quiet : (given : PreVerdict) (operation : Operation) (has_post : Bool) → is_running (pre_leads (verdict_counted given operation has_post)) ≡ false
-counted_quiet (verdict.WithCallback completion) operation true = refl
-counted_quiet (verdict.WithCallback completion) operation false = refl
-counted_quiet (verdict.Synchronize completion) operation true = refl
-counted_quiet (verdict.Synchronize completion) operation false = refl
-counted_quiet (verdict.Complete status) operation b = completed_quiet status operation
+counted_quiet (PreVerdict.WithCallback completion) operation true = refl
+counted_quiet (PreVerdict.WithCallback completion) operation false = refl
+counted_quiet (PreVerdict.Synchronize completion) operation true = refl
+counted_quiet (PreVerdict.Synchronize completion) operation false = refl
+counted_quiet (PreVerdict.Complete status) operation b = completed_quiet status operation
   where
     completed_quiet : (status : Status) (operation : Operation) → is_running (pre_leads (completed_as status operation)) ≡ false
-    completed_quiet status kind.Create = refl
-    completed_quiet status kind.Cleanup = refl
-    completed_quiet status kind.Close = refl
+    completed_quiet status Operation.Create = refl
+    completed_quiet status Operation.Cleanup = refl
+    completed_quiet status Operation.Close = refl
     completed_quiet status _ = refl
 counted_quiet _ operation b = refl
 
@@ -462,7 +414,7 @@ not_base_of : (stage : Stage) → is_running stage ≡ false → stage ≡ InBas
 not_base_of stage h e = false≢true (sym h ∙ ap is_running e)
 
 pub pre_keeps : (old : World) (k : WorkerId) (o : OpId) (i : InstanceId) (given : PreVerdict) (lent : Data) (t : ContextTable) (files : FileTable)
-    → worker_at old.workers k ≡ Some (place.Pre o i) → told (λ r. data_fits r.operation r.path lent) false o old.flow ≡ true → IsUnderWay old
+    → worker_at old.workers k ≡ Some (Worker.Pre o i) → told (λ r. data_fits r.operation r.path lent) false o old.flow ≡ true → IsUnderWay old
     → IsUnderWay (record (returned old k o (pre_step old k o i given lent)) { contexts = t; files = files })
 pre_keeps old k o i given lent t files at fits s =
     let x = inside_pre old k o i at s in
@@ -470,17 +422,17 @@ pre_keeps old k o i given lent t files at fits s =
     let hand = hand_of old.contexts.hands k.0 in
     let state = state_at old k o i given in
     let quiet : is_running (pre_leads state) ≡ false =
-    ap (λ x. is_running (pre_leads x)) (told_there (state_given old.stack hand i given) pre.Passed o old.flow r x.0.at)
+    ap (λ x. is_running (pre_leads x)) (told_there (state_given old.stack hand i given) PreState.Passed o old.flow r x.0.at)
     ∙ counted_quiet (of_hand hand given) r.operation (has_post old.stack (slice_get old.stack.instances i.0) r.operation) in
-    return_keeps old k (place.Pre o i) o r (pre_returned_of state lent) (λ j. 0) t files at x.0.at (λ x. refl) (λ x. refl)
-    (subst (Matches o (place.Pre o i)) (sym (ap (λ a. spot_at a r.entries) x.1 ∙ ap (option_map AtPre) x.2)) (matches_pre o i)) quiet
-    (in_no_drain o (place.Pre o i) (λ p j. refl)) (λ j. omega (arith, drains_pre_settled j state r.entries)) (λ j. refl)
+    return_keeps old k (Worker.Pre o i) o r (pre_returned_of state lent) (λ j. 0) t files at x.0.at (λ x. refl) (λ x. refl)
+    (subst (Matches o (Worker.Pre o i)) (sym (ap (λ a. spot_at a r.entries) x.1 ∙ ap (option_map AtPre) x.2)) (matches_pre o i)) quiet
+    (in_no_drain o (Worker.Pre o i) (λ p j. refl)) (λ j. omega (arith, drains_pre_settled j state r.entries)) (λ j. refl)
     (sound_pre_returned state lent r x.1 (counted_from state quiet) (sym (told_there (λ (x : FlowRecord). data_fits x.operation x.path lent) false o old.flow r x.0.at) ∙ fits) x.0.sound)
     (among_settles old.stack r.volume r.born r.operation r.entries r.stage (pre_leads state) (settle_pre state) (settle_pre_visit state) (settle_pre_base state)
     (not_base_of (pre_leads state) quiet) x.0.among) s
 
 pub base_keeps : (old : World) (k : WorkerId) (o : OpId) (call : BaseCall) (given : Answer) (t : ContextTable) (files : FileTable)
-    → worker_at old.workers k ≡ Some (place.Base o) → told (base_fits call given) false o old.flow ≡ true → IsUnderWay old
+    → worker_at old.workers k ≡ Some (Worker.Base o) → told (base_fits call given) false o old.flow ≡ true → IsUnderWay old
     → IsUnderWay (record (returned old k o (base_step old call given)) { contexts = t; files = files })
 base_keeps old k o call given t files at fits s =
     let x = inside_base old k o at s in
@@ -488,31 +440,31 @@ base_keeps old k o call given t files at fits s =
     let none = no_base r.stage r.entries x.0.sound.course.order (ap (λ x. is_up (way_of x)) x.1) in
     let handle : HandleId = record { 0 = old.files.next } in
     let counts = base_counted call.params given handle in
-    return_keeps old k (place.Base o) o r (base_step old call given) (λ j. 0) t files at x.0.at (λ x. refl) (λ x. refl)
-    (subst (Matches o (place.Base o)) (sym (ap (λ a. spot_at a r.entries) x.1)) (matches_base o)) refl
-    (in_no_drain o (place.Base o) (λ p j. refl)) (λ j. omega (arith, drains_push j r.entries (Base counts.status counts.information))) (λ j. refl)
+    return_keeps old k (Worker.Base o) o r (base_step old call given) (λ j. 0) t files at x.0.at (λ x. refl) (λ x. refl)
+    (subst (Matches o (Worker.Base o)) (sym (ap (λ a. spot_at a r.entries) x.1)) (matches_base o)) refl
+    (in_no_drain o (Worker.Base o) (λ p j. refl)) (λ j. omega (arith, drains_push j r.entries (Base counts.status counts.information))) (λ j. refl)
     (sound_base call given handle r x.1 (sym (told_there (base_fits call given) false o old.flow r x.0.at) ∙ fits) x.0.sound)
     (among_base old.stack r.volume r.born r.operation r.entries r.stage counts.status counts.information none (x.0.among.base x.1) x.0.among) s
 
 post_quiet : (given : PostVerdict) → is_running (post_leads (post_state given)) ≡ false
-post_quiet answer.Finished = refl
-post_quiet answer.MoreProcessing = refl
+post_quiet PostVerdict.Finished = refl
+post_quiet PostVerdict.MoreProcessing = refl
 
 pub post_keeps : (old : World) (k : WorkerId) (o : OpId) (i : InstanceId) (given : PostVerdict) (lent : Data) (t : ContextTable)
-    → worker_at old.workers k ≡ Some (place.Post o i) → told (λ r. data_fits r.operation r.path lent) false o old.flow ≡ true → IsUnderWay old
+    → worker_at old.workers k ≡ Some (Worker.Post o i) → told (λ r. data_fits r.operation r.path lent) false o old.flow ≡ true → IsUnderWay old
     → IsUnderWay (record (returned old k o (post_returned_of given lent)) { contexts = t })
 post_keeps old k o i given lent t at fits s =
     let x = inside_post old k o i at s in
     let r = x.0.row in
     let state = post_state given in
-    return_keeps old k (place.Post o i) o r (post_returned_of given lent) (λ j. 0) t old.files at x.0.at (λ x. refl) (λ x. refl)
-    (subst (Matches o (place.Post o i)) (sym (ap (λ a. spot_at a r.entries) x.1 ∙ ap (option_map AtPost) x.2)) (matches_post o i)) (post_quiet given)
-    (in_no_drain o (place.Post o i) (λ p j. refl)) (λ j. omega (arith, drains_post_settled j state r.entries)) (λ j. refl)
+    return_keeps old k (Worker.Post o i) o r (post_returned_of given lent) (λ j. 0) t old.files at x.0.at (λ x. refl) (λ x. refl)
+    (subst (Matches o (Worker.Post o i)) (sym (ap (λ a. spot_at a r.entries) x.1 ∙ ap (option_map AtPost) x.2)) (matches_post o i)) (post_quiet given)
+    (in_no_drain o (Worker.Post o i) (λ p j. refl)) (λ j. omega (arith, drains_post_settled j state r.entries)) (λ j. refl)
     (sound_post_returned given lent r x.1 (sym (told_there (λ (x : FlowRecord). data_fits x.operation x.path lent) false o old.flow r x.0.at) ∙ fits) x.0.sound)
     (among_settles old.stack r.volume r.born r.operation r.entries r.stage (post_leads state) (settle_post state) (settle_post_visit state) (settle_post_base state)
     (not_base_of (post_leads state) (post_quiet given)) x.0.among) s
 
-pub drain_keeps : (old : World) (k : WorkerId) (o : OpId) (i : InstanceId) (t : ContextTable) → worker_at old.workers k ≡ Some (place.Drain o i) → IsUnderWay old
+pub drain_keeps : (old : World) (k : WorkerId) (o : OpId) (i : InstanceId) (t : ContextTable) → worker_at old.workers k ≡ Some (Worker.Drain o i) → IsUnderWay old
     → IsUnderWay (record (returned old k o (drain_returned_of i)) { contexts = t })
 drain_keeps old k o i t at s =
     let x = inside_drain old k o i at s in
@@ -521,8 +473,8 @@ drain_keeps old k o i t at s =
     let even : (j : ℕ) → drain_opens j (drain_returned_of i r).entries + one (i.0 == j) ≡ drain_opens j r.entries = λ j.
     let ends : cond (i.0 == j) (drain_opens i.0 r.entries) 0 ≡ one (i.0 == j) = ap (λ n. cond (i.0 == j) n 0) runs in
     omega (arith, drains_drain_settled i.0 j r.entries, ends) in
-    return_keeps old k (place.Drain o i) o r (drain_returned_of i) (λ j. one (i.0 == j)) t old.files at x.0.at (λ x. refl) (λ x. refl)
-    (subst (Matches o (place.Drain o i)) (sym (ap (λ a. spot_at a r.entries) x.1)) (matches_drain o i)) refl (in_a_drain o i) even (λ j. refl) (sound_drain_returned i r x.1 x.0.sound)
+    return_keeps old k (Worker.Drain o i) o r (drain_returned_of i) (λ j. one (i.0 == j)) t old.files at x.0.at (λ x. refl) (λ x. refl)
+    (subst (Matches o (Worker.Drain o i)) (sym (ap (λ a. spot_at a r.entries) x.1)) (matches_drain o i)) refl (in_a_drain o i) even (λ j. refl) (sound_drain_returned i r x.1 x.0.sound)
     (among_settles old.stack r.volume r.born r.operation r.entries r.stage Ascending (settle_drain i.0) (settle_drain_visit i.0) (settle_drain_base i.0)
     (not_base_of Ascending refl) x.0.among) s
 

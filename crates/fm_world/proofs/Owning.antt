@@ -5,44 +5,17 @@ use Rattle.std.proofs.lemmas.Bool.{false≢true, true≢false, cases_Bool, cases
 use Rattle.std.proofs.lemmas.Option.{same_Some, slice_get_within}
 use Rattle.std.proofs.lemmas.List.{length-append}
 use Rattle.std.proofs.lemmas.List.Elements.{All-nil, All-head}
-use Rattle.fm_types.specs.declared.ids.CtxId.{CtxId}
-use Rattle.fm_types.specs.declared.ids.FilterId.{FilterId}
-use Rattle.fm_types.specs.declared.ids.InstanceId.{InstanceId}
-use Rattle.fm_types.specs.declared.ids.VolumeId.{VolumeId}
-use Rattle.fm_types.specs.declared.ids.WorkerId.{WorkerId}
-use Rattle.fm_types.specs.declared.registration.Registration.{Registration}
-use Rattle.fm_types.specs.declared.status.Status.{Status}
-use Rattle.fm_types.proofs.Lists.{slice_get-kept, slice_get-set_same, slice_get-set_other, updated-same, updated-other}
-use Rattle.fm_stack.specs.declared.instance.Instance.{Instance}
-use Rattle.fm_stack.specs.declared.instance.Phase.{Phase}
-use Rattle.fm_stack.specs.declared.instance.Phase.TheVariants as phase
-use Rattle.fm_stack.specs.declared.volume.Volume.{Volume}
-use Rattle.fm_stack.specs.StackWorld.{StackWorld}
-use Rattle.fm_stack.specs.Instances.{is_setup, is_detached}
-use Rattle.fm_stack.specs.Events.{refuse_row, accept_row}
+use Rattle.fm_world.proofs.Words.{CtxId, FilterId, InstanceId, VolumeId, WorkerId, Registration, Status, slice_get-kept, slice_get-set_same}
+use Rattle.fm_world.proofs.Words.{slice_get-set_other, updated-same, updated-other, Instance, Phase, Volume, StackWorld, is_setup, is_detached, refuse_row}
+use Rattle.fm_world.proofs.Words.{accept_row, Owner, hand_of, cleaning_of, IsLawful, same_owner, Leaves, is_linked_of, swept, swept_slot, Context, Slot}
+use Rattle.fm_world.proofs.Words.{ContextTable, leave_keeps, sweep_keeps, within_hands, Worker, World, carries, worker_at, put, after_attach, cleanup_in}
+use Rattle.fm_world.proofs.Words.{row_at, place_in, fits, owner_fits, link_fits, may_link, holds_links_by, is_left_by, keeps_links, keeps_links_by, is_flown}
+use Rattle.fm_world.proofs.Words.{is_flown_by, HoldsIn, Registers, Mounts, Attaches, SetsUp, EmptiesUnless, IsSound, IsOwned, names_there, FileTable}
 use Rattle.fm_stack.specs.Events as stack
-use Rattle.fm_ctx.specs.declared.owner.Owner.{Owner}
-use Rattle.fm_ctx.specs.declared.owner.Owner.TheVariants as owner
-use Rattle.fm_ctx.specs.Bags.{hand_of, cleaning_of}
-use Rattle.fm_ctx.specs.Laws.{IsLawful}
-use Rattle.fm_ctx.specs.Objects.{same_owner}
-use Rattle.fm_ctx.specs.Settling.{Leaves, is_linked_of, swept, swept_slot}
-use Rattle.fm_ctx.specs.Table.{Context, Slot, ContextTable}
-use Rattle.fm_ctx.proofs.Leaving.{leave_keeps, sweep_keeps}
-use Rattle.fm_ctx.proofs.Moves.{within_hands}
-use Rattle.fm_world.specs.declared.worker.Worker.{Worker}
-use Rattle.fm_world.specs.declared.worker.Worker.TheVariants as place
-use Rattle.fm_world.specs.World.{World, carries}
-use Rattle.fm_world.specs.Workers.{worker_at, put, after_attach, cleanup_in}
-use Rattle.fm_world.specs.Owners.{row_at, place_in, fits, owner_fits, link_fits, may_link, holds_links_by, is_left_by, keeps_links, keeps_links_by, is_flown, is_flown_by, HoldsIn}
-use Rattle.fm_world.specs.Events.{Registers, Mounts, Attaches, SetsUp, EmptiesUnless}
-use Rattle.fm_world.specs.Sound.{IsSound, IsOwned}
 use Rattle.fm_world.proofs.Belonging.{OwnersStay, owners_same, owners_swept, owners_after, FiltersStay, belongs_still, AllHold, all_hold, all_hold_still, others_stay, all_carry_still}
 use Rattle.fm_world.proofs.Callbacks.{same_hands}
 use Rattle.fm_world.proofs.Fitting.{AllFit, AllPass, VolumesStay, fits_on, passes_swept, owner_stays, link_stays}
 use Rattle.fm_world.proofs.Losing.{NamedIn, passes_unlinked}
-use Rattle.fm_world.specs.Links.{names_there}
-use Rattle.fm_world.specs.Files.{FileTable}
 use Rattle.fm_world.proofs.Events.{idle_by, setup_by}
 use Rattle.fm_world.proofs.Keeps.{register_keeps, mount_keeps, attach_keeps, setup_keeps, setup_place, FiledIn}
 
@@ -52,19 +25,19 @@ use Rattle.fm_world.proofs.Keeps.{register_keeps, mount_keeps, attach_keeps, set
 abbrev pub RowsGoOn : StackWorld → StackWorld → Type 0
 RowsGoOn s t = (j : ℕ) (row : Instance) → slice_get s.instances j ≡ Some row
     → (after : Instance) × (slice_get t.instances j ≡ Some after) × (after.filter ≡ row.filter)
-    × ((after.phase ≡ row.phase) ⊎ ((row.phase ≡ phase.Setup) × (after.phase ≡ phase.Attached)))
+    × ((after.phase ≡ row.phase) ⊎ ((row.phase ≡ Phase.Setup) × (after.phase ≡ Phase.Attached)))
 
 rows_filters : (s t : StackWorld) → RowsGoOn s t → FiltersStay s t
 rows_filters s t on j row there = let after = on j row there in (after.0, after.1, after.2)
 
 -- what a phase says that no such change takes away
-stays_true : (test : Phase → Bool) (a b : Phase) → test phase.Attached ≡ true → (b ≡ a) ⊎ ((a ≡ phase.Setup) × (b ≡ phase.Attached)) → test a ≡ true → test b ≡ true
+stays_true : (test : Phase → Bool) (a b : Phase) → test Phase.Attached ≡ true → (b ≡ a) ⊎ ((a ≡ Phase.Setup) × (b ≡ Phase.Attached)) → test a ≡ true → test b ≡ true
 stays_true test a b attached (inl same) h = ap test same ∙ h
 stays_true test a b attached (inr (was, is)) h = ap test is ∙ attached
 
 -- a test on the row of an instance
 row_test : (s t : StackWorld) (read : Option Instance → Bool) (test : Phase → Bool) → read None ≡ false → ((row : Instance) → read (Some row) ≡ test row.phase)
-    → test phase.Attached ≡ true → RowsGoOn s t → (j : InstanceId) → read (row_at s j) ≡ true → read (row_at t j) ≡ true
+    → test Phase.Attached ≡ true → RowsGoOn s t → (j : InstanceId) → read (row_at s j) ≡ true → read (row_at t j) ≡ true
 row_test s t read test none some attached on j h = at_row (row_at s j) refl h
   where
     at_row : (m : Option Instance) → row_at s j ≡ m → read m ≡ true → read (row_at t j) ≡ true
@@ -163,7 +136,7 @@ cleaning_stays w cleaning k a b at same na nb h n =
 -- ---- attach
 
 attach_owned : (old : World) (k : WorkerId) (f : FilterId) (v : VolumeId) (name altitude : List ℕ) (result : Result InstanceId Status) (new : World)
-    → worker_at old.workers k ≡ Some place.Idle → k.0 < 48 → stack.Attaches old.stack f v name altitude result new.stack
+    → worker_at old.workers k ≡ Some Worker.Idle → k.0 < 48 → stack.Attaches old.stack f v name altitude result new.stack
     → new ≡ record old { stack = new.stack; workers = after_attach old.workers k result } → IsOwned old → IsOwned new
 unfolding stack.Attaches
 attach_owned old k f v name altitude (Err why) new at worker h e s =
@@ -171,18 +144,18 @@ attach_owned old k f v name altitude (Err why) new at worker h e s =
 attach_owned old k f v name altitude (Ok i) new at worker h e s =
     let t = stack.attached old.stack f v name altitude in
     let slots = old.contexts.slots in
-    let workers = put old.workers k (place.Setup i) in
+    let workers = put old.workers k (Worker.Setup i) in
     let on : RowsGoOn old.stack t = λ j row there. (row, slice_get-kept old.stack.instances (stack.new_instance f v name altitude ∷ []) j row there, refl, inl refl) in
     let still = belongs_still old.stack slots t slots (rows_filters old.stack t on) (owners_same slots slots refl) in
-    let none = empty_hand old k place.Idle at refl s in
+    let none = empty_hand old k Worker.Idle at refl s in
     let base = stack_owned old t on (omega arith) (λ v h. h) s in
     subst IsOwned (sym (e ∙ ap (λ x. record old { stack = x; workers = workers }) h.1.1))
     (record {
       lawful = s.lawful;
-      cleaning = cleaning_stays old old.contexts.cleaning k place.Idle (place.Setup i) at refl refl refl s.cleaning;
+      cleaning = cleaning_stays old old.contexts.cleaning k Worker.Idle (Worker.Setup i) at refl refl refl s.cleaning;
       holders = subst (AllHold t slots workers) (sym (same_hands old.contexts.hands k.0))
           (all_hold old.stack slots t slots old.workers workers old.contexts.hands k.0 (hand_of old.contexts.hands k.0) (within_hands k.0 s.lawful worker) still
-          (others_stay old.workers k.0 (place.Setup i))
+          (others_stay old.workers k.0 (Worker.Setup i))
           (subst (All (HoldsIn t slots (place_in (slice_get workers k.0)))) (sym none) (All-nil (HoldsIn t slots (place_in (slice_get workers k.0)))))
           s.holders);
       completions = base.completions;
@@ -197,20 +170,20 @@ unfolding Attaches
 attach_sound old k f v name altitude result new h s =
     idle_by (λ _ w. IsSound w) k result old new _ h (λ why. s) (λ at event. record {
       under_way = attach_keeps old k f v name altitude result new at event.0 event.1 s.under_way;
-      owned = attach_owned old k f v name altitude result new at (subst (λ n. k.0 < n) s.under_way.hands (slice_get_within old.workers k.0 place.Idle at)) event.0 event.1 s.owned;
+      owned = attach_owned old k f v name altitude result new at (subst (λ n. k.0 < n) s.under_way.hands (slice_get_within old.workers k.0 Worker.Idle at)) event.0 event.1 s.owned;
       filed = subst FiledIn (sym event.1) s.filed;
       links = subst NamedIn (sym event.1) s.links;
     })
 
 -- ---- the end of a setup callback
 
-setup_is : (p : Phase) → is_setup p ≡ true → p ≡ phase.Setup
-setup_is phase.Setup h = refl
-setup_is phase.Attached h = absurd (false≢true h)
-setup_is phase.Stopping h = absurd (false≢true h)
-setup_is phase.Completing h = absurd (false≢true h)
-setup_is phase.Emptying h = absurd (false≢true h)
-setup_is phase.Detached h = absurd (false≢true h)
+setup_is : (p : Phase) → is_setup p ≡ true → p ≡ Phase.Setup
+setup_is Phase.Setup h = refl
+setup_is Phase.Attached h = absurd (false≢true h)
+setup_is Phase.Stopping h = absurd (false≢true h)
+setup_is Phase.Completing h = absurd (false≢true h)
+setup_is Phase.Emptying h = absurd (false≢true h)
+setup_is Phase.Detached h = absurd (false≢true h)
 
 accepted_on : (s : StackWorld) (i : InstanceId) (row : Instance) → slice_get s.instances i.0 ≡ Some row → is_setup row.phase ≡ true → RowsGoOn s (stack.accepted s i)
 accepted_on s i row there setup j x found =
@@ -226,20 +199,20 @@ accepted_on s i row there setup j x found =
     ]
 
 -- what the callback held is gone, and its worker is idle
-setup_returns : (old : World) (k : WorkerId) (i : InstanceId) (t : StackWorld) (c : ContextTable) → worker_at old.workers k ≡ Some (place.Setup i) → k.0 < 48
+setup_returns : (old : World) (k : WorkerId) (i : InstanceId) (t : StackWorld) (c : ContextTable) → worker_at old.workers k ≡ Some (Worker.Setup i) → k.0 < 48
     → FiltersStay old.stack t → OwnersStay old.contexts.slots c.slots → IsOwned old
     → c.hands ≡ slice_set old.contexts.hands k.0 [] → c.cleaning ≡ old.contexts.cleaning
     → IsLawful (carries old) c → AllFit t c.slots → ((j : InstanceId) → is_flown_by (row_at t j) ≡ false → is_flown_by (row_at old.stack j) ≡ false)
-    → IsOwned (record old { stack = t; workers = put old.workers k place.Idle; contexts = c })
+    → IsOwned (record old { stack = t; workers = put old.workers k Worker.Idle; contexts = c })
 setup_returns old k i t c at worker filters owners h hands cleaning lawful fit flown =
     let still = belongs_still old.stack old.contexts.slots t c.slots filters owners in
-    let workers = put old.workers k place.Idle in
+    let workers = put old.workers k Worker.Idle in
     record {
       lawful = lawful;
-      cleaning = cleaning_stays old c.cleaning k (place.Setup i) place.Idle at cleaning refl refl h.cleaning;
+      cleaning = cleaning_stays old c.cleaning k (Worker.Setup i) Worker.Idle at cleaning refl refl h.cleaning;
       holders = subst (AllHold t c.slots workers) (sym hands)
           (all_hold old.stack old.contexts.slots t c.slots old.workers workers old.contexts.hands k.0 [] (within_hands k.0 h.lawful worker) still
-          (others_stay old.workers k.0 place.Idle) (All-nil (HoldsIn t c.slots (place_in (slice_get workers k.0)))) h.holders);
+          (others_stay old.workers k.0 Worker.Idle) (All-nil (HoldsIn t c.slots (place_in (slice_get workers k.0)))) h.holders);
       completions = all_carry_still old.stack old.contexts.slots t c.slots old.flow.operations still h.completions;
       fits = fit;
       quiet = λ j rests. h.quiet j (flown j rests);
@@ -265,7 +238,7 @@ refused_left s i j row there h =
       | inr apart ↦ ap is_left_by (refused_row s i j apart) ∙ h
     ]
 
-not_flown : (p : Phase) → p ≡ phase.Setup → is_flown p ≡ false
+not_flown : (p : Phase) → p ≡ Phase.Setup → is_flown p ≡ false
 not_flown p e = ap is_flown e
 
 refused_flown : (s : StackWorld) (i j : InstanceId) (row : Instance) → slice_get s.instances i.0 ≡ Some row → is_setup row.phase ≡ true
@@ -278,8 +251,8 @@ refused_flown s i j row there setup h =
 
 -- the instance's contexts lost their links, so none is to it
 refused_fits : (s : StackWorld) (i : InstanceId) (row : Instance) (x : Context) → slice_get s.instances i.0 ≡ Some row → fits s (Some x) ≡ true
-    → fits (stack.refused s i) (Some (swept (is_linked_of (owner.Instance i)) x)) ≡ true
-refused_fits s i row x there fit = by_test (is_linked_of (owner.Instance i) x) refl
+    → fits (stack.refused s i) (Some (swept (is_linked_of (Owner.Instance i)) x)) ≡ true
+refused_fits s i row x there fit = by_test (is_linked_of (Owner.Instance i) x) refl
   where
     parts : (owner_fits s x.kind x.owner ≡ true) × (link_fits s x x.link ≡ true)
     parts = and_parts (owner_fits s x.kind x.owner) (link_fits s x x.link) fit
@@ -287,48 +260,48 @@ refused_fits s i row x there fit = by_test (is_linked_of (owner.Instance i) x) r
     owned : owner_fits (stack.refused s i) x.kind x.owner ≡ true
     owned = owner_stays s (stack.refused s i) x.kind x.owner (omega arith) (λ j is left. refused_left s i j row there left) parts.0
 
-    by_test : (b : Bool) → is_linked_of (owner.Instance i) x ≡ b → fits (stack.refused s i) (Some (cond b (record x { link = None }) x)) ≡ true
+    by_test : (b : Bool) → is_linked_of (Owner.Instance i) x ≡ b → fits (stack.refused s i) (Some (cond b (record x { link = None }) x)) ≡ true
     by_test true is = and_from (owner_fits (stack.refused s i) x.kind x.owner) true owned refl
     by_test false is =
         and_from (owner_fits (stack.refused s i) x.kind x.owner) (link_fits (stack.refused s i) x x.link) owned
         (link_stays s (stack.refused s i) x x.link (λ v h. h) (λ linked. at_owner linked x.owner refl) parts.1)
       where
         at_owner : is_some x.link ≡ true → (o : Owner) → x.owner ≡ o → may_link s o ≡ true → may_link (stack.refused s i) o ≡ true
-        at_owner linked (owner.Filter f) own h = refl
-        at_owner linked (owner.Instance j) own h =
+        at_owner linked (Owner.Filter f) own h = refl
+        at_owner linked (Owner.Instance j) own h =
             elim (cases_eq j.0 i.0) [
               | inl e ↦
-                  let mine : same_owner (owner.Instance i) x.owner ≡ true = ap (same_owner (owner.Instance i)) own ∙ eq-eqb i.0 j.0 (sym e) in
-                  absurd (true≢false (sym (and_from (is_some x.link) (same_owner (owner.Instance i) x.owner) linked mine) ∙ is))
+                  let mine : same_owner (Owner.Instance i) x.owner ≡ true = ap (same_owner (Owner.Instance i)) own ∙ eq-eqb i.0 j.0 (sym e) in
+                  absurd (true≢false (sym (and_from (is_some x.link) (same_owner (Owner.Instance i) x.owner) linked mine) ∙ is))
               | inr apart ↦ ap keeps_links_by (refused_row s i j apart) ∙ h
             ]
 
 setup_owned : (old : World) (k : WorkerId) (i : InstanceId) (accept : Bool) (result : Result (Unit {0}) Status) (new : World) (left : ContextTable)
-    → worker_at old.workers k ≡ Some (place.Setup i) → stack.SetsUp old.stack i accept result new.stack → Leaves (carries old) old.contexts left k.0
-    → EmptiesUnless result i old left new.contexts → new ≡ record old { stack = new.stack; workers = put old.workers k place.Idle; contexts = new.contexts }
+    → worker_at old.workers k ≡ Some (Worker.Setup i) → stack.SetsUp old.stack i accept result new.stack → Leaves (carries old) old.contexts left k.0
+    → EmptiesUnless result i old left new.contexts → new ≡ record old { stack = new.stack; workers = put old.workers k Worker.Idle; contexts = new.contexts }
     → IsSound old → IsOwned new
 unfolding stack.SetsUp
 setup_owned old k i accept (Ok done) new left at h leaves empties e s =
     let row = setup_place old k i s.under_way at in
     let t = stack.accepted old.stack i in
     let on = accepted_on old.stack i row.0 row.1 row.2 in
-    let worker : k.0 < 48 = subst (λ n. k.0 < n) s.under_way.hands (slice_get_within old.workers k.0 (place.Setup i) at) in
+    let worker : k.0 < 48 = subst (λ n. k.0 < n) s.under_way.hands (slice_get_within old.workers k.0 (Worker.Setup i) at) in
     let fit = fits_on old.stack t old.contexts.slots
     (record { filters = omega arith; volumes = λ v h. h; left = rows_left old.stack t on; keeps = rows_keep old.stack t on }) s.owned.fits in
-    subst IsOwned (sym (e ∙ ap (λ x. record old { stack = x; workers = put old.workers k place.Idle; contexts = new.contexts }) h.1
-    ∙ ap (λ c. record old { stack = t; workers = put old.workers k place.Idle; contexts = c }) empties))
+    subst IsOwned (sym (e ∙ ap (λ x. record old { stack = x; workers = put old.workers k Worker.Idle; contexts = new.contexts }) h.1
+    ∙ ap (λ c. record old { stack = t; workers = put old.workers k Worker.Idle; contexts = c }) empties))
     (setup_returns old k i t left at worker (rows_filters old.stack t on) (owners_same old.contexts.slots left.slots leaves.slots) s.owned leaves.hands leaves.cleaning
     (leave_keeps k.0 s.owned.lawful leaves) (subst (AllFit t) (sym leaves.slots) fit) (rows_flown old.stack t on))
 setup_owned old k i accept (Err why) new left at h leaves empties e s =
     let row = setup_place old k i s.under_way at in
     let t = stack.refused old.stack i in
-    let test = is_linked_of (owner.Instance i) in
-    let worker : k.0 < 48 = subst (λ n. k.0 < n) s.under_way.hands (slice_get_within old.workers k.0 (place.Setup i) at) in
+    let test = is_linked_of (Owner.Instance i) in
+    let worker : k.0 < 48 = subst (λ n. k.0 < n) s.under_way.hands (slice_get_within old.workers k.0 (Worker.Setup i) at) in
     let slots : new.contexts.slots ≡ map (swept_slot test) old.contexts.slots = empties.slots ∙ ap (map (swept_slot test)) leaves.slots in
     let owners = owners_after old.contexts.slots (map (swept_slot test) old.contexts.slots) new.contexts.slots (owners_swept test old.contexts.slots)
     (owners_same (map (swept_slot test) old.contexts.slots) new.contexts.slots slots) in
     let fit = passes_swept (fits old.stack) (fits t) test old.contexts.slots refl (λ x fit. refused_fits old.stack i row.0 x row.1 fit) s.owned.fits in
-    subst IsOwned (sym (e ∙ ap (λ x. record old { stack = x; workers = put old.workers k place.Idle; contexts = new.contexts }) h.1))
+    subst IsOwned (sym (e ∙ ap (λ x. record old { stack = x; workers = put old.workers k Worker.Idle; contexts = new.contexts }) h.1))
     (setup_returns old k i t new.contexts at worker (refused_filters old.stack i) owners s.owned (empties.hands ∙ leaves.hands) (empties.cleaning ∙ leaves.cleaning)
     (sweep_keeps test (leave_keeps k.0 s.owned.lawful leaves) empties) (subst (AllFit t) (sym slots) fit)
     (λ j rests. refused_flown old.stack i j row.0 row.1 row.2 rests))
@@ -338,7 +311,7 @@ emptied_named : (f : FileTable) (result : Result (Unit {0}) Status) (i : Instanc
     → AllPass (names_there f) t.slots → AllPass (names_there f) after.slots
 emptied_named f (Ok done) i w left t after same h named = subst (AllPass (names_there f)) (sym (ap (λ (x : ContextTable). x.slots) h ∙ same)) named
 emptied_named f (Err why) i w left t after same h named =
-    let test = is_linked_of (owner.Instance i) in
+    let test = is_linked_of (Owner.Instance i) in
     subst (AllPass (names_there f)) (sym (h.slots ∙ ap (map (swept_slot test)) same))
     (passes_swept (names_there f) (names_there f) test t.slots refl (λ x. passes_unlinked (names_there f) test x (λ was. refl)) named)
 

@@ -2,27 +2,10 @@
 use Rattle.std.proofs.Common.{◌≡◌, Bool, true, false, cond, List, [], ◌∷◌, find, Option, Some, None, Result, Ok, Err, refl, ap, sym, ◌∙◌, inl, inr, slice_get}
 use Rattle.std.proofs.lemmas.Bool.{cases_Bool, false≢true}
 use Rattle.std.proofs.lemmas.Option.{none-some, same_Some}
-use Rattle.fm_types.specs.Lists.{change_first}
-use Rattle.fm_types.specs.declared.ids.InstanceId.{InstanceId}
-use Rattle.fm_types.specs.declared.ids.OpId.{OpId}
-use Rattle.fm_types.specs.declared.ids.WorkerId.{WorkerId}
-use Rattle.fm_types.specs.declared.status.Status.{Status}
-use Rattle.fm_types.specs.declared.status.Status.TheVariants as status
-use Rattle.fm_data.specs.declared.params.Params.{Params}
-use Rattle.fm_flow.specs.declared.action.Below.{Below}
-use Rattle.fm_flow.specs.declared.action.Below.TheVariants as below
-use Rattle.fm_flow.specs.declared.action.FlowAction.{FlowAction}
-use Rattle.fm_flow.specs.declared.action.FlowAction.TheVariants as action
-use Rattle.fm_flow.specs.declared.entry.Ask.{Ask}
-use Rattle.fm_flow.specs.declared.stage.Stage.{Stage}
-use Rattle.fm_flow.specs.declared.stage.Stage.TheVariants.{Descending, PreRunning, PreHeld, InBase, Ascending, PostRunning, PostHeld, InDrain}
-use Rattle.fm_flow.specs.Entries.{owed}
-use Rattle.fm_flow.specs.Record.{FlowRecord}
-use Rattle.fm_flow.specs.Steps.{turn, next_of, next_at, descend, ascend, call_pre, call_base, call_post, give_post, unwound_to, may_take}
-use Rattle.fm_flow.specs.Table.{FlowTable, is_number}
-use Rattle.fm_world.specs.Events.{Nexts, NextsOver, LosesByKnown, drains_at, flow_after_next}
-use Rattle.fm_world.specs.World.{World}
-use Rattle.fm_world.specs.Workers.{gives_nothing}
+use Rattle.fm_world.proofs.Words.{change_first, InstanceId, OpId, WorkerId, Status, Params, Below, FlowAction, Ask, Stage, Descending, PreRunning, PreHeld}
+use Rattle.fm_world.proofs.Words.{InBase, Ascending, PostRunning, PostHeld, InDrain, owed, FlowRecord, turn, next_of, next_at, descend, ascend, call_pre}
+use Rattle.fm_world.proofs.Words.{call_base, call_post, give_post, unwound_to, may_take, FlowTable, is_number, Nexts, NextsOver, LosesByKnown, drains_at}
+use Rattle.fm_world.proofs.Words.{flow_after_next, World, gives_nothing}
 use Rattle.fm_world.proofs.Events.{Turns, next_by}
 
 -- ---- the operation
@@ -36,10 +19,10 @@ rests_based r (Some p) h = absurd (false≢true h)
 rests_based r None h = refl
 
 rests_down : (k : WorkerId) (lies : Below) (r : FlowRecord) → gives_nothing (descend k lies r).reply ≡ true → (descend k lies r).after ≡ r
-rests_down k (below.Instance i true) r h = rests_called k i r r.params h
-rests_down k (below.Instance i false) r h = absurd (false≢true h)
-rests_down k below.Call r h = rests_based r r.params h
-rests_down k (below.Known why) r h = absurd (false≢true h)
+rests_down k (Below.Instance i true) r h = rests_called k i r r.params h
+rests_down k (Below.Instance i false) r h = absurd (false≢true h)
+rests_down k Below.Call r h = rests_based r r.params h
+rests_down k (Below.Known why) r h = absurd (false≢true h)
 
 rests_post : (k : WorkerId) (ask : Ask) (r : FlowRecord) (m : Option Params) → gives_nothing (give_post k ask r m).reply ≡ true → (give_post k ask r m).after ≡ r
 rests_post k ask r (Some p) h = absurd (false≢true h)
@@ -56,7 +39,7 @@ rests_up k drains r None h = refl
 rests_up k true r (Some ask) h = absurd (false≢true h)
 rests_up k false r (Some ask) h = taken (may_take k ask) h
   where
-    taken : (b : Bool) → gives_nothing (cond b (call_post k ask r) (turn (Err status.WrongStep) r)).reply ≡ true → (cond b (call_post k ask r) (turn (Err status.WrongStep) r)).after ≡ r
+    taken : (b : Bool) → gives_nothing (cond b (call_post k ask r) (turn (Err Status.WrongStep) r)).reply ≡ true → (cond b (call_post k ask r) (turn (Err Status.WrongStep) r)).after ≡ r
     taken true h = rests_unwound k ask r (slice_get r.kept ask.place) h
     taken false h = refl
 
@@ -74,8 +57,8 @@ rests_at k lies drains r (InDrain i) h = refl
 next_rests : (k : WorkerId) (lies : Below) (drains : Bool) (r : FlowRecord) → gives_nothing (next_of k lies drains r).reply ≡ true → (next_of k lies drains r).after ≡ r
 next_rests k lies drains r h = by_collected r.collected h
   where
-    by_collected : (b : Bool) → gives_nothing (cond b (turn (Err status.WrongStep) r) (next_at k lies drains r r.stage)).reply ≡ true
-        → (cond b (turn (Err status.WrongStep) r) (next_at k lies drains r r.stage)).after ≡ r
+    by_collected : (b : Bool) → gives_nothing (cond b (turn (Err Status.WrongStep) r) (next_at k lies drains r r.stage)).reply ≡ true
+        → (cond b (turn (Err Status.WrongStep) r) (next_at k lies drains r r.stage)).after ≡ r
     by_collected true h = refl
     by_collected false h = rests_at k lies drains r r.stage h
 
@@ -102,8 +85,8 @@ flow_rests old k o result new e h =
 
 over_rests : (old : World) (k : WorkerId) (o : OpId) (lies : Below) (result : Result FlowAction Status) (mid new : World) → NextsOver old k o lies result mid
     → LosesByKnown result lies mid new → gives_nothing result ≡ true → record old { flow = flow_after_next old k o lies } ≡ old → new ≡ old
-over_rests old k o lies (Ok action.Held) mid new over loses h same = loses ∙ over.1 ∙ same
-over_rests old k o lies (Ok action.Done) mid new over loses h same = loses ∙ over.1 ∙ same
+over_rests old k o lies (Ok FlowAction.Held) mid new over loses h same = loses ∙ over.1 ∙ same
+over_rests old k o lies (Ok FlowAction.Done) mid new over loses h same = loses ∙ over.1 ∙ same
 over_rests old k o lies (Err why) mid new over loses h same = loses ∙ over.1 ∙ same
 over_rests old k o lies _ mid new over loses h same = absurd (false≢true h)
 

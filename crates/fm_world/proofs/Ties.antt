@@ -4,26 +4,10 @@ use Rattle.std.specs.Prelude.{option_map, unwrap_or, find}
 use Rattle.std.proofs.lemmas.Bool.{cases_eq, false≢true, eqb-true, eq-eqb, ne_eqb}
 use Rattle.std.proofs.lemmas.Option.{slice_get_within, get_or_from_slice_get}
 use Rattle.std.proofs.lemmas.List.Sums.{sum_by-set}
-use Rattle.fm_types.specs.declared.ids.OpId.{OpId}
-use Rattle.fm_types.specs.declared.ids.WorkerId.{WorkerId}
-use Rattle.fm_types.specs.declared.ids.InstanceId.{InstanceId}
-use Rattle.fm_flow.specs.declared.entry.PreState.{PreState}
-use Rattle.fm_flow.specs.declared.entry.PreState.TheVariants as pre
-use Rattle.fm_flow.specs.Steps.{pre_leads}
-use Rattle.fm_flow.specs.Verdict.{is_counted}
-use Rattle.fm_flow.specs.declared.stage.Stage.{Stage}
-use Rattle.fm_flow.specs.declared.stage.Stage.TheVariants.{PreRunning, InBase, PostRunning, InDrain}
-use Rattle.fm_flow.specs.Record.{FlowRecord}
-use Rattle.fm_flow.specs.Table.{FlowTable, is_number, operation_at, changed, told}
-use Rattle.fm_world.specs.declared.worker.Worker.{Worker}
-use Rattle.fm_world.specs.declared.worker.Worker.TheVariants as place
-use Rattle.fm_world.specs.Workers.{worker_at, put}
-use Rattle.fm_flow.specs.declared.entry.Entry.{Entry}
-use Rattle.fm_flow.specs.Entries.{last_visited, last_posted}
-use Rattle.fm_world.specs.Headline.{Spot, AtPre, AtBase, AtPost, AtDrain, is_in_at, spot_at, spot_of, is_spot, stands_at}
-use Rattle.fm_flow.proofs.Counting.{one_of_and}
+use Rattle.fm_world.proofs.Words.{OpId, WorkerId, InstanceId, find_changed, find_unchanged, PreState, pre_leads, is_counted, Stage, PreRunning, InBase}
+use Rattle.fm_world.proofs.Words.{PostRunning, InDrain, FlowRecord, FlowTable, is_number, operation_at, changed, told, Entry, last_visited, last_posted}
+use Rattle.fm_world.proofs.Words.{one_of_and, Worker, worker_at, put, Spot, AtPre, AtBase, AtPost, AtDrain, is_in_at, spot_at, spot_of, is_spot, stands_at}
 use Rattle.fm_world.proofs.Counts.{count-some}
-use Rattle.fm_types.proofs.Firsts.{find_changed, find_unchanged}
 
 -- 1 or 0
 abbrev pub one : Bool → ℕ
@@ -117,7 +101,7 @@ and_true false = refl
 
 -- the places and spots that match
 
-pub idle_is_in_none : (p : OpId) (s : Spot) → is_in_at p s place.Idle ≡ false
+pub idle_is_in_none : (p : OpId) (s : Spot) → is_in_at p s Worker.Idle ≡ false
 idle_is_in_none p (AtPre i) = refl
 idle_is_in_none p AtBase = refl
 idle_is_in_none p (AtPost i) = refl
@@ -147,29 +131,29 @@ nowhere (AtDrain i) = refl
 pub quiet_is_none : (stage : Stage) (entries : List Entry) → is_running stage ≡ false → (s : Spot) → is_spot s (spot_at stage entries) ≡ false
 quiet_is_none stage entries h s = ap (is_spot s) (quiet_is_nowhere stage entries h) ∙ nowhere s
 
-pub matches_idle : (o : OpId) (stage : Stage) (entries : List Entry) → is_running stage ≡ false → Matches o place.Idle (spot_at stage entries)
+pub matches_idle : (o : OpId) (stage : Stage) (entries : List Entry) → is_running stage ≡ false → Matches o Worker.Idle (spot_at stage entries)
 matches_idle o stage entries h p s =
     idle_is_in_none p s ∙ sym (and_false (o.0 == p.0)) ∙ ap (λ b. (o.0 == p.0) && b) (sym (quiet_is_none stage entries h s))
 
-pub matches_pre : (o : OpId) (i : InstanceId) → Matches o (place.Pre o i) (Some (AtPre i.0))
+pub matches_pre : (o : OpId) (i : InstanceId) → Matches o (Worker.Pre o i) (Some (AtPre i.0))
 matches_pre o i p (AtPre j) = refl
 matches_pre o i p AtBase = sym (and_false (o.0 == p.0))
 matches_pre o i p (AtPost j) = sym (and_false (o.0 == p.0))
 matches_pre o i p (AtDrain j) = sym (and_false (o.0 == p.0))
 
-pub matches_base : (o : OpId) → Matches o (place.Base o) (Some AtBase)
+pub matches_base : (o : OpId) → Matches o (Worker.Base o) (Some AtBase)
 matches_base o p AtBase = sym (and_true (o.0 == p.0))
 matches_base o p (AtPre j) = sym (and_false (o.0 == p.0))
 matches_base o p (AtPost j) = sym (and_false (o.0 == p.0))
 matches_base o p (AtDrain j) = sym (and_false (o.0 == p.0))
 
-pub matches_post : (o : OpId) (i : InstanceId) → Matches o (place.Post o i) (Some (AtPost i.0))
+pub matches_post : (o : OpId) (i : InstanceId) → Matches o (Worker.Post o i) (Some (AtPost i.0))
 matches_post o i p (AtPost j) = refl
 matches_post o i p (AtPre j) = sym (and_false (o.0 == p.0))
 matches_post o i p AtBase = sym (and_false (o.0 == p.0))
 matches_post o i p (AtDrain j) = sym (and_false (o.0 == p.0))
 
-pub matches_drain : (o : OpId) (i : InstanceId) → Matches o (place.Drain o i) (Some (AtDrain i.0))
+pub matches_drain : (o : OpId) (i : InstanceId) → Matches o (Worker.Drain o i) (Some (AtDrain i.0))
 matches_drain o i p (AtDrain j) = refl
 matches_drain o i p (AtPre j) = sym (and_false (o.0 == p.0))
 matches_drain o i p AtBase = sym (and_false (o.0 == p.0))
@@ -235,5 +219,5 @@ spot_drain i _ entries h = absurd (false≢true h)
 
 -- a verdict that counts leaves the callback
 pub counted_from : (state : PreState) → is_running (pre_leads state) ≡ false → is_counted state ≡ true
-counted_from pre.Running h = absurd (false≢true (sym h))
+counted_from PreState.Running h = absurd (false≢true (sym h))
 counted_from _ h = refl

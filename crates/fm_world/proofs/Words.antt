@@ -1,7 +1,127 @@
 -- The words that the proofs share, passed on from the specs and from the crates below.
+pub use Rattle.fm_types.proofs.Firsts.{change_none, found_holds, all_change, all_without, count_changed, count_without, found_counts, length_change}
+pub use Rattle.fm_types.proofs.Firsts.{length_without, find_without, found_passes, find_changed, find_unchanged}
+pub use Rattle.fm_types.proofs.Lists.{slice_get-set_other, all_at, length-updated, slice_get-set_same, updated-same, updated-other, All-updated}
+pub use Rattle.fm_types.proofs.Lists.{All-set_others, slice_get-kept, slice_get-push}
+pub use Rattle.fm_types.specs.Lists.{updated, change_first}
+pub use Rattle.fm_types.specs.Refusals.{first_of, Answers, AnswersOrMemory}
+pub use Rattle.fm_types.specs.declared.context_kind.ContextKind.{ContextKind}
 pub use Rattle.fm_types.specs.declared.ids.CtxId.{CtxId}
+pub use Rattle.fm_types.specs.declared.ids.FilterId.{FilterId}
+pub use Rattle.fm_types.specs.declared.ids.HandleId.{HandleId}
+pub use Rattle.fm_types.specs.declared.ids.InstanceId.{InstanceId}
 pub use Rattle.fm_types.specs.declared.ids.OpId.{OpId}
+pub use Rattle.fm_types.specs.declared.ids.StreamId.{StreamId}
+pub use Rattle.fm_types.specs.declared.ids.VolumeId.{VolumeId}
 pub use Rattle.fm_types.specs.declared.ids.WorkerId.{WorkerId}
+pub use Rattle.fm_types.specs.declared.operation.Operation.{Operation}
+pub use Rattle.fm_types.specs.declared.registration.Registration.{Registration}
 pub use Rattle.fm_types.specs.declared.status.Status.{Status}
+pub use Rattle.fm_data.specs.Data.{Data, data_fits}
+pub use Rattle.fm_data.specs.Params.{operation_of, same_operation, same_path, are_on, are_for, fit, call_fits, is_within_limits}
+pub use Rattle.fm_data.specs.declared.answer.Answer.{Answer}
+pub use Rattle.fm_data.specs.declared.base_call.BaseCall.{BaseCall}
+pub use Rattle.fm_data.specs.declared.params.Params.{Params}
+pub use Rattle.fm_data.specs.declared.verdict.PostVerdict.{PostVerdict}
+pub use Rattle.fm_data.specs.declared.verdict.PreVerdict.{PreVerdict}
+pub use Rattle.fm_stack.specs.Events.{is_emptying_at, finish_row, finished, is_mounted, is_mounted_phase, refuse_row, accept_row}
+pub use Rattle.fm_stack.specs.Follows.{Follows}
+pub use Rattle.fm_stack.specs.Instances.{is_lower, same_altitude, is_lower_option, is_setup, is_emptying, is_lower_at, altitude_at, clashes, same_name}
+pub use Rattle.fm_stack.specs.Instances.{is_live_on, is_attached, is_detached}
+pub use Rattle.fm_stack.specs.Next.{is_candidate, is_to_visit, IsHighest, is_below_cursor, is_registered, NonePasses}
+pub use Rattle.fm_stack.specs.StackWorld.{StackWorld}
+pub use Rattle.fm_stack.specs.Stacks.{IsStack, IsPlaced}
+pub use Rattle.fm_stack.specs.declared.instance.Instance.{Instance}
+pub use Rattle.fm_stack.specs.declared.instance.Phase.{Phase}
+pub use Rattle.fm_stack.specs.declared.volume.Volume.{Volume}
+pub use Rattle.fm_ctx.proofs.Alike.{lawful_alike}
+pub use Rattle.fm_ctx.proofs.Bags.{is_id-same, by_id, is_id-refl, references_cons, references_none, hand_counted, none_if_not_held, length-without}
+pub use Rattle.fm_ctx.proofs.Bags.{first_placed, places_cleaned}
+pub use Rattle.fm_ctx.proofs.Leaving.{context_at-swept, leave_keeps, sweep_keeps}
+pub use Rattle.fm_ctx.proofs.Lives.{take_due_keeps, cleaned_keeps, count_cleaning, allocate_keeps}
+pub use Rattle.fm_ctx.proofs.Moves.{within_hands, reference_keeps, release_keeps, body_keeps, carry_keeps, bring_keeps}
+pub use Rattle.fm_ctx.proofs.Slots.{context_at-here, context_at-other, context_at-placed_other, new_absent, context_at-placed, none_from}
+pub use Rattle.fm_ctx.specs.Bags.{is_id, hand_of, is_hand_full, cleaning_of, one, references}
+unfoldable pub use Rattle.fm_ctx.specs.Bags.{holds, without, held}
+pub use Rattle.fm_ctx.specs.Births.{IsNew, placed, new_slot, allocated, allocate_refusal, is_out_of_slots}
+pub use Rattle.fm_ctx.specs.Bodies.{rewritten, with_body}
+pub use Rattle.fm_ctx.specs.Cleanup.{emptied, taken_due, taken_of, cleaned, due_of}
+pub use Rattle.fm_ctx.specs.Counting.{is_open, open_of}
+pub use Rattle.fm_ctx.specs.Laws.{IsLawful, is_waiting}
+pub use Rattle.fm_ctx.specs.Links.{with_link, set_after, set_mode_after, delete_after, unlinked_for, set_reply, set_mode_reply, wanted, delete_reply, holder}
+pub use Rattle.fm_ctx.specs.Links.{linked, kept_after, get_refusal, delete_refusal, IsUnlinkedOf}
+pub use Rattle.fm_ctx.specs.Objects.{same_owner, is_to}
+pub use Rattle.fm_ctx.specs.References.{grabbed, released}
+pub use Rattle.fm_ctx.specs.Settling.{swept, swept_slot, Leaves, is_linked_of}
+pub use Rattle.fm_ctx.specs.Table.{Context, Slot, change_context, ContextTable, context_in, owner_at, link_count, changed_slot, link_at}
+unfoldable pub use Rattle.fm_ctx.specs.Table.{context_at}
+pub use Rattle.fm_ctx.specs.declared.due.Due.{Due}
+pub use Rattle.fm_ctx.specs.declared.object.Object.{Object}
+pub use Rattle.fm_ctx.specs.declared.owner.Owner.{Owner}
+pub use Rattle.fm_ctx.specs.declared.set_reply.SetMode.{SetMode}
+pub use Rattle.fm_ctx.specs.declared.set_reply.SetMode.TheVariants.{Keep, Replace}
+pub use Rattle.fm_flow.proofs.Counting.{same_either, one_of_and, flight_pre_settled, flight_post_settled, owed_pre_settled, owed_post_settled}
+pub use Rattle.fm_flow.proofs.Counting.{owed_drain_settled}
+pub use Rattle.fm_flow.proofs.Drains.{drains_given, next_drains, drains_open, drains_push, drains_pre_settled, drains_post_settled, drains_drain_settled}
+pub use Rattle.fm_flow.proofs.Drains.{none_running}
+pub use Rattle.fm_flow.specs.Answered.{is_success, handle_given, base_counted}
+pub use Rattle.fm_flow.specs.Counts.{carried_in, carried_among, carried_by, drain_opens, flight, is_running_drain, leaves_at, handed, taken_by}
+pub use Rattle.fm_flow.specs.Creates.{is_create, is_unanswered, is_creating, is_on_stream, creates}
+pub use Rattle.fm_flow.specs.Entries.{visit_of, visited, last_visited, post_of, posted, last_posted, is_base, has_base, settle_pre, settle_post, settle_drain}
+pub use Rattle.fm_flow.specs.Entries.{owed, times, instances, ask_in}
+pub use Rattle.fm_flow.specs.Record.{FlowRecord}
+pub use Rattle.fm_flow.specs.Sound.{after, walk, way_of, if_down, IsCourse}
+pub use Rattle.fm_flow.specs.Steps.{post_leads, next_of, post_returned_of, drain_returned_of, base_fits, turn, next_at, descend, ascend, call_pre, call_base}
+pub use Rattle.fm_flow.specs.Steps.{call_post, give_post, unwound, unwound_to, may_take, pre_leads, pre_returned_of, base_returned_of, is_done, done_at}
+pub use Rattle.fm_flow.specs.Steps.{Turned, post_state, MayLieBelow}
+pub use Rattle.fm_flow.specs.Table.{total, FlowTable, operation_at, changed, told, empty_table, is_number, removed, begun, begun_record, collected_of}
+pub use Rattle.fm_flow.specs.Table.{collected_in, is_collectable, marked, in_flight, carried, is_full, IsFlow}
+pub use Rattle.fm_flow.specs.Verdict.{verdict_counted, completed_as, is_counted}
+pub use Rattle.fm_flow.specs.declared.action.Below.{Below}
+pub use Rattle.fm_flow.specs.declared.action.FlowAction.{FlowAction}
+pub use Rattle.fm_flow.specs.declared.entry.Ask.{Ask}
+pub use Rattle.fm_flow.specs.declared.entry.Entry.{Entry}
+pub use Rattle.fm_flow.specs.declared.entry.Entry.TheVariants.{Pre, Base, Post, Drain}
+pub use Rattle.fm_flow.specs.declared.entry.PostState.{PostState}
+pub use Rattle.fm_flow.specs.declared.entry.PreState.{PreState}
+pub use Rattle.fm_flow.specs.declared.entry.PreVisit.{PreVisit}
+pub use Rattle.fm_flow.specs.declared.stage.Stage.{Stage}
+pub use Rattle.fm_flow.specs.declared.stage.Stage.TheVariants.{Descending, InBase, Ascending, PostRunning, PostHeld, PreRunning, PreHeld, InDrain}
+pub use Rattle.fm_world.specs.ContextEvents.{Callback, callback_in, callback_of, with_contexts, after_due, totalled_for, filter_of, is_gone_at, InCallback}
+pub use Rattle.fm_world.specs.ContextEvents.{InCallbackOf, SetsIn, SetsUnless, SetsOn, set_refused, object_for, CleansAt, there_at, set_answer, before}
+pub use Rattle.fm_world.specs.ContextEvents.{context_by, is_past, object_refused}
+unfoldable pub use Rattle.fm_world.specs.ContextEvents.{References, Releases, ReadsBody, WritesBody, Bumps, TakesDue, Cleans, Finishes, Sets, Deletes}
+unfoldable pub use Rattle.fm_world.specs.ContextEvents.{Allocates, Gets}
+pub use Rattle.fm_world.specs.Descent.{IsDescent, HasRoom, last_of, is_among}
+pub use Rattle.fm_world.specs.Events.{Unless, SetsUpAt, FindsBelow, LiesBelow, NextsAt, NextsOver, LosesByKnown, PreReturnsAt, PreReturnsOver, BaseReturnsAt}
+pub use Rattle.fm_world.specs.Events.{PostReturnsAt, ReturnsFrom, pre_step, state_at, base_returned, drains_at, received, filed_next, flow_after_next}
+pub use Rattle.fm_world.specs.Events.{moved_on, is_created_on, brought, returned, state_given, held_context, of_hand, sent, sent_in, carries_after, has_post}
+pub use Rattle.fm_world.specs.Events.{begin_refused, begun_on, begun_at, after_begin, has_no_handle_left, filed_pre, filed_base, filed_record, base_step}
+pub use Rattle.fm_world.specs.Events.{asked_refused, asked_begun, refused_at, EmptiesUnless, or_else, refused_on}
+unfoldable pub use Rattle.fm_world.specs.Events.{SetsUp, Nexts, PreReturns, BaseReturns, PostReturns, Begins, Collects, Registers, Mounts, Attaches}
+pub use Rattle.fm_world.specs.FileLaws.{is_in_use, has_stream, has_stream_of, IsCreatedOn, IsOnHandle}
+pub use Rattle.fm_world.specs.Files.{FileTable, empty_files, is_handle, handle_at, opened, closed, left, created, stream_for, after_base, after_pre}
+pub use Rattle.fm_world.specs.Files.{is_stream, with_phase, with_mark, phased, torn_down, created_in, stream_of_path, has_handle_on, stream_at, fresh_stream}
+pub use Rattle.fm_world.specs.Files.{is_on, is_at_path, fresh_handle}
+pub use Rattle.fm_world.specs.Hands.{pairs_in, OnlyHandOf, KeepsHands, hand_len, HoldsMore, HoldsOneFewer, HoldsNone, given_with, given_by_set, given_by_next}
+pub use Rattle.fm_world.specs.Hands.{left_by_setup}
+pub use Rattle.fm_world.specs.Headline.{Spot, AtPre, AtBase, AtPost, AtDrain, is_in_at, is_in_drain, drains_running, spot_at, spot_of, is_spot, Headline}
+pub use Rattle.fm_world.specs.Headline.{RulesKeepHeadline, DescendsIn, IsAscent, IsInOrder, stands_at}
+pub use Rattle.fm_world.specs.Links.{names_there, LosesLinks, is_there, is_on_gone}
+pub use Rattle.fm_world.specs.Owners.{row_at, owner_by, place_in, belongs, belongs_by, HoldsIn, CarriesIn, AskCarries, file_of, fits, owner_fits, link_fits}
+pub use Rattle.fm_world.specs.Owners.{may_link, is_left_by, keeps_links_by, is_flown_by, suits, keeps_links, is_flown, holds_links_by, is_volume, has_kind}
+pub use Rattle.fm_world.specs.Owners.{object_by, is_closing, holds_links, is_instance, is_of_stream, is_of_handle}
+pub use Rattle.fm_world.specs.Requests.{params_of, phase_refusal}
+pub use Rattle.fm_world.specs.Sound.{IsAmongAt, NoneLeft, IsSound, IsOwned, IsUnderWay, is_in_setup, setup_row, IsFiled, IsFileSound, IsAmong}
+pub use Rattle.fm_world.specs.Steps.{Steps, Run, RunThrough}
+pub use Rattle.fm_world.specs.Workers.{worker_at, put, cleanup_in, after_next, is_idle, after_attach, gives_nothing}
+pub use Rattle.fm_world.specs.World.{World, carries, reference_count, empty_world, empty_stack}
+pub use Rattle.fm_world.specs.declared.file.FileHandle.{FileHandle}
+pub use Rattle.fm_world.specs.declared.file.FileObject.{FileObject}
+pub use Rattle.fm_world.specs.declared.file.FileStream.{FileStream}
+pub use Rattle.fm_world.specs.declared.file.HandlePhase.{HandlePhase}
+pub use Rattle.fm_world.specs.declared.set_answer.SetAnswer.{SetAnswer}
+pub use Rattle.fm_world.specs.declared.step.Begin.{Begin}
+pub use Rattle.fm_world.specs.declared.step.Step.{Step}
+pub use Rattle.fm_world.specs.declared.step.StepReply.{StepReply}
 pub use Rattle.fm_world.specs.declared.worker.Worker.{Worker}
-pub use Rattle.fm_ctx.specs.Bags.{holds, hand_of}

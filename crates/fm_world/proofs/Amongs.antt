@@ -28,8 +28,7 @@ walk_on (Some s) es t h = (s, refl, h)
 
 post_up : (state : PostState) → is_up (post_leads state) ≡ true
 post_up PostState.Running = refl
-post_up PostState.Held = refl
-post_up PostState.Finished = refl
+post_up _ = refl
 
 after_up : (s : Stage) (e : Entry) (t : Stage) → is_up s ≡ true → after s e ≡ Some t → is_up t ≡ true
 after_up Ascending (Pre visit) t u h = absurd (none-some t h)
@@ -168,39 +167,27 @@ among_settles s v born operation entries before stage f visits bases other h =
 
 pub settle_pre_visit : (state : PreState) (e : Entry) → visit_of (settle_pre state e) ≡ visit_of e
 settle_pre_visit state (Pre visit) = refl
-settle_pre_visit state (Base status information) = refl
-settle_pre_visit state (Post visit) = refl
-settle_pre_visit state (Drain visit) = refl
+settle_pre_visit state _ = refl
 
 pub settle_pre_base : (state : PreState) (e : Entry) → is_base (settle_pre state e) ≡ is_base e
 settle_pre_base state (Pre visit) = refl
-settle_pre_base state (Base status information) = refl
-settle_pre_base state (Post visit) = refl
-settle_pre_base state (Drain visit) = refl
+settle_pre_base state _ = refl
 
 pub settle_post_visit : (state : PostState) (e : Entry) → visit_of (settle_post state e) ≡ visit_of e
 settle_post_visit state (Pre visit) = refl
-settle_post_visit state (Base status information) = refl
-settle_post_visit state (Post visit) = refl
-settle_post_visit state (Drain visit) = refl
+settle_post_visit state _ = refl
 
 pub settle_post_base : (state : PostState) (e : Entry) → is_base (settle_post state e) ≡ is_base e
 settle_post_base state (Pre visit) = refl
-settle_post_base state (Base status information) = refl
-settle_post_base state (Post visit) = refl
-settle_post_base state (Drain visit) = refl
+settle_post_base state _ = refl
 
 pub settle_drain_visit : (i : ℕ) (e : Entry) → visit_of (settle_drain i e) ≡ visit_of e
 settle_drain_visit i (Pre visit) = refl
-settle_drain_visit i (Base status information) = refl
-settle_drain_visit i (Post visit) = refl
-settle_drain_visit i (Drain visit) = refl
+settle_drain_visit i _ = refl
 
 pub settle_drain_base : (i : ℕ) (e : Entry) → is_base (settle_drain i e) ≡ is_base e
 settle_drain_base i (Pre visit) = refl
-settle_drain_base i (Base status information) = refl
-settle_drain_base i (Post visit) = refl
-settle_drain_base i (Drain visit) = refl
+settle_drain_base i _ = refl
 
 -- every event of the stack leaves each operation in place
 pub among_follows : (s t : StackWorld) (v : VolumeId) (born : ℕ) (operation : Operation) (entries : List Entry) (stage : Stage)

@@ -61,9 +61,7 @@ filters_same s i row h = (row, h, refl)
 
 owner_follows : (a b : Instance) (i : InstanceId) (k : ContextKind) → b.filter ≡ a.filter → owner_by b i k ≡ owner_by a i k
 owner_follows a b i ContextKind.Volume e = ap Owner.Filter e
-owner_follows a b i ContextKind.Instance e = refl
-owner_follows a b i ContextKind.Stream e = refl
-owner_follows a b i ContextKind.Handle e = refl
+owner_follows a b i _ e = refl
 
 -- what a callback may hold, it may hold still
 abbrev pub BelongsStill : StackWorld → List Slot → StackWorld → List Slot → Type 0
@@ -73,8 +71,6 @@ pub belongs_still : (s : StackWorld) (old : List Slot) (t : StackWorld) (new : L
 belongs_still s old t new filters owners i c h = at_row (row_at s i) (context_at old c) refl refl h
   where
     at_row : (m : Option Instance) (o : Option Context) → row_at s i ≡ m → context_at old c ≡ o → belongs_by m i o ≡ true → belongs t new i c ≡ true
-    at_row None o there is h = absurd (false≢true h)
-    at_row (Some row) None there is h = absurd (false≢true h)
     at_row (Some row) (Some x) there is h =
         let after = filters i.0 row there in
         let y = owners c x is in
@@ -82,6 +78,7 @@ belongs_still s old t new filters owners i c h = at_row (row_at s i) (context_at
         ap (λ k. same_owner (owner_by after.0 i k) y.0.owner) y.2 ∙ ap (same_owner (owner_by after.0 i x.kind)) y.3
         ∙ ap (λ o. same_owner o x.owner) (owner_follows row after.0 i x.kind after.2) in
         ap (λ m. belongs_by m i (context_at new c)) after.1 ∙ ap (belongs_by (Some after.0) i) y.1 ∙ same ∙ h
+    at_row _ _ there is h = absurd (false≢true h)
 
 -- ---- hands
 

@@ -11,7 +11,7 @@ use Rattle.fm_world.proofs.Words.{finish_row, finished, Due, Owner, one, is_id, 
 use Rattle.fm_world.proofs.Words.{is_open, open_of, same_owner, Context, Slot, context_at, change_context, is_id-refl, is_id-same, references_cons}
 use Rattle.fm_world.proofs.Words.{references_none, hand_counted, take_due_keeps, cleaned_keeps, count_cleaning, within_hands, context_at-other, Ask}
 use Rattle.fm_world.proofs.Words.{carried_in, carried_among, carried_by, owed, FlowRecord, total, Worker, World, worker_at, put, cleanup_in, Spot, AtPre}
-use Rattle.fm_world.proofs.Words.{AtBase, AtPost, AtDrain, is_in_at, is_in_drain, row_at, place_in, fits, owner_fits, link_fits, may_link, is_left_by}
+use Rattle.fm_world.proofs.Words.{is_in_at, is_in_drain, row_at, place_in, fits, owner_fits, link_fits, may_link, is_left_by}
 use Rattle.fm_world.proofs.Words.{keeps_links_by, is_flown_by, belongs, belongs_by, HoldsIn, CarriesIn, AskCarries, after_due, TakesDue, totalled_for}
 use Rattle.fm_world.proofs.Words.{filter_of, Cleans, is_gone_at, Finishes, IsSound, IsUnderWay, IsOwned, is_in_setup, setup_row, names_there}
 use Rattle.fm_stack.proofs.Finishing.{finished_keeps, finished_follows, emptying_row}
@@ -29,9 +29,7 @@ use Rattle.fm_world.proofs.Ties.{idle_is_in_none}
 
 cleanup_in_none : (c : CtxId) (p : OpId) (s : Spot) → is_in_at p s (Worker.Cleanup c) ≡ false
 cleanup_in_none c p (AtPre i) = refl
-cleanup_in_none c p AtBase = refl
-cleanup_in_none c p (AtPost i) = refl
-cleanup_in_none c p (AtDrain i) = refl
+cleanup_in_none c p _ = refl
 
 worker_moves : (w : World) (k : WorkerId) (a b : Worker) → worker_at w.workers k ≡ Some a
     → ((p : OpId) (s : Spot) → is_in_at p s a ≡ false) → ((p : OpId) (s : Spot) → is_in_at p s b ≡ false)
@@ -238,11 +236,7 @@ setup_kept change rows i j row there same =
 
 not_setup : (p : Phase) → is_emptying p ≡ true → is_setup p ≡ false
 not_setup Phase.Emptying h = refl
-not_setup Phase.Setup h = absurd (false≢true h)
-not_setup Phase.Attached h = absurd (false≢true h)
-not_setup Phase.Stopping h = absurd (false≢true h)
-not_setup Phase.Completing h = absurd (false≢true h)
-not_setup Phase.Detached h = absurd (false≢true h)
+not_setup _ h = absurd (false≢true h)
 
 -- nothing is in flight at an instance that is being emptied
 emptying_rests : (row : Instance) → is_emptying row.phase ≡ true → is_flown_by (Some row) ≡ false
@@ -250,11 +244,7 @@ emptying_rests row h = at_phase row.phase h
   where
     at_phase : (p : Phase) → is_emptying p ≡ true → is_flown_by (Some (record row { phase = p })) ≡ false
     at_phase Phase.Emptying h = refl
-    at_phase Phase.Setup h = absurd (false≢true h)
-    at_phase Phase.Attached h = absurd (false≢true h)
-    at_phase Phase.Stopping h = absurd (false≢true h)
-    at_phase Phase.Completing h = absurd (false≢true h)
-    at_phase Phase.Detached h = absurd (false≢true h)
+    at_phase _ h = absurd (false≢true h)
 
 finish_filters : (s : StackWorld) (i : InstanceId) → FiltersStay s (finished s i)
 finish_filters s i j row there =

@@ -28,15 +28,14 @@ last_of-cons i j is =
 below_all : (s : StackWorld) (a : Option (List ℕ)) (is : List ℕ) → AllPairs (λ i j. is_lower_at s j i ≡ true) is
     → ((l : ℕ) → last_of is ≡ Some l → is_lower_option a (altitude_at s l) ≡ true)
     → (k : ℕ) (d : ℕ) → k < length is → is_lower_option a (altitude_at s (get_or is k d)) ≡ true
-below_all s a [] falls low k d h = absurd (omega arith)
 below_all s a (i ∷ []) falls low zero d h = low i refl
-below_all s a (i ∷ []) falls low (suc k) d h = absurd (omega arith)
 below_all s a (i ∷ j ∷ is) falls low (suc k) d h =
     below_all s a (j ∷ is) (λ m n e p q. falls (suc m) (suc n) e (omega arith) (omega arith)) (λ l e. low l (last_of-cons i j is ∙ e)) k d (omega arith)
 below_all s a (i ∷ j ∷ is) falls low zero d h =
     option_trans a (altitude_at s j) (altitude_at s i)
     (below_all s a (j ∷ is) (λ m n e p q. falls (suc m) (suc n) e (omega arith) (omega arith)) (λ l e. low l (last_of-cons i j is ∙ e)) 0 d (omega arith))
     (falls 0 1 d (omega arith) (omega arith))
+below_all s a _ falls low _ d h = absurd (omega arith)
 
 pub or_left : (a b : Bool) → (a || b) ≡ false → a ≡ false
 or_left false b h = refl

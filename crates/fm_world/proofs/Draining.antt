@@ -1,5 +1,5 @@
 -- Workers and drains stay tied: each drain that runs has one worker.
-use Rattle.std.proofs.Common.{◌≡◌, ℕ, ◌+◌, ◌≤◌, ◌==◌, Bool, true, false, cond, List, Option, Some, None, Result, Ok, Err, refl, ap, sym, ◌∙◌, arith, count_by}
+use Rattle.std.proofs.Common.{◌≡◌, ℕ, ◌+◌, ◌≤◌, ◌==◌, Bool, true, false, cond, List, Option, Some, None, Result, Ok, refl, ap, sym, ◌∙◌, arith, count_by}
 use Rattle.std.specs.Prelude.{option_map, unwrap_or}
 use Rattle.fm_world.proofs.Words.{OpId, WorkerId, InstanceId, Status, Below, FlowAction, drain_opens, FlowRecord, next_of, FlowTable, operation_at, changed}
 use Rattle.fm_world.proofs.Words.{same_either, one_of_and, drains_given, next_drains, Worker, worker_at, put, after_next, is_in_drain, drains_running}
@@ -73,10 +73,7 @@ next_drained workers t k o lies stops r idle at same tied = by_reply (next_of k 
     by_reply (Ok (FlowAction.Base call)) even = more (Worker.Base o) (λ n. 0) (in_no_drain o (Worker.Base o) (λ p n. refl)) even
     by_reply (Ok (FlowAction.Post i lent completion)) even = more (Worker.Post o i) (λ n. 0) (in_no_drain o (Worker.Post o i) (λ p n. refl)) even
     by_reply (Ok (FlowAction.Drain i completion)) even = more (Worker.Drain o i) (λ n. one (i.0 == n)) (in_a_drain o i) even
-    by_reply (Ok FlowAction.Moved) even = none even
-    by_reply (Ok FlowAction.Held) even = none even
-    by_reply (Ok FlowAction.Done) even = none even
-    by_reply (Err status) even = none even
+    by_reply _ even = none even
 
 -- where a worker is in a drain, it runs
 pub drained_there : (workers : List Worker) (t : FlowTable) (k : WorkerId) (a : Worker) (o : OpId) (i : ℕ) → AreDrained workers t

@@ -25,9 +25,7 @@ same_instance (Some row) i j x own h = by_kind x.kind (sym (ap (same_owner (owne
   where
     by_kind : (a : ContextKind) → same_owner (owner_by row j a) (Owner.Instance i) ≡ true → j.0 ≡ i.0
     by_kind ContextKind.Volume h = absurd (false≢true h)
-    by_kind ContextKind.Instance h = eqb-true j.0 i.0 h
-    by_kind ContextKind.Stream h = eqb-true j.0 i.0 h
-    by_kind ContextKind.Handle h = eqb-true j.0 i.0 h
+    by_kind _ h = eqb-true j.0 i.0 h
 
 callback_of_owner : (s : StackWorld) (slots : List Slot) (c : CtxId) (i j : InstanceId) (x : Context) → context_at slots c ≡ Some x → x.owner ≡ Owner.Instance i
     → belongs s slots j c ≡ true → j.0 ≡ i.0
@@ -123,12 +121,9 @@ unlinked_rests None h = refl
 unlinked_rests (Some row) h = at_phase row.phase h
   where
     at_phase : (p : Phase) → keeps_links p ≡ false → is_flown p ≡ false
-    at_phase Phase.Emptying h = refl
-    at_phase Phase.Detached h = refl
-    at_phase Phase.Setup h = refl
-    at_phase Phase.Completing h = refl
     at_phase Phase.Attached h = absurd (true≢false h)
     at_phase Phase.Stopping h = absurd (true≢false h)
+    at_phase _ h = refl
 
 pub emptied_counts : (w : World) (i : InstanceId) (c : CtxId) → IsSound w → keeps_links_by (row_at w.stack i) ≡ false
     → owner_at w.contexts.slots c ≡ Some (Owner.Instance i) → reference_count w c ≡ 0

@@ -7,7 +7,7 @@ use Rattle.std.proofs.lemmas.List.Elements.{All-nil, All-push, All-weaker}
 use Rattle.std.proofs.lemmas.Option.{same_Some}
 use Rattle.fm_world.proofs.Words.{change_first, found_holds, all_change, all_without, HandleId, OpId, StreamId, VolumeId, WorkerId, Operation, Status, Answer}
 use Rattle.fm_world.proofs.Words.{BaseCall, Params, Data, operation_of, same_operation, same_path, are_on, are_for, fit, call_fits, is_within_limits, Below}
-use Rattle.fm_world.proofs.Words.{FlowAction, Ask, PreState, Stage, Descending, PreRunning, PreHeld, InBase, Ascending, PostRunning, PostHeld, InDrain}
+use Rattle.fm_world.proofs.Words.{FlowAction, Ask, PreState, Stage, Descending, PreRunning, PreHeld, InBase, Ascending}
 use Rattle.fm_world.proofs.Words.{is_success, handle_given, is_running_drain, is_create, is_unanswered, is_creating, is_on_stream, owed, FlowRecord, turn}
 use Rattle.fm_world.proofs.Words.{next_of, next_at, descend, ascend, call_pre, call_base, call_post, give_post, unwound, unwound_to, may_take, pre_leads}
 use Rattle.fm_world.proofs.Words.{pre_returned_of, base_returned_of, base_fits, is_done, done_at, FlowTable, empty_table, is_number, operation_at, changed}
@@ -216,8 +216,7 @@ file_answered f t o r step why at unanswered answered h =
 given_handle : (call : Params) (why : Status) (g : HandleId) (before : Option HandleId)
     → (handle_given call why g before ≡ before) ⊎ ((handle_given call why g before ≡ Some g) × (is_success why ≡ true) × (is_create (operation_of call) ≡ true))
 given_handle (Params.Create path mode) Status.Success g before = inr (refl, refl, refl)
-given_handle (Params.Create path mode) _ g before = inl refl
-given_handle _ why g before = inl refl
+given_handle _ _ g before = inl refl
 
 same_create : (a b : Operation) → same_operation a b ≡ true → is_create a ≡ is_create b
 same_create Operation.Create Operation.Create h = refl
@@ -277,23 +276,17 @@ down_file k (Below.Instance i true) r = called r.params
     called : (m : Option Params) → KeepsFile r (call_pre k i r m).after
     called (Some p) = (refl, refl)
     called None = (refl, refl)
-down_file k (Below.Instance i false) r = (refl, refl)
 down_file k Below.Call r = based r.params
   where
     based : (m : Option Params) → KeepsFile r (call_base r m).after
     based (Some p) = (refl, refl)
     based None = (refl, refl)
-down_file k (Below.Known why) r = (refl, refl)
+down_file k _ r = (refl, refl)
 
 next_file_at : (k : WorkerId) (lies : Below) (drains : Bool) (r : FlowRecord) (stage : Stage) → KeepsFile r (next_at k lies drains r stage).after
 next_file_at k lies drains r Descending = down_file k lies r
 next_file_at k lies drains r Ascending = up_file k drains r (slice_get (owed r.entries) 0)
-next_file_at k lies drains r PreRunning = (refl, refl)
-next_file_at k lies drains r PreHeld = (refl, refl)
-next_file_at k lies drains r InBase = (refl, refl)
-next_file_at k lies drains r PostRunning = (refl, refl)
-next_file_at k lies drains r PostHeld = (refl, refl)
-next_file_at k lies drains r (InDrain i) = (refl, refl)
+next_file_at k lies drains r _ = (refl, refl)
 
 next_file : (k : WorkerId) (lies : Below) (drains : Bool) (r : FlowRecord) → KeepsFile r (next_of k lies drains r).after
 next_file k lies drains r = elim r.collected as (λ b. KeepsFile r (cond b (turn (Err Status.WrongStep) r) (next_at k lies drains r r.stage)).after) [
@@ -327,12 +320,7 @@ creating_at k lies drains r Descending e other = down_creating k lies r e other
 creating_at k lies drains r Ascending e other =
     let after = (ascend k drains r (slice_get (owed r.entries) 0)).after in
     answered_none after (ascend_none k drains r (slice_get (owed r.entries) 0) (ap is_unanswered e)) ∙ sym (answered_none r (ap is_unanswered e))
-creating_at k lies drains r PreRunning e other = refl
-creating_at k lies drains r PreHeld e other = refl
-creating_at k lies drains r InBase e other = refl
-creating_at k lies drains r PostRunning e other = refl
-creating_at k lies drains r PostHeld e other = refl
-creating_at k lies drains r (InDrain i) e other = refl
+creating_at k lies drains r _ e other = refl
 
 pub next_same_file : (k : WorkerId) (lies : Below) (drains : Bool) (r : FlowRecord) → (is_known lies ≡ true → Ok FlowAction.Moved ≡ (next_of k lies drains r).reply → ⊥)
     → SameFile r (next_of k lies drains r).after
@@ -468,14 +456,11 @@ done_none : (r : FlowRecord) → is_done r ≡ true → is_creating r ≡ false
 done_none r done = answered_none r (at_stage r.stage (owed r.entries) done)
   where
     at_stage : (stage : Stage) (asks : List Ask) → done_at stage asks ≡ true → is_unanswered stage ≡ false
-    at_stage Ascending asks h = refl
-    at_stage PostRunning asks h = refl
-    at_stage PostHeld asks h = refl
-    at_stage (InDrain i) asks h = refl
     at_stage Descending asks h = absurd (false≢true h)
     at_stage PreRunning asks h = absurd (false≢true h)
     at_stage PreHeld asks h = absurd (false≢true h)
     at_stage InBase asks h = absurd (false≢true h)
+    at_stage _ asks h = refl
 
 holds_collected : (f : FileTable) (o : OpId) (t : FlowTable) (m : Option FlowRecord) → operation_at o t ≡ m → Holds f t.operations t.next
     → Holds f (collected_in o t m).operations (collected_in o t m).next

@@ -5,11 +5,11 @@ use Rattle.std.proofs.lemmas.Bool.{leb-false}
 use Rattle.std.proofs.lemmas.List.Sums.{sum_by_push}
 use Rattle.std.specs.List.{list_any}
 use Rattle.fm_world.proofs.Words.{HandleId, OpId, StreamId, VolumeId, WorkerId, Operation, Status, count_changed, count_without, found_counts, length_change}
-use Rattle.fm_world.proofs.Words.{length_without, Params, operation_of, Below, FlowAction, Ask, PreState, Stage, Descending, PreRunning, PreHeld, InBase}
-use Rattle.fm_world.proofs.Words.{Ascending, PostRunning, PostHeld, InDrain, is_success, is_create, is_unanswered, is_creating, creates, owed, FlowRecord}
+use Rattle.fm_world.proofs.Words.{length_without, Params, operation_of, Below, FlowAction, Ask, PreState, Stage, Descending}
+use Rattle.fm_world.proofs.Words.{Ascending, is_success, is_create, is_unanswered, is_creating, creates, owed, FlowRecord}
 use Rattle.fm_world.proofs.Words.{Turned, turn, next_of, next_at, descend, ascend, call_post, give_post, unwound, unwound_to, may_take, FlowTable, is_number}
 use Rattle.fm_world.proofs.Words.{operation_at, changed, removed, begun, begun_record, collected_of, collected_in, is_collectable, marked, is_running_drain}
-use Rattle.fm_world.proofs.Words.{HandlePhase, FileStream, FileTable, is_handle, is_stream, with_phase, with_mark, phased, opened, closed, torn_down, left}
+use Rattle.fm_world.proofs.Words.{HandlePhase, FileStream, FileTable, is_handle, with_phase, opened, closed, torn_down, left}
 use Rattle.fm_world.proofs.Words.{created, created_in, stream_of_path, has_handle_on, after_base, after_pre, params_of, moved_on, IsFiled}
 use Rattle.fm_world.specs.Files as files
 use Rattle.fm_world.specs.declared.step.FileRequest.{FileRequest}
@@ -41,32 +41,11 @@ marked_shrinks s false f = shrinks_same f
 pub moved_shrinks : (operation : Operation) (h : HandleId) (n : ℕ) (f : FileTable) → Shrinks f (moved_on operation h n f)
 moved_shrinks Operation.Cleanup h n f = record { next = refl; handles = let k = length_change (is_handle h) (with_phase (HandlePhase.CleaningUp (record { 0 = n }))) f.handles in omega (arith, k) }
 moved_shrinks Operation.Close h n f = record { next = refl; handles = let k = length_change (is_handle h) (with_phase HandlePhase.Closing) f.handles in omega (arith, k) }
-moved_shrinks Operation.Create h n f = shrinks_same f
-moved_shrinks Operation.Read h n f = shrinks_same f
-moved_shrinks Operation.Write h n f = shrinks_same f
-moved_shrinks Operation.QuerySize h n f = shrinks_same f
-moved_shrinks Operation.SetSize h n f = shrinks_same f
-moved_shrinks Operation.Flush h n f = shrinks_same f
-moved_shrinks Operation.List h n f = shrinks_same f
-moved_shrinks Operation.SetDelete h n f = shrinks_same f
+moved_shrinks _ h n f = shrinks_same f
 
 pub pre_shrinks : (given : PreState) (operation : Operation) (s : Option StreamId) (b : Bool) (f : FileTable) → Shrinks f (after_pre given operation s b f)
 pre_shrinks (PreState.Completed why) Operation.Create (Some s) b f = left_shrinks s b f
-pre_shrinks (PreState.Completed why) Operation.Create None b f = shrinks_same f
-pre_shrinks (PreState.Completed why) Operation.Read s b f = shrinks_same f
-pre_shrinks (PreState.Completed why) Operation.Write s b f = shrinks_same f
-pre_shrinks (PreState.Completed why) Operation.QuerySize s b f = shrinks_same f
-pre_shrinks (PreState.Completed why) Operation.SetSize s b f = shrinks_same f
-pre_shrinks (PreState.Completed why) Operation.Flush s b f = shrinks_same f
-pre_shrinks (PreState.Completed why) Operation.List s b f = shrinks_same f
-pre_shrinks (PreState.Completed why) Operation.SetDelete s b f = shrinks_same f
-pre_shrinks (PreState.Completed why) Operation.Cleanup s b f = shrinks_same f
-pre_shrinks (PreState.Completed why) Operation.Close s b f = shrinks_same f
-pre_shrinks PreState.Running operation s b f = shrinks_same f
-pre_shrinks PreState.Held operation s b f = shrinks_same f
-pre_shrinks (PreState.Asked completion) operation s b f = shrinks_same f
-pre_shrinks (PreState.Synchronized completion) operation s b f = shrinks_same f
-pre_shrinks PreState.Passed operation s b f = shrinks_same f
+pre_shrinks _ _ _ b f = shrinks_same f
 
 -- ---- one operation takes a step
 
@@ -112,17 +91,7 @@ filed_answered f t o r step Operation.SetDelete (Some s) h why b at same unanswe
     filed_step f (cond (is_success why) (files.marked s f) f) t o r step at (not_more_none r (step r) none) (marked_shrinks s (is_success why) f) k
 filed_answered f t o r step Operation.Close (Some s) (Some h) why b at same unanswered none k =
     filed_step f (left s b (closed h f)) t o r step at (not_more_none r (step r) none) (closed_shrinks h s b f) k
-filed_answered f t o r step Operation.Create None h why b at same unanswered none k = filed_step f f t o r step at (not_more_none r (step r) none) (shrinks_same f) k
-filed_answered f t o r step Operation.SetDelete None h why b at same unanswered none k = filed_step f f t o r step at (not_more_none r (step r) none) (shrinks_same f) k
-filed_answered f t o r step Operation.Close None h why b at same unanswered none k = filed_step f f t o r step at (not_more_none r (step r) none) (shrinks_same f) k
-filed_answered f t o r step Operation.Close (Some s) None why b at same unanswered none k = filed_step f f t o r step at (not_more_none r (step r) none) (shrinks_same f) k
-filed_answered f t o r step Operation.Read s h why b at same unanswered none k = filed_step f f t o r step at (not_more_none r (step r) none) (shrinks_same f) k
-filed_answered f t o r step Operation.Write s h why b at same unanswered none k = filed_step f f t o r step at (not_more_none r (step r) none) (shrinks_same f) k
-filed_answered f t o r step Operation.QuerySize s h why b at same unanswered none k = filed_step f f t o r step at (not_more_none r (step r) none) (shrinks_same f) k
-filed_answered f t o r step Operation.SetSize s h why b at same unanswered none k = filed_step f f t o r step at (not_more_none r (step r) none) (shrinks_same f) k
-filed_answered f t o r step Operation.Flush s h why b at same unanswered none k = filed_step f f t o r step at (not_more_none r (step r) none) (shrinks_same f) k
-filed_answered f t o r step Operation.List s h why b at same unanswered none k = filed_step f f t o r step at (not_more_none r (step r) none) (shrinks_same f) k
-filed_answered f t o r step Operation.Cleanup s h why b at same unanswered none k = filed_step f f t o r step at (not_more_none r (step r) none) (shrinks_same f) k
+filed_answered f t o r step _ _ _ why b at same unanswered none k = filed_step f f t o r step at (not_more_none r (step r) none) (shrinks_same f) k
 
 -- an operation that has an answer is no create under way
 pub answered_none : (r : FlowRecord) → is_unanswered r.stage ≡ false → is_creating r ≡ false
@@ -137,8 +106,7 @@ not_more_same r s same unanswered =
   where
     at_most : (a b : Bool) → cond (a && b) 1 0 ≤ cond (a && true) 1 0
     at_most true true = omega arith
-    at_most true false = omega arith
-    at_most false b = omega arith
+    at_most _ _ = omega arith
 
 -- ---- next
 
@@ -181,12 +149,7 @@ known_at : (k : WorkerId) (why : Status) (drains : Bool) (r : FlowRecord) (stage
     → WasKnown r (next_at k (Below.Known why) drains r stage)
 known_at k why drains r Descending e h = record { unanswered = ap is_unanswered e; none = answered_none (descend k (Below.Known why) r).after refl }
 known_at k why drains r Ascending e h = absurd (moved_not_up k drains r (slice_get (owed r.entries) 0) h)
-known_at k why drains r PreRunning e h = cc
-known_at k why drains r PreHeld e h = cc
-known_at k why drains r InBase e h = cc
-known_at k why drains r PostRunning e h = cc
-known_at k why drains r PostHeld e h = cc
-known_at k why drains r (InDrain i) e h = cc
+known_at k why drains r _ e h = cc
 
 pub was_known : (k : WorkerId) (why : Status) (drains : Bool) (r : FlowRecord) → Ok FlowAction.Moved ≡ (next_of k (Below.Known why) drains r).reply
     → WasKnown r (next_of k (Below.Known why) drains r)
@@ -238,13 +201,7 @@ filed_creates f t v path stream handle born name p room h =
 
 pub asks_no_create : (asked : FileRequest) → is_create (operation_of (params_of asked)) ≡ false
 asks_no_create (FileRequest.Read offset len) = refl
-asks_no_create (FileRequest.Write offset bytes) = refl
-asks_no_create FileRequest.QuerySize = refl
-asks_no_create (FileRequest.SetSize size) = refl
-asks_no_create FileRequest.Flush = refl
-asks_no_create FileRequest.SetDelete = refl
-asks_no_create FileRequest.Cleanup = refl
-asks_no_create FileRequest.Close = refl
+asks_no_create _ = refl
 
 collected_next : (o : OpId) (t : FlowTable) (m : Option FlowRecord) → (collected_in o t m).next ≡ t.next
 collected_next o t None = refl

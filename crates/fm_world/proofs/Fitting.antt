@@ -60,9 +60,7 @@ fits_linked s x o link h =
   where
     at_object : (o : Object) → link_fits s x (Some o) ≡ true → link_fits s (with_link (Some o) x) (Some o) ≡ true
     at_object (Object.Volume v) h = h
-    at_object (Object.Instance i) h = h
-    at_object (Object.Stream r) h = h
-    at_object (Object.Handle r) h = h
+    at_object _ h = h
 
 pub passes_swept : (p q : Option Context → Bool) (test : Context → Bool) (slots : List Slot) → q None ≡ true
     → ((x : Context) → p (Some x) ≡ true → q (Some (swept test x)) ≡ true) → AllPass p slots → AllPass q (map (swept_slot test) slots)
@@ -82,13 +80,10 @@ pub owner_stays : (s t : StackWorld) (k : ContextKind) (o : Owner) → length s.
 owner_stays s t ContextKind.Volume (Owner.Filter f) more left h =
     let below : f.0 < length s.filters = ltb-true f.0 (length s.filters) h in
     lt-ltb f.0 (length t.filters) (omega (arith, below, more))
-owner_stays s t ContextKind.Volume (Owner.Instance i) more left h = absurd (false≢true h)
-owner_stays s t ContextKind.Instance (Owner.Filter f) more left h = absurd (false≢true h)
-owner_stays s t ContextKind.Stream (Owner.Filter f) more left h = absurd (false≢true h)
-owner_stays s t ContextKind.Handle (Owner.Filter f) more left h = absurd (false≢true h)
 owner_stays s t ContextKind.Instance (Owner.Instance i) more left h = left i refl h
 owner_stays s t ContextKind.Stream (Owner.Instance i) more left h = left i refl h
 owner_stays s t ContextKind.Handle (Owner.Instance i) more left h = left i refl h
+owner_stays s t _ _ more left h = absurd (false≢true h)
 
 -- no volume's contexts are unlinked
 abbrev pub VolumesStay : StackWorld → StackWorld → Type 0
@@ -105,9 +100,7 @@ link_stays s t x (Some o) volumes may h =
     at_object (Object.Volume v) h =
         let parts = and_parts (is_volume x.kind) (holds_links_by (slice_get s.volumes v.0)) h in
         and_from (is_volume x.kind) (holds_links_by (slice_get t.volumes v.0)) parts.0 (volumes v.0 parts.1)
-    at_object (Object.Instance i) h = h
-    at_object (Object.Stream r) h = h
-    at_object (Object.Handle r) h = h
+    at_object _ h = h
 
 -- instances go on: none is detached, and none is emptied
 pub record GoesOn (s t : StackWorld) : Type 0 where

@@ -1,5 +1,5 @@
 -- Where a worker is in a callback of an instance, the instance is there and takes contexts.
-use Rattle.std.proofs.Common.{◌≡◌, ℕ, ◌≤◌, ◌==◌, ◌&&◌, Bool, true, cond, List, [], ◌∷◌, Option, Some, None, find, refl, ap, sym, ◌∙◌, subst, inl, inr, ◌⊎◌, arith}
+use Rattle.std.proofs.Common.{◌≡◌, ℕ, ◌≤◌, ◌==◌, ◌&&◌, Bool, true, cond, List, [], ◌∷◌, Option, Some, find, refl, ap, sym, ◌∙◌, subst, inl, inr, ◌⊎◌, arith}
 use Rattle.std.proofs.lemmas.Bool.{false≢true, cases_Bool, eq-eqb, and_from}
 use Rattle.std.proofs.lemmas.Option.{none-some, same_Some}
 use Rattle.fm_world.proofs.Words.{InstanceId, OpId, WorkerId, found_holds, Instance, Phase, is_setup, PreState, PostState, PreRunning, PostRunning}
@@ -63,10 +63,6 @@ in_it o j = and_from (o.0 == o.0) (j.0 == j.0) (eq-eqb o.0 o.0 refl) (eq-eqb j.0
 
 open_at : (w : World) (k : WorkerId) (i : InstanceId) (row : Instance) (m : Option Worker) → IsSound w → worker_at w.workers k ≡ m → place_in m ≡ Some i
     → row_at w.stack i ≡ Some row → IsOpen row.phase
-open_at w k i row None s at is there = absurd (none-some i is)
-open_at w k i row (Some Worker.Idle) s at is there = absurd (none-some i is)
-open_at w k i row (Some (Worker.Base o)) s at is there = absurd (none-some i is)
-open_at w k i row (Some (Worker.Cleanup c)) s at is there = absurd (none-some i is)
 open_at w k i row (Some (Worker.Setup j)) s at is there =
     let setup = setup_place w k j s.under_way at in
     let same : setup.0 ≡ row = same_Some setup.0 row (sym setup.1 ∙ ap (row_at w.stack) (same_Some j i is) ∙ there) in
@@ -79,6 +75,7 @@ open_at w k i row (Some (Worker.Drain o j)) s at is there =
     flown_row w i row s there (subst (λ (x : InstanceId). 1 ≤ in_flight x.0 w.flow) (same_Some j i is) (drain_flies w k (Worker.Drain o j) o j s.under_way at (in_it o j)))
 open_at w k i row (Some (Worker.EarlyDrain o j)) s at is there =
     flown_row w i row s there (subst (λ (x : InstanceId). 1 ≤ in_flight x.0 w.flow) (same_Some j i is) (drain_flies w k (Worker.EarlyDrain o j) o j s.under_way at (in_it o j)))
+open_at w k i row _ s at is there = absurd (none-some i is)
 
 pub callback_open : (w : World) (k : WorkerId) (i : InstanceId) (row : Instance) → IsSound w → place_in (worker_at w.workers k) ≡ Some i
     → row_at w.stack i ≡ Some row → IsOpen row.phase
@@ -88,26 +85,19 @@ open_is_left : (row : Instance) → IsOpen row.phase → is_left_by (Some row) �
 open_is_left row h = at_phase row.phase h
   where
     at_phase : (p : Phase) → IsOpen p → is_left_by (Some (record row { phase = p })) ≡ true
-    at_phase Phase.Setup h = refl
-    at_phase Phase.Attached h = refl
-    at_phase Phase.Stopping h = refl
-    at_phase Phase.Completing h = refl
-    at_phase Phase.Emptying h = refl
     at_phase Phase.Detached (inl h) = absurd (false≢true h)
     at_phase Phase.Detached (inr h) = absurd (false≢true h)
+    at_phase _ h = refl
 
 open_keeps_links : (row : Instance) → IsOpen row.phase → keeps_links_by (Some row) ≡ true
 open_keeps_links row h = at_phase row.phase h
   where
     at_phase : (p : Phase) → IsOpen p → keeps_links_by (Some (record row { phase = p })) ≡ true
-    at_phase Phase.Setup h = refl
-    at_phase Phase.Attached h = refl
-    at_phase Phase.Stopping h = refl
-    at_phase Phase.Completing h = refl
     at_phase Phase.Emptying (inl h) = absurd (false≢true h)
     at_phase Phase.Emptying (inr h) = absurd (false≢true h)
     at_phase Phase.Detached (inl h) = absurd (false≢true h)
     at_phase Phase.Detached (inr h) = absurd (false≢true h)
+    at_phase _ h = refl
 
 -- so it isn't detached, and its contexts aren't unlinked
 pub callback_left : (w : World) (k : WorkerId) (i : InstanceId) (row : Instance) → IsSound w → place_in (worker_at w.workers k) ≡ Some i

@@ -10,7 +10,7 @@ use Rattle.fm_world.proofs.Words.{CtxId, InstanceId, OpId, WorkerId, Operation, 
 use Rattle.fm_world.proofs.Words.{StreamId, VolumeId, BaseCall, Params, Answer, PreVerdict, PostVerdict, Data, operation_of, is_within_limits, Phase}
 use Rattle.fm_world.proofs.Words.{StackWorld, is_attached, is_to_visit, is_below_cursor, holds, hand_of, without, IsLawful, grabbed, Leaves, Slot}
 use Rattle.fm_world.proofs.Words.{ContextTable, lawful_alike, leave_keeps, within_hands, carry_keeps, bring_keeps, Below, FlowAction, Ask, PreState, Base}
-use Rattle.fm_world.proofs.Words.{PreVisit, Stage, Descending, PreRunning, PreHeld, InBase, Ascending, PostRunning, PostHeld, InDrain, carried_in}
+use Rattle.fm_world.proofs.Words.{PreVisit, Stage, Descending, PreRunning, Ascending, PostRunning, carried_in}
 use Rattle.fm_world.proofs.Words.{carried_among, carried_by, is_running_drain, flight, handed, taken_by, ask_in, last_visited, owed, FlowRecord, IsCourse}
 use Rattle.fm_world.proofs.Words.{next_of, pre_returned_of, post_returned_of, drain_returned_of, base_fits, post_state, is_done, done_at, post_leads}
 use Rattle.fm_world.proofs.Words.{FlowTable, operation_at, changed, told, total, carried, in_flight, begun, begun_record, is_number, is_collectable}
@@ -241,17 +241,11 @@ lies_attached s r (Below.Instance l b) i below' rests j called e =
 
     attached_flown : (p : Phase) → is_attached p ≡ true → is_flown p ≡ true
     attached_flown Phase.Attached h = refl
-    attached_flown Phase.Setup h = absurd (false≢true h)
-    attached_flown Phase.Stopping h = absurd (false≢true h)
-    attached_flown Phase.Completing h = absurd (false≢true h)
-    attached_flown Phase.Emptying h = absurd (false≢true h)
-    attached_flown Phase.Detached h = absurd (false≢true h)
+    attached_flown _ h = absurd (false≢true h)
 
 may_ask : (s : StackWorld) (slots : List Slot) (k : WorkerId) (lies : Below) (r : FlowRecord) → MayAsk (AskCarries s slots) k lies r
 may_ask s slots k (Below.Instance i false) r = tt
-may_ask s slots k (Below.Instance i true) r = tt
-may_ask s slots k Below.Call r = tt
-may_ask s slots k (Below.Known why) r = tt
+may_ask s slots k _ r = tt
 
 -- what `next` hands out is carried no more
 pub next_balance : (w : World) (o : OpId) (k : WorkerId) (lies : Below) (d : Bool) (r : FlowRecord) → operation_at o w.flow ≡ Some r
@@ -305,10 +299,7 @@ next_by_reply w o r f k (Ok (FlowAction.Drain i completion)) at idle worker bala
     brought_owned w o r f k (Worker.Drain o i) i completion.context at idle worker refl refl (λ c. balance c)
     (subst (λ (x : InstanceId). CarriesIn w.stack w.contexts.slots x completion.context) was.2
     (subst (λ (x : Completion). CarriesIn w.stack w.contexts.slots was.0.instance x.context) was.3 was.1)) owes quiet h
-next_by_reply w o r f k (Ok FlowAction.Moved) at idle worker balance was owes quiet h = flow_owned w o r f at (lawful_alike (λ c. omega (arith, balance c)) h.lawful) owes quiet h
-next_by_reply w o r f k (Ok FlowAction.Held) at idle worker balance was owes quiet h = flow_owned w o r f at (lawful_alike (λ c. omega (arith, balance c)) h.lawful) owes quiet h
-next_by_reply w o r f k (Ok FlowAction.Done) at idle worker balance was owes quiet h = flow_owned w o r f at (lawful_alike (λ c. omega (arith, balance c)) h.lawful) owes quiet h
-next_by_reply w o r f k (Err why) at idle worker balance was owes quiet h = flow_owned w o r f at (lawful_alike (λ c. omega (arith, balance c)) h.lawful) owes quiet h
+next_by_reply w o r f k _ at idle worker balance was owes quiet h = flow_owned w o r f at (lawful_alike (λ c. omega (arith, balance c)) h.lawful) owes quiet h
 
 next_owned : (old : World) (k : WorkerId) (o : OpId) (result : Result FlowAction Status) (new : World) (e : Turns old k o result new) → IsSound old → IsOwned e.mid
 next_owned old k o result new e s =
@@ -353,13 +344,7 @@ known_filed old k o r lies drains result at reply s = by_result result lies repl
         (file_answered old.files old.flow o r f why at was.unanswered (known_answered old.files k why drains r was.none) s)
     by_result (Ok FlowAction.Moved) (Below.Instance i b) reply = still (Below.Instance i b) (λ known moved. false≢true known)
     by_result (Ok FlowAction.Moved) Below.Call reply = still Below.Call (λ known moved. false≢true known)
-    by_result (Ok (FlowAction.Pre i lent)) lies reply = still lies (λ known moved. (cc))
-    by_result (Ok (FlowAction.Base call)) lies reply = still lies (λ known moved. (cc))
-    by_result (Ok (FlowAction.Post i lent completion)) lies reply = still lies (λ known moved. (cc))
-    by_result (Ok (FlowAction.Drain i completion)) lies reply = still lies (λ known moved. (cc))
-    by_result (Ok FlowAction.Held) lies reply = still lies (λ known moved. (cc))
-    by_result (Ok FlowAction.Done) lies reply = still lies (λ known moved. (cc))
-    by_result (Err why) lies reply = still lies (λ known moved. (cc))
+    by_result _ lies reply = still lies (λ known moved. (cc))
 
 next_filed : (old : World) (k : WorkerId) (o : OpId) (result : Result FlowAction Status) (new : World) (e : Turns old k o result new) → FiledIn old → FiledIn e.mid
 next_filed old k o result new e s = subst FiledIn (sym e.over.1) (known_filed old k o e.row e.lies (drains_at old o) result e.at e.reply s)
@@ -411,28 +396,19 @@ held_is hand (Some e) d h =
 
 completed_sends : (status : Status) (operation : Operation) → sent_in (completed_as status operation) ≡ None
 completed_sends status Operation.Cleanup = refl
-completed_sends status Operation.Close = refl
-completed_sends status Operation.Create = refl
 completed_sends status _ = refl
 
 -- a completion's context was in the hand
 sent_held : (hand : List CtxId) (given : PreVerdict) (operation : Operation) (b : Bool) (d : CtxId) → sent_in (verdict_counted (of_hand hand given) operation b) ≡ Some d
     → holds hand d ≡ true
 sent_held hand (PreVerdict.WithCallback completion) operation true d h = held_is hand completion.context d h
-sent_held hand (PreVerdict.WithCallback completion) operation false d h = absurd (none-some d h)
 sent_held hand (PreVerdict.Synchronize completion) operation true d h = held_is hand completion.context d h
-sent_held hand (PreVerdict.Synchronize completion) operation false d h = absurd (none-some d h)
-sent_held hand PreVerdict.NoCallback operation b d h = absurd (none-some d h)
 sent_held hand (PreVerdict.Complete status) operation b d h = absurd (none-some d (sym (completed_sends status operation) ∙ h))
-sent_held hand PreVerdict.Pending operation b d h = absurd (none-some d h)
+sent_held hand _ operation _ d h = absurd (none-some d h)
 
 taken_sent : (c : CtxId) (state : PreState) → taken_by c state ≡ carried_in c (record { number = 0; context = sent_in state })
 taken_sent c (PreState.Asked completion) = refl
-taken_sent c (PreState.Synchronized completion) = refl
-taken_sent c PreState.Running = refl
-taken_sent c PreState.Held = refl
-taken_sent c PreState.Passed = refl
-taken_sent c (PreState.Completed status) = refl
+taken_sent c _ = refl
 
 -- what the verdict asks for carries what it sends
 asked_carries : (s : StackWorld) (slots : List Slot) (visit : PreVisit) (state : PreState) (asks : List Ask) → CarriesIn s slots visit.instance (sent_in state)
@@ -441,10 +417,7 @@ asked_carries s slots visit (PreState.Asked completion) asks own h =
     All-cons (AskCarries s slots) (record { instance = visit.instance; worker = visit.worker; completion = completion; is_synchronized = false; place = visit.place }) asks own h
 asked_carries s slots visit (PreState.Synchronized completion) asks own h =
     All-cons (AskCarries s slots) (record { instance = visit.instance; worker = visit.worker; completion = completion; is_synchronized = true; place = visit.place }) asks own h
-asked_carries s slots visit PreState.Running asks own h = h
-asked_carries s slots visit PreState.Held asks own h = h
-asked_carries s slots visit PreState.Passed asks own h = h
-asked_carries s slots visit (PreState.Completed status) asks own h = h
+asked_carries s slots visit _ asks own h = h
 
 -- the table after a context was sent along
 sent_parts : (w : World) (o : OpId) (f : FlowRecord → FlowRecord) (k : WorkerId) (m : Option CtxId) → k.0 < 48 → IsLawful (carries w) w.contexts
@@ -645,14 +618,7 @@ total_without f test (x ∷ rs) r is =
 
 pub done_owes : (stage : Stage) (asks : List Ask) → done_at stage asks ≡ true → asks ≡ []
 done_owes Ascending [] h = refl
-done_owes Ascending (ask ∷ asks) h = absurd (false≢true h)
-done_owes Descending asks h = absurd (false≢true h)
-done_owes PreRunning asks h = absurd (false≢true h)
-done_owes PreHeld asks h = absurd (false≢true h)
-done_owes InBase asks h = absurd (false≢true h)
-done_owes PostRunning asks h = absurd (false≢true h)
-done_owes PostHeld asks h = absurd (false≢true h)
-done_owes (InDrain i) asks h = absurd (false≢true h)
+done_owes _ _ h = absurd (false≢true h)
 
 -- operations change, and nothing else
 operations_owned : (w : World) (t : FlowTable) → ((c : CtxId) → carried c w.flow ≡ carried c t) → AllCarry w.stack w.contexts.slots t.operations

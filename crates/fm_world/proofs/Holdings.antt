@@ -1,5 +1,5 @@
 -- How many references each event leaves in its worker's hand.
-use Rattle.std.proofs.Common.{◌≡◌, ℕ, ◌+◌, ◌<◌, Bool, true, false, cond, not, List, [], ◌∷◌, ◌++◌, length, Option, Some, None, Result, Ok, Err, zero, suc, refl, ap, sym, ◌∙◌, subst, arith, length-append}
+use Rattle.std.proofs.Common.{◌≡◌, ℕ, ◌+◌, ◌<◌, Bool, true, false, cond, not, List, [], ◌∷◌, ◌++◌, length, Option, Some, None, Result, Ok, Err, suc, refl, ap, sym, ◌∙◌, subst, arith, length-append}
 use Rattle.std.specs.Prelude.{slice_set, ◌&&◌}
 use Rattle.std.proofs.lemmas.List.{get_or-set_same}
 use Rattle.std.proofs.lemmas.Option.{slice_get_within}
@@ -151,9 +151,8 @@ next_more old k o result new s h =
 -- ---- callbacks return
 
 emptied : (hands : List (List CtxId)) (k : ℕ) → length (hand_of (slice_set hands k []) k) ≡ 0
-emptied [] k = refl
-emptied (x ∷ xs) zero = refl
 emptied (x ∷ xs) (suc k) = emptied xs k
+emptied _ _ = refl
 
 left_none : (k : ℕ) (carried : CtxId → ℕ) (kept left : ContextTable) → Leaves carried kept left k → length (hand_of left.hands k) ≡ 0
 left_none k carried kept left h = ap (λ (hands : List (List CtxId)). length (hand_of hands k)) h.hands ∙ emptied kept.hands k

@@ -7,7 +7,7 @@ use Rattle.std.proofs.lemmas.Option.{none-some, same_Some}
 use Rattle.std.proofs.lemmas.List.Elements.{All-weaker}
 use Rattle.fm_world.proofs.Words.{FilterId, VolumeId, InstanceId, WorkerId, OpId, Status, Registration, updated, Instance, Phase, StackWorld, is_setup}
 use Rattle.fm_world.proofs.Words.{Follows, IsStack, ContextTable, Below, FlowAction, Worker, LosesLinks, World, worker_at, put, after_attach, LosesByKnown}
-use Rattle.fm_world.proofs.Words.{Registers, Mounts, Spot, AtPre, AtBase, AtPost, AtDrain, is_in_at, is_in_drain, IsUnderWay, IsAmong, is_in_setup, setup_row}
+use Rattle.fm_world.proofs.Words.{Registers, Mounts, Spot, AtPre, is_in_at, is_in_drain, IsUnderWay, IsAmong, is_in_setup, setup_row}
 use Rattle.fm_world.proofs.Words.{IsFileSound, FileTable}
 use Rattle.fm_stack.specs.Events as stack
 use Rattle.fm_stack.proofs.Registering.{registered_keeps, registered_follows, mounted_keeps, mounted_follows}
@@ -99,15 +99,12 @@ same_suc a b = grind (arith, nat_tests)
 setup_push : (rows : List Instance) (row : Instance) (j : ℕ) → is_setup row.phase ≡ true
     → setup_row (slice_get (rows ++ row ∷ []) j) ≡ setup_row (slice_get rows j) + one (length rows == j)
 setup_push [] row zero h = rw h refl
-setup_push [] row (suc j) h = grind (arith, nat_tests)
-setup_push (x ∷ rows) row zero h = grind (arith, nat_tests)
 setup_push (x ∷ rows) row (suc j) h = setup_push rows row j h ∙ ap (λ b. setup_row (slice_get rows j) + one b) (sym (same_suc (length rows) j))
+setup_push _ row _ h = grind (arith, nat_tests)
 
 setup_in_none : (i : InstanceId) (p : OpId) (s : Spot) → is_in_at p s (Worker.Setup i) ≡ false
 setup_in_none i p (AtPre j) = refl
-setup_in_none i p AtBase = refl
-setup_in_none i p (AtPost j) = refl
-setup_in_none i p (AtDrain j) = refl
+setup_in_none i p _ = refl
 
 -- a worker moves between places outside operations
 pub moves_outside : (workers : List Worker) (k : WorkerId) (a b : Worker) → worker_at workers k ≡ Some a

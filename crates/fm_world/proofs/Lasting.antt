@@ -536,46 +536,40 @@ run_stays : (old : World) (steps : List Step) (replies : List StepReply) (new : 
 run_stays old [] [] new h s = slots_same old.contexts.slots new.contexts.slots (ap (λ (w : World). w.contexts.slots) h)
 run_stays old (x ∷ steps) (r ∷ replies) new h s =
     slots_after old.contexts.slots h.0.contexts.slots new.contexts.slots (step_lasts old x r h.0 h.1 s).0 (run_stays h.0 steps replies new h.2 (step_keeps old x r h.0 h.1 s))
-run_stays old [] (r ∷ replies) new h s = absurd h
-run_stays old (x ∷ steps) [] new h s = absurd h
+run_stays old _ _ new h s = absurd h
 
 run_gives : (old : World) (steps : List Step) (replies : List StepReply) (new : World) (c : CtxId) → Run old steps replies new → IsSound old → Comes given_by steps replies c
     → WasGiven new.contexts.slots c
 run_gives old (x ∷ steps) (r ∷ replies) new c h s (inl now) =
     given_stays h.0.contexts.slots new.contexts.slots c (run_stays h.0 steps replies new h.2 (step_keeps old x r h.0 h.1 s)) (step_gives old x r h.0 c h.1 now).1
 run_gives old (x ∷ steps) (r ∷ replies) new c h s (inr later) = run_gives h.0 steps replies new c h.2 (step_keeps old x r h.0 h.1 s) later
-run_gives old [] replies new c h s comes = absurd comes
-run_gives old (x ∷ steps) [] new c h s comes = absurd comes
+run_gives old _ _ new c h s comes = absurd comes
 
 never_again : (old : World) (steps : List Step) (replies : List StepReply) (new : World) (c : CtxId) → Run old steps replies new → IsSound old → WasGiven old.contexts.slots c
     → Comes given_by steps replies c → ⊥
 never_again old (x ∷ steps) (r ∷ replies) new c h s was (inl now) = given_not_new old.contexts.slots c was (step_gives old x r h.0 c h.1 now).0
 never_again old (x ∷ steps) (r ∷ replies) new c h s was (inr later) =
     never_again h.0 steps replies new c h.2 (step_keeps old x r h.0 h.1 s) (given_stays old.contexts.slots h.0.contexts.slots c (step_lasts old x r h.0 h.1 s).0 was) later
-never_again old [] replies new c h s was comes = comes
-never_again old (x ∷ steps) [] new c h s was comes = comes
+never_again old _ _ new c h s was comes = comes
 
 run_due_stays : (old : World) (steps : List Step) (replies : List StepReply) (new : World) (c : CtxId) → Run old steps replies new → IsSound old → CameDue old c → CameDue new c
 run_due_stays old [] [] new c h s came = subst (λ (w : World). CameDue w c) (sym h) came
 run_due_stays old (x ∷ steps) (r ∷ replies) new c h s came =
     run_due_stays h.0 steps replies new c h.2 (step_keeps old x r h.0 h.1 s) (due_stays old h.0 c (step_lasts old x r h.0 h.1 s) came)
-run_due_stays old [] (r ∷ replies) new c h s came = absurd h
-run_due_stays old (x ∷ steps) [] new c h s came = absurd h
+run_due_stays old _ _ new c h s came = absurd h
 
 run_due : (old : World) (steps : List Step) (replies : List StepReply) (new : World) (c : CtxId) → Run old steps replies new → IsSound old → Comes due_by steps replies c → CameDue new c
 run_due old (x ∷ steps) (r ∷ replies) new c h s (inl now) =
     run_due_stays h.0 steps replies new c h.2 (step_keeps old x r h.0 h.1 s) (step_due old x r h.0 c h.1 now s).came
 run_due old (x ∷ steps) (r ∷ replies) new c h s (inr later) = run_due h.0 steps replies new c h.2 (step_keeps old x r h.0 h.1 s) later
-run_due old [] replies new c h s comes = absurd comes
-run_due old (x ∷ steps) [] new c h s comes = absurd comes
+run_due old _ _ new c h s comes = absurd comes
 
 never_due : (old : World) (steps : List Step) (replies : List StepReply) (new : World) (c : CtxId) → Run old steps replies new → IsSound old → CameDue old c
     → Comes due_by steps replies c → ⊥
 never_due old (x ∷ steps) (r ∷ replies) new c h s came (inl now) = (step_due old x r h.0 c h.1 now s).fresh came
 never_due old (x ∷ steps) (r ∷ replies) new c h s came (inr later) =
     never_due h.0 steps replies new c h.2 (step_keeps old x r h.0 h.1 s) (due_stays old h.0 c (step_lasts old x r h.0 h.1 s) came) later
-never_due old [] replies new c h s came comes = comes
-never_due old (x ∷ steps) [] new c h s came comes = comes
+never_due old _ _ new c h s came comes = comes
 
 pub contexts_last : ContextsLast
 contexts_last steps replies mid later answers new first then c =

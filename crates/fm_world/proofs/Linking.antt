@@ -32,9 +32,7 @@ owner_refl (Owner.Instance i) = eq-eqb i.0 i.0 refl
 owned_fits : (s : StackWorld) (row : Instance) (i : InstanceId) (k : ContextKind) → row.filter.0 < length s.filters → is_left_by (row_at s i) ≡ true
     → owner_fits s k (owner_by row i k) ≡ true
 owned_fits s row i ContextKind.Volume below left = lt-ltb row.filter.0 (length s.filters) below
-owned_fits s row i ContextKind.Instance below left = left
-owned_fits s row i ContextKind.Stream below left = left
-owned_fits s row i ContextKind.Handle below left = left
+owned_fits s row i _ below left = left
 
 pub allocate_sound : (old : World) (k : WorkerId) (what : ContextKind) (body : List ℕ) (result : Result CtxId Status) (new : World)
     → Allocates old k what body result new → IsSound old → IsSound new
@@ -79,15 +77,7 @@ owner_belongs s row i ContextKind.Volume ContextKind.Handle h = absurd (false≢
 owner_belongs s row i ContextKind.Instance ContextKind.Volume h = absurd (false≢true h)
 owner_belongs s row i ContextKind.Stream ContextKind.Volume h = absurd (false≢true h)
 owner_belongs s row i ContextKind.Handle ContextKind.Volume h = absurd (false≢true h)
-owner_belongs s row i ContextKind.Instance ContextKind.Instance h = owner_refl (Owner.Instance i)
-owner_belongs s row i ContextKind.Instance ContextKind.Stream h = owner_refl (Owner.Instance i)
-owner_belongs s row i ContextKind.Instance ContextKind.Handle h = owner_refl (Owner.Instance i)
-owner_belongs s row i ContextKind.Stream ContextKind.Instance h = owner_refl (Owner.Instance i)
-owner_belongs s row i ContextKind.Stream ContextKind.Stream h = owner_refl (Owner.Instance i)
-owner_belongs s row i ContextKind.Stream ContextKind.Handle h = owner_refl (Owner.Instance i)
-owner_belongs s row i ContextKind.Handle ContextKind.Instance h = owner_refl (Owner.Instance i)
-owner_belongs s row i ContextKind.Handle ContextKind.Stream h = owner_refl (Owner.Instance i)
-owner_belongs s row i ContextKind.Handle ContextKind.Handle h = owner_refl (Owner.Instance i)
+owner_belongs s row i _ _ h = owner_refl (Owner.Instance i)
 
 -- what is set for that owner, the callback may hold
 held_for : (w : World) (k : WorkerId) (at : Callback) (a : ContextKind) (o : Object) (c : CtxId) → IsIn w k at → IsOwned w
@@ -212,9 +202,7 @@ record MaySet (w : World) (k : WorkerId) (at : Callback) (c : CtxId) (x : Contex
 -- what a callback allocates may be linked, where its instance isn't being emptied
 callback_links : (s : StackWorld) (row : Instance) (i : InstanceId) (a : ContextKind) → keeps_links_by (row_at s i) ≡ true → may_link s (owner_by row i a) ≡ true
 callback_links s row i ContextKind.Volume h = refl
-callback_links s row i ContextKind.Instance h = h
-callback_links s row i ContextKind.Stream h = h
-callback_links s row i ContextKind.Handle h = h
+callback_links s row i _ h = h
 
 -- a volume in use holds its links
 mounted_holds : (m : Option Volume) → is_mounted m ≡ true → holds_links_by m ≡ true
@@ -222,10 +210,9 @@ mounted_holds None h = absurd (false≢true h)
 mounted_holds (Some volume) h = at_phase volume.phase h
   where
     at_phase : (p : VolumePhase) → is_mounted_phase p ≡ true → holds_links p ≡ true
-    at_phase VolumePhase.Mounted h = refl
-    at_phase VolumePhase.Dismounting h = refl
     at_phase VolumePhase.Emptied h = absurd (false≢true h)
     at_phase VolumePhase.Finished h = absurd (false≢true h)
+    at_phase _ h = refl
 
 object_suits : (w : World) (at : Callback) (x : Context) (a : ContextKind) (o : Object) → x.kind ≡ a → is_mounted (slice_get w.stack.volumes at.row.volume.0) ≡ true
     → same_owner (owner_by at.row at.instance a) x.owner ≡ true → object_by at.row at.instance at.file a ≡ Some o → suits w.stack x o ≡ true

@@ -101,12 +101,11 @@ pub created_there : (v : VolumeId) (path : List ℕ) (n : ℕ) (f : FileTable) (
 created_there v path n f l h = by_stream (stream_of_path v path f) l h
   where
     by_stream : (m : Option FileStream) (l : Option Object) → is_there f l ≡ true → is_there (created_in v path n f m) l ≡ true
-    by_stream (Some x) l h = h
     by_stream None None h = refl
     by_stream None (Some (Object.Volume u)) h = refl
     by_stream None (Some (Object.Instance i)) h = refl
     by_stream None (Some (Object.Stream s)) h = found_before (is_stream s) f.streams (fresh_stream v path n ∷ []) h
-    by_stream None (Some (Object.Handle g)) h = h
+    by_stream _ _ h = h
 
 pub found_changed : {A : Type 0} (test other : A → Bool) (change : A → A) → ((x : A) → test (change x) ≡ test x) → (xs : List A)
     → is_some (find test xs) ≡ true → is_some (find test (change_first other change xs)) ≡ true
@@ -128,20 +127,11 @@ found_changed test other change same (x ∷ xs) h = by_other (other x) (found_ch
     by_other false later = found_later (test x) later h
 
 phased_there : (g : HandleId) (where' : HandlePhase) (f : FileTable) (l : Option Object) → is_there f l ≡ true → is_there (phased g where' f) l ≡ true
-phased_there g where' f None h = refl
-phased_there g where' f (Some (Object.Volume u)) h = refl
-phased_there g where' f (Some (Object.Instance i)) h = refl
 phased_there g where' f (Some (Object.Stream s)) h = h
 phased_there g where' f (Some (Object.Handle n)) h = found_changed (is_handle n) (is_handle g) (with_phase where') (λ x. refl) f.handles h
+phased_there g where' f _ h = refl
 
 pub moved_there : (operation : Operation) (g : HandleId) (n : ℕ) (f : FileTable) (l : Option Object) → is_there f l ≡ true → is_there (moved_on operation g n f) l ≡ true
 moved_there Operation.Cleanup g n f l h = phased_there g (HandlePhase.CleaningUp (record { 0 = n })) f l h
 moved_there Operation.Close g n f l h = phased_there g HandlePhase.Closing f l h
-moved_there Operation.Create g n f l h = h
-moved_there Operation.Read g n f l h = h
-moved_there Operation.Write g n f l h = h
-moved_there Operation.QuerySize g n f l h = h
-moved_there Operation.SetSize g n f l h = h
-moved_there Operation.Flush g n f l h = h
-moved_there Operation.List g n f l h = h
-moved_there Operation.SetDelete g n f l h = h
+moved_there _ g n f l h = h

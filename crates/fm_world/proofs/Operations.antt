@@ -107,15 +107,7 @@ operation_begins old v stream handle path p files on within free s =
 -- a create alone names a path
 names_none : (path : Option (List ℕ)) (p : Params) → is_create (operation_of p) ≡ false → are_on path p ≡ true
 names_none path (Params.Create own mode) none = cc
-names_none path (Params.Read offset len) none = refl
-names_none path (Params.Write offset bytes) none = refl
-names_none path Params.QuerySize none = refl
-names_none path (Params.SetSize size) none = refl
-names_none path Params.Flush none = refl
-names_none path Params.List none = refl
-names_none path Params.SetDelete none = refl
-names_none path Params.Cleanup none = refl
-names_none path Params.Close none = refl
+names_none path _ none = refl
 
 -- what doesn't refuse an operation on a handle
 begins_on : (old : World) (h : HandleId) (p : Params) (x : FileHandle) (m : Option FileStream) → is_create (operation_of p) ≡ false → is_within_limits p ≡ true
@@ -255,13 +247,10 @@ leads_at : (s : StackWorld) (k : WorkerId) (o : OpId) (r : FlowRecord) (lies : B
 leads_at s k o r lies drains workers Descending stack e sound finds h =
     let order : walk Descending r.entries ≡ Some (way_of r.stage) = sound.course.order in
     leads_down s k o r lies workers stack e (no_base r.stage r.entries order (ap (λ x. is_up (way_of x)) e)) (finds e) h
-leads_at s k o r lies drains workers PreRunning stack e sound finds h = leads_nowhere s k o r (Err Status.WrongStep) workers refl h
 leads_at s k o r lies drains workers PreHeld stack e sound finds h = leads_nowhere s k o r (Ok FlowAction.Held) workers refl h
-leads_at s k o r lies drains workers InBase stack e sound finds h = leads_nowhere s k o r (Err Status.WrongStep) workers refl h
 leads_at s k o r lies drains workers Ascending stack e sound finds h = leads_up s k o r drains (slice_get (owed r.entries) 0) workers e h
-leads_at s k o r lies drains workers PostRunning stack e sound finds h = leads_nowhere s k o r (Err Status.WrongStep) workers refl h
 leads_at s k o r lies drains workers PostHeld stack e sound finds h = leads_nowhere s k o r (Ok FlowAction.Held) workers refl h
-leads_at s k o r lies drains workers (InDrain i) stack e sound finds h = leads_nowhere s k o r (Err Status.WrongStep) workers refl h
+leads_at s k o r lies drains workers _ stack e sound finds h = leads_nowhere s k o r (Err Status.WrongStep) workers refl h
 
 leads_of : (s : StackWorld) (k : WorkerId) (o : OpId) (r : FlowRecord) (lies : Below) (drains : Bool) (workers : List Worker) → IsStack s
     → flow.IsSound r → (r.stage ≡ Descending → LiesBelow s r lies) → IsAmong s r → Leads s k o r (next_of k lies drains r) workers
@@ -405,8 +394,6 @@ counted_quiet (PreVerdict.Complete status) operation b = completed_quiet status 
   where
     completed_quiet : (status : Status) (operation : Operation) → is_running (pre_leads (completed_as status operation)) ≡ false
     completed_quiet status Operation.Create = refl
-    completed_quiet status Operation.Cleanup = refl
-    completed_quiet status Operation.Close = refl
     completed_quiet status _ = refl
 counted_quiet _ operation b = refl
 
@@ -482,14 +469,11 @@ drain_keeps old k o i t at s =
 
 -- a done operation is on its way up
 done_stage : (s : Stage) (asks : List Ask) → done_at s asks ≡ true → is_running s ≡ false
-done_stage Ascending asks h = refl
-done_stage Descending asks h = refl
-done_stage PreHeld asks h = refl
-done_stage PostHeld asks h = refl
 done_stage PreRunning asks h = absurd (false≢true h)
 done_stage InBase asks h = absurd (false≢true h)
 done_stage PostRunning asks h = absurd (false≢true h)
 done_stage (InDrain i) asks h = absurd (false≢true h)
+done_stage _ asks h = refl
 
 -- where numbers ascend, none is found twice
 none_above : (o : OpId) (rs : List FlowRecord) → All (λ (r : FlowRecord). o.0 < r.number.0) rs → find (is_number o) rs ≡ None

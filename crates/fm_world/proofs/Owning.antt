@@ -179,11 +179,7 @@ attach_sound old k f v name altitude result new h s =
 
 setup_is : (p : Phase) → is_setup p ≡ true → p ≡ Phase.Setup
 setup_is Phase.Setup h = refl
-setup_is Phase.Attached h = absurd (false≢true h)
-setup_is Phase.Stopping h = absurd (false≢true h)
-setup_is Phase.Completing h = absurd (false≢true h)
-setup_is Phase.Emptying h = absurd (false≢true h)
-setup_is Phase.Detached h = absurd (false≢true h)
+setup_is _ h = absurd (false≢true h)
 
 accepted_on : (s : StackWorld) (i : InstanceId) (row : Instance) → slice_get s.instances i.0 ≡ Some row → is_setup row.phase ≡ true → RowsGoOn s (stack.accepted s i)
 accepted_on s i row there setup j x found =

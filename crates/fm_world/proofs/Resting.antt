@@ -2,8 +2,8 @@
 use Rattle.std.proofs.Common.{◌≡◌, Bool, true, false, cond, List, [], ◌∷◌, find, Option, Some, None, Result, Ok, Err, refl, ap, sym, ◌∙◌, inl, inr, slice_get}
 use Rattle.std.proofs.lemmas.Bool.{cases_Bool, false≢true}
 use Rattle.std.proofs.lemmas.Option.{none-some, same_Some}
-use Rattle.fm_world.proofs.Words.{change_first, InstanceId, OpId, WorkerId, Status, Params, Below, FlowAction, Ask, Stage, Descending, PreRunning, PreHeld}
-use Rattle.fm_world.proofs.Words.{InBase, Ascending, PostRunning, PostHeld, InDrain, owed, FlowRecord, turn, next_of, next_at, descend, ascend, call_pre}
+use Rattle.fm_world.proofs.Words.{change_first, InstanceId, OpId, WorkerId, Status, Params, Below, FlowAction, Ask, Stage, Descending}
+use Rattle.fm_world.proofs.Words.{Ascending, owed, FlowRecord, turn, next_of, next_at, descend, ascend, call_pre}
 use Rattle.fm_world.proofs.Words.{call_base, call_post, give_post, unwound_to, may_take, FlowTable, is_number, Nexts, NextsOver, LosesByKnown, drains_at}
 use Rattle.fm_world.proofs.Words.{flow_after_next, World, gives_nothing}
 use Rattle.fm_world.proofs.Events.{Turns, next_by}
@@ -20,9 +20,8 @@ rests_based r None h = refl
 
 rests_down : (k : WorkerId) (lies : Below) (r : FlowRecord) → gives_nothing (descend k lies r).reply ≡ true → (descend k lies r).after ≡ r
 rests_down k (Below.Instance i true) r h = rests_called k i r r.params h
-rests_down k (Below.Instance i false) r h = absurd (false≢true h)
 rests_down k Below.Call r h = rests_based r r.params h
-rests_down k (Below.Known why) r h = absurd (false≢true h)
+rests_down k _ r h = absurd (false≢true h)
 
 rests_post : (k : WorkerId) (ask : Ask) (r : FlowRecord) (m : Option Params) → gives_nothing (give_post k ask r m).reply ≡ true → (give_post k ask r m).after ≡ r
 rests_post k ask r (Some p) h = absurd (false≢true h)
@@ -47,12 +46,7 @@ rests_at : (k : WorkerId) (lies : Below) (drains : Bool) (r : FlowRecord) (stage
     → (next_at k lies drains r stage).after ≡ r
 rests_at k lies drains r Descending h = rests_down k lies r h
 rests_at k lies drains r Ascending h = rests_up k drains r (slice_get (owed r.entries) 0) h
-rests_at k lies drains r PreRunning h = refl
-rests_at k lies drains r PreHeld h = refl
-rests_at k lies drains r InBase h = refl
-rests_at k lies drains r PostRunning h = refl
-rests_at k lies drains r PostHeld h = refl
-rests_at k lies drains r (InDrain i) h = refl
+rests_at k lies drains r _ h = refl
 
 next_rests : (k : WorkerId) (lies : Below) (drains : Bool) (r : FlowRecord) → gives_nothing (next_of k lies drains r).reply ≡ true → (next_of k lies drains r).after ≡ r
 next_rests k lies drains r h = by_collected r.collected h

@@ -68,9 +68,8 @@ no_cleanup : (n : ℕ) → cleanup_in (slice_get (replicate 48 Worker.Idle) n) �
 no_cleanup n = elim (idle_or_none 48 n) [ inl e ↦ ap cleanup_in e | inr e ↦ ap cleanup_in e ]
 
 same_in : {X : Type 0} (n k : ℕ) (x : X) → get_or (replicate n x) k x ≡ x
-same_in zero k x = refl
-same_in (suc n) zero x = refl
 same_in (suc n) (suc k) x = same_in n k x
+same_in _ _ x = refl
 
 pub nothing_carried : (c : CtxId) → carried_of nothing_kept c ≡ 0
 unfolding carried_of context_at
@@ -119,12 +118,9 @@ flown_is_left None h = refl
 flown_is_left (Some row) h = at_phase row.phase h
   where
     at_phase : (p : Phase) → not (is_detached p) ≡ false → is_flown p ≡ false
-    at_phase Phase.Detached h = refl
-    at_phase Phase.Setup h = refl
-    at_phase Phase.Completing h = refl
-    at_phase Phase.Emptying h = refl
     at_phase Phase.Attached h = absurd (true≢false h)
     at_phase Phase.Stopping h = absurd (true≢false h)
+    at_phase _ h = refl
 
 pub headline_from : (w : World) → IsSound w → Headline w
 headline_from w s =
@@ -183,8 +179,7 @@ step_keeps old _ _ new h s = absurd h
 pub run_keeps : (old : World) (steps : List Step) (replies : List StepReply) (new : World) → Run old steps replies new → IsSound old → IsSound new
 run_keeps old [] [] new h s = subst IsSound (sym h) s
 run_keeps old (x ∷ steps) (r ∷ replies) new h s = run_keeps h.0 steps replies new h.2 (step_keeps old x r h.0 h.1 s)
-run_keeps old [] (r ∷ replies) new h s = absurd h
-run_keeps old (x ∷ steps) [] new h s = absurd h
+run_keeps old _ _ new h s = absurd h
 
 pub rules_keep : RulesKeepHeadline
 rules_keep steps replies w h = headline_from w (run_keeps empty_world steps replies w h empty_sound)
@@ -194,5 +189,4 @@ pub run_more : (P : World → Type 0) (old : World) (steps : List Step) (replies
     → RunThrough P old steps replies mid → Steps mid s r new → P new → RunThrough P old (steps ++ s ∷ []) (replies ++ r ∷ []) new
 run_more P old [] [] mid s r new h k p = (new, subst (λ w. Steps w s r new) h k, p, refl)
 run_more P old (x ∷ steps) (y ∷ replies) mid s r new h k p = (h.0, h.1, h.2, run_more P h.0 steps replies mid s r new h.3 k p)
-run_more P old [] (y ∷ replies) mid s r new h k p = absurd h
-run_more P old (x ∷ steps) [] mid s r new h k p = absurd h
+run_more P old _ _ mid s r new h k p = absurd h

@@ -103,9 +103,7 @@ and_true false = refl
 
 pub idle_is_in_none : (p : OpId) (s : Spot) → is_in_at p s Worker.Idle ≡ false
 idle_is_in_none p (AtPre i) = refl
-idle_is_in_none p AtBase = refl
-idle_is_in_none p (AtPost i) = refl
-idle_is_in_none p (AtDrain i) = refl
+idle_is_in_none p _ = refl
 
 abbrev pub is_running : Stage → Bool
 is_running PreRunning = true
@@ -124,9 +122,7 @@ quiet_is_nowhere _ entries h = refl
 
 nowhere : (s : Spot) → is_spot s None ≡ false
 nowhere (AtPre i) = refl
-nowhere AtBase = refl
-nowhere (AtPost i) = refl
-nowhere (AtDrain i) = refl
+nowhere _ = refl
 
 pub quiet_is_none : (stage : Stage) (entries : List Entry) → is_running stage ≡ false → (s : Spot) → is_spot s (spot_at stage entries) ≡ false
 quiet_is_none stage entries h s = ap (is_spot s) (quiet_is_nowhere stage entries h) ∙ nowhere s
@@ -137,27 +133,19 @@ matches_idle o stage entries h p s =
 
 pub matches_pre : (o : OpId) (i : InstanceId) → Matches o (Worker.Pre o i) (Some (AtPre i.0))
 matches_pre o i p (AtPre j) = refl
-matches_pre o i p AtBase = sym (and_false (o.0 == p.0))
-matches_pre o i p (AtPost j) = sym (and_false (o.0 == p.0))
-matches_pre o i p (AtDrain j) = sym (and_false (o.0 == p.0))
+matches_pre o i p _ = sym (and_false (o.0 == p.0))
 
 pub matches_base : (o : OpId) → Matches o (Worker.Base o) (Some AtBase)
 matches_base o p AtBase = sym (and_true (o.0 == p.0))
-matches_base o p (AtPre j) = sym (and_false (o.0 == p.0))
-matches_base o p (AtPost j) = sym (and_false (o.0 == p.0))
-matches_base o p (AtDrain j) = sym (and_false (o.0 == p.0))
+matches_base o p _ = sym (and_false (o.0 == p.0))
 
 pub matches_post : (o : OpId) (i : InstanceId) → Matches o (Worker.Post o i) (Some (AtPost i.0))
 matches_post o i p (AtPost j) = refl
-matches_post o i p (AtPre j) = sym (and_false (o.0 == p.0))
-matches_post o i p AtBase = sym (and_false (o.0 == p.0))
-matches_post o i p (AtDrain j) = sym (and_false (o.0 == p.0))
+matches_post o i p _ = sym (and_false (o.0 == p.0))
 
 pub matches_drain : (o : OpId) (i : InstanceId) → Matches o (Worker.Drain o i) (Some (AtDrain i.0))
 matches_drain o i p (AtDrain j) = refl
-matches_drain o i p (AtPre j) = sym (and_false (o.0 == p.0))
-matches_drain o i p AtBase = sym (and_false (o.0 == p.0))
-matches_drain o i p (AtPost j) = sym (and_false (o.0 == p.0))
+matches_drain o i p _ = sym (and_false (o.0 == p.0))
 
 -- the other way: where a worker is inside an operation, it is there and at that spot
 one_of : (s : Spot) (m : Option FlowRecord) → 1 ≤ unwrap_or (option_map (standing s) m) 0 → (r : FlowRecord) × (m ≡ Some r) × (is_spot s (spot_of r) ≡ true)
@@ -192,29 +180,23 @@ mapped_other s f (Some j) h = h j
 pub spot_pre : (i : ℕ) (stage : Stage) (entries : List Entry) → is_spot (AtPre i) (spot_at stage entries) ≡ true → (stage ≡ PreRunning) × (last_visited entries ≡ Some i)
 spot_pre i PreRunning entries h = (refl, visit_at i (last_visited entries) h)
 spot_pre i PostRunning entries h = absurd (false≢true (sym (mapped_other (AtPre i) AtPost (last_posted entries) (λ j. refl)) ∙ h))
-spot_pre i InBase entries h = absurd (false≢true h)
-spot_pre i (InDrain j) entries h = absurd (false≢true h)
 spot_pre i _ entries h = absurd (false≢true h)
 
 pub spot_base : (stage : Stage) (entries : List Entry) → is_spot AtBase (spot_at stage entries) ≡ true → stage ≡ InBase
 spot_base InBase entries h = refl
 spot_base PreRunning entries h = absurd (false≢true (sym (mapped_other AtBase AtPre (last_visited entries) (λ j. refl)) ∙ h))
 spot_base PostRunning entries h = absurd (false≢true (sym (mapped_other AtBase AtPost (last_posted entries) (λ j. refl)) ∙ h))
-spot_base (InDrain j) entries h = absurd (false≢true h)
 spot_base _ entries h = absurd (false≢true h)
 
 pub spot_post : (i : ℕ) (stage : Stage) (entries : List Entry) → is_spot (AtPost i) (spot_at stage entries) ≡ true → (stage ≡ PostRunning) × (last_posted entries ≡ Some i)
 spot_post i PostRunning entries h = (refl, post_at i (last_posted entries) h)
 spot_post i PreRunning entries h = absurd (false≢true (sym (mapped_other (AtPost i) AtPre (last_visited entries) (λ j. refl)) ∙ h))
-spot_post i InBase entries h = absurd (false≢true h)
-spot_post i (InDrain j) entries h = absurd (false≢true h)
 spot_post i _ entries h = absurd (false≢true h)
 
 pub spot_drain : (i : InstanceId) (stage : Stage) (entries : List Entry) → is_spot (AtDrain i.0) (spot_at stage entries) ≡ true → stage ≡ InDrain i
 spot_drain i (InDrain j) entries h = ap (λ n. InDrain (record { 0 = n })) (eqb-true j.0 i.0 h)
 spot_drain i PreRunning entries h = absurd (false≢true (sym (mapped_other (AtDrain i.0) AtPre (last_visited entries) (λ j. refl)) ∙ h))
 spot_drain i PostRunning entries h = absurd (false≢true (sym (mapped_other (AtDrain i.0) AtPost (last_posted entries) (λ j. refl)) ∙ h))
-spot_drain i InBase entries h = absurd (false≢true h)
 spot_drain i _ entries h = absurd (false≢true h)
 
 -- a verdict that counts leaves the callback

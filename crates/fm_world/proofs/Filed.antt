@@ -1,5 +1,5 @@
 -- What holds of streams and handles is kept by every step of an operation.
-use Rattle.std.proofs.Common.{◌≡◌, ℕ, ◌+◌, ◌<◌, ◌==◌, Bool, true, false, cond, not, List, [], ◌∷◌, ◌++◌, find, Option, Some, None, Ok, Err, refl, ap, sym, ◌∙◌, subst, inl, inr, ◌⊎◌, arith, slice_get}
+use Rattle.std.proofs.Common.{◌≡◌, ℕ, ◌+◌, ◌<◌, ◌==◌, Bool, true, false, cond, not, List, [], ◌∷◌, ◌++◌, find, Option, Some, None, Ok, refl, ap, sym, ◌∙◌, subst, inl, inr, ◌⊎◌, arith}
 use Rattle.std.specs.Prelude.{◌&&◌, All, nat_le, length}
 use Rattle.std.specs.List.{list_any}
 use Rattle.std.proofs.lemmas.Bool.{cases_Bool, false≢true, eq-eqb, ne_eqb, and_from, and_parts}
@@ -7,17 +7,20 @@ use Rattle.std.proofs.lemmas.List.Elements.{All-nil, All-push, All-weaker}
 use Rattle.std.proofs.lemmas.Option.{same_Some}
 use Rattle.fm_world.proofs.Words.{change_first, found_holds, all_change, all_without, HandleId, OpId, StreamId, VolumeId, WorkerId, Operation, Status, Answer}
 use Rattle.fm_world.proofs.Words.{BaseCall, Params, Data, operation_of, same_operation, same_path, are_on, are_for, fit, call_fits, is_within_limits, Below}
-use Rattle.fm_world.proofs.Words.{FlowAction, Ask, PreState, Stage, Descending, PreRunning, PreHeld, InBase, Ascending}
-use Rattle.fm_world.proofs.Words.{is_success, handle_given, is_running_drain, is_create, is_unanswered, is_creating, is_on_stream, owed, FlowRecord, turn}
-use Rattle.fm_world.proofs.Words.{next_of, next_at, descend, ascend, call_pre, call_base, call_post, give_post, unwound, unwound_to, may_take, pre_leads}
+use Rattle.fm_world.proofs.Words.{FlowAction, Ask, PreState, Stage, Descending, PreRunning, PreHeld, InBase}
+use Rattle.fm_world.proofs.Words.{is_success, handle_given, is_running_drain, is_create, is_unanswered, is_creating, is_on_stream, owed, FlowRecord}
+use Rattle.fm_world.proofs.Words.{next_of, give_post, pre_leads}
 use Rattle.fm_world.proofs.Words.{pre_returned_of, base_returned_of, base_fits, is_done, done_at, FlowTable, empty_table, is_number, operation_at, changed}
 use Rattle.fm_world.proofs.Words.{removed, begun, begun_record, collected_of, collected_in, is_collectable, marked, FileHandle, FileStream, HandlePhase}
 use Rattle.fm_world.proofs.Words.{moved_on, is_created_on, FileTable, empty_files, is_handle, handle_at, opened, closed, left, created, stream_for}
 use Rattle.fm_world.proofs.Words.{after_base, after_pre, is_in_use, has_stream, has_stream_of, IsCreatedOn, IsOnHandle, IsFiled, IsFileSound}
 use Rattle.fm_world.specs.Files as files
 use Rattle.fm_types.specs.Lists.{without_first}
-use Rattle.fm_world.proofs.Filing.{shrinks_same, moved_shrinks, pre_shrinks, filed_step, filed_answered, filed_begins, filed_collects, answered_none, not_more_same, ascend_none}
+use Rattle.fm_world.proofs.Filing.{shrinks_same, moved_shrinks, pre_shrinks, filed_step, filed_answered, filed_begins, filed_collects, answered_none, not_more_same}
 use Rattle.fm_world.proofs.Streams.{Stands, InUse, is_creating_on, stands_among, stands_opened, stands_closed, stands_phased, stands_marked, stands_left, stands_created, created_there, on_open, use_but, use_more, use_same, use_opened, use_left, use_closed, use_phased, use_marked, use_created, creating_same, creating_ended, any_without, any_before, any_pushed}
+use Rattle.fm_world.proofs.Turning.{each_turn}
+use Rattle.fm_flow.specs.Steps.{with_drain}
+use Rattle.fm_world.proofs.Words.{InDrain}
 
 -- ---- the parts
 
@@ -250,88 +253,40 @@ base_answered f call given r same =
 abbrev KeepsFile : FlowRecord → FlowRecord → Type 0
 KeepsFile r s = (s.stream ≡ r.stream) × (s.handle ≡ r.handle)
 
-unwound_file : (place : ℕ) (r : FlowRecord) (m : Option Params) → KeepsFile r (unwound_to place r m)
-unwound_file place r (Some p) = (refl, refl)
-unwound_file place r None = (refl, refl)
-
-post_file : (k : WorkerId) (ask : Ask) (r : FlowRecord) (m : Option Params) → KeepsFile r (give_post k ask r m).after
-post_file k ask r (Some p) = (refl, refl)
-post_file k ask r None = (refl, refl)
-
-up_file : (k : WorkerId) (drains : Bool) (r : FlowRecord) (m : Option Ask) → KeepsFile r (ascend k drains r m).after
-up_file k drains r None = (refl, refl)
-up_file k true r (Some ask) = (refl, refl)
-up_file k false r (Some ask) = taken (may_take k ask)
-  where
-    taken : (b : Bool) → KeepsFile r (cond b (call_post k ask r) (turn (Err Status.WrongStep) r)).after
-    taken true =
-        let u = unwound_file ask.place r (slice_get r.kept ask.place) in
-        let p = post_file k ask (unwound ask.place r) (unwound ask.place r).params in
-        (p.0 ∙ u.0, p.1 ∙ u.1)
-    taken false = (refl, refl)
-
-down_file : (k : WorkerId) (lies : Below) (r : FlowRecord) → KeepsFile r (descend k lies r).after
-down_file k (Below.Instance i true) r = called r.params
-  where
-    called : (m : Option Params) → KeepsFile r (call_pre k i r m).after
-    called (Some p) = (refl, refl)
-    called None = (refl, refl)
-down_file k Below.Call r = based r.params
-  where
-    based : (m : Option Params) → KeepsFile r (call_base r m).after
-    based (Some p) = (refl, refl)
-    based None = (refl, refl)
-down_file k _ r = (refl, refl)
-
-next_file_at : (k : WorkerId) (lies : Below) (drains : Bool) (r : FlowRecord) (stage : Stage) → KeepsFile r (next_at k lies drains r stage).after
-next_file_at k lies drains r Descending = down_file k lies r
-next_file_at k lies drains r Ascending = up_file k drains r (slice_get (owed r.entries) 0)
-next_file_at k lies drains r _ = (refl, refl)
-
 next_file : (k : WorkerId) (lies : Below) (drains : Bool) (r : FlowRecord) → KeepsFile r (next_of k lies drains r).after
-next_file k lies drains r = elim r.collected as (λ b. KeepsFile r (cond b (turn (Err Status.WrongStep) r) (next_at k lies drains r r.stage)).after) [
-  | true ↦ (refl, refl)
-  | false ↦ next_file_at k lies drains r r.stage
-]
+next_file k lies drains r = each_turn (λ t. KeepsFile r t.after) k lies drains r (record {
+  rests = λ reply nothing. (refl, refl);
+  calls = λ i p e is. (refl, refl);
+  skips = λ i e is. (refl, refl);
+  asks = λ p e is. (refl, refl);
+  knows = λ why e is. (refl, refl);
+  drains = λ ask e. (refl, refl);
+  posts = λ ask m kept p e. (refl, refl);
+})
 
 abbrev pub is_known : Below → Bool
 is_known (Below.Known why) = true
 is_known _ = false
 
+-- what has its answer keeps it
+pub answered_same : (r s : FlowRecord) → s.stream ≡ r.stream → s.handle ≡ r.handle → is_unanswered r.stage ≡ false → is_unanswered s.stage ≡ false → SameFile r s
+answered_same r s stream handle was is = record { stream = stream; handle = handle; creating = answered_none s is ∙ sym (answered_none r was) }
+
 -- unless it moves over an answer that is known, a create under way stays one
-down_creating : (k : WorkerId) (lies : Below) (r : FlowRecord) → r.stage ≡ Descending → (is_known lies ≡ true → Ok FlowAction.Moved ≡ (descend k lies r).reply → ⊥)
-    → is_creating (descend k lies r).after ≡ is_creating r
-down_creating k (Below.Instance i true) r e other = called r.params
-  where
-    called : (m : Option Params) → is_creating (call_pre k i r m).after ≡ is_creating r
-    called (Some p) = sym (ap (λ x. is_create r.operation && is_unanswered x) e)
-    called None = refl
-down_creating k (Below.Instance i false) r e other = sym (ap (λ x. is_create r.operation && is_unanswered x) e)
-down_creating k Below.Call r e other = based r.params
-  where
-    based : (m : Option Params) → is_creating (call_base r m).after ≡ is_creating r
-    based (Some p) = sym (ap (λ x. is_create r.operation && is_unanswered x) e)
-    based None = refl
-down_creating k (Below.Known why) r e other = absurd (other refl refl)
-
-creating_at : (k : WorkerId) (lies : Below) (drains : Bool) (r : FlowRecord) (stage : Stage) → r.stage ≡ stage
-    → (is_known lies ≡ true → Ok FlowAction.Moved ≡ (next_at k lies drains r stage).reply → ⊥) → is_creating (next_at k lies drains r stage).after ≡ is_creating r
-creating_at k lies drains r Descending e other = down_creating k lies r e other
-creating_at k lies drains r Ascending e other =
-    let after = (ascend k drains r (slice_get (owed r.entries) 0)).after in
-    answered_none after (ascend_none k drains r (slice_get (owed r.entries) 0) (ap is_unanswered e)) ∙ sym (answered_none r (ap is_unanswered e))
-creating_at k lies drains r _ e other = refl
-
 pub next_same_file : (k : WorkerId) (lies : Below) (drains : Bool) (r : FlowRecord) → (is_known lies ≡ true → Ok FlowAction.Moved ≡ (next_of k lies drains r).reply → ⊥)
     → SameFile r (next_of k lies drains r).after
-next_same_file k lies drains r other =
-    let file = next_file k lies drains r in
-    record { stream = file.0; handle = file.1; creating = by_collected r.collected other }
+next_same_file k lies drains r = each_turn (λ t. (is_known lies ≡ true → Ok FlowAction.Moved ≡ t.reply → ⊥) → SameFile r t.after) k lies drains r (record {
+  rests = λ reply nothing other. record { stream = refl; handle = refl; creating = refl };
+  calls = λ i p e is other. record { stream = refl; handle = refl; creating = down e };
+  skips = λ i e is other. record { stream = refl; handle = refl; creating = down e };
+  asks = λ p e is other. record { stream = refl; handle = refl; creating = down e };
+  knows = λ why e is other. absurd (other (ap is_known is) refl);
+  drains = λ ask e other. answered_same r (with_drain ask.instance (InDrain ask.instance) r) refl refl (ap is_unanswered e) refl;
+  posts = λ ask m kept p e other. answered_same r (give_post k ask (record r { params = m; kept = kept }) (Some p)).after refl refl (ap is_unanswered e) refl;
+})
   where
-    by_collected : (b : Bool) → (is_known lies ≡ true → Ok FlowAction.Moved ≡ (cond b (turn (Err Status.WrongStep) r) (next_at k lies drains r r.stage)).reply → ⊥)
-        → is_creating (cond b (turn (Err Status.WrongStep) r) (next_at k lies drains r r.stage)).after ≡ is_creating r
-    by_collected true other = refl
-    by_collected false other = creating_at k lies drains r r.stage refl other
+    down : r.stage ≡ Descending → is_create r.operation && true ≡ is_creating r
+    down e = sym (ap (λ x. is_create r.operation && is_unanswered x) e)
 
 -- a known answer gives no handle
 pub known_answered : (f : FileTable) (k : WorkerId) (why : Status) (drains : Bool) (r : FlowRecord) → is_creating (next_of k (Below.Known why) drains r).after ≡ false
@@ -339,10 +294,6 @@ pub known_answered : (f : FileTable) (k : WorkerId) (why : Status) (drains : Boo
 known_answered f k why drains r ended =
     let file = next_file k (Below.Known why) drains r in
     record { stream = file.0; ended = ended; handle = inl file.1 }
-
--- what has its answer keeps it
-pub answered_same : (r s : FlowRecord) → s.stream ≡ r.stream → s.handle ≡ r.handle → is_unanswered r.stage ≡ false → is_unanswered s.stage ≡ false → SameFile r s
-answered_same r s stream handle was is = record { stream = stream; handle = handle; creating = answered_none s is ∙ sym (answered_none r was) }
 
 -- ---- a preoperation returns
 

@@ -1,18 +1,23 @@
 -- Streams and handles through the events: there is a number and room for the handle of each create under way.
-use Rattle.std.proofs.Common.{◌≡◌, ℕ, ◌+◌, ◌≤◌, ◌<◌, Bool, true, false, cond, List, [], ◌∷◌, ◌++◌, length, Option, Some, None, Ok, Err, refl, ap, ◌∙◌, arith, length-append, slice_get}
+use Rattle.std.proofs.Common.{◌≡◌, ℕ, ◌+◌, ◌≤◌, ◌<◌, Bool, true, false, cond, List, [], ◌∷◌, ◌++◌, length, Option, Some, None, Ok, refl, ap, ◌∙◌, arith, length-append}
 use Rattle.std.specs.Prelude.{◌&&◌, ◌||◌, count_by, nat_le}
 use Rattle.std.proofs.lemmas.Bool.{leb-false}
 use Rattle.std.proofs.lemmas.List.Sums.{sum_by_push}
 use Rattle.std.specs.List.{list_any}
 use Rattle.fm_world.proofs.Words.{HandleId, OpId, StreamId, VolumeId, WorkerId, Operation, Status, count_changed, count_without, found_counts, length_change}
-use Rattle.fm_world.proofs.Words.{length_without, Params, operation_of, Below, FlowAction, Ask, PreState, Stage, Descending}
-use Rattle.fm_world.proofs.Words.{Ascending, is_success, is_create, is_unanswered, is_creating, creates, owed, FlowRecord}
-use Rattle.fm_world.proofs.Words.{Turned, turn, next_of, next_at, descend, ascend, call_post, give_post, unwound, unwound_to, may_take, FlowTable, is_number}
+use Rattle.fm_world.proofs.Words.{length_without, Params, operation_of, Below, FlowAction, PreState}
+use Rattle.fm_world.proofs.Words.{is_success, is_create, is_unanswered, is_creating, creates, FlowRecord}
+use Rattle.fm_world.proofs.Words.{Turned, next_of, FlowTable, is_number}
 use Rattle.fm_world.proofs.Words.{operation_at, changed, removed, begun, begun_record, collected_of, collected_in, is_collectable, marked, is_running_drain}
 use Rattle.fm_world.proofs.Words.{HandlePhase, FileStream, FileTable, is_handle, with_phase, opened, closed, torn_down, left}
 use Rattle.fm_world.proofs.Words.{created, created_in, stream_of_path, has_handle_on, after_base, after_pre, params_of, moved_on, IsFiled}
 use Rattle.fm_world.specs.Files as files
 use Rattle.fm_world.specs.declared.step.FileRequest.{FileRequest}
+use Rattle.fm_world.proofs.Turning.{each_turn}
+use Rattle.fm_world.proofs.Words.{gives_nothing}
+use Rattle.fm_flow.specs.Steps.{with_base}
+use Rattle.fm_flow.specs.Answered.{bare_answer}
+use Rattle.std.proofs.lemmas.Bool.{false≢true}
 
 -- no handle is given
 pub record Shrinks (f g : FileTable) : Type 0 where
@@ -110,55 +115,22 @@ not_more_same r s same unanswered =
 
 -- ---- next
 
-post_none : (k : WorkerId) (ask : Ask) (r : FlowRecord) (m : Option Params) → is_unanswered r.stage ≡ false → is_unanswered (give_post k ask r m).after.stage ≡ false
-post_none k ask r (Some p) h = refl
-post_none k ask r None h = h
-
-unwound_none : (place : ℕ) (r : FlowRecord) (m : Option Params) → is_unanswered r.stage ≡ false → is_unanswered (unwound_to place r m).stage ≡ false
-unwound_none place r (Some p) h = h
-unwound_none place r None h = h
-
-pub ascend_none : (k : WorkerId) (drains : Bool) (r : FlowRecord) (m : Option Ask) → is_unanswered r.stage ≡ false → is_unanswered (ascend k drains r m).after.stage ≡ false
-ascend_none k drains r None h = h
-ascend_none k true r (Some ask) h = refl
-ascend_none k false r (Some ask) h = taken (may_take k ask)
-  where
-    taken : (b : Bool) → is_unanswered (cond b (call_post k ask r) (turn (Err Status.WrongStep) r)).after.stage ≡ false
-    taken true = post_none k ask (unwound ask.place r) (unwound ask.place r).params (unwound_none ask.place r (slice_get r.kept ask.place) h)
-    taken false = h
-
 -- what an operation is where `next` answers that it moved over a known answer
 pub record WasKnown (r : FlowRecord) (turned : Turned) : Type 0 where
   pub unanswered : is_unanswered r.stage ≡ true
   pub none : is_creating turned.after ≡ false
 
-moved_not_post : (k : WorkerId) (ask : Ask) (r : FlowRecord) (m : Option Params) → Ok FlowAction.Moved ≡ (give_post k ask r m).reply → ⊥
-moved_not_post k ask r (Some p) h = cc
-moved_not_post k ask r None h = cc
-
-moved_not_up : (k : WorkerId) (drains : Bool) (r : FlowRecord) (m : Option Ask) → Ok FlowAction.Moved ≡ (ascend k drains r m).reply → ⊥
-moved_not_up k drains r None h = cc
-moved_not_up k true r (Some ask) h = cc
-moved_not_up k false r (Some ask) h = taken (may_take k ask) h
-  where
-    taken : (b : Bool) → Ok FlowAction.Moved ≡ (cond b (call_post k ask r) (turn (Err Status.WrongStep) r)).reply → ⊥
-    taken true h = moved_not_post k ask (unwound ask.place r) (unwound ask.place r).params h
-    taken false h = cc
-
-known_at : (k : WorkerId) (why : Status) (drains : Bool) (r : FlowRecord) (stage : Stage) → r.stage ≡ stage → Ok FlowAction.Moved ≡ (next_at k (Below.Known why) drains r stage).reply
-    → WasKnown r (next_at k (Below.Known why) drains r stage)
-known_at k why drains r Descending e h = record { unanswered = ap is_unanswered e; none = answered_none (descend k (Below.Known why) r).after refl }
-known_at k why drains r Ascending e h = absurd (moved_not_up k drains r (slice_get (owed r.entries) 0) h)
-known_at k why drains r _ e h = cc
-
 pub was_known : (k : WorkerId) (why : Status) (drains : Bool) (r : FlowRecord) → Ok FlowAction.Moved ≡ (next_of k (Below.Known why) drains r).reply
     → WasKnown r (next_of k (Below.Known why) drains r)
-was_known k why drains r h = by_collected r.collected h
-  where
-    by_collected : (b : Bool) → Ok FlowAction.Moved ≡ (cond b (turn (Err Status.WrongStep) r) (next_at k (Below.Known why) drains r r.stage)).reply
-        → WasKnown r (cond b (turn (Err Status.WrongStep) r) (next_at k (Below.Known why) drains r r.stage))
-    by_collected true h = cc
-    by_collected false h = known_at k why drains r r.stage refl h
+was_known k why drains r = each_turn (λ t. Ok FlowAction.Moved ≡ t.reply → WasKnown r t) k (Below.Known why) drains r (record {
+  rests = λ reply nothing moved. absurd (false≢true (ap gives_nothing moved ∙ nothing));
+  calls = λ i p e lies moved. cc;
+  skips = λ i e lies moved. cc;
+  asks = λ p e lies moved. cc;
+  knows = λ given e lies moved. record { unanswered = ap is_unanswered e; none = answered_none (with_base (bare_answer given) r) refl };
+  drains = λ ask e moved. cc;
+  posts = λ ask m kept p e moved. cc;
+})
 
 -- ---- begin and collect
 

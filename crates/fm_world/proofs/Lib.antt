@@ -26,3 +26,4 @@ pub mod Resting
 pub mod Handing
 pub mod Holdings
 pub mod Events
+mod Turning

@@ -10,10 +10,10 @@ use Rattle.std.specs.Prelude.{◌&&◌}
 use Rattle.fm_world.proofs.Words.{InstanceId, OpId, WorkerId, Operation, Status, first_of, found_holds, all_change, all_without, find_without, HandleId}
 use Rattle.fm_world.proofs.Words.{StreamId, VolumeId, BaseCall, Params, Answer, PreVerdict, PostVerdict, Data, data_fits, are_on, is_within_limits}
 use Rattle.fm_world.proofs.Words.{operation_of, StackWorld, IsStack, hand_of, ContextTable, Below, FlowAction, Ask, Base, Post, Drain, PreState, PostState}
-use Rattle.fm_world.proofs.Words.{Stage, Descending, PreRunning, PreHeld, InBase, Ascending, PostRunning, PostHeld, InDrain, FlowRecord, visited, owed}
-use Rattle.fm_world.proofs.Words.{has_base, settle_pre, settle_post, settle_drain, times, Turned, next_of, next_at, descend, ascend, call_pre, call_base}
-use Rattle.fm_world.proofs.Words.{call_post, give_post, unwound, unwound_to, may_take, pre_leads, post_leads, pre_returned_of, post_returned_of, post_state}
-use Rattle.fm_world.proofs.Words.{drain_returned_of, base_fits, is_done, done_at, MayLieBelow, walk, way_of, is_running_drain, drain_opens, is_create}
+use Rattle.fm_world.proofs.Words.{Stage, Descending, PreRunning, InBase, Ascending, PostRunning, InDrain, FlowRecord, visited, owed}
+use Rattle.fm_world.proofs.Words.{has_base, settle_pre, settle_post, settle_drain, times, Turned, next_of, call_pre, call_base}
+use Rattle.fm_world.proofs.Words.{give_post, pre_leads, post_leads, pre_returned_of, post_returned_of, post_state}
+use Rattle.fm_world.proofs.Words.{drain_returned_of, base_fits, is_done, done_at, MayLieBelow, way_of, is_running_drain, drain_opens, is_create}
 use Rattle.fm_world.proofs.Words.{drains_push, drains_pre_settled, drains_post_settled, drains_drain_settled, none_running, FlowTable, IsFlow, operation_at}
 use Rattle.fm_world.proofs.Words.{changed, told, begun, begun_record, is_full, is_number, collected_of, collected_in, is_collectable, marked, removed}
 use Rattle.fm_world.proofs.Words.{verdict_counted, completed_as, last_visited, last_posted, base_counted, Begin, Worker, World, worker_at, put, after_next}
@@ -34,6 +34,13 @@ use Rattle.fm_world.proofs.Draining.{AreDrained, InDrains, in_no_drain, in_a_dra
 use Rattle.fm_world.proofs.Amongs.{is_up, no_base, visit_last, post_last, among_visits, among_other, among_base, among_settles, among_begins, settle_pre_visit, settle_pre_base, settle_post_visit, settle_post_base, settle_drain_visit, settle_drain_base}
 use Rattle.fm_world.proofs.Descents.{next_unseen, room_is, or_left, or_right}
 use Rattle.fm_world.proofs.Keeps.{whatever_files}
+use Rattle.fm_world.proofs.Turning.{each_turn}
+use Rattle.fm_world.proofs.Words.{gives_nothing}
+use Rattle.fm_flow.specs.Steps.{bare_ask}
+use Rattle.fm_world.proofs.Words.{turn}
+use Rattle.fm_flow.specs.Steps.{with_drain}
+use Rattle.fm_world.proofs.Words.{PreVisit}
+use Rattle.fm_flow.specs.declared.entry.PostVisit.{PostVisit}
 
 -- operations change, and workers with them
 flow_moves : (w : World) (t : FlowTable) (workers : List Worker) → IsFlow t → All (IsAmong w.stack) t.operations → length workers ≡ 48
@@ -139,6 +146,10 @@ begin_keeps old what (Ok o) new h s = subst IsUnderWay (sym h.1.1) (after_begin_
 
 -- ---- next
 
+abbrev is_in_base : Stage → Bool
+is_in_base InBase = true
+is_in_base _ = false
+
 -- what `next` makes of an operation and of the worker
 record Leads (s : StackWorld) (k : WorkerId) (o : OpId) (r : FlowRecord) (turned : Turned) (workers : List Worker) : Type 0 where
   pub among : IsAmong s turned.after
@@ -147,119 +158,63 @@ record Leads (s : StackWorld) (k : WorkerId) (o : OpId) (r : FlowRecord) (turned
       ⊎ ((b : Worker) × (after_next workers k o turned.reply ≡ put workers k b) × (Matches o Worker.Idle (spot_of r)) × (Matches o b (spot_of turned.after))
       × ((i : ℕ) → is_in_setup i b ≡ false))
 
--- nothing happened
-leads_nowhere : (s : StackWorld) (k : WorkerId) (o : OpId) (r : FlowRecord) (reply : Result FlowAction Status) (workers : List Worker)
-    → after_next workers k o reply ≡ workers → IsAmong s r → Leads s k o r (record { reply = reply; after = r }) workers
-leads_nowhere s k o r reply workers same h = record { among = h; how = inl (same, λ x. refl) }
-
-leads_pre : (s : StackWorld) (k : WorkerId) (o : OpId) (r : FlowRecord) (i : InstanceId) (m : Option Params) (workers : List Worker) → IsStack s
-    → r.stage ≡ Descending → has_base r.entries ≡ false
-    → LiesBelow s r (Below.Instance i true) → IsAmong s r → Leads s k o r (call_pre k i r m) workers
-leads_pre s k o r i None workers stack e none lies h = leads_nowhere s k o r (Err Status.WrongStep) workers refl h
-leads_pre s k o r i (Some p) workers stack e none lies h = record {
-  among = among_visits s r.volume r.born r.operation r.entries r.stage PreRunning
-      (record { instance = i; worker = k; state = PreState.Running; place = length r.kept }) stack none (λ x. absurd (pre_is_not_base x)) lies.0 h;
-  how = inr (
-    Worker.Pre o i,
-    refl,
-    matches_idle o r.stage r.entries (ap is_running e),
-    subst (Matches o (Worker.Pre o i)) (sym (ap (option_map AtPre) (visit_last r.entries (record { instance = i; worker = k; state = PreState.Running; place = length r.kept })))) (matches_pre o i),
-    λ j. refl,
-  );
-}
-  where
-    pre_is_not_base : PreRunning ≡ InBase → ⊥
-    pre_is_not_base x = cc
-
-leads_base : (s : StackWorld) (k : WorkerId) (o : OpId) (r : FlowRecord) (m : Option Params) (workers : List Worker) → r.stage ≡ Descending
-    → LiesBelow s r Below.Call → IsAmong s r → Leads s k o r (call_base r m) workers
-leads_base s k o r None workers e lies h = leads_nowhere s k o r (Err Status.WrongStep) workers refl h
-leads_base s k o r (Some p) workers e lies h = record {
-  among = record { descent = h.descent; room = h.room; there = h.there; base = λ x. lies };
-  how = inr (Worker.Base o, refl, matches_idle o r.stage r.entries (ap is_running e), matches_base o, λ j. refl);
-}
-
-leads_down : (s : StackWorld) (k : WorkerId) (o : OpId) (r : FlowRecord) (lies : Below) (workers : List Worker) → IsStack s
-    → r.stage ≡ Descending → has_base r.entries ≡ false → LiesBelow s r lies → IsAmong s r → Leads s k o r (descend k lies r) workers
-leads_down s k o r (Below.Instance i true) workers stack e none lies h = leads_pre s k o r i r.params workers stack e none lies h
-leads_down s k o r (Below.Instance i false) workers stack e none lies h = record {
-  among = among_visits s r.volume r.born r.operation r.entries r.stage Descending
-      (record { instance = i; worker = k; state = PreState.Asked (record { number = 0; context = None }); place = length r.kept }) stack none
-      (λ x. absurd (down_is_not_base x)) lies.0 h;
-  how = inl (refl, λ x. ap (is_spot x) (sym (quiet_is_nowhere r.stage r.entries (ap is_running e))));
-}
-  where
-    down_is_not_base : Descending ≡ InBase → ⊥
-    down_is_not_base x = cc
-leads_down s k o r Below.Call workers stack e none lies h = leads_base s k o r r.params workers e lies h
-leads_down s k o r (Below.Known status) workers stack e none lies h = record {
-  among = among_base s r.volume r.born r.operation r.entries r.stage status 0 none lies h;
-  how = inl (refl, λ x. ap (is_spot x) (sym (quiet_is_nowhere r.stage r.entries (ap is_running e))));
-}
-
--- the parameters of a postoperation are put in place: the entries stay
-unwound_parts : (place : ℕ) (r : FlowRecord) (m : Option Params) (s : StackWorld) → IsAmong s r
-    → IsAmong s (unwound_to place r m) × ((unwound_to place r m).stage ≡ r.stage) × ((unwound_to place r m).entries ≡ r.entries)
-unwound_parts place r (Some p) s h = (h, refl, refl)
-unwound_parts place r None s h = (h, refl, refl)
-
-leads_post : (s : StackWorld) (k : WorkerId) (o : OpId) (r u : FlowRecord) (ask : Ask) (m : Option Params) (workers : List Worker)
-    → r.stage ≡ Ascending → u.stage ≡ r.stage → u.entries ≡ r.entries → IsAmong s u → Leads s k o r (give_post k ask u m) workers
-leads_post s k o r u ask None workers e same kept h = record { among = h; how = inl (refl, λ x. ap (is_spot x) (ap (λ a. spot_at a u.entries) same ∙ ap (spot_at r.stage) kept)) }
-leads_post s k o r u ask (Some p) workers e same kept h = record {
-  among = among_other s u.volume u.born u.operation u.entries u.stage PostRunning
-      (Post (record { instance = ask.instance; worker = k; state = PostState.Running })) refl refl (λ x. absurd (post_is_not_base x)) h;
-  how = inr (
-    Worker.Post o ask.instance,
-    refl,
-    matches_idle o r.stage r.entries (ap is_running e),
-    subst (Matches o (Worker.Post o ask.instance)) (sym (ap (option_map AtPost) (post_last u.entries (record { instance = ask.instance; worker = k; state = PostState.Running }))))
-        (matches_post o ask.instance),
-    λ j. refl,
-  );
-}
-  where
-    post_is_not_base : PostRunning ≡ InBase → ⊥
-    post_is_not_base x = cc
-
-leads_taken : (s : StackWorld) (k : WorkerId) (o : OpId) (r : FlowRecord) (ask : Ask) (workers : List Worker) (b : Bool) → r.stage ≡ Ascending → IsAmong s r
-    → Leads s k o r (cond b (call_post k ask r) (record { reply = Err Status.WrongStep; after = r })) workers
-leads_taken s k o r ask workers true e h =
-    let parts = unwound_parts ask.place r (slice_get r.kept ask.place) s h in
-    leads_post s k o r (unwound ask.place r) ask (unwound ask.place r).params workers e parts.1 parts.2 parts.0
-leads_taken s k o r ask workers false e h = leads_nowhere s k o r (Err Status.WrongStep) workers refl h
-
-leads_up : (s : StackWorld) (k : WorkerId) (o : OpId) (r : FlowRecord) (drains : Bool) (m : Option Ask) (workers : List Worker) → r.stage ≡ Ascending → IsAmong s r
-    → Leads s k o r (ascend k drains r m) workers
-leads_up s k o r drains None workers e h = leads_nowhere s k o r (Ok FlowAction.Done) workers refl h
-leads_up s k o r true (Some ask) workers e h = record {
-  among = among_other s r.volume r.born r.operation r.entries r.stage (InDrain ask.instance)
-      (Drain (record { instance = ask.instance; is_running = true })) refl refl (λ x. absurd (drain_is_not_base x)) h;
-  how = inr (Worker.Drain o ask.instance, refl, matches_idle o r.stage r.entries (ap is_running e), matches_drain o ask.instance, λ j. refl);
-}
-  where
-    drain_is_not_base : InDrain ask.instance ≡ InBase → ⊥
-    drain_is_not_base x = cc
-leads_up s k o r false (Some ask) workers e h = leads_taken s k o r ask workers (may_take k ask) e h
-
-leads_at : (s : StackWorld) (k : WorkerId) (o : OpId) (r : FlowRecord) (lies : Below) (drains : Bool) (workers : List Worker) (stage : Stage) → IsStack s
-    → r.stage ≡ stage → flow.IsSound r → (r.stage ≡ Descending → LiesBelow s r lies) → IsAmong s r → Leads s k o r (next_at k lies drains r stage) workers
-leads_at s k o r lies drains workers Descending stack e sound finds h =
-    let order : walk Descending r.entries ≡ Some (way_of r.stage) = sound.course.order in
-    leads_down s k o r lies workers stack e (no_base r.stage r.entries order (ap (λ x. is_up (way_of x)) e)) (finds e) h
-leads_at s k o r lies drains workers PreHeld stack e sound finds h = leads_nowhere s k o r (Ok FlowAction.Held) workers refl h
-leads_at s k o r lies drains workers Ascending stack e sound finds h = leads_up s k o r drains (slice_get (owed r.entries) 0) workers e h
-leads_at s k o r lies drains workers PostHeld stack e sound finds h = leads_nowhere s k o r (Ok FlowAction.Held) workers refl h
-leads_at s k o r lies drains workers _ stack e sound finds h = leads_nowhere s k o r (Err Status.WrongStep) workers refl h
+-- the worker goes in
+leads_in : (s : StackWorld) (k : WorkerId) (o : OpId) (r : FlowRecord) (turned : Turned) (workers : List Worker) (b : Worker) → is_running r.stage ≡ false
+    → after_next workers k o turned.reply ≡ put workers k b → Matches o b (spot_of turned.after) → ((i : ℕ) → is_in_setup i b ≡ false) → IsAmong s turned.after
+    → Leads s k o r turned workers
+leads_in s k o r turned workers b quiet goes matches outside among = record { among = among; how = inr (b, goes, matches_idle o r.stage r.entries quiet, matches, outside) }
 
 leads_of : (s : StackWorld) (k : WorkerId) (o : OpId) (r : FlowRecord) (lies : Below) (drains : Bool) (workers : List Worker) → IsStack s
     → flow.IsSound r → (r.stage ≡ Descending → LiesBelow s r lies) → IsAmong s r → Leads s k o r (next_of k lies drains r) workers
-leads_of s k o r lies drains workers stack sound finds h =
-    let P : Bool → Type 0 = λ b. Leads s k o r (cond b (record { reply = Err Status.WrongStep; after = r }) (next_at k lies drains r r.stage)) workers in
-    elim (cases_Bool r.collected) [
-      | inl e ↦ subst P (sym e) (leads_nowhere s k o r (Err Status.WrongStep) workers refl h)
-      | inr e ↦ subst P (sym e) (leads_at s k o r lies drains workers r.stage stack refl sound finds h)
-    ]
+leads_of s k o r lies drains workers stack sound finds h = each_turn (λ t. Leads s k o r t workers) k lies drains r (record {
+  rests = λ reply nothing. record { among = h; how = inl (nobody_goes reply nothing, λ x. refl) };
+  calls = λ i p e is.
+      let visit : PreVisit = record { instance = i; worker = k; state = PreState.Running; place = length r.kept } in
+      leads_in s k o r (call_pre k i r (Some p)) workers (Worker.Pre o i) (ap is_running e) refl
+      (subst (Matches o (Worker.Pre o i)) (sym (ap (option_map AtPre) (visit_last r.entries visit))) (matches_pre o i)) (λ j. refl)
+      (among_visits s r.volume r.born r.operation r.entries r.stage PreRunning visit stack (none e) (λ x. absurd (apart PreRunning refl x)) (below e is).0 h);
+  skips = λ i e is. record {
+    among = among_visits s r.volume r.born r.operation r.entries r.stage Descending (record { instance = i; worker = k; state = bare_ask; place = length r.kept }) stack (none e)
+        (λ x. absurd (apart Descending refl x)) (below e is).0 h;
+    how = inl (refl, nowhere e);
+  };
+  asks = λ p e is.
+      leads_in s k o r (call_base r (Some p)) workers (Worker.Base o) (ap is_running e) refl (matches_base o) (λ j. refl)
+      (record { descent = h.descent; room = h.room; there = h.there; base = λ x. below e is });
+  knows = λ why e is. record {
+    among = among_base s r.volume r.born r.operation r.entries r.stage why 0 (none e) (below e is) h;
+    how = inl (refl, nowhere e);
+  };
+  drains = λ ask e.
+      leads_in s k o r (turn (Ok (FlowAction.Drain ask.instance ask.completion)) (with_drain ask.instance (InDrain ask.instance) r)) workers (Worker.Drain o ask.instance)
+      (ap is_running e) refl (matches_drain o ask.instance) (λ j. refl)
+      (among_other s r.volume r.born r.operation r.entries r.stage (InDrain ask.instance) (Drain (record { instance = ask.instance; is_running = true })) refl refl
+      (λ x. absurd (apart (InDrain ask.instance) refl x)) h);
+  posts = λ ask m kept p e.
+      let visit : PostVisit = record { instance = ask.instance; worker = k; state = PostState.Running } in
+      leads_in s k o r (give_post k ask (record r { params = m; kept = kept }) (Some p)) workers (Worker.Post o ask.instance) (ap is_running e) refl
+      (subst (Matches o (Worker.Post o ask.instance)) (sym (ap (option_map AtPost) (post_last r.entries visit))) (matches_post o ask.instance)) (λ j. refl)
+      (among_other s r.volume r.born r.operation r.entries r.stage PostRunning (Post visit) refl refl (λ x. absurd (apart PostRunning refl x)) h);
+})
+  where
+    nobody_goes : (reply : Result FlowAction Status) → gives_nothing reply ≡ true → after_next workers k o reply ≡ workers
+    nobody_goes (Ok FlowAction.Held) nothing = refl
+    nobody_goes (Ok FlowAction.Done) nothing = refl
+    nobody_goes (Err why) nothing = refl
+    nobody_goes _ nothing = absurd (false≢true nothing)
+
+    none : r.stage ≡ Descending → has_base r.entries ≡ false
+    none e = no_base r.stage r.entries sound.course.order (ap (λ x. is_up (way_of x)) e)
+
+    below : {l : Below} → r.stage ≡ Descending → lies ≡ l → LiesBelow s r l
+    below e is = subst (LiesBelow s r) is (finds e)
+
+    -- a stage that isn't the base's
+    apart : (stage : Stage) → is_in_base stage ≡ false → stage ≡ InBase → ⊥
+    apart stage other x = false≢true (sym other ∙ ap is_in_base x)
+
+    nowhere : r.stage ≡ Descending → (x : Spot) → is_spot x None ≡ is_spot x (spot_of r)
+    nowhere e x = ap (is_spot x) (sym (quiet_is_nowhere r.stage r.entries (ap is_running e)))
 
 times_unseen : (i : ℕ) (xs : List ℕ) → is_among xs i ≡ false → times i xs ≡ 0
 times_unseen i [] h = refl

@@ -1,0 +1,93 @@
+-- What `next` makes of an operation, decided once.
+use Rattle.std.proofs.Common.{◌≡◌, Bool, true, false, cond, List, Option, Some, None, Result, Ok, Err, slice_get, refl}
+use Rattle.std.specs.Prelude.{take}
+use Rattle.fm_world.proofs.Words.{Turned}
+use Rattle.fm_world.proofs.Words.{turn}
+use Rattle.fm_world.proofs.Words.{next_of}
+use Rattle.fm_world.proofs.Words.{next_at}
+use Rattle.fm_world.proofs.Words.{descend}
+use Rattle.fm_world.proofs.Words.{ascend}
+use Rattle.fm_world.proofs.Words.{call_pre}
+use Rattle.fm_world.proofs.Words.{call_base}
+use Rattle.fm_world.proofs.Words.{call_post}
+use Rattle.fm_world.proofs.Words.{give_post}
+use Rattle.fm_world.proofs.Words.{unwound_to}
+use Rattle.fm_flow.specs.Steps.{with_visit}
+use Rattle.fm_flow.specs.Steps.{bare_ask}
+use Rattle.fm_flow.specs.Steps.{with_base}
+use Rattle.fm_flow.specs.Steps.{with_drain}
+use Rattle.fm_world.proofs.Words.{may_take}
+use Rattle.fm_flow.specs.Answered.{bare_answer}
+use Rattle.fm_world.proofs.Words.{gives_nothing}
+use Rattle.fm_world.proofs.Words.{Below}
+use Rattle.fm_world.proofs.Words.{FlowAction}
+use Rattle.fm_world.proofs.Words.{WorkerId}
+use Rattle.fm_world.proofs.Words.{InstanceId}
+use Rattle.fm_world.proofs.Words.{Ask}
+use Rattle.fm_world.proofs.Words.{Params}
+use Rattle.fm_world.proofs.Words.{Status}
+use Rattle.fm_world.proofs.Words.{FlowRecord}
+use Rattle.fm_world.proofs.Words.{Stage}
+use Rattle.fm_world.proofs.Words.{Descending}
+use Rattle.fm_world.proofs.Words.{Ascending}
+use Rattle.fm_world.proofs.Words.{PreHeld}
+use Rattle.fm_world.proofs.Words.{PostHeld}
+use Rattle.fm_world.proofs.Words.{InDrain}
+use Rattle.fm_world.proofs.Words.{owed}
+
+-- P of each thing that it may answer and make of the operation
+pub record EachTurn (P : Turned → Type 0) (k : WorkerId) (lies : Below) (r : FlowRecord) : Type 0 where
+  -- nothing to do
+  pub rests : (reply : Result FlowAction Status) → gives_nothing reply ≡ true → P (turn reply r)
+  -- on the way down: the instance is called, or passes; the base is called, or its answer is known
+  pub calls : (i : InstanceId) (p : Params) → r.stage ≡ Descending → lies ≡ Below.Instance i true → P (call_pre k i r (Some p))
+  pub skips : (i : InstanceId) → r.stage ≡ Descending → lies ≡ Below.Instance i false → P (turn (Ok FlowAction.Moved) (with_visit k i bare_ask r))
+  pub asks : (p : Params) → r.stage ≡ Descending → lies ≡ Below.Call → P (call_base r (Some p))
+  pub knows : (why : Status) → r.stage ≡ Descending → lies ≡ Below.Known why → P (turn (Ok FlowAction.Moved) (with_base (bare_answer why) r))
+  -- on the way up: a drain, or a postoperation over the parameters that were put back
+  pub drains : (ask : Ask) → r.stage ≡ Ascending → P (turn (Ok (FlowAction.Drain ask.instance ask.completion)) (with_drain ask.instance (InDrain ask.instance) r))
+  pub posts : (ask : Ask) (m : Option Params) (kept : List Params) (p : Params) → r.stage ≡ Ascending → P (give_post k ask (record r { params = m; kept = kept }) (Some p))
+
+pub each_turn : (P : Turned → Type 0) (k : WorkerId) (lies : Below) (stops : Bool) (r : FlowRecord) → EachTurn P k lies r → P (next_of k lies stops r)
+each_turn P k lies stops r each = elim r.collected as (λ b. P (cond b (turn (Err Status.WrongStep) r) (next_at k lies stops r r.stage))) [
+  | true ↦ each.rests (Err Status.WrongStep) refl
+  | false ↦ at r.stage refl
+]
+  where
+    called : (i : InstanceId) (m : Option Params) → r.stage ≡ Descending → lies ≡ Below.Instance i true → P (call_pre k i r m)
+    called i (Some p) e is = each.calls i p e is
+    called i None e is = each.rests (Err Status.WrongStep) refl
+
+    asked : (m : Option Params) → r.stage ≡ Descending → lies ≡ Below.Call → P (call_base r m)
+    asked (Some p) e is = each.asks p e is
+    asked None e is = each.rests (Err Status.WrongStep) refl
+
+    down : (l : Below) → r.stage ≡ Descending → lies ≡ l → P (descend k l r)
+    down (Below.Instance i true) e is = called i r.params e is
+    down (Below.Instance i false) e is = each.skips i e is
+    down Below.Call e is = asked r.params e is
+    down (Below.Known why) e is = each.knows why e is
+
+    kept : (ask : Ask) (m : Option Params) → r.stage ≡ Ascending → P (give_post k ask r m)
+    kept ask (Some p) e = each.posts ask r.params r.kept p e
+    kept ask None e = each.rests (Err Status.WrongStep) refl
+
+    posted : (ask : Ask) (m : Option Params) → r.stage ≡ Ascending → P (give_post k ask (unwound_to ask.place r m) (unwound_to ask.place r m).params)
+    posted ask (Some p) e = each.posts ask (Some p) (take ask.place r.kept) p e
+    posted ask None e = kept ask r.params e
+
+    taken : (ask : Ask) (b : Bool) → r.stage ≡ Ascending → P (cond b (call_post k ask r) (turn (Err Status.WrongStep) r))
+    taken ask true e = posted ask (slice_get r.kept ask.place) e
+    taken ask false e = each.rests (Err Status.WrongStep) refl
+
+    up : (b : Bool) (m : Option Ask) → r.stage ≡ Ascending → P (ascend k b r m)
+    up b None e = each.rests (Ok FlowAction.Done) refl
+    up true (Some ask) e = each.drains ask e
+    up false (Some ask) e = taken ask (may_take k ask) e
+
+    at : (stage : Stage) → r.stage ≡ stage → P (next_at k lies stops r stage)
+    at Descending e = down lies e refl
+    at Ascending e = up stops (slice_get (owed r.entries) 0) e
+    at PreHeld e = each.rests (Ok FlowAction.Held) refl
+    at PostHeld e = each.rests (Ok FlowAction.Held) refl
+    at _ e = each.rests (Err Status.WrongStep) refl

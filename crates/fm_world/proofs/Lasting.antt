@@ -6,20 +6,21 @@ use Rattle.std.proofs.lemmas.Option.{none-some, same_Some, slice_get-map, slice_
 use Rattle.std.proofs.lemmas.List.{get_or-set_same, get_or-set_other}
 use Rattle.std.specs.Prelude.{IfOk}
 use Rattle.fm_world.proofs.Words.{slice_get-kept, slice_get-push, slice_get-set_same, slice_get-set_other, updated-same, updated-other, ContextKind, CtxId}
-use Rattle.fm_world.proofs.Words.{FilterId, InstanceId, OpId, VolumeId, WorkerId, Registration, Status, Answer, BaseCall, PostVerdict, PreVerdict, Data, Due}
+use Rattle.fm_world.proofs.Words.{InstanceId, WorkerId, Status, Due}
 use Rattle.fm_world.proofs.Words.{Object, SetMode, Keep, Replace, one, is_id, cleaning_of, is_hand_full, is_waiting, is_id-refl, first_placed, places_cleaned}
 use Rattle.fm_world.proofs.Words.{context_at-here, IsNew, new_slot, placed, with_body, emptied, due_of, taken_due, taken_of, cleaned, with_link, set_after}
 use Rattle.fm_world.proofs.Words.{set_mode_after, unlinked_for, delete_after, linked, holder, swept, swept_slot, Context, Slot, ContextTable, context_in}
-use Rattle.fm_world.proofs.Words.{context_at, changed_slot, change_context, FlowAction, FileHandle, FileStream, SetAnswer, Begin, Step, StepReply, Worker}
-use Rattle.fm_world.proofs.Words.{there_at, Allocates, Sets, Gets, Deletes, References, Releases, ReadsBody, WritesBody, Bumps, TakesDue, Cleans, Finishes}
-use Rattle.fm_world.proofs.Words.{Unless, brought, received, Registers, Mounts, Attaches, SetsUp, EmptiesUnless, Begins, Nexts, PreReturns, BaseReturns}
-use Rattle.fm_world.proofs.Words.{PostReturns, Collects, begun_on, begun_at, after_begin, sent, handle_at, stream_at, LosesLinks, params_of, Steps, Run}
+use Rattle.fm_world.proofs.Words.{context_at, changed_slot, change_context, FlowAction, FileHandle, FileStream, Begin, Step, StepReply, Worker}
+use Rattle.fm_world.proofs.Words.{there_at, Allocates, Gets, Deletes, References, Releases, ReadsBody, WritesBody, Bumps, TakesDue, Cleans, Finishes}
+use Rattle.fm_world.proofs.Words.{Unless, brought, received, Registers, Mounts, Attaches, EmptiesUnless, Begins}
+use Rattle.fm_world.proofs.Words.{Collects, begun_on, begun_at, after_begin, sent, handle_at, stream_at, LosesLinks, params_of, Steps, Run}
 use Rattle.fm_world.proofs.Words.{World, carries, empty_world, IsSound, worker_at, is_idle, cleanup_in}
 use Rattle.fm_world.specs.Lasting.{given_by, due_by, Comes, IsGone, ContextsLast}
 use Rattle.fm_world.proofs.Events.{memory_by, answers_by, asked_by, taken_by, idle_by, idle_there, setup_by, next_by, pre_by, base_by, post_by, cleaned_by, set_by}
 use Rattle.fm_world.proofs.Keeps.{known_cases}
 use Rattle.fm_world.proofs.Runs.{step_keeps, run_keeps, empty_sound}
-use Rattle.fm_world.proofs.Losing.{received_slots}
+use Rattle.fm_world.proofs.Words.{sent_in}
+use Rattle.fm_world.proofs.Words.{state_at}
 
 -- ---- slots
 
@@ -160,46 +161,33 @@ table_after a b c f g = (slots_after a.slots b.slots c.slots f.0 g.0, g.1 ∙ f.
 
 -- ---- events
 
-abbrev Stay : World → World → Type 0
-Stay old new = TableStays old.contexts new.contexts
+-- what a worker cleans up it cleans up still, or it is cleaned
+abbrev CleansOn : World → World → Type 0
+CleansOn old new = (k : ℕ) (c : CtxId) → cleaning_of old.contexts.cleaning k ≡ Some c → (cleaning_of new.contexts.cleaning k ≡ Some c) ⊎ IsGone new c
 
-stay_still : (old new : World) → new ≡ old → Stay old new
-stay_still old new e = table_still old.contexts new.contexts (ap (λ (w : World). w.contexts) e)
+abbrev Lasts : World → World → Type 0
+Lasts old new = SlotsStay old.contexts.slots new.contexts.slots × CleansOn old new
 
-stay_loses : (old mid new : World) → LosesLinks mid new → Stay old mid → Stay old new
-stay_loses old mid new h stay =
-    table_after old.contexts mid.contexts new.contexts stay (subst (SlotsStay mid.contexts.slots) (sym h.0.slots) (slots_swept _ mid.contexts.slots), h.0.cleaning)
+-- the event makes a table in which slots stay, and so does what is being cleaned up
+lasts : (old new : World) (t : ContextTable) → new.contexts ≡ t → TableStays old.contexts t → Lasts old new
+lasts old new t e stay =
+    let stays = subst (TableStays old.contexts) (sym e) stay in
+    (stays.0, λ k c busy. inl (ap (λ (xs : List (Option CtxId)). cleaning_of xs k) stays.1 ∙ busy))
 
--- a refusal changes nothing
-pub refused : (old : World) → Status → Stay old old
-refused old why = stay_still old old refl
+abbrev contexts_in : World → ContextTable
+contexts_in w = w.contexts
 
--- filters, volumes, instances
+kept : (old new : World) → new.contexts ≡ old.contexts → Lasts old new
+kept old new e = lasts old new old.contexts e (table_still old.contexts old.contexts refl)
 
-register_stay : (old : World) (name : List ℕ) (registration : Registration) (result : Result FilterId Status) (new : World) → Registers old name registration result new → Stay old new
-unfolding Registers
-register_stay old name registration result new h = table_still old.contexts new.contexts (ap (λ (w : World). w.contexts) h.1)
+refused : (old : World) → Status → Lasts old old
+refused old why = kept old old refl
 
-mount_stay : (old : World) (name : List ℕ) (result : Result VolumeId Status) (new : World) → Mounts old name result new → Stay old new
-unfolding Mounts
-mount_stay old name result new h = table_still old.contexts new.contexts (ap (λ (w : World). w.contexts) h.1)
-
-attach_stay : (old : World) (k : WorkerId) (f : FilterId) (v : VolumeId) (name altitude : List ℕ) (result : Result InstanceId Status) (new : World)
-    → Attaches old k f v name altitude result new → Stay old new
-unfolding Attaches
-attach_stay old k f v name altitude result new h =
-    idle_by (λ _ w. Stay old w) k result old new _ h (refused old) (λ at e. table_still old.contexts new.contexts (ap (λ (w : World). w.contexts) e.1))
-
-setup_stay : (old : World) (k : WorkerId) (accept : Bool) (result : Result (Unit {0}) Status) (new : World) → SetsUp old k accept result new → Stay old new
-setup_stay old k accept result new h =
-    setup_by (λ _ w. Stay old w) old k accept result new h (refused old) (λ i at e.
-    table_after old.contexts e.1 new.contexts (table_same old.contexts e.1 e.2.slots e.2.cleaning) (by_result i e.1 result e.3))
-  where
-    by_result : (i : InstanceId) (left : ContextTable) (result : Result (Unit {0}) Status) → EmptiesUnless result i old left new.contexts → TableStays left new.contexts
-    by_result i left (Ok done) same = table_still left new.contexts same
-    by_result i left (Err why) sweeps = (subst (SlotsStay left.slots) (sym sweeps.slots) (slots_swept _ left.slots), sweeps.cleaning)
-
--- operations
+-- links go
+loses_lasts : (old mid new : World) → LosesLinks mid new → TableStays old.contexts mid.contexts → Lasts old new
+loses_lasts old mid new h stay =
+    lasts old new new.contexts refl
+    (table_after old.contexts mid.contexts new.contexts stay (subst (SlotsStay mid.contexts.slots) (sym h.0.slots) (slots_swept _ mid.contexts.slots), h.0.cleaning))
 
 begun_contexts : (old : World) (what : Begin) → (after_begin old what).contexts ≡ old.contexts
 begun_contexts old (Begin.List v) = refl
@@ -214,65 +202,22 @@ begun_contexts old (Begin.OnHandle h asked) = by_handle (handle_at h old.files)
     by_handle None = refl
     by_handle (Some x) = by_stream x (stream_at x.stream old.files)
 
-begin_stay : (old : World) (what : Begin) (result : Result OpId Status) (new : World) → Begins old what result new → Stay old new
-unfolding Begins
-begin_stay old what result new h =
-    memory_by (λ _ w. Stay old w) _ result old new _ h (refused old) (λ o free e. table_still old.contexts new.contexts (ap (λ (w : World). w.contexts) e.1 ∙ begun_contexts old what))
+brought_stays : (t : ContextTable) (k : WorkerId) (m : Option CtxId) → TableStays t (brought t k m)
+brought_stays t k None = table_still t t refl
+brought_stays t k (Some c) = table_same t (brought t k (Some c)) refl refl
 
-brought_cleaning : (t : ContextTable) (k : WorkerId) (m : Option CtxId) → (brought t k m).cleaning ≡ t.cleaning
-brought_cleaning t k None = refl
-brought_cleaning t k (Some c) = refl
+received_stays : (t : ContextTable) (k : WorkerId) (result : Result FlowAction Status) → TableStays t (received t k result)
+received_stays t k (Ok (FlowAction.Post i lent completion)) = brought_stays t k completion.context
+received_stays t k (Ok (FlowAction.Drain i completion)) = brought_stays t k completion.context
+received_stays t k _ = table_still t t refl
 
-received_cleaning : (t : ContextTable) (k : WorkerId) (result : Result FlowAction Status) → (received t k result).cleaning ≡ t.cleaning
-received_cleaning t k (Ok (FlowAction.Post i lent completion)) = brought_cleaning t k completion.context
-received_cleaning t k (Ok (FlowAction.Drain i completion)) = brought_cleaning t k completion.context
-received_cleaning t k _ = refl
+sent_stays : (t : ContextTable) (k : WorkerId) (m : Option CtxId) → TableStays t (sent t k m)
+sent_stays t k None = table_still t t refl
+sent_stays t k (Some c) = table_same t (sent t k (Some c)) refl refl
 
-next_stay : (old : World) (k : WorkerId) (o : OpId) (result : Result FlowAction Status) (new : World) → Nexts old k o result new → Stay old new
-next_stay old k o result new h =
-    next_by (λ _ w. Stay old w) old k o result new h (refused old) (λ e.
-    let same = ap (λ (w : World). w.contexts) e.over.1 in
-    let stay = table_same old.contexts e.mid.contexts (ap (λ (t : ContextTable). t.slots) same ∙ received_slots old.contexts k result)
-    (ap (λ (t : ContextTable). t.cleaning) same ∙ received_cleaning old.contexts k result) in
-    known_cases (Stay old) result e.lies e.mid new e.loses (λ loses. stay_loses old e.mid new loses stay) stay)
-
-sent_slots : (t : ContextTable) (k : WorkerId) (m : Option CtxId) → (sent t k m).slots ≡ t.slots
-sent_slots t k None = refl
-sent_slots t k (Some c) = refl
-
-sent_cleaning : (t : ContextTable) (k : WorkerId) (m : Option CtxId) → (sent t k m).cleaning ≡ t.cleaning
-sent_cleaning t k None = refl
-sent_cleaning t k (Some c) = refl
-
-pre_stay : (old : World) (k : WorkerId) (given : PreVerdict) (lent : Data) (result : Result (Unit {0}) Status) (new : World) → PreReturns old k given lent result new → Stay old new
-pre_stay old k given lent result new h =
-    pre_by (λ _ w. Stay old w) old k given lent result new h (refused old) (λ o i at fits e.
-    stay_loses old e.0 new e.2 (table_same old.contexts e.0.contexts (e.1.0.slots ∙ sent_slots old.contexts k _) (e.1.0.cleaning ∙ sent_cleaning old.contexts k _)))
-
-base_stay : (old : World) (k : WorkerId) (call : BaseCall) (given : Answer) (result : Result (Unit {0}) Status) (new : World) → BaseReturns old k call given result new → Stay old new
-base_stay old k call given result new h =
-    base_by (λ _ w. Stay old w) old k call given result new h (refused old) (λ o at fits loses. stay_loses old _ new loses (stay_still old old refl))
-
-post_stay : (old : World) (k : WorkerId) (given : PostVerdict) (lent : Option Data) (result : Result (Unit {0}) Status) (new : World) → PostReturns old k given lent result new
-    → Stay old new
-post_stay old k given lent result new h =
-    post_by (λ _ w. Stay old w) old k given lent result new h (refused old)
-    (λ o i back at fits e. table_same old.contexts new.contexts e.0.slots e.0.cleaning) (λ o i at e. table_same old.contexts new.contexts e.0.slots e.0.cleaning)
-
-collect_stay : (old : World) (o : OpId) (result : Result Answer Status) (new : World) → Collects old o result new → Stay old new
-unfolding Collects
-collect_stay old o result new h = table_still old.contexts new.contexts (ap (λ (w : World). w.contexts) h.1)
-
--- contexts
-
--- the event makes that table
-stay_table : (old new : World) (t : ContextTable) → new ≡ record old { contexts = t } → TableStays old.contexts t → Stay old new
-stay_table old new t e h = subst (TableStays old.contexts) (sym (ap (λ (w : World). w.contexts) e)) h
-
-allocate_stay : (old : World) (k : WorkerId) (kind : ContextKind) (body : List ℕ) (result : Result CtxId Status) (new : World) → Allocates old k kind body result new → Stay old new
-unfolding Allocates
-allocate_stay old k kind body result new h =
-    taken_by (λ _ w. Stay old w) old k result new _ _ h (refused old) (λ at is c free e. stay_table old new _ e.1 (slots_placed old.contexts.slots c _ e.0, refl))
+emptied_stays : (old : World) (i : InstanceId) (left after : ContextTable) (result : Result (Unit {0}) Status) → EmptiesUnless result i old left after → TableStays left after
+emptied_stays old i left after (Ok done) same = table_still left after same
+emptied_stays old i left after (Err why) sweeps = (subst (SlotsStay left.slots) (sym sweeps.slots) (slots_swept _ left.slots), sweeps.cleaning)
 
 unlinked_stays : (carried : CtxId → ℕ) (t : ContextTable) (w : ℕ) (wants : Bool) (c : CtxId) → TableStays t (unlinked_for carried t w wants c)
 unlinked_stays carried t w true c = (slots_changed (option_map (with_link None)) t.slots c refl, refl)
@@ -295,63 +240,13 @@ set_stays : (carried : CtxId → ℕ) (t : ContextTable) (w : ℕ) (c : CtxId) (
 set_stays carried t w c object mode wants None = linked_stays t c object
 set_stays carried t w c object mode wants (Some found) = moded_stays carried t w c object mode wants found (wants && is_hand_full t.hands w)
 
-set_stay : (old : World) (k : WorkerId) (c : CtxId) (mode : SetMode) (wants : Bool) (result : SetAnswer) (new : World) → Sets old k c mode wants result new → Stay old new
-set_stay old k c mode wants result new h =
-    set_by (λ _ w. Stay old w) old k c mode wants result new h (refused old) (λ at is free x o there of e.
-    stay_table old new _ e.1 (set_stays (carries old) old.contexts k.0 c o mode wants (holder old.contexts.slots x.owner o)))
-
-get_stay : (old : World) (k : WorkerId) (kind : ContextKind) (result : Result CtxId Status) (new : World) → Gets old k kind result new → Stay old new
-unfolding Gets
-get_stay old k kind result new h =
-    asked_by (λ _ w. Stay old w) old k result new _ _ h (refused old) (λ at is c free e. stay_table old new _ e.1 (table_still old.contexts old.contexts refl))
-
 deleted_stays : (carried : CtxId → ℕ) (t : ContextTable) (w : ℕ) (wants : Bool) (m : Option CtxId) → TableStays t (delete_after carried t w wants m)
 deleted_stays carried t w wants None = table_still t t refl
 deleted_stays carried t w wants (Some c) = unlinked_stays carried t w wants c
 
-delete_stay : (old : World) (k : WorkerId) (kind : ContextKind) (wants : Bool) (result : Result (Option CtxId) Status) (new : World) → Deletes old k kind wants result new → Stay old new
-unfolding Deletes
-delete_stay old k kind wants result new h =
-    asked_by (λ _ w. Stay old w) old k result new _ _ h (refused old) (λ at is c free e. stay_table old new _ e.1 (deleted_stays (carries old) old.contexts k.0 wants (there_at old kind at)))
-
-reference_stay : (old : World) (k : WorkerId) (c : CtxId) (result : Result (Unit {0}) Status) (new : World) → References old k c result new → Stay old new
-unfolding References
-reference_stay old k c result new h =
-    asked_by (λ _ w. Stay old w) old k result new _ _ h (refused old) (λ at is v free e. stay_table old new _ e (table_still old.contexts old.contexts refl))
-
-release_stay : (old : World) (k : WorkerId) (c : CtxId) (result : Result (Unit {0}) Status) (new : World) → Releases old k c result new → Stay old new
-unfolding Releases
-release_stay old k c result new h =
-    asked_by (λ _ w. Stay old w) old k result new _ _ h (refused old) (λ at is v free e. stay_table old new _ e (table_still old.contexts old.contexts refl))
-
-read_stay : (old : World) (k : WorkerId) (c : CtxId) (result : Result (List ℕ) Status) (new : World) → ReadsBody old k c result new → Stay old new
-unfolding ReadsBody
-read_stay old k c result new h =
-    taken_by (λ _ w. Stay old w) old k result new _ _ h (refused old) (λ at is body free e. stay_still old new e.1)
-
-write_stay : (old : World) (k : WorkerId) (c : CtxId) (bytes : List ℕ) (result : Result (Unit {0}) Status) (new : World) → WritesBody old k c bytes result new → Stay old new
-unfolding WritesBody
-write_stay old k c bytes result new h =
-    asked_by (λ _ w. Stay old w) old k result new _ _ h (refused old) (λ at is v free e. stay_table old new _ e (slots_changed (option_map (with_body bytes)) old.contexts.slots c refl, refl))
-
-bump_stay : (old : World) (k : WorkerId) (c : CtxId) (at by : ℕ) (result : Result ℕ Status) (new : World) → Bumps old k c at by result new → Stay old new
-unfolding Bumps
-bump_stay old k c at by result new h =
-    asked_by (λ _ w. Stay old w) old k result new _ _ h (refused old) (λ x is n free e. stay_table old new _ e.1 (slots_changed (option_map (with_body _)) old.contexts.slots c refl, refl))
-
 taken_slots : (t : ContextTable) (w : ℕ) (m : Option CtxId) → SlotsStay t.slots (taken_of t w m).slots
 taken_slots t w None = slots_same t.slots t.slots refl
 taken_slots t w (Some c) = slots_changed (option_map emptied) t.slots c refl
-
--- what a worker cleans up it cleans up still, or it is cleaned
-abbrev CleansOn : World → World → Type 0
-CleansOn old new = (k : ℕ) (c : CtxId) → cleaning_of old.contexts.cleaning k ≡ Some c → (cleaning_of new.contexts.cleaning k ≡ Some c) ⊎ IsGone new c
-
-abbrev Lasts : World → World → Type 0
-Lasts old new = SlotsStay old.contexts.slots new.contexts.slots × CleansOn old new
-
-lasts : (old new : World) → Stay old new → Lasts old new
-lasts old new stay = (stay.0, λ k c busy. inl (ap (λ (xs : List (Option CtxId)). cleaning_of xs k) stay.1 ∙ busy))
 
 taken_on : (t : ContextTable) (w : ℕ) (m : Option CtxId) (k : ℕ) (c : CtxId) → cleaning_of t.cleaning w ≡ None → cleaning_of t.cleaning k ≡ Some c
     → cleaning_of (taken_of t w m).cleaning k ≡ Some c
@@ -365,7 +260,7 @@ taken_on t w (Some d) k c idle busy =
 due_lasts : (old : World) (k : WorkerId) (result : Result (Option Due) Status) (new : World) → TakesDue old k result new → IsSound old → Lasts old new
 unfolding TakesDue
 due_lasts old k result new h s =
-    idle_by (λ _ w. Lasts old w) k result old new _ h (λ why. lasts old old (refused old why)) (λ at e. subst (Lasts old) (sym e.1) (
+    idle_by (λ _ w. Lasts old w) k result old new _ h (refused old) (λ at e. subst (Lasts old) (sym e.1) (
       taken_slots old.contexts k.0 (slice_get old.contexts.due 0),
       λ n c busy. inl (taken_on old.contexts k.0 (slice_get old.contexts.due 0) n c (s.owned.cleaning k.0 ∙ ap cleanup_in at) busy),
     ))
@@ -382,41 +277,67 @@ cleaned_on old w d new made own = λ k c busy.
 
 cleaned_lasts : (old : World) (k : WorkerId) (number : ℕ) (result : Result (Unit {0}) Status) (new : World) → Cleans old k number result new → IsSound old → Lasts old new
 cleaned_lasts old k number result new h s =
-    cleaned_by (λ _ w. Lasts old w) old k number result new h (λ why. lasts old old (refused old why)) (λ c at e.
+    cleaned_by (λ _ w. Lasts old w) old k number result new h (refused old) (λ c at e.
     let made = ap (λ (w : World). w.contexts) e.1 in (
       subst (λ (t : ContextTable). SlotsStay old.contexts.slots t.slots) (sym made) (slots_changed (λ (x : Option Context). None) old.contexts.slots c refl),
       cleaned_on old k c new made (s.owned.cleaning k.0 ∙ ap cleanup_in at),
     ))
 
-finish_stay : (old : World) (i : InstanceId) (result : Result (Unit {0}) Status) (new : World) → Finishes old i result new → Stay old new
-unfolding Finishes
-finish_stay old i result new h = answers_by (λ _ w. Stay old w) _ result old new _ h (refused old) (λ v free f. table_still old.contexts new.contexts (ap (λ (w : World). w.contexts) f))
-
 -- every event
 
 step_lasts : (old : World) (x : Step) (r : StepReply) (new : World) → Steps old x r new → IsSound old → Lasts old new
-step_lasts old (Step.Register name registration) (StepReply.Filter r) new h s = lasts old new (register_stay old name registration r new h)
-step_lasts old (Step.Mount name) (StepReply.Volume r) new h s = lasts old new (mount_stay old name r new h)
-step_lasts old (Step.Attach k f v name altitude) (StepReply.Instance r) new h s = lasts old new (attach_stay old k f v name altitude r new h)
-step_lasts old (Step.SetupDone k accept) (StepReply.Done r) new h s = lasts old new (setup_stay old k accept r new h)
-step_lasts old (Step.Begin what) (StepReply.Operation r) new h s = lasts old new (begin_stay old what r new h)
-step_lasts old (Step.Next k o) (StepReply.Action r) new h s = lasts old new (next_stay old k o r new h)
-step_lasts old (Step.PreReturned k verdict lent) (StepReply.Done r) new h s = lasts old new (pre_stay old k verdict lent r new h)
-step_lasts old (Step.BaseReturned k call given) (StepReply.Done r) new h s = lasts old new (base_stay old k call given r new h)
-step_lasts old (Step.PostReturned k verdict lent) (StepReply.Done r) new h s = lasts old new (post_stay old k verdict lent r new h)
-step_lasts old (Step.Collect o) (StepReply.Answer r) new h s = lasts old new (collect_stay old o r new h)
-step_lasts old (Step.Allocate k what body) (StepReply.Context r) new h s = lasts old new (allocate_stay old k what body r new h)
-step_lasts old (Step.Set k c mode wants) (StepReply.Set r) new h s = lasts old new (set_stay old k c mode wants r new h)
-step_lasts old (Step.Get k what) (StepReply.Context r) new h s = lasts old new (get_stay old k what r new h)
-step_lasts old (Step.Delete k what wants) (StepReply.Old r) new h s = lasts old new (delete_stay old k what wants r new h)
-step_lasts old (Step.Reference k c) (StepReply.Done r) new h s = lasts old new (reference_stay old k c r new h)
-step_lasts old (Step.Release k c) (StepReply.Done r) new h s = lasts old new (release_stay old k c r new h)
-step_lasts old (Step.ReadBody k c) (StepReply.Body r) new h s = lasts old new (read_stay old k c r new h)
-step_lasts old (Step.WriteBody k c bytes) (StepReply.Done r) new h s = lasts old new (write_stay old k c bytes r new h)
-step_lasts old (Step.Bump k c at by) (StepReply.Number r) new h s = lasts old new (bump_stay old k c at by r new h)
+unfolding Registers Mounts Attaches Begins Collects Allocates Gets Deletes References Releases ReadsBody WritesBody Bumps Finishes
+step_lasts old (Step.Register name registration) (StepReply.Filter r) new h s = kept old new (ap contexts_in h.1)
+step_lasts old (Step.Mount name) (StepReply.Volume r) new h s = kept old new (ap contexts_in h.1)
+step_lasts old (Step.Attach k f v name altitude) (StepReply.Instance r) new h s =
+    idle_by (λ _ w. Lasts old w) k r old new _ h (refused old) (λ at e. kept old new (ap contexts_in e.1))
+step_lasts old (Step.SetupDone k accept) (StepReply.Done r) new h s =
+    setup_by (λ _ w. Lasts old w) old k accept r new h (refused old) (λ i at e. lasts old new new.contexts refl
+    (table_after old.contexts e.1 new.contexts (table_same old.contexts e.1 e.2.slots e.2.cleaning) (emptied_stays old i e.1 new.contexts r e.3)))
+step_lasts old (Step.Begin what) (StepReply.Operation r) new h s =
+    memory_by (λ _ w. Lasts old w) _ r old new _ h (refused old) (λ o free e. kept old new (ap contexts_in e.1 ∙ begun_contexts old what))
+step_lasts old (Step.Next k o) (StepReply.Action r) new h s =
+    next_by (λ _ w. Lasts old w) old k o r new h (refused old) (λ e.
+    let stay = subst (TableStays old.contexts) (sym (ap contexts_in e.over.1)) (received_stays old.contexts k r) in
+    known_cases (Lasts old) r e.lies e.mid new e.loses (λ loses. loses_lasts old e.mid new loses stay) (lasts old e.mid e.mid.contexts refl stay))
+step_lasts old (Step.PreReturned k given lent) (StepReply.Done r) new h s =
+    pre_by (λ _ w. Lasts old w) old k given lent r new h (refused old) (λ o i at fits e.
+    let along = sent_in (state_at old k o i given) in
+    let held = sent old.contexts k along in
+    loses_lasts old e.0 new e.2 (table_after old.contexts held e.0.contexts (sent_stays old.contexts k along) (table_same held e.0.contexts e.1.0.slots e.1.0.cleaning)))
+step_lasts old (Step.BaseReturned k call given) (StepReply.Done r) new h s =
+    base_by (λ _ w. Lasts old w) old k call given r new h (refused old) (λ o at fits loses. loses_lasts old _ new loses (table_still old.contexts old.contexts refl))
+step_lasts old (Step.PostReturned k given lent) (StepReply.Done r) new h s =
+    post_by (λ _ w. Lasts old w) old k given lent r new h (refused old)
+    (λ o i back at fits e. lasts old new new.contexts refl (table_same old.contexts new.contexts e.0.slots e.0.cleaning))
+    (λ o i at e. lasts old new new.contexts refl (table_same old.contexts new.contexts e.0.slots e.0.cleaning))
+step_lasts old (Step.Collect o) (StepReply.Answer r) new h s = kept old new (ap contexts_in h.1)
+step_lasts old (Step.Allocate k what body) (StepReply.Context r) new h s =
+    taken_by (λ _ w. Lasts old w) old k r new _ _ h (refused old) (λ at is c free e. lasts old new _ (ap contexts_in e.1) (slots_placed old.contexts.slots c _ e.0, refl))
+step_lasts old (Step.Set k c mode wants) (StepReply.Set r) new h s =
+    set_by (λ _ w. Lasts old w) old k c mode wants r new h (refused old) (λ at is free x o there of e.
+    lasts old new _ (ap contexts_in e.1) (set_stays (carries old) old.contexts k.0 c o mode wants (holder old.contexts.slots x.owner o)))
+step_lasts old (Step.Get k what) (StepReply.Context r) new h s =
+    asked_by (λ _ w. Lasts old w) old k r new _ _ h (refused old) (λ at is c free e. lasts old new _ (ap contexts_in e.1) (table_still old.contexts old.contexts refl))
+step_lasts old (Step.Delete k what wants) (StepReply.Old r) new h s =
+    asked_by (λ _ w. Lasts old w) old k r new _ _ h (refused old) (λ at is c free e.
+    lasts old new _ (ap contexts_in e.1) (deleted_stays (carries old) old.contexts k.0 wants (there_at old what at)))
+step_lasts old (Step.Reference k c) (StepReply.Done r) new h s =
+    asked_by (λ _ w. Lasts old w) old k r new _ _ h (refused old) (λ at is v free e. lasts old new _ (ap contexts_in e) (table_still old.contexts old.contexts refl))
+step_lasts old (Step.Release k c) (StepReply.Done r) new h s =
+    asked_by (λ _ w. Lasts old w) old k r new _ _ h (refused old) (λ at is v free e. lasts old new _ (ap contexts_in e) (table_still old.contexts old.contexts refl))
+step_lasts old (Step.ReadBody k c) (StepReply.Body r) new h s =
+    taken_by (λ _ w. Lasts old w) old k r new _ _ h (refused old) (λ at is body free e. kept old new (ap contexts_in e.1))
+step_lasts old (Step.WriteBody k c bytes) (StepReply.Done r) new h s =
+    asked_by (λ _ w. Lasts old w) old k r new _ _ h (refused old) (λ at is v free e.
+    lasts old new _ (ap contexts_in e) (slots_changed (option_map (with_body bytes)) old.contexts.slots c refl, refl))
+step_lasts old (Step.Bump k c at by) (StepReply.Number r) new h s =
+    asked_by (λ _ w. Lasts old w) old k r new _ _ h (refused old) (λ x is n free e.
+    lasts old new _ (ap contexts_in e.1) (slots_changed (option_map (with_body _)) old.contexts.slots c refl, refl))
 step_lasts old (Step.TakeDue k) (StepReply.Due r) new h s = due_lasts old k r new h s
 step_lasts old (Step.Cleaned k number) (StepReply.Done r) new h s = cleaned_lasts old k number r new h s
-step_lasts old (Step.Finish i) (StepReply.Done r) new h s = lasts old new (finish_stay old i r new h)
+step_lasts old (Step.Finish i) (StepReply.Done r) new h s =
+    answers_by (λ _ w. Lasts old w) _ r old new _ h (refused old) (λ v free e. kept old new (ap contexts_in e))
 step_lasts old _ _ new h s = absurd h
 
 -- ---- what is given, and what is due

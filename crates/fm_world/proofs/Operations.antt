@@ -80,10 +80,6 @@ pub none_else : (m n : Option Status) → or_else m n ≡ None → n ≡ None
 none_else (Some why) n h = cc
 none_else None n h = h
 
-pub none_first : (m n : Option Status) → or_else m n ≡ None → m ≡ None
-none_first (Some why) n h = cc
-none_first None n h = refl
-
 pub asked_within : (within : Bool) (m : Option Status) → cond within m (Some Status.BadRequest) ≡ None → (within ≡ true) × (m ≡ None)
 asked_within true m h = (refl, h)
 asked_within false m h = cc

@@ -81,16 +81,6 @@ tied_stays workers t o r f ho same stage tied p s =
     let alike : one ((o.0 == p.0) && is_spot s (spot_of (f r))) ≡ one ((o.0 == p.0) && is_spot s (spot_of r)) = ap (λ b. one ((o.0 == p.0) && b)) (stage s) in
     omega (arith, stands, alike, tied p s)
 
--- a worker moves between places outside operations
-pub tied_elsewhere : (workers : List Worker) (t : FlowTable) (k : WorkerId) (a b : Worker) → worker_at workers k ≡ Some a
-    → ((p : OpId) (s : Spot) → is_in_at p s a ≡ false) → ((p : OpId) (s : Spot) → is_in_at p s b ≡ false)
-    → AreTied workers t → AreTied (put workers k b) t
-tied_elsewhere workers t k a b ha na nb tied p s =
-    let moves = count_moves (is_in_at p s) workers k a b ha in
-    let from : one (is_in_at p s a) ≡ 0 = ap one (na p s) in
-    let to : one (is_in_at p s b) ≡ 0 = ap one (nb p s) in
-    omega (arith, moves, from, to, tied p s)
-
 and_false : (b : Bool) → (b && false) ≡ false
 and_false true = refl
 and_false false = refl

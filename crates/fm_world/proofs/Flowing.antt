@@ -1,5 +1,5 @@
 -- The events on operations leave contexts as the World says.
-use Rattle.std.proofs.Common.{◌≡◌, ℕ, ◌<◌, ◌≤◌, ◌+◌, ◌==◌, Bool, true, false, cond, List, [], ◌∷◌, ◌++◌, length, not, Option, Some, None, Result, Ok, Err, slice_get, option_to_list, find, refl, ap, sym, ◌∙◌, subst, inl, inr, arith}
+use Rattle.std.proofs.Common.{◌≡◌, ℕ, ◌<◌, ◌≤◌, ◌+◌, ◌==◌, Bool, true, false, cond, List, [], ◌∷◌, ◌++◌, length, not, Option, Some, None, Result, Ok, slice_get, option_to_list, find, refl, ap, sym, ◌∙◌, subst, inl, inr, arith}
 use Rattle.std.specs.Prelude.{All, slice_set, ◌||◌, ◌-◌, ◌^◌, nat_le}
 use Rattle.std.specs.List.{list_any}
 use Rattle.std.proofs.lemmas.Bool.{false≢true, true≢false, cases_Bool, and_parts, ne_eqb}
@@ -18,10 +18,10 @@ use Rattle.fm_world.proofs.Words.{collected_in, marked, removed, is_full, verdic
 use Rattle.fm_world.proofs.Words.{owed_drain_settled, base_counted, creates, is_unanswered, is_create, Begin, Worker, World, carries, worker_at, put}
 use Rattle.fm_world.proofs.Words.{after_next, cleanup_in, row_at, place_in, HoldsIn, CarriesIn, AskCarries, fits, is_flown, is_flown_by, LosesByKnown, Begins}
 use Rattle.fm_world.proofs.Words.{Nexts, NextsOver, LiesBelow, PreReturns, BaseReturns, PostReturns, ReturnsFrom, Collects, brought, received, returned}
-use Rattle.fm_world.proofs.Words.{drains_at, state_at, state_given, held_context, of_hand, sent, sent_in, carries_after, has_post, begin_refused, begun_on}
-use Rattle.fm_world.proofs.Words.{begun_at, after_begin, moved_on, has_no_handle_left, filed_next, filed_pre, filed_base, filed_record, is_created_on}
-use Rattle.fm_world.proofs.Words.{base_step, base_returned, asked_refused, asked_begun, refused_at, IsSound, IsUnderWay, IsOwned, IsAmong, IsFileSound}
-use Rattle.fm_world.proofs.Words.{names_there, pre_step, FileHandle, FileStream, FileTable, stream_at, handle_at, stream_for, created, after_pre, params_of}
+use Rattle.fm_world.proofs.Words.{drains_at, state_at, state_given, held_context, of_hand, sent, sent_in, carries_after, has_post, begun_on}
+use Rattle.fm_world.proofs.Words.{moved_on, has_no_handle_left, filed_next, filed_pre, filed_base, filed_record, is_created_on}
+use Rattle.fm_world.proofs.Words.{base_step, base_returned, asked_refused, asked_begun, IsSound, IsUnderWay, IsOwned, IsAmong, IsFileSound}
+use Rattle.fm_world.proofs.Words.{names_there, pre_step, FileHandle, FileStream, FileTable, handle_at, stream_for, created, after_pre}
 use Rattle.fm_flow.specs.Sound as flow
 use Rattle.fm_data.specs.declared.verdict.Completion.{Completion}
 use Rattle.fm_flow.specs.Table.{without_first}
@@ -36,11 +36,19 @@ use Rattle.fm_world.proofs.Fitting.{AllPass}
 use Rattle.fm_world.proofs.Keeps.{known_cases, loses_under_way, FiledIn}
 use Rattle.fm_world.proofs.Losing.{NamedIn, received_slots, loses_filed, loses_owned, loses_named, loses_sound, named_more, created_there, moved_there}
 use Rattle.fm_world.proofs.Events.{Turns, next_by, pre_by, base_by, post_by}
-use Rattle.fm_world.proofs.Operations.{begin_keeps, next_keeps, pre_keeps, base_keeps, post_keeps, drain_keeps, collect_keeps, inside_pre, inside_base, inside_post, inside_drain, may_visit, told_there, full_from, begins_at, asked_within}
+use Rattle.fm_world.proofs.Operations.{next_keeps, pre_keeps, base_keeps, post_keeps, drain_keeps, collect_keeps, inside_pre, inside_base, inside_post, inside_drain, may_visit, told_there}
 use Rattle.fm_world.proofs.Owning.{empty_hand, cleaning_stays}
-use Rattle.fm_world.proofs.Filing.{was_known, filed_creates, asks_no_create}
+use Rattle.fm_world.proofs.Filing.{was_known, filed_creates}
 use Rattle.fm_world.proofs.Filed.{SameFile, file_step, file_answered, file_pre, file_lists, file_begins, file_creates, file_collects, is_known, next_same_file, known_answered, base_answered, answered_same, fits_create}
 use Rattle.fm_world.proofs.Descents.{or_left, or_right}
+use Rattle.fm_world.proofs.Operations.{asked_begun_by}
+use Rattle.fm_world.proofs.Operations.{begun_by}
+use Rattle.fm_world.proofs.Operations.{lists_keeps}
+use Rattle.fm_world.proofs.Operations.{creates_keeps}
+use Rattle.fm_world.proofs.Operations.{asks_keeps}
+use Rattle.fm_world.proofs.Events.{memory_by}
+use Rattle.fm_types.specs.declared.operation.CreateMode.{CreateMode}
+use Rattle.fm_world.specs.Events.{created_begun}
 
 -- ---- one operation changes
 
@@ -130,75 +138,49 @@ operation_owned old v stream handle path p files k =
       totals = k.totals;
     }
 
-on_owned : (old : World) (h : HandleId) (p : Params) (x : FileHandle) (m : Option FileStream) → IsOwned old → IsOwned (begun_on old h p x m)
-on_owned old h p x None s = s
-on_owned old h p x (Some y) s = operation_owned old y.volume (Some x.stream) (Some h) (Some y.path) p (moved_on (operation_of p) h old.flow.next old.files) s
+asks_sound : (old : World) (h : HandleId) (p : Params) (x : FileHandle) (y : FileStream) → is_create (operation_of p) ≡ false → handle_at h old.files ≡ Some x
+    → is_within_limits p ≡ true → is_full old.flow ≡ false → IsSound old → IsSound (begun_on old h p x (Some y))
+asks_sound old h p x y none at within free s =
+    let files = moved_on (operation_of p) h old.flow.next old.files in
+    record {
+      under_way = asks_keeps old h p x y none within free s.under_way;
+      owned = operation_owned old y.volume (Some x.stream) (Some h) (Some y.path) p files s.owned;
+      filed = file_begins old.files old.flow y.volume h x old.stack.births (Some y.path) p at none s.filed;
+      links = named_more old.files files old.contexts.slots (moved_there (operation_of p) h old.flow.next old.files) s.links;
+    }
 
-at_owned : (old : World) (h : HandleId) (p : Params) (m : Option FileHandle) → IsOwned old → IsOwned (begun_at old h p m)
-at_owned old h p None s = s
-at_owned old h p (Some x) s = on_owned old h p x (stream_at x.stream old.files) s
-
-after_begin_owned : (old : World) (what : Begin) → IsOwned old → IsOwned (after_begin old what)
-after_begin_owned old (Begin.List v) s = operation_owned old v None None None Params.List old.files s
-after_begin_owned old (Begin.Create v path mode) s =
-    operation_owned old v (Some (stream_for v path old.flow.next old.files)) None (Some path) (Params.Create path mode) (created v path old.flow.next old.files) s
-after_begin_owned old (Begin.OnHandle h asked) s = at_owned old h (params_of asked) (handle_at h old.files) s
-
-on_filed : (old : World) (h : HandleId) (p : Params) (x : FileHandle) (m : Option FileStream) → handle_at h old.files ≡ Some x → is_create (operation_of p) ≡ false
-    → FiledIn old → FiledIn (begun_on old h p x m)
-on_filed old h p x None at none s = s
-on_filed old h p x (Some y) at none s = file_begins old.files old.flow y.volume h x old.stack.births (Some y.path) p at none s
-
-at_filed : (old : World) (h : HandleId) (p : Params) (m : Option FileHandle) → handle_at h old.files ≡ m → is_create (operation_of p) ≡ false → FiledIn old
-    → FiledIn (begun_at old h p m)
-at_filed old h p None at none s = s
-at_filed old h p (Some x) at none s = on_filed old h p x (stream_at x.stream old.files) at none s
-
-after_begin_filed : (old : World) (what : Begin) → begin_refused old what ≡ None → FiledIn old → FiledIn (after_begin old what)
-after_begin_filed old (Begin.List v) free s = file_lists old.files old.flow v old.stack.births s
-after_begin_filed old (Begin.Create v path mode) free s =
-    let many = full_from _ _ (is_full old.flow || has_no_handle_left old) free in
-    let room = nat_le 4096 (length old.files.handles + creates old.flow) in
-    file_creates old.files old.flow v path old.stack.births (Some path) (Params.Create path mode) refl
-    (filed_creates old.files old.flow v path (Some (stream_for v path old.flow.next old.files)) None old.stack.births (Some path) (Params.Create path mode)
-    (or_left room (old.files.next == 2 ^ 64 - 1) (or_right (is_full old.flow) (has_no_handle_left old) many)) s.room) s
-after_begin_filed old (Begin.OnHandle h asked) free s = at_filed old h (params_of asked) (handle_at h old.files) refl (asks_no_create asked) s
-
-on_named : (old : World) (h : HandleId) (p : Params) (x : FileHandle) (m : Option FileStream) → NamedIn old → NamedIn (begun_on old h p x m)
-on_named old h p x None s = s
-on_named old h p x (Some y) s =
-    named_more old.files (moved_on (operation_of p) h old.flow.next old.files) old.contexts.slots (moved_there (operation_of p) h old.flow.next old.files) s
-
-at_named : (old : World) (h : HandleId) (p : Params) (m : Option FileHandle) → NamedIn old → NamedIn (begun_at old h p m)
-at_named old h p None s = s
-at_named old h p (Some x) s = on_named old h p x (stream_at x.stream old.files) s
-
-after_begin_named : (old : World) (what : Begin) → NamedIn old → NamedIn (after_begin old what)
-after_begin_named old (Begin.List v) s = s
-after_begin_named old (Begin.Create v path mode) s =
-    named_more old.files (created v path old.flow.next old.files) old.contexts.slots (created_there v path old.flow.next old.files) s
-after_begin_named old (Begin.OnHandle h asked) s = at_named old h (params_of asked) (handle_at h old.files) s
+creates_sound : (old : World) (v : VolumeId) (path : List ℕ) (mode : CreateMode) → is_full old.flow || has_no_handle_left old ≡ false → IsSound old
+    → IsSound (created_begun old v path mode)
+creates_sound old v path mode free s =
+    let p = Params.Create path mode in
+    let stream = Some (stream_for v path old.flow.next old.files) in
+    let files = created v path old.flow.next old.files in
+    let room = or_left (nat_le 4096 (length old.files.handles + creates old.flow)) (old.files.next == 2 ^ 64 - 1) (or_right (is_full old.flow) (has_no_handle_left old) free) in
+    record {
+      under_way = creates_keeps old v path mode free s.under_way;
+      owned = operation_owned old v stream None (Some path) p files s.owned;
+      filed = file_creates old.files old.flow v path old.stack.births (Some path) p refl
+          (filed_creates old.files old.flow v path stream None old.stack.births (Some path) p room s.filed.room) s.filed;
+      links = named_more old.files files old.contexts.slots (created_there v path old.flow.next old.files) s.links;
+    }
 
 -- an operation on a handle begins
 pub asked_sound : (old : World) (h : HandleId) (p : Params) → asked_refused old h p ≡ None → is_create (operation_of p) ≡ false → IsSound old → IsSound (asked_begun old h p)
-asked_sound old h p free none s =
-    let parts = asked_within (is_within_limits p) (refused_at old p (handle_at h old.files)) free in
-    record {
-      under_way = begins_at old h p (handle_at h old.files) none parts.0 parts.1 s.under_way;
-      owned = at_owned old h p (handle_at h old.files) s.owned;
-      filed = at_filed old h p (handle_at h old.files) refl none s.filed;
-      links = at_named old h p (handle_at h old.files) s.links;
-    }
+asked_sound old h p free none s = asked_begun_by IsSound old h p free (λ x y at within room. asks_sound old h p x y none at within room s)
 
 pub begin_sound : (old : World) (what : Begin) (result : Result OpId Status) (new : World) → Begins old what result new → IsSound old → IsSound new
 unfolding Begins
-begin_sound old what (Err why) new h s = subst IsSound (sym h.1) s
-begin_sound old what (Ok o) new h s = record {
-  under_way = begin_keeps old what (Ok o) new h s.under_way;
-  owned = subst IsOwned (sym h.1.1) (after_begin_owned old what s.owned);
-  filed = subst FiledIn (sym h.1.1) (after_begin_filed old what h.0 s.filed);
-  links = subst NamedIn (sym h.1.1) (after_begin_named old what s.links);
-}
+begin_sound old what result new h s =
+    memory_by (λ _ w. IsSound w) _ result old new _ h (λ why. s) (λ o free e. subst IsSound (sym e.1)
+    (begun_by IsSound old what free
+    (λ v room. record {
+      under_way = lists_keeps old v room s.under_way;
+      owned = operation_owned old v None None None Params.List old.files s.owned;
+      filed = file_lists old.files old.flow v old.stack.births s.filed;
+      links = s.links;
+    })
+    (λ v path mode room. creates_sound old v path mode room s)
+    (λ h p x y none at within room. asks_sound old h p x y none at within room s)))
 
 -- ---- next
 

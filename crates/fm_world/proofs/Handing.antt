@@ -5,10 +5,10 @@ use Rattle.std.proofs.lemmas.List.{set-get_or, set-set}
 use Rattle.std.proofs.lemmas.List.Sums.{sum_by-cons}
 use Rattle.fm_world.proofs.Words.{ContextKind, CtxId, OpId, WorkerId, Status, PreVerdict, PostVerdict, Data, Object, SetMode, Keep, Replace, hand_of}
 use Rattle.fm_world.proofs.Words.{is_hand_full, set_after, set_mode_after, delete_after, unlinked_for, Leaves, ContextTable, FlowRecord, SetAnswer, Begin}
-use Rattle.fm_world.proofs.Words.{pairs_in, OnlyHandOf, KeepsHands, World, carries, Begins, state_at, sent_in, sent, PreReturns, PostReturns, after_begin}
-use Rattle.fm_world.proofs.Words.{begun_on, begun_at, carries_after, there_at, Sets, Deletes, stream_at, handle_at, LosesLinks, params_of, FileHandle}
-use Rattle.fm_world.proofs.Words.{FileStream}
+use Rattle.fm_world.proofs.Words.{pairs_in, OnlyHandOf, KeepsHands, World, carries, Begins, state_at, sent_in, sent, PreReturns, PostReturns}
+use Rattle.fm_world.proofs.Words.{carries_after, there_at, Sets, Deletes, LosesLinks}
 use Rattle.fm_world.proofs.Events.{memory_by, asked_by, set_by, pre_by, post_by}
+use Rattle.fm_world.proofs.Operations.{begun_by}
 
 -- ---- lists of hands
 
@@ -88,22 +88,11 @@ set_hand old k c mode wants result new h =
 left_hand : (carried : CtxId → ℕ) (k : ℕ) (hands : List (List CtxId)) (kept left : ContextTable) → Leaves carried kept left k → DifferAt k hands kept.hands → DifferAt k hands left.hands
 left_hand carried k hands kept left l (hand, e) = ([], l.hands ∙ ap (λ (xs : List (List CtxId)). slice_set xs k []) e ∙ set-set hands k hand [])
 
-begun_hands : (old : World) (what : Begin) → (after_begin old what).contexts.hands ≡ old.contexts.hands
-begun_hands old (Begin.List v) = refl
-begun_hands old (Begin.Create v path mode) = refl
-begun_hands old (Begin.OnHandle h asked) = by_handle (handle_at h old.files)
-  where
-    by_stream : (x : FileHandle) (m : Option FileStream) → (begun_on old h (params_of asked) x m).contexts.hands ≡ old.contexts.hands
-    by_stream x None = refl
-    by_stream x (Some y) = refl
-
-    by_handle : (m : Option FileHandle) → (begun_at old h (params_of asked) m).contexts.hands ≡ old.contexts.hands
-    by_handle None = refl
-    by_handle (Some x) = by_stream x (stream_at x.stream old.files)
-
 pub begin_hands : (old : World) (what : Begin) (result : Result OpId Status) (new : World) → Begins old what result new → KeepsHands old new
 unfolding Begins
-begin_hands old what result new h n = memory_by (λ _ w. OnlyHandOf n old w) _ result old new _ h (same n old) (λ o free f. keeps old new (ap (λ (w : World). w.contexts.hands) f.1 ∙ begun_hands old what) n)
+begin_hands old what result new h n = memory_by (λ _ w. OnlyHandOf n old w) _ result old new _ h (same n old) (λ o free e.
+    keeps old new (ap (λ (w : World). w.contexts.hands) e.1
+    ∙ begun_by (λ w. w.contexts.hands ≡ old.contexts.hands) old what free (λ v room. refl) (λ v path mode room. refl) (λ h p x y none at within room. refl)) n)
 
 -- links go, and all hands stay
 loses_hand : (k : ℕ) (old mid new : World) → LosesLinks mid new → OnlyHandOf k old mid → OnlyHandOf k old new

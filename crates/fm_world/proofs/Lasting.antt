@@ -10,10 +10,10 @@ use Rattle.fm_world.proofs.Words.{InstanceId, WorkerId, Status, Due}
 use Rattle.fm_world.proofs.Words.{Object, SetMode, Keep, Replace, one, is_id, cleaning_of, is_hand_full, is_waiting, is_id-refl, first_placed, places_cleaned}
 use Rattle.fm_world.proofs.Words.{context_at-here, IsNew, new_slot, placed, with_body, emptied, due_of, taken_due, taken_of, cleaned, with_link, set_after}
 use Rattle.fm_world.proofs.Words.{set_mode_after, unlinked_for, delete_after, linked, holder, swept, swept_slot, Context, Slot, ContextTable, context_in}
-use Rattle.fm_world.proofs.Words.{context_at, changed_slot, change_context, FlowAction, FileHandle, FileStream, Begin, Step, StepReply, Worker}
+use Rattle.fm_world.proofs.Words.{context_at, changed_slot, change_context, FlowAction, Step, StepReply, Worker}
 use Rattle.fm_world.proofs.Words.{there_at, Allocates, Gets, Deletes, References, Releases, ReadsBody, WritesBody, Bumps, TakesDue, Cleans, Finishes}
 use Rattle.fm_world.proofs.Words.{Unless, brought, received, Registers, Mounts, Attaches, EmptiesUnless, Begins}
-use Rattle.fm_world.proofs.Words.{Collects, begun_on, begun_at, after_begin, sent, handle_at, stream_at, LosesLinks, params_of, Steps, Run}
+use Rattle.fm_world.proofs.Words.{Collects, sent, LosesLinks, Steps, Run}
 use Rattle.fm_world.proofs.Words.{World, carries, empty_world, IsSound, worker_at, is_idle, cleanup_in}
 use Rattle.fm_world.specs.Lasting.{given_by, due_by, Comes, IsGone, ContextsLast}
 use Rattle.fm_world.proofs.Events.{memory_by, answers_by, asked_by, taken_by, idle_by, idle_there, setup_by, next_by, pre_by, base_by, post_by, cleaned_by, set_by}
@@ -21,6 +21,7 @@ use Rattle.fm_world.proofs.Keeps.{known_cases}
 use Rattle.fm_world.proofs.Runs.{step_keeps, run_keeps, empty_sound}
 use Rattle.fm_world.proofs.Words.{sent_in}
 use Rattle.fm_world.proofs.Words.{state_at}
+use Rattle.fm_world.proofs.Operations.{begun_by}
 
 -- ---- slots
 
@@ -189,19 +190,6 @@ loses_lasts old mid new h stay =
     lasts old new new.contexts refl
     (table_after old.contexts mid.contexts new.contexts stay (subst (SlotsStay mid.contexts.slots) (sym h.0.slots) (slots_swept _ mid.contexts.slots), h.0.cleaning))
 
-begun_contexts : (old : World) (what : Begin) → (after_begin old what).contexts ≡ old.contexts
-begun_contexts old (Begin.List v) = refl
-begun_contexts old (Begin.Create v path mode) = refl
-begun_contexts old (Begin.OnHandle h asked) = by_handle (handle_at h old.files)
-  where
-    by_stream : (x : FileHandle) (m : Option FileStream) → (begun_on old h (params_of asked) x m).contexts ≡ old.contexts
-    by_stream x None = refl
-    by_stream x (Some y) = refl
-
-    by_handle : (m : Option FileHandle) → (begun_at old h (params_of asked) m).contexts ≡ old.contexts
-    by_handle None = refl
-    by_handle (Some x) = by_stream x (stream_at x.stream old.files)
-
 brought_stays : (t : ContextTable) (k : WorkerId) (m : Option CtxId) → TableStays t (brought t k m)
 brought_stays t k None = table_still t t refl
 brought_stays t k (Some c) = table_same t (brought t k (Some c)) refl refl
@@ -295,7 +283,8 @@ step_lasts old (Step.SetupDone k accept) (StepReply.Done r) new h s =
     setup_by (λ _ w. Lasts old w) old k accept r new h (refused old) (λ i at e. lasts old new new.contexts refl
     (table_after old.contexts e.1 new.contexts (table_same old.contexts e.1 e.2.slots e.2.cleaning) (emptied_stays old i e.1 new.contexts r e.3)))
 step_lasts old (Step.Begin what) (StepReply.Operation r) new h s =
-    memory_by (λ _ w. Lasts old w) _ r old new _ h (refused old) (λ o free e. kept old new (ap contexts_in e.1 ∙ begun_contexts old what))
+    memory_by (λ _ w. Lasts old w) _ r old new _ h (refused old) (λ o free e.
+    kept old new (ap contexts_in e.1 ∙ begun_by (λ w. w.contexts ≡ old.contexts) old what free (λ v room. refl) (λ v path mode room. refl) (λ h p x y none at within room. refl)))
 step_lasts old (Step.Next k o) (StepReply.Action r) new h s =
     next_by (λ _ w. Lasts old w) old k o r new h (refused old) (λ e.
     let stay = subst (TableStays old.contexts) (sym (ap contexts_in e.over.1)) (received_stays old.contexts k r) in

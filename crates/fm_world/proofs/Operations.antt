@@ -17,7 +17,7 @@ use Rattle.fm_world.proofs.Words.{drain_returned_of, base_fits, is_done, done_at
 use Rattle.fm_world.proofs.Words.{drains_push, drains_pre_settled, drains_post_settled, drains_drain_settled, none_running, FlowTable, IsFlow, operation_at}
 use Rattle.fm_world.proofs.Words.{changed, told, begun, begun_record, is_full, is_number, collected_of, collected_in, is_collectable, marked, removed}
 use Rattle.fm_world.proofs.Words.{verdict_counted, completed_as, last_visited, last_posted, base_counted, Begin, Worker, World, worker_at, put, after_next}
-use Rattle.fm_world.proofs.Words.{Begins, LiesBelow, Collects, returned, received, state_at, state_given, drains_at, of_hand, has_post, or_else}
+use Rattle.fm_world.proofs.Words.{LiesBelow, Collects, returned, received, state_at, state_given, drains_at, of_hand, has_post, or_else}
 use Rattle.fm_world.proofs.Words.{begin_refused, refused_on, refused_at, begun_on, begun_at, after_begin, moved_on, has_no_handle_left, filed_next, base_step}
 use Rattle.fm_world.proofs.Words.{Spot, AtPre, AtBase, AtPost, AtDrain, spot_at, spot_of, is_spot, is_among, IsUnderWay, IsAmong, is_in_setup, is_in_at}
 use Rattle.fm_world.proofs.Words.{pre_step, FileHandle, FileStream, FileTable, stream_at, handle_at, stream_for, created, params_of, phase_refusal}
@@ -41,6 +41,10 @@ use Rattle.fm_world.proofs.Words.{turn}
 use Rattle.fm_flow.specs.Steps.{with_drain}
 use Rattle.fm_world.proofs.Words.{PreVisit}
 use Rattle.fm_flow.specs.declared.entry.PostVisit.{PostVisit}
+use Rattle.fm_world.proofs.Words.{asked_refused}
+use Rattle.fm_world.proofs.Words.{asked_begun}
+use Rattle.fm_types.specs.declared.operation.CreateMode.{CreateMode}
+use Rattle.fm_world.specs.Events.{created_begun}
 
 -- operations change, and workers with them
 flow_moves : (w : World) (t : FlowTable) (workers : List Worker) → IsFlow t → All (IsAmong w.stack) t.operations → length workers ≡ 48
@@ -112,33 +116,45 @@ names_none : (path : Option (List ℕ)) (p : Params) → is_create (operation_of
 names_none path (Params.Create own mode) none = cc
 names_none path _ none = refl
 
--- what doesn't refuse an operation on a handle
-begins_on : (old : World) (h : HandleId) (p : Params) (x : FileHandle) (m : Option FileStream) → is_create (operation_of p) ≡ false → is_within_limits p ≡ true
-    → refused_on old p x m ≡ None → IsUnderWay old → IsUnderWay (begun_on old h p x m)
-begins_on old h p x None none within free s = s
-begins_on old h p x (Some y) none within free s =
-    operation_begins old y.volume (Some x.stream) (Some h) (Some y.path) p (moved_on (operation_of p) h old.flow.next old.files) (names_none (Some y.path) p none) within
-    (full_from _ _ (is_full old.flow) (none_else (phase_refusal old.flow (operation_of p) x.phase) _ free)) s
+-- what begins on a handle that is open, where nothing refuses it
+pub asked_begun_by : (P : World → Type 0) (old : World) (h : HandleId) (p : Params) → asked_refused old h p ≡ None
+    → ((x : FileHandle) (y : FileStream) → handle_at h old.files ≡ Some x → is_within_limits p ≡ true → is_full old.flow ≡ false → P (begun_on old h p x (Some y))) → P (asked_begun old h p)
+asked_begun_by P old h p free event = by_handle (handle_at h old.files) refl parts.1
+  where
+    parts : (is_within_limits p ≡ true) × (refused_at old p (handle_at h old.files) ≡ None)
+    parts = asked_within (is_within_limits p) (refused_at old p (handle_at h old.files)) free
 
-pub begins_at : (old : World) (h : HandleId) (p : Params) (m : Option FileHandle) → is_create (operation_of p) ≡ false → is_within_limits p ≡ true
-    → refused_at old p m ≡ None → IsUnderWay old → IsUnderWay (begun_at old h p m)
-begins_at old h p None none within free s = s
-begins_at old h p (Some x) none within free s = begins_on old h p x (stream_at x.stream old.files) none within free s
+    by_stream : (x : FileHandle) (m : Option FileStream) → handle_at h old.files ≡ Some x → refused_on old p x m ≡ None → P (begun_on old h p x m)
+    by_stream x None at free = cc
+    by_stream x (Some y) at free = event x y at parts.0 (full_from _ _ (is_full old.flow) (none_else (phase_refusal old.flow (operation_of p) x.phase) _ free))
 
-after_begin_keeps : (old : World) (what : Begin) → begin_refused old what ≡ None → IsUnderWay old → IsUnderWay (after_begin old what)
-after_begin_keeps old (Begin.List v) free s = operation_begins old v None None None Params.List old.files refl refl (full_from _ _ (is_full old.flow) free) s
-after_begin_keeps old (Begin.Create v path mode) free s =
+    by_handle : (m : Option FileHandle) → handle_at h old.files ≡ m → refused_at old p m ≡ None → P (begun_at old h p m)
+    by_handle None at free = cc
+    by_handle (Some x) at free = by_stream x (stream_at x.stream old.files) at free
+
+-- what begins: a listing, a create, or an operation on a handle
+pub begun_by : (P : World → Type 0) (old : World) (what : Begin) → begin_refused old what ≡ None
+    → ((v : VolumeId) → is_full old.flow ≡ false → P (after_begin old (Begin.List v)))
+    → ((v : VolumeId) (path : List ℕ) (mode : CreateMode) → is_full old.flow || has_no_handle_left old ≡ false → P (created_begun old v path mode))
+    → ((h : HandleId) (p : Params) (x : FileHandle) (y : FileStream) → is_create (operation_of p) ≡ false → handle_at h old.files ≡ Some x → is_within_limits p ≡ true
+    → is_full old.flow ≡ false → P (begun_on old h p x (Some y))) → P (after_begin old what)
+begun_by P old (Begin.List v) free lists creates asks = lists v (full_from _ _ (is_full old.flow) free)
+begun_by P old (Begin.Create v path mode) free lists creates asks = creates v path mode (full_from _ _ (is_full old.flow || has_no_handle_left old) free)
+begun_by P old (Begin.OnHandle h asked) free lists creates asks = asked_begun_by P old h (params_of asked) free (λ x y. asks h (params_of asked) x y (asks_no_create asked))
+
+pub lists_keeps : (old : World) (v : VolumeId) → is_full old.flow ≡ false → IsUnderWay old → IsUnderWay (after_begin old (Begin.List v))
+lists_keeps old v free s = operation_begins old v None None None Params.List old.files refl refl free s
+
+pub creates_keeps : (old : World) (v : VolumeId) (path : List ℕ) (mode : CreateMode) → is_full old.flow || has_no_handle_left old ≡ false → IsUnderWay old
+    → IsUnderWay (created_begun old v path mode)
+creates_keeps old v path mode free s =
     operation_begins old v (Some (stream_for v path old.flow.next old.files)) None (Some path) (Params.Create path mode) (created v path old.flow.next old.files)
-    ((bytes_decides path path).1 refl) refl
-    (or_left (is_full old.flow) (has_no_handle_left old) (full_from _ _ (is_full old.flow || has_no_handle_left old) free)) s
-after_begin_keeps old (Begin.OnHandle h asked) free s =
-    let parts = asked_within (is_within_limits (params_of asked)) (refused_at old (params_of asked) (handle_at h old.files)) free in
-    begins_at old h (params_of asked) (handle_at h old.files) (asks_no_create asked) parts.0 parts.1 s
+    ((bytes_decides path path).1 refl) refl (or_left (is_full old.flow) (has_no_handle_left old) free) s
 
-pub begin_keeps : (old : World) (what : Begin) (result : Result OpId Status) (new : World) → Begins old what result new → IsUnderWay old → IsUnderWay new
-unfolding Begins
-begin_keeps old what (Err why) new h s = subst IsUnderWay (sym h.1) s
-begin_keeps old what (Ok o) new h s = subst IsUnderWay (sym h.1.1) (after_begin_keeps old what h.0 s)
+pub asks_keeps : (old : World) (h : HandleId) (p : Params) (x : FileHandle) (y : FileStream) → is_create (operation_of p) ≡ false → is_within_limits p ≡ true → is_full old.flow ≡ false
+    → IsUnderWay old → IsUnderWay (begun_on old h p x (Some y))
+asks_keeps old h p x y none within free s =
+    operation_begins old y.volume (Some x.stream) (Some h) (Some y.path) p (moved_on (operation_of p) h old.flow.next old.files) (names_none (Some y.path) p none) within free s
 
 -- ---- next
 

@@ -10,8 +10,7 @@ use Rattle.std.proofs.lemmas.List.Folds.{list_any-append}
 use Rattle.fm_world.proofs.Words.{VolumeId, Status, Operation, StackWorld, is_candidate, is_to_visit, IsHighest, Follows, IsStack, Stage, Descending, InBase}
 use Rattle.fm_world.proofs.Words.{Ascending, PostRunning, PostHeld, Entry, Pre, Base, Post, Drain, PreVisit, PreState, PostState, visit_of, visited}
 use Rattle.fm_world.proofs.Words.{last_visited, post_of, posted, last_posted, is_base, has_base, settle_pre, settle_post, settle_drain, post_leads, after}
-use Rattle.fm_world.proofs.Words.{walk, way_of, if_down, IsDescent, HasRoom, last_of, IsAmongAt, NoneLeft}
-use Rattle.fm_flow.specs.declared.entry.PostVisit.{PostVisit}
+use Rattle.fm_world.proofs.Words.{walk, way_of, if_down, PostVisit, IsDescent, HasRoom, last_of, IsAmongAt, NoneLeft}
 use Rattle.fm_world.proofs.Descents.{descent_begins, descent_visits, descent_reaches, descent_follows, none_follows, room_begins, room_visits, room_follows, last_of-cons, last_of-push}
 
 -- ---- an operation on its way down has no base entry

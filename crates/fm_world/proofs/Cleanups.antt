@@ -11,9 +11,9 @@ use Rattle.fm_world.proofs.Words.{finish_row, finished, Due, Owner, one, is_id, 
 use Rattle.fm_world.proofs.Words.{is_open, open_of, same_owner, Context, Slot, context_at, change_context, is_id-refl, is_id-same, references_cons}
 use Rattle.fm_world.proofs.Words.{references_none, hand_counted, take_due_keeps, cleaned_keeps, count_cleaning, within_hands, context_at-other, Ask}
 use Rattle.fm_world.proofs.Words.{carried_in, carried_among, carried_by, owed, FlowRecord, total, Worker, World, worker_at, put, cleanup_in, Spot, AtPre}
-use Rattle.fm_world.proofs.Words.{is_in_at, is_in_drain, row_at, place_in, fits, owner_fits, link_fits, may_link, is_left_by}
-use Rattle.fm_world.proofs.Words.{keeps_links_by, is_flown_by, belongs, belongs_by, HoldsIn, CarriesIn, AskCarries, after_due, TakesDue, totalled_for}
-use Rattle.fm_world.proofs.Words.{filter_of, Cleans, is_gone_at, Finishes, IsSound, IsUnderWay, IsOwned, is_in_setup, setup_row, names_there}
+use Rattle.fm_world.proofs.Words.{is_in_at, is_in_drain, row_at, place_in, fits, owner_fits, link_fits, may_link, is_left_by, keeps_links_by, is_flown_by}
+use Rattle.fm_world.proofs.Words.{belongs, belongs_by, HoldsIn, CarriesIn, AskCarries, after_due, TakesDue, totalled_for, filter_of, Cleans, is_gone_at}
+use Rattle.fm_world.proofs.Words.{Finishes, IsSound, IsUnderWay, IsOwned, is_in_setup, setup_row, names_there}
 use Rattle.fm_stack.proofs.Finishing.{finished_keeps, finished_follows, emptying_row}
 use Rattle.fm_world.proofs.Belonging.{owners_changed, owners_same, belongs_still, filters_same, FiltersStay, AllHold, all_hold, all_hold_still, others_stay, all_carry_still}
 use Rattle.fm_world.proofs.Callbacks.{none_of, not_false, same_hands}

@@ -5,8 +5,8 @@ use Rattle.std.proofs.lemmas.List.{set-get_or, set-set}
 use Rattle.std.proofs.lemmas.List.Sums.{sum_by-cons}
 use Rattle.fm_world.proofs.Words.{ContextKind, CtxId, OpId, WorkerId, Status, PreVerdict, PostVerdict, Data, Object, SetMode, Keep, Replace, hand_of}
 use Rattle.fm_world.proofs.Words.{is_hand_full, set_after, set_mode_after, delete_after, unlinked_for, Leaves, ContextTable, FlowRecord, SetAnswer, Begin}
-use Rattle.fm_world.proofs.Words.{pairs_in, OnlyHandOf, KeepsHands, World, carries, Begins, state_at, sent_in, sent, PreReturns, PostReturns}
-use Rattle.fm_world.proofs.Words.{carries_after, there_at, Sets, Deletes, LosesLinks}
+use Rattle.fm_world.proofs.Words.{pairs_in, OnlyHandOf, KeepsHands, World, carries, Begins, state_at, sent_in, sent, PreReturns, PostReturns, carries_after}
+use Rattle.fm_world.proofs.Words.{there_at, Sets, Deletes, LosesLinks}
 use Rattle.fm_world.proofs.Events.{memory_by, asked_by, set_by, pre_by, post_by}
 use Rattle.fm_world.proofs.Operations.{begun_by}
 

@@ -7,8 +7,7 @@ use Rattle.std.proofs.lemmas.Option.{none-some, same_Some}
 use Rattle.std.proofs.lemmas.List.Elements.{All-weaker}
 use Rattle.fm_world.proofs.Words.{FilterId, VolumeId, InstanceId, WorkerId, OpId, Status, Registration, updated, Instance, Phase, StackWorld, is_setup}
 use Rattle.fm_world.proofs.Words.{Follows, IsStack, ContextTable, Below, FlowAction, Worker, LosesLinks, World, worker_at, put, after_attach, LosesByKnown}
-use Rattle.fm_world.proofs.Words.{Registers, Mounts, Spot, AtPre, is_in_at, is_in_drain, IsUnderWay, IsAmong, is_in_setup, setup_row}
-use Rattle.fm_world.proofs.Words.{IsFileSound, FileTable}
+use Rattle.fm_world.proofs.Words.{Registers, Mounts, Spot, AtPre, is_in_at, is_in_drain, IsUnderWay, IsAmong, is_in_setup, setup_row, IsFileSound, FileTable}
 use Rattle.fm_stack.specs.Events as stack
 use Rattle.fm_stack.proofs.Registering.{registered_keeps, registered_follows, mounted_keeps, mounted_follows}
 use Rattle.fm_stack.proofs.Attaching.{attached_keeps, attached_follows}

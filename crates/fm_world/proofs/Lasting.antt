@@ -6,21 +6,17 @@ use Rattle.std.proofs.lemmas.Option.{none-some, same_Some, slice_get-map, slice_
 use Rattle.std.proofs.lemmas.List.{get_or-set_same, get_or-set_other}
 use Rattle.std.specs.Prelude.{IfOk}
 use Rattle.fm_world.proofs.Words.{slice_get-kept, slice_get-push, slice_get-set_same, slice_get-set_other, updated-same, updated-other, ContextKind, CtxId}
-use Rattle.fm_world.proofs.Words.{InstanceId, WorkerId, Status, Due}
-use Rattle.fm_world.proofs.Words.{Object, SetMode, Keep, Replace, one, is_id, cleaning_of, is_hand_full, is_waiting, is_id-refl, first_placed, places_cleaned}
-use Rattle.fm_world.proofs.Words.{context_at-here, IsNew, new_slot, placed, with_body, emptied, due_of, taken_due, taken_of, cleaned, with_link, set_after}
-use Rattle.fm_world.proofs.Words.{set_mode_after, unlinked_for, delete_after, linked, holder, swept, swept_slot, Context, Slot, ContextTable, context_in}
-use Rattle.fm_world.proofs.Words.{context_at, changed_slot, change_context, FlowAction, Step, StepReply, Worker}
-use Rattle.fm_world.proofs.Words.{there_at, Allocates, Gets, Deletes, References, Releases, ReadsBody, WritesBody, Bumps, TakesDue, Cleans, Finishes}
-use Rattle.fm_world.proofs.Words.{Unless, brought, received, Registers, Mounts, Attaches, EmptiesUnless, Begins}
-use Rattle.fm_world.proofs.Words.{Collects, sent, LosesLinks, Steps, Run}
-use Rattle.fm_world.proofs.Words.{World, carries, empty_world, IsSound, worker_at, is_idle, cleanup_in}
+use Rattle.fm_world.proofs.Words.{InstanceId, WorkerId, Status, Due, Object, SetMode, Keep, Replace, one, is_id, cleaning_of, is_hand_full, is_waiting}
+use Rattle.fm_world.proofs.Words.{is_id-refl, first_placed, places_cleaned, context_at-here, IsNew, new_slot, placed, with_body, emptied, due_of, taken_due}
+use Rattle.fm_world.proofs.Words.{taken_of, cleaned, with_link, set_after, set_mode_after, unlinked_for, delete_after, linked, holder, swept, swept_slot}
+use Rattle.fm_world.proofs.Words.{Context, Slot, ContextTable, context_in, context_at, changed_slot, change_context, FlowAction, Step, StepReply, Worker}
+use Rattle.fm_world.proofs.Words.{there_at, Allocates, Gets, Deletes, References, Releases, ReadsBody, WritesBody, Bumps, TakesDue, Cleans, Finishes, Unless}
+use Rattle.fm_world.proofs.Words.{brought, received, Registers, Mounts, Attaches, EmptiesUnless, Begins, Collects, sent, LosesLinks, Steps, Run, World}
+use Rattle.fm_world.proofs.Words.{carries, empty_world, IsSound, worker_at, is_idle, cleanup_in, sent_in, state_at}
 use Rattle.fm_world.specs.Lasting.{given_by, due_by, Comes, IsGone, ContextsLast}
 use Rattle.fm_world.proofs.Events.{memory_by, answers_by, asked_by, taken_by, idle_by, idle_there, setup_by, next_by, pre_by, base_by, post_by, cleaned_by, set_by}
 use Rattle.fm_world.proofs.Keeps.{known_cases}
 use Rattle.fm_world.proofs.Runs.{step_keeps, run_keeps, empty_sound}
-use Rattle.fm_world.proofs.Words.{sent_in}
-use Rattle.fm_world.proofs.Words.{state_at}
 use Rattle.fm_world.proofs.Operations.{begun_by}
 
 -- ---- slots

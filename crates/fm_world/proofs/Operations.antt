@@ -8,19 +8,20 @@ use Rattle.std.proofs.lemmas.Option.{none-some, same_Some}
 use Rattle.std.proofs.lemmas.List.Elements.{All-push, All-head, All-tail}
 use Rattle.std.specs.Prelude.{◌&&◌}
 use Rattle.fm_world.proofs.Words.{InstanceId, OpId, WorkerId, Operation, Status, first_of, found_holds, all_change, all_without, find_without, HandleId}
-use Rattle.fm_world.proofs.Words.{StreamId, VolumeId, BaseCall, Params, Answer, PreVerdict, PostVerdict, Data, data_fits, are_on, is_within_limits}
-use Rattle.fm_world.proofs.Words.{operation_of, StackWorld, IsStack, hand_of, ContextTable, Below, FlowAction, Ask, Base, Post, Drain, PreState, PostState}
-use Rattle.fm_world.proofs.Words.{Stage, Descending, PreRunning, InBase, Ascending, PostRunning, InDrain, FlowRecord, visited, owed}
-use Rattle.fm_world.proofs.Words.{has_base, settle_pre, settle_post, settle_drain, times, Turned, next_of, call_pre, call_base}
-use Rattle.fm_world.proofs.Words.{give_post, pre_leads, post_leads, pre_returned_of, post_returned_of, post_state}
-use Rattle.fm_world.proofs.Words.{drain_returned_of, base_fits, is_done, done_at, MayLieBelow, way_of, is_running_drain, drain_opens, is_create}
-use Rattle.fm_world.proofs.Words.{drains_push, drains_pre_settled, drains_post_settled, drains_drain_settled, none_running, FlowTable, IsFlow, operation_at}
-use Rattle.fm_world.proofs.Words.{changed, told, begun, begun_record, is_full, is_number, collected_of, collected_in, is_collectable, marked, removed}
-use Rattle.fm_world.proofs.Words.{verdict_counted, completed_as, last_visited, last_posted, base_counted, Begin, Worker, World, worker_at, put, after_next}
-use Rattle.fm_world.proofs.Words.{LiesBelow, Collects, returned, received, state_at, state_given, drains_at, of_hand, has_post, or_else}
-use Rattle.fm_world.proofs.Words.{begin_refused, refused_on, refused_at, begun_on, begun_at, after_begin, moved_on, has_no_handle_left, filed_next, base_step}
-use Rattle.fm_world.proofs.Words.{Spot, AtPre, AtBase, AtPost, AtDrain, spot_at, spot_of, is_spot, is_among, IsUnderWay, IsAmong, is_in_setup, is_in_at}
-use Rattle.fm_world.proofs.Words.{pre_step, FileHandle, FileStream, FileTable, stream_at, handle_at, stream_for, created, params_of, phase_refusal}
+use Rattle.fm_world.proofs.Words.{StreamId, VolumeId, CreateMode, BaseCall, Params, Answer, PreVerdict, PostVerdict, Data, data_fits, are_on}
+use Rattle.fm_world.proofs.Words.{is_within_limits, operation_of, StackWorld, IsStack, hand_of, ContextTable, Below, FlowAction, Ask, Base, Post, Drain}
+use Rattle.fm_world.proofs.Words.{PreState, PostState, Stage, Descending, PreRunning, InBase, Ascending, PostRunning, InDrain, FlowRecord, visited, owed}
+use Rattle.fm_world.proofs.Words.{has_base, settle_pre, settle_post, settle_drain, times, Turned, next_of, call_pre, call_base, give_post, pre_leads}
+use Rattle.fm_world.proofs.Words.{post_leads, pre_returned_of, post_returned_of, post_state, drain_returned_of, base_fits, is_done, done_at, MayLieBelow}
+use Rattle.fm_world.proofs.Words.{way_of, is_running_drain, drain_opens, is_create, drains_push, drains_pre_settled, drains_post_settled}
+use Rattle.fm_world.proofs.Words.{drains_drain_settled, none_running, FlowTable, IsFlow, operation_at, changed, told, begun, begun_record, is_full, is_number}
+use Rattle.fm_world.proofs.Words.{collected_of, collected_in, is_collectable, marked, removed, verdict_counted, completed_as, last_visited, last_posted}
+use Rattle.fm_world.proofs.Words.{base_counted, bare_ask, turn, with_drain, PreVisit, PostVisit, Begin, Worker, World, worker_at, put, after_next, LiesBelow}
+use Rattle.fm_world.proofs.Words.{Collects, returned, received, state_at, state_given, drains_at, of_hand, has_post, or_else, begin_refused, refused_on}
+use Rattle.fm_world.proofs.Words.{refused_at, begun_on, begun_at, after_begin, moved_on, has_no_handle_left, filed_next, base_step, Spot, AtPre, AtBase}
+use Rattle.fm_world.proofs.Words.{AtPost, AtDrain, spot_at, spot_of, is_spot, is_among, IsUnderWay, IsAmong, is_in_setup, is_in_at, pre_step, FileHandle}
+use Rattle.fm_world.proofs.Words.{FileStream, FileTable, stream_at, handle_at, stream_for, created, params_of, phase_refusal, gives_nothing, asked_refused}
+use Rattle.fm_world.proofs.Words.{asked_begun, created_begun}
 use Rattle.fm_flow.specs.Sound as flow
 use Rattle.fm_flow.specs.Table.{without_first}
 use Rattle.fm_flow.proofs.Soundness.{sound_pre_returned, sound_base, sound_post_returned, sound_drain_returned}
@@ -35,16 +36,6 @@ use Rattle.fm_world.proofs.Amongs.{is_up, no_base, visit_last, post_last, among_
 use Rattle.fm_world.proofs.Descents.{next_unseen, room_is, or_left, or_right}
 use Rattle.fm_world.proofs.Keeps.{whatever_files}
 use Rattle.fm_world.proofs.Turning.{each_turn}
-use Rattle.fm_world.proofs.Words.{gives_nothing}
-use Rattle.fm_flow.specs.Steps.{bare_ask}
-use Rattle.fm_world.proofs.Words.{turn}
-use Rattle.fm_flow.specs.Steps.{with_drain}
-use Rattle.fm_world.proofs.Words.{PreVisit}
-use Rattle.fm_flow.specs.declared.entry.PostVisit.{PostVisit}
-use Rattle.fm_world.proofs.Words.{asked_refused}
-use Rattle.fm_world.proofs.Words.{asked_begun}
-use Rattle.fm_types.specs.declared.operation.CreateMode.{CreateMode}
-use Rattle.fm_world.specs.Events.{created_begun}
 
 -- operations change, and workers with them
 flow_moves : (w : World) (t : FlowTable) (workers : List Worker) → IsFlow t → All (IsAmong w.stack) t.operations → length workers ≡ 48

@@ -1,39 +1,9 @@
 -- What `next` makes of an operation, decided once.
 use Rattle.std.proofs.Common.{◌≡◌, Bool, true, false, cond, List, Option, Some, None, Result, Ok, Err, slice_get, refl}
 use Rattle.std.specs.Prelude.{take}
-use Rattle.fm_world.proofs.Words.{Turned}
-use Rattle.fm_world.proofs.Words.{turn}
-use Rattle.fm_world.proofs.Words.{next_of}
-use Rattle.fm_world.proofs.Words.{next_at}
-use Rattle.fm_world.proofs.Words.{descend}
-use Rattle.fm_world.proofs.Words.{ascend}
-use Rattle.fm_world.proofs.Words.{call_pre}
-use Rattle.fm_world.proofs.Words.{call_base}
-use Rattle.fm_world.proofs.Words.{call_post}
-use Rattle.fm_world.proofs.Words.{give_post}
-use Rattle.fm_world.proofs.Words.{unwound_to}
-use Rattle.fm_flow.specs.Steps.{with_visit}
-use Rattle.fm_flow.specs.Steps.{bare_ask}
-use Rattle.fm_flow.specs.Steps.{with_base}
-use Rattle.fm_flow.specs.Steps.{with_drain}
-use Rattle.fm_world.proofs.Words.{may_take}
-use Rattle.fm_flow.specs.Answered.{bare_answer}
-use Rattle.fm_world.proofs.Words.{gives_nothing}
-use Rattle.fm_world.proofs.Words.{Below}
-use Rattle.fm_world.proofs.Words.{FlowAction}
-use Rattle.fm_world.proofs.Words.{WorkerId}
-use Rattle.fm_world.proofs.Words.{InstanceId}
-use Rattle.fm_world.proofs.Words.{Ask}
-use Rattle.fm_world.proofs.Words.{Params}
-use Rattle.fm_world.proofs.Words.{Status}
-use Rattle.fm_world.proofs.Words.{FlowRecord}
-use Rattle.fm_world.proofs.Words.{Stage}
-use Rattle.fm_world.proofs.Words.{Descending}
-use Rattle.fm_world.proofs.Words.{Ascending}
-use Rattle.fm_world.proofs.Words.{PreHeld}
-use Rattle.fm_world.proofs.Words.{PostHeld}
-use Rattle.fm_world.proofs.Words.{InDrain}
-use Rattle.fm_world.proofs.Words.{owed}
+use Rattle.fm_world.proofs.Words.{WorkerId, InstanceId, Status, Params, Turned, turn, next_of, next_at, descend, ascend, call_pre, call_base, call_post}
+use Rattle.fm_world.proofs.Words.{give_post, unwound_to, with_visit, bare_ask, with_base, with_drain, may_take, bare_answer, Below, FlowAction, Ask}
+use Rattle.fm_world.proofs.Words.{FlowRecord, Stage, Descending, Ascending, PreHeld, PostHeld, InDrain, owed, gives_nothing}
 
 -- P of each thing that it may answer and make of the operation
 pub record EachTurn (P : Turned → Type 0) (k : WorkerId) (lies : Below) (r : FlowRecord) : Type 0 where

@@ -14,6 +14,7 @@ pub use Rattle.fm_types.specs.declared.ids.OpId.{OpId}
 pub use Rattle.fm_types.specs.declared.ids.StreamId.{StreamId}
 pub use Rattle.fm_types.specs.declared.ids.VolumeId.{VolumeId}
 pub use Rattle.fm_types.specs.declared.ids.WorkerId.{WorkerId}
+pub use Rattle.fm_types.specs.declared.operation.CreateMode.{CreateMode}
 pub use Rattle.fm_types.specs.declared.operation.Operation.{Operation}
 pub use Rattle.fm_types.specs.declared.registration.Registration.{Registration}
 pub use Rattle.fm_types.specs.declared.status.Status.{Status}
@@ -64,16 +65,16 @@ pub use Rattle.fm_flow.proofs.Counting.{same_either, one_of_and, flight_pre_sett
 pub use Rattle.fm_flow.proofs.Counting.{owed_drain_settled}
 pub use Rattle.fm_flow.proofs.Drains.{drains_given, next_drains, drains_open, drains_push, drains_pre_settled, drains_post_settled, drains_drain_settled}
 pub use Rattle.fm_flow.proofs.Drains.{none_running}
-pub use Rattle.fm_flow.specs.Answered.{is_success, handle_given, base_counted}
+pub use Rattle.fm_flow.specs.Answered.{is_success, handle_given, bare_answer, base_counted}
 pub use Rattle.fm_flow.specs.Counts.{carried_in, carried_among, carried_by, drain_opens, flight, is_running_drain, leaves_at, handed, taken_by}
 pub use Rattle.fm_flow.specs.Creates.{is_create, is_unanswered, is_creating, is_on_stream, creates}
 pub use Rattle.fm_flow.specs.Entries.{visit_of, visited, last_visited, post_of, posted, last_posted, is_base, has_base, settle_pre, settle_post, settle_drain}
 pub use Rattle.fm_flow.specs.Entries.{owed, times, instances, ask_in}
 pub use Rattle.fm_flow.specs.Record.{FlowRecord}
 pub use Rattle.fm_flow.specs.Sound.{after, walk, way_of, if_down, IsCourse}
-pub use Rattle.fm_flow.specs.Steps.{post_leads, next_of, post_returned_of, drain_returned_of, base_fits, turn, next_at, descend, ascend, call_pre, call_base}
-pub use Rattle.fm_flow.specs.Steps.{call_post, give_post, unwound, unwound_to, may_take, pre_leads, pre_returned_of, base_returned_of, is_done, done_at}
-pub use Rattle.fm_flow.specs.Steps.{Turned, post_state, MayLieBelow}
+pub use Rattle.fm_flow.specs.Steps.{post_leads, next_of, post_returned_of, drain_returned_of, base_fits, give_post, pre_leads, pre_returned_of}
+pub use Rattle.fm_flow.specs.Steps.{base_returned_of, is_done, done_at, with_drain, Turned, with_base, post_state, call_pre, call_base, MayLieBelow, bare_ask}
+pub use Rattle.fm_flow.specs.Steps.{turn, next_at, descend, ascend, call_post, unwound_to, with_visit, may_take}
 pub use Rattle.fm_flow.specs.Table.{total, FlowTable, operation_at, changed, told, empty_table, is_number, removed, begun, begun_record, collected_of}
 pub use Rattle.fm_flow.specs.Table.{collected_in, is_collectable, marked, in_flight, carried, is_full, IsFlow}
 pub use Rattle.fm_flow.specs.Verdict.{verdict_counted, completed_as, is_counted}
@@ -83,6 +84,7 @@ pub use Rattle.fm_flow.specs.declared.entry.Ask.{Ask}
 pub use Rattle.fm_flow.specs.declared.entry.Entry.{Entry}
 pub use Rattle.fm_flow.specs.declared.entry.Entry.TheVariants.{Pre, Base, Post, Drain}
 pub use Rattle.fm_flow.specs.declared.entry.PostState.{PostState}
+pub use Rattle.fm_flow.specs.declared.entry.PostVisit.{PostVisit}
 pub use Rattle.fm_flow.specs.declared.entry.PreState.{PreState}
 pub use Rattle.fm_flow.specs.declared.entry.PreVisit.{PreVisit}
 pub use Rattle.fm_flow.specs.declared.stage.Stage.{Stage}
@@ -96,16 +98,16 @@ pub use Rattle.fm_world.specs.Descent.{IsDescent, HasRoom, last_of, is_among}
 pub use Rattle.fm_world.specs.Events.{Unless, SetsUpAt, FindsBelow, LiesBelow, NextsAt, NextsOver, LosesByKnown, PreReturnsAt, PreReturnsOver, BaseReturnsAt}
 pub use Rattle.fm_world.specs.Events.{PostReturnsAt, ReturnsFrom, pre_step, state_at, base_returned, drains_at, received, filed_next, flow_after_next}
 pub use Rattle.fm_world.specs.Events.{moved_on, is_created_on, brought, returned, state_given, held_context, of_hand, sent, sent_in, carries_after, has_post}
-pub use Rattle.fm_world.specs.Events.{begin_refused, begun_on, begun_at, after_begin, has_no_handle_left, filed_pre, filed_base, filed_record, base_step}
-pub use Rattle.fm_world.specs.Events.{asked_refused, asked_begun, refused_at, EmptiesUnless, or_else, refused_on}
+pub use Rattle.fm_world.specs.Events.{begun_on, has_no_handle_left, filed_pre, filed_base, filed_record, base_step, asked_refused, asked_begun, created_begun}
+pub use Rattle.fm_world.specs.Events.{EmptiesUnless, or_else, begin_refused, refused_on, refused_at, begun_at, after_begin}
 unfoldable pub use Rattle.fm_world.specs.Events.{SetsUp, Nexts, PreReturns, BaseReturns, PostReturns, Begins, Collects, Registers, Mounts, Attaches}
 pub use Rattle.fm_world.specs.FileLaws.{is_in_use, has_stream, has_stream_of, IsCreatedOn, IsOnHandle}
 pub use Rattle.fm_world.specs.Files.{FileTable, empty_files, is_handle, handle_at, opened, closed, left, created, stream_for, after_base, after_pre}
-pub use Rattle.fm_world.specs.Files.{is_stream, with_phase, with_mark, phased, torn_down, created_in, stream_of_path, has_handle_on, stream_at, fresh_stream}
-pub use Rattle.fm_world.specs.Files.{is_on, is_at_path, fresh_handle}
+pub use Rattle.fm_world.specs.Files.{with_phase, torn_down, created_in, stream_of_path, has_handle_on, is_stream, fresh_stream, phased, stream_at, is_on}
+pub use Rattle.fm_world.specs.Files.{is_at_path, fresh_handle, with_mark}
 pub use Rattle.fm_world.specs.Hands.{pairs_in, OnlyHandOf, KeepsHands, hand_len, HoldsMore, HoldsOneFewer, HoldsNone, given_with, given_by_set, given_by_next}
 pub use Rattle.fm_world.specs.Hands.{left_by_setup}
-pub use Rattle.fm_world.specs.Headline.{Spot, AtPre, AtBase, AtPost, AtDrain, is_in_at, is_in_drain, drains_running, spot_at, spot_of, is_spot, Headline}
+pub use Rattle.fm_world.specs.Headline.{Spot, AtPre, is_in_at, is_in_drain, drains_running, AtPost, AtBase, AtDrain, spot_at, spot_of, is_spot, Headline}
 pub use Rattle.fm_world.specs.Headline.{RulesKeepHeadline, DescendsIn, IsAscent, IsInOrder, stands_at}
 pub use Rattle.fm_world.specs.Links.{names_there, LosesLinks, is_there, is_on_gone}
 pub use Rattle.fm_world.specs.Owners.{row_at, owner_by, place_in, belongs, belongs_by, HoldsIn, CarriesIn, AskCarries, file_of, fits, owner_fits, link_fits}
@@ -114,7 +116,7 @@ pub use Rattle.fm_world.specs.Owners.{object_by, is_closing, holds_links, is_ins
 pub use Rattle.fm_world.specs.Requests.{params_of, phase_refusal}
 pub use Rattle.fm_world.specs.Sound.{IsAmongAt, NoneLeft, IsSound, IsOwned, IsUnderWay, is_in_setup, setup_row, IsFiled, IsFileSound, IsAmong}
 pub use Rattle.fm_world.specs.Steps.{Steps, Run, RunThrough}
-pub use Rattle.fm_world.specs.Workers.{worker_at, put, cleanup_in, after_next, is_idle, after_attach, gives_nothing}
+pub use Rattle.fm_world.specs.Workers.{worker_at, put, cleanup_in, after_next, is_idle, gives_nothing, after_attach}
 pub use Rattle.fm_world.specs.World.{World, carries, reference_count, empty_world, empty_stack}
 pub use Rattle.fm_world.specs.declared.file.FileHandle.{FileHandle}
 pub use Rattle.fm_world.specs.declared.file.FileObject.{FileObject}

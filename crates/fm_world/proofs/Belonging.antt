@@ -9,6 +9,9 @@ use Rattle.fm_world.proofs.Words.{ContextKind, CtxId, InstanceId, WorkerId, slic
 use Rattle.fm_world.proofs.Words.{IsNew, placed, same_owner, swept, swept_slot, Context, Slot, context_at, change_context, is_id-same, by_id}
 use Rattle.fm_world.proofs.Words.{context_at-swept, context_at-here, context_at-other, context_at-placed_other, new_absent, Ask, FlowRecord, owed, Worker}
 use Rattle.fm_world.proofs.Words.{worker_at, row_at, owner_by, place_in, belongs, belongs_by, HoldsIn, CarriesIn, AskCarries}
+use Rattle.fm_world.proofs.Words.{updated}
+use Rattle.fm_world.proofs.Words.{updated-same}
+use Rattle.fm_world.proofs.Words.{updated-other}
 
 -- ---- contexts keep their kind and owner
 
@@ -58,6 +61,20 @@ FiltersStay s t = (i : ℕ) (row : Instance) → slice_get s.instances i ≡ Som
 
 pub filters_same : (s : StackWorld) → FiltersStay s s
 filters_same s i row h = (row, h, refl)
+
+-- where one instance changes, and keeps its filter
+pub filters_updated : (s t : StackWorld) (change : Instance → Instance) (i : ℕ) → t.instances ≡ updated change s.instances i → ((row : Instance) → (change row).filter ≡ row.filter)
+    → FiltersStay s t
+filters_updated s t change i is keeps j row there =
+    elim (cases_eq j i) [
+      | inl e ↦ (
+        change row,
+        ap (λ (rows : List Instance). slice_get rows j) is ∙ subst (λ n. slice_get (updated change s.instances i) n ≡ Some (change row)) (sym e)
+            (updated-same change s.instances i row (ap (slice_get s.instances) (sym e) ∙ there)),
+        keeps row,
+      )
+      | inr apart ↦ (row, ap (λ (rows : List Instance). slice_get rows j) is ∙ updated-other change s.instances i j apart ∙ there, refl)
+    ]
 
 owner_follows : (a b : Instance) (i : InstanceId) (k : ContextKind) → b.filter ≡ a.filter → owner_by b i k ≡ owner_by a i k
 owner_follows a b i ContextKind.Volume e = ap Owner.Filter e

@@ -15,15 +15,16 @@ use Rattle.fm_world.proofs.Words.{is_in_at, is_in_drain, row_at, place_in, fits,
 use Rattle.fm_world.proofs.Words.{belongs, belongs_by, HoldsIn, CarriesIn, AskCarries, after_due, TakesDue, totalled_for, filter_of, Cleans, is_gone_at}
 use Rattle.fm_world.proofs.Words.{Finishes, IsSound, IsUnderWay, IsOwned, is_in_setup, setup_row, names_there}
 use Rattle.fm_stack.proofs.Finishing.{finished_keeps, finished_follows, emptying_row}
-use Rattle.fm_world.proofs.Belonging.{owners_changed, owners_same, belongs_still, filters_same, FiltersStay, AllHold, all_hold, all_hold_still, others_stay, all_carry_still}
+use Rattle.fm_world.proofs.Belonging.{owners_changed, owners_same, belongs_still, filters_same, AllHold, all_hold, all_hold_still, others_stay, all_carry_still}
 use Rattle.fm_world.proofs.Callbacks.{none_of, not_false, same_hands}
 use Rattle.fm_world.proofs.Fitting.{passes_changed, owner_stays, link_stays}
 use Rattle.fm_world.proofs.Counts.{count-cons}
-use Rattle.fm_world.proofs.Draining.{moves_undrained}
 use Rattle.fm_world.proofs.Events.{idle_by, cleaned_by}
-use Rattle.fm_world.proofs.Keeps.{moves_outside, workers_move, stack_moves, whatever_contexts}
-use Rattle.fm_world.proofs.Operations.{setups_stay}
+use Rattle.fm_world.proofs.Keeps.{whatever_contexts}
 use Rattle.fm_world.proofs.Ties.{idle_is_in_none}
+use Rattle.fm_world.proofs.Ties.{count_stays}
+use Rattle.fm_world.proofs.Keeps.{stack_changes}
+use Rattle.fm_world.proofs.Belonging.{filters_updated}
 
 -- ---- a worker goes into a cleanup, or comes out of it
 
@@ -31,12 +32,20 @@ cleanup_in_none : (c : CtxId) (p : OpId) (s : Spot) → is_in_at p s (Worker.Cle
 cleanup_in_none c p (AtPre i) = refl
 cleanup_in_none c p _ = refl
 
+-- a worker goes between idleness and a cleanup
 worker_moves : (w : World) (k : WorkerId) (a b : Worker) → worker_at w.workers k ≡ Some a
     → ((p : OpId) (s : Spot) → is_in_at p s a ≡ false) → ((p : OpId) (s : Spot) → is_in_at p s b ≡ false)
     → ((p : OpId) (i : ℕ) → is_in_drain p i a ≡ false) → ((p : OpId) (i : ℕ) → is_in_drain p i b ≡ false)
     → ((i : ℕ) → is_in_setup i a ≡ false) → ((i : ℕ) → is_in_setup i b ≡ false) → IsUnderWay w → IsUnderWay (record w { workers = put w.workers k b })
-worker_moves w k a b at na nb da db sa sb s =
-    workers_move w (put w.workers k b) (length-set w.workers k.0 b ∙ s.hands) (moves_outside w.workers k a b at na nb) (moves_undrained w.workers k a b at da db) (setups_stay w.workers k a b at sa sb) s
+worker_moves w k a b at na nb da db sa sb h = record {
+  stack = h.stack;
+  flow = h.flow;
+  among = h.among;
+  hands = length-set w.workers k.0 b ∙ h.hands;
+  workers = λ o spot. count_stays (is_in_at o spot) w.workers k a b at (na o spot) (nb o spot) ∙ h.workers o spot;
+  drains = λ o i. count_stays (is_in_drain o i) w.workers k a b at (da o i) (db o i) ∙ h.drains o i;
+  setups = λ i. count_stays (is_in_setup i) w.workers k a b at (sa i) (sb i) ∙ h.setups i;
+}
 
 -- the tie of cleanups and places, where one worker goes elsewhere
 cleaning_moves : (w : World) (k : WorkerId) (o : Option CtxId) (b : Worker) → k.0 < length w.workers → k.0 < length w.contexts.cleaning → o ≡ cleanup_in (Some b)
@@ -246,15 +255,6 @@ emptying_rests row h = at_phase row.phase h
     at_phase Phase.Emptying h = refl
     at_phase _ h = absurd (false≢true h)
 
-finish_filters : (s : StackWorld) (i : InstanceId) → FiltersStay s (finished s i)
-finish_filters s i j row there =
-    elim (cases_eq j i.0) [
-      | inl e ↦
-          let at : slice_get s.instances i.0 ≡ Some row = subst (λ n. slice_get s.instances n ≡ Some row) e there in
-          (finish_row row, subst (λ n. slice_get (finished s i).instances n ≡ Some (finish_row row)) (sym e) (updated-same finish_row s.instances i.0 row at), refl)
-      | inr apart ↦ (row, updated-other finish_row s.instances i.0 j apart ∙ there, refl)
-    ]
-
 -- who owns no open context
 none_open : (o : Owner) (slots : List Slot) → count_by (λ (x : Slot). is_open o x.context) slots ≡ 0 → All (λ (x : Slot). is_open o x.context ≡ false) slots
 none_open o [] h = All-nil (λ (x : Slot). is_open o x.context ≡ false)
@@ -297,13 +297,11 @@ finish_sound old i (Ok done) new h s =
     let t = finished old.stack i in
     let k = s.owned in
     let closed : open' ≡ 0 = omega (arith, ltb-false 0 open' empty.0) in
-    let still = belongs_still old.stack old.contexts.slots t old.contexts.slots (finish_filters old.stack i) (owners_same old.contexts.slots old.contexts.slots refl) in
+    let still = belongs_still old.stack old.contexts.slots t old.contexts.slots (filters_updated old.stack t finish_row i.0 refl (λ row. refl)) (owners_same old.contexts.slots old.contexts.slots refl) in
     subst IsSound (sym h.1)
     (record {
-      under_way = stack_moves old t old.workers (finished_keeps old.stack i s.under_way.stack row.0 row.1 row.2) (finished_follows old.stack i) s.under_way.hands
-          (λ o spot. refl) (λ o n. refl)
-          (λ j. s.under_way.setups j ∙ sym (setup_kept finish_row old.stack.instances i.0 j row.0 row.1 (sym (not_setup row.0.phase row.2))))
-          s.under_way;
+      under_way = stack_changes old t (finished_keeps old.stack i s.under_way.stack row.0 row.1 row.2) (finished_follows old.stack i)
+          (λ j. sym (setup_kept finish_row old.stack.instances i.0 j row.0 row.1 (sym (not_setup row.0.phase row.2)))) s.under_way;
       filed = s.filed;
       links = s.links;
       owned = record {

@@ -42,16 +42,6 @@ drained_stays workers t o r f ho same even tied p i =
     let alike : cond (o.0 == p.0) (drain_opens i (f r).entries) 0 ≡ cond (o.0 == p.0) (drain_opens i r.entries) 0 = ap (λ n. cond (o.0 == p.0) n 0) (even i) in
     omega (arith, told, alike, tied p i)
 
--- a worker moves between places outside drains
-pub moves_undrained : (workers : List Worker) (k : WorkerId) (a b : Worker) → worker_at workers k ≡ Some a
-    → ((p : OpId) (i : ℕ) → is_in_drain p i a ≡ false) → ((p : OpId) (i : ℕ) → is_in_drain p i b ≡ false)
-    → (p : OpId) (i : ℕ) → count_by (is_in_drain p i) (put workers k b) ≡ count_by (is_in_drain p i) workers
-moves_undrained workers k a b h na nb p i =
-    let moves = count_moves (is_in_drain p i) workers k a b h in
-    let from : one (is_in_drain p i a) ≡ 0 = ap one (na p i) in
-    let to : one (is_in_drain p i b) ≡ 0 = ap one (nb p i) in
-    omega (arith, moves, from, to)
-
 -- a worker that `next` gives a drain is in it
 pub next_drained : (workers : List Worker) (t : FlowTable) (k : WorkerId) (o : OpId) (lies : Below) (stops : Bool) (r : FlowRecord) → worker_at workers k ≡ Some Worker.Idle
     → operation_at o t ≡ Some r → ((x : FlowRecord) → (next_of k lies stops x).after.number.0 ≡ x.number.0) → AreDrained workers t

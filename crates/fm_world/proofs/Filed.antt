@@ -194,13 +194,7 @@ holds_answered f t o r step Operation.SetDelete (Some s) h why b at same stream 
     (holds_step f t.operations t.next (is_number o) step r at (same_answered f why r (step r) (ap is_create same) answered) k)
 holds_answered f t o r step Operation.Close (Some s) (Some g) why b at same stream handle unanswered answered is k =
     holds_closed f t.operations t.next (is_number o) step r s g b at stream handle (same_answered f why r (step r) (ap is_create same) answered) is k
-holds_answered f t o r step Operation.SetDelete None h why b at same stream handle unanswered answered is k =
-    holds_step f t.operations t.next (is_number o) step r at (same_answered f why r (step r) (ap is_create same) answered) k
-holds_answered f t o r step Operation.Close None h why b at same stream handle unanswered answered is k =
-    holds_step f t.operations t.next (is_number o) step r at (same_answered f why r (step r) (ap is_create same) answered) k
-holds_answered f t o r step Operation.Close (Some s) None why b at same stream handle unanswered answered is k =
-    holds_step f t.operations t.next (is_number o) step r at (same_answered f why r (step r) (ap is_create same) answered) k
-holds_answered f t o r step _ s h why b at same stream handle unanswered answered is k =
+holds_answered f t o r step _ _ _ why b at same stream handle unanswered answered is k =
     holds_step f t.operations t.next (is_number o) step r at (same_answered f why r (step r) (ap is_create same) answered) k
 
 -- the base answers an operation
@@ -319,16 +313,8 @@ holds_pre f t o r (PreState.Completed why) lent Operation.Create None b at same 
     absurd (create_on_none f t.operations t.next (is_number o) r at stream (and_from (is_create r.operation) (is_unanswered r.stage) (ap is_create same) (ap is_unanswered stage)) h.0)
 holds_pre f t o r (PreState.Completed why) lent _ s b at same stream stage is h =
     holds_step f t.operations t.next (is_number o) (pre_returned_of (PreState.Completed why) lent) r at (pre_other (PreState.Completed why) lent r (ap is_create same)) h
-holds_pre f t o r PreState.Held lent operation s b at same stream stage is h =
-    holds_step f t.operations t.next (is_number o) (pre_returned_of PreState.Held lent) r at (pre_same PreState.Held lent r stage refl) h
-holds_pre f t o r PreState.Running lent operation s b at same stream stage is h =
-    holds_step f t.operations t.next (is_number o) (pre_returned_of PreState.Running lent) r at (pre_same PreState.Running lent r stage refl) h
-holds_pre f t o r (PreState.Asked completion) lent operation s b at same stream stage is h =
-    holds_step f t.operations t.next (is_number o) (pre_returned_of (PreState.Asked completion) lent) r at (pre_same (PreState.Asked completion) lent r stage refl) h
-holds_pre f t o r (PreState.Synchronized completion) lent operation s b at same stream stage is h =
-    holds_step f t.operations t.next (is_number o) (pre_returned_of (PreState.Synchronized completion) lent) r at (pre_same (PreState.Synchronized completion) lent r stage refl) h
-holds_pre f t o r PreState.Passed lent operation s b at same stream stage is h =
-    holds_step f t.operations t.next (is_number o) (pre_returned_of PreState.Passed lent) r at (pre_same PreState.Passed lent r stage refl) h
+holds_pre f t o r given lent _ _ b at same stream stage is h =
+    holds_step f t.operations t.next (is_number o) (pre_returned_of given lent) r at (pre_same given lent r stage refl) h
 
 pub file_pre : (f : FileTable) (t : FlowTable) (o : OpId) (r : FlowRecord) (given : PreState) (lent : Data) → operation_at o t ≡ Some r → r.stage ≡ PreRunning → IsFileSound f t
     → IsFileSound (after_pre given r.operation r.stream (is_created_on r.stream (changed o (pre_returned_of given lent) t)) f) (changed o (pre_returned_of given lent) t)

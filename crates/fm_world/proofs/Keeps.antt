@@ -5,18 +5,17 @@ use Rattle.std.proofs.lemmas.Bool.{eq-eqb}
 use Rattle.std.proofs.lemmas.Bool.Decides.{nat_tests}
 use Rattle.std.proofs.lemmas.Option.{none-some, same_Some}
 use Rattle.std.proofs.lemmas.List.Elements.{All-weaker}
-use Rattle.fm_world.proofs.Words.{FilterId, VolumeId, InstanceId, WorkerId, OpId, Status, Registration, updated, Instance, Phase, StackWorld, is_setup}
+use Rattle.fm_world.proofs.Words.{FilterId, VolumeId, InstanceId, WorkerId, OpId, Status, updated, Instance, Phase, StackWorld, is_setup}
 use Rattle.fm_world.proofs.Words.{Follows, IsStack, ContextTable, Below, FlowAction, Worker, LosesLinks, World, worker_at, put, after_attach, LosesByKnown}
-use Rattle.fm_world.proofs.Words.{Registers, Mounts, Spot, AtPre, is_in_at, is_in_drain, IsUnderWay, IsAmong, is_in_setup, setup_row, IsFileSound, FileTable}
+use Rattle.fm_world.proofs.Words.{Spot, AtPre, is_in_at, is_in_drain, IsUnderWay, IsAmong, is_in_setup, setup_row, IsFileSound, FileTable}
 use Rattle.fm_stack.specs.Events as stack
-use Rattle.fm_stack.proofs.Registering.{registered_keeps, registered_follows, mounted_keeps, mounted_follows}
 use Rattle.fm_stack.proofs.Attaching.{attached_keeps, attached_follows}
 use Rattle.fm_stack.proofs.SettingUp.{accepted_keeps, accepted_follows, refused_keeps, refused_follows}
 use Rattle.fm_world.proofs.Counts.{count-some}
 pub use Rattle.fm_world.proofs.Events.{idle_there}
 use Rattle.fm_world.proofs.Ties.{one, count_moves, idle_is_in_none}
-use Rattle.fm_world.proofs.Draining.{moves_undrained}
 use Rattle.fm_world.proofs.Amongs.{among_follows}
+use Rattle.fm_world.proofs.Ties.{count_stays}
 
 -- streams, handles and the creates under way
 abbrev pub FiledIn : World → Type 0
@@ -38,21 +37,6 @@ known_cases P _ _ mid new h lost same = subst P (sym h) same
 pub whatever_files : (w : World) (t : ContextTable) (files : FileTable) → IsUnderWay w → IsUnderWay (record w { contexts = t; files = files })
 whatever_files w t files h = record { stack = h.stack; flow = h.flow; among = h.among; hands = h.hands; workers = h.workers; drains = h.drains; setups = h.setups }
 
--- workers move outside operations and setups
-pub workers_move : (w : World) (workers : List Worker) → length workers ≡ 48
-    → ((o : OpId) (spot : Spot) → count_by (is_in_at o spot) workers ≡ count_by (is_in_at o spot) w.workers)
-    → ((o : OpId) (i : ℕ) → count_by (is_in_drain o i) workers ≡ count_by (is_in_drain o i) w.workers)
-    → ((i : ℕ) → count_by (is_in_setup i) workers ≡ count_by (is_in_setup i) w.workers) → IsUnderWay w → IsUnderWay (record w { workers = workers })
-workers_move w workers hands same drains setups h = record {
-  stack = h.stack;
-  flow = h.flow;
-  among = h.among;
-  hands = hands;
-  workers = λ o spot. same o spot ∙ h.workers o spot;
-  drains = λ o i. drains o i ∙ h.drains o i;
-  setups = λ i. setups i ∙ h.setups i;
-}
-
 -- filters, volumes and instances change, workers move outside operations
 pub stack_moves : (w : World) (t : StackWorld) (workers : List Worker) → IsStack t → Follows w.stack t → length workers ≡ 48
     → ((o : OpId) (spot : Spot) → count_by (is_in_at o spot) workers ≡ count_by (is_in_at o spot) w.workers)
@@ -69,26 +53,11 @@ stack_moves w t workers stack follows hands same drains setups h = record {
   setups = setups;
 }
 
--- the rest is as it was
-same_rest : (old new : World) (t : StackWorld) → new.stack ≡ t → new ≡ record old { stack = new.stack } → new ≡ record old { stack = t }
-same_rest old new t e h = h ∙ ap (λ x. record old { stack = x }) e
-
-pub register_keeps : (old : World) (name : List ℕ) (registration : Registration) (result : Result FilterId Status) (new : World)
-    → Registers old name registration result new → IsUnderWay old → IsUnderWay new
-unfolding Registers stack.Registers
-register_keeps old name registration (Ok f) new h s =
-    subst IsUnderWay (sym (same_rest old new (stack.registered old.stack name registration) h.0.1.1 h.1))
-    (stack_moves old (stack.registered old.stack name registration) old.workers (registered_keeps old.stack name registration s.stack h.0.0)
-    (registered_follows old.stack name registration s.stack) s.hands (λ o spot. refl) (λ o i. refl) s.setups s)
-register_keeps old name registration (Err why) new h s = subst IsUnderWay (sym (same_rest old new old.stack h.0.1 h.1)) s
-
-pub mount_keeps : (old : World) (name : List ℕ) (result : Result VolumeId Status) (new : World) → Mounts old name result new → IsUnderWay old → IsUnderWay new
-unfolding Mounts stack.Mounts
-mount_keeps old name (Ok v) new h s =
-    subst IsUnderWay (sym (same_rest old new (stack.mounted old.stack name) h.0.1.1 h.1))
-    (stack_moves old (stack.mounted old.stack name) old.workers (mounted_keeps old.stack name s.stack h.0.0)
-    (mounted_follows old.stack name s.stack) s.hands (λ o spot. refl) (λ o i. refl) s.setups s)
-mount_keeps old name (Err why) new h s = subst IsUnderWay (sym (same_rest old new old.stack h.0.1 h.1)) s
+-- no worker moves
+pub stack_changes : (w : World) (t : StackWorld) → IsStack t → Follows w.stack t → ((i : ℕ) → setup_row (slice_get w.stack.instances i) ≡ setup_row (slice_get t.instances i))
+    → IsUnderWay w → IsUnderWay (record w { stack = t })
+stack_changes w t stack follows same h =
+    stack_moves w t w.workers stack follows h.hands (λ o spot. refl) (λ o i. refl) (λ i. h.setups i ∙ same i) h
 
 -- ---- attach
 
@@ -105,16 +74,6 @@ setup_in_none : (i : InstanceId) (p : OpId) (s : Spot) → is_in_at p s (Worker.
 setup_in_none i p (AtPre j) = refl
 setup_in_none i p _ = refl
 
--- a worker moves between places outside operations
-pub moves_outside : (workers : List Worker) (k : WorkerId) (a b : Worker) → worker_at workers k ≡ Some a
-    → ((p : OpId) (s : Spot) → is_in_at p s a ≡ false) → ((p : OpId) (s : Spot) → is_in_at p s b ≡ false)
-    → (p : OpId) (s : Spot) → count_by (is_in_at p s) (put workers k b) ≡ count_by (is_in_at p s) workers
-moves_outside workers k a b h na nb p s =
-    let moves = count_moves (is_in_at p s) workers k a b h in
-    let from : one (is_in_at p s a) ≡ 0 = ap one (na p s) in
-    let to : one (is_in_at p s b) ≡ 0 = ap one (nb p s) in
-    omega (arith, moves, from, to)
-
 same_all : (old new : World) (t : StackWorld) (workers : List Worker) → new.stack ≡ t → new ≡ record old { stack = new.stack; workers = workers }
     → new ≡ record old { stack = t; workers = workers }
 same_all old new t workers e h = h ∙ ap (λ x. record old { stack = x; workers = workers }) e
@@ -130,8 +89,8 @@ attach_keeps old k f v name altitude (Ok i) new idle h e s =
     subst IsUnderWay (sym (same_all old new t workers h.1.1 e))
     (stack_moves old t workers (attached_keeps old.stack f v name altitude s.stack h.0) (attached_follows old.stack f v name altitude s.stack)
     (length-set old.workers k.0 (Worker.Setup i) ∙ s.hands)
-    (moves_outside old.workers k Worker.Idle (Worker.Setup i) idle idle_is_in_none (setup_in_none i))
-    (moves_undrained old.workers k Worker.Idle (Worker.Setup i) idle (λ p n. refl) (λ p n. refl))
+    (λ p spot. count_stays (is_in_at p spot) old.workers k Worker.Idle (Worker.Setup i) idle (idle_is_in_none p spot) (setup_in_none i p spot))
+    (λ p n. count_stays (is_in_drain p n) old.workers k Worker.Idle (Worker.Setup i) idle refl refl)
     (λ j.
     let moves = count_moves (is_in_setup j) old.workers k Worker.Idle (Worker.Setup i) idle in
     let rows = setup_push old.stack.instances (stack.new_instance f v name altitude) j refl in
@@ -178,8 +137,8 @@ setup_ends : (old : World) (k : WorkerId) (i : InstanceId) (t : StackWorld) (cha
     → IsUnderWay (record old { stack = t; workers = put old.workers k Worker.Idle })
 setup_ends old k i t change row at there was is rows stack follows s =
     stack_moves old t (put old.workers k Worker.Idle) stack follows (length-set old.workers k.0 Worker.Idle ∙ s.hands)
-    (moves_outside old.workers k (Worker.Setup i) Worker.Idle at (setup_in_none i) idle_is_in_none)
-    (moves_undrained old.workers k (Worker.Setup i) Worker.Idle at (λ p n. refl) (λ p n. refl))
+    (λ p spot. count_stays (is_in_at p spot) old.workers k (Worker.Setup i) Worker.Idle at (setup_in_none i p spot) (idle_is_in_none p spot))
+    (λ p n. count_stays (is_in_drain p n) old.workers k (Worker.Setup i) Worker.Idle at refl refl)
     (λ j.
     let moves = count_moves (is_in_setup j) old.workers k (Worker.Setup i) Worker.Idle at in
     let after = setup_updated change old.stack.instances i.0 j row there was is in

@@ -30,12 +30,13 @@ use Rattle.fm_flow.proofs.Flows.{flow_begins, flow_changes, flow_collects, next_
 use Rattle.fm_world.proofs.Filing.{asks_no_create}
 pub use Rattle.fm_world.proofs.Events.{unchanged_flow}
 use Rattle.fm_world.proofs.Events.{Turns}
-use Rattle.fm_world.proofs.Ties.{counted_from, one, count_moves, AreTied, Matches, is_running, quiet_is_none, quiet_is_nowhere, tied_moves, tied_stays, tied_there, matches_idle, matches_pre, matches_base, matches_post, matches_drain, spot_pre, spot_base, spot_post, spot_drain}
+use Rattle.fm_world.proofs.Ties.{counted_from, one, AreTied, Matches, is_running, quiet_is_none, quiet_is_nowhere, tied_moves, tied_stays, tied_there, matches_idle, matches_pre, matches_base, matches_post, matches_drain, spot_pre, spot_base, spot_post, spot_drain}
 use Rattle.fm_world.proofs.Draining.{AreDrained, InDrains, in_no_drain, in_a_drain, drained_moves, drained_stays, next_drained}
 use Rattle.fm_world.proofs.Amongs.{is_up, no_base, visit_last, post_last, among_visits, among_other, among_base, among_settles, among_begins, settle_pre_visit, settle_pre_base, settle_post_visit, settle_post_base, settle_drain_visit, settle_drain_base}
 use Rattle.fm_world.proofs.Descents.{next_unseen, room_is, or_left, or_right}
 use Rattle.fm_world.proofs.Keeps.{whatever_files}
 use Rattle.fm_world.proofs.Turning.{each_turn}
+use Rattle.fm_world.proofs.Ties.{count_stays}
 
 -- operations change, and workers with them
 flow_moves : (w : World) (t : FlowTable) (workers : List Worker) → IsFlow t → All (IsAmong w.stack) t.operations → length workers ≡ 48
@@ -246,15 +247,6 @@ step_keeps w o r f workers at number collected sound among hands tied drained se
     (λ x e. subst (λ y. IsAmong w.stack (f y)) (same_Some r x (sym at ∙ e)) among) s.among)
     hands tied drained setups s
 
--- no worker goes into or out of a setup callback
-pub setups_stay : (workers : List Worker) (k : WorkerId) (a b : Worker) → worker_at workers k ≡ Some a → ((i : ℕ) → is_in_setup i a ≡ false)
-    → ((i : ℕ) → is_in_setup i b ≡ false) → (i : ℕ) → count_by (is_in_setup i) (put workers k b) ≡ count_by (is_in_setup i) workers
-setups_stay workers k a b h na nb i =
-    let moves = count_moves (is_in_setup i) workers k a b h in
-    let from : one (is_in_setup i a) ≡ 0 = ap one (na i) in
-    let to : one (is_in_setup i b) ≡ 0 = ap one (nb i) in
-    omega (arith, moves, from, to)
-
 -- what is told of an operation that is there
 pub told_there : {A : Type 0} (read : FlowRecord → A) (other : A) (o : OpId) (t : FlowTable) (r : FlowRecord) → operation_at o t ≡ Some r → told read other o t ≡ read r
 told_there read other o t r h = ap (λ m. unwrap_or (option_map read m) other) h
@@ -281,7 +273,7 @@ next_keeps old k o result new e s =
       | inl stays ↦ built old.workers stays.0 s.hands (tied_stays old.workers old.flow o r f e.at number stays.1 s.workers) (λ i. refl)
       | inr goes ↦ built (put old.workers k goes.0) goes.1 (length-set old.workers k.0 goes.0 ∙ s.hands)
           (tied_moves old.workers old.flow k Worker.Idle goes.0 o r f e.idle e.at number goes.2 goes.3 s.workers)
-          (setups_stay old.workers k Worker.Idle goes.0 e.idle (λ i. refl) goes.4)
+          (λ i. count_stays (is_in_setup i) old.workers k Worker.Idle goes.0 e.idle refl (goes.4 i))
     ]
 
 -- ---- callbacks and calls return
@@ -341,7 +333,7 @@ return_keeps old k a o r f n t files at there number collected matches quiet fro
     (step_keeps old o r f (put old.workers k Worker.Idle) there number collected sound among (length-set old.workers k.0 Worker.Idle ∙ s.hands)
     (tied_moves old.workers old.flow k a Worker.Idle o r f at there number matches (matches_idle o (f r).stage (f r).entries quiet) s.workers)
     (drained_moves old.workers old.flow k a Worker.Idle o r f n (λ i. 0) at there number from (in_no_drain o Worker.Idle (λ p i. refl)) (λ i. omega (arith, even i)) s.drains)
-    (setups_stay old.workers k a Worker.Idle at outside (λ i. refl)) s)
+    (λ i. count_stays (is_in_setup i) old.workers k a Worker.Idle at (outside i) refl) s)
 
 pub counted_quiet : (given : PreVerdict) (operation : Operation) (has_post : Bool) → is_running (pre_leads (verdict_counted given operation has_post)) ≡ false
 counted_quiet (PreVerdict.WithCallback completion) operation true = refl

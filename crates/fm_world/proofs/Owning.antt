@@ -17,7 +17,15 @@ use Rattle.fm_world.proofs.Callbacks.{same_hands}
 use Rattle.fm_world.proofs.Fitting.{AllFit, AllPass, VolumesStay, fits_on, passes_swept, owner_stays, link_stays}
 use Rattle.fm_world.proofs.Losing.{NamedIn, passes_unlinked}
 use Rattle.fm_world.proofs.Events.{idle_by, setup_by}
-use Rattle.fm_world.proofs.Keeps.{register_keeps, mount_keeps, attach_keeps, setup_keeps, setup_place, FiledIn}
+use Rattle.fm_world.proofs.Keeps.{stack_changes, attach_keeps, setup_keeps, setup_place, FiledIn}
+use Rattle.fm_world.proofs.Belonging.{filters_updated}
+use Rattle.fm_world.proofs.Words.{IsStack}
+use Rattle.fm_world.proofs.Words.{setup_row}
+use Rattle.fm_stack.proofs.Registering.{registered_keeps}
+use Rattle.fm_stack.proofs.Registering.{registered_follows}
+use Rattle.fm_stack.proofs.Registering.{mounted_keeps}
+use Rattle.fm_stack.proofs.Registering.{mounted_follows}
+use Rattle.fm_world.proofs.Words.{Follows}
 
 -- ---- instances go on
 
@@ -87,28 +95,31 @@ volumes_push xs x v h = at_volume (slice_get xs v) refl h
     at_volume None there h = absurd (false≢true h)
     at_volume (Some y) there h = ap holds_links_by (slice_get-kept xs (x ∷ []) v y there) ∙ h
 
+-- filters or volumes come, and the instances stay
+stack_sound : (old new : World) (t : StackWorld) → new.stack ≡ t → new ≡ record old { stack = new.stack } → t.instances ≡ old.stack.instances → IsStack t → Follows old.stack t
+    → length old.stack.filters ≤ length t.filters → VolumesStay old.stack t → IsSound old → IsSound new
+stack_sound old new t is e same stack follows filters volumes s =
+    subst IsSound (sym (e ∙ ap (λ x. record old { stack = x }) is)) (record {
+      under_way = stack_changes old t stack follows (λ i. ap (λ (rows : List Instance). setup_row (slice_get rows i)) (sym same)) s.under_way;
+      owned = stack_owned old t (λ j row there. (row, ap (λ (rows : List Instance). slice_get rows j) same ∙ there, refl, inl refl)) filters volumes s.owned;
+      filed = s.filed;
+      links = s.links;
+    })
+
 pub register_sound : (old : World) (name : List ℕ) (registration : Registration) (result : Result FilterId Status) (new : World)
     → Registers old name registration result new → IsSound old → IsSound new
 unfolding Registers stack.Registers
-register_sound old name registration result new h s = record { under_way = register_keeps old name registration result new h s.under_way; owned = owned result h; filed = subst FiledIn (sym h.1) s.filed; links = subst NamedIn (sym h.1) s.links }
-  where
-    owned : (r : Result FilterId Status) → Registers old name registration r new → IsOwned new
-    owned (Err why) h = subst IsOwned (sym (h.1 ∙ ap (λ x. record old { stack = x }) h.0.1)) s.owned
-    owned (Ok f) h =
-        let t = stack.registered old.stack name registration in
-        subst IsOwned (sym (h.1 ∙ ap (λ x. record old { stack = x }) h.0.1.1))
-        (stack_owned old t (λ j row there. (row, there, refl, inl refl)) (longer_push old.stack.filters (stack.new_filter name registration)) (λ v h. h) s.owned)
+register_sound old name registration (Err why) new h s = subst IsSound (sym (h.1 ∙ ap (λ x. record old { stack = x }) h.0.1)) s
+register_sound old name registration (Ok f) new h s =
+    stack_sound old new (stack.registered old.stack name registration) h.0.1.1 h.1 refl (registered_keeps old.stack name registration s.under_way.stack h.0.0)
+    (registered_follows old.stack name registration s.under_way.stack) (longer_push old.stack.filters (stack.new_filter name registration)) (λ v h. h) s
 
 pub mount_sound : (old : World) (name : List ℕ) (result : Result VolumeId Status) (new : World) → Mounts old name result new → IsSound old → IsSound new
 unfolding Mounts stack.Mounts
-mount_sound old name result new h s = record { under_way = mount_keeps old name result new h s.under_way; owned = owned result h; filed = subst FiledIn (sym h.1) s.filed; links = subst NamedIn (sym h.1) s.links }
-  where
-    owned : (r : Result VolumeId Status) → Mounts old name r new → IsOwned new
-    owned (Err why) h = subst IsOwned (sym (h.1 ∙ ap (λ x. record old { stack = x }) h.0.1)) s.owned
-    owned (Ok v) h =
-        let t = stack.mounted old.stack name in
-        subst IsOwned (sym (h.1 ∙ ap (λ x. record old { stack = x }) h.0.1.1))
-        (stack_owned old t (λ j row there. (row, there, refl, inl refl)) (omega arith) (volumes_push old.stack.volumes (stack.new_volume name)) s.owned)
+mount_sound old name (Err why) new h s = subst IsSound (sym (h.1 ∙ ap (λ x. record old { stack = x }) h.0.1)) s
+mount_sound old name (Ok v) new h s =
+    stack_sound old new (stack.mounted old.stack name) h.0.1.1 h.1 refl (mounted_keeps old.stack name s.under_way.stack h.0.0)
+    (mounted_follows old.stack name s.under_way.stack) (omega arith) (volumes_push old.stack.volumes (stack.new_volume name)) s
 
 -- ---- workers go into callbacks and come back
 
@@ -218,15 +229,6 @@ setup_returns old k i t c at worker filters owners h hands cleaning lawful fit f
 refused_row : (s : StackWorld) (i j : InstanceId) → j.0 ≢ i.0 → row_at (stack.refused s i) j ≡ row_at s j
 refused_row s i j apart = updated-other refuse_row s.instances i.0 j.0 apart
 
-refused_filters : (s : StackWorld) (i : InstanceId) → FiltersStay s (stack.refused s i)
-refused_filters s i j x found =
-    elim (cases_eq j i.0) [
-      | inl e ↦
-          let at : slice_get s.instances i.0 ≡ Some x = subst (λ n. slice_get s.instances n ≡ Some x) e found in
-          (refuse_row x, subst (λ n. slice_get (stack.refused s i).instances n ≡ Some (refuse_row x)) (sym e) (updated-same refuse_row s.instances i.0 x at), refl)
-      | inr apart ↦ (x, updated-other refuse_row s.instances i.0 j apart ∙ found, refl)
-    ]
-
 refused_left : (s : StackWorld) (i j : InstanceId) (row : Instance) → slice_get s.instances i.0 ≡ Some row → is_left_by (row_at s j) ≡ true → is_left_by (row_at (stack.refused s i) j) ≡ true
 refused_left s i j row there h =
     elim (cases_eq j.0 i.0) [
@@ -298,7 +300,7 @@ setup_owned old k i accept (Err why) new left at h leaves empties e s =
     (owners_same (map (swept_slot test) old.contexts.slots) new.contexts.slots slots) in
     let fit = passes_swept (fits old.stack) (fits t) test old.contexts.slots refl (λ x fit. refused_fits old.stack i row.0 x row.1 fit) s.owned.fits in
     subst IsOwned (sym (e ∙ ap (λ x. record old { stack = x; workers = put old.workers k Worker.Idle; contexts = new.contexts }) h.1))
-    (setup_returns old k i t new.contexts at worker (refused_filters old.stack i) owners s.owned (empties.hands ∙ leaves.hands) (empties.cleaning ∙ leaves.cleaning)
+    (setup_returns old k i t new.contexts at worker (filters_updated old.stack t refuse_row i.0 refl (λ row. refl)) owners s.owned (empties.hands ∙ leaves.hands) (empties.cleaning ∙ leaves.cleaning)
     (sweep_keeps test (leave_keeps k.0 s.owned.lawful leaves) empties) (subst (AllFit t) (sym slots) fit)
     (λ j rests. refused_flown old.stack i j row.0 row.1 row.2 rests))
 

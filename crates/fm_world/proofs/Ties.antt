@@ -21,6 +21,14 @@ count_moves p workers k a b h =
     let was = get_or_from_slice_get workers k.0 a a h in
     subst (λ x. count_by p (put workers k b) + one (p x) ≡ count_by p workers + one (p b)) was (sum_by-set (λ x. one (p x)) workers k.0 b a there)
 
+-- and where it passes at neither place
+pub count_stays : (p : Worker → Bool) (workers : List Worker) (k : WorkerId) (a b : Worker) → worker_at workers k ≡ Some a → p a ≡ false → p b ≡ false
+    → count_by p (put workers k b) ≡ count_by p workers
+count_stays p workers k a b h na nb =
+    let from : one (p a) ≡ 0 = ap one na in
+    let to : one (p b) ≡ 0 = ap one nb in
+    omega (arith, count_moves p workers k a b h, from, to)
+
 -- the worker's place says that it is inside operation o at that spot, and inside no other
 abbrev pub Matches : OpId → Worker → Option Spot → Type 0
 Matches o a spot = (p : OpId) (s : Spot) → is_in_at p s a ≡ ((o.0 == p.0) && is_spot s spot)

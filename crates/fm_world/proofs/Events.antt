@@ -1,7 +1,7 @@
 -- What an event did is decided once: it was refused, and nothing changed, or it came to pass. Of both, P is asked: of the answer, and of the World after it.
 use Rattle.std.proofs.Common.{◌≡◌, ℕ, ◌==◌, List, Bool, true, false, Option, Some, None, Result, Ok, Err, refl, ap, sym, ◌∙◌, subst}
 use Rattle.std.proofs.lemmas.Bool.{false≢true}
-use Rattle.std.specs.Prelude.{option_map, unwrap_or}
+use Rattle.std.specs.Prelude.{◌&&◌, option_map, unwrap_or}
 use Rattle.fm_world.proofs.Words.{CtxId, InstanceId, OpId, WorkerId, Status, Answers, AnswersOrMemory, change_none, BaseCall, Answer, PreVerdict, PostVerdict}
 use Rattle.fm_world.proofs.Words.{Data, data_fits, context_at, Object, SetMode, Context, Below, FlowAction, Descending, FlowRecord, next_of, post_returned_of}
 use Rattle.fm_world.proofs.Words.{drain_returned_of, base_fits, FlowTable, operation_at, changed, told, Worker, World, worker_at, is_idle, after_next, Unless}
@@ -9,6 +9,21 @@ use Rattle.fm_world.proofs.Words.{SetsUp, SetsUpAt, FindsBelow, LiesBelow, Nexts
 use Rattle.fm_world.proofs.Words.{BaseReturns, BaseReturnsAt, PostReturns, PostReturnsAt, ReturnsFrom, pre_step, state_at, base_returned, drains_at, received}
 use Rattle.fm_world.proofs.Words.{filed_next, flow_after_next, SetAnswer, Callback, InCallback, InCallbackOf, callback_of, Sets, SetsIn, SetsUnless, SetsOn}
 use Rattle.fm_world.proofs.Words.{set_refused, object_for, Cleans, CleansAt, LosesLinks}
+use Rattle.fm_world.proofs.Words.{ContextTable}
+use Rattle.fm_ctx.specs.declared.set_reply.SetReply.{SetReply}
+use Rattle.fm_world.proofs.Words.{Keep}
+use Rattle.fm_world.proofs.Words.{Replace}
+use Rattle.fm_world.proofs.Words.{set_after}
+use Rattle.fm_world.proofs.Words.{set_reply}
+use Rattle.fm_world.proofs.Words.{set_mode_after}
+use Rattle.fm_world.proofs.Words.{set_mode_reply}
+use Rattle.fm_world.proofs.Words.{kept_after}
+use Rattle.fm_world.proofs.Words.{wanted}
+use Rattle.fm_world.proofs.Words.{unlinked_for}
+use Rattle.fm_world.proofs.Words.{linked}
+use Rattle.fm_world.proofs.Words.{grabbed}
+use Rattle.fm_world.proofs.Words.{is_hand_full}
+use Rattle.std.proofs.Common.{cond}
 
 -- ---- refusals
 
@@ -95,6 +110,24 @@ set_by P old k c mode wants result new h refused event = by_callback (callback_o
     by_callback : (m : Option Callback) → callback_of old k ≡ m → SetsIn old k c mode wants result new m → P result new
     by_callback None is h = by_refusal Status.WrongStep h
     by_callback (Some at) is h = unless at is (set_refused old k c at) refl h
+
+-- what set makes of a table, and answers: the context is linked, or the hand is full, or Keep leaves the link that is there, or Replace takes it away
+pub set_each : (P : ContextTable → SetReply → Type 0) (carried : CtxId → ℕ) (t : ContextTable) (w : ℕ) (c : CtxId) (object : Object) (mode : SetMode) (wants : Bool)
+    (m : Option CtxId) → (m ≡ None → P (linked t c object) (SetReply.Linked None)) → P t SetReply.HandFull → P t (SetReply.AlreadyDefined None)
+    → ((old : CtxId) → m ≡ Some old → P (grabbed t w old) (SetReply.AlreadyDefined (Some old)))
+    → ((old : CtxId) → m ≡ Some old → wants && is_hand_full t.hands w ≡ false → P (linked (unlinked_for carried t w wants old) c object) (SetReply.Linked (wanted wants old)))
+    → P (set_after carried t w c object mode wants m) (set_reply t w mode wants m)
+set_each P carried t w c object mode wants None fresh full kept grabs replaces = fresh refl
+set_each P carried t w c object mode wants (Some old) fresh full kept grabs replaces = by_room (wants && is_hand_full t.hands w) refl
+  where
+    by_mode : (mode : SetMode) → wants && is_hand_full t.hands w ≡ false → P (set_mode_after carried t w c object mode wants old) (set_mode_reply mode (wanted wants old))
+    by_mode Keep room = elim wants as (λ b. P (kept_after t w b old) (SetReply.AlreadyDefined (wanted b old))) [ true ↦ grabs old refl | false ↦ kept ]
+    by_mode Replace room = replaces old refl room
+
+    by_room : (b : Bool) → wants && is_hand_full t.hands w ≡ b
+        → P (cond b t (set_mode_after carried t w c object mode wants old)) (cond b SetReply.HandFull (set_mode_reply mode (wanted wants old)))
+    by_room true room = full
+    by_room false room = by_mode mode room
 
 -- ---- by the worker's place
 

@@ -1,14 +1,15 @@
 -- Each event changes its worker's hand alone.
-use Rattle.std.proofs.Common.{◌≡◌, ℕ, ◌+◌, Bool, true, false, cond, List, [], ◌∷◌, length, Option, Some, None, Result, zero, suc, refl, ap, sym, ◌∙◌, subst, arith}
-use Rattle.std.specs.Prelude.{slice_set, ◌&&◌}
+use Rattle.std.proofs.Common.{◌≡◌, ℕ, ◌+◌, Bool, true, false, List, [], ◌∷◌, length, Option, Some, None, Result, zero, suc, refl, ap, sym, ◌∙◌, subst, arith}
+use Rattle.std.specs.Prelude.{slice_set}
 use Rattle.std.proofs.lemmas.List.{set-get_or, set-set}
 use Rattle.std.proofs.lemmas.List.Sums.{sum_by-cons}
-use Rattle.fm_world.proofs.Words.{ContextKind, CtxId, OpId, WorkerId, Status, PreVerdict, PostVerdict, Data, Object, SetMode, Keep, Replace, hand_of}
-use Rattle.fm_world.proofs.Words.{is_hand_full, set_after, set_mode_after, delete_after, unlinked_for, Leaves, ContextTable, FlowRecord, SetAnswer, Begin}
+use Rattle.fm_world.proofs.Words.{ContextKind, CtxId, OpId, WorkerId, Status, PreVerdict, PostVerdict, Data, Object, SetMode, hand_of}
+use Rattle.fm_world.proofs.Words.{set_after, delete_after, unlinked_for, Leaves, ContextTable, FlowRecord, SetAnswer, Begin}
 use Rattle.fm_world.proofs.Words.{pairs_in, OnlyHandOf, KeepsHands, World, carries, Begins, state_at, sent_in, sent, PreReturns, PostReturns, carries_after}
 use Rattle.fm_world.proofs.Words.{there_at, Sets, Deletes, LosesLinks}
 use Rattle.fm_world.proofs.Events.{memory_by, asked_by, set_by, pre_by, post_by}
 use Rattle.fm_world.proofs.Operations.{begun_by}
+use Rattle.fm_world.proofs.Events.{set_each}
 
 -- ---- lists of hands
 
@@ -64,18 +65,11 @@ delete_hand old k what wants result new h =
     asked_by (λ _ w. OnlyHandOf k.0 old w) old k result new _ _ h (same k.0 old)
     (λ at is c free e. by_table k.0 old new _ (ap (λ (w : World). w.contexts) e.1) (deleted_hand (carries old) old.contexts k.0 wants (there_at old what at)))
 
--- Keep takes a reference to the old one where it is wanted; Replace unlinks it
-moded_hand : (carried : CtxId → ℕ) (t : ContextTable) (k : ℕ) (c : CtxId) (object : Object) (mode : SetMode) (wants : Bool) (found : CtxId) (full : Bool)
-    → DifferAt k t.hands (cond full t (set_mode_after carried t k c object mode wants found)).hands
-moded_hand carried t k c object mode wants found true = no_change k t.hands t.hands refl
-moded_hand carried t k c object Keep true found false = (_, refl)
-moded_hand carried t k c object Keep false found false = no_change k t.hands t.hands refl
-moded_hand carried t k c object Replace wants found false = unlinked_hand carried t k wants found
-
 set_after_hand : (carried : CtxId → ℕ) (t : ContextTable) (k : ℕ) (c : CtxId) (object : Object) (mode : SetMode) (wants : Bool) (m : Option CtxId)
     → DifferAt k t.hands (set_after carried t k c object mode wants m).hands
-set_after_hand carried t k c object mode wants None = no_change k t.hands t.hands refl
-set_after_hand carried t k c object mode wants (Some found) = moded_hand carried t k c object mode wants found (wants && is_hand_full t.hands k)
+set_after_hand carried t k c object mode wants m =
+    let same = no_change k t.hands t.hands refl in
+    set_each (λ u _. DifferAt k t.hands u.hands) carried t k c object mode wants m (λ e. same) same same (λ old e. (_, refl)) (λ old e room. unlinked_hand carried t k wants old)
 
 pub set_hand : (old : World) (k : WorkerId) (c : CtxId) (mode : SetMode) (wants : Bool) (result : SetAnswer) (new : World) → Sets old k c mode wants result new → OnlyHandOf k.0 old new
 set_hand old k c mode wants result new h =

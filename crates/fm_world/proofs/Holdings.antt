@@ -1,18 +1,19 @@
 -- How many references each event leaves in its worker's hand.
-use Rattle.std.proofs.Common.{◌≡◌, ℕ, ◌+◌, ◌<◌, Bool, true, false, cond, not, List, [], ◌∷◌, ◌++◌, length, Option, Some, None, Result, Ok, Err, suc, refl, ap, sym, ◌∙◌, subst, arith, length-append}
-use Rattle.std.specs.Prelude.{slice_set, ◌&&◌}
+use Rattle.std.proofs.Common.{◌≡◌, ℕ, ◌+◌, ◌<◌, Bool, true, false, not, List, [], ◌∷◌, ◌++◌, length, Option, Some, None, Result, Ok, Err, suc, refl, ap, sym, ◌∙◌, subst, arith, length-append}
+use Rattle.std.specs.Prelude.{slice_set}
 use Rattle.std.proofs.lemmas.List.{get_or-set_same}
 use Rattle.std.proofs.lemmas.Option.{slice_get_within}
-use Rattle.fm_world.proofs.Words.{ContextKind, InstanceId, OpId, CtxId, WorkerId, Status, PreVerdict, PostVerdict, Data, Object, SetMode, Keep, Replace}
-use Rattle.fm_world.proofs.Words.{hand_of, holds, is_hand_full, without, set_after, set_reply, set_mode_after, set_mode_reply, wanted, delete_after}
+use Rattle.fm_world.proofs.Words.{ContextKind, InstanceId, OpId, CtxId, WorkerId, Status, PreVerdict, PostVerdict, Data, Object, SetMode}
+use Rattle.fm_world.proofs.Words.{hand_of, holds, without, set_after, set_reply, wanted, delete_after}
 use Rattle.fm_world.proofs.Words.{delete_reply, holder, ContextTable, length-without, Leaves, FlowAction, SetAnswer, hand_len, HoldsMore, HoldsOneFewer}
 use Rattle.fm_world.proofs.Words.{HoldsNone, given_with, given_by_set, given_by_next, left_by_setup, Worker, World, carries, worker_at, EmptiesUnless}
 use Rattle.fm_world.proofs.Words.{SetsUpAt, SetsUp, brought, received, Nexts, PreReturns, PostReturns, LosesLinks, Callback, callback_of, set_answer}
 use Rattle.fm_world.proofs.Words.{there_at, with_contexts, Allocates, Sets, Gets, Deletes, References, Releases, IsSound}
-use Rattle.fm_ctx.specs.declared.set_reply.SetReply.{SetReply}
 use Rattle.fm_world.proofs.Callbacks.{is_in, none_of, not_false}
 use Rattle.fm_world.proofs.Events.{asked_by, taken_by, set_by, next_by, pre_by, post_by}
 use Rattle.fm_world.proofs.Keeps.{known_cases}
+use Rattle.fm_world.proofs.Events.{set_each}
+use Rattle.fm_world.proofs.Words.{unlinked_for}
 
 -- a worker in a callback has a hand
 hand_there : (old : World) (k : WorkerId) (at : Callback) → IsSound old → callback_of old k ≡ Some at → k.0 < length old.contexts.hands
@@ -72,11 +73,15 @@ release_fewer old k c result new s h =
     ap (λ n. n + 1) (table_len k.0 old new _ e) ∙ one_fewer old.contexts.hands k.0 c (hand_there old k at s is)
     (not_false (holds (hand_of old.contexts.hands k.0) c) (none_of (not (holds (hand_of old.contexts.hands k.0) c)) Status.NotHeld None free).0))
 
+unlinked_len : (carried : CtxId → ℕ) (t : ContextTable) (k : ℕ) (wants : Bool) (c : CtxId) → k < length t.hands
+    → length (hand_of (unlinked_for carried t k wants c).hands k) ≡ length (hand_of t.hands k) + given_with (wanted wants c)
+unlinked_len carried t k true c within = one_more t.hands k c within
+unlinked_len carried t k false c within = no_more (length (hand_of t.hands k))
+
 delete_len : (carried : CtxId → ℕ) (t : ContextTable) (k : ℕ) (wants : Bool) (m : Option CtxId) → k < length t.hands
     → length (hand_of (delete_after carried t k wants m).hands k) ≡ length (hand_of t.hands k) + given_with (delete_reply wants m)
 delete_len carried t k wants None within = no_more (length (hand_of t.hands k))
-delete_len carried t k true (Some c) within = one_more t.hands k c within
-delete_len carried t k false (Some c) within = no_more (length (hand_of t.hands k))
+delete_len carried t k wants (Some c) within = unlinked_len carried t k wants c within
 
 pub delete_more : (old : World) (k : WorkerId) (what : ContextKind) (wants : Bool) (result : Result (Option CtxId) Status) (new : World) → IsSound old
     → Deletes old k what wants result new → HoldsMore k.0 result given_with old new
@@ -86,19 +91,12 @@ delete_more old k what wants result new s h =
     table_len k.0 old new _ e.1 ∙ delete_len (carries old) old.contexts k.0 wants (there_at old what at) (hand_there old k at s is)
     ∙ ap (λ m. hand_len k.0 old + given_with m) (sym e.0))
 
-moded_len : (carried : CtxId → ℕ) (t : ContextTable) (k : ℕ) (c : CtxId) (object : Object) (mode : SetMode) (wants : Bool) (found : CtxId) (full : Bool) → k < length t.hands
-    → length (hand_of (cond full t (set_mode_after carried t k c object mode wants found)).hands k)
-    ≡ length (hand_of t.hands k) + given_by_set (set_answer (cond full SetReply.HandFull (set_mode_reply mode (wanted wants found))))
-moded_len carried t k c object mode wants found true within = no_more (length (hand_of t.hands k))
-moded_len carried t k c object Keep true found false within = one_more t.hands k found within
-moded_len carried t k c object Keep false found false within = no_more (length (hand_of t.hands k))
-moded_len carried t k c object Replace true found false within = one_more t.hands k found within
-moded_len carried t k c object Replace false found false within = no_more (length (hand_of t.hands k))
-
 set_len : (carried : CtxId → ℕ) (t : ContextTable) (k : ℕ) (c : CtxId) (object : Object) (mode : SetMode) (wants : Bool) (m : Option CtxId) → k < length t.hands
     → length (hand_of (set_after carried t k c object mode wants m).hands k) ≡ length (hand_of t.hands k) + given_by_set (set_answer (set_reply t k mode wants m))
-set_len carried t k c object mode wants None within = no_more (length (hand_of t.hands k))
-set_len carried t k c object mode wants (Some found) within = moded_len carried t k c object mode wants found (wants && is_hand_full t.hands k) within
+set_len carried t k c object mode wants m within =
+    let same = no_more (length (hand_of t.hands k)) in
+    set_each (λ u r. length (hand_of u.hands k) ≡ length (hand_of t.hands k) + given_by_set (set_answer r)) carried t k c object mode wants m
+    (λ e. same) same same (λ old e. one_more t.hands k old within) (λ old e room. unlinked_len carried t k wants old within)
 
 abbrev pub SetHolds : ℕ → SetAnswer → World → World → Type 0
 SetHolds k result old new = hand_len k new ≡ hand_len k old + given_by_set result

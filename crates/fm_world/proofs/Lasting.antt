@@ -1,14 +1,14 @@
 -- Each event leaves slots as they are, or of a later generation: so an id that was given isn't given again, and what was cleaned stays cleaned.
 use Rattle.std.proofs.Common.{◌≡◌, ℕ, zero, suc, ◌<◌, ◌≤◌, ◌==◌, Bool, true, false, cond, List, [], ◌∷◌, ◌++◌, length, map, slice_get, Option, Some, None, Result, Ok, Err, option_map, refl, ap, sym, ◌∙◌, subst, inl, inr, ◌⊎◌, arith}
-use Rattle.std.specs.Prelude.{◌&&◌, option_and_then, slice_set}
+use Rattle.std.specs.Prelude.{option_and_then, slice_set}
 use Rattle.std.proofs.lemmas.Bool.{cases_Bool, cases_eq, eqb-true, eq-eqb, ne_eqb}
 use Rattle.std.proofs.lemmas.Option.{none-some, same_Some, slice_get-map, slice_get_within}
 use Rattle.std.proofs.lemmas.List.{get_or-set_same, get_or-set_other}
 use Rattle.std.specs.Prelude.{IfOk}
 use Rattle.fm_world.proofs.Words.{slice_get-kept, slice_get-push, slice_get-set_same, slice_get-set_other, updated-same, updated-other, ContextKind, CtxId}
-use Rattle.fm_world.proofs.Words.{InstanceId, WorkerId, Status, Due, Object, SetMode, Keep, Replace, one, is_id, cleaning_of, is_hand_full, is_waiting}
+use Rattle.fm_world.proofs.Words.{InstanceId, WorkerId, Status, Due, Object, SetMode, one, is_id, cleaning_of, is_waiting}
 use Rattle.fm_world.proofs.Words.{is_id-refl, first_placed, places_cleaned, context_at-here, IsNew, new_slot, placed, with_body, emptied, due_of, taken_due}
-use Rattle.fm_world.proofs.Words.{taken_of, cleaned, with_link, set_after, set_mode_after, unlinked_for, delete_after, linked, holder, swept, swept_slot}
+use Rattle.fm_world.proofs.Words.{taken_of, cleaned, with_link, set_after, unlinked_for, delete_after, linked, holder, swept, swept_slot}
 use Rattle.fm_world.proofs.Words.{Context, Slot, ContextTable, context_in, context_at, changed_slot, change_context, FlowAction, Step, StepReply, Worker}
 use Rattle.fm_world.proofs.Words.{there_at, Allocates, Gets, Deletes, References, Releases, ReadsBody, WritesBody, Bumps, TakesDue, Cleans, Finishes, Unless}
 use Rattle.fm_world.proofs.Words.{brought, received, Registers, Mounts, Attaches, EmptiesUnless, Begins, Collects, sent, LosesLinks, Steps, Run, World}
@@ -18,6 +18,7 @@ use Rattle.fm_world.proofs.Events.{memory_by, answers_by, asked_by, taken_by, id
 use Rattle.fm_world.proofs.Keeps.{known_cases}
 use Rattle.fm_world.proofs.Runs.{step_keeps, run_keeps, empty_sound}
 use Rattle.fm_world.proofs.Operations.{begun_by}
+use Rattle.fm_world.proofs.Events.{set_each}
 
 -- ---- slots
 
@@ -210,19 +211,13 @@ unlinked_stays carried t w false c = (slots_changed (option_map (with_link None)
 linked_stays : (t : ContextTable) (c : CtxId) (object : Object) → TableStays t (linked t c object)
 linked_stays t c object = (slots_changed (option_map (with_link (Some object))) t.slots c refl, refl)
 
-moded_stays : (carried : CtxId → ℕ) (t : ContextTable) (w : ℕ) (c : CtxId) (object : Object) (mode : SetMode) (wants : Bool) (found : CtxId) (full : Bool)
-    → TableStays t (cond full t (set_mode_after carried t w c object mode wants found))
-moded_stays carried t w c object mode wants found true = table_still t t refl
-moded_stays carried t w c object Keep true found false = (slots_same t.slots t.slots refl, refl)
-moded_stays carried t w c object Keep false found false = table_still t t refl
-moded_stays carried t w c object Replace wants found false =
-    let u = unlinked_for carried t w wants found in
-    table_after t u (linked u c object) (unlinked_stays carried t w wants found) (linked_stays u c object)
-
 set_stays : (carried : CtxId → ℕ) (t : ContextTable) (w : ℕ) (c : CtxId) (object : Object) (mode : SetMode) (wants : Bool) (m : Option CtxId)
     → TableStays t (set_after carried t w c object mode wants m)
-set_stays carried t w c object mode wants None = linked_stays t c object
-set_stays carried t w c object mode wants (Some found) = moded_stays carried t w c object mode wants found (wants && is_hand_full t.hands w)
+set_stays carried t w c object mode wants m =
+    let same = table_still t t refl in
+    set_each (λ u _. TableStays t u) carried t w c object mode wants m (λ e. linked_stays t c object) same same (λ old e. same) (λ old e room.
+    let u = unlinked_for carried t w wants old in
+    table_after t u (linked u c object) (unlinked_stays carried t w wants old) (linked_stays u c object))
 
 deleted_stays : (carried : CtxId → ℕ) (t : ContextTable) (w : ℕ) (wants : Bool) (m : Option CtxId) → TableStays t (delete_after carried t w wants m)
 deleted_stays carried t w wants None = table_still t t refl

@@ -1,12 +1,12 @@
 -- Allocating, setting, getting and deleting contexts keep a World sound.
-use Rattle.std.proofs.Common.{◌≡◌, ℕ, ◌<◌, ◌&&◌, ◌||◌, slice_get, Bool, true, false, cond, List, [], ◌∷◌, ◌++◌, length, nat_lt, Option, Some, None, Result, is_some, is_none, option_map, not, refl, ap, sym, ◌∙◌, subst}
+use Rattle.std.proofs.Common.{◌≡◌, ℕ, ◌<◌, ◌&&◌, ◌||◌, slice_get, Bool, true, false, List, [], ◌∷◌, ◌++◌, length, nat_lt, Option, Some, None, Result, is_some, is_none, option_map, not, refl, ap, sym, ◌∙◌, subst}
 use Rattle.std.specs.Option.{option_and_then}
 use Rattle.std.proofs.lemmas.Bool.{false≢true, and_parts, and_from, leb-false, eq-eqb, lt-ltb}
 use Rattle.std.proofs.lemmas.Option.{none-some, same_Some}
 use Rattle.fm_world.proofs.Words.{ContextKind, CtxId, InstanceId, WorkerId, Status, first_of, all_at, Instance, Volume, StackWorld, is_setup, is_attached}
-use Rattle.fm_world.proofs.Words.{is_mounted, is_mounted_phase, Object, Owner, SetMode, Keep, Replace, holds, hand_of, is_hand_full, allocated}
-use Rattle.fm_world.proofs.Words.{allocate_refusal, is_out_of_slots, IsLawful, holder, set_after, set_mode_after, kept_after, unlinked_for, linked, with_link}
-use Rattle.fm_world.proofs.Words.{get_refusal, delete_after, delete_refusal, IsUnlinkedOf, same_owner, is_to, Context, Slot, ContextTable, context_at}
+use Rattle.fm_world.proofs.Words.{is_mounted, is_mounted_phase, Object, Owner, SetMode, holds, hand_of, is_hand_full, allocated}
+use Rattle.fm_world.proofs.Words.{allocate_refusal, is_out_of_slots, IsLawful, holder, set_after, unlinked_for, linked, with_link}
+use Rattle.fm_world.proofs.Words.{get_refusal, delete_after, delete_refusal, IsUnlinkedOf, same_owner, is_to, Context, Slot, context_at}
 use Rattle.fm_world.proofs.Words.{link_at, allocate_keeps, context_at-placed, none_from, SetAnswer, World, carries, is_there, names_there, FileObject, row_at}
 use Rattle.fm_world.proofs.Words.{has_kind, owner_by, object_by, is_closing, is_left_by, keeps_links_by, may_link, suits, holds_links, holds_links_by}
 use Rattle.fm_world.proofs.Words.{is_volume, is_instance, is_of_stream, is_of_handle, fits, owner_fits, link_fits, belongs, belongs_by, Callback}
@@ -22,6 +22,7 @@ use Rattle.fm_world.proofs.Callbacks.{IsIn, is_in, contexts_owned, sound_with, i
 use Rattle.fm_world.proofs.Descents.{or_left, or_right}
 use Rattle.fm_world.proofs.Fitting.{AllFit, AllPass, passes_changed, passes_placed, fits_unlinked, fits_linked}
 use Rattle.fm_world.proofs.Flights.{callback_left}
+use Rattle.fm_world.proofs.Events.{set_each}
 
 owner_refl : (o : Owner) → same_owner o o ≡ true
 owner_refl (Owner.Filter f) = eq-eqb f.0 f.0 refl
@@ -152,17 +153,21 @@ unlinked_links : (w : World) (k : WorkerId) (wants : Bool) (d : CtxId) → AllPa
 unlinked_links w k true d h = passes_changed (names_there w.files) (option_map (with_link None)) w.contexts.slots d refl (λ x there named. refl) h
 unlinked_links w k false d h = passes_changed (names_there w.files) (option_map (with_link None)) w.contexts.slots d refl (λ x there named. refl) h
 
+unlinked_sound : (w : World) (k : WorkerId) (at : Callback) (wants : Bool) (owner : Owner) (object : Object) (d : CtxId) → IsIn w k at → IsSound w
+    → holder w.contexts.slots owner object ≡ Some d → belongs w.stack w.contexts.slots at.instance d ≡ true → (wants && is_hand_full w.contexts.hands k.0) ≡ false
+    → IsSound (with_contexts w (unlinked_for (carries w) w.contexts k.0 wants d))
+unlinked_sound w k at wants owner object d i s is own room =
+    let lawful : IsLawful (carries w) (unlinked_for (carries w) w.contexts k.0 wants d) =
+    subst (λ m. IsLawful (carries w) (delete_after (carries w) w.contexts k.0 wants m)) is
+    (delete_keeps k.0 owner object wants s.owned.lawful i.worker (room_if_wanted wants w.contexts k.0 room)) in
+    sound_with w (unlinked_for (carries w) w.contexts k.0 wants d) (unlinked_owned w k at wants d i s lawful own) (unlinked_links w k wants d s.links) s
+
 delete_at : (w : World) (k : WorkerId) (at : Callback) (what : ContextKind) (wants : Bool) (there : Option CtxId) → there_at w what at ≡ there → IsIn w k at → IsSound w
     → (wants && is_hand_full w.contexts.hands k.0) ≡ false → IsSound (with_contexts w (delete_after (carries w) w.contexts k.0 wants there))
 delete_at w k at what wants None is i s room = s
 delete_at w k at what wants (Some d) is i s room =
     let o = found_there w what at (object_by at.row at.instance at.file what) d is in
-    let own = owner_by at.row at.instance what in
-    let lawful : IsLawful (carries w) (unlinked_for (carries w) w.contexts k.0 wants d) =
-    subst (λ m. IsLawful (carries w) (delete_after (carries w) w.contexts k.0 wants m)) o.2
-    (delete_keeps k.0 own o.0 wants s.owned.lawful i.worker (room_if_wanted wants w.contexts k.0 room)) in
-    sound_with w (unlinked_for (carries w) w.contexts k.0 wants d)
-    (unlinked_owned w k at wants d i s lawful (held_for w k at what o.0 d i s.owned o.2)) (unlinked_links w k wants d s.links) s
+    unlinked_sound w k at wants (owner_by at.row at.instance what) o.0 d i s o.2 (held_for w k at what o.0 d i s.owned o.2) room
 
 pub delete_sound : (old : World) (k : WorkerId) (what : ContextKind) (wants : Bool) (result : Result (Option CtxId) Status) (new : World)
     → Deletes old k what wants result new → IsSound old → IsSound new
@@ -180,15 +185,17 @@ delete_sound old k what wants result new h s =
 -- ---- set
 
 -- the context, which nothing links, gets its link
-linked_owned : (w : World) (u : ContextTable) (k : WorkerId) (c : CtxId) (x : Context) (o : Object) → IsLawful (carries w) (linked u c o)
-    → IsOwned (with_contexts w u) → k.0 < 48 → context_at u.slots c ≡ Some x → link_fits w.stack x (Some o) ≡ true → IsOwned (with_contexts w (linked u c o))
-linked_owned w u k c x o lawful h worker there link =
-    let v = with_contexts w u in
-    let t = linked u c o in
-    let owners = owners_changed (with_link (Some o)) u.slots c (λ x. (refl, refl)) in
-    contexts_owned v t k (hand_of u.hands k.0) lawful refl owners (same_hands u.hands k.0) worker (same_hand v t k h owners)
-    (passes_changed (fits w.stack) (option_map (with_link (Some o))) u.slots c refl
-    (λ y found fit. fits_linked w.stack y o (subst (λ z. link_fits w.stack z (Some o) ≡ true) (same_Some x y (sym there ∙ found)) link) fit) h.fits) h
+linked_sound : (w : World) (k : WorkerId) (c : CtxId) (x : Context) (o : Object) → IsLawful (carries w) (linked w.contexts c o) → IsSound w → k.0 < 48
+    → context_at w.contexts.slots c ≡ Some x → link_fits w.stack x (Some o) ≡ true → is_there w.files (Some o) ≡ true → IsSound (with_contexts w (linked w.contexts c o))
+linked_sound w k c x o lawful s worker there link here =
+    let t = linked w.contexts c o in
+    let slots = w.contexts.slots in
+    let owners = owners_changed (with_link (Some o)) slots c (λ x. (refl, refl)) in
+    sound_with w t
+    (contexts_owned w t k (hand_of w.contexts.hands k.0) lawful refl owners (same_hands w.contexts.hands k.0) worker (same_hand w t k s.owned owners)
+    (passes_changed (fits w.stack) (option_map (with_link (Some o))) slots c refl
+    (λ y found fit. fits_linked w.stack y o (subst (λ z. link_fits w.stack z (Some o) ≡ true) (same_Some x y (sym there ∙ found)) link) fit) s.owned.fits) s.owned)
+    (passes_changed (names_there w.files) (option_map (with_link (Some o))) slots c refl (λ x there named. here) s.links) s
 
 -- what set requires of the callback and its context
 record MaySet (w : World) (k : WorkerId) (at : Callback) (c : CtxId) (x : Context) (o : Object) : Type 0 where
@@ -272,55 +279,15 @@ other_belongs w k at c d x o i s may is =
 
 set_at : (w : World) (k : WorkerId) (at : Callback) (c : CtxId) (x : Context) (o : Object) (mode : SetMode) (wants : Bool) (m : Option CtxId)
     → IsIn w k at → IsSound w → MaySet w k at c x o → holder w.contexts.slots x.owner o ≡ m
-    → IsLawful (carries w) (set_after (carries w) w.contexts k.0 c o mode wants m) → IsOwned (with_contexts w (set_after (carries w) w.contexts k.0 c o mode wants m))
-set_at w k at c x o mode wants None i s may is lawful = linked_owned w w.contexts k c x o lawful s.owned i.worker may.there may.link
-set_at w k at c x o mode wants (Some d) i s may is lawful = by_room (wants && is_hand_full w.contexts.hands k.0) refl lawful
-  where
-    own : belongs w.stack w.contexts.slots at.instance d ≡ true
-    own = other_belongs w k at c d x o i s may is
-
-    kept : (b : Bool) → IsLawful (carries w) (kept_after w.contexts k.0 b d) → IsOwned (with_contexts w (kept_after w.contexts k.0 b d))
-    kept true law = (grabbed_sound w k at d i s law own).owned
-    kept false law = s.owned
-
-    by_mode : (a : SetMode) → (wants && is_hand_full w.contexts.hands k.0) ≡ false → IsLawful (carries w) (set_mode_after (carries w) w.contexts k.0 c o a wants d)
-        → IsOwned (with_contexts w (set_mode_after (carries w) w.contexts k.0 c o a wants d))
-    by_mode Keep room law = kept wants law
-    by_mode Replace room law =
-        let u = unlinked_for (carries w) w.contexts k.0 wants d in
-        let has_link = holder_linked w.contexts.slots x.owner o d is in
-        let before' : IsLawful (carries w) u =
-        subst (λ m. IsLawful (carries w) (delete_after (carries w) w.contexts k.0 wants m)) is
-        (delete_keeps k.0 x.owner o wants s.owned.lawful i.worker (room_if_wanted wants w.contexts k.0 room)) in
-        linked_owned w u k c x o law (unlinked_owned w k at wants d i s before' own) i.worker
-        (still_there (carries w) w.contexts k.0 wants d c x has_link may.there may.bare) may.link
-
-    by_room : (b : Bool) → (wants && is_hand_full w.contexts.hands k.0) ≡ b
-        → IsLawful (carries w) (cond b w.contexts (set_mode_after (carries w) w.contexts k.0 c o mode wants d))
-        → IsOwned (with_contexts w (cond b w.contexts (set_mode_after (carries w) w.contexts k.0 c o mode wants d)))
-    by_room true full law = s.owned
-    by_room false room law = by_mode mode room law
-
-linked_links : (w : World) (u : ContextTable) (c : CtxId) (o : Object) → is_there w.files (Some o) ≡ true → AllPass (names_there w.files) u.slots
-    → AllPass (names_there w.files) (linked u c o).slots
-linked_links w u c o here h = passes_changed (names_there w.files) (option_map (with_link (Some o))) u.slots c refl (λ x there named. here) h
-
-set_links : (w : World) (k : WorkerId) (c : CtxId) (o : Object) (mode : SetMode) (wants : Bool) (m : Option CtxId) → is_there w.files (Some o) ≡ true
-    → AllPass (names_there w.files) w.contexts.slots → AllPass (names_there w.files) (set_after (carries w) w.contexts k.0 c o mode wants m).slots
-set_links w k c o mode wants None here h = linked_links w w.contexts c o here h
-set_links w k c o mode wants (Some d) here h = by_room (wants && is_hand_full w.contexts.hands k.0)
-  where
-    kept : (b : Bool) → AllPass (names_there w.files) (kept_after w.contexts k.0 b d).slots
-    kept true = h
-    kept false = h
-
-    by_mode : (a : SetMode) → AllPass (names_there w.files) (set_mode_after (carries w) w.contexts k.0 c o a wants d).slots
-    by_mode Keep = kept wants
-    by_mode Replace = linked_links w (unlinked_for (carries w) w.contexts k.0 wants d) c o here (unlinked_links w k wants d h)
-
-    by_room : (b : Bool) → AllPass (names_there w.files) (cond b w.contexts (set_mode_after (carries w) w.contexts k.0 c o mode wants d)).slots
-    by_room true = h
-    by_room false = by_mode mode
+    → IsLawful (carries w) (set_after (carries w) w.contexts k.0 c o mode wants m) → IsSound (with_contexts w (set_after (carries w) w.contexts k.0 c o mode wants m))
+set_at w k at c x o mode wants m i s may is =
+    set_each (λ t _. IsLawful (carries w) t → IsSound (with_contexts w t)) (carries w) w.contexts k.0 c o mode wants m
+    (λ e law. linked_sound w k c x o law s i.worker may.there may.link may.here) (λ law. s) (λ law. s)
+    (λ d e law. grabbed_sound w k at d i s law (other_belongs w k at c d x o i s may (is ∙ e)))
+    (λ d e room law.
+    let unlinks = unlinked_sound w k at wants x.owner o d i s (is ∙ e) (other_belongs w k at c d x o i s may (is ∙ e)) room in
+    let still = still_there (carries w) w.contexts k.0 wants d c x (holder_linked w.contexts.slots x.owner o d (is ∙ e)) may.there may.bare in
+    linked_sound (with_contexts w (unlinked_for (carries w) w.contexts k.0 wants d)) k c x o law unlinks i.worker still may.link may.here)
 
 pub set_sound : (old : World) (k : WorkerId) (c : CtxId) (mode : SetMode) (wants : Bool) (result : SetAnswer) (new : World)
     → Sets old k c mode wants result new → IsSound old → IsSound new
@@ -330,6 +297,4 @@ set_sound old k c mode wants result new h s =
     let may = may_set old k at c x o i s free there of in
     let bare : IsUnlinkedOf x.owner (context_at old.contexts.slots c) = subst (IsUnlinkedOf x.owner) (sym there) (may.bare, refl) in
     let before = holder old.contexts.slots x.owner o in
-    subst IsSound (sym e.1) (sound_with old (set_after (carries old) old.contexts k.0 c o mode wants before)
-    (set_at old k at c x o mode wants before i s may refl (set_keeps k.0 c x.owner o mode wants s.owned.lawful i.worker may.has bare))
-    (set_links old k c o mode wants before may.here s.links) s))
+    subst IsSound (sym e.1) (set_at old k at c x o mode wants before i s may refl (set_keeps k.0 c x.owner o mode wants s.owned.lawful i.worker may.has bare)))

@@ -1,9 +1,9 @@
 -- The order of altitudes, where one of them may not be there.
 use Rattle.std.proofs.Common.{◌≡◌, ℕ, true, false, List, Option, Some, None, Ordering, refl, ap, ◌∙◌}
+use Rattle.fm_world.proofs.Words.{is_lower, same_altitude, is_lower_option}
 use Rattle.std.specs.declared.cmp.Ordering.TheVariants.{Less, Equal, Greater}
 use Rattle.std.specs.Ordering.{is_lt, is_eq, ordering_reverse}
 use Rattle.std.proofs.lemmas.Cmp.{tied_itself}
-use Rattle.fm_world.proofs.Words.{is_lower, same_altitude, is_lower_option}
 use Rattle.fm_altitude.specs.Order.{altitude_cmp}
 use Rattle.fm_altitude.specs.Total.{altitude_total}
 

@@ -1,16 +1,12 @@
 -- What each step of an operation leaves of its place among the instances.
 use Rattle.std.proofs.Common.{◌≡◌, ℕ, ◌≤◌, ◌<◌, ◌||◌, Bool, true, false, List, [], ◌∷◌, ◌++◌, map, Option, Some, None, length, refl, ap, sym, ◌∙◌, subst, arith, count_by}
-use Rattle.std.specs.Prelude.{All, filter_map, option_and_then}
-use Rattle.std.specs.List.{cons_option}
-use Rattle.std.proofs.lemmas.Bool.{false≢true}
-use Rattle.std.proofs.lemmas.Option.{same_Some, none-some, slice_get_within}
-use Rattle.std.proofs.lemmas.List.{append-nil}
-use Rattle.std.proofs.lemmas.List.Elements.{filter_map-append, All-nil, All-head, All-tail, All-push, All-weaker}
-use Rattle.std.proofs.lemmas.List.Folds.{list_any-append}
-use Rattle.fm_world.proofs.Words.{VolumeId, Status, Operation, StackWorld, is_candidate, is_to_visit, IsHighest, Follows, IsStack, Stage, Descending, InBase}
-use Rattle.fm_world.proofs.Words.{Ascending, PostRunning, PostHeld, Entry, Pre, Base, Post, Drain, PreVisit, PreState, PostState, visit_of, visited}
-use Rattle.fm_world.proofs.Words.{last_visited, post_of, posted, last_posted, is_base, has_base, settle_pre, settle_post, settle_drain, post_leads, after}
-use Rattle.fm_world.proofs.Words.{walk, way_of, if_down, PostVisit, IsDescent, HasRoom, last_of, IsAmongAt, NoneLeft}
+use Rattle.fm_world.proofs.Words.{All, filter_map, cons_option, false≢true, same_Some, none-some, slice_get_within, append-nil, filter_map-append, All-nil}
+use Rattle.fm_world.proofs.Words.{All-head, All-tail, All-push, All-weaker, list_any-append, VolumeId, Status, Operation, StackWorld, is_candidate}
+use Rattle.fm_world.proofs.Words.{is_to_visit, IsHighest, Follows, IsStack, Stage, Descending, InBase, Ascending, PostRunning, PostHeld, Entry, Pre, Base}
+use Rattle.fm_world.proofs.Words.{Post, Drain, PreVisit, PreState, PostState, visit_of, visited, last_visited, post_of, posted, last_posted, is_base}
+use Rattle.fm_world.proofs.Words.{has_base, settle_pre, settle_post, settle_drain, post_leads, after, walk, way_of, if_down, PostVisit, IsDescent, HasRoom}
+use Rattle.fm_world.proofs.Words.{last_of, IsAmongAt, NoneLeft}
+use Rattle.std.specs.Prelude.{option_and_then}
 use Rattle.fm_world.proofs.Descents.{descent_begins, descent_visits, descent_reaches, descent_follows, none_follows, room_begins, room_visits, room_follows, last_of-cons, last_of-push}
 
 -- ---- an operation on its way down has no base entry

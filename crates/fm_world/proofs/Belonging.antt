@@ -1,17 +1,11 @@
 -- Who may hold what: what changes of contexts, instances and workers leave of it.
 use Rattle.std.proofs.Common.{◌≡◌, ◌≢◌, ℕ, ◌<◌, Bool, true, false, cond, List, [], ◌∷◌, length, map, Option, Some, None, option_map, slice_get, refl, ap, sym, ◌∙◌, subst, inl, inr, ◌⊎◌}
-use Rattle.std.specs.Prelude.{All, slice_set}
-use Rattle.std.proofs.lemmas.Bool.{false≢true, cases_Bool, cases_eq}
-use Rattle.std.proofs.lemmas.Option.{none-some}
-use Rattle.std.proofs.lemmas.List.{get_or-set_same, get_or-set_other}
-use Rattle.std.proofs.lemmas.List.Elements.{All-nil, All-cons, All-head, All-tail, All-weaker}
-use Rattle.fm_world.proofs.Words.{ContextKind, CtxId, InstanceId, WorkerId, slice_get-set_other, Instance, StackWorld, Owner, is_id, holds, without, hand_of}
-use Rattle.fm_world.proofs.Words.{IsNew, placed, same_owner, swept, swept_slot, Context, Slot, context_at, change_context, is_id-same, by_id}
-use Rattle.fm_world.proofs.Words.{context_at-swept, context_at-here, context_at-other, context_at-placed_other, new_absent, Ask, FlowRecord, owed, Worker}
-use Rattle.fm_world.proofs.Words.{worker_at, row_at, owner_by, place_in, belongs, belongs_by, HoldsIn, CarriesIn, AskCarries}
-use Rattle.fm_world.proofs.Words.{updated}
-use Rattle.fm_world.proofs.Words.{updated-same}
-use Rattle.fm_world.proofs.Words.{updated-other}
+use Rattle.fm_world.proofs.Words.{All, slice_set, false≢true, cases_Bool, cases_eq, none-some, get_or-set_same, get_or-set_other, All-nil, All-cons, All-head}
+use Rattle.fm_world.proofs.Words.{All-tail, All-weaker, ContextKind, CtxId, InstanceId, WorkerId, slice_get-set_other, updated, updated-same, updated-other}
+use Rattle.fm_world.proofs.Words.{Instance, StackWorld, Owner, is_id, holds, without, hand_of, IsNew, placed, same_owner, swept, swept_slot, Context, Slot}
+use Rattle.fm_world.proofs.Words.{context_at, change_context, is_id-same, by_id, context_at-swept, context_at-here, context_at-other, context_at-placed_other}
+use Rattle.fm_world.proofs.Words.{new_absent, Ask, FlowRecord, owed, Worker, worker_at, row_at, owner_by, place_in, belongs, belongs_by, HoldsIn, CarriesIn}
+use Rattle.fm_world.proofs.Words.{AskCarries}
 
 -- ---- contexts keep their kind and owner
 

@@ -1,15 +1,10 @@
 -- The events of callbacks on contexts keep a World sound.
 use Rattle.std.proofs.Common.{◌≡◌, ℕ, ◌<◌, Bool, true, false, cond, not, List, [], ◌∷◌, ◌++◌, length, Option, Some, None, Result, option_map, refl, ap, sym, ◌∙◌, subst}
-use Rattle.std.specs.Prelude.{All, slice_set}
-use Rattle.std.proofs.lemmas.Bool.{true≢false, leb-false}
-use Rattle.std.proofs.lemmas.Option.{none-some, same_Some, slice_get_within}
-use Rattle.std.proofs.lemmas.List.{set-get_or}
-use Rattle.std.proofs.lemmas.List.Elements.{All-push}
-use Rattle.fm_world.proofs.Words.{CtxId, InstanceId, WorkerId, Status, first_of, all_at, Instance, StackWorld, IsPlaced, holds, hand_of, is_hand_full}
-use Rattle.fm_world.proofs.Words.{cleaning_of, without, rewritten, with_body, IsLawful, grabbed, released, ContextTable, within_hands, reference_keeps}
-use Rattle.fm_world.proofs.Words.{release_keeps, body_keeps, Worker, World, carries, worker_at, names_there, FileObject, file_of, row_at, place_in, belongs}
-use Rattle.fm_world.proofs.Words.{HoldsIn, fits, Callback, callback_in, callback_of, with_contexts, References, Releases, ReadsBody, WritesBody, Bumps}
-use Rattle.fm_world.proofs.Words.{IsSound, IsOwned}
+use Rattle.fm_world.proofs.Words.{All, slice_set, true≢false, leb-false, none-some, same_Some, slice_get_within, set-get_or, All-push, CtxId, InstanceId}
+use Rattle.fm_world.proofs.Words.{WorkerId, Status, first_of, all_at, Instance, StackWorld, IsPlaced, holds, hand_of, is_hand_full, cleaning_of, without}
+use Rattle.fm_world.proofs.Words.{rewritten, with_body, IsLawful, grabbed, released, ContextTable, within_hands, reference_keeps, release_keeps, body_keeps}
+use Rattle.fm_world.proofs.Words.{Worker, World, carries, worker_at, names_there, FileObject, file_of, row_at, place_in, belongs, HoldsIn, fits, Callback}
+use Rattle.fm_world.proofs.Words.{callback_in, callback_of, with_contexts, References, Releases, ReadsBody, WritesBody, Bumps, IsSound, IsOwned}
 use Rattle.fm_ctx.proofs.Counts.{count_held}
 use Rattle.fm_world.proofs.Belonging.{OwnersStay, owners_same, owners_changed, belongs_still, filters_same, held_has, all_without, AllHold, all_hold, all_hold_still, nobody_moved, all_carry_still}
 use Rattle.fm_world.proofs.Fitting.{AllFit, AllPass, passes_changed}

@@ -1,19 +1,17 @@
 -- Cleaning contexts up, and the end of an instance, keep a World sound.
 use Rattle.std.proofs.Common.{◌≡◌, ◌≢◌, ℕ, zero, suc, ◌<◌, ◌≤◌, ◌+◌, Bool, true, false, cond, not, List, [], ◌∷◌, length, Option, Some, None, Result, Ok, Err, option_map, slice_get, refl, ap, sym, ◌∙◌, subst, inl, inr, arith, count_by, length-set, nat_lt}
-use Rattle.std.specs.Prelude.{All, slice_set, ◌%◌, ◌^◌}
-use Rattle.std.proofs.lemmas.Bool.{false≢true, true≢false, cases_Bool, cases_eq, and_parts, and_from, eq-eqb, ltb-true, ltb-false}
-use Rattle.std.proofs.lemmas.Option.{slice_get_within}
-use Rattle.std.proofs.lemmas.List.{get_or-set_same, get_or-set_other}
-use Rattle.std.proofs.lemmas.List.Elements.{All-nil, All-cons, All-head, All-tail}
-use Rattle.fm_world.proofs.Words.{CtxId, FilterId, InstanceId, OpId, WorkerId, Status, updated, first_of, length-updated, slice_get-set_same}
-use Rattle.fm_world.proofs.Words.{slice_get-set_other, updated-same, updated-other, Instance, Phase, StackWorld, is_setup, is_emptying, is_emptying_at}
-use Rattle.fm_world.proofs.Words.{finish_row, finished, Due, Owner, one, is_id, references, hand_of, cleaning_of, held, emptied, taken_due, taken_of, cleaned}
-use Rattle.fm_world.proofs.Words.{is_open, open_of, same_owner, Context, Slot, context_at, change_context, is_id-refl, is_id-same, references_cons}
-use Rattle.fm_world.proofs.Words.{references_none, hand_counted, take_due_keeps, cleaned_keeps, count_cleaning, within_hands, context_at-other, Ask}
-use Rattle.fm_world.proofs.Words.{carried_in, carried_among, carried_by, owed, FlowRecord, total, Worker, World, worker_at, put, cleanup_in, Spot, AtPre}
-use Rattle.fm_world.proofs.Words.{is_in_at, is_in_drain, row_at, place_in, fits, owner_fits, link_fits, may_link, is_left_by, keeps_links_by, is_flown_by}
-use Rattle.fm_world.proofs.Words.{belongs, belongs_by, HoldsIn, CarriesIn, AskCarries, after_due, TakesDue, totalled_for, filter_of, Cleans, is_gone_at}
-use Rattle.fm_world.proofs.Words.{Finishes, IsSound, IsUnderWay, IsOwned, is_in_setup, setup_row, names_there}
+use Rattle.fm_world.proofs.Words.{All, slice_set, false≢true, true≢false, cases_Bool, cases_eq, and_parts, and_from, eq-eqb, ltb-true, ltb-false}
+use Rattle.fm_world.proofs.Words.{slice_get_within, get_or-set_same, get_or-set_other, All-nil, All-cons, All-head, All-tail, CtxId, FilterId, InstanceId}
+use Rattle.fm_world.proofs.Words.{OpId, WorkerId, Status, updated, first_of, length-updated, slice_get-set_same, slice_get-set_other, updated-same}
+use Rattle.fm_world.proofs.Words.{updated-other, Instance, Phase, StackWorld, is_setup, is_emptying, is_emptying_at, finish_row, finished, Due, Owner, one}
+use Rattle.fm_world.proofs.Words.{is_id, references, hand_of, cleaning_of, held, emptied, taken_due, taken_of, cleaned, is_open, open_of, same_owner, Context}
+use Rattle.fm_world.proofs.Words.{Slot, context_at, change_context, is_id-refl, is_id-same, references_cons, references_none, hand_counted, take_due_keeps}
+use Rattle.fm_world.proofs.Words.{cleaned_keeps, count_cleaning, within_hands, context_at-other, Ask, carried_in, carried_among, carried_by, owed, FlowRecord}
+use Rattle.fm_world.proofs.Words.{total, Worker, World, worker_at, put, cleanup_in, Spot, AtPre, is_in_at, is_in_drain, row_at, place_in, fits, owner_fits}
+use Rattle.fm_world.proofs.Words.{link_fits, may_link, is_left_by, keeps_links_by, is_flown_by, belongs, belongs_by, HoldsIn, CarriesIn, AskCarries}
+use Rattle.fm_world.proofs.Words.{after_due, TakesDue, totalled_for, filter_of, Cleans, is_gone_at, Finishes, IsSound, IsUnderWay, IsOwned, is_in_setup}
+use Rattle.fm_world.proofs.Words.{setup_row, names_there}
+use Rattle.std.specs.Prelude.{◌%◌, ◌^◌}
 use Rattle.fm_stack.proofs.Finishing.{finished_keeps, finished_follows, emptying_row}
 use Rattle.fm_world.proofs.Belonging.{owners_changed, owners_same, belongs_still, filters_same, AllHold, all_hold, all_hold_still, others_stay, all_carry_still}
 use Rattle.fm_world.proofs.Callbacks.{none_of, not_false, same_hands}

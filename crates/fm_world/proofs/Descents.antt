@@ -1,13 +1,10 @@
 -- A visit of the next instance, the call of the base, and every event of the stack keep an operation's descent.
 use Rattle.std.proofs.Common.{◌≡◌, ℕ, zero, suc, ◌+◌, ◌≤◌, ◌<◌, Bool, true, false, not, ◌&&◌, ◌||◌, ◌==◌, List, [], ◌∷◌, ◌++◌, reverse, Option, Some, None, length, get_or, refl, ap, sym, ◌∙◌, subst, arith, count_by, length-append, inl, inr}
-use Rattle.std.specs.Prelude.{slice_get, option_map, AllPairs, nat_lt}
-use Rattle.std.proofs.lemmas.Option.{slice_get_within, slice_get-get_or, get_or_from_slice_get}
-use Rattle.std.proofs.lemmas.List.{reverse-append}
-use Rattle.std.proofs.lemmas.List.Quantifiers.{all_pairs_push}
-use Rattle.std.proofs.lemmas.Bool.{cases_order, and_parts, and_from, and_right, eqb-true, eq-eqb, ne_eqb, false≢true}
-use Rattle.fm_world.proofs.Words.{VolumeId, Operation, Instance, Phase, StackWorld, is_lower, is_lower_at, is_lower_option, altitude_at, clashes}
-use Rattle.fm_world.proofs.Words.{same_altitude, same_name, is_live_on, is_attached, is_detached, is_to_visit, is_below_cursor, is_candidate, is_registered}
-use Rattle.fm_world.proofs.Words.{IsHighest, NonePasses, Follows, IsStack, IsDescent, HasRoom, last_of, is_among}
+use Rattle.fm_world.proofs.Words.{slice_get, option_map, AllPairs, nat_lt, slice_get_within, slice_get-get_or, get_or_from_slice_get, reverse-append}
+use Rattle.fm_world.proofs.Words.{all_pairs_push, cases_order, and_parts, and_from, and_right, eqb-true, eq-eqb, ne_eqb, false≢true, VolumeId, Operation}
+use Rattle.fm_world.proofs.Words.{Instance, Phase, StackWorld, is_lower, is_lower_at, is_lower_option, altitude_at, clashes, same_altitude, same_name}
+use Rattle.fm_world.proofs.Words.{is_live_on, is_attached, is_detached, is_to_visit, is_below_cursor, is_candidate, is_registered, IsHighest, NonePasses}
+use Rattle.fm_world.proofs.Words.{Follows, IsStack, IsDescent, HasRoom, last_of, is_among}
 use Rattle.fm_world.proofs.Counts.{count-some, count-le, count-lt}
 use Rattle.fm_world.proofs.Altitudes.{lower_irrefl, lower_or, same_sym, option_trans, option_irrefl, option_follows}
 

@@ -1,8 +1,8 @@
 -- Workers and drains stay tied: each drain that runs has one worker.
 use Rattle.std.proofs.Common.{◌≡◌, ℕ, ◌+◌, ◌≤◌, ◌==◌, Bool, true, false, cond, List, Option, Some, None, Result, Ok, refl, ap, sym, ◌∙◌, arith, count_by}
-use Rattle.std.specs.Prelude.{option_map, unwrap_or}
-use Rattle.fm_world.proofs.Words.{OpId, WorkerId, InstanceId, Status, Below, FlowAction, drain_opens, FlowRecord, next_of, FlowTable, operation_at, changed}
-use Rattle.fm_world.proofs.Words.{same_either, one_of_and, drains_given, next_drains, Worker, worker_at, put, after_next, is_in_drain, drains_running}
+use Rattle.fm_world.proofs.Words.{option_map, unwrap_or, OpId, WorkerId, InstanceId, Status, Below, FlowAction, drain_opens, FlowRecord, next_of, FlowTable}
+use Rattle.fm_world.proofs.Words.{operation_at, changed, same_either, one_of_and, drains_given, next_drains, Worker, worker_at, put, after_next, is_in_drain}
+use Rattle.fm_world.proofs.Words.{drains_running}
 use Rattle.fm_world.proofs.Counts.{count-some}
 use Rattle.fm_world.proofs.Ties.{one, count_moves, told_changed}
 

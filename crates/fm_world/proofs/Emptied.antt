@@ -1,16 +1,12 @@
 -- Of an instance whose contexts were unlinked nothing is linked, held or carried.
 use Rattle.std.proofs.Common.{◌≡◌, ℕ, suc, ◌==◌, Bool, true, false, cond, List, [], ◌∷◌, Option, Some, None, is_some, option_map, slice_get, refl, ap, sym, ◌∙◌, subst, inl, inr, arith}
-use Rattle.std.specs.Prelude.{All}
-use Rattle.std.specs.Option.{option_and_then}
-use Rattle.std.proofs.lemmas.Bool.{false≢true, true≢false, cases_Bool, and_parts, eqb-true, eq-eqb}
-use Rattle.std.proofs.lemmas.Option.{none-some, same_Some}
-use Rattle.std.proofs.lemmas.List.Elements.{All-head, All-tail}
-use Rattle.std.proofs.lemmas.List.Sums.{sum_by-cons}
+use Rattle.fm_world.proofs.Words.{All, false≢true, true≢false, cases_Bool, and_parts, eqb-true, eq-eqb, none-some, same_Some, All-head, All-tail, sum_by-cons}
 use Rattle.fm_world.proofs.Words.{ContextKind, CtxId, InstanceId, WorkerId, all_at, Instance, Phase, StackWorld, Object, Owner, one, is_id, references, holds}
 use Rattle.fm_world.proofs.Words.{hand_of, held, same_owner, Context, Slot, context_at, context_in, owner_at, link_count, is_id-same, none_if_not_held, Ask}
 use Rattle.fm_world.proofs.Words.{carried_in, carried_among, carried_by, flight, times, instances, owed, FlowRecord, total, World, reference_count, worker_at}
 use Rattle.fm_world.proofs.Words.{row_at, place_in, owner_by, belongs, belongs_by, fits, owner_fits, link_fits, may_link, suits, keeps_links, keeps_links_by}
 use Rattle.fm_world.proofs.Words.{is_flown, is_flown_by, HoldsIn, CarriesIn, AskCarries, IsSound}
+use Rattle.std.specs.Option.{option_and_then}
 use Rattle.fm_world.proofs.Belonging.{held_has, AllCarry}
 use Rattle.fm_world.proofs.Cleanups.{none_one}
 use Rattle.fm_world.proofs.Fitting.{AllPass}

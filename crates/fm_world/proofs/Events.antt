@@ -1,29 +1,18 @@
 -- What an event did is decided once: it was refused, and nothing changed, or it came to pass. Of both, P is asked: of the answer, and of the World after it.
 use Rattle.std.proofs.Common.{◌≡◌, ℕ, ◌==◌, List, Bool, true, false, Option, Some, None, Result, Ok, Err, refl, ap, sym, ◌∙◌, subst}
-use Rattle.std.proofs.lemmas.Bool.{false≢true}
-use Rattle.std.specs.Prelude.{◌&&◌, option_map, unwrap_or}
-use Rattle.fm_world.proofs.Words.{CtxId, InstanceId, OpId, WorkerId, Status, Answers, AnswersOrMemory, change_none, BaseCall, Answer, PreVerdict, PostVerdict}
-use Rattle.fm_world.proofs.Words.{Data, data_fits, context_at, Object, SetMode, Context, Below, FlowAction, Descending, FlowRecord, next_of, post_returned_of}
-use Rattle.fm_world.proofs.Words.{drain_returned_of, base_fits, FlowTable, operation_at, changed, told, Worker, World, worker_at, is_idle, after_next, Unless}
-use Rattle.fm_world.proofs.Words.{SetsUp, SetsUpAt, FindsBelow, LiesBelow, Nexts, NextsAt, NextsOver, LosesByKnown, PreReturns, PreReturnsAt, PreReturnsOver}
-use Rattle.fm_world.proofs.Words.{BaseReturns, BaseReturnsAt, PostReturns, PostReturnsAt, ReturnsFrom, pre_step, state_at, base_returned, drains_at, received}
-use Rattle.fm_world.proofs.Words.{filed_next, flow_after_next, SetAnswer, Callback, InCallback, InCallbackOf, callback_of, Sets, SetsIn, SetsUnless, SetsOn}
-use Rattle.fm_world.proofs.Words.{set_refused, object_for, Cleans, CleansAt, LosesLinks}
-use Rattle.fm_world.proofs.Words.{ContextTable}
-use Rattle.fm_ctx.specs.declared.set_reply.SetReply.{SetReply}
-use Rattle.fm_world.proofs.Words.{Keep}
-use Rattle.fm_world.proofs.Words.{Replace}
-use Rattle.fm_world.proofs.Words.{set_after}
-use Rattle.fm_world.proofs.Words.{set_reply}
-use Rattle.fm_world.proofs.Words.{set_mode_after}
-use Rattle.fm_world.proofs.Words.{set_mode_reply}
-use Rattle.fm_world.proofs.Words.{kept_after}
-use Rattle.fm_world.proofs.Words.{wanted}
-use Rattle.fm_world.proofs.Words.{unlinked_for}
-use Rattle.fm_world.proofs.Words.{linked}
-use Rattle.fm_world.proofs.Words.{grabbed}
-use Rattle.fm_world.proofs.Words.{is_hand_full}
 use Rattle.std.proofs.Common.{cond}
+use Rattle.fm_world.proofs.Words.{false≢true, option_map, unwrap_or, CtxId, InstanceId, OpId, WorkerId, Status, Answers, AnswersOrMemory, change_none}
+use Rattle.fm_world.proofs.Words.{BaseCall, Answer, PreVerdict, PostVerdict, Data, data_fits, context_at, Object, SetMode, Context, ContextTable, set_after}
+use Rattle.fm_world.proofs.Words.{set_reply, set_mode_after, set_mode_reply, kept_after, wanted, unlinked_for, linked, grabbed, is_hand_full, Below}
+use Rattle.fm_world.proofs.Words.{FlowAction, Descending, FlowRecord, next_of, post_returned_of, drain_returned_of, base_fits, FlowTable, operation_at}
+use Rattle.fm_world.proofs.Words.{changed, told, Worker, World, worker_at, is_idle, after_next, Unless, SetsUp, SetsUpAt, FindsBelow, LiesBelow, Nexts}
+use Rattle.fm_world.proofs.Words.{NextsAt, NextsOver, LosesByKnown, PreReturns, PreReturnsAt, PreReturnsOver, BaseReturns, BaseReturnsAt, PostReturns}
+use Rattle.fm_world.proofs.Words.{PostReturnsAt, ReturnsFrom, pre_step, state_at, base_returned, drains_at, received, filed_next, flow_after_next, SetAnswer}
+use Rattle.fm_world.proofs.Words.{Callback, InCallback, InCallbackOf, callback_of, Sets, SetsIn, SetsUnless, SetsOn, set_refused, object_for, Cleans}
+use Rattle.fm_world.proofs.Words.{CleansAt, LosesLinks}
+use Rattle.std.specs.Prelude.{◌&&◌}
+use Rattle.fm_ctx.specs.declared.set_reply.SetReply.{SetReply}
+use Rattle.fm_ctx.specs.declared.set_reply.SetMode.TheVariants.{Keep, Replace}
 
 -- ---- refusals
 

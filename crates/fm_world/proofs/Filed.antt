@@ -1,19 +1,17 @@
 -- What holds of streams and handles is kept by every step of an operation.
 use Rattle.std.proofs.Common.{◌≡◌, ℕ, ◌+◌, ◌<◌, ◌==◌, Bool, true, false, cond, not, List, [], ◌∷◌, ◌++◌, find, Option, Some, None, Ok, refl, ap, sym, ◌∙◌, subst, inl, inr, ◌⊎◌, arith}
-use Rattle.std.specs.Prelude.{◌&&◌, All, nat_le, length}
-use Rattle.std.specs.List.{list_any}
-use Rattle.std.proofs.lemmas.Bool.{cases_Bool, false≢true, eq-eqb, ne_eqb, and_from, and_parts}
-use Rattle.std.proofs.lemmas.List.Elements.{All-nil, All-push, All-weaker}
-use Rattle.std.proofs.lemmas.Option.{same_Some}
-use Rattle.fm_world.proofs.Words.{change_first, found_holds, all_change, all_without, HandleId, OpId, StreamId, VolumeId, WorkerId, Operation, Status, Answer}
-use Rattle.fm_world.proofs.Words.{BaseCall, Params, Data, operation_of, same_operation, same_path, are_on, are_for, fit, call_fits, is_within_limits, Below}
-use Rattle.fm_world.proofs.Words.{FlowAction, Ask, PreState, Stage, Descending, PreRunning, PreHeld, InBase, is_success, handle_given, is_running_drain}
-use Rattle.fm_world.proofs.Words.{is_create, is_unanswered, is_creating, is_on_stream, owed, FlowRecord, next_of, give_post, pre_leads, pre_returned_of}
-use Rattle.fm_world.proofs.Words.{base_returned_of, base_fits, is_done, done_at, FlowTable, empty_table, is_number, operation_at, changed, removed, begun}
-use Rattle.fm_world.proofs.Words.{begun_record, collected_of, collected_in, is_collectable, marked, with_drain, InDrain, FileHandle, FileStream, HandlePhase}
-use Rattle.fm_world.proofs.Words.{moved_on, is_created_on, FileTable, empty_files, is_handle, handle_at, opened, closed, left, created, stream_for}
-use Rattle.fm_world.proofs.Words.{after_base, after_pre, is_in_use, has_stream, has_stream_of, IsCreatedOn, IsOnHandle, IsFiled, IsFileSound}
+use Rattle.fm_world.proofs.Words.{All, nat_le, length, list_any, cases_Bool, false≢true, eq-eqb, ne_eqb, and_from, and_parts, All-nil, All-push, All-weaker}
+use Rattle.fm_world.proofs.Words.{same_Some, change_first, found_holds, all_change, all_without, HandleId, OpId, StreamId, VolumeId, WorkerId, Operation}
+use Rattle.fm_world.proofs.Words.{Status, Answer, BaseCall, Params, Data, operation_of, same_operation, same_path, are_on, are_for, fit, call_fits}
+use Rattle.fm_world.proofs.Words.{is_within_limits, Below, FlowAction, Ask, PreState, Stage, Descending, PreRunning, PreHeld, InBase, is_success}
+use Rattle.fm_world.proofs.Words.{handle_given, is_running_drain, is_create, is_unanswered, is_creating, is_on_stream, owed, FlowRecord, next_of, give_post}
+use Rattle.fm_world.proofs.Words.{pre_leads, pre_returned_of, base_returned_of, base_fits, is_done, done_at, FlowTable, empty_table, is_number, operation_at}
+use Rattle.fm_world.proofs.Words.{changed, removed, begun, begun_record, collected_of, collected_in, is_collectable, marked, with_drain, InDrain, FileHandle}
+use Rattle.fm_world.proofs.Words.{FileStream, HandlePhase, moved_on, is_created_on, FileTable, empty_files, is_handle, handle_at, opened, closed, left}
+use Rattle.fm_world.proofs.Words.{created, stream_for, after_base, after_pre, is_in_use, has_stream, has_stream_of, IsCreatedOn, IsOnHandle, IsFiled}
+use Rattle.fm_world.proofs.Words.{IsFileSound}
 use Rattle.fm_world.specs.Files as files
+use Rattle.std.specs.Prelude.{◌&&◌}
 use Rattle.fm_types.specs.Lists.{without_first}
 use Rattle.fm_world.proofs.Filing.{shrinks_same, moved_shrinks, pre_shrinks, filed_step, filed_answered, filed_begins, filed_collects, answered_none, not_more_same}
 use Rattle.fm_world.proofs.Streams.{Stands, InUse, is_creating_on, stands_among, stands_opened, stands_closed, stands_phased, stands_marked, stands_left, stands_created, created_there, on_open, use_but, use_more, use_same, use_opened, use_left, use_closed, use_phased, use_marked, use_created, creating_same, creating_ended, any_without, any_before, any_pushed}

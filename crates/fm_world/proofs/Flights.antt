@@ -1,11 +1,9 @@
 -- Where a worker is in a callback of an instance, the instance is there and takes contexts.
 use Rattle.std.proofs.Common.{◌≡◌, ℕ, ◌≤◌, ◌==◌, ◌&&◌, Bool, true, cond, List, [], ◌∷◌, Option, Some, find, refl, ap, sym, ◌∙◌, subst, inl, inr, ◌⊎◌, arith}
-use Rattle.std.proofs.lemmas.Bool.{false≢true, cases_Bool, eq-eqb, and_from}
-use Rattle.std.proofs.lemmas.Option.{none-some, same_Some}
-use Rattle.fm_world.proofs.Words.{InstanceId, OpId, WorkerId, found_holds, Instance, Phase, is_setup, PreState, PostState, PreRunning, PostRunning}
-use Rattle.fm_world.proofs.Words.{last_visited, last_posted, flight, leaves_at, FlowRecord, IsCourse, is_number, total, in_flight, flight_pre_settled}
-use Rattle.fm_world.proofs.Words.{flight_post_settled, drains_open, Worker, World, worker_at, AtPre, AtPost, is_in_drain, row_at, place_in, is_flown}
-use Rattle.fm_world.proofs.Words.{is_flown_by, is_left_by, keeps_links_by, IsSound, IsUnderWay}
+use Rattle.fm_world.proofs.Words.{false≢true, cases_Bool, eq-eqb, and_from, none-some, same_Some, InstanceId, OpId, WorkerId, found_holds, Instance, Phase}
+use Rattle.fm_world.proofs.Words.{is_setup, PreState, PostState, PreRunning, PostRunning, last_visited, last_posted, flight, leaves_at, FlowRecord, IsCourse}
+use Rattle.fm_world.proofs.Words.{is_number, total, in_flight, flight_pre_settled, flight_post_settled, drains_open, Worker, World, worker_at, AtPre, AtPost}
+use Rattle.fm_world.proofs.Words.{is_in_drain, row_at, place_in, is_flown, is_flown_by, is_left_by, keeps_links_by, IsSound, IsUnderWay}
 use Rattle.fm_flow.specs.Sound as flow
 use Rattle.fm_world.proofs.Keeps.{setup_place}
 use Rattle.fm_world.proofs.Draining.{drained_there}

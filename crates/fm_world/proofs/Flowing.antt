@@ -1,27 +1,24 @@
 -- The events on operations leave contexts as the World says.
 use Rattle.std.proofs.Common.{◌≡◌, ℕ, ◌<◌, ◌≤◌, ◌+◌, ◌==◌, Bool, true, false, cond, List, [], ◌∷◌, ◌++◌, length, not, Option, Some, None, Result, Ok, slice_get, option_to_list, find, refl, ap, sym, ◌∙◌, subst, inl, inr, arith}
-use Rattle.std.specs.Prelude.{All, slice_set, ◌||◌, ◌-◌, ◌^◌, nat_le}
-use Rattle.std.specs.List.{list_any}
-use Rattle.std.proofs.lemmas.Bool.{false≢true, true≢false, cases_Bool, and_parts, ne_eqb}
-use Rattle.std.proofs.lemmas.Option.{none-some, same_Some, slice_get_within}
-use Rattle.std.proofs.lemmas.List.{set-set}
-use Rattle.std.proofs.lemmas.List.Elements.{All-nil, All-cons, All-push}
-use Rattle.fm_world.proofs.Words.{CtxId, InstanceId, OpId, WorkerId, Operation, Status, slice_get-set_same, found_holds, all_change, all_without, HandleId}
-use Rattle.fm_world.proofs.Words.{StreamId, VolumeId, CreateMode, BaseCall, Params, Answer, PreVerdict, PostVerdict, Data, operation_of, is_within_limits}
-use Rattle.fm_world.proofs.Words.{Phase, StackWorld, is_attached, is_to_visit, is_below_cursor, holds, hand_of, without, IsLawful, grabbed, Leaves, Slot}
-use Rattle.fm_world.proofs.Words.{ContextTable, lawful_alike, leave_keeps, within_hands, carry_keeps, bring_keeps, Below, FlowAction, Ask, PreState, Base}
-use Rattle.fm_world.proofs.Words.{PreVisit, Stage, Descending, PreRunning, Ascending, PostRunning, carried_in, carried_among, carried_by, is_running_drain}
-use Rattle.fm_world.proofs.Words.{flight, handed, taken_by, ask_in, last_visited, owed, FlowRecord, IsCourse, next_of, pre_returned_of, post_returned_of}
-use Rattle.fm_world.proofs.Words.{drain_returned_of, base_fits, post_state, is_done, done_at, post_leads, FlowTable, operation_at, changed, told, total}
-use Rattle.fm_world.proofs.Words.{carried, in_flight, begun, begun_record, is_number, is_collectable, collected_in, marked, removed, is_full, verdict_counted}
-use Rattle.fm_world.proofs.Words.{completed_as, owed_pre_settled, owed_post_settled, owed_drain_settled, base_counted, creates, is_unanswered, is_create}
-use Rattle.fm_world.proofs.Words.{Begin, Worker, World, carries, worker_at, put, after_next, cleanup_in, row_at, place_in, HoldsIn, CarriesIn, AskCarries}
-use Rattle.fm_world.proofs.Words.{fits, is_flown, is_flown_by, LosesByKnown, Begins, Nexts, NextsOver, LiesBelow, PreReturns, BaseReturns, PostReturns}
-use Rattle.fm_world.proofs.Words.{ReturnsFrom, Collects, brought, received, returned, drains_at, state_at, state_given, held_context, of_hand, sent, sent_in}
-use Rattle.fm_world.proofs.Words.{carries_after, has_post, begun_on, moved_on, has_no_handle_left, filed_next, filed_pre, filed_base, filed_record}
-use Rattle.fm_world.proofs.Words.{is_created_on, base_step, base_returned, asked_refused, asked_begun, IsSound, IsUnderWay, IsOwned, IsAmong, IsFileSound}
-use Rattle.fm_world.proofs.Words.{names_there, pre_step, FileHandle, FileStream, FileTable, handle_at, stream_for, created, after_pre, created_begun}
+use Rattle.fm_world.proofs.Words.{All, slice_set, nat_le, list_any, false≢true, true≢false, cases_Bool, and_parts, ne_eqb, none-some, same_Some}
+use Rattle.fm_world.proofs.Words.{slice_get_within, set-set, All-nil, All-cons, All-push, CtxId, InstanceId, OpId, WorkerId, Operation, Status}
+use Rattle.fm_world.proofs.Words.{slice_get-set_same, found_holds, all_change, all_without, HandleId, StreamId, VolumeId, CreateMode, BaseCall, Params}
+use Rattle.fm_world.proofs.Words.{Answer, PreVerdict, PostVerdict, Data, operation_of, is_within_limits, Phase, StackWorld, is_attached, is_to_visit}
+use Rattle.fm_world.proofs.Words.{is_below_cursor, holds, hand_of, without, IsLawful, grabbed, Leaves, Slot, ContextTable, lawful_alike, leave_keeps}
+use Rattle.fm_world.proofs.Words.{within_hands, carry_keeps, bring_keeps, Below, FlowAction, Ask, PreState, Base, PreVisit, Stage, Descending, PreRunning}
+use Rattle.fm_world.proofs.Words.{Ascending, PostRunning, carried_in, carried_among, carried_by, is_running_drain, flight, handed, taken_by, ask_in}
+use Rattle.fm_world.proofs.Words.{last_visited, owed, FlowRecord, IsCourse, next_of, pre_returned_of, post_returned_of, drain_returned_of, base_fits}
+use Rattle.fm_world.proofs.Words.{post_state, is_done, done_at, post_leads, FlowTable, operation_at, changed, told, total, carried, in_flight, begun}
+use Rattle.fm_world.proofs.Words.{begun_record, is_number, is_collectable, collected_in, marked, removed, is_full, verdict_counted, completed_as}
+use Rattle.fm_world.proofs.Words.{owed_pre_settled, owed_post_settled, owed_drain_settled, base_counted, creates, is_unanswered, is_create, Begin, Worker}
+use Rattle.fm_world.proofs.Words.{World, carries, worker_at, put, after_next, cleanup_in, row_at, place_in, HoldsIn, CarriesIn, AskCarries, fits, is_flown}
+use Rattle.fm_world.proofs.Words.{is_flown_by, LosesByKnown, Begins, Nexts, NextsOver, LiesBelow, PreReturns, BaseReturns, PostReturns, ReturnsFrom, Collects}
+use Rattle.fm_world.proofs.Words.{brought, received, returned, drains_at, state_at, state_given, held_context, of_hand, sent, sent_in, carries_after}
+use Rattle.fm_world.proofs.Words.{has_post, begun_on, moved_on, has_no_handle_left, filed_next, filed_pre, filed_base, filed_record, is_created_on, base_step}
+use Rattle.fm_world.proofs.Words.{base_returned, asked_refused, asked_begun, IsSound, IsUnderWay, IsOwned, IsAmong, IsFileSound, names_there, pre_step}
+use Rattle.fm_world.proofs.Words.{FileHandle, FileStream, FileTable, handle_at, stream_for, created, after_pre, created_begun}
 use Rattle.fm_flow.specs.Sound as flow
+use Rattle.std.specs.Prelude.{◌||◌, ◌-◌, ◌^◌}
 use Rattle.fm_data.specs.declared.verdict.Completion.{Completion}
 use Rattle.fm_flow.specs.Table.{without_first}
 use Rattle.fm_flow.proofs.Balances.{next_carries, next_flies, next_enters, pre_returned_carries, pre_returned_flies, base_returned_carries}

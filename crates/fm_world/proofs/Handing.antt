@@ -1,10 +1,7 @@
 -- Each event changes its worker's hand alone.
 use Rattle.std.proofs.Common.{◌≡◌, ℕ, ◌+◌, Bool, true, false, List, [], ◌∷◌, length, Option, Some, None, Result, zero, suc, refl, ap, sym, ◌∙◌, subst, arith}
-use Rattle.std.specs.Prelude.{slice_set}
-use Rattle.std.proofs.lemmas.List.{set-get_or, set-set}
-use Rattle.std.proofs.lemmas.List.Sums.{sum_by-cons}
-use Rattle.fm_world.proofs.Words.{ContextKind, CtxId, OpId, WorkerId, Status, PreVerdict, PostVerdict, Data, Object, SetMode, hand_of}
-use Rattle.fm_world.proofs.Words.{set_after, delete_after, unlinked_for, Leaves, ContextTable, FlowRecord, SetAnswer, Begin}
+use Rattle.fm_world.proofs.Words.{slice_set, set-get_or, set-set, sum_by-cons, ContextKind, CtxId, OpId, WorkerId, Status, PreVerdict, PostVerdict, Data}
+use Rattle.fm_world.proofs.Words.{Object, SetMode, hand_of, set_after, delete_after, unlinked_for, Leaves, ContextTable, FlowRecord, SetAnswer, Begin}
 use Rattle.fm_world.proofs.Words.{pairs_in, OnlyHandOf, KeepsHands, World, carries, Begins, state_at, sent_in, sent, PreReturns, PostReturns, carries_after}
 use Rattle.fm_world.proofs.Words.{there_at, Sets, Deletes, LosesLinks}
 use Rattle.fm_world.proofs.Events.{memory_by, asked_by, set_by, pre_by, post_by}

@@ -1,11 +1,8 @@
 -- How many references each event leaves in its worker's hand.
 use Rattle.std.proofs.Common.{◌≡◌, ℕ, ◌+◌, ◌<◌, Bool, true, false, not, List, [], ◌∷◌, ◌++◌, length, Option, Some, None, Result, Ok, Err, suc, refl, ap, sym, ◌∙◌, subst, arith, length-append}
-use Rattle.std.specs.Prelude.{slice_set}
-use Rattle.std.proofs.lemmas.List.{get_or-set_same}
-use Rattle.std.proofs.lemmas.Option.{slice_get_within}
-use Rattle.fm_world.proofs.Words.{ContextKind, InstanceId, OpId, CtxId, WorkerId, Status, PreVerdict, PostVerdict, Data, Object, SetMode}
-use Rattle.fm_world.proofs.Words.{hand_of, holds, without, set_after, set_reply, wanted, delete_after}
-use Rattle.fm_world.proofs.Words.{delete_reply, holder, ContextTable, length-without, Leaves, FlowAction, SetAnswer, hand_len, HoldsMore, HoldsOneFewer}
+use Rattle.fm_world.proofs.Words.{slice_set, get_or-set_same, slice_get_within, ContextKind, InstanceId, OpId, CtxId, WorkerId, Status, PreVerdict}
+use Rattle.fm_world.proofs.Words.{PostVerdict, Data, Object, SetMode, hand_of, holds, without, set_after, set_reply, wanted, delete_after, delete_reply}
+use Rattle.fm_world.proofs.Words.{holder, ContextTable, length-without, Leaves, unlinked_for, FlowAction, SetAnswer, hand_len, HoldsMore, HoldsOneFewer}
 use Rattle.fm_world.proofs.Words.{HoldsNone, given_with, given_by_set, given_by_next, left_by_setup, Worker, World, carries, worker_at, EmptiesUnless}
 use Rattle.fm_world.proofs.Words.{SetsUpAt, SetsUp, brought, received, Nexts, PreReturns, PostReturns, LosesLinks, Callback, callback_of, set_answer}
 use Rattle.fm_world.proofs.Words.{there_at, with_contexts, Allocates, Sets, Gets, Deletes, References, Releases, IsSound}
@@ -13,7 +10,6 @@ use Rattle.fm_world.proofs.Callbacks.{is_in, none_of, not_false}
 use Rattle.fm_world.proofs.Events.{asked_by, taken_by, set_by, next_by, pre_by, post_by}
 use Rattle.fm_world.proofs.Keeps.{known_cases}
 use Rattle.fm_world.proofs.Events.{set_each}
-use Rattle.fm_world.proofs.Words.{unlinked_for}
 
 -- a worker in a callback has a hand
 hand_there : (old : World) (k : WorkerId) (at : Callback) → IsSound old → callback_of old k ≡ Some at → k.0 < length old.contexts.hands

@@ -1,14 +1,11 @@
 -- The events on filters, volumes and instances keep a World sound.
 use Rattle.std.proofs.Common.{◌≡◌, ℕ, zero, suc, ◌+◌, ◌≤◌, ◌==◌, Bool, true, false, List, [], ◌∷◌, ◌++◌, Option, Some, None, Result, Ok, Err, length, refl, ap, sym, ◌∙◌, subst, arith, count_by, length-set}
-use Rattle.std.specs.Prelude.{slice_get}
-use Rattle.std.proofs.lemmas.Bool.{eq-eqb}
-use Rattle.std.proofs.lemmas.Bool.Decides.{nat_tests}
-use Rattle.std.proofs.lemmas.Option.{none-some, same_Some}
-use Rattle.std.proofs.lemmas.List.Elements.{All-weaker}
-use Rattle.fm_world.proofs.Words.{FilterId, VolumeId, InstanceId, WorkerId, OpId, Status, updated, Instance, Phase, StackWorld, is_setup}
-use Rattle.fm_world.proofs.Words.{Follows, IsStack, ContextTable, Below, FlowAction, Worker, LosesLinks, World, worker_at, put, after_attach, LosesByKnown}
-use Rattle.fm_world.proofs.Words.{Spot, AtPre, is_in_at, is_in_drain, IsUnderWay, IsAmong, is_in_setup, setup_row, IsFileSound, FileTable}
+use Rattle.fm_world.proofs.Words.{slice_get, eq-eqb, none-some, same_Some, All-weaker, FilterId, VolumeId, InstanceId, WorkerId, OpId, Status, updated}
+use Rattle.fm_world.proofs.Words.{Instance, Phase, StackWorld, is_setup, Follows, IsStack, ContextTable, Below, FlowAction, Worker, LosesLinks, World}
+use Rattle.fm_world.proofs.Words.{worker_at, put, after_attach, LosesByKnown, Spot, AtPre, is_in_at, is_in_drain, IsUnderWay, IsAmong, is_in_setup, setup_row}
+use Rattle.fm_world.proofs.Words.{IsFileSound, FileTable}
 use Rattle.fm_stack.specs.Events as stack
+use Rattle.std.proofs.lemmas.Bool.Decides.{nat_tests}
 use Rattle.fm_stack.proofs.Attaching.{attached_keeps, attached_follows}
 use Rattle.fm_stack.proofs.SettingUp.{accepted_keeps, accepted_follows, refused_keeps, refused_follows}
 use Rattle.fm_world.proofs.Counts.{count-some}

@@ -1,18 +1,15 @@
 -- Each event leaves slots as they are, or of a later generation: so an id that was given isn't given again, and what was cleaned stays cleaned.
 use Rattle.std.proofs.Common.{◌≡◌, ℕ, zero, suc, ◌<◌, ◌≤◌, ◌==◌, Bool, true, false, cond, List, [], ◌∷◌, ◌++◌, length, map, slice_get, Option, Some, None, Result, Ok, Err, option_map, refl, ap, sym, ◌∙◌, subst, inl, inr, ◌⊎◌, arith}
-use Rattle.std.specs.Prelude.{option_and_then, slice_set}
-use Rattle.std.proofs.lemmas.Bool.{cases_Bool, cases_eq, eqb-true, eq-eqb, ne_eqb}
-use Rattle.std.proofs.lemmas.Option.{none-some, same_Some, slice_get-map, slice_get_within}
-use Rattle.std.proofs.lemmas.List.{get_or-set_same, get_or-set_other}
-use Rattle.std.specs.Prelude.{IfOk}
-use Rattle.fm_world.proofs.Words.{slice_get-kept, slice_get-push, slice_get-set_same, slice_get-set_other, updated-same, updated-other, ContextKind, CtxId}
-use Rattle.fm_world.proofs.Words.{InstanceId, WorkerId, Status, Due, Object, SetMode, one, is_id, cleaning_of, is_waiting}
-use Rattle.fm_world.proofs.Words.{is_id-refl, first_placed, places_cleaned, context_at-here, IsNew, new_slot, placed, with_body, emptied, due_of, taken_due}
-use Rattle.fm_world.proofs.Words.{taken_of, cleaned, with_link, set_after, unlinked_for, delete_after, linked, holder, swept, swept_slot}
-use Rattle.fm_world.proofs.Words.{Context, Slot, ContextTable, context_in, context_at, changed_slot, change_context, FlowAction, Step, StepReply, Worker}
-use Rattle.fm_world.proofs.Words.{there_at, Allocates, Gets, Deletes, References, Releases, ReadsBody, WritesBody, Bumps, TakesDue, Cleans, Finishes, Unless}
-use Rattle.fm_world.proofs.Words.{brought, received, Registers, Mounts, Attaches, EmptiesUnless, Begins, Collects, sent, LosesLinks, Steps, Run, World}
-use Rattle.fm_world.proofs.Words.{carries, empty_world, IsSound, worker_at, is_idle, cleanup_in, sent_in, state_at}
+use Rattle.fm_world.proofs.Words.{slice_set, cases_Bool, cases_eq, eqb-true, eq-eqb, ne_eqb, none-some, same_Some, slice_get-map, slice_get_within}
+use Rattle.fm_world.proofs.Words.{get_or-set_same, get_or-set_other, IfOk, slice_get-kept, slice_get-push, slice_get-set_same, slice_get-set_other}
+use Rattle.fm_world.proofs.Words.{updated-same, updated-other, ContextKind, CtxId, InstanceId, WorkerId, Status, Due, Object, SetMode, one, is_id}
+use Rattle.fm_world.proofs.Words.{cleaning_of, is_waiting, is_id-refl, first_placed, places_cleaned, context_at-here, IsNew, new_slot, placed, with_body}
+use Rattle.fm_world.proofs.Words.{emptied, due_of, taken_due, taken_of, cleaned, with_link, set_after, unlinked_for, delete_after, linked, holder, swept}
+use Rattle.fm_world.proofs.Words.{swept_slot, Context, Slot, ContextTable, context_in, context_at, changed_slot, change_context, FlowAction, Step, StepReply}
+use Rattle.fm_world.proofs.Words.{Worker, there_at, Allocates, Gets, Deletes, References, Releases, ReadsBody, WritesBody, Bumps, TakesDue, Cleans, Finishes}
+use Rattle.fm_world.proofs.Words.{Unless, brought, received, Registers, Mounts, Attaches, EmptiesUnless, Begins, Collects, sent, LosesLinks, Steps, Run}
+use Rattle.fm_world.proofs.Words.{World, carries, empty_world, IsSound, worker_at, is_idle, cleanup_in, sent_in, state_at}
+use Rattle.std.specs.Prelude.{option_and_then}
 use Rattle.fm_world.specs.Lasting.{given_by, due_by, Comes, IsGone, ContextsLast}
 use Rattle.fm_world.proofs.Events.{memory_by, answers_by, asked_by, taken_by, idle_by, idle_there, setup_by, next_by, pre_by, base_by, post_by, cleaned_by, set_by}
 use Rattle.fm_world.proofs.Keeps.{known_cases}

@@ -1,17 +1,15 @@
 -- Allocating, setting, getting and deleting contexts keep a World sound.
 use Rattle.std.proofs.Common.{◌≡◌, ℕ, ◌<◌, ◌&&◌, ◌||◌, slice_get, Bool, true, false, List, [], ◌∷◌, ◌++◌, length, nat_lt, Option, Some, None, Result, is_some, is_none, option_map, not, refl, ap, sym, ◌∙◌, subst}
+use Rattle.fm_world.proofs.Words.{false≢true, and_parts, and_from, leb-false, eq-eqb, lt-ltb, none-some, same_Some, ContextKind, CtxId, InstanceId, WorkerId}
+use Rattle.fm_world.proofs.Words.{Status, first_of, all_at, Instance, Volume, StackWorld, is_setup, is_attached, is_mounted, is_mounted_phase, Object, Owner}
+use Rattle.fm_world.proofs.Words.{SetMode, holds, hand_of, is_hand_full, allocated, allocate_refusal, is_out_of_slots, IsLawful, holder, set_after}
+use Rattle.fm_world.proofs.Words.{unlinked_for, linked, with_link, get_refusal, delete_after, delete_refusal, IsUnlinkedOf, same_owner, is_to, Context, Slot}
+use Rattle.fm_world.proofs.Words.{context_at, link_at, allocate_keeps, context_at-placed, none_from, SetAnswer, World, carries, is_there, names_there}
+use Rattle.fm_world.proofs.Words.{FileObject, row_at, has_kind, owner_by, object_by, is_closing, is_left_by, keeps_links_by, may_link, suits, holds_links}
+use Rattle.fm_world.proofs.Words.{holds_links_by, is_volume, is_instance, is_of_stream, is_of_handle, fits, owner_fits, link_fits, belongs, belongs_by}
+use Rattle.fm_world.proofs.Words.{Callback, with_contexts, before, context_by, Allocates, object_for, is_past, set_refused, Sets, there_at, object_refused}
+use Rattle.fm_world.proofs.Words.{Gets, Deletes, IsSound, IsOwned}
 use Rattle.std.specs.Option.{option_and_then}
-use Rattle.std.proofs.lemmas.Bool.{false≢true, and_parts, and_from, leb-false, eq-eqb, lt-ltb}
-use Rattle.std.proofs.lemmas.Option.{none-some, same_Some}
-use Rattle.fm_world.proofs.Words.{ContextKind, CtxId, InstanceId, WorkerId, Status, first_of, all_at, Instance, Volume, StackWorld, is_setup, is_attached}
-use Rattle.fm_world.proofs.Words.{is_mounted, is_mounted_phase, Object, Owner, SetMode, holds, hand_of, is_hand_full, allocated}
-use Rattle.fm_world.proofs.Words.{allocate_refusal, is_out_of_slots, IsLawful, holder, set_after, unlinked_for, linked, with_link}
-use Rattle.fm_world.proofs.Words.{get_refusal, delete_after, delete_refusal, IsUnlinkedOf, same_owner, is_to, Context, Slot, context_at}
-use Rattle.fm_world.proofs.Words.{link_at, allocate_keeps, context_at-placed, none_from, SetAnswer, World, carries, is_there, names_there, FileObject, row_at}
-use Rattle.fm_world.proofs.Words.{has_kind, owner_by, object_by, is_closing, is_left_by, keeps_links_by, may_link, suits, holds_links, holds_links_by}
-use Rattle.fm_world.proofs.Words.{is_volume, is_instance, is_of_stream, is_of_handle, fits, owner_fits, link_fits, belongs, belongs_by, Callback}
-use Rattle.fm_world.proofs.Words.{with_contexts, before, context_by, Allocates, object_for, is_past, set_refused, Sets, there_at, object_refused, Gets}
-use Rattle.fm_world.proofs.Words.{Deletes, IsSound, IsOwned}
 use Rattle.fm_stack.specs.declared.volume.VolumePhase.{VolumePhase}
 use Rattle.fm_ctx.proofs.Holders.{holder_some, holder_context, holder_linked}
 use Rattle.fm_ctx.proofs.Objects.{same_owner-same}

@@ -1,11 +1,9 @@
 -- Links that go with what they name leave a World sound.
 use Rattle.std.proofs.Common.{◌≡◌, ℕ, Bool, true, false, cond, not, List, [], ◌∷◌, ◌++◌, map, find, Option, Some, None, Result, Ok, is_some, refl, ap, sym, ◌∙◌, subst, arith}
-use Rattle.std.proofs.lemmas.Bool.{false≢true}
-use Rattle.std.proofs.lemmas.List.Elements.{All-weaker, All-nil, All-cons}
-use Rattle.fm_world.proofs.Words.{change_first, CtxId, HandleId, VolumeId, WorkerId, Operation, Status, Object, hand_of, with_link, swept, swept_slot}
-use Rattle.fm_world.proofs.Words.{Context, Slot, ContextTable, sweep_keeps, FlowAction, FileStream, HandlePhase, brought, received, moved_on, FileTable}
-use Rattle.fm_world.proofs.Words.{is_stream, is_handle, stream_of_path, fresh_stream, created, created_in, with_phase, phased, is_there, names_there}
-use Rattle.fm_world.proofs.Words.{is_on_gone, LosesLinks, fits, IsOwned, IsSound, IsUnderWay, World}
+use Rattle.fm_world.proofs.Words.{false≢true, All-weaker, All-nil, All-cons, change_first, CtxId, HandleId, VolumeId, WorkerId, Operation, Status, Object}
+use Rattle.fm_world.proofs.Words.{hand_of, with_link, swept, swept_slot, Context, Slot, ContextTable, sweep_keeps, FlowAction, FileStream, HandlePhase}
+use Rattle.fm_world.proofs.Words.{brought, received, moved_on, FileTable, is_stream, is_handle, stream_of_path, fresh_stream, created, created_in, with_phase}
+use Rattle.fm_world.proofs.Words.{phased, is_there, names_there, is_on_gone, LosesLinks, fits, IsOwned, IsSound, IsUnderWay, World}
 use Rattle.fm_world.proofs.Belonging.{owners_after, owners_same, owners_swept}
 use Rattle.fm_world.proofs.Callbacks.{contexts_owned, same_hand, same_hands}
 use Rattle.fm_world.proofs.Fitting.{AllPass, passes_swept, fits_unlinked}

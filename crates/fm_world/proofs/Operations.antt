@@ -1,28 +1,24 @@
 -- The events on operations keep a World sound.
 use Rattle.std.proofs.Common.{◌≡◌, ℕ, suc, ◌+◌, ◌<◌, ◌==◌, Bool, true, false, cond, not, List, [], ◌∷◌, ◌++◌, Option, Some, None, Result, Ok, Err, length, get_or, refl, ap, sym, ◌∙◌, subst, inl, inr, ◌⊎◌, arith, length-set}
-use Rattle.std.specs.Prelude.{All, AllPairs, slice_get, option_map, unwrap_or, find, count_by, ◌||◌}
-use Rattle.std.specs.Cmp.Lexicographic.{bytes_decides}
-use Rattle.std.specs.List.{list_any}
-use Rattle.std.proofs.lemmas.Bool.{false≢true, eqb-true, eq-eqb, ne_eqb, cases_Bool, cases_eq, and_parts, and_from}
-use Rattle.std.proofs.lemmas.Option.{none-some, same_Some}
-use Rattle.std.proofs.lemmas.List.Elements.{All-push, All-head, All-tail}
-use Rattle.std.specs.Prelude.{◌&&◌}
-use Rattle.fm_world.proofs.Words.{InstanceId, OpId, WorkerId, Operation, Status, first_of, found_holds, all_change, all_without, find_without, HandleId}
-use Rattle.fm_world.proofs.Words.{StreamId, VolumeId, CreateMode, BaseCall, Params, Answer, PreVerdict, PostVerdict, Data, data_fits, are_on}
-use Rattle.fm_world.proofs.Words.{is_within_limits, operation_of, StackWorld, IsStack, hand_of, ContextTable, Below, FlowAction, Ask, Base, Post, Drain}
-use Rattle.fm_world.proofs.Words.{PreState, PostState, Stage, Descending, PreRunning, InBase, Ascending, PostRunning, InDrain, FlowRecord, visited, owed}
-use Rattle.fm_world.proofs.Words.{has_base, settle_pre, settle_post, settle_drain, times, Turned, next_of, call_pre, call_base, give_post, pre_leads}
-use Rattle.fm_world.proofs.Words.{post_leads, pre_returned_of, post_returned_of, post_state, drain_returned_of, base_fits, is_done, done_at, MayLieBelow}
-use Rattle.fm_world.proofs.Words.{way_of, is_running_drain, drain_opens, is_create, drains_push, drains_pre_settled, drains_post_settled}
-use Rattle.fm_world.proofs.Words.{drains_drain_settled, none_running, FlowTable, IsFlow, operation_at, changed, told, begun, begun_record, is_full, is_number}
-use Rattle.fm_world.proofs.Words.{collected_of, collected_in, is_collectable, marked, removed, verdict_counted, completed_as, last_visited, last_posted}
-use Rattle.fm_world.proofs.Words.{base_counted, bare_ask, turn, with_drain, PreVisit, PostVisit, Begin, Worker, World, worker_at, put, after_next, LiesBelow}
-use Rattle.fm_world.proofs.Words.{Collects, returned, received, state_at, state_given, drains_at, of_hand, has_post, or_else, begin_refused, refused_on}
-use Rattle.fm_world.proofs.Words.{refused_at, begun_on, begun_at, after_begin, moved_on, has_no_handle_left, filed_next, base_step, Spot, AtPre, AtBase}
-use Rattle.fm_world.proofs.Words.{AtPost, AtDrain, spot_at, spot_of, is_spot, is_among, IsUnderWay, IsAmong, is_in_setup, is_in_at, pre_step, FileHandle}
-use Rattle.fm_world.proofs.Words.{FileStream, FileTable, stream_at, handle_at, stream_for, created, params_of, phase_refusal, gives_nothing, asked_refused}
-use Rattle.fm_world.proofs.Words.{asked_begun, created_begun}
+use Rattle.fm_world.proofs.Words.{All, AllPairs, slice_get, option_map, unwrap_or, find, count_by, list_any, false≢true, eqb-true, eq-eqb, ne_eqb, cases_Bool}
+use Rattle.fm_world.proofs.Words.{cases_eq, and_parts, and_from, none-some, same_Some, All-push, All-head, All-tail, InstanceId, OpId, WorkerId, Operation}
+use Rattle.fm_world.proofs.Words.{Status, first_of, found_holds, all_change, all_without, find_without, HandleId, StreamId, VolumeId, CreateMode, BaseCall}
+use Rattle.fm_world.proofs.Words.{Params, Answer, PreVerdict, PostVerdict, Data, data_fits, are_on, is_within_limits, operation_of, StackWorld, IsStack}
+use Rattle.fm_world.proofs.Words.{hand_of, ContextTable, Below, FlowAction, Ask, Base, Post, Drain, PreState, PostState, Stage, Descending, PreRunning}
+use Rattle.fm_world.proofs.Words.{InBase, Ascending, PostRunning, InDrain, FlowRecord, visited, owed, has_base, settle_pre, settle_post, settle_drain, times}
+use Rattle.fm_world.proofs.Words.{Turned, next_of, call_pre, call_base, give_post, pre_leads, post_leads, pre_returned_of, post_returned_of, post_state}
+use Rattle.fm_world.proofs.Words.{drain_returned_of, base_fits, is_done, done_at, MayLieBelow, way_of, is_running_drain, drain_opens, is_create, drains_push}
+use Rattle.fm_world.proofs.Words.{drains_pre_settled, drains_post_settled, drains_drain_settled, none_running, FlowTable, IsFlow, operation_at, changed, told}
+use Rattle.fm_world.proofs.Words.{begun, begun_record, is_full, is_number, collected_of, collected_in, is_collectable, marked, removed, verdict_counted}
+use Rattle.fm_world.proofs.Words.{completed_as, last_visited, last_posted, base_counted, bare_ask, turn, with_drain, PreVisit, PostVisit, Begin, Worker}
+use Rattle.fm_world.proofs.Words.{World, worker_at, put, after_next, LiesBelow, Collects, returned, received, state_at, state_given, drains_at, of_hand}
+use Rattle.fm_world.proofs.Words.{has_post, or_else, begin_refused, refused_on, refused_at, begun_on, begun_at, after_begin, moved_on, has_no_handle_left}
+use Rattle.fm_world.proofs.Words.{filed_next, base_step, Spot, AtPre, AtBase, AtPost, AtDrain, spot_at, spot_of, is_spot, is_among, IsUnderWay, IsAmong}
+use Rattle.fm_world.proofs.Words.{is_in_setup, is_in_at, pre_step, FileHandle, FileStream, FileTable, stream_at, handle_at, stream_for, created, params_of}
+use Rattle.fm_world.proofs.Words.{phase_refusal, gives_nothing, asked_refused, asked_begun, created_begun}
 use Rattle.fm_flow.specs.Sound as flow
+use Rattle.std.specs.Prelude.{◌||◌, ◌&&◌}
+use Rattle.std.specs.Cmp.Lexicographic.{bytes_decides}
 use Rattle.fm_flow.specs.Table.{without_first}
 use Rattle.fm_flow.proofs.Soundness.{sound_pre_returned, sound_base, sound_post_returned, sound_drain_returned}
 use Rattle.fm_stack.proofs.Visits.{is_to_visit_few}

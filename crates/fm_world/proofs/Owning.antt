@@ -1,17 +1,16 @@
 -- The events on filters, volumes and instances leave contexts as the World says.
 use Rattle.std.proofs.Common.{◌≡◌, ◌≢◌, ℕ, ◌<◌, ◌≤◌, Bool, true, false, cond, not, List, [], ◌∷◌, ◌++◌, length, map, Option, Some, None, Result, Ok, Err, is_some, slice_get, refl, ap, sym, ◌∙◌, subst, inl, inr, ◌⊎◌, arith}
-use Rattle.std.specs.Prelude.{All, slice_set}
-use Rattle.std.proofs.lemmas.Bool.{false≢true, true≢false, cases_Bool, cases_eq, and_parts, and_from, eq-eqb}
-use Rattle.std.proofs.lemmas.Option.{same_Some, slice_get_within}
-use Rattle.std.proofs.lemmas.List.{length-append}
-use Rattle.std.proofs.lemmas.List.Elements.{All-nil, All-head}
-use Rattle.fm_world.proofs.Words.{CtxId, FilterId, InstanceId, VolumeId, WorkerId, Registration, Status, slice_get-kept, slice_get-set_same}
-use Rattle.fm_world.proofs.Words.{slice_get-set_other, updated-same, updated-other, Instance, Phase, Volume, StackWorld, is_setup, is_detached, refuse_row}
-use Rattle.fm_world.proofs.Words.{accept_row, Owner, hand_of, cleaning_of, IsLawful, same_owner, Leaves, is_linked_of, swept, swept_slot, Context, Slot}
-use Rattle.fm_world.proofs.Words.{ContextTable, leave_keeps, sweep_keeps, within_hands, Worker, World, carries, worker_at, put, after_attach, cleanup_in}
-use Rattle.fm_world.proofs.Words.{row_at, place_in, fits, owner_fits, link_fits, may_link, holds_links_by, is_left_by, keeps_links, keeps_links_by, is_flown}
-use Rattle.fm_world.proofs.Words.{is_flown_by, HoldsIn, Registers, Mounts, Attaches, SetsUp, EmptiesUnless, IsSound, IsOwned, names_there, FileTable}
+use Rattle.fm_world.proofs.Words.{All, slice_set, false≢true, true≢false, cases_Bool, cases_eq, and_parts, and_from, eq-eqb, same_Some, slice_get_within}
+use Rattle.fm_world.proofs.Words.{length-append, All-nil, All-head, CtxId, FilterId, InstanceId, VolumeId, WorkerId, Status, slice_get-kept}
+use Rattle.fm_world.proofs.Words.{slice_get-set_same, slice_get-set_other, updated-same, updated-other, Instance, Phase, Volume, StackWorld, is_setup}
+use Rattle.fm_world.proofs.Words.{is_detached, refuse_row, accept_row, IsStack, Follows, Owner, hand_of, cleaning_of, IsLawful, same_owner, Leaves}
+use Rattle.fm_world.proofs.Words.{is_linked_of, swept, swept_slot, Context, Slot, ContextTable, leave_keeps, sweep_keeps, within_hands, Worker, World}
+use Rattle.fm_world.proofs.Words.{carries, worker_at, put, after_attach, cleanup_in, row_at, place_in, fits, owner_fits, link_fits, may_link, holds_links_by}
+use Rattle.fm_world.proofs.Words.{is_left_by, keeps_links, keeps_links_by, is_flown, is_flown_by, HoldsIn, Registers, Mounts, Attaches, SetsUp, EmptiesUnless}
+use Rattle.fm_world.proofs.Words.{IsSound, IsOwned, names_there, FileTable, setup_row}
 use Rattle.fm_stack.specs.Events as stack
+use Rattle.fm_types.specs.declared.registration.Registration.{Registration}
+use Rattle.fm_stack.proofs.Registering.{registered_keeps, registered_follows, mounted_keeps, mounted_follows}
 use Rattle.fm_world.proofs.Belonging.{OwnersStay, owners_same, owners_swept, owners_after, FiltersStay, belongs_still, AllHold, all_hold, all_hold_still, others_stay, all_carry_still}
 use Rattle.fm_world.proofs.Callbacks.{same_hands}
 use Rattle.fm_world.proofs.Fitting.{AllFit, AllPass, VolumesStay, fits_on, passes_swept, owner_stays, link_stays}
@@ -19,13 +18,6 @@ use Rattle.fm_world.proofs.Losing.{NamedIn, passes_unlinked}
 use Rattle.fm_world.proofs.Events.{idle_by, setup_by}
 use Rattle.fm_world.proofs.Keeps.{stack_changes, attach_keeps, setup_keeps, setup_place, FiledIn}
 use Rattle.fm_world.proofs.Belonging.{filters_updated}
-use Rattle.fm_world.proofs.Words.{IsStack}
-use Rattle.fm_world.proofs.Words.{setup_row}
-use Rattle.fm_stack.proofs.Registering.{registered_keeps}
-use Rattle.fm_stack.proofs.Registering.{registered_follows}
-use Rattle.fm_stack.proofs.Registering.{mounted_keeps}
-use Rattle.fm_stack.proofs.Registering.{mounted_follows}
-use Rattle.fm_world.proofs.Words.{Follows}
 
 -- ---- instances go on
 

@@ -1,9 +1,7 @@
 -- A `next` that gives nothing to do changes nothing.
 use Rattle.std.proofs.Common.{◌≡◌, Bool, true, cond, List, [], ◌∷◌, find, Some, Result, Ok, Err, refl, ap, sym, ◌∙◌, inl, inr}
-use Rattle.std.proofs.lemmas.Bool.{cases_Bool, false≢true}
-use Rattle.std.proofs.lemmas.Option.{none-some, same_Some}
-use Rattle.fm_world.proofs.Words.{change_first, OpId, WorkerId, Status, Below, FlowAction, FlowRecord, next_of, FlowTable, is_number, Nexts, NextsOver}
-use Rattle.fm_world.proofs.Words.{LosesByKnown, drains_at, flow_after_next, World, gives_nothing}
+use Rattle.fm_world.proofs.Words.{cases_Bool, false≢true, none-some, same_Some, change_first, OpId, WorkerId, Status, Below, FlowAction, FlowRecord, next_of}
+use Rattle.fm_world.proofs.Words.{FlowTable, is_number, Nexts, NextsOver, LosesByKnown, drains_at, flow_after_next, World, gives_nothing}
 use Rattle.fm_world.proofs.Events.{Turns, next_by}
 use Rattle.fm_world.proofs.Turning.{each_turn}
 

@@ -1,9 +1,6 @@
 -- The empty World is sound, each event keeps a World sound, and a sound World keeps the Headline.
 use Rattle.std.proofs.Common.{◌≡◌, ℕ, zero, suc, ◌<◌, ◌==◌, Bool, true, false, cond, not, List, [], ◌∷◌, ◌++◌, replicate, get_or, slice_get, Option, Some, None, refl, ap, sym, ◌∙◌, subst, inl, inr, ◌⊎◌, arith}
-use Rattle.std.specs.Prelude.{All, count_by}
-use Rattle.std.proofs.lemmas.Bool.{false≢true, true≢false, and_parts, ne_eqb}
-use Rattle.std.proofs.lemmas.List.{length-replicate}
-use Rattle.std.proofs.lemmas.List.Elements.{All-nil, All-head, All-tail, All-weaker}
+use Rattle.fm_world.proofs.Words.{All, count_by, false≢true, true≢false, and_parts, ne_eqb, length-replicate, All-nil, All-head, All-tail, All-weaker}
 use Rattle.fm_world.proofs.Words.{ContextKind, CtxId, InstanceId, Instance, Phase, StackWorld, is_detached, IsStack, IsPlaced, Owner, is_open, open_of}
 use Rattle.fm_world.proofs.Words.{same_owner, Context, Slot, context_at, lawful_alike, owed, FlowRecord, IsFlow, empty_table, row_at, place_in, is_left_by}
 use Rattle.fm_world.proofs.Words.{is_flown, is_flown_by, fits, owner_fits, link_fits, HoldsIn, AskCarries, cleanup_in, Step, StepReply, Worker, empty_files}

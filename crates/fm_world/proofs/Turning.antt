@@ -1,7 +1,6 @@
 -- What `next` makes of an operation, decided once.
 use Rattle.std.proofs.Common.{◌≡◌, Bool, true, false, cond, List, Option, Some, None, Result, Ok, Err, slice_get, refl}
-use Rattle.std.specs.Prelude.{take}
-use Rattle.fm_world.proofs.Words.{WorkerId, InstanceId, Status, Params, Turned, turn, next_of, next_at, descend, ascend, call_pre, call_base, call_post}
+use Rattle.fm_world.proofs.Words.{take, WorkerId, InstanceId, Status, Params, Turned, turn, next_of, next_at, descend, ascend, call_pre, call_base, call_post}
 use Rattle.fm_world.proofs.Words.{give_post, unwound_to, with_visit, bare_ask, with_base, with_drain, may_take, bare_answer, Below, FlowAction, Ask}
 use Rattle.fm_world.proofs.Words.{FlowRecord, Stage, Descending, Ascending, PreHeld, PostHeld, InDrain, owed, gives_nothing}
 

@@ -1,7 +1,17 @@
 -- The words that the proofs share, passed on from the specs and from the crates below.
+pub use Rattle.std.proofs.lemmas.Bool.{false≢true, cases_Bool, cases_eq, true≢false, leb-false, and_parts, and_from, eq-eqb, ltb-true, ltb-false, cases_order}
+pub use Rattle.std.proofs.lemmas.Bool.{and_right, eqb-true, ne_eqb, lt-ltb, or_left, or_right, or_parts, or_cases}
+pub use Rattle.std.proofs.lemmas.List.{append-nil, get_or-set_same, get_or-set_other, set-get_or, reverse-append, set-set, length-append, length-replicate}
+pub use Rattle.std.proofs.lemmas.List.Elements.{filter_map-append, All-nil, All-head, All-tail, All-push, All-weaker, All-cons, All-map}
+pub use Rattle.std.proofs.lemmas.List.Folds.{list_any-append}
+pub use Rattle.std.proofs.lemmas.List.Quantifiers.{all_pairs_push}
+pub use Rattle.std.proofs.lemmas.List.Sums.{sum_by-cons, sum_by_push, sum_by-set}
+pub use Rattle.std.proofs.lemmas.Option.{same_Some, none-some, slice_get_within, slice_get-get_or, get_or_from_slice_get, slice_get-map}
+pub use Rattle.std.specs.List.{cons_option, list_any}
+pub use Rattle.std.specs.Prelude.{All, filter_map, slice_set, slice_get, option_map, AllPairs, nat_lt, unwrap_or, nat_le, length, count_by, IfOk, find, take}
 pub use Rattle.fm_types.proofs.Firsts.{change_none, found_holds, all_change, all_without, count_changed, count_without, found_counts, length_change}
 pub use Rattle.fm_types.proofs.Firsts.{length_without, find_without, found_passes, find_changed, find_unchanged}
-pub use Rattle.fm_types.proofs.Lists.{slice_get-set_other, all_at, length-updated, slice_get-set_same, updated-same, updated-other, All-updated}
+pub use Rattle.fm_types.proofs.Lists.{slice_get-set_other, updated-same, updated-other, all_at, length-updated, slice_get-set_same, All-updated}
 pub use Rattle.fm_types.proofs.Lists.{All-set_others, slice_get-kept, slice_get-push}
 pub use Rattle.fm_types.specs.Lists.{updated, change_first}
 pub use Rattle.fm_types.specs.Refusals.{first_of, Answers, AnswersOrMemory}
@@ -16,7 +26,6 @@ pub use Rattle.fm_types.specs.declared.ids.VolumeId.{VolumeId}
 pub use Rattle.fm_types.specs.declared.ids.WorkerId.{WorkerId}
 pub use Rattle.fm_types.specs.declared.operation.CreateMode.{CreateMode}
 pub use Rattle.fm_types.specs.declared.operation.Operation.{Operation}
-pub use Rattle.fm_types.specs.declared.registration.Registration.{Registration}
 pub use Rattle.fm_types.specs.declared.status.Status.{Status}
 pub use Rattle.fm_data.specs.Data.{Data, data_fits}
 pub use Rattle.fm_data.specs.Params.{operation_of, same_operation, same_path, are_on, are_for, fit, call_fits, is_within_limits}
@@ -49,8 +58,8 @@ pub use Rattle.fm_ctx.specs.Bodies.{rewritten, with_body}
 pub use Rattle.fm_ctx.specs.Cleanup.{emptied, taken_due, taken_of, cleaned, due_of}
 pub use Rattle.fm_ctx.specs.Counting.{is_open, open_of}
 pub use Rattle.fm_ctx.specs.Laws.{IsLawful, is_waiting}
-pub use Rattle.fm_ctx.specs.Links.{with_link, set_after, set_mode_after, delete_after, unlinked_for, set_reply, set_mode_reply, wanted, delete_reply, holder}
-pub use Rattle.fm_ctx.specs.Links.{linked, kept_after, get_refusal, delete_refusal, IsUnlinkedOf}
+pub use Rattle.fm_ctx.specs.Links.{set_after, set_reply, set_mode_after, set_mode_reply, kept_after, wanted, unlinked_for, linked, with_link, delete_after}
+pub use Rattle.fm_ctx.specs.Links.{delete_reply, holder, get_refusal, delete_refusal, IsUnlinkedOf}
 pub use Rattle.fm_ctx.specs.Objects.{same_owner, is_to}
 pub use Rattle.fm_ctx.specs.References.{grabbed, released}
 pub use Rattle.fm_ctx.specs.Settling.{swept, swept_slot, Leaves, is_linked_of}
@@ -60,7 +69,6 @@ pub use Rattle.fm_ctx.specs.declared.due.Due.{Due}
 pub use Rattle.fm_ctx.specs.declared.object.Object.{Object}
 pub use Rattle.fm_ctx.specs.declared.owner.Owner.{Owner}
 pub use Rattle.fm_ctx.specs.declared.set_reply.SetMode.{SetMode}
-pub use Rattle.fm_ctx.specs.declared.set_reply.SetMode.TheVariants.{Keep, Replace}
 pub use Rattle.fm_flow.proofs.Counting.{same_either, one_of_and, flight_pre_settled, flight_post_settled, owed_pre_settled, owed_post_settled}
 pub use Rattle.fm_flow.proofs.Counting.{owed_drain_settled}
 pub use Rattle.fm_flow.proofs.Drains.{drains_given, next_drains, drains_open, drains_push, drains_pre_settled, drains_post_settled, drains_drain_settled}

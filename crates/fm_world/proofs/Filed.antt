@@ -1,12 +1,12 @@
 -- What holds of streams and handles is kept by every step of an operation.
-use Rattle.std.proofs.Common.{◌≡◌, ℕ, ◌+◌, ◌<◌, ◌==◌, Bool, true, false, cond, not, List, [], ◌∷◌, ◌++◌, find, Option, Some, None, Ok, refl, ap, sym, ◌∙◌, subst, inl, inr, ◌⊎◌, arith}
+use Rattle.std.proofs.Common.{◌≡◌, ℕ, ◌+◌, ◌<◌, ◌==◌, Bool, true, false, cond, List, [], ◌∷◌, ◌++◌, find, Option, Some, None, Ok, refl, ap, sym, ◌∙◌, subst, inl, inr, ◌⊎◌, arith}
 use Rattle.fm_world.proofs.Words.{All, nat_le, length, list_any, cases_Bool, false≢true, eq-eqb, ne_eqb, and_from, and_parts, All-nil, All-push, All-weaker}
 use Rattle.fm_world.proofs.Words.{same_Some, change_first, found_holds, all_change, all_without, HandleId, OpId, StreamId, VolumeId, WorkerId, Operation}
 use Rattle.fm_world.proofs.Words.{Status, Answer, BaseCall, Params, Data, operation_of, same_operation, same_path, are_on, are_for, fit, call_fits}
 use Rattle.fm_world.proofs.Words.{is_within_limits, Below, FlowAction, Ask, PreState, Stage, Descending, PreRunning, PreHeld, InBase, is_success}
-use Rattle.fm_world.proofs.Words.{handle_given, is_running_drain, is_create, is_unanswered, is_creating, is_on_stream, owed, FlowRecord, next_of, give_post}
+use Rattle.fm_world.proofs.Words.{handle_given, is_create, is_unanswered, is_creating, is_on_stream, owed, FlowRecord, next_of, give_post}
 use Rattle.fm_world.proofs.Words.{pre_leads, pre_returned_of, base_returned_of, base_fits, is_done, done_at, FlowTable, empty_table, is_number, operation_at}
-use Rattle.fm_world.proofs.Words.{changed, removed, begun, begun_record, collected_of, collected_in, is_collectable, marked, with_drain, InDrain, FileHandle}
+use Rattle.fm_world.proofs.Words.{changed, begun, begun_record, collected_of, collected_in, marked, with_drain, InDrain, FileHandle}
 use Rattle.fm_world.proofs.Words.{FileStream, HandlePhase, moved_on, is_created_on, FileTable, empty_files, is_handle, handle_at, opened, closed, left}
 use Rattle.fm_world.proofs.Words.{created, stream_for, after_base, after_pre, is_in_use, has_stream, has_stream_of, IsCreatedOn, IsOnHandle, IsFiled}
 use Rattle.fm_world.proofs.Words.{IsFileSound}
@@ -16,6 +16,7 @@ use Rattle.fm_types.specs.Lists.{without_first}
 use Rattle.fm_world.proofs.Filing.{shrinks_same, moved_shrinks, pre_shrinks, filed_step, filed_answered, filed_begins, filed_collects, answered_none, not_more_same}
 use Rattle.fm_world.proofs.Streams.{Stands, InUse, is_creating_on, stands_among, stands_opened, stands_closed, stands_phased, stands_marked, stands_left, stands_created, created_there, on_open, use_but, use_more, use_same, use_opened, use_left, use_closed, use_phased, use_marked, use_created, creating_same, creating_ended, any_without, any_before, any_pushed}
 use Rattle.fm_world.proofs.Turning.{each_turn}
+use Rattle.fm_world.proofs.Turning.{collected_by}
 
 -- ---- the parts
 
@@ -396,24 +397,15 @@ done_none r done = answered_none r (at_stage r.stage (owed r.entries) done)
 
 holds_collected : (f : FileTable) (o : OpId) (t : FlowTable) (m : Option FlowRecord) → operation_at o t ≡ m → Holds f t.operations t.next
     → Holds f (collected_in o t m).operations (collected_in o t m).next
-holds_collected f o t None at h = h
-holds_collected f o t (Some r) at h = by_collectable (is_collectable r) refl
-  where
-    by_drain : (b : Bool) → is_done r ≡ true → Holds f (cond b (changed o marked t) (removed o t)).operations (cond b (changed o marked t) (removed o t)).next
-    by_drain true done = holds_step f t.operations t.next (is_number o) marked r at (record { stream = refl; handle = refl; creating = refl }) h
-    by_drain false done =
-        let gone = λ (q : StreamId) (x : FlowRecord) (found : operation_at o t ≡ Some x).
-        subst (λ (y : FlowRecord). is_creating_on q y ≡ false) (same_Some r x (sym at ∙ found)) (ap (λ b. b && is_on_stream q r.stream) (done_none r done)) in (
-          stands_among f t.operations (without_first (is_number o) t.operations) t.next t.next (all_without (IsCreatedOn f) (is_number o) t.operations h.0.creates_on)
-              (all_without (λ (y : FlowRecord). IsOnHandle f y.stream y.handle) (is_number o) t.operations h.0.operations_on) (omega arith) h.0,
-          use_same f t.operations (without_first (is_number o) t.operations) (λ q. any_without (is_creating_on q) (is_number o) t.operations (λ x found. gone q x found)) h.1,
-        )
-
-    by_collectable : (a : Bool) → is_collectable r ≡ a
-        → Holds f (cond a (cond (list_any is_running_drain r.entries) (changed o marked t) (removed o t)) t).operations
-        (cond a (cond (list_any is_running_drain r.entries) (changed o marked t) (removed o t)) t).next
-    by_collectable false is = h
-    by_collectable true is = by_drain (list_any is_running_drain r.entries) (and_parts (not r.collected) (is_done r) is).1
+holds_collected f o t m at h =
+    collected_by (λ u. Holds f u.operations u.next) o t m at h
+    (λ r at done. holds_step f t.operations t.next (is_number o) marked r at (record { stream = refl; handle = refl; creating = refl }) h) (λ r at done d.
+    let gone = λ (q : StreamId) (x : FlowRecord) (found : operation_at o t ≡ Some x).
+    subst (λ (y : FlowRecord). is_creating_on q y ≡ false) (same_Some r x (sym at ∙ found)) (ap (λ b. b && is_on_stream q r.stream) (done_none r done)) in (
+      stands_among f t.operations (without_first (is_number o) t.operations) t.next t.next (all_without (IsCreatedOn f) (is_number o) t.operations h.0.creates_on)
+          (all_without (λ (y : FlowRecord). IsOnHandle f y.stream y.handle) (is_number o) t.operations h.0.operations_on) (omega arith) h.0,
+      use_same f t.operations (without_first (is_number o) t.operations) (λ q. any_without (is_creating_on q) (is_number o) t.operations (λ x found. gone q x found)) h.1,
+    ))
 
 pub file_collects : (f : FileTable) (o : OpId) (t : FlowTable) → IsFileSound f t → IsFileSound f (collected_of o t)
 file_collects f o t h = sound_from f (collected_of o t) (filed_collects f o t h.room) (holds_collected f o t (operation_at o t) refl (holds_in f t h))

@@ -1,15 +1,16 @@
 -- Streams and handles through the events: there is a number and room for the handle of each create under way.
 use Rattle.std.proofs.Common.{◌≡◌, ℕ, ◌+◌, ◌≤◌, ◌<◌, Bool, true, false, cond, List, [], ◌∷◌, ◌++◌, length, Option, Some, None, Ok, refl, ap, ◌∙◌, arith, length-append}
-use Rattle.fm_world.proofs.Words.{count_by, nat_le, leb-false, sum_by_push, list_any, false≢true, HandleId, OpId, StreamId, VolumeId, WorkerId, Operation}
+use Rattle.fm_world.proofs.Words.{count_by, nat_le, leb-false, sum_by_push, false≢true, HandleId, OpId, StreamId, VolumeId, WorkerId, Operation}
 use Rattle.fm_world.proofs.Words.{Status, count_changed, count_without, found_counts, length_change, length_without, Params, operation_of, Below, FlowAction}
 use Rattle.fm_world.proofs.Words.{PreState, is_success, is_create, is_unanswered, is_creating, creates, FlowRecord, Turned, next_of, FlowTable, is_number}
-use Rattle.fm_world.proofs.Words.{operation_at, changed, removed, begun, begun_record, collected_of, collected_in, is_collectable, marked, is_running_drain}
+use Rattle.fm_world.proofs.Words.{operation_at, changed, begun, begun_record, collected_of, marked}
 use Rattle.fm_world.proofs.Words.{with_base, bare_answer, HandlePhase, FileStream, FileTable, is_handle, with_phase, opened, closed, torn_down, left, created}
 use Rattle.fm_world.proofs.Words.{created_in, stream_of_path, has_handle_on, after_base, after_pre, params_of, moved_on, IsFiled, gives_nothing}
 use Rattle.fm_world.specs.Files as files
 use Rattle.std.specs.Prelude.{◌&&◌, ◌||◌}
 use Rattle.fm_world.specs.declared.step.FileRequest.{FileRequest}
 use Rattle.fm_world.proofs.Turning.{each_turn}
+use Rattle.fm_world.proofs.Turning.{collected_by}
 
 -- no handle is given
 pub record Shrinks (f g : FileTable) : Type 0 where
@@ -167,27 +168,12 @@ pub asks_no_create : (asked : FileRequest) → is_create (operation_of (params_o
 asks_no_create (FileRequest.Read offset len) = refl
 asks_no_create _ = refl
 
-collected_next : (o : OpId) (t : FlowTable) (m : Option FlowRecord) → (collected_in o t m).next ≡ t.next
-collected_next o t None = refl
-collected_next o t (Some r) = elim (is_collectable r) as (λ a. (cond a (cond (list_any is_running_drain r.entries) (changed o marked t) (removed o t)) t).next ≡ t.next) [
-  | true ↦ elim (list_any is_running_drain r.entries) as (λ b. (cond b (changed o marked t) (removed o t)).next ≡ t.next) [ true ↦ refl | false ↦ refl ]
-  | false ↦ refl
-]
-
-collected_creates : (o : OpId) (t : FlowTable) (m : Option FlowRecord) → operation_at o t ≡ m → creates (collected_in o t m) ≤ creates t
-collected_creates o t None at = omega arith
-collected_creates o t (Some r) at = elim (is_collectable r) as (λ a. creates (cond a (cond (list_any is_running_drain r.entries) (changed o marked t) (removed o t)) t) ≤ creates t) [
-  | true ↦ elim (list_any is_running_drain r.entries) as (λ b. creates (cond b (changed o marked t) (removed o t)) ≤ creates t) [
-    | true ↦ let k = count_changed is_creating (is_number o) marked t.operations r at in omega (arith, k)
-    | false ↦ count_without is_creating (is_number o) t.operations
-  ]
-  | false ↦ omega arith
-]
-
 pub filed_collects : (f : FileTable) (o : OpId) (t : FlowTable) → IsFiled f t → IsFiled f (collected_of o t)
 filed_collects f o t h =
-    let next = collected_next o t (operation_at o t) in
-    let counts = collected_creates o t (operation_at o t) refl in
+    let m = operation_at o t in
+    let next = collected_by (λ u. u.next ≡ t.next) o t m refl refl (λ r at done. refl) (λ r at done d. refl) in
+    let counts = collected_by (λ u. creates u ≤ creates t) o t m refl (omega arith)
+    (λ r at done. let k = count_changed is_creating (is_number o) marked t.operations r at in omega (arith, k)) (λ r at done d. count_without is_creating (is_number o) t.operations) in
     let numbers = h.numbers in
     let few = h.few in
     record { numbers = omega (arith, next, counts, numbers); few = omega (arith, counts, few) }

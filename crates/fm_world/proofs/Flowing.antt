@@ -1,15 +1,15 @@
 -- The events on operations leave contexts as the World says.
-use Rattle.std.proofs.Common.{◌≡◌, ℕ, ◌<◌, ◌≤◌, ◌+◌, ◌==◌, Bool, true, false, cond, List, [], ◌∷◌, ◌++◌, length, not, Option, Some, None, Result, Ok, slice_get, option_to_list, find, refl, ap, sym, ◌∙◌, subst, inl, inr, arith}
-use Rattle.fm_world.proofs.Words.{All, slice_set, nat_le, list_any, false≢true, true≢false, cases_Bool, and_parts, ne_eqb, none-some, same_Some}
+use Rattle.std.proofs.Common.{◌≡◌, ℕ, ◌<◌, ◌≤◌, ◌+◌, ◌==◌, Bool, true, false, cond, List, [], ◌∷◌, ◌++◌, length, Option, Some, None, Result, Ok, slice_get, option_to_list, find, refl, ap, sym, ◌∙◌, subst, inl, inr, arith}
+use Rattle.fm_world.proofs.Words.{All, slice_set, nat_le, false≢true, true≢false, cases_Bool, and_parts, ne_eqb, none-some, same_Some}
 use Rattle.fm_world.proofs.Words.{slice_get_within, set-set, All-nil, All-cons, All-push, CtxId, InstanceId, OpId, WorkerId, Operation, Status}
 use Rattle.fm_world.proofs.Words.{slice_get-set_same, found_holds, all_change, all_without, HandleId, StreamId, VolumeId, CreateMode, BaseCall, Params}
 use Rattle.fm_world.proofs.Words.{Answer, PreVerdict, PostVerdict, Data, operation_of, is_within_limits, Phase, StackWorld, is_attached, is_to_visit}
 use Rattle.fm_world.proofs.Words.{is_below_cursor, holds, hand_of, without, IsLawful, grabbed, Leaves, Slot, ContextTable, lawful_alike, leave_keeps}
 use Rattle.fm_world.proofs.Words.{within_hands, carry_keeps, bring_keeps, Below, FlowAction, Ask, PreState, Base, PreVisit, Stage, Descending, PreRunning}
-use Rattle.fm_world.proofs.Words.{Ascending, PostRunning, carried_in, carried_among, carried_by, is_running_drain, flight, handed, taken_by, ask_in}
+use Rattle.fm_world.proofs.Words.{Ascending, PostRunning, carried_in, carried_among, carried_by, flight, handed, taken_by, ask_in}
 use Rattle.fm_world.proofs.Words.{last_visited, owed, FlowRecord, IsCourse, next_of, pre_returned_of, post_returned_of, drain_returned_of, base_fits}
-use Rattle.fm_world.proofs.Words.{post_state, is_done, done_at, post_leads, FlowTable, operation_at, changed, told, total, carried, in_flight, begun}
-use Rattle.fm_world.proofs.Words.{begun_record, is_number, is_collectable, collected_in, marked, removed, is_full, verdict_counted, completed_as}
+use Rattle.fm_world.proofs.Words.{post_state, done_at, post_leads, FlowTable, operation_at, changed, told, total, carried, in_flight, begun}
+use Rattle.fm_world.proofs.Words.{begun_record, is_number, collected_in, marked, is_full, verdict_counted, completed_as}
 use Rattle.fm_world.proofs.Words.{owed_pre_settled, owed_post_settled, owed_drain_settled, base_counted, creates, is_unanswered, is_create, Begin, Worker}
 use Rattle.fm_world.proofs.Words.{World, carries, worker_at, put, after_next, cleanup_in, row_at, place_in, HoldsIn, CarriesIn, AskCarries, fits, is_flown}
 use Rattle.fm_world.proofs.Words.{is_flown_by, LosesByKnown, Begins, Nexts, NextsOver, LiesBelow, PreReturns, BaseReturns, PostReturns, ReturnsFrom, Collects}
@@ -43,6 +43,8 @@ use Rattle.fm_world.proofs.Operations.{lists_keeps}
 use Rattle.fm_world.proofs.Operations.{creates_keeps}
 use Rattle.fm_world.proofs.Operations.{asks_keeps}
 use Rattle.fm_world.proofs.Events.{memory_by}
+use Rattle.fm_world.proofs.Turning.{collected_by}
+use Rattle.fm_world.proofs.Words.{collected_of}
 
 -- ---- one operation changes
 
@@ -611,48 +613,29 @@ operations_owned w t same carry fewer h = record {
 
 -- a collected operation carried nothing any more
 pub collect_balance : (t : FlowTable) (o : OpId) (m : Option FlowRecord) → operation_at o t ≡ m → (c : CtxId) → carried c t ≡ carried c (collected_in o t m)
-collect_balance t o None at c = refl
-collect_balance t o (Some r) at c = by_collectable (is_collectable r) refl
-  where
-    by_drain : (b : Bool) → is_done r ≡ true → carried c t ≡ carried c (cond b (changed o marked t) (removed o t))
-    by_drain true done = let k = carried_changed t o r marked at c in omega (arith, k)
-    by_drain false done =
-        let z : carried_by c r ≡ 0 = ap (carried_among c) (done_owes r.stage (owed r.entries) done) in
-        let k = total_without (carried_by c) (is_number o) t.operations r at in
-        omega (arith, k, z)
+collect_balance t o m at c =
+    collected_by (λ u. carried c t ≡ carried c u) o t m at refl (λ r at done. let k = carried_changed t o r marked at c in omega (arith, k)) (λ r at done d.
+    let z : carried_by c r ≡ 0 = ap (carried_among c) (done_owes r.stage (owed r.entries) done) in
+    let k = total_without (carried_by c) (is_number o) t.operations r at in
+    omega (arith, k, z))
 
-    by_collectable : (a : Bool) → is_collectable r ≡ a
-        → carried c t ≡ carried c (cond a (cond (list_any is_running_drain r.entries) (changed o marked t) (removed o t)) t)
-    by_collectable false is = refl
-    by_collectable true is = by_drain (list_any is_running_drain r.entries) (and_parts (not r.collected) (is_done r) is).1
-
-collect_at : (old : World) (o : OpId) (m : Option FlowRecord) → operation_at o old.flow ≡ m → IsOwned old → IsOwned (record old { flow = collected_in o old.flow m })
-collect_at old o None at h = h
-collect_at old o (Some r) at h = by_collectable (is_collectable r) refl
-  where
-    by_drain : (b : Bool) → is_done r ≡ true → IsOwned (record old { flow = cond b (changed o marked old.flow) (removed o old.flow) })
-    by_drain true done =
-        operations_owned old (changed o marked old.flow) (λ c. let k = carried_changed old.flow o r marked at c in omega (arith, k))
-        (carry_changed old.stack old.contexts.slots old.flow o r marked at
-        (found_holds (λ (x : FlowRecord). All (AskCarries old.stack old.contexts.slots) (owed x.entries)) (is_number o) old.flow.operations r h.completions at) h.completions)
-        (λ i. let k = flight_changed old.flow o r marked at i in omega (arith, k)) h
-    by_drain false done =
-        let none = done_owes r.stage (owed r.entries) done in
-        operations_owned old (removed o old.flow)
-        (λ c. let k = total_without (carried_by c) (is_number o) old.flow.operations r at in let z : carried_by c r ≡ 0 = ap (carried_among c) none in omega (arith, k, z))
-        (all_without (λ (x : FlowRecord). All (AskCarries old.stack old.contexts.slots) (owed x.entries)) (is_number o) old.flow.operations h.completions)
-        (λ i. omega (arith, total_without (flight i) (is_number o) old.flow.operations r at)) h
-
-    by_collectable : (a : Bool) → is_collectable r ≡ a → IsOwned (record old { flow = cond a (cond (list_any is_running_drain r.entries) (changed o marked old.flow) (removed o old.flow)) old.flow })
-    by_collectable false is = h
-    by_collectable true is = by_drain (list_any is_running_drain r.entries) (and_parts (not r.collected) (is_done r) is).1
+collect_owned : (old : World) (o : OpId) → IsOwned old → IsOwned (record old { flow = collected_of o old.flow })
+collect_owned old o h =
+    let m = operation_at o old.flow in
+    let owes = λ (x : FlowRecord). All (AskCarries old.stack old.contexts.slots) (owed x.entries) in
+    operations_owned old (collected_of o old.flow) (collect_balance old.flow o m refl)
+    (collected_by (λ t. AllCarry old.stack old.contexts.slots t.operations) o old.flow m refl h.completions
+    (λ r at done. carry_changed old.stack old.contexts.slots old.flow o r marked at (asks_of old o r at h) h.completions)
+    (λ r at done d. all_without owes (is_number o) old.flow.operations h.completions))
+    (λ i. collected_by (λ t. in_flight i t ≤ in_flight i old.flow) o old.flow m refl (omega arith)
+    (λ r at done. let k = flight_changed old.flow o r marked at i in omega (arith, k)) (λ r at done d. omega (arith, total_without (flight i) (is_number o) old.flow.operations r at))) h
 
 pub collect_sound : (old : World) (o : OpId) (result : Result Answer Status) (new : World) → Collects old o result new → IsSound old → IsSound new
 unfolding Collects
 collect_sound old o result new h s =
     record {
       under_way = collect_keeps old o result new h s.under_way;
-      owned = subst IsOwned (sym h.1) (collect_at old o (operation_at o old.flow) refl s.owned);
+      owned = subst IsOwned (sym h.1) (collect_owned old o s.owned);
       filed = subst FiledIn (sym h.1) (file_collects old.files o old.flow s.filed);
       links = subst NamedIn (sym h.1) s.links;
     }

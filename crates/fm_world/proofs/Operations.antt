@@ -1,15 +1,15 @@
 -- The events on operations keep a World sound.
-use Rattle.std.proofs.Common.{◌≡◌, ℕ, suc, ◌+◌, ◌<◌, ◌==◌, Bool, true, false, cond, not, List, [], ◌∷◌, ◌++◌, Option, Some, None, Result, Ok, Err, length, get_or, refl, ap, sym, ◌∙◌, subst, inl, inr, ◌⊎◌, arith, length-set}
-use Rattle.fm_world.proofs.Words.{All, AllPairs, slice_get, option_map, unwrap_or, find, count_by, list_any, false≢true, eqb-true, eq-eqb, ne_eqb, cases_Bool}
-use Rattle.fm_world.proofs.Words.{cases_eq, and_parts, and_from, none-some, same_Some, All-push, All-head, All-tail, InstanceId, OpId, WorkerId, Operation}
+use Rattle.std.proofs.Common.{◌≡◌, ℕ, suc, ◌+◌, ◌<◌, ◌==◌, Bool, true, false, cond, List, [], ◌∷◌, ◌++◌, Option, Some, None, Result, Ok, Err, length, get_or, refl, ap, sym, ◌∙◌, subst, inl, inr, ◌⊎◌, arith, length-set}
+use Rattle.fm_world.proofs.Words.{All, AllPairs, slice_get, option_map, unwrap_or, find, count_by, false≢true, eqb-true, eq-eqb, ne_eqb, cases_Bool}
+use Rattle.fm_world.proofs.Words.{cases_eq, and_from, none-some, same_Some, All-push, All-head, All-tail, InstanceId, OpId, WorkerId, Operation}
 use Rattle.fm_world.proofs.Words.{Status, first_of, found_holds, all_change, all_without, find_without, HandleId, StreamId, VolumeId, CreateMode, BaseCall}
 use Rattle.fm_world.proofs.Words.{Params, Answer, PreVerdict, PostVerdict, Data, data_fits, are_on, is_within_limits, operation_of, StackWorld, IsStack}
 use Rattle.fm_world.proofs.Words.{hand_of, ContextTable, Below, FlowAction, Ask, Base, Post, Drain, PreState, PostState, Stage, Descending, PreRunning}
 use Rattle.fm_world.proofs.Words.{InBase, Ascending, PostRunning, InDrain, FlowRecord, visited, owed, has_base, settle_pre, settle_post, settle_drain, times}
 use Rattle.fm_world.proofs.Words.{Turned, next_of, call_pre, call_base, give_post, pre_leads, post_leads, pre_returned_of, post_returned_of, post_state}
-use Rattle.fm_world.proofs.Words.{drain_returned_of, base_fits, is_done, done_at, MayLieBelow, way_of, is_running_drain, drain_opens, is_create, drains_push}
+use Rattle.fm_world.proofs.Words.{drain_returned_of, base_fits, done_at, MayLieBelow, way_of, drain_opens, is_create, drains_push}
 use Rattle.fm_world.proofs.Words.{drains_pre_settled, drains_post_settled, drains_drain_settled, none_running, FlowTable, IsFlow, operation_at, changed, told}
-use Rattle.fm_world.proofs.Words.{begun, begun_record, is_full, is_number, collected_of, collected_in, is_collectable, marked, removed, verdict_counted}
+use Rattle.fm_world.proofs.Words.{begun, begun_record, is_full, is_number, marked, removed, verdict_counted}
 use Rattle.fm_world.proofs.Words.{completed_as, last_visited, last_posted, base_counted, bare_ask, turn, with_drain, PreVisit, PostVisit, Begin, Worker}
 use Rattle.fm_world.proofs.Words.{World, worker_at, put, after_next, LiesBelow, Collects, returned, received, state_at, state_given, drains_at, of_hand}
 use Rattle.fm_world.proofs.Words.{has_post, or_else, begin_refused, refused_on, refused_at, begun_on, begun_at, after_begin, moved_on, has_no_handle_left}
@@ -33,6 +33,7 @@ use Rattle.fm_world.proofs.Descents.{next_unseen, room_is, or_left, or_right}
 use Rattle.fm_world.proofs.Keeps.{whatever_files}
 use Rattle.fm_world.proofs.Turning.{each_turn}
 use Rattle.fm_world.proofs.Ties.{count_stays}
+use Rattle.fm_world.proofs.Turning.{collected_by}
 
 -- operations change, and workers with them
 flow_moves : (w : World) (t : FlowTable) (workers : List Worker) → IsFlow t → All (IsAmong w.stack) t.operations → length workers ≡ 48
@@ -459,39 +460,18 @@ told_without read p t o r pairs at none =
           (λ x k. ne_eqb x.number.0 p.0 (λ q. e (sym (eqb-true x.number.0 o.0 k) ∙ q)))))
     ]
 
-collect_at : (old : World) (o : OpId) (m : Option FlowRecord) → operation_at o old.flow ≡ m → collected_in o old.flow m ≡ collected_of o old.flow → IsUnderWay old
-    → IsUnderWay (record old { flow = collected_in o old.flow m })
-collect_at old o None at same s = s
-collect_at old o (Some r) at same s =
-    let flow = subst IsFlow (sym same) (flow_collects old.flow o s.flow) in
-    let after : Bool → Bool → FlowTable = λ a b. cond a (cond b (changed o marked old.flow) (removed o old.flow)) old.flow in
-    let a = is_collectable r in
-    let b = list_any is_running_drain r.entries in
-    elim (cases_Bool a) [
-      | inr e ↦ subst (λ x. IsUnderWay (record old { flow = after x b })) (sym e) s
-      | inl e ↦
-          let quiet = done_stage r.stage (owed r.entries) (and_parts (not r.collected) (is_done r) e).1 in
-          elim (cases_Bool b) [
-            | inl d ↦
-                let is : after a b ≡ changed o marked old.flow = ap (λ x. after x b) e ∙ ap (λ y. after true y) d in
-                subst (λ t. IsUnderWay (record old { flow = t })) (sym is)
-                (flow_moves old (changed o marked old.flow) old.workers (subst IsFlow is flow)
-                (all_change (IsAmong old.stack) (is_number o) marked old.flow.operations
-                (λ x h. found_holds (IsAmong old.stack) (is_number o) old.flow.operations x s.among h) s.among)
-                s.hands (tied_stays old.workers old.flow o r marked at (λ x. refl) (λ x. refl) s.workers)
-                (drained_stays old.workers old.flow o r marked at (λ x. refl) (λ i. refl) s.drains) (λ i. refl) s)
-            | inr d ↦
-                let is : after a b ≡ removed o old.flow = ap (λ x. after x b) e ∙ ap (λ y. after true y) d in
-                subst (λ t. IsUnderWay (record old { flow = t })) (sym is)
-                (flow_moves old (removed o old.flow) old.workers (subst IsFlow is flow)
-                (all_without (IsAmong old.stack) (is_number o) old.flow.operations s.among)
-                s.hands
-                (λ p spot. s.workers p spot ∙ told_without (λ (x : FlowRecord). one (is_spot spot (spot_of x))) p old.flow o r s.flow.ascending at (ap one (quiet_is_none r.stage r.entries quiet spot)))
-                (λ p i. s.drains p i ∙ told_without (λ (x : FlowRecord). drain_opens i x.entries) p old.flow o r s.flow.ascending at (none_running i r.entries d))
-                (λ i. refl) s)
-          ]
-    ]
-
 pub collect_keeps : (old : World) (o : OpId) (result : Result Answer Status) (new : World) → Collects old o result new → IsUnderWay old → IsUnderWay new
 unfolding Collects
-collect_keeps old o result new h s = subst IsUnderWay (sym h.1) (collect_at old o (operation_at o old.flow) refl refl s)
+collect_keeps old o result new h s =
+    subst IsUnderWay (sym h.1) (collected_by (λ t. IsFlow t → IsUnderWay (record old { flow = t })) o old.flow (operation_at o old.flow) refl (λ flow. s)
+    (λ r at done flow.
+    flow_moves old (changed o marked old.flow) old.workers flow
+    (all_change (IsAmong old.stack) (is_number o) marked old.flow.operations (λ x k. found_holds (IsAmong old.stack) (is_number o) old.flow.operations x s.among k) s.among)
+    s.hands (tied_stays old.workers old.flow o r marked at (λ x. refl) (λ x. refl) s.workers)
+    (drained_stays old.workers old.flow o r marked at (λ x. refl) (λ i. refl) s.drains) (λ i. refl) s)
+    (λ r at done d flow.
+    let quiet = done_stage r.stage (owed r.entries) done in
+    flow_moves old (removed o old.flow) old.workers flow (all_without (IsAmong old.stack) (is_number o) old.flow.operations s.among) s.hands
+    (λ p spot. s.workers p spot ∙ told_without (λ (x : FlowRecord). one (is_spot spot (spot_of x))) p old.flow o r s.flow.ascending at (ap one (quiet_is_none r.stage r.entries quiet spot)))
+    (λ p i. s.drains p i ∙ told_without (λ (x : FlowRecord). drain_opens i x.entries) p old.flow o r s.flow.ascending at (none_running i r.entries d)) (λ i. refl) s)
+    (flow_collects old.flow o s.flow))

@@ -3,6 +3,19 @@ use Rattle.std.proofs.Common.{◌≡◌, Bool, true, false, cond, List, Option, 
 use Rattle.fm_world.proofs.Words.{take, WorkerId, InstanceId, Status, Params, Turned, turn, next_of, next_at, descend, ascend, call_pre, call_base, call_post}
 use Rattle.fm_world.proofs.Words.{give_post, unwound_to, with_visit, bare_ask, with_base, with_drain, may_take, bare_answer, Below, FlowAction, Ask}
 use Rattle.fm_world.proofs.Words.{FlowRecord, Stage, Descending, Ascending, PreHeld, PostHeld, InDrain, owed, gives_nothing}
+use Rattle.fm_world.proofs.Words.{FlowTable}
+use Rattle.fm_world.proofs.Words.{OpId}
+use Rattle.fm_world.proofs.Words.{operation_at}
+use Rattle.fm_world.proofs.Words.{is_done}
+use Rattle.fm_world.proofs.Words.{changed}
+use Rattle.fm_world.proofs.Words.{marked}
+use Rattle.fm_world.proofs.Words.{list_any}
+use Rattle.fm_world.proofs.Words.{is_running_drain}
+use Rattle.fm_world.proofs.Words.{removed}
+use Rattle.fm_world.proofs.Words.{collected_in}
+use Rattle.fm_world.proofs.Words.{is_collectable}
+use Rattle.fm_world.proofs.Words.{and_parts}
+use Rattle.std.proofs.Common.{not}
 
 -- P of each thing that it may answer and make of the operation
 pub record EachTurn (P : Turned → Type 0) (k : WorkerId) (lies : Below) (r : FlowRecord) : Type 0 where
@@ -60,3 +73,18 @@ each_turn P k lies stops r each = elim r.collected as (λ b. P (cond b (turn (Er
     at PreHeld e = each.rests (Ok FlowAction.Held) refl
     at PostHeld e = each.rests (Ok FlowAction.Held) refl
     at _ e = each.rests (Err Status.WrongStep) refl
+
+-- what a collect makes of the operations: nothing, or the operation is marked, as long as drains run, or it goes
+pub collected_by : (P : FlowTable → Type 0) (o : OpId) (t : FlowTable) (m : Option FlowRecord) → operation_at o t ≡ m → P t
+    → ((r : FlowRecord) → operation_at o t ≡ Some r → is_done r ≡ true → P (changed o marked t))
+    → ((r : FlowRecord) → operation_at o t ≡ Some r → is_done r ≡ true → list_any is_running_drain r.entries ≡ false → P (removed o t)) → P (collected_in o t m)
+collected_by P o t None at same marks goes = same
+collected_by P o t (Some r) at same marks goes = by_collectable (is_collectable r) refl
+  where
+    by_drain : (b : Bool) → list_any is_running_drain r.entries ≡ b → is_done r ≡ true → P (cond b (changed o marked t) (removed o t))
+    by_drain true runs done = marks r at done
+    by_drain false runs done = goes r at done runs
+
+    by_collectable : (a : Bool) → is_collectable r ≡ a → P (cond a (cond (list_any is_running_drain r.entries) (changed o marked t) (removed o t)) t)
+    by_collectable false is = same
+    by_collectable true is = by_drain (list_any is_running_drain r.entries) refl (and_parts (not r.collected) (is_done r) is).1

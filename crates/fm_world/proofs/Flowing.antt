@@ -2,10 +2,10 @@
 use Rattle.std.proofs.Common.{◌≡◌, ℕ, ◌<◌, ◌≤◌, ◌+◌, ◌==◌, Bool, true, false, cond, List, [], ◌∷◌, ◌++◌, length, Option, Some, None, Result, Ok, slice_get, option_to_list, find, refl, ap, sym, ◌∙◌, subst, inl, inr, arith}
 use Rattle.fm_world.proofs.Words.{All, slice_set, nat_le, false≢true, true≢false, cases_Bool, and_parts, ne_eqb, none-some, same_Some}
 use Rattle.fm_world.proofs.Words.{slice_get_within, set-set, All-nil, All-cons, All-push, CtxId, InstanceId, OpId, WorkerId, Operation, Status}
-use Rattle.fm_world.proofs.Words.{slice_get-set_same, found_holds, all_change, all_without, HandleId, StreamId, VolumeId, CreateMode, BaseCall, Params}
+use Rattle.fm_world.proofs.Words.{found_holds, all_change, all_without, HandleId, StreamId, VolumeId, CreateMode, BaseCall, Params}
 use Rattle.fm_world.proofs.Words.{Answer, PreVerdict, PostVerdict, Data, operation_of, is_within_limits, Phase, StackWorld, is_attached, is_to_visit}
 use Rattle.fm_world.proofs.Words.{is_below_cursor, holds, hand_of, without, IsLawful, grabbed, Leaves, Slot, ContextTable, lawful_alike, leave_keeps}
-use Rattle.fm_world.proofs.Words.{within_hands, carry_keeps, bring_keeps, Below, FlowAction, Ask, PreState, Base, PreVisit, Stage, Descending, PreRunning}
+use Rattle.fm_world.proofs.Words.{carry_keeps, bring_keeps, Below, FlowAction, Ask, PreState, Base, PreVisit, Stage, Descending, PreRunning}
 use Rattle.fm_world.proofs.Words.{Ascending, PostRunning, carried_in, carried_among, carried_by, flight, handed, taken_by, ask_in}
 use Rattle.fm_world.proofs.Words.{last_visited, owed, FlowRecord, IsCourse, next_of, pre_returned_of, post_returned_of, drain_returned_of, base_fits}
 use Rattle.fm_world.proofs.Words.{post_state, done_at, post_leads, FlowTable, operation_at, changed, told, total, carried, in_flight, begun}
@@ -26,14 +26,14 @@ use Rattle.fm_flow.proofs.Balances.{base_returned_flies, post_returned_carries, 
 use Rattle.fm_flow.proofs.Balances.{total_changed}
 use Rattle.fm_flow.proofs.Owed.{owed_push_none}
 use Rattle.fm_flow.proofs.Owes.{WasOwed, MayAsk, next_owes}
-use Rattle.fm_world.proofs.Belonging.{owners_same, filters_same, belongs_still, AllHold, AllCarry, all_hold, others_stay, held_has}
+use Rattle.fm_world.proofs.Belonging.{owners_same, filters_same, AllCarry, held_has}
 use Rattle.fm_world.proofs.Callbacks.{same_hands}
 use Rattle.fm_world.proofs.Fitting.{AllPass}
 use Rattle.fm_world.proofs.Keeps.{known_cases, loses_under_way, FiledIn}
 use Rattle.fm_world.proofs.Losing.{NamedIn, received_slots, loses_filed, loses_owned, loses_named, loses_sound, named_more, created_there, moved_there}
 use Rattle.fm_world.proofs.Events.{Turns, next_by, pre_by, base_by, post_by}
 use Rattle.fm_world.proofs.Operations.{next_keeps, pre_keeps, base_keeps, post_keeps, drain_keeps, collect_keeps, inside_pre, inside_base, inside_post, inside_drain, may_visit, told_there}
-use Rattle.fm_world.proofs.Owning.{empty_hand, cleaning_stays}
+use Rattle.fm_world.proofs.Owning.{empty_hand}
 use Rattle.fm_world.proofs.Filing.{was_known, filed_creates}
 use Rattle.fm_world.proofs.Filed.{SameFile, file_step, file_answered, file_pre, file_lists, file_begins, file_creates, file_collects, is_known, next_same_file, known_answered, base_answered, answered_same, fits_create}
 use Rattle.fm_world.proofs.Descents.{or_left, or_right}
@@ -45,6 +45,8 @@ use Rattle.fm_world.proofs.Operations.{asks_keeps}
 use Rattle.fm_world.proofs.Events.{memory_by}
 use Rattle.fm_world.proofs.Turning.{collected_by}
 use Rattle.fm_world.proofs.Words.{collected_of}
+use Rattle.fm_world.proofs.Owning.{owned_moves}
+use Rattle.fm_world.proofs.Fitting.{AllFit}
 
 -- ---- one operation changes
 
@@ -71,24 +73,23 @@ step_owned : (w : World) (o : OpId) (r : FlowRecord) (f : FlowRecord → FlowRec
     → ((i : InstanceId) → is_flown_by (row_at w.stack i) ≡ false → in_flight i.0 (changed o f w.flow) ≡ 0) → IsOwned w
     → IsOwned (record w { flow = changed o f w.flow; workers = put w.workers k b; contexts = t })
 step_owned w o r f k a b t hand at there worker na nb lawful slots hands cleaning here owes quiet h =
-    let within = slice_get_within w.workers k.0 a there in
-    let still = belongs_still w.stack w.contexts.slots w.stack t.slots (filters_same w.stack) (owners_same w.contexts.slots t.slots slots) in
-    let workers = put w.workers k b in
-    record {
-      lawful = lawful;
-      cleaning = cleaning_stays w t.cleaning k a b there cleaning na nb h.cleaning;
-      holders = subst (AllHold w.stack t.slots workers) (sym hands)
-          (all_hold w.stack w.contexts.slots w.stack t.slots w.workers workers w.contexts.hands k.0 hand (within_hands k.0 h.lawful worker) still
-          (others_stay w.workers k.0 b)
-          (subst (λ m. All (HoldsIn w.stack t.slots (place_in m)) hand) (sym (slice_get-set_same w.workers k.0 b within))
-          (subst (λ xs. All (HoldsIn w.stack xs (place_in (Some b))) hand) (sym slots) here))
-          h.holders);
-      completions = subst (λ xs. AllCarry w.stack xs (changed o f w.flow).operations) (sym slots)
-          (carry_changed w.stack w.contexts.slots w.flow o r f at owes h.completions);
-      fits = subst (λ xs. All (λ (x : Slot). fits w.stack x.context ≡ true) xs) (sym slots) h.fits;
-      quiet = quiet;
-      totals = h.totals;
-    }
+    owned_moves w w.stack (changed o f w.flow) t k a b hand there worker na nb (filters_same w.stack) (owners_same w.contexts.slots t.slots slots) lawful hands cleaning
+    (subst (λ xs. All (HoldsIn w.stack xs (place_in (Some b))) hand) (sym slots) here)
+    (subst (λ xs. AllCarry w.stack xs (changed o f w.flow).operations) (sym slots) (carry_changed w.stack w.contexts.slots w.flow o r f at owes h.completions))
+    (subst (AllFit w.stack) (sym slots) h.fits) quiet h
+
+-- operations change, and nobody goes anywhere
+flow_owned : (w : World) (t : FlowTable) → IsLawful (λ c. carried c t) w.contexts → AllCarry w.stack w.contexts.slots t.operations
+    → ((i : InstanceId) → is_flown_by (row_at w.stack i) ≡ false → in_flight i.0 t ≡ 0) → IsOwned w → IsOwned (record w { flow = t })
+flow_owned w t lawful carry quiet h = record {
+  lawful = lawful;
+  cleaning = h.cleaning;
+  holders = h.holders;
+  completions = carry;
+  fits = h.fits;
+  quiet = quiet;
+  totals = h.totals;
+}
 
 worker_below : (w : World) (k : WorkerId) (a : Worker) → worker_at w.workers k ≡ Some a → IsUnderWay w → k.0 < 48
 worker_below w k a at s = subst (λ n. k.0 < n) s.hands (slice_get_within w.workers k.0 a at)
@@ -123,16 +124,11 @@ operation_owned : (old : World) (v : VolumeId) (stream : Option StreamId) (handl
     → IsOwned (record old { flow = begun v stream handle old.stack.births path p old.flow; files = files })
 operation_owned old v stream handle path p files k =
     let r = begun_record old.flow.next v stream handle old.stack.births path p in
-    record {
-      lawful = lawful_alike (λ c. sym (total_push (carried_by c) old.flow.operations r refl)) k.lawful;
-      cleaning = k.cleaning;
-      holders = k.holders;
-      completions = All-push (λ (x : FlowRecord). All (AskCarries old.stack old.contexts.slots) (owed x.entries)) old.flow.operations r k.completions
-          (All-nil (AskCarries old.stack old.contexts.slots));
-      fits = k.fits;
-      quiet = λ i rests. total_push (flight i.0) old.flow.operations r refl ∙ k.quiet i rests;
-      totals = k.totals;
-    }
+    files_owned files
+    (flow_owned old (begun v stream handle old.stack.births path p old.flow) (lawful_alike (λ c. sym (total_push (carried_by c) old.flow.operations r refl)) k.lawful)
+    (All-push (λ (x : FlowRecord). All (AskCarries old.stack old.contexts.slots) (owed x.entries)) old.flow.operations r k.completions
+    (All-nil (AskCarries old.stack old.contexts.slots)))
+    (λ i rests. total_push (flight i.0) old.flow.operations r refl ∙ k.quiet i rests) k)
 
 asks_sound : (old : World) (h : HandleId) (p : Params) (x : FileHandle) (y : FileStream) → is_create (operation_of p) ≡ false → handle_at h old.files ≡ Some x
     → is_within_limits p ≡ true → is_full old.flow ≡ false → IsSound old → IsSound (begun_on old h p x (Some y))
@@ -179,20 +175,6 @@ begin_sound old what result new h s =
     (λ h p x y none at within room. asks_sound old h p x y none at within room s)))
 
 -- ---- next
-
--- the operation changes, and nobody goes anywhere
-flow_owned : (w : World) (o : OpId) (r : FlowRecord) (f : FlowRecord → FlowRecord) → operation_at o w.flow ≡ Some r → IsLawful (carries_after w o f) w.contexts
-    → All (AskCarries w.stack w.contexts.slots) (owed (f r).entries)
-    → ((i : InstanceId) → is_flown_by (row_at w.stack i) ≡ false → in_flight i.0 (changed o f w.flow) ≡ 0) → IsOwned w → IsOwned (record w { flow = changed o f w.flow })
-flow_owned w o r f at lawful owes quiet h = record {
-  lawful = lawful;
-  cleaning = h.cleaning;
-  holders = h.holders;
-  completions = carry_changed w.stack w.contexts.slots w.flow o r f at owes h.completions;
-  fits = h.fits;
-  quiet = quiet;
-  totals = h.totals;
-}
 
 -- what lies below on the way down is attached
 lies_attached : (s : StackWorld) (r : FlowRecord) (lies : Below) (i : InstanceId) → LiesBelow s r lies → is_flown_by (row_at s i) ≡ false
@@ -277,7 +259,8 @@ next_by_reply w o r f k (Ok (FlowAction.Drain i completion)) at idle worker bala
     brought_owned w o r f k (Worker.Drain o i) i completion.context at idle worker refl refl (λ c. balance c)
     (subst (λ (x : InstanceId). CarriesIn w.stack w.contexts.slots x completion.context) was.2
     (subst (λ (x : Completion). CarriesIn w.stack w.contexts.slots was.0.instance x.context) was.3 was.1)) owes quiet h
-next_by_reply w o r f k _ at idle worker balance was owes quiet h = flow_owned w o r f at (lawful_alike (λ c. omega (arith, balance c)) h.lawful) owes quiet h
+next_by_reply w o r f k _ at idle worker balance was owes quiet h = 
+    flow_owned w (changed o f w.flow) (lawful_alike (λ c. omega (arith, balance c)) h.lawful) (carry_changed w.stack w.contexts.slots w.flow o r f at owes h.completions) quiet h
 
 next_owned : (old : World) (k : WorkerId) (o : OpId) (result : Result FlowAction Status) (new : World) (e : Turns old k o result new) → IsSound old → IsOwned e.mid
 next_owned old k o result new e s =
@@ -598,19 +581,6 @@ pub done_owes : (stage : Stage) (asks : List Ask) → done_at stage asks ≡ tru
 done_owes Ascending [] h = refl
 done_owes _ _ h = absurd (false≢true h)
 
--- operations change, and nothing else
-operations_owned : (w : World) (t : FlowTable) → ((c : CtxId) → carried c w.flow ≡ carried c t) → AllCarry w.stack w.contexts.slots t.operations
-    → ((i : ℕ) → in_flight i t ≤ in_flight i w.flow) → IsOwned w → IsOwned (record w { flow = t })
-operations_owned w t same carry fewer h = record {
-  lawful = lawful_alike same h.lawful;
-  cleaning = h.cleaning;
-  holders = h.holders;
-  completions = carry;
-  fits = h.fits;
-  quiet = λ i rests. omega (arith, fewer i.0, h.quiet i rests);
-  totals = h.totals;
-}
-
 -- a collected operation carried nothing any more
 pub collect_balance : (t : FlowTable) (o : OpId) (m : Option FlowRecord) → operation_at o t ≡ m → (c : CtxId) → carried c t ≡ carried c (collected_in o t m)
 collect_balance t o m at c =
@@ -623,12 +593,14 @@ collect_owned : (old : World) (o : OpId) → IsOwned old → IsOwned (record old
 collect_owned old o h =
     let m = operation_at o old.flow in
     let owes = λ (x : FlowRecord). All (AskCarries old.stack old.contexts.slots) (owed x.entries) in
-    operations_owned old (collected_of o old.flow) (collect_balance old.flow o m refl)
+    flow_owned old (collected_of o old.flow) (lawful_alike (collect_balance old.flow o m refl) h.lawful)
     (collected_by (λ t. AllCarry old.stack old.contexts.slots t.operations) o old.flow m refl h.completions
     (λ r at done. carry_changed old.stack old.contexts.slots old.flow o r marked at (asks_of old o r at h) h.completions)
     (λ r at done d. all_without owes (is_number o) old.flow.operations h.completions))
-    (λ i. collected_by (λ t. in_flight i t ≤ in_flight i old.flow) o old.flow m refl (omega arith)
-    (λ r at done. let k = flight_changed old.flow o r marked at i in omega (arith, k)) (λ r at done d. omega (arith, total_without (flight i) (is_number o) old.flow.operations r at))) h
+    (λ i rests.
+    let fewer = collected_by (λ t. in_flight i.0 t ≤ in_flight i.0 old.flow) o old.flow m refl (omega arith)
+    (λ r at done. let k = flight_changed old.flow o r marked at i.0 in omega (arith, k)) (λ r at done d. omega (arith, total_without (flight i.0) (is_number o) old.flow.operations r at)) in
+    omega (arith, fewer, h.quiet i rests)) h
 
 pub collect_sound : (old : World) (o : OpId) (result : Result Answer Status) (new : World) → Collects old o result new → IsSound old → IsSound new
 unfolding Collects

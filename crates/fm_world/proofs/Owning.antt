@@ -18,6 +18,10 @@ use Rattle.fm_world.proofs.Losing.{NamedIn, passes_unlinked}
 use Rattle.fm_world.proofs.Events.{idle_by, setup_by}
 use Rattle.fm_world.proofs.Keeps.{stack_changes, attach_keeps, setup_keeps, setup_place, FiledIn}
 use Rattle.fm_world.proofs.Belonging.{filters_updated}
+use Rattle.fm_world.proofs.Words.{FlowTable}
+use Rattle.fm_world.proofs.Words.{carried}
+use Rattle.fm_world.proofs.Words.{in_flight}
+use Rattle.fm_world.proofs.Belonging.{AllCarry}
 
 -- ---- instances go on
 
@@ -136,6 +140,28 @@ cleaning_stays w cleaning k a b at same na nb h n =
       | inr apart ↦ ap cleanup_in (sym (slice_get-set_other w.workers k.0 n b apart))
     ]
 
+-- a worker goes elsewhere, outside cleanups, with another hand; instances keep their filters, and contexts their owners
+pub owned_moves : (w : World) (t : StackWorld) (u : FlowTable) (c : ContextTable) (k : WorkerId) (a b : Worker) (hand : List CtxId) → worker_at w.workers k ≡ Some a → k.0 < 48
+    → cleanup_in (Some a) ≡ None → cleanup_in (Some b) ≡ None → FiltersStay w.stack t → OwnersStay w.contexts.slots c.slots → IsLawful (λ id. carried id u) c
+    → c.hands ≡ slice_set w.contexts.hands k.0 hand → c.cleaning ≡ w.contexts.cleaning → All (HoldsIn t c.slots (place_in (Some b))) hand
+    → AllCarry t c.slots u.operations → AllFit t c.slots → ((j : InstanceId) → is_flown_by (row_at t j) ≡ false → in_flight j.0 u ≡ 0) → IsOwned w
+    → IsOwned (record w { stack = t; flow = u; workers = put w.workers k b; contexts = c })
+owned_moves w t u c k a b hand at worker na nb filters owners lawful hands cleaning here carry fit quiet h =
+    let workers = put w.workers k b in
+    let is : slice_get workers k.0 ≡ Some b = slice_get-set_same w.workers k.0 b (slice_get_within w.workers k.0 a at) in
+    record {
+      lawful = lawful;
+      cleaning = cleaning_stays w c.cleaning k a b at cleaning na nb h.cleaning;
+      holders = subst (AllHold t c.slots workers) (sym hands)
+          (all_hold w.stack w.contexts.slots t c.slots w.workers workers w.contexts.hands k.0 hand (within_hands k.0 h.lawful worker)
+          (belongs_still w.stack w.contexts.slots t c.slots filters owners) (others_stay w.workers k.0 b)
+          (subst (λ m. All (HoldsIn t c.slots (place_in m)) hand) (sym is) here) h.holders);
+      completions = carry;
+      fits = fit;
+      quiet = quiet;
+      totals = h.totals;
+    }
+
 -- ---- attach
 
 attach_owned : (old : World) (k : WorkerId) (f : FilterId) (v : VolumeId) (name altitude : List ℕ) (result : Result InstanceId Status) (new : World)
@@ -147,25 +173,12 @@ attach_owned old k f v name altitude (Err why) new at worker h e s =
 attach_owned old k f v name altitude (Ok i) new at worker h e s =
     let t = stack.attached old.stack f v name altitude in
     let slots = old.contexts.slots in
-    let workers = put old.workers k (Worker.Setup i) in
     let on : RowsGoOn old.stack t = λ j row there. (row, slice_get-kept old.stack.instances (stack.new_instance f v name altitude ∷ []) j row there, refl, inl refl) in
-    let still = belongs_still old.stack slots t slots (rows_filters old.stack t on) (owners_same slots slots refl) in
     let none = empty_hand old k Worker.Idle at refl s in
     let base = stack_owned old t on (omega arith) (λ v h. h) s in
-    subst IsOwned (sym (e ∙ ap (λ x. record old { stack = x; workers = workers }) h.1.1))
-    (record {
-      lawful = s.lawful;
-      cleaning = cleaning_stays old old.contexts.cleaning k Worker.Idle (Worker.Setup i) at refl refl refl s.cleaning;
-      holders = subst (AllHold t slots workers) (sym (same_hands old.contexts.hands k.0))
-          (all_hold old.stack slots t slots old.workers workers old.contexts.hands k.0 (hand_of old.contexts.hands k.0) (within_hands k.0 s.lawful worker) still
-          (others_stay old.workers k.0 (Worker.Setup i))
-          (subst (All (HoldsIn t slots (place_in (slice_get workers k.0)))) (sym none) (All-nil (HoldsIn t slots (place_in (slice_get workers k.0)))))
-          s.holders);
-      completions = base.completions;
-      fits = base.fits;
-      quiet = base.quiet;
-      totals = s.totals;
-    })
+    subst IsOwned (sym (e ∙ ap (λ x. record old { stack = x; workers = put old.workers k (Worker.Setup i) }) h.1.1))
+    (owned_moves old t old.flow old.contexts k Worker.Idle (Worker.Setup i) [] at worker refl refl (rows_filters old.stack t on) (owners_same slots slots refl) s.lawful
+    (same_hands old.contexts.hands k.0 ∙ ap (slice_set old.contexts.hands k.0) none) refl (All-nil (HoldsIn t slots (Some i))) base.completions base.fits base.quiet s)
 
 pub attach_sound : (old : World) (k : WorkerId) (f : FilterId) (v : VolumeId) (name altitude : List ℕ) (result : Result InstanceId Status) (new : World)
     → Attaches old k f v name altitude result new → IsSound old → IsSound new
@@ -204,19 +217,9 @@ setup_returns : (old : World) (k : WorkerId) (i : InstanceId) (t : StackWorld) (
     → IsLawful (carries old) c → AllFit t c.slots → ((j : InstanceId) → is_flown_by (row_at t j) ≡ false → is_flown_by (row_at old.stack j) ≡ false)
     → IsOwned (record old { stack = t; workers = put old.workers k Worker.Idle; contexts = c })
 setup_returns old k i t c at worker filters owners h hands cleaning lawful fit flown =
-    let still = belongs_still old.stack old.contexts.slots t c.slots filters owners in
-    let workers = put old.workers k Worker.Idle in
-    record {
-      lawful = lawful;
-      cleaning = cleaning_stays old c.cleaning k (Worker.Setup i) Worker.Idle at cleaning refl refl h.cleaning;
-      holders = subst (AllHold t c.slots workers) (sym hands)
-          (all_hold old.stack old.contexts.slots t c.slots old.workers workers old.contexts.hands k.0 [] (within_hands k.0 h.lawful worker) still
-          (others_stay old.workers k.0 Worker.Idle) (All-nil (HoldsIn t c.slots (place_in (slice_get workers k.0)))) h.holders);
-      completions = all_carry_still old.stack old.contexts.slots t c.slots old.flow.operations still h.completions;
-      fits = fit;
-      quiet = λ j rests. h.quiet j (flown j rests);
-      totals = h.totals;
-    }
+    owned_moves old t old.flow c k (Worker.Setup i) Worker.Idle [] at worker refl refl filters owners lawful hands cleaning (All-nil (HoldsIn t c.slots None))
+    (all_carry_still old.stack old.contexts.slots t c.slots old.flow.operations (belongs_still old.stack old.contexts.slots t c.slots filters owners) h.completions) fit
+    (λ j rests. h.quiet j (flown j rests)) h
 
 refused_row : (s : StackWorld) (i j : InstanceId) → j.0 ≢ i.0 → row_at (stack.refused s i) j ≡ row_at s j
 refused_row s i j apart = updated-other refuse_row s.instances i.0 j.0 apart

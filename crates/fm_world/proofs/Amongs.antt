@@ -26,17 +26,9 @@ post_up PostState.Running = refl
 post_up _ = refl
 
 after_up : (s : Stage) (e : Entry) (t : Stage) → is_up s ≡ true → after s e ≡ Some t → is_up t ≡ true
-after_up Ascending (Pre visit) t u h = absurd (none-some t h)
-after_up Ascending (Base status information) t u h = absurd (none-some t h)
 after_up Ascending (Post visit) t u h = ap is_up (sym (same_Some (post_leads visit.state) t h)) ∙ post_up visit.state
-after_up PostRunning (Pre visit) t u h = absurd (none-some t h)
-after_up PostRunning (Base status information) t u h = absurd (none-some t h)
-after_up PostRunning (Post visit) t u h = absurd (none-some t h)
-after_up PostHeld (Pre visit) t u h = absurd (none-some t h)
-after_up PostHeld (Base status information) t u h = absurd (none-some t h)
-after_up PostHeld (Post visit) t u h = absurd (none-some t h)
 after_up s (Drain visit) t u h = ap is_up (sym (same_Some s t h)) ∙ u
-after_up s e t u h = absurd (false≢true u)
+after_up _ _ t u h = cc
 
 stays_up : (s : Stage) (es : List Entry) (t : Stage) → is_up s ≡ true → walk s es ≡ Some t → is_up t ≡ true
 stays_up s [] t u h = ap is_up (sym (same_Some s t h)) ∙ u

@@ -23,6 +23,7 @@ use Rattle.fm_world.proofs.Ties.{idle_is_in_none}
 use Rattle.fm_world.proofs.Ties.{count_stays}
 use Rattle.fm_world.proofs.Keeps.{stack_changes}
 use Rattle.fm_world.proofs.Belonging.{filters_updated}
+use Rattle.fm_world.proofs.Words.{is_flown}
 
 -- ---- a worker goes into a cleanup, or comes out of it
 
@@ -241,17 +242,9 @@ setup_kept change rows i j row there same =
       | inr apart ↦ ap setup_row (updated-other change rows i j apart)
     ]
 
-not_setup : (p : Phase) → is_emptying p ≡ true → is_setup p ≡ false
-not_setup Phase.Emptying h = refl
-not_setup _ h = absurd (false≢true h)
-
--- nothing is in flight at an instance that is being emptied
-emptying_rests : (row : Instance) → is_emptying row.phase ≡ true → is_flown_by (Some row) ≡ false
-emptying_rests row h = at_phase row.phase h
-  where
-    at_phase : (p : Phase) → is_emptying p ≡ true → is_flown_by (Some (record row { phase = p })) ≡ false
-    at_phase Phase.Emptying h = refl
-    at_phase _ h = absurd (false≢true h)
+emptying_is : (p : Phase) → is_emptying p ≡ true → p ≡ Phase.Emptying
+emptying_is Phase.Emptying h = refl
+emptying_is _ h = absurd (false≢true h)
 
 -- who owns no open context
 none_open : (o : Owner) (slots : List Slot) → count_by (λ (x : Slot). is_open o x.context) slots ≡ 0 → All (λ (x : Slot). is_open o x.context ≡ false) slots
@@ -299,7 +292,7 @@ finish_sound old i (Ok done) new h s =
     subst IsSound (sym h.1)
     (record {
       under_way = stack_changes old t (finished_keeps old.stack i s.under_way.stack row.0 row.1 row.2) (finished_follows old.stack i)
-          (λ j. sym (setup_kept finish_row old.stack.instances i.0 j row.0 row.1 (sym (not_setup row.0.phase row.2)))) s.under_way;
+          (λ j. sym (setup_kept finish_row old.stack.instances i.0 j row.0 row.1 (sym (ap is_setup (emptying_is row.0.phase row.2))))) s.under_way;
       filed = s.filed;
       links = s.links;
       owned = record {
@@ -311,7 +304,7 @@ finish_sound old i (Ok done) new h s =
             old.contexts.slots (λ x fit shut. finish_fits old.stack i x.context fit shut) k.fits (none_open (Owner.Instance i) old.contexts.slots closed);
         quiet = λ j rests.
             elim (cases_eq j.0 i.0) [
-              | inl e ↦ k.quiet j (ap (λ n. is_flown_by (slice_get old.stack.instances n)) e ∙ ap is_flown_by row.1 ∙ emptying_rests row.0 row.2)
+              | inl e ↦ k.quiet j (ap (λ n. is_flown_by (slice_get old.stack.instances n)) e ∙ ap is_flown_by row.1 ∙ ap is_flown (emptying_is row.0.phase row.2))
               | inr apart ↦ k.quiet j (ap is_flown_by (sym (updated-other finish_row old.stack.instances i.0 j.0 apart)) ∙ rests)
             ];
         totals = k.totals;

@@ -171,14 +171,11 @@ descent_reaches s v born operation visited d none = record {
 }
 
 altitude_stays : (s t : StackWorld) → Follows s t → (i : ℕ) (x : List ℕ) → altitude_at s i ≡ Some x → altitude_at t i ≡ Some x
-altitude_stays s t f i x h = altitude_stays_at s t f i x (slice_get s.instances i) refl h
+altitude_stays s t f i x h = by_row (slice_get s.instances i) refl h
   where
-    altitude_stays_at : (s t : StackWorld) → Follows s t → (i : ℕ) (x : List ℕ) (r : Option Instance) → slice_get s.instances i ≡ r
-        → option_map (λ (row : Instance). row.altitude) r ≡ Some x → altitude_at t i ≡ Some x
-    altitude_stays_at s t f i x None e h = cc
-    altitude_stays_at s t f i x (Some row) e h =
-        let after = f.altitudes i row e in
-        altitude_there t i after.0 after.1 ∙ ap Some after.2 ∙ h
+    by_row : (r : Option Instance) → slice_get s.instances i ≡ r → option_map (λ (row : Instance). row.altitude) r ≡ Some x → altitude_at t i ≡ Some x
+    by_row None e h = cc
+    by_row (Some row) e h = let after = f.altitudes i row e in altitude_there t i after.0 after.1 ∙ ap Some after.2 ∙ h
 
 lower_stays : (s t : StackWorld) → Follows s t → (i j : ℕ) → is_lower_at s i j ≡ true → is_lower_at t i j ≡ true
 lower_stays s t f i j h =

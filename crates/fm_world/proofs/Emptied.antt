@@ -112,14 +112,15 @@ none_carried s slots c i x (r ∷ rs) there own none all =
 
 -- ---- all three
 
+-- a test that phases in flight pass
+pub flown_passes : (test : Phase → Bool) → test Phase.Attached ≡ true → test Phase.Stopping ≡ true → (p : Phase) → test p ≡ false → is_flown p ≡ false
+flown_passes test attached stopping Phase.Attached h = absurd (true≢false (sym attached ∙ h))
+flown_passes test attached stopping Phase.Stopping h = absurd (true≢false (sym stopping ∙ h))
+flown_passes test attached stopping _ h = refl
+
 unlinked_rests : (m : Option Instance) → keeps_links_by m ≡ false → is_flown_by m ≡ false
 unlinked_rests None h = refl
-unlinked_rests (Some row) h = at_phase row.phase h
-  where
-    at_phase : (p : Phase) → keeps_links p ≡ false → is_flown p ≡ false
-    at_phase Phase.Attached h = absurd (true≢false h)
-    at_phase Phase.Stopping h = absurd (true≢false h)
-    at_phase _ h = refl
+unlinked_rests (Some row) h = flown_passes keeps_links refl refl row.phase h
 
 pub emptied_counts : (w : World) (i : InstanceId) (c : CtxId) → IsSound w → keeps_links_by (row_at w.stack i) ≡ false
     → owner_at w.contexts.slots c ≡ Some (Owner.Instance i) → reference_count w c ≡ 0

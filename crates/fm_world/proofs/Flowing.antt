@@ -259,7 +259,7 @@ next_by_reply w o r f k (Ok (FlowAction.Drain i completion)) at idle worker bala
     brought_owned w o r f k (Worker.Drain o i) i completion.context at idle worker refl refl (λ c. balance c)
     (subst (λ (x : InstanceId). CarriesIn w.stack w.contexts.slots x completion.context) was.2
     (subst (λ (x : Completion). CarriesIn w.stack w.contexts.slots was.0.instance x.context) was.3 was.1)) owes quiet h
-next_by_reply w o r f k _ at idle worker balance was owes quiet h = 
+next_by_reply w o r f k _ at idle worker balance was owes quiet h =
     flow_owned w (changed o f w.flow) (lawful_alike (λ c. omega (arith, balance c)) h.lawful) (carry_changed w.stack w.contexts.slots w.flow o r f at owes h.completions) quiet h
 
 next_owned : (old : World) (k : WorkerId) (o : OpId) (result : Result FlowAction Status) (new : World) (e : Turns old k o result new) → IsSound old → IsOwned e.mid

@@ -70,12 +70,8 @@ allocate_sound old k what body result new h s =
 owner_belongs : (s : StackWorld) (row : Instance) (i : InstanceId) (a b : ContextKind) → owner_fits s b (owner_by row i a) ≡ true
     → same_owner (owner_by row i b) (owner_by row i a) ≡ true
 owner_belongs s row i ContextKind.Volume ContextKind.Volume h = owner_refl (Owner.Filter row.filter)
-owner_belongs s row i ContextKind.Volume ContextKind.Instance h = absurd (false≢true h)
-owner_belongs s row i ContextKind.Volume ContextKind.Stream h = absurd (false≢true h)
-owner_belongs s row i ContextKind.Volume ContextKind.Handle h = absurd (false≢true h)
-owner_belongs s row i ContextKind.Instance ContextKind.Volume h = absurd (false≢true h)
-owner_belongs s row i ContextKind.Stream ContextKind.Volume h = absurd (false≢true h)
-owner_belongs s row i ContextKind.Handle ContextKind.Volume h = absurd (false≢true h)
+owner_belongs s row i ContextKind.Volume _ h = absurd (false≢true h)
+owner_belongs s row i _ ContextKind.Volume h = absurd (false≢true h)
 owner_belongs s row i _ _ h = owner_refl (Owner.Instance i)
 
 -- what is set for that owner, the callback may hold

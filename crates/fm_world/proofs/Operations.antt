@@ -79,9 +79,7 @@ asked_within false m h = cc
 
 pub full_from : (a b c : Bool) → first_of ((a, Status.NoVolume) ∷ (b, Status.Dismounting) ∷ (c, Status.TooMany) ∷ []) ≡ None → c ≡ false
 full_from false false false h = refl
-full_from false false true h = cc
-full_from false true c h = cc
-full_from true b c h = cc
+full_from _ _ _ h = cc
 
 -- an operation on a volume of which no more than 32 instances may be visited
 operation_begins : (old : World) (v : VolumeId) (stream : Option StreamId) (handle : Option HandleId) (path : Option (List ℕ)) (p : Params) (files : FileTable)

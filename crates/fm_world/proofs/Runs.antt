@@ -1,9 +1,9 @@
 -- The empty World is sound, each event keeps a World sound, and a sound World keeps the Headline.
 use Rattle.std.proofs.Common.{◌≡◌, ℕ, zero, suc, ◌<◌, ◌==◌, Bool, true, false, cond, not, List, [], ◌∷◌, ◌++◌, replicate, get_or, slice_get, Option, Some, None, refl, ap, sym, ◌∙◌, subst, inl, inr, ◌⊎◌, arith}
 use Rattle.fm_world.proofs.Words.{All, count_by, false≢true, true≢false, and_parts, ne_eqb, length-replicate, All-nil, All-head, All-tail, All-weaker}
-use Rattle.fm_world.proofs.Words.{ContextKind, CtxId, InstanceId, Instance, Phase, StackWorld, is_detached, IsStack, IsPlaced, Owner, is_open, open_of}
+use Rattle.fm_world.proofs.Words.{ContextKind, CtxId, InstanceId, Instance, StackWorld, is_detached, IsStack, IsPlaced, Owner, is_open, open_of}
 use Rattle.fm_world.proofs.Words.{same_owner, Context, Slot, context_at, lawful_alike, owed, FlowRecord, IsFlow, empty_table, row_at, place_in, is_left_by}
-use Rattle.fm_world.proofs.Words.{is_flown, is_flown_by, fits, owner_fits, link_fits, HoldsIn, AskCarries, cleanup_in, Step, StepReply, Worker, empty_files}
+use Rattle.fm_world.proofs.Words.{is_flown_by, fits, owner_fits, link_fits, HoldsIn, AskCarries, cleanup_in, Step, StepReply, Worker, empty_files}
 use Rattle.fm_world.proofs.Words.{names_there, World, empty_world, empty_stack, Steps, Run, RunThrough, Headline, RulesKeepHeadline, is_in_at, is_in_drain}
 use Rattle.fm_world.proofs.Words.{DescendsIn, IsAscent, IsInOrder, IsSound, IsUnderWay, IsOwned, IsAmong, is_in_setup}
 use Rattle.fm_flow.specs.Sound as flow
@@ -18,6 +18,7 @@ use Rattle.fm_world.proofs.Filed.{file_empty}
 use Rattle.fm_world.proofs.Flowing.{begin_sound, next_sound, pre_sound, base_sound, post_sound, collect_sound}
 use Rattle.fm_world.proofs.Linking.{allocate_sound, set_sound, get_sound, delete_sound}
 use Rattle.fm_world.proofs.Owning.{register_sound, mount_sound, attach_sound, setup_sound}
+use Rattle.fm_world.proofs.Emptied.{flown_passes}
 
 count-replicate : {X : Type 0} (p : X → Bool) (n : ℕ) (x : X) → p x ≡ false → count_by p (replicate n x) ≡ 0
 count-replicate p zero x h = refl
@@ -112,12 +113,7 @@ none_counted o (x ∷ slots) h =
 
 flown_is_left : (m : Option Instance) → is_left_by m ≡ false → is_flown_by m ≡ false
 flown_is_left None h = refl
-flown_is_left (Some row) h = at_phase row.phase h
-  where
-    at_phase : (p : Phase) → not (is_detached p) ≡ false → is_flown p ≡ false
-    at_phase Phase.Attached h = absurd (true≢false h)
-    at_phase Phase.Stopping h = absurd (true≢false h)
-    at_phase _ h = refl
+flown_is_left (Some row) h = flown_passes (λ p. not (is_detached p)) refl refl row.phase h
 
 pub headline_from : (w : World) → IsSound w → Headline w
 headline_from w s =

@@ -135,46 +135,34 @@ among_base s v born operation entries before status information none left h =
     ascending_is_not : Ascending ≡ InBase → ⊥
     ascending_is_not e = cc
 
--- the entries are settled
-map_visits : (f : Entry → Entry) (es : List Entry) → ((e : Entry) → visit_of (f e) ≡ visit_of e) → visited (map f es) ≡ visited es
-map_visits f [] same = refl
-map_visits f (e ∷ es) same =
-    rw (same e) (ap (λ xs. cons_option (visit_of e) xs) (map_visits f es same))
+-- each entry stays a visit of its instance, and the base's call or not
+abbrev pub KeepsKind : (Entry → Entry) → Type 0
+KeepsKind f = (e : Entry) → (visit_of (f e) ≡ visit_of e) × (is_base (f e) ≡ is_base e)
 
-map_base : (f : Entry → Entry) (es : List Entry) → ((e : Entry) → is_base (f e) ≡ is_base e) → has_base (map f es) ≡ has_base es
-map_base f [] same = refl
-map_base f (e ∷ es) same = rw (same e) (ap (λ b. is_base e || b) (map_base f es same))
+-- the entries are settled
+map_keeps : (f : Entry → Entry) (es : List Entry) → KeepsKind f → (visited (map f es) ≡ visited es) × (has_base (map f es) ≡ has_base es)
+map_keeps f [] same = (refl, refl)
+map_keeps f (e ∷ es) same =
+    let rest = map_keeps f es same in
+    (rw ((same e).0) (ap (λ xs. cons_option (visit_of e) xs) rest.0), rw ((same e).1) (ap (λ b. is_base e || b) rest.1))
 
 pub among_settles : (s : StackWorld) (v : VolumeId) (born : ℕ) (operation : Operation) (entries : List Entry) (before stage : Stage) (f : Entry → Entry)
-    → ((e : Entry) → visit_of (f e) ≡ visit_of e) → ((e : Entry) → is_base (f e) ≡ is_base e) → (stage ≡ InBase → ⊥)
-    → IsAmongAt s v born operation entries before → IsAmongAt s v born operation (map f entries) stage
-among_settles s v born operation entries before stage f visits bases other h =
-    among_from s v born operation (map f entries) stage (visited entries) (has_base entries) (map_visits f entries visits) (map_base f entries bases)
-    (stands_of entries before h) (λ k. absurd (other k))
+    → KeepsKind f → (stage ≡ InBase → ⊥) → IsAmongAt s v born operation entries before → IsAmongAt s v born operation (map f entries) stage
+among_settles s v born operation entries before stage f keeps other h =
+    let same = map_keeps f entries keeps in
+    among_from s v born operation (map f entries) stage (visited entries) (has_base entries) same.0 same.1 (stands_of entries before h) (λ k. absurd (other k))
 
-pub settle_pre_visit : (state : PreState) (e : Entry) → visit_of (settle_pre state e) ≡ visit_of e
-settle_pre_visit state (Pre visit) = refl
-settle_pre_visit state _ = refl
+pub settle_pre_keeps : (state : PreState) → KeepsKind (settle_pre state)
+settle_pre_keeps state (Pre visit) = (refl, refl)
+settle_pre_keeps state _ = (refl, refl)
 
-pub settle_pre_base : (state : PreState) (e : Entry) → is_base (settle_pre state e) ≡ is_base e
-settle_pre_base state (Pre visit) = refl
-settle_pre_base state _ = refl
+pub settle_post_keeps : (state : PostState) → KeepsKind (settle_post state)
+settle_post_keeps state (Pre visit) = (refl, refl)
+settle_post_keeps state _ = (refl, refl)
 
-pub settle_post_visit : (state : PostState) (e : Entry) → visit_of (settle_post state e) ≡ visit_of e
-settle_post_visit state (Pre visit) = refl
-settle_post_visit state _ = refl
-
-pub settle_post_base : (state : PostState) (e : Entry) → is_base (settle_post state e) ≡ is_base e
-settle_post_base state (Pre visit) = refl
-settle_post_base state _ = refl
-
-pub settle_drain_visit : (i : ℕ) (e : Entry) → visit_of (settle_drain i e) ≡ visit_of e
-settle_drain_visit i (Pre visit) = refl
-settle_drain_visit i _ = refl
-
-pub settle_drain_base : (i : ℕ) (e : Entry) → is_base (settle_drain i e) ≡ is_base e
-settle_drain_base i (Pre visit) = refl
-settle_drain_base i _ = refl
+pub settle_drain_keeps : (i : ℕ) → KeepsKind (settle_drain i)
+settle_drain_keeps i (Pre visit) = (refl, refl)
+settle_drain_keeps i _ = (refl, refl)
 
 -- every event of the stack leaves each operation in place
 pub among_follows : (s t : StackWorld) (v : VolumeId) (born : ℕ) (operation : Operation) (entries : List Entry) (stage : Stage)

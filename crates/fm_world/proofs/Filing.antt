@@ -29,8 +29,7 @@ left_shrinks s b f = elim (has_handle_on s f || b) as (λ c. Shrinks f (cond c f
 closed_shrinks : (h : HandleId) (s : StreamId) (b : Bool) (f : FileTable) → Shrinks f (left s b (closed h f))
 closed_shrinks h s b f =
     let k = left_shrinks s b (closed h f) in
-    let handles = k.handles in
-    record { next = k.next; handles = omega (arith, handles, length_without (is_handle h) f.handles) }
+    record { next = k.next; handles = omega (arith, k.handles, length_without (is_handle h) f.handles) }
 
 marked_shrinks : (s : StreamId) (b : Bool) (f : FileTable) → Shrinks f (cond b (files.marked s f) f)
 marked_shrinks s true f = record { next = refl; handles = omega arith }
@@ -55,11 +54,7 @@ pub filed_step : (f g : FileTable) (t : FlowTable) (o : OpId) (r : FlowRecord) (
     → IsFiled f t → IsFiled g (changed o step t)
 filed_step f g t o r step at less shrinks h =
     let counts = count_changed is_creating (is_number o) step t.operations r at in
-    let next = shrinks.next in
-    let handles = shrinks.handles in
-    let numbers = h.numbers in
-    let few = h.few in
-    record { numbers = omega (arith, counts, less, next, numbers); few = omega (arith, counts, less, handles, few) }
+    record { numbers = omega (arith, counts, less, shrinks.next, h.numbers); few = omega (arith, counts, less, shrinks.handles, h.few) }
 
 -- a create that is under way no more gives a handle
 filed_open : (f : FileTable) (t : FlowTable) (o : OpId) (s : StreamId) (r : FlowRecord) (step : FlowRecord → FlowRecord) → operation_at o t ≡ Some r → is_creating r ≡ true
@@ -68,10 +63,8 @@ filed_open f t o s r step at was is h =
     let counts = count_changed is_creating (is_number o) step t.operations r at in
     let one : ◌≡◌ {A = ℕ} (cond (is_creating r) 1 0) 1 = ap (λ b. cond b 1 0) was in
     let none : ◌≡◌ {A = ℕ} (cond (is_creating (step r)) 1 0) 0 = ap (λ b. cond b 1 0) is in
-    let numbers = h.numbers in
-    let few = h.few in
     let more = length-append f.handles (files.fresh_handle s f.next ∷ []) in
-    record { numbers = omega (arith, counts, one, none, numbers); few = omega (arith, counts, one, none, few, more) }
+    record { numbers = omega (arith, counts, one, none, h.numbers); few = omega (arith, counts, one, none, h.few, more) }
 
 pub not_more_none : (r s : FlowRecord) → is_creating s ≡ false → NotMore r s
 not_more_none r s none = let k : ◌≡◌ {A = ℕ} (cond (is_creating s) 1 0) 0 = ap (λ b. cond b 1 0) none in omega (arith, k)
@@ -137,11 +130,7 @@ filed_begins f g t v stream handle born name p none shrinks h =
     let fresh = begun_record t.next v stream handle born name p in
     let counts = creates_push t fresh in
     let zero' : ◌≡◌ {A = ℕ} (cond (is_creating fresh) 1 0) 0 = ap (λ b. cond (b && true) 1 0) none in
-    let next = shrinks.next in
-    let handles = shrinks.handles in
-    let numbers = h.numbers in
-    let few = h.few in
-    record { numbers = omega (arith, counts, zero', next, numbers); few = omega (arith, counts, zero', handles, few) }
+    record { numbers = omega (arith, counts, zero', shrinks.next, h.numbers); few = omega (arith, counts, zero', shrinks.handles, h.few) }
 
 created_shrinks : (v : VolumeId) (path : List ℕ) (n : ℕ) (f : FileTable) → Shrinks f (created v path n f)
 created_shrinks v path n f = in_case (stream_of_path v path f)
@@ -157,12 +146,9 @@ filed_creates f t v path stream handle born name p room h =
     let fresh = begun_record t.next v stream handle born name p in
     let counts = creates_push t fresh in
     let shrinks = created_shrinks v path t.next f in
-    let next = shrinks.next in
-    let handles = shrinks.handles in
-    let numbers = h.numbers in
     let small = leb-false 4096 (length f.handles + creates t) room in
     let at_most : cond (is_creating fresh) 1 0 ≤ 1 = elim (is_creating fresh) as (λ b. cond b 1 0 ≤ 1) [ true ↦ omega arith | false ↦ omega arith ] in
-    record { numbers = omega (arith, counts, at_most, next, numbers); few = omega (arith, counts, at_most, handles, small) }
+    record { numbers = omega (arith, counts, at_most, shrinks.next, h.numbers); few = omega (arith, counts, at_most, shrinks.handles, small) }
 
 pub asks_no_create : (asked : FileRequest) → is_create (operation_of (params_of asked)) ≡ false
 asks_no_create (FileRequest.Read offset len) = refl
@@ -174,15 +160,11 @@ filed_collects f o t h =
     let next = collected_by (λ u. u.next ≡ t.next) o t m refl refl (λ r at done. refl) (λ r at done d. refl) in
     let counts = collected_by (λ u. creates u ≤ creates t) o t m refl (omega arith)
     (λ r at done. let k = count_changed is_creating (is_number o) marked t.operations r at in omega (arith, k)) (λ r at done d. count_without is_creating (is_number o) t.operations) in
-    let numbers = h.numbers in
-    let few = h.few in
-    record { numbers = omega (arith, next, counts, numbers); few = omega (arith, counts, few) }
+    record { numbers = omega (arith, next, counts, h.numbers); few = omega (arith, counts, h.few) }
 
 -- a create under way has room and a number
 pub room_for : (f : FileTable) (t : FlowTable) (o : OpId) (r : FlowRecord) → operation_at o t ≡ Some r → is_creating r ≡ true → IsFiled f t
     → (length f.handles < 4096) × (f.next < t.next)
 room_for f t o r at is h =
     let at_least : 1 ≤ creates t = found_counts is_creating (is_number o) t.operations r at is in
-    let numbers = h.numbers in
-    let few = h.few in
-    (omega (arith, at_least, few), omega (arith, at_least, numbers))
+    (omega (arith, at_least, h.few), omega (arith, at_least, h.numbers))

@@ -28,12 +28,15 @@ pub use Rattle.fm_world.proofs.Events.{unchanged_flow}
 use Rattle.fm_world.proofs.Events.{Turns}
 use Rattle.fm_world.proofs.Ties.{counted_from, one, AreTied, Matches, is_running, quiet_is_none, quiet_is_nowhere, tied_moves, tied_stays, tied_there, matches_idle, matches_pre, matches_base, matches_post, matches_drain, spot_pre, spot_base, spot_post, spot_drain}
 use Rattle.fm_world.proofs.Draining.{AreDrained, InDrains, in_no_drain, in_a_drain, drained_moves, drained_stays, next_drained}
-use Rattle.fm_world.proofs.Amongs.{is_up, no_base, visit_last, post_last, among_visits, among_other, among_base, among_settles, among_begins, settle_pre_visit, settle_pre_base, settle_post_visit, settle_post_base, settle_drain_visit, settle_drain_base}
+use Rattle.fm_world.proofs.Amongs.{is_up, no_base, visit_last, post_last, among_visits, among_other, among_base, among_settles, among_begins}
 use Rattle.fm_world.proofs.Descents.{next_unseen, room_is, or_left, or_right}
 use Rattle.fm_world.proofs.Keeps.{whatever_files}
 use Rattle.fm_world.proofs.Turning.{each_turn}
 use Rattle.fm_world.proofs.Ties.{count_stays}
 use Rattle.fm_world.proofs.Turning.{collected_by}
+use Rattle.fm_world.proofs.Amongs.{settle_pre_keeps}
+use Rattle.fm_world.proofs.Amongs.{settle_post_keeps}
+use Rattle.fm_world.proofs.Amongs.{settle_drain_keeps}
 
 -- operations change, and workers with them
 flow_moves : (w : World) (t : FlowTable) (workers : List Worker) → IsFlow t → All (IsAmong w.stack) t.operations → length workers ≡ 48
@@ -360,7 +363,7 @@ pre_keeps old k o i given lent t files at fits s =
     (subst (Matches o (Worker.Pre o i)) (sym (ap (λ a. spot_at a r.entries) x.1 ∙ ap (option_map AtPre) x.2)) (matches_pre o i)) quiet
     (in_no_drain o (Worker.Pre o i) (λ p j. refl)) (λ j. omega (arith, drains_pre_settled j state r.entries)) (λ j. refl)
     (sound_pre_returned state lent r x.1 (counted_from state quiet) (sym (told_there (λ (x : FlowRecord). data_fits x.operation x.path lent) false o old.flow r x.0.at) ∙ fits) x.0.sound)
-    (among_settles old.stack r.volume r.born r.operation r.entries r.stage (pre_leads state) (settle_pre state) (settle_pre_visit state) (settle_pre_base state)
+    (among_settles old.stack r.volume r.born r.operation r.entries r.stage (pre_leads state) (settle_pre state) (settle_pre_keeps state)
     (not_base_of (pre_leads state) quiet) x.0.among) s
 
 pub base_keeps : (old : World) (k : WorkerId) (o : OpId) (call : BaseCall) (given : Answer) (t : ContextTable) (files : FileTable)
@@ -393,7 +396,7 @@ post_keeps old k o i given lent t at fits s =
     (subst (Matches o (Worker.Post o i)) (sym (ap (λ a. spot_at a r.entries) x.1 ∙ ap (option_map AtPost) x.2)) (matches_post o i)) (post_quiet given)
     (in_no_drain o (Worker.Post o i) (λ p j. refl)) (λ j. omega (arith, drains_post_settled j state r.entries)) (λ j. refl)
     (sound_post_returned given lent r x.1 (sym (told_there (λ (x : FlowRecord). data_fits x.operation x.path lent) false o old.flow r x.0.at) ∙ fits) x.0.sound)
-    (among_settles old.stack r.volume r.born r.operation r.entries r.stage (post_leads state) (settle_post state) (settle_post_visit state) (settle_post_base state)
+    (among_settles old.stack r.volume r.born r.operation r.entries r.stage (post_leads state) (settle_post state) (settle_post_keeps state)
     (not_base_of (post_leads state) (post_quiet given)) x.0.among) s
 
 pub drain_keeps : (old : World) (k : WorkerId) (o : OpId) (i : InstanceId) (t : ContextTable) → worker_at old.workers k ≡ Some (Worker.Drain o i) → IsUnderWay old
@@ -407,7 +410,7 @@ drain_keeps old k o i t at s =
     omega (arith, drains_drain_settled i.0 j r.entries, ends) in
     return_keeps old k (Worker.Drain o i) o r (drain_returned_of i) (λ j. one (i.0 == j)) t old.files at x.0.at (λ x. refl) (λ x. refl)
     (subst (Matches o (Worker.Drain o i)) (sym (ap (λ a. spot_at a r.entries) x.1)) (matches_drain o i)) refl (in_a_drain o i) even (λ j. refl) (sound_drain_returned i r x.1 x.0.sound)
-    (among_settles old.stack r.volume r.born r.operation r.entries r.stage Ascending (settle_drain i.0) (settle_drain_visit i.0) (settle_drain_base i.0)
+    (among_settles old.stack r.volume r.born r.operation r.entries r.stage Ascending (settle_drain i.0) (settle_drain_keeps i.0)
     (not_base_of Ascending refl) x.0.among) s
 
 -- ---- collect

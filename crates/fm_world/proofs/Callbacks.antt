@@ -39,11 +39,10 @@ pub record IsIn (w : World) (k : WorkerId) (at : Callback) : Type 0 where
 pub is_in : (w : World) (k : WorkerId) (at : Callback) → IsSound w → callback_of w k ≡ Some at → IsIn w k at
 is_in w k at s h =
     let parts = callback_parts w.stack (file_of w.flow (worker_at w.workers k)) (place_in (worker_at w.workers k)) at h in
-    let within = worker_within w k (worker_at w.workers k) at.instance refl parts.0 in
     record {
       place = parts.0;
       there = parts.1;
-      worker = subst (λ n. k.0 < n) s.under_way.hands within;
+      worker = subst (λ n. k.0 < n) s.under_way.hands (worker_within w k (worker_at w.workers k) at.instance refl parts.0);
       placed = all_at (IsPlaced w.stack) w.stack.instances at.instance.0 at.row s.under_way.stack.placed parts.1;
     }
 

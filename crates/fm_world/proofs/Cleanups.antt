@@ -283,11 +283,10 @@ finish_sound old i (Ok done) new h s =
     let there = none_of (is_gone_at (row_at old.stack i)) Status.NoInstance
     (first_of ((not (is_emptying_at (row_at old.stack i)), Status.WrongStep) ∷ (nat_lt 0 open', Status.Busy open') ∷ [])) h.0 in
     let right = none_of (not (is_emptying_at (row_at old.stack i))) Status.WrongStep (first_of ((nat_lt 0 open', Status.Busy open') ∷ [])) there.1 in
-    let empty = none_of (nat_lt 0 open') (Status.Busy open') None right.1 in
     let row = emptying_row (row_at old.stack i) (not_false (is_emptying_at (row_at old.stack i)) right.0) in
     let t = finished old.stack i in
     let k = s.owned in
-    let closed : open' ≡ 0 = omega (arith, ltb-false 0 open' empty.0) in
+    let closed : open' ≡ 0 = omega (arith, ltb-false 0 open' (none_of (nat_lt 0 open') (Status.Busy open') None right.1).0) in
     let still = belongs_still old.stack old.contexts.slots t old.contexts.slots (filters_updated old.stack t finish_row i.0 refl (λ row. refl)) (owners_same old.contexts.slots old.contexts.slots refl) in
     subst IsSound (sym h.1)
     (record {

@@ -43,10 +43,8 @@ pub count-lt : {X : Type 0} (p q : X → Bool) (xs : List X) (i : ℕ) (x : X) �
 count-lt p q [] i x h t f k = cc
 count-lt p q (y ∷ ys) zero x h t f k =
     let same : y ≡ x = same_Some y x h in
-    let one = if_true (p y) (ap p same ∙ t) in
-    let none = if_false (q y) (ap q same ∙ f) in
     let rest : count_by q ys ≤ count_by p ys = count-le p q ys ys (λ j z a b. (z, a, k z b)) in
-    omega (arith, one, none, rest, count-cons p y ys, count-cons q y ys)
+    omega (arith, if_true (p y) (ap p same ∙ t), if_false (q y) (ap q same ∙ f), rest, count-cons p y ys, count-cons q y ys)
 count-lt p q (y ∷ ys) (suc i) x h t f k =
     let rest : count_by q ys + 1 ≤ count_by p ys = count-lt p q ys i x h t f k in
     let here : cond (q y) 1 0 ≤ cond (p y) 1 0 = one-le (q y) (p y) (k y) in

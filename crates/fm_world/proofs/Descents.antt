@@ -195,10 +195,9 @@ below_was s t f (Some l) a b e there h =
     let row = get_or s.instances l a in
     let at : slice_get s.instances l ≡ Some row = slice_get-get_or s.instances l a (there l refl) in
     let was = altitude_there s l row at in
-    let is = altitude_stays s t f l row.altitude was in
     subst (λ x. is_lower_option (Some a.altitude) x ≡ true) (sym was)
     (subst (λ x. is_lower_option (Some x) (Some row.altitude) ≡ true) e
-    (subst (λ x. is_lower_option (Some b.altitude) x ≡ true) is h))
+    (subst (λ x. is_lower_option (Some b.altitude) x ≡ true) (altitude_stays s t f l row.altitude was) h))
 
 -- every event of the stack keeps every descent
 pub descent_follows : (s t : StackWorld) (v : VolumeId) (born : ℕ) (operation : Operation) (visited : List ℕ) (reached : Bool)
@@ -243,14 +242,13 @@ pub room_visits : (s : StackWorld) (v : VolumeId) (born : ℕ) (operation : Oper
     → HasRoom s v born operation visited → IsHighest (is_candidate s v (last_of visited) born operation) s.instances i
     → HasRoom s v born operation (visited ++ i ∷ [])
 room_visits s v born operation visited i r next =
-    let p = is_candidate s v (last_of visited) born operation in
     let q = is_candidate s v (Some i) born operation in
     let there = altitude_there s i next.row next.there in
     let itself : q next.row ≡ false =
     and_right (is_to_visit s v born operation next.row) (is_below_cursor s (Some i) next.row)
     (subst (λ x. is_lower_option (Some next.row.altitude) x ≡ false) (sym there) (lower_irrefl next.row.altitude)) in
     let passed = and_parts (is_to_visit s v born operation next.row) (is_below_cursor s (last_of visited) next.row) next.passes in
-    let fewer = count-lt p q s.instances i next.row next.there next.passes itself
+    let fewer = count-lt (is_candidate s v (last_of visited) born operation) q s.instances i next.row next.there next.passes itself
     (λ row k.
     let parts = and_parts (is_to_visit s v born operation row) (is_below_cursor s (Some i) row) k in
     and_from (is_to_visit s v born operation row) (is_below_cursor s (last_of visited) row) parts.0

@@ -69,8 +69,7 @@ next_drained workers t k o lies stops r idle at same tied = by_reply (next_of k 
 pub drained_there : (workers : List Worker) (t : FlowTable) (k : WorkerId) (a : Worker) (o : OpId) (i : ℕ) → AreDrained workers t
     → worker_at workers k ≡ Some a → is_in_drain o i a ≡ true → (r : FlowRecord) × (operation_at o t ≡ Some r) × (1 ≤ drain_opens i r.entries)
 drained_there workers t k a o i tied h inside =
-    let some = count-some (is_in_drain o i) workers k.0 a h inside in
-    at_operation (operation_at o t) refl (omega (arith, some, tied o i))
+    at_operation (operation_at o t) refl (omega (arith, count-some (is_in_drain o i) workers k.0 a h inside, tied o i))
   where
     at_operation : (m : Option FlowRecord) → operation_at o t ≡ m → 1 ≤ unwrap_or (option_map (λ (x : FlowRecord). drain_opens i x.entries) m) 0
         → (r : FlowRecord) × (operation_at o t ≡ Some r) × (1 ≤ drain_opens i r.entries)

@@ -572,8 +572,7 @@ total_without f test (x ∷ rs) r is =
     elim (cases_Bool (test x)) [
       | inl e ↦
           let same : x ≡ r = same_Some x r (sym (ap (λ b. cond b (Some x) (find test rs)) e) ∙ is) in
-          let here = ap f same in
-          rw e (omega (arith, here))
+          rw e (omega (arith, ap f same))
       | inr e ↦ rw e (omega (arith, total_without f test rs r (sym (ap (λ b. cond b (Some x) (find test rs)) e) ∙ is)))
     ]
 
@@ -586,8 +585,7 @@ pub collect_balance : (t : FlowTable) (o : OpId) (m : Option FlowRecord) → ope
 collect_balance t o m at c =
     collected_by (λ u. carried c t ≡ carried c u) o t m at refl (λ r at done. let k = carried_changed t o r marked at c in omega (arith, k)) (λ r at done d.
     let z : carried_by c r ≡ 0 = ap (carried_among c) (done_owes r.stage (owed r.entries) done) in
-    let k = total_without (carried_by c) (is_number o) t.operations r at in
-    omega (arith, k, z))
+    omega (arith, total_without (carried_by c) (is_number o) t.operations r at, z))
 
 collect_owned : (old : World) (o : OpId) → IsOwned old → IsOwned (record old { flow = collected_of o old.flow })
 collect_owned old o h =

@@ -138,10 +138,9 @@ setup_ends old k i t change row at there was is rows stack follows s =
     (λ p n. count_stays (is_in_drain p n) old.workers k (Worker.Setup i) Worker.Idle at refl refl)
     (λ j.
     let moves = count_moves (is_in_setup j) old.workers k (Worker.Setup i) Worker.Idle at in
-    let after = setup_updated change old.stack.instances i.0 j row there was is in
     let now : setup_row (slice_get t.instances j) ≡ setup_row (slice_get (updated change old.stack.instances i.0) j) =
     ap (λ (xs : List Instance). setup_row (slice_get xs j)) rows in
-    omega (arith, moves, after, now, s.setups j))
+    omega (arith, moves, setup_updated change old.stack.instances i.0 j row there was is, now, s.setups j))
     s
 
 pub setup_keeps : (old : World) (k : WorkerId) (i : InstanceId) (accept : Bool) (result : Result (Unit {0}) Status) (new : World)

@@ -120,9 +120,7 @@ given_not_new : (slots : List Slot) (c : CtxId) → WasGiven slots c → IsNew s
 given_not_new slots c was (inl new) = let within = slice_get_within slots c.slot was.0 was.1 in let past = new.0 in omega (arith, within, past)
 given_not_new slots c was (inr new) =
     let same : was.0.generation ≡ new.0.generation = ap (λ (y : Slot). y.generation) (same_Some was.0 new.0 (sym was.1 ∙ new.1)) in
-    let next = new.3 in
-    let below = was.2 in
-    omega (arith, same, next, below)
+    omega (arith, same, new.3, was.2)
 
 given_placed : (slots : List Slot) (c : CtxId) (x : Context) → IsNew slots c → WasGiven (placed slots c x) c
 given_placed slots c x (inl new) = (
@@ -339,12 +337,11 @@ InCleanup w c = (k : ℕ) × (cleaning_of w.contexts.cleaning k ≡ Some c)
 -- due or cleaned up in one place, once
 not_due : (old : World) (c : CtxId) → IsSound old → InCleanup old c → slice_get old.contexts.due 0 ≡ Some c → ⊥
 not_due old c s busy first =
-    let law = s.owned.lawful in
     let within : busy.0 < length old.contexts.cleaning = cleaner_within old.contexts.cleaning busy.0 c busy.1 in
     let both = places_cleaned old.contexts.due old.contexts.cleaning busy.0 c within busy.1 c in
     let due = first_placed old.contexts.due (slice_set old.contexts.cleaning busy.0 None) c first in
     let self : one (is_id c c) ≡ 1 = ap one (is_id-refl c) in
-    omega (arith, both, due, self, law.waits c, at_most_one (is_waiting (carries old) old.contexts c))
+    omega (arith, both, due, self, s.owned.lawful.waits c, at_most_one (is_waiting (carries old) old.contexts c))
   where
     at_most_one : (b : Bool) → one b ≤ 1
     at_most_one true = omega arith

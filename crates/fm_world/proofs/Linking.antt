@@ -40,11 +40,9 @@ allocate_sound old k what body result new h s =
     taken_by (λ _ w. IsSound w) old k result new _ _ h (λ why. s) (λ at is c free event.
     let i = is_in old k at s is in
     let full = is_hand_full old.contexts.hands k.0 in
-    let big = nat_lt 4096 (length body) in
     let many = is_out_of_slots old.contexts.slots in
     let listed = none_of (not (has_kind old.stack at.row what)) Status.NotRegistered (allocate_refusal old.contexts k.0 body) free in
-    let few = none_of (big || many) Status.TooMany (first_of ((full, Status.HandFull) ∷ [])) listed.1 in
-    let room = none_of full Status.HandFull None few.1 in
+    let few = none_of ((nat_lt 4096 (length body)) || many) Status.TooMany (first_of ((full, Status.HandFull) ∷ [])) listed.1 in
     let x = context_by at what body in
     let fresh = event.0 in
     let t = allocated old.contexts k.0 c x in
@@ -59,7 +57,7 @@ allocate_sound old k what body result new h s =
     (sound_with old t
     (contexts_owned old t k (hand_of old.contexts.hands k.0 ++ c ∷ [])
     (allocate_keeps k.0 c x s.owned.lawful i.worker fresh refl
-    (leb-false 16 (length (hand_of old.contexts.hands k.0)) room.0))
+    (leb-false 16 (length (hand_of old.contexts.hands k.0)) (none_of full Status.HandFull None few.1).0))
     refl owners refl i.worker (one_more old t k at c i s.owned owners own)
     (passes_placed (fits old.stack) old.contexts.slots c x fit s.owned.fits) s.owned)
     (passes_placed (names_there old.files) old.contexts.slots c x refl s.links) s))
@@ -168,13 +166,12 @@ pub delete_sound : (old : World) (k : WorkerId) (what : ContextKind) (wants : Bo
 unfolding Deletes
 delete_sound old k what wants result new h s =
     asked_by (λ _ w. IsSound w) old k result new _ _ h (λ why. s) (λ at is c free event.
-    let i = is_in old k at s is in
     let there = there_at old what at in
     let full = wants && is_hand_full old.contexts.hands k.0 in
     let refusal = asked_for old what at (delete_refusal old.contexts k.0 wants there) free in
     let some = none_of (is_none there) Status.NoContext (first_of ((full, Status.HandFull) ∷ [])) refusal in
     let room = none_of full Status.HandFull None some.1 in
-    subst IsSound (sym event.1) (delete_at old k at what wants there refl i s room.0))
+    subst IsSound (sym event.1) (delete_at old k at what wants there refl (is_in old k at s is) s room.0))
 
 -- ---- set
 

@@ -48,10 +48,9 @@ left_there f x = by_link (is_there f x.link) refl
 
 pub loses_named : (old new : World) → LosesLinks old new → NamedIn new
 loses_named old new h =
-    let test = is_on_gone old.files in
     let slots = old.contexts.slots in
     let all : AllPass (λ o. true) slots = All-any slots in
-    let left = passes_swept (λ o. true) (names_there old.files) test slots refl (λ x _. left_there old.files x) all in
+    let left = passes_swept (λ o. true) (names_there old.files) (is_on_gone old.files) slots refl (λ x _. left_there old.files x) all in
     subst NamedIn (sym h.1) (subst (AllPass (names_there old.files)) (sym h.0.slots) left)
   where
     All-any : (slots : List Slot) → AllPass (λ o. true) slots

@@ -72,20 +72,17 @@ pub tied_moves : (workers : List Worker) (t : FlowTable) (k : WorkerId) (a b : W
     → worker_at workers k ≡ Some a → operation_at o t ≡ Some r → ((x : FlowRecord) → (f x).number.0 ≡ x.number.0)
     → Matches o a (spot_of r) → Matches o b (spot_of (f r)) → AreTied workers t → AreTied (put workers k b) (changed o f t)
 tied_moves workers t k a b o r f ha ho same ma mb tied p s =
-    let moves = count_moves (is_in_at p s) workers k a b ha in
-    let stands = stands_changed p s t o r f ho same in
     let from : one (is_in_at p s a) ≡ one ((o.0 == p.0) && is_spot s (spot_of r)) = ap one (ma p s) in
     let to : one (is_in_at p s b) ≡ one ((o.0 == p.0) && is_spot s (spot_of (f r))) = ap one (mb p s) in
-    omega (arith, moves, stands, from, to, tied p s)
+    omega (arith, count_moves (is_in_at p s) workers k a b ha, stands_changed p s t o r f ho same, from, to, tied p s)
 
 -- no worker moves, and the operation stands as before
 pub tied_stays : (workers : List Worker) (t : FlowTable) (o : OpId) (r : FlowRecord) (f : FlowRecord → FlowRecord)
     → operation_at o t ≡ Some r → ((x : FlowRecord) → (f x).number.0 ≡ x.number.0)
     → ((s : Spot) → is_spot s (spot_of (f r)) ≡ is_spot s (spot_of r)) → AreTied workers t → AreTied workers (changed o f t)
 tied_stays workers t o r f ho same stage tied p s =
-    let stands = stands_changed p s t o r f ho same in
     let alike : one ((o.0 == p.0) && is_spot s (spot_of (f r))) ≡ one ((o.0 == p.0) && is_spot s (spot_of r)) = ap (λ b. one ((o.0 == p.0) && b)) (stage s) in
-    omega (arith, stands, alike, tied p s)
+    omega (arith, stands_changed p s t o r f ho same, alike, tied p s)
 
 and_false : (b : Bool) → (b && false) ≡ false
 and_false true = refl
@@ -155,8 +152,7 @@ one_of s (Some r) h = (r, refl, true_of (is_spot s (spot_of r)) h)
 pub tied_there : (workers : List Worker) (t : FlowTable) (k : WorkerId) (a : Worker) (o : OpId) (s : Spot) → AreTied workers t
     → worker_at workers k ≡ Some a → is_in_at o s a ≡ true → (r : FlowRecord) × (operation_at o t ≡ Some r) × (is_spot s (spot_of r) ≡ true)
 tied_there workers t k a o s tied h inside =
-    let some = count-some (is_in_at o s) workers k.0 a h inside in
-    let one : 1 ≤ stands_at o s t = omega (arith, some, tied o s) in
+    let one : 1 ≤ stands_at o s t = omega (arith, count-some (is_in_at o s) workers k.0 a h inside, tied o s) in
     one_of s (operation_at o t) one
 
 -- what a spot says of the stage and the last visit

@@ -6,24 +6,22 @@ use Rattle.fm_world.proofs.Words.{OpId, WorkerId, Status, updated, first_of, len
 use Rattle.fm_world.proofs.Words.{updated-other, Instance, Phase, StackWorld, is_setup, is_emptying, is_emptying_at, finish_row, finished, Due, Owner, one}
 use Rattle.fm_world.proofs.Words.{is_id, references, hand_of, cleaning_of, held, emptied, taken_due, taken_of, cleaned, is_open, open_of, same_owner, Context}
 use Rattle.fm_world.proofs.Words.{Slot, context_at, change_context, is_id-refl, is_id-same, references_cons, references_none, hand_counted, take_due_keeps}
-use Rattle.fm_world.proofs.Words.{cleaned_keeps, count_cleaning, within_hands, context_at-other, Ask, carried_in, carried_among, carried_by, owed, FlowRecord}
+use Rattle.fm_world.proofs.Words.{cleaned_keeps, count_cleaning, context_at-other, Ask, carried_in, carried_among, carried_by, owed, FlowRecord}
 use Rattle.fm_world.proofs.Words.{total, Worker, World, worker_at, put, cleanup_in, Spot, AtPre, is_in_at, is_in_drain, row_at, place_in, fits, owner_fits}
 use Rattle.fm_world.proofs.Words.{link_fits, may_link, is_left_by, keeps_links_by, is_flown_by, belongs, belongs_by, HoldsIn, CarriesIn, AskCarries}
 use Rattle.fm_world.proofs.Words.{after_due, TakesDue, totalled_for, filter_of, Cleans, is_gone_at, Finishes, IsSound, IsUnderWay, IsOwned, is_in_setup}
-use Rattle.fm_world.proofs.Words.{setup_row, names_there}
+use Rattle.fm_world.proofs.Words.{setup_row, names_there, is_flown}
 use Rattle.std.specs.Prelude.{◌%◌, ◌^◌}
 use Rattle.fm_stack.proofs.Finishing.{finished_keeps, finished_follows, emptying_row}
-use Rattle.fm_world.proofs.Belonging.{owners_changed, owners_same, belongs_still, filters_same, AllHold, all_hold, all_hold_still, others_stay, all_carry_still}
+use Rattle.fm_world.proofs.Belonging.{owners_changed, owners_same, belongs_still, filters_same, all_hold_still, all_carry_still, filters_updated}
 use Rattle.fm_world.proofs.Callbacks.{none_of, not_false, same_hands}
 use Rattle.fm_world.proofs.Fitting.{passes_changed, owner_stays, link_stays}
 use Rattle.fm_world.proofs.Counts.{count-cons}
 use Rattle.fm_world.proofs.Events.{idle_by, cleaned_by}
-use Rattle.fm_world.proofs.Keeps.{whatever_contexts}
-use Rattle.fm_world.proofs.Ties.{idle_is_in_none}
-use Rattle.fm_world.proofs.Ties.{count_stays}
-use Rattle.fm_world.proofs.Keeps.{stack_changes}
-use Rattle.fm_world.proofs.Belonging.{filters_updated}
-use Rattle.fm_world.proofs.Words.{is_flown}
+use Rattle.fm_world.proofs.Keeps.{whatever_contexts, stack_changes}
+use Rattle.fm_world.proofs.Ties.{idle_is_in_none, count_stays}
+use Rattle.fm_world.proofs.Owning.{owned_moves}
+use Rattle.fm_world.proofs.Owning.{empty_hand}
 
 -- ---- a worker goes into a cleanup, or comes out of it
 
@@ -69,23 +67,12 @@ taken_owned w k c at first s =
     let worker : k.0 < 48 = subst (λ n. k.0 < n) s.under_way.hands within in
     let t = taken_due w.contexts k.0 c in
     let owners = owners_changed emptied w.contexts.slots c (λ x. (refl, refl)) in
-    let still = belongs_still w.stack w.contexts.slots w.stack t.slots (filters_same w.stack) owners in
-    let idle : cleaning_of w.contexts.cleaning k.0 ≡ None = h.cleaning k.0 ∙ ap cleanup_in at in
-    let workers = put w.workers k (Worker.Cleanup c) in
-    let old_hand = subst (λ m. All (HoldsIn w.stack w.contexts.slots (place_in m)) (hand_of w.contexts.hands k.0)) at (h.holders k) in
-    record {
-      lawful = take_due_keeps k.0 c h.lawful worker first idle;
-      cleaning = cleaning_moves w k (Some c) (Worker.Cleanup c) within (subst (λ n. k.0 < n) (sym h.lawful.cleaners) worker) refl h.cleaning;
-      holders = subst (AllHold w.stack t.slots workers) (sym (same_hands w.contexts.hands k.0))
-          (all_hold w.stack w.contexts.slots w.stack t.slots w.workers workers w.contexts.hands k.0 (hand_of w.contexts.hands k.0) (within_hands k.0 h.lawful worker) still
-          (others_stay w.workers k.0 (Worker.Cleanup c))
-          (subst (λ m. All (HoldsIn w.stack t.slots (place_in m)) (hand_of w.contexts.hands k.0)) (sym (slice_get-set_same w.workers k.0 (Worker.Cleanup c) within)) old_hand)
-          h.holders);
-      completions = all_carry_still w.stack w.contexts.slots w.stack t.slots w.flow.operations still h.completions;
-      fits = passes_changed (fits w.stack) (option_map emptied) w.contexts.slots c refl (λ x there fit. fit) h.fits;
-      quiet = h.quiet;
-      totals = h.totals;
-    }
+    let cleans = cleaning_moves w k (Some c) (Worker.Cleanup c) within (subst (λ n. k.0 < n) (sym h.lawful.cleaners) worker) refl h.cleaning in
+    owned_moves w w.stack w.flow t k Worker.Idle (Worker.Cleanup c) [] at worker cleans (filters_same w.stack) owners
+    (take_due_keeps k.0 c h.lawful worker first (h.cleaning k.0 ∙ ap cleanup_in at))
+    (same_hands w.contexts.hands k.0 ∙ ap (slice_set w.contexts.hands k.0) (empty_hand w k Worker.Idle at refl h)) (All-nil (HoldsIn w.stack t.slots None))
+    (all_carry_still w.stack w.contexts.slots w.stack t.slots w.flow.operations (belongs_still w.stack w.contexts.slots w.stack t.slots (filters_same w.stack) owners) h.completions)
+    (passes_changed (fits w.stack) (option_map emptied) w.contexts.slots c refl (λ x there fit. fit) h.fits) h.quiet h
 
 take_due_at : (old : World) (k : WorkerId) (new : World) (m : Option CtxId) → worker_at old.workers k ≡ Some Worker.Idle → slice_get old.contexts.due 0 ≡ m
     → new ≡ record old { workers = after_due old.workers k m; contexts = taken_of old.contexts k.0 m } → IsSound old → IsSound new

@@ -1,6 +1,5 @@
 -- What an event did is decided once: it was refused, and nothing changed, or it came to pass. Of both, P is asked: of the answer, and of the World after it.
-use Rattle.std.proofs.Common.{◌≡◌, ℕ, ◌==◌, List, Bool, true, false, Option, Some, None, Result, Ok, Err, refl, ap, sym, ◌∙◌, subst}
-use Rattle.std.proofs.Common.{cond}
+use Rattle.std.proofs.Common.{◌≡◌, ℕ, ◌==◌, List, Bool, true, false, Option, Some, None, Result, Ok, Err, refl, ap, sym, ◌∙◌, subst, cond}
 use Rattle.fm_world.proofs.Words.{false≢true, option_map, unwrap_or, CtxId, InstanceId, OpId, WorkerId, Status, Answers, AnswersOrMemory, change_none}
 use Rattle.fm_world.proofs.Words.{BaseCall, Answer, PreVerdict, PostVerdict, Data, data_fits, context_at, Object, SetMode, Context, ContextTable, set_after}
 use Rattle.fm_world.proofs.Words.{set_reply, set_mode_after, set_mode_reply, kept_after, wanted, unlinked_for, linked, grabbed, is_hand_full, Below}

@@ -4,19 +4,17 @@ use Rattle.fm_world.proofs.Words.{All, nat_le, length, list_any, cases_Bool, fal
 use Rattle.fm_world.proofs.Words.{same_Some, change_first, found_holds, all_change, all_without, HandleId, OpId, StreamId, VolumeId, WorkerId, Operation}
 use Rattle.fm_world.proofs.Words.{Status, Answer, BaseCall, Params, Data, operation_of, same_operation, same_path, are_on, are_for, fit, call_fits}
 use Rattle.fm_world.proofs.Words.{is_within_limits, Below, FlowAction, Ask, PreState, Stage, Descending, PreRunning, PreHeld, InBase, is_success}
-use Rattle.fm_world.proofs.Words.{handle_given, is_create, is_unanswered, is_creating, is_on_stream, owed, FlowRecord, next_of, give_post}
-use Rattle.fm_world.proofs.Words.{pre_leads, pre_returned_of, base_returned_of, base_fits, is_done, done_at, FlowTable, empty_table, is_number, operation_at}
-use Rattle.fm_world.proofs.Words.{changed, begun, begun_record, collected_of, collected_in, marked, with_drain, InDrain, FileHandle}
-use Rattle.fm_world.proofs.Words.{FileStream, HandlePhase, moved_on, is_created_on, FileTable, empty_files, is_handle, handle_at, opened, closed, left}
-use Rattle.fm_world.proofs.Words.{created, stream_for, after_base, after_pre, is_in_use, has_stream, has_stream_of, IsCreatedOn, IsOnHandle, IsFiled}
-use Rattle.fm_world.proofs.Words.{IsFileSound}
+use Rattle.fm_world.proofs.Words.{handle_given, is_create, is_unanswered, is_creating, is_on_stream, owed, FlowRecord, next_of, give_post, pre_leads}
+use Rattle.fm_world.proofs.Words.{pre_returned_of, base_returned_of, base_fits, is_done, done_at, FlowTable, empty_table, is_number, operation_at, changed}
+use Rattle.fm_world.proofs.Words.{begun, begun_record, collected_of, collected_in, marked, with_drain, InDrain, FileHandle, FileStream, HandlePhase, moved_on}
+use Rattle.fm_world.proofs.Words.{is_created_on, FileTable, empty_files, is_handle, handle_at, opened, closed, left, created, stream_for, after_base}
+use Rattle.fm_world.proofs.Words.{after_pre, is_in_use, has_stream, has_stream_of, IsCreatedOn, IsOnHandle, IsFiled, IsFileSound}
 use Rattle.fm_world.specs.Files as files
 use Rattle.std.specs.Prelude.{◌&&◌}
 use Rattle.fm_types.specs.Lists.{without_first}
 use Rattle.fm_world.proofs.Filing.{shrinks_same, moved_shrinks, pre_shrinks, filed_step, filed_answered, filed_begins, filed_collects, answered_none, not_more_same}
 use Rattle.fm_world.proofs.Streams.{Stands, InUse, is_creating_on, stands_among, stands_opened, stands_closed, stands_phased, stands_marked, stands_left, stands_created, created_there, on_open, use_but, use_more, use_same, use_opened, use_left, use_closed, use_phased, use_marked, use_created, creating_same, creating_ended, any_without, any_before, any_pushed}
-use Rattle.fm_world.proofs.Turning.{each_turn}
-use Rattle.fm_world.proofs.Turning.{collected_by}
+use Rattle.fm_world.proofs.Turning.{each_turn, collected_by}
 
 -- ---- the parts
 

@@ -1,16 +1,15 @@
 -- Streams and handles through the events: there is a number and room for the handle of each create under way.
 use Rattle.std.proofs.Common.{◌≡◌, ℕ, ◌+◌, ◌≤◌, ◌<◌, Bool, true, false, cond, List, [], ◌∷◌, ◌++◌, length, Option, Some, None, Ok, refl, ap, ◌∙◌, arith, length-append}
-use Rattle.fm_world.proofs.Words.{count_by, nat_le, leb-false, sum_by_push, false≢true, HandleId, OpId, StreamId, VolumeId, WorkerId, Operation}
-use Rattle.fm_world.proofs.Words.{Status, count_changed, count_without, found_counts, length_change, length_without, Params, operation_of, Below, FlowAction}
+use Rattle.fm_world.proofs.Words.{count_by, nat_le, leb-false, sum_by_push, false≢true, HandleId, OpId, StreamId, VolumeId, WorkerId, Operation, Status}
+use Rattle.fm_world.proofs.Words.{count_changed, count_without, found_counts, length_change, length_without, Params, operation_of, Below, FlowAction}
 use Rattle.fm_world.proofs.Words.{PreState, is_success, is_create, is_unanswered, is_creating, creates, FlowRecord, Turned, next_of, FlowTable, is_number}
-use Rattle.fm_world.proofs.Words.{operation_at, changed, begun, begun_record, collected_of, marked}
-use Rattle.fm_world.proofs.Words.{with_base, bare_answer, HandlePhase, FileStream, FileTable, is_handle, with_phase, opened, closed, torn_down, left, created}
-use Rattle.fm_world.proofs.Words.{created_in, stream_of_path, has_handle_on, after_base, after_pre, params_of, moved_on, IsFiled, gives_nothing}
+use Rattle.fm_world.proofs.Words.{operation_at, changed, begun, begun_record, collected_of, marked, with_base, bare_answer, HandlePhase, FileStream}
+use Rattle.fm_world.proofs.Words.{FileTable, is_handle, with_phase, opened, closed, torn_down, left, created, created_in, stream_of_path, has_handle_on}
+use Rattle.fm_world.proofs.Words.{after_base, after_pre, params_of, moved_on, IsFiled, gives_nothing}
 use Rattle.fm_world.specs.Files as files
 use Rattle.std.specs.Prelude.{◌&&◌, ◌||◌}
 use Rattle.fm_world.specs.declared.step.FileRequest.{FileRequest}
-use Rattle.fm_world.proofs.Turning.{each_turn}
-use Rattle.fm_world.proofs.Turning.{collected_by}
+use Rattle.fm_world.proofs.Turning.{each_turn, collected_by}
 
 -- no handle is given
 pub record Shrinks (f g : FileTable) : Type 0 where

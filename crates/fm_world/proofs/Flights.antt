@@ -1,16 +1,12 @@
 -- Where a worker is in a callback of an instance, the instance is there and takes contexts.
-use Rattle.std.proofs.Common.{◌≡◌, ℕ, ◌≤◌, ◌==◌, ◌&&◌, Bool, true, cond, List, [], ◌∷◌, Option, Some, find, refl, ap, sym, ◌∙◌, subst, inl, inr, ◌⊎◌, arith}
-use Rattle.fm_world.proofs.Words.{false≢true, cases_Bool, eq-eqb, and_from, none-some, same_Some, InstanceId, OpId, WorkerId, Instance, Phase}
-use Rattle.fm_world.proofs.Words.{is_setup, PreState, PostState, PreRunning, PostRunning, last_visited, last_posted, flight, leaves_at, FlowRecord, IsCourse}
-use Rattle.fm_world.proofs.Words.{is_number, total, in_flight, flight_pre_settled, flight_post_settled, drains_open, Worker, World, worker_at}
-use Rattle.fm_world.proofs.Words.{is_in_drain, row_at, place_in, is_flown, is_flown_by, is_left_by, keeps_links_by, IsSound, IsUnderWay}
+use Rattle.std.proofs.Common.{◌≡◌, ℕ, ◌≤◌, ◌==◌, ◌&&◌, Bool, true, cond, List, [], ◌∷◌, Option, Some, find, refl, ap, sym, ◌∙◌, subst, inl, inr, ◌⊎◌, arith, not}
+use Rattle.fm_world.proofs.Words.{false≢true, cases_Bool, eq-eqb, and_from, none-some, same_Some, InstanceId, OpId, WorkerId, Instance, Phase, is_setup}
+use Rattle.fm_world.proofs.Words.{is_detached, PreState, PostState, PreRunning, PostRunning, last_visited, last_posted, flight, leaves_at, FlowRecord}
+use Rattle.fm_world.proofs.Words.{IsCourse, is_number, total, in_flight, flight_pre_settled, flight_post_settled, drains_open, Worker, World, worker_at}
+use Rattle.fm_world.proofs.Words.{is_in_drain, row_at, place_in, is_flown, is_flown_by, is_left_by, keeps_links_by, IsSound, IsUnderWay, keeps_links}
 use Rattle.fm_world.proofs.Keeps.{setup_place}
 use Rattle.fm_world.proofs.Draining.{drained_there}
-use Rattle.fm_world.proofs.Operations.{inside_pre}
-use Rattle.fm_world.proofs.Operations.{inside_post}
-use Rattle.std.proofs.Common.{not}
-use Rattle.fm_world.proofs.Words.{is_detached}
-use Rattle.fm_world.proofs.Words.{keeps_links}
+use Rattle.fm_world.proofs.Operations.{inside_pre, inside_post}
 
 -- what one operation counts for, all of them do
 pub total_found : (f : FlowRecord → ℕ) (test : FlowRecord → Bool) (rs : List FlowRecord) (r : FlowRecord) → find test rs ≡ Some r → f r ≤ total f rs

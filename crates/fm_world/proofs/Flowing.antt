@@ -1,17 +1,16 @@
 -- The events on operations leave contexts as the World says.
 use Rattle.std.proofs.Common.{◌≡◌, ℕ, ◌<◌, ◌≤◌, ◌+◌, ◌==◌, Bool, true, false, cond, List, [], ◌∷◌, ◌++◌, length, Option, Some, None, Result, Ok, slice_get, option_to_list, find, refl, ap, sym, ◌∙◌, subst, inl, inr, arith}
-use Rattle.fm_world.proofs.Words.{All, slice_set, nat_le, false≢true, true≢false, cases_Bool, and_parts, ne_eqb, none-some, same_Some}
-use Rattle.fm_world.proofs.Words.{slice_get_within, set-set, All-nil, All-cons, All-push, CtxId, InstanceId, OpId, WorkerId, Operation, Status}
-use Rattle.fm_world.proofs.Words.{found_holds, all_change, all_without, HandleId, StreamId, VolumeId, CreateMode, BaseCall, Params}
-use Rattle.fm_world.proofs.Words.{Answer, PreVerdict, PostVerdict, Data, operation_of, is_within_limits, Phase, StackWorld, is_attached, is_to_visit}
-use Rattle.fm_world.proofs.Words.{is_below_cursor, holds, hand_of, without, IsLawful, grabbed, Leaves, Slot, ContextTable, lawful_alike, leave_keeps}
-use Rattle.fm_world.proofs.Words.{carry_keeps, bring_keeps, Below, FlowAction, Ask, PreState, Base, PreVisit, Stage, Descending, PreRunning}
-use Rattle.fm_world.proofs.Words.{Ascending, PostRunning, carried_in, carried_among, carried_by, flight, handed, taken_by, ask_in}
-use Rattle.fm_world.proofs.Words.{last_visited, owed, FlowRecord, IsCourse, next_of, pre_returned_of, post_returned_of, drain_returned_of, base_fits}
-use Rattle.fm_world.proofs.Words.{post_state, done_at, post_leads, FlowTable, operation_at, changed, told, total, carried, in_flight, begun}
-use Rattle.fm_world.proofs.Words.{begun_record, is_number, collected_in, marked, is_full, verdict_counted, completed_as}
-use Rattle.fm_world.proofs.Words.{owed_pre_settled, owed_post_settled, owed_drain_settled, base_counted, creates, is_unanswered, is_create, Begin, Worker}
-use Rattle.fm_world.proofs.Words.{World, carries, worker_at, put, after_next, cleanup_in, row_at, place_in, HoldsIn, CarriesIn, AskCarries, fits, is_flown}
+use Rattle.fm_world.proofs.Words.{All, slice_set, nat_le, false≢true, true≢false, cases_Bool, and_parts, ne_eqb, none-some, same_Some, slice_get_within}
+use Rattle.fm_world.proofs.Words.{set-set, All-nil, All-cons, All-push, CtxId, InstanceId, OpId, WorkerId, Operation, Status, found_holds, all_change}
+use Rattle.fm_world.proofs.Words.{all_without, HandleId, StreamId, VolumeId, CreateMode, BaseCall, Params, Answer, PreVerdict, PostVerdict, Data}
+use Rattle.fm_world.proofs.Words.{operation_of, is_within_limits, Phase, StackWorld, is_attached, is_to_visit, is_below_cursor, holds, hand_of, without}
+use Rattle.fm_world.proofs.Words.{IsLawful, grabbed, Leaves, Slot, ContextTable, lawful_alike, leave_keeps, carry_keeps, bring_keeps, Below, FlowAction, Ask}
+use Rattle.fm_world.proofs.Words.{PreState, Base, PreVisit, Stage, Descending, PreRunning, Ascending, PostRunning, carried_in, carried_among, carried_by}
+use Rattle.fm_world.proofs.Words.{flight, handed, taken_by, ask_in, last_visited, owed, FlowRecord, IsCourse, next_of, pre_returned_of, post_returned_of}
+use Rattle.fm_world.proofs.Words.{drain_returned_of, base_fits, post_state, done_at, post_leads, FlowTable, operation_at, changed, told, total, carried}
+use Rattle.fm_world.proofs.Words.{in_flight, begun, begun_record, is_number, collected_in, marked, is_full, verdict_counted, completed_as, owed_pre_settled}
+use Rattle.fm_world.proofs.Words.{owed_post_settled, owed_drain_settled, base_counted, creates, is_unanswered, is_create, collected_of, Begin, Worker, World}
+use Rattle.fm_world.proofs.Words.{carries, worker_at, put, after_next, cleanup_in, row_at, place_in, HoldsIn, CarriesIn, AskCarries, fits, is_flown}
 use Rattle.fm_world.proofs.Words.{is_flown_by, LosesByKnown, Begins, Nexts, NextsOver, LiesBelow, PreReturns, BaseReturns, PostReturns, ReturnsFrom, Collects}
 use Rattle.fm_world.proofs.Words.{brought, received, returned, drains_at, state_at, state_given, held_context, of_hand, sent, sent_in, carries_after}
 use Rattle.fm_world.proofs.Words.{has_post, begun_on, moved_on, has_no_handle_left, filed_next, filed_pre, filed_base, filed_record, is_created_on, base_step}
@@ -28,25 +27,17 @@ use Rattle.fm_flow.proofs.Owed.{owed_push_none}
 use Rattle.fm_flow.proofs.Owes.{WasOwed, MayAsk, next_owes}
 use Rattle.fm_world.proofs.Belonging.{owners_same, filters_same, AllCarry, held_has}
 use Rattle.fm_world.proofs.Callbacks.{same_hands}
-use Rattle.fm_world.proofs.Fitting.{AllPass}
+use Rattle.fm_world.proofs.Fitting.{AllPass, AllFit}
 use Rattle.fm_world.proofs.Keeps.{known_cases, loses_under_way, FiledIn}
 use Rattle.fm_world.proofs.Losing.{NamedIn, received_slots, loses_filed, loses_owned, loses_named, loses_sound, named_more, created_there, moved_there}
-use Rattle.fm_world.proofs.Events.{Turns, next_by, pre_by, base_by, post_by}
-use Rattle.fm_world.proofs.Operations.{next_keeps, pre_keeps, base_keeps, post_keeps, drain_keeps, collect_keeps, inside_pre, inside_base, inside_post, inside_drain, may_visit, told_there}
-use Rattle.fm_world.proofs.Owning.{empty_hand}
+use Rattle.fm_world.proofs.Events.{Turns, next_by, pre_by, base_by, post_by, memory_by}
+use Rattle.fm_world.proofs.Operations.{next_keeps, pre_keeps, base_keeps, post_keeps, drain_keeps, collect_keeps, inside_pre, inside_base, inside_post, inside_drain, may_visit, told_there, asked_begun_by, begun_by, lists_keeps, creates_keeps, asks_keeps}
+use Rattle.fm_world.proofs.Owning.{empty_hand, owned_moves}
 use Rattle.fm_world.proofs.Filing.{was_known, filed_creates}
 use Rattle.fm_world.proofs.Filed.{SameFile, file_step, file_answered, file_pre, file_lists, file_begins, file_creates, file_collects, is_known, next_same_file, known_answered, base_answered, answered_same, fits_create}
 use Rattle.fm_world.proofs.Descents.{or_left, or_right}
-use Rattle.fm_world.proofs.Operations.{asked_begun_by}
-use Rattle.fm_world.proofs.Operations.{begun_by}
-use Rattle.fm_world.proofs.Operations.{lists_keeps}
-use Rattle.fm_world.proofs.Operations.{creates_keeps}
-use Rattle.fm_world.proofs.Operations.{asks_keeps}
-use Rattle.fm_world.proofs.Events.{memory_by}
 use Rattle.fm_world.proofs.Turning.{collected_by}
-use Rattle.fm_world.proofs.Words.{collected_of}
-use Rattle.fm_world.proofs.Owning.{owned_moves}
-use Rattle.fm_world.proofs.Fitting.{AllFit}
+use Rattle.fm_world.proofs.Owning.{cleaning_stays}
 
 -- ---- one operation changes
 
@@ -73,7 +64,8 @@ step_owned : (w : World) (o : OpId) (r : FlowRecord) (f : FlowRecord → FlowRec
     → ((i : InstanceId) → is_flown_by (row_at w.stack i) ≡ false → in_flight i.0 (changed o f w.flow) ≡ 0) → IsOwned w
     → IsOwned (record w { flow = changed o f w.flow; workers = put w.workers k b; contexts = t })
 step_owned w o r f k a b t hand at there worker na nb lawful slots hands cleaning here owes quiet h =
-    owned_moves w w.stack (changed o f w.flow) t k a b hand there worker na nb (filters_same w.stack) (owners_same w.contexts.slots t.slots slots) lawful hands cleaning
+    owned_moves w w.stack (changed o f w.flow) t k a b hand there worker (cleaning_stays w t.cleaning k a b there cleaning na nb h.cleaning) (filters_same w.stack)
+    (owners_same w.contexts.slots t.slots slots) lawful hands
     (subst (λ xs. All (HoldsIn w.stack xs (place_in (Some b))) hand) (sym slots) here)
     (subst (λ xs. AllCarry w.stack xs (changed o f w.flow).operations) (sym slots) (carry_changed w.stack w.contexts.slots w.flow o r f at owes h.completions))
     (subst (AllFit w.stack) (sym slots) h.fits) quiet h

@@ -4,9 +4,8 @@ use Rattle.fm_world.proofs.Words.{slice_set, set-get_or, set-set, sum_by-cons, C
 use Rattle.fm_world.proofs.Words.{Object, SetMode, hand_of, set_after, delete_after, unlinked_for, Leaves, ContextTable, FlowRecord, SetAnswer, Begin}
 use Rattle.fm_world.proofs.Words.{pairs_in, OnlyHandOf, KeepsHands, World, carries, Begins, state_at, sent_in, sent, PreReturns, PostReturns, carries_after}
 use Rattle.fm_world.proofs.Words.{there_at, Sets, Deletes, LosesLinks}
-use Rattle.fm_world.proofs.Events.{memory_by, asked_by, set_by, pre_by, post_by}
+use Rattle.fm_world.proofs.Events.{memory_by, asked_by, set_by, pre_by, post_by, set_each}
 use Rattle.fm_world.proofs.Operations.{begun_by}
-use Rattle.fm_world.proofs.Events.{set_each}
 
 -- ---- lists of hands
 

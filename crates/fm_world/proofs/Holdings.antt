@@ -7,9 +7,8 @@ use Rattle.fm_world.proofs.Words.{HoldsNone, given_with, given_by_set, given_by_
 use Rattle.fm_world.proofs.Words.{SetsUpAt, SetsUp, brought, received, Nexts, PreReturns, PostReturns, LosesLinks, Callback, callback_of, set_answer}
 use Rattle.fm_world.proofs.Words.{there_at, with_contexts, Allocates, Sets, Gets, Deletes, References, Releases, IsSound}
 use Rattle.fm_world.proofs.Callbacks.{is_in, none_of, not_false}
-use Rattle.fm_world.proofs.Events.{asked_by, taken_by, set_by, next_by, pre_by, post_by}
+use Rattle.fm_world.proofs.Events.{asked_by, taken_by, set_by, next_by, pre_by, post_by, set_each}
 use Rattle.fm_world.proofs.Keeps.{known_cases}
-use Rattle.fm_world.proofs.Events.{set_each}
 
 -- a worker in a callback has a hand
 hand_there : (old : World) (k : WorkerId) (at : Callback) → IsSound old → callback_of old k ≡ Some at → k.0 < length old.contexts.hands

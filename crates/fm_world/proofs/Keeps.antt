@@ -10,9 +10,8 @@ use Rattle.fm_stack.proofs.Attaching.{attached_keeps, attached_follows}
 use Rattle.fm_stack.proofs.SettingUp.{accepted_keeps, accepted_follows, refused_keeps, refused_follows}
 use Rattle.fm_world.proofs.Counts.{count-some}
 pub use Rattle.fm_world.proofs.Events.{idle_there}
-use Rattle.fm_world.proofs.Ties.{one, count_moves, idle_is_in_none}
+use Rattle.fm_world.proofs.Ties.{one, count_moves, idle_is_in_none, count_stays}
 use Rattle.fm_world.proofs.Amongs.{among_follows}
-use Rattle.fm_world.proofs.Ties.{count_stays}
 
 -- streams, handles and the creates under way
 abbrev pub FiledIn : World → Type 0

@@ -11,11 +11,10 @@ use Rattle.fm_world.proofs.Words.{Unless, brought, received, Registers, Mounts, 
 use Rattle.fm_world.proofs.Words.{World, carries, empty_world, IsSound, worker_at, is_idle, cleanup_in, sent_in, state_at}
 use Rattle.std.specs.Prelude.{option_and_then}
 use Rattle.fm_world.specs.Lasting.{given_by, due_by, Comes, IsGone, ContextsLast}
-use Rattle.fm_world.proofs.Events.{memory_by, answers_by, asked_by, taken_by, idle_by, idle_there, setup_by, next_by, pre_by, base_by, post_by, cleaned_by, set_by}
+use Rattle.fm_world.proofs.Events.{memory_by, answers_by, asked_by, taken_by, idle_by, idle_there, setup_by, next_by, pre_by, base_by, post_by, cleaned_by, set_by, set_each}
 use Rattle.fm_world.proofs.Keeps.{known_cases}
 use Rattle.fm_world.proofs.Runs.{step_keeps, run_keeps, empty_sound}
 use Rattle.fm_world.proofs.Operations.{begun_by}
-use Rattle.fm_world.proofs.Events.{set_each}
 
 -- ---- slots
 

@@ -15,12 +15,11 @@ use Rattle.fm_ctx.proofs.Holders.{holder_some, holder_context, holder_linked}
 use Rattle.fm_ctx.proofs.Objects.{same_owner-same}
 use Rattle.fm_ctx.proofs.Sets.{room_if_wanted, set_keeps, get_keeps, delete_keeps, still_there}
 use Rattle.fm_world.proofs.Belonging.{owners_changed, owners_placed, belongs_still, filters_same}
-use Rattle.fm_world.proofs.Events.{asked_by, taken_by, set_by}
+use Rattle.fm_world.proofs.Events.{asked_by, taken_by, set_by, set_each}
 use Rattle.fm_world.proofs.Callbacks.{IsIn, is_in, contexts_owned, sound_with, in_hand, one_more, same_hand, same_hands, none_of, not_false, grabbed_sound}
 use Rattle.fm_world.proofs.Descents.{or_left, or_right}
 use Rattle.fm_world.proofs.Fitting.{AllFit, AllPass, passes_changed, passes_placed, fits_unlinked, fits_linked}
 use Rattle.fm_world.proofs.Flights.{callback_left}
-use Rattle.fm_world.proofs.Events.{set_each}
 
 owner_refl : (o : Owner) → same_owner o o ≡ true
 owner_refl (Owner.Filter f) = eq-eqb f.0 f.0 refl

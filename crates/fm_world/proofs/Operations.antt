@@ -1,21 +1,21 @@
 -- The events on operations keep a World sound.
 use Rattle.std.proofs.Common.{◌≡◌, ℕ, suc, ◌+◌, ◌<◌, ◌==◌, Bool, true, false, cond, List, [], ◌∷◌, ◌++◌, Option, Some, None, Result, Ok, Err, length, get_or, refl, ap, sym, ◌∙◌, subst, inl, inr, ◌⊎◌, arith, length-set}
-use Rattle.fm_world.proofs.Words.{All, AllPairs, slice_get, option_map, unwrap_or, find, count_by, false≢true, eqb-true, eq-eqb, ne_eqb, cases_Bool}
-use Rattle.fm_world.proofs.Words.{cases_eq, and_from, none-some, same_Some, All-push, All-head, All-tail, InstanceId, OpId, WorkerId, Operation}
-use Rattle.fm_world.proofs.Words.{Status, first_of, found_holds, all_change, all_without, find_without, HandleId, StreamId, VolumeId, CreateMode, BaseCall}
-use Rattle.fm_world.proofs.Words.{Params, Answer, PreVerdict, PostVerdict, Data, data_fits, are_on, is_within_limits, operation_of, StackWorld, IsStack}
-use Rattle.fm_world.proofs.Words.{hand_of, ContextTable, Below, FlowAction, Ask, Base, Post, Drain, PreState, PostState, Stage, Descending, PreRunning}
-use Rattle.fm_world.proofs.Words.{InBase, Ascending, PostRunning, InDrain, FlowRecord, visited, owed, has_base, settle_pre, settle_post, settle_drain, times}
-use Rattle.fm_world.proofs.Words.{Turned, next_of, call_pre, call_base, give_post, pre_leads, post_leads, pre_returned_of, post_returned_of, post_state}
-use Rattle.fm_world.proofs.Words.{drain_returned_of, base_fits, done_at, MayLieBelow, way_of, drain_opens, is_create, drains_push}
-use Rattle.fm_world.proofs.Words.{drains_pre_settled, drains_post_settled, drains_drain_settled, none_running, FlowTable, IsFlow, operation_at, changed, told}
-use Rattle.fm_world.proofs.Words.{begun, begun_record, is_full, is_number, marked, removed, verdict_counted}
-use Rattle.fm_world.proofs.Words.{completed_as, last_visited, last_posted, base_counted, bare_ask, turn, with_drain, PreVisit, PostVisit, Begin, Worker}
-use Rattle.fm_world.proofs.Words.{World, worker_at, put, after_next, LiesBelow, Collects, returned, received, state_at, state_given, drains_at, of_hand}
-use Rattle.fm_world.proofs.Words.{has_post, or_else, begin_refused, refused_on, refused_at, begun_on, begun_at, after_begin, moved_on, has_no_handle_left}
-use Rattle.fm_world.proofs.Words.{filed_next, base_step, Spot, AtPre, AtBase, AtPost, AtDrain, spot_at, spot_of, is_spot, is_among, IsUnderWay, IsAmong}
-use Rattle.fm_world.proofs.Words.{is_in_setup, is_in_at, pre_step, FileHandle, FileStream, FileTable, stream_at, handle_at, stream_for, created, params_of}
-use Rattle.fm_world.proofs.Words.{phase_refusal, gives_nothing, asked_refused, asked_begun, created_begun}
+use Rattle.fm_world.proofs.Words.{All, AllPairs, slice_get, option_map, unwrap_or, find, count_by, false≢true, eqb-true, eq-eqb, ne_eqb, cases_Bool, cases_eq}
+use Rattle.fm_world.proofs.Words.{and_from, none-some, same_Some, All-push, All-head, All-tail, InstanceId, OpId, WorkerId, Operation, Status, first_of}
+use Rattle.fm_world.proofs.Words.{found_holds, all_change, all_without, find_without, HandleId, StreamId, VolumeId, CreateMode, BaseCall, Params, Answer}
+use Rattle.fm_world.proofs.Words.{PreVerdict, PostVerdict, Data, data_fits, are_on, is_within_limits, operation_of, StackWorld, IsStack, hand_of}
+use Rattle.fm_world.proofs.Words.{ContextTable, Below, FlowAction, Ask, Base, Post, Drain, PreState, PostState, Stage, Descending, PreRunning, InBase}
+use Rattle.fm_world.proofs.Words.{Ascending, PostRunning, InDrain, FlowRecord, visited, owed, has_base, settle_pre, settle_post, settle_drain, times, Turned}
+use Rattle.fm_world.proofs.Words.{next_of, call_pre, call_base, give_post, pre_leads, post_leads, pre_returned_of, post_returned_of, post_state}
+use Rattle.fm_world.proofs.Words.{drain_returned_of, base_fits, done_at, MayLieBelow, way_of, drain_opens, is_create, drains_push, drains_pre_settled}
+use Rattle.fm_world.proofs.Words.{drains_post_settled, drains_drain_settled, none_running, FlowTable, IsFlow, operation_at, changed, told, begun}
+use Rattle.fm_world.proofs.Words.{begun_record, is_full, is_number, marked, removed, verdict_counted, completed_as, last_visited, last_posted, base_counted}
+use Rattle.fm_world.proofs.Words.{bare_ask, turn, with_drain, PreVisit, PostVisit, Begin, Worker, World, worker_at, put, after_next, LiesBelow, Collects}
+use Rattle.fm_world.proofs.Words.{returned, received, state_at, state_given, drains_at, of_hand, has_post, or_else, begin_refused, refused_on, refused_at}
+use Rattle.fm_world.proofs.Words.{begun_on, begun_at, after_begin, moved_on, has_no_handle_left, filed_next, base_step, Spot, AtPre, AtBase, AtPost, AtDrain}
+use Rattle.fm_world.proofs.Words.{spot_at, spot_of, is_spot, is_among, IsUnderWay, IsAmong, is_in_setup, is_in_at, pre_step, FileHandle, FileStream}
+use Rattle.fm_world.proofs.Words.{FileTable, stream_at, handle_at, stream_for, created, params_of, phase_refusal, gives_nothing, asked_refused, asked_begun}
+use Rattle.fm_world.proofs.Words.{created_begun}
 use Rattle.fm_flow.specs.Sound as flow
 use Rattle.std.specs.Prelude.{◌||◌, ◌&&◌}
 use Rattle.std.specs.Cmp.Lexicographic.{bytes_decides}
@@ -26,17 +26,12 @@ use Rattle.fm_flow.proofs.Flows.{flow_begins, flow_changes, flow_collects, next_
 use Rattle.fm_world.proofs.Filing.{asks_no_create}
 pub use Rattle.fm_world.proofs.Events.{unchanged_flow}
 use Rattle.fm_world.proofs.Events.{Turns}
-use Rattle.fm_world.proofs.Ties.{counted_from, one, AreTied, Matches, is_running, quiet_is_none, quiet_is_nowhere, tied_moves, tied_stays, tied_there, matches_idle, matches_pre, matches_base, matches_post, matches_drain, spot_pre, spot_base, spot_post, spot_drain}
+use Rattle.fm_world.proofs.Ties.{counted_from, one, AreTied, Matches, is_running, quiet_is_none, quiet_is_nowhere, tied_moves, tied_stays, tied_there, matches_idle, matches_pre, matches_base, matches_post, matches_drain, spot_pre, spot_base, spot_post, spot_drain, count_stays}
 use Rattle.fm_world.proofs.Draining.{AreDrained, InDrains, in_no_drain, in_a_drain, drained_moves, drained_stays, next_drained}
-use Rattle.fm_world.proofs.Amongs.{is_up, no_base, visit_last, post_last, among_visits, among_other, among_base, among_settles, among_begins}
+use Rattle.fm_world.proofs.Amongs.{is_up, no_base, visit_last, post_last, among_visits, among_other, among_base, among_settles, among_begins, settle_pre_keeps, settle_post_keeps, settle_drain_keeps}
 use Rattle.fm_world.proofs.Descents.{next_unseen, room_is, or_left, or_right}
 use Rattle.fm_world.proofs.Keeps.{whatever_files}
-use Rattle.fm_world.proofs.Turning.{each_turn}
-use Rattle.fm_world.proofs.Ties.{count_stays}
-use Rattle.fm_world.proofs.Turning.{collected_by}
-use Rattle.fm_world.proofs.Amongs.{settle_pre_keeps}
-use Rattle.fm_world.proofs.Amongs.{settle_post_keeps}
-use Rattle.fm_world.proofs.Amongs.{settle_drain_keeps}
+use Rattle.fm_world.proofs.Turning.{each_turn, collected_by}
 
 -- operations change, and workers with them
 flow_moves : (w : World) (t : FlowTable) (workers : List Worker) → IsFlow t → All (IsAmong w.stack) t.operations → length workers ≡ 48

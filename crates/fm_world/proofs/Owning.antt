@@ -4,24 +4,19 @@ use Rattle.fm_world.proofs.Words.{All, slice_set, false≢true, true≢false, ca
 use Rattle.fm_world.proofs.Words.{length-append, All-nil, All-head, CtxId, FilterId, InstanceId, VolumeId, WorkerId, Status, slice_get-kept}
 use Rattle.fm_world.proofs.Words.{slice_get-set_same, slice_get-set_other, updated-same, updated-other, Instance, Phase, Volume, StackWorld, is_setup}
 use Rattle.fm_world.proofs.Words.{is_detached, refuse_row, accept_row, IsStack, Follows, Owner, hand_of, cleaning_of, IsLawful, same_owner, Leaves}
-use Rattle.fm_world.proofs.Words.{is_linked_of, swept, swept_slot, Context, Slot, ContextTable, leave_keeps, sweep_keeps, within_hands, Worker, World}
-use Rattle.fm_world.proofs.Words.{carries, worker_at, put, after_attach, cleanup_in, row_at, place_in, fits, owner_fits, link_fits, may_link, holds_links_by}
-use Rattle.fm_world.proofs.Words.{is_left_by, keeps_links, keeps_links_by, is_flown, is_flown_by, HoldsIn, Registers, Mounts, Attaches, SetsUp, EmptiesUnless}
-use Rattle.fm_world.proofs.Words.{IsSound, IsOwned, names_there, FileTable, setup_row}
+use Rattle.fm_world.proofs.Words.{is_linked_of, swept, swept_slot, Context, Slot, ContextTable, leave_keeps, sweep_keeps, within_hands, FlowTable, carried}
+use Rattle.fm_world.proofs.Words.{in_flight, Worker, World, carries, worker_at, put, after_attach, cleanup_in, row_at, place_in, fits, owner_fits, link_fits}
+use Rattle.fm_world.proofs.Words.{may_link, holds_links_by, is_left_by, keeps_links, keeps_links_by, is_flown, is_flown_by, HoldsIn, Registers, Mounts}
+use Rattle.fm_world.proofs.Words.{Attaches, SetsUp, EmptiesUnless, IsSound, IsOwned, names_there, FileTable, setup_row}
 use Rattle.fm_stack.specs.Events as stack
 use Rattle.fm_types.specs.declared.registration.Registration.{Registration}
 use Rattle.fm_stack.proofs.Registering.{registered_keeps, registered_follows, mounted_keeps, mounted_follows}
-use Rattle.fm_world.proofs.Belonging.{OwnersStay, owners_same, owners_swept, owners_after, FiltersStay, belongs_still, AllHold, all_hold, all_hold_still, others_stay, all_carry_still}
+use Rattle.fm_world.proofs.Belonging.{OwnersStay, owners_same, owners_swept, owners_after, FiltersStay, belongs_still, AllHold, all_hold, all_hold_still, others_stay, all_carry_still, filters_updated, AllCarry}
 use Rattle.fm_world.proofs.Callbacks.{same_hands}
 use Rattle.fm_world.proofs.Fitting.{AllFit, AllPass, VolumesStay, fits_on, passes_swept, owner_stays, link_stays}
 use Rattle.fm_world.proofs.Losing.{NamedIn, passes_unlinked}
 use Rattle.fm_world.proofs.Events.{idle_by, setup_by}
 use Rattle.fm_world.proofs.Keeps.{stack_changes, attach_keeps, setup_keeps, setup_place, FiledIn}
-use Rattle.fm_world.proofs.Belonging.{filters_updated}
-use Rattle.fm_world.proofs.Words.{FlowTable}
-use Rattle.fm_world.proofs.Words.{carried}
-use Rattle.fm_world.proofs.Words.{in_flight}
-use Rattle.fm_world.proofs.Belonging.{AllCarry}
 
 -- ---- instances go on
 
@@ -140,18 +135,18 @@ cleaning_stays w cleaning k a b at same na nb h n =
       | inr apart ↦ ap cleanup_in (sym (slice_get-set_other w.workers k.0 n b apart))
     ]
 
--- a worker goes elsewhere, outside cleanups, with another hand; instances keep their filters, and contexts their owners
+-- a worker goes elsewhere, with another hand; instances keep their filters, and contexts their owners
 pub owned_moves : (w : World) (t : StackWorld) (u : FlowTable) (c : ContextTable) (k : WorkerId) (a b : Worker) (hand : List CtxId) → worker_at w.workers k ≡ Some a → k.0 < 48
-    → cleanup_in (Some a) ≡ None → cleanup_in (Some b) ≡ None → FiltersStay w.stack t → OwnersStay w.contexts.slots c.slots → IsLawful (λ id. carried id u) c
-    → c.hands ≡ slice_set w.contexts.hands k.0 hand → c.cleaning ≡ w.contexts.cleaning → All (HoldsIn t c.slots (place_in (Some b))) hand
+    → ((n : ℕ) → cleaning_of c.cleaning n ≡ cleanup_in (slice_get (put w.workers k b) n)) → FiltersStay w.stack t → OwnersStay w.contexts.slots c.slots
+    → IsLawful (λ id. carried id u) c → c.hands ≡ slice_set w.contexts.hands k.0 hand → All (HoldsIn t c.slots (place_in (Some b))) hand
     → AllCarry t c.slots u.operations → AllFit t c.slots → ((j : InstanceId) → is_flown_by (row_at t j) ≡ false → in_flight j.0 u ≡ 0) → IsOwned w
     → IsOwned (record w { stack = t; flow = u; workers = put w.workers k b; contexts = c })
-owned_moves w t u c k a b hand at worker na nb filters owners lawful hands cleaning here carry fit quiet h =
+owned_moves w t u c k a b hand at worker cleans filters owners lawful hands here carry fit quiet h =
     let workers = put w.workers k b in
     let is : slice_get workers k.0 ≡ Some b = slice_get-set_same w.workers k.0 b (slice_get_within w.workers k.0 a at) in
     record {
       lawful = lawful;
-      cleaning = cleaning_stays w c.cleaning k a b at cleaning na nb h.cleaning;
+      cleaning = cleans;
       holders = subst (AllHold t c.slots workers) (sym hands)
           (all_hold w.stack w.contexts.slots t c.slots w.workers workers w.contexts.hands k.0 hand (within_hands k.0 h.lawful worker)
           (belongs_still w.stack w.contexts.slots t c.slots filters owners) (others_stay w.workers k.0 b)
@@ -177,8 +172,9 @@ attach_owned old k f v name altitude (Ok i) new at worker h e s =
     let none = empty_hand old k Worker.Idle at refl s in
     let base = stack_owned old t on (omega arith) (λ v h. h) s in
     subst IsOwned (sym (e ∙ ap (λ x. record old { stack = x; workers = put old.workers k (Worker.Setup i) }) h.1.1))
-    (owned_moves old t old.flow old.contexts k Worker.Idle (Worker.Setup i) [] at worker refl refl (rows_filters old.stack t on) (owners_same slots slots refl) s.lawful
-    (same_hands old.contexts.hands k.0 ∙ ap (slice_set old.contexts.hands k.0) none) refl (All-nil (HoldsIn t slots (Some i))) base.completions base.fits base.quiet s)
+    (owned_moves old t old.flow old.contexts k Worker.Idle (Worker.Setup i) [] at worker
+    (cleaning_stays old old.contexts.cleaning k Worker.Idle (Worker.Setup i) at refl refl refl s.cleaning) (rows_filters old.stack t on) (owners_same slots slots refl) s.lawful
+    (same_hands old.contexts.hands k.0 ∙ ap (slice_set old.contexts.hands k.0) none) (All-nil (HoldsIn t slots (Some i))) base.completions base.fits base.quiet s)
 
 pub attach_sound : (old : World) (k : WorkerId) (f : FilterId) (v : VolumeId) (name altitude : List ℕ) (result : Result InstanceId Status) (new : World)
     → Attaches old k f v name altitude result new → IsSound old → IsSound new
@@ -217,7 +213,8 @@ setup_returns : (old : World) (k : WorkerId) (i : InstanceId) (t : StackWorld) (
     → IsLawful (carries old) c → AllFit t c.slots → ((j : InstanceId) → is_flown_by (row_at t j) ≡ false → is_flown_by (row_at old.stack j) ≡ false)
     → IsOwned (record old { stack = t; workers = put old.workers k Worker.Idle; contexts = c })
 setup_returns old k i t c at worker filters owners h hands cleaning lawful fit flown =
-    owned_moves old t old.flow c k (Worker.Setup i) Worker.Idle [] at worker refl refl filters owners lawful hands cleaning (All-nil (HoldsIn t c.slots None))
+    owned_moves old t old.flow c k (Worker.Setup i) Worker.Idle [] at worker (cleaning_stays old c.cleaning k (Worker.Setup i) Worker.Idle at cleaning refl refl h.cleaning)
+    filters owners lawful hands (All-nil (HoldsIn t c.slots None))
     (all_carry_still old.stack old.contexts.slots t c.slots old.flow.operations (belongs_still old.stack old.contexts.slots t c.slots filters owners) h.completions) fit
     (λ j rests. h.quiet j (flown j rests)) h
 

@@ -1,16 +1,16 @@
 -- The empty World is sound, each event keeps a World sound, and a sound World keeps the Headline.
 use Rattle.std.proofs.Common.{◌≡◌, ℕ, zero, suc, ◌<◌, ◌==◌, Bool, true, false, cond, not, List, [], ◌∷◌, ◌++◌, replicate, get_or, slice_get, Option, Some, None, refl, ap, sym, ◌∙◌, subst, inl, inr, ◌⊎◌, arith}
 use Rattle.fm_world.proofs.Words.{All, count_by, false≢true, true≢false, and_parts, ne_eqb, length-replicate, All-nil, All-head, All-tail, All-weaker}
-use Rattle.fm_world.proofs.Words.{ContextKind, CtxId, InstanceId, Instance, StackWorld, is_detached, IsStack, IsPlaced, Owner, is_open, open_of}
-use Rattle.fm_world.proofs.Words.{same_owner, Context, Slot, context_at, lawful_alike, owed, FlowRecord, IsFlow, empty_table, row_at, place_in, is_left_by}
-use Rattle.fm_world.proofs.Words.{is_flown_by, fits, owner_fits, link_fits, HoldsIn, AskCarries, cleanup_in, Step, StepReply, Worker, empty_files}
-use Rattle.fm_world.proofs.Words.{names_there, World, empty_world, empty_stack, Steps, Run, RunThrough, Headline, RulesKeepHeadline, is_in_at, is_in_drain}
-use Rattle.fm_world.proofs.Words.{DescendsIn, IsAscent, IsInOrder, IsSound, IsUnderWay, IsOwned, IsAmong, is_in_setup}
+use Rattle.fm_world.proofs.Words.{ContextKind, CtxId, InstanceId, Instance, StackWorld, is_detached, IsStack, IsPlaced, Owner, is_open, open_of, same_owner}
+use Rattle.fm_world.proofs.Words.{Context, Slot, context_at, lawful_alike, owed, FlowRecord, IsFlow, empty_table, row_at, place_in, is_left_by, is_flown_by}
+use Rattle.fm_world.proofs.Words.{fits, owner_fits, link_fits, HoldsIn, AskCarries, cleanup_in, Step, StepReply, Worker, empty_files, names_there, World}
+use Rattle.fm_world.proofs.Words.{empty_world, empty_stack, Steps, Run, RunThrough, Headline, RulesKeepHeadline, is_in_at, is_in_drain, DescendsIn, IsAscent}
+use Rattle.fm_world.proofs.Words.{IsInOrder, IsSound, IsUnderWay, IsOwned, IsAmong, is_in_setup}
 use Rattle.fm_flow.specs.Sound as flow
 use Rattle.fm_ctx.specs.Kept.{nothing_kept, carried_of}
 use Rattle.fm_ctx.proofs.Opening.{lawful_empty}
 use Rattle.fm_world.proofs.Counts.{count-cons}
-use Rattle.fm_world.proofs.Emptied.{emptied_counts}
+use Rattle.fm_world.proofs.Emptied.{emptied_counts, flown_passes}
 use Rattle.fm_world.proofs.Ties.{idle_is_in_none}
 use Rattle.fm_world.proofs.Callbacks.{reference_sound, release_sound, read_body_sound, write_body_sound, bump_sound}
 use Rattle.fm_world.proofs.Cleanups.{take_due_sound, cleaned_sound, finish_sound}
@@ -18,7 +18,6 @@ use Rattle.fm_world.proofs.Filed.{file_empty}
 use Rattle.fm_world.proofs.Flowing.{begin_sound, next_sound, pre_sound, base_sound, post_sound, collect_sound}
 use Rattle.fm_world.proofs.Linking.{allocate_sound, set_sound, get_sound, delete_sound}
 use Rattle.fm_world.proofs.Owning.{register_sound, mount_sound, attach_sound, setup_sound}
-use Rattle.fm_world.proofs.Emptied.{flown_passes}
 
 count-replicate : {X : Type 0} (p : X → Bool) (n : ℕ) (x : X) → p x ≡ false → count_by p (replicate n x) ≡ 0
 count-replicate p zero x h = refl

@@ -1,21 +1,9 @@
 -- What `next` makes of an operation, decided once.
-use Rattle.std.proofs.Common.{◌≡◌, Bool, true, false, cond, List, Option, Some, None, Result, Ok, Err, slice_get, refl}
-use Rattle.fm_world.proofs.Words.{take, WorkerId, InstanceId, Status, Params, Turned, turn, next_of, next_at, descend, ascend, call_pre, call_base, call_post}
-use Rattle.fm_world.proofs.Words.{give_post, unwound_to, with_visit, bare_ask, with_base, with_drain, may_take, bare_answer, Below, FlowAction, Ask}
-use Rattle.fm_world.proofs.Words.{FlowRecord, Stage, Descending, Ascending, PreHeld, PostHeld, InDrain, owed, gives_nothing}
-use Rattle.fm_world.proofs.Words.{FlowTable}
-use Rattle.fm_world.proofs.Words.{OpId}
-use Rattle.fm_world.proofs.Words.{operation_at}
-use Rattle.fm_world.proofs.Words.{is_done}
-use Rattle.fm_world.proofs.Words.{changed}
-use Rattle.fm_world.proofs.Words.{marked}
-use Rattle.fm_world.proofs.Words.{list_any}
-use Rattle.fm_world.proofs.Words.{is_running_drain}
-use Rattle.fm_world.proofs.Words.{removed}
-use Rattle.fm_world.proofs.Words.{collected_in}
-use Rattle.fm_world.proofs.Words.{is_collectable}
-use Rattle.fm_world.proofs.Words.{and_parts}
-use Rattle.std.proofs.Common.{not}
+use Rattle.std.proofs.Common.{◌≡◌, Bool, true, false, cond, List, Option, Some, None, Result, Ok, Err, slice_get, refl, not}
+use Rattle.fm_world.proofs.Words.{take, list_any, and_parts, WorkerId, InstanceId, Status, OpId, Params, Turned, turn, next_of, next_at, descend, ascend}
+use Rattle.fm_world.proofs.Words.{call_pre, call_base, call_post, give_post, unwound_to, with_visit, bare_ask, with_base, with_drain, may_take, bare_answer}
+use Rattle.fm_world.proofs.Words.{Below, FlowAction, Ask, FlowRecord, Stage, Descending, Ascending, PreHeld, PostHeld, InDrain, owed, FlowTable, operation_at}
+use Rattle.fm_world.proofs.Words.{is_done, changed, marked, is_running_drain, removed, collected_in, is_collectable, gives_nothing}
 
 -- P of each thing that it may answer and make of the operation
 pub record EachTurn (P : Turned → Type 0) (k : WorkerId) (lies : Below) (r : FlowRecord) : Type 0 where

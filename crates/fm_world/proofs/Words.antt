@@ -74,7 +74,7 @@ pub use Rattle.fm_flow.proofs.Counting.{owed_drain_settled}
 pub use Rattle.fm_flow.proofs.Drains.{drains_given, next_drains, drains_open, drains_push, drains_pre_settled, drains_post_settled, drains_drain_settled}
 pub use Rattle.fm_flow.proofs.Drains.{none_running}
 pub use Rattle.fm_flow.specs.Answered.{is_success, handle_given, bare_answer, base_counted}
-pub use Rattle.fm_flow.specs.Counts.{carried_in, carried_among, carried_by, drain_opens, flight, is_running_drain, leaves_at, handed, taken_by}
+pub use Rattle.fm_flow.specs.Counts.{carried_in, carried_among, carried_by, drain_opens, flight, leaves_at, handed, taken_by, is_running_drain}
 pub use Rattle.fm_flow.specs.Creates.{is_create, is_unanswered, is_creating, is_on_stream, creates}
 pub use Rattle.fm_flow.specs.Entries.{visit_of, visited, last_visited, post_of, posted, last_posted, is_base, has_base, settle_pre, settle_post, settle_drain}
 pub use Rattle.fm_flow.specs.Entries.{owed, times, instances, ask_in}
@@ -83,8 +83,8 @@ pub use Rattle.fm_flow.specs.Sound.{after, walk, way_of, if_down, IsCourse}
 pub use Rattle.fm_flow.specs.Steps.{post_leads, next_of, post_returned_of, drain_returned_of, base_fits, give_post, pre_leads, pre_returned_of}
 pub use Rattle.fm_flow.specs.Steps.{base_returned_of, is_done, done_at, with_drain, Turned, with_base, post_state, call_pre, call_base, MayLieBelow, bare_ask}
 pub use Rattle.fm_flow.specs.Steps.{turn, next_at, descend, ascend, call_post, unwound_to, with_visit, may_take}
-pub use Rattle.fm_flow.specs.Table.{total, FlowTable, operation_at, changed, told, empty_table, is_number, removed, begun, begun_record, collected_of}
-pub use Rattle.fm_flow.specs.Table.{collected_in, is_collectable, marked, in_flight, carried, is_full, IsFlow}
+pub use Rattle.fm_flow.specs.Table.{total, FlowTable, operation_at, changed, told, empty_table, is_number, begun, begun_record, collected_of, collected_in}
+pub use Rattle.fm_flow.specs.Table.{marked, in_flight, carried, is_full, IsFlow, removed, is_collectable}
 pub use Rattle.fm_flow.specs.Verdict.{verdict_counted, completed_as, is_counted}
 pub use Rattle.fm_flow.specs.declared.action.Below.{Below}
 pub use Rattle.fm_flow.specs.declared.action.FlowAction.{FlowAction}
@@ -115,11 +115,11 @@ pub use Rattle.fm_world.specs.Files.{with_phase, torn_down, created_in, stream_o
 pub use Rattle.fm_world.specs.Files.{is_at_path, fresh_handle, with_mark}
 pub use Rattle.fm_world.specs.Hands.{pairs_in, OnlyHandOf, KeepsHands, hand_len, HoldsMore, HoldsOneFewer, HoldsNone, given_with, given_by_set, given_by_next}
 pub use Rattle.fm_world.specs.Hands.{left_by_setup}
-pub use Rattle.fm_world.specs.Headline.{Spot, AtPre, is_in_at, is_in_drain, drains_running, AtPost, AtBase, AtDrain, spot_at, spot_of, is_spot, Headline}
+pub use Rattle.fm_world.specs.Headline.{Spot, AtPre, is_in_at, is_in_drain, drains_running, AtBase, AtPost, AtDrain, spot_at, spot_of, is_spot, Headline}
 pub use Rattle.fm_world.specs.Headline.{RulesKeepHeadline, DescendsIn, IsAscent, IsInOrder, stands_at}
 pub use Rattle.fm_world.specs.Links.{names_there, LosesLinks, is_there, is_on_gone}
 pub use Rattle.fm_world.specs.Owners.{row_at, owner_by, place_in, belongs, belongs_by, HoldsIn, CarriesIn, AskCarries, file_of, fits, owner_fits, link_fits}
-pub use Rattle.fm_world.specs.Owners.{may_link, is_left_by, keeps_links_by, is_flown_by, suits, keeps_links, is_flown, holds_links_by, is_volume, has_kind}
+pub use Rattle.fm_world.specs.Owners.{may_link, is_left_by, keeps_links_by, is_flown_by, is_flown, suits, keeps_links, holds_links_by, is_volume, has_kind}
 pub use Rattle.fm_world.specs.Owners.{object_by, is_closing, holds_links, is_instance, is_of_stream, is_of_handle}
 pub use Rattle.fm_world.specs.Requests.{params_of, phase_refusal}
 pub use Rattle.fm_world.specs.Sound.{IsAmongAt, NoneLeft, IsSound, IsOwned, IsUnderWay, is_in_setup, setup_row, IsFiled, IsFileSound, IsAmong}

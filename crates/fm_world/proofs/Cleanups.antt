@@ -8,7 +8,7 @@ use Rattle.fm_world.proofs.Words.{is_id, references, hand_of, cleaning_of, held,
 use Rattle.fm_world.proofs.Words.{Slot, context_at, change_context, is_id-refl, is_id-same, references_cons, references_none, hand_counted, take_due_keeps}
 use Rattle.fm_world.proofs.Words.{cleaned_keeps, count_cleaning, context_at-other, Ask, carried_in, carried_among, carried_by, owed, FlowRecord}
 use Rattle.fm_world.proofs.Words.{total, Worker, World, worker_at, put, cleanup_in, Spot, AtPre, is_in_at, is_in_drain, row_at, place_in, fits, owner_fits}
-use Rattle.fm_world.proofs.Words.{link_fits, may_link, is_left_by, keeps_links_by, is_flown_by, belongs, belongs_by, HoldsIn, CarriesIn, AskCarries}
+use Rattle.fm_world.proofs.Words.{link_fits, is_left_by, is_flown_by, belongs, belongs_by, HoldsIn, CarriesIn, AskCarries}
 use Rattle.fm_world.proofs.Words.{after_due, TakesDue, totalled_for, filter_of, Cleans, is_gone_at, Finishes, IsSound, IsUnderWay, IsOwned, is_in_setup}
 use Rattle.fm_world.proofs.Words.{setup_row, names_there, is_flown}
 use Rattle.std.specs.Prelude.{◌%◌, ◌^◌}
@@ -22,6 +22,7 @@ use Rattle.fm_world.proofs.Keeps.{whatever_contexts, stack_changes}
 use Rattle.fm_world.proofs.Ties.{idle_is_in_none, count_stays}
 use Rattle.fm_world.proofs.Owning.{owned_moves}
 use Rattle.fm_world.proofs.Owning.{empty_hand}
+use Rattle.fm_world.proofs.Fitting.{others_link}
 
 -- ---- a worker goes into a cleanup, or comes out of it
 
@@ -248,19 +249,8 @@ finish_fits s i (Some x) fit closed =
     let same : (j : InstanceId) → j.0 ≢ i.0 → row_at t j ≡ row_at s j = λ j apart. updated-other finish_row s.instances i.0 j.0 apart in
     and_from (owner_fits t x.kind x.owner) (link_fits t x x.link)
     (owner_stays s t x.kind x.owner (omega arith) (λ j is left.
-    elim (cases_eq j.0 i.0) [
-      | inl e ↦ absurd (true≢false (sym (ap (λ own. same_owner (Owner.Instance i) own) is ∙ eq-eqb i.0 j.0 (sym e)) ∙ closed))
-      | inr apart ↦ ap is_left_by (same j apart) ∙ left
-    ]) parts.0)
-    (link_stays s t x x.link (λ v h. h) (λ linked. at_owner x.owner refl) parts.1)
-  where
-    at_owner : (o : Owner) → x.owner ≡ o → may_link s o ≡ true → may_link (finished s i) o ≡ true
-    at_owner (Owner.Filter f) own h = refl
-    at_owner (Owner.Instance j) own h =
-        elim (cases_eq j.0 i.0) [
-          | inl e ↦ absurd (true≢false (sym (ap (same_owner (Owner.Instance i)) own ∙ eq-eqb i.0 j.0 (sym e)) ∙ closed))
-          | inr apart ↦ ap keeps_links_by (updated-other finish_row s.instances i.0 j.0 apart) ∙ h
-        ]
+    ap is_left_by (same j (λ e. true≢false (sym (ap (λ own. same_owner (Owner.Instance i) own) is ∙ eq-eqb i.0 j.0 (sym e)) ∙ closed))) ∙ left) parts.0)
+    (link_stays s t x x.link (λ v h. h) (λ linked. others_link s t i same x.owner closed) parts.1)
 
 pub finish_sound : (old : World) (i : InstanceId) (result : Result (Unit {0}) Status) (new : World) → Finishes old i result new → IsSound old → IsSound new
 unfolding Finishes

@@ -1,11 +1,14 @@
 -- What a context names is there: what changes of contexts and of instances leave of it.
-use Rattle.std.proofs.Common.{◌≡◌, ℕ, ◌≤◌, ◌<◌, Bool, true, false, cond, List, [], ◌∷◌, ◌++◌, length, map, Option, Some, None, is_some, option_map, slice_get, refl, ap, sym, ◌∙◌, inl, inr, arith}
+use Rattle.std.proofs.Common.{◌≡◌, ◌≢◌, ℕ, ◌≤◌, ◌<◌, Bool, true, false, cond, List, [], ◌∷◌, ◌++◌, length, map, Option, Some, None, is_some, option_map, slice_get, refl, ap, sym, ◌∙◌, inl, inr, arith}
 use Rattle.fm_world.proofs.Words.{All, slice_set, false≢true, cases_Bool, and_parts, and_from, lt-ltb, ltb-true, All-weaker, All-map, All-push, ContextKind}
 use Rattle.fm_world.proofs.Words.{CtxId, InstanceId, All-updated, All-set_others, StackWorld, Object, Owner, new_slot, placed, with_link, swept, swept_slot}
 use Rattle.fm_world.proofs.Words.{Context, Slot, context_at, context_in, changed_slot, change_context, row_at, fits, owner_fits, link_fits, may_link, suits}
 use Rattle.fm_world.proofs.Words.{holds_links_by, is_left_by, keeps_links_by, is_volume}
 use Rattle.std.specs.Prelude.{◌==◌}
 use Rattle.std.specs.Option.{option_and_then}
+use Rattle.fm_world.proofs.Words.{true≢false}
+use Rattle.fm_world.proofs.Words.{eq-eqb}
+use Rattle.fm_world.proofs.Words.{same_owner}
 
 -- a test of all contexts
 abbrev pub AllPass : (Option Context → Bool) → List Slot → Type 0
@@ -100,6 +103,12 @@ link_stays s t x (Some o) volumes may h =
         let parts = and_parts (is_volume x.kind) (holds_links_by (slice_get s.volumes v.0)) h in
         and_from (is_volume x.kind) (holds_links_by (slice_get t.volumes v.0)) parts.0 (volumes v.0 parts.1)
     at_object _ h = h
+
+-- where one instance changes, others' contexts may be linked still
+pub others_link : (s t : StackWorld) (i : InstanceId) → ((j : InstanceId) → j.0 ≢ i.0 → row_at t j ≡ row_at s j) → (o : Owner) → same_owner (Owner.Instance i) o ≡ false
+    → may_link s o ≡ true → may_link t o ≡ true
+others_link s t i same (Owner.Filter f) other h = refl
+others_link s t i same (Owner.Instance j) other h = ap keeps_links_by (same j (λ e. true≢false (sym (eq-eqb i.0 j.0 (sym e)) ∙ other))) ∙ h
 
 -- instances go on: none is detached, and none is emptied
 pub record GoesOn (s t : StackWorld) : Type 0 where

@@ -171,26 +171,13 @@ begin_sound old what result new h s =
 -- what lies below on the way down is attached
 lies_attached : (s : StackWorld) (r : FlowRecord) (lies : Below) (i : InstanceId) → LiesBelow s r lies → is_flown_by (row_at s i) ≡ false
     → (j : InstanceId) (called : Bool) → lies ≡ Below.Instance j called → (j.0 == i.0) ≡ false
-lies_attached s r Below.Call i below' rests j called e = absurd (call_is_not e)
-  where
-    call_is_not : Below.Call ≡ Below.Instance j called → ⊥
-    call_is_not e = cc
-lies_attached s r (Below.Known why) i below' rests j called e = absurd (known_is_not e)
-  where
-    known_is_not : Below.Known why ≡ Below.Instance j called → ⊥
-    known_is_not e = cc
-lies_attached s r (Below.Instance l b) i below' rests j called e =
-    let next = below'.0 in
+lies_attached s r lies i below' rests j called e =
+    let next = (subst (LiesBelow s r) e below').0 in
     let passes = and_parts (is_to_visit s r.volume r.born r.operation next.row) (is_below_cursor s (last_visited r.entries) next.row) next.passes in
     let attached = and_parts (is_attached next.row.phase) _ passes.0 in
-    let flown : is_flown_by (row_at s l) ≡ true = ap is_flown_by next.there ∙ attached_flown next.row.phase attached.0 in
-    let same : l.0 ≡ j.0 = ap numbered e in
-    ne_eqb j.0 i.0 (λ x. true≢false (sym flown ∙ ap (λ n. is_flown_by (slice_get s.instances n)) (same ∙ x) ∙ rests))
+    let flown : is_flown_by (row_at s j) ≡ true = ap is_flown_by next.there ∙ attached_flown next.row.phase attached.0 in
+    ne_eqb j.0 i.0 (λ x. true≢false (sym flown ∙ ap (λ n. is_flown_by (slice_get s.instances n)) x ∙ rests))
   where
-    numbered : Below → ℕ
-    numbered (Below.Instance n c) = n.0
-    numbered _ = 0
-
     attached_flown : (p : Phase) → is_attached p ≡ true → is_flown p ≡ true
     attached_flown Phase.Attached h = refl
     attached_flown _ h = absurd (false≢true h)
@@ -216,18 +203,16 @@ brought_owned : (w : World) (o : OpId) (r : FlowRecord) (f : FlowRecord → Flow
     → ((j : InstanceId) → is_flown_by (row_at w.stack j) ≡ false → in_flight j.0 (changed o f w.flow) ≡ 0) → IsOwned w
     → IsOwned (record w { flow = changed o f w.flow; workers = put w.workers k b; contexts = brought w.contexts k m })
 brought_owned w o r f k b i None at idle worker nb pl balance own owes quiet h =
-    let none = empty_hand w k Worker.Idle idle refl h in
-    step_owned w o r f k Worker.Idle b w.contexts (hand_of w.contexts.hands k.0) at idle worker refl nb (lawful_alike (λ c. omega (arith, balance c)) h.lawful)
-    refl (same_hands w.contexts.hands k.0) refl
-    (subst (All (HoldsIn w.stack w.contexts.slots (place_in (Some b)))) (sym none) (All-nil (HoldsIn w.stack w.contexts.slots (place_in (Some b))))) owes quiet h
+    step_owned w o r f k Worker.Idle b w.contexts [] at idle worker refl nb (lawful_alike (λ c. omega (arith, balance c)) h.lawful)
+    refl (same_hands w.contexts.hands k.0 ∙ ap (slice_set w.contexts.hands k.0) (empty_hand w k Worker.Idle idle refl h)) refl
+    (All-nil (HoldsIn w.stack w.contexts.slots (place_in (Some b)))) owes quiet h
 brought_owned w o r f k b i (Some d) at idle worker nb pl balance own owes quiet h =
     let none = empty_hand w k Worker.Idle idle refl h in
     let room : length (hand_of w.contexts.hands k.0) < 16 = subst (λ (ids : List CtxId). length ids < 16) (sym none) (omega arith) in
-    step_owned w o r f k Worker.Idle b (grabbed w.contexts k.0 d) (hand_of w.contexts.hands k.0 ++ d ∷ []) at idle worker refl nb
-    (bring_keeps (carries_after w o f) k.0 d h.lawful worker (λ c. balance c) room) refl refl refl
-    (subst (λ (ids : List CtxId). All (HoldsIn w.stack w.contexts.slots (place_in (Some b))) (ids ++ d ∷ [])) (sym none)
-    (All-cons (HoldsIn w.stack w.contexts.slots (place_in (Some b))) d [] (subst (λ p. HoldsIn w.stack w.contexts.slots p d) (sym pl) own)
-    (All-nil (HoldsIn w.stack w.contexts.slots (place_in (Some b)))))) owes quiet h
+    let Holds = HoldsIn w.stack w.contexts.slots (place_in (Some b)) in
+    step_owned w o r f k Worker.Idle b (grabbed w.contexts k.0 d) (d ∷ []) at idle worker refl nb
+    (bring_keeps (carries_after w o f) k.0 d h.lawful worker (λ c. balance c) room) refl (ap (λ (ids : List CtxId). slice_set w.contexts.hands k.0 (ids ++ d ∷ [])) none) refl
+    (All-cons Holds d [] (subst (λ p. HoldsIn w.stack w.contexts.slots p d) (sym pl) own) (All-nil Holds)) owes quiet h
 
 -- the same, by what `next` answers
 next_by_reply : (w : World) (o : OpId) (r : FlowRecord) (f : FlowRecord → FlowRecord) (k : WorkerId) (reply : Result FlowAction Status)
@@ -295,8 +280,7 @@ known_filed old k o r lies drains result at reply s = by_result result lies repl
         let was = was_known k why drains r reply in
         subst (λ (files : FileTable). IsFileSound files t) (sym (told_there (filed_record old.files t why) old.files o old.flow r at))
         (file_answered old.files old.flow o r f why at was.unanswered (known_answered old.files k why drains r was.none) s)
-    by_result (Ok FlowAction.Moved) (Below.Instance i b) reply = still (Below.Instance i b) (λ known moved. false≢true known)
-    by_result (Ok FlowAction.Moved) Below.Call reply = still Below.Call (λ known moved. false≢true known)
+    by_result (Ok FlowAction.Moved) lies reply = still lies (λ known moved. false≢true known)
     by_result _ lies reply = still lies (λ known moved. (cc))
 
 next_filed : (old : World) (k : WorkerId) (o : OpId) (result : Result FlowAction Status) (new : World) (e : Turns old k o result new) → FiledIn old → FiledIn e.mid

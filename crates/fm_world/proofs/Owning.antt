@@ -1,12 +1,12 @@
 -- The events on filters, volumes and instances leave contexts as the World says.
-use Rattle.std.proofs.Common.{◌≡◌, ◌≢◌, ℕ, ◌<◌, ◌≤◌, Bool, true, false, cond, not, List, [], ◌∷◌, ◌++◌, length, map, Option, Some, None, Result, Ok, Err, is_some, slice_get, refl, ap, sym, ◌∙◌, subst, inl, inr, ◌⊎◌, arith}
-use Rattle.fm_world.proofs.Words.{All, slice_set, false≢true, true≢false, cases_Bool, cases_eq, and_parts, and_from, eq-eqb, same_Some, slice_get_within}
+use Rattle.std.proofs.Common.{◌&&◌, ◌≡◌, ◌≢◌, ℕ, ◌<◌, ◌≤◌, Bool, true, false, cond, not, List, [], ◌∷◌, ◌++◌, length, map, Option, Some, None, Result, Ok, Err, slice_get, refl, ap, sym, ◌∙◌, subst, inl, inr, ◌⊎◌, arith}
+use Rattle.fm_world.proofs.Words.{All, slice_set, false≢true, true≢false, cases_Bool, cases_eq, and_parts, and_from, same_Some, slice_get_within}
 use Rattle.fm_world.proofs.Words.{length-append, All-nil, All-head, CtxId, FilterId, InstanceId, VolumeId, WorkerId, Status, slice_get-kept}
 use Rattle.fm_world.proofs.Words.{slice_get-set_same, slice_get-set_other, updated-same, updated-other, Instance, Phase, Volume, StackWorld, is_setup}
 use Rattle.fm_world.proofs.Words.{is_detached, refuse_row, accept_row, IsStack, Follows, Owner, hand_of, cleaning_of, IsLawful, same_owner, Leaves}
 use Rattle.fm_world.proofs.Words.{is_linked_of, swept, swept_slot, Context, Slot, ContextTable, leave_keeps, sweep_keeps, within_hands, FlowTable, carried}
 use Rattle.fm_world.proofs.Words.{in_flight, Worker, World, carries, worker_at, put, after_attach, cleanup_in, row_at, place_in, fits, owner_fits, link_fits}
-use Rattle.fm_world.proofs.Words.{may_link, holds_links_by, is_left_by, keeps_links, keeps_links_by, is_flown, is_flown_by, HoldsIn, Registers, Mounts}
+use Rattle.fm_world.proofs.Words.{holds_links_by, is_left_by, keeps_links, keeps_links_by, is_flown, is_flown_by, HoldsIn, Registers, Mounts}
 use Rattle.fm_world.proofs.Words.{Attaches, SetsUp, EmptiesUnless, IsSound, IsOwned, names_there, FileTable, setup_row}
 use Rattle.fm_stack.specs.Events as stack
 use Rattle.fm_types.specs.declared.registration.Registration.{Registration}
@@ -17,6 +17,7 @@ use Rattle.fm_world.proofs.Fitting.{AllFit, AllPass, VolumesStay, fits_on, passe
 use Rattle.fm_world.proofs.Losing.{NamedIn, passes_unlinked}
 use Rattle.fm_world.proofs.Events.{idle_by, setup_by}
 use Rattle.fm_world.proofs.Keeps.{stack_changes, attach_keeps, setup_keeps, setup_place, FiledIn}
+use Rattle.fm_world.proofs.Fitting.{others_link}
 
 -- ---- instances go on
 
@@ -254,17 +255,8 @@ refused_fits s i row x there fit = by_test (is_linked_of (Owner.Instance i) x) r
     by_test true is = and_from (owner_fits (stack.refused s i) x.kind x.owner) true owned refl
     by_test false is =
         and_from (owner_fits (stack.refused s i) x.kind x.owner) (link_fits (stack.refused s i) x x.link) owned
-        (link_stays s (stack.refused s i) x x.link (λ v h. h) (λ linked. at_owner linked x.owner refl) parts.1)
-      where
-        at_owner : is_some x.link ≡ true → (o : Owner) → x.owner ≡ o → may_link s o ≡ true → may_link (stack.refused s i) o ≡ true
-        at_owner linked (Owner.Filter f) own h = refl
-        at_owner linked (Owner.Instance j) own h =
-            elim (cases_eq j.0 i.0) [
-              | inl e ↦
-                  let mine : same_owner (Owner.Instance i) x.owner ≡ true = ap (same_owner (Owner.Instance i)) own ∙ eq-eqb i.0 j.0 (sym e) in
-                  absurd (true≢false (sym (and_from (is_some x.link) (same_owner (Owner.Instance i) x.owner) linked mine) ∙ is))
-              | inr apart ↦ ap keeps_links_by (refused_row s i j apart) ∙ h
-            ]
+        (link_stays s (stack.refused s i) x x.link (λ v h. h)
+        (λ linked. others_link s (stack.refused s i) i (refused_row s i) x.owner (sym (ap (λ b. b && same_owner (Owner.Instance i) x.owner) linked) ∙ is)) parts.1)
 
 setup_owned : (old : World) (k : WorkerId) (i : InstanceId) (accept : Bool) (result : Result (Unit {0}) Status) (new : World) (left : ContextTable)
     → worker_at old.workers k ≡ Some (Worker.Setup i) → stack.SetsUp old.stack i accept result new.stack → Leaves (carries old) old.contexts left k.0

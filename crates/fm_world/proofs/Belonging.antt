@@ -1,5 +1,5 @@
 -- Who may hold what: what changes of contexts, instances and workers leave of it.
-use Rattle.std.proofs.Common.{◌≡◌, ◌≢◌, ℕ, ◌<◌, Bool, true, false, cond, List, [], ◌∷◌, length, map, Option, Some, None, option_map, slice_get, refl, ap, sym, ◌∙◌, subst, inl, inr, ◌⊎◌}
+use Rattle.std.proofs.Common.{◌||◌, ◌≡◌, ◌≢◌, ℕ, ◌<◌, Bool, true, false, cond, List, [], ◌∷◌, length, map, Option, Some, None, option_map, slice_get, refl, ap, sym, ◌∙◌, subst, inl, inr, ◌⊎◌}
 use Rattle.fm_world.proofs.Words.{All, slice_set, false≢true, cases_Bool, cases_eq, none-some, get_or-set_same, get_or-set_other, All-nil, All-cons, All-head}
 use Rattle.fm_world.proofs.Words.{All-tail, All-weaker, ContextKind, CtxId, InstanceId, WorkerId, slice_get-set_other, updated, updated-same, updated-other}
 use Rattle.fm_world.proofs.Words.{Instance, StackWorld, Owner, is_id, holds, without, hand_of, IsNew, placed, same_owner, swept, swept_slot, Context, Slot}
@@ -101,11 +101,7 @@ hand_other hands w k hand apart = get_or-set_other hands w k hand [] apart
 
 holds_cons : (c d : CtxId) (ids : List CtxId) → holds (d ∷ ids) c ≡ true → (is_id c d ≡ true) ⊎ (holds ids c ≡ true)
 unfolding holds
-holds_cons c d ids h = elim (cases_Bool (is_id c d)) [ inl e ↦ inl e | inr e ↦ inr (sym (ap (λ b. b_or b (holds ids c)) e) ∙ h) ]
-  where
-    b_or : Bool → Bool → Bool
-    b_or true b = true
-    b_or false b = b
+holds_cons c d ids h = elim (cases_Bool (is_id c d)) [ inl e ↦ inl e | inr e ↦ inr (sym (ap (λ b. b || holds ids c) e) ∙ h) ]
 
 -- a fact on each context of a hand holds of one that is there
 pub held_has : (P : CtxId → Type 0) (ids : List CtxId) (c : CtxId) → All P ids → holds ids c ≡ true → P c

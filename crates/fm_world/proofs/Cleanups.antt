@@ -149,13 +149,10 @@ ask_other s slots c ask h none = at_context ask.completion.context h none
 none_in_hand : (hands : List (List CtxId)) (c : CtxId) (n : ℕ) → held hands c ≡ 0 → references (hand_of hands n) c ≡ 0
 none_in_hand hands c n none =
     elim (cases_Bool (nat_lt n (length hands))) [
-      | inl e ↦ omega (arith, hand_counted hands n c (ltb-true' n (length hands) e), none)
+      | inl e ↦ omega (arith, hand_counted hands n c (ltb-true n (length hands) e), none)
       | inr e ↦ ap (λ hand. references hand c) (past hands n (ltb-false n (length hands) e)) ∙ references_none c
     ]
   where
-    ltb-true' : (a b : ℕ) → nat_lt a b ≡ true → a < b
-    ltb-true' a b h = ltb-true a b h
-
     past : (hands : List (List CtxId)) (n : ℕ) → length hands ≤ n → hand_of hands n ≡ []
     past [] n h = refl
     past (x ∷ hands) zero h = absurd (omega (arith, h))

@@ -109,17 +109,15 @@ brought_len : (t : ContextTable) (k : WorkerId) (m : Option CtxId) → k.0 < len
 brought_len t k None within = no_more (length (hand_of t.hands k.0))
 brought_len t k (Some c) within = one_more t.hands k.0 c within
 
+received_len : (t : ContextTable) (k : WorkerId) (a : FlowAction) → k.0 < length t.hands
+    → length (hand_of (received t k (Ok a)).hands k.0) ≡ length (hand_of t.hands k.0) + given_by_next a
+received_len t k (FlowAction.Post i lent completion) within = brought_len t k completion.context within
+received_len t k (FlowAction.Drain i completion) within = brought_len t k completion.context within
+received_len t k _ within = no_more (length (hand_of t.hands k.0))
+
 received_more : (old new : World) (k : WorkerId) (result : Result FlowAction Status) → new.contexts ≡ received old.contexts k result → k.0 < length old.contexts.hands
     → HoldsMore k.0 result given_by_next old new
-received_more old new k (Ok (FlowAction.Pre i lent)) e within = ap (λ (t : ContextTable). length (hand_of t.hands k.0)) e ∙ no_more (hand_len k.0 old)
-received_more old new k (Ok (FlowAction.Base call)) e within = ap (λ (t : ContextTable). length (hand_of t.hands k.0)) e ∙ no_more (hand_len k.0 old)
-received_more old new k (Ok (FlowAction.Post i lent completion)) e within =
-    ap (λ (t : ContextTable). length (hand_of t.hands k.0)) e ∙ brought_len old.contexts k completion.context within
-received_more old new k (Ok (FlowAction.Drain i completion)) e within =
-    ap (λ (t : ContextTable). length (hand_of t.hands k.0)) e ∙ brought_len old.contexts k completion.context within
-received_more old new k (Ok FlowAction.Moved) e within = ap (λ (t : ContextTable). length (hand_of t.hands k.0)) e ∙ no_more (hand_len k.0 old)
-received_more old new k (Ok FlowAction.Held) e within = ap (λ (t : ContextTable). length (hand_of t.hands k.0)) e ∙ no_more (hand_len k.0 old)
-received_more old new k (Ok FlowAction.Done) e within = ap (λ (t : ContextTable). length (hand_of t.hands k.0)) e ∙ no_more (hand_len k.0 old)
+received_more old new k (Ok a) e within = ap (λ (t : ContextTable). length (hand_of t.hands k.0)) e ∙ received_len old.contexts k a within
 received_more old new k (Err why) e within = ap (λ (t : ContextTable). length (hand_of t.hands k.0)) e
 
 -- a worker that is there has a hand

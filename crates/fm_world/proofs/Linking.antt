@@ -18,7 +18,7 @@ use Rattle.fm_world.proofs.Belonging.{owners_changed, owners_placed, belongs_sti
 use Rattle.fm_world.proofs.Events.{asked_by, taken_by, set_by, set_each}
 use Rattle.fm_world.proofs.Callbacks.{IsIn, is_in, contexts_owned, sound_with, in_hand, one_more, same_hand, same_hands, none_of, not_false, grabbed_sound}
 use Rattle.fm_world.proofs.Descents.{or_left, or_right}
-use Rattle.fm_world.proofs.Fitting.{AllFit, AllPass, passes_changed, passes_placed, fits_unlinked, fits_linked}
+use Rattle.fm_world.proofs.Fitting.{AllPass, passes_changed, passes_placed, fits_unlinked, fits_linked}
 use Rattle.fm_world.proofs.Flights.{callback_left}
 
 owner_refl : (o : Owner) → same_owner o o ≡ true
@@ -80,14 +80,12 @@ held_for w k at a o c i h is =
     let own = (and_parts (is_to o x.link) (same_owner (owner_by at.row at.instance a) x.owner) set.links_there).1 in
     let same : owner_by at.row at.instance a ≡ x.owner = same_owner-same (owner_by at.row at.instance a) x.owner own in
     let there = holder_context w.contexts.slots (owner_by at.row at.instance a) o c set in
-    let fit : fits w.stack (Some x) ≡ true = sym (ap (fits w.stack) set.has) ∙ all_fit w.contexts.slots c.slot set.slot set.there h.fits in
+    let fit : fits w.stack (Some x) ≡ true =
+    sym (ap (fits w.stack) set.has) ∙ all_at (λ (y : Slot). fits w.stack y.context ≡ true) w.contexts.slots c.slot set.slot h.fits set.there in
     let owned = (and_parts (owner_fits w.stack x.kind x.owner) (link_fits w.stack x x.link) fit).0 in
     ap (λ m. belongs_by m at.instance (context_at w.contexts.slots c)) i.there ∙ ap (belongs_by (Some at.row) at.instance) there
     ∙ ap (same_owner (owner_by at.row at.instance x.kind)) (sym same)
     ∙ owner_belongs w.stack at.row at.instance a x.kind (ap (owner_fits w.stack x.kind) same ∙ owned)
-  where
-    all_fit : (slots : List Slot) (n : ℕ) (x : Slot) → slice_get slots n ≡ Some x → AllFit w.stack slots → fits w.stack x.context ≡ true
-    all_fit slots n x there all = all_at (λ (y : Slot). fits w.stack y.context ≡ true) slots n x all there
 
 -- the object of the callback's kind, and who is set there
 found_there : (w : World) (what : ContextKind) (at : Callback) (m : Option Object) (c : CtxId)

@@ -7,6 +7,7 @@ use Rattle.fm_world.proofs.Words.{is_live_on, is_attached, is_detached, is_to_vi
 use Rattle.fm_world.proofs.Words.{Follows, IsStack, IsDescent, HasRoom, last_of, is_among}
 use Rattle.fm_world.proofs.Counts.{count-some, count-le, count-lt}
 use Rattle.fm_world.proofs.Altitudes.{lower_irrefl, lower_or, same_sym, option_trans, option_irrefl, option_follows}
+use Rattle.fm_world.proofs.Words.{or_parts}
 
 pub last_of-push : (is : List ℕ) (i : ℕ) → last_of (is ++ i ∷ []) ≡ Some i
 last_of-push is i = ap (λ (xs : List ℕ). slice_get xs 0) (reverse-append is (i ∷ []))
@@ -35,12 +36,10 @@ below_all s a (i ∷ j ∷ is) falls low zero d h =
 below_all s a _ falls low _ d h = absurd (omega arith)
 
 pub or_left : (a b : Bool) → (a || b) ≡ false → a ≡ false
-or_left false b h = refl
-or_left true b h = h
+or_left a b h = (or_parts a b h).0
 
 pub or_right : (a b : Bool) → (a || b) ≡ false → b ≡ false
-or_right false b h = h
-or_right true b h = cc
+or_right a b h = (or_parts a b h).1
 
 -- a candidate is below the last visit
 below_last : (s : StackWorld) (cursor : Option ℕ) (row : Instance) → is_below_cursor s cursor row ≡ true

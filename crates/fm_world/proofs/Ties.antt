@@ -6,6 +6,8 @@ use Rattle.fm_world.proofs.Words.{InBase, PostRunning, InDrain, FlowRecord, Flow
 use Rattle.fm_world.proofs.Words.{last_posted, one_of_and, Worker, worker_at, put, Spot, AtPre, AtBase, AtPost, AtDrain, is_in_at, spot_at, spot_of, is_spot}
 use Rattle.fm_world.proofs.Words.{stands_at}
 use Rattle.fm_world.proofs.Counts.{count-some}
+use Rattle.fm_flow.proofs.Counting.{and_true}
+use Rattle.fm_world.proofs.Words.{and_right}
 
 -- 1 or 0
 abbrev pub one : Bool → ℕ
@@ -85,12 +87,7 @@ tied_stays workers t o r f ho same stage tied p s =
     omega (arith, stands_changed p s t o r f ho same, alike, tied p s)
 
 and_false : (b : Bool) → (b && false) ≡ false
-and_false true = refl
-and_false false = refl
-
-and_true : (b : Bool) → (b && true) ≡ b
-and_true true = refl
-and_true false = refl
+and_false b = and_right b false refl
 
 -- the places and spots that match
 

@@ -6,11 +6,10 @@ use Rattle.fm_world.proofs.Words.{OpId, WorkerId, Status, updated, first_of, len
 use Rattle.fm_world.proofs.Words.{updated-other, Instance, Phase, StackWorld, is_setup, is_emptying, is_emptying_at, finish_row, finished, Due, Owner, one}
 use Rattle.fm_world.proofs.Words.{is_id, references, hand_of, cleaning_of, held, emptied, taken_due, taken_of, cleaned, is_open, open_of, same_owner, Context}
 use Rattle.fm_world.proofs.Words.{Slot, context_at, change_context, is_id-refl, is_id-same, references_cons, references_none, hand_counted, take_due_keeps}
-use Rattle.fm_world.proofs.Words.{cleaned_keeps, count_cleaning, context_at-other, Ask, carried_in, carried_among, carried_by, owed, FlowRecord}
-use Rattle.fm_world.proofs.Words.{total, Worker, World, worker_at, put, cleanup_in, Spot, AtPre, is_in_at, is_in_drain, row_at, place_in, fits, owner_fits}
-use Rattle.fm_world.proofs.Words.{link_fits, is_left_by, is_flown_by, belongs, belongs_by, HoldsIn, CarriesIn, AskCarries}
-use Rattle.fm_world.proofs.Words.{after_due, TakesDue, totalled_for, filter_of, Cleans, is_gone_at, Finishes, IsSound, IsUnderWay, IsOwned, is_in_setup}
-use Rattle.fm_world.proofs.Words.{setup_row, names_there, is_flown}
+use Rattle.fm_world.proofs.Words.{cleaned_keeps, count_cleaning, context_at-other, Ask, carried_in, carried_among, carried_by, owed, FlowRecord, total}
+use Rattle.fm_world.proofs.Words.{Worker, World, worker_at, put, cleanup_in, Spot, AtPre, is_in_at, is_in_drain, row_at, place_in, fits, owner_fits}
+use Rattle.fm_world.proofs.Words.{link_fits, is_left_by, is_flown_by, belongs, belongs_by, HoldsIn, CarriesIn, AskCarries, after_due, TakesDue, totalled_for}
+use Rattle.fm_world.proofs.Words.{filter_of, Cleans, is_gone_at, Finishes, IsSound, IsUnderWay, IsOwned, is_in_setup, setup_row, names_there, is_flown}
 use Rattle.std.specs.Prelude.{◌%◌, ◌^◌}
 use Rattle.fm_stack.proofs.Finishing.{finished_keeps, finished_follows, emptying_row}
 use Rattle.fm_world.proofs.Belonging.{owners_changed, owners_same, belongs_still, filters_same, all_hold_still, all_carry_still, filters_updated}

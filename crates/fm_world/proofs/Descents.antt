@@ -1,13 +1,12 @@
 -- A visit of the next instance, the call of the base, and every event of the stack keep an operation's descent.
 use Rattle.std.proofs.Common.{◌≡◌, ℕ, zero, suc, ◌+◌, ◌≤◌, ◌<◌, Bool, true, false, not, ◌&&◌, ◌||◌, ◌==◌, List, [], ◌∷◌, ◌++◌, reverse, Option, Some, None, length, get_or, refl, ap, sym, ◌∙◌, subst, arith, count_by, length-append, inl, inr}
 use Rattle.fm_world.proofs.Words.{slice_get, option_map, AllPairs, nat_lt, slice_get_within, slice_get-get_or, get_or_from_slice_get, reverse-append}
-use Rattle.fm_world.proofs.Words.{all_pairs_push, cases_order, and_parts, and_from, and_right, eqb-true, eq-eqb, ne_eqb, false≢true, VolumeId, Operation}
-use Rattle.fm_world.proofs.Words.{Instance, Phase, StackWorld, is_lower, is_lower_at, is_lower_option, altitude_at, clashes, same_altitude, same_name}
-use Rattle.fm_world.proofs.Words.{is_live_on, is_attached, is_detached, is_to_visit, is_below_cursor, is_candidate, is_registered, IsHighest, NonePasses}
-use Rattle.fm_world.proofs.Words.{Follows, IsStack, IsDescent, HasRoom, last_of, is_among}
+use Rattle.fm_world.proofs.Words.{all_pairs_push, cases_order, and_parts, and_from, and_right, eqb-true, eq-eqb, ne_eqb, false≢true, or_parts, VolumeId}
+use Rattle.fm_world.proofs.Words.{Operation, Instance, Phase, StackWorld, is_lower, is_lower_at, is_lower_option, altitude_at, clashes, same_altitude}
+use Rattle.fm_world.proofs.Words.{same_name, is_live_on, is_attached, is_detached, is_to_visit, is_below_cursor, is_candidate, is_registered, IsHighest}
+use Rattle.fm_world.proofs.Words.{NonePasses, Follows, IsStack, IsDescent, HasRoom, last_of, is_among}
 use Rattle.fm_world.proofs.Counts.{count-some, count-le, count-lt}
 use Rattle.fm_world.proofs.Altitudes.{lower_irrefl, lower_or, same_sym, option_trans, option_irrefl, option_follows}
-use Rattle.fm_world.proofs.Words.{or_parts}
 
 pub last_of-push : (is : List ℕ) (i : ℕ) → last_of (is ++ i ∷ []) ≡ Some i
 last_of-push is i = ap (λ (xs : List ℕ). slice_get xs 0) (reverse-append is (i ∷ []))

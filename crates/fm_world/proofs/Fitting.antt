@@ -1,14 +1,11 @@
 -- What a context names is there: what changes of contexts and of instances leave of it.
 use Rattle.std.proofs.Common.{◌≡◌, ◌≢◌, ℕ, ◌≤◌, ◌<◌, Bool, true, false, cond, List, [], ◌∷◌, ◌++◌, length, map, Option, Some, None, is_some, option_map, slice_get, refl, ap, sym, ◌∙◌, inl, inr, arith}
-use Rattle.fm_world.proofs.Words.{All, slice_set, false≢true, cases_Bool, and_parts, and_from, lt-ltb, ltb-true, All-weaker, All-map, All-push, ContextKind}
-use Rattle.fm_world.proofs.Words.{CtxId, InstanceId, All-updated, All-set_others, StackWorld, Object, Owner, new_slot, placed, with_link, swept, swept_slot}
-use Rattle.fm_world.proofs.Words.{Context, Slot, context_at, context_in, changed_slot, change_context, row_at, fits, owner_fits, link_fits, may_link, suits}
-use Rattle.fm_world.proofs.Words.{holds_links_by, is_left_by, keeps_links_by, is_volume}
+use Rattle.fm_world.proofs.Words.{All, slice_set, false≢true, cases_Bool, and_parts, and_from, lt-ltb, ltb-true, All-weaker, All-map, All-push, true≢false}
+use Rattle.fm_world.proofs.Words.{eq-eqb, ContextKind, CtxId, InstanceId, All-updated, All-set_others, StackWorld, Object, Owner, new_slot, placed, with_link}
+use Rattle.fm_world.proofs.Words.{swept, swept_slot, Context, Slot, context_at, context_in, changed_slot, change_context, same_owner, row_at, fits}
+use Rattle.fm_world.proofs.Words.{owner_fits, link_fits, may_link, suits, holds_links_by, is_left_by, keeps_links_by, is_volume}
 use Rattle.std.specs.Prelude.{◌==◌}
 use Rattle.std.specs.Option.{option_and_then}
-use Rattle.fm_world.proofs.Words.{true≢false}
-use Rattle.fm_world.proofs.Words.{eq-eqb}
-use Rattle.fm_world.proofs.Words.{same_owner}
 
 -- a test of all contexts
 abbrev pub AllPass : (Option Context → Bool) → List Slot → Type 0

@@ -6,8 +6,8 @@ use Rattle.fm_world.proofs.Words.{slice_get-set_same, slice_get-set_other, updat
 use Rattle.fm_world.proofs.Words.{is_detached, refuse_row, accept_row, IsStack, Follows, Owner, hand_of, cleaning_of, IsLawful, same_owner, Leaves}
 use Rattle.fm_world.proofs.Words.{is_linked_of, swept, swept_slot, Context, Slot, ContextTable, leave_keeps, sweep_keeps, within_hands, FlowTable, carried}
 use Rattle.fm_world.proofs.Words.{in_flight, Worker, World, carries, worker_at, put, after_attach, cleanup_in, row_at, place_in, fits, owner_fits, link_fits}
-use Rattle.fm_world.proofs.Words.{holds_links_by, is_left_by, keeps_links, keeps_links_by, is_flown, is_flown_by, HoldsIn, Registers, Mounts}
-use Rattle.fm_world.proofs.Words.{Attaches, SetsUp, EmptiesUnless, IsSound, IsOwned, names_there, FileTable, setup_row}
+use Rattle.fm_world.proofs.Words.{holds_links_by, is_left_by, keeps_links, keeps_links_by, is_flown, is_flown_by, HoldsIn, Registers, Mounts, Attaches}
+use Rattle.fm_world.proofs.Words.{SetsUp, EmptiesUnless, IsSound, IsOwned, names_there, FileTable, setup_row}
 use Rattle.fm_stack.specs.Events as stack
 use Rattle.fm_types.specs.declared.registration.Registration.{Registration}
 use Rattle.fm_stack.proofs.Registering.{registered_keeps, registered_follows, mounted_keeps, mounted_follows}

@@ -1,13 +1,11 @@
 -- Workers and stages stay tied: a worker goes into an operation or leaves it as the operation's stage says.
 use Rattle.std.proofs.Common.{◌≡◌, ℕ, ◌+◌, ◌≤◌, ◌==◌, ◌&&◌, Bool, true, false, cond, List, Option, Some, None, refl, ap, sym, ◌∙◌, subst, inl, inr, arith, count_by}
 use Rattle.fm_world.proofs.Words.{option_map, unwrap_or, find, cases_eq, false≢true, eqb-true, eq-eqb, ne_eqb, slice_get_within, get_or_from_slice_get}
-use Rattle.fm_world.proofs.Words.{sum_by-set, OpId, WorkerId, InstanceId, find_changed, find_unchanged, PreState, pre_leads, is_counted, Stage, PreRunning}
-use Rattle.fm_world.proofs.Words.{InBase, PostRunning, InDrain, FlowRecord, FlowTable, is_number, operation_at, changed, told, Entry, last_visited}
-use Rattle.fm_world.proofs.Words.{last_posted, one_of_and, Worker, worker_at, put, Spot, AtPre, AtBase, AtPost, AtDrain, is_in_at, spot_at, spot_of, is_spot}
-use Rattle.fm_world.proofs.Words.{stands_at}
+use Rattle.fm_world.proofs.Words.{sum_by-set, and_right, OpId, WorkerId, InstanceId, find_changed, find_unchanged, PreState, pre_leads, is_counted, Stage}
+use Rattle.fm_world.proofs.Words.{PreRunning, InBase, PostRunning, InDrain, FlowRecord, FlowTable, is_number, operation_at, changed, told, Entry}
+use Rattle.fm_world.proofs.Words.{last_visited, last_posted, one_of_and, and_true, Worker, worker_at, put, Spot, AtPre, AtBase, AtPost, AtDrain, is_in_at}
+use Rattle.fm_world.proofs.Words.{spot_at, spot_of, is_spot, stands_at}
 use Rattle.fm_world.proofs.Counts.{count-some}
-use Rattle.fm_flow.proofs.Counting.{and_true}
-use Rattle.fm_world.proofs.Words.{and_right}
 
 -- 1 or 0
 abbrev pub one : Bool → ℕ

@@ -1,6 +1,6 @@
 -- The words that the proofs share, passed on from the specs and from the crates below.
 pub use Rattle.std.proofs.lemmas.Bool.{false≢true, cases_Bool, cases_eq, true≢false, leb-false, and_parts, and_from, eq-eqb, ltb-true, ltb-false, cases_order}
-pub use Rattle.std.proofs.lemmas.Bool.{and_right, eqb-true, ne_eqb, lt-ltb, or_left, or_right, or_parts, or_cases}
+pub use Rattle.std.proofs.lemmas.Bool.{and_right, eqb-true, ne_eqb, or_parts, lt-ltb, or_left, or_right, or_cases}
 pub use Rattle.std.proofs.lemmas.List.{append-nil, get_or-set_same, get_or-set_other, set-get_or, reverse-append, set-set, length-append, length-replicate}
 pub use Rattle.std.proofs.lemmas.List.Elements.{filter_map-append, All-nil, All-head, All-tail, All-push, All-weaker, All-cons, All-map}
 pub use Rattle.std.proofs.lemmas.List.Folds.{list_any-append}
@@ -70,7 +70,7 @@ pub use Rattle.fm_ctx.specs.declared.object.Object.{Object}
 pub use Rattle.fm_ctx.specs.declared.owner.Owner.{Owner}
 pub use Rattle.fm_ctx.specs.declared.set_reply.SetMode.{SetMode}
 pub use Rattle.fm_flow.proofs.Counting.{same_either, one_of_and, flight_pre_settled, flight_post_settled, owed_pre_settled, owed_post_settled}
-pub use Rattle.fm_flow.proofs.Counting.{owed_drain_settled}
+pub use Rattle.fm_flow.proofs.Counting.{owed_drain_settled, and_true}
 pub use Rattle.fm_flow.proofs.Drains.{drains_given, next_drains, drains_open, drains_push, drains_pre_settled, drains_post_settled, drains_drain_settled}
 pub use Rattle.fm_flow.proofs.Drains.{none_running}
 pub use Rattle.fm_flow.specs.Answered.{is_success, handle_given, bare_answer, base_counted}
@@ -119,7 +119,7 @@ pub use Rattle.fm_world.specs.Headline.{Spot, AtPre, is_in_at, is_in_drain, drai
 pub use Rattle.fm_world.specs.Headline.{RulesKeepHeadline, DescendsIn, IsAscent, IsInOrder, stands_at}
 pub use Rattle.fm_world.specs.Links.{names_there, LosesLinks, is_there, is_on_gone}
 pub use Rattle.fm_world.specs.Owners.{row_at, owner_by, place_in, belongs, belongs_by, HoldsIn, CarriesIn, AskCarries, file_of, fits, owner_fits, link_fits}
-pub use Rattle.fm_world.specs.Owners.{may_link, is_left_by, keeps_links_by, is_flown_by, is_flown, suits, keeps_links, holds_links_by, is_volume, has_kind}
+pub use Rattle.fm_world.specs.Owners.{is_left_by, is_flown_by, is_flown, may_link, suits, keeps_links, keeps_links_by, holds_links_by, is_volume, has_kind}
 pub use Rattle.fm_world.specs.Owners.{object_by, is_closing, holds_links, is_instance, is_of_stream, is_of_handle}
 pub use Rattle.fm_world.specs.Requests.{params_of, phase_refusal}
 pub use Rattle.fm_world.specs.Sound.{IsAmongAt, NoneLeft, IsSound, IsOwned, IsUnderWay, is_in_setup, setup_row, IsFiled, IsFileSound, IsAmong}

@@ -1,16 +1,15 @@
 -- The order of altitudes, where one of them may not be there.
 use Rattle.std.proofs.Common.{◌≡◌, ℕ, true, false, List, Option, Some, None, Ordering, refl, ap, ◌∙◌}
+use Rattle.fm_world.proofs.Words.{is_lower, same_altitude, is_lower_option}
 use Rattle.std.specs.declared.cmp.Ordering.TheVariants.{Less, Equal, Greater}
 use Rattle.std.specs.Ordering.{is_lt, is_eq, ordering_reverse}
 use Rattle.std.proofs.lemmas.Cmp.{tied_itself}
 use Rattle.fm_altitude.specs.Order.{altitude_cmp}
 use Rattle.fm_altitude.specs.Total.{altitude_total}
-use Rattle.fm_stack.specs.Instances.{is_lower, same_altitude, is_lower_option}
 
 less_from : (o : Ordering) → is_lt o ≡ true → o ≡ Less
 less_from Less h = refl
-less_from Equal h = cc
-less_from Greater h = cc
+less_from _ h = cc
 
 pub lower_trans : (a b c : List ℕ) → is_lower a b ≡ true → is_lower b c ≡ true → is_lower a c ≡ true
 lower_trans a b c h k = ap is_lt (altitude_total.trans a b c (less_from (altitude_cmp a b) h) (less_from (altitude_cmp b c) k))
@@ -29,17 +28,14 @@ lower_or a b h k = turned (altitude_cmp a b) (altitude_cmp b a) (altitude_total.
 
 eq_turned : (o : Ordering) → is_eq (ordering_reverse o) ≡ is_eq o
 eq_turned Less = refl
-eq_turned Equal = refl
-eq_turned Greater = refl
+eq_turned _ = refl
 
 pub same_sym : (a b : List ℕ) → same_altitude a b ≡ same_altitude b a
 same_sym a b = ap is_eq (altitude_total.antisymm a b) ∙ eq_turned (altitude_cmp b a)
 
 pub option_trans : (a b c : Option (List ℕ)) → is_lower_option a b ≡ true → is_lower_option b c ≡ true → is_lower_option a c ≡ true
 option_trans (Some a) (Some b) (Some c) h k = lower_trans a b c h k
-option_trans (Some a) (Some b) None h k = cc
-option_trans (Some a) None c h k = cc
-option_trans None b c h k = cc
+option_trans _ _ _ h k = cc
 
 pub option_irrefl : (a : Option (List ℕ)) → is_lower_option a a ≡ false
 option_irrefl (Some a) = lower_irrefl a
@@ -49,5 +45,4 @@ option_irrefl None = refl
 pub option_follows : (a b x y : Option (List ℕ)) → ((t : List ℕ) → a ≡ Some t → x ≡ Some t) → ((t : List ℕ) → b ≡ Some t → y ≡ Some t)
     → is_lower_option a b ≡ true → is_lower_option x y ≡ true
 option_follows (Some a) (Some b) x y f g h = rw (f a refl, g b refl) h
-option_follows (Some a) None x y f g h = cc
-option_follows None b x y f g h = cc
+option_follows _ _ x y f g h = cc

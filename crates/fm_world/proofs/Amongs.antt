@@ -1,33 +1,12 @@
 -- What each step of an operation leaves of its place among the instances.
 use Rattle.std.proofs.Common.{◌≡◌, ℕ, ◌≤◌, ◌<◌, ◌||◌, Bool, true, false, List, [], ◌∷◌, ◌++◌, map, Option, Some, None, length, refl, ap, sym, ◌∙◌, subst, arith, count_by}
-use Rattle.std.specs.Prelude.{All, filter_map, option_and_then}
-use Rattle.std.specs.List.{cons_option}
-use Rattle.std.proofs.lemmas.Bool.{false≢true}
-use Rattle.std.proofs.lemmas.Option.{same_Some, none-some, slice_get_within}
-use Rattle.std.proofs.lemmas.List.{append-nil}
-use Rattle.std.proofs.lemmas.List.Elements.{filter_map-append, All-nil, All-head, All-tail, All-push, All-weaker}
-use Rattle.std.proofs.lemmas.List.Folds.{list_any-append}
-use Rattle.fm_types.specs.declared.ids.VolumeId.{VolumeId}
-use Rattle.fm_types.specs.declared.status.Status.{Status}
-use Rattle.fm_types.specs.declared.operation.Operation.{Operation}
-use Rattle.fm_flow.specs.declared.stage.Stage.{Stage}
-use Rattle.fm_flow.specs.declared.stage.Stage.TheVariants.{Descending, InBase, Ascending, PostRunning, PostHeld}
-use Rattle.fm_flow.specs.declared.entry.Entry.{Entry}
-use Rattle.fm_flow.specs.declared.entry.Entry.TheVariants.{Pre, Base, Post, Drain}
-use Rattle.fm_flow.specs.declared.entry.PreVisit.{PreVisit}
-use Rattle.fm_flow.specs.declared.entry.PostVisit.{PostVisit}
-use Rattle.fm_flow.specs.declared.entry.PreState.{PreState}
-use Rattle.fm_flow.specs.declared.entry.PostState.{PostState}
-use Rattle.fm_flow.specs.declared.entry.PostState.TheVariants as post
-use Rattle.fm_flow.specs.Entries.{visit_of, visited, last_visited, post_of, posted, last_posted, is_base, has_base, settle_pre, settle_post, settle_drain}
-use Rattle.fm_flow.specs.Steps.{post_leads}
-use Rattle.fm_flow.specs.Sound.{after, walk, way_of, if_down}
-use Rattle.fm_stack.specs.StackWorld.{StackWorld}
-use Rattle.fm_stack.specs.Next.{is_candidate, is_to_visit, IsHighest}
-use Rattle.fm_stack.specs.Follows.{Follows}
-use Rattle.fm_stack.specs.Stacks.{IsStack}
-use Rattle.fm_world.specs.Descent.{IsDescent, HasRoom, last_of}
-use Rattle.fm_world.specs.Sound.{IsAmongAt, NoneLeft}
+use Rattle.fm_world.proofs.Words.{All, filter_map, cons_option, false≢true, same_Some, none-some, slice_get_within, append-nil, filter_map-append, All-nil}
+use Rattle.fm_world.proofs.Words.{All-head, All-tail, All-push, All-weaker, list_any-append, VolumeId, Status, Operation, StackWorld, is_candidate}
+use Rattle.fm_world.proofs.Words.{is_to_visit, IsHighest, Follows, IsStack, Stage, Descending, InBase, Ascending, PostRunning, PostHeld, Entry, Pre, Base}
+use Rattle.fm_world.proofs.Words.{Post, Drain, PreVisit, PreState, PostState, visit_of, visited, last_visited, post_of, posted, last_posted, is_base}
+use Rattle.fm_world.proofs.Words.{has_base, settle_pre, settle_post, settle_drain, post_leads, after, walk, way_of, if_down, PostVisit, IsDescent, HasRoom}
+use Rattle.fm_world.proofs.Words.{last_of, IsAmongAt, NoneLeft}
+use Rattle.std.specs.Prelude.{option_and_then}
 use Rattle.fm_world.proofs.Descents.{descent_begins, descent_visits, descent_reaches, descent_follows, none_follows, room_begins, room_visits, room_follows, last_of-cons, last_of-push}
 
 -- ---- an operation on its way down has no base entry
@@ -43,22 +22,13 @@ walk_on None es t h = absurd (none-some t h)
 walk_on (Some s) es t h = (s, refl, h)
 
 post_up : (state : PostState) → is_up (post_leads state) ≡ true
-post_up post.Running = refl
-post_up post.Held = refl
-post_up post.Finished = refl
+post_up PostState.Running = refl
+post_up _ = refl
 
 after_up : (s : Stage) (e : Entry) (t : Stage) → is_up s ≡ true → after s e ≡ Some t → is_up t ≡ true
-after_up Ascending (Pre visit) t u h = absurd (none-some t h)
-after_up Ascending (Base status information) t u h = absurd (none-some t h)
 after_up Ascending (Post visit) t u h = ap is_up (sym (same_Some (post_leads visit.state) t h)) ∙ post_up visit.state
-after_up PostRunning (Pre visit) t u h = absurd (none-some t h)
-after_up PostRunning (Base status information) t u h = absurd (none-some t h)
-after_up PostRunning (Post visit) t u h = absurd (none-some t h)
-after_up PostHeld (Pre visit) t u h = absurd (none-some t h)
-after_up PostHeld (Base status information) t u h = absurd (none-some t h)
-after_up PostHeld (Post visit) t u h = absurd (none-some t h)
 after_up s (Drain visit) t u h = ap is_up (sym (same_Some s t h)) ∙ u
-after_up s e t u h = absurd (false≢true u)
+after_up _ _ t u h = cc
 
 stays_up : (s : Stage) (es : List Entry) (t : Stage) → is_up s ≡ true → walk s es ≡ Some t → is_up t ≡ true
 stays_up s [] t u h = ap is_up (sym (same_Some s t h)) ∙ u
@@ -165,58 +135,34 @@ among_base s v born operation entries before status information none left h =
     ascending_is_not : Ascending ≡ InBase → ⊥
     ascending_is_not e = cc
 
--- the entries are settled
-map_visits : (f : Entry → Entry) (es : List Entry) → ((e : Entry) → visit_of (f e) ≡ visit_of e) → visited (map f es) ≡ visited es
-map_visits f [] same = refl
-map_visits f (e ∷ es) same =
-    rw (same e) (ap (λ xs. cons_option (visit_of e) xs) (map_visits f es same))
+-- each entry stays a visit of its instance, and the base's call or not
+abbrev pub KeepsKind : (Entry → Entry) → Type 0
+KeepsKind f = (e : Entry) → (visit_of (f e) ≡ visit_of e) × (is_base (f e) ≡ is_base e)
 
-map_base : (f : Entry → Entry) (es : List Entry) → ((e : Entry) → is_base (f e) ≡ is_base e) → has_base (map f es) ≡ has_base es
-map_base f [] same = refl
-map_base f (e ∷ es) same = rw (same e) (ap (λ b. is_base e || b) (map_base f es same))
+-- the entries are settled
+map_keeps : (f : Entry → Entry) (es : List Entry) → KeepsKind f → (visited (map f es) ≡ visited es) × (has_base (map f es) ≡ has_base es)
+map_keeps f [] same = (refl, refl)
+map_keeps f (e ∷ es) same =
+    let rest = map_keeps f es same in
+    (rw ((same e).0) (ap (λ xs. cons_option (visit_of e) xs) rest.0), rw ((same e).1) (ap (λ b. is_base e || b) rest.1))
 
 pub among_settles : (s : StackWorld) (v : VolumeId) (born : ℕ) (operation : Operation) (entries : List Entry) (before stage : Stage) (f : Entry → Entry)
-    → ((e : Entry) → visit_of (f e) ≡ visit_of e) → ((e : Entry) → is_base (f e) ≡ is_base e) → (stage ≡ InBase → ⊥)
-    → IsAmongAt s v born operation entries before → IsAmongAt s v born operation (map f entries) stage
-among_settles s v born operation entries before stage f visits bases other h =
-    among_from s v born operation (map f entries) stage (visited entries) (has_base entries) (map_visits f entries visits) (map_base f entries bases)
-    (stands_of entries before h) (λ k. absurd (other k))
+    → KeepsKind f → (stage ≡ InBase → ⊥) → IsAmongAt s v born operation entries before → IsAmongAt s v born operation (map f entries) stage
+among_settles s v born operation entries before stage f keeps other h =
+    let same = map_keeps f entries keeps in
+    among_from s v born operation (map f entries) stage (visited entries) (has_base entries) same.0 same.1 (stands_of entries before h) (λ k. absurd (other k))
 
-pub settle_pre_visit : (state : PreState) (e : Entry) → visit_of (settle_pre state e) ≡ visit_of e
-settle_pre_visit state (Pre visit) = refl
-settle_pre_visit state (Base status information) = refl
-settle_pre_visit state (Post visit) = refl
-settle_pre_visit state (Drain visit) = refl
+pub settle_pre_keeps : (state : PreState) → KeepsKind (settle_pre state)
+settle_pre_keeps state (Pre visit) = (refl, refl)
+settle_pre_keeps state _ = (refl, refl)
 
-pub settle_pre_base : (state : PreState) (e : Entry) → is_base (settle_pre state e) ≡ is_base e
-settle_pre_base state (Pre visit) = refl
-settle_pre_base state (Base status information) = refl
-settle_pre_base state (Post visit) = refl
-settle_pre_base state (Drain visit) = refl
+pub settle_post_keeps : (state : PostState) → KeepsKind (settle_post state)
+settle_post_keeps state (Pre visit) = (refl, refl)
+settle_post_keeps state _ = (refl, refl)
 
-pub settle_post_visit : (state : PostState) (e : Entry) → visit_of (settle_post state e) ≡ visit_of e
-settle_post_visit state (Pre visit) = refl
-settle_post_visit state (Base status information) = refl
-settle_post_visit state (Post visit) = refl
-settle_post_visit state (Drain visit) = refl
-
-pub settle_post_base : (state : PostState) (e : Entry) → is_base (settle_post state e) ≡ is_base e
-settle_post_base state (Pre visit) = refl
-settle_post_base state (Base status information) = refl
-settle_post_base state (Post visit) = refl
-settle_post_base state (Drain visit) = refl
-
-pub settle_drain_visit : (i : ℕ) (e : Entry) → visit_of (settle_drain i e) ≡ visit_of e
-settle_drain_visit i (Pre visit) = refl
-settle_drain_visit i (Base status information) = refl
-settle_drain_visit i (Post visit) = refl
-settle_drain_visit i (Drain visit) = refl
-
-pub settle_drain_base : (i : ℕ) (e : Entry) → is_base (settle_drain i e) ≡ is_base e
-settle_drain_base i (Pre visit) = refl
-settle_drain_base i (Base status information) = refl
-settle_drain_base i (Post visit) = refl
-settle_drain_base i (Drain visit) = refl
+pub settle_drain_keeps : (i : ℕ) → KeepsKind (settle_drain i)
+settle_drain_keeps i (Pre visit) = (refl, refl)
+settle_drain_keeps i _ = (refl, refl)
 
 -- every event of the stack leaves each operation in place
 pub among_follows : (s t : StackWorld) (v : VolumeId) (born : ℕ) (operation : Operation) (entries : List Entry) (stage : Stage)

@@ -1,33 +1,11 @@
 -- Who may hold what: what changes of contexts, instances and workers leave of it.
-use Rattle.std.proofs.Common.{◌≡◌, ◌≢◌, ℕ, ◌<◌, Bool, true, false, cond, List, [], ◌∷◌, length, map, Option, Some, None, option_map, slice_get, refl, ap, sym, ◌∙◌, subst, inl, inr, ◌⊎◌}
-use Rattle.std.specs.Prelude.{All, slice_set}
-use Rattle.std.proofs.lemmas.Bool.{false≢true, cases_Bool, cases_eq}
-use Rattle.std.proofs.lemmas.Option.{none-some}
-use Rattle.std.proofs.lemmas.List.{get_or-set_same, get_or-set_other}
-use Rattle.std.proofs.lemmas.List.Elements.{All-nil, All-cons, All-head, All-tail, All-weaker}
-use Rattle.fm_types.specs.declared.context_kind.ContextKind.{ContextKind}
-use Rattle.fm_types.specs.declared.context_kind.ContextKind.TheVariants as kind
-use Rattle.fm_types.specs.declared.ids.CtxId.{CtxId}
-use Rattle.fm_types.specs.declared.ids.InstanceId.{InstanceId}
-use Rattle.fm_types.specs.declared.ids.WorkerId.{WorkerId}
-use Rattle.fm_types.proofs.Lists.{slice_get-set_other}
-use Rattle.fm_stack.specs.declared.instance.Instance.{Instance}
-use Rattle.fm_stack.specs.StackWorld.{StackWorld}
-use Rattle.fm_flow.specs.declared.entry.Ask.{Ask}
-use Rattle.fm_flow.specs.Record.{FlowRecord}
-use Rattle.fm_flow.specs.Entries.{owed}
-use Rattle.fm_ctx.specs.declared.owner.Owner.TheVariants as owner
-use Rattle.fm_ctx.specs.Bags.{is_id, holds, without, hand_of}
-use Rattle.fm_ctx.specs.Births.{IsNew, placed}
-use Rattle.fm_ctx.specs.Objects.{same_owner}
-use Rattle.fm_ctx.specs.Settling.{swept, swept_slot}
-use Rattle.fm_ctx.specs.Table.{Context, Slot, context_at, change_context}
-use Rattle.fm_ctx.proofs.Bags.{is_id-same, by_id}
-use Rattle.fm_ctx.proofs.Leaving.{context_at-swept}
-use Rattle.fm_ctx.proofs.Slots.{context_at-here, context_at-other, context_at-placed_other, new_absent}
-use Rattle.fm_world.specs.declared.worker.Worker.{Worker}
-use Rattle.fm_world.specs.Workers.{worker_at}
-use Rattle.fm_world.specs.Owners.{row_at, owner_by, place_in, belongs, belongs_by, HoldsIn, CarriesIn, AskCarries}
+use Rattle.std.proofs.Common.{◌||◌, ◌≡◌, ◌≢◌, ℕ, ◌<◌, Bool, true, false, cond, List, [], ◌∷◌, length, map, Option, Some, None, option_map, slice_get, refl, ap, sym, ◌∙◌, subst, inl, inr, ◌⊎◌}
+use Rattle.fm_world.proofs.Words.{All, slice_set, false≢true, cases_Bool, cases_eq, none-some, get_or-set_same, get_or-set_other, All-nil, All-cons, All-head}
+use Rattle.fm_world.proofs.Words.{All-tail, All-weaker, ContextKind, CtxId, InstanceId, WorkerId, slice_get-set_other, updated, updated-same, updated-other}
+use Rattle.fm_world.proofs.Words.{Instance, StackWorld, Owner, is_id, holds, without, hand_of, IsNew, placed, same_owner, swept, swept_slot, Context, Slot}
+use Rattle.fm_world.proofs.Words.{context_at, change_context, is_id-same, by_id, context_at-swept, context_at-here, context_at-other, context_at-placed_other}
+use Rattle.fm_world.proofs.Words.{new_absent, Ask, FlowRecord, owed, Worker, worker_at, row_at, owner_by, place_in, belongs, belongs_by, HoldsIn, CarriesIn}
+use Rattle.fm_world.proofs.Words.{AskCarries}
 
 -- ---- contexts keep their kind and owner
 
@@ -78,11 +56,23 @@ FiltersStay s t = (i : ℕ) (row : Instance) → slice_get s.instances i ≡ Som
 pub filters_same : (s : StackWorld) → FiltersStay s s
 filters_same s i row h = (row, h, refl)
 
+-- where one instance changes, and keeps its filter
+pub filters_updated : (s t : StackWorld) (change : Instance → Instance) (i : ℕ) → t.instances ≡ updated change s.instances i → ((row : Instance) → (change row).filter ≡ row.filter)
+    → FiltersStay s t
+filters_updated s t change i is keeps j row there =
+    elim (cases_eq j i) [
+      | inl e ↦ (
+        change row,
+        ap (λ (rows : List Instance). slice_get rows j) is ∙ subst (λ n. slice_get (updated change s.instances i) n ≡ Some (change row)) (sym e)
+            (updated-same change s.instances i row (ap (slice_get s.instances) (sym e) ∙ there)),
+        keeps row,
+      )
+      | inr apart ↦ (row, ap (λ (rows : List Instance). slice_get rows j) is ∙ updated-other change s.instances i j apart ∙ there, refl)
+    ]
+
 owner_follows : (a b : Instance) (i : InstanceId) (k : ContextKind) → b.filter ≡ a.filter → owner_by b i k ≡ owner_by a i k
-owner_follows a b i kind.Volume e = ap owner.Filter e
-owner_follows a b i kind.Instance e = refl
-owner_follows a b i kind.Stream e = refl
-owner_follows a b i kind.Handle e = refl
+owner_follows a b i ContextKind.Volume e = ap Owner.Filter e
+owner_follows a b i _ e = refl
 
 -- what a callback may hold, it may hold still
 abbrev pub BelongsStill : StackWorld → List Slot → StackWorld → List Slot → Type 0
@@ -92,8 +82,6 @@ pub belongs_still : (s : StackWorld) (old : List Slot) (t : StackWorld) (new : L
 belongs_still s old t new filters owners i c h = at_row (row_at s i) (context_at old c) refl refl h
   where
     at_row : (m : Option Instance) (o : Option Context) → row_at s i ≡ m → context_at old c ≡ o → belongs_by m i o ≡ true → belongs t new i c ≡ true
-    at_row None o there is h = absurd (false≢true h)
-    at_row (Some row) None there is h = absurd (false≢true h)
     at_row (Some row) (Some x) there is h =
         let after = filters i.0 row there in
         let y = owners c x is in
@@ -101,6 +89,7 @@ belongs_still s old t new filters owners i c h = at_row (row_at s i) (context_at
         ap (λ k. same_owner (owner_by after.0 i k) y.0.owner) y.2 ∙ ap (same_owner (owner_by after.0 i x.kind)) y.3
         ∙ ap (λ o. same_owner o x.owner) (owner_follows row after.0 i x.kind after.2) in
         ap (λ m. belongs_by m i (context_at new c)) after.1 ∙ ap (belongs_by (Some after.0) i) y.1 ∙ same ∙ h
+    at_row _ _ there is h = absurd (false≢true h)
 
 -- ---- hands
 
@@ -112,11 +101,7 @@ hand_other hands w k hand apart = get_or-set_other hands w k hand [] apart
 
 holds_cons : (c d : CtxId) (ids : List CtxId) → holds (d ∷ ids) c ≡ true → (is_id c d ≡ true) ⊎ (holds ids c ≡ true)
 unfolding holds
-holds_cons c d ids h = elim (cases_Bool (is_id c d)) [ inl e ↦ inl e | inr e ↦ inr (sym (ap (λ b. b_or b (holds ids c)) e) ∙ h) ]
-  where
-    b_or : Bool → Bool → Bool
-    b_or true b = true
-    b_or false b = b
+holds_cons c d ids h = elim (cases_Bool (is_id c d)) [ inl e ↦ inl e | inr e ↦ inr (sym (ap (λ b. b || holds ids c) e) ∙ h) ]
 
 -- a fact on each context of a hand holds of one that is there
 pub held_has : (P : CtxId → Type 0) (ids : List CtxId) (c : CtxId) → All P ids → holds ids c ≡ true → P c

@@ -1,37 +1,14 @@
 -- The events of callbacks on contexts keep a World sound.
-use Rattle.std.proofs.Common.{◌≡◌, ℕ, ◌<◌, Bool, true, false, cond, not, List, [], ◌∷◌, ◌++◌, length, Option, Some, None, Result, Ok, Err, option_map, refl, ap, sym, ◌∙◌, subst}
-use Rattle.std.specs.Prelude.{All, slice_set}
-use Rattle.std.proofs.lemmas.Bool.{true≢false, leb-false}
-use Rattle.std.proofs.lemmas.Option.{none-some, same_Some, slice_get_within}
-use Rattle.std.proofs.lemmas.List.{set-get_or}
-use Rattle.std.proofs.lemmas.List.Elements.{All-push}
-use Rattle.fm_types.specs.declared.ids.CtxId.{CtxId}
-use Rattle.fm_types.specs.declared.ids.InstanceId.{InstanceId}
-use Rattle.fm_types.specs.declared.ids.WorkerId.{WorkerId}
-use Rattle.fm_types.specs.declared.status.Status.{Status}
-use Rattle.fm_types.specs.declared.status.Status.TheVariants as status
-use Rattle.fm_types.specs.Refusals.{first_of}
-use Rattle.fm_types.proofs.Lists.{all_at}
-use Rattle.fm_stack.specs.declared.instance.Instance.{Instance}
-use Rattle.fm_stack.specs.StackWorld.{StackWorld}
-use Rattle.fm_stack.specs.Stacks.{IsPlaced}
-use Rattle.fm_ctx.specs.Bags.{holds, hand_of, is_hand_full, cleaning_of, without}
-use Rattle.fm_ctx.specs.Bodies.{rewritten, with_body}
-use Rattle.fm_ctx.specs.Laws.{IsLawful}
-use Rattle.fm_ctx.specs.References.{grabbed, released}
-use Rattle.fm_ctx.specs.Table.{ContextTable}
+use Rattle.std.proofs.Common.{◌≡◌, ℕ, ◌<◌, Bool, true, false, cond, not, List, [], ◌∷◌, ◌++◌, length, Option, Some, None, Result, option_map, refl, ap, sym, ◌∙◌, subst}
+use Rattle.fm_world.proofs.Words.{All, slice_set, true≢false, leb-false, none-some, same_Some, slice_get_within, set-get_or, All-push, CtxId, InstanceId}
+use Rattle.fm_world.proofs.Words.{WorkerId, Status, first_of, all_at, Instance, StackWorld, IsPlaced, holds, hand_of, is_hand_full, cleaning_of, without}
+use Rattle.fm_world.proofs.Words.{rewritten, with_body, IsLawful, grabbed, released, ContextTable, within_hands, reference_keeps, release_keeps, body_keeps}
+use Rattle.fm_world.proofs.Words.{Worker, World, carries, worker_at, names_there, FileObject, file_of, row_at, place_in, belongs, HoldsIn, fits, Callback}
+use Rattle.fm_world.proofs.Words.{callback_in, callback_of, with_contexts, References, Releases, ReadsBody, WritesBody, Bumps, IsSound, IsOwned}
 use Rattle.fm_ctx.proofs.Counts.{count_held}
-use Rattle.fm_ctx.proofs.Moves.{within_hands, reference_keeps, release_keeps, body_keeps}
-use Rattle.fm_world.specs.declared.worker.Worker.{Worker}
-use Rattle.fm_world.specs.World.{World, carries}
-use Rattle.fm_world.specs.Workers.{worker_at}
-use Rattle.fm_world.specs.Links.{names_there}
-use Rattle.fm_world.specs.declared.file.FileObject.{FileObject}
-use Rattle.fm_world.specs.Owners.{file_of, row_at, place_in, belongs, HoldsIn, fits}
-use Rattle.fm_world.specs.ContextEvents.{Callback, callback_in, callback_of, InCallbackOf, with_contexts, References, Releases, ReadsBody, WritesBody, Bumps}
-use Rattle.fm_world.specs.Sound.{IsSound, IsOwned}
 use Rattle.fm_world.proofs.Belonging.{OwnersStay, owners_same, owners_changed, belongs_still, filters_same, held_has, all_without, AllHold, all_hold, all_hold_still, nobody_moved, all_carry_still}
 use Rattle.fm_world.proofs.Fitting.{AllFit, AllPass, passes_changed}
+use Rattle.fm_world.proofs.Events.{asked_by, taken_by}
 use Rattle.fm_world.proofs.Keeps.{whatever_contexts}
 
 -- ---- the callback that a worker is in
@@ -62,19 +39,12 @@ pub record IsIn (w : World) (k : WorkerId) (at : Callback) : Type 0 where
 pub is_in : (w : World) (k : WorkerId) (at : Callback) → IsSound w → callback_of w k ≡ Some at → IsIn w k at
 is_in w k at s h =
     let parts = callback_parts w.stack (file_of w.flow (worker_at w.workers k)) (place_in (worker_at w.workers k)) at h in
-    let within = worker_within w k (worker_at w.workers k) at.instance refl parts.0 in
     record {
       place = parts.0;
       there = parts.1;
-      worker = subst (λ n. k.0 < n) s.under_way.hands within;
+      worker = subst (λ n. k.0 < n) s.under_way.hands (worker_within w k (worker_at w.workers k) at.instance refl parts.0);
       placed = all_at (IsPlaced w.stack) w.stack.instances at.instance.0 at.row s.under_way.stack.placed parts.1;
     }
-
--- an event of a callback, or its refusal
-pub in_callback : {T : Type 0} (old : World) (k : WorkerId) (result : Result T Status) (new : World) (Event : Callback → Type 0) (m : Option Callback)
-    → callback_of old k ≡ m → InCallbackOf result old new Event m → ((at : Callback) → IsIn old k at → Event at → IsSound new) → IsSound old → IsSound new
-in_callback old k result new Event None is h event s = subst IsSound (sym h.1) s
-in_callback old k result new Event (Some at) is h event s = event at (is_in old k at s is) h
 
 -- ---- only contexts change
 
@@ -140,31 +110,30 @@ grabbed_sound w k at c i s lawful own =
 
 pub reference_sound : (old : World) (k : WorkerId) (c : CtxId) (result : Result (Unit {0}) Status) (new : World) → References old k c result new → IsSound old → IsSound new
 unfolding References
-reference_sound old k c (Err why) new h s = in_callback old k (Err why) new _ (callback_of old k) refl h (λ at i event. subst IsSound (sym event.1) s) s
-reference_sound old k c (Ok done) new h s =
-    in_callback old k (Ok done) new _ (callback_of old k) refl h (λ at i event.
-    let held = none_of (not (holds (hand_of old.contexts.hands k.0) c)) status.NotHeld (first_of ((is_hand_full old.contexts.hands k.0, status.HandFull) ∷ [])) event.0 in
-    let room = none_of (is_hand_full old.contexts.hands k.0) status.HandFull None held.1 in
+reference_sound old k c result new h s =
+    asked_by (λ _ w. IsSound w) old k result new _ _ h (λ why. s) (λ at is done free e.
+    let i = is_in old k at s is in
+    let held = none_of (not (holds (hand_of old.contexts.hands k.0) c)) Status.NotHeld (first_of ((is_hand_full old.contexts.hands k.0, Status.HandFull) ∷ [])) free in
+    let room = none_of (is_hand_full old.contexts.hands k.0) Status.HandFull None held.1 in
     let has = not_false (holds (hand_of old.contexts.hands k.0) c) held.0 in
     let law = s.owned.lawful in
-    subst IsSound (sym event.1)
+    subst IsSound (sym e)
     (grabbed_sound old k at c i s
     (reference_keeps k.0 c law i.worker (count_held (carries old) old.contexts k.0 c (within_hands k.0 law i.worker) has) (leb-false 16 (length (hand_of old.contexts.hands k.0)) room.0))
-    (in_hand old k at c i s.owned has))) s
+    (in_hand old k at c i s.owned has)))
 
 pub release_sound : (old : World) (k : WorkerId) (c : CtxId) (result : Result (Unit {0}) Status) (new : World) → Releases old k c result new → IsSound old → IsSound new
 unfolding Releases
-release_sound old k c (Err why) new h s = in_callback old k (Err why) new _ (callback_of old k) refl h (λ at i event. subst IsSound (sym event.1) s) s
-release_sound old k c (Ok done) new h s =
-    in_callback old k (Ok done) new _ (callback_of old k) refl h (λ at i event.
-    let held = none_of (not (holds (hand_of old.contexts.hands k.0) c)) status.NotHeld None event.0 in
-    let has = not_false (holds (hand_of old.contexts.hands k.0) c) held.0 in
+release_sound old k c result new h s =
+    asked_by (λ _ w. IsSound w) old k result new _ _ h (λ why. s) (λ at is done free e.
+    let i = is_in old k at s is in
+    let has = not_false (holds (hand_of old.contexts.hands k.0) c) (none_of (not (holds (hand_of old.contexts.hands k.0) c)) Status.NotHeld None free).0 in
     let t = released (carries old) old.contexts k.0 c in
     let owners = owners_same old.contexts.slots t.slots refl in
-    subst IsSound (sym event.1)
+    subst IsSound (sym e)
     (sound_with old t
     (contexts_owned old t k (without c (hand_of old.contexts.hands k.0)) (release_keeps k.0 c s.owned.lawful i.worker has) refl owners refl i.worker
-    (all_without (HoldsIn old.stack t.slots (place_in (worker_at old.workers k))) c (hand_of old.contexts.hands k.0) (s.owned.holders k)) s.owned.fits s.owned) s.links s)) s
+    (all_without (HoldsIn old.stack t.slots (place_in (worker_at old.workers k))) c (hand_of old.contexts.hands k.0) (s.owned.holders k)) s.owned.fits s.owned) s.links s))
 
 pub same_hands : (hands : List (List CtxId)) (w : ℕ) → hands ≡ slice_set hands w (hand_of hands w)
 same_hands hands w = sym (set-get_or hands w [])
@@ -181,18 +150,15 @@ rewritten_sound w k at c bytes i s =
 
 pub read_body_sound : (old : World) (k : WorkerId) (c : CtxId) (result : Result (List ℕ) Status) (new : World) → ReadsBody old k c result new → IsSound old → IsSound new
 unfolding ReadsBody
-read_body_sound old k c (Err why) new h s = in_callback old k (Err why) new _ (callback_of old k) refl h (λ at i event. subst IsSound (sym event.1) s) s
-read_body_sound old k c (Ok body) new h s = in_callback old k (Ok body) new _ (callback_of old k) refl h (λ at i event. subst IsSound (sym event.1.1) s) s
+read_body_sound old k c result new h s = taken_by (λ _ w. IsSound w) old k result new _ _ h (λ why. s) (λ at is body free e. subst IsSound (sym e.1) s)
 
 pub write_body_sound : (old : World) (k : WorkerId) (c : CtxId) (bytes : List ℕ) (result : Result (Unit {0}) Status) (new : World)
     → WritesBody old k c bytes result new → IsSound old → IsSound new
 unfolding WritesBody
-write_body_sound old k c bytes (Err why) new h s = in_callback old k (Err why) new _ (callback_of old k) refl h (λ at i event. subst IsSound (sym event.1) s) s
-write_body_sound old k c bytes (Ok done) new h s =
-    in_callback old k (Ok done) new _ (callback_of old k) refl h (λ at i event. subst IsSound (sym event.1) (rewritten_sound old k at c bytes i s)) s
+write_body_sound old k c bytes result new h s =
+    asked_by (λ _ w. IsSound w) old k result new _ _ h (λ why. s) (λ at is done free e. subst IsSound (sym e) (rewritten_sound old k at c bytes (is_in old k at s is) s))
 
 pub bump_sound : (old : World) (k : WorkerId) (c : CtxId) (at by : ℕ) (result : Result ℕ Status) (new : World) → Bumps old k c at by result new → IsSound old → IsSound new
 unfolding Bumps
-bump_sound old k c at by (Err why) new h s = in_callback old k (Err why) new _ (callback_of old k) refl h (λ cb i event. subst IsSound (sym event.1) s) s
-bump_sound old k c at by (Ok n) new h s =
-    in_callback old k (Ok n) new _ (callback_of old k) refl h (λ cb i event. subst IsSound (sym event.1.1) (rewritten_sound old k cb c _ i s)) s
+bump_sound old k c at by result new h s =
+    asked_by (λ _ w. IsSound w) old k result new _ _ h (λ why. s) (λ cb is n free e. subst IsSound (sym e.1) (rewritten_sound old k cb c _ (is_in old k cb s is) s))

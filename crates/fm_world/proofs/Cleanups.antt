@@ -1,76 +1,48 @@
 -- Cleaning contexts up, and the end of an instance, keep a World sound.
 use Rattle.std.proofs.Common.{◌≡◌, ◌≢◌, ℕ, zero, suc, ◌<◌, ◌≤◌, ◌+◌, Bool, true, false, cond, not, List, [], ◌∷◌, length, Option, Some, None, Result, Ok, Err, option_map, slice_get, refl, ap, sym, ◌∙◌, subst, inl, inr, arith, count_by, length-set, nat_lt}
-use Rattle.std.specs.Prelude.{All, slice_set, ◌%◌, ◌^◌}
-use Rattle.std.proofs.lemmas.Bool.{false≢true, true≢false, cases_Bool, cases_eq, and_parts, and_from, eq-eqb, ltb-true, ltb-false}
-use Rattle.std.proofs.lemmas.Option.{slice_get_within}
-use Rattle.std.proofs.lemmas.List.{get_or-set_same, get_or-set_other}
-use Rattle.std.proofs.lemmas.List.Elements.{All-nil, All-cons, All-head, All-tail}
-use Rattle.fm_types.specs.declared.ids.CtxId.{CtxId}
-use Rattle.fm_types.specs.declared.ids.FilterId.{FilterId}
-use Rattle.fm_types.specs.declared.ids.InstanceId.{InstanceId}
-use Rattle.fm_types.specs.declared.ids.OpId.{OpId}
-use Rattle.fm_types.specs.declared.ids.WorkerId.{WorkerId}
-use Rattle.fm_types.specs.declared.status.Status.{Status}
-use Rattle.fm_types.specs.declared.status.Status.TheVariants as status
-use Rattle.fm_types.specs.Lists.{updated}
-use Rattle.fm_types.specs.Refusals.{first_of}
-use Rattle.fm_types.proofs.Lists.{length-updated, slice_get-set_same, slice_get-set_other, updated-same, updated-other}
-use Rattle.fm_stack.specs.declared.instance.Instance.{Instance}
-use Rattle.fm_stack.specs.declared.instance.Phase.{Phase}
-use Rattle.fm_stack.specs.declared.instance.Phase.TheVariants as phase
-use Rattle.fm_stack.specs.StackWorld.{StackWorld}
-use Rattle.fm_stack.specs.Instances.{is_setup, is_emptying}
-use Rattle.fm_stack.specs.Events.{is_emptying_at, finish_row, finished}
+use Rattle.fm_world.proofs.Words.{All, slice_set, false≢true, true≢false, cases_Bool, cases_eq, and_parts, and_from, eq-eqb, ltb-true, ltb-false}
+use Rattle.fm_world.proofs.Words.{slice_get_within, get_or-set_same, get_or-set_other, All-nil, All-cons, All-head, All-tail, CtxId, FilterId, InstanceId}
+use Rattle.fm_world.proofs.Words.{OpId, WorkerId, Status, updated, first_of, length-updated, slice_get-set_same, slice_get-set_other, updated-same}
+use Rattle.fm_world.proofs.Words.{updated-other, Instance, Phase, StackWorld, is_setup, is_emptying, is_emptying_at, finish_row, finished, Due, Owner, one}
+use Rattle.fm_world.proofs.Words.{is_id, references, hand_of, cleaning_of, held, emptied, taken_due, taken_of, cleaned, is_open, open_of, same_owner, Context}
+use Rattle.fm_world.proofs.Words.{Slot, context_at, change_context, is_id-refl, is_id-same, references_cons, references_none, hand_counted, take_due_keeps}
+use Rattle.fm_world.proofs.Words.{cleaned_keeps, count_cleaning, context_at-other, Ask, carried_in, carried_among, carried_by, owed, FlowRecord, total}
+use Rattle.fm_world.proofs.Words.{Worker, World, worker_at, put, cleanup_in, Spot, AtPre, is_in_at, is_in_drain, row_at, place_in, fits, owner_fits}
+use Rattle.fm_world.proofs.Words.{link_fits, is_left_by, is_flown_by, belongs, belongs_by, HoldsIn, CarriesIn, AskCarries, after_due, TakesDue, totalled_for}
+use Rattle.fm_world.proofs.Words.{filter_of, Cleans, is_gone_at, Finishes, IsSound, IsUnderWay, IsOwned, is_in_setup, setup_row, names_there, is_flown}
+use Rattle.std.specs.Prelude.{◌%◌, ◌^◌}
 use Rattle.fm_stack.proofs.Finishing.{finished_keeps, finished_follows, emptying_row}
-use Rattle.fm_flow.specs.declared.entry.Ask.{Ask}
-use Rattle.fm_flow.specs.Counts.{carried_in, carried_among, carried_by}
-use Rattle.fm_flow.specs.Entries.{owed}
-use Rattle.fm_flow.specs.Record.{FlowRecord}
-use Rattle.fm_flow.specs.Table.{total}
-use Rattle.fm_ctx.specs.declared.due.Due.{Due}
-use Rattle.fm_ctx.specs.declared.owner.Owner.{Owner}
-use Rattle.fm_ctx.specs.declared.owner.Owner.TheVariants as owner
-use Rattle.fm_ctx.specs.Bags.{one, is_id, references, hand_of, cleaning_of, held}
-use Rattle.fm_ctx.specs.Cleanup.{due_reply, emptied, taken_due, taken_of, after_take_due, cleaned}
-use Rattle.fm_ctx.specs.Counting.{is_open, open_of}
-use Rattle.fm_ctx.specs.Objects.{same_owner}
-use Rattle.fm_ctx.specs.Table.{Context, Slot, context_at, change_context}
-use Rattle.fm_ctx.proofs.Bags.{is_id-refl, is_id-same, references_cons, references_none, hand_counted}
-use Rattle.fm_ctx.proofs.Lives.{take_due_keeps, cleaned_keeps, count_cleaning}
-use Rattle.fm_ctx.proofs.Moves.{within_hands}
-use Rattle.fm_ctx.proofs.Slots.{context_at-other}
-use Rattle.fm_world.specs.declared.worker.Worker.{Worker}
-use Rattle.fm_world.specs.declared.worker.Worker.TheVariants as place
-use Rattle.fm_world.specs.World.{World}
-use Rattle.fm_world.specs.Workers.{worker_at, put, is_idle, cleanup_in}
-use Rattle.fm_world.specs.Headline.{Spot, AtPre, AtBase, AtPost, AtDrain, is_in_at, is_in_drain}
-use Rattle.fm_world.specs.Owners.{row_at, place_in, fits, owner_fits, link_fits, may_link, is_left_by, keeps_links_by, is_flown_by, belongs, belongs_by, HoldsIn, CarriesIn, AskCarries}
-use Rattle.fm_world.specs.ContextEvents.{after_due, TakesDue, totalled_for, filter_of, CleansAt, Cleans, is_gone_at, Finishes}
-use Rattle.fm_world.specs.Sound.{IsSound, IsUnderWay, IsOwned, is_in_setup, setup_row}
-use Rattle.fm_world.proofs.Belonging.{owners_changed, owners_same, belongs_still, filters_same, FiltersStay, AllHold, all_hold, all_hold_still, others_stay, all_carry_still}
+use Rattle.fm_world.proofs.Belonging.{owners_changed, owners_same, belongs_still, filters_same, all_hold_still, all_carry_still, filters_updated}
 use Rattle.fm_world.proofs.Callbacks.{none_of, not_false, same_hands}
-use Rattle.fm_world.specs.Links.{names_there}
 use Rattle.fm_world.proofs.Fitting.{passes_changed, owner_stays, link_stays}
 use Rattle.fm_world.proofs.Counts.{count-cons}
-use Rattle.fm_world.proofs.Draining.{moves_undrained}
-use Rattle.fm_world.proofs.Keeps.{unless_cases, idle_there, moves_outside, workers_move, stack_moves, whatever_contexts}
-use Rattle.fm_world.proofs.Operations.{setups_stay}
-use Rattle.fm_world.proofs.Ties.{idle_is_in_none}
+use Rattle.fm_world.proofs.Events.{idle_by, cleaned_by}
+use Rattle.fm_world.proofs.Keeps.{whatever_contexts, stack_changes}
+use Rattle.fm_world.proofs.Ties.{idle_is_in_none, count_stays}
+use Rattle.fm_world.proofs.Owning.{owned_moves}
+use Rattle.fm_world.proofs.Owning.{empty_hand}
+use Rattle.fm_world.proofs.Fitting.{others_link}
 
 -- ---- a worker goes into a cleanup, or comes out of it
 
-cleanup_in_none : (c : CtxId) (p : OpId) (s : Spot) → is_in_at p s (place.Cleanup c) ≡ false
+cleanup_in_none : (c : CtxId) (p : OpId) (s : Spot) → is_in_at p s (Worker.Cleanup c) ≡ false
 cleanup_in_none c p (AtPre i) = refl
-cleanup_in_none c p AtBase = refl
-cleanup_in_none c p (AtPost i) = refl
-cleanup_in_none c p (AtDrain i) = refl
+cleanup_in_none c p _ = refl
 
+-- a worker goes between idleness and a cleanup
 worker_moves : (w : World) (k : WorkerId) (a b : Worker) → worker_at w.workers k ≡ Some a
     → ((p : OpId) (s : Spot) → is_in_at p s a ≡ false) → ((p : OpId) (s : Spot) → is_in_at p s b ≡ false)
     → ((p : OpId) (i : ℕ) → is_in_drain p i a ≡ false) → ((p : OpId) (i : ℕ) → is_in_drain p i b ≡ false)
     → ((i : ℕ) → is_in_setup i a ≡ false) → ((i : ℕ) → is_in_setup i b ≡ false) → IsUnderWay w → IsUnderWay (record w { workers = put w.workers k b })
-worker_moves w k a b at na nb da db sa sb s =
-    workers_move w (put w.workers k b) (length-set w.workers k.0 b ∙ s.hands) (moves_outside w.workers k a b at na nb) (moves_undrained w.workers k a b at da db) (setups_stay w.workers k a b at sa sb) s
+worker_moves w k a b at na nb da db sa sb h = record {
+  stack = h.stack;
+  flow = h.flow;
+  among = h.among;
+  hands = length-set w.workers k.0 b ∙ h.hands;
+  workers = λ o spot. count_stays (is_in_at o spot) w.workers k a b at (na o spot) (nb o spot) ∙ h.workers o spot;
+  drains = λ o i. count_stays (is_in_drain o i) w.workers k a b at (da o i) (db o i) ∙ h.drains o i;
+  setups = λ i. count_stays (is_in_setup i) w.workers k a b at (sa i) (sb i) ∙ h.setups i;
+}
 
 -- the tie of cleanups and places, where one worker goes elsewhere
 cleaning_moves : (w : World) (k : WorkerId) (o : Option CtxId) (b : Worker) → k.0 < length w.workers → k.0 < length w.contexts.cleaning → o ≡ cleanup_in (Some b)
@@ -87,40 +59,29 @@ cleaning_moves w k o b worker within is h n =
 
 -- ---- take_due
 
-taken_owned : (w : World) (k : WorkerId) (c : CtxId) → worker_at w.workers k ≡ Some place.Idle → slice_get w.contexts.due 0 ≡ Some c → IsSound w
-    → IsOwned (record w { workers = put w.workers k (place.Cleanup c); contexts = taken_due w.contexts k.0 c })
+taken_owned : (w : World) (k : WorkerId) (c : CtxId) → worker_at w.workers k ≡ Some Worker.Idle → slice_get w.contexts.due 0 ≡ Some c → IsSound w
+    → IsOwned (record w { workers = put w.workers k (Worker.Cleanup c); contexts = taken_due w.contexts k.0 c })
 taken_owned w k c at first s =
     let h = s.owned in
-    let within = slice_get_within w.workers k.0 place.Idle at in
+    let within = slice_get_within w.workers k.0 Worker.Idle at in
     let worker : k.0 < 48 = subst (λ n. k.0 < n) s.under_way.hands within in
     let t = taken_due w.contexts k.0 c in
     let owners = owners_changed emptied w.contexts.slots c (λ x. (refl, refl)) in
-    let still = belongs_still w.stack w.contexts.slots w.stack t.slots (filters_same w.stack) owners in
-    let idle : cleaning_of w.contexts.cleaning k.0 ≡ None = h.cleaning k.0 ∙ ap cleanup_in at in
-    let workers = put w.workers k (place.Cleanup c) in
-    let old_hand = subst (λ m. All (HoldsIn w.stack w.contexts.slots (place_in m)) (hand_of w.contexts.hands k.0)) at (h.holders k) in
-    record {
-      lawful = take_due_keeps k.0 c h.lawful worker first idle;
-      cleaning = cleaning_moves w k (Some c) (place.Cleanup c) within (subst (λ n. k.0 < n) (sym h.lawful.cleaners) worker) refl h.cleaning;
-      holders = subst (AllHold w.stack t.slots workers) (sym (same_hands w.contexts.hands k.0))
-          (all_hold w.stack w.contexts.slots w.stack t.slots w.workers workers w.contexts.hands k.0 (hand_of w.contexts.hands k.0) (within_hands k.0 h.lawful worker) still
-          (others_stay w.workers k.0 (place.Cleanup c))
-          (subst (λ m. All (HoldsIn w.stack t.slots (place_in m)) (hand_of w.contexts.hands k.0)) (sym (slice_get-set_same w.workers k.0 (place.Cleanup c) within)) old_hand)
-          h.holders);
-      completions = all_carry_still w.stack w.contexts.slots w.stack t.slots w.flow.operations still h.completions;
-      fits = passes_changed (fits w.stack) (option_map emptied) w.contexts.slots c refl (λ x there fit. fit) h.fits;
-      quiet = h.quiet;
-      totals = h.totals;
-    }
+    let cleans = cleaning_moves w k (Some c) (Worker.Cleanup c) within (subst (λ n. k.0 < n) (sym h.lawful.cleaners) worker) refl h.cleaning in
+    owned_moves w w.stack w.flow t k Worker.Idle (Worker.Cleanup c) [] at worker cleans (filters_same w.stack) owners
+    (take_due_keeps k.0 c h.lawful worker first (h.cleaning k.0 ∙ ap cleanup_in at))
+    (same_hands w.contexts.hands k.0 ∙ ap (slice_set w.contexts.hands k.0) (empty_hand w k Worker.Idle at refl h)) (All-nil (HoldsIn w.stack t.slots None))
+    (all_carry_still w.stack w.contexts.slots w.stack t.slots w.flow.operations (belongs_still w.stack w.contexts.slots w.stack t.slots (filters_same w.stack) owners) h.completions)
+    (passes_changed (fits w.stack) (option_map emptied) w.contexts.slots c refl (λ x there fit. fit) h.fits) h.quiet h
 
-take_due_at : (old : World) (k : WorkerId) (new : World) (m : Option CtxId) → worker_at old.workers k ≡ Some place.Idle → slice_get old.contexts.due 0 ≡ m
+take_due_at : (old : World) (k : WorkerId) (new : World) (m : Option CtxId) → worker_at old.workers k ≡ Some Worker.Idle → slice_get old.contexts.due 0 ≡ m
     → new ≡ record old { workers = after_due old.workers k m; contexts = taken_of old.contexts k.0 m } → IsSound old → IsSound new
 take_due_at old k new None at first e s = subst IsSound (sym e) s
 take_due_at old k new (Some c) at first e s =
     subst IsSound (sym e)
     (record {
-      under_way = whatever_contexts (record old { workers = put old.workers k (place.Cleanup c) }) (taken_due old.contexts k.0 c) old.totals
-          (worker_moves old k place.Idle (place.Cleanup c) at idle_is_in_none (cleanup_in_none c) (λ p i. refl) (λ p i. refl) (λ i. refl) (λ i. refl) s.under_way);
+      under_way = whatever_contexts (record old { workers = put old.workers k (Worker.Cleanup c) }) (taken_due old.contexts k.0 c) old.totals
+          (worker_moves old k Worker.Idle (Worker.Cleanup c) at idle_is_in_none (cleanup_in_none c) (λ p i. refl) (λ p i. refl) (λ i. refl) (λ i. refl) s.under_way);
       owned = taken_owned old k c at first s;
       filed = s.filed;
       links = passes_changed (names_there old.files) (option_map emptied) old.contexts.slots c refl (λ x there named. named) s.links;
@@ -129,10 +90,7 @@ take_due_at old k new (Some c) at first e s =
 pub take_due_sound : (old : World) (k : WorkerId) (result : Result (Option Due) Status) (new : World) → TakesDue old k result new → IsSound old → IsSound new
 unfolding TakesDue
 take_due_sound old k result new h s =
-    unless_cases IsSound status.WrongStep (is_idle (worker_at old.workers k)) result old new
-    ((result ≡ Ok (due_reply old.contexts))
-    × (new ≡ record old { workers = after_due old.workers k (slice_get old.contexts.due 0); contexts = after_take_due old.contexts k.0 })) h
-    (λ idle event. take_due_at old k new (slice_get old.contexts.due 0) (idle_there old.workers k idle) refl event.1 s) s
+    idle_by (λ _ w. IsSound w) k result old new _ h (λ why. s) (λ at event. take_due_at old k new (slice_get old.contexts.due 0) at refl event.1 s)
 
 -- ---- cleaned
 
@@ -190,13 +148,10 @@ ask_other s slots c ask h none = at_context ask.completion.context h none
 none_in_hand : (hands : List (List CtxId)) (c : CtxId) (n : ℕ) → held hands c ≡ 0 → references (hand_of hands n) c ≡ 0
 none_in_hand hands c n none =
     elim (cases_Bool (nat_lt n (length hands))) [
-      | inl e ↦ omega (arith, hand_counted hands n c (ltb-true' n (length hands) e), none)
+      | inl e ↦ omega (arith, hand_counted hands n c (ltb-true n (length hands) e), none)
       | inr e ↦ ap (λ hand. references hand c) (past hands n (ltb-false n (length hands) e)) ∙ references_none c
     ]
   where
-    ltb-true' : (a b : ℕ) → nat_lt a b ≡ true → a < b
-    ltb-true' a b h = ltb-true a b h
-
     past : (hands : List (List CtxId)) (n : ℕ) → length hands ≤ n → hand_of hands n ≡ []
     past [] n h = refl
     past (x ∷ hands) zero h = absurd (omega (arith, h))
@@ -206,15 +161,15 @@ totals_kept : (o : Option FilterId) (number : ℕ) (totals : List ℕ) → lengt
 totals_kept None number totals h = h
 totals_kept (Some f) number totals h = length-updated (λ n. (n + number) % 2 ^ 64) totals f.0 ∙ h
 
-cleaned_owned : (w : World) (k : WorkerId) (c : CtxId) (number : ℕ) → worker_at w.workers k ≡ Some (place.Cleanup c) → IsSound w
+cleaned_owned : (w : World) (k : WorkerId) (c : CtxId) (number : ℕ) → worker_at w.workers k ≡ Some (Worker.Cleanup c) → IsSound w
     → IsOwned (record w {
-      workers = put w.workers k place.Idle;
+      workers = put w.workers k Worker.Idle;
       contexts = cleaned w.contexts k.0 c;
       totals = totalled_for (filter_of w.stack (context_at w.contexts.slots c)) number w.totals;
     })
 cleaned_owned w k c number at s =
     let h = s.owned in
-    let within = slice_get_within w.workers k.0 (place.Cleanup c) at in
+    let within = slice_get_within w.workers k.0 (Worker.Cleanup c) at in
     let worker : k.0 < 48 = subst (λ n. k.0 < n) s.under_way.hands within in
     let t = cleaned w.contexts k.0 c in
     let slots = gone_slots w.contexts.slots c in
@@ -222,16 +177,16 @@ cleaned_owned w k c number at s =
     let none = (count_cleaning k.0 c h.lawful worker busy).1 in
     let held_none : held w.contexts.hands c ≡ 0 = omega (arith, none) in
     let carried_none : total (carried_by c) w.flow.operations ≡ 0 = omega (arith, none) in
-    let workers = put w.workers k place.Idle in
+    let workers = put w.workers k Worker.Idle in
     let place_same : (n : ℕ) → place_in (slice_get workers n) ≡ place_in (slice_get w.workers n) = λ n.
     elim (cases_eq n k.0) [
       | inl e ↦ subst (λ m. place_in (slice_get workers m) ≡ place_in (slice_get w.workers m)) (sym e)
-          (ap place_in (slice_get-set_same w.workers k.0 place.Idle within) ∙ sym (ap place_in at))
-      | inr apart ↦ ap place_in (slice_get-set_other w.workers k.0 n place.Idle apart)
+          (ap place_in (slice_get-set_same w.workers k.0 Worker.Idle within) ∙ sym (ap place_in at))
+      | inr apart ↦ ap place_in (slice_get-set_other w.workers k.0 n Worker.Idle apart)
     ] in
     record {
       lawful = cleaned_keeps k.0 c h.lawful worker busy;
-      cleaning = cleaning_moves w k None place.Idle within (subst (λ n. k.0 < n) (sym h.lawful.cleaners) worker) refl h.cleaning;
+      cleaning = cleaning_moves w k None Worker.Idle within (subst (λ n. k.0 < n) (sym h.lawful.cleaners) worker) refl h.cleaning;
       holders = λ n.
           subst (λ p. All (HoldsIn w.stack slots p) (hand_of w.contexts.hands n.0)) (sym (place_same n.0))
           (all_both (HoldsIn w.stack w.contexts.slots (place_in (worker_at w.workers n))) (λ d. is_id c d ≡ false) (HoldsIn w.stack slots (place_in (worker_at w.workers n)))
@@ -248,30 +203,17 @@ cleaned_owned w k c number at s =
       totals = totals_kept (filter_of w.stack (context_at w.contexts.slots c)) number w.totals h.totals;
     }
 
-cleaned_at : (old : World) (k : WorkerId) (number : ℕ) (result : Result (Unit {0}) Status) (new : World) (m : Option Worker)
-    → worker_at old.workers k ≡ m → CleansAt old k number result new m → IsSound old → IsSound new
-cleaned_at old k number result new (Some (place.Cleanup c)) at h s =
-    let totals = totalled_for (filter_of old.stack (context_at old.contexts.slots c)) number old.totals in
-    subst IsSound (sym h.1)
+pub cleaned_sound : (old : World) (k : WorkerId) (number : ℕ) (result : Result (Unit {0}) Status) (new : World) → Cleans old k number result new → IsSound old → IsSound new
+cleaned_sound old k number result new h s =
+    cleaned_by (λ _ w. IsSound w) old k number result new h (λ why. s) (λ c at e. subst IsSound (sym e.1)
     (record {
-      under_way = whatever_contexts (record old { workers = put old.workers k place.Idle }) (cleaned old.contexts k.0 c) totals
-          (worker_moves old k (place.Cleanup c) place.Idle at (cleanup_in_none c) idle_is_in_none (λ p i. refl) (λ p i. refl) (λ i. refl) (λ i. refl) s.under_way);
+      under_way = whatever_contexts (record old { workers = put old.workers k Worker.Idle }) (cleaned old.contexts k.0 c)
+          (totalled_for (filter_of old.stack (context_at old.contexts.slots c)) number old.totals)
+          (worker_moves old k (Worker.Cleanup c) Worker.Idle at (cleanup_in_none c) idle_is_in_none (λ p i. refl) (λ p i. refl) (λ i. refl) (λ i. refl) s.under_way);
       owned = cleaned_owned old k c number at s;
       filed = s.filed;
       links = passes_changed (names_there old.files) (λ (x : Option Context). None) old.contexts.slots c refl (λ x there named. refl) s.links;
-    })
-cleaned_at old k number result new (Some place.Idle) at h s = subst IsSound (sym h.1) s
-cleaned_at old k number result new (Some (place.EarlyDrain o i)) at h s = subst IsSound (sym h.1) s
-cleaned_at old k number result new (Some (place.Setup i)) at h s = subst IsSound (sym h.1) s
-cleaned_at old k number result new (Some (place.Pre o i)) at h s = subst IsSound (sym h.1) s
-cleaned_at old k number result new (Some (place.Base o)) at h s = subst IsSound (sym h.1) s
-cleaned_at old k number result new (Some (place.Post o i)) at h s = subst IsSound (sym h.1) s
-cleaned_at old k number result new (Some (place.Drain o i)) at h s = subst IsSound (sym h.1) s
-cleaned_at old k number result new None at h s = subst IsSound (sym h.1) s
-
-pub cleaned_sound : (old : World) (k : WorkerId) (number : ℕ) (result : Result (Unit {0}) Status) (new : World) → Cleans old k number result new → IsSound old → IsSound new
-unfolding Cleans
-cleaned_sound old k number result new h s = cleaned_at old k number result new (worker_at old.workers k) refl h s
+    }))
 
 -- ---- the end of an instance
 
@@ -284,34 +226,9 @@ setup_kept change rows i j row there same =
       | inr apart ↦ ap setup_row (updated-other change rows i j apart)
     ]
 
-not_setup : (p : Phase) → is_emptying p ≡ true → is_setup p ≡ false
-not_setup phase.Emptying h = refl
-not_setup phase.Setup h = absurd (false≢true h)
-not_setup phase.Attached h = absurd (false≢true h)
-not_setup phase.Stopping h = absurd (false≢true h)
-not_setup phase.Completing h = absurd (false≢true h)
-not_setup phase.Detached h = absurd (false≢true h)
-
--- nothing is in flight at an instance that is being emptied
-emptying_rests : (row : Instance) → is_emptying row.phase ≡ true → is_flown_by (Some row) ≡ false
-emptying_rests row h = at_phase row.phase h
-  where
-    at_phase : (p : Phase) → is_emptying p ≡ true → is_flown_by (Some (record row { phase = p })) ≡ false
-    at_phase phase.Emptying h = refl
-    at_phase phase.Setup h = absurd (false≢true h)
-    at_phase phase.Attached h = absurd (false≢true h)
-    at_phase phase.Stopping h = absurd (false≢true h)
-    at_phase phase.Completing h = absurd (false≢true h)
-    at_phase phase.Detached h = absurd (false≢true h)
-
-finish_filters : (s : StackWorld) (i : InstanceId) → FiltersStay s (finished s i)
-finish_filters s i j row there =
-    elim (cases_eq j i.0) [
-      | inl e ↦
-          let at : slice_get s.instances i.0 ≡ Some row = subst (λ n. slice_get s.instances n ≡ Some row) e there in
-          (finish_row row, subst (λ n. slice_get (finished s i).instances n ≡ Some (finish_row row)) (sym e) (updated-same finish_row s.instances i.0 row at), refl)
-      | inr apart ↦ (row, updated-other finish_row s.instances i.0 j apart ∙ there, refl)
-    ]
+emptying_is : (p : Phase) → is_emptying p ≡ true → p ≡ Phase.Emptying
+emptying_is Phase.Emptying h = refl
+emptying_is _ h = absurd (false≢true h)
 
 -- who owns no open context
 none_open : (o : Owner) (slots : List Slot) → count_by (λ (x : Slot). is_open o x.context) slots ≡ 0 → All (λ (x : Slot). is_open o x.context ≡ false) slots
@@ -320,7 +237,7 @@ none_open o (x ∷ slots) h =
     let split = count-cons (λ (y : Slot). is_open o y.context) x slots in
     All-cons (λ (x : Slot). is_open o x.context ≡ false) x slots (none_one (is_open o x.context) (omega (arith, split, h))) (none_open o slots (omega (arith, split, h)))
 
-finish_fits : (s : StackWorld) (i : InstanceId) (o : Option Context) → fits s o ≡ true → is_open (owner.Instance i) o ≡ false → fits (finished s i) o ≡ true
+finish_fits : (s : StackWorld) (i : InstanceId) (o : Option Context) → fits s o ≡ true → is_open (Owner.Instance i) o ≡ false → fits (finished s i) o ≡ true
 finish_fits s i None fit closed = refl
 finish_fits s i (Some x) fit closed =
     let t = finished s i in
@@ -328,40 +245,26 @@ finish_fits s i (Some x) fit closed =
     let same : (j : InstanceId) → j.0 ≢ i.0 → row_at t j ≡ row_at s j = λ j apart. updated-other finish_row s.instances i.0 j.0 apart in
     and_from (owner_fits t x.kind x.owner) (link_fits t x x.link)
     (owner_stays s t x.kind x.owner (omega arith) (λ j is left.
-    elim (cases_eq j.0 i.0) [
-      | inl e ↦ absurd (true≢false (sym (ap (λ own. same_owner (owner.Instance i) own) is ∙ eq-eqb i.0 j.0 (sym e)) ∙ closed))
-      | inr apart ↦ ap is_left_by (same j apart) ∙ left
-    ]) parts.0)
-    (link_stays s t x x.link (λ v h. h) (λ linked. at_owner x.owner refl) parts.1)
-  where
-    at_owner : (o : Owner) → x.owner ≡ o → may_link s o ≡ true → may_link (finished s i) o ≡ true
-    at_owner (owner.Filter f) own h = refl
-    at_owner (owner.Instance j) own h =
-        elim (cases_eq j.0 i.0) [
-          | inl e ↦ absurd (true≢false (sym (ap (same_owner (owner.Instance i)) own ∙ eq-eqb i.0 j.0 (sym e)) ∙ closed))
-          | inr apart ↦ ap keeps_links_by (updated-other finish_row s.instances i.0 j.0 apart) ∙ h
-        ]
+    ap is_left_by (same j (λ e. true≢false (sym (ap (λ own. same_owner (Owner.Instance i) own) is ∙ eq-eqb i.0 j.0 (sym e)) ∙ closed))) ∙ left) parts.0)
+    (link_stays s t x x.link (λ v h. h) (λ linked. others_link s t i same x.owner closed) parts.1)
 
 pub finish_sound : (old : World) (i : InstanceId) (result : Result (Unit {0}) Status) (new : World) → Finishes old i result new → IsSound old → IsSound new
 unfolding Finishes
 finish_sound old i (Err why) new h s = subst IsSound (sym h.1) s
 finish_sound old i (Ok done) new h s =
-    let open' = open_of old.contexts.slots (owner.Instance i) in
-    let there = none_of (is_gone_at (row_at old.stack i)) status.NoInstance
-    (first_of ((not (is_emptying_at (row_at old.stack i)), status.WrongStep) ∷ (nat_lt 0 open', status.Busy open') ∷ [])) h.0 in
-    let right = none_of (not (is_emptying_at (row_at old.stack i))) status.WrongStep (first_of ((nat_lt 0 open', status.Busy open') ∷ [])) there.1 in
-    let empty = none_of (nat_lt 0 open') (status.Busy open') None right.1 in
+    let open' = open_of old.contexts.slots (Owner.Instance i) in
+    let there = none_of (is_gone_at (row_at old.stack i)) Status.NoInstance
+    (first_of ((not (is_emptying_at (row_at old.stack i)), Status.WrongStep) ∷ (nat_lt 0 open', Status.Busy open') ∷ [])) h.0 in
+    let right = none_of (not (is_emptying_at (row_at old.stack i))) Status.WrongStep (first_of ((nat_lt 0 open', Status.Busy open') ∷ [])) there.1 in
     let row = emptying_row (row_at old.stack i) (not_false (is_emptying_at (row_at old.stack i)) right.0) in
     let t = finished old.stack i in
     let k = s.owned in
-    let closed : open' ≡ 0 = omega (arith, ltb-false 0 open' empty.0) in
-    let still = belongs_still old.stack old.contexts.slots t old.contexts.slots (finish_filters old.stack i) (owners_same old.contexts.slots old.contexts.slots refl) in
+    let closed : open' ≡ 0 = omega (arith, ltb-false 0 open' (none_of (nat_lt 0 open') (Status.Busy open') None right.1).0) in
+    let still = belongs_still old.stack old.contexts.slots t old.contexts.slots (filters_updated old.stack t finish_row i.0 refl (λ row. refl)) (owners_same old.contexts.slots old.contexts.slots refl) in
     subst IsSound (sym h.1)
     (record {
-      under_way = stack_moves old t old.workers (finished_keeps old.stack i s.under_way.stack row.0 row.1 row.2) (finished_follows old.stack i) s.under_way.hands
-          (λ o spot. refl) (λ o n. refl)
-          (λ j. s.under_way.setups j ∙ sym (setup_kept finish_row old.stack.instances i.0 j row.0 row.1 (sym (not_setup row.0.phase row.2))))
-          s.under_way;
+      under_way = stack_changes old t (finished_keeps old.stack i s.under_way.stack row.0 row.1 row.2) (finished_follows old.stack i)
+          (λ j. sym (setup_kept finish_row old.stack.instances i.0 j row.0 row.1 (sym (ap is_setup (emptying_is row.0.phase row.2))))) s.under_way;
       filed = s.filed;
       links = s.links;
       owned = record {
@@ -369,11 +272,11 @@ finish_sound old i (Ok done) new h s =
         cleaning = k.cleaning;
         holders = all_hold_still old.stack old.contexts.slots t old.contexts.slots old.workers old.contexts.hands still k.holders;
         completions = all_carry_still old.stack old.contexts.slots t old.contexts.slots old.flow.operations still k.completions;
-        fits = all_both (λ (x : Slot). fits old.stack x.context ≡ true) (λ (x : Slot). is_open (owner.Instance i) x.context ≡ false) (λ (x : Slot). fits t x.context ≡ true)
-            old.contexts.slots (λ x fit shut. finish_fits old.stack i x.context fit shut) k.fits (none_open (owner.Instance i) old.contexts.slots closed);
+        fits = all_both (λ (x : Slot). fits old.stack x.context ≡ true) (λ (x : Slot). is_open (Owner.Instance i) x.context ≡ false) (λ (x : Slot). fits t x.context ≡ true)
+            old.contexts.slots (λ x fit shut. finish_fits old.stack i x.context fit shut) k.fits (none_open (Owner.Instance i) old.contexts.slots closed);
         quiet = λ j rests.
             elim (cases_eq j.0 i.0) [
-              | inl e ↦ k.quiet j (ap (λ n. is_flown_by (slice_get old.stack.instances n)) e ∙ ap is_flown_by row.1 ∙ emptying_rests row.0 row.2)
+              | inl e ↦ k.quiet j (ap (λ n. is_flown_by (slice_get old.stack.instances n)) e ∙ ap is_flown_by row.1 ∙ ap is_flown (emptying_is row.0.phase row.2))
               | inr apart ↦ k.quiet j (ap is_flown_by (sym (updated-other finish_row old.stack.instances i.0 j.0 apart)) ∙ rests)
             ];
         totals = k.totals;

@@ -1,14 +1,9 @@
 -- Counts over two lists, compared element by element.
-use Rattle.std.proofs.Common.{◌≡◌, ℕ, zero, suc, ◌+◌, ◌≤◌, Bool, true, false, cond, List, [], ◌∷◌, ◌++◌, Some, refl, ap, ◌∙◌, arith, count_by}
-use Rattle.std.specs.Prelude.{slice_get}
-use Rattle.std.proofs.lemmas.List.Sums.{sum_by-cons, sum_by_push}
-use Rattle.std.proofs.lemmas.Option.{same_Some, none-some}
+use Rattle.std.proofs.Common.{◌≡◌, ℕ, zero, suc, ◌+◌, ◌≤◌, Bool, true, false, cond, List, [], ◌∷◌, Some, refl, ap, ◌∙◌, arith, count_by}
+use Rattle.fm_world.proofs.Words.{slice_get, sum_by-cons, same_Some, none-some}
 
 pub count-cons : {X : Type 0} (p : X → Bool) (x : X) (xs : List X) → count_by p (x ∷ xs) ≡ cond (p x) 1 0 + count_by p xs
 count-cons p x xs = sum_by-cons (λ x. cond (p x) 1 0) x xs
-
-pub count-push : {X : Type 0} (p : X → Bool) (xs : List X) (x : X) → count_by p (xs ++ x ∷ []) ≡ count_by p xs + cond (p x) 1 0
-count-push p xs x = sum_by_push (λ x. cond (p x) 1 0) xs x
 
 if_true : (b : Bool) → b ≡ true → ◌≡◌ {A = ℕ} (cond b 1 0) 1
 if_true b h = rw h refl
@@ -48,10 +43,8 @@ pub count-lt : {X : Type 0} (p q : X → Bool) (xs : List X) (i : ℕ) (x : X) �
 count-lt p q [] i x h t f k = cc
 count-lt p q (y ∷ ys) zero x h t f k =
     let same : y ≡ x = same_Some y x h in
-    let one = if_true (p y) (ap p same ∙ t) in
-    let none = if_false (q y) (ap q same ∙ f) in
     let rest : count_by q ys ≤ count_by p ys = count-le p q ys ys (λ j z a b. (z, a, k z b)) in
-    omega (arith, one, none, rest, count-cons p y ys, count-cons q y ys)
+    omega (arith, if_true (p y) (ap p same ∙ t), if_false (q y) (ap q same ∙ f), rest, count-cons p y ys, count-cons q y ys)
 count-lt p q (y ∷ ys) (suc i) x h t f k =
     let rest : count_by q ys + 1 ≤ count_by p ys = count-lt p q ys i x h t f k in
     let here : cond (q y) 1 0 ≤ cond (p y) 1 0 = one-le (q y) (p y) (k y) in

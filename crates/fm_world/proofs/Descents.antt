@@ -1,21 +1,10 @@
 -- A visit of the next instance, the call of the base, and every event of the stack keep an operation's descent.
 use Rattle.std.proofs.Common.{◌≡◌, ℕ, zero, suc, ◌+◌, ◌≤◌, ◌<◌, Bool, true, false, not, ◌&&◌, ◌||◌, ◌==◌, List, [], ◌∷◌, ◌++◌, reverse, Option, Some, None, length, get_or, refl, ap, sym, ◌∙◌, subst, arith, count_by, length-append, inl, inr}
-use Rattle.std.specs.Prelude.{slice_get, option_map, AllPairs, nat_lt}
-use Rattle.std.proofs.lemmas.Option.{slice_get_within, slice_get-get_or, get_or_from_slice_get}
-use Rattle.std.proofs.lemmas.List.{reverse-append}
-use Rattle.std.proofs.lemmas.List.Quantifiers.{all_pairs_push}
-use Rattle.std.proofs.lemmas.Bool.{cases_order, and_parts, and_from, and_right, eqb-true, eq-eqb, ne_eqb, false≢true}
-use Rattle.fm_types.specs.declared.ids.VolumeId.{VolumeId}
-use Rattle.fm_types.specs.declared.operation.Operation.{Operation}
-use Rattle.fm_stack.specs.declared.instance.Instance.{Instance}
-use Rattle.fm_stack.specs.declared.instance.Phase.{Phase}
-use Rattle.fm_stack.specs.declared.instance.Phase.TheVariants as phase
-use Rattle.fm_stack.specs.StackWorld.{StackWorld}
-use Rattle.fm_stack.specs.Instances.{is_lower, is_lower_at, is_lower_option, altitude_at, clashes, same_altitude, same_name, is_live_on, is_attached, is_detached}
-use Rattle.fm_stack.specs.Next.{is_to_visit, is_below_cursor, is_candidate, is_registered, IsHighest, NonePasses}
-use Rattle.fm_stack.specs.Follows.{Follows}
-use Rattle.fm_stack.specs.Stacks.{IsStack}
-use Rattle.fm_world.specs.Descent.{IsDescent, HasRoom, last_of, is_among}
+use Rattle.fm_world.proofs.Words.{slice_get, option_map, AllPairs, nat_lt, slice_get_within, slice_get-get_or, get_or_from_slice_get, reverse-append}
+use Rattle.fm_world.proofs.Words.{all_pairs_push, cases_order, and_parts, and_from, and_right, eqb-true, eq-eqb, ne_eqb, false≢true, or_parts, VolumeId}
+use Rattle.fm_world.proofs.Words.{Operation, Instance, Phase, StackWorld, is_lower, is_lower_at, is_lower_option, altitude_at, clashes, same_altitude}
+use Rattle.fm_world.proofs.Words.{same_name, is_live_on, is_attached, is_detached, is_to_visit, is_below_cursor, is_candidate, is_registered, IsHighest}
+use Rattle.fm_world.proofs.Words.{NonePasses, Follows, IsStack, IsDescent, HasRoom, last_of, is_among}
 use Rattle.fm_world.proofs.Counts.{count-some, count-le, count-lt}
 use Rattle.fm_world.proofs.Altitudes.{lower_irrefl, lower_or, same_sym, option_trans, option_irrefl, option_follows}
 
@@ -36,23 +25,20 @@ last_of-cons i j is =
 below_all : (s : StackWorld) (a : Option (List ℕ)) (is : List ℕ) → AllPairs (λ i j. is_lower_at s j i ≡ true) is
     → ((l : ℕ) → last_of is ≡ Some l → is_lower_option a (altitude_at s l) ≡ true)
     → (k : ℕ) (d : ℕ) → k < length is → is_lower_option a (altitude_at s (get_or is k d)) ≡ true
-below_all s a [] falls low k d h = absurd (omega arith)
 below_all s a (i ∷ []) falls low zero d h = low i refl
-below_all s a (i ∷ []) falls low (suc k) d h = absurd (omega arith)
 below_all s a (i ∷ j ∷ is) falls low (suc k) d h =
     below_all s a (j ∷ is) (λ m n e p q. falls (suc m) (suc n) e (omega arith) (omega arith)) (λ l e. low l (last_of-cons i j is ∙ e)) k d (omega arith)
 below_all s a (i ∷ j ∷ is) falls low zero d h =
     option_trans a (altitude_at s j) (altitude_at s i)
     (below_all s a (j ∷ is) (λ m n e p q. falls (suc m) (suc n) e (omega arith) (omega arith)) (λ l e. low l (last_of-cons i j is ∙ e)) 0 d (omega arith))
     (falls 0 1 d (omega arith) (omega arith))
+below_all s a _ falls low _ d h = absurd (omega arith)
 
 pub or_left : (a b : Bool) → (a || b) ≡ false → a ≡ false
-or_left false b h = refl
-or_left true b h = h
+or_left a b h = (or_parts a b h).0
 
 pub or_right : (a b : Bool) → (a || b) ≡ false → b ≡ false
-or_right false b h = h
-or_right true b h = cc
+or_right a b h = (or_parts a b h).1
 
 -- a candidate is below the last visit
 below_last : (s : StackWorld) (cursor : Option ℕ) (row : Instance) → is_below_cursor s cursor row ≡ true
@@ -63,7 +49,7 @@ altitude_there : (s : StackWorld) (i : ℕ) (row : Instance) → slice_get s.ins
 altitude_there s i row h = ap (option_map (λ (r : Instance). r.altitude)) h
 
 attached_stays : (p : Phase) → is_attached p ≡ true → not (is_detached p) ≡ true
-attached_stays phase.Detached h = cc
+attached_stays Phase.Detached h = cc
 attached_stays _ h = refl
 
 -- what an operation is to visit
@@ -183,14 +169,11 @@ descent_reaches s v born operation visited d none = record {
 }
 
 altitude_stays : (s t : StackWorld) → Follows s t → (i : ℕ) (x : List ℕ) → altitude_at s i ≡ Some x → altitude_at t i ≡ Some x
-altitude_stays s t f i x h = altitude_stays_at s t f i x (slice_get s.instances i) refl h
+altitude_stays s t f i x h = by_row (slice_get s.instances i) refl h
   where
-    altitude_stays_at : (s t : StackWorld) → Follows s t → (i : ℕ) (x : List ℕ) (r : Option Instance) → slice_get s.instances i ≡ r
-        → option_map (λ (row : Instance). row.altitude) r ≡ Some x → altitude_at t i ≡ Some x
-    altitude_stays_at s t f i x None e h = cc
-    altitude_stays_at s t f i x (Some row) e h =
-        let after = f.altitudes i row e in
-        altitude_there t i after.0 after.1 ∙ ap Some after.2 ∙ h
+    by_row : (r : Option Instance) → slice_get s.instances i ≡ r → option_map (λ (row : Instance). row.altitude) r ≡ Some x → altitude_at t i ≡ Some x
+    by_row None e h = cc
+    by_row (Some row) e h = let after = f.altitudes i row e in altitude_there t i after.0 after.1 ∙ ap Some after.2 ∙ h
 
 lower_stays : (s t : StackWorld) → Follows s t → (i j : ℕ) → is_lower_at s i j ≡ true → is_lower_at t i j ≡ true
 lower_stays s t f i j h =
@@ -210,10 +193,9 @@ below_was s t f (Some l) a b e there h =
     let row = get_or s.instances l a in
     let at : slice_get s.instances l ≡ Some row = slice_get-get_or s.instances l a (there l refl) in
     let was = altitude_there s l row at in
-    let is = altitude_stays s t f l row.altitude was in
     subst (λ x. is_lower_option (Some a.altitude) x ≡ true) (sym was)
     (subst (λ x. is_lower_option (Some x) (Some row.altitude) ≡ true) e
-    (subst (λ x. is_lower_option (Some b.altitude) x ≡ true) is h))
+    (subst (λ x. is_lower_option (Some b.altitude) x ≡ true) (altitude_stays s t f l row.altitude was) h))
 
 -- every event of the stack keeps every descent
 pub descent_follows : (s t : StackWorld) (v : VolumeId) (born : ℕ) (operation : Operation) (visited : List ℕ) (reached : Bool)
@@ -258,14 +240,13 @@ pub room_visits : (s : StackWorld) (v : VolumeId) (born : ℕ) (operation : Oper
     → HasRoom s v born operation visited → IsHighest (is_candidate s v (last_of visited) born operation) s.instances i
     → HasRoom s v born operation (visited ++ i ∷ [])
 room_visits s v born operation visited i r next =
-    let p = is_candidate s v (last_of visited) born operation in
     let q = is_candidate s v (Some i) born operation in
     let there = altitude_there s i next.row next.there in
     let itself : q next.row ≡ false =
     and_right (is_to_visit s v born operation next.row) (is_below_cursor s (Some i) next.row)
     (subst (λ x. is_lower_option (Some next.row.altitude) x ≡ false) (sym there) (lower_irrefl next.row.altitude)) in
     let passed = and_parts (is_to_visit s v born operation next.row) (is_below_cursor s (last_of visited) next.row) next.passes in
-    let fewer = count-lt p q s.instances i next.row next.there next.passes itself
+    let fewer = count-lt (is_candidate s v (last_of visited) born operation) q s.instances i next.row next.there next.passes itself
     (λ row k.
     let parts = and_parts (is_to_visit s v born operation row) (is_below_cursor s (Some i) row) k in
     and_from (is_to_visit s v born operation row) (is_below_cursor s (last_of visited) row) parts.0

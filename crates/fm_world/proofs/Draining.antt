@@ -1,23 +1,8 @@
 -- Workers and drains stay tied: each drain that runs has one worker.
-use Rattle.std.proofs.Common.{◌≡◌, ℕ, ◌+◌, ◌≤◌, ◌==◌, Bool, true, false, cond, List, Option, Some, None, Result, Ok, Err, refl, ap, sym, ◌∙◌, arith, count_by}
-use Rattle.std.specs.Prelude.{option_map, unwrap_or}
-use Rattle.fm_types.specs.declared.ids.OpId.{OpId}
-use Rattle.fm_types.specs.declared.ids.WorkerId.{WorkerId}
-use Rattle.fm_types.specs.declared.ids.InstanceId.{InstanceId}
-use Rattle.fm_types.specs.declared.status.Status.{Status}
-use Rattle.fm_flow.specs.declared.action.Below.{Below}
-use Rattle.fm_flow.specs.declared.action.FlowAction.{FlowAction}
-use Rattle.fm_flow.specs.declared.action.FlowAction.TheVariants as action
-use Rattle.fm_flow.specs.Counts.{drain_opens}
-use Rattle.fm_flow.specs.Record.{FlowRecord}
-use Rattle.fm_flow.specs.Steps.{next_of}
-use Rattle.fm_flow.specs.Table.{FlowTable, operation_at, changed}
-use Rattle.fm_flow.proofs.Counting.{same_either, one_of_and}
-use Rattle.fm_flow.proofs.Drains.{drains_given, next_drains}
-use Rattle.fm_world.specs.declared.worker.Worker.{Worker}
-use Rattle.fm_world.specs.declared.worker.Worker.TheVariants as place
-use Rattle.fm_world.specs.Workers.{worker_at, put, after_next}
-use Rattle.fm_world.specs.Headline.{is_in_drain, drains_running}
+use Rattle.std.proofs.Common.{◌≡◌, ℕ, ◌+◌, ◌≤◌, ◌==◌, Bool, true, false, cond, List, Option, Some, None, Result, Ok, refl, ap, sym, ◌∙◌, arith, count_by}
+use Rattle.fm_world.proofs.Words.{option_map, unwrap_or, OpId, WorkerId, InstanceId, Status, Below, FlowAction, drain_opens, FlowRecord, next_of, FlowTable}
+use Rattle.fm_world.proofs.Words.{operation_at, changed, same_either, one_of_and, drains_given, next_drains, Worker, worker_at, put, after_next, is_in_drain}
+use Rattle.fm_world.proofs.Words.{drains_running}
 use Rattle.fm_world.proofs.Counts.{count-some}
 use Rattle.fm_world.proofs.Ties.{one, count_moves, told_changed}
 
@@ -31,7 +16,7 @@ InDrains o a n = (p : OpId) (i : ℕ) → one (is_in_drain p i a) ≡ cond (o.0 
 pub in_no_drain : (o : OpId) (a : Worker) → ((p : OpId) (i : ℕ) → is_in_drain p i a ≡ false) → InDrains o a (λ i. 0)
 in_no_drain o a h p i = ap one (h p i) ∙ sym (same_either (o.0 == p.0) 0)
 
-pub in_a_drain : (o : OpId) (j : InstanceId) → InDrains o (place.Drain o j) (λ i. one (j.0 == i))
+pub in_a_drain : (o : OpId) (j : InstanceId) → InDrains o (Worker.Drain o j) (λ i. one (j.0 == i))
 in_a_drain o j p i = one_of_and (o.0 == p.0) (j.0 == i)
 
 -- counts after a change of one worker and of one operation
@@ -57,18 +42,8 @@ drained_stays workers t o r f ho same even tied p i =
     let alike : cond (o.0 == p.0) (drain_opens i (f r).entries) 0 ≡ cond (o.0 == p.0) (drain_opens i r.entries) 0 = ap (λ n. cond (o.0 == p.0) n 0) (even i) in
     omega (arith, told, alike, tied p i)
 
--- a worker moves between places outside drains
-pub moves_undrained : (workers : List Worker) (k : WorkerId) (a b : Worker) → worker_at workers k ≡ Some a
-    → ((p : OpId) (i : ℕ) → is_in_drain p i a ≡ false) → ((p : OpId) (i : ℕ) → is_in_drain p i b ≡ false)
-    → (p : OpId) (i : ℕ) → count_by (is_in_drain p i) (put workers k b) ≡ count_by (is_in_drain p i) workers
-moves_undrained workers k a b h na nb p i =
-    let moves = count_moves (is_in_drain p i) workers k a b h in
-    let from : one (is_in_drain p i a) ≡ 0 = ap one (na p i) in
-    let to : one (is_in_drain p i b) ≡ 0 = ap one (nb p i) in
-    omega (arith, moves, from, to)
-
 -- a worker that `next` gives a drain is in it
-pub next_drained : (workers : List Worker) (t : FlowTable) (k : WorkerId) (o : OpId) (lies : Below) (stops : Bool) (r : FlowRecord) → worker_at workers k ≡ Some place.Idle
+pub next_drained : (workers : List Worker) (t : FlowTable) (k : WorkerId) (o : OpId) (lies : Below) (stops : Bool) (r : FlowRecord) → worker_at workers k ≡ Some Worker.Idle
     → operation_at o t ≡ Some r → ((x : FlowRecord) → (next_of k lies stops x).after.number.0 ≡ x.number.0) → AreDrained workers t
     → AreDrained (after_next workers k o (next_of k lies stops r).reply) (changed o (λ (x : FlowRecord). (next_of k lies stops x).after) t)
 next_drained workers t k o lies stops r idle at same tied = by_reply (next_of k lies stops r).reply (λ i. next_drains i k lies stops r)
@@ -77,28 +52,24 @@ next_drained workers t k o lies stops r idle at same tied = by_reply (next_of k 
     f x = (next_of k lies stops x).after
 
     more : (b : Worker) (m : ℕ → ℕ) → InDrains o b m → ((i : ℕ) → drain_opens i (f r).entries ≡ drain_opens i r.entries + m i) → AreDrained (put workers k b) (changed o f t)
-    more b m to even = drained_moves workers t k place.Idle b o r f (λ i. 0) m idle at same (in_no_drain o place.Idle (λ p i. refl)) to (λ i. omega (arith, even i)) tied
+    more b m to even = drained_moves workers t k Worker.Idle b o r f (λ i. 0) m idle at same (in_no_drain o Worker.Idle (λ p i. refl)) to (λ i. omega (arith, even i)) tied
 
     none : ((i : ℕ) → drain_opens i (f r).entries ≡ drain_opens i r.entries + 0) → AreDrained workers (changed o f t)
     none even = drained_stays workers t o r f at same (λ i. omega (arith, even i)) tied
 
     by_reply : (reply : Result FlowAction Status) → ((i : ℕ) → drain_opens i (f r).entries ≡ drain_opens i r.entries + drains_given i reply)
         → AreDrained (after_next workers k o reply) (changed o f t)
-    by_reply (Ok (action.Pre i lent)) even = more (place.Pre o i) (λ n. 0) (in_no_drain o (place.Pre o i) (λ p n. refl)) even
-    by_reply (Ok (action.Base call)) even = more (place.Base o) (λ n. 0) (in_no_drain o (place.Base o) (λ p n. refl)) even
-    by_reply (Ok (action.Post i lent completion)) even = more (place.Post o i) (λ n. 0) (in_no_drain o (place.Post o i) (λ p n. refl)) even
-    by_reply (Ok (action.Drain i completion)) even = more (place.Drain o i) (λ n. one (i.0 == n)) (in_a_drain o i) even
-    by_reply (Ok action.Moved) even = none even
-    by_reply (Ok action.Held) even = none even
-    by_reply (Ok action.Done) even = none even
-    by_reply (Err status) even = none even
+    by_reply (Ok (FlowAction.Pre i lent)) even = more (Worker.Pre o i) (λ n. 0) (in_no_drain o (Worker.Pre o i) (λ p n. refl)) even
+    by_reply (Ok (FlowAction.Base call)) even = more (Worker.Base o) (λ n. 0) (in_no_drain o (Worker.Base o) (λ p n. refl)) even
+    by_reply (Ok (FlowAction.Post i lent completion)) even = more (Worker.Post o i) (λ n. 0) (in_no_drain o (Worker.Post o i) (λ p n. refl)) even
+    by_reply (Ok (FlowAction.Drain i completion)) even = more (Worker.Drain o i) (λ n. one (i.0 == n)) (in_a_drain o i) even
+    by_reply _ even = none even
 
 -- where a worker is in a drain, it runs
 pub drained_there : (workers : List Worker) (t : FlowTable) (k : WorkerId) (a : Worker) (o : OpId) (i : ℕ) → AreDrained workers t
     → worker_at workers k ≡ Some a → is_in_drain o i a ≡ true → (r : FlowRecord) × (operation_at o t ≡ Some r) × (1 ≤ drain_opens i r.entries)
 drained_there workers t k a o i tied h inside =
-    let some = count-some (is_in_drain o i) workers k.0 a h inside in
-    at_operation (operation_at o t) refl (omega (arith, some, tied o i))
+    at_operation (operation_at o t) refl (omega (arith, count-some (is_in_drain o i) workers k.0 a h inside, tied o i))
   where
     at_operation : (m : Option FlowRecord) → operation_at o t ≡ m → 1 ≤ unwrap_or (option_map (λ (x : FlowRecord). drain_opens i x.entries) m) 0
         → (r : FlowRecord) × (operation_at o t ≡ Some r) × (1 ≤ drain_opens i r.entries)

@@ -1,36 +1,12 @@
 -- Of an instance whose contexts were unlinked nothing is linked, held or carried.
 use Rattle.std.proofs.Common.{◌≡◌, ℕ, suc, ◌==◌, Bool, true, false, cond, List, [], ◌∷◌, Option, Some, None, is_some, option_map, slice_get, refl, ap, sym, ◌∙◌, subst, inl, inr, arith}
-use Rattle.std.specs.Prelude.{All}
+use Rattle.fm_world.proofs.Words.{All, false≢true, true≢false, cases_Bool, and_parts, eqb-true, eq-eqb, none-some, same_Some, All-head, All-tail, sum_by-cons}
+use Rattle.fm_world.proofs.Words.{ContextKind, CtxId, InstanceId, WorkerId, all_at, Instance, Phase, StackWorld, Object, Owner, one, is_id, references, holds}
+use Rattle.fm_world.proofs.Words.{hand_of, held, same_owner, Context, Slot, context_at, context_in, owner_at, link_count, is_id-same, none_if_not_held, Ask}
+use Rattle.fm_world.proofs.Words.{carried_in, carried_among, carried_by, flight, times, instances, owed, FlowRecord, total, World, reference_count, worker_at}
+use Rattle.fm_world.proofs.Words.{row_at, place_in, owner_by, belongs, belongs_by, fits, owner_fits, link_fits, may_link, suits, keeps_links, keeps_links_by}
+use Rattle.fm_world.proofs.Words.{is_flown, is_flown_by, HoldsIn, CarriesIn, AskCarries, IsSound}
 use Rattle.std.specs.Option.{option_and_then}
-use Rattle.std.proofs.lemmas.Bool.{false≢true, true≢false, cases_Bool, and_parts, eqb-true, eq-eqb}
-use Rattle.std.proofs.lemmas.Option.{none-some, same_Some}
-use Rattle.std.proofs.lemmas.List.Elements.{All-head, All-tail}
-use Rattle.std.proofs.lemmas.List.Sums.{sum_by-cons}
-use Rattle.fm_types.specs.declared.context_kind.ContextKind.{ContextKind}
-use Rattle.fm_types.specs.declared.context_kind.ContextKind.TheVariants as kind
-use Rattle.fm_types.specs.declared.ids.CtxId.{CtxId}
-use Rattle.fm_types.specs.declared.ids.InstanceId.{InstanceId}
-use Rattle.fm_types.specs.declared.ids.WorkerId.{WorkerId}
-use Rattle.fm_types.proofs.Lists.{all_at}
-use Rattle.fm_stack.specs.declared.instance.Instance.{Instance}
-use Rattle.fm_stack.specs.declared.instance.Phase.{Phase}
-use Rattle.fm_stack.specs.declared.instance.Phase.TheVariants as phase
-use Rattle.fm_stack.specs.StackWorld.{StackWorld}
-use Rattle.fm_flow.specs.declared.entry.Ask.{Ask}
-use Rattle.fm_flow.specs.Counts.{carried_in, carried_among, carried_by, flight}
-use Rattle.fm_flow.specs.Entries.{times, instances, owed}
-use Rattle.fm_flow.specs.Record.{FlowRecord}
-use Rattle.fm_flow.specs.Table.{total}
-use Rattle.fm_ctx.specs.declared.object.Object.{Object}
-use Rattle.fm_ctx.specs.declared.owner.Owner.TheVariants as owner
-use Rattle.fm_ctx.specs.Bags.{one, is_id, references, holds, hand_of, held}
-use Rattle.fm_ctx.specs.Objects.{same_owner}
-use Rattle.fm_ctx.specs.Table.{Context, Slot, context_at, context_in, owner_at, link_count}
-use Rattle.fm_ctx.proofs.Bags.{is_id-same, none_if_not_held}
-use Rattle.fm_world.specs.World.{World, reference_count}
-use Rattle.fm_world.specs.Workers.{worker_at}
-use Rattle.fm_world.specs.Owners.{row_at, place_in, owner_by, belongs, belongs_by, fits, owner_fits, link_fits, may_link, suits, keeps_links, keeps_links_by, is_flown, is_flown_by, HoldsIn, CarriesIn, AskCarries}
-use Rattle.fm_world.specs.Sound.{IsSound}
 use Rattle.fm_world.proofs.Belonging.{held_has, AllCarry}
 use Rattle.fm_world.proofs.Cleanups.{none_one}
 use Rattle.fm_world.proofs.Fitting.{AllPass}
@@ -39,17 +15,15 @@ use Rattle.fm_world.proofs.Flights.{callback_left}
 -- ---- whose it is
 
 -- what the callbacks of an instance may hold belongs to it, or to its filter
-same_instance : (m : Option Instance) (i j : InstanceId) (x : Context) → x.owner ≡ owner.Instance i → belongs_by m j (Some x) ≡ true → j.0 ≡ i.0
+same_instance : (m : Option Instance) (i j : InstanceId) (x : Context) → x.owner ≡ Owner.Instance i → belongs_by m j (Some x) ≡ true → j.0 ≡ i.0
 same_instance None i j x own h = absurd (false≢true h)
 same_instance (Some row) i j x own h = by_kind x.kind (sym (ap (same_owner (owner_by row j x.kind)) own) ∙ h)
   where
-    by_kind : (a : ContextKind) → same_owner (owner_by row j a) (owner.Instance i) ≡ true → j.0 ≡ i.0
-    by_kind kind.Volume h = absurd (false≢true h)
-    by_kind kind.Instance h = eqb-true j.0 i.0 h
-    by_kind kind.Stream h = eqb-true j.0 i.0 h
-    by_kind kind.Handle h = eqb-true j.0 i.0 h
+    by_kind : (a : ContextKind) → same_owner (owner_by row j a) (Owner.Instance i) ≡ true → j.0 ≡ i.0
+    by_kind ContextKind.Volume h = absurd (false≢true h)
+    by_kind _ h = eqb-true j.0 i.0 h
 
-callback_of_owner : (s : StackWorld) (slots : List Slot) (c : CtxId) (i j : InstanceId) (x : Context) → context_at slots c ≡ Some x → x.owner ≡ owner.Instance i
+callback_of_owner : (s : StackWorld) (slots : List Slot) (c : CtxId) (i j : InstanceId) (x : Context) → context_at slots c ≡ Some x → x.owner ≡ Owner.Instance i
     → belongs s slots j c ≡ true → j.0 ≡ i.0
 callback_of_owner s slots c i j x there own h = same_instance (row_at s j) i j x own (sym (ap (belongs_by (row_at s j) j) there) ∙ h)
 
@@ -71,7 +45,7 @@ unlinked : (s : StackWorld) (x : Context) (l : Option Object) → may_link s x.o
 unlinked s x None gone fit = refl
 unlinked s x (Some o) gone fit = absurd (true≢false (sym (and_parts (may_link s x.owner) (suits s x o) fit).0 ∙ gone))
 
-not_linked : (s : StackWorld) (slots : List Slot) (c : CtxId) (i : InstanceId) (x : Context) → keeps_links_by (row_at s i) ≡ false → context_at slots c ≡ Some x → x.owner ≡ owner.Instance i
+not_linked : (s : StackWorld) (slots : List Slot) (c : CtxId) (i : InstanceId) (x : Context) → keeps_links_by (row_at s i) ≡ false → context_at slots c ≡ Some x → x.owner ≡ Owner.Instance i
     → AllPass (fits s) slots → link_count (context_at slots c) ≡ 0
 not_linked s slots c i x gone there own all =
     let fit = passes_at (fits s) slots c x there all in
@@ -86,7 +60,7 @@ held_none (hand ∷ hands) c none = omega (arith, sum_by-cons (λ (h : List CtxI
 
 -- a worker in a callback of the instance would be in one whose links are kept
 not_held : (w : World) (i : InstanceId) (c : CtxId) (x : Context) (k : WorkerId) → IsSound w → keeps_links_by (row_at w.stack i) ≡ false
-    → context_at w.contexts.slots c ≡ Some x → x.owner ≡ owner.Instance i → HoldsIn w.stack w.contexts.slots (place_in (worker_at w.workers k)) c → ⊥
+    → context_at w.contexts.slots c ≡ Some x → x.owner ≡ Owner.Instance i → HoldsIn w.stack w.contexts.slots (place_in (worker_at w.workers k)) c → ⊥
 not_held w i c x k s gone there own h = by_place (place_in (worker_at w.workers k)) refl h
   where
     by_row : (j : InstanceId) (m : Option Instance) → place_in (worker_at w.workers k) ≡ Some j → row_at w.stack j ≡ m → belongs_by m j (context_at w.contexts.slots c) ≡ true → j.0 ≡ i.0 → ⊥
@@ -99,7 +73,7 @@ not_held w i c x k s gone there own h = by_place (place_in (worker_at w.workers 
     by_place (Some j) at h = by_row j (row_at w.stack j) at refl h (callback_of_owner w.stack w.contexts.slots c i j x there own h)
 
 none_held : (w : World) (i : InstanceId) (c : CtxId) (x : Context) → IsSound w → keeps_links_by (row_at w.stack i) ≡ false → context_at w.contexts.slots c ≡ Some x
-    → x.owner ≡ owner.Instance i → held w.contexts.hands c ≡ 0
+    → x.owner ≡ Owner.Instance i → held w.contexts.hands c ≡ 0
 none_held w i c x s gone there own = held_none w.contexts.hands c (λ n. in_hand (record { 0 = n }))
   where
     in_hand : (k : WorkerId) → references (hand_of w.contexts.hands k.0) c ≡ 0
@@ -111,7 +85,7 @@ none_held w i c x s gone there own = held_none w.contexts.hands c (λ n. in_hand
 
 -- ---- carried
 
-uncarried : (s : StackWorld) (slots : List Slot) (c : CtxId) (i : InstanceId) (x : Context) (asks : List Ask) → context_at slots c ≡ Some x → x.owner ≡ owner.Instance i
+uncarried : (s : StackWorld) (slots : List Slot) (c : CtxId) (i : InstanceId) (x : Context) (asks : List Ask) → context_at slots c ≡ Some x → x.owner ≡ Owner.Instance i
     → times i.0 (instances asks) ≡ 0 → All (AskCarries s slots) asks → carried_among c asks ≡ 0
 uncarried s slots c i x [] there own none all = refl
 uncarried s slots c i x (ask ∷ asks) there own none all =
@@ -129,7 +103,7 @@ uncarried s slots c i x (ask ∷ asks) there own none all =
           | inr e ↦ ap one e
         ]
 
-none_carried : (s : StackWorld) (slots : List Slot) (c : CtxId) (i : InstanceId) (x : Context) (rs : List FlowRecord) → context_at slots c ≡ Some x → x.owner ≡ owner.Instance i
+none_carried : (s : StackWorld) (slots : List Slot) (c : CtxId) (i : InstanceId) (x : Context) (rs : List FlowRecord) → context_at slots c ≡ Some x → x.owner ≡ Owner.Instance i
     → total (flight i.0) rs ≡ 0 → AllCarry s slots rs → total (carried_by c) rs ≡ 0
 none_carried s slots c i x [] there own none all = refl
 none_carried s slots c i x (r ∷ rs) there own none all =
@@ -138,26 +112,24 @@ none_carried s slots c i x (r ∷ rs) there own none all =
 
 -- ---- all three
 
+-- a test that phases in flight pass
+pub flown_passes : (test : Phase → Bool) → test Phase.Attached ≡ true → test Phase.Stopping ≡ true → (p : Phase) → test p ≡ false → is_flown p ≡ false
+flown_passes test attached stopping Phase.Attached h = absurd (true≢false (sym attached ∙ h))
+flown_passes test attached stopping Phase.Stopping h = absurd (true≢false (sym stopping ∙ h))
+flown_passes test attached stopping _ h = refl
+
 unlinked_rests : (m : Option Instance) → keeps_links_by m ≡ false → is_flown_by m ≡ false
 unlinked_rests None h = refl
-unlinked_rests (Some row) h = at_phase row.phase h
-  where
-    at_phase : (p : Phase) → keeps_links p ≡ false → is_flown p ≡ false
-    at_phase phase.Emptying h = refl
-    at_phase phase.Detached h = refl
-    at_phase phase.Setup h = refl
-    at_phase phase.Completing h = refl
-    at_phase phase.Attached h = absurd (true≢false h)
-    at_phase phase.Stopping h = absurd (true≢false h)
+unlinked_rests (Some row) h = flown_passes keeps_links refl refl row.phase h
 
 pub emptied_counts : (w : World) (i : InstanceId) (c : CtxId) → IsSound w → keeps_links_by (row_at w.stack i) ≡ false
-    → owner_at w.contexts.slots c ≡ Some (owner.Instance i) → reference_count w c ≡ 0
+    → owner_at w.contexts.slots c ≡ Some (Owner.Instance i) → reference_count w c ≡ 0
 emptied_counts w i c s gone owned = at_context (context_at w.contexts.slots c) refl owned
   where
-    at_context : (o : Option Context) → context_at w.contexts.slots c ≡ o → option_map (λ (x : Context). x.owner) o ≡ Some (owner.Instance i) → reference_count w c ≡ 0
-    at_context None there own = absurd (none-some (owner.Instance i) own)
+    at_context : (o : Option Context) → context_at w.contexts.slots c ≡ o → option_map (λ (x : Context). x.owner) o ≡ Some (Owner.Instance i) → reference_count w c ≡ 0
+    at_context None there own = absurd (none-some (Owner.Instance i) own)
     at_context (Some x) there own =
-        let mine = same_Some x.owner (owner.Instance i) own in
+        let mine = same_Some x.owner (Owner.Instance i) own in
         let quiet = s.owned.quiet i (unlinked_rests (row_at w.stack i) gone) in
         omega (
           arith,

@@ -1,52 +1,20 @@
 -- What holds of streams and handles is kept by every step of an operation.
-use Rattle.std.proofs.Common.{◌≡◌, ℕ, ◌+◌, ◌<◌, ◌==◌, Bool, true, false, cond, not, List, [], ◌∷◌, ◌++◌, find, Option, Some, None, Ok, Err, refl, ap, sym, ◌∙◌, subst, inl, inr, ◌⊎◌, arith, slice_get}
-use Rattle.std.specs.Prelude.{◌&&◌, All, nat_le, length}
-use Rattle.std.specs.List.{list_any}
-use Rattle.std.proofs.lemmas.Bool.{cases_Bool, false≢true, eq-eqb, ne_eqb, and_from, and_parts}
-use Rattle.std.proofs.lemmas.List.Elements.{All-nil, All-push, All-weaker}
-use Rattle.std.proofs.lemmas.Option.{same_Some}
-use Rattle.fm_types.specs.Lists.{change_first, without_first}
-use Rattle.fm_types.proofs.Firsts.{found_holds, all_change, all_without}
-use Rattle.fm_types.specs.declared.ids.HandleId.{HandleId}
-use Rattle.fm_types.specs.declared.ids.OpId.{OpId}
-use Rattle.fm_types.specs.declared.ids.StreamId.{StreamId}
-use Rattle.fm_types.specs.declared.ids.VolumeId.{VolumeId}
-use Rattle.fm_types.specs.declared.ids.WorkerId.{WorkerId}
-use Rattle.fm_types.specs.declared.operation.Operation.{Operation}
-use Rattle.fm_types.specs.declared.operation.Operation.TheVariants as kind
-use Rattle.fm_types.specs.declared.status.Status.{Status}
-use Rattle.fm_types.specs.declared.status.Status.TheVariants as status
-use Rattle.fm_data.specs.declared.answer.Answer.{Answer}
-use Rattle.fm_data.specs.declared.base_call.BaseCall.{BaseCall}
-use Rattle.fm_data.specs.declared.params.Params.{Params}
-use Rattle.fm_data.specs.declared.params.Params.TheVariants as params
-use Rattle.fm_data.specs.Data.{Data}
-use Rattle.fm_data.specs.Params.{operation_of, same_operation, same_path, are_on, are_for, fit, call_fits, is_within_limits}
-use Rattle.fm_flow.specs.declared.action.Below.{Below}
-use Rattle.fm_flow.specs.declared.action.Below.TheVariants as below
-use Rattle.fm_flow.specs.declared.action.FlowAction.TheVariants as action
-use Rattle.fm_flow.specs.declared.entry.Ask.{Ask}
-use Rattle.fm_flow.specs.declared.entry.PreState.{PreState}
-use Rattle.fm_flow.specs.declared.entry.PreState.TheVariants as state
-use Rattle.fm_flow.specs.declared.stage.Stage.{Stage}
-use Rattle.fm_flow.specs.declared.stage.Stage.TheVariants.{Descending, PreRunning, PreHeld, InBase, Ascending, PostRunning, PostHeld, InDrain}
-use Rattle.fm_flow.specs.Answered.{is_success, handle_given}
-use Rattle.fm_flow.specs.Counts.{is_running_drain}
-use Rattle.fm_flow.specs.Creates.{is_create, is_unanswered, is_creating, is_on_stream}
-use Rattle.fm_flow.specs.Entries.{owed}
-use Rattle.fm_flow.specs.Record.{FlowRecord}
-use Rattle.fm_flow.specs.Steps.{turn, next_of, next_at, descend, ascend, call_pre, call_base, call_post, give_post, unwound, unwound_to, may_take, pre_leads, pre_returned_of, base_returned_of, base_fits, is_done, done_at}
-use Rattle.fm_flow.specs.Table.{FlowTable, empty_table, is_number, operation_at, changed, removed, begun, begun_record, collected_of, collected_in, is_collectable, marked}
-use Rattle.fm_world.specs.declared.file.FileHandle.{FileHandle}
-use Rattle.fm_world.specs.declared.file.FileStream.{FileStream}
-use Rattle.fm_world.specs.declared.file.HandlePhase.TheVariants as phase
-use Rattle.fm_world.specs.Events.{moved_on, is_created_on}
-use Rattle.fm_world.specs.Files.{FileTable, empty_files, is_handle, handle_at, opened, closed, left, created, stream_for, after_base, after_pre}
+use Rattle.std.proofs.Common.{◌≡◌, ℕ, ◌+◌, ◌<◌, ◌==◌, Bool, true, false, cond, List, [], ◌∷◌, ◌++◌, find, Option, Some, None, Ok, refl, ap, sym, ◌∙◌, subst, inl, inr, ◌⊎◌, arith}
+use Rattle.fm_world.proofs.Words.{All, nat_le, length, list_any, cases_Bool, false≢true, eq-eqb, ne_eqb, and_from, and_parts, All-nil, All-push, All-weaker}
+use Rattle.fm_world.proofs.Words.{same_Some, change_first, found_holds, all_change, all_without, HandleId, OpId, StreamId, VolumeId, WorkerId, Operation}
+use Rattle.fm_world.proofs.Words.{Status, Answer, BaseCall, Params, Data, operation_of, same_operation, same_path, are_on, are_for, fit, call_fits}
+use Rattle.fm_world.proofs.Words.{is_within_limits, Below, FlowAction, Ask, PreState, Stage, Descending, PreRunning, PreHeld, InBase, is_success}
+use Rattle.fm_world.proofs.Words.{handle_given, is_create, is_unanswered, is_creating, is_on_stream, owed, FlowRecord, next_of, give_post, pre_leads}
+use Rattle.fm_world.proofs.Words.{pre_returned_of, base_returned_of, base_fits, is_done, done_at, FlowTable, empty_table, is_number, operation_at, changed}
+use Rattle.fm_world.proofs.Words.{begun, begun_record, collected_of, collected_in, marked, with_drain, InDrain, FileHandle, FileStream, HandlePhase, moved_on}
+use Rattle.fm_world.proofs.Words.{is_created_on, FileTable, empty_files, is_handle, handle_at, opened, closed, left, created, stream_for, after_base}
+use Rattle.fm_world.proofs.Words.{after_pre, is_in_use, has_stream, has_stream_of, IsCreatedOn, IsOnHandle, IsFiled, IsFileSound}
 use Rattle.fm_world.specs.Files as files
-use Rattle.fm_world.specs.FileLaws.{is_in_use, has_stream, has_stream_of, IsCreatedOn, IsOnHandle}
-use Rattle.fm_world.specs.Sound.{IsFiled, IsFileSound}
-use Rattle.fm_world.proofs.Filing.{shrinks_same, moved_shrinks, pre_shrinks, filed_step, filed_answered, filed_begins, filed_collects, answered_none, not_more_same, ascend_none}
+use Rattle.std.specs.Prelude.{◌&&◌}
+use Rattle.fm_types.specs.Lists.{without_first}
+use Rattle.fm_world.proofs.Filing.{shrinks_same, moved_shrinks, pre_shrinks, filed_step, filed_answered, filed_begins, filed_collects, answered_none, not_more_same}
 use Rattle.fm_world.proofs.Streams.{Stands, InUse, is_creating_on, stands_among, stands_opened, stands_closed, stands_phased, stands_marked, stands_left, stands_created, created_there, on_open, use_but, use_more, use_same, use_opened, use_left, use_closed, use_phased, use_marked, use_created, creating_same, creating_ended, any_without, any_before, any_pushed}
+use Rattle.fm_world.proofs.Turning.{each_turn, collected_by}
 
 -- ---- the parts
 
@@ -206,7 +174,7 @@ create_on_none f rs n test r at none creating h =
 holds_answered : (f : FileTable) (t : FlowTable) (o : OpId) (r : FlowRecord) (step : FlowRecord → FlowRecord) (operation : Operation) (s : Option StreamId) (h : Option HandleId)
     (why : Status) (b : Bool) → operation_at o t ≡ Some r → r.operation ≡ operation → r.stream ≡ s → r.handle ≡ h → is_unanswered r.stage ≡ true → IsAnswered f why r (step r)
     → is_created_on s (changed o step t) ≡ b → Holds f t.operations t.next → Holds (after_base operation s h why b f) (changed o step t).operations t.next
-holds_answered f t o r step kind.Create (Some s) h why b at same stream handle unanswered answered is k =
+holds_answered f t o r step Operation.Create (Some s) h why b at same stream handle unanswered answered is k =
     let was : is_creating r ≡ true = and_from (is_create r.operation) (is_unanswered r.stage) (ap is_create same) unanswered in
     elim (cases_Bool (is_success why)) [
       | inl e ↦ subst (λ c. Holds (cond c (opened s f) (left s b f)) (changed o step t).operations t.next) (sym e)
@@ -216,20 +184,14 @@ holds_answered f t o r step kind.Create (Some s) h why b at same stream handle u
           subst (λ c. Holds (cond c (opened s f) (left s b f)) (changed o step t).operations t.next) (sym e)
           (holds_ended f t.operations t.next (is_number o) step r s b at stream answered.stream kept answered.ended is k)
     ]
-holds_answered f t o r step kind.Create None h why b at same stream handle unanswered answered is k =
+holds_answered f t o r step Operation.Create None h why b at same stream handle unanswered answered is k =
     absurd (create_on_none f t.operations t.next (is_number o) r at stream (and_from (is_create r.operation) (is_unanswered r.stage) (ap is_create same) unanswered) k.0)
-holds_answered f t o r step kind.SetDelete (Some s) h why b at same stream handle unanswered answered is k =
+holds_answered f t o r step Operation.SetDelete (Some s) h why b at same stream handle unanswered answered is k =
     holds_marked s (is_success why) f (changed o step t).operations t.next
     (holds_step f t.operations t.next (is_number o) step r at (same_answered f why r (step r) (ap is_create same) answered) k)
-holds_answered f t o r step kind.Close (Some s) (Some g) why b at same stream handle unanswered answered is k =
+holds_answered f t o r step Operation.Close (Some s) (Some g) why b at same stream handle unanswered answered is k =
     holds_closed f t.operations t.next (is_number o) step r s g b at stream handle (same_answered f why r (step r) (ap is_create same) answered) is k
-holds_answered f t o r step kind.SetDelete None h why b at same stream handle unanswered answered is k =
-    holds_step f t.operations t.next (is_number o) step r at (same_answered f why r (step r) (ap is_create same) answered) k
-holds_answered f t o r step kind.Close None h why b at same stream handle unanswered answered is k =
-    holds_step f t.operations t.next (is_number o) step r at (same_answered f why r (step r) (ap is_create same) answered) k
-holds_answered f t o r step kind.Close (Some s) None why b at same stream handle unanswered answered is k =
-    holds_step f t.operations t.next (is_number o) step r at (same_answered f why r (step r) (ap is_create same) answered) k
-holds_answered f t o r step _ s h why b at same stream handle unanswered answered is k =
+holds_answered f t o r step _ _ _ why b at same stream handle unanswered answered is k =
     holds_step f t.operations t.next (is_number o) step r at (same_answered f why r (step r) (ap is_create same) answered) k
 
 -- the base answers an operation
@@ -244,14 +206,13 @@ file_answered f t o r step why at unanswered answered h =
 
 given_handle : (call : Params) (why : Status) (g : HandleId) (before : Option HandleId)
     → (handle_given call why g before ≡ before) ⊎ ((handle_given call why g before ≡ Some g) × (is_success why ≡ true) × (is_create (operation_of call) ≡ true))
-given_handle (params.Create path mode) status.Success g before = inr (refl, refl, refl)
-given_handle (params.Create path mode) _ g before = inl refl
-given_handle _ why g before = inl refl
+given_handle (Params.Create path mode) Status.Success g before = inr (refl, refl, refl)
+given_handle _ _ g before = inl refl
 
 same_create : (a b : Operation) → same_operation a b ≡ true → is_create a ≡ is_create b
-same_create kind.Create kind.Create h = refl
-same_create kind.Create _ h = absurd (false≢true h)
-same_create _ kind.Create h = absurd (false≢true h)
+same_create Operation.Create Operation.Create h = refl
+same_create Operation.Create _ h = absurd (false≢true h)
+same_create _ Operation.Create h = absurd (false≢true h)
 same_create _ _ h = refl
 
 -- a call that fits an operation is a create's where that is one
@@ -280,110 +241,47 @@ base_answered f call given r same =
 abbrev KeepsFile : FlowRecord → FlowRecord → Type 0
 KeepsFile r s = (s.stream ≡ r.stream) × (s.handle ≡ r.handle)
 
-unwound_file : (place : ℕ) (r : FlowRecord) (m : Option Params) → KeepsFile r (unwound_to place r m)
-unwound_file place r (Some p) = (refl, refl)
-unwound_file place r None = (refl, refl)
-
-post_file : (k : WorkerId) (ask : Ask) (r : FlowRecord) (m : Option Params) → KeepsFile r (give_post k ask r m).after
-post_file k ask r (Some p) = (refl, refl)
-post_file k ask r None = (refl, refl)
-
-up_file : (k : WorkerId) (drains : Bool) (r : FlowRecord) (m : Option Ask) → KeepsFile r (ascend k drains r m).after
-up_file k drains r None = (refl, refl)
-up_file k true r (Some ask) = (refl, refl)
-up_file k false r (Some ask) = taken (may_take k ask)
-  where
-    taken : (b : Bool) → KeepsFile r (cond b (call_post k ask r) (turn (Err status.WrongStep) r)).after
-    taken true =
-        let u = unwound_file ask.place r (slice_get r.kept ask.place) in
-        let p = post_file k ask (unwound ask.place r) (unwound ask.place r).params in
-        (p.0 ∙ u.0, p.1 ∙ u.1)
-    taken false = (refl, refl)
-
-down_file : (k : WorkerId) (lies : Below) (r : FlowRecord) → KeepsFile r (descend k lies r).after
-down_file k (below.Instance i true) r = called r.params
-  where
-    called : (m : Option Params) → KeepsFile r (call_pre k i r m).after
-    called (Some p) = (refl, refl)
-    called None = (refl, refl)
-down_file k (below.Instance i false) r = (refl, refl)
-down_file k below.Call r = based r.params
-  where
-    based : (m : Option Params) → KeepsFile r (call_base r m).after
-    based (Some p) = (refl, refl)
-    based None = (refl, refl)
-down_file k (below.Known why) r = (refl, refl)
-
-next_file_at : (k : WorkerId) (lies : Below) (drains : Bool) (r : FlowRecord) (stage : Stage) → KeepsFile r (next_at k lies drains r stage).after
-next_file_at k lies drains r Descending = down_file k lies r
-next_file_at k lies drains r Ascending = up_file k drains r (slice_get (owed r.entries) 0)
-next_file_at k lies drains r PreRunning = (refl, refl)
-next_file_at k lies drains r PreHeld = (refl, refl)
-next_file_at k lies drains r InBase = (refl, refl)
-next_file_at k lies drains r PostRunning = (refl, refl)
-next_file_at k lies drains r PostHeld = (refl, refl)
-next_file_at k lies drains r (InDrain i) = (refl, refl)
-
 next_file : (k : WorkerId) (lies : Below) (drains : Bool) (r : FlowRecord) → KeepsFile r (next_of k lies drains r).after
-next_file k lies drains r = elim r.collected as (λ b. KeepsFile r (cond b (turn (Err status.WrongStep) r) (next_at k lies drains r r.stage)).after) [
-  | true ↦ (refl, refl)
-  | false ↦ next_file_at k lies drains r r.stage
-]
+next_file k lies drains r = each_turn (λ t. KeepsFile r t.after) k lies drains r (record {
+  rests = λ reply nothing. (refl, refl);
+  calls = λ i p e is. (refl, refl);
+  skips = λ i e is. (refl, refl);
+  asks = λ p e is. (refl, refl);
+  knows = λ why e is. (refl, refl);
+  drains = λ ask e. (refl, refl);
+  posts = λ ask m kept p e. (refl, refl);
+})
 
 abbrev pub is_known : Below → Bool
-is_known (below.Known why) = true
+is_known (Below.Known why) = true
 is_known _ = false
-
--- unless it moves over an answer that is known, a create under way stays one
-down_creating : (k : WorkerId) (lies : Below) (r : FlowRecord) → r.stage ≡ Descending → (is_known lies ≡ true → Ok action.Moved ≡ (descend k lies r).reply → ⊥)
-    → is_creating (descend k lies r).after ≡ is_creating r
-down_creating k (below.Instance i true) r e other = called r.params
-  where
-    called : (m : Option Params) → is_creating (call_pre k i r m).after ≡ is_creating r
-    called (Some p) = sym (ap (λ x. is_create r.operation && is_unanswered x) e)
-    called None = refl
-down_creating k (below.Instance i false) r e other = sym (ap (λ x. is_create r.operation && is_unanswered x) e)
-down_creating k below.Call r e other = based r.params
-  where
-    based : (m : Option Params) → is_creating (call_base r m).after ≡ is_creating r
-    based (Some p) = sym (ap (λ x. is_create r.operation && is_unanswered x) e)
-    based None = refl
-down_creating k (below.Known why) r e other = absurd (other refl refl)
-
-creating_at : (k : WorkerId) (lies : Below) (drains : Bool) (r : FlowRecord) (stage : Stage) → r.stage ≡ stage
-    → (is_known lies ≡ true → Ok action.Moved ≡ (next_at k lies drains r stage).reply → ⊥) → is_creating (next_at k lies drains r stage).after ≡ is_creating r
-creating_at k lies drains r Descending e other = down_creating k lies r e other
-creating_at k lies drains r Ascending e other =
-    let after = (ascend k drains r (slice_get (owed r.entries) 0)).after in
-    answered_none after (ascend_none k drains r (slice_get (owed r.entries) 0) (ap is_unanswered e)) ∙ sym (answered_none r (ap is_unanswered e))
-creating_at k lies drains r PreRunning e other = refl
-creating_at k lies drains r PreHeld e other = refl
-creating_at k lies drains r InBase e other = refl
-creating_at k lies drains r PostRunning e other = refl
-creating_at k lies drains r PostHeld e other = refl
-creating_at k lies drains r (InDrain i) e other = refl
-
-pub next_same_file : (k : WorkerId) (lies : Below) (drains : Bool) (r : FlowRecord) → (is_known lies ≡ true → Ok action.Moved ≡ (next_of k lies drains r).reply → ⊥)
-    → SameFile r (next_of k lies drains r).after
-next_same_file k lies drains r other =
-    let file = next_file k lies drains r in
-    record { stream = file.0; handle = file.1; creating = by_collected r.collected other }
-  where
-    by_collected : (b : Bool) → (is_known lies ≡ true → Ok action.Moved ≡ (cond b (turn (Err status.WrongStep) r) (next_at k lies drains r r.stage)).reply → ⊥)
-        → is_creating (cond b (turn (Err status.WrongStep) r) (next_at k lies drains r r.stage)).after ≡ is_creating r
-    by_collected true other = refl
-    by_collected false other = creating_at k lies drains r r.stage refl other
-
--- a known answer gives no handle
-pub known_answered : (f : FileTable) (k : WorkerId) (why : Status) (drains : Bool) (r : FlowRecord) → is_creating (next_of k (below.Known why) drains r).after ≡ false
-    → IsAnswered f why r (next_of k (below.Known why) drains r).after
-known_answered f k why drains r ended =
-    let file = next_file k (below.Known why) drains r in
-    record { stream = file.0; ended = ended; handle = inl file.1 }
 
 -- what has its answer keeps it
 pub answered_same : (r s : FlowRecord) → s.stream ≡ r.stream → s.handle ≡ r.handle → is_unanswered r.stage ≡ false → is_unanswered s.stage ≡ false → SameFile r s
 answered_same r s stream handle was is = record { stream = stream; handle = handle; creating = answered_none s is ∙ sym (answered_none r was) }
+
+-- unless it moves over an answer that is known, a create under way stays one
+pub next_same_file : (k : WorkerId) (lies : Below) (drains : Bool) (r : FlowRecord) → (is_known lies ≡ true → Ok FlowAction.Moved ≡ (next_of k lies drains r).reply → ⊥)
+    → SameFile r (next_of k lies drains r).after
+next_same_file k lies drains r = each_turn (λ t. (is_known lies ≡ true → Ok FlowAction.Moved ≡ t.reply → ⊥) → SameFile r t.after) k lies drains r (record {
+  rests = λ reply nothing other. record { stream = refl; handle = refl; creating = refl };
+  calls = λ i p e is other. record { stream = refl; handle = refl; creating = down e };
+  skips = λ i e is other. record { stream = refl; handle = refl; creating = down e };
+  asks = λ p e is other. record { stream = refl; handle = refl; creating = down e };
+  knows = λ why e is other. absurd (other (ap is_known is) refl);
+  drains = λ ask e other. answered_same r (with_drain ask.instance (InDrain ask.instance) r) refl refl (ap is_unanswered e) refl;
+  posts = λ ask m kept p e other. answered_same r (give_post k ask (record r { params = m; kept = kept }) (Some p)).after refl refl (ap is_unanswered e) refl;
+})
+  where
+    down : r.stage ≡ Descending → is_create r.operation && true ≡ is_creating r
+    down e = sym (ap (λ x. is_create r.operation && is_unanswered x) e)
+
+-- a known answer gives no handle
+pub known_answered : (f : FileTable) (k : WorkerId) (why : Status) (drains : Bool) (r : FlowRecord) → is_creating (next_of k (Below.Known why) drains r).after ≡ false
+    → IsAnswered f why r (next_of k (Below.Known why) drains r).after
+known_answered f k why drains r ended =
+    let file = next_file k (Below.Known why) drains r in
+    record { stream = file.0; ended = ended; handle = inl file.1 }
 
 -- ---- a preoperation returns
 
@@ -405,23 +303,15 @@ pre_other given lent r none = record {
 holds_pre : (f : FileTable) (t : FlowTable) (o : OpId) (r : FlowRecord) (given : PreState) (lent : Data) (operation : Operation) (s : Option StreamId) (b : Bool)
     → operation_at o t ≡ Some r → r.operation ≡ operation → r.stream ≡ s → r.stage ≡ PreRunning → is_created_on s (changed o (pre_returned_of given lent) t) ≡ b
     → Holds f t.operations t.next → Holds (after_pre given operation s b f) (changed o (pre_returned_of given lent) t).operations t.next
-holds_pre f t o r (state.Completed why) lent kind.Create (Some s) b at same stream stage is h =
-    let step = pre_returned_of (state.Completed why) lent in
+holds_pre f t o r (PreState.Completed why) lent Operation.Create (Some s) b at same stream stage is h =
+    let step = pre_returned_of (PreState.Completed why) lent in
     holds_ended f t.operations t.next (is_number o) step r s b at stream refl refl (answered_none (step r) refl) is h
-holds_pre f t o r (state.Completed why) lent kind.Create None b at same stream stage is h =
+holds_pre f t o r (PreState.Completed why) lent Operation.Create None b at same stream stage is h =
     absurd (create_on_none f t.operations t.next (is_number o) r at stream (and_from (is_create r.operation) (is_unanswered r.stage) (ap is_create same) (ap is_unanswered stage)) h.0)
-holds_pre f t o r (state.Completed why) lent _ s b at same stream stage is h =
-    holds_step f t.operations t.next (is_number o) (pre_returned_of (state.Completed why) lent) r at (pre_other (state.Completed why) lent r (ap is_create same)) h
-holds_pre f t o r state.Held lent operation s b at same stream stage is h =
-    holds_step f t.operations t.next (is_number o) (pre_returned_of state.Held lent) r at (pre_same state.Held lent r stage refl) h
-holds_pre f t o r state.Running lent operation s b at same stream stage is h =
-    holds_step f t.operations t.next (is_number o) (pre_returned_of state.Running lent) r at (pre_same state.Running lent r stage refl) h
-holds_pre f t o r (state.Asked completion) lent operation s b at same stream stage is h =
-    holds_step f t.operations t.next (is_number o) (pre_returned_of (state.Asked completion) lent) r at (pre_same (state.Asked completion) lent r stage refl) h
-holds_pre f t o r (state.Synchronized completion) lent operation s b at same stream stage is h =
-    holds_step f t.operations t.next (is_number o) (pre_returned_of (state.Synchronized completion) lent) r at (pre_same (state.Synchronized completion) lent r stage refl) h
-holds_pre f t o r state.Passed lent operation s b at same stream stage is h =
-    holds_step f t.operations t.next (is_number o) (pre_returned_of state.Passed lent) r at (pre_same state.Passed lent r stage refl) h
+holds_pre f t o r (PreState.Completed why) lent _ s b at same stream stage is h =
+    holds_step f t.operations t.next (is_number o) (pre_returned_of (PreState.Completed why) lent) r at (pre_other (PreState.Completed why) lent r (ap is_create same)) h
+holds_pre f t o r given lent _ _ b at same stream stage is h =
+    holds_step f t.operations t.next (is_number o) (pre_returned_of given lent) r at (pre_same given lent r stage refl) h
 
 pub file_pre : (f : FileTable) (t : FlowTable) (o : OpId) (r : FlowRecord) (given : PreState) (lent : Data) → operation_at o t ≡ Some r → r.stage ≡ PreRunning → IsFileSound f t
     → IsFileSound (after_pre given r.operation r.stream (is_created_on r.stream (changed o (pre_returned_of given lent) t)) f) (changed o (pre_returned_of given lent) t)
@@ -441,8 +331,8 @@ holds_pushed f rs n r creates on h =
     (All-push (λ (y : FlowRecord). IsOnHandle f y.stream y.handle) rs r h.operations_on on) (omega arith) h
 
 holds_moved : (operation : Operation) (g : HandleId) (n : ℕ) (f : FileTable) (rs : List FlowRecord) (m : ℕ) → Holds f rs m → Holds (moved_on operation g n f) rs m
-holds_moved kind.Cleanup g n f rs m h = let p = phase.CleaningUp (record { 0 = n }) in (stands_phased g p f rs m h.0, use_phased g p f rs h.1)
-holds_moved kind.Close g n f rs m h = (stands_phased g phase.Closing f rs m h.0, use_phased g phase.Closing f rs h.1)
+holds_moved Operation.Cleanup g n f rs m h = let p = HandlePhase.CleaningUp (record { 0 = n }) in (stands_phased g p f rs m h.0, use_phased g p f rs h.1)
+holds_moved Operation.Close g n f rs m h = (stands_phased g HandlePhase.Closing f rs m h.0, use_phased g HandlePhase.Closing f rs h.1)
 holds_moved _ g n f rs m h = h
 
 holds_begins : (f : FileTable) (t : FlowTable) (r : FlowRecord) → is_creating r ≡ false → IsOnHandle f r.stream r.handle → Holds f t.operations t.next
@@ -456,10 +346,10 @@ not_creating : (p : Params) → is_create (operation_of p) ≡ false → is_crea
 not_creating p none = ap (λ b. b && true) none
 
 -- a listing begins
-pub file_lists : (f : FileTable) (t : FlowTable) (v : VolumeId) (born : ℕ) → IsFileSound f t → IsFileSound f (begun v None None born None params.List t)
+pub file_lists : (f : FileTable) (t : FlowTable) (v : VolumeId) (born : ℕ) → IsFileSound f t → IsFileSound f (begun v None None born None Params.List t)
 file_lists f t v born h =
-    sound_from f (begun v None None born None params.List t) (filed_begins f f t v None None born None params.List refl (shrinks_same f) h.room)
-    (holds_begins f t (begun_record t.next v None None born None params.List) refl tt (holds_in f t h))
+    sound_from f (begun v None None born None Params.List t) (filed_begins f f t v None None born None Params.List refl (shrinks_same f) h.room)
+    (holds_begins f t (begun_record t.next v None None born None Params.List) refl tt (holds_in f t h))
 
 -- an operation on an open handle begins
 pub file_begins : (f : FileTable) (t : FlowTable) (v : VolumeId) (g : HandleId) (x : FileHandle) (born : ℕ) (name : Option (List ℕ)) (p : Params) → handle_at g f ≡ Some x
@@ -497,35 +387,23 @@ done_none : (r : FlowRecord) → is_done r ≡ true → is_creating r ≡ false
 done_none r done = answered_none r (at_stage r.stage (owed r.entries) done)
   where
     at_stage : (stage : Stage) (asks : List Ask) → done_at stage asks ≡ true → is_unanswered stage ≡ false
-    at_stage Ascending asks h = refl
-    at_stage PostRunning asks h = refl
-    at_stage PostHeld asks h = refl
-    at_stage (InDrain i) asks h = refl
     at_stage Descending asks h = absurd (false≢true h)
     at_stage PreRunning asks h = absurd (false≢true h)
     at_stage PreHeld asks h = absurd (false≢true h)
     at_stage InBase asks h = absurd (false≢true h)
+    at_stage _ asks h = refl
 
 holds_collected : (f : FileTable) (o : OpId) (t : FlowTable) (m : Option FlowRecord) → operation_at o t ≡ m → Holds f t.operations t.next
     → Holds f (collected_in o t m).operations (collected_in o t m).next
-holds_collected f o t None at h = h
-holds_collected f o t (Some r) at h = by_collectable (is_collectable r) refl
-  where
-    by_drain : (b : Bool) → is_done r ≡ true → Holds f (cond b (changed o marked t) (removed o t)).operations (cond b (changed o marked t) (removed o t)).next
-    by_drain true done = holds_step f t.operations t.next (is_number o) marked r at (record { stream = refl; handle = refl; creating = refl }) h
-    by_drain false done =
-        let gone = λ (q : StreamId) (x : FlowRecord) (found : operation_at o t ≡ Some x).
-        subst (λ (y : FlowRecord). is_creating_on q y ≡ false) (same_Some r x (sym at ∙ found)) (ap (λ b. b && is_on_stream q r.stream) (done_none r done)) in (
-          stands_among f t.operations (without_first (is_number o) t.operations) t.next t.next (all_without (IsCreatedOn f) (is_number o) t.operations h.0.creates_on)
-              (all_without (λ (y : FlowRecord). IsOnHandle f y.stream y.handle) (is_number o) t.operations h.0.operations_on) (omega arith) h.0,
-          use_same f t.operations (without_first (is_number o) t.operations) (λ q. any_without (is_creating_on q) (is_number o) t.operations (λ x found. gone q x found)) h.1,
-        )
-
-    by_collectable : (a : Bool) → is_collectable r ≡ a
-        → Holds f (cond a (cond (list_any is_running_drain r.entries) (changed o marked t) (removed o t)) t).operations
-        (cond a (cond (list_any is_running_drain r.entries) (changed o marked t) (removed o t)) t).next
-    by_collectable false is = h
-    by_collectable true is = by_drain (list_any is_running_drain r.entries) (and_parts (not r.collected) (is_done r) is).1
+holds_collected f o t m at h =
+    collected_by (λ u. Holds f u.operations u.next) o t m at h
+    (λ r at done. holds_step f t.operations t.next (is_number o) marked r at (record { stream = refl; handle = refl; creating = refl }) h) (λ r at done d.
+    let gone = λ (q : StreamId) (x : FlowRecord) (found : operation_at o t ≡ Some x).
+    subst (λ (y : FlowRecord). is_creating_on q y ≡ false) (same_Some r x (sym at ∙ found)) (ap (λ b. b && is_on_stream q r.stream) (done_none r done)) in (
+      stands_among f t.operations (without_first (is_number o) t.operations) t.next t.next (all_without (IsCreatedOn f) (is_number o) t.operations h.0.creates_on)
+          (all_without (λ (y : FlowRecord). IsOnHandle f y.stream y.handle) (is_number o) t.operations h.0.operations_on) (omega arith) h.0,
+      use_same f t.operations (without_first (is_number o) t.operations) (λ q. any_without (is_creating_on q) (is_number o) t.operations (λ x found. gone q x found)) h.1,
+    ))
 
 pub file_collects : (f : FileTable) (o : OpId) (t : FlowTable) → IsFileSound f t → IsFileSound f (collected_of o t)
 file_collects f o t h = sound_from f (collected_of o t) (filed_collects f o t h.room) (holds_collected f o t (operation_at o t) refl (holds_in f t h))

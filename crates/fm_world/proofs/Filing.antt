@@ -1,44 +1,15 @@
 -- Streams and handles through the events: there is a number and room for the handle of each create under way.
-use Rattle.std.proofs.Common.{◌≡◌, ℕ, ◌+◌, ◌≤◌, ◌<◌, Bool, true, false, cond, List, [], ◌∷◌, ◌++◌, length, Option, Some, None, Ok, Err, refl, ap, ◌∙◌, arith, length-append, slice_get}
-use Rattle.std.specs.Prelude.{◌&&◌, ◌||◌, count_by, nat_le}
-use Rattle.std.proofs.lemmas.Bool.{leb-false}
-use Rattle.std.proofs.lemmas.List.Sums.{sum_by_push}
-use Rattle.fm_types.specs.declared.ids.HandleId.{HandleId}
-use Rattle.fm_types.specs.declared.ids.OpId.{OpId}
-use Rattle.fm_types.specs.declared.ids.StreamId.{StreamId}
-use Rattle.fm_types.specs.declared.ids.VolumeId.{VolumeId}
-use Rattle.fm_types.specs.declared.ids.WorkerId.{WorkerId}
-use Rattle.fm_types.specs.declared.operation.Operation.{Operation}
-use Rattle.fm_types.specs.declared.operation.Operation.TheVariants as kind
-use Rattle.fm_types.specs.declared.status.Status.{Status}
-use Rattle.fm_types.specs.declared.status.Status.TheVariants as status
-use Rattle.fm_types.proofs.Firsts.{count_changed, count_without, found_counts, length_change, length_without}
-use Rattle.fm_data.specs.declared.params.Params.{Params}
-use Rattle.fm_data.specs.Params.{operation_of}
-use Rattle.fm_flow.specs.declared.action.Below.TheVariants as below
-use Rattle.fm_flow.specs.declared.action.FlowAction.TheVariants as action
-use Rattle.fm_flow.specs.declared.entry.Ask.{Ask}
-use Rattle.fm_flow.specs.declared.entry.PreState.{PreState}
-use Rattle.fm_flow.specs.declared.entry.PreState.TheVariants as state
-use Rattle.fm_flow.specs.declared.stage.Stage.{Stage}
-use Rattle.fm_flow.specs.declared.stage.Stage.TheVariants.{Descending, PreRunning, PreHeld, InBase, Ascending, PostRunning, PostHeld, InDrain}
-use Rattle.fm_flow.specs.Answered.{is_success}
-use Rattle.fm_flow.specs.Creates.{is_create, is_unanswered, is_creating, creates}
-use Rattle.fm_flow.specs.Entries.{owed}
-use Rattle.fm_flow.specs.Record.{FlowRecord}
-use Rattle.fm_flow.specs.Steps.{Turned, turn, next_of, next_at, descend, ascend, call_post, give_post, unwound, unwound_to, may_take}
-use Rattle.fm_flow.specs.Table.{FlowTable, is_number, operation_at, changed, removed, begun, begun_record, collected_of, collected_in, is_collectable, marked}
-use Rattle.fm_world.specs.declared.file.HandlePhase.TheVariants as phase
-use Rattle.fm_world.specs.declared.file.FileStream.{FileStream}
-use Rattle.fm_world.specs.declared.step.FileRequest.{FileRequest}
-use Rattle.fm_world.specs.declared.step.FileRequest.TheVariants as request
-use Rattle.fm_world.specs.Files.{FileTable, is_handle, is_stream, with_phase, with_mark, phased, opened, closed, torn_down, left, created, created_in, stream_of_path, has_handle_on, after_base, after_pre}
+use Rattle.std.proofs.Common.{◌≡◌, ℕ, ◌+◌, ◌≤◌, ◌<◌, Bool, true, false, cond, List, [], ◌∷◌, ◌++◌, length, Option, Some, None, Ok, refl, ap, ◌∙◌, arith, length-append}
+use Rattle.fm_world.proofs.Words.{count_by, nat_le, leb-false, sum_by_push, false≢true, HandleId, OpId, StreamId, VolumeId, WorkerId, Operation, Status}
+use Rattle.fm_world.proofs.Words.{count_changed, count_without, found_counts, length_change, length_without, Params, operation_of, Below, FlowAction}
+use Rattle.fm_world.proofs.Words.{PreState, is_success, is_create, is_unanswered, is_creating, creates, FlowRecord, Turned, next_of, FlowTable, is_number}
+use Rattle.fm_world.proofs.Words.{operation_at, changed, begun, begun_record, collected_of, marked, with_base, bare_answer, HandlePhase, FileStream}
+use Rattle.fm_world.proofs.Words.{FileTable, is_handle, with_phase, opened, closed, torn_down, left, created, created_in, stream_of_path, has_handle_on}
+use Rattle.fm_world.proofs.Words.{after_base, after_pre, params_of, moved_on, IsFiled, gives_nothing}
 use Rattle.fm_world.specs.Files as files
-use Rattle.fm_world.specs.Requests.{params_of}
-use Rattle.fm_world.specs.Events.{moved_on}
-use Rattle.fm_world.specs.Sound.{IsFiled}
-use Rattle.std.specs.List.{list_any}
-use Rattle.fm_flow.specs.Counts.{is_running_drain}
+use Rattle.std.specs.Prelude.{◌&&◌, ◌||◌}
+use Rattle.fm_world.specs.declared.step.FileRequest.{FileRequest}
+use Rattle.fm_world.proofs.Turning.{each_turn, collected_by}
 
 -- no handle is given
 pub record Shrinks (f g : FileTable) : Type 0 where
@@ -57,42 +28,20 @@ left_shrinks s b f = elim (has_handle_on s f || b) as (λ c. Shrinks f (cond c f
 closed_shrinks : (h : HandleId) (s : StreamId) (b : Bool) (f : FileTable) → Shrinks f (left s b (closed h f))
 closed_shrinks h s b f =
     let k = left_shrinks s b (closed h f) in
-    let handles = k.handles in
-    record { next = k.next; handles = omega (arith, handles, length_without (is_handle h) f.handles) }
+    record { next = k.next; handles = omega (arith, k.handles, length_without (is_handle h) f.handles) }
 
 marked_shrinks : (s : StreamId) (b : Bool) (f : FileTable) → Shrinks f (cond b (files.marked s f) f)
 marked_shrinks s true f = record { next = refl; handles = omega arith }
 marked_shrinks s false f = shrinks_same f
 
 pub moved_shrinks : (operation : Operation) (h : HandleId) (n : ℕ) (f : FileTable) → Shrinks f (moved_on operation h n f)
-moved_shrinks kind.Cleanup h n f = record { next = refl; handles = let k = length_change (is_handle h) (with_phase (phase.CleaningUp (record { 0 = n }))) f.handles in omega (arith, k) }
-moved_shrinks kind.Close h n f = record { next = refl; handles = let k = length_change (is_handle h) (with_phase phase.Closing) f.handles in omega (arith, k) }
-moved_shrinks kind.Create h n f = shrinks_same f
-moved_shrinks kind.Read h n f = shrinks_same f
-moved_shrinks kind.Write h n f = shrinks_same f
-moved_shrinks kind.QuerySize h n f = shrinks_same f
-moved_shrinks kind.SetSize h n f = shrinks_same f
-moved_shrinks kind.Flush h n f = shrinks_same f
-moved_shrinks kind.List h n f = shrinks_same f
-moved_shrinks kind.SetDelete h n f = shrinks_same f
+moved_shrinks Operation.Cleanup h n f = record { next = refl; handles = let k = length_change (is_handle h) (with_phase (HandlePhase.CleaningUp (record { 0 = n }))) f.handles in omega (arith, k) }
+moved_shrinks Operation.Close h n f = record { next = refl; handles = let k = length_change (is_handle h) (with_phase HandlePhase.Closing) f.handles in omega (arith, k) }
+moved_shrinks _ h n f = shrinks_same f
 
 pub pre_shrinks : (given : PreState) (operation : Operation) (s : Option StreamId) (b : Bool) (f : FileTable) → Shrinks f (after_pre given operation s b f)
-pre_shrinks (state.Completed why) kind.Create (Some s) b f = left_shrinks s b f
-pre_shrinks (state.Completed why) kind.Create None b f = shrinks_same f
-pre_shrinks (state.Completed why) kind.Read s b f = shrinks_same f
-pre_shrinks (state.Completed why) kind.Write s b f = shrinks_same f
-pre_shrinks (state.Completed why) kind.QuerySize s b f = shrinks_same f
-pre_shrinks (state.Completed why) kind.SetSize s b f = shrinks_same f
-pre_shrinks (state.Completed why) kind.Flush s b f = shrinks_same f
-pre_shrinks (state.Completed why) kind.List s b f = shrinks_same f
-pre_shrinks (state.Completed why) kind.SetDelete s b f = shrinks_same f
-pre_shrinks (state.Completed why) kind.Cleanup s b f = shrinks_same f
-pre_shrinks (state.Completed why) kind.Close s b f = shrinks_same f
-pre_shrinks state.Running operation s b f = shrinks_same f
-pre_shrinks state.Held operation s b f = shrinks_same f
-pre_shrinks (state.Asked completion) operation s b f = shrinks_same f
-pre_shrinks (state.Synchronized completion) operation s b f = shrinks_same f
-pre_shrinks state.Passed operation s b f = shrinks_same f
+pre_shrinks (PreState.Completed why) Operation.Create (Some s) b f = left_shrinks s b f
+pre_shrinks _ _ _ b f = shrinks_same f
 
 -- ---- one operation takes a step
 
@@ -104,11 +53,7 @@ pub filed_step : (f g : FileTable) (t : FlowTable) (o : OpId) (r : FlowRecord) (
     → IsFiled f t → IsFiled g (changed o step t)
 filed_step f g t o r step at less shrinks h =
     let counts = count_changed is_creating (is_number o) step t.operations r at in
-    let next = shrinks.next in
-    let handles = shrinks.handles in
-    let numbers = h.numbers in
-    let few = h.few in
-    record { numbers = omega (arith, counts, less, next, numbers); few = omega (arith, counts, less, handles, few) }
+    record { numbers = omega (arith, counts, less, shrinks.next, h.numbers); few = omega (arith, counts, less, shrinks.handles, h.few) }
 
 -- a create that is under way no more gives a handle
 filed_open : (f : FileTable) (t : FlowTable) (o : OpId) (s : StreamId) (r : FlowRecord) (step : FlowRecord → FlowRecord) → operation_at o t ≡ Some r → is_creating r ≡ true
@@ -117,10 +62,8 @@ filed_open f t o s r step at was is h =
     let counts = count_changed is_creating (is_number o) step t.operations r at in
     let one : ◌≡◌ {A = ℕ} (cond (is_creating r) 1 0) 1 = ap (λ b. cond b 1 0) was in
     let none : ◌≡◌ {A = ℕ} (cond (is_creating (step r)) 1 0) 0 = ap (λ b. cond b 1 0) is in
-    let numbers = h.numbers in
-    let few = h.few in
     let more = length-append f.handles (files.fresh_handle s f.next ∷ []) in
-    record { numbers = omega (arith, counts, one, none, numbers); few = omega (arith, counts, one, none, few, more) }
+    record { numbers = omega (arith, counts, one, none, h.numbers); few = omega (arith, counts, one, none, h.few, more) }
 
 pub not_more_none : (r s : FlowRecord) → is_creating s ≡ false → NotMore r s
 not_more_none r s none = let k : ◌≡◌ {A = ℕ} (cond (is_creating s) 1 0) 0 = ap (λ b. cond b 1 0) none in omega (arith, k)
@@ -129,26 +72,16 @@ not_more_none r s none = let k : ◌≡◌ {A = ℕ} (cond (is_creating s) 1 0) 
 pub filed_answered : (f : FileTable) (t : FlowTable) (o : OpId) (r : FlowRecord) (step : FlowRecord → FlowRecord) (operation : Operation) (s : Option StreamId) (h : Option HandleId)
     (why : Status) (b : Bool) → operation_at o t ≡ Some r → r.operation ≡ operation → is_unanswered r.stage ≡ true → is_creating (step r) ≡ false → IsFiled f t
     → IsFiled (after_base operation s h why b f) (changed o step t)
-filed_answered f t o r step kind.Create (Some s) h why b at same unanswered none k =
+filed_answered f t o r step Operation.Create (Some s) h why b at same unanswered none k =
     elim (is_success why) as (λ c. IsFiled (cond c (opened s f) (left s b f)) (changed o step t)) [
       | true ↦ filed_open f t o s r step at (ap (λ x. is_create x && is_unanswered r.stage) same ∙ unanswered) none k
       | false ↦ filed_step f (left s b f) t o r step at (not_more_none r (step r) none) (left_shrinks s b f) k
     ]
-filed_answered f t o r step kind.SetDelete (Some s) h why b at same unanswered none k =
+filed_answered f t o r step Operation.SetDelete (Some s) h why b at same unanswered none k =
     filed_step f (cond (is_success why) (files.marked s f) f) t o r step at (not_more_none r (step r) none) (marked_shrinks s (is_success why) f) k
-filed_answered f t o r step kind.Close (Some s) (Some h) why b at same unanswered none k =
+filed_answered f t o r step Operation.Close (Some s) (Some h) why b at same unanswered none k =
     filed_step f (left s b (closed h f)) t o r step at (not_more_none r (step r) none) (closed_shrinks h s b f) k
-filed_answered f t o r step kind.Create None h why b at same unanswered none k = filed_step f f t o r step at (not_more_none r (step r) none) (shrinks_same f) k
-filed_answered f t o r step kind.SetDelete None h why b at same unanswered none k = filed_step f f t o r step at (not_more_none r (step r) none) (shrinks_same f) k
-filed_answered f t o r step kind.Close None h why b at same unanswered none k = filed_step f f t o r step at (not_more_none r (step r) none) (shrinks_same f) k
-filed_answered f t o r step kind.Close (Some s) None why b at same unanswered none k = filed_step f f t o r step at (not_more_none r (step r) none) (shrinks_same f) k
-filed_answered f t o r step kind.Read s h why b at same unanswered none k = filed_step f f t o r step at (not_more_none r (step r) none) (shrinks_same f) k
-filed_answered f t o r step kind.Write s h why b at same unanswered none k = filed_step f f t o r step at (not_more_none r (step r) none) (shrinks_same f) k
-filed_answered f t o r step kind.QuerySize s h why b at same unanswered none k = filed_step f f t o r step at (not_more_none r (step r) none) (shrinks_same f) k
-filed_answered f t o r step kind.SetSize s h why b at same unanswered none k = filed_step f f t o r step at (not_more_none r (step r) none) (shrinks_same f) k
-filed_answered f t o r step kind.Flush s h why b at same unanswered none k = filed_step f f t o r step at (not_more_none r (step r) none) (shrinks_same f) k
-filed_answered f t o r step kind.List s h why b at same unanswered none k = filed_step f f t o r step at (not_more_none r (step r) none) (shrinks_same f) k
-filed_answered f t o r step kind.Cleanup s h why b at same unanswered none k = filed_step f f t o r step at (not_more_none r (step r) none) (shrinks_same f) k
+filed_answered f t o r step _ _ _ why b at same unanswered none k = filed_step f f t o r step at (not_more_none r (step r) none) (shrinks_same f) k
 
 -- an operation that has an answer is no create under way
 pub answered_none : (r : FlowRecord) → is_unanswered r.stage ≡ false → is_creating r ≡ false
@@ -163,65 +96,26 @@ not_more_same r s same unanswered =
   where
     at_most : (a b : Bool) → cond (a && b) 1 0 ≤ cond (a && true) 1 0
     at_most true true = omega arith
-    at_most true false = omega arith
-    at_most false b = omega arith
+    at_most _ _ = omega arith
 
 -- ---- next
-
-post_none : (k : WorkerId) (ask : Ask) (r : FlowRecord) (m : Option Params) → is_unanswered r.stage ≡ false → is_unanswered (give_post k ask r m).after.stage ≡ false
-post_none k ask r (Some p) h = refl
-post_none k ask r None h = h
-
-unwound_none : (place : ℕ) (r : FlowRecord) (m : Option Params) → is_unanswered r.stage ≡ false → is_unanswered (unwound_to place r m).stage ≡ false
-unwound_none place r (Some p) h = h
-unwound_none place r None h = h
-
-pub ascend_none : (k : WorkerId) (drains : Bool) (r : FlowRecord) (m : Option Ask) → is_unanswered r.stage ≡ false → is_unanswered (ascend k drains r m).after.stage ≡ false
-ascend_none k drains r None h = h
-ascend_none k true r (Some ask) h = refl
-ascend_none k false r (Some ask) h = taken (may_take k ask)
-  where
-    taken : (b : Bool) → is_unanswered (cond b (call_post k ask r) (turn (Err status.WrongStep) r)).after.stage ≡ false
-    taken true = post_none k ask (unwound ask.place r) (unwound ask.place r).params (unwound_none ask.place r (slice_get r.kept ask.place) h)
-    taken false = h
 
 -- what an operation is where `next` answers that it moved over a known answer
 pub record WasKnown (r : FlowRecord) (turned : Turned) : Type 0 where
   pub unanswered : is_unanswered r.stage ≡ true
   pub none : is_creating turned.after ≡ false
 
-moved_not_post : (k : WorkerId) (ask : Ask) (r : FlowRecord) (m : Option Params) → Ok action.Moved ≡ (give_post k ask r m).reply → ⊥
-moved_not_post k ask r (Some p) h = cc
-moved_not_post k ask r None h = cc
-
-moved_not_up : (k : WorkerId) (drains : Bool) (r : FlowRecord) (m : Option Ask) → Ok action.Moved ≡ (ascend k drains r m).reply → ⊥
-moved_not_up k drains r None h = cc
-moved_not_up k true r (Some ask) h = cc
-moved_not_up k false r (Some ask) h = taken (may_take k ask) h
-  where
-    taken : (b : Bool) → Ok action.Moved ≡ (cond b (call_post k ask r) (turn (Err status.WrongStep) r)).reply → ⊥
-    taken true h = moved_not_post k ask (unwound ask.place r) (unwound ask.place r).params h
-    taken false h = cc
-
-known_at : (k : WorkerId) (why : Status) (drains : Bool) (r : FlowRecord) (stage : Stage) → r.stage ≡ stage → Ok action.Moved ≡ (next_at k (below.Known why) drains r stage).reply
-    → WasKnown r (next_at k (below.Known why) drains r stage)
-known_at k why drains r Descending e h = record { unanswered = ap is_unanswered e; none = answered_none (descend k (below.Known why) r).after refl }
-known_at k why drains r Ascending e h = absurd (moved_not_up k drains r (slice_get (owed r.entries) 0) h)
-known_at k why drains r PreRunning e h = cc
-known_at k why drains r PreHeld e h = cc
-known_at k why drains r InBase e h = cc
-known_at k why drains r PostRunning e h = cc
-known_at k why drains r PostHeld e h = cc
-known_at k why drains r (InDrain i) e h = cc
-
-pub was_known : (k : WorkerId) (why : Status) (drains : Bool) (r : FlowRecord) → Ok action.Moved ≡ (next_of k (below.Known why) drains r).reply
-    → WasKnown r (next_of k (below.Known why) drains r)
-was_known k why drains r h = by_collected r.collected h
-  where
-    by_collected : (b : Bool) → Ok action.Moved ≡ (cond b (turn (Err status.WrongStep) r) (next_at k (below.Known why) drains r r.stage)).reply
-        → WasKnown r (cond b (turn (Err status.WrongStep) r) (next_at k (below.Known why) drains r r.stage))
-    by_collected true h = cc
-    by_collected false h = known_at k why drains r r.stage refl h
+pub was_known : (k : WorkerId) (why : Status) (drains : Bool) (r : FlowRecord) → Ok FlowAction.Moved ≡ (next_of k (Below.Known why) drains r).reply
+    → WasKnown r (next_of k (Below.Known why) drains r)
+was_known k why drains r = each_turn (λ t. Ok FlowAction.Moved ≡ t.reply → WasKnown r t) k (Below.Known why) drains r (record {
+  rests = λ reply nothing moved. absurd (false≢true (ap gives_nothing moved ∙ nothing));
+  calls = λ i p e lies moved. cc;
+  skips = λ i e lies moved. cc;
+  asks = λ p e lies moved. cc;
+  knows = λ given e lies moved. record { unanswered = ap is_unanswered e; none = answered_none (with_base (bare_answer given) r) refl };
+  drains = λ ask e moved. cc;
+  posts = λ ask m kept p e moved. cc;
+})
 
 -- ---- begin and collect
 
@@ -235,11 +129,7 @@ filed_begins f g t v stream handle born name p none shrinks h =
     let fresh = begun_record t.next v stream handle born name p in
     let counts = creates_push t fresh in
     let zero' : ◌≡◌ {A = ℕ} (cond (is_creating fresh) 1 0) 0 = ap (λ b. cond (b && true) 1 0) none in
-    let next = shrinks.next in
-    let handles = shrinks.handles in
-    let numbers = h.numbers in
-    let few = h.few in
-    record { numbers = omega (arith, counts, zero', next, numbers); few = omega (arith, counts, zero', handles, few) }
+    record { numbers = omega (arith, counts, zero', shrinks.next, h.numbers); few = omega (arith, counts, zero', shrinks.handles, h.few) }
 
 created_shrinks : (v : VolumeId) (path : List ℕ) (n : ℕ) (f : FileTable) → Shrinks f (created v path n f)
 created_shrinks v path n f = in_case (stream_of_path v path f)
@@ -255,53 +145,25 @@ filed_creates f t v path stream handle born name p room h =
     let fresh = begun_record t.next v stream handle born name p in
     let counts = creates_push t fresh in
     let shrinks = created_shrinks v path t.next f in
-    let next = shrinks.next in
-    let handles = shrinks.handles in
-    let numbers = h.numbers in
     let small = leb-false 4096 (length f.handles + creates t) room in
     let at_most : cond (is_creating fresh) 1 0 ≤ 1 = elim (is_creating fresh) as (λ b. cond b 1 0 ≤ 1) [ true ↦ omega arith | false ↦ omega arith ] in
-    record { numbers = omega (arith, counts, at_most, next, numbers); few = omega (arith, counts, at_most, handles, small) }
+    record { numbers = omega (arith, counts, at_most, shrinks.next, h.numbers); few = omega (arith, counts, at_most, shrinks.handles, small) }
 
 pub asks_no_create : (asked : FileRequest) → is_create (operation_of (params_of asked)) ≡ false
-asks_no_create (request.Read offset len) = refl
-asks_no_create (request.Write offset bytes) = refl
-asks_no_create request.QuerySize = refl
-asks_no_create (request.SetSize size) = refl
-asks_no_create request.Flush = refl
-asks_no_create request.SetDelete = refl
-asks_no_create request.Cleanup = refl
-asks_no_create request.Close = refl
-
-collected_next : (o : OpId) (t : FlowTable) (m : Option FlowRecord) → (collected_in o t m).next ≡ t.next
-collected_next o t None = refl
-collected_next o t (Some r) = elim (is_collectable r) as (λ a. (cond a (cond (list_any is_running_drain r.entries) (changed o marked t) (removed o t)) t).next ≡ t.next) [
-  | true ↦ elim (list_any is_running_drain r.entries) as (λ b. (cond b (changed o marked t) (removed o t)).next ≡ t.next) [ true ↦ refl | false ↦ refl ]
-  | false ↦ refl
-]
-
-collected_creates : (o : OpId) (t : FlowTable) (m : Option FlowRecord) → operation_at o t ≡ m → creates (collected_in o t m) ≤ creates t
-collected_creates o t None at = omega arith
-collected_creates o t (Some r) at = elim (is_collectable r) as (λ a. creates (cond a (cond (list_any is_running_drain r.entries) (changed o marked t) (removed o t)) t) ≤ creates t) [
-  | true ↦ elim (list_any is_running_drain r.entries) as (λ b. creates (cond b (changed o marked t) (removed o t)) ≤ creates t) [
-    | true ↦ let k = count_changed is_creating (is_number o) marked t.operations r at in omega (arith, k)
-    | false ↦ count_without is_creating (is_number o) t.operations
-  ]
-  | false ↦ omega arith
-]
+asks_no_create (FileRequest.Read offset len) = refl
+asks_no_create _ = refl
 
 pub filed_collects : (f : FileTable) (o : OpId) (t : FlowTable) → IsFiled f t → IsFiled f (collected_of o t)
 filed_collects f o t h =
-    let next = collected_next o t (operation_at o t) in
-    let counts = collected_creates o t (operation_at o t) refl in
-    let numbers = h.numbers in
-    let few = h.few in
-    record { numbers = omega (arith, next, counts, numbers); few = omega (arith, counts, few) }
+    let m = operation_at o t in
+    let next = collected_by (λ u. u.next ≡ t.next) o t m refl refl (λ r at done. refl) (λ r at done d. refl) in
+    let counts = collected_by (λ u. creates u ≤ creates t) o t m refl (omega arith)
+    (λ r at done. let k = count_changed is_creating (is_number o) marked t.operations r at in omega (arith, k)) (λ r at done d. count_without is_creating (is_number o) t.operations) in
+    record { numbers = omega (arith, next, counts, h.numbers); few = omega (arith, counts, h.few) }
 
 -- a create under way has room and a number
 pub room_for : (f : FileTable) (t : FlowTable) (o : OpId) (r : FlowRecord) → operation_at o t ≡ Some r → is_creating r ≡ true → IsFiled f t
     → (length f.handles < 4096) × (f.next < t.next)
 room_for f t o r at is h =
     let at_least : 1 ≤ creates t = found_counts is_creating (is_number o) t.operations r at is in
-    let numbers = h.numbers in
-    let few = h.few in
-    (omega (arith, at_least, few), omega (arith, at_least, numbers))
+    (omega (arith, at_least, h.few), omega (arith, at_least, h.numbers))

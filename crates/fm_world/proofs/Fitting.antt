@@ -1,24 +1,11 @@
 -- What a context names is there: what changes of contexts and of instances leave of it.
-use Rattle.std.proofs.Common.{◌≡◌, ℕ, ◌≤◌, ◌<◌, Bool, true, false, cond, List, [], ◌∷◌, ◌++◌, length, map, Option, Some, None, is_some, option_map, slice_get, refl, ap, sym, ◌∙◌, inl, inr, arith}
-use Rattle.std.specs.Prelude.{All, slice_set, ◌==◌}
+use Rattle.std.proofs.Common.{◌≡◌, ◌≢◌, ℕ, ◌≤◌, ◌<◌, Bool, true, false, cond, List, [], ◌∷◌, ◌++◌, length, map, Option, Some, None, is_some, option_map, slice_get, refl, ap, sym, ◌∙◌, inl, inr, arith}
+use Rattle.fm_world.proofs.Words.{All, slice_set, false≢true, cases_Bool, and_parts, and_from, lt-ltb, ltb-true, All-weaker, All-map, All-push, true≢false}
+use Rattle.fm_world.proofs.Words.{eq-eqb, ContextKind, CtxId, InstanceId, All-updated, All-set_others, StackWorld, Object, Owner, new_slot, placed, with_link}
+use Rattle.fm_world.proofs.Words.{swept, swept_slot, Context, Slot, context_at, context_in, changed_slot, change_context, same_owner, row_at, fits}
+use Rattle.fm_world.proofs.Words.{owner_fits, link_fits, may_link, suits, holds_links_by, is_left_by, keeps_links_by, is_volume}
+use Rattle.std.specs.Prelude.{◌==◌}
 use Rattle.std.specs.Option.{option_and_then}
-use Rattle.std.proofs.lemmas.Bool.{false≢true, cases_Bool, and_parts, and_from, lt-ltb, ltb-true}
-use Rattle.std.proofs.lemmas.List.Elements.{All-weaker, All-map, All-push}
-use Rattle.fm_types.specs.declared.context_kind.ContextKind.{ContextKind}
-use Rattle.fm_types.specs.declared.context_kind.ContextKind.TheVariants as kind
-use Rattle.fm_types.specs.declared.ids.CtxId.{CtxId}
-use Rattle.fm_types.specs.declared.ids.InstanceId.{InstanceId}
-use Rattle.fm_types.proofs.Lists.{All-updated, All-set_others}
-use Rattle.fm_stack.specs.StackWorld.{StackWorld}
-use Rattle.fm_ctx.specs.declared.object.Object.{Object}
-use Rattle.fm_ctx.specs.declared.object.Object.TheVariants as object
-use Rattle.fm_ctx.specs.declared.owner.Owner.{Owner}
-use Rattle.fm_ctx.specs.declared.owner.Owner.TheVariants as owner
-use Rattle.fm_ctx.specs.Births.{new_slot, placed}
-use Rattle.fm_ctx.specs.Links.{with_link}
-use Rattle.fm_ctx.specs.Settling.{swept, swept_slot}
-use Rattle.fm_ctx.specs.Table.{Context, Slot, context_at, context_in, changed_slot, change_context}
-use Rattle.fm_world.specs.Owners.{row_at, fits, owner_fits, link_fits, may_link, suits, holds_links_by, is_left_by, keeps_links_by, is_volume}
 
 -- a test of all contexts
 abbrev pub AllPass : (Option Context → Bool) → List Slot → Type 0
@@ -71,10 +58,8 @@ fits_linked s x o link h =
     and_from (owner_fits s x.kind x.owner) (link_fits s (with_link (Some o) x) (Some o)) (and_parts (owner_fits s x.kind x.owner) (link_fits s x x.link) h).0 (at_object o link)
   where
     at_object : (o : Object) → link_fits s x (Some o) ≡ true → link_fits s (with_link (Some o) x) (Some o) ≡ true
-    at_object (object.Volume v) h = h
-    at_object (object.Instance i) h = h
-    at_object (object.Stream r) h = h
-    at_object (object.Handle r) h = h
+    at_object (Object.Volume v) h = h
+    at_object _ h = h
 
 pub passes_swept : (p q : Option Context → Bool) (test : Context → Bool) (slots : List Slot) → q None ≡ true
     → ((x : Context) → p (Some x) ≡ true → q (Some (swept test x)) ≡ true) → AllPass p slots → AllPass q (map (swept_slot test) slots)
@@ -89,18 +74,15 @@ passes_swept p q test slots none keeps h =
 -- ---- instances change
 
 pub owner_stays : (s t : StackWorld) (k : ContextKind) (o : Owner) → length s.filters ≤ length t.filters
-    → ((j : InstanceId) → o ≡ owner.Instance j → is_left_by (row_at s j) ≡ true → is_left_by (row_at t j) ≡ true)
+    → ((j : InstanceId) → o ≡ Owner.Instance j → is_left_by (row_at s j) ≡ true → is_left_by (row_at t j) ≡ true)
     → owner_fits s k o ≡ true → owner_fits t k o ≡ true
-owner_stays s t kind.Volume (owner.Filter f) more left h =
+owner_stays s t ContextKind.Volume (Owner.Filter f) more left h =
     let below : f.0 < length s.filters = ltb-true f.0 (length s.filters) h in
     lt-ltb f.0 (length t.filters) (omega (arith, below, more))
-owner_stays s t kind.Volume (owner.Instance i) more left h = absurd (false≢true h)
-owner_stays s t kind.Instance (owner.Filter f) more left h = absurd (false≢true h)
-owner_stays s t kind.Stream (owner.Filter f) more left h = absurd (false≢true h)
-owner_stays s t kind.Handle (owner.Filter f) more left h = absurd (false≢true h)
-owner_stays s t kind.Instance (owner.Instance i) more left h = left i refl h
-owner_stays s t kind.Stream (owner.Instance i) more left h = left i refl h
-owner_stays s t kind.Handle (owner.Instance i) more left h = left i refl h
+owner_stays s t ContextKind.Instance (Owner.Instance i) more left h = left i refl h
+owner_stays s t ContextKind.Stream (Owner.Instance i) more left h = left i refl h
+owner_stays s t ContextKind.Handle (Owner.Instance i) more left h = left i refl h
+owner_stays s t _ _ more left h = absurd (false≢true h)
 
 -- no volume's contexts are unlinked
 abbrev pub VolumesStay : StackWorld → StackWorld → Type 0
@@ -114,12 +96,16 @@ link_stays s t x (Some o) volumes may h =
     and_from (may_link t x.owner) (suits t x o) (may refl parts.0) (at_object o parts.1)
   where
     at_object : (o : Object) → suits s x o ≡ true → suits t x o ≡ true
-    at_object (object.Volume v) h =
+    at_object (Object.Volume v) h =
         let parts = and_parts (is_volume x.kind) (holds_links_by (slice_get s.volumes v.0)) h in
         and_from (is_volume x.kind) (holds_links_by (slice_get t.volumes v.0)) parts.0 (volumes v.0 parts.1)
-    at_object (object.Instance i) h = h
-    at_object (object.Stream r) h = h
-    at_object (object.Handle r) h = h
+    at_object _ h = h
+
+-- where one instance changes, others' contexts may be linked still
+pub others_link : (s t : StackWorld) (i : InstanceId) → ((j : InstanceId) → j.0 ≢ i.0 → row_at t j ≡ row_at s j) → (o : Owner) → same_owner (Owner.Instance i) o ≡ false
+    → may_link s o ≡ true → may_link t o ≡ true
+others_link s t i same (Owner.Filter f) other h = refl
+others_link s t i same (Owner.Instance j) other h = ap keeps_links_by (same j (λ e. true≢false (sym (eq-eqb i.0 j.0 (sym e)) ∙ other))) ∙ h
 
 -- instances go on: none is detached, and none is emptied
 pub record GoesOn (s t : StackWorld) : Type 0 where
@@ -132,8 +118,8 @@ pub fits_on : (s t : StackWorld) (slots : List Slot) → GoesOn s t → AllFit s
 fits_on s t slots on h = All-weaker (λ (x : Slot). fits s x.context ≡ true) (λ (x : Slot). fits t x.context ≡ true) (λ x fit. at_context x.context fit) slots h
   where
     at_owner : (o : Owner) → may_link s o ≡ true → may_link t o ≡ true
-    at_owner (owner.Filter f) h = refl
-    at_owner (owner.Instance j) h = on.keeps j h
+    at_owner (Owner.Filter f) h = refl
+    at_owner (Owner.Instance j) h = on.keeps j h
 
     at_context : (o : Option Context) → fits s o ≡ true → fits t o ≡ true
     at_context None fit = refl

@@ -1,36 +1,12 @@
 -- Where a worker is in a callback of an instance, the instance is there and takes contexts.
-use Rattle.std.proofs.Common.{◌≡◌, ℕ, ◌≤◌, ◌==◌, ◌&&◌, Bool, true, cond, List, [], ◌∷◌, Option, Some, None, find, refl, ap, sym, ◌∙◌, subst, inl, inr, ◌⊎◌, arith}
-use Rattle.std.proofs.lemmas.Bool.{false≢true, cases_Bool, eq-eqb, and_from}
-use Rattle.std.proofs.lemmas.Option.{none-some, same_Some}
-use Rattle.fm_types.specs.declared.ids.InstanceId.{InstanceId}
-use Rattle.fm_types.specs.declared.ids.OpId.{OpId}
-use Rattle.fm_types.specs.declared.ids.WorkerId.{WorkerId}
-use Rattle.fm_stack.specs.declared.instance.Instance.{Instance}
-use Rattle.fm_stack.specs.declared.instance.Phase.{Phase}
-use Rattle.fm_stack.specs.declared.instance.Phase.TheVariants as phase
-use Rattle.fm_stack.specs.Instances.{is_setup}
-use Rattle.fm_flow.specs.declared.entry.PreState.TheVariants as pre
-use Rattle.fm_flow.specs.declared.entry.PostState.TheVariants as post
-use Rattle.fm_flow.specs.declared.stage.Stage.TheVariants.{PreRunning, PostRunning}
-use Rattle.fm_flow.specs.Entries.{last_visited, last_posted}
-use Rattle.fm_flow.specs.Counts.{flight, leaves_at}
-use Rattle.fm_flow.specs.Record.{FlowRecord}
-use Rattle.fm_flow.specs.Sound.{IsCourse}
-use Rattle.fm_flow.specs.Sound as flow
-use Rattle.fm_flow.specs.Table.{is_number, total, in_flight}
-use Rattle.fm_flow.proofs.Counting.{flight_pre_settled, flight_post_settled}
-use Rattle.fm_flow.proofs.Drains.{drains_open}
-use Rattle.fm_types.proofs.Firsts.{found_holds}
-use Rattle.fm_world.specs.declared.worker.Worker.{Worker}
-use Rattle.fm_world.specs.declared.worker.Worker.TheVariants as place
-use Rattle.fm_world.specs.World.{World}
-use Rattle.fm_world.specs.Workers.{worker_at}
-use Rattle.fm_world.specs.Headline.{AtPre, AtPost, is_in_drain}
-use Rattle.fm_world.specs.Owners.{row_at, place_in, is_flown, is_flown_by, is_left_by, keeps_links_by}
-use Rattle.fm_world.specs.Sound.{IsSound, IsUnderWay}
+use Rattle.std.proofs.Common.{◌≡◌, ℕ, ◌≤◌, ◌==◌, ◌&&◌, Bool, true, cond, List, [], ◌∷◌, Option, Some, find, refl, ap, sym, ◌∙◌, subst, inl, inr, ◌⊎◌, arith, not}
+use Rattle.fm_world.proofs.Words.{false≢true, cases_Bool, eq-eqb, and_from, none-some, same_Some, InstanceId, OpId, WorkerId, Instance, Phase, is_setup}
+use Rattle.fm_world.proofs.Words.{is_detached, PreState, PostState, PreRunning, PostRunning, last_visited, last_posted, flight, leaves_at, FlowRecord}
+use Rattle.fm_world.proofs.Words.{IsCourse, is_number, total, in_flight, flight_pre_settled, flight_post_settled, drains_open, Worker, World, worker_at}
+use Rattle.fm_world.proofs.Words.{is_in_drain, row_at, place_in, is_flown, is_flown_by, is_left_by, keeps_links_by, IsSound, IsUnderWay, keeps_links}
 use Rattle.fm_world.proofs.Keeps.{setup_place}
 use Rattle.fm_world.proofs.Draining.{drained_there}
-use Rattle.fm_world.proofs.Ties.{tied_there, spot_pre, spot_post}
+use Rattle.fm_world.proofs.Operations.{inside_pre, inside_post}
 
 -- what one operation counts for, all of them do
 pub total_found : (f : FlowRecord → ℕ) (test : FlowRecord → Bool) (rs : List FlowRecord) (r : FlowRecord) → find test rs ≡ Some r → f r ≤ total f rs
@@ -45,23 +21,19 @@ here : (i : ℕ) (last : Option ℕ) → last ≡ Some i → leaves_at i last 1 
 here i last e = ap (λ l. leaves_at i l 1) e ∙ ap (λ b. cond b 1 0) (eq-eqb i i refl)
 
 -- the operation that a worker is in, in a callback of the instance, is in flight there
-pub pre_flies : (w : World) (k : WorkerId) (o : OpId) (i : InstanceId) → IsUnderWay w → worker_at w.workers k ≡ Some (place.Pre o i) → 1 ≤ in_flight i.0 w.flow
+pub pre_flies : (w : World) (k : WorkerId) (o : OpId) (i : InstanceId) → IsUnderWay w → worker_at w.workers k ≡ Some (Worker.Pre o i) → 1 ≤ in_flight i.0 w.flow
 pre_flies w k o i s at =
-    let there = tied_there w.workers w.flow k (place.Pre o i) o (AtPre i.0) s.workers at (and_from (o.0 == o.0) (i.0 == i.0) (eq-eqb o.0 o.0 refl) (eq-eqb i.0 i.0 refl)) in
-    let r = there.0 in
-    let spot = spot_pre i.0 r.stage r.entries there.2 in
-    let sound = found_holds flow.IsSound (is_number o) w.flow.operations r s.flow.sound there.1 in
-    let flies = flight_pre_settled PreRunning r.entries pre.Passed i.0 refl (subst (λ x. IsCourse x r.entries) spot.0 sound.course) in
-    omega (arith, flies, here i.0 (last_visited r.entries) spot.1, total_found (flight i.0) (is_number o) w.flow.operations r there.1)
+    let x = inside_pre w k o i at s in
+    let r = x.0.row in
+    let flies = flight_pre_settled PreRunning r.entries PreState.Passed i.0 refl (subst (λ x. IsCourse x r.entries) x.1 x.0.sound.course) in
+    omega (arith, flies, here i.0 (last_visited r.entries) x.2, total_found (flight i.0) (is_number o) w.flow.operations r x.0.at)
 
-pub post_flies : (w : World) (k : WorkerId) (o : OpId) (i : InstanceId) → IsUnderWay w → worker_at w.workers k ≡ Some (place.Post o i) → 1 ≤ in_flight i.0 w.flow
+pub post_flies : (w : World) (k : WorkerId) (o : OpId) (i : InstanceId) → IsUnderWay w → worker_at w.workers k ≡ Some (Worker.Post o i) → 1 ≤ in_flight i.0 w.flow
 post_flies w k o i s at =
-    let there = tied_there w.workers w.flow k (place.Post o i) o (AtPost i.0) s.workers at (and_from (o.0 == o.0) (i.0 == i.0) (eq-eqb o.0 o.0 refl) (eq-eqb i.0 i.0 refl)) in
-    let r = there.0 in
-    let spot = spot_post i.0 r.stage r.entries there.2 in
-    let sound = found_holds flow.IsSound (is_number o) w.flow.operations r s.flow.sound there.1 in
-    let flies = flight_post_settled PostRunning r.entries post.Finished i.0 refl (subst (λ x. IsCourse x r.entries) spot.0 sound.course) in
-    omega (arith, flies, here i.0 (last_posted r.entries) spot.1, total_found (flight i.0) (is_number o) w.flow.operations r there.1)
+    let x = inside_post w k o i at s in
+    let r = x.0.row in
+    let flies = flight_post_settled PostRunning r.entries PostState.Finished i.0 refl (subst (λ x. IsCourse x r.entries) x.1 x.0.sound.course) in
+    omega (arith, flies, here i.0 (last_posted r.entries) x.2, total_found (flight i.0) (is_number o) w.flow.operations r x.0.at)
 
 pub drain_flies : (w : World) (k : WorkerId) (a : Worker) (o : OpId) (i : InstanceId) → IsUnderWay w → worker_at w.workers k ≡ Some a → is_in_drain o i.0 a ≡ true → 1 ≤ in_flight i.0 w.flow
 drain_flies w k a o i s at inside =
@@ -82,57 +54,37 @@ flown_row w i row s there flies =
 in_it : (o : OpId) (j : InstanceId) → ((o.0 == o.0) && (j.0 == j.0)) ≡ true
 in_it o j = and_from (o.0 == o.0) (j.0 == j.0) (eq-eqb o.0 o.0 refl) (eq-eqb j.0 j.0 refl)
 
+flown_in : (w : World) (j i : InstanceId) → Some j ≡ Some i → 1 ≤ in_flight j.0 w.flow → 1 ≤ in_flight i.0 w.flow
+flown_in w j i is flies = subst (λ (x : InstanceId). 1 ≤ in_flight x.0 w.flow) (same_Some j i is) flies
+
 open_at : (w : World) (k : WorkerId) (i : InstanceId) (row : Instance) (m : Option Worker) → IsSound w → worker_at w.workers k ≡ m → place_in m ≡ Some i
     → row_at w.stack i ≡ Some row → IsOpen row.phase
-open_at w k i row None s at is there = absurd (none-some i is)
-open_at w k i row (Some place.Idle) s at is there = absurd (none-some i is)
-open_at w k i row (Some (place.Base o)) s at is there = absurd (none-some i is)
-open_at w k i row (Some (place.Cleanup c)) s at is there = absurd (none-some i is)
-open_at w k i row (Some (place.Setup j)) s at is there =
+open_at w k i row (Some (Worker.Setup j)) s at is there =
     let setup = setup_place w k j s.under_way at in
     let same : setup.0 ≡ row = same_Some setup.0 row (sym setup.1 ∙ ap (row_at w.stack) (same_Some j i is) ∙ there) in
     inl (subst (λ (r : Instance). is_setup r.phase ≡ true) same setup.2)
-open_at w k i row (Some (place.Pre o j)) s at is there =
-    flown_row w i row s there (subst (λ (x : InstanceId). 1 ≤ in_flight x.0 w.flow) (same_Some j i is) (pre_flies w k o j s.under_way at))
-open_at w k i row (Some (place.Post o j)) s at is there =
-    flown_row w i row s there (subst (λ (x : InstanceId). 1 ≤ in_flight x.0 w.flow) (same_Some j i is) (post_flies w k o j s.under_way at))
-open_at w k i row (Some (place.Drain o j)) s at is there =
-    flown_row w i row s there (subst (λ (x : InstanceId). 1 ≤ in_flight x.0 w.flow) (same_Some j i is) (drain_flies w k (place.Drain o j) o j s.under_way at (in_it o j)))
-open_at w k i row (Some (place.EarlyDrain o j)) s at is there =
-    flown_row w i row s there (subst (λ (x : InstanceId). 1 ≤ in_flight x.0 w.flow) (same_Some j i is) (drain_flies w k (place.EarlyDrain o j) o j s.under_way at (in_it o j)))
+open_at w k i row (Some (Worker.Pre o j)) s at is there = flown_row w i row s there (flown_in w j i is (pre_flies w k o j s.under_way at))
+open_at w k i row (Some (Worker.Post o j)) s at is there = flown_row w i row s there (flown_in w j i is (post_flies w k o j s.under_way at))
+open_at w k i row (Some (Worker.Drain o j)) s at is there =
+    flown_row w i row s there (flown_in w j i is (drain_flies w k (Worker.Drain o j) o j s.under_way at (in_it o j)))
+open_at w k i row (Some (Worker.EarlyDrain o j)) s at is there =
+    flown_row w i row s there (flown_in w j i is (drain_flies w k (Worker.EarlyDrain o j) o j s.under_way at (in_it o j)))
+open_at w k i row _ s at is there = absurd (none-some i is)
 
 pub callback_open : (w : World) (k : WorkerId) (i : InstanceId) (row : Instance) → IsSound w → place_in (worker_at w.workers k) ≡ Some i
     → row_at w.stack i ≡ Some row → IsOpen row.phase
 callback_open w k i row s is there = open_at w k i row (worker_at w.workers k) s refl is there
 
-open_is_left : (row : Instance) → IsOpen row.phase → is_left_by (Some row) ≡ true
-open_is_left row h = at_phase row.phase h
-  where
-    at_phase : (p : Phase) → IsOpen p → is_left_by (Some (record row { phase = p })) ≡ true
-    at_phase phase.Setup h = refl
-    at_phase phase.Attached h = refl
-    at_phase phase.Stopping h = refl
-    at_phase phase.Completing h = refl
-    at_phase phase.Emptying h = refl
-    at_phase phase.Detached (inl h) = absurd (false≢true h)
-    at_phase phase.Detached (inr h) = absurd (false≢true h)
-
-open_keeps_links : (row : Instance) → IsOpen row.phase → keeps_links_by (Some row) ≡ true
-open_keeps_links row h = at_phase row.phase h
-  where
-    at_phase : (p : Phase) → IsOpen p → keeps_links_by (Some (record row { phase = p })) ≡ true
-    at_phase phase.Setup h = refl
-    at_phase phase.Attached h = refl
-    at_phase phase.Stopping h = refl
-    at_phase phase.Completing h = refl
-    at_phase phase.Emptying (inl h) = absurd (false≢true h)
-    at_phase phase.Emptying (inr h) = absurd (false≢true h)
-    at_phase phase.Detached (inl h) = absurd (false≢true h)
-    at_phase phase.Detached (inr h) = absurd (false≢true h)
+open_is : (p : Phase) → IsOpen p → (not (is_detached p) ≡ true) × (keeps_links p ≡ true)
+open_is Phase.Setup h = (refl, refl)
+open_is Phase.Attached h = (refl, refl)
+open_is Phase.Stopping h = (refl, refl)
+open_is _ (inl h) = absurd (false≢true h)
+open_is _ (inr h) = absurd (false≢true h)
 
 -- so it isn't detached, and its contexts aren't unlinked
 pub callback_left : (w : World) (k : WorkerId) (i : InstanceId) (row : Instance) → IsSound w → place_in (worker_at w.workers k) ≡ Some i
     → row_at w.stack i ≡ Some row → (is_left_by (row_at w.stack i) ≡ true) × (keeps_links_by (row_at w.stack i) ≡ true)
 callback_left w k i row s is there =
-    let open' = callback_open w k i row s is there in
-    (ap is_left_by there ∙ open_is_left row open', ap keeps_links_by there ∙ open_keeps_links row open')
+    let open' = open_is row.phase (callback_open w k i row s is there) in
+    (ap is_left_by there ∙ open'.0, ap keeps_links_by there ∙ open'.1)

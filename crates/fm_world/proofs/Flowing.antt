@@ -1,99 +1,43 @@
 -- The events on operations leave contexts as the World says.
-use Rattle.std.proofs.Common.{◌≡◌, ℕ, ◌<◌, ◌≤◌, ◌+◌, ◌==◌, Bool, true, false, cond, List, [], ◌∷◌, ◌++◌, length, not, Option, Some, None, Result, Ok, Err, slice_get, option_map, unwrap_or, option_to_list, find, refl, ap, sym, ◌∙◌, subst, inl, inr, arith}
-use Rattle.std.specs.Prelude.{All, slice_set, ◌||◌, ◌-◌, ◌^◌, nat_le}
-use Rattle.std.specs.List.{list_any}
-use Rattle.std.proofs.lemmas.Bool.{false≢true, true≢false, cases_Bool, and_parts, and_from, eq-eqb, ne_eqb}
-use Rattle.std.proofs.lemmas.Option.{none-some, same_Some, slice_get_within}
-use Rattle.std.proofs.lemmas.List.{set-set}
-use Rattle.std.proofs.lemmas.List.Elements.{All-nil, All-cons, All-push}
-use Rattle.fm_types.specs.declared.ids.CtxId.{CtxId}
-use Rattle.fm_types.specs.declared.ids.InstanceId.{InstanceId}
-use Rattle.fm_types.specs.declared.ids.OpId.{OpId}
-use Rattle.fm_types.specs.declared.ids.WorkerId.{WorkerId}
-use Rattle.fm_types.specs.declared.operation.Operation.{Operation}
-use Rattle.fm_types.specs.declared.operation.Operation.TheVariants as kind
-use Rattle.fm_types.specs.declared.status.Status.{Status}
-use Rattle.fm_types.specs.declared.status.Status.TheVariants as status
-use Rattle.fm_types.proofs.Lists.{slice_get-set_same}
-use Rattle.fm_data.specs.declared.base_call.BaseCall.{BaseCall}
-use Rattle.fm_data.specs.declared.params.Params.{Params}
-use Rattle.fm_data.specs.declared.params.Params.TheVariants as params
-use Rattle.fm_data.specs.declared.answer.Answer.{Answer}
-use Rattle.fm_data.specs.declared.verdict.Completion.{Completion}
-use Rattle.fm_data.specs.declared.verdict.PreVerdict.{PreVerdict}
-use Rattle.fm_data.specs.declared.verdict.PreVerdict.TheVariants as verdict
-use Rattle.fm_data.specs.declared.verdict.PostVerdict.{PostVerdict}
-use Rattle.fm_data.specs.declared.verdict.PostVerdict.TheVariants as given'
-use Rattle.fm_data.specs.Data.{Data, data_fits}
-use Rattle.fm_stack.specs.declared.instance.Phase.{Phase}
-use Rattle.fm_stack.specs.declared.instance.Phase.TheVariants as phase
-use Rattle.fm_stack.specs.StackWorld.{StackWorld}
-use Rattle.fm_stack.specs.Instances.{is_attached}
-use Rattle.fm_stack.specs.Next.{is_to_visit, is_below_cursor}
-use Rattle.fm_flow.specs.declared.action.Below.{Below}
-use Rattle.fm_flow.specs.declared.action.Below.TheVariants as below
-use Rattle.fm_flow.specs.declared.action.FlowAction.{FlowAction}
-use Rattle.fm_flow.specs.declared.action.FlowAction.TheVariants as action
-use Rattle.fm_flow.specs.declared.entry.Ask.{Ask}
-use Rattle.fm_flow.specs.declared.entry.PreState.{PreState}
-use Rattle.fm_flow.specs.declared.entry.PreState.TheVariants as pre
-use Rattle.fm_flow.specs.declared.entry.Entry.TheVariants.{Base}
-use Rattle.fm_flow.specs.declared.entry.PreVisit.{PreVisit}
-use Rattle.fm_flow.specs.declared.stage.Stage.{Stage}
-use Rattle.fm_flow.specs.declared.stage.Stage.TheVariants.{Descending, PreRunning, PreHeld, InBase, Ascending, PostRunning, PostHeld, InDrain}
-use Rattle.fm_flow.specs.Counts.{carried_in, carried_among, carried_by, is_running_drain, flight, handed, taken_by}
-use Rattle.fm_flow.specs.Entries.{ask_in, last_visited, owed}
-use Rattle.fm_flow.specs.Record.{FlowRecord}
-use Rattle.fm_flow.specs.Sound.{IsCourse}
+use Rattle.std.proofs.Common.{◌≡◌, ℕ, ◌<◌, ◌≤◌, ◌+◌, ◌==◌, Bool, true, false, cond, List, [], ◌∷◌, ◌++◌, length, Option, Some, None, Result, Ok, slice_get, option_to_list, find, refl, ap, sym, ◌∙◌, subst, inl, inr, arith}
+use Rattle.fm_world.proofs.Words.{All, slice_set, nat_le, false≢true, true≢false, cases_Bool, and_parts, ne_eqb, none-some, same_Some, slice_get_within}
+use Rattle.fm_world.proofs.Words.{set-set, All-nil, All-cons, All-push, CtxId, InstanceId, OpId, WorkerId, Operation, Status, found_holds, all_change}
+use Rattle.fm_world.proofs.Words.{all_without, HandleId, StreamId, VolumeId, CreateMode, BaseCall, Params, Answer, PreVerdict, PostVerdict, Data}
+use Rattle.fm_world.proofs.Words.{operation_of, is_within_limits, Phase, StackWorld, is_attached, is_to_visit, is_below_cursor, holds, hand_of, without}
+use Rattle.fm_world.proofs.Words.{IsLawful, grabbed, Leaves, Slot, ContextTable, lawful_alike, leave_keeps, carry_keeps, bring_keeps, Below, FlowAction, Ask}
+use Rattle.fm_world.proofs.Words.{PreState, Base, PreVisit, Stage, Descending, PreRunning, Ascending, PostRunning, carried_in, carried_among, carried_by}
+use Rattle.fm_world.proofs.Words.{flight, handed, taken_by, ask_in, last_visited, owed, FlowRecord, IsCourse, next_of, pre_returned_of, post_returned_of}
+use Rattle.fm_world.proofs.Words.{drain_returned_of, base_fits, post_state, done_at, post_leads, FlowTable, operation_at, changed, told, total, carried}
+use Rattle.fm_world.proofs.Words.{in_flight, begun, begun_record, is_number, collected_in, marked, is_full, verdict_counted, completed_as, owed_pre_settled}
+use Rattle.fm_world.proofs.Words.{owed_post_settled, owed_drain_settled, base_counted, creates, is_unanswered, is_create, collected_of, Begin, Worker, World}
+use Rattle.fm_world.proofs.Words.{carries, worker_at, put, after_next, cleanup_in, row_at, place_in, HoldsIn, CarriesIn, AskCarries, fits, is_flown}
+use Rattle.fm_world.proofs.Words.{is_flown_by, LosesByKnown, Begins, Nexts, NextsOver, LiesBelow, PreReturns, BaseReturns, PostReturns, ReturnsFrom, Collects}
+use Rattle.fm_world.proofs.Words.{brought, received, returned, drains_at, state_at, state_given, held_context, of_hand, sent, sent_in, carries_after}
+use Rattle.fm_world.proofs.Words.{has_post, begun_on, moved_on, has_no_handle_left, filed_next, filed_pre, filed_base, filed_record, is_created_on, base_step}
+use Rattle.fm_world.proofs.Words.{base_returned, asked_refused, asked_begun, IsSound, IsUnderWay, IsOwned, IsAmong, IsFileSound, names_there, pre_step}
+use Rattle.fm_world.proofs.Words.{FileHandle, FileStream, FileTable, handle_at, stream_for, created, after_pre, created_begun}
 use Rattle.fm_flow.specs.Sound as flow
-use Rattle.fm_flow.specs.Steps.{next_of, pre_returned_of, post_returned_of, drain_returned_of, base_fits, post_state, is_done, done_at, post_leads}
-use Rattle.fm_flow.specs.Table.{FlowTable, operation_at, changed, told, total, carried, in_flight, begun, begun_record, is_number, is_collectable, collected_in, marked, removed, without_first, is_full}
-use Rattle.fm_flow.specs.Verdict.{verdict_counted, completed_as}
-use Rattle.fm_flow.proofs.Balances.{next_carries, next_flies, next_enters, pre_returned_carries, pre_returned_flies, base_returned_carries, base_returned_flies, post_returned_carries, post_returned_flies, drain_returned_carries, drain_returned_flies, total_changed}
-use Rattle.fm_flow.proofs.Counting.{owed_pre_settled, owed_post_settled, owed_drain_settled}
+use Rattle.std.specs.Prelude.{◌||◌, ◌-◌, ◌^◌}
+use Rattle.fm_data.specs.declared.verdict.Completion.{Completion}
+use Rattle.fm_flow.specs.Table.{without_first}
+use Rattle.fm_flow.proofs.Balances.{next_carries, next_flies, next_enters, pre_returned_carries, pre_returned_flies, base_returned_carries}
+use Rattle.fm_flow.proofs.Balances.{base_returned_flies, post_returned_carries, post_returned_flies, drain_returned_carries, drain_returned_flies}
+use Rattle.fm_flow.proofs.Balances.{total_changed}
 use Rattle.fm_flow.proofs.Owed.{owed_push_none}
 use Rattle.fm_flow.proofs.Owes.{WasOwed, MayAsk, next_owes}
-use Rattle.fm_types.proofs.Firsts.{found_holds, all_change, all_without}
-use Rattle.fm_ctx.specs.Bags.{holds, hand_of, without}
-use Rattle.fm_ctx.specs.Laws.{IsLawful}
-use Rattle.fm_ctx.specs.References.{grabbed}
-use Rattle.fm_ctx.specs.Settling.{Leaves}
-use Rattle.fm_ctx.specs.Table.{Slot, ContextTable}
-use Rattle.fm_ctx.proofs.Alike.{lawful_alike}
-use Rattle.fm_ctx.proofs.Leaving.{leave_keeps}
-use Rattle.fm_ctx.proofs.Moves.{within_hands, carry_keeps, bring_keeps}
-use Rattle.fm_world.specs.declared.step.Begin.{Begin}
-use Rattle.fm_world.specs.declared.step.Begin.TheVariants as begin
-use Rattle.fm_world.specs.declared.worker.Worker.{Worker}
-use Rattle.fm_world.specs.declared.worker.Worker.TheVariants as place
-use Rattle.fm_world.specs.World.{World, carries}
-use Rattle.fm_world.specs.Workers.{worker_at, put, is_idle, after_next, cleanup_in}
-use Rattle.fm_world.specs.Owners.{row_at, place_in, HoldsIn, CarriesIn, AskCarries, fits, is_flown, is_flown_by}
-use Rattle.fm_world.specs.Events.{LosesByKnown, Begins, Nexts, NextsOver, FindsBelow, LiesBelow, PreReturns, PreReturnsAt, BaseReturns, BaseReturnsAt, PostReturns, PostReturnsAt, ReturnsFrom, Collects, brought, received, returned, drains_at, state_at, state_given, held_context, of_hand, sent, sent_in, carries_after, has_post, begin_refused, begun_on, begun_at, after_begin, moved_on, has_no_handle_left, filed_next, filed_pre, filed_base, filed_record, is_created_on, base_step, base_returned, NextsAt, PreReturnsOver, asked_refused, asked_begun, refused_at}
-use Rattle.fm_world.specs.Headline.{AtPre, AtBase, AtPost, AtDrain}
-use Rattle.fm_world.specs.Sound.{IsSound, IsUnderWay, IsOwned, IsAmong, IsFileSound}
-use Rattle.fm_world.proofs.Belonging.{owners_same, filters_same, belongs_still, AllHold, AllCarry, all_hold, others_stay, held_has}
+use Rattle.fm_world.proofs.Belonging.{owners_same, filters_same, AllCarry, held_has}
 use Rattle.fm_world.proofs.Callbacks.{same_hands}
-use Rattle.fm_world.specs.Links.{names_there, LosesLinks}
-use Rattle.fm_world.proofs.Fitting.{AllPass}
-use Rattle.fm_world.proofs.Keeps.{known_cases, unless_cases, idle_there, FiledIn}
-use Rattle.fm_world.proofs.Losing.{NamedIn, received_slots, loses_filed, loses_owned, loses_named, named_more, created_there, moved_there}
-use Rattle.fm_world.proofs.Operations.{begin_keeps, next_keeps, pre_keeps, base_keeps, post_keeps, collect_keeps, may_visit, told_there, full_from, not_there, begins_at, asked_within}
-use Rattle.fm_world.proofs.Owning.{empty_hand, cleaning_stays}
-use Rattle.fm_world.proofs.Ties.{tied_there, spot_pre, spot_post, spot_drain, spot_base}
-use Rattle.fm_types.specs.declared.ids.HandleId.{HandleId}
-use Rattle.fm_types.specs.declared.ids.StreamId.{StreamId}
-use Rattle.fm_types.specs.declared.ids.VolumeId.{VolumeId}
-use Rattle.fm_world.specs.declared.file.FileHandle.{FileHandle}
-use Rattle.fm_world.specs.declared.file.FileStream.{FileStream}
-use Rattle.fm_world.specs.Files.{FileTable, stream_at, handle_at, stream_for, created, after_pre}
-use Rattle.fm_world.specs.Requests.{params_of}
-use Rattle.fm_data.specs.Params.{operation_of, is_within_limits}
-use Rattle.fm_flow.specs.Answered.{base_counted}
-use Rattle.fm_flow.specs.Creates.{creates, is_unanswered, is_create}
-use Rattle.fm_world.proofs.Filing.{was_known, filed_creates, asks_no_create}
+use Rattle.fm_world.proofs.Fitting.{AllPass, AllFit}
+use Rattle.fm_world.proofs.Keeps.{known_cases, loses_under_way, FiledIn}
+use Rattle.fm_world.proofs.Losing.{NamedIn, received_slots, loses_filed, loses_owned, loses_named, loses_sound, named_more, created_there, moved_there}
+use Rattle.fm_world.proofs.Events.{Turns, next_by, pre_by, base_by, post_by, memory_by}
+use Rattle.fm_world.proofs.Operations.{next_keeps, pre_keeps, base_keeps, post_keeps, drain_keeps, collect_keeps, inside_pre, inside_base, inside_post, inside_drain, may_visit, told_there, asked_begun_by, begun_by, lists_keeps, creates_keeps, asks_keeps}
+use Rattle.fm_world.proofs.Owning.{empty_hand, owned_moves}
+use Rattle.fm_world.proofs.Filing.{was_known, filed_creates}
 use Rattle.fm_world.proofs.Filed.{SameFile, file_step, file_answered, file_pre, file_lists, file_begins, file_creates, file_collects, is_known, next_same_file, known_answered, base_answered, answered_same, fits_create}
 use Rattle.fm_world.proofs.Descents.{or_left, or_right}
+use Rattle.fm_world.proofs.Turning.{collected_by}
+use Rattle.fm_world.proofs.Owning.{cleaning_stays}
 
 -- ---- one operation changes
 
@@ -120,24 +64,31 @@ step_owned : (w : World) (o : OpId) (r : FlowRecord) (f : FlowRecord → FlowRec
     → ((i : InstanceId) → is_flown_by (row_at w.stack i) ≡ false → in_flight i.0 (changed o f w.flow) ≡ 0) → IsOwned w
     → IsOwned (record w { flow = changed o f w.flow; workers = put w.workers k b; contexts = t })
 step_owned w o r f k a b t hand at there worker na nb lawful slots hands cleaning here owes quiet h =
-    let within = slice_get_within w.workers k.0 a there in
-    let still = belongs_still w.stack w.contexts.slots w.stack t.slots (filters_same w.stack) (owners_same w.contexts.slots t.slots slots) in
-    let workers = put w.workers k b in
-    record {
-      lawful = lawful;
-      cleaning = cleaning_stays w t.cleaning k a b there cleaning na nb h.cleaning;
-      holders = subst (AllHold w.stack t.slots workers) (sym hands)
-          (all_hold w.stack w.contexts.slots w.stack t.slots w.workers workers w.contexts.hands k.0 hand (within_hands k.0 h.lawful worker) still
-          (others_stay w.workers k.0 b)
-          (subst (λ m. All (HoldsIn w.stack t.slots (place_in m)) hand) (sym (slice_get-set_same w.workers k.0 b within))
-          (subst (λ xs. All (HoldsIn w.stack xs (place_in (Some b))) hand) (sym slots) here))
-          h.holders);
-      completions = subst (λ xs. AllCarry w.stack xs (changed o f w.flow).operations) (sym slots)
-          (carry_changed w.stack w.contexts.slots w.flow o r f at owes h.completions);
-      fits = subst (λ xs. All (λ (x : Slot). fits w.stack x.context ≡ true) xs) (sym slots) h.fits;
-      quiet = quiet;
-      totals = h.totals;
-    }
+    owned_moves w w.stack (changed o f w.flow) t k a b hand there worker (cleaning_stays w t.cleaning k a b there cleaning na nb h.cleaning) (filters_same w.stack)
+    (owners_same w.contexts.slots t.slots slots) lawful hands
+    (subst (λ xs. All (HoldsIn w.stack xs (place_in (Some b))) hand) (sym slots) here)
+    (subst (λ xs. AllCarry w.stack xs (changed o f w.flow).operations) (sym slots) (carry_changed w.stack w.contexts.slots w.flow o r f at owes h.completions))
+    (subst (AllFit w.stack) (sym slots) h.fits) quiet h
+
+-- operations change, and nobody goes anywhere
+flow_owned : (w : World) (t : FlowTable) → IsLawful (λ c. carried c t) w.contexts → AllCarry w.stack w.contexts.slots t.operations
+    → ((i : InstanceId) → is_flown_by (row_at w.stack i) ≡ false → in_flight i.0 t ≡ 0) → IsOwned w → IsOwned (record w { flow = t })
+flow_owned w t lawful carry quiet h = record {
+  lawful = lawful;
+  cleaning = h.cleaning;
+  holders = h.holders;
+  completions = carry;
+  fits = h.fits;
+  quiet = quiet;
+  totals = h.totals;
+}
+
+worker_below : (w : World) (k : WorkerId) (a : Worker) → worker_at w.workers k ≡ Some a → IsUnderWay w → k.0 < 48
+worker_below w k a at s = subst (λ n. k.0 < n) s.hands (slice_get_within w.workers k.0 a at)
+
+-- what an operation is owed
+asks_of : (w : World) (o : OpId) (r : FlowRecord) → operation_at o w.flow ≡ Some r → IsOwned w → All (AskCarries w.stack w.contexts.slots) (owed r.entries)
+asks_of w o r at h = found_holds (λ (x : FlowRecord). All (AskCarries w.stack w.contexts.slots) (owed x.entries)) (is_number o) w.flow.operations r h.completions at
 
 -- nothing is carried otherwise
 alike : (w : World) (o : OpId) (r : FlowRecord) (f : FlowRecord → FlowRecord) → operation_at o w.flow ≡ Some r → ((c : CtxId) → carried_by c (f r) ≡ carried_by c r)
@@ -165,139 +116,75 @@ operation_owned : (old : World) (v : VolumeId) (stream : Option StreamId) (handl
     → IsOwned (record old { flow = begun v stream handle old.stack.births path p old.flow; files = files })
 operation_owned old v stream handle path p files k =
     let r = begun_record old.flow.next v stream handle old.stack.births path p in
+    files_owned files
+    (flow_owned old (begun v stream handle old.stack.births path p old.flow) (lawful_alike (λ c. sym (total_push (carried_by c) old.flow.operations r refl)) k.lawful)
+    (All-push (λ (x : FlowRecord). All (AskCarries old.stack old.contexts.slots) (owed x.entries)) old.flow.operations r k.completions
+    (All-nil (AskCarries old.stack old.contexts.slots)))
+    (λ i rests. total_push (flight i.0) old.flow.operations r refl ∙ k.quiet i rests) k)
+
+asks_sound : (old : World) (h : HandleId) (p : Params) (x : FileHandle) (y : FileStream) → is_create (operation_of p) ≡ false → handle_at h old.files ≡ Some x
+    → is_within_limits p ≡ true → is_full old.flow ≡ false → IsSound old → IsSound (begun_on old h p x (Some y))
+asks_sound old h p x y none at within free s =
+    let files = moved_on (operation_of p) h old.flow.next old.files in
     record {
-      lawful = lawful_alike (λ c. sym (total_push (carried_by c) old.flow.operations r refl)) k.lawful;
-      cleaning = k.cleaning;
-      holders = k.holders;
-      completions = All-push (λ (x : FlowRecord). All (AskCarries old.stack old.contexts.slots) (owed x.entries)) old.flow.operations r k.completions
-          (All-nil (AskCarries old.stack old.contexts.slots));
-      fits = k.fits;
-      quiet = λ i rests. total_push (flight i.0) old.flow.operations r refl ∙ k.quiet i rests;
-      totals = k.totals;
+      under_way = asks_keeps old h p x y none within free s.under_way;
+      owned = operation_owned old y.volume (Some x.stream) (Some h) (Some y.path) p files s.owned;
+      filed = file_begins old.files old.flow y.volume h x old.stack.births (Some y.path) p at none s.filed;
+      links = named_more old.files files old.contexts.slots (moved_there (operation_of p) h old.flow.next old.files) s.links;
     }
 
-on_owned : (old : World) (h : HandleId) (p : Params) (x : FileHandle) (m : Option FileStream) → IsOwned old → IsOwned (begun_on old h p x m)
-on_owned old h p x None s = s
-on_owned old h p x (Some y) s = operation_owned old y.volume (Some x.stream) (Some h) (Some y.path) p (moved_on (operation_of p) h old.flow.next old.files) s
-
-at_owned : (old : World) (h : HandleId) (p : Params) (m : Option FileHandle) → IsOwned old → IsOwned (begun_at old h p m)
-at_owned old h p None s = s
-at_owned old h p (Some x) s = on_owned old h p x (stream_at x.stream old.files) s
-
-after_begin_owned : (old : World) (what : Begin) → IsOwned old → IsOwned (after_begin old what)
-after_begin_owned old (begin.List v) s = operation_owned old v None None None params.List old.files s
-after_begin_owned old (begin.Create v path mode) s =
-    operation_owned old v (Some (stream_for v path old.flow.next old.files)) None (Some path) (params.Create path mode) (created v path old.flow.next old.files) s
-after_begin_owned old (begin.OnHandle h asked) s = at_owned old h (params_of asked) (handle_at h old.files) s
-
-on_filed : (old : World) (h : HandleId) (p : Params) (x : FileHandle) (m : Option FileStream) → handle_at h old.files ≡ Some x → is_create (operation_of p) ≡ false
-    → FiledIn old → FiledIn (begun_on old h p x m)
-on_filed old h p x None at none s = s
-on_filed old h p x (Some y) at none s = file_begins old.files old.flow y.volume h x old.stack.births (Some y.path) p at none s
-
-at_filed : (old : World) (h : HandleId) (p : Params) (m : Option FileHandle) → handle_at h old.files ≡ m → is_create (operation_of p) ≡ false → FiledIn old
-    → FiledIn (begun_at old h p m)
-at_filed old h p None at none s = s
-at_filed old h p (Some x) at none s = on_filed old h p x (stream_at x.stream old.files) at none s
-
-after_begin_filed : (old : World) (what : Begin) → begin_refused old what ≡ None → FiledIn old → FiledIn (after_begin old what)
-after_begin_filed old (begin.List v) free s = file_lists old.files old.flow v old.stack.births s
-after_begin_filed old (begin.Create v path mode) free s =
-    let many = full_from _ _ (is_full old.flow || has_no_handle_left old) free in
-    let room = nat_le 4096 (length old.files.handles + creates old.flow) in
-    file_creates old.files old.flow v path old.stack.births (Some path) (params.Create path mode) refl
-    (filed_creates old.files old.flow v path (Some (stream_for v path old.flow.next old.files)) None old.stack.births (Some path) (params.Create path mode)
-    (or_left room (old.files.next == 2 ^ 64 - 1) (or_right (is_full old.flow) (has_no_handle_left old) many)) s.room) s
-after_begin_filed old (begin.OnHandle h asked) free s = at_filed old h (params_of asked) (handle_at h old.files) refl (asks_no_create asked) s
-
-on_named : (old : World) (h : HandleId) (p : Params) (x : FileHandle) (m : Option FileStream) → NamedIn old → NamedIn (begun_on old h p x m)
-on_named old h p x None s = s
-on_named old h p x (Some y) s =
-    named_more old.files (moved_on (operation_of p) h old.flow.next old.files) old.contexts.slots (moved_there (operation_of p) h old.flow.next old.files) s
-
-at_named : (old : World) (h : HandleId) (p : Params) (m : Option FileHandle) → NamedIn old → NamedIn (begun_at old h p m)
-at_named old h p None s = s
-at_named old h p (Some x) s = on_named old h p x (stream_at x.stream old.files) s
-
-after_begin_named : (old : World) (what : Begin) → NamedIn old → NamedIn (after_begin old what)
-after_begin_named old (begin.List v) s = s
-after_begin_named old (begin.Create v path mode) s =
-    named_more old.files (created v path old.flow.next old.files) old.contexts.slots (created_there v path old.flow.next old.files) s
-after_begin_named old (begin.OnHandle h asked) s = at_named old h (params_of asked) (handle_at h old.files) s
+creates_sound : (old : World) (v : VolumeId) (path : List ℕ) (mode : CreateMode) → is_full old.flow || has_no_handle_left old ≡ false → IsSound old
+    → IsSound (created_begun old v path mode)
+creates_sound old v path mode free s =
+    let p = Params.Create path mode in
+    let stream = Some (stream_for v path old.flow.next old.files) in
+    let files = created v path old.flow.next old.files in
+    let room = or_left (nat_le 4096 (length old.files.handles + creates old.flow)) (old.files.next == 2 ^ 64 - 1) (or_right (is_full old.flow) (has_no_handle_left old) free) in
+    record {
+      under_way = creates_keeps old v path mode free s.under_way;
+      owned = operation_owned old v stream None (Some path) p files s.owned;
+      filed = file_creates old.files old.flow v path old.stack.births (Some path) p refl
+          (filed_creates old.files old.flow v path stream None old.stack.births (Some path) p room s.filed.room) s.filed;
+      links = named_more old.files files old.contexts.slots (created_there v path old.flow.next old.files) s.links;
+    }
 
 -- an operation on a handle begins
 pub asked_sound : (old : World) (h : HandleId) (p : Params) → asked_refused old h p ≡ None → is_create (operation_of p) ≡ false → IsSound old → IsSound (asked_begun old h p)
-asked_sound old h p free none s =
-    let parts = asked_within (is_within_limits p) (refused_at old p (handle_at h old.files)) free in
-    record {
-      under_way = begins_at old h p (handle_at h old.files) none parts.0 parts.1 s.under_way;
-      owned = at_owned old h p (handle_at h old.files) s.owned;
-      filed = at_filed old h p (handle_at h old.files) refl none s.filed;
-      links = at_named old h p (handle_at h old.files) s.links;
-    }
+asked_sound old h p free none s = asked_begun_by IsSound old h p free (λ x y at within room. asks_sound old h p x y none at within room s)
 
 pub begin_sound : (old : World) (what : Begin) (result : Result OpId Status) (new : World) → Begins old what result new → IsSound old → IsSound new
 unfolding Begins
-begin_sound old what (Err why) new h s = subst IsSound (sym h.1) s
-begin_sound old what (Ok o) new h s = record {
-  under_way = begin_keeps old what (Ok o) new h s.under_way;
-  owned = subst IsOwned (sym h.1.1) (after_begin_owned old what s.owned);
-  filed = subst FiledIn (sym h.1.1) (after_begin_filed old what h.0 s.filed);
-  links = subst NamedIn (sym h.1.1) (after_begin_named old what s.links);
-}
+begin_sound old what result new h s =
+    memory_by (λ _ w. IsSound w) _ result old new _ h (λ why. s) (λ o free e. subst IsSound (sym e.1)
+    (begun_by IsSound old what free
+    (λ v room. record {
+      under_way = lists_keeps old v room s.under_way;
+      owned = operation_owned old v None None None Params.List old.files s.owned;
+      filed = file_lists old.files old.flow v old.stack.births s.filed;
+      links = s.links;
+    })
+    (λ v path mode room. creates_sound old v path mode room s)
+    (λ h p x y none at within room. asks_sound old h p x y none at within room s)))
 
 -- ---- next
 
--- the operation changes, and nobody goes anywhere
-flow_owned : (w : World) (o : OpId) (r : FlowRecord) (f : FlowRecord → FlowRecord) → operation_at o w.flow ≡ Some r → IsLawful (carries_after w o f) w.contexts
-    → All (AskCarries w.stack w.contexts.slots) (owed (f r).entries)
-    → ((i : InstanceId) → is_flown_by (row_at w.stack i) ≡ false → in_flight i.0 (changed o f w.flow) ≡ 0) → IsOwned w → IsOwned (record w { flow = changed o f w.flow })
-flow_owned w o r f at lawful owes quiet h = record {
-  lawful = lawful;
-  cleaning = h.cleaning;
-  holders = h.holders;
-  completions = carry_changed w.stack w.contexts.slots w.flow o r f at owes h.completions;
-  fits = h.fits;
-  quiet = quiet;
-  totals = h.totals;
-}
-
 -- what lies below on the way down is attached
 lies_attached : (s : StackWorld) (r : FlowRecord) (lies : Below) (i : InstanceId) → LiesBelow s r lies → is_flown_by (row_at s i) ≡ false
-    → (j : InstanceId) (called : Bool) → lies ≡ below.Instance j called → (j.0 == i.0) ≡ false
-lies_attached s r below.Call i below' rests j called e = absurd (call_is_not e)
-  where
-    call_is_not : below.Call ≡ below.Instance j called → ⊥
-    call_is_not e = cc
-lies_attached s r (below.Known why) i below' rests j called e = absurd (known_is_not e)
-  where
-    known_is_not : below.Known why ≡ below.Instance j called → ⊥
-    known_is_not e = cc
-lies_attached s r (below.Instance l b) i below' rests j called e =
-    let next = below'.0 in
+    → (j : InstanceId) (called : Bool) → lies ≡ Below.Instance j called → (j.0 == i.0) ≡ false
+lies_attached s r lies i below' rests j called e =
+    let next = (subst (LiesBelow s r) e below').0 in
     let passes = and_parts (is_to_visit s r.volume r.born r.operation next.row) (is_below_cursor s (last_visited r.entries) next.row) next.passes in
     let attached = and_parts (is_attached next.row.phase) _ passes.0 in
-    let flown : is_flown_by (row_at s l) ≡ true = ap is_flown_by next.there ∙ attached_flown next.row.phase attached.0 in
-    let same : l.0 ≡ j.0 = ap numbered e in
-    ne_eqb j.0 i.0 (λ x. true≢false (sym flown ∙ ap (λ n. is_flown_by (slice_get s.instances n)) (same ∙ x) ∙ rests))
+    let flown : is_flown_by (row_at s j) ≡ true = ap is_flown_by next.there ∙ attached_flown next.row.phase attached.0 in
+    ne_eqb j.0 i.0 (λ x. true≢false (sym flown ∙ ap (λ n. is_flown_by (slice_get s.instances n)) x ∙ rests))
   where
-    numbered : Below → ℕ
-    numbered (below.Instance n c) = n.0
-    numbered _ = 0
-
     attached_flown : (p : Phase) → is_attached p ≡ true → is_flown p ≡ true
-    attached_flown phase.Attached h = refl
-    attached_flown phase.Setup h = absurd (false≢true h)
-    attached_flown phase.Stopping h = absurd (false≢true h)
-    attached_flown phase.Completing h = absurd (false≢true h)
-    attached_flown phase.Emptying h = absurd (false≢true h)
-    attached_flown phase.Detached h = absurd (false≢true h)
+    attached_flown Phase.Attached h = refl
+    attached_flown _ h = absurd (false≢true h)
 
 may_ask : (s : StackWorld) (slots : List Slot) (k : WorkerId) (lies : Below) (r : FlowRecord) → MayAsk (AskCarries s slots) k lies r
-may_ask s slots k (below.Instance i false) r = tt
-may_ask s slots k (below.Instance i true) r = tt
-may_ask s slots k below.Call r = tt
-may_ask s slots k (below.Known why) r = tt
+may_ask s slots k (Below.Instance i false) r = tt
+may_ask s slots k _ r = tt
 
 -- what `next` hands out is carried no more
 pub next_balance : (w : World) (o : OpId) (k : WorkerId) (lies : Below) (d : Bool) (r : FlowRecord) → operation_at o w.flow ≡ Some r
@@ -310,85 +197,70 @@ next_balance w o k lies d r at finds s c =
 
 -- a completion comes back to the worker that it is given to
 brought_owned : (w : World) (o : OpId) (r : FlowRecord) (f : FlowRecord → FlowRecord) (k : WorkerId) (b : Worker) (i : InstanceId) (m : Option CtxId)
-    → operation_at o w.flow ≡ Some r → worker_at w.workers k ≡ Some place.Idle → k.0 < 48 → cleanup_in (Some b) ≡ None → place_in (Some b) ≡ Some i
+    → operation_at o w.flow ≡ Some r → worker_at w.workers k ≡ Some Worker.Idle → k.0 < 48 → cleanup_in (Some b) ≡ None → place_in (Some b) ≡ Some i
     → ((c : CtxId) → carries w c ≡ carries_after w o f c + carried_in c (record { number = 0; context = m })) → CarriesIn w.stack w.contexts.slots i m
     → All (AskCarries w.stack w.contexts.slots) (owed (f r).entries)
     → ((j : InstanceId) → is_flown_by (row_at w.stack j) ≡ false → in_flight j.0 (changed o f w.flow) ≡ 0) → IsOwned w
     → IsOwned (record w { flow = changed o f w.flow; workers = put w.workers k b; contexts = brought w.contexts k m })
 brought_owned w o r f k b i None at idle worker nb pl balance own owes quiet h =
-    let none = empty_hand w k place.Idle idle refl h in
-    step_owned w o r f k place.Idle b w.contexts (hand_of w.contexts.hands k.0) at idle worker refl nb (lawful_alike (λ c. omega (arith, balance c)) h.lawful)
-    refl (same_hands w.contexts.hands k.0) refl
-    (subst (All (HoldsIn w.stack w.contexts.slots (place_in (Some b)))) (sym none) (All-nil (HoldsIn w.stack w.contexts.slots (place_in (Some b))))) owes quiet h
+    step_owned w o r f k Worker.Idle b w.contexts [] at idle worker refl nb (lawful_alike (λ c. omega (arith, balance c)) h.lawful)
+    refl (same_hands w.contexts.hands k.0 ∙ ap (slice_set w.contexts.hands k.0) (empty_hand w k Worker.Idle idle refl h)) refl
+    (All-nil (HoldsIn w.stack w.contexts.slots (place_in (Some b)))) owes quiet h
 brought_owned w o r f k b i (Some d) at idle worker nb pl balance own owes quiet h =
-    let none = empty_hand w k place.Idle idle refl h in
+    let none = empty_hand w k Worker.Idle idle refl h in
     let room : length (hand_of w.contexts.hands k.0) < 16 = subst (λ (ids : List CtxId). length ids < 16) (sym none) (omega arith) in
-    step_owned w o r f k place.Idle b (grabbed w.contexts k.0 d) (hand_of w.contexts.hands k.0 ++ d ∷ []) at idle worker refl nb
-    (bring_keeps (carries_after w o f) k.0 d h.lawful worker (λ c. balance c) room) refl refl refl
-    (subst (λ (ids : List CtxId). All (HoldsIn w.stack w.contexts.slots (place_in (Some b))) (ids ++ d ∷ [])) (sym none)
-    (All-cons (HoldsIn w.stack w.contexts.slots (place_in (Some b))) d [] (subst (λ p. HoldsIn w.stack w.contexts.slots p d) (sym pl) own)
-    (All-nil (HoldsIn w.stack w.contexts.slots (place_in (Some b)))))) owes quiet h
+    let Holds = HoldsIn w.stack w.contexts.slots (place_in (Some b)) in
+    step_owned w o r f k Worker.Idle b (grabbed w.contexts k.0 d) (d ∷ []) at idle worker refl nb
+    (bring_keeps (carries_after w o f) k.0 d h.lawful worker (λ c. balance c) room) refl (ap (λ (ids : List CtxId). slice_set w.contexts.hands k.0 (ids ++ d ∷ [])) none) refl
+    (All-cons Holds d [] (subst (λ p. HoldsIn w.stack w.contexts.slots p d) (sym pl) own) (All-nil Holds)) owes quiet h
 
 -- the same, by what `next` answers
-next_by : (w : World) (o : OpId) (r : FlowRecord) (f : FlowRecord → FlowRecord) (k : WorkerId) (reply : Result FlowAction Status)
-    → operation_at o w.flow ≡ Some r → worker_at w.workers k ≡ Some place.Idle → k.0 < 48
+next_by_reply : (w : World) (o : OpId) (r : FlowRecord) (f : FlowRecord → FlowRecord) (k : WorkerId) (reply : Result FlowAction Status)
+    → operation_at o w.flow ≡ Some r → worker_at w.workers k ≡ Some Worker.Idle → k.0 < 48
     → ((c : CtxId) → carries w c ≡ carries_after w o f c + handed c reply) → WasOwed (AskCarries w.stack w.contexts.slots) reply
     → All (AskCarries w.stack w.contexts.slots) (owed (f r).entries)
     → ((j : InstanceId) → is_flown_by (row_at w.stack j) ≡ false → in_flight j.0 (changed o f w.flow) ≡ 0) → IsOwned w
     → IsOwned (record w { flow = changed o f w.flow; workers = after_next w.workers k o reply; contexts = received w.contexts k reply })
-next_by w o r f k (Ok (action.Pre i lent)) at idle worker balance was owes quiet h =
-    brought_owned w o r f k (place.Pre o i) i None at idle worker refl refl balance tt owes quiet h
-next_by w o r f k (Ok (action.Base call)) at idle worker balance was owes quiet h =
-    let none = empty_hand w k place.Idle idle refl h in
-    step_owned w o r f k place.Idle (place.Base o) w.contexts (hand_of w.contexts.hands k.0) at idle worker refl refl (lawful_alike (λ c. omega (arith, balance c)) h.lawful)
+next_by_reply w o r f k (Ok (FlowAction.Pre i lent)) at idle worker balance was owes quiet h =
+    brought_owned w o r f k (Worker.Pre o i) i None at idle worker refl refl balance tt owes quiet h
+next_by_reply w o r f k (Ok (FlowAction.Base call)) at idle worker balance was owes quiet h =
+    let none = empty_hand w k Worker.Idle idle refl h in
+    step_owned w o r f k Worker.Idle (Worker.Base o) w.contexts (hand_of w.contexts.hands k.0) at idle worker refl refl (lawful_alike (λ c. omega (arith, balance c)) h.lawful)
     refl (same_hands w.contexts.hands k.0) refl
     (subst (All (HoldsIn w.stack w.contexts.slots None)) (sym none) (All-nil (HoldsIn w.stack w.contexts.slots None))) owes quiet h
-next_by w o r f k (Ok (action.Post i lent completion)) at idle worker balance was owes quiet h =
-    brought_owned w o r f k (place.Post o i) i completion.context at idle worker refl refl (λ c. balance c)
+next_by_reply w o r f k (Ok (FlowAction.Post i lent completion)) at idle worker balance was owes quiet h =
+    brought_owned w o r f k (Worker.Post o i) i completion.context at idle worker refl refl (λ c. balance c)
     (subst (λ (x : InstanceId). CarriesIn w.stack w.contexts.slots x completion.context) was.2
     (subst (λ (x : Completion). CarriesIn w.stack w.contexts.slots was.0.instance x.context) was.3 was.1)) owes quiet h
-next_by w o r f k (Ok (action.Drain i completion)) at idle worker balance was owes quiet h =
-    brought_owned w o r f k (place.Drain o i) i completion.context at idle worker refl refl (λ c. balance c)
+next_by_reply w o r f k (Ok (FlowAction.Drain i completion)) at idle worker balance was owes quiet h =
+    brought_owned w o r f k (Worker.Drain o i) i completion.context at idle worker refl refl (λ c. balance c)
     (subst (λ (x : InstanceId). CarriesIn w.stack w.contexts.slots x completion.context) was.2
     (subst (λ (x : Completion). CarriesIn w.stack w.contexts.slots was.0.instance x.context) was.3 was.1)) owes quiet h
-next_by w o r f k (Ok action.Moved) at idle worker balance was owes quiet h = flow_owned w o r f at (lawful_alike (λ c. omega (arith, balance c)) h.lawful) owes quiet h
-next_by w o r f k (Ok action.Held) at idle worker balance was owes quiet h = flow_owned w o r f at (lawful_alike (λ c. omega (arith, balance c)) h.lawful) owes quiet h
-next_by w o r f k (Ok action.Done) at idle worker balance was owes quiet h = flow_owned w o r f at (lawful_alike (λ c. omega (arith, balance c)) h.lawful) owes quiet h
-next_by w o r f k (Err why) at idle worker balance was owes quiet h = flow_owned w o r f at (lawful_alike (λ c. omega (arith, balance c)) h.lawful) owes quiet h
+next_by_reply w o r f k _ at idle worker balance was owes quiet h =
+    flow_owned w (changed o f w.flow) (lawful_alike (λ c. omega (arith, balance c)) h.lawful) (carry_changed w.stack w.contexts.slots w.flow o r f at owes h.completions) quiet h
 
-next_owned : (old : World) (k : WorkerId) (o : OpId) (lies : Below) (result : Result FlowAction Status) (new : World) (m : Option FlowRecord)
-    → operation_at o old.flow ≡ m → worker_at old.workers k ≡ Some place.Idle → FindsBelow old.stack old.files old.flow m lies → NextsOver old k o lies result new
-    → IsSound old → IsOwned new
-next_owned old k o lies result new None at idle finds h s =
+next_owned : (old : World) (k : WorkerId) (o : OpId) (result : Result FlowAction Status) (new : World) (e : Turns old k o result new) → IsSound old → IsOwned e.mid
+next_owned old k o result new e s =
+    let r = e.row in
     let d = drains_at old o in
-    let f = λ (x : FlowRecord). (next_of k lies d x).after in
-    let reply : result ≡ Err status.WrongStep =
-    h.0 ∙ ap (λ m. unwrap_or (option_map (λ (x : FlowRecord). (next_of k lies d x).reply) m) (Err status.WrongStep)) at in
-    subst IsOwned (sym (h.1 ∙ not_there old k o lies result at reply)) s.owned
-next_owned old k o lies result new (Some r) at idle finds h s =
-    let d = drains_at old o in
-    let f = λ (x : FlowRecord). (next_of k lies d x).after in
-    let turned = next_of k lies d r in
-    let reply : result ≡ turned.reply =
-    h.0 ∙ ap (λ m. unwrap_or (option_map (λ (x : FlowRecord). (next_of k lies d x).reply) m) (Err status.WrongStep)) at in
-    let sound = found_holds flow.IsSound (is_number o) old.flow.operations r s.under_way.flow.sound at in
-    let among = found_holds (IsAmong old.stack) (is_number o) old.flow.operations r s.under_way.among at in
-    let asks = found_holds (λ (x : FlowRecord). All (AskCarries old.stack old.contexts.slots) (owed x.entries)) (is_number o) old.flow.operations r s.owned.completions at in
-    let owes = next_owes (AskCarries old.stack old.contexts.slots) k lies d r
-    (λ e. (may_visit old.stack r lies among (finds e).0, may_ask old.stack old.contexts.slots k lies r)) sound asks in
-    let balance = next_balance old o k lies d r at (λ e. (finds e).0) s in
+    let f = λ (x : FlowRecord). (next_of k e.lies d x).after in
+    let turned = next_of k e.lies d r in
+    let sound = found_holds flow.IsSound (is_number o) old.flow.operations r s.under_way.flow.sound e.at in
+    let among = found_holds (IsAmong old.stack) (is_number o) old.flow.operations r s.under_way.among e.at in
+    let owes = next_owes (AskCarries old.stack old.contexts.slots) k e.lies d r
+    (λ down. (may_visit old.stack r e.lies among (e.finds down), may_ask old.stack old.contexts.slots k e.lies r)) sound (asks_of old o r e.at s.owned) in
     let quiet : (i : InstanceId) → is_flown_by (row_at old.stack i) ≡ false → in_flight i.0 (changed o f old.flow) ≡ 0 = λ i rests.
     omega (
       arith,
-      flight_changed old.flow o r f at i.0,
-      next_flies i.0 k lies d r (λ e. may_visit old.stack r lies among (finds e).0) sound,
-      next_enters i.0 k lies d r (λ e. lies_attached old.stack r lies i (finds e).0 rests),
+      flight_changed old.flow o r f e.at i.0,
+      next_flies i.0 k e.lies d r (λ down. may_visit old.stack r e.lies among (e.finds down)) sound,
+      next_enters i.0 k e.lies d r (λ down. lies_attached old.stack r e.lies i (e.finds down) rests),
       s.owned.quiet i rests,
     ) in
-    let worker : k.0 < 48 = subst (λ n. k.0 < n) s.under_way.hands (slice_get_within old.workers k.0 place.Idle idle) in
-    let filed = filed_next old o (changed o f old.flow) result lies in
-    subst IsOwned (sym (h.1 ∙ ap (λ x. record old { flow = changed o f old.flow; workers = after_next old.workers k o x; contexts = received old.contexts k x; files = filed }) reply))
-    (files_owned filed (next_by old o r f k turned.reply at idle worker balance owes.hands owes.owes quiet s.owned))
+    let filed = filed_next old o (changed o f old.flow) result e.lies in
+    subst IsOwned (sym (e.over.1 ∙ ap (λ x. record old { flow = changed o f old.flow; workers = after_next old.workers k o x; contexts = received old.contexts k x; files = filed }) e.reply))
+    (files_owned filed (next_by_reply old o r f k turned.reply e.at e.idle (worker_below old k Worker.Idle e.idle s.under_way) (next_balance old o k e.lies d r e.at e.finds s)
+    owes.hands owes.owes quiet s.owned))
 
 -- an answer that was known counts at once
 known_filed : (old : World) (k : WorkerId) (o : OpId) (r : FlowRecord) (lies : Below) (drains : Bool) (result : Result FlowAction Status) → operation_at o old.flow ≡ Some r
@@ -396,84 +268,48 @@ known_filed : (old : World) (k : WorkerId) (o : OpId) (r : FlowRecord) (lies : B
     → IsFileSound (filed_next old o (changed o (λ (x : FlowRecord). (next_of k lies drains x).after) old.flow) result lies) (changed o (λ (x : FlowRecord). (next_of k lies drains x).after) old.flow)
 known_filed old k o r lies drains result at reply s = by_result result lies reply
   where
-    still : (lies : Below) → (is_known lies ≡ true → Ok action.Moved ≡ (next_of k lies drains r).reply → ⊥)
+    still : (lies : Below) → (is_known lies ≡ true → Ok FlowAction.Moved ≡ (next_of k lies drains r).reply → ⊥)
         → IsFileSound old.files (changed o (λ (x : FlowRecord). (next_of k lies drains x).after) old.flow)
     still lies other = file_step old.files old.flow o r (λ (x : FlowRecord). (next_of k lies drains x).after) at (next_same_file k lies drains r other) s
 
     by_result : (result : Result FlowAction Status) (lies : Below) → result ≡ (next_of k lies drains r).reply
         → IsFileSound (filed_next old o (changed o (λ (x : FlowRecord). (next_of k lies drains x).after) old.flow) result lies) (changed o (λ (x : FlowRecord). (next_of k lies drains x).after) old.flow)
-    by_result (Ok action.Moved) (below.Known why) reply =
-        let f = λ (x : FlowRecord). (next_of k (below.Known why) drains x).after in
+    by_result (Ok FlowAction.Moved) (Below.Known why) reply =
+        let f = λ (x : FlowRecord). (next_of k (Below.Known why) drains x).after in
         let t = changed o f old.flow in
         let was = was_known k why drains r reply in
         subst (λ (files : FileTable). IsFileSound files t) (sym (told_there (filed_record old.files t why) old.files o old.flow r at))
         (file_answered old.files old.flow o r f why at was.unanswered (known_answered old.files k why drains r was.none) s)
-    by_result (Ok action.Moved) (below.Instance i b) reply = still (below.Instance i b) (λ known moved. false≢true known)
-    by_result (Ok action.Moved) below.Call reply = still below.Call (λ known moved. false≢true known)
-    by_result (Ok (action.Pre i lent)) lies reply = still lies (λ known moved. (cc))
-    by_result (Ok (action.Base call)) lies reply = still lies (λ known moved. (cc))
-    by_result (Ok (action.Post i lent completion)) lies reply = still lies (λ known moved. (cc))
-    by_result (Ok (action.Drain i completion)) lies reply = still lies (λ known moved. (cc))
-    by_result (Ok action.Held) lies reply = still lies (λ known moved. (cc))
-    by_result (Ok action.Done) lies reply = still lies (λ known moved. (cc))
-    by_result (Err why) lies reply = still lies (λ known moved. (cc))
+    by_result (Ok FlowAction.Moved) lies reply = still lies (λ known moved. false≢true known)
+    by_result _ lies reply = still lies (λ known moved. (cc))
 
-next_filed_at : (old : World) (k : WorkerId) (o : OpId) (lies : Below) (result : Result FlowAction Status) (new : World) (m : Option FlowRecord)
-    → operation_at o old.flow ≡ m → NextsOver old k o lies result new → FiledIn old → FiledIn new
-next_filed_at old k o lies result new None at h s =
-    let reply : result ≡ Err status.WrongStep =
-    h.0 ∙ ap (λ m. unwrap_or (option_map (λ (x : FlowRecord). (next_of k lies (drains_at old o) x).reply) m) (Err status.WrongStep)) at in
-    subst FiledIn (sym (h.1 ∙ not_there old k o lies result at reply)) s
-next_filed_at old k o lies result new (Some r) at h s =
-    let reply : result ≡ (next_of k lies (drains_at old o) r).reply =
-    h.0 ∙ ap (λ m. unwrap_or (option_map (λ (x : FlowRecord). (next_of k lies (drains_at old o) x).reply) m) (Err status.WrongStep)) at in
-    subst FiledIn (sym h.1) (known_filed old k o r lies (drains_at old o) result at reply s)
-
-next_filed : (old : World) (k : WorkerId) (o : OpId) (result : Result FlowAction Status) (new : World) → Nexts old k o result new → FiledIn old → FiledIn new
-unfolding Nexts
-next_filed old k o result new h s =
-    unless_cases FiledIn status.WrongStep (is_idle (worker_at old.workers k)) result old new
-    (NextsAt old k o result new) h
-    (λ idle event.
-    let filed = next_filed_at old k o event.0 result event.2 (operation_at o old.flow) refl event.3 s in
-    known_cases FiledIn result event.0 event.2 new event.4 (λ loses. loses_filed event.2 new loses filed) filed) s
+next_filed : (old : World) (k : WorkerId) (o : OpId) (result : Result FlowAction Status) (new : World) (e : Turns old k o result new) → FiledIn old → FiledIn e.mid
+next_filed old k o result new e s = subst FiledIn (sym e.over.1) (known_filed old k o e.row e.lies (drains_at old o) result e.at e.reply s)
 
 -- links go with what a known answer takes away; all else is there still
-named_over : (old : World) (k : WorkerId) (o : OpId) (lies : Below) (result : Result FlowAction Status) (mid new : World) → NextsOver old k o lies result mid
+next_named : (old : World) (k : WorkerId) (o : OpId) (lies : Below) (result : Result FlowAction Status) (mid new : World) → NextsOver old k o lies result mid
     → LosesByKnown result lies mid new → NamedIn old → NamedIn new
-named_over old k o lies result mid new over h s = by_result result lies over h
+next_named old k o lies result mid new over h s = by_result result lies over h
   where
     still : (result : Result FlowAction Status) → AllPass (names_there old.files) (received old.contexts k result).slots
     still result = subst (AllPass (names_there old.files)) (sym (received_slots old.contexts k result)) s
 
     by_result : (result : Result FlowAction Status) (lies : Below) → NextsOver old k o lies result mid → LosesByKnown result lies mid new → NamedIn new
-    by_result (Ok action.Moved) (below.Known why) over h = loses_named mid new h
-    by_result (Ok action.Moved) (below.Instance i b) over h = subst NamedIn (sym (h ∙ over.1)) (still (Ok action.Moved))
-    by_result (Ok action.Moved) below.Call over h = subst NamedIn (sym (h ∙ over.1)) (still (Ok action.Moved))
+    by_result (Ok FlowAction.Moved) (Below.Known why) over h = loses_named mid new h
     by_result result lies over h = subst NamedIn (sym (h ∙ over.1)) (still result)
 
-next_named : (old : World) (k : WorkerId) (o : OpId) (result : Result FlowAction Status) (new : World) → Nexts old k o result new → NamedIn old → NamedIn new
-unfolding Nexts
-next_named old k o result new h s =
-    unless_cases NamedIn status.WrongStep (is_idle (worker_at old.workers k)) result old new (NextsAt old k o result new) h
-    (λ idle event. named_over old k o event.0 result event.2 new event.3 event.4 s) s
-
 pub next_sound : (old : World) (k : WorkerId) (o : OpId) (result : Result FlowAction Status) (new : World) → Nexts old k o result new → IsSound old → IsSound new
-unfolding Nexts
-next_sound old k o result new h s = record {
-  under_way = next_keeps old k o result new h s.under_way;
-  owned = owned;
-  filed = next_filed old k o result new h s.filed;
-  links = next_named old k o result new h s.links;
-}
-  where
-    owned : IsOwned new
-    owned =
-        unless_cases IsOwned status.WrongStep (is_idle (worker_at old.workers k)) result old new
-        (NextsAt old k o result new) h
-        (λ idle event.
-        let owned = next_owned old k o event.0 result event.2 (operation_at o old.flow) refl (idle_there old.workers k idle) event.1 event.3 s in
-        known_cases IsOwned result event.0 event.2 new event.4 (λ loses. loses_owned event.2 new loses owned) owned) s.owned
+next_sound old k o result new h s =
+    next_by (λ _ w. IsSound w) old k o result new h (λ why. s) (λ e.
+    let u = next_keeps old k o result new e s.under_way in
+    let owned = next_owned old k o result new e s in
+    let filed = next_filed old k o result new e s.filed in
+    record {
+      under_way = known_cases IsUnderWay result e.lies e.mid new e.loses (λ loses. loses_under_way e.mid new loses u) u;
+      owned = known_cases IsOwned result e.lies e.mid new e.loses (λ loses. loses_owned e.mid new loses owned) owned;
+      filed = known_cases FiledIn result e.lies e.mid new e.loses (λ loses. loses_filed e.mid new loses filed) filed;
+      links = next_named old k o e.lies result e.mid new e.over e.loses s.links;
+    })
 
 -- ---- callbacks return
 
@@ -484,11 +320,8 @@ left_owned : (w : World) (o : OpId) (r : FlowRecord) (f : FlowRecord → FlowRec
     → Leaves (carries_after w o f) kept after k.0 → All (AskCarries w.stack w.contexts.slots) (owed (f r).entries)
     → ((i : ℕ) → flight i (f r) ≤ flight i r) → IsOwned w → IsOwned (record (returned w k o f) { contexts = after })
 left_owned w o r f k a kept after at there worker na lawful slots cleaning hands leaves owes fewer h =
-    step_owned w o r f k a place.Idle after [] at there worker na refl (leave_keeps k.0 lawful leaves) (leaves.slots ∙ slots) (leaves.hands ∙ hands) (leaves.cleaning ∙ cleaning)
+    step_owned w o r f k a Worker.Idle after [] at there worker na refl (leave_keeps k.0 lawful leaves) (leaves.slots ∙ slots) (leaves.hands ∙ hands) (leaves.cleaning ∙ cleaning)
     (All-nil (HoldsIn w.stack w.contexts.slots None)) owes (quieter w o r f at fewer h.quiet) h
-
-worker_below : (w : World) (k : WorkerId) (a : Worker) → worker_at w.workers k ≡ Some a → IsUnderWay w → k.0 < 48
-worker_below w k a at s = subst (λ n. k.0 < n) s.hands (slice_get_within w.workers k.0 a at)
 
 held_is : (hand : List CtxId) (m : Option CtxId) (d : CtxId) → held_context hand m ≡ Some d → holds hand d ≡ true
 held_is hand None d h = absurd (none-some d h)
@@ -499,41 +332,29 @@ held_is hand (Some e) d h =
     ]
 
 completed_sends : (status : Status) (operation : Operation) → sent_in (completed_as status operation) ≡ None
-completed_sends status kind.Cleanup = refl
-completed_sends status kind.Close = refl
-completed_sends status kind.Create = refl
+completed_sends status Operation.Cleanup = refl
 completed_sends status _ = refl
 
 -- a completion's context was in the hand
 sent_held : (hand : List CtxId) (given : PreVerdict) (operation : Operation) (b : Bool) (d : CtxId) → sent_in (verdict_counted (of_hand hand given) operation b) ≡ Some d
     → holds hand d ≡ true
-sent_held hand (verdict.WithCallback completion) operation true d h = held_is hand completion.context d h
-sent_held hand (verdict.WithCallback completion) operation false d h = absurd (none-some d h)
-sent_held hand (verdict.Synchronize completion) operation true d h = held_is hand completion.context d h
-sent_held hand (verdict.Synchronize completion) operation false d h = absurd (none-some d h)
-sent_held hand verdict.NoCallback operation b d h = absurd (none-some d h)
-sent_held hand (verdict.Complete status) operation b d h = absurd (none-some d (sym (completed_sends status operation) ∙ h))
-sent_held hand verdict.Pending operation b d h = absurd (none-some d h)
+sent_held hand (PreVerdict.WithCallback completion) operation true d h = held_is hand completion.context d h
+sent_held hand (PreVerdict.Synchronize completion) operation true d h = held_is hand completion.context d h
+sent_held hand (PreVerdict.Complete status) operation b d h = absurd (none-some d (sym (completed_sends status operation) ∙ h))
+sent_held hand _ operation _ d h = absurd (none-some d h)
 
 taken_sent : (c : CtxId) (state : PreState) → taken_by c state ≡ carried_in c (record { number = 0; context = sent_in state })
-taken_sent c (pre.Asked completion) = refl
-taken_sent c (pre.Synchronized completion) = refl
-taken_sent c pre.Running = refl
-taken_sent c pre.Held = refl
-taken_sent c pre.Passed = refl
-taken_sent c (pre.Completed status) = refl
+taken_sent c (PreState.Asked completion) = refl
+taken_sent c _ = refl
 
 -- what the verdict asks for carries what it sends
 asked_carries : (s : StackWorld) (slots : List Slot) (visit : PreVisit) (state : PreState) (asks : List Ask) → CarriesIn s slots visit.instance (sent_in state)
     → All (AskCarries s slots) asks → All (AskCarries s slots) (option_to_list (ask_in visit state) ++ asks)
-asked_carries s slots visit (pre.Asked completion) asks own h =
+asked_carries s slots visit (PreState.Asked completion) asks own h =
     All-cons (AskCarries s slots) (record { instance = visit.instance; worker = visit.worker; completion = completion; is_synchronized = false; place = visit.place }) asks own h
-asked_carries s slots visit (pre.Synchronized completion) asks own h =
+asked_carries s slots visit (PreState.Synchronized completion) asks own h =
     All-cons (AskCarries s slots) (record { instance = visit.instance; worker = visit.worker; completion = completion; is_synchronized = true; place = visit.place }) asks own h
-asked_carries s slots visit pre.Running asks own h = h
-asked_carries s slots visit pre.Held asks own h = h
-asked_carries s slots visit pre.Passed asks own h = h
-asked_carries s slots visit (pre.Completed status) asks own h = h
+asked_carries s slots visit _ asks own h = h
 
 -- the table after a context was sent along
 sent_parts : (w : World) (o : OpId) (f : FlowRecord → FlowRecord) (k : WorkerId) (m : Option CtxId) → k.0 < 48 → IsLawful (carries w) w.contexts
@@ -548,357 +369,175 @@ sent_parts w o f k (Some d) worker law balance has =
 same_instance : (i j : InstanceId) → i.0 ≡ j.0 → i ≡ j
 same_instance i j e = ap (λ n. record { 0 = n }) e
 
--- the operation of a worker that is in a preoperation
-pub pre_record : (w : World) (k : WorkerId) (o : OpId) (i : InstanceId) → worker_at w.workers k ≡ Some (place.Pre o i) → IsUnderWay w
-    → (r : FlowRecord) × (operation_at o w.flow ≡ Some r) × (r.stage ≡ PreRunning) × (last_visited r.entries ≡ Some i.0)
-pre_record w k o i at s =
-    let there = tied_there w.workers w.flow k (place.Pre o i) o (AtPre i.0) s.workers at (and_from (o.0 == o.0) (i.0 == i.0) (eq-eqb o.0 o.0 refl) (eq-eqb i.0 i.0 refl)) in
-    let spot = spot_pre i.0 there.0.stage there.0.entries there.2 in
-    (there.0, there.1, spot.0, spot.1)
-
-pub post_record : (w : World) (k : WorkerId) (o : OpId) (i : InstanceId) → worker_at w.workers k ≡ Some (place.Post o i) → IsUnderWay w
-    → (r : FlowRecord) × (operation_at o w.flow ≡ Some r) × (r.stage ≡ PostRunning)
-post_record w k o i at s =
-    let there = tied_there w.workers w.flow k (place.Post o i) o (AtPost i.0) s.workers at (and_from (o.0 == o.0) (i.0 == i.0) (eq-eqb o.0 o.0 refl) (eq-eqb i.0 i.0 refl)) in
-    (there.0, there.1, (spot_post i.0 there.0.stage there.0.entries there.2).0)
-
-pub drain_record : (w : World) (k : WorkerId) (o : OpId) (i : InstanceId) → worker_at w.workers k ≡ Some (place.Drain o i) → IsUnderWay w
-    → (r : FlowRecord) × (operation_at o w.flow ≡ Some r) × (r.stage ≡ InDrain i)
-drain_record w k o i at s =
-    let there = tied_there w.workers w.flow k (place.Drain o i) o (AtDrain i.0) s.workers at (and_from (o.0 == o.0) (i.0 == i.0) (eq-eqb o.0 o.0 refl) (eq-eqb i.0 i.0 refl)) in
-    (there.0, there.1, spot_drain i there.0.stage there.0.entries there.2)
-
 -- what a preoperation sends along is carried from then on
-pub pre_balance : (w : World) (k : WorkerId) (o : OpId) (i : InstanceId) (state : PreState) (lent : Data) → worker_at w.workers k ≡ Some (place.Pre o i) → IsUnderWay w → (c : CtxId)
+pub pre_balance : (w : World) (k : WorkerId) (o : OpId) (i : InstanceId) (state : PreState) (lent : Data) → worker_at w.workers k ≡ Some (Worker.Pre o i) → IsUnderWay w → (c : CtxId)
     → carries_after w o (pre_returned_of state lent) c ≡ carries w c + carried_in c (record { number = 0; context = sent_in state })
 pre_balance w k o i state lent at s c =
-    let r = pre_record w k o i at s in
-    let sound = found_holds flow.IsSound (is_number o) w.flow.operations r.0 s.flow.sound r.1 in
-    omega (arith, carried_changed w.flow o r.0 (pre_returned_of state lent) r.1 c, pre_returned_carries c state lent r.0 r.2 sound, taken_sent c state)
+    let x = inside_pre w k o i at s in
+    omega (arith, carried_changed w.flow o x.0.row (pre_returned_of state lent) x.0.at c, pre_returned_carries c state lent x.0.row x.1 x.0.sound, taken_sent c state)
 
 -- and it was in the hand
-pub sent_is_held : (w : World) (k : WorkerId) (o : OpId) (i : InstanceId) (given : PreVerdict) → worker_at w.workers k ≡ Some (place.Pre o i) → IsUnderWay w
+pub sent_is_held : (w : World) (k : WorkerId) (o : OpId) (i : InstanceId) (given : PreVerdict) → worker_at w.workers k ≡ Some (Worker.Pre o i) → IsUnderWay w
     → (d : CtxId) → sent_in (state_at w k o i given) ≡ Some d → holds (hand_of w.contexts.hands k.0) d ≡ true
 sent_is_held w k o i given at s d e =
-    let r = pre_record w k o i at s in
+    let x = (inside_pre w k o i at s).0 in
     let hand = hand_of w.contexts.hands k.0 in
-    let is = told_there (state_given w.stack hand i given) pre.Passed o w.flow r.0 r.1 in
-    sent_held hand given r.0.operation (has_post w.stack (slice_get w.stack.instances i.0) r.0.operation) d (sym (ap sent_in is) ∙ e)
+    let is = told_there (state_given w.stack hand i given) PreState.Passed o w.flow x.row x.at in
+    sent_held hand given x.row.operation (has_post w.stack (slice_get w.stack.instances i.0) x.row.operation) d (sym (ap sent_in is) ∙ e)
 
-pub post_balance : (w : World) (k : WorkerId) (o : OpId) (i : InstanceId) (given : PostVerdict) (lent : Data) → worker_at w.workers k ≡ Some (place.Post o i) → IsUnderWay w
+pub post_balance : (w : World) (k : WorkerId) (o : OpId) (i : InstanceId) (given : PostVerdict) (lent : Data) → worker_at w.workers k ≡ Some (Worker.Post o i) → IsUnderWay w
     → (c : CtxId) → carries_after w o (post_returned_of given lent) c ≡ carries w c
 post_balance w k o i given lent at s c =
-    let r = post_record w k o i at s in
-    let sound = found_holds flow.IsSound (is_number o) w.flow.operations r.0 s.flow.sound r.1 in
-    omega (arith, carried_changed w.flow o r.0 (post_returned_of given lent) r.1 c, post_returned_carries c given lent r.0 r.2 sound)
+    let x = inside_post w k o i at s in
+    omega (arith, carried_changed w.flow o x.0.row (post_returned_of given lent) x.0.at c, post_returned_carries c given lent x.0.row x.1 x.0.sound)
 
-pub drain_balance : (w : World) (k : WorkerId) (o : OpId) (i : InstanceId) → worker_at w.workers k ≡ Some (place.Drain o i) → IsUnderWay w
+pub drain_balance : (w : World) (k : WorkerId) (o : OpId) (i : InstanceId) → worker_at w.workers k ≡ Some (Worker.Drain o i) → IsUnderWay w
     → (c : CtxId) → carries_after w o (drain_returned_of i) c ≡ carries w c
 drain_balance w k o i at s c =
-    let r = drain_record w k o i at s in
-    omega (arith, carried_changed w.flow o r.0 (drain_returned_of i) r.1 c, drain_returned_carries c i r.0)
+    let x = (inside_drain w k o i at s).0 in
+    omega (arith, carried_changed w.flow o x.row (drain_returned_of i) x.at c, drain_returned_carries c i x.row)
 
-pre_at : (old : World) (k : WorkerId) (given : PreVerdict) (lent : Data) (result : Result (Unit {0}) Status) (new : World) (m : Option Worker)
-    → worker_at old.workers k ≡ m → PreReturnsAt old k given lent result new m → IsSound old → IsOwned new
-pre_at old k given lent result new (Some (place.Pre o i)) at h s =
-    let there = pre_record old k o i at s.under_way in
-    let r = there.0 in
+-- a context that a preoperation sends along may be carried
+sent_owned : (w : World) (k : WorkerId) (o : OpId) (i : InstanceId) (m : Option CtxId) → worker_at w.workers k ≡ Some (Worker.Pre o i)
+    → ((d : CtxId) → m ≡ Some d → holds (hand_of w.contexts.hands k.0) d ≡ true) → IsSound w → CarriesIn w.stack w.contexts.slots i m
+sent_owned w k o i None at has s = tt
+sent_owned w k o i (Some d) at has s =
+    subst (λ p. HoldsIn w.stack w.contexts.slots p d) (ap place_in at)
+    (held_has (HoldsIn w.stack w.contexts.slots (place_in (worker_at w.workers k))) (hand_of w.contexts.hands k.0) d (s.owned.holders k) (has d refl))
+
+pre_owned : (old : World) (k : WorkerId) (o : OpId) (i : InstanceId) (given : PreVerdict) (lent : Data) (after : ContextTable) → worker_at old.workers k ≡ Some (Worker.Pre o i)
+    → Leaves (carries_after old o (pre_step old k o i given lent)) (sent old.contexts k (sent_in (state_at old k o i given))) after k.0 → IsSound old
+    → IsOwned (record (returned old k o (pre_step old k o i given lent)) { contexts = after })
+pre_owned old k o i given lent after at leaves s =
+    let x = inside_pre old k o i at s.under_way in
+    let r = x.0.row in
     let state = state_at old k o i given in
     let f = pre_returned_of state lent in
     let slots = old.contexts.slots in
-    let sound = found_holds flow.IsSound (is_number o) old.flow.operations r s.under_way.flow.sound there.1 in
-    let course = subst (λ x. IsCourse x r.entries) there.2 sound.course in
-    let asks = found_holds (λ (x : FlowRecord). All (AskCarries old.stack slots) (owed x.entries)) (is_number o) old.flow.operations r s.owned.completions there.1 in
-    let worker = worker_below old k (place.Pre o i) at s.under_way in
+    let course = subst (λ x. IsCourse x r.entries) x.1 x.0.sound.course in
+    let worker = worker_below old k (Worker.Pre o i) at s.under_way in
     let has = sent_is_held old k o i given at s.under_way in
-    let balance = pre_balance old k o i state lent at s.under_way in
-    let parts = sent_parts old o f k (sent_in state) worker s.owned.lawful balance has in
+    let parts = sent_parts old o f k (sent_in state) worker s.owned.lawful (pre_balance old k o i state lent at s.under_way) has in
     let settled = owed_pre_settled PreRunning r.entries state refl course in
-    let visited : settled.0.instance ≡ i = same_instance settled.0.instance i (same_Some settled.0.instance.0 i.0 (sym settled.1 ∙ there.3)) in
-    let own : CarriesIn old.stack slots i (sent_in state) = sent_owned old k o i (sent_in state) at has s in
+    let visited : settled.0.instance ≡ i = same_instance settled.0.instance i (same_Some settled.0.instance.0 i.0 (sym settled.1 ∙ x.2)) in
     let owes : All (AskCarries old.stack slots) (owed (f r).entries) =
     subst (All (AskCarries old.stack slots)) (sym settled.2)
-    (asked_carries old.stack slots settled.0 state (owed r.entries) (subst (λ x. CarriesIn old.stack slots x (sent_in state)) (sym visited) own) asks) in
-    unless_cases IsOwned status.BadRequest (told (λ r. data_fits r.operation r.path lent) false o old.flow) result old new
-    ((result ≡ Ok tt) × PreReturnsOver old k o f state new) h
-    (λ fits event. loses_owned event.1.0 new event.1.2 (subst IsOwned (sym event.1.1.1)
-    (files_owned (filed_pre old o (changed o f old.flow) state)
-    (left_owned old o r f k (place.Pre o i) (sent old.contexts k (sent_in state)) event.1.0.contexts there.1 at worker refl parts.0 parts.1 parts.2 parts.3 event.1.1.0 owes
-    (λ j. omega (arith, pre_returned_flies j state lent r there.2 sound)) s.owned)))) s.owned
-  where
-    sent_owned : (w : World) (k : WorkerId) (o : OpId) (i : InstanceId) (m : Option CtxId) → worker_at w.workers k ≡ Some (place.Pre o i)
-        → ((d : CtxId) → m ≡ Some d → holds (hand_of w.contexts.hands k.0) d ≡ true) → IsSound w → CarriesIn w.stack w.contexts.slots i m
-    sent_owned w k o i None at has s = tt
-    sent_owned w k o i (Some d) at has s =
-        subst (λ p. HoldsIn w.stack w.contexts.slots p d) (ap place_in at)
-        (held_has (HoldsIn w.stack w.contexts.slots (place_in (worker_at w.workers k))) (hand_of w.contexts.hands k.0) d (s.owned.holders k) (has d refl))
-pre_at old k given lent result new (Some place.Idle) at h s = subst IsOwned (sym h.1) s.owned
-pre_at old k given lent result new (Some (place.EarlyDrain o i)) at h s = subst IsOwned (sym h.1) s.owned
-pre_at old k given lent result new (Some (place.Setup i)) at h s = subst IsOwned (sym h.1) s.owned
-pre_at old k given lent result new (Some (place.Base o)) at h s = subst IsOwned (sym h.1) s.owned
-pre_at old k given lent result new (Some (place.Post o i)) at h s = subst IsOwned (sym h.1) s.owned
-pre_at old k given lent result new (Some (place.Drain o i)) at h s = subst IsOwned (sym h.1) s.owned
-pre_at old k given lent result new (Some (place.Cleanup c)) at h s = subst IsOwned (sym h.1) s.owned
-pre_at old k given lent result new None at h s = subst IsOwned (sym h.1) s.owned
+    (asked_carries old.stack slots settled.0 state (owed r.entries)
+    (subst (λ x. CarriesIn old.stack slots x (sent_in state)) (sym visited) (sent_owned old k o i (sent_in state) at has s)) (asks_of old o r x.0.at s.owned)) in
+    left_owned old o r f k (Worker.Pre o i) (sent old.contexts k (sent_in state)) after x.0.at at worker refl parts.0 parts.1 parts.2 parts.3 leaves owes
+    (λ j. omega (arith, pre_returned_flies j state lent r x.1 x.0.sound)) s.owned
 
-pre_filed : (old : World) (k : WorkerId) (given : PreVerdict) (lent : Data) (result : Result (Unit {0}) Status) (new : World) (m : Option Worker)
-    → worker_at old.workers k ≡ m → PreReturnsAt old k given lent result new m → IsSound old → FiledIn new
-pre_filed old k given lent result new (Some (place.Pre o i)) at h s =
-    let there = pre_record old k o i at s.under_way in
-    let r = there.0 in
+pre_filed : (old : World) (k : WorkerId) (o : OpId) (i : InstanceId) (given : PreVerdict) (lent : Data) → worker_at old.workers k ≡ Some (Worker.Pre o i) → IsSound old
+    → IsFileSound (filed_pre old o (changed o (pre_step old k o i given lent) old.flow) (state_at old k o i given)) (changed o (pre_step old k o i given lent) old.flow)
+pre_filed old k o i given lent at s =
+    let x = inside_pre old k o i at s.under_way in
     let state = state_at old k o i given in
-    let f = pre_returned_of state lent in
-    let read = λ (x : FlowRecord). after_pre state x.operation x.stream (is_created_on x.stream (changed o f old.flow)) old.files in
-    unless_cases FiledIn status.BadRequest (told (λ r. data_fits r.operation r.path lent) false o old.flow) result old new
-    ((result ≡ Ok tt) × PreReturnsOver old k o f state new) h
-    (λ fits event. loses_filed event.1.0 new event.1.2 (subst FiledIn (sym event.1.1.1)
-    (subst (λ (files : FileTable). IsFileSound files (changed o f old.flow)) (sym (told_there read old.files o old.flow r there.1))
-    (file_pre old.files old.flow o r state lent there.1 there.2 s.filed)))) s.filed
-pre_filed old k given lent result new (Some place.Idle) at h s = subst FiledIn (sym h.1) s.filed
-pre_filed old k given lent result new (Some (place.EarlyDrain o i)) at h s = subst FiledIn (sym h.1) s.filed
-pre_filed old k given lent result new (Some (place.Setup i)) at h s = subst FiledIn (sym h.1) s.filed
-pre_filed old k given lent result new (Some (place.Base o)) at h s = subst FiledIn (sym h.1) s.filed
-pre_filed old k given lent result new (Some (place.Post o i)) at h s = subst FiledIn (sym h.1) s.filed
-pre_filed old k given lent result new (Some (place.Drain o i)) at h s = subst FiledIn (sym h.1) s.filed
-pre_filed old k given lent result new (Some (place.Cleanup c)) at h s = subst FiledIn (sym h.1) s.filed
-pre_filed old k given lent result new None at h s = subst FiledIn (sym h.1) s.filed
-
-pre_named : (old : World) (k : WorkerId) (given : PreVerdict) (lent : Data) (result : Result (Unit {0}) Status) (new : World) (m : Option Worker)
-    → PreReturnsAt old k given lent result new m → NamedIn old → NamedIn new
-pre_named old k given lent result new (Some (place.Pre o i)) h s =
-    let state = state_at old k o i given in
-    unless_cases NamedIn status.BadRequest (told (λ r. data_fits r.operation r.path lent) false o old.flow) result old new
-    ((result ≡ Ok tt) × PreReturnsOver old k o (pre_returned_of state lent) state new) h (λ fits event. loses_named event.1.0 new event.1.2) s
-pre_named old k given lent result new (Some place.Idle) h s = subst NamedIn (sym h.1) s
-pre_named old k given lent result new (Some (place.EarlyDrain o i)) h s = subst NamedIn (sym h.1) s
-pre_named old k given lent result new (Some (place.Setup i)) h s = subst NamedIn (sym h.1) s
-pre_named old k given lent result new (Some (place.Base o)) h s = subst NamedIn (sym h.1) s
-pre_named old k given lent result new (Some (place.Post o i)) h s = subst NamedIn (sym h.1) s
-pre_named old k given lent result new (Some (place.Drain o i)) h s = subst NamedIn (sym h.1) s
-pre_named old k given lent result new (Some (place.Cleanup c)) h s = subst NamedIn (sym h.1) s
-pre_named old k given lent result new None h s = subst NamedIn (sym h.1) s
+    let t = changed o (pre_returned_of state lent) old.flow in
+    let read = λ (x : FlowRecord). after_pre state x.operation x.stream (is_created_on x.stream t) old.files in
+    subst (λ (files : FileTable). IsFileSound files t) (sym (told_there read old.files o old.flow x.0.row x.0.at))
+    (file_pre old.files old.flow o x.0.row state lent x.0.at x.1 s.filed)
 
 pub pre_sound : (old : World) (k : WorkerId) (given : PreVerdict) (lent : Data) (result : Result (Unit {0}) Status) (new : World)
     → PreReturns old k given lent result new → IsSound old → IsSound new
-unfolding PreReturns
 pre_sound old k given lent result new h s =
-    record {
-      under_way = pre_keeps old k given lent result new h s.under_way;
-      owned = pre_at old k given lent result new (worker_at old.workers k) refl h s;
-      filed = pre_filed old k given lent result new (worker_at old.workers k) refl h s;
-      links = pre_named old k given lent result new (worker_at old.workers k) h s.links;
-    }
+    pre_by (λ _ w. IsSound w) old k given lent result new h (λ why. s) (λ o i at fits e.
+    let filed = filed_pre old o (changed o (pre_step old k o i given lent) old.flow) (state_at old k o i given) in
+    loses_sound e.0 new e.2 (subst IsUnderWay (sym e.1.1) (pre_keeps old k o i given lent e.0.contexts filed at fits s.under_way))
+    (subst IsOwned (sym e.1.1) (files_owned filed (pre_owned old k o i given lent e.0.contexts at e.1.0 s))) (subst FiledIn (sym e.1.1) (pre_filed old k o i given lent at s)))
 
 -- ---- the base's call returns
 
-base_at : (old : World) (k : WorkerId) (call : BaseCall) (given : Answer) (result : Result (Unit {0}) Status) (new : World) (m : Option Worker)
-    → worker_at old.workers k ≡ m → BaseReturnsAt old k call given result new m → IsSound old → IsOwned new
-base_at old k call given result new (Some (place.Base o)) at h s =
-    let there = tied_there old.workers old.flow k (place.Base o) o AtBase s.under_way.workers at (eq-eqb o.0 o.0 refl) in
-    let r = there.0 in
+base_owned : (old : World) (k : WorkerId) (o : OpId) (call : BaseCall) (given : Answer) → worker_at old.workers k ≡ Some (Worker.Base o) → IsSound old
+    → IsOwned (base_returned old k o call given)
+base_owned old k o call given at s =
+    let x = inside_base old k o at s.under_way in
+    let r = x.0.row in
     let handle : HandleId = record { 0 = old.files.next } in
     let f = base_step old call given in
     let counts = base_counted call.params given handle in
     let slots = old.contexts.slots in
-    let asks = found_holds (λ (x : FlowRecord). All (AskCarries old.stack slots) (owed x.entries)) (is_number o) old.flow.operations r s.owned.completions there.1 in
-    let none = empty_hand old k (place.Base o) at refl s.owned in
-    unless_cases IsOwned status.BadRequest (told (base_fits call given) false o old.flow) result old new
-    ((result ≡ Ok tt) × LosesLinks (base_returned old k o call given) new) h
-    (λ fits event. loses_owned (base_returned old k o call given) new event.1 (files_owned (filed_base old o (changed o f old.flow) given.status)
-    (step_owned old o r f k (place.Base o) place.Idle old.contexts (hand_of old.contexts.hands k.0) there.1 at (worker_below old k (place.Base o) at s.under_way) refl refl
-    (alike old o r f there.1 (λ c. base_returned_carries c call given handle r) s.owned.lawful) refl (same_hands old.contexts.hands k.0) refl
+    let none = empty_hand old k (Worker.Base o) at refl s.owned in
+    files_owned (filed_base old o (changed o f old.flow) given.status)
+    (step_owned old o r f k (Worker.Base o) Worker.Idle old.contexts (hand_of old.contexts.hands k.0) x.0.at at (worker_below old k (Worker.Base o) at s.under_way) refl refl
+    (alike old o r f x.0.at (λ c. base_returned_carries c call given handle r) s.owned.lawful) refl (same_hands old.contexts.hands k.0) refl
     (subst (All (HoldsIn old.stack slots None)) (sym none) (All-nil (HoldsIn old.stack slots None)))
-    (subst (All (AskCarries old.stack slots)) (sym (owed_push_none r.entries (Base counts.status counts.information) refl (λ i. refl))) asks)
-    (quieter old o r f there.1 (λ i. omega (arith, base_returned_flies i call given handle r)) s.owned.quiet) s.owned))) s.owned
-base_at old k call given result new (Some place.Idle) at h s = subst IsOwned (sym h.1) s.owned
-base_at old k call given result new (Some (place.EarlyDrain o i)) at h s = subst IsOwned (sym h.1) s.owned
-base_at old k call given result new (Some (place.Setup i)) at h s = subst IsOwned (sym h.1) s.owned
-base_at old k call given result new (Some (place.Pre o i)) at h s = subst IsOwned (sym h.1) s.owned
-base_at old k call given result new (Some (place.Post o i)) at h s = subst IsOwned (sym h.1) s.owned
-base_at old k call given result new (Some (place.Drain o i)) at h s = subst IsOwned (sym h.1) s.owned
-base_at old k call given result new (Some (place.Cleanup c)) at h s = subst IsOwned (sym h.1) s.owned
-base_at old k call given result new None at h s = subst IsOwned (sym h.1) s.owned
+    (subst (All (AskCarries old.stack slots)) (sym (owed_push_none r.entries (Base counts.status counts.information) refl (λ i. refl))) (asks_of old o r x.0.at s.owned))
+    (quieter old o r f x.0.at (λ i. omega (arith, base_returned_flies i call given handle r)) s.owned.quiet) s.owned)
 
-base_filed : (old : World) (k : WorkerId) (call : BaseCall) (given : Answer) (result : Result (Unit {0}) Status) (new : World) (m : Option Worker)
-    → worker_at old.workers k ≡ m → BaseReturnsAt old k call given result new m → IsSound old → FiledIn new
-base_filed old k call given result new (Some (place.Base o)) at h s =
-    let there = tied_there old.workers old.flow k (place.Base o) o AtBase s.under_way.workers at (eq-eqb o.0 o.0 refl) in
-    let r = there.0 in
-    let stage : r.stage ≡ InBase = spot_base r.stage r.entries there.2 in
+base_filed : (old : World) (k : WorkerId) (o : OpId) (call : BaseCall) (given : Answer) → worker_at old.workers k ≡ Some (Worker.Base o)
+    → told (base_fits call given) false o old.flow ≡ true → IsSound old → FiledIn (base_returned old k o call given)
+base_filed old k o call given at fits s =
+    let x = inside_base old k o at s.under_way in
+    let r = x.0.row in
     let f = base_step old call given in
     let t = changed o f old.flow in
-    unless_cases FiledIn status.BadRequest (told (base_fits call given) false o old.flow) result old new
-    ((result ≡ Ok tt) × LosesLinks (base_returned old k o call given) new) h
-    (λ fits event. loses_filed (base_returned old k o call given) new event.1
-    (subst (λ (files : FileTable). IsFileSound files t) (sym (told_there (filed_record old.files t given.status) old.files o old.flow r there.1))
-    (file_answered old.files old.flow o r f given.status there.1 (ap is_unanswered stage)
-    (base_answered old.files call given r (fits_create call given r (sym (told_there (base_fits call given) false o old.flow r there.1) ∙ fits))) s.filed))) s.filed
-base_filed old k call given result new (Some place.Idle) at h s = subst FiledIn (sym h.1) s.filed
-base_filed old k call given result new (Some (place.EarlyDrain o i)) at h s = subst FiledIn (sym h.1) s.filed
-base_filed old k call given result new (Some (place.Setup i)) at h s = subst FiledIn (sym h.1) s.filed
-base_filed old k call given result new (Some (place.Pre o i)) at h s = subst FiledIn (sym h.1) s.filed
-base_filed old k call given result new (Some (place.Post o i)) at h s = subst FiledIn (sym h.1) s.filed
-base_filed old k call given result new (Some (place.Drain o i)) at h s = subst FiledIn (sym h.1) s.filed
-base_filed old k call given result new (Some (place.Cleanup c)) at h s = subst FiledIn (sym h.1) s.filed
-base_filed old k call given result new None at h s = subst FiledIn (sym h.1) s.filed
-
-base_named : (old : World) (k : WorkerId) (call : BaseCall) (given : Answer) (result : Result (Unit {0}) Status) (new : World) (m : Option Worker)
-    → BaseReturnsAt old k call given result new m → NamedIn old → NamedIn new
-base_named old k call given result new (Some (place.Base o)) h s =
-    unless_cases NamedIn status.BadRequest (told (base_fits call given) false o old.flow) result old new
-    ((result ≡ Ok tt) × LosesLinks (base_returned old k o call given) new) h (λ fits event. loses_named (base_returned old k o call given) new event.1) s
-base_named old k call given result new (Some place.Idle) h s = subst NamedIn (sym h.1) s
-base_named old k call given result new (Some (place.EarlyDrain o i)) h s = subst NamedIn (sym h.1) s
-base_named old k call given result new (Some (place.Setup i)) h s = subst NamedIn (sym h.1) s
-base_named old k call given result new (Some (place.Pre o i)) h s = subst NamedIn (sym h.1) s
-base_named old k call given result new (Some (place.Post o i)) h s = subst NamedIn (sym h.1) s
-base_named old k call given result new (Some (place.Drain o i)) h s = subst NamedIn (sym h.1) s
-base_named old k call given result new (Some (place.Cleanup c)) h s = subst NamedIn (sym h.1) s
-base_named old k call given result new None h s = subst NamedIn (sym h.1) s
+    subst (λ (files : FileTable). IsFileSound files t) (sym (told_there (filed_record old.files t given.status) old.files o old.flow r x.0.at))
+    (file_answered old.files old.flow o r f given.status x.0.at (ap is_unanswered x.1)
+    (base_answered old.files call given r (fits_create call given r (sym (told_there (base_fits call given) false o old.flow r x.0.at) ∙ fits))) s.filed)
 
 pub base_sound : (old : World) (k : WorkerId) (call : BaseCall) (given : Answer) (result : Result (Unit {0}) Status) (new : World)
     → BaseReturns old k call given result new → IsSound old → IsSound new
-unfolding BaseReturns
 base_sound old k call given result new h s =
-    record {
-      under_way = base_keeps old k call given result new h s.under_way;
-      owned = base_at old k call given result new (worker_at old.workers k) refl h s;
-      filed = base_filed old k call given result new (worker_at old.workers k) refl h s;
-      links = base_named old k call given result new (worker_at old.workers k) h s.links;
-    }
+    base_by (λ _ w. IsSound w) old k call given result new h (λ why. s) (λ o at fits loses.
+    loses_sound (base_returned old k o call given) new loses
+    (base_keeps old k o call given old.contexts (filed_base old o (changed o (base_step old call given) old.flow) given.status) at fits s.under_way)
+    (base_owned old k o call given at s) (base_filed old k o call given at fits s))
 
 -- ---- postoperations and drains return
 
-post_given : (old : World) (k : WorkerId) (o : OpId) (i : InstanceId) (given : PostVerdict) (lent : Data) (result : Result (Unit {0}) Status) (new : World)
-    → worker_at old.workers k ≡ Some (place.Post o i) → PostReturnsAt old k given (Some lent) result new (Some (place.Post o i)) → IsSound old → IsOwned new
-post_given old k o i given lent result new at h s =
-    let there = post_record old k o i at s.under_way in
-    let r = there.0 in
-    let f = post_returned_of given lent in
-    let slots = old.contexts.slots in
-    let sound = found_holds flow.IsSound (is_number o) old.flow.operations r s.under_way.flow.sound there.1 in
-    let course = subst (λ x. IsCourse x r.entries) there.2 sound.course in
-    let asks = found_holds (λ (x : FlowRecord). All (AskCarries old.stack slots) (owed x.entries)) (is_number o) old.flow.operations r s.owned.completions there.1 in
-    unless_cases IsOwned status.BadRequest (told (λ r. data_fits r.operation r.path lent) false o old.flow) result old new
-    ((result ≡ Ok tt) × ReturnsFrom old k o f old.contexts new) h
-    (λ fits event. subst IsOwned (sym event.1.1)
-    (left_owned old o r f k (place.Post o i) old.contexts new.contexts there.1 at (worker_below old k (place.Post o i) at s.under_way) refl
-    (lawful_alike (λ c. sym (post_balance old k o i given lent at s.under_way c)) s.owned.lawful) refl refl refl event.1.0
-    (subst (All (AskCarries old.stack slots)) (sym (owed_post_settled PostRunning r.entries (post_state given) refl course)) asks)
-    (λ j. omega (arith, post_returned_flies j given lent r there.2 sound)) s.owned)) s.owned
+post_owned : (old : World) (k : WorkerId) (o : OpId) (i : InstanceId) (given : PostVerdict) (lent : Data) (after : ContextTable) → worker_at old.workers k ≡ Some (Worker.Post o i)
+    → Leaves (carries_after old o (post_returned_of given lent)) old.contexts after k.0 → IsSound old
+    → IsOwned (record (returned old k o (post_returned_of given lent)) { contexts = after })
+post_owned old k o i given lent after at leaves s =
+    let x = inside_post old k o i at s.under_way in
+    let r = x.0.row in
+    let course = subst (λ x. IsCourse x r.entries) x.1 x.0.sound.course in
+    left_owned old o r (post_returned_of given lent) k (Worker.Post o i) old.contexts after x.0.at at (worker_below old k (Worker.Post o i) at s.under_way) refl
+    (lawful_alike (λ c. sym (post_balance old k o i given lent at s.under_way c)) s.owned.lawful) refl refl refl leaves
+    (subst (All (AskCarries old.stack old.contexts.slots)) (sym (owed_post_settled PostRunning r.entries (post_state given) refl course)) (asks_of old o r x.0.at s.owned))
+    (λ j. omega (arith, post_returned_flies j given lent r x.1 x.0.sound)) s.owned
 
-drain_given : (old : World) (k : WorkerId) (o : OpId) (i : InstanceId) (new : World) → worker_at old.workers k ≡ Some (place.Drain o i)
-    → ReturnsFrom old k o (drain_returned_of i) old.contexts new → IsSound old → IsOwned new
-drain_given old k o i new at e s =
-    let there = drain_record old k o i at s.under_way in
-    let r = there.0 in
-    let f = drain_returned_of i in
-    let slots = old.contexts.slots in
-    let sound = found_holds flow.IsSound (is_number o) old.flow.operations r s.under_way.flow.sound there.1 in
-    let asks = found_holds (λ (x : FlowRecord). All (AskCarries old.stack slots) (owed x.entries)) (is_number o) old.flow.operations r s.owned.completions there.1 in
-    subst IsOwned (sym e.1)
-    (left_owned old o r f k (place.Drain o i) old.contexts new.contexts there.1 at (worker_below old k (place.Drain o i) at s.under_way) refl
-    (lawful_alike (λ c. sym (drain_balance old k o i at s.under_way c)) s.owned.lawful) refl refl refl e.0
-    (subst (All (AskCarries old.stack slots)) (sym (owed_drain_settled i.0 r.entries)) asks)
-    (λ j. omega (arith, drain_returned_flies j i r there.2 sound)) s.owned)
-
-post_at : (old : World) (k : WorkerId) (given : PostVerdict) (lent : Option Data) (result : Result (Unit {0}) Status) (new : World) (m : Option Worker)
-    → worker_at old.workers k ≡ m → PostReturnsAt old k given lent result new m → IsSound old → IsOwned new
-post_at old k given (Some lent) result new (Some (place.Post o i)) at h s = post_given old k o i given lent result new at h s
-post_at old k given None result new (Some (place.Post o i)) at h s = subst IsOwned (sym h.1) s.owned
-post_at old k given None result new (Some (place.Drain o i)) at h s = drain_given old k o i new at h.1 s
-post_at old k given (Some lent) result new (Some (place.Drain o i)) at h s = subst IsOwned (sym h.1) s.owned
-post_at old k given (Some lent) result new (Some place.Idle) at h s = subst IsOwned (sym h.1) s.owned
-post_at old k given (Some lent) result new (Some (place.EarlyDrain o i)) at h s = subst IsOwned (sym h.1) s.owned
-post_at old k given (Some lent) result new (Some (place.Setup i)) at h s = subst IsOwned (sym h.1) s.owned
-post_at old k given (Some lent) result new (Some (place.Pre o i)) at h s = subst IsOwned (sym h.1) s.owned
-post_at old k given (Some lent) result new (Some (place.Base o)) at h s = subst IsOwned (sym h.1) s.owned
-post_at old k given (Some lent) result new (Some (place.Cleanup c)) at h s = subst IsOwned (sym h.1) s.owned
-post_at old k given (Some lent) result new None at h s = subst IsOwned (sym h.1) s.owned
-post_at old k given None result new (Some place.Idle) at h s = subst IsOwned (sym h.1) s.owned
-post_at old k given None result new (Some (place.EarlyDrain o i)) at h s = subst IsOwned (sym h.1) s.owned
-post_at old k given None result new (Some (place.Setup i)) at h s = subst IsOwned (sym h.1) s.owned
-post_at old k given None result new (Some (place.Pre o i)) at h s = subst IsOwned (sym h.1) s.owned
-post_at old k given None result new (Some (place.Base o)) at h s = subst IsOwned (sym h.1) s.owned
-post_at old k given None result new (Some (place.Cleanup c)) at h s = subst IsOwned (sym h.1) s.owned
-post_at old k given None result new None at h s = subst IsOwned (sym h.1) s.owned
-
--- a step of an operation that has its answer
-answered_filed : (old : World) (k : WorkerId) (o : OpId) (r : FlowRecord) (f : FlowRecord → FlowRecord) (new : World) → operation_at o old.flow ≡ Some r
-    → SameFile r (f r) → ReturnsFrom old k o f old.contexts new → IsSound old → FiledIn new
-answered_filed old k o r f new at same e s = subst FiledIn (sym e.1) (file_step old.files old.flow o r f at same s.filed)
+drain_owned : (old : World) (k : WorkerId) (o : OpId) (i : InstanceId) (after : ContextTable) → worker_at old.workers k ≡ Some (Worker.Drain o i)
+    → Leaves (carries_after old o (drain_returned_of i)) old.contexts after k.0 → IsSound old → IsOwned (record (returned old k o (drain_returned_of i)) { contexts = after })
+drain_owned old k o i after at leaves s =
+    let x = inside_drain old k o i at s.under_way in
+    let r = x.0.row in
+    left_owned old o r (drain_returned_of i) k (Worker.Drain o i) old.contexts after x.0.at at (worker_below old k (Worker.Drain o i) at s.under_way) refl
+    (lawful_alike (λ c. sym (drain_balance old k o i at s.under_way c)) s.owned.lawful) refl refl refl leaves
+    (subst (All (AskCarries old.stack old.contexts.slots)) (sym (owed_drain_settled i.0 r.entries)) (asks_of old o r x.0.at s.owned))
+    (λ j. omega (arith, drain_returned_flies j i r x.1 x.0.sound)) s.owned
 
 post_answered : (given : PostVerdict) → is_unanswered (post_leads (post_state given)) ≡ false
-post_answered given'.Finished = refl
-post_answered given'.MoreProcessing = refl
+post_answered PostVerdict.Finished = refl
+post_answered PostVerdict.MoreProcessing = refl
 
-post_filed : (old : World) (k : WorkerId) (given : PostVerdict) (lent : Option Data) (result : Result (Unit {0}) Status) (new : World) (m : Option Worker)
-    → worker_at old.workers k ≡ m → PostReturnsAt old k given lent result new m → IsSound old → FiledIn new
-post_filed old k given (Some lent) result new (Some (place.Post o i)) at h s =
-    let there = post_record old k o i at s.under_way in
-    let f = post_returned_of given lent in
-    unless_cases FiledIn status.BadRequest (told (λ r. data_fits r.operation r.path lent) false o old.flow) result old new
-    ((result ≡ Ok tt) × ReturnsFrom old k o f old.contexts new) h
-    (λ fits event. answered_filed old k o there.0 f new there.1
-    (answered_same there.0 (f there.0) refl refl (ap is_unanswered there.2) (post_answered given)) event.1 s) s.filed
-post_filed old k given None result new (Some (place.Post o i)) at h s = subst FiledIn (sym h.1) s.filed
-post_filed old k given None result new (Some (place.Drain o i)) at h s =
-    let there = drain_record old k o i at s.under_way in
-    answered_filed old k o there.0 (drain_returned_of i) new there.1 (answered_same there.0 (drain_returned_of i there.0) refl refl (ap is_unanswered there.2) refl) h.1 s
-post_filed old k given (Some lent) result new (Some (place.Drain o i)) at h s = subst FiledIn (sym h.1) s.filed
-post_filed old k given (Some lent) result new (Some place.Idle) at h s = subst FiledIn (sym h.1) s.filed
-post_filed old k given (Some lent) result new (Some (place.EarlyDrain o i)) at h s = subst FiledIn (sym h.1) s.filed
-post_filed old k given (Some lent) result new (Some (place.Setup i)) at h s = subst FiledIn (sym h.1) s.filed
-post_filed old k given (Some lent) result new (Some (place.Pre o i)) at h s = subst FiledIn (sym h.1) s.filed
-post_filed old k given (Some lent) result new (Some (place.Base o)) at h s = subst FiledIn (sym h.1) s.filed
-post_filed old k given (Some lent) result new (Some (place.Cleanup c)) at h s = subst FiledIn (sym h.1) s.filed
-post_filed old k given (Some lent) result new None at h s = subst FiledIn (sym h.1) s.filed
-post_filed old k given None result new (Some place.Idle) at h s = subst FiledIn (sym h.1) s.filed
-post_filed old k given None result new (Some (place.EarlyDrain o i)) at h s = subst FiledIn (sym h.1) s.filed
-post_filed old k given None result new (Some (place.Setup i)) at h s = subst FiledIn (sym h.1) s.filed
-post_filed old k given None result new (Some (place.Pre o i)) at h s = subst FiledIn (sym h.1) s.filed
-post_filed old k given None result new (Some (place.Base o)) at h s = subst FiledIn (sym h.1) s.filed
-post_filed old k given None result new (Some (place.Cleanup c)) at h s = subst FiledIn (sym h.1) s.filed
-post_filed old k given None result new None at h s = subst FiledIn (sym h.1) s.filed
-
--- what a callback leaves behind has its links still
-left_named : (old : World) (k : WorkerId) (o : OpId) (step : FlowRecord → FlowRecord) (new : World) → ReturnsFrom old k o step old.contexts new → NamedIn old → NamedIn new
-left_named old k o step new h s = subst NamedIn (sym h.1) (subst (AllPass (names_there old.files)) (sym h.0.slots) s)
-
-post_named : (old : World) (k : WorkerId) (given : PostVerdict) (lent : Option Data) (result : Result (Unit {0}) Status) (new : World) (m : Option Worker)
-    → PostReturnsAt old k given lent result new m → NamedIn old → NamedIn new
-post_named old k given (Some lent) result new (Some (place.Post o i)) h s =
-    let f = post_returned_of given lent in
-    unless_cases NamedIn status.BadRequest (told (λ r. data_fits r.operation r.path lent) false o old.flow) result old new
-    ((result ≡ Ok tt) × ReturnsFrom old k o f old.contexts new) h (λ fits event. left_named old k o f new event.1 s) s
-post_named old k given None result new (Some (place.Drain o i)) h s = left_named old k o (drain_returned_of i) new h.1 s
-post_named old k given None result new (Some (place.Post o i)) h s = subst NamedIn (sym h.1) s
-post_named old k given (Some lent) result new (Some (place.Drain o i)) h s = subst NamedIn (sym h.1) s
-post_named old k given (Some lent) result new (Some place.Idle) h s = subst NamedIn (sym h.1) s
-post_named old k given (Some lent) result new (Some (place.EarlyDrain o i)) h s = subst NamedIn (sym h.1) s
-post_named old k given (Some lent) result new (Some (place.Setup i)) h s = subst NamedIn (sym h.1) s
-post_named old k given (Some lent) result new (Some (place.Pre o i)) h s = subst NamedIn (sym h.1) s
-post_named old k given (Some lent) result new (Some (place.Base o)) h s = subst NamedIn (sym h.1) s
-post_named old k given (Some lent) result new (Some (place.Cleanup c)) h s = subst NamedIn (sym h.1) s
-post_named old k given (Some lent) result new None h s = subst NamedIn (sym h.1) s
-post_named old k given None result new (Some place.Idle) h s = subst NamedIn (sym h.1) s
-post_named old k given None result new (Some (place.EarlyDrain o i)) h s = subst NamedIn (sym h.1) s
-post_named old k given None result new (Some (place.Setup i)) h s = subst NamedIn (sym h.1) s
-post_named old k given None result new (Some (place.Pre o i)) h s = subst NamedIn (sym h.1) s
-post_named old k given None result new (Some (place.Base o)) h s = subst NamedIn (sym h.1) s
-post_named old k given None result new (Some (place.Cleanup c)) h s = subst NamedIn (sym h.1) s
-post_named old k given None result new None h s = subst NamedIn (sym h.1) s
+-- a callback of an operation that has its answer returns: streams and handles stay, and what has a link has it still
+returned_sound : (old : World) (k : WorkerId) (o : OpId) (r : FlowRecord) (f : FlowRecord → FlowRecord) (new : World) → operation_at o old.flow ≡ Some r
+    → SameFile r (f r) → ReturnsFrom old k o f old.contexts new → IsUnderWay (record (returned old k o f) { contexts = new.contexts })
+    → IsOwned (record (returned old k o f) { contexts = new.contexts }) → IsSound old → IsSound new
+returned_sound old k o r f new at same e under_way owned s =
+    subst IsSound (sym e.1)
+    (record {
+      under_way = under_way;
+      owned = owned;
+      filed = file_step old.files old.flow o r f at same s.filed;
+      links = subst (AllPass (names_there old.files)) (sym e.0.slots) s.links;
+    })
 
 pub post_sound : (old : World) (k : WorkerId) (given : PostVerdict) (lent : Option Data) (result : Result (Unit {0}) Status) (new : World)
     → PostReturns old k given lent result new → IsSound old → IsSound new
-unfolding PostReturns
 post_sound old k given lent result new h s =
-    record {
-      under_way = post_keeps old k given lent result new h s.under_way;
-      owned = post_at old k given lent result new (worker_at old.workers k) refl h s;
-      filed = post_filed old k given lent result new (worker_at old.workers k) refl h s;
-      links = post_named old k given lent result new (worker_at old.workers k) h s.links;
-    }
+    post_by (λ _ w. IsSound w) old k given lent result new h (λ why. s)
+    (λ o i back at fits e.
+    let x = inside_post old k o i at s.under_way in
+    let f = post_returned_of given back in
+    returned_sound old k o x.0.row f new x.0.at (answered_same x.0.row (f x.0.row) refl refl (ap is_unanswered x.1) (post_answered given)) e
+    (post_keeps old k o i given back new.contexts at fits s.under_way) (post_owned old k o i given back new.contexts at e.0 s) s)
+    (λ o i at e.
+    let x = inside_drain old k o i at s.under_way in
+    let f = drain_returned_of i in
+    returned_sound old k o x.0.row f new x.0.at (answered_same x.0.row (f x.0.row) refl refl (ap is_unanswered x.1) refl) e
+    (drain_keeps old k o i new.contexts at s.under_way) (drain_owned old k o i new.contexts at e.0 s) s)
 
 -- ---- collect
 
@@ -909,79 +548,40 @@ total_without f test (x ∷ rs) r is =
     elim (cases_Bool (test x)) [
       | inl e ↦
           let same : x ≡ r = same_Some x r (sym (ap (λ b. cond b (Some x) (find test rs)) e) ∙ is) in
-          let here = ap f same in
-          rw e (omega (arith, here))
+          rw e (omega (arith, ap f same))
       | inr e ↦ rw e (omega (arith, total_without f test rs r (sym (ap (λ b. cond b (Some x) (find test rs)) e) ∙ is)))
     ]
 
 pub done_owes : (stage : Stage) (asks : List Ask) → done_at stage asks ≡ true → asks ≡ []
 done_owes Ascending [] h = refl
-done_owes Ascending (ask ∷ asks) h = absurd (false≢true h)
-done_owes Descending asks h = absurd (false≢true h)
-done_owes PreRunning asks h = absurd (false≢true h)
-done_owes PreHeld asks h = absurd (false≢true h)
-done_owes InBase asks h = absurd (false≢true h)
-done_owes PostRunning asks h = absurd (false≢true h)
-done_owes PostHeld asks h = absurd (false≢true h)
-done_owes (InDrain i) asks h = absurd (false≢true h)
-
--- operations change, and nothing else
-operations_owned : (w : World) (t : FlowTable) → ((c : CtxId) → carried c w.flow ≡ carried c t) → AllCarry w.stack w.contexts.slots t.operations
-    → ((i : ℕ) → in_flight i t ≤ in_flight i w.flow) → IsOwned w → IsOwned (record w { flow = t })
-operations_owned w t same carry fewer h = record {
-  lawful = lawful_alike same h.lawful;
-  cleaning = h.cleaning;
-  holders = h.holders;
-  completions = carry;
-  fits = h.fits;
-  quiet = λ i rests. omega (arith, fewer i.0, h.quiet i rests);
-  totals = h.totals;
-}
+done_owes _ _ h = absurd (false≢true h)
 
 -- a collected operation carried nothing any more
 pub collect_balance : (t : FlowTable) (o : OpId) (m : Option FlowRecord) → operation_at o t ≡ m → (c : CtxId) → carried c t ≡ carried c (collected_in o t m)
-collect_balance t o None at c = refl
-collect_balance t o (Some r) at c = by_collectable (is_collectable r) refl
-  where
-    by_drain : (b : Bool) → is_done r ≡ true → carried c t ≡ carried c (cond b (changed o marked t) (removed o t))
-    by_drain true done = let k = carried_changed t o r marked at c in omega (arith, k)
-    by_drain false done =
-        let z : carried_by c r ≡ 0 = ap (carried_among c) (done_owes r.stage (owed r.entries) done) in
-        let k = total_without (carried_by c) (is_number o) t.operations r at in
-        omega (arith, k, z)
+collect_balance t o m at c =
+    collected_by (λ u. carried c t ≡ carried c u) o t m at refl (λ r at done. let k = carried_changed t o r marked at c in omega (arith, k)) (λ r at done d.
+    let z : carried_by c r ≡ 0 = ap (carried_among c) (done_owes r.stage (owed r.entries) done) in
+    omega (arith, total_without (carried_by c) (is_number o) t.operations r at, z))
 
-    by_collectable : (a : Bool) → is_collectable r ≡ a
-        → carried c t ≡ carried c (cond a (cond (list_any is_running_drain r.entries) (changed o marked t) (removed o t)) t)
-    by_collectable false is = refl
-    by_collectable true is = by_drain (list_any is_running_drain r.entries) (and_parts (not r.collected) (is_done r) is).1
-
-collect_at : (old : World) (o : OpId) (m : Option FlowRecord) → operation_at o old.flow ≡ m → IsOwned old → IsOwned (record old { flow = collected_in o old.flow m })
-collect_at old o None at h = h
-collect_at old o (Some r) at h = by_collectable (is_collectable r) refl
-  where
-    by_drain : (b : Bool) → is_done r ≡ true → IsOwned (record old { flow = cond b (changed o marked old.flow) (removed o old.flow) })
-    by_drain true done =
-        operations_owned old (changed o marked old.flow) (λ c. let k = carried_changed old.flow o r marked at c in omega (arith, k))
-        (carry_changed old.stack old.contexts.slots old.flow o r marked at
-        (found_holds (λ (x : FlowRecord). All (AskCarries old.stack old.contexts.slots) (owed x.entries)) (is_number o) old.flow.operations r h.completions at) h.completions)
-        (λ i. let k = flight_changed old.flow o r marked at i in omega (arith, k)) h
-    by_drain false done =
-        let none = done_owes r.stage (owed r.entries) done in
-        operations_owned old (removed o old.flow)
-        (λ c. let k = total_without (carried_by c) (is_number o) old.flow.operations r at in let z : carried_by c r ≡ 0 = ap (carried_among c) none in omega (arith, k, z))
-        (all_without (λ (x : FlowRecord). All (AskCarries old.stack old.contexts.slots) (owed x.entries)) (is_number o) old.flow.operations h.completions)
-        (λ i. omega (arith, total_without (flight i) (is_number o) old.flow.operations r at)) h
-
-    by_collectable : (a : Bool) → is_collectable r ≡ a → IsOwned (record old { flow = cond a (cond (list_any is_running_drain r.entries) (changed o marked old.flow) (removed o old.flow)) old.flow })
-    by_collectable false is = h
-    by_collectable true is = by_drain (list_any is_running_drain r.entries) (and_parts (not r.collected) (is_done r) is).1
+collect_owned : (old : World) (o : OpId) → IsOwned old → IsOwned (record old { flow = collected_of o old.flow })
+collect_owned old o h =
+    let m = operation_at o old.flow in
+    let owes = λ (x : FlowRecord). All (AskCarries old.stack old.contexts.slots) (owed x.entries) in
+    flow_owned old (collected_of o old.flow) (lawful_alike (collect_balance old.flow o m refl) h.lawful)
+    (collected_by (λ t. AllCarry old.stack old.contexts.slots t.operations) o old.flow m refl h.completions
+    (λ r at done. carry_changed old.stack old.contexts.slots old.flow o r marked at (asks_of old o r at h) h.completions)
+    (λ r at done d. all_without owes (is_number o) old.flow.operations h.completions))
+    (λ i rests.
+    let fewer = collected_by (λ t. in_flight i.0 t ≤ in_flight i.0 old.flow) o old.flow m refl (omega arith)
+    (λ r at done. let k = flight_changed old.flow o r marked at i.0 in omega (arith, k)) (λ r at done d. omega (arith, total_without (flight i.0) (is_number o) old.flow.operations r at)) in
+    omega (arith, fewer, h.quiet i rests)) h
 
 pub collect_sound : (old : World) (o : OpId) (result : Result Answer Status) (new : World) → Collects old o result new → IsSound old → IsSound new
 unfolding Collects
 collect_sound old o result new h s =
     record {
       under_way = collect_keeps old o result new h s.under_way;
-      owned = subst IsOwned (sym h.1) (collect_at old o (operation_at o old.flow) refl s.owned);
+      owned = subst IsOwned (sym h.1) (collect_owned old o s.owned);
       filed = subst FiledIn (sym h.1) (file_collects old.files o old.flow s.filed);
       links = subst NamedIn (sym h.1) s.links;
     }

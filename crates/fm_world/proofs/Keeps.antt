@@ -1,47 +1,17 @@
 -- The events on filters, volumes and instances keep a World sound.
 use Rattle.std.proofs.Common.{◌≡◌, ℕ, zero, suc, ◌+◌, ◌≤◌, ◌==◌, Bool, true, false, List, [], ◌∷◌, ◌++◌, Option, Some, None, Result, Ok, Err, length, refl, ap, sym, ◌∙◌, subst, arith, count_by, length-set}
-use Rattle.std.specs.Prelude.{slice_get}
-use Rattle.std.proofs.lemmas.Bool.{false≢true, eq-eqb}
-use Rattle.std.proofs.lemmas.Bool.Decides.{nat_tests}
-use Rattle.std.proofs.lemmas.Option.{none-some, same_Some}
-use Rattle.std.proofs.lemmas.List.Elements.{All-weaker}
-use Rattle.fm_types.specs.declared.ids.FilterId.{FilterId}
-use Rattle.fm_types.specs.declared.ids.VolumeId.{VolumeId}
-use Rattle.fm_types.specs.declared.ids.InstanceId.{InstanceId}
-use Rattle.fm_types.specs.declared.ids.WorkerId.{WorkerId}
-use Rattle.fm_types.specs.declared.ids.OpId.{OpId}
-use Rattle.fm_types.specs.declared.status.Status.{Status}
-use Rattle.fm_types.specs.declared.status.Status.TheVariants as status
-use Rattle.fm_types.specs.declared.registration.Registration.{Registration}
-use Rattle.fm_types.specs.Lists.{updated}
-use Rattle.fm_stack.specs.declared.instance.Instance.{Instance}
-use Rattle.fm_stack.specs.declared.instance.Phase.TheVariants as phase
-use Rattle.fm_stack.specs.StackWorld.{StackWorld}
-use Rattle.fm_stack.specs.Instances.{is_setup}
+use Rattle.fm_world.proofs.Words.{slice_get, eq-eqb, none-some, same_Some, All-weaker, FilterId, VolumeId, InstanceId, WorkerId, OpId, Status, updated}
+use Rattle.fm_world.proofs.Words.{Instance, Phase, StackWorld, is_setup, Follows, IsStack, ContextTable, Below, FlowAction, Worker, LosesLinks, World}
+use Rattle.fm_world.proofs.Words.{worker_at, put, after_attach, LosesByKnown, Spot, AtPre, is_in_at, is_in_drain, IsUnderWay, IsAmong, is_in_setup, setup_row}
+use Rattle.fm_world.proofs.Words.{IsFileSound, FileTable}
 use Rattle.fm_stack.specs.Events as stack
-use Rattle.fm_stack.specs.Follows.{Follows}
-use Rattle.fm_stack.specs.Stacks.{IsStack}
-use Rattle.fm_flow.specs.declared.action.Below.{Below}
-use Rattle.fm_flow.specs.declared.action.Below.TheVariants as below
-use Rattle.fm_flow.specs.declared.action.FlowAction.{FlowAction}
-use Rattle.fm_flow.specs.declared.action.FlowAction.TheVariants as action
-use Rattle.fm_ctx.specs.Table.{ContextTable}
-use Rattle.fm_world.specs.declared.worker.Worker.{Worker}
-use Rattle.fm_world.specs.declared.worker.Worker.TheVariants as place
-use Rattle.fm_world.specs.Links.{LosesLinks}
-use Rattle.fm_world.specs.World.{World}
-use Rattle.fm_world.specs.Workers.{worker_at, put, is_idle, after_attach}
-use Rattle.fm_world.specs.Events.{LosesByKnown, Registers, Mounts, Attaches, SetsUp, SetsUpAt, Unless}
-use Rattle.fm_world.specs.Headline.{Spot, AtPre, AtBase, AtPost, AtDrain, is_in_at, is_in_drain}
-use Rattle.fm_world.specs.Sound.{IsUnderWay, IsAmong, is_in_setup, setup_row, IsFileSound}
-use Rattle.fm_world.proofs.Counts.{count-some}
-use Rattle.fm_world.proofs.Ties.{one, count_moves, idle_is_in_none}
-use Rattle.fm_world.proofs.Draining.{moves_undrained}
-use Rattle.fm_world.proofs.Amongs.{among_follows}
-use Rattle.fm_stack.proofs.Registering.{registered_keeps, registered_follows, mounted_keeps, mounted_follows}
+use Rattle.std.proofs.lemmas.Bool.Decides.{nat_tests}
 use Rattle.fm_stack.proofs.Attaching.{attached_keeps, attached_follows}
 use Rattle.fm_stack.proofs.SettingUp.{accepted_keeps, accepted_follows, refused_keeps, refused_follows}
-use Rattle.fm_world.specs.Files.{FileTable}
+use Rattle.fm_world.proofs.Counts.{count-some}
+pub use Rattle.fm_world.proofs.Events.{idle_there}
+use Rattle.fm_world.proofs.Ties.{one, count_moves, idle_is_in_none, count_stays}
+use Rattle.fm_world.proofs.Amongs.{among_follows}
 
 -- streams, handles and the creates under way
 abbrev pub FiledIn : World → Type 0
@@ -56,29 +26,12 @@ loses_under_way old new h s = subst IsUnderWay (sym h.1) (whatever_contexts old 
 
 -- where links go by a known answer, and where nothing goes
 pub known_cases : (P : World → Type 0) (result : Result FlowAction Status) (lies : Below) (mid new : World) → LosesByKnown result lies mid new → (LosesLinks mid new → P new) → P mid → P new
-known_cases P (Ok action.Moved) (below.Known why) mid new h lost same = lost h
-known_cases P (Ok action.Moved) (below.Instance i b) mid new h lost same = subst P (sym h) same
-known_cases P (Ok action.Moved) below.Call mid new h lost same = subst P (sym h) same
-known_cases P _ lies mid new h lost same = subst P (sym h) same
+known_cases P (Ok FlowAction.Moved) (Below.Known why) mid new h lost same = lost h
+known_cases P _ _ mid new h lost same = subst P (sym h) same
 
 -- nor do streams and handles
 pub whatever_files : (w : World) (t : ContextTable) (files : FileTable) → IsUnderWay w → IsUnderWay (record w { contexts = t; files = files })
 whatever_files w t files h = record { stack = h.stack; flow = h.flow; among = h.among; hands = h.hands; workers = h.workers; drains = h.drains; setups = h.setups }
-
--- workers move outside operations and setups
-pub workers_move : (w : World) (workers : List Worker) → length workers ≡ 48
-    → ((o : OpId) (spot : Spot) → count_by (is_in_at o spot) workers ≡ count_by (is_in_at o spot) w.workers)
-    → ((o : OpId) (i : ℕ) → count_by (is_in_drain o i) workers ≡ count_by (is_in_drain o i) w.workers)
-    → ((i : ℕ) → count_by (is_in_setup i) workers ≡ count_by (is_in_setup i) w.workers) → IsUnderWay w → IsUnderWay (record w { workers = workers })
-workers_move w workers hands same drains setups h = record {
-  stack = h.stack;
-  flow = h.flow;
-  among = h.among;
-  hands = hands;
-  workers = λ o spot. same o spot ∙ h.workers o spot;
-  drains = λ o i. drains o i ∙ h.drains o i;
-  setups = λ i. setups i ∙ h.setups i;
-}
 
 -- filters, volumes and instances change, workers move outside operations
 pub stack_moves : (w : World) (t : StackWorld) (workers : List Worker) → IsStack t → Follows w.stack t → length workers ≡ 48
@@ -96,26 +49,11 @@ stack_moves w t workers stack follows hands same drains setups h = record {
   setups = setups;
 }
 
--- the rest is as it was
-same_rest : (old new : World) (t : StackWorld) → new.stack ≡ t → new ≡ record old { stack = new.stack } → new ≡ record old { stack = t }
-same_rest old new t e h = h ∙ ap (λ x. record old { stack = x }) e
-
-pub register_keeps : (old : World) (name : List ℕ) (registration : Registration) (result : Result FilterId Status) (new : World)
-    → Registers old name registration result new → IsUnderWay old → IsUnderWay new
-unfolding Registers stack.Registers
-register_keeps old name registration (Ok f) new h s =
-    subst IsUnderWay (sym (same_rest old new (stack.registered old.stack name registration) h.0.1.1 h.1))
-    (stack_moves old (stack.registered old.stack name registration) old.workers (registered_keeps old.stack name registration s.stack h.0.0)
-    (registered_follows old.stack name registration s.stack) s.hands (λ o spot. refl) (λ o i. refl) s.setups s)
-register_keeps old name registration (Err why) new h s = subst IsUnderWay (sym (same_rest old new old.stack h.0.1 h.1)) s
-
-pub mount_keeps : (old : World) (name : List ℕ) (result : Result VolumeId Status) (new : World) → Mounts old name result new → IsUnderWay old → IsUnderWay new
-unfolding Mounts stack.Mounts
-mount_keeps old name (Ok v) new h s =
-    subst IsUnderWay (sym (same_rest old new (stack.mounted old.stack name) h.0.1.1 h.1))
-    (stack_moves old (stack.mounted old.stack name) old.workers (mounted_keeps old.stack name s.stack h.0.0)
-    (mounted_follows old.stack name s.stack) s.hands (λ o spot. refl) (λ o i. refl) s.setups s)
-mount_keeps old name (Err why) new h s = subst IsUnderWay (sym (same_rest old new old.stack h.0.1 h.1)) s
+-- no worker moves
+pub stack_changes : (w : World) (t : StackWorld) → IsStack t → Follows w.stack t → ((i : ℕ) → setup_row (slice_get w.stack.instances i) ≡ setup_row (slice_get t.instances i))
+    → IsUnderWay w → IsUnderWay (record w { stack = t })
+stack_changes w t stack follows same h =
+    stack_moves w t w.workers stack follows h.hands (λ o spot. refl) (λ o i. refl) (λ i. h.setups i ∙ same i) h
 
 -- ---- attach
 
@@ -125,72 +63,36 @@ same_suc a b = grind (arith, nat_tests)
 setup_push : (rows : List Instance) (row : Instance) (j : ℕ) → is_setup row.phase ≡ true
     → setup_row (slice_get (rows ++ row ∷ []) j) ≡ setup_row (slice_get rows j) + one (length rows == j)
 setup_push [] row zero h = rw h refl
-setup_push [] row (suc j) h = grind (arith, nat_tests)
-setup_push (x ∷ rows) row zero h = grind (arith, nat_tests)
 setup_push (x ∷ rows) row (suc j) h = setup_push rows row j h ∙ ap (λ b. setup_row (slice_get rows j) + one b) (sym (same_suc (length rows) j))
+setup_push _ row _ h = grind (arith, nat_tests)
 
-setup_in_none : (i : InstanceId) (p : OpId) (s : Spot) → is_in_at p s (place.Setup i) ≡ false
+setup_in_none : (i : InstanceId) (p : OpId) (s : Spot) → is_in_at p s (Worker.Setup i) ≡ false
 setup_in_none i p (AtPre j) = refl
-setup_in_none i p AtBase = refl
-setup_in_none i p (AtPost j) = refl
-setup_in_none i p (AtDrain j) = refl
-
--- a worker moves between places outside operations
-pub moves_outside : (workers : List Worker) (k : WorkerId) (a b : Worker) → worker_at workers k ≡ Some a
-    → ((p : OpId) (s : Spot) → is_in_at p s a ≡ false) → ((p : OpId) (s : Spot) → is_in_at p s b ≡ false)
-    → (p : OpId) (s : Spot) → count_by (is_in_at p s) (put workers k b) ≡ count_by (is_in_at p s) workers
-moves_outside workers k a b h na nb p s =
-    let moves = count_moves (is_in_at p s) workers k a b h in
-    let from : one (is_in_at p s a) ≡ 0 = ap one (na p s) in
-    let to : one (is_in_at p s b) ≡ 0 = ap one (nb p s) in
-    omega (arith, moves, from, to)
-
-idle_at : (m : Option Worker) → is_idle m ≡ true → m ≡ Some place.Idle
-idle_at None h = absurd (false≢true h)
-idle_at (Some place.Idle) h = refl
-idle_at (Some _) h = absurd (false≢true h)
-
-pub idle_there : (workers : List Worker) (k : WorkerId) → is_idle (worker_at workers k) ≡ true → worker_at workers k ≡ Some place.Idle
-idle_there workers k h = idle_at (worker_at workers k) h
-
--- what an event says where its test fails, or passes
-pub unless_cases : {T : Type 0} (P : World → Type 0) (refusal : Status) (b : Bool) (result : Result T Status) (old new : World) (Event : Type 0)
-    → Unless refusal b result old new Event → (b ≡ true → Event → P new) → P old → P new
-unless_cases P refusal true result old new Event h event s = event refl h
-unless_cases P refusal false result old new Event h event s = subst P (sym h.1) s
+setup_in_none i p _ = refl
 
 same_all : (old new : World) (t : StackWorld) (workers : List Worker) → new.stack ≡ t → new ≡ record old { stack = new.stack; workers = workers }
     → new ≡ record old { stack = t; workers = workers }
 same_all old new t workers e h = h ∙ ap (λ x. record old { stack = x; workers = workers }) e
 
-attach_at : (old : World) (k : WorkerId) (f : FilterId) (v : VolumeId) (name altitude : List ℕ) (result : Result InstanceId Status) (new : World)
-    → worker_at old.workers k ≡ Some place.Idle → stack.Attaches old.stack f v name altitude result new.stack
+pub attach_keeps : (old : World) (k : WorkerId) (f : FilterId) (v : VolumeId) (name altitude : List ℕ) (result : Result InstanceId Status) (new : World)
+    → worker_at old.workers k ≡ Some Worker.Idle → stack.Attaches old.stack f v name altitude result new.stack
     → new ≡ record old { stack = new.stack; workers = after_attach old.workers k result } → IsUnderWay old → IsUnderWay new
 unfolding stack.Attaches
-attach_at old k f v name altitude (Err why) new idle h e s = subst IsUnderWay (sym (same_all old new old.stack old.workers h.1 e)) s
-attach_at old k f v name altitude (Ok i) new idle h e s =
+attach_keeps old k f v name altitude (Err why) new idle h e s = subst IsUnderWay (sym (same_all old new old.stack old.workers h.1 e)) s
+attach_keeps old k f v name altitude (Ok i) new idle h e s =
     let t = stack.attached old.stack f v name altitude in
-    let workers = put old.workers k (place.Setup i) in
+    let workers = put old.workers k (Worker.Setup i) in
     subst IsUnderWay (sym (same_all old new t workers h.1.1 e))
     (stack_moves old t workers (attached_keeps old.stack f v name altitude s.stack h.0) (attached_follows old.stack f v name altitude s.stack)
-    (length-set old.workers k.0 (place.Setup i) ∙ s.hands)
-    (moves_outside old.workers k place.Idle (place.Setup i) idle idle_is_in_none (setup_in_none i))
-    (moves_undrained old.workers k place.Idle (place.Setup i) idle (λ p n. refl) (λ p n. refl))
+    (length-set old.workers k.0 (Worker.Setup i) ∙ s.hands)
+    (λ p spot. count_stays (is_in_at p spot) old.workers k Worker.Idle (Worker.Setup i) idle (idle_is_in_none p spot) (setup_in_none i p spot))
+    (λ p n. count_stays (is_in_drain p n) old.workers k Worker.Idle (Worker.Setup i) idle refl refl)
     (λ j.
-    let moves = count_moves (is_in_setup j) old.workers k place.Idle (place.Setup i) idle in
+    let moves = count_moves (is_in_setup j) old.workers k Worker.Idle (Worker.Setup i) idle in
     let rows = setup_push old.stack.instances (stack.new_instance f v name altitude) j refl in
     let same : one (i.0 == j) ≡ one (length old.stack.instances == j) = ap (λ n. one (n == j)) h.1.0 in
     omega (arith, moves, rows, same, s.setups j))
     s)
-
-pub attach_keeps : (old : World) (k : WorkerId) (f : FilterId) (v : VolumeId) (name altitude : List ℕ) (result : Result InstanceId Status) (new : World)
-    → Attaches old k f v name altitude result new → IsUnderWay old → IsUnderWay new
-unfolding Attaches
-attach_keeps old k f v name altitude result new h s =
-    unless_cases IsUnderWay status.WrongStep (is_idle (worker_at old.workers k)) result old new
-    (stack.Attaches old.stack f v name altitude result new.stack
-    × (new ≡ record old { stack = new.stack; workers = after_attach old.workers k result }))
-    h (λ idle event. attach_at old k f v name altitude result new (idle_there old.workers k idle) event.0 event.1 s) s
 
 -- ---- the end of a setup callback
 
@@ -218,62 +120,43 @@ setup_there (Some row) h = (row, refl, true_of (is_setup row.phase) h)
     true_of false h = absurd (omega arith)
 
 -- the instance that a worker's setup callback is of, found through the worker
-pub setup_place : (w : World) (k : WorkerId) (i : InstanceId) → IsUnderWay w → worker_at w.workers k ≡ Some (place.Setup i)
+pub setup_place : (w : World) (k : WorkerId) (i : InstanceId) → IsUnderWay w → worker_at w.workers k ≡ Some (Worker.Setup i)
     → (row : Instance) × (slice_get w.stack.instances i.0 ≡ Some row) × (is_setup row.phase ≡ true)
 setup_place w k i s at =
-    let inside = count-some (is_in_setup i.0) w.workers k.0 (place.Setup i) at (eq-eqb i.0 i.0 refl) in
+    let inside = count-some (is_in_setup i.0) w.workers k.0 (Worker.Setup i) at (eq-eqb i.0 i.0 refl) in
     setup_there (slice_get w.stack.instances i.0) (omega (arith, inside, s.setups i.0))
 
 -- the callback returns, and the instance leaves its setup
 setup_ends : (old : World) (k : WorkerId) (i : InstanceId) (t : StackWorld) (change : Instance → Instance) (row : Instance)
-    → worker_at old.workers k ≡ Some (place.Setup i) → slice_get old.stack.instances i.0 ≡ Some row → is_setup row.phase ≡ true → is_setup (change row).phase ≡ false
+    → worker_at old.workers k ≡ Some (Worker.Setup i) → slice_get old.stack.instances i.0 ≡ Some row → is_setup row.phase ≡ true → is_setup (change row).phase ≡ false
     → t.instances ≡ updated change old.stack.instances i.0 → IsStack t → Follows old.stack t → IsUnderWay old
-    → IsUnderWay (record old { stack = t; workers = put old.workers k place.Idle })
+    → IsUnderWay (record old { stack = t; workers = put old.workers k Worker.Idle })
 setup_ends old k i t change row at there was is rows stack follows s =
-    stack_moves old t (put old.workers k place.Idle) stack follows (length-set old.workers k.0 place.Idle ∙ s.hands)
-    (moves_outside old.workers k (place.Setup i) place.Idle at (setup_in_none i) idle_is_in_none)
-    (moves_undrained old.workers k (place.Setup i) place.Idle at (λ p n. refl) (λ p n. refl))
+    stack_moves old t (put old.workers k Worker.Idle) stack follows (length-set old.workers k.0 Worker.Idle ∙ s.hands)
+    (λ p spot. count_stays (is_in_at p spot) old.workers k (Worker.Setup i) Worker.Idle at (setup_in_none i p spot) (idle_is_in_none p spot))
+    (λ p n. count_stays (is_in_drain p n) old.workers k (Worker.Setup i) Worker.Idle at refl refl)
     (λ j.
-    let moves = count_moves (is_in_setup j) old.workers k (place.Setup i) place.Idle at in
-    let after = setup_updated change old.stack.instances i.0 j row there was is in
+    let moves = count_moves (is_in_setup j) old.workers k (Worker.Setup i) Worker.Idle at in
     let now : setup_row (slice_get t.instances j) ≡ setup_row (slice_get (updated change old.stack.instances i.0) j) =
     ap (λ (xs : List Instance). setup_row (slice_get xs j)) rows in
-    omega (arith, moves, after, now, s.setups j))
+    omega (arith, moves, setup_updated change old.stack.instances i.0 j row there was is, now, s.setups j))
     s
 
-setup_at : (old : World) (k : WorkerId) (i : InstanceId) (accept : Bool) (result : Result (Unit {0}) Status) (new : World)
-    → worker_at old.workers k ≡ Some (place.Setup i) → stack.SetsUp old.stack i accept result new.stack
-    → new ≡ record old { stack = new.stack; workers = put old.workers k place.Idle; contexts = new.contexts } → IsUnderWay old → IsUnderWay new
+pub setup_keeps : (old : World) (k : WorkerId) (i : InstanceId) (accept : Bool) (result : Result (Unit {0}) Status) (new : World)
+    → worker_at old.workers k ≡ Some (Worker.Setup i) → stack.SetsUp old.stack i accept result new.stack
+    → new ≡ record old { stack = new.stack; workers = put old.workers k Worker.Idle; contexts = new.contexts } → IsUnderWay old → IsUnderWay new
 unfolding stack.SetsUp
-setup_at old k i accept (Ok done) new at h e s =
+setup_keeps old k i accept (Ok done) new at h e s =
     let row = setup_place old k i s at in
     let t = stack.accepted old.stack i in
-    subst IsUnderWay (sym (e ∙ ap (λ x. record old { stack = x; workers = put old.workers k place.Idle; contexts = new.contexts }) h.1))
-    (whatever_contexts (record old { stack = t; workers = put old.workers k place.Idle }) new.contexts old.totals
-    (setup_ends old k i t (λ (r : Instance). record r { phase = phase.Attached; birth = old.stack.births }) row.0 at row.1 row.2 refl refl
+    subst IsUnderWay (sym (e ∙ ap (λ x. record old { stack = x; workers = put old.workers k Worker.Idle; contexts = new.contexts }) h.1))
+    (whatever_contexts (record old { stack = t; workers = put old.workers k Worker.Idle }) new.contexts old.totals
+    (setup_ends old k i t (λ (r : Instance). record r { phase = Phase.Attached; birth = old.stack.births }) row.0 at row.1 row.2 refl refl
     (accepted_keeps old.stack i s.stack row.0 row.1 row.2) (accepted_follows old.stack i s.stack row.0 row.1 row.2) s))
-setup_at old k i accept (Err why) new at h e s =
+setup_keeps old k i accept (Err why) new at h e s =
     let row = setup_place old k i s at in
     let t = stack.refused old.stack i in
-    subst IsUnderWay (sym (e ∙ ap (λ x. record old { stack = x; workers = put old.workers k place.Idle; contexts = new.contexts }) h.1))
-    (whatever_contexts (record old { stack = t; workers = put old.workers k place.Idle }) new.contexts old.totals
-    (setup_ends old k i t (λ (r : Instance). record r { phase = phase.Emptying }) row.0 at row.1 row.2 refl refl
+    subst IsUnderWay (sym (e ∙ ap (λ x. record old { stack = x; workers = put old.workers k Worker.Idle; contexts = new.contexts }) h.1))
+    (whatever_contexts (record old { stack = t; workers = put old.workers k Worker.Idle }) new.contexts old.totals
+    (setup_ends old k i t (λ (r : Instance). record r { phase = Phase.Emptying }) row.0 at row.1 row.2 refl refl
     (refused_keeps old.stack i s.stack row.0 row.1 row.2) (refused_follows old.stack i s.stack row.0 row.1 row.2) s))
-
--- which place a worker is in, or that the event refused
-setup_cases : (old : World) (k : WorkerId) (accept : Bool) (result : Result (Unit {0}) Status) (new : World) (m : Option Worker)
-    → worker_at old.workers k ≡ m → SetsUpAt old k accept result new m → IsUnderWay old → IsUnderWay new
-setup_cases old k accept result new (Some (place.Setup i)) at h s = setup_at old k i accept result new at h.0 h.4 s
-setup_cases old k accept result new (Some place.Idle) at h s = subst IsUnderWay (sym h.1) s
-setup_cases old k accept result new (Some (place.EarlyDrain o i)) at h s = subst IsUnderWay (sym h.1) s
-setup_cases old k accept result new (Some (place.Pre o i)) at h s = subst IsUnderWay (sym h.1) s
-setup_cases old k accept result new (Some (place.Base o)) at h s = subst IsUnderWay (sym h.1) s
-setup_cases old k accept result new (Some (place.Post o i)) at h s = subst IsUnderWay (sym h.1) s
-setup_cases old k accept result new (Some (place.Drain o i)) at h s = subst IsUnderWay (sym h.1) s
-setup_cases old k accept result new (Some (place.Cleanup c)) at h s = subst IsUnderWay (sym h.1) s
-setup_cases old k accept result new None at h s = subst IsUnderWay (sym h.1) s
-
-pub setup_keeps : (old : World) (k : WorkerId) (accept : Bool) (result : Result (Unit {0}) Status) (new : World)
-    → SetsUp old k accept result new → IsUnderWay old → IsUnderWay new
-unfolding SetsUp
-setup_keeps old k accept result new h s = setup_cases old k accept result new (worker_at old.workers k) refl h s

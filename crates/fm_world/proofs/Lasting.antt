@@ -1,68 +1,20 @@
 -- Each event leaves slots as they are, or of a later generation: so an id that was given isn't given again, and what was cleaned stays cleaned.
 use Rattle.std.proofs.Common.{◌≡◌, ℕ, zero, suc, ◌<◌, ◌≤◌, ◌==◌, Bool, true, false, cond, List, [], ◌∷◌, ◌++◌, length, map, slice_get, Option, Some, None, Result, Ok, Err, option_map, refl, ap, sym, ◌∙◌, subst, inl, inr, ◌⊎◌, arith}
-use Rattle.std.specs.Prelude.{◌&&◌, option_and_then, slice_set}
-use Rattle.std.proofs.lemmas.Bool.{cases_Bool, cases_eq, eqb-true, eq-eqb, ne_eqb}
-use Rattle.std.proofs.lemmas.Option.{none-some, same_Some, slice_get-map, slice_get_within}
-use Rattle.fm_types.proofs.Lists.{slice_get-kept, slice_get-push, slice_get-set_same, slice_get-set_other, updated-same, updated-other}
-use Rattle.fm_types.specs.declared.context_kind.ContextKind.{ContextKind}
-use Rattle.fm_types.specs.declared.ids.CtxId.{CtxId}
-use Rattle.fm_types.specs.declared.ids.FilterId.{FilterId}
-use Rattle.fm_types.specs.declared.ids.InstanceId.{InstanceId}
-use Rattle.fm_types.specs.declared.ids.OpId.{OpId}
-use Rattle.fm_types.specs.declared.ids.VolumeId.{VolumeId}
-use Rattle.fm_types.specs.declared.ids.WorkerId.{WorkerId}
-use Rattle.fm_types.specs.declared.registration.Registration.{Registration}
-use Rattle.fm_types.specs.declared.status.Status.{Status}
-use Rattle.fm_types.specs.declared.status.Status.TheVariants as status
-use Rattle.fm_types.specs.Refusals.{Answers, AnswersOrMemory}
-use Rattle.fm_data.specs.declared.answer.Answer.{Answer}
-use Rattle.fm_data.specs.declared.base_call.BaseCall.{BaseCall}
-use Rattle.fm_data.specs.declared.verdict.PostVerdict.{PostVerdict}
-use Rattle.fm_data.specs.declared.verdict.PreVerdict.{PreVerdict}
-use Rattle.fm_data.specs.Data.{Data, data_fits}
-use Rattle.fm_flow.specs.declared.action.FlowAction.{FlowAction}
-use Rattle.fm_flow.specs.declared.action.FlowAction.TheVariants as action
-use Rattle.fm_flow.specs.Steps.{base_fits}
-use Rattle.fm_flow.specs.Table.{told}
-use Rattle.fm_ctx.specs.declared.due.Due.{Due}
-use Rattle.fm_ctx.specs.declared.object.Object.{Object}
-use Rattle.fm_ctx.specs.declared.set_reply.SetMode.{SetMode}
-use Rattle.fm_ctx.specs.declared.set_reply.SetMode.TheVariants.{Keep, Replace}
-use Rattle.fm_ctx.specs.Bags.{one, is_id, cleaning_of, is_hand_full}
-use Rattle.fm_ctx.specs.Laws.{is_waiting}
-use Rattle.fm_ctx.proofs.Bags.{is_id-refl, first_placed, places_cleaned}
-use Rattle.fm_ctx.proofs.Slots.{context_at-here}
-use Rattle.std.proofs.lemmas.List.{get_or-set_same, get_or-set_other}
-use Rattle.fm_ctx.specs.Births.{IsNew, new_slot, placed}
-use Rattle.fm_ctx.specs.Bodies.{with_body}
-use Rattle.fm_ctx.specs.Cleanup.{emptied, due_of, taken_due, taken_of, cleaned}
-use Rattle.fm_ctx.specs.Links.{with_link, set_after, set_mode_after, unlinked_for, delete_after, linked, holder}
-use Rattle.fm_ctx.specs.Settling.{swept, swept_slot}
-use Rattle.fm_ctx.specs.Table.{Context, Slot, ContextTable, context_in, context_at, changed_slot, change_context}
-use Rattle.fm_world.specs.declared.file.FileHandle.{FileHandle}
-use Rattle.fm_world.specs.declared.file.FileStream.{FileStream}
-use Rattle.fm_world.specs.declared.set_answer.SetAnswer.{SetAnswer}
-use Rattle.fm_world.specs.declared.step.Begin.{Begin}
-use Rattle.fm_world.specs.declared.step.Begin.TheVariants as begin
-use Rattle.fm_world.specs.declared.step.Step.{Step}
-use Rattle.fm_world.specs.declared.step.Step.TheVariants as step
-use Rattle.fm_world.specs.declared.step.StepReply.{StepReply}
-use Rattle.fm_world.specs.declared.step.StepReply.TheVariants as reply
-use Rattle.fm_world.specs.declared.worker.Worker.{Worker}
-use Rattle.fm_world.specs.declared.worker.Worker.TheVariants as place
-use Rattle.fm_world.specs.ContextEvents.{Callback, InCallbackOf, callback_of, object_for, set_refused, SetsOn, SetsUnless, SetsIn, there_at, CleansAt, Allocates, Sets, Gets, Deletes, References, Releases, ReadsBody, WritesBody, Bumps, TakesDue, Cleans, Finishes}
-use Rattle.fm_world.specs.Events.{Unless, brought, received, Registers, Mounts, Attaches, SetsUp, SetsUpAt, EmptiesUnless, Begins, Nexts, NextsAt, PreReturns, PreReturnsAt, BaseReturns, BaseReturnsAt, PostReturns, PostReturnsAt, Collects, begun_on, begun_at, after_begin, sent}
-use Rattle.fm_world.specs.Files.{handle_at, stream_at}
+use Rattle.fm_world.proofs.Words.{slice_set, cases_Bool, cases_eq, eqb-true, eq-eqb, ne_eqb, none-some, same_Some, slice_get-map, slice_get_within}
+use Rattle.fm_world.proofs.Words.{get_or-set_same, get_or-set_other, IfOk, slice_get-kept, slice_get-push, slice_get-set_same, slice_get-set_other}
+use Rattle.fm_world.proofs.Words.{updated-same, updated-other, ContextKind, CtxId, InstanceId, WorkerId, Status, Due, Object, SetMode, one, is_id}
+use Rattle.fm_world.proofs.Words.{cleaning_of, is_waiting, is_id-refl, first_placed, places_cleaned, context_at-here, IsNew, new_slot, placed, with_body}
+use Rattle.fm_world.proofs.Words.{emptied, due_of, taken_due, taken_of, cleaned, with_link, set_after, unlinked_for, delete_after, linked, holder, swept}
+use Rattle.fm_world.proofs.Words.{swept_slot, Context, Slot, ContextTable, context_in, context_at, changed_slot, change_context, FlowAction, Step, StepReply}
+use Rattle.fm_world.proofs.Words.{Worker, there_at, Allocates, Gets, Deletes, References, Releases, ReadsBody, WritesBody, Bumps, TakesDue, Cleans, Finishes}
+use Rattle.fm_world.proofs.Words.{Unless, brought, received, Registers, Mounts, Attaches, EmptiesUnless, Begins, Collects, sent, LosesLinks, Steps, Run}
+use Rattle.fm_world.proofs.Words.{World, carries, empty_world, IsSound, worker_at, is_idle, cleanup_in, sent_in, state_at}
+use Rattle.std.specs.Prelude.{option_and_then}
 use Rattle.fm_world.specs.Lasting.{given_by, due_by, Comes, IsGone, ContextsLast}
-use Rattle.fm_world.specs.Links.{LosesLinks}
-use Rattle.fm_world.specs.Requests.{params_of}
-use Rattle.fm_world.specs.Steps.{Steps, Run}
-use Rattle.fm_world.specs.World.{World, carries, empty_world}
-use Rattle.fm_world.specs.Sound.{IsSound}
-use Rattle.fm_world.specs.Workers.{worker_at, is_idle, cleanup_in}
-use Rattle.fm_world.proofs.Keeps.{known_cases, unless_cases, idle_there}
+use Rattle.fm_world.proofs.Events.{memory_by, answers_by, asked_by, taken_by, idle_by, idle_there, setup_by, next_by, pre_by, base_by, post_by, cleaned_by, set_by, set_each}
+use Rattle.fm_world.proofs.Keeps.{known_cases}
 use Rattle.fm_world.proofs.Runs.{step_keeps, run_keeps, empty_sound}
-use Rattle.fm_world.proofs.Losing.{received_slots}
+use Rattle.fm_world.proofs.Operations.{begun_by}
 
 -- ---- slots
 
@@ -167,9 +119,7 @@ given_not_new : (slots : List Slot) (c : CtxId) → WasGiven slots c → IsNew s
 given_not_new slots c was (inl new) = let within = slice_get_within slots c.slot was.0 was.1 in let past = new.0 in omega (arith, within, past)
 given_not_new slots c was (inr new) =
     let same : was.0.generation ≡ new.0.generation = ap (λ (y : Slot). y.generation) (same_Some was.0 new.0 (sym was.1 ∙ new.1)) in
-    let next = new.3 in
-    let below = was.2 in
-    omega (arith, same, next, below)
+    omega (arith, same, new.3, was.2)
 
 given_placed : (slots : List Slot) (c : CtxId) (x : Context) → IsNew slots c → WasGiven (placed slots c x) c
 given_placed slots c x (inl new) = (
@@ -203,198 +153,50 @@ table_after a b c f g = (slots_after a.slots b.slots c.slots f.0 g.0, g.1 ∙ f.
 
 -- ---- events
 
-abbrev Stay : World → World → Type 0
-Stay old new = TableStays old.contexts new.contexts
+-- what a worker cleans up it cleans up still, or it is cleaned
+abbrev CleansOn : World → World → Type 0
+CleansOn old new = (k : ℕ) (c : CtxId) → cleaning_of old.contexts.cleaning k ≡ Some c → (cleaning_of new.contexts.cleaning k ≡ Some c) ⊎ IsGone new c
 
-stay_still : (old new : World) → new ≡ old → Stay old new
-stay_still old new e = table_still old.contexts new.contexts (ap (λ (w : World). w.contexts) e)
+abbrev Lasts : World → World → Type 0
+Lasts old new = SlotsStay old.contexts.slots new.contexts.slots × CleansOn old new
 
-stay_loses : (old mid new : World) → LosesLinks mid new → Stay old mid → Stay old new
-stay_loses old mid new h stay =
-    table_after old.contexts mid.contexts new.contexts stay (subst (SlotsStay mid.contexts.slots) (sym h.0.slots) (slots_swept _ mid.contexts.slots), h.0.cleaning)
+-- the event makes a table in which slots stay, and so does what is being cleaned up
+lasts : (old new : World) (t : ContextTable) → new.contexts ≡ t → TableStays old.contexts t → Lasts old new
+lasts old new t e stay =
+    let stays = subst (TableStays old.contexts) (sym e) stay in
+    (stays.0, λ k c busy. inl (ap (λ (xs : List (Option CtxId)). cleaning_of xs k) stays.1 ∙ busy))
 
-stay_unless : {T : Type 0} (refusal : Status) (b : Bool) (result : Result T Status) (old new : World) (Event : Type 0) → Unless refusal b result old new Event → (Event → Stay old new)
-    → Stay old new
-stay_unless refusal b result old new Event h event = unless_cases (Stay old) refusal b result old new Event h (λ is e. event e) (stay_still old old refl)
+abbrev contexts_in : World → ContextTable
+contexts_in w = w.contexts
 
-stay_answers : {T : Type 0} (refusal : Option Status) (result : Result T Status) (old new : World) (E : T → Type 0) → Answers refusal result old new E → ((v : T) → E v → Stay old new)
-    → Stay old new
-stay_answers refusal (Ok v) old new E h event = event v h.1
-stay_answers refusal (Err why) old new E h event = stay_still old new h.1
+kept : (old new : World) → new.contexts ≡ old.contexts → Lasts old new
+kept old new e = lasts old new old.contexts e (table_still old.contexts old.contexts refl)
 
-stay_memory : {T : Type 0} (refusal : Option Status) (result : Result T Status) (old new : World) (E : T → Type 0) → AnswersOrMemory refusal result old new E
-    → ((v : T) → E v → Stay old new) → Stay old new
-stay_memory refusal (Ok v) old new E h event = event v h.1
-stay_memory refusal (Err why) old new E h event = stay_still old new h.1
+refused : (old : World) → Status → Lasts old old
+refused old why = kept old old refl
 
-stay_called : {T : Type 0} (result : Result T Status) (old new : World) (Event : Callback → Type 0) (m : Option Callback) → InCallbackOf result old new Event m
-    → ((at : Callback) → Event at → Stay old new) → Stay old new
-stay_called result old new Event None h event = stay_still old new h.1
-stay_called result old new Event (Some at) h event = event at h
+-- links go
+loses_lasts : (old mid new : World) → LosesLinks mid new → TableStays old.contexts mid.contexts → Lasts old new
+loses_lasts old mid new h stay =
+    lasts old new new.contexts refl
+    (table_after old.contexts mid.contexts new.contexts stay (subst (SlotsStay mid.contexts.slots) (sym h.0.slots) (slots_swept _ mid.contexts.slots), h.0.cleaning))
 
--- filters, volumes, instances
+brought_stays : (t : ContextTable) (k : WorkerId) (m : Option CtxId) → TableStays t (brought t k m)
+brought_stays t k None = table_still t t refl
+brought_stays t k (Some c) = table_same t (brought t k (Some c)) refl refl
 
-register_stay : (old : World) (name : List ℕ) (registration : Registration) (result : Result FilterId Status) (new : World) → Registers old name registration result new → Stay old new
-unfolding Registers
-register_stay old name registration result new h = table_still old.contexts new.contexts (ap (λ (w : World). w.contexts) h.1)
+received_stays : (t : ContextTable) (k : WorkerId) (result : Result FlowAction Status) → TableStays t (received t k result)
+received_stays t k (Ok (FlowAction.Post i lent completion)) = brought_stays t k completion.context
+received_stays t k (Ok (FlowAction.Drain i completion)) = brought_stays t k completion.context
+received_stays t k _ = table_still t t refl
 
-mount_stay : (old : World) (name : List ℕ) (result : Result VolumeId Status) (new : World) → Mounts old name result new → Stay old new
-unfolding Mounts
-mount_stay old name result new h = table_still old.contexts new.contexts (ap (λ (w : World). w.contexts) h.1)
+sent_stays : (t : ContextTable) (k : WorkerId) (m : Option CtxId) → TableStays t (sent t k m)
+sent_stays t k None = table_still t t refl
+sent_stays t k (Some c) = table_same t (sent t k (Some c)) refl refl
 
-attach_stay : (old : World) (k : WorkerId) (f : FilterId) (v : VolumeId) (name altitude : List ℕ) (result : Result InstanceId Status) (new : World)
-    → Attaches old k f v name altitude result new → Stay old new
-unfolding Attaches
-attach_stay old k f v name altitude result new h =
-    stay_unless status.WrongStep (is_idle (worker_at old.workers k)) result old new _ h (λ e. table_still old.contexts new.contexts (ap (λ (w : World). w.contexts) e.1))
-
-setup_at_stay : (old : World) (k : WorkerId) (accept : Bool) (result : Result (Unit {0}) Status) (new : World) (m : Option Worker) → SetsUpAt old k accept result new m → Stay old new
-setup_at_stay old k accept result new (Some (place.Setup i)) (event, left, leaves, empties, e) =
-    table_after old.contexts left new.contexts (table_same old.contexts left leaves.slots leaves.cleaning) (by_result result empties)
-  where
-    by_result : (result : Result (Unit {0}) Status) → EmptiesUnless result i old left new.contexts → TableStays left new.contexts
-    by_result (Ok done) same = table_still left new.contexts same
-    by_result (Err why) sweeps = (subst (SlotsStay left.slots) (sym sweeps.slots) (slots_swept _ left.slots), sweeps.cleaning)
-setup_at_stay old k accept result new None h = stay_still old new h.1
-setup_at_stay old k accept result new (Some place.Idle) h = stay_still old new h.1
-setup_at_stay old k accept result new (Some (place.Pre o i)) h = stay_still old new h.1
-setup_at_stay old k accept result new (Some (place.Base o)) h = stay_still old new h.1
-setup_at_stay old k accept result new (Some (place.Post o i)) h = stay_still old new h.1
-setup_at_stay old k accept result new (Some (place.Drain o i)) h = stay_still old new h.1
-setup_at_stay old k accept result new (Some (place.EarlyDrain o i)) h = stay_still old new h.1
-setup_at_stay old k accept result new (Some (place.Cleanup c)) h = stay_still old new h.1
-
-setup_stay : (old : World) (k : WorkerId) (accept : Bool) (result : Result (Unit {0}) Status) (new : World) → SetsUp old k accept result new → Stay old new
-unfolding SetsUp
-setup_stay old k accept result new h = setup_at_stay old k accept result new (worker_at old.workers k) h
-
--- operations
-
-begun_contexts : (old : World) (what : Begin) → (after_begin old what).contexts ≡ old.contexts
-begun_contexts old (begin.List v) = refl
-begun_contexts old (begin.Create v path mode) = refl
-begun_contexts old (begin.OnHandle h asked) = by_handle (handle_at h old.files)
-  where
-    by_stream : (x : FileHandle) (m : Option FileStream) → (begun_on old h (params_of asked) x m).contexts ≡ old.contexts
-    by_stream x None = refl
-    by_stream x (Some y) = refl
-
-    by_handle : (m : Option FileHandle) → (begun_at old h (params_of asked) m).contexts ≡ old.contexts
-    by_handle None = refl
-    by_handle (Some x) = by_stream x (stream_at x.stream old.files)
-
-begin_stay : (old : World) (what : Begin) (result : Result OpId Status) (new : World) → Begins old what result new → Stay old new
-unfolding Begins
-begin_stay old what result new h =
-    stay_memory _ result old new _ h (λ o e. table_still old.contexts new.contexts (ap (λ (w : World). w.contexts) e.1 ∙ begun_contexts old what))
-
-brought_cleaning : (t : ContextTable) (k : WorkerId) (m : Option CtxId) → (brought t k m).cleaning ≡ t.cleaning
-brought_cleaning t k None = refl
-brought_cleaning t k (Some c) = refl
-
-received_cleaning : (t : ContextTable) (k : WorkerId) (result : Result FlowAction Status) → (received t k result).cleaning ≡ t.cleaning
-received_cleaning t k (Ok (action.Post i lent completion)) = brought_cleaning t k completion.context
-received_cleaning t k (Ok (action.Drain i completion)) = brought_cleaning t k completion.context
-received_cleaning t k _ = refl
-
-next_stay : (old : World) (k : WorkerId) (o : OpId) (result : Result FlowAction Status) (new : World) → Nexts old k o result new → Stay old new
-unfolding Nexts
-next_stay old k o result new h =
-    stay_unless status.WrongStep (is_idle (worker_at old.workers k)) result old new (NextsAt old k o result new) h
-    (λ e.
-    let same = ap (λ (w : World). w.contexts) e.3.1 in
-    let stay = table_same old.contexts e.2.contexts (ap (λ (t : ContextTable). t.slots) same ∙ received_slots old.contexts k result)
-    (ap (λ (t : ContextTable). t.cleaning) same ∙ received_cleaning old.contexts k result) in
-    known_cases (Stay old) result e.0 e.2 new e.4 (λ loses. stay_loses old e.2 new loses stay) stay)
-
-sent_slots : (t : ContextTable) (k : WorkerId) (m : Option CtxId) → (sent t k m).slots ≡ t.slots
-sent_slots t k None = refl
-sent_slots t k (Some c) = refl
-
-sent_cleaning : (t : ContextTable) (k : WorkerId) (m : Option CtxId) → (sent t k m).cleaning ≡ t.cleaning
-sent_cleaning t k None = refl
-sent_cleaning t k (Some c) = refl
-
-pre_at_stay : (old : World) (k : WorkerId) (given : PreVerdict) (lent : Data) (result : Result (Unit {0}) Status) (new : World) (m : Option Worker)
-    → PreReturnsAt old k given lent result new m → Stay old new
-pre_at_stay old k given lent result new (Some (place.Pre o i)) h =
-    stay_unless status.BadRequest (told (λ r. data_fits r.operation r.path lent) false o old.flow) result old new _ h
-    (λ e. stay_loses old e.1.0 new e.1.2 (table_same old.contexts e.1.0.contexts (e.1.1.0.slots ∙ sent_slots old.contexts k _) (e.1.1.0.cleaning ∙ sent_cleaning old.contexts k _)))
-pre_at_stay old k given lent result new None h = stay_still old new h.1
-pre_at_stay old k given lent result new (Some place.Idle) h = stay_still old new h.1
-pre_at_stay old k given lent result new (Some (place.Setup i)) h = stay_still old new h.1
-pre_at_stay old k given lent result new (Some (place.Base o)) h = stay_still old new h.1
-pre_at_stay old k given lent result new (Some (place.Post o i)) h = stay_still old new h.1
-pre_at_stay old k given lent result new (Some (place.Drain o i)) h = stay_still old new h.1
-pre_at_stay old k given lent result new (Some (place.EarlyDrain o i)) h = stay_still old new h.1
-pre_at_stay old k given lent result new (Some (place.Cleanup c)) h = stay_still old new h.1
-
-pre_stay : (old : World) (k : WorkerId) (given : PreVerdict) (lent : Data) (result : Result (Unit {0}) Status) (new : World) → PreReturns old k given lent result new → Stay old new
-unfolding PreReturns
-pre_stay old k given lent result new h = pre_at_stay old k given lent result new (worker_at old.workers k) h
-
-base_at_stay : (old : World) (k : WorkerId) (call : BaseCall) (given : Answer) (result : Result (Unit {0}) Status) (new : World) (m : Option Worker)
-    → BaseReturnsAt old k call given result new m → Stay old new
-base_at_stay old k call given result new (Some (place.Base o)) h =
-    stay_unless status.BadRequest (told (base_fits call given) false o old.flow) result old new _ h (λ e. stay_loses old _ new e.1 (stay_still old old refl))
-base_at_stay old k call given result new None h = stay_still old new h.1
-base_at_stay old k call given result new (Some place.Idle) h = stay_still old new h.1
-base_at_stay old k call given result new (Some (place.Setup i)) h = stay_still old new h.1
-base_at_stay old k call given result new (Some (place.Pre o i)) h = stay_still old new h.1
-base_at_stay old k call given result new (Some (place.Post o i)) h = stay_still old new h.1
-base_at_stay old k call given result new (Some (place.Drain o i)) h = stay_still old new h.1
-base_at_stay old k call given result new (Some (place.EarlyDrain o i)) h = stay_still old new h.1
-base_at_stay old k call given result new (Some (place.Cleanup c)) h = stay_still old new h.1
-
-base_stay : (old : World) (k : WorkerId) (call : BaseCall) (given : Answer) (result : Result (Unit {0}) Status) (new : World) → BaseReturns old k call given result new → Stay old new
-unfolding BaseReturns
-base_stay old k call given result new h = base_at_stay old k call given result new (worker_at old.workers k) h
-
-post_at_stay : (old : World) (k : WorkerId) (given : PostVerdict) (lent : Option Data) (result : Result (Unit {0}) Status) (new : World) (m : Option Worker)
-    → PostReturnsAt old k given lent result new m → Stay old new
-post_at_stay old k given (Some lent) result new (Some (place.Post o i)) h =
-    stay_unless status.BadRequest (told (λ r. data_fits r.operation r.path lent) false o old.flow) result old new _ h (λ e. table_same old.contexts new.contexts e.1.0.slots e.1.0.cleaning)
-post_at_stay old k given None result new (Some (place.Drain o i)) h = table_same old.contexts new.contexts h.1.0.slots h.1.0.cleaning
-post_at_stay old k given None result new (Some (place.Post o i)) h = stay_still old new h.1
-post_at_stay old k given (Some lent) result new (Some (place.Drain o i)) h = stay_still old new h.1
-post_at_stay old k given lent result new None h = stay_still old new (refused_still lent h)
-  where
-    refused_still : (lent : Option Data) → PostReturnsAt old k given lent result new None → new ≡ old
-    refused_still (Some lent) h = h.1
-    refused_still None h = h.1
-post_at_stay old k given (Some lent) result new (Some place.Idle) h = stay_still old new h.1
-post_at_stay old k given (Some lent) result new (Some (place.Setup i)) h = stay_still old new h.1
-post_at_stay old k given (Some lent) result new (Some (place.Pre o i)) h = stay_still old new h.1
-post_at_stay old k given (Some lent) result new (Some (place.Base o)) h = stay_still old new h.1
-post_at_stay old k given (Some lent) result new (Some (place.EarlyDrain o i)) h = stay_still old new h.1
-post_at_stay old k given (Some lent) result new (Some (place.Cleanup c)) h = stay_still old new h.1
-post_at_stay old k given None result new (Some place.Idle) h = stay_still old new h.1
-post_at_stay old k given None result new (Some (place.Setup i)) h = stay_still old new h.1
-post_at_stay old k given None result new (Some (place.Pre o i)) h = stay_still old new h.1
-post_at_stay old k given None result new (Some (place.Base o)) h = stay_still old new h.1
-post_at_stay old k given None result new (Some (place.EarlyDrain o i)) h = stay_still old new h.1
-post_at_stay old k given None result new (Some (place.Cleanup c)) h = stay_still old new h.1
-
-post_stay : (old : World) (k : WorkerId) (given : PostVerdict) (lent : Option Data) (result : Result (Unit {0}) Status) (new : World) → PostReturns old k given lent result new
-    → Stay old new
-unfolding PostReturns
-post_stay old k given lent result new h = post_at_stay old k given lent result new (worker_at old.workers k) h
-
-collect_stay : (old : World) (o : OpId) (result : Result Answer Status) (new : World) → Collects old o result new → Stay old new
-unfolding Collects
-collect_stay old o result new h = table_still old.contexts new.contexts (ap (λ (w : World). w.contexts) h.1)
-
--- contexts
-
--- the event makes that table
-stay_table : (old new : World) (t : ContextTable) → new ≡ record old { contexts = t } → TableStays old.contexts t → Stay old new
-stay_table old new t e h = subst (TableStays old.contexts) (sym (ap (λ (w : World). w.contexts) e)) h
-
-allocate_stay : (old : World) (k : WorkerId) (kind : ContextKind) (body : List ℕ) (result : Result CtxId Status) (new : World) → Allocates old k kind body result new → Stay old new
-unfolding Allocates
-allocate_stay old k kind body result new h =
-    stay_called result old new _ (callback_of old k) h
-    (λ at e. stay_memory _ result old new _ e (λ c f. stay_table old new _ f.1 (slots_placed old.contexts.slots c _ f.0, refl)))
+emptied_stays : (old : World) (i : InstanceId) (left after : ContextTable) (result : Result (Unit {0}) Status) → EmptiesUnless result i old left after → TableStays left after
+emptied_stays old i left after (Ok done) same = table_still left after same
+emptied_stays old i left after (Err why) sweeps = (subst (SlotsStay left.slots) (sym sweeps.slots) (slots_swept _ left.slots), sweeps.cleaning)
 
 unlinked_stays : (carried : CtxId → ℕ) (t : ContextTable) (w : ℕ) (wants : Bool) (c : CtxId) → TableStays t (unlinked_for carried t w wants c)
 unlinked_stays carried t w true c = (slots_changed (option_map (with_link None)) t.slots c refl, refl)
@@ -403,100 +205,21 @@ unlinked_stays carried t w false c = (slots_changed (option_map (with_link None)
 linked_stays : (t : ContextTable) (c : CtxId) (object : Object) → TableStays t (linked t c object)
 linked_stays t c object = (slots_changed (option_map (with_link (Some object))) t.slots c refl, refl)
 
-moded_stays : (carried : CtxId → ℕ) (t : ContextTable) (w : ℕ) (c : CtxId) (object : Object) (mode : SetMode) (wants : Bool) (found : CtxId) (full : Bool)
-    → TableStays t (cond full t (set_mode_after carried t w c object mode wants found))
-moded_stays carried t w c object mode wants found true = table_still t t refl
-moded_stays carried t w c object Keep true found false = (slots_same t.slots t.slots refl, refl)
-moded_stays carried t w c object Keep false found false = table_still t t refl
-moded_stays carried t w c object Replace wants found false =
-    let u = unlinked_for carried t w wants found in
-    table_after t u (linked u c object) (unlinked_stays carried t w wants found) (linked_stays u c object)
-
 set_stays : (carried : CtxId → ℕ) (t : ContextTable) (w : ℕ) (c : CtxId) (object : Object) (mode : SetMode) (wants : Bool) (m : Option CtxId)
     → TableStays t (set_after carried t w c object mode wants m)
-set_stays carried t w c object mode wants None = linked_stays t c object
-set_stays carried t w c object mode wants (Some found) = moded_stays carried t w c object mode wants found (wants && is_hand_full t.hands w)
-
-set_on_stay : (old : World) (k : WorkerId) (c : CtxId) (mode : SetMode) (wants : Bool) (result : SetAnswer) (new : World) (m : Option Context) (o : Option Object)
-    → SetsOn old k c mode wants result new m o → Stay old new
-set_on_stay old k c mode wants result new (Some x) (Some object) h =
-    stay_table old new _ h.1 (set_stays (carries old) old.contexts k.0 c object mode wants (holder old.contexts.slots x.owner object))
-set_on_stay old k c mode wants result new (Some x) None h = absurd h
-set_on_stay old k c mode wants result new None o h = absurd h
-
-set_unless_stay : (old : World) (k : WorkerId) (c : CtxId) (mode : SetMode) (wants : Bool) (result : SetAnswer) (new : World) (at : Callback) (refusal : Option Status)
-    → SetsUnless old k c mode wants result new at refusal → Stay old new
-set_unless_stay old k c mode wants result new at (Some refusal) h = stay_still old new h.1
-set_unless_stay old k c mode wants result new at None h =
-    set_on_stay old k c mode wants result new (context_at old.contexts.slots c) (object_for at (context_at old.contexts.slots c)) h
-
-set_in_stay : (old : World) (k : WorkerId) (c : CtxId) (mode : SetMode) (wants : Bool) (result : SetAnswer) (new : World) (m : Option Callback)
-    → SetsIn old k c mode wants result new m → Stay old new
-set_in_stay old k c mode wants result new None h = stay_still old new h.1
-set_in_stay old k c mode wants result new (Some at) h = set_unless_stay old k c mode wants result new at (set_refused old k c at) h
-
-set_stay : (old : World) (k : WorkerId) (c : CtxId) (mode : SetMode) (wants : Bool) (result : SetAnswer) (new : World) → Sets old k c mode wants result new → Stay old new
-unfolding Sets
-set_stay old k c mode wants result new h = set_in_stay old k c mode wants result new (callback_of old k) h
-
-get_stay : (old : World) (k : WorkerId) (kind : ContextKind) (result : Result CtxId Status) (new : World) → Gets old k kind result new → Stay old new
-unfolding Gets
-get_stay old k kind result new h =
-    stay_called result old new _ (callback_of old k) h
-    (λ at e. stay_answers _ result old new _ e (λ c f. stay_table old new _ f.1 (slots_same old.contexts.slots old.contexts.slots refl, refl)))
+set_stays carried t w c object mode wants m =
+    let same = table_still t t refl in
+    set_each (λ u _. TableStays t u) carried t w c object mode wants m (λ e. linked_stays t c object) same same (λ old e. same) (λ old e room.
+    let u = unlinked_for carried t w wants old in
+    table_after t u (linked u c object) (unlinked_stays carried t w wants old) (linked_stays u c object))
 
 deleted_stays : (carried : CtxId → ℕ) (t : ContextTable) (w : ℕ) (wants : Bool) (m : Option CtxId) → TableStays t (delete_after carried t w wants m)
 deleted_stays carried t w wants None = table_still t t refl
 deleted_stays carried t w wants (Some c) = unlinked_stays carried t w wants c
 
-delete_stay : (old : World) (k : WorkerId) (kind : ContextKind) (wants : Bool) (result : Result (Option CtxId) Status) (new : World) → Deletes old k kind wants result new → Stay old new
-unfolding Deletes
-delete_stay old k kind wants result new h =
-    stay_called result old new _ (callback_of old k) h
-    (λ at e. stay_answers _ result old new _ e (λ c f. stay_table old new _ f.1 (deleted_stays (carries old) old.contexts k.0 wants (there_at old kind at))))
-
-reference_stay : (old : World) (k : WorkerId) (c : CtxId) (result : Result (Unit {0}) Status) (new : World) → References old k c result new → Stay old new
-unfolding References
-reference_stay old k c result new h =
-    stay_called result old new _ (callback_of old k) h
-    (λ at e. stay_answers _ result old new _ e (λ v f. stay_table old new _ f (slots_same old.contexts.slots old.contexts.slots refl, refl)))
-
-release_stay : (old : World) (k : WorkerId) (c : CtxId) (result : Result (Unit {0}) Status) (new : World) → Releases old k c result new → Stay old new
-unfolding Releases
-release_stay old k c result new h =
-    stay_called result old new _ (callback_of old k) h
-    (λ at e. stay_answers _ result old new _ e (λ v f. stay_table old new _ f (slots_same old.contexts.slots old.contexts.slots refl, refl)))
-
-read_stay : (old : World) (k : WorkerId) (c : CtxId) (result : Result (List ℕ) Status) (new : World) → ReadsBody old k c result new → Stay old new
-unfolding ReadsBody
-read_stay old k c result new h =
-    stay_called result old new _ (callback_of old k) h (λ at e. stay_memory _ result old new _ e (λ body f. stay_still old new f.1))
-
-write_stay : (old : World) (k : WorkerId) (c : CtxId) (bytes : List ℕ) (result : Result (Unit {0}) Status) (new : World) → WritesBody old k c bytes result new → Stay old new
-unfolding WritesBody
-write_stay old k c bytes result new h =
-    stay_called result old new _ (callback_of old k) h
-    (λ at e. stay_answers _ result old new _ e (λ v f. stay_table old new _ f (slots_changed (option_map (with_body bytes)) old.contexts.slots c refl, refl)))
-
-bump_stay : (old : World) (k : WorkerId) (c : CtxId) (at by : ℕ) (result : Result ℕ Status) (new : World) → Bumps old k c at by result new → Stay old new
-unfolding Bumps
-bump_stay old k c at by result new h =
-    stay_called result old new _ (callback_of old k) h
-    (λ x e. stay_answers _ result old new _ e (λ n f. stay_table old new _ f.1 (slots_changed (option_map (with_body _)) old.contexts.slots c refl, refl)))
-
 taken_slots : (t : ContextTable) (w : ℕ) (m : Option CtxId) → SlotsStay t.slots (taken_of t w m).slots
 taken_slots t w None = slots_same t.slots t.slots refl
 taken_slots t w (Some c) = slots_changed (option_map emptied) t.slots c refl
-
--- what a worker cleans up it cleans up still, or it is cleaned
-abbrev CleansOn : World → World → Type 0
-CleansOn old new = (k : ℕ) (c : CtxId) → cleaning_of old.contexts.cleaning k ≡ Some c → (cleaning_of new.contexts.cleaning k ≡ Some c) ⊎ IsGone new c
-
-abbrev Lasts : World → World → Type 0
-Lasts old new = SlotsStay old.contexts.slots new.contexts.slots × CleansOn old new
-
-lasts : (old new : World) → Stay old new → Lasts old new
-lasts old new stay = (stay.0, λ k c busy. inl (ap (λ (xs : List (Option CtxId)). cleaning_of xs k) stay.1 ∙ busy))
 
 taken_on : (t : ContextTable) (w : ℕ) (m : Option CtxId) (k : ℕ) (c : CtxId) → cleaning_of t.cleaning w ≡ None → cleaning_of t.cleaning k ≡ Some c
     → cleaning_of (taken_of t w m).cleaning k ≡ Some c
@@ -510,11 +233,10 @@ taken_on t w (Some d) k c idle busy =
 due_lasts : (old : World) (k : WorkerId) (result : Result (Option Due) Status) (new : World) → TakesDue old k result new → IsSound old → Lasts old new
 unfolding TakesDue
 due_lasts old k result new h s =
-    unless_cases (Lasts old) status.WrongStep (is_idle (worker_at old.workers k)) result old new _ h
-    (λ is e. subst (Lasts old) (sym e.1) (
+    idle_by (λ _ w. Lasts old w) k result old new _ h (refused old) (λ at e. subst (Lasts old) (sym e.1) (
       taken_slots old.contexts k.0 (slice_get old.contexts.due 0),
-      λ n c busy. inl (taken_on old.contexts k.0 (slice_get old.contexts.due 0) n c (s.owned.cleaning k.0 ∙ ap cleanup_in (idle_there old.workers k is)) busy),
-    )) (lasts old old (stay_still old old refl))
+      λ n c busy. inl (taken_on old.contexts k.0 (slice_get old.contexts.due 0) n c (s.owned.cleaning k.0 ∙ ap cleanup_in at) busy),
+    ))
 
 cleaned_on : (old : World) (w : WorkerId) (d : CtxId) (new : World) → new.contexts ≡ cleaned old.contexts w.0 d → cleaning_of old.contexts.cleaning w.0 ≡ Some d → CleansOn old new
 cleaned_on old w d new made own = λ k c busy.
@@ -526,96 +248,85 @@ cleaned_on old w d new made own = λ k c busy.
       | inr other ↦ inl (ap (λ (t : ContextTable). cleaning_of t.cleaning k) made ∙ get_or-set_other old.contexts.cleaning w.0 k None None other ∙ busy)
     ]
 
-cleans_at_lasts : (old : World) (k : WorkerId) (number : ℕ) (result : Result (Unit {0}) Status) (new : World) (m : Option Worker) → worker_at old.workers k ≡ m
-    → CleansAt old k number result new m → IsSound old → Lasts old new
-cleans_at_lasts old k number result new (Some (place.Cleanup c)) at h s =
-    let made = ap (λ (w : World). w.contexts) h.1 in (
+cleaned_lasts : (old : World) (k : WorkerId) (number : ℕ) (result : Result (Unit {0}) Status) (new : World) → Cleans old k number result new → IsSound old → Lasts old new
+cleaned_lasts old k number result new h s =
+    cleaned_by (λ _ w. Lasts old w) old k number result new h (refused old) (λ c at e.
+    let made = ap (λ (w : World). w.contexts) e.1 in (
       subst (λ (t : ContextTable). SlotsStay old.contexts.slots t.slots) (sym made) (slots_changed (λ (x : Option Context). None) old.contexts.slots c refl),
       cleaned_on old k c new made (s.owned.cleaning k.0 ∙ ap cleanup_in at),
-    )
-cleans_at_lasts old k number result new None at h s = lasts old new (stay_still old new h.1)
-cleans_at_lasts old k number result new (Some place.Idle) at h s = lasts old new (stay_still old new h.1)
-cleans_at_lasts old k number result new (Some (place.Setup i)) at h s = lasts old new (stay_still old new h.1)
-cleans_at_lasts old k number result new (Some (place.Pre o i)) at h s = lasts old new (stay_still old new h.1)
-cleans_at_lasts old k number result new (Some (place.Base o)) at h s = lasts old new (stay_still old new h.1)
-cleans_at_lasts old k number result new (Some (place.Post o i)) at h s = lasts old new (stay_still old new h.1)
-cleans_at_lasts old k number result new (Some (place.Drain o i)) at h s = lasts old new (stay_still old new h.1)
-cleans_at_lasts old k number result new (Some (place.EarlyDrain o i)) at h s = lasts old new (stay_still old new h.1)
-
-cleaned_lasts : (old : World) (k : WorkerId) (number : ℕ) (result : Result (Unit {0}) Status) (new : World) → Cleans old k number result new → IsSound old → Lasts old new
-unfolding Cleans
-cleaned_lasts old k number result new h s = cleans_at_lasts old k number result new (worker_at old.workers k) refl h s
-
-finish_stay : (old : World) (i : InstanceId) (result : Result (Unit {0}) Status) (new : World) → Finishes old i result new → Stay old new
-unfolding Finishes
-finish_stay old i result new h = stay_answers _ result old new _ h (λ v f. table_still old.contexts new.contexts (ap (λ (w : World). w.contexts) f))
+    ))
 
 -- every event
 
 step_lasts : (old : World) (x : Step) (r : StepReply) (new : World) → Steps old x r new → IsSound old → Lasts old new
-step_lasts old (step.Register name registration) (reply.Filter r) new h s = lasts old new (register_stay old name registration r new h)
-step_lasts old (step.Mount name) (reply.Volume r) new h s = lasts old new (mount_stay old name r new h)
-step_lasts old (step.Attach k f v name altitude) (reply.Instance r) new h s = lasts old new (attach_stay old k f v name altitude r new h)
-step_lasts old (step.SetupDone k accept) (reply.Done r) new h s = lasts old new (setup_stay old k accept r new h)
-step_lasts old (step.Begin what) (reply.Operation r) new h s = lasts old new (begin_stay old what r new h)
-step_lasts old (step.Next k o) (reply.Action r) new h s = lasts old new (next_stay old k o r new h)
-step_lasts old (step.PreReturned k verdict lent) (reply.Done r) new h s = lasts old new (pre_stay old k verdict lent r new h)
-step_lasts old (step.BaseReturned k call given) (reply.Done r) new h s = lasts old new (base_stay old k call given r new h)
-step_lasts old (step.PostReturned k verdict lent) (reply.Done r) new h s = lasts old new (post_stay old k verdict lent r new h)
-step_lasts old (step.Collect o) (reply.Answer r) new h s = lasts old new (collect_stay old o r new h)
-step_lasts old (step.Allocate k what body) (reply.Context r) new h s = lasts old new (allocate_stay old k what body r new h)
-step_lasts old (step.Set k c mode wants) (reply.Set r) new h s = lasts old new (set_stay old k c mode wants r new h)
-step_lasts old (step.Get k what) (reply.Context r) new h s = lasts old new (get_stay old k what r new h)
-step_lasts old (step.Delete k what wants) (reply.Old r) new h s = lasts old new (delete_stay old k what wants r new h)
-step_lasts old (step.Reference k c) (reply.Done r) new h s = lasts old new (reference_stay old k c r new h)
-step_lasts old (step.Release k c) (reply.Done r) new h s = lasts old new (release_stay old k c r new h)
-step_lasts old (step.ReadBody k c) (reply.Body r) new h s = lasts old new (read_stay old k c r new h)
-step_lasts old (step.WriteBody k c bytes) (reply.Done r) new h s = lasts old new (write_stay old k c bytes r new h)
-step_lasts old (step.Bump k c at by) (reply.Number r) new h s = lasts old new (bump_stay old k c at by r new h)
-step_lasts old (step.TakeDue k) (reply.Due r) new h s = due_lasts old k r new h s
-step_lasts old (step.Cleaned k number) (reply.Done r) new h s = cleaned_lasts old k number r new h s
-step_lasts old (step.Finish i) (reply.Done r) new h s = lasts old new (finish_stay old i r new h)
-step_lasts old (step.Register name registration) _ new h s = absurd h
-step_lasts old (step.Mount name) _ new h s = absurd h
-step_lasts old (step.Attach k f v name altitude) _ new h s = absurd h
-step_lasts old (step.SetupDone k accept) _ new h s = absurd h
-step_lasts old (step.Begin what) _ new h s = absurd h
-step_lasts old (step.Next k o) _ new h s = absurd h
-step_lasts old (step.PreReturned k verdict lent) _ new h s = absurd h
-step_lasts old (step.BaseReturned k call given) _ new h s = absurd h
-step_lasts old (step.PostReturned k verdict lent) _ new h s = absurd h
-step_lasts old (step.Collect o) _ new h s = absurd h
-step_lasts old (step.Allocate k what body) _ new h s = absurd h
-step_lasts old (step.Set k c mode wants) _ new h s = absurd h
-step_lasts old (step.Get k what) _ new h s = absurd h
-step_lasts old (step.Delete k what wants) _ new h s = absurd h
-step_lasts old (step.Reference k c) _ new h s = absurd h
-step_lasts old (step.Release k c) _ new h s = absurd h
-step_lasts old (step.ReadBody k c) _ new h s = absurd h
-step_lasts old (step.WriteBody k c bytes) _ new h s = absurd h
-step_lasts old (step.Bump k c at by) _ new h s = absurd h
-step_lasts old (step.TakeDue k) _ new h s = absurd h
-step_lasts old (step.Cleaned k number) _ new h s = absurd h
-step_lasts old (step.Finish i) _ new h s = absurd h
+unfolding Registers Mounts Attaches Begins Collects Allocates Gets Deletes References Releases ReadsBody WritesBody Bumps Finishes
+step_lasts old (Step.Register name registration) (StepReply.Filter r) new h s = kept old new (ap contexts_in h.1)
+step_lasts old (Step.Mount name) (StepReply.Volume r) new h s = kept old new (ap contexts_in h.1)
+step_lasts old (Step.Attach k f v name altitude) (StepReply.Instance r) new h s =
+    idle_by (λ _ w. Lasts old w) k r old new _ h (refused old) (λ at e. kept old new (ap contexts_in e.1))
+step_lasts old (Step.SetupDone k accept) (StepReply.Done r) new h s =
+    setup_by (λ _ w. Lasts old w) old k accept r new h (refused old) (λ i at e. lasts old new new.contexts refl
+    (table_after old.contexts e.1 new.contexts (table_same old.contexts e.1 e.2.slots e.2.cleaning) (emptied_stays old i e.1 new.contexts r e.3)))
+step_lasts old (Step.Begin what) (StepReply.Operation r) new h s =
+    memory_by (λ _ w. Lasts old w) _ r old new _ h (refused old) (λ o free e.
+    kept old new (ap contexts_in e.1 ∙ begun_by (λ w. w.contexts ≡ old.contexts) old what free (λ v room. refl) (λ v path mode room. refl) (λ h p x y none at within room. refl)))
+step_lasts old (Step.Next k o) (StepReply.Action r) new h s =
+    next_by (λ _ w. Lasts old w) old k o r new h (refused old) (λ e.
+    let stay = subst (TableStays old.contexts) (sym (ap contexts_in e.over.1)) (received_stays old.contexts k r) in
+    known_cases (Lasts old) r e.lies e.mid new e.loses (λ loses. loses_lasts old e.mid new loses stay) (lasts old e.mid e.mid.contexts refl stay))
+step_lasts old (Step.PreReturned k given lent) (StepReply.Done r) new h s =
+    pre_by (λ _ w. Lasts old w) old k given lent r new h (refused old) (λ o i at fits e.
+    let along = sent_in (state_at old k o i given) in
+    let held = sent old.contexts k along in
+    loses_lasts old e.0 new e.2 (table_after old.contexts held e.0.contexts (sent_stays old.contexts k along) (table_same held e.0.contexts e.1.0.slots e.1.0.cleaning)))
+step_lasts old (Step.BaseReturned k call given) (StepReply.Done r) new h s =
+    base_by (λ _ w. Lasts old w) old k call given r new h (refused old) (λ o at fits loses. loses_lasts old _ new loses (table_still old.contexts old.contexts refl))
+step_lasts old (Step.PostReturned k given lent) (StepReply.Done r) new h s =
+    post_by (λ _ w. Lasts old w) old k given lent r new h (refused old)
+    (λ o i back at fits e. lasts old new new.contexts refl (table_same old.contexts new.contexts e.0.slots e.0.cleaning))
+    (λ o i at e. lasts old new new.contexts refl (table_same old.contexts new.contexts e.0.slots e.0.cleaning))
+step_lasts old (Step.Collect o) (StepReply.Answer r) new h s = kept old new (ap contexts_in h.1)
+step_lasts old (Step.Allocate k what body) (StepReply.Context r) new h s =
+    taken_by (λ _ w. Lasts old w) old k r new _ _ h (refused old) (λ at is c free e. lasts old new _ (ap contexts_in e.1) (slots_placed old.contexts.slots c _ e.0, refl))
+step_lasts old (Step.Set k c mode wants) (StepReply.Set r) new h s =
+    set_by (λ _ w. Lasts old w) old k c mode wants r new h (refused old) (λ at is free x o there of e.
+    lasts old new _ (ap contexts_in e.1) (set_stays (carries old) old.contexts k.0 c o mode wants (holder old.contexts.slots x.owner o)))
+step_lasts old (Step.Get k what) (StepReply.Context r) new h s =
+    asked_by (λ _ w. Lasts old w) old k r new _ _ h (refused old) (λ at is c free e. lasts old new _ (ap contexts_in e.1) (table_still old.contexts old.contexts refl))
+step_lasts old (Step.Delete k what wants) (StepReply.Old r) new h s =
+    asked_by (λ _ w. Lasts old w) old k r new _ _ h (refused old) (λ at is c free e.
+    lasts old new _ (ap contexts_in e.1) (deleted_stays (carries old) old.contexts k.0 wants (there_at old what at)))
+step_lasts old (Step.Reference k c) (StepReply.Done r) new h s =
+    asked_by (λ _ w. Lasts old w) old k r new _ _ h (refused old) (λ at is v free e. lasts old new _ (ap contexts_in e) (table_still old.contexts old.contexts refl))
+step_lasts old (Step.Release k c) (StepReply.Done r) new h s =
+    asked_by (λ _ w. Lasts old w) old k r new _ _ h (refused old) (λ at is v free e. lasts old new _ (ap contexts_in e) (table_still old.contexts old.contexts refl))
+step_lasts old (Step.ReadBody k c) (StepReply.Body r) new h s =
+    taken_by (λ _ w. Lasts old w) old k r new _ _ h (refused old) (λ at is body free e. kept old new (ap contexts_in e.1))
+step_lasts old (Step.WriteBody k c bytes) (StepReply.Done r) new h s =
+    asked_by (λ _ w. Lasts old w) old k r new _ _ h (refused old) (λ at is v free e.
+    lasts old new _ (ap contexts_in e) (slots_changed (option_map (with_body bytes)) old.contexts.slots c refl, refl))
+step_lasts old (Step.Bump k c at by) (StepReply.Number r) new h s =
+    asked_by (λ _ w. Lasts old w) old k r new _ _ h (refused old) (λ x is n free e.
+    lasts old new _ (ap contexts_in e.1) (slots_changed (option_map (with_body _)) old.contexts.slots c refl, refl))
+step_lasts old (Step.TakeDue k) (StepReply.Due r) new h s = due_lasts old k r new h s
+step_lasts old (Step.Cleaned k number) (StepReply.Done r) new h s = cleaned_lasts old k number r new h s
+step_lasts old (Step.Finish i) (StepReply.Done r) new h s =
+    answers_by (λ _ w. Lasts old w) _ r old new _ h (refused old) (λ v free e. kept old new (ap contexts_in e))
+step_lasts old _ _ new h s = absurd h
 
 -- ---- what is given, and what is due
 
-called_cases : {T : Type 0} (P : Type 0) (v : T) (old new : World) (Event : Callback → Type 0) (m : Option Callback) → InCallbackOf (Ok v) old new Event m → ((at : Callback) → Event at → P)
-    → P
-called_cases P v old new Event None h event = cc
-called_cases P v old new Event (Some at) h event = event at h
-
 -- a context that is allocated is new, and was given from then on
-allocated_new : (old : World) (k : WorkerId) (kind : ContextKind) (body : List ℕ) (c : CtxId) (new : World) → Allocates old k kind body (Ok c) new
-    → IsNew old.contexts.slots c × WasGiven new.contexts.slots c
+allocated_new : (old : World) (k : WorkerId) (kind : ContextKind) (body : List ℕ) (result : Result CtxId Status) (new : World) → Allocates old k kind body result new
+    → IfOk result (λ c. IsNew old.contexts.slots c × WasGiven new.contexts.slots c)
 unfolding Allocates
-allocated_new old k kind body c new h =
-    called_cases (IsNew old.contexts.slots c × WasGiven new.contexts.slots c) c old new _ (callback_of old k) h
-    (λ at e. (e.1.0, subst (λ (w : World). WasGiven w.contexts.slots c) (sym e.1.1) (given_placed old.contexts.slots c _ e.1.0)))
+allocated_new old k kind body result new h =
+    taken_by (λ r w. IfOk r (λ c. IsNew old.contexts.slots c × WasGiven w.contexts.slots c)) old k result new _ _ h (λ why. tt)
+    (λ at is c free e. (e.0, subst (λ (w : World). WasGiven w.contexts.slots c) (sym e.1) (given_placed old.contexts.slots c _ e.0)))
 
 step_gives : (old : World) (s : Step) (r : StepReply) (new : World) (c : CtxId) → Steps old s r new → given_by s r ≡ Some c → IsNew old.contexts.slots c × WasGiven new.contexts.slots c
-step_gives old (step.Allocate k kind body) (reply.Context (Ok d)) new c h is =
-    subst (λ x. IsNew old.contexts.slots x × WasGiven new.contexts.slots x) (same_Some d c is) (allocated_new old k kind body d new h)
+step_gives old (Step.Allocate k kind body) (StepReply.Context (Ok d)) new c h is =
+    subst (λ x. IsNew old.contexts.slots x × WasGiven new.contexts.slots x) (same_Some d c is) (allocated_new old k kind body (Ok d) new h)
 step_gives old _ _ new c h is = absurd (none-some c is)
 
 -- a context that a worker cleans up isn't due
@@ -625,12 +336,11 @@ InCleanup w c = (k : ℕ) × (cleaning_of w.contexts.cleaning k ≡ Some c)
 -- due or cleaned up in one place, once
 not_due : (old : World) (c : CtxId) → IsSound old → InCleanup old c → slice_get old.contexts.due 0 ≡ Some c → ⊥
 not_due old c s busy first =
-    let law = s.owned.lawful in
     let within : busy.0 < length old.contexts.cleaning = cleaner_within old.contexts.cleaning busy.0 c busy.1 in
     let both = places_cleaned old.contexts.due old.contexts.cleaning busy.0 c within busy.1 c in
     let due = first_placed old.contexts.due (slice_set old.contexts.cleaning busy.0 None) c first in
     let self : one (is_id c c) ≡ 1 = ap one (is_id-refl c) in
-    omega (arith, both, due, self, law.waits c, at_most_one (is_waiting (carries old) old.contexts c))
+    omega (arith, both, due, self, s.owned.lawful.waits c, at_most_one (is_waiting (carries old) old.contexts c))
   where
     at_most_one : (b : Bool) → one b ≤ 1
     at_most_one true = omega arith
@@ -688,13 +398,13 @@ unless_ok refusal false v old new Event h = cc
 taken_handed : (old : World) (k : WorkerId) (due : Due) (new : World) → TakesDue old k (Ok (Some due)) new → IsSound old → IsHanded old new due.id
 unfolding TakesDue
 taken_handed old k due new h s =
-    let e = unless_ok status.WrongStep (is_idle (worker_at old.workers k)) (Some due) old new _ h in
+    let e = unless_ok Status.WrongStep (is_idle (worker_at old.workers k)) (Some due) old new _ h in
     let reply = reply_is old.contexts.slots due (slice_get old.contexts.due 0) (ap reply_of e.1.0) in
     let t = taken_due old.contexts k.0 due.id in
     let made : new.contexts ≡ t = ap (λ (w : World). w.contexts) e.1.1 ∙ ap (taken_of old.contexts k.0) reply.0 in
     let was = given_there old.contexts.slots due.id reply.1.0 reply.1.1 in
     let within : k.0 < length old.contexts.cleaning =
-    subst (λ n. k.0 < n) (s.under_way.hands ∙ sym s.owned.lawful.cleaners) (slice_get_within old.workers k.0 place.Idle (idle_there old.workers k e.0)) in
+    subst (λ n. k.0 < n) (s.under_way.hands ∙ sym s.owned.lawful.cleaners) (slice_get_within old.workers k.0 Worker.Idle (idle_there old.workers k e.0)) in
     record {
       came = subst (λ (u : ContextTable). WasGiven u.slots due.id × ((context_at u.slots due.id ≡ None) ⊎ ((n : ℕ) × (cleaning_of u.cleaning n ≡ Some due.id)))) (sym made) (
         given_stays old.contexts.slots t.slots due.id (slots_changed (option_map emptied) old.contexts.slots due.id refl) was,
@@ -711,7 +421,7 @@ taken_handed old k due new h s =
     reply_of (Err why) = None
 
 step_due : (old : World) (x : Step) (r : StepReply) (new : World) (c : CtxId) → Steps old x r new → due_by x r ≡ Some c → IsSound old → IsHanded old new c
-step_due old (step.TakeDue k) (reply.Due (Ok (Some due))) new c h is s = subst (IsHanded old new) (same_Some due.id c is) (taken_handed old k due new h s)
+step_due old (Step.TakeDue k) (StepReply.Due (Ok (Some due))) new c h is s = subst (IsHanded old new) (same_Some due.id c is) (taken_handed old k due new h s)
 step_due old _ _ new c h is s = absurd (none-some c is)
 
 -- ---- lists of events
@@ -720,46 +430,40 @@ run_stays : (old : World) (steps : List Step) (replies : List StepReply) (new : 
 run_stays old [] [] new h s = slots_same old.contexts.slots new.contexts.slots (ap (λ (w : World). w.contexts.slots) h)
 run_stays old (x ∷ steps) (r ∷ replies) new h s =
     slots_after old.contexts.slots h.0.contexts.slots new.contexts.slots (step_lasts old x r h.0 h.1 s).0 (run_stays h.0 steps replies new h.2 (step_keeps old x r h.0 h.1 s))
-run_stays old [] (r ∷ replies) new h s = absurd h
-run_stays old (x ∷ steps) [] new h s = absurd h
+run_stays old _ _ new h s = absurd h
 
 run_gives : (old : World) (steps : List Step) (replies : List StepReply) (new : World) (c : CtxId) → Run old steps replies new → IsSound old → Comes given_by steps replies c
     → WasGiven new.contexts.slots c
 run_gives old (x ∷ steps) (r ∷ replies) new c h s (inl now) =
     given_stays h.0.contexts.slots new.contexts.slots c (run_stays h.0 steps replies new h.2 (step_keeps old x r h.0 h.1 s)) (step_gives old x r h.0 c h.1 now).1
 run_gives old (x ∷ steps) (r ∷ replies) new c h s (inr later) = run_gives h.0 steps replies new c h.2 (step_keeps old x r h.0 h.1 s) later
-run_gives old [] replies new c h s comes = absurd comes
-run_gives old (x ∷ steps) [] new c h s comes = absurd comes
+run_gives old _ _ new c h s comes = absurd comes
 
 never_again : (old : World) (steps : List Step) (replies : List StepReply) (new : World) (c : CtxId) → Run old steps replies new → IsSound old → WasGiven old.contexts.slots c
     → Comes given_by steps replies c → ⊥
 never_again old (x ∷ steps) (r ∷ replies) new c h s was (inl now) = given_not_new old.contexts.slots c was (step_gives old x r h.0 c h.1 now).0
 never_again old (x ∷ steps) (r ∷ replies) new c h s was (inr later) =
     never_again h.0 steps replies new c h.2 (step_keeps old x r h.0 h.1 s) (given_stays old.contexts.slots h.0.contexts.slots c (step_lasts old x r h.0 h.1 s).0 was) later
-never_again old [] replies new c h s was comes = comes
-never_again old (x ∷ steps) [] new c h s was comes = comes
+never_again old _ _ new c h s was comes = comes
 
 run_due_stays : (old : World) (steps : List Step) (replies : List StepReply) (new : World) (c : CtxId) → Run old steps replies new → IsSound old → CameDue old c → CameDue new c
 run_due_stays old [] [] new c h s came = subst (λ (w : World). CameDue w c) (sym h) came
 run_due_stays old (x ∷ steps) (r ∷ replies) new c h s came =
     run_due_stays h.0 steps replies new c h.2 (step_keeps old x r h.0 h.1 s) (due_stays old h.0 c (step_lasts old x r h.0 h.1 s) came)
-run_due_stays old [] (r ∷ replies) new c h s came = absurd h
-run_due_stays old (x ∷ steps) [] new c h s came = absurd h
+run_due_stays old _ _ new c h s came = absurd h
 
 run_due : (old : World) (steps : List Step) (replies : List StepReply) (new : World) (c : CtxId) → Run old steps replies new → IsSound old → Comes due_by steps replies c → CameDue new c
 run_due old (x ∷ steps) (r ∷ replies) new c h s (inl now) =
     run_due_stays h.0 steps replies new c h.2 (step_keeps old x r h.0 h.1 s) (step_due old x r h.0 c h.1 now s).came
 run_due old (x ∷ steps) (r ∷ replies) new c h s (inr later) = run_due h.0 steps replies new c h.2 (step_keeps old x r h.0 h.1 s) later
-run_due old [] replies new c h s comes = absurd comes
-run_due old (x ∷ steps) [] new c h s comes = absurd comes
+run_due old _ _ new c h s comes = absurd comes
 
 never_due : (old : World) (steps : List Step) (replies : List StepReply) (new : World) (c : CtxId) → Run old steps replies new → IsSound old → CameDue old c
     → Comes due_by steps replies c → ⊥
 never_due old (x ∷ steps) (r ∷ replies) new c h s came (inl now) = (step_due old x r h.0 c h.1 now s).fresh came
 never_due old (x ∷ steps) (r ∷ replies) new c h s came (inr later) =
     never_due h.0 steps replies new c h.2 (step_keeps old x r h.0 h.1 s) (due_stays old h.0 c (step_lasts old x r h.0 h.1 s) came) later
-never_due old [] replies new c h s came comes = comes
-never_due old (x ∷ steps) [] new c h s came comes = comes
+never_due old _ _ new c h s came comes = comes
 
 pub contexts_last : ContextsLast
 contexts_last steps replies mid later answers new first then c =

@@ -1,3 +1,4 @@
+mod Words
 pub mod Counts
 pub mod Altitudes
 pub mod Descents
@@ -24,3 +25,5 @@ pub mod Flowing
 pub mod Resting
 pub mod Handing
 pub mod Holdings
+pub mod Events
+mod Turning

@@ -1,81 +1,49 @@
 -- Allocating, setting, getting and deleting contexts keep a World sound.
-use Rattle.std.proofs.Common.{◌≡◌, ℕ, ◌<◌, ◌&&◌, ◌||◌, slice_get, Bool, true, false, cond, List, [], ◌∷◌, ◌++◌, length, nat_lt, Option, Some, None, Result, Ok, Err, is_some, is_none, option_map, not, refl, ap, sym, ◌∙◌, subst}
+use Rattle.std.proofs.Common.{◌≡◌, ℕ, ◌<◌, ◌&&◌, ◌||◌, slice_get, Bool, true, false, List, [], ◌∷◌, ◌++◌, length, nat_lt, Option, Some, None, Result, is_some, is_none, option_map, not, refl, ap, sym, ◌∙◌, subst}
+use Rattle.fm_world.proofs.Words.{false≢true, and_parts, and_from, leb-false, eq-eqb, lt-ltb, none-some, same_Some, ContextKind, CtxId, InstanceId, WorkerId}
+use Rattle.fm_world.proofs.Words.{Status, first_of, all_at, Instance, Volume, StackWorld, is_setup, is_attached, is_mounted, is_mounted_phase, Object, Owner}
+use Rattle.fm_world.proofs.Words.{SetMode, holds, hand_of, is_hand_full, allocated, allocate_refusal, is_out_of_slots, IsLawful, holder, set_after}
+use Rattle.fm_world.proofs.Words.{unlinked_for, linked, with_link, get_refusal, delete_after, delete_refusal, IsUnlinkedOf, same_owner, is_to, Context, Slot}
+use Rattle.fm_world.proofs.Words.{context_at, link_at, allocate_keeps, context_at-placed, none_from, SetAnswer, World, carries, is_there, names_there}
+use Rattle.fm_world.proofs.Words.{FileObject, row_at, has_kind, owner_by, object_by, is_closing, is_left_by, keeps_links_by, may_link, suits, holds_links}
+use Rattle.fm_world.proofs.Words.{holds_links_by, is_volume, is_instance, is_of_stream, is_of_handle, fits, owner_fits, link_fits, belongs, belongs_by}
+use Rattle.fm_world.proofs.Words.{Callback, with_contexts, before, context_by, Allocates, object_for, is_past, set_refused, Sets, there_at, object_refused}
+use Rattle.fm_world.proofs.Words.{Gets, Deletes, IsSound, IsOwned}
 use Rattle.std.specs.Option.{option_and_then}
-use Rattle.std.proofs.lemmas.Bool.{false≢true, and_parts, and_from, leb-false, eq-eqb, lt-ltb}
-use Rattle.std.proofs.lemmas.Option.{none-some, same_Some}
-use Rattle.fm_types.specs.declared.context_kind.ContextKind.{ContextKind}
-use Rattle.fm_types.specs.declared.context_kind.ContextKind.TheVariants as kind
-use Rattle.fm_types.specs.declared.ids.CtxId.{CtxId}
-use Rattle.fm_types.specs.declared.ids.InstanceId.{InstanceId}
-use Rattle.fm_types.specs.declared.ids.WorkerId.{WorkerId}
-use Rattle.fm_types.specs.declared.status.Status.{Status}
-use Rattle.fm_types.specs.declared.status.Status.TheVariants as status
-use Rattle.fm_types.specs.Refusals.{first_of}
-use Rattle.fm_types.proofs.Lists.{all_at}
-use Rattle.fm_stack.specs.declared.instance.Instance.{Instance}
-use Rattle.fm_stack.specs.declared.volume.Volume.{Volume}
 use Rattle.fm_stack.specs.declared.volume.VolumePhase.{VolumePhase}
-use Rattle.fm_stack.specs.declared.volume.VolumePhase.TheVariants as phase
-use Rattle.fm_stack.specs.StackWorld.{StackWorld}
-use Rattle.fm_stack.specs.Instances.{is_setup, is_attached}
-use Rattle.fm_stack.specs.Events.{is_mounted, is_mounted_phase}
-use Rattle.fm_ctx.specs.declared.object.Object.{Object}
-use Rattle.fm_ctx.specs.declared.object.Object.TheVariants as object
-use Rattle.fm_ctx.specs.declared.owner.Owner.{Owner}
-use Rattle.fm_ctx.specs.declared.owner.Owner.TheVariants as owner
-use Rattle.fm_ctx.specs.declared.set_reply.SetMode.{SetMode}
-use Rattle.fm_ctx.specs.declared.set_reply.SetMode.TheVariants.{Keep, Replace}
-use Rattle.fm_ctx.specs.Bags.{holds, hand_of, is_hand_full}
-use Rattle.fm_ctx.specs.Births.{allocated, allocate_refusal, is_out_of_slots}
-use Rattle.fm_ctx.specs.Laws.{IsLawful}
-use Rattle.fm_ctx.specs.Links.{holder, set_after, set_mode_after, kept_after, unlinked_for, linked, with_link, get_refusal, delete_after, delete_refusal, IsUnlinkedOf}
-use Rattle.fm_ctx.specs.Objects.{same_owner, is_to}
-use Rattle.fm_ctx.specs.Table.{Context, Slot, ContextTable, context_at, link_at}
 use Rattle.fm_ctx.proofs.Holders.{holder_some, holder_context, holder_linked}
-use Rattle.fm_ctx.proofs.Lives.{allocate_keeps}
 use Rattle.fm_ctx.proofs.Objects.{same_owner-same}
 use Rattle.fm_ctx.proofs.Sets.{room_if_wanted, set_keeps, get_keeps, delete_keeps, still_there}
-use Rattle.fm_ctx.proofs.Slots.{context_at-placed, none_from}
-use Rattle.fm_world.specs.declared.set_answer.SetAnswer.{SetAnswer}
-use Rattle.fm_world.specs.World.{World, carries}
-use Rattle.fm_world.specs.Links.{is_there, names_there}
-use Rattle.fm_world.specs.declared.file.FileObject.{FileObject}
-use Rattle.fm_world.specs.Owners.{row_at, has_kind, owner_by, object_by, is_closing, is_left_by, keeps_links_by, may_link, suits, holds_links, holds_links_by, is_volume, is_instance, is_of_stream, is_of_handle, fits, owner_fits, link_fits, belongs, belongs_by}
-use Rattle.fm_world.specs.ContextEvents.{Callback, callback_of, with_contexts, before, context_by, Allocates, object_for, is_past, set_refused, SetsOn, SetsUnless, SetsIn, Sets, there_at, object_refused, Gets, Deletes}
-use Rattle.fm_world.specs.Sound.{IsSound, IsOwned}
 use Rattle.fm_world.proofs.Belonging.{owners_changed, owners_placed, belongs_still, filters_same}
-use Rattle.fm_world.proofs.Callbacks.{IsIn, is_in, in_callback, contexts_owned, sound_with, in_hand, one_more, same_hand, same_hands, none_of, not_false, grabbed_sound}
+use Rattle.fm_world.proofs.Events.{asked_by, taken_by, set_by, set_each}
+use Rattle.fm_world.proofs.Callbacks.{IsIn, is_in, contexts_owned, sound_with, in_hand, one_more, same_hand, same_hands, none_of, not_false, grabbed_sound}
 use Rattle.fm_world.proofs.Descents.{or_left, or_right}
-use Rattle.fm_world.proofs.Fitting.{AllFit, AllPass, passes_changed, passes_placed, fits_unlinked, fits_linked}
+use Rattle.fm_world.proofs.Fitting.{AllPass, passes_changed, passes_placed, fits_unlinked, fits_linked}
 use Rattle.fm_world.proofs.Flights.{callback_left}
 
 owner_refl : (o : Owner) → same_owner o o ≡ true
-owner_refl (owner.Filter f) = eq-eqb f.0 f.0 refl
-owner_refl (owner.Instance i) = eq-eqb i.0 i.0 refl
+owner_refl (Owner.Filter f) = eq-eqb f.0 f.0 refl
+owner_refl (Owner.Instance i) = eq-eqb i.0 i.0 refl
 
 -- ---- allocate
 
 owned_fits : (s : StackWorld) (row : Instance) (i : InstanceId) (k : ContextKind) → row.filter.0 < length s.filters → is_left_by (row_at s i) ≡ true
     → owner_fits s k (owner_by row i k) ≡ true
-owned_fits s row i kind.Volume below left = lt-ltb row.filter.0 (length s.filters) below
-owned_fits s row i kind.Instance below left = left
-owned_fits s row i kind.Stream below left = left
-owned_fits s row i kind.Handle below left = left
+owned_fits s row i ContextKind.Volume below left = lt-ltb row.filter.0 (length s.filters) below
+owned_fits s row i _ below left = left
 
 pub allocate_sound : (old : World) (k : WorkerId) (what : ContextKind) (body : List ℕ) (result : Result CtxId Status) (new : World)
     → Allocates old k what body result new → IsSound old → IsSound new
 unfolding Allocates
-allocate_sound old k what body (Err why) new h s = in_callback old k (Err why) new _ (callback_of old k) refl h (λ at i event. subst IsSound (sym event.1) s) s
-allocate_sound old k what body (Ok c) new h s =
-    in_callback old k (Ok c) new _ (callback_of old k) refl h (λ at i event.
+allocate_sound old k what body result new h s =
+    taken_by (λ _ w. IsSound w) old k result new _ _ h (λ why. s) (λ at is c free event.
+    let i = is_in old k at s is in
     let full = is_hand_full old.contexts.hands k.0 in
-    let big = nat_lt 4096 (length body) in
     let many = is_out_of_slots old.contexts.slots in
-    let listed = none_of (not (has_kind old.stack at.row what)) status.NotRegistered (allocate_refusal old.contexts k.0 body) event.0 in
-    let few = none_of (big || many) status.TooMany (first_of ((full, status.HandFull) ∷ [])) listed.1 in
-    let room = none_of full status.HandFull None few.1 in
+    let listed = none_of (not (has_kind old.stack at.row what)) Status.NotRegistered (allocate_refusal old.contexts k.0 body) free in
+    let few = none_of ((nat_lt 4096 (length body)) || many) Status.TooMany (first_of ((full, Status.HandFull) ∷ [])) listed.1 in
     let x = context_by at what body in
-    let fresh = event.1.0 in
+    let fresh = event.0 in
     let t = allocated old.contexts k.0 c x in
     let owners = owners_placed old.contexts.slots c x fresh in
     let own : belongs old.stack t.slots at.instance c ≡ true =
@@ -84,36 +52,24 @@ allocate_sound old k what body (Ok c) new h s =
     let fit : fits old.stack (Some x) ≡ true =
     and_from (owner_fits old.stack what (owner_by at.row at.instance what)) true
     (owned_fits old.stack at.row at.instance what i.placed.filter (callback_left old k at.instance at.row s i.place i.there).0) refl in
-    subst IsSound (sym event.1.1)
+    subst IsSound (sym event.1)
     (sound_with old t
     (contexts_owned old t k (hand_of old.contexts.hands k.0 ++ c ∷ [])
     (allocate_keeps k.0 c x s.owned.lawful i.worker fresh refl
-    (leb-false 16 (length (hand_of old.contexts.hands k.0)) room.0))
+    (leb-false 16 (length (hand_of old.contexts.hands k.0)) (none_of full Status.HandFull None few.1).0))
     refl owners refl i.worker (one_more old t k at c i s.owned owners own)
     (passes_placed (fits old.stack) old.contexts.slots c x fit s.owned.fits) s.owned)
-    (passes_placed (names_there old.files) old.contexts.slots c x refl s.links) s)) s
+    (passes_placed (names_there old.files) old.contexts.slots c x refl s.links) s))
 
 -- ---- get
 
 -- a context of the owner that the callback's instance has for some kind: the callback may hold it
 owner_belongs : (s : StackWorld) (row : Instance) (i : InstanceId) (a b : ContextKind) → owner_fits s b (owner_by row i a) ≡ true
     → same_owner (owner_by row i b) (owner_by row i a) ≡ true
-owner_belongs s row i kind.Volume kind.Volume h = owner_refl (owner.Filter row.filter)
-owner_belongs s row i kind.Volume kind.Instance h = absurd (false≢true h)
-owner_belongs s row i kind.Volume kind.Stream h = absurd (false≢true h)
-owner_belongs s row i kind.Volume kind.Handle h = absurd (false≢true h)
-owner_belongs s row i kind.Instance kind.Volume h = absurd (false≢true h)
-owner_belongs s row i kind.Stream kind.Volume h = absurd (false≢true h)
-owner_belongs s row i kind.Handle kind.Volume h = absurd (false≢true h)
-owner_belongs s row i kind.Instance kind.Instance h = owner_refl (owner.Instance i)
-owner_belongs s row i kind.Instance kind.Stream h = owner_refl (owner.Instance i)
-owner_belongs s row i kind.Instance kind.Handle h = owner_refl (owner.Instance i)
-owner_belongs s row i kind.Stream kind.Instance h = owner_refl (owner.Instance i)
-owner_belongs s row i kind.Stream kind.Stream h = owner_refl (owner.Instance i)
-owner_belongs s row i kind.Stream kind.Handle h = owner_refl (owner.Instance i)
-owner_belongs s row i kind.Handle kind.Instance h = owner_refl (owner.Instance i)
-owner_belongs s row i kind.Handle kind.Stream h = owner_refl (owner.Instance i)
-owner_belongs s row i kind.Handle kind.Handle h = owner_refl (owner.Instance i)
+owner_belongs s row i ContextKind.Volume ContextKind.Volume h = owner_refl (Owner.Filter row.filter)
+owner_belongs s row i ContextKind.Volume _ h = absurd (false≢true h)
+owner_belongs s row i _ ContextKind.Volume h = absurd (false≢true h)
+owner_belongs s row i _ _ h = owner_refl (Owner.Instance i)
 
 -- what is set for that owner, the callback may hold
 held_for : (w : World) (k : WorkerId) (at : Callback) (a : ContextKind) (o : Object) (c : CtxId) → IsIn w k at → IsOwned w
@@ -124,14 +80,12 @@ held_for w k at a o c i h is =
     let own = (and_parts (is_to o x.link) (same_owner (owner_by at.row at.instance a) x.owner) set.links_there).1 in
     let same : owner_by at.row at.instance a ≡ x.owner = same_owner-same (owner_by at.row at.instance a) x.owner own in
     let there = holder_context w.contexts.slots (owner_by at.row at.instance a) o c set in
-    let fit : fits w.stack (Some x) ≡ true = sym (ap (fits w.stack) set.has) ∙ all_fit w.contexts.slots c.slot set.slot set.there h.fits in
+    let fit : fits w.stack (Some x) ≡ true =
+    sym (ap (fits w.stack) set.has) ∙ all_at (λ (y : Slot). fits w.stack y.context ≡ true) w.contexts.slots c.slot set.slot h.fits set.there in
     let owned = (and_parts (owner_fits w.stack x.kind x.owner) (link_fits w.stack x x.link) fit).0 in
     ap (λ m. belongs_by m at.instance (context_at w.contexts.slots c)) i.there ∙ ap (belongs_by (Some at.row) at.instance) there
     ∙ ap (same_owner (owner_by at.row at.instance x.kind)) (sym same)
     ∙ owner_belongs w.stack at.row at.instance a x.kind (ap (owner_fits w.stack x.kind) same ∙ owned)
-  where
-    all_fit : (slots : List Slot) (n : ℕ) (x : Slot) → slice_get slots n ≡ Some x → AllFit w.stack slots → fits w.stack x.context ≡ true
-    all_fit slots n x there all = all_at (λ (y : Slot). fits w.stack y.context ≡ true) slots n x all there
 
 -- the object of the callback's kind, and who is set there
 found_there : (w : World) (what : ContextKind) (at : Callback) (m : Option Object) (c : CtxId)
@@ -144,26 +98,26 @@ found_there w what at (Some o) c h = (o, refl, h)
 asked_for : (w : World) (what : ContextKind) (at : Callback) (others : Option Status) → object_refused w what at others ≡ None → others ≡ None
 asked_for w what at others h =
     let object' = object_by at.row at.instance at.file what in
-    let listed = none_of (not (has_kind w.stack at.row what)) status.NotRegistered (before (is_none object') status.NoObject others) h in
-    (none_of (is_none object') status.NoObject others listed.1).1
+    let listed = none_of (not (has_kind w.stack at.row what)) Status.NotRegistered (before (is_none object') Status.NoObject others) h in
+    (none_of (is_none object') Status.NoObject others listed.1).1
 
 pub get_sound : (old : World) (k : WorkerId) (what : ContextKind) (result : Result CtxId Status) (new : World) → Gets old k what result new → IsSound old → IsSound new
 unfolding Gets
-get_sound old k what (Err why) new h s = in_callback old k (Err why) new _ (callback_of old k) refl h (λ at i event. subst IsSound (sym event.1) s) s
-get_sound old k what (Ok c) new h s =
-    in_callback old k (Ok c) new _ (callback_of old k) refl h (λ at i event.
+get_sound old k what result new h s =
+    asked_by (λ _ w. IsSound w) old k result new _ _ h (λ why. s) (λ at is c free event.
+    let i = is_in old k at s is in
     let full = is_hand_full old.contexts.hands k.0 in
     let there = there_at old what at in
     let object' = object_by at.row at.instance at.file what in
-    let asked = asked_for old what at (before (not (is_there old.files object')) status.DeletingObject (get_refusal old.contexts k.0 there)) event.0 in
-    let refusal = (none_of (not (is_there old.files object')) status.DeletingObject (get_refusal old.contexts k.0 there) asked).1 in
-    let some = none_of (is_none there) status.NoContext (first_of ((full, status.HandFull) ∷ [])) refusal in
-    let room = none_of full status.HandFull None some.1 in
-    let found = found_there old what at object' c event.1.0 in
-    subst IsSound (sym event.1.1)
+    let asked = asked_for old what at (before (not (is_there old.files object')) Status.DeletingObject (get_refusal old.contexts k.0 there)) free in
+    let refusal = (none_of (not (is_there old.files object')) Status.DeletingObject (get_refusal old.contexts k.0 there) asked).1 in
+    let some = none_of (is_none there) Status.NoContext (first_of ((full, Status.HandFull) ∷ [])) refusal in
+    let room = none_of full Status.HandFull None some.1 in
+    let found = found_there old what at object' c event.0 in
+    subst IsSound (sym event.1)
     (grabbed_sound old k at c i s
     (get_keeps k.0 c (owner_by at.row at.instance what) found.0 s.owned.lawful i.worker found.2 (leb-false 16 (length (hand_of old.contexts.hands k.0)) room.0))
-    (held_for old k at what found.0 c i s.owned found.2))) s
+    (held_for old k at what found.0 c i s.owned found.2)))
 
 -- ---- delete
 
@@ -188,43 +142,48 @@ unlinked_links : (w : World) (k : WorkerId) (wants : Bool) (d : CtxId) → AllPa
 unlinked_links w k true d h = passes_changed (names_there w.files) (option_map (with_link None)) w.contexts.slots d refl (λ x there named. refl) h
 unlinked_links w k false d h = passes_changed (names_there w.files) (option_map (with_link None)) w.contexts.slots d refl (λ x there named. refl) h
 
+unlinked_sound : (w : World) (k : WorkerId) (at : Callback) (wants : Bool) (owner : Owner) (object : Object) (d : CtxId) → IsIn w k at → IsSound w
+    → holder w.contexts.slots owner object ≡ Some d → belongs w.stack w.contexts.slots at.instance d ≡ true → (wants && is_hand_full w.contexts.hands k.0) ≡ false
+    → IsSound (with_contexts w (unlinked_for (carries w) w.contexts k.0 wants d))
+unlinked_sound w k at wants owner object d i s is own room =
+    let lawful : IsLawful (carries w) (unlinked_for (carries w) w.contexts k.0 wants d) =
+    subst (λ m. IsLawful (carries w) (delete_after (carries w) w.contexts k.0 wants m)) is
+    (delete_keeps k.0 owner object wants s.owned.lawful i.worker (room_if_wanted wants w.contexts k.0 room)) in
+    sound_with w (unlinked_for (carries w) w.contexts k.0 wants d) (unlinked_owned w k at wants d i s lawful own) (unlinked_links w k wants d s.links) s
+
 delete_at : (w : World) (k : WorkerId) (at : Callback) (what : ContextKind) (wants : Bool) (there : Option CtxId) → there_at w what at ≡ there → IsIn w k at → IsSound w
     → (wants && is_hand_full w.contexts.hands k.0) ≡ false → IsSound (with_contexts w (delete_after (carries w) w.contexts k.0 wants there))
 delete_at w k at what wants None is i s room = s
 delete_at w k at what wants (Some d) is i s room =
     let o = found_there w what at (object_by at.row at.instance at.file what) d is in
-    let own = owner_by at.row at.instance what in
-    let lawful : IsLawful (carries w) (unlinked_for (carries w) w.contexts k.0 wants d) =
-    subst (λ m. IsLawful (carries w) (delete_after (carries w) w.contexts k.0 wants m)) o.2
-    (delete_keeps k.0 own o.0 wants s.owned.lawful i.worker (room_if_wanted wants w.contexts k.0 room)) in
-    sound_with w (unlinked_for (carries w) w.contexts k.0 wants d)
-    (unlinked_owned w k at wants d i s lawful (held_for w k at what o.0 d i s.owned o.2)) (unlinked_links w k wants d s.links) s
+    unlinked_sound w k at wants (owner_by at.row at.instance what) o.0 d i s o.2 (held_for w k at what o.0 d i s.owned o.2) room
 
 pub delete_sound : (old : World) (k : WorkerId) (what : ContextKind) (wants : Bool) (result : Result (Option CtxId) Status) (new : World)
     → Deletes old k what wants result new → IsSound old → IsSound new
 unfolding Deletes
-delete_sound old k what wants (Err why) new h s = in_callback old k (Err why) new _ (callback_of old k) refl h (λ at i event. subst IsSound (sym event.1) s) s
-delete_sound old k what wants (Ok c) new h s =
-    in_callback old k (Ok c) new _ (callback_of old k) refl h (λ at i event.
+delete_sound old k what wants result new h s =
+    asked_by (λ _ w. IsSound w) old k result new _ _ h (λ why. s) (λ at is c free event.
     let there = there_at old what at in
     let full = wants && is_hand_full old.contexts.hands k.0 in
-    let refusal = asked_for old what at (delete_refusal old.contexts k.0 wants there) event.0 in
-    let some = none_of (is_none there) status.NoContext (first_of ((full, status.HandFull) ∷ [])) refusal in
-    let room = none_of full status.HandFull None some.1 in
-    subst IsSound (sym event.1.1) (delete_at old k at what wants there refl i s room.0)) s
+    let refusal = asked_for old what at (delete_refusal old.contexts k.0 wants there) free in
+    let some = none_of (is_none there) Status.NoContext (first_of ((full, Status.HandFull) ∷ [])) refusal in
+    let room = none_of full Status.HandFull None some.1 in
+    subst IsSound (sym event.1) (delete_at old k at what wants there refl (is_in old k at s is) s room.0))
 
 -- ---- set
 
 -- the context, which nothing links, gets its link
-linked_owned : (w : World) (u : ContextTable) (k : WorkerId) (c : CtxId) (x : Context) (o : Object) → IsLawful (carries w) (linked u c o)
-    → IsOwned (with_contexts w u) → k.0 < 48 → context_at u.slots c ≡ Some x → link_fits w.stack x (Some o) ≡ true → IsOwned (with_contexts w (linked u c o))
-linked_owned w u k c x o lawful h worker there link =
-    let v = with_contexts w u in
-    let t = linked u c o in
-    let owners = owners_changed (with_link (Some o)) u.slots c (λ x. (refl, refl)) in
-    contexts_owned v t k (hand_of u.hands k.0) lawful refl owners (same_hands u.hands k.0) worker (same_hand v t k h owners)
-    (passes_changed (fits w.stack) (option_map (with_link (Some o))) u.slots c refl
-    (λ y found fit. fits_linked w.stack y o (subst (λ z. link_fits w.stack z (Some o) ≡ true) (same_Some x y (sym there ∙ found)) link) fit) h.fits) h
+linked_sound : (w : World) (k : WorkerId) (c : CtxId) (x : Context) (o : Object) → IsLawful (carries w) (linked w.contexts c o) → IsSound w → k.0 < 48
+    → context_at w.contexts.slots c ≡ Some x → link_fits w.stack x (Some o) ≡ true → is_there w.files (Some o) ≡ true → IsSound (with_contexts w (linked w.contexts c o))
+linked_sound w k c x o lawful s worker there link here =
+    let t = linked w.contexts c o in
+    let slots = w.contexts.slots in
+    let owners = owners_changed (with_link (Some o)) slots c (λ x. (refl, refl)) in
+    sound_with w t
+    (contexts_owned w t k (hand_of w.contexts.hands k.0) lawful refl owners (same_hands w.contexts.hands k.0) worker (same_hand w t k s.owned owners)
+    (passes_changed (fits w.stack) (option_map (with_link (Some o))) slots c refl
+    (λ y found fit. fits_linked w.stack y o (subst (λ z. link_fits w.stack z (Some o) ≡ true) (same_Some x y (sym there ∙ found)) link) fit) s.owned.fits) s.owned)
+    (passes_changed (names_there w.files) (option_map (with_link (Some o))) slots c refl (λ x there named. here) s.links) s
 
 -- what set requires of the callback and its context
 record MaySet (w : World) (k : WorkerId) (at : Callback) (c : CtxId) (x : Context) (o : Object) : Type 0 where
@@ -237,10 +196,8 @@ record MaySet (w : World) (k : WorkerId) (at : Callback) (c : CtxId) (x : Contex
 
 -- what a callback allocates may be linked, where its instance isn't being emptied
 callback_links : (s : StackWorld) (row : Instance) (i : InstanceId) (a : ContextKind) → keeps_links_by (row_at s i) ≡ true → may_link s (owner_by row i a) ≡ true
-callback_links s row i kind.Volume h = refl
-callback_links s row i kind.Instance h = h
-callback_links s row i kind.Stream h = h
-callback_links s row i kind.Handle h = h
+callback_links s row i ContextKind.Volume h = refl
+callback_links s row i _ h = h
 
 -- a volume in use holds its links
 mounted_holds : (m : Option Volume) → is_mounted m ≡ true → holds_links_by m ≡ true
@@ -248,41 +205,40 @@ mounted_holds None h = absurd (false≢true h)
 mounted_holds (Some volume) h = at_phase volume.phase h
   where
     at_phase : (p : VolumePhase) → is_mounted_phase p ≡ true → holds_links p ≡ true
-    at_phase phase.Mounted h = refl
-    at_phase phase.Dismounting h = refl
-    at_phase phase.Emptied h = absurd (false≢true h)
-    at_phase phase.Finished h = absurd (false≢true h)
+    at_phase VolumePhase.Emptied h = absurd (false≢true h)
+    at_phase VolumePhase.Finished h = absurd (false≢true h)
+    at_phase _ h = refl
 
 object_suits : (w : World) (at : Callback) (x : Context) (a : ContextKind) (o : Object) → x.kind ≡ a → is_mounted (slice_get w.stack.volumes at.row.volume.0) ≡ true
     → same_owner (owner_by at.row at.instance a) x.owner ≡ true → object_by at.row at.instance at.file a ≡ Some o → suits w.stack x o ≡ true
-object_suits w at x kind.Volume o is mounted own e =
-    subst (λ p. suits w.stack x p ≡ true) (same_Some (object.Volume at.row.volume) o e)
+object_suits w at x ContextKind.Volume o is mounted own e =
+    subst (λ p. suits w.stack x p ≡ true) (same_Some (Object.Volume at.row.volume) o e)
     (and_from (is_volume x.kind) (holds_links_by (slice_get w.stack.volumes at.row.volume.0)) (ap is_volume is) (mounted_holds (slice_get w.stack.volumes at.row.volume.0) mounted))
-object_suits w at x kind.Instance o is mounted own e =
-    subst (λ p. suits w.stack x p ≡ true) (same_Some (object.Instance at.instance) o e)
-    (and_from (is_instance x.kind) (same_owner (owner.Instance at.instance) x.owner) (ap is_instance is) own)
-object_suits w at x kind.Stream o is mounted own e = of_file at.file e
+object_suits w at x ContextKind.Instance o is mounted own e =
+    subst (λ p. suits w.stack x p ≡ true) (same_Some (Object.Instance at.instance) o e)
+    (and_from (is_instance x.kind) (same_owner (Owner.Instance at.instance) x.owner) (ap is_instance is) own)
+object_suits w at x ContextKind.Stream o is mounted own e = of_file at.file e
   where
-    of_file : (file : Option FileObject) → option_map (λ (f : FileObject). object.Stream f.stream) file ≡ Some o → suits w.stack x o ≡ true
+    of_file : (file : Option FileObject) → option_map (λ (f : FileObject). Object.Stream f.stream) file ≡ Some o → suits w.stack x o ≡ true
     of_file None e = absurd (none-some o e)
-    of_file (Some f) e = subst (λ p. suits w.stack x p ≡ true) (same_Some (object.Stream f.stream) o e) (ap is_of_stream is)
-object_suits w at x kind.Handle o is mounted own e = of_file at.file e
+    of_file (Some f) e = subst (λ p. suits w.stack x p ≡ true) (same_Some (Object.Stream f.stream) o e) (ap is_of_stream is)
+object_suits w at x ContextKind.Handle o is mounted own e = of_file at.file e
   where
-    of_file : (file : Option FileObject) → option_map (λ (f : FileObject). object.Handle f.handle) file ≡ Some o → suits w.stack x o ≡ true
+    of_file : (file : Option FileObject) → option_map (λ (f : FileObject). Object.Handle f.handle) file ≡ Some o → suits w.stack x o ≡ true
     of_file None e = absurd (none-some o e)
-    of_file (Some f) e = subst (λ p. suits w.stack x p ≡ true) (same_Some (object.Handle f.handle) o e) (ap is_of_handle is)
+    of_file (Some f) e = subst (λ p. suits w.stack x p ≡ true) (same_Some (Object.Handle f.handle) o e) (ap is_of_handle is)
 
 may_set : (w : World) (k : WorkerId) (at : Callback) (c : CtxId) (x : Context) (o : Object) → IsIn w k at → IsSound w → set_refused w k c at ≡ None
     → context_at w.contexts.slots c ≡ Some x → object_for at (Some x) ≡ Some o → MaySet w k at c x o
 may_set w k at c x o i s free there of =
     let object' = object_for at (context_at w.contexts.slots c) in
-    let held = none_of (not (holds (hand_of w.contexts.hands k.0) c)) status.NotHeld
-    (first_of ((is_some (link_at w.contexts.slots c), status.AlreadyLinked) ∷ (is_none object', status.NoObject)
-    ∷ (is_past w at object', status.DeletingObject) ∷ [])) free in
-    let linked' = none_of (is_some (link_at w.contexts.slots c)) status.AlreadyLinked
-    (first_of ((is_none object', status.NoObject) ∷ (is_past w at object', status.DeletingObject) ∷ [])) held.1 in
-    let some = none_of (is_none object') status.NoObject (first_of ((is_past w at object', status.DeletingObject) ∷ [])) linked'.1 in
-    let open' = none_of (is_past w at object') status.DeletingObject None some.1 in
+    let held = none_of (not (holds (hand_of w.contexts.hands k.0) c)) Status.NotHeld
+    (first_of ((is_some (link_at w.contexts.slots c), Status.AlreadyLinked) ∷ (is_none object', Status.NoObject)
+    ∷ (is_past w at object', Status.DeletingObject) ∷ [])) free in
+    let linked' = none_of (is_some (link_at w.contexts.slots c)) Status.AlreadyLinked
+    (first_of ((is_none object', Status.NoObject) ∷ (is_past w at object', Status.DeletingObject) ∷ [])) held.1 in
+    let some = none_of (is_none object') Status.NoObject (first_of ((is_past w at object', Status.DeletingObject) ∷ [])) linked'.1 in
+    let open' = none_of (is_past w at object') Status.DeletingObject None some.1 in
     let gone = or_right (is_closing w.stack at.row) (not (is_there w.files object')) open'.0 in
     let used = is_mounted (slice_get w.stack.volumes at.row.volume.0) in
     let live = or_right (not (is_setup at.row.phase || is_attached at.row.phase)) (not used) (or_left (is_closing w.stack at.row) (not (is_there w.files object')) open'.0) in
@@ -311,81 +267,22 @@ other_belongs w k at c d x o i s may is =
 
 set_at : (w : World) (k : WorkerId) (at : Callback) (c : CtxId) (x : Context) (o : Object) (mode : SetMode) (wants : Bool) (m : Option CtxId)
     → IsIn w k at → IsSound w → MaySet w k at c x o → holder w.contexts.slots x.owner o ≡ m
-    → IsLawful (carries w) (set_after (carries w) w.contexts k.0 c o mode wants m) → IsOwned (with_contexts w (set_after (carries w) w.contexts k.0 c o mode wants m))
-set_at w k at c x o mode wants None i s may is lawful = linked_owned w w.contexts k c x o lawful s.owned i.worker may.there may.link
-set_at w k at c x o mode wants (Some d) i s may is lawful = by_room (wants && is_hand_full w.contexts.hands k.0) refl lawful
-  where
-    own : belongs w.stack w.contexts.slots at.instance d ≡ true
-    own = other_belongs w k at c d x o i s may is
-
-    kept : (b : Bool) → IsLawful (carries w) (kept_after w.contexts k.0 b d) → IsOwned (with_contexts w (kept_after w.contexts k.0 b d))
-    kept true law = (grabbed_sound w k at d i s law own).owned
-    kept false law = s.owned
-
-    by_mode : (a : SetMode) → (wants && is_hand_full w.contexts.hands k.0) ≡ false → IsLawful (carries w) (set_mode_after (carries w) w.contexts k.0 c o a wants d)
-        → IsOwned (with_contexts w (set_mode_after (carries w) w.contexts k.0 c o a wants d))
-    by_mode Keep room law = kept wants law
-    by_mode Replace room law =
-        let u = unlinked_for (carries w) w.contexts k.0 wants d in
-        let has_link = holder_linked w.contexts.slots x.owner o d is in
-        let before' : IsLawful (carries w) u =
-        subst (λ m. IsLawful (carries w) (delete_after (carries w) w.contexts k.0 wants m)) is
-        (delete_keeps k.0 x.owner o wants s.owned.lawful i.worker (room_if_wanted wants w.contexts k.0 room)) in
-        linked_owned w u k c x o law (unlinked_owned w k at wants d i s before' own) i.worker
-        (still_there (carries w) w.contexts k.0 wants d c x has_link may.there may.bare) may.link
-
-    by_room : (b : Bool) → (wants && is_hand_full w.contexts.hands k.0) ≡ b
-        → IsLawful (carries w) (cond b w.contexts (set_mode_after (carries w) w.contexts k.0 c o mode wants d))
-        → IsOwned (with_contexts w (cond b w.contexts (set_mode_after (carries w) w.contexts k.0 c o mode wants d)))
-    by_room true full law = s.owned
-    by_room false room law = by_mode mode room law
-
-linked_links : (w : World) (u : ContextTable) (c : CtxId) (o : Object) → is_there w.files (Some o) ≡ true → AllPass (names_there w.files) u.slots
-    → AllPass (names_there w.files) (linked u c o).slots
-linked_links w u c o here h = passes_changed (names_there w.files) (option_map (with_link (Some o))) u.slots c refl (λ x there named. here) h
-
-set_links : (w : World) (k : WorkerId) (c : CtxId) (o : Object) (mode : SetMode) (wants : Bool) (m : Option CtxId) → is_there w.files (Some o) ≡ true
-    → AllPass (names_there w.files) w.contexts.slots → AllPass (names_there w.files) (set_after (carries w) w.contexts k.0 c o mode wants m).slots
-set_links w k c o mode wants None here h = linked_links w w.contexts c o here h
-set_links w k c o mode wants (Some d) here h = by_room (wants && is_hand_full w.contexts.hands k.0)
-  where
-    kept : (b : Bool) → AllPass (names_there w.files) (kept_after w.contexts k.0 b d).slots
-    kept true = h
-    kept false = h
-
-    by_mode : (a : SetMode) → AllPass (names_there w.files) (set_mode_after (carries w) w.contexts k.0 c o a wants d).slots
-    by_mode Keep = kept wants
-    by_mode Replace = linked_links w (unlinked_for (carries w) w.contexts k.0 wants d) c o here (unlinked_links w k wants d h)
-
-    by_room : (b : Bool) → AllPass (names_there w.files) (cond b w.contexts (set_mode_after (carries w) w.contexts k.0 c o mode wants d)).slots
-    by_room true = h
-    by_room false = by_mode mode
-
-set_on : (old : World) (k : WorkerId) (at : Callback) (c : CtxId) (mode : SetMode) (wants : Bool) (result : SetAnswer) (new : World) (m : Option Context) (o : Option Object)
-    → IsIn old k at → IsSound old → set_refused old k c at ≡ None → context_at old.contexts.slots c ≡ m → object_for at m ≡ o
-    → SetsOn old k c mode wants result new m o → IsSound new
-set_on old k at c mode wants result new None o i s free there of h = absurd h
-set_on old k at c mode wants result new (Some x) None i s free there of h = absurd h
-set_on old k at c mode wants result new (Some x) (Some o) i s free there of h =
-    let may = may_set old k at c x o i s free there of in
-    let bare : IsUnlinkedOf x.owner (context_at old.contexts.slots c) = subst (IsUnlinkedOf x.owner) (sym there) (may.bare, refl) in
-    let t = set_after (carries old) old.contexts k.0 c o mode wants (holder old.contexts.slots x.owner o) in
-    let lawful = set_keeps k.0 c x.owner o mode wants s.owned.lawful i.worker may.has bare in
-    subst IsSound (sym h.1) (sound_with old t (set_at old k at c x o mode wants (holder old.contexts.slots x.owner o) i s may refl lawful)
-    (set_links old k c o mode wants (holder old.contexts.slots x.owner o) may.here s.links) s)
-
-set_unless : (old : World) (k : WorkerId) (at : Callback) (c : CtxId) (mode : SetMode) (wants : Bool) (result : SetAnswer) (new : World) (m : Option Status)
-    → set_refused old k c at ≡ m → SetsUnless old k c mode wants result new at m → IsIn old k at → IsSound old → IsSound new
-set_unless old k at c mode wants result new (Some why) is h i s = subst IsSound (sym h.1) s
-set_unless old k at c mode wants result new None is h i s =
-    set_on old k at c mode wants result new (context_at old.contexts.slots c) (object_for at (context_at old.contexts.slots c)) i s is refl refl h
-
-set_in : (old : World) (k : WorkerId) (c : CtxId) (mode : SetMode) (wants : Bool) (result : SetAnswer) (new : World) (m : Option Callback)
-    → callback_of old k ≡ m → SetsIn old k c mode wants result new m → IsSound old → IsSound new
-set_in old k c mode wants result new None is h s = subst IsSound (sym h.1) s
-set_in old k c mode wants result new (Some at) is h s = set_unless old k at c mode wants result new (set_refused old k c at) refl h (is_in old k at s is) s
+    → IsLawful (carries w) (set_after (carries w) w.contexts k.0 c o mode wants m) → IsSound (with_contexts w (set_after (carries w) w.contexts k.0 c o mode wants m))
+set_at w k at c x o mode wants m i s may is =
+    set_each (λ t _. IsLawful (carries w) t → IsSound (with_contexts w t)) (carries w) w.contexts k.0 c o mode wants m
+    (λ e law. linked_sound w k c x o law s i.worker may.there may.link may.here) (λ law. s) (λ law. s)
+    (λ d e law. grabbed_sound w k at d i s law (other_belongs w k at c d x o i s may (is ∙ e)))
+    (λ d e room law.
+    let unlinks = unlinked_sound w k at wants x.owner o d i s (is ∙ e) (other_belongs w k at c d x o i s may (is ∙ e)) room in
+    let still = still_there (carries w) w.contexts k.0 wants d c x (holder_linked w.contexts.slots x.owner o d (is ∙ e)) may.there may.bare in
+    linked_sound (with_contexts w (unlinked_for (carries w) w.contexts k.0 wants d)) k c x o law unlinks i.worker still may.link may.here)
 
 pub set_sound : (old : World) (k : WorkerId) (c : CtxId) (mode : SetMode) (wants : Bool) (result : SetAnswer) (new : World)
     → Sets old k c mode wants result new → IsSound old → IsSound new
-unfolding Sets
-set_sound old k c mode wants result new h s = set_in old k c mode wants result new (callback_of old k) refl h s
+set_sound old k c mode wants result new h s =
+    set_by (λ _ w. IsSound w) old k c mode wants result new h (λ why. s) (λ at is free x o there of e.
+    let i = is_in old k at s is in
+    let may = may_set old k at c x o i s free there of in
+    let bare : IsUnlinkedOf x.owner (context_at old.contexts.slots c) = subst (IsUnlinkedOf x.owner) (sym there) (may.bare, refl) in
+    let before = holder old.contexts.slots x.owner o in
+    subst IsSound (sym e.1) (set_at old k at c x o mode wants before i s may refl (set_keeps k.0 c x.owner o mode wants s.owned.lawful i.worker may.has bare)))

@@ -1,37 +1,13 @@
 -- Links that go with what they name leave a World sound.
 use Rattle.std.proofs.Common.{◌≡◌, ℕ, Bool, true, false, cond, not, List, [], ◌∷◌, ◌++◌, map, find, Option, Some, None, Result, Ok, is_some, refl, ap, sym, ◌∙◌, subst, arith}
-use Rattle.std.proofs.lemmas.Bool.{false≢true}
-use Rattle.std.proofs.lemmas.List.Elements.{All-weaker, All-nil, All-cons}
-use Rattle.fm_types.specs.Lists.{change_first}
-use Rattle.fm_types.specs.declared.ids.CtxId.{CtxId}
-use Rattle.fm_types.specs.declared.ids.HandleId.{HandleId}
-use Rattle.fm_types.specs.declared.ids.VolumeId.{VolumeId}
-use Rattle.fm_types.specs.declared.ids.WorkerId.{WorkerId}
-use Rattle.fm_types.specs.declared.operation.Operation.{Operation}
-use Rattle.fm_types.specs.declared.operation.Operation.TheVariants as kind
-use Rattle.fm_types.specs.declared.status.Status.{Status}
-use Rattle.fm_flow.specs.declared.action.FlowAction.{FlowAction}
-use Rattle.fm_flow.specs.declared.action.FlowAction.TheVariants as action
-use Rattle.fm_ctx.specs.declared.object.Object.{Object}
-use Rattle.fm_ctx.specs.declared.object.Object.TheVariants as object
-use Rattle.fm_ctx.specs.Bags.{hand_of}
-use Rattle.fm_ctx.specs.Links.{with_link}
-use Rattle.fm_ctx.specs.Settling.{swept, swept_slot}
-use Rattle.fm_ctx.specs.Table.{Context, Slot, ContextTable}
-use Rattle.fm_ctx.proofs.Leaving.{sweep_keeps}
-use Rattle.fm_world.specs.declared.file.FileStream.{FileStream}
-use Rattle.fm_world.specs.declared.file.HandlePhase.{HandlePhase}
-use Rattle.fm_world.specs.declared.file.HandlePhase.TheVariants as phase
-use Rattle.fm_world.specs.Events.{brought, received, moved_on}
-use Rattle.fm_world.specs.Files.{FileTable, is_stream, is_handle, stream_of_path, fresh_stream, created, created_in, with_phase, phased}
-use Rattle.fm_world.specs.Links.{is_there, names_there, is_on_gone, LosesLinks}
-use Rattle.fm_world.specs.Owners.{fits}
-use Rattle.fm_world.specs.Sound.{IsOwned}
-use Rattle.fm_world.specs.World.{World}
+use Rattle.fm_world.proofs.Words.{false≢true, All-weaker, All-nil, All-cons, change_first, CtxId, HandleId, VolumeId, WorkerId, Operation, Status, Object}
+use Rattle.fm_world.proofs.Words.{hand_of, with_link, swept, swept_slot, Context, Slot, ContextTable, sweep_keeps, FlowAction, FileStream, HandlePhase}
+use Rattle.fm_world.proofs.Words.{brought, received, moved_on, FileTable, is_stream, is_handle, stream_of_path, fresh_stream, created, created_in, with_phase}
+use Rattle.fm_world.proofs.Words.{phased, is_there, names_there, is_on_gone, LosesLinks, fits, IsOwned, IsSound, IsUnderWay, World}
 use Rattle.fm_world.proofs.Belonging.{owners_after, owners_same, owners_swept}
 use Rattle.fm_world.proofs.Callbacks.{contexts_owned, same_hand, same_hands}
 use Rattle.fm_world.proofs.Fitting.{AllPass, passes_swept, fits_unlinked}
-use Rattle.fm_world.proofs.Keeps.{FiledIn}
+use Rattle.fm_world.proofs.Keeps.{FiledIn, loses_under_way}
 
 -- each link of a World names what is there
 abbrev pub NamedIn : World → Type 0
@@ -72,23 +48,31 @@ left_there f x = by_link (is_there f x.link) refl
 
 pub loses_named : (old new : World) → LosesLinks old new → NamedIn new
 loses_named old new h =
-    let test = is_on_gone old.files in
     let slots = old.contexts.slots in
     let all : AllPass (λ o. true) slots = All-any slots in
-    let left = passes_swept (λ o. true) (names_there old.files) test slots refl (λ x _. left_there old.files x) all in
+    let left = passes_swept (λ o. true) (names_there old.files) (is_on_gone old.files) slots refl (λ x _. left_there old.files x) all in
     subst NamedIn (sym h.1) (subst (AllPass (names_there old.files)) (sym h.0.slots) left)
   where
     All-any : (slots : List Slot) → AllPass (λ o. true) slots
     All-any [] = All-nil (λ (x : Slot). true ≡ true)
     All-any (x ∷ slots) = All-cons (λ (x : Slot). true ≡ true) x slots refl (All-any slots)
 
+-- where all but the links held, all holds
+pub loses_sound : (old new : World) → LosesLinks old new → IsUnderWay old → IsOwned old → FiledIn old → IsSound new
+loses_sound old new h under_way owned filed = record {
+  under_way = loses_under_way old new h under_way;
+  owned = loses_owned old new h owned;
+  filed = loses_filed old new h filed;
+  links = loses_named old new h;
+}
+
 brought_slots : (t : ContextTable) (k : WorkerId) (m : Option CtxId) → (brought t k m).slots ≡ t.slots
 brought_slots t k None = refl
 brought_slots t k (Some c) = refl
 
 pub received_slots : (t : ContextTable) (k : WorkerId) (result : Result FlowAction Status) → (received t k result).slots ≡ t.slots
-received_slots t k (Ok (action.Post i lent completion)) = brought_slots t k completion.context
-received_slots t k (Ok (action.Drain i completion)) = brought_slots t k completion.context
+received_slots t k (Ok (FlowAction.Post i lent completion)) = brought_slots t k completion.context
+received_slots t k (Ok (FlowAction.Drain i completion)) = brought_slots t k completion.context
 received_slots t k _ = refl
 
 -- ---- streams and handles come, and stay
@@ -114,12 +98,11 @@ pub created_there : (v : VolumeId) (path : List ℕ) (n : ℕ) (f : FileTable) (
 created_there v path n f l h = by_stream (stream_of_path v path f) l h
   where
     by_stream : (m : Option FileStream) (l : Option Object) → is_there f l ≡ true → is_there (created_in v path n f m) l ≡ true
-    by_stream (Some x) l h = h
     by_stream None None h = refl
-    by_stream None (Some (object.Volume u)) h = refl
-    by_stream None (Some (object.Instance i)) h = refl
-    by_stream None (Some (object.Stream s)) h = found_before (is_stream s) f.streams (fresh_stream v path n ∷ []) h
-    by_stream None (Some (object.Handle g)) h = h
+    by_stream None (Some (Object.Volume u)) h = refl
+    by_stream None (Some (Object.Instance i)) h = refl
+    by_stream None (Some (Object.Stream s)) h = found_before (is_stream s) f.streams (fresh_stream v path n ∷ []) h
+    by_stream _ _ h = h
 
 pub found_changed : {A : Type 0} (test other : A → Bool) (change : A → A) → ((x : A) → test (change x) ≡ test x) → (xs : List A)
     → is_some (find test xs) ≡ true → is_some (find test (change_first other change xs)) ≡ true
@@ -141,20 +124,11 @@ found_changed test other change same (x ∷ xs) h = by_other (other x) (found_ch
     by_other false later = found_later (test x) later h
 
 phased_there : (g : HandleId) (where' : HandlePhase) (f : FileTable) (l : Option Object) → is_there f l ≡ true → is_there (phased g where' f) l ≡ true
-phased_there g where' f None h = refl
-phased_there g where' f (Some (object.Volume u)) h = refl
-phased_there g where' f (Some (object.Instance i)) h = refl
-phased_there g where' f (Some (object.Stream s)) h = h
-phased_there g where' f (Some (object.Handle n)) h = found_changed (is_handle n) (is_handle g) (with_phase where') (λ x. refl) f.handles h
+phased_there g where' f (Some (Object.Stream s)) h = h
+phased_there g where' f (Some (Object.Handle n)) h = found_changed (is_handle n) (is_handle g) (with_phase where') (λ x. refl) f.handles h
+phased_there g where' f _ h = refl
 
 pub moved_there : (operation : Operation) (g : HandleId) (n : ℕ) (f : FileTable) (l : Option Object) → is_there f l ≡ true → is_there (moved_on operation g n f) l ≡ true
-moved_there kind.Cleanup g n f l h = phased_there g (phase.CleaningUp (record { 0 = n })) f l h
-moved_there kind.Close g n f l h = phased_there g phase.Closing f l h
-moved_there kind.Create g n f l h = h
-moved_there kind.Read g n f l h = h
-moved_there kind.Write g n f l h = h
-moved_there kind.QuerySize g n f l h = h
-moved_there kind.SetSize g n f l h = h
-moved_there kind.Flush g n f l h = h
-moved_there kind.List g n f l h = h
-moved_there kind.SetDelete g n f l h = h
+moved_there Operation.Cleanup g n f l h = phased_there g (HandlePhase.CleaningUp (record { 0 = n })) f l h
+moved_there Operation.Close g n f l h = phased_there g HandlePhase.Closing f l h
+moved_there _ g n f l h = h

@@ -1,81 +1,37 @@
 -- The events on operations keep a World sound.
-use Rattle.std.proofs.Common.{◌≡◌, ℕ, suc, ◌+◌, ◌<◌, ◌==◌, Bool, true, false, cond, not, List, [], ◌∷◌, ◌++◌, Option, Some, None, Result, Ok, Err, length, get_or, refl, ap, sym, ◌∙◌, subst, inl, inr, ◌⊎◌, arith, length-set}
-use Rattle.std.specs.Prelude.{All, AllPairs, slice_get, option_map, unwrap_or, find, nat_le, count_by, ◌||◌}
-use Rattle.std.specs.Cmp.Lexicographic.{bytes_decides}
-use Rattle.std.specs.List.{list_any}
-use Rattle.std.proofs.lemmas.Bool.{false≢true, eqb-true, eq-eqb, ne_eqb, cases_Bool, cases_eq, and_parts, and_from, leb-true}
-use Rattle.std.proofs.lemmas.Option.{none-some, same_Some}
-use Rattle.std.proofs.lemmas.List.Elements.{All-push, All-head, All-tail}
-use Rattle.fm_types.specs.declared.ids.InstanceId.{InstanceId}
-use Rattle.fm_types.specs.declared.ids.OpId.{OpId}
-use Rattle.fm_types.specs.declared.ids.WorkerId.{WorkerId}
-use Rattle.fm_types.specs.declared.operation.Operation.{Operation}
-use Rattle.fm_types.specs.declared.operation.Operation.TheVariants as kind
-use Rattle.fm_types.specs.declared.status.Status.{Status}
-use Rattle.fm_types.specs.declared.status.Status.TheVariants as status
-use Rattle.fm_types.specs.Refusals.{first_of}
-use Rattle.fm_data.specs.declared.base_call.BaseCall.{BaseCall}
-use Rattle.fm_data.specs.declared.params.Params.{Params}
-use Rattle.fm_data.specs.declared.params.Params.TheVariants as params
-use Rattle.fm_data.specs.declared.answer.Answer.{Answer}
-use Rattle.fm_data.specs.declared.verdict.PreVerdict.{PreVerdict}
-use Rattle.fm_data.specs.declared.verdict.PreVerdict.TheVariants as verdict
-use Rattle.fm_data.specs.declared.verdict.PostVerdict.{PostVerdict}
-use Rattle.fm_data.specs.declared.verdict.PostVerdict.TheVariants as answer
-use Rattle.fm_data.specs.Data.{Data, data_fits}
-use Rattle.fm_data.specs.Params.{fit, are_on, is_within_limits, operation_of}
-use Rattle.fm_stack.specs.StackWorld.{StackWorld}
-use Rattle.fm_stack.specs.Stacks.{IsStack}
-use Rattle.fm_ctx.specs.Bags.{hand_of}
-use Rattle.fm_flow.specs.declared.action.Below.{Below}
-use Rattle.fm_flow.specs.declared.action.Below.TheVariants as below
-use Rattle.fm_flow.specs.declared.action.FlowAction.{FlowAction}
-use Rattle.fm_flow.specs.declared.action.FlowAction.TheVariants as action
-use Rattle.fm_flow.specs.declared.entry.Ask.{Ask}
-use Rattle.fm_flow.specs.declared.entry.Entry.TheVariants.{Base, Post, Drain}
-use Rattle.fm_flow.specs.declared.entry.PreState.TheVariants as pre
-use Rattle.fm_flow.specs.declared.entry.PostState.TheVariants as post
-use Rattle.fm_flow.specs.declared.stage.Stage.{Stage}
-use Rattle.fm_flow.specs.declared.stage.Stage.TheVariants.{Descending, PreRunning, PreHeld, InBase, Ascending, PostRunning, PostHeld, InDrain}
-use Rattle.fm_flow.specs.Record.{FlowRecord}
-use Rattle.fm_flow.specs.Entries.{visited, owed, has_base, settle_pre, settle_post, settle_drain, times}
-use Rattle.fm_flow.specs.Steps.{Turned, next_of, next_at, descend, ascend, call_pre, call_base, call_post, give_post, unwound, unwound_to, may_take, pre_leads, post_leads, pre_returned_of, post_returned_of, post_state, drain_returned_of, base_fits, is_done, done_at, MayLieBelow}
-use Rattle.fm_flow.specs.Sound.{walk, way_of}
+use Rattle.std.proofs.Common.{◌≡◌, ℕ, suc, ◌+◌, ◌<◌, ◌==◌, Bool, true, false, cond, List, [], ◌∷◌, ◌++◌, Option, Some, None, Result, Ok, Err, length, get_or, refl, ap, sym, ◌∙◌, subst, inl, inr, ◌⊎◌, arith, length-set}
+use Rattle.fm_world.proofs.Words.{All, AllPairs, slice_get, option_map, unwrap_or, find, count_by, false≢true, eqb-true, eq-eqb, ne_eqb, cases_Bool, cases_eq}
+use Rattle.fm_world.proofs.Words.{and_from, none-some, same_Some, All-push, All-head, All-tail, InstanceId, OpId, WorkerId, Operation, Status, first_of}
+use Rattle.fm_world.proofs.Words.{found_holds, all_change, all_without, find_without, HandleId, StreamId, VolumeId, CreateMode, BaseCall, Params, Answer}
+use Rattle.fm_world.proofs.Words.{PreVerdict, PostVerdict, Data, data_fits, are_on, is_within_limits, operation_of, StackWorld, IsStack, hand_of}
+use Rattle.fm_world.proofs.Words.{ContextTable, Below, FlowAction, Ask, Base, Post, Drain, PreState, PostState, Stage, Descending, PreRunning, InBase}
+use Rattle.fm_world.proofs.Words.{Ascending, PostRunning, InDrain, FlowRecord, visited, owed, has_base, settle_pre, settle_post, settle_drain, times, Turned}
+use Rattle.fm_world.proofs.Words.{next_of, call_pre, call_base, give_post, pre_leads, post_leads, pre_returned_of, post_returned_of, post_state}
+use Rattle.fm_world.proofs.Words.{drain_returned_of, base_fits, done_at, MayLieBelow, way_of, drain_opens, is_create, drains_push, drains_pre_settled}
+use Rattle.fm_world.proofs.Words.{drains_post_settled, drains_drain_settled, none_running, FlowTable, IsFlow, operation_at, changed, told, begun}
+use Rattle.fm_world.proofs.Words.{begun_record, is_full, is_number, marked, removed, verdict_counted, completed_as, last_visited, last_posted, base_counted}
+use Rattle.fm_world.proofs.Words.{bare_ask, turn, with_drain, PreVisit, PostVisit, Begin, Worker, World, worker_at, put, after_next, LiesBelow, Collects}
+use Rattle.fm_world.proofs.Words.{returned, received, state_at, state_given, drains_at, of_hand, has_post, or_else, begin_refused, refused_on, refused_at}
+use Rattle.fm_world.proofs.Words.{begun_on, begun_at, after_begin, moved_on, has_no_handle_left, filed_next, base_step, Spot, AtPre, AtBase, AtPost, AtDrain}
+use Rattle.fm_world.proofs.Words.{spot_at, spot_of, is_spot, is_among, IsUnderWay, IsAmong, is_in_setup, is_in_at, pre_step, FileHandle, FileStream}
+use Rattle.fm_world.proofs.Words.{FileTable, stream_at, handle_at, stream_for, created, params_of, phase_refusal, gives_nothing, asked_refused, asked_begun}
+use Rattle.fm_world.proofs.Words.{created_begun}
 use Rattle.fm_flow.specs.Sound as flow
-use Rattle.fm_flow.specs.Counts.{is_running_drain, drain_opens}
-use Rattle.fm_flow.specs.Creates.{is_create}
-use Rattle.fm_flow.proofs.Drains.{drains_push, drains_pre_settled, drains_post_settled, drains_drain_settled, none_running}
-use Rattle.fm_flow.specs.Table.{FlowTable, IsFlow, operation_at, changed, told, begun, begun_record, is_full, is_number, collected_of, collected_in, is_collectable, marked, removed, without_first}
-use Rattle.fm_flow.specs.Verdict.{verdict_counted, completed_as}
-use Rattle.fm_world.specs.declared.step.Begin.{Begin}
-use Rattle.fm_world.specs.declared.step.Begin.TheVariants as begin
-use Rattle.fm_world.specs.declared.worker.Worker.{Worker}
-use Rattle.fm_world.specs.declared.worker.Worker.TheVariants as place
-use Rattle.fm_world.specs.World.{World}
-use Rattle.fm_world.specs.Workers.{worker_at, put, is_idle, after_next}
-use Rattle.fm_world.specs.Events.{Begins, Nexts, NextsOver, LiesBelow, FindsBelow, PreReturns, PreReturnsAt, BaseReturns, BaseReturnsAt, PostReturns, PostReturnsAt, Collects, ReturnsFrom, returned, received, state_at, state_given, drains_at, of_hand, has_post, or_else, begin_refused, refused_on, refused_at, begun_on, begun_at, after_begin, moved_on, has_no_handle_left, flow_after_next, filed_next, filed_pre, filed_base, base_step, base_returned, NextsAt, PreReturnsOver}
-use Rattle.fm_world.specs.Links.{LosesLinks}
-use Rattle.fm_world.specs.Headline.{Spot, AtPre, AtBase, AtPost, AtDrain, spot_at, spot_of, is_spot}
-use Rattle.fm_world.specs.Descent.{is_among}
-use Rattle.fm_world.specs.Sound.{IsUnderWay, IsAmong, is_in_setup}
-use Rattle.fm_types.proofs.Firsts.{change_none, found_holds, all_change, all_without, find_without}
-use Rattle.fm_world.proofs.Filing.{asks_no_create}
-use Rattle.fm_world.proofs.Ties.{counted_from, one, count_moves, AreTied, Matches, is_running, quiet_is_none, quiet_is_nowhere, tied_moves, tied_stays, tied_there, matches_idle, matches_pre, matches_base, matches_post, matches_drain, spot_pre, spot_base, spot_post, spot_drain}
-use Rattle.fm_world.proofs.Draining.{AreDrained, InDrains, in_no_drain, in_a_drain, drained_moves, drained_stays, next_drained}
-use Rattle.fm_world.proofs.Amongs.{is_up, no_base, visit_last, post_last, among_visits, among_other, among_base, among_settles, among_begins, settle_pre_visit, settle_pre_base, settle_post_visit, settle_post_base, settle_drain_visit, settle_drain_base}
-use Rattle.fm_world.proofs.Descents.{next_unseen, room_is, or_left, or_right}
-use Rattle.fm_world.proofs.Keeps.{known_cases, unless_cases, idle_there, whatever_contexts, whatever_files, loses_under_way}
+use Rattle.std.specs.Prelude.{◌||◌, ◌&&◌}
+use Rattle.std.specs.Cmp.Lexicographic.{bytes_decides}
+use Rattle.fm_flow.specs.Table.{without_first}
 use Rattle.fm_flow.proofs.Soundness.{sound_pre_returned, sound_base, sound_post_returned, sound_drain_returned}
 use Rattle.fm_stack.proofs.Visits.{is_to_visit_few}
-use Rattle.fm_flow.proofs.Flows.{flow_begins, flow_changes, flow_collects, sound_next}
-use Rattle.fm_types.specs.declared.ids.HandleId.{HandleId}
-use Rattle.fm_types.specs.declared.ids.StreamId.{StreamId}
-use Rattle.fm_types.specs.declared.ids.VolumeId.{VolumeId}
-use Rattle.fm_world.specs.declared.file.FileHandle.{FileHandle}
-use Rattle.fm_world.specs.declared.file.FileStream.{FileStream}
-use Rattle.fm_world.specs.Files.{FileTable, stream_at, handle_at, stream_for, created}
-use Rattle.fm_world.specs.Requests.{params_of, phase_refusal}
-use Rattle.fm_flow.specs.Answered.{base_counted}
+use Rattle.fm_flow.proofs.Flows.{flow_begins, flow_changes, flow_collects, next_stays, sound_next}
+use Rattle.fm_world.proofs.Filing.{asks_no_create}
+pub use Rattle.fm_world.proofs.Events.{unchanged_flow}
+use Rattle.fm_world.proofs.Events.{Turns}
+use Rattle.fm_world.proofs.Ties.{counted_from, one, AreTied, Matches, is_running, quiet_is_none, quiet_is_nowhere, tied_moves, tied_stays, tied_there, matches_idle, matches_pre, matches_base, matches_post, matches_drain, spot_pre, spot_base, spot_post, spot_drain, count_stays}
+use Rattle.fm_world.proofs.Draining.{AreDrained, InDrains, in_no_drain, in_a_drain, drained_moves, drained_stays, next_drained}
+use Rattle.fm_world.proofs.Amongs.{is_up, no_base, visit_last, post_last, among_visits, among_other, among_base, among_settles, among_begins, settle_pre_keeps, settle_post_keeps, settle_drain_keeps}
+use Rattle.fm_world.proofs.Descents.{next_unseen, room_is, or_left, or_right}
+use Rattle.fm_world.proofs.Keeps.{whatever_files}
+use Rattle.fm_world.proofs.Turning.{each_turn, collected_by}
 
 -- operations change, and workers with them
 flow_moves : (w : World) (t : FlowTable) (workers : List Worker) → IsFlow t → All (IsAmong w.stack) t.operations → length workers ≡ 48
@@ -115,19 +71,13 @@ pub none_else : (m n : Option Status) → or_else m n ≡ None → n ≡ None
 none_else (Some why) n h = cc
 none_else None n h = h
 
-pub none_first : (m n : Option Status) → or_else m n ≡ None → m ≡ None
-none_first (Some why) n h = cc
-none_first None n h = refl
-
-pub asked_within : (within : Bool) (m : Option Status) → cond within m (Some status.BadRequest) ≡ None → (within ≡ true) × (m ≡ None)
+pub asked_within : (within : Bool) (m : Option Status) → cond within m (Some Status.BadRequest) ≡ None → (within ≡ true) × (m ≡ None)
 asked_within true m h = (refl, h)
 asked_within false m h = cc
 
-pub full_from : (a b c : Bool) → first_of ((a, status.NoVolume) ∷ (b, status.Dismounting) ∷ (c, status.TooMany) ∷ []) ≡ None → c ≡ false
+pub full_from : (a b c : Bool) → first_of ((a, Status.NoVolume) ∷ (b, Status.Dismounting) ∷ (c, Status.TooMany) ∷ []) ≡ None → c ≡ false
 full_from false false false h = refl
-full_from false false true h = cc
-full_from false true c h = cc
-full_from true b c h = cc
+full_from _ _ _ h = cc
 
 -- an operation on a volume of which no more than 32 instances may be visited
 operation_begins : (old : World) (v : VolumeId) (stream : Option StreamId) (handle : Option HandleId) (path : Option (List ℕ)) (p : Params) (files : FileTable)
@@ -148,267 +98,120 @@ operation_begins old v stream handle path p files on within free s =
 
 -- a create alone names a path
 names_none : (path : Option (List ℕ)) (p : Params) → is_create (operation_of p) ≡ false → are_on path p ≡ true
-names_none path (params.Create own mode) none = cc
-names_none path (params.Read offset len) none = refl
-names_none path (params.Write offset bytes) none = refl
-names_none path params.QuerySize none = refl
-names_none path (params.SetSize size) none = refl
-names_none path params.Flush none = refl
-names_none path params.List none = refl
-names_none path params.SetDelete none = refl
-names_none path params.Cleanup none = refl
-names_none path params.Close none = refl
+names_none path (Params.Create own mode) none = cc
+names_none path _ none = refl
 
--- what doesn't refuse an operation on a handle
-begins_on : (old : World) (h : HandleId) (p : Params) (x : FileHandle) (m : Option FileStream) → is_create (operation_of p) ≡ false → is_within_limits p ≡ true
-    → refused_on old p x m ≡ None → IsUnderWay old → IsUnderWay (begun_on old h p x m)
-begins_on old h p x None none within free s = s
-begins_on old h p x (Some y) none within free s =
-    operation_begins old y.volume (Some x.stream) (Some h) (Some y.path) p (moved_on (operation_of p) h old.flow.next old.files) (names_none (Some y.path) p none) within
-    (full_from _ _ (is_full old.flow) (none_else (phase_refusal old.flow (operation_of p) x.phase) _ free)) s
+-- what begins on a handle that is open, where nothing refuses it
+pub asked_begun_by : (P : World → Type 0) (old : World) (h : HandleId) (p : Params) → asked_refused old h p ≡ None
+    → ((x : FileHandle) (y : FileStream) → handle_at h old.files ≡ Some x → is_within_limits p ≡ true → is_full old.flow ≡ false → P (begun_on old h p x (Some y))) → P (asked_begun old h p)
+asked_begun_by P old h p free event = by_handle (handle_at h old.files) refl parts.1
+  where
+    parts : (is_within_limits p ≡ true) × (refused_at old p (handle_at h old.files) ≡ None)
+    parts = asked_within (is_within_limits p) (refused_at old p (handle_at h old.files)) free
 
-pub begins_at : (old : World) (h : HandleId) (p : Params) (m : Option FileHandle) → is_create (operation_of p) ≡ false → is_within_limits p ≡ true
-    → refused_at old p m ≡ None → IsUnderWay old → IsUnderWay (begun_at old h p m)
-begins_at old h p None none within free s = s
-begins_at old h p (Some x) none within free s = begins_on old h p x (stream_at x.stream old.files) none within free s
+    by_stream : (x : FileHandle) (m : Option FileStream) → handle_at h old.files ≡ Some x → refused_on old p x m ≡ None → P (begun_on old h p x m)
+    by_stream x None at free = cc
+    by_stream x (Some y) at free = event x y at parts.0 (full_from _ _ (is_full old.flow) (none_else (phase_refusal old.flow (operation_of p) x.phase) _ free))
 
-after_begin_keeps : (old : World) (what : Begin) → begin_refused old what ≡ None → IsUnderWay old → IsUnderWay (after_begin old what)
-after_begin_keeps old (begin.List v) free s = operation_begins old v None None None params.List old.files refl refl (full_from _ _ (is_full old.flow) free) s
-after_begin_keeps old (begin.Create v path mode) free s =
-    operation_begins old v (Some (stream_for v path old.flow.next old.files)) None (Some path) (params.Create path mode) (created v path old.flow.next old.files)
-    ((bytes_decides path path).1 refl) refl
-    (or_left (is_full old.flow) (has_no_handle_left old) (full_from _ _ (is_full old.flow || has_no_handle_left old) free)) s
-after_begin_keeps old (begin.OnHandle h asked) free s =
-    let parts = asked_within (is_within_limits (params_of asked)) (refused_at old (params_of asked) (handle_at h old.files)) free in
-    begins_at old h (params_of asked) (handle_at h old.files) (asks_no_create asked) parts.0 parts.1 s
+    by_handle : (m : Option FileHandle) → handle_at h old.files ≡ m → refused_at old p m ≡ None → P (begun_at old h p m)
+    by_handle None at free = cc
+    by_handle (Some x) at free = by_stream x (stream_at x.stream old.files) at free
 
-pub begin_keeps : (old : World) (what : Begin) (result : Result OpId Status) (new : World) → Begins old what result new → IsUnderWay old → IsUnderWay new
-unfolding Begins
-begin_keeps old what (Err why) new h s = subst IsUnderWay (sym h.1) s
-begin_keeps old what (Ok o) new h s = subst IsUnderWay (sym h.1.1) (after_begin_keeps old what h.0 s)
+-- what begins: a listing, a create, or an operation on a handle
+pub begun_by : (P : World → Type 0) (old : World) (what : Begin) → begin_refused old what ≡ None
+    → ((v : VolumeId) → is_full old.flow ≡ false → P (after_begin old (Begin.List v)))
+    → ((v : VolumeId) (path : List ℕ) (mode : CreateMode) → is_full old.flow || has_no_handle_left old ≡ false → P (created_begun old v path mode))
+    → ((h : HandleId) (p : Params) (x : FileHandle) (y : FileStream) → is_create (operation_of p) ≡ false → handle_at h old.files ≡ Some x → is_within_limits p ≡ true
+    → is_full old.flow ≡ false → P (begun_on old h p x (Some y))) → P (after_begin old what)
+begun_by P old (Begin.List v) free lists creates asks = lists v (full_from _ _ (is_full old.flow) free)
+begun_by P old (Begin.Create v path mode) free lists creates asks = creates v path mode (full_from _ _ (is_full old.flow || has_no_handle_left old) free)
+begun_by P old (Begin.OnHandle h asked) free lists creates asks = asked_begun_by P old h (params_of asked) free (λ x y. asks h (params_of asked) x y (asks_no_create asked))
+
+pub lists_keeps : (old : World) (v : VolumeId) → is_full old.flow ≡ false → IsUnderWay old → IsUnderWay (after_begin old (Begin.List v))
+lists_keeps old v free s = operation_begins old v None None None Params.List old.files refl refl free s
+
+pub creates_keeps : (old : World) (v : VolumeId) (path : List ℕ) (mode : CreateMode) → is_full old.flow || has_no_handle_left old ≡ false → IsUnderWay old
+    → IsUnderWay (created_begun old v path mode)
+creates_keeps old v path mode free s =
+    operation_begins old v (Some (stream_for v path old.flow.next old.files)) None (Some path) (Params.Create path mode) (created v path old.flow.next old.files)
+    ((bytes_decides path path).1 refl) refl (or_left (is_full old.flow) (has_no_handle_left old) free) s
+
+pub asks_keeps : (old : World) (h : HandleId) (p : Params) (x : FileHandle) (y : FileStream) → is_create (operation_of p) ≡ false → is_within_limits p ≡ true → is_full old.flow ≡ false
+    → IsUnderWay old → IsUnderWay (begun_on old h p x (Some y))
+asks_keeps old h p x y none within free s =
+    operation_begins old y.volume (Some x.stream) (Some h) (Some y.path) p (moved_on (operation_of p) h old.flow.next old.files) (names_none (Some y.path) p none) within free s
 
 -- ---- next
 
-next_number : (k : WorkerId) (lies : Below) (drains : Bool) (r : FlowRecord) → (next_of k lies drains r).after.number.0 ≡ r.number.0
-next_number k lies drains r = collected_or r.collected
-  where
-    unwound_number : (place : ℕ) (r : FlowRecord) (m : Option Params) → (unwound_to place r m).number.0 ≡ r.number.0
-    unwound_number place r (Some p) = refl
-    unwound_number place r None = refl
-
-    post_number : (k : WorkerId) (ask : Ask) (r : FlowRecord) (m : Option Params) → (give_post k ask r m).after.number.0 ≡ r.number.0
-    post_number k ask r (Some p) = refl
-    post_number k ask r None = refl
-
-    ascend_number : (k : WorkerId) (drains : Bool) (r : FlowRecord) (m : Option Ask) → (ascend k drains r m).after.number.0 ≡ r.number.0
-    ascend_number k drains r None = refl
-    ascend_number k true r (Some ask) = refl
-    ascend_number k false r (Some ask) = taken (may_take k ask)
-      where
-        taken : (b : Bool) → (cond b (call_post k ask r) (record { reply = Err status.WrongStep; after = r })).after.number.0 ≡ r.number.0
-        taken true = post_number k ask (unwound ask.place r) (unwound ask.place r).params ∙ unwound_number ask.place r (slice_get r.kept ask.place)
-        taken false = refl
-
-    called : (k : WorkerId) (i : InstanceId) (r : FlowRecord) (m : Option Params) → (call_pre k i r m).after.number.0 ≡ r.number.0
-    called k i r (Some p) = refl
-    called k i r None = refl
-
-    based : (r : FlowRecord) (m : Option Params) → (call_base r m).after.number.0 ≡ r.number.0
-    based r (Some p) = refl
-    based r None = refl
-
-    descend_number : (k : WorkerId) (lies : Below) (r : FlowRecord) → (descend k lies r).after.number.0 ≡ r.number.0
-    descend_number k (below.Instance i true) r = called k i r r.params
-    descend_number k (below.Instance i false) r = refl
-    descend_number k below.Call r = based r r.params
-    descend_number k (below.Known status) r = refl
-
-    number_at : (stage : Stage) → (next_at k lies drains r stage).after.number.0 ≡ r.number.0
-    number_at Descending = descend_number k lies r
-    number_at Ascending = ascend_number k drains r (slice_get (owed r.entries) 0)
-    number_at PreRunning = refl
-    number_at PreHeld = refl
-    number_at InBase = refl
-    number_at PostRunning = refl
-    number_at PostHeld = refl
-    number_at (InDrain i) = refl
-
-    collected_or : (b : Bool) → (cond b (record { reply = Err status.WrongStep; after = r }) (next_at k lies drains r r.stage)).after.number.0 ≡ r.number.0
-    collected_or true = refl
-    collected_or false = number_at r.stage
-
-next_collected : (k : WorkerId) (lies : Below) (drains : Bool) (r : FlowRecord) → (next_of k lies drains r).after.collected ≡ r.collected
-next_collected k lies drains r = collected_or r.collected
-  where
-    unwound_collected : (place : ℕ) (r : FlowRecord) (m : Option Params) → (unwound_to place r m).collected ≡ r.collected
-    unwound_collected place r (Some p) = refl
-    unwound_collected place r None = refl
-
-    post_collected : (k : WorkerId) (ask : Ask) (r : FlowRecord) (m : Option Params) → (give_post k ask r m).after.collected ≡ r.collected
-    post_collected k ask r (Some p) = refl
-    post_collected k ask r None = refl
-
-    ascend_collected : (k : WorkerId) (drains : Bool) (r : FlowRecord) (m : Option Ask) → (ascend k drains r m).after.collected ≡ r.collected
-    ascend_collected k drains r None = refl
-    ascend_collected k true r (Some ask) = refl
-    ascend_collected k false r (Some ask) = taken (may_take k ask)
-      where
-        taken : (b : Bool) → (cond b (call_post k ask r) (record { reply = Err status.WrongStep; after = r })).after.collected ≡ r.collected
-        taken true = post_collected k ask (unwound ask.place r) (unwound ask.place r).params ∙ unwound_collected ask.place r (slice_get r.kept ask.place)
-        taken false = refl
-
-    called : (k : WorkerId) (i : InstanceId) (r : FlowRecord) (m : Option Params) → (call_pre k i r m).after.collected ≡ r.collected
-    called k i r (Some p) = refl
-    called k i r None = refl
-
-    based : (r : FlowRecord) (m : Option Params) → (call_base r m).after.collected ≡ r.collected
-    based r (Some p) = refl
-    based r None = refl
-
-    descend_collected : (k : WorkerId) (lies : Below) (r : FlowRecord) → (descend k lies r).after.collected ≡ r.collected
-    descend_collected k (below.Instance i true) r = called k i r r.params
-    descend_collected k (below.Instance i false) r = refl
-    descend_collected k below.Call r = based r r.params
-    descend_collected k (below.Known status) r = refl
-
-    collected_at : (stage : Stage) → (next_at k lies drains r stage).after.collected ≡ r.collected
-    collected_at Descending = descend_collected k lies r
-    collected_at Ascending = ascend_collected k drains r (slice_get (owed r.entries) 0)
-    collected_at PreRunning = refl
-    collected_at PreHeld = refl
-    collected_at InBase = refl
-    collected_at PostRunning = refl
-    collected_at PostHeld = refl
-    collected_at (InDrain i) = refl
-
-    collected_or : (b : Bool) → (cond b (record { reply = Err status.WrongStep; after = r }) (next_at k lies drains r r.stage)).after.collected ≡ r.collected
-    collected_or true = refl
-    collected_or false = collected_at r.stage
+abbrev is_in_base : Stage → Bool
+is_in_base InBase = true
+is_in_base _ = false
 
 -- what `next` makes of an operation and of the worker
 record Leads (s : StackWorld) (k : WorkerId) (o : OpId) (r : FlowRecord) (turned : Turned) (workers : List Worker) : Type 0 where
   pub among : IsAmong s turned.after
   -- no worker moves, and the operation stands as before; or this one goes into the operation as its stage says
   pub how : ((after_next workers k o turned.reply ≡ workers) × ((x : Spot) → is_spot x (spot_of turned.after) ≡ is_spot x (spot_of r)))
-      ⊎ ((b : Worker) × (after_next workers k o turned.reply ≡ put workers k b) × (Matches o place.Idle (spot_of r)) × (Matches o b (spot_of turned.after))
+      ⊎ ((b : Worker) × (after_next workers k o turned.reply ≡ put workers k b) × (Matches o Worker.Idle (spot_of r)) × (Matches o b (spot_of turned.after))
       × ((i : ℕ) → is_in_setup i b ≡ false))
 
--- nothing happened
-leads_nowhere : (s : StackWorld) (k : WorkerId) (o : OpId) (r : FlowRecord) (reply : Result FlowAction Status) (workers : List Worker)
-    → after_next workers k o reply ≡ workers → IsAmong s r → Leads s k o r (record { reply = reply; after = r }) workers
-leads_nowhere s k o r reply workers same h = record { among = h; how = inl (same, λ x. refl) }
-
-leads_pre : (s : StackWorld) (k : WorkerId) (o : OpId) (r : FlowRecord) (i : InstanceId) (m : Option Params) (workers : List Worker) → IsStack s
-    → r.stage ≡ Descending → has_base r.entries ≡ false
-    → LiesBelow s r (below.Instance i true) → IsAmong s r → Leads s k o r (call_pre k i r m) workers
-leads_pre s k o r i None workers stack e none lies h = leads_nowhere s k o r (Err status.WrongStep) workers refl h
-leads_pre s k o r i (Some p) workers stack e none lies h = record {
-  among = among_visits s r.volume r.born r.operation r.entries r.stage PreRunning
-      (record { instance = i; worker = k; state = pre.Running; place = length r.kept }) stack none (λ x. absurd (pre_is_not_base x)) lies.0 h;
-  how = inr (
-    place.Pre o i,
-    refl,
-    matches_idle o r.stage r.entries (ap is_running e),
-    subst (Matches o (place.Pre o i)) (sym (ap (option_map AtPre) (visit_last r.entries (record { instance = i; worker = k; state = pre.Running; place = length r.kept })))) (matches_pre o i),
-    λ j. refl,
-  );
-}
-  where
-    pre_is_not_base : PreRunning ≡ InBase → ⊥
-    pre_is_not_base x = cc
-
-leads_base : (s : StackWorld) (k : WorkerId) (o : OpId) (r : FlowRecord) (m : Option Params) (workers : List Worker) → r.stage ≡ Descending
-    → LiesBelow s r below.Call → IsAmong s r → Leads s k o r (call_base r m) workers
-leads_base s k o r None workers e lies h = leads_nowhere s k o r (Err status.WrongStep) workers refl h
-leads_base s k o r (Some p) workers e lies h = record {
-  among = record { descent = h.descent; room = h.room; there = h.there; base = λ x. lies };
-  how = inr (place.Base o, refl, matches_idle o r.stage r.entries (ap is_running e), matches_base o, λ j. refl);
-}
-
-leads_down : (s : StackWorld) (k : WorkerId) (o : OpId) (r : FlowRecord) (lies : Below) (workers : List Worker) → IsStack s
-    → r.stage ≡ Descending → has_base r.entries ≡ false → LiesBelow s r lies → IsAmong s r → Leads s k o r (descend k lies r) workers
-leads_down s k o r (below.Instance i true) workers stack e none lies h = leads_pre s k o r i r.params workers stack e none lies h
-leads_down s k o r (below.Instance i false) workers stack e none lies h = record {
-  among = among_visits s r.volume r.born r.operation r.entries r.stage Descending
-      (record { instance = i; worker = k; state = pre.Asked (record { number = 0; context = None }); place = length r.kept }) stack none
-      (λ x. absurd (down_is_not_base x)) lies.0 h;
-  how = inl (refl, λ x. ap (is_spot x) (sym (quiet_is_nowhere r.stage r.entries (ap is_running e))));
-}
-  where
-    down_is_not_base : Descending ≡ InBase → ⊥
-    down_is_not_base x = cc
-leads_down s k o r below.Call workers stack e none lies h = leads_base s k o r r.params workers e lies h
-leads_down s k o r (below.Known status) workers stack e none lies h = record {
-  among = among_base s r.volume r.born r.operation r.entries r.stage status 0 none lies h;
-  how = inl (refl, λ x. ap (is_spot x) (sym (quiet_is_nowhere r.stage r.entries (ap is_running e))));
-}
-
--- the parameters of a postoperation are put in place: the entries stay
-unwound_parts : (place : ℕ) (r : FlowRecord) (m : Option Params) (s : StackWorld) → IsAmong s r
-    → IsAmong s (unwound_to place r m) × ((unwound_to place r m).stage ≡ r.stage) × ((unwound_to place r m).entries ≡ r.entries)
-unwound_parts place r (Some p) s h = (h, refl, refl)
-unwound_parts place r None s h = (h, refl, refl)
-
-leads_post : (s : StackWorld) (k : WorkerId) (o : OpId) (r u : FlowRecord) (ask : Ask) (m : Option Params) (workers : List Worker)
-    → r.stage ≡ Ascending → u.stage ≡ r.stage → u.entries ≡ r.entries → IsAmong s u → Leads s k o r (give_post k ask u m) workers
-leads_post s k o r u ask None workers e same kept h = record { among = h; how = inl (refl, λ x. ap (is_spot x) (ap (λ a. spot_at a u.entries) same ∙ ap (spot_at r.stage) kept)) }
-leads_post s k o r u ask (Some p) workers e same kept h = record {
-  among = among_other s u.volume u.born u.operation u.entries u.stage PostRunning
-      (Post (record { instance = ask.instance; worker = k; state = post.Running })) refl refl (λ x. absurd (post_is_not_base x)) h;
-  how = inr (
-    place.Post o ask.instance,
-    refl,
-    matches_idle o r.stage r.entries (ap is_running e),
-    subst (Matches o (place.Post o ask.instance)) (sym (ap (option_map AtPost) (post_last u.entries (record { instance = ask.instance; worker = k; state = post.Running }))))
-        (matches_post o ask.instance),
-    λ j. refl,
-  );
-}
-  where
-    post_is_not_base : PostRunning ≡ InBase → ⊥
-    post_is_not_base x = cc
-
-leads_taken : (s : StackWorld) (k : WorkerId) (o : OpId) (r : FlowRecord) (ask : Ask) (workers : List Worker) (b : Bool) → r.stage ≡ Ascending → IsAmong s r
-    → Leads s k o r (cond b (call_post k ask r) (record { reply = Err status.WrongStep; after = r })) workers
-leads_taken s k o r ask workers true e h =
-    let parts = unwound_parts ask.place r (slice_get r.kept ask.place) s h in
-    leads_post s k o r (unwound ask.place r) ask (unwound ask.place r).params workers e parts.1 parts.2 parts.0
-leads_taken s k o r ask workers false e h = leads_nowhere s k o r (Err status.WrongStep) workers refl h
-
-leads_up : (s : StackWorld) (k : WorkerId) (o : OpId) (r : FlowRecord) (drains : Bool) (m : Option Ask) (workers : List Worker) → r.stage ≡ Ascending → IsAmong s r
-    → Leads s k o r (ascend k drains r m) workers
-leads_up s k o r drains None workers e h = leads_nowhere s k o r (Ok action.Done) workers refl h
-leads_up s k o r true (Some ask) workers e h = record {
-  among = among_other s r.volume r.born r.operation r.entries r.stage (InDrain ask.instance)
-      (Drain (record { instance = ask.instance; is_running = true })) refl refl (λ x. absurd (drain_is_not_base x)) h;
-  how = inr (place.Drain o ask.instance, refl, matches_idle o r.stage r.entries (ap is_running e), matches_drain o ask.instance, λ j. refl);
-}
-  where
-    drain_is_not_base : InDrain ask.instance ≡ InBase → ⊥
-    drain_is_not_base x = cc
-leads_up s k o r false (Some ask) workers e h = leads_taken s k o r ask workers (may_take k ask) e h
-
-leads_at : (s : StackWorld) (k : WorkerId) (o : OpId) (r : FlowRecord) (lies : Below) (drains : Bool) (workers : List Worker) (stage : Stage) → IsStack s
-    → r.stage ≡ stage → flow.IsSound r → (r.stage ≡ Descending → LiesBelow s r lies) → IsAmong s r → Leads s k o r (next_at k lies drains r stage) workers
-leads_at s k o r lies drains workers Descending stack e sound finds h =
-    let order : walk Descending r.entries ≡ Some (way_of r.stage) = sound.course.order in
-    leads_down s k o r lies workers stack e (no_base r.stage r.entries order (ap (λ x. is_up (way_of x)) e)) (finds e) h
-leads_at s k o r lies drains workers PreRunning stack e sound finds h = leads_nowhere s k o r (Err status.WrongStep) workers refl h
-leads_at s k o r lies drains workers PreHeld stack e sound finds h = leads_nowhere s k o r (Ok action.Held) workers refl h
-leads_at s k o r lies drains workers InBase stack e sound finds h = leads_nowhere s k o r (Err status.WrongStep) workers refl h
-leads_at s k o r lies drains workers Ascending stack e sound finds h = leads_up s k o r drains (slice_get (owed r.entries) 0) workers e h
-leads_at s k o r lies drains workers PostRunning stack e sound finds h = leads_nowhere s k o r (Err status.WrongStep) workers refl h
-leads_at s k o r lies drains workers PostHeld stack e sound finds h = leads_nowhere s k o r (Ok action.Held) workers refl h
-leads_at s k o r lies drains workers (InDrain i) stack e sound finds h = leads_nowhere s k o r (Err status.WrongStep) workers refl h
+-- the worker goes in
+leads_in : (s : StackWorld) (k : WorkerId) (o : OpId) (r : FlowRecord) (turned : Turned) (workers : List Worker) (b : Worker) → is_running r.stage ≡ false
+    → after_next workers k o turned.reply ≡ put workers k b → Matches o b (spot_of turned.after) → ((i : ℕ) → is_in_setup i b ≡ false) → IsAmong s turned.after
+    → Leads s k o r turned workers
+leads_in s k o r turned workers b quiet goes matches outside among = record { among = among; how = inr (b, goes, matches_idle o r.stage r.entries quiet, matches, outside) }
 
 leads_of : (s : StackWorld) (k : WorkerId) (o : OpId) (r : FlowRecord) (lies : Below) (drains : Bool) (workers : List Worker) → IsStack s
     → flow.IsSound r → (r.stage ≡ Descending → LiesBelow s r lies) → IsAmong s r → Leads s k o r (next_of k lies drains r) workers
-leads_of s k o r lies drains workers stack sound finds h =
-    let P : Bool → Type 0 = λ b. Leads s k o r (cond b (record { reply = Err status.WrongStep; after = r }) (next_at k lies drains r r.stage)) workers in
-    elim (cases_Bool r.collected) [
-      | inl e ↦ subst P (sym e) (leads_nowhere s k o r (Err status.WrongStep) workers refl h)
-      | inr e ↦ subst P (sym e) (leads_at s k o r lies drains workers r.stage stack refl sound finds h)
-    ]
+leads_of s k o r lies drains workers stack sound finds h = each_turn (λ t. Leads s k o r t workers) k lies drains r (record {
+  rests = λ reply nothing. record { among = h; how = inl (nobody_goes reply nothing, λ x. refl) };
+  calls = λ i p e is.
+      let visit : PreVisit = record { instance = i; worker = k; state = PreState.Running; place = length r.kept } in
+      leads_in s k o r (call_pre k i r (Some p)) workers (Worker.Pre o i) (ap is_running e) refl
+      (subst (Matches o (Worker.Pre o i)) (sym (ap (option_map AtPre) (visit_last r.entries visit))) (matches_pre o i)) (λ j. refl)
+      (among_visits s r.volume r.born r.operation r.entries r.stage PreRunning visit stack (none e) (λ x. absurd (apart PreRunning refl x)) (below e is).0 h);
+  skips = λ i e is. record {
+    among = among_visits s r.volume r.born r.operation r.entries r.stage Descending (record { instance = i; worker = k; state = bare_ask; place = length r.kept }) stack (none e)
+        (λ x. absurd (apart Descending refl x)) (below e is).0 h;
+    how = inl (refl, nowhere e);
+  };
+  asks = λ p e is.
+      leads_in s k o r (call_base r (Some p)) workers (Worker.Base o) (ap is_running e) refl (matches_base o) (λ j. refl)
+      (record { descent = h.descent; room = h.room; there = h.there; base = λ x. below e is });
+  knows = λ why e is. record {
+    among = among_base s r.volume r.born r.operation r.entries r.stage why 0 (none e) (below e is) h;
+    how = inl (refl, nowhere e);
+  };
+  drains = λ ask e.
+      leads_in s k o r (turn (Ok (FlowAction.Drain ask.instance ask.completion)) (with_drain ask.instance (InDrain ask.instance) r)) workers (Worker.Drain o ask.instance)
+      (ap is_running e) refl (matches_drain o ask.instance) (λ j. refl)
+      (among_other s r.volume r.born r.operation r.entries r.stage (InDrain ask.instance) (Drain (record { instance = ask.instance; is_running = true })) refl refl
+      (λ x. absurd (apart (InDrain ask.instance) refl x)) h);
+  posts = λ ask m kept p e.
+      let visit : PostVisit = record { instance = ask.instance; worker = k; state = PostState.Running } in
+      leads_in s k o r (give_post k ask (record r { params = m; kept = kept }) (Some p)) workers (Worker.Post o ask.instance) (ap is_running e) refl
+      (subst (Matches o (Worker.Post o ask.instance)) (sym (ap (option_map AtPost) (post_last r.entries visit))) (matches_post o ask.instance)) (λ j. refl)
+      (among_other s r.volume r.born r.operation r.entries r.stage PostRunning (Post visit) refl refl (λ x. absurd (apart PostRunning refl x)) h);
+})
+  where
+    nobody_goes : (reply : Result FlowAction Status) → gives_nothing reply ≡ true → after_next workers k o reply ≡ workers
+    nobody_goes (Ok FlowAction.Held) nothing = refl
+    nobody_goes (Ok FlowAction.Done) nothing = refl
+    nobody_goes (Err why) nothing = refl
+    nobody_goes _ nothing = absurd (false≢true nothing)
+
+    none : r.stage ≡ Descending → has_base r.entries ≡ false
+    none e = no_base r.stage r.entries sound.course.order (ap (λ x. is_up (way_of x)) e)
+
+    below : {l : Below} → r.stage ≡ Descending → lies ≡ l → LiesBelow s r l
+    below e is = subst (LiesBelow s r) is (finds e)
+
+    -- a stage that isn't the base's
+    apart : (stage : Stage) → is_in_base stage ≡ false → stage ≡ InBase → ⊥
+    apart stage other x = false≢true (sym other ∙ ap is_in_base x)
+
+    nowhere : r.stage ≡ Descending → (x : Spot) → is_spot x None ≡ is_spot x (spot_of r)
+    nowhere e x = ap (is_spot x) (sym (quiet_is_nowhere r.stage r.entries (ap is_running e)))
 
 times_unseen : (i : ℕ) (xs : List ℕ) → is_among xs i ≡ false → times i xs ≡ 0
 times_unseen i [] h = refl
@@ -417,15 +220,12 @@ times_unseen i (x ∷ xs) h =
     omega (arith, here, times_unseen i xs (or_right (x == i) (is_among xs i) h))
 
 pub may_visit : (s : StackWorld) (r : FlowRecord) (lies : Below) → IsAmong s r → LiesBelow s r lies → MayLieBelow lies r.entries
-may_visit s r (below.Instance i is_called) h lies = (
+may_visit s r (Below.Instance i is_called) h lies = (
   times_unseen i.0 (visited r.entries) (next_unseen s r.volume r.born r.operation (visited r.entries) i.0 (has_base r.entries) h.descent lies.0),
   room_is s r.volume r.born r.operation (visited r.entries) i.0 h.room lies.0,
 )
-may_visit s r below.Call h lies = tt
-may_visit s r (below.Known status) h lies = tt
-
-pub unchanged_flow : (t : FlowTable) (o : OpId) (f : FlowRecord → FlowRecord) → operation_at o t ≡ None → changed o f t ≡ t
-unchanged_flow t o f h = ap (λ (rs : List FlowRecord). record t { operations = rs }) (change_none (is_number o) f t.operations h)
+may_visit s r Below.Call h lies = tt
+may_visit s r (Below.Known status) h lies = tt
 
 -- one operation changes, a worker with it
 step_keeps : (w : World) (o : OpId) (r : FlowRecord) (f : FlowRecord → FlowRecord) (workers : List Worker) → operation_at o w.flow ≡ Some r
@@ -440,264 +240,183 @@ step_keeps w o r f workers at number collected sound among hands tied drained se
     (λ x e. subst (λ y. IsAmong w.stack (f y)) (same_Some r x (sym at ∙ e)) among) s.among)
     hands tied drained setups s
 
--- no worker goes into or out of a setup callback
-pub setups_stay : (workers : List Worker) (k : WorkerId) (a b : Worker) → worker_at workers k ≡ Some a → ((i : ℕ) → is_in_setup i a ≡ false)
-    → ((i : ℕ) → is_in_setup i b ≡ false) → (i : ℕ) → count_by (is_in_setup i) (put workers k b) ≡ count_by (is_in_setup i) workers
-setups_stay workers k a b h na nb i =
-    let moves = count_moves (is_in_setup i) workers k a b h in
-    let from : one (is_in_setup i a) ≡ 0 = ap one (na i) in
-    let to : one (is_in_setup i b) ≡ 0 = ap one (nb i) in
-    omega (arith, moves, from, to)
-
--- nothing changes where there is no such operation
-pub not_there : (old : World) (k : WorkerId) (o : OpId) (lies : Below) (result : Result FlowAction Status) → operation_at o old.flow ≡ None → result ≡ Err status.WrongStep
-    → record old {
-      flow = flow_after_next old k o lies;
-      workers = after_next old.workers k o result;
-      contexts = received old.contexts k result;
-      files = filed_next old o (flow_after_next old k o lies) result lies;
-    } ≡ old
-not_there old k o lies result at reply =
-    ap (λ t. record old { flow = t; workers = after_next old.workers k o result; contexts = received old.contexts k result; files = filed_next old o t result lies })
-    (unchanged_flow old.flow o (λ (x : FlowRecord). (next_of k lies (drains_at old o) x).after) at)
-    ∙ ap (λ x. record old { workers = after_next old.workers k o x; contexts = received old.contexts k x; files = filed_next old o old.flow x lies }) reply
-
-next_there : (old : World) (k : WorkerId) (o : OpId) (lies : Below) (result : Result FlowAction Status) (new : World) (m : Option FlowRecord)
-    → operation_at o old.flow ≡ m → worker_at old.workers k ≡ Some place.Idle → FindsBelow old.stack old.files old.flow m lies → NextsOver old k o lies result new
-    → IsUnderWay old → IsUnderWay new
-next_there old k o lies result new None at idle finds h s =
-    let d = drains_at old o in
-    let f = λ (x : FlowRecord). (next_of k lies d x).after in
-    let reply : result ≡ Err status.WrongStep =
-    h.0 ∙ ap (λ m. unwrap_or (option_map (λ (x : FlowRecord). (next_of k lies d x).reply) m) (Err status.WrongStep)) at in
-    subst IsUnderWay (sym (h.1 ∙ not_there old k o lies result at reply)) s
-next_there old k o lies result new (Some r) at idle finds h s =
-    let d = drains_at old o in
-    let f = λ (x : FlowRecord). (next_of k lies d x).after in
-    let reply : result ≡ (next_of k lies d r).reply =
-    h.0 ∙ ap (λ m. unwrap_or (option_map (λ (x : FlowRecord). (next_of k lies d x).reply) m) (Err status.WrongStep)) at in
-    let sound = found_holds flow.IsSound (is_number o) old.flow.operations r s.flow.sound at in
-    let among = found_holds (IsAmong old.stack) (is_number o) old.flow.operations r s.among at in
-    let leads = leads_of old.stack k o r lies d old.workers s.stack sound (λ e. (finds e).0) among in
-    let after = after_next old.workers k o (next_of k lies d r).reply in
-    let filed = filed_next old o (changed o f old.flow) result lies in
-    let drained = next_drained old.workers old.flow k o lies d r idle at (next_number k lies d) s.drains in
-    let built : (ws : List Worker) → after ≡ ws → length ws ≡ 48 → AreTied ws (changed o f old.flow)
-    → ((i : ℕ) → count_by (is_in_setup i) ws ≡ count_by (is_in_setup i) old.workers) → IsUnderWay new =
-    λ ws e hands tied setups. subst IsUnderWay
-    (sym (h.1 ∙ ap (λ x. record old { flow = changed o f old.flow; workers = x; contexts = received old.contexts k result; files = filed }) (ap (after_next old.workers k o) reply ∙ e)))
-    (whatever_files (record old { flow = changed o f old.flow; workers = ws }) (received old.contexts k result) filed
-    (step_keeps old o r f ws at (next_number k lies d) (next_collected k lies d) (sound_next k lies d r sound (λ e. may_visit old.stack r lies among (finds e).0))
-    leads.among hands tied (subst (λ (x : List Worker). AreDrained x (changed o f old.flow)) e drained) setups s)) in
-    elim leads.how [
-      | inl stays ↦ built old.workers stays.0 s.hands (tied_stays old.workers old.flow o r f at (next_number k lies d) stays.1 s.workers) (λ i. refl)
-      | inr goes ↦ built (put old.workers k goes.0) goes.1 (length-set old.workers k.0 goes.0 ∙ s.hands)
-          (tied_moves old.workers old.flow k place.Idle goes.0 o r f idle at (next_number k lies d) goes.2 goes.3 s.workers)
-          (setups_stay old.workers k place.Idle goes.0 idle (λ i. refl) goes.4)
-    ]
-
-pub next_keeps : (old : World) (k : WorkerId) (o : OpId) (result : Result FlowAction Status) (new : World) → Nexts old k o result new → IsUnderWay old → IsUnderWay new
-unfolding Nexts
-next_keeps old k o result new h s =
-    unless_cases IsUnderWay status.WrongStep (is_idle (worker_at old.workers k)) result old new
-    (NextsAt old k o result new) h
-    (λ idle event.
-    let there = next_there old k o event.0 result event.2 (operation_at o old.flow) refl (idle_there old.workers k idle) event.1 event.3 s in
-    known_cases IsUnderWay result event.0 event.2 new event.4 (λ loses. loses_under_way event.2 new loses there) there) s
-
--- ---- callbacks and calls return
-
--- a worker leaves an operation, which then stands where no worker is inside it
-return_keeps : (old : World) (k : WorkerId) (a : Worker) (o : OpId) (r : FlowRecord) (f : FlowRecord → FlowRecord) (n : ℕ → ℕ) → worker_at old.workers k ≡ Some a
-    → operation_at o old.flow ≡ Some r → ((x : FlowRecord) → (f x).number.0 ≡ x.number.0) → ((x : FlowRecord) → (f x).collected ≡ x.collected)
-    → Matches o a (spot_of r) → is_running (f r).stage ≡ false → InDrains o a n → ((i : ℕ) → drain_opens i (f r).entries + n i ≡ drain_opens i r.entries)
-    → ((i : ℕ) → is_in_setup i a ≡ false) → flow.IsSound (f r) → IsAmong old.stack (f r) → IsUnderWay old → IsUnderWay (returned old k o f)
-return_keeps old k a o r f n at there number collected matches quiet from even outside sound among s =
-    step_keeps old o r f (put old.workers k place.Idle) there number collected sound among (length-set old.workers k.0 place.Idle ∙ s.hands)
-    (tied_moves old.workers old.flow k a place.Idle o r f at there number matches (matches_idle o (f r).stage (f r).entries quiet) s.workers)
-    (drained_moves old.workers old.flow k a place.Idle o r f n (λ i. 0) at there number from (in_no_drain o place.Idle (λ p i. refl)) (λ i. omega (arith, even i)) s.drains)
-    (setups_stay old.workers k a place.Idle at outside (λ i. refl)) s
-
 -- what is told of an operation that is there
 pub told_there : {A : Type 0} (read : FlowRecord → A) (other : A) (o : OpId) (t : FlowTable) (r : FlowRecord) → operation_at o t ≡ Some r → told read other o t ≡ read r
 told_there read other o t r h = ap (λ m. unwrap_or (option_map read m) other) h
 
+pub next_keeps : (old : World) (k : WorkerId) (o : OpId) (result : Result FlowAction Status) (new : World) (e : Turns old k o result new) → IsUnderWay old → IsUnderWay e.mid
+next_keeps old k o result new e s =
+    let r = e.row in
+    let d = drains_at old o in
+    let f = λ (x : FlowRecord). (next_of k e.lies d x).after in
+    let sound = found_holds flow.IsSound (is_number o) old.flow.operations r s.flow.sound e.at in
+    let among = found_holds (IsAmong old.stack) (is_number o) old.flow.operations r s.among e.at in
+    let leads = leads_of old.stack k o r e.lies d old.workers s.stack sound e.finds among in
+    let filed = filed_next old o (changed o f old.flow) result e.lies in
+    let number : (x : FlowRecord) → (f x).number.0 ≡ x.number.0 = λ x. (next_stays k e.lies d x).number in
+    let drained = next_drained old.workers old.flow k o e.lies d r e.idle e.at number s.drains in
+    let built : (ws : List Worker) → after_next old.workers k o (next_of k e.lies d r).reply ≡ ws → length ws ≡ 48 → AreTied ws (changed o f old.flow)
+    → ((i : ℕ) → count_by (is_in_setup i) ws ≡ count_by (is_in_setup i) old.workers) → IsUnderWay e.mid =
+    λ ws is hands tied setups. subst IsUnderWay
+    (sym (e.over.1 ∙ ap (λ x. record old { flow = changed o f old.flow; workers = x; contexts = received old.contexts k result; files = filed }) (ap (after_next old.workers k o) e.reply ∙ is)))
+    (whatever_files (record old { flow = changed o f old.flow; workers = ws }) (received old.contexts k result) filed
+    (step_keeps old o r f ws e.at number (λ x. (next_stays k e.lies d x).collected) (sound_next k e.lies d r sound (λ down. may_visit old.stack r e.lies among (e.finds down)))
+    leads.among hands tied (subst (λ (x : List Worker). AreDrained x (changed o f old.flow)) is drained) setups s)) in
+    elim leads.how [
+      | inl stays ↦ built old.workers stays.0 s.hands (tied_stays old.workers old.flow o r f e.at number stays.1 s.workers) (λ i. refl)
+      | inr goes ↦ built (put old.workers k goes.0) goes.1 (length-set old.workers k.0 goes.0 ∙ s.hands)
+          (tied_moves old.workers old.flow k Worker.Idle goes.0 o r f e.idle e.at number goes.2 goes.3 s.workers)
+          (λ i. count_stays (is_in_setup i) old.workers k Worker.Idle goes.0 e.idle refl (goes.4 i))
+    ]
+
+-- ---- callbacks and calls return
+
+-- the operation that a worker is inside of, by its spot
+pub record Inside (w : World) (o : OpId) (spot : Spot) : Type 0 where
+  pub row : FlowRecord
+  pub at : operation_at o w.flow ≡ Some row
+  pub stands : is_spot spot (spot_of row) ≡ true
+  pub sound : flow.IsSound row
+  pub among : IsAmong w.stack row
+
+inside : (w : World) (k : WorkerId) (a : Worker) (o : OpId) (spot : Spot) → worker_at w.workers k ≡ Some a → is_in_at o spot a ≡ true → IsUnderWay w → Inside w o spot
+inside w k a o spot at is s =
+    let there = tied_there w.workers w.flow k a o spot s.workers at is in
+    record {
+      row = there.0;
+      at = there.1;
+      stands = there.2;
+      sound = found_holds flow.IsSound (is_number o) w.flow.operations there.0 s.flow.sound there.1;
+      among = found_holds (IsAmong w.stack) (is_number o) w.flow.operations there.0 s.among there.1;
+    }
+
+both_same : (o : OpId) (i : InstanceId) → (o.0 == o.0) && (i.0 == i.0) ≡ true
+both_same o i = and_from (o.0 == o.0) (i.0 == i.0) (eq-eqb o.0 o.0 refl) (eq-eqb i.0 i.0 refl)
+
+pub inside_pre : (w : World) (k : WorkerId) (o : OpId) (i : InstanceId) → worker_at w.workers k ≡ Some (Worker.Pre o i) → IsUnderWay w
+    → (x : Inside w o (AtPre i.0)) × (x.row.stage ≡ PreRunning) × (last_visited x.row.entries ≡ Some i.0)
+inside_pre w k o i at s =
+    let x = inside w k (Worker.Pre o i) o (AtPre i.0) at (both_same o i) s in
+    let spot = spot_pre i.0 x.row.stage x.row.entries x.stands in
+    (x, spot.0, spot.1)
+
+pub inside_base : (w : World) (k : WorkerId) (o : OpId) → worker_at w.workers k ≡ Some (Worker.Base o) → IsUnderWay w → (x : Inside w o AtBase) × (x.row.stage ≡ InBase)
+inside_base w k o at s = let x = inside w k (Worker.Base o) o AtBase at (eq-eqb o.0 o.0 refl) s in (x, spot_base x.row.stage x.row.entries x.stands)
+
+pub inside_post : (w : World) (k : WorkerId) (o : OpId) (i : InstanceId) → worker_at w.workers k ≡ Some (Worker.Post o i) → IsUnderWay w
+    → (x : Inside w o (AtPost i.0)) × (x.row.stage ≡ PostRunning) × (last_posted x.row.entries ≡ Some i.0)
+inside_post w k o i at s =
+    let x = inside w k (Worker.Post o i) o (AtPost i.0) at (both_same o i) s in
+    let spot = spot_post i.0 x.row.stage x.row.entries x.stands in
+    (x, spot.0, spot.1)
+
+pub inside_drain : (w : World) (k : WorkerId) (o : OpId) (i : InstanceId) → worker_at w.workers k ≡ Some (Worker.Drain o i) → IsUnderWay w
+    → (x : Inside w o (AtDrain i.0)) × (x.row.stage ≡ InDrain i)
+inside_drain w k o i at s = let x = inside w k (Worker.Drain o i) o (AtDrain i.0) at (both_same o i) s in (x, spot_drain i x.row.stage x.row.entries x.stands)
+
+-- a worker leaves an operation, which then stands where no worker is inside it; contexts, streams and handles don't matter
+return_keeps : (old : World) (k : WorkerId) (a : Worker) (o : OpId) (r : FlowRecord) (f : FlowRecord → FlowRecord) (n : ℕ → ℕ) (t : ContextTable) (files : FileTable)
+    → worker_at old.workers k ≡ Some a
+    → operation_at o old.flow ≡ Some r → ((x : FlowRecord) → (f x).number.0 ≡ x.number.0) → ((x : FlowRecord) → (f x).collected ≡ x.collected)
+    → Matches o a (spot_of r) → is_running (f r).stage ≡ false → InDrains o a n → ((i : ℕ) → drain_opens i (f r).entries + n i ≡ drain_opens i r.entries)
+    → ((i : ℕ) → is_in_setup i a ≡ false) → flow.IsSound (f r) → IsAmong old.stack (f r) → IsUnderWay old
+    → IsUnderWay (record (returned old k o f) { contexts = t; files = files })
+return_keeps old k a o r f n t files at there number collected matches quiet from even outside sound among s =
+    whatever_files (returned old k o f) t files
+    (step_keeps old o r f (put old.workers k Worker.Idle) there number collected sound among (length-set old.workers k.0 Worker.Idle ∙ s.hands)
+    (tied_moves old.workers old.flow k a Worker.Idle o r f at there number matches (matches_idle o (f r).stage (f r).entries quiet) s.workers)
+    (drained_moves old.workers old.flow k a Worker.Idle o r f n (λ i. 0) at there number from (in_no_drain o Worker.Idle (λ p i. refl)) (λ i. omega (arith, even i)) s.drains)
+    (λ i. count_stays (is_in_setup i) old.workers k a Worker.Idle at (outside i) refl) s)
+
 pub counted_quiet : (given : PreVerdict) (operation : Operation) (has_post : Bool) → is_running (pre_leads (verdict_counted given operation has_post)) ≡ false
-counted_quiet (verdict.WithCallback completion) operation true = refl
-counted_quiet (verdict.WithCallback completion) operation false = refl
-counted_quiet (verdict.Synchronize completion) operation true = refl
-counted_quiet (verdict.Synchronize completion) operation false = refl
-counted_quiet verdict.NoCallback operation b = refl
-counted_quiet verdict.Pending operation b = refl
-counted_quiet (verdict.Complete status) operation b = completed_quiet status operation
+counted_quiet (PreVerdict.WithCallback completion) operation true = refl
+counted_quiet (PreVerdict.WithCallback completion) operation false = refl
+counted_quiet (PreVerdict.Synchronize completion) operation true = refl
+counted_quiet (PreVerdict.Synchronize completion) operation false = refl
+counted_quiet (PreVerdict.Complete status) operation b = completed_quiet status operation
   where
     completed_quiet : (status : Status) (operation : Operation) → is_running (pre_leads (completed_as status operation)) ≡ false
-    completed_quiet status kind.Create = refl
-    completed_quiet status kind.Read = refl
-    completed_quiet status kind.Write = refl
-    completed_quiet status kind.QuerySize = refl
-    completed_quiet status kind.SetSize = refl
-    completed_quiet status kind.Flush = refl
-    completed_quiet status kind.List = refl
-    completed_quiet status kind.SetDelete = refl
-    completed_quiet status kind.Cleanup = refl
-    completed_quiet status kind.Close = refl
+    completed_quiet status Operation.Create = refl
+    completed_quiet status _ = refl
+counted_quiet _ operation b = refl
 
 not_base_of : (stage : Stage) → is_running stage ≡ false → stage ≡ InBase → ⊥
 not_base_of stage h e = false≢true (sym h ∙ ap is_running e)
 
-pre_at : (old : World) (k : WorkerId) (given : PreVerdict) (lent : Data) (result : Result (Unit {0}) Status) (new : World) (m : Option Worker)
-    → worker_at old.workers k ≡ m → PreReturnsAt old k given lent result new m → IsUnderWay old → IsUnderWay new
-pre_at old k given lent result new (Some (place.Pre o i)) at h s =
-    let there = tied_there old.workers old.flow k (place.Pre o i) o (AtPre i.0) s.workers at (and_from (o.0 == o.0) (i.0 == i.0) (eq-eqb o.0 o.0 refl) (eq-eqb i.0 i.0 refl)) in
-    let r = there.0 in
-    let spot = spot_pre i.0 r.stage r.entries there.2 in
-    let stage : r.stage ≡ PreRunning = spot.0 in
+pub pre_keeps : (old : World) (k : WorkerId) (o : OpId) (i : InstanceId) (given : PreVerdict) (lent : Data) (t : ContextTable) (files : FileTable)
+    → worker_at old.workers k ≡ Some (Worker.Pre o i) → told (λ r. data_fits r.operation r.path lent) false o old.flow ≡ true → IsUnderWay old
+    → IsUnderWay (record (returned old k o (pre_step old k o i given lent)) { contexts = t; files = files })
+pre_keeps old k o i given lent t files at fits s =
+    let x = inside_pre old k o i at s in
+    let r = x.0.row in
     let hand = hand_of old.contexts.hands k.0 in
     let state = state_at old k o i given in
     let quiet : is_running (pre_leads state) ≡ false =
-    ap (λ x. is_running (pre_leads x)) (told_there (state_given old.stack hand i given) pre.Passed o old.flow r there.1)
+    ap (λ x. is_running (pre_leads x)) (told_there (state_given old.stack hand i given) PreState.Passed o old.flow r x.0.at)
     ∙ counted_quiet (of_hand hand given) r.operation (has_post old.stack (slice_get old.stack.instances i.0) r.operation) in
-    let sound = found_holds flow.IsSound (is_number o) old.flow.operations r s.flow.sound there.1 in
-    let among = found_holds (IsAmong old.stack) (is_number o) old.flow.operations r s.among there.1 in
-    unless_cases IsUnderWay status.BadRequest (told (λ r. data_fits r.operation r.path lent) false o old.flow) result old new
-    ((result ≡ Ok tt) × PreReturnsOver old k o (pre_returned_of state lent) state new) h
-    (λ fits event. loses_under_way event.1.0 new event.1.2 (subst IsUnderWay (sym event.1.1.1)
-    (whatever_files (returned old k o (pre_returned_of state lent)) event.1.0.contexts (filed_pre old o (changed o (pre_returned_of state lent) old.flow) state)
-    (return_keeps old k (place.Pre o i) o r (pre_returned_of state lent) (λ j. 0) at there.1 (λ x. refl) (λ x. refl)
-    (subst (Matches o (place.Pre o i)) (sym (ap (λ a. spot_at a r.entries) stage ∙ ap (option_map AtPre) spot.1)) (matches_pre o i)) quiet
-    (in_no_drain o (place.Pre o i) (λ p j. refl)) (λ j. omega (arith, drains_pre_settled j state r.entries)) (λ j. refl)
-    (sound_pre_returned state lent r stage (counted_from state quiet) (sym (told_there (λ (x : FlowRecord). data_fits x.operation x.path lent) false o old.flow r there.1) ∙ fits) sound)
-    (among_settles old.stack r.volume r.born r.operation r.entries r.stage (pre_leads state) (settle_pre state) (settle_pre_visit state) (settle_pre_base state)
-    (not_base_of (pre_leads state) quiet) among) s)))) s
-pre_at old k given lent result new (Some place.Idle) at h s = subst IsUnderWay (sym h.1) s
-pre_at old k given lent result new (Some (place.EarlyDrain o i)) at h s = subst IsUnderWay (sym h.1) s
-pre_at old k given lent result new (Some (place.Setup i)) at h s = subst IsUnderWay (sym h.1) s
-pre_at old k given lent result new (Some (place.Base o)) at h s = subst IsUnderWay (sym h.1) s
-pre_at old k given lent result new (Some (place.Post o i)) at h s = subst IsUnderWay (sym h.1) s
-pre_at old k given lent result new (Some (place.Cleanup c)) at h s = subst IsUnderWay (sym h.1) s
-pre_at old k given lent result new (Some (place.Drain o i)) at h s = subst IsUnderWay (sym h.1) s
-pre_at old k given lent result new None at h s = subst IsUnderWay (sym h.1) s
+    return_keeps old k (Worker.Pre o i) o r (pre_returned_of state lent) (λ j. 0) t files at x.0.at (λ x. refl) (λ x. refl)
+    (subst (Matches o (Worker.Pre o i)) (sym (ap (λ a. spot_at a r.entries) x.1 ∙ ap (option_map AtPre) x.2)) (matches_pre o i)) quiet
+    (in_no_drain o (Worker.Pre o i) (λ p j. refl)) (λ j. omega (arith, drains_pre_settled j state r.entries)) (λ j. refl)
+    (sound_pre_returned state lent r x.1 (counted_from state quiet) (sym (told_there (λ (x : FlowRecord). data_fits x.operation x.path lent) false o old.flow r x.0.at) ∙ fits) x.0.sound)
+    (among_settles old.stack r.volume r.born r.operation r.entries r.stage (pre_leads state) (settle_pre state) (settle_pre_keeps state)
+    (not_base_of (pre_leads state) quiet) x.0.among) s
 
-pub pre_keeps : (old : World) (k : WorkerId) (given : PreVerdict) (lent : Data) (result : Result (Unit {0}) Status) (new : World)
-    → PreReturns old k given lent result new → IsUnderWay old → IsUnderWay new
-unfolding PreReturns
-pre_keeps old k given lent result new h s = pre_at old k given lent result new (worker_at old.workers k) refl h s
-
-base_at : (old : World) (k : WorkerId) (call : BaseCall) (given : Answer) (result : Result (Unit {0}) Status) (new : World) (m : Option Worker)
-    → worker_at old.workers k ≡ m → BaseReturnsAt old k call given result new m → IsUnderWay old → IsUnderWay new
-base_at old k call given result new (Some (place.Base o)) at h s =
-    let there = tied_there old.workers old.flow k (place.Base o) o AtBase s.workers at (eq-eqb o.0 o.0 refl) in
-    let r = there.0 in
-    let stage : r.stage ≡ InBase = spot_base r.stage r.entries there.2 in
-    let sound = found_holds flow.IsSound (is_number o) old.flow.operations r s.flow.sound there.1 in
-    let among = found_holds (IsAmong old.stack) (is_number o) old.flow.operations r s.among there.1 in
-    let none = no_base r.stage r.entries sound.course.order (ap (λ x. is_up (way_of x)) stage) in
+pub base_keeps : (old : World) (k : WorkerId) (o : OpId) (call : BaseCall) (given : Answer) (t : ContextTable) (files : FileTable)
+    → worker_at old.workers k ≡ Some (Worker.Base o) → told (base_fits call given) false o old.flow ≡ true → IsUnderWay old
+    → IsUnderWay (record (returned old k o (base_step old call given)) { contexts = t; files = files })
+base_keeps old k o call given t files at fits s =
+    let x = inside_base old k o at s in
+    let r = x.0.row in
+    let none = no_base r.stage r.entries x.0.sound.course.order (ap (λ x. is_up (way_of x)) x.1) in
     let handle : HandleId = record { 0 = old.files.next } in
-    let step = base_step old call given in
     let counts = base_counted call.params given handle in
-    unless_cases IsUnderWay status.BadRequest (told (base_fits call given) false o old.flow) result old new
-    ((result ≡ Ok tt) × LosesLinks (base_returned old k o call given) new) h
-    (λ fits event. loses_under_way (base_returned old k o call given) new event.1 (whatever_files (returned old k o step) old.contexts (filed_base old o (changed o step old.flow) given.status)
-    (return_keeps old k (place.Base o) o r step (λ j. 0) at there.1 (λ x. refl) (λ x. refl)
-    (subst (Matches o (place.Base o)) (sym (ap (λ a. spot_at a r.entries) stage)) (matches_base o)) refl
-    (in_no_drain o (place.Base o) (λ p j. refl)) (λ j. omega (arith, drains_push j r.entries (Base counts.status counts.information))) (λ j. refl)
-    (sound_base call given handle r stage (sym (told_there (base_fits call given) false o old.flow r there.1) ∙ fits) sound)
-    (among_base old.stack r.volume r.born r.operation r.entries r.stage counts.status counts.information none (among.base stage) among) s))) s
-base_at old k call given result new (Some place.Idle) at h s = subst IsUnderWay (sym h.1) s
-base_at old k call given result new (Some (place.EarlyDrain o i)) at h s = subst IsUnderWay (sym h.1) s
-base_at old k call given result new (Some (place.Setup i)) at h s = subst IsUnderWay (sym h.1) s
-base_at old k call given result new (Some (place.Pre o i)) at h s = subst IsUnderWay (sym h.1) s
-base_at old k call given result new (Some (place.Post o i)) at h s = subst IsUnderWay (sym h.1) s
-base_at old k call given result new (Some (place.Cleanup c)) at h s = subst IsUnderWay (sym h.1) s
-base_at old k call given result new (Some (place.Drain o i)) at h s = subst IsUnderWay (sym h.1) s
-base_at old k call given result new None at h s = subst IsUnderWay (sym h.1) s
-
-pub base_keeps : (old : World) (k : WorkerId) (call : BaseCall) (given : Answer) (result : Result (Unit {0}) Status) (new : World)
-    → BaseReturns old k call given result new → IsUnderWay old → IsUnderWay new
-unfolding BaseReturns
-base_keeps old k call given result new h s = base_at old k call given result new (worker_at old.workers k) refl h s
+    return_keeps old k (Worker.Base o) o r (base_step old call given) (λ j. 0) t files at x.0.at (λ x. refl) (λ x. refl)
+    (subst (Matches o (Worker.Base o)) (sym (ap (λ a. spot_at a r.entries) x.1)) (matches_base o)) refl
+    (in_no_drain o (Worker.Base o) (λ p j. refl)) (λ j. omega (arith, drains_push j r.entries (Base counts.status counts.information))) (λ j. refl)
+    (sound_base call given handle r x.1 (sym (told_there (base_fits call given) false o old.flow r x.0.at) ∙ fits) x.0.sound)
+    (among_base old.stack r.volume r.born r.operation r.entries r.stage counts.status counts.information none (x.0.among.base x.1) x.0.among) s
 
 post_quiet : (given : PostVerdict) → is_running (post_leads (post_state given)) ≡ false
-post_quiet answer.Finished = refl
-post_quiet answer.MoreProcessing = refl
+post_quiet PostVerdict.Finished = refl
+post_quiet PostVerdict.MoreProcessing = refl
 
-post_given : (old : World) (k : WorkerId) (o : OpId) (i : InstanceId) (given : PostVerdict) (lent : Data) (result : Result (Unit {0}) Status) (new : World)
-    → worker_at old.workers k ≡ Some (place.Post o i) → PostReturnsAt old k given (Some lent) result new (Some (place.Post o i)) → IsUnderWay old → IsUnderWay new
-post_given old k o i given lent result new at h s =
-    let there = tied_there old.workers old.flow k (place.Post o i) o (AtPost i.0) s.workers at (and_from (o.0 == o.0) (i.0 == i.0) (eq-eqb o.0 o.0 refl) (eq-eqb i.0 i.0 refl)) in
-    let r = there.0 in
-    let spot = spot_post i.0 r.stage r.entries there.2 in
-    let stage : r.stage ≡ PostRunning = spot.0 in
+pub post_keeps : (old : World) (k : WorkerId) (o : OpId) (i : InstanceId) (given : PostVerdict) (lent : Data) (t : ContextTable)
+    → worker_at old.workers k ≡ Some (Worker.Post o i) → told (λ r. data_fits r.operation r.path lent) false o old.flow ≡ true → IsUnderWay old
+    → IsUnderWay (record (returned old k o (post_returned_of given lent)) { contexts = t })
+post_keeps old k o i given lent t at fits s =
+    let x = inside_post old k o i at s in
+    let r = x.0.row in
     let state = post_state given in
-    let sound = found_holds flow.IsSound (is_number o) old.flow.operations r s.flow.sound there.1 in
-    let among = found_holds (IsAmong old.stack) (is_number o) old.flow.operations r s.among there.1 in
-    unless_cases IsUnderWay status.BadRequest (told (λ r. data_fits r.operation r.path lent) false o old.flow) result old new
-    ((result ≡ Ok tt) × ReturnsFrom old k o (post_returned_of given lent) old.contexts new) h
-    (λ fits event. subst IsUnderWay (sym event.1.1) (whatever_contexts (returned old k o (post_returned_of given lent)) new.contexts old.totals
-    (return_keeps old k (place.Post o i) o r (post_returned_of given lent) (λ j. 0) at there.1 (λ x. refl) (λ x. refl)
-    (subst (Matches o (place.Post o i)) (sym (ap (λ a. spot_at a r.entries) stage ∙ ap (option_map AtPost) spot.1)) (matches_post o i)) (post_quiet given)
-    (in_no_drain o (place.Post o i) (λ p j. refl)) (λ j. omega (arith, drains_post_settled j state r.entries)) (λ j. refl)
-    (sound_post_returned given lent r stage (sym (told_there (λ (x : FlowRecord). data_fits x.operation x.path lent) false o old.flow r there.1) ∙ fits) sound)
-    (among_settles old.stack r.volume r.born r.operation r.entries r.stage (post_leads state) (settle_post state) (settle_post_visit state) (settle_post_base state)
-    (not_base_of (post_leads state) (post_quiet given)) among) s))) s
+    return_keeps old k (Worker.Post o i) o r (post_returned_of given lent) (λ j. 0) t old.files at x.0.at (λ x. refl) (λ x. refl)
+    (subst (Matches o (Worker.Post o i)) (sym (ap (λ a. spot_at a r.entries) x.1 ∙ ap (option_map AtPost) x.2)) (matches_post o i)) (post_quiet given)
+    (in_no_drain o (Worker.Post o i) (λ p j. refl)) (λ j. omega (arith, drains_post_settled j state r.entries)) (λ j. refl)
+    (sound_post_returned given lent r x.1 (sym (told_there (λ (x : FlowRecord). data_fits x.operation x.path lent) false o old.flow r x.0.at) ∙ fits) x.0.sound)
+    (among_settles old.stack r.volume r.born r.operation r.entries r.stage (post_leads state) (settle_post state) (settle_post_keeps state)
+    (not_base_of (post_leads state) (post_quiet given)) x.0.among) s
 
-drain_given : (old : World) (k : WorkerId) (o : OpId) (i : InstanceId) (new : World) → worker_at old.workers k ≡ Some (place.Drain o i)
-    → ReturnsFrom old k o (drain_returned_of i) old.contexts new → IsUnderWay old → IsUnderWay new
-drain_given old k o i new at e s =
-    let there = tied_there old.workers old.flow k (place.Drain o i) o (AtDrain i.0) s.workers at (and_from (o.0 == o.0) (i.0 == i.0) (eq-eqb o.0 o.0 refl) (eq-eqb i.0 i.0 refl)) in
-    let r = there.0 in
-    let stage : r.stage ≡ InDrain i = spot_drain i r.stage r.entries there.2 in
-    let sound = found_holds flow.IsSound (is_number o) old.flow.operations r s.flow.sound there.1 in
-    let among = found_holds (IsAmong old.stack) (is_number o) old.flow.operations r s.among there.1 in
-    let runs = subst (λ x. flow.HasItsDrain x r.entries) stage sound.course.drain in
+pub drain_keeps : (old : World) (k : WorkerId) (o : OpId) (i : InstanceId) (t : ContextTable) → worker_at old.workers k ≡ Some (Worker.Drain o i) → IsUnderWay old
+    → IsUnderWay (record (returned old k o (drain_returned_of i)) { contexts = t })
+drain_keeps old k o i t at s =
+    let x = inside_drain old k o i at s in
+    let r = x.0.row in
+    let runs = subst (λ x. flow.HasItsDrain x r.entries) x.1 x.0.sound.course.drain in
     let even : (j : ℕ) → drain_opens j (drain_returned_of i r).entries + one (i.0 == j) ≡ drain_opens j r.entries = λ j.
     let ends : cond (i.0 == j) (drain_opens i.0 r.entries) 0 ≡ one (i.0 == j) = ap (λ n. cond (i.0 == j) n 0) runs in
     omega (arith, drains_drain_settled i.0 j r.entries, ends) in
-    subst IsUnderWay (sym e.1) (whatever_contexts (returned old k o (drain_returned_of i)) new.contexts old.totals
-    (return_keeps old k (place.Drain o i) o r (drain_returned_of i) (λ j. one (i.0 == j)) at there.1 (λ x. refl) (λ x. refl)
-    (subst (Matches o (place.Drain o i)) (sym (ap (λ a. spot_at a r.entries) stage)) (matches_drain o i)) refl (in_a_drain o i) even (λ j. refl) (sound_drain_returned i r stage sound)
-    (among_settles old.stack r.volume r.born r.operation r.entries r.stage Ascending (settle_drain i.0) (settle_drain_visit i.0) (settle_drain_base i.0)
-    (not_base_of Ascending refl) among) s))
-
-post_at : (old : World) (k : WorkerId) (given : PostVerdict) (lent : Option Data) (result : Result (Unit {0}) Status) (new : World) (m : Option Worker)
-    → worker_at old.workers k ≡ m → PostReturnsAt old k given lent result new m → IsUnderWay old → IsUnderWay new
-post_at old k given (Some lent) result new (Some (place.Post o i)) at h s = post_given old k o i given lent result new at h s
-post_at old k given None result new (Some (place.Post o i)) at h s = subst IsUnderWay (sym h.1) s
-post_at old k given None result new (Some (place.Drain o i)) at h s = drain_given old k o i new at h.1 s
-post_at old k given (Some lent) result new (Some (place.Drain o i)) at h s = subst IsUnderWay (sym h.1) s
-post_at old k given (Some lent) result new (Some place.Idle) at h s = subst IsUnderWay (sym h.1) s
-post_at old k given (Some lent) result new (Some (place.EarlyDrain o i)) at h s = subst IsUnderWay (sym h.1) s
-post_at old k given (Some lent) result new (Some (place.Setup i)) at h s = subst IsUnderWay (sym h.1) s
-post_at old k given (Some lent) result new (Some (place.Pre o i)) at h s = subst IsUnderWay (sym h.1) s
-post_at old k given (Some lent) result new (Some (place.Base o)) at h s = subst IsUnderWay (sym h.1) s
-post_at old k given (Some lent) result new (Some (place.Cleanup c)) at h s = subst IsUnderWay (sym h.1) s
-post_at old k given (Some lent) result new None at h s = subst IsUnderWay (sym h.1) s
-post_at old k given None result new (Some place.Idle) at h s = subst IsUnderWay (sym h.1) s
-post_at old k given None result new (Some (place.EarlyDrain o i)) at h s = subst IsUnderWay (sym h.1) s
-post_at old k given None result new (Some (place.Setup i)) at h s = subst IsUnderWay (sym h.1) s
-post_at old k given None result new (Some (place.Pre o i)) at h s = subst IsUnderWay (sym h.1) s
-post_at old k given None result new (Some (place.Base o)) at h s = subst IsUnderWay (sym h.1) s
-post_at old k given None result new (Some (place.Cleanup c)) at h s = subst IsUnderWay (sym h.1) s
-post_at old k given None result new None at h s = subst IsUnderWay (sym h.1) s
-
-pub post_keeps : (old : World) (k : WorkerId) (given : PostVerdict) (lent : Option Data) (result : Result (Unit {0}) Status) (new : World)
-    → PostReturns old k given lent result new → IsUnderWay old → IsUnderWay new
-unfolding PostReturns
-post_keeps old k given lent result new h s = post_at old k given lent result new (worker_at old.workers k) refl h s
+    return_keeps old k (Worker.Drain o i) o r (drain_returned_of i) (λ j. one (i.0 == j)) t old.files at x.0.at (λ x. refl) (λ x. refl)
+    (subst (Matches o (Worker.Drain o i)) (sym (ap (λ a. spot_at a r.entries) x.1)) (matches_drain o i)) refl (in_a_drain o i) even (λ j. refl) (sound_drain_returned i r x.1 x.0.sound)
+    (among_settles old.stack r.volume r.born r.operation r.entries r.stage Ascending (settle_drain i.0) (settle_drain_keeps i.0)
+    (not_base_of Ascending refl) x.0.among) s
 
 -- ---- collect
 
 -- a done operation is on its way up
 done_stage : (s : Stage) (asks : List Ask) → done_at s asks ≡ true → is_running s ≡ false
-done_stage Ascending asks h = refl
-done_stage Descending asks h = refl
-done_stage PreHeld asks h = refl
-done_stage PostHeld asks h = refl
 done_stage PreRunning asks h = absurd (false≢true h)
 done_stage InBase asks h = absurd (false≢true h)
 done_stage PostRunning asks h = absurd (false≢true h)
 done_stage (InDrain i) asks h = absurd (false≢true h)
+done_stage _ asks h = refl
 
 -- where numbers ascend, none is found twice
 none_above : (o : OpId) (rs : List FlowRecord) → All (λ (r : FlowRecord). o.0 < r.number.0) rs → find (is_number o) rs ≡ None
@@ -737,39 +456,18 @@ told_without read p t o r pairs at none =
           (λ x k. ne_eqb x.number.0 p.0 (λ q. e (sym (eqb-true x.number.0 o.0 k) ∙ q)))))
     ]
 
-collect_at : (old : World) (o : OpId) (m : Option FlowRecord) → operation_at o old.flow ≡ m → collected_in o old.flow m ≡ collected_of o old.flow → IsUnderWay old
-    → IsUnderWay (record old { flow = collected_in o old.flow m })
-collect_at old o None at same s = s
-collect_at old o (Some r) at same s =
-    let flow = subst IsFlow (sym same) (flow_collects old.flow o s.flow) in
-    let after : Bool → Bool → FlowTable = λ a b. cond a (cond b (changed o marked old.flow) (removed o old.flow)) old.flow in
-    let a = is_collectable r in
-    let b = list_any is_running_drain r.entries in
-    elim (cases_Bool a) [
-      | inr e ↦ subst (λ x. IsUnderWay (record old { flow = after x b })) (sym e) s
-      | inl e ↦
-          let quiet = done_stage r.stage (owed r.entries) (and_parts (not r.collected) (is_done r) e).1 in
-          elim (cases_Bool b) [
-            | inl d ↦
-                let is : after a b ≡ changed o marked old.flow = ap (λ x. after x b) e ∙ ap (λ y. after true y) d in
-                subst (λ t. IsUnderWay (record old { flow = t })) (sym is)
-                (flow_moves old (changed o marked old.flow) old.workers (subst IsFlow is flow)
-                (all_change (IsAmong old.stack) (is_number o) marked old.flow.operations
-                (λ x h. found_holds (IsAmong old.stack) (is_number o) old.flow.operations x s.among h) s.among)
-                s.hands (tied_stays old.workers old.flow o r marked at (λ x. refl) (λ x. refl) s.workers)
-                (drained_stays old.workers old.flow o r marked at (λ x. refl) (λ i. refl) s.drains) (λ i. refl) s)
-            | inr d ↦
-                let is : after a b ≡ removed o old.flow = ap (λ x. after x b) e ∙ ap (λ y. after true y) d in
-                subst (λ t. IsUnderWay (record old { flow = t })) (sym is)
-                (flow_moves old (removed o old.flow) old.workers (subst IsFlow is flow)
-                (all_without (IsAmong old.stack) (is_number o) old.flow.operations s.among)
-                s.hands
-                (λ p spot. s.workers p spot ∙ told_without (λ (x : FlowRecord). one (is_spot spot (spot_of x))) p old.flow o r s.flow.ascending at (ap one (quiet_is_none r.stage r.entries quiet spot)))
-                (λ p i. s.drains p i ∙ told_without (λ (x : FlowRecord). drain_opens i x.entries) p old.flow o r s.flow.ascending at (none_running i r.entries d))
-                (λ i. refl) s)
-          ]
-    ]
-
 pub collect_keeps : (old : World) (o : OpId) (result : Result Answer Status) (new : World) → Collects old o result new → IsUnderWay old → IsUnderWay new
 unfolding Collects
-collect_keeps old o result new h s = subst IsUnderWay (sym h.1) (collect_at old o (operation_at o old.flow) refl refl s)
+collect_keeps old o result new h s =
+    subst IsUnderWay (sym h.1) (collected_by (λ t. IsFlow t → IsUnderWay (record old { flow = t })) o old.flow (operation_at o old.flow) refl (λ flow. s)
+    (λ r at done flow.
+    flow_moves old (changed o marked old.flow) old.workers flow
+    (all_change (IsAmong old.stack) (is_number o) marked old.flow.operations (λ x k. found_holds (IsAmong old.stack) (is_number o) old.flow.operations x s.among k) s.among)
+    s.hands (tied_stays old.workers old.flow o r marked at (λ x. refl) (λ x. refl) s.workers)
+    (drained_stays old.workers old.flow o r marked at (λ x. refl) (λ i. refl) s.drains) (λ i. refl) s)
+    (λ r at done d flow.
+    let quiet = done_stage r.stage (owed r.entries) done in
+    flow_moves old (removed o old.flow) old.workers flow (all_without (IsAmong old.stack) (is_number o) old.flow.operations s.among) s.hands
+    (λ p spot. s.workers p spot ∙ told_without (λ (x : FlowRecord). one (is_spot spot (spot_of x))) p old.flow o r s.flow.ascending at (ap one (quiet_is_none r.stage r.entries quiet spot)))
+    (λ p i. s.drains p i ∙ told_without (λ (x : FlowRecord). drain_opens i x.entries) p old.flow o r s.flow.ascending at (none_running i r.entries d)) (λ i. refl) s)
+    (flow_collects old.flow o s.flow))

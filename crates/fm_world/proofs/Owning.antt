@@ -1,50 +1,23 @@
 -- The events on filters, volumes and instances leave contexts as the World says.
-use Rattle.std.proofs.Common.{◌≡◌, ◌≢◌, ℕ, ◌<◌, ◌≤◌, Bool, true, false, cond, not, List, [], ◌∷◌, ◌++◌, length, map, Option, Some, None, Result, Ok, Err, is_some, slice_get, refl, ap, sym, ◌∙◌, subst, inl, inr, ◌⊎◌, arith}
-use Rattle.std.specs.Prelude.{All, slice_set}
-use Rattle.std.proofs.lemmas.Bool.{false≢true, true≢false, cases_Bool, cases_eq, and_parts, and_from, eq-eqb}
-use Rattle.std.proofs.lemmas.Option.{same_Some, slice_get_within}
-use Rattle.std.proofs.lemmas.List.{length-append}
-use Rattle.std.proofs.lemmas.List.Elements.{All-nil, All-head}
-use Rattle.fm_types.specs.declared.ids.CtxId.{CtxId}
-use Rattle.fm_types.specs.declared.ids.FilterId.{FilterId}
-use Rattle.fm_types.specs.declared.ids.InstanceId.{InstanceId}
-use Rattle.fm_types.specs.declared.ids.VolumeId.{VolumeId}
-use Rattle.fm_types.specs.declared.ids.WorkerId.{WorkerId}
-use Rattle.fm_types.specs.declared.registration.Registration.{Registration}
-use Rattle.fm_types.specs.declared.status.Status.{Status}
-use Rattle.fm_types.specs.declared.status.Status.TheVariants as status
-use Rattle.fm_types.proofs.Lists.{slice_get-kept, slice_get-set_same, slice_get-set_other, updated-same, updated-other}
-use Rattle.fm_stack.specs.declared.instance.Instance.{Instance}
-use Rattle.fm_stack.specs.declared.instance.Phase.{Phase}
-use Rattle.fm_stack.specs.declared.instance.Phase.TheVariants as phase
-use Rattle.fm_stack.specs.declared.volume.Volume.{Volume}
-use Rattle.fm_stack.specs.StackWorld.{StackWorld}
-use Rattle.fm_stack.specs.Instances.{is_setup, is_detached}
-use Rattle.fm_stack.specs.Events.{refuse_row, accept_row}
+use Rattle.std.proofs.Common.{◌&&◌, ◌≡◌, ◌≢◌, ℕ, ◌<◌, ◌≤◌, Bool, true, false, cond, not, List, [], ◌∷◌, ◌++◌, length, map, Option, Some, None, Result, Ok, Err, slice_get, refl, ap, sym, ◌∙◌, subst, inl, inr, ◌⊎◌, arith}
+use Rattle.fm_world.proofs.Words.{All, slice_set, false≢true, true≢false, cases_Bool, cases_eq, and_parts, and_from, same_Some, slice_get_within}
+use Rattle.fm_world.proofs.Words.{length-append, All-nil, All-head, CtxId, FilterId, InstanceId, VolumeId, WorkerId, Status, slice_get-kept}
+use Rattle.fm_world.proofs.Words.{slice_get-set_same, slice_get-set_other, updated-same, updated-other, Instance, Phase, Volume, StackWorld, is_setup}
+use Rattle.fm_world.proofs.Words.{is_detached, refuse_row, accept_row, IsStack, Follows, Owner, hand_of, cleaning_of, IsLawful, same_owner, Leaves}
+use Rattle.fm_world.proofs.Words.{is_linked_of, swept, swept_slot, Context, Slot, ContextTable, leave_keeps, sweep_keeps, within_hands, FlowTable, carried}
+use Rattle.fm_world.proofs.Words.{in_flight, Worker, World, carries, worker_at, put, after_attach, cleanup_in, row_at, place_in, fits, owner_fits, link_fits}
+use Rattle.fm_world.proofs.Words.{holds_links_by, is_left_by, keeps_links, keeps_links_by, is_flown, is_flown_by, HoldsIn, Registers, Mounts, Attaches}
+use Rattle.fm_world.proofs.Words.{SetsUp, EmptiesUnless, IsSound, IsOwned, names_there, FileTable, setup_row}
 use Rattle.fm_stack.specs.Events as stack
-use Rattle.fm_ctx.specs.declared.owner.Owner.{Owner}
-use Rattle.fm_ctx.specs.declared.owner.Owner.TheVariants as owner
-use Rattle.fm_ctx.specs.Bags.{hand_of, cleaning_of}
-use Rattle.fm_ctx.specs.Laws.{IsLawful}
-use Rattle.fm_ctx.specs.Objects.{same_owner}
-use Rattle.fm_ctx.specs.Settling.{Leaves, is_linked_of, swept, swept_slot}
-use Rattle.fm_ctx.specs.Table.{Context, Slot, ContextTable}
-use Rattle.fm_ctx.proofs.Leaving.{leave_keeps, sweep_keeps}
-use Rattle.fm_ctx.proofs.Moves.{within_hands}
-use Rattle.fm_world.specs.declared.worker.Worker.{Worker}
-use Rattle.fm_world.specs.declared.worker.Worker.TheVariants as place
-use Rattle.fm_world.specs.World.{World, carries}
-use Rattle.fm_world.specs.Workers.{worker_at, put, is_idle, after_attach, cleanup_in}
-use Rattle.fm_world.specs.Owners.{row_at, place_in, fits, owner_fits, link_fits, may_link, holds_links_by, is_left_by, keeps_links, keeps_links_by, is_flown, is_flown_by, HoldsIn}
-use Rattle.fm_world.specs.Events.{Registers, Mounts, Attaches, SetsUp, SetsUpAt, EmptiesUnless}
-use Rattle.fm_world.specs.Sound.{IsSound, IsOwned}
-use Rattle.fm_world.proofs.Belonging.{OwnersStay, owners_same, owners_swept, owners_after, FiltersStay, belongs_still, AllHold, all_hold, all_hold_still, others_stay, all_carry_still}
+use Rattle.fm_types.specs.declared.registration.Registration.{Registration}
+use Rattle.fm_stack.proofs.Registering.{registered_keeps, registered_follows, mounted_keeps, mounted_follows}
+use Rattle.fm_world.proofs.Belonging.{OwnersStay, owners_same, owners_swept, owners_after, FiltersStay, belongs_still, AllHold, all_hold, all_hold_still, others_stay, all_carry_still, filters_updated, AllCarry}
 use Rattle.fm_world.proofs.Callbacks.{same_hands}
 use Rattle.fm_world.proofs.Fitting.{AllFit, AllPass, VolumesStay, fits_on, passes_swept, owner_stays, link_stays}
 use Rattle.fm_world.proofs.Losing.{NamedIn, passes_unlinked}
-use Rattle.fm_world.specs.Links.{names_there}
-use Rattle.fm_world.specs.Files.{FileTable}
-use Rattle.fm_world.proofs.Keeps.{register_keeps, mount_keeps, attach_keeps, setup_keeps, unless_cases, idle_there, setup_place, FiledIn}
+use Rattle.fm_world.proofs.Events.{idle_by, setup_by}
+use Rattle.fm_world.proofs.Keeps.{stack_changes, attach_keeps, setup_keeps, setup_place, FiledIn}
+use Rattle.fm_world.proofs.Fitting.{others_link}
 
 -- ---- instances go on
 
@@ -52,19 +25,19 @@ use Rattle.fm_world.proofs.Keeps.{register_keeps, mount_keeps, attach_keeps, set
 abbrev pub RowsGoOn : StackWorld → StackWorld → Type 0
 RowsGoOn s t = (j : ℕ) (row : Instance) → slice_get s.instances j ≡ Some row
     → (after : Instance) × (slice_get t.instances j ≡ Some after) × (after.filter ≡ row.filter)
-    × ((after.phase ≡ row.phase) ⊎ ((row.phase ≡ phase.Setup) × (after.phase ≡ phase.Attached)))
+    × ((after.phase ≡ row.phase) ⊎ ((row.phase ≡ Phase.Setup) × (after.phase ≡ Phase.Attached)))
 
 rows_filters : (s t : StackWorld) → RowsGoOn s t → FiltersStay s t
 rows_filters s t on j row there = let after = on j row there in (after.0, after.1, after.2)
 
 -- what a phase says that no such change takes away
-stays_true : (test : Phase → Bool) (a b : Phase) → test phase.Attached ≡ true → (b ≡ a) ⊎ ((a ≡ phase.Setup) × (b ≡ phase.Attached)) → test a ≡ true → test b ≡ true
+stays_true : (test : Phase → Bool) (a b : Phase) → test Phase.Attached ≡ true → (b ≡ a) ⊎ ((a ≡ Phase.Setup) × (b ≡ Phase.Attached)) → test a ≡ true → test b ≡ true
 stays_true test a b attached (inl same) h = ap test same ∙ h
 stays_true test a b attached (inr (was, is)) h = ap test is ∙ attached
 
 -- a test on the row of an instance
 row_test : (s t : StackWorld) (read : Option Instance → Bool) (test : Phase → Bool) → read None ≡ false → ((row : Instance) → read (Some row) ≡ test row.phase)
-    → test phase.Attached ≡ true → RowsGoOn s t → (j : InstanceId) → read (row_at s j) ≡ true → read (row_at t j) ≡ true
+    → test Phase.Attached ≡ true → RowsGoOn s t → (j : InstanceId) → read (row_at s j) ≡ true → read (row_at t j) ≡ true
 row_test s t read test none some attached on j h = at_row (row_at s j) refl h
   where
     at_row : (m : Option Instance) → row_at s j ≡ m → read m ≡ true → read (row_at t j) ≡ true
@@ -114,28 +87,31 @@ volumes_push xs x v h = at_volume (slice_get xs v) refl h
     at_volume None there h = absurd (false≢true h)
     at_volume (Some y) there h = ap holds_links_by (slice_get-kept xs (x ∷ []) v y there) ∙ h
 
+-- filters or volumes come, and the instances stay
+stack_sound : (old new : World) (t : StackWorld) → new.stack ≡ t → new ≡ record old { stack = new.stack } → t.instances ≡ old.stack.instances → IsStack t → Follows old.stack t
+    → length old.stack.filters ≤ length t.filters → VolumesStay old.stack t → IsSound old → IsSound new
+stack_sound old new t is e same stack follows filters volumes s =
+    subst IsSound (sym (e ∙ ap (λ x. record old { stack = x }) is)) (record {
+      under_way = stack_changes old t stack follows (λ i. ap (λ (rows : List Instance). setup_row (slice_get rows i)) (sym same)) s.under_way;
+      owned = stack_owned old t (λ j row there. (row, ap (λ (rows : List Instance). slice_get rows j) same ∙ there, refl, inl refl)) filters volumes s.owned;
+      filed = s.filed;
+      links = s.links;
+    })
+
 pub register_sound : (old : World) (name : List ℕ) (registration : Registration) (result : Result FilterId Status) (new : World)
     → Registers old name registration result new → IsSound old → IsSound new
 unfolding Registers stack.Registers
-register_sound old name registration result new h s = record { under_way = register_keeps old name registration result new h s.under_way; owned = owned result h; filed = subst FiledIn (sym h.1) s.filed; links = subst NamedIn (sym h.1) s.links }
-  where
-    owned : (r : Result FilterId Status) → Registers old name registration r new → IsOwned new
-    owned (Err why) h = subst IsOwned (sym (h.1 ∙ ap (λ x. record old { stack = x }) h.0.1)) s.owned
-    owned (Ok f) h =
-        let t = stack.registered old.stack name registration in
-        subst IsOwned (sym (h.1 ∙ ap (λ x. record old { stack = x }) h.0.1.1))
-        (stack_owned old t (λ j row there. (row, there, refl, inl refl)) (longer_push old.stack.filters (stack.new_filter name registration)) (λ v h. h) s.owned)
+register_sound old name registration (Err why) new h s = subst IsSound (sym (h.1 ∙ ap (λ x. record old { stack = x }) h.0.1)) s
+register_sound old name registration (Ok f) new h s =
+    stack_sound old new (stack.registered old.stack name registration) h.0.1.1 h.1 refl (registered_keeps old.stack name registration s.under_way.stack h.0.0)
+    (registered_follows old.stack name registration s.under_way.stack) (longer_push old.stack.filters (stack.new_filter name registration)) (λ v h. h) s
 
 pub mount_sound : (old : World) (name : List ℕ) (result : Result VolumeId Status) (new : World) → Mounts old name result new → IsSound old → IsSound new
 unfolding Mounts stack.Mounts
-mount_sound old name result new h s = record { under_way = mount_keeps old name result new h s.under_way; owned = owned result h; filed = subst FiledIn (sym h.1) s.filed; links = subst NamedIn (sym h.1) s.links }
-  where
-    owned : (r : Result VolumeId Status) → Mounts old name r new → IsOwned new
-    owned (Err why) h = subst IsOwned (sym (h.1 ∙ ap (λ x. record old { stack = x }) h.0.1)) s.owned
-    owned (Ok v) h =
-        let t = stack.mounted old.stack name in
-        subst IsOwned (sym (h.1 ∙ ap (λ x. record old { stack = x }) h.0.1.1))
-        (stack_owned old t (λ j row there. (row, there, refl, inl refl)) (omega arith) (volumes_push old.stack.volumes (stack.new_volume name)) s.owned)
+mount_sound old name (Err why) new h s = subst IsSound (sym (h.1 ∙ ap (λ x. record old { stack = x }) h.0.1)) s
+mount_sound old name (Ok v) new h s =
+    stack_sound old new (stack.mounted old.stack name) h.0.1.1 h.1 refl (mounted_keeps old.stack name s.under_way.stack h.0.0)
+    (mounted_follows old.stack name s.under_way.stack) (omega arith) (volumes_push old.stack.volumes (stack.new_volume name)) s
 
 -- ---- workers go into callbacks and come back
 
@@ -160,10 +136,32 @@ cleaning_stays w cleaning k a b at same na nb h n =
       | inr apart ↦ ap cleanup_in (sym (slice_get-set_other w.workers k.0 n b apart))
     ]
 
+-- a worker goes elsewhere, with another hand; instances keep their filters, and contexts their owners
+pub owned_moves : (w : World) (t : StackWorld) (u : FlowTable) (c : ContextTable) (k : WorkerId) (a b : Worker) (hand : List CtxId) → worker_at w.workers k ≡ Some a → k.0 < 48
+    → ((n : ℕ) → cleaning_of c.cleaning n ≡ cleanup_in (slice_get (put w.workers k b) n)) → FiltersStay w.stack t → OwnersStay w.contexts.slots c.slots
+    → IsLawful (λ id. carried id u) c → c.hands ≡ slice_set w.contexts.hands k.0 hand → All (HoldsIn t c.slots (place_in (Some b))) hand
+    → AllCarry t c.slots u.operations → AllFit t c.slots → ((j : InstanceId) → is_flown_by (row_at t j) ≡ false → in_flight j.0 u ≡ 0) → IsOwned w
+    → IsOwned (record w { stack = t; flow = u; workers = put w.workers k b; contexts = c })
+owned_moves w t u c k a b hand at worker cleans filters owners lawful hands here carry fit quiet h =
+    let workers = put w.workers k b in
+    let is : slice_get workers k.0 ≡ Some b = slice_get-set_same w.workers k.0 b (slice_get_within w.workers k.0 a at) in
+    record {
+      lawful = lawful;
+      cleaning = cleans;
+      holders = subst (AllHold t c.slots workers) (sym hands)
+          (all_hold w.stack w.contexts.slots t c.slots w.workers workers w.contexts.hands k.0 hand (within_hands k.0 h.lawful worker)
+          (belongs_still w.stack w.contexts.slots t c.slots filters owners) (others_stay w.workers k.0 b)
+          (subst (λ m. All (HoldsIn t c.slots (place_in m)) hand) (sym is) here) h.holders);
+      completions = carry;
+      fits = fit;
+      quiet = quiet;
+      totals = h.totals;
+    }
+
 -- ---- attach
 
 attach_owned : (old : World) (k : WorkerId) (f : FilterId) (v : VolumeId) (name altitude : List ℕ) (result : Result InstanceId Status) (new : World)
-    → worker_at old.workers k ≡ Some place.Idle → k.0 < 48 → stack.Attaches old.stack f v name altitude result new.stack
+    → worker_at old.workers k ≡ Some Worker.Idle → k.0 < 48 → stack.Attaches old.stack f v name altitude result new.stack
     → new ≡ record old { stack = new.stack; workers = after_attach old.workers k result } → IsOwned old → IsOwned new
 unfolding stack.Attaches
 attach_owned old k f v name altitude (Err why) new at worker h e s =
@@ -171,55 +169,30 @@ attach_owned old k f v name altitude (Err why) new at worker h e s =
 attach_owned old k f v name altitude (Ok i) new at worker h e s =
     let t = stack.attached old.stack f v name altitude in
     let slots = old.contexts.slots in
-    let workers = put old.workers k (place.Setup i) in
     let on : RowsGoOn old.stack t = λ j row there. (row, slice_get-kept old.stack.instances (stack.new_instance f v name altitude ∷ []) j row there, refl, inl refl) in
-    let still = belongs_still old.stack slots t slots (rows_filters old.stack t on) (owners_same slots slots refl) in
-    let none = empty_hand old k place.Idle at refl s in
+    let none = empty_hand old k Worker.Idle at refl s in
     let base = stack_owned old t on (omega arith) (λ v h. h) s in
-    subst IsOwned (sym (e ∙ ap (λ x. record old { stack = x; workers = workers }) h.1.1))
-    (record {
-      lawful = s.lawful;
-      cleaning = cleaning_stays old old.contexts.cleaning k place.Idle (place.Setup i) at refl refl refl s.cleaning;
-      holders = subst (AllHold t slots workers) (sym (same_hands old.contexts.hands k.0))
-          (all_hold old.stack slots t slots old.workers workers old.contexts.hands k.0 (hand_of old.contexts.hands k.0) (within_hands k.0 s.lawful worker) still
-          (others_stay old.workers k.0 (place.Setup i))
-          (subst (All (HoldsIn t slots (place_in (slice_get workers k.0)))) (sym none) (All-nil (HoldsIn t slots (place_in (slice_get workers k.0)))))
-          s.holders);
-      completions = base.completions;
-      fits = base.fits;
-      quiet = base.quiet;
-      totals = s.totals;
-    })
+    subst IsOwned (sym (e ∙ ap (λ x. record old { stack = x; workers = put old.workers k (Worker.Setup i) }) h.1.1))
+    (owned_moves old t old.flow old.contexts k Worker.Idle (Worker.Setup i) [] at worker
+    (cleaning_stays old old.contexts.cleaning k Worker.Idle (Worker.Setup i) at refl refl refl s.cleaning) (rows_filters old.stack t on) (owners_same slots slots refl) s.lawful
+    (same_hands old.contexts.hands k.0 ∙ ap (slice_set old.contexts.hands k.0) none) (All-nil (HoldsIn t slots (Some i))) base.completions base.fits base.quiet s)
 
 pub attach_sound : (old : World) (k : WorkerId) (f : FilterId) (v : VolumeId) (name altitude : List ℕ) (result : Result InstanceId Status) (new : World)
     → Attaches old k f v name altitude result new → IsSound old → IsSound new
 unfolding Attaches
-attach_sound old k f v name altitude result new h s = record {
-  under_way = attach_keeps old k f v name altitude result new h s.under_way;
-  owned = owned h;
-  filed = unless_cases FiledIn status.WrongStep (is_idle (worker_at old.workers k)) result old new _ h (λ idle event. subst FiledIn (sym event.1) s.filed) s.filed;
-  links = unless_cases NamedIn status.WrongStep (is_idle (worker_at old.workers k)) result old new _ h (λ idle event. subst NamedIn (sym event.1) s.links) s.links;
-}
-  where
-    owned : Attaches old k f v name altitude result new → IsOwned new
-    owned h =
-        unless_cases IsOwned status.WrongStep (is_idle (worker_at old.workers k)) result old new
-        (stack.Attaches old.stack f v name altitude result new.stack
-        × (new ≡ record old { stack = new.stack; workers = after_attach old.workers k result })) h
-        (λ idle event.
-        let at = idle_there old.workers k idle in
-        attach_owned old k f v name altitude result new at (subst (λ n. k.0 < n) s.under_way.hands (slice_get_within old.workers k.0 place.Idle at)) event.0 event.1 s.owned)
-        s.owned
+attach_sound old k f v name altitude result new h s =
+    idle_by (λ _ w. IsSound w) k result old new _ h (λ why. s) (λ at event. record {
+      under_way = attach_keeps old k f v name altitude result new at event.0 event.1 s.under_way;
+      owned = attach_owned old k f v name altitude result new at (subst (λ n. k.0 < n) s.under_way.hands (slice_get_within old.workers k.0 Worker.Idle at)) event.0 event.1 s.owned;
+      filed = subst FiledIn (sym event.1) s.filed;
+      links = subst NamedIn (sym event.1) s.links;
+    })
 
 -- ---- the end of a setup callback
 
-setup_is : (p : Phase) → is_setup p ≡ true → p ≡ phase.Setup
-setup_is phase.Setup h = refl
-setup_is phase.Attached h = absurd (false≢true h)
-setup_is phase.Stopping h = absurd (false≢true h)
-setup_is phase.Completing h = absurd (false≢true h)
-setup_is phase.Emptying h = absurd (false≢true h)
-setup_is phase.Detached h = absurd (false≢true h)
+setup_is : (p : Phase) → is_setup p ≡ true → p ≡ Phase.Setup
+setup_is Phase.Setup h = refl
+setup_is _ h = absurd (false≢true h)
 
 accepted_on : (s : StackWorld) (i : InstanceId) (row : Instance) → slice_get s.instances i.0 ≡ Some row → is_setup row.phase ≡ true → RowsGoOn s (stack.accepted s i)
 accepted_on s i row there setup j x found =
@@ -235,37 +208,19 @@ accepted_on s i row there setup j x found =
     ]
 
 -- what the callback held is gone, and its worker is idle
-setup_returns : (old : World) (k : WorkerId) (i : InstanceId) (t : StackWorld) (c : ContextTable) → worker_at old.workers k ≡ Some (place.Setup i) → k.0 < 48
+setup_returns : (old : World) (k : WorkerId) (i : InstanceId) (t : StackWorld) (c : ContextTable) → worker_at old.workers k ≡ Some (Worker.Setup i) → k.0 < 48
     → FiltersStay old.stack t → OwnersStay old.contexts.slots c.slots → IsOwned old
     → c.hands ≡ slice_set old.contexts.hands k.0 [] → c.cleaning ≡ old.contexts.cleaning
     → IsLawful (carries old) c → AllFit t c.slots → ((j : InstanceId) → is_flown_by (row_at t j) ≡ false → is_flown_by (row_at old.stack j) ≡ false)
-    → IsOwned (record old { stack = t; workers = put old.workers k place.Idle; contexts = c })
+    → IsOwned (record old { stack = t; workers = put old.workers k Worker.Idle; contexts = c })
 setup_returns old k i t c at worker filters owners h hands cleaning lawful fit flown =
-    let still = belongs_still old.stack old.contexts.slots t c.slots filters owners in
-    let workers = put old.workers k place.Idle in
-    record {
-      lawful = lawful;
-      cleaning = cleaning_stays old c.cleaning k (place.Setup i) place.Idle at cleaning refl refl h.cleaning;
-      holders = subst (AllHold t c.slots workers) (sym hands)
-          (all_hold old.stack old.contexts.slots t c.slots old.workers workers old.contexts.hands k.0 [] (within_hands k.0 h.lawful worker) still
-          (others_stay old.workers k.0 place.Idle) (All-nil (HoldsIn t c.slots (place_in (slice_get workers k.0)))) h.holders);
-      completions = all_carry_still old.stack old.contexts.slots t c.slots old.flow.operations still h.completions;
-      fits = fit;
-      quiet = λ j rests. h.quiet j (flown j rests);
-      totals = h.totals;
-    }
+    owned_moves old t old.flow c k (Worker.Setup i) Worker.Idle [] at worker (cleaning_stays old c.cleaning k (Worker.Setup i) Worker.Idle at cleaning refl refl h.cleaning)
+    filters owners lawful hands (All-nil (HoldsIn t c.slots None))
+    (all_carry_still old.stack old.contexts.slots t c.slots old.flow.operations (belongs_still old.stack old.contexts.slots t c.slots filters owners) h.completions) fit
+    (λ j rests. h.quiet j (flown j rests)) h
 
 refused_row : (s : StackWorld) (i j : InstanceId) → j.0 ≢ i.0 → row_at (stack.refused s i) j ≡ row_at s j
 refused_row s i j apart = updated-other refuse_row s.instances i.0 j.0 apart
-
-refused_filters : (s : StackWorld) (i : InstanceId) → FiltersStay s (stack.refused s i)
-refused_filters s i j x found =
-    elim (cases_eq j i.0) [
-      | inl e ↦
-          let at : slice_get s.instances i.0 ≡ Some x = subst (λ n. slice_get s.instances n ≡ Some x) e found in
-          (refuse_row x, subst (λ n. slice_get (stack.refused s i).instances n ≡ Some (refuse_row x)) (sym e) (updated-same refuse_row s.instances i.0 x at), refl)
-      | inr apart ↦ (x, updated-other refuse_row s.instances i.0 j apart ∙ found, refl)
-    ]
 
 refused_left : (s : StackWorld) (i j : InstanceId) (row : Instance) → slice_get s.instances i.0 ≡ Some row → is_left_by (row_at s j) ≡ true → is_left_by (row_at (stack.refused s i) j) ≡ true
 refused_left s i j row there h =
@@ -274,7 +229,7 @@ refused_left s i j row there h =
       | inr apart ↦ ap is_left_by (refused_row s i j apart) ∙ h
     ]
 
-not_flown : (p : Phase) → p ≡ phase.Setup → is_flown p ≡ false
+not_flown : (p : Phase) → p ≡ Phase.Setup → is_flown p ≡ false
 not_flown p e = ap is_flown e
 
 refused_flown : (s : StackWorld) (i j : InstanceId) (row : Instance) → slice_get s.instances i.0 ≡ Some row → is_setup row.phase ≡ true
@@ -287,8 +242,8 @@ refused_flown s i j row there setup h =
 
 -- the instance's contexts lost their links, so none is to it
 refused_fits : (s : StackWorld) (i : InstanceId) (row : Instance) (x : Context) → slice_get s.instances i.0 ≡ Some row → fits s (Some x) ≡ true
-    → fits (stack.refused s i) (Some (swept (is_linked_of (owner.Instance i)) x)) ≡ true
-refused_fits s i row x there fit = by_test (is_linked_of (owner.Instance i) x) refl
+    → fits (stack.refused s i) (Some (swept (is_linked_of (Owner.Instance i)) x)) ≡ true
+refused_fits s i row x there fit = by_test (is_linked_of (Owner.Instance i) x) refl
   where
     parts : (owner_fits s x.kind x.owner ≡ true) × (link_fits s x x.link ≡ true)
     parts = and_parts (owner_fits s x.kind x.owner) (link_fits s x x.link) fit
@@ -296,104 +251,58 @@ refused_fits s i row x there fit = by_test (is_linked_of (owner.Instance i) x) r
     owned : owner_fits (stack.refused s i) x.kind x.owner ≡ true
     owned = owner_stays s (stack.refused s i) x.kind x.owner (omega arith) (λ j is left. refused_left s i j row there left) parts.0
 
-    by_test : (b : Bool) → is_linked_of (owner.Instance i) x ≡ b → fits (stack.refused s i) (Some (cond b (record x { link = None }) x)) ≡ true
+    by_test : (b : Bool) → is_linked_of (Owner.Instance i) x ≡ b → fits (stack.refused s i) (Some (cond b (record x { link = None }) x)) ≡ true
     by_test true is = and_from (owner_fits (stack.refused s i) x.kind x.owner) true owned refl
     by_test false is =
         and_from (owner_fits (stack.refused s i) x.kind x.owner) (link_fits (stack.refused s i) x x.link) owned
-        (link_stays s (stack.refused s i) x x.link (λ v h. h) (λ linked. at_owner linked x.owner refl) parts.1)
-      where
-        at_owner : is_some x.link ≡ true → (o : Owner) → x.owner ≡ o → may_link s o ≡ true → may_link (stack.refused s i) o ≡ true
-        at_owner linked (owner.Filter f) own h = refl
-        at_owner linked (owner.Instance j) own h =
-            elim (cases_eq j.0 i.0) [
-              | inl e ↦
-                  let mine : same_owner (owner.Instance i) x.owner ≡ true = ap (same_owner (owner.Instance i)) own ∙ eq-eqb i.0 j.0 (sym e) in
-                  absurd (true≢false (sym (and_from (is_some x.link) (same_owner (owner.Instance i) x.owner) linked mine) ∙ is))
-              | inr apart ↦ ap keeps_links_by (refused_row s i j apart) ∙ h
-            ]
+        (link_stays s (stack.refused s i) x x.link (λ v h. h)
+        (λ linked. others_link s (stack.refused s i) i (refused_row s i) x.owner (sym (ap (λ b. b && same_owner (Owner.Instance i) x.owner) linked) ∙ is)) parts.1)
 
 setup_owned : (old : World) (k : WorkerId) (i : InstanceId) (accept : Bool) (result : Result (Unit {0}) Status) (new : World) (left : ContextTable)
-    → worker_at old.workers k ≡ Some (place.Setup i) → stack.SetsUp old.stack i accept result new.stack → Leaves (carries old) old.contexts left k.0
-    → EmptiesUnless result i old left new.contexts → new ≡ record old { stack = new.stack; workers = put old.workers k place.Idle; contexts = new.contexts }
+    → worker_at old.workers k ≡ Some (Worker.Setup i) → stack.SetsUp old.stack i accept result new.stack → Leaves (carries old) old.contexts left k.0
+    → EmptiesUnless result i old left new.contexts → new ≡ record old { stack = new.stack; workers = put old.workers k Worker.Idle; contexts = new.contexts }
     → IsSound old → IsOwned new
 unfolding stack.SetsUp
 setup_owned old k i accept (Ok done) new left at h leaves empties e s =
     let row = setup_place old k i s.under_way at in
     let t = stack.accepted old.stack i in
     let on = accepted_on old.stack i row.0 row.1 row.2 in
-    let worker : k.0 < 48 = subst (λ n. k.0 < n) s.under_way.hands (slice_get_within old.workers k.0 (place.Setup i) at) in
+    let worker : k.0 < 48 = subst (λ n. k.0 < n) s.under_way.hands (slice_get_within old.workers k.0 (Worker.Setup i) at) in
     let fit = fits_on old.stack t old.contexts.slots
     (record { filters = omega arith; volumes = λ v h. h; left = rows_left old.stack t on; keeps = rows_keep old.stack t on }) s.owned.fits in
-    subst IsOwned (sym (e ∙ ap (λ x. record old { stack = x; workers = put old.workers k place.Idle; contexts = new.contexts }) h.1
-    ∙ ap (λ c. record old { stack = t; workers = put old.workers k place.Idle; contexts = c }) empties))
+    subst IsOwned (sym (e ∙ ap (λ x. record old { stack = x; workers = put old.workers k Worker.Idle; contexts = new.contexts }) h.1
+    ∙ ap (λ c. record old { stack = t; workers = put old.workers k Worker.Idle; contexts = c }) empties))
     (setup_returns old k i t left at worker (rows_filters old.stack t on) (owners_same old.contexts.slots left.slots leaves.slots) s.owned leaves.hands leaves.cleaning
     (leave_keeps k.0 s.owned.lawful leaves) (subst (AllFit t) (sym leaves.slots) fit) (rows_flown old.stack t on))
 setup_owned old k i accept (Err why) new left at h leaves empties e s =
     let row = setup_place old k i s.under_way at in
     let t = stack.refused old.stack i in
-    let test = is_linked_of (owner.Instance i) in
-    let worker : k.0 < 48 = subst (λ n. k.0 < n) s.under_way.hands (slice_get_within old.workers k.0 (place.Setup i) at) in
+    let test = is_linked_of (Owner.Instance i) in
+    let worker : k.0 < 48 = subst (λ n. k.0 < n) s.under_way.hands (slice_get_within old.workers k.0 (Worker.Setup i) at) in
     let slots : new.contexts.slots ≡ map (swept_slot test) old.contexts.slots = empties.slots ∙ ap (map (swept_slot test)) leaves.slots in
     let owners = owners_after old.contexts.slots (map (swept_slot test) old.contexts.slots) new.contexts.slots (owners_swept test old.contexts.slots)
     (owners_same (map (swept_slot test) old.contexts.slots) new.contexts.slots slots) in
     let fit = passes_swept (fits old.stack) (fits t) test old.contexts.slots refl (λ x fit. refused_fits old.stack i row.0 x row.1 fit) s.owned.fits in
-    subst IsOwned (sym (e ∙ ap (λ x. record old { stack = x; workers = put old.workers k place.Idle; contexts = new.contexts }) h.1))
-    (setup_returns old k i t new.contexts at worker (refused_filters old.stack i) owners s.owned (empties.hands ∙ leaves.hands) (empties.cleaning ∙ leaves.cleaning)
+    subst IsOwned (sym (e ∙ ap (λ x. record old { stack = x; workers = put old.workers k Worker.Idle; contexts = new.contexts }) h.1))
+    (setup_returns old k i t new.contexts at worker (filters_updated old.stack t refuse_row i.0 refl (λ row. refl)) owners s.owned (empties.hands ∙ leaves.hands) (empties.cleaning ∙ leaves.cleaning)
     (sweep_keeps test (leave_keeps k.0 s.owned.lawful leaves) empties) (subst (AllFit t) (sym slots) fit)
     (λ j rests. refused_flown old.stack i j row.0 row.1 row.2 rests))
-
-setup_cases : (old : World) (k : WorkerId) (accept : Bool) (result : Result (Unit {0}) Status) (new : World) (m : Option Worker)
-    → worker_at old.workers k ≡ m → SetsUpAt old k accept result new m → IsSound old → IsOwned new
-setup_cases old k accept result new (Some (place.Setup i)) at h s = setup_owned old k i accept result new h.1 at h.0 h.2 h.3 h.4 s
-setup_cases old k accept result new (Some place.Idle) at h s = subst IsOwned (sym h.1) s.owned
-setup_cases old k accept result new (Some (place.EarlyDrain o i)) at h s = subst IsOwned (sym h.1) s.owned
-setup_cases old k accept result new (Some (place.Pre o i)) at h s = subst IsOwned (sym h.1) s.owned
-setup_cases old k accept result new (Some (place.Base o)) at h s = subst IsOwned (sym h.1) s.owned
-setup_cases old k accept result new (Some (place.Post o i)) at h s = subst IsOwned (sym h.1) s.owned
-setup_cases old k accept result new (Some (place.Drain o i)) at h s = subst IsOwned (sym h.1) s.owned
-setup_cases old k accept result new (Some (place.Cleanup c)) at h s = subst IsOwned (sym h.1) s.owned
-setup_cases old k accept result new None at h s = subst IsOwned (sym h.1) s.owned
 
 -- the contexts of a refused instance lose their links, and all others keep theirs
 emptied_named : (f : FileTable) (result : Result (Unit {0}) Status) (i : InstanceId) (w : World) (left t after : ContextTable) → left.slots ≡ t.slots → EmptiesUnless result i w left after
     → AllPass (names_there f) t.slots → AllPass (names_there f) after.slots
 emptied_named f (Ok done) i w left t after same h named = subst (AllPass (names_there f)) (sym (ap (λ (x : ContextTable). x.slots) h ∙ same)) named
 emptied_named f (Err why) i w left t after same h named =
-    let test = is_linked_of (owner.Instance i) in
+    let test = is_linked_of (Owner.Instance i) in
     subst (AllPass (names_there f)) (sym (h.slots ∙ ap (map (swept_slot test)) same))
     (passes_swept (names_there f) (names_there f) test t.slots refl (λ x. passes_unlinked (names_there f) test x (λ was. refl)) named)
 
 pub setup_sound : (old : World) (k : WorkerId) (accept : Bool) (result : Result (Unit {0}) Status) (new : World)
     → SetsUp old k accept result new → IsSound old → IsSound new
-unfolding SetsUp
-setup_sound old k accept result new h s = record {
-  under_way = setup_keeps old k accept result new h s.under_way;
-  owned = owned h;
-  filed = setup_filed (worker_at old.workers k) h;
-  links = setup_named (worker_at old.workers k) h;
-}
-  where
-    setup_filed : (m : Option Worker) → SetsUpAt old k accept result new m → FiledIn new
-    setup_filed (Some (place.Setup i)) h = subst FiledIn (sym h.4) s.filed
-    setup_filed (Some place.Idle) h = subst FiledIn (sym h.1) s.filed
-    setup_filed (Some (place.EarlyDrain o i)) h = subst FiledIn (sym h.1) s.filed
-    setup_filed (Some (place.Pre o i)) h = subst FiledIn (sym h.1) s.filed
-    setup_filed (Some (place.Base o)) h = subst FiledIn (sym h.1) s.filed
-    setup_filed (Some (place.Post o i)) h = subst FiledIn (sym h.1) s.filed
-    setup_filed (Some (place.Drain o i)) h = subst FiledIn (sym h.1) s.filed
-    setup_filed (Some (place.Cleanup c)) h = subst FiledIn (sym h.1) s.filed
-    setup_filed None h = subst FiledIn (sym h.1) s.filed
-
-    setup_named : (m : Option Worker) → SetsUpAt old k accept result new m → NamedIn new
-    setup_named (Some (place.Setup i)) h = subst NamedIn (sym h.4) (emptied_named old.files result i old h.1 old.contexts new.contexts h.2.slots h.3 s.links)
-    setup_named (Some place.Idle) h = subst NamedIn (sym h.1) s.links
-    setup_named (Some (place.EarlyDrain o i)) h = subst NamedIn (sym h.1) s.links
-    setup_named (Some (place.Pre o i)) h = subst NamedIn (sym h.1) s.links
-    setup_named (Some (place.Base o)) h = subst NamedIn (sym h.1) s.links
-    setup_named (Some (place.Post o i)) h = subst NamedIn (sym h.1) s.links
-    setup_named (Some (place.Drain o i)) h = subst NamedIn (sym h.1) s.links
-    setup_named (Some (place.Cleanup c)) h = subst NamedIn (sym h.1) s.links
-    setup_named None h = subst NamedIn (sym h.1) s.links
-
-    owned : SetsUp old k accept result new → IsOwned new
-    owned h = setup_cases old k accept result new (worker_at old.workers k) refl h s
+setup_sound old k accept result new h s =
+    setup_by (λ _ w. IsSound w) old k accept result new h (λ why. s) (λ i at e. record {
+      under_way = setup_keeps old k i accept result new at e.0 e.4 s.under_way;
+      owned = setup_owned old k i accept result new e.1 at e.0 e.2 e.3 e.4 s;
+      filed = subst FiledIn (sym e.4) s.filed;
+      links = subst NamedIn (sym e.4) (emptied_named old.files result i old e.1 old.contexts new.contexts e.2.slots e.3 s.links);
+    })

@@ -1,83 +1,22 @@
 -- A `next` that gives nothing to do changes nothing.
-use Rattle.std.proofs.Common.{◌≡◌, Bool, true, false, cond, List, [], ◌∷◌, find, Option, Some, None, Result, Ok, Err, refl, ap, sym, ◌∙◌, inl, inr, slice_get}
-use Rattle.std.proofs.lemmas.Bool.{cases_Bool, false≢true}
-use Rattle.std.proofs.lemmas.Option.{none-some, same_Some}
-use Rattle.fm_types.specs.Lists.{change_first}
-use Rattle.fm_types.specs.declared.ids.InstanceId.{InstanceId}
-use Rattle.fm_types.specs.declared.ids.OpId.{OpId}
-use Rattle.fm_types.specs.declared.ids.WorkerId.{WorkerId}
-use Rattle.fm_types.specs.declared.status.Status.{Status}
-use Rattle.fm_types.specs.declared.status.Status.TheVariants as status
-use Rattle.fm_data.specs.declared.params.Params.{Params}
-use Rattle.fm_flow.specs.declared.action.Below.{Below}
-use Rattle.fm_flow.specs.declared.action.Below.TheVariants as below
-use Rattle.fm_flow.specs.declared.action.FlowAction.{FlowAction}
-use Rattle.fm_flow.specs.declared.action.FlowAction.TheVariants as action
-use Rattle.fm_flow.specs.declared.entry.Ask.{Ask}
-use Rattle.fm_flow.specs.declared.stage.Stage.{Stage}
-use Rattle.fm_flow.specs.declared.stage.Stage.TheVariants.{Descending, PreRunning, PreHeld, InBase, Ascending, PostRunning, PostHeld, InDrain}
-use Rattle.fm_flow.specs.Entries.{owed}
-use Rattle.fm_flow.specs.Record.{FlowRecord}
-use Rattle.fm_flow.specs.Steps.{turn, next_of, next_at, descend, ascend, call_pre, call_base, call_post, give_post, unwound_to, may_take}
-use Rattle.fm_flow.specs.Table.{FlowTable, is_number, operation_at}
-use Rattle.fm_world.specs.Events.{Unless, Nexts, NextsAt, NextsOver, LosesByKnown, drains_at, flow_after_next}
-use Rattle.fm_world.specs.World.{World}
-use Rattle.fm_world.specs.Workers.{worker_at, is_idle, gives_nothing}
-use Rattle.fm_world.proofs.Operations.{unchanged_flow, told_there}
+use Rattle.std.proofs.Common.{◌≡◌, Bool, true, cond, List, [], ◌∷◌, find, Some, Result, Ok, Err, refl, ap, sym, ◌∙◌, inl, inr}
+use Rattle.fm_world.proofs.Words.{cases_Bool, false≢true, none-some, same_Some, change_first, OpId, WorkerId, Status, Below, FlowAction, FlowRecord, next_of}
+use Rattle.fm_world.proofs.Words.{FlowTable, is_number, Nexts, NextsOver, LosesByKnown, drains_at, flow_after_next, World, gives_nothing}
+use Rattle.fm_world.proofs.Events.{Turns, next_by}
+use Rattle.fm_world.proofs.Turning.{each_turn}
 
 -- ---- the operation
 
-rests_called : (k : WorkerId) (i : InstanceId) (r : FlowRecord) (m : Option Params) → gives_nothing (call_pre k i r m).reply ≡ true → (call_pre k i r m).after ≡ r
-rests_called k i r (Some p) h = absurd (false≢true h)
-rests_called k i r None h = refl
-
-rests_based : (r : FlowRecord) (m : Option Params) → gives_nothing (call_base r m).reply ≡ true → (call_base r m).after ≡ r
-rests_based r (Some p) h = absurd (false≢true h)
-rests_based r None h = refl
-
-rests_down : (k : WorkerId) (lies : Below) (r : FlowRecord) → gives_nothing (descend k lies r).reply ≡ true → (descend k lies r).after ≡ r
-rests_down k (below.Instance i true) r h = rests_called k i r r.params h
-rests_down k (below.Instance i false) r h = absurd (false≢true h)
-rests_down k below.Call r h = rests_based r r.params h
-rests_down k (below.Known why) r h = absurd (false≢true h)
-
-rests_post : (k : WorkerId) (ask : Ask) (r : FlowRecord) (m : Option Params) → gives_nothing (give_post k ask r m).reply ≡ true → (give_post k ask r m).after ≡ r
-rests_post k ask r (Some p) h = absurd (false≢true h)
-rests_post k ask r None h = refl
-
--- parameters that were kept are put back only where the postoperation is called
-rests_unwound : (k : WorkerId) (ask : Ask) (r : FlowRecord) (m : Option Params) → gives_nothing (give_post k ask (unwound_to ask.place r m) (unwound_to ask.place r m).params).reply ≡ true
-    → (give_post k ask (unwound_to ask.place r m) (unwound_to ask.place r m).params).after ≡ r
-rests_unwound k ask r (Some p) h = absurd (false≢true h)
-rests_unwound k ask r None h = rests_post k ask r r.params h
-
-rests_up : (k : WorkerId) (drains : Bool) (r : FlowRecord) (m : Option Ask) → gives_nothing (ascend k drains r m).reply ≡ true → (ascend k drains r m).after ≡ r
-rests_up k drains r None h = refl
-rests_up k true r (Some ask) h = absurd (false≢true h)
-rests_up k false r (Some ask) h = taken (may_take k ask) h
-  where
-    taken : (b : Bool) → gives_nothing (cond b (call_post k ask r) (turn (Err status.WrongStep) r)).reply ≡ true → (cond b (call_post k ask r) (turn (Err status.WrongStep) r)).after ≡ r
-    taken true h = rests_unwound k ask r (slice_get r.kept ask.place) h
-    taken false h = refl
-
-rests_at : (k : WorkerId) (lies : Below) (drains : Bool) (r : FlowRecord) (stage : Stage) → gives_nothing (next_at k lies drains r stage).reply ≡ true
-    → (next_at k lies drains r stage).after ≡ r
-rests_at k lies drains r Descending h = rests_down k lies r h
-rests_at k lies drains r Ascending h = rests_up k drains r (slice_get (owed r.entries) 0) h
-rests_at k lies drains r PreRunning h = refl
-rests_at k lies drains r PreHeld h = refl
-rests_at k lies drains r InBase h = refl
-rests_at k lies drains r PostRunning h = refl
-rests_at k lies drains r PostHeld h = refl
-rests_at k lies drains r (InDrain i) h = refl
-
 next_rests : (k : WorkerId) (lies : Below) (drains : Bool) (r : FlowRecord) → gives_nothing (next_of k lies drains r).reply ≡ true → (next_of k lies drains r).after ≡ r
-next_rests k lies drains r h = by_collected r.collected h
-  where
-    by_collected : (b : Bool) → gives_nothing (cond b (turn (Err status.WrongStep) r) (next_at k lies drains r r.stage)).reply ≡ true
-        → (cond b (turn (Err status.WrongStep) r) (next_at k lies drains r r.stage)).after ≡ r
-    by_collected true h = refl
-    by_collected false h = rests_at k lies drains r r.stage h
+next_rests k lies drains r = each_turn (λ t. gives_nothing t.reply ≡ true → t.after ≡ r) k lies drains r (record {
+  rests = λ reply nothing h. refl;
+  calls = λ i p e is h. absurd (false≢true h);
+  skips = λ i e is h. absurd (false≢true h);
+  asks = λ p e is h. absurd (false≢true h);
+  knows = λ why e is h. absurd (false≢true h);
+  drains = λ ask e h. absurd (false≢true h);
+  posts = λ ask m kept p e h. absurd (false≢true h);
+})
 
 -- ---- the World
 
@@ -93,31 +32,21 @@ change_same {A = A} test f (x ∷ rs) r found same =
           ∙ ap (λ (xs : List A). x ∷ xs) (change_same test f rs r (sym (ap (λ c. cond c (Some x) (find test rs)) e) ∙ found) same)
     ]
 
-flow_rests : (old : World) (k : WorkerId) (o : OpId) (lies : Below) (result : Result FlowAction Status) (mid : World) (m : Option FlowRecord) → operation_at o old.flow ≡ m
-    → NextsOver old k o lies result mid → gives_nothing result ≡ true → flow_after_next old k o lies ≡ old.flow
-flow_rests old k o lies result mid None at over h = unchanged_flow old.flow o (λ (x : FlowRecord). (next_of k lies (drains_at old o) x).after) at
-flow_rests old k o lies result mid (Some r) at over h =
+flow_rests : (old : World) (k : WorkerId) (o : OpId) (result : Result FlowAction Status) (new : World) (e : Turns old k o result new) → gives_nothing result ≡ true
+    → flow_after_next old k o e.lies ≡ old.flow
+flow_rests old k o result new e h =
     let d = drains_at old o in
-    let reply = over.0 ∙ told_there (λ (x : FlowRecord). (next_of k lies d x).reply) (Err status.WrongStep) o old.flow r at in
-    let rests = next_rests k lies d r (sym (ap gives_nothing reply) ∙ h) in
-    ap (λ (rs : List FlowRecord). record old.flow { operations = rs }) (change_same (is_number o) (λ (x : FlowRecord). (next_of k lies d x).after) old.flow.operations r at rests)
+    let rests = next_rests k e.lies d e.row (sym (ap gives_nothing e.reply) ∙ h) in
+    ap (λ (rs : List FlowRecord). record old.flow { operations = rs }) (change_same (is_number o) (λ (x : FlowRecord). (next_of k e.lies d x).after) old.flow.operations e.row e.at rests)
 
 over_rests : (old : World) (k : WorkerId) (o : OpId) (lies : Below) (result : Result FlowAction Status) (mid new : World) → NextsOver old k o lies result mid
-    → LosesByKnown result lies mid new → gives_nothing result ≡ true → new ≡ old
-over_rests old k o lies result mid new over loses h =
-    by_result result over loses h (ap (λ (t : FlowTable). record old { flow = t }) (flow_rests old k o lies result mid (operation_at o old.flow) refl over h))
-  where
-    by_result : (result : Result FlowAction Status) → NextsOver old k o lies result mid → LosesByKnown result lies mid new → gives_nothing result ≡ true
-        → record old { flow = flow_after_next old k o lies } ≡ old → new ≡ old
-    by_result (Ok action.Held) over loses h same = loses ∙ over.1 ∙ same
-    by_result (Ok action.Done) over loses h same = loses ∙ over.1 ∙ same
-    by_result (Err why) over loses h same = loses ∙ over.1 ∙ same
-    by_result _ over loses h same = absurd (false≢true h)
+    → LosesByKnown result lies mid new → gives_nothing result ≡ true → record old { flow = flow_after_next old k o lies } ≡ old → new ≡ old
+over_rests old k o lies (Ok FlowAction.Held) mid new over loses h same = loses ∙ over.1 ∙ same
+over_rests old k o lies (Ok FlowAction.Done) mid new over loses h same = loses ∙ over.1 ∙ same
+over_rests old k o lies (Err why) mid new over loses h same = loses ∙ over.1 ∙ same
+over_rests old k o lies _ mid new over loses h same = absurd (false≢true h)
 
 pub next_changes_nothing : (old : World) (k : WorkerId) (o : OpId) (result : Result FlowAction Status) (new : World) → Nexts old k o result new → gives_nothing result ≡ true → new ≡ old
-unfolding Nexts
-next_changes_nothing old k o result new h nothing = by_idle (is_idle (worker_at old.workers k)) h
-  where
-    by_idle : (b : Bool) → Unless status.WrongStep b result old new (NextsAt old k o result new) → new ≡ old
-    by_idle true e = over_rests old k o e.0 result e.2 new e.3 e.4 nothing
-    by_idle false e = e.1
+next_changes_nothing old k o result new h =
+    next_by (λ r w. gives_nothing result ≡ true → w ≡ old) old k o result new h (λ why nothing. refl) (λ e nothing.
+    over_rests old k o e.lies result e.mid new e.over e.loses nothing (ap (λ (t : FlowTable). record old { flow = t }) (flow_rests old k o result new e nothing)))

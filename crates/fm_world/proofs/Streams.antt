@@ -1,26 +1,15 @@
 -- Streams, handles and operations on them through the events: whose stream is whose, and no stream without use.
 use Rattle.std.proofs.Common.{◌≡◌, ℕ, suc, ◌+◌, ◌≤◌, ◌<◌, ◌==◌, Bool, true, false, cond, List, [], ◌∷◌, ◌++◌, find, get_or, Option, Some, None, refl, ap, sym, ◌∙◌, subst, inl, inr, arith}
-use Rattle.std.specs.Prelude.{◌&&◌, ◌||◌, All, AllPairs}
-use Rattle.std.specs.List.{list_any}
-use Rattle.std.proofs.lemmas.Bool.{cases_Bool, false≢true, true≢false, eqb-true, eq-eqb, ne_eqb, or_left, or_right, or_parts, or_cases, and_right}
-use Rattle.std.proofs.lemmas.List.Elements.{All-nil, All-cons, All-head, All-tail, All-weaker, All-push}
-use Rattle.std.proofs.lemmas.List.Folds.{list_any-append}
-use Rattle.std.proofs.lemmas.List.Kept.{AllPairs-cons}
-use Rattle.std.proofs.lemmas.List.Quantifiers.{all_pairs_push}
-use Rattle.std.proofs.lemmas.Option.{none-some, same_Some}
-use Rattle.fm_types.specs.Lists.{change_first, without_first}
-use Rattle.fm_types.proofs.Firsts.{found_holds, found_passes, all_change, all_without}
-use Rattle.fm_types.specs.declared.ids.HandleId.{HandleId}
-use Rattle.fm_types.specs.declared.ids.StreamId.{StreamId}
-use Rattle.fm_types.specs.declared.ids.VolumeId.{VolumeId}
-use Rattle.fm_flow.specs.Creates.{is_creating, is_on_stream}
-use Rattle.fm_flow.specs.Record.{FlowRecord}
-use Rattle.fm_world.specs.declared.file.FileHandle.{FileHandle}
-use Rattle.fm_world.specs.declared.file.FileStream.{FileStream}
-use Rattle.fm_world.specs.declared.file.HandlePhase.{HandlePhase}
-use Rattle.fm_world.specs.Files.{FileTable, is_stream, is_handle, is_on, is_at_path, has_handle_on, handle_at, stream_of_path, stream_for, fresh_stream, fresh_handle, created, created_in, with_phase, phased, with_mark, opened, closed, torn_down, left}
+use Rattle.fm_world.proofs.Words.{All, AllPairs, list_any, cases_Bool, false≢true, true≢false, eqb-true, eq-eqb, ne_eqb, or_left, or_right, or_parts}
+use Rattle.fm_world.proofs.Words.{or_cases, and_right, All-nil, All-cons, All-head, All-tail, All-weaker, All-push, list_any-append, all_pairs_push}
+use Rattle.fm_world.proofs.Words.{none-some, same_Some, change_first, found_holds, found_passes, all_change, all_without, HandleId, StreamId, VolumeId}
+use Rattle.fm_world.proofs.Words.{is_creating, is_on_stream, FlowRecord, FileHandle, FileStream, HandlePhase, FileTable, is_stream, is_handle, is_on}
+use Rattle.fm_world.proofs.Words.{is_at_path, has_handle_on, handle_at, stream_of_path, stream_for, fresh_stream, fresh_handle, created, created_in}
+use Rattle.fm_world.proofs.Words.{with_phase, phased, with_mark, opened, closed, torn_down, left, has_stream, has_stream_of, IsCreatedOn, IsOnHandle}
 use Rattle.fm_world.specs.Files as files
-use Rattle.fm_world.specs.FileLaws.{has_stream, has_stream_of, IsCreatedOn, IsOnHandle}
+use Rattle.std.specs.Prelude.{◌&&◌, ◌||◌}
+use Rattle.std.proofs.lemmas.List.Kept.{AllPairs-cons}
+use Rattle.fm_types.specs.Lists.{without_first}
 
 -- ---- lists
 

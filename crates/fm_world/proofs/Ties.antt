@@ -1,29 +1,11 @@
 -- Workers and stages stay tied: a worker goes into an operation or leaves it as the operation's stage says.
 use Rattle.std.proofs.Common.{◌≡◌, ℕ, ◌+◌, ◌≤◌, ◌==◌, ◌&&◌, Bool, true, false, cond, List, Option, Some, None, refl, ap, sym, ◌∙◌, subst, inl, inr, arith, count_by}
-use Rattle.std.specs.Prelude.{option_map, unwrap_or, find}
-use Rattle.std.proofs.lemmas.Bool.{cases_eq, false≢true, eqb-true, eq-eqb, ne_eqb}
-use Rattle.std.proofs.lemmas.Option.{slice_get_within, get_or_from_slice_get}
-use Rattle.std.proofs.lemmas.List.Sums.{sum_by-set}
-use Rattle.fm_types.specs.declared.ids.OpId.{OpId}
-use Rattle.fm_types.specs.declared.ids.WorkerId.{WorkerId}
-use Rattle.fm_types.specs.declared.ids.InstanceId.{InstanceId}
-use Rattle.fm_flow.specs.declared.entry.PreState.{PreState}
-use Rattle.fm_flow.specs.declared.entry.PreState.TheVariants as pre
-use Rattle.fm_flow.specs.Steps.{pre_leads}
-use Rattle.fm_flow.specs.Verdict.{is_counted}
-use Rattle.fm_flow.specs.declared.stage.Stage.{Stage}
-use Rattle.fm_flow.specs.declared.stage.Stage.TheVariants.{PreRunning, InBase, PostRunning, InDrain}
-use Rattle.fm_flow.specs.Record.{FlowRecord}
-use Rattle.fm_flow.specs.Table.{FlowTable, is_number, operation_at, changed, told}
-use Rattle.fm_world.specs.declared.worker.Worker.{Worker}
-use Rattle.fm_world.specs.declared.worker.Worker.TheVariants as place
-use Rattle.fm_world.specs.Workers.{worker_at, put}
-use Rattle.fm_flow.specs.declared.entry.Entry.{Entry}
-use Rattle.fm_flow.specs.Entries.{last_visited, last_posted}
-use Rattle.fm_world.specs.Headline.{Spot, AtPre, AtBase, AtPost, AtDrain, is_in_at, spot_at, spot_of, is_spot, stands_at}
-use Rattle.fm_flow.proofs.Counting.{one_of_and}
+use Rattle.fm_world.proofs.Words.{option_map, unwrap_or, find, cases_eq, false≢true, eqb-true, eq-eqb, ne_eqb, slice_get_within, get_or_from_slice_get}
+use Rattle.fm_world.proofs.Words.{sum_by-set, and_right, OpId, WorkerId, InstanceId, find_changed, find_unchanged, PreState, pre_leads, is_counted, Stage}
+use Rattle.fm_world.proofs.Words.{PreRunning, InBase, PostRunning, InDrain, FlowRecord, FlowTable, is_number, operation_at, changed, told, Entry}
+use Rattle.fm_world.proofs.Words.{last_visited, last_posted, one_of_and, and_true, Worker, worker_at, put, Spot, AtPre, AtBase, AtPost, AtDrain, is_in_at}
+use Rattle.fm_world.proofs.Words.{spot_at, spot_of, is_spot, stands_at}
 use Rattle.fm_world.proofs.Counts.{count-some}
-use Rattle.fm_types.proofs.Firsts.{find_changed, find_unchanged}
 
 -- 1 or 0
 abbrev pub one : Bool → ℕ
@@ -36,6 +18,14 @@ count_moves p workers k a b h =
     let there = slice_get_within workers k.0 a h in
     let was = get_or_from_slice_get workers k.0 a a h in
     subst (λ x. count_by p (put workers k b) + one (p x) ≡ count_by p workers + one (p b)) was (sum_by-set (λ x. one (p x)) workers k.0 b a there)
+
+-- and where it passes at neither place
+pub count_stays : (p : Worker → Bool) (workers : List Worker) (k : WorkerId) (a b : Worker) → worker_at workers k ≡ Some a → p a ≡ false → p b ≡ false
+    → count_by p (put workers k b) ≡ count_by p workers
+count_stays p workers k a b h na nb =
+    let from : one (p a) ≡ 0 = ap one na in
+    let to : one (p b) ≡ 0 = ap one nb in
+    omega (arith, count_moves p workers k a b h, from, to)
 
 -- the worker's place says that it is inside operation o at that spot, and inside no other
 abbrev pub Matches : OpId → Worker → Option Spot → Type 0
@@ -82,46 +72,26 @@ pub tied_moves : (workers : List Worker) (t : FlowTable) (k : WorkerId) (a b : W
     → worker_at workers k ≡ Some a → operation_at o t ≡ Some r → ((x : FlowRecord) → (f x).number.0 ≡ x.number.0)
     → Matches o a (spot_of r) → Matches o b (spot_of (f r)) → AreTied workers t → AreTied (put workers k b) (changed o f t)
 tied_moves workers t k a b o r f ha ho same ma mb tied p s =
-    let moves = count_moves (is_in_at p s) workers k a b ha in
-    let stands = stands_changed p s t o r f ho same in
     let from : one (is_in_at p s a) ≡ one ((o.0 == p.0) && is_spot s (spot_of r)) = ap one (ma p s) in
     let to : one (is_in_at p s b) ≡ one ((o.0 == p.0) && is_spot s (spot_of (f r))) = ap one (mb p s) in
-    omega (arith, moves, stands, from, to, tied p s)
+    omega (arith, count_moves (is_in_at p s) workers k a b ha, stands_changed p s t o r f ho same, from, to, tied p s)
 
 -- no worker moves, and the operation stands as before
 pub tied_stays : (workers : List Worker) (t : FlowTable) (o : OpId) (r : FlowRecord) (f : FlowRecord → FlowRecord)
     → operation_at o t ≡ Some r → ((x : FlowRecord) → (f x).number.0 ≡ x.number.0)
     → ((s : Spot) → is_spot s (spot_of (f r)) ≡ is_spot s (spot_of r)) → AreTied workers t → AreTied workers (changed o f t)
 tied_stays workers t o r f ho same stage tied p s =
-    let stands = stands_changed p s t o r f ho same in
     let alike : one ((o.0 == p.0) && is_spot s (spot_of (f r))) ≡ one ((o.0 == p.0) && is_spot s (spot_of r)) = ap (λ b. one ((o.0 == p.0) && b)) (stage s) in
-    omega (arith, stands, alike, tied p s)
-
--- a worker moves between places outside operations
-pub tied_elsewhere : (workers : List Worker) (t : FlowTable) (k : WorkerId) (a b : Worker) → worker_at workers k ≡ Some a
-    → ((p : OpId) (s : Spot) → is_in_at p s a ≡ false) → ((p : OpId) (s : Spot) → is_in_at p s b ≡ false)
-    → AreTied workers t → AreTied (put workers k b) t
-tied_elsewhere workers t k a b ha na nb tied p s =
-    let moves = count_moves (is_in_at p s) workers k a b ha in
-    let from : one (is_in_at p s a) ≡ 0 = ap one (na p s) in
-    let to : one (is_in_at p s b) ≡ 0 = ap one (nb p s) in
-    omega (arith, moves, from, to, tied p s)
+    omega (arith, stands_changed p s t o r f ho same, alike, tied p s)
 
 and_false : (b : Bool) → (b && false) ≡ false
-and_false true = refl
-and_false false = refl
-
-and_true : (b : Bool) → (b && true) ≡ b
-and_true true = refl
-and_true false = refl
+and_false b = and_right b false refl
 
 -- the places and spots that match
 
-pub idle_is_in_none : (p : OpId) (s : Spot) → is_in_at p s place.Idle ≡ false
+pub idle_is_in_none : (p : OpId) (s : Spot) → is_in_at p s Worker.Idle ≡ false
 idle_is_in_none p (AtPre i) = refl
-idle_is_in_none p AtBase = refl
-idle_is_in_none p (AtPost i) = refl
-idle_is_in_none p (AtDrain i) = refl
+idle_is_in_none p _ = refl
 
 abbrev pub is_running : Stage → Bool
 is_running PreRunning = true
@@ -140,40 +110,30 @@ quiet_is_nowhere _ entries h = refl
 
 nowhere : (s : Spot) → is_spot s None ≡ false
 nowhere (AtPre i) = refl
-nowhere AtBase = refl
-nowhere (AtPost i) = refl
-nowhere (AtDrain i) = refl
+nowhere _ = refl
 
 pub quiet_is_none : (stage : Stage) (entries : List Entry) → is_running stage ≡ false → (s : Spot) → is_spot s (spot_at stage entries) ≡ false
 quiet_is_none stage entries h s = ap (is_spot s) (quiet_is_nowhere stage entries h) ∙ nowhere s
 
-pub matches_idle : (o : OpId) (stage : Stage) (entries : List Entry) → is_running stage ≡ false → Matches o place.Idle (spot_at stage entries)
+pub matches_idle : (o : OpId) (stage : Stage) (entries : List Entry) → is_running stage ≡ false → Matches o Worker.Idle (spot_at stage entries)
 matches_idle o stage entries h p s =
     idle_is_in_none p s ∙ sym (and_false (o.0 == p.0)) ∙ ap (λ b. (o.0 == p.0) && b) (sym (quiet_is_none stage entries h s))
 
-pub matches_pre : (o : OpId) (i : InstanceId) → Matches o (place.Pre o i) (Some (AtPre i.0))
+pub matches_pre : (o : OpId) (i : InstanceId) → Matches o (Worker.Pre o i) (Some (AtPre i.0))
 matches_pre o i p (AtPre j) = refl
-matches_pre o i p AtBase = sym (and_false (o.0 == p.0))
-matches_pre o i p (AtPost j) = sym (and_false (o.0 == p.0))
-matches_pre o i p (AtDrain j) = sym (and_false (o.0 == p.0))
+matches_pre o i p _ = sym (and_false (o.0 == p.0))
 
-pub matches_base : (o : OpId) → Matches o (place.Base o) (Some AtBase)
+pub matches_base : (o : OpId) → Matches o (Worker.Base o) (Some AtBase)
 matches_base o p AtBase = sym (and_true (o.0 == p.0))
-matches_base o p (AtPre j) = sym (and_false (o.0 == p.0))
-matches_base o p (AtPost j) = sym (and_false (o.0 == p.0))
-matches_base o p (AtDrain j) = sym (and_false (o.0 == p.0))
+matches_base o p _ = sym (and_false (o.0 == p.0))
 
-pub matches_post : (o : OpId) (i : InstanceId) → Matches o (place.Post o i) (Some (AtPost i.0))
+pub matches_post : (o : OpId) (i : InstanceId) → Matches o (Worker.Post o i) (Some (AtPost i.0))
 matches_post o i p (AtPost j) = refl
-matches_post o i p (AtPre j) = sym (and_false (o.0 == p.0))
-matches_post o i p AtBase = sym (and_false (o.0 == p.0))
-matches_post o i p (AtDrain j) = sym (and_false (o.0 == p.0))
+matches_post o i p _ = sym (and_false (o.0 == p.0))
 
-pub matches_drain : (o : OpId) (i : InstanceId) → Matches o (place.Drain o i) (Some (AtDrain i.0))
+pub matches_drain : (o : OpId) (i : InstanceId) → Matches o (Worker.Drain o i) (Some (AtDrain i.0))
 matches_drain o i p (AtDrain j) = refl
-matches_drain o i p (AtPre j) = sym (and_false (o.0 == p.0))
-matches_drain o i p AtBase = sym (and_false (o.0 == p.0))
-matches_drain o i p (AtPost j) = sym (and_false (o.0 == p.0))
+matches_drain o i p _ = sym (and_false (o.0 == p.0))
 
 -- the other way: where a worker is inside an operation, it is there and at that spot
 one_of : (s : Spot) (m : Option FlowRecord) → 1 ≤ unwrap_or (option_map (standing s) m) 0 → (r : FlowRecord) × (m ≡ Some r) × (is_spot s (spot_of r) ≡ true)
@@ -187,8 +147,7 @@ one_of s (Some r) h = (r, refl, true_of (is_spot s (spot_of r)) h)
 pub tied_there : (workers : List Worker) (t : FlowTable) (k : WorkerId) (a : Worker) (o : OpId) (s : Spot) → AreTied workers t
     → worker_at workers k ≡ Some a → is_in_at o s a ≡ true → (r : FlowRecord) × (operation_at o t ≡ Some r) × (is_spot s (spot_of r) ≡ true)
 tied_there workers t k a o s tied h inside =
-    let some = count-some (is_in_at o s) workers k.0 a h inside in
-    let one : 1 ≤ stands_at o s t = omega (arith, some, tied o s) in
+    let one : 1 ≤ stands_at o s t = omega (arith, count-some (is_in_at o s) workers k.0 a h inside, tied o s) in
     one_of s (operation_at o t) one
 
 -- what a spot says of the stage and the last visit
@@ -208,32 +167,26 @@ mapped_other s f (Some j) h = h j
 pub spot_pre : (i : ℕ) (stage : Stage) (entries : List Entry) → is_spot (AtPre i) (spot_at stage entries) ≡ true → (stage ≡ PreRunning) × (last_visited entries ≡ Some i)
 spot_pre i PreRunning entries h = (refl, visit_at i (last_visited entries) h)
 spot_pre i PostRunning entries h = absurd (false≢true (sym (mapped_other (AtPre i) AtPost (last_posted entries) (λ j. refl)) ∙ h))
-spot_pre i InBase entries h = absurd (false≢true h)
-spot_pre i (InDrain j) entries h = absurd (false≢true h)
 spot_pre i _ entries h = absurd (false≢true h)
 
 pub spot_base : (stage : Stage) (entries : List Entry) → is_spot AtBase (spot_at stage entries) ≡ true → stage ≡ InBase
 spot_base InBase entries h = refl
 spot_base PreRunning entries h = absurd (false≢true (sym (mapped_other AtBase AtPre (last_visited entries) (λ j. refl)) ∙ h))
 spot_base PostRunning entries h = absurd (false≢true (sym (mapped_other AtBase AtPost (last_posted entries) (λ j. refl)) ∙ h))
-spot_base (InDrain j) entries h = absurd (false≢true h)
 spot_base _ entries h = absurd (false≢true h)
 
 pub spot_post : (i : ℕ) (stage : Stage) (entries : List Entry) → is_spot (AtPost i) (spot_at stage entries) ≡ true → (stage ≡ PostRunning) × (last_posted entries ≡ Some i)
 spot_post i PostRunning entries h = (refl, post_at i (last_posted entries) h)
 spot_post i PreRunning entries h = absurd (false≢true (sym (mapped_other (AtPost i) AtPre (last_visited entries) (λ j. refl)) ∙ h))
-spot_post i InBase entries h = absurd (false≢true h)
-spot_post i (InDrain j) entries h = absurd (false≢true h)
 spot_post i _ entries h = absurd (false≢true h)
 
 pub spot_drain : (i : InstanceId) (stage : Stage) (entries : List Entry) → is_spot (AtDrain i.0) (spot_at stage entries) ≡ true → stage ≡ InDrain i
 spot_drain i (InDrain j) entries h = ap (λ n. InDrain (record { 0 = n })) (eqb-true j.0 i.0 h)
 spot_drain i PreRunning entries h = absurd (false≢true (sym (mapped_other (AtDrain i.0) AtPre (last_visited entries) (λ j. refl)) ∙ h))
 spot_drain i PostRunning entries h = absurd (false≢true (sym (mapped_other (AtDrain i.0) AtPost (last_posted entries) (λ j. refl)) ∙ h))
-spot_drain i InBase entries h = absurd (false≢true h)
 spot_drain i _ entries h = absurd (false≢true h)
 
 -- a verdict that counts leaves the callback
 pub counted_from : (state : PreState) → is_running (pre_leads state) ≡ false → is_counted state ≡ true
-counted_from pre.Running h = absurd (false≢true (sym h))
+counted_from PreState.Running h = absurd (false≢true (sym h))
 counted_from _ h = refl

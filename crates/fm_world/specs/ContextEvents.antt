@@ -1,33 +1,18 @@
 -- The events on contexts: the refusals of each, in their order, and what it makes of the World. A refusal changes nothing, but for a `set` with Keep
 -- that hands out the context which is there. An event of a callback is refused first of all, with WrongStep, where the worker is in none.
 use Rattle.std.specs.Prelude.{◌≡◌, ℕ, ◌+◌, ◌%◌, ◌^◌, ◌||◌, Bool, true, not, cond, nat_lt, List, [], ◌∷◌, Option, Some, None, is_some, is_none, option_map, option_and_then, slice_get, Result, Ok, Err}
-use Rattle.fm_types.specs.declared.ids.CtxId.{CtxId}
-use Rattle.fm_types.specs.declared.ids.FilterId.{FilterId}
-use Rattle.fm_types.specs.declared.ids.InstanceId.{InstanceId}
-use Rattle.fm_types.specs.declared.ids.WorkerId.{WorkerId}
-use Rattle.fm_types.specs.declared.context_kind.ContextKind.{ContextKind}
-use Rattle.fm_types.specs.declared.status.Status.{Status}
-use Rattle.fm_types.specs.declared.status.Status.TheVariants as status
-use Rattle.fm_types.specs.Lists.{updated}
-use Rattle.fm_types.specs.Refusals.{first_of, Answers, AnswersOrMemory}
-use Rattle.fm_stack.specs.declared.instance.Instance.{Instance}
-use Rattle.fm_stack.specs.StackWorld.{StackWorld}
-use Rattle.fm_stack.specs.Instances.{is_detached}
-use Rattle.fm_stack.specs.Events.{is_emptying_at, finished}
-use Rattle.fm_ctx.specs.declared.due.Due.{Due}
-use Rattle.fm_ctx.specs.declared.object.Object.{Object}
-use Rattle.fm_ctx.specs.declared.owner.Owner.TheVariants as owner
+use Rattle.fm_world.specs.Words.{CtxId, FilterId, InstanceId, WorkerId, ContextKind, Status, updated, first_of, Answers, AnswersOrMemory, Instance}
+use Rattle.fm_world.specs.Words.{StackWorld, is_detached, is_emptying_at, finished, Due, Object, holds, hand_of, open_of, grabbed, released}
+use Rattle.fm_world.specs.Words.{reference_refusal, release_refusal, Context, ContextTable, context_at, link_at}
 use Rattle.fm_ctx.specs.declared.set_reply.SetMode.{SetMode}
 use Rattle.fm_ctx.specs.declared.set_reply.SetReply.{SetReply}
-use Rattle.fm_ctx.specs.declared.set_reply.SetReply.TheVariants as reply
-use Rattle.fm_ctx.specs.Bags.{holds, hand_of}
 use Rattle.fm_ctx.specs.Births.{IsNew, new_context, allocated, allocate_refusal}
 use Rattle.fm_ctx.specs.Bodies.{body_at, read_refusal, write_refusal, rewritten, bump_refusal, bumped, raised}
 use Rattle.fm_ctx.specs.Cleanup.{due_reply, after_take_due, cleaned}
-use Rattle.fm_ctx.specs.Counting.{open_of}
 use Rattle.fm_ctx.specs.Links.{holder, set_reply, set_after, get_refusal, delete_reply, delete_after, delete_refusal}
-use Rattle.fm_ctx.specs.References.{grabbed, released, reference_refusal, release_refusal}
-use Rattle.fm_ctx.specs.Table.{Context, ContextTable, context_at, link_at}
+use Rattle.fm_types.specs.declared.status.Status.TheVariants as status
+use Rattle.fm_ctx.specs.declared.owner.Owner.TheVariants as owner
+use Rattle.fm_ctx.specs.declared.set_reply.SetReply.TheVariants as reply
 use Rattle.fm_world.specs.declared.set_answer.SetAnswer.{SetAnswer}
 use Rattle.fm_world.specs.declared.set_answer.SetAnswer.TheVariants as answer
 use Rattle.fm_world.specs.declared.worker.Worker.{Worker}

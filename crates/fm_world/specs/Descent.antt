@@ -1,12 +1,7 @@
 -- The descent of an operation: the instances that it visited so far, from the highest down, with none passed over.
 use Rattle.std.specs.Prelude.{◌≡◌, ℕ, ◌+◌, ◌≤◌, ◌==◌, Bool, true, false, List, reverse, Option, Some, length, slice_get, AllPairs, count_by}
 use Rattle.std.specs.List.{list_any}
-use Rattle.fm_types.specs.declared.ids.VolumeId.{VolumeId}
-use Rattle.fm_types.specs.declared.operation.Operation.{Operation}
-use Rattle.fm_stack.specs.declared.instance.Instance.{Instance}
-use Rattle.fm_stack.specs.StackWorld.{StackWorld}
-use Rattle.fm_stack.specs.Instances.{is_lower_at}
-use Rattle.fm_stack.specs.Next.{is_to_visit, is_below_cursor, is_candidate}
+use Rattle.fm_world.specs.Words.{VolumeId, Operation, Instance, StackWorld, is_lower_at, is_to_visit, is_below_cursor, is_candidate}
 
 -- the instance that was visited last
 abbrev pub last_of : List ℕ → Option ℕ

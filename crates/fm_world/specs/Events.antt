@@ -2,56 +2,32 @@
 -- (The events on contexts stand in ContextEvents.)
 -- An event that a worker makes is refused first of all, with WrongStep, where the worker isn't in the right place.
 use Rattle.std.specs.Prelude.{◌≡◌, ℕ, ◌+◌, ◌-◌, ◌^◌, ◌==◌, ◌&&◌, ◌||◌, Bool, true, false, cond, not, List, [], ◌∷◌, length, nat_le, Option, Some, None, is_none, Result, Ok, Err, slice_get}
-use Rattle.fm_types.specs.declared.ids.FilterId.{FilterId}
-use Rattle.fm_types.specs.declared.ids.VolumeId.{VolumeId}
-use Rattle.fm_types.specs.declared.ids.InstanceId.{InstanceId}
-use Rattle.fm_types.specs.declared.ids.OpId.{OpId}
-use Rattle.fm_types.specs.declared.ids.WorkerId.{WorkerId}
-use Rattle.fm_types.specs.declared.ids.HandleId.{HandleId}
-use Rattle.fm_types.specs.declared.ids.StreamId.{StreamId}
-use Rattle.fm_types.specs.declared.ids.CtxId.{CtxId}
-use Rattle.fm_types.specs.declared.status.Status.{Status}
-use Rattle.fm_types.specs.declared.status.Status.TheVariants as status
+use Rattle.fm_world.specs.Words.{FilterId, VolumeId, InstanceId, OpId, WorkerId, HandleId, StreamId, CtxId, Status, Operation, first_of, AnswersOrMemory}
+use Rattle.fm_world.specs.Words.{Params, Answer, Instance, Phase, StackWorld, IsNextInstance, has_pre_in, has_post_in, holds, hand_of, ContextTable, grabbed}
+use Rattle.fm_world.specs.Words.{handed_on, Leaves, Sweeps, is_linked_of, FlowAction, Ask, PreState, Descending, FlowRecord, owed, last_visited, creates}
+use Rattle.fm_world.specs.Words.{has_create_on, is_create, FlowTable, carried, operation_at, changed, told, begun, is_full, collect_reply, collected_of}
 use Rattle.fm_types.specs.declared.registration.Registration.{Registration}
-use Rattle.fm_types.specs.declared.operation.Operation.{Operation}
-use Rattle.fm_types.specs.declared.operation.Operation.TheVariants as kind
-use Rattle.fm_types.specs.Refusals.{first_of, AnswersOrMemory}
 use Rattle.fm_data.specs.declared.base_call.BaseCall.{BaseCall}
-use Rattle.fm_data.specs.declared.params.Params.{Params}
-use Rattle.fm_data.specs.declared.params.Params.TheVariants as params
-use Rattle.fm_data.specs.declared.answer.Answer.{Answer}
 use Rattle.fm_data.specs.declared.verdict.PreVerdict.{PreVerdict}
-use Rattle.fm_data.specs.declared.verdict.PreVerdict.TheVariants as verdict
 use Rattle.fm_data.specs.declared.verdict.PostVerdict.{PostVerdict}
 use Rattle.fm_data.specs.declared.verdict.Completion.{Completion}
 use Rattle.fm_data.specs.Data.{Data, data_fits}
 use Rattle.fm_data.specs.Params.{is_within_limits, operation_of}
-use Rattle.fm_stack.specs.declared.instance.Instance.{Instance}
-use Rattle.fm_stack.specs.declared.instance.Phase.{Phase}
-use Rattle.fm_stack.specs.declared.instance.Phase.TheVariants as stage
-use Rattle.fm_stack.specs.StackWorld.{StackWorld}
-use Rattle.fm_stack.specs.Next.{IsNextInstance, has_pre_in, has_post_in}
-use Rattle.fm_stack.specs.Events as stack
 use Rattle.fm_flow.specs.declared.action.Below.{Below}
-use Rattle.fm_flow.specs.declared.action.Below.TheVariants as below
-use Rattle.fm_flow.specs.declared.action.FlowAction.{FlowAction}
-use Rattle.fm_flow.specs.declared.action.FlowAction.TheVariants as action
-use Rattle.fm_flow.specs.declared.entry.Ask.{Ask}
-use Rattle.fm_flow.specs.declared.entry.PreState.{PreState}
-use Rattle.fm_flow.specs.declared.entry.PreState.TheVariants as state
 use Rattle.fm_flow.specs.declared.entry.PreState.TheVariants.{Passed}
-use Rattle.fm_flow.specs.declared.stage.Stage.TheVariants.{Descending}
-use Rattle.fm_flow.specs.Record.{FlowRecord}
-use Rattle.fm_flow.specs.Entries.{owed, last_visited}
 use Rattle.fm_flow.specs.Steps.{next_of, pre_returned_of, base_returned_of, post_returned_of, drain_returned_of, base_fits}
 use Rattle.fm_flow.specs.Verdict.{verdict_counted}
+use Rattle.fm_types.specs.declared.operation.CreateMode.{CreateMode}
+use Rattle.fm_types.specs.declared.status.Status.TheVariants as status
+use Rattle.fm_types.specs.declared.operation.Operation.TheVariants as kind
+use Rattle.fm_data.specs.declared.params.Params.TheVariants as params
+use Rattle.fm_data.specs.declared.verdict.PreVerdict.TheVariants as verdict
+use Rattle.fm_stack.specs.declared.instance.Phase.TheVariants as stage
+use Rattle.fm_stack.specs.Events as stack
+use Rattle.fm_flow.specs.declared.action.Below.TheVariants as below
+use Rattle.fm_flow.specs.declared.action.FlowAction.TheVariants as action
+use Rattle.fm_flow.specs.declared.entry.PreState.TheVariants as state
 use Rattle.fm_ctx.specs.declared.owner.Owner.TheVariants as owner
-use Rattle.fm_ctx.specs.Bags.{holds, hand_of}
-use Rattle.fm_ctx.specs.Table.{ContextTable}
-use Rattle.fm_ctx.specs.References.{grabbed, handed_on}
-use Rattle.fm_ctx.specs.Settling.{Leaves, Sweeps, is_linked_of}
-use Rattle.fm_flow.specs.Creates.{creates, has_create_on, is_create}
-use Rattle.fm_flow.specs.Table.{FlowTable, carried, operation_at, changed, told, begun, is_full, collect_reply, collected_of}
 use Rattle.fm_world.specs.declared.step.Begin.{Begin}
 use Rattle.fm_world.specs.declared.step.Begin.TheVariants as begin
 use Rattle.fm_world.specs.declared.worker.Worker.{Worker}
@@ -63,7 +39,6 @@ use Rattle.fm_world.specs.Files.{FileTable, stream_at, handle_at, stream_for, cr
 use Rattle.fm_world.specs.declared.file.FileHandle.{FileHandle}
 use Rattle.fm_world.specs.declared.file.FileStream.{FileStream}
 use Rattle.fm_world.specs.declared.file.HandlePhase.TheVariants as phase
-use Rattle.fm_types.specs.declared.operation.CreateMode.{CreateMode}
 use Rattle.fm_world.specs.Workers.{worker_at, put, is_idle, after_attach, after_next}
 
 -- the event where the test holds, and else a refusal that changes nothing

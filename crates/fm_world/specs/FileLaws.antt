@@ -1,11 +1,7 @@
 -- What holds of streams and handles, and of the operations on them, between any two events.
 use Rattle.std.specs.Prelude.{◌≡◌, ◌<◌, ◌||◌, Bool, true, false, All, AllPairs, Option, Some, None}
 use Rattle.std.specs.List.{list_any}
-use Rattle.fm_types.specs.declared.ids.HandleId.{HandleId}
-use Rattle.fm_types.specs.declared.ids.StreamId.{StreamId}
-use Rattle.fm_flow.specs.Creates.{is_creating, is_on_stream, has_create_on}
-use Rattle.fm_flow.specs.Record.{FlowRecord}
-use Rattle.fm_flow.specs.Table.{FlowTable}
+use Rattle.fm_world.specs.Words.{HandleId, StreamId, is_creating, is_on_stream, has_create_on, FlowRecord, FlowTable}
 use Rattle.fm_world.specs.declared.file.FileStream.{FileStream}
 use Rattle.fm_world.specs.declared.file.FileHandle.{FileHandle}
 use Rattle.fm_world.specs.Files.{FileTable, is_stream, is_handle, is_at_path, has_handle_on}

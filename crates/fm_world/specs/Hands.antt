@@ -1,10 +1,7 @@
 -- What workers hold, counted: what a lock above the state rests on, which keeps a book of all hands without looking at any but its own.
 use Rattle.std.specs.Prelude.{◌≡◌, ℕ, ◌+◌, List, length, sum_by, Option, Some, is_some, Result, Ok, Err}
-use Rattle.fm_types.specs.declared.ids.CtxId.{CtxId}
-use Rattle.fm_types.specs.declared.status.Status.{Status}
-use Rattle.fm_flow.specs.declared.action.FlowAction.{FlowAction}
+use Rattle.fm_world.specs.Words.{CtxId, Status, one, hand_of, FlowAction}
 use Rattle.fm_flow.specs.declared.action.FlowAction.TheVariants as action
-use Rattle.fm_ctx.specs.Bags.{one, hand_of}
 use Rattle.fm_world.specs.declared.set_answer.SetAnswer.{SetAnswer}
 use Rattle.fm_world.specs.declared.set_answer.SetAnswer.TheVariants as answer
 use Rattle.fm_world.specs.declared.worker.Worker.{Worker}

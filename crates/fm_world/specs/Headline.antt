@@ -1,27 +1,11 @@
 -- What holds of every World that a list of events leads to.
 use Rattle.std.specs.Prelude.{◌≡◌, ℕ, ◌≤◌, ◌++◌, Bool, true, false, cond, ◌&&◌, ◌==◌, List, All, AllPairs, count_by, Option, Some, None, option_map}
-use Rattle.fm_types.specs.declared.ids.CtxId.{CtxId}
-use Rattle.fm_types.specs.declared.ids.InstanceId.{InstanceId}
-use Rattle.fm_types.specs.declared.ids.OpId.{OpId}
-use Rattle.fm_types.specs.declared.ids.WorkerId.{WorkerId}
-use Rattle.fm_flow.specs.declared.stage.Stage.{Stage}
-use Rattle.fm_flow.specs.declared.stage.Stage.TheVariants.{Descending, PreRunning, InBase, PostRunning, InDrain}
-use Rattle.fm_flow.specs.Record.{FlowRecord}
-use Rattle.fm_flow.specs.declared.entry.Entry.{Entry}
-use Rattle.fm_flow.specs.Entries.{visited, last_visited, last_posted, has_base, posted, owed, undrained, instances}
+use Rattle.fm_world.specs.Words.{CtxId, InstanceId, OpId, WorkerId, StackWorld, clashes, Object, Owner, one, places, cleaning_of, hand_of, open_of, has_link}
+use Rattle.fm_world.specs.Words.{is_waiting, Slot, context_at, owner_at, Stage, Descending, PreRunning, InBase, PostRunning, InDrain, FlowRecord, Entry}
+use Rattle.fm_world.specs.Words.{visited, last_visited, last_posted, has_base, posted, owed, undrained, instances, FlowTable, told, in_flight}
 use Rattle.fm_flow.specs.Counts.{drain_opens}
 use Rattle.fm_flow.specs.Sound.{walk, way_of}
-use Rattle.fm_flow.specs.Table.{FlowTable, told}
-use Rattle.fm_flow.specs.Table.{in_flight}
-use Rattle.fm_ctx.specs.declared.object.Object.{Object}
-use Rattle.fm_ctx.specs.declared.owner.Owner.{Owner}
 use Rattle.fm_ctx.specs.declared.owner.Owner.TheVariants as owner
-use Rattle.fm_ctx.specs.Bags.{one, places, cleaning_of, hand_of}
-use Rattle.fm_ctx.specs.Counting.{open_of}
-use Rattle.fm_ctx.specs.Laws.{has_link, is_waiting}
-use Rattle.fm_ctx.specs.Table.{Slot, context_at, owner_at}
-use Rattle.fm_stack.specs.StackWorld.{StackWorld}
-use Rattle.fm_stack.specs.Instances.{clashes}
 use Rattle.fm_world.specs.declared.step.Step.{Step}
 use Rattle.fm_world.specs.declared.step.StepReply.{StepReply}
 use Rattle.fm_world.specs.declared.worker.Worker.{Worker}

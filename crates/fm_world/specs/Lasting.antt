@@ -1,7 +1,6 @@
 -- Contexts over a whole list of events: an id is given once, and what was cleaned stays cleaned.
 use Rattle.std.specs.Prelude.{◌≡◌, ◌⊎◌, List, [], ◌∷◌, Option, Some, None, Ok}
-use Rattle.fm_types.specs.declared.ids.CtxId.{CtxId}
-use Rattle.fm_ctx.specs.Table.{context_at}
+use Rattle.fm_world.specs.Words.{CtxId, context_at}
 use Rattle.fm_world.specs.declared.step.Step.{Step}
 use Rattle.fm_world.specs.declared.step.Step.TheVariants as step
 use Rattle.fm_world.specs.declared.step.StepReply.{StepReply}

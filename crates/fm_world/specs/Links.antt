@@ -1,9 +1,7 @@
 -- Links go with what they name: with a stream that is torn down, and with a handle that closes.
 use Rattle.std.specs.Prelude.{◌≡◌, Bool, true, not, Option, Some, None, is_some}
-use Rattle.fm_ctx.specs.declared.object.Object.{Object}
+use Rattle.fm_world.specs.Words.{Object, Sweeps, Context}
 use Rattle.fm_ctx.specs.declared.object.Object.TheVariants as object
-use Rattle.fm_ctx.specs.Settling.{Sweeps}
-use Rattle.fm_ctx.specs.Table.{Context}
 use Rattle.fm_world.specs.Files.{FileTable, stream_at, handle_at}
 use Rattle.fm_world.specs.World.{World, carries}
 

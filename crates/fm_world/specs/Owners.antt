@@ -1,32 +1,17 @@
 -- Whose contexts are whose: in which instance's callback a worker is, who owns what is allocated there, and which object each kind is set on.
 use Rattle.std.specs.Prelude.{◌≡◌, Bool, true, false, not, ◌&&◌, ◌||◌, List, length, nat_lt, Option, Some, None, option_map, option_and_then, slice_get}
-use Rattle.fm_types.specs.declared.context_kind.ContextKind.{ContextKind}
-use Rattle.fm_types.specs.declared.context_kind.ContextKind.TheVariants as kind
-use Rattle.fm_types.specs.declared.ids.CtxId.{CtxId}
-use Rattle.fm_types.specs.declared.ids.FilterId.{FilterId}
-use Rattle.fm_types.specs.declared.ids.HandleId.{HandleId}
-use Rattle.fm_types.specs.declared.ids.InstanceId.{InstanceId}
-use Rattle.fm_types.specs.declared.ids.OpId.{OpId}
-use Rattle.fm_types.specs.declared.ids.StreamId.{StreamId}
+use Rattle.fm_world.specs.Words.{ContextKind, CtxId, FilterId, HandleId, InstanceId, OpId, StreamId, Instance, Phase, StackWorld, is_setup, is_attached}
+use Rattle.fm_world.specs.Words.{is_detached, is_mounted, Object, Owner, Context, Slot, context_at, Ask, FlowTable, told}
 use Rattle.fm_types.specs.Masks.{has_context}
 use Rattle.fm_stack.specs.declared.filter.Filter.{Filter}
-use Rattle.fm_stack.specs.declared.instance.Instance.{Instance}
-use Rattle.fm_stack.specs.declared.instance.Phase.{Phase}
-use Rattle.fm_stack.specs.declared.instance.Phase.TheVariants as phase
 use Rattle.fm_stack.specs.declared.volume.Volume.{Volume}
 use Rattle.fm_stack.specs.declared.volume.VolumePhase.{VolumePhase}
-use Rattle.fm_stack.specs.declared.volume.VolumePhase.TheVariants as volume_phase
-use Rattle.fm_stack.specs.StackWorld.{StackWorld}
-use Rattle.fm_stack.specs.Instances.{is_setup, is_attached, is_detached}
-use Rattle.fm_stack.specs.Events.{is_mounted}
-use Rattle.fm_ctx.specs.declared.object.Object.{Object}
-use Rattle.fm_ctx.specs.declared.object.Object.TheVariants as object
-use Rattle.fm_ctx.specs.declared.owner.Owner.{Owner}
-use Rattle.fm_ctx.specs.declared.owner.Owner.TheVariants as owner
 use Rattle.fm_ctx.specs.Objects.{same_owner}
-use Rattle.fm_ctx.specs.Table.{Context, Slot, context_at}
-use Rattle.fm_flow.specs.declared.entry.Ask.{Ask}
-use Rattle.fm_flow.specs.Table.{FlowTable, told}
+use Rattle.fm_types.specs.declared.context_kind.ContextKind.TheVariants as kind
+use Rattle.fm_stack.specs.declared.instance.Phase.TheVariants as phase
+use Rattle.fm_stack.specs.declared.volume.VolumePhase.TheVariants as volume_phase
+use Rattle.fm_ctx.specs.declared.object.Object.TheVariants as object
+use Rattle.fm_ctx.specs.declared.owner.Owner.TheVariants as owner
 use Rattle.fm_world.specs.declared.file.FileObject.{FileObject}
 use Rattle.fm_world.specs.declared.worker.Worker.{Worker}
 use Rattle.fm_world.specs.declared.worker.Worker.TheVariants as place

@@ -1,13 +1,9 @@
 -- What clients ask of handles.
 use Rattle.std.specs.Prelude.{cond, Option, Some, None}
-use Rattle.fm_types.specs.declared.operation.Operation.{Operation}
+use Rattle.fm_world.specs.Words.{Operation, Status, Params, FlowTable, is_over}
 use Rattle.fm_types.specs.declared.operation.Operation.TheVariants as kind
-use Rattle.fm_types.specs.declared.status.Status.{Status}
 use Rattle.fm_types.specs.declared.status.Status.TheVariants as status
-use Rattle.fm_data.specs.declared.params.Params.{Params}
 use Rattle.fm_data.specs.declared.params.Params.TheVariants as params
-use Rattle.fm_flow.specs.Table.{FlowTable}
-use Rattle.fm_flow.specs.Creates.{is_over}
 use Rattle.fm_world.specs.declared.file.HandlePhase.{HandlePhase}
 use Rattle.fm_world.specs.declared.file.HandlePhase.TheVariants as phase
 use Rattle.fm_world.specs.declared.step.FileRequest.{FileRequest}

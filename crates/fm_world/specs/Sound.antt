@@ -1,24 +1,8 @@
 -- What an induction over events needs besides the Headline, and from which the Headline follows.
 use Rattle.std.specs.Prelude.{◌≡◌, ℕ, ◌+◌, ◌<◌, ◌≤◌, Bool, true, false, cond, List, length, All, count_by, Option, Some, None, slice_get, ◌==◌}
-use Rattle.fm_types.specs.declared.ids.InstanceId.{InstanceId}
-use Rattle.fm_types.specs.declared.ids.WorkerId.{WorkerId}
-use Rattle.fm_types.specs.declared.ids.OpId.{OpId}
-use Rattle.fm_types.specs.declared.ids.VolumeId.{VolumeId}
-use Rattle.fm_types.specs.declared.operation.Operation.{Operation}
-use Rattle.fm_flow.specs.declared.stage.Stage.{Stage}
-use Rattle.fm_flow.specs.declared.stage.Stage.TheVariants.{InBase}
-use Rattle.fm_flow.specs.declared.entry.Entry.{Entry}
-use Rattle.fm_flow.specs.Record.{FlowRecord}
-use Rattle.fm_flow.specs.Entries.{visited, last_visited, has_base, owed}
-use Rattle.fm_flow.specs.Creates.{creates}
-use Rattle.fm_flow.specs.Table.{FlowTable, IsFlow, in_flight}
-use Rattle.fm_ctx.specs.Bags.{cleaning_of, hand_of}
-use Rattle.fm_ctx.specs.Laws.{IsLawful}
-use Rattle.fm_ctx.specs.Table.{Slot}
-use Rattle.fm_stack.specs.declared.instance.Instance.{Instance}
-use Rattle.fm_stack.specs.StackWorld.{StackWorld}
-use Rattle.fm_stack.specs.Instances.{is_setup}
-use Rattle.fm_stack.specs.Next.{NonePasses, is_candidate}
+use Rattle.fm_world.specs.Words.{InstanceId, WorkerId, OpId, VolumeId, Operation, Instance, StackWorld, is_setup, NonePasses, is_candidate, cleaning_of}
+use Rattle.fm_world.specs.Words.{hand_of, IsLawful, Slot, Stage, InBase, Entry, FlowRecord, visited, last_visited, has_base, owed, creates, FlowTable, IsFlow}
+use Rattle.fm_world.specs.Words.{in_flight}
 use Rattle.fm_stack.specs.Stacks.{IsStack}
 use Rattle.fm_world.specs.declared.worker.Worker.{Worker}
 use Rattle.fm_world.specs.declared.worker.Worker.TheVariants as place

@@ -1,11 +1,6 @@
 -- Where workers are.
 use Rattle.std.specs.Prelude.{Bool, true, false, List, Option, Some, None, slice_get, slice_set, Result, Ok, Err}
-use Rattle.fm_types.specs.declared.ids.WorkerId.{WorkerId}
-use Rattle.fm_types.specs.declared.ids.CtxId.{CtxId}
-use Rattle.fm_types.specs.declared.ids.OpId.{OpId}
-use Rattle.fm_types.specs.declared.ids.InstanceId.{InstanceId}
-use Rattle.fm_types.specs.declared.status.Status.{Status}
-use Rattle.fm_flow.specs.declared.action.FlowAction.{FlowAction}
+use Rattle.fm_world.specs.Words.{WorkerId, CtxId, OpId, InstanceId, Status, FlowAction}
 use Rattle.fm_flow.specs.declared.action.FlowAction.TheVariants as action
 use Rattle.fm_world.specs.declared.worker.Worker.{Worker}
 use Rattle.fm_world.specs.declared.worker.Worker.TheVariants as place

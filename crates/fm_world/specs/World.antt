@@ -1,10 +1,7 @@
 -- The state of the manager between two events.
 use Rattle.std.specs.Prelude.{ℕ, List, [], replicate}
-use Rattle.fm_types.specs.declared.ids.CtxId.{CtxId}
-use Rattle.fm_stack.specs.StackWorld.{StackWorld}
-use Rattle.fm_ctx.specs.Table.{ContextTable, count_in}
+use Rattle.fm_world.specs.Words.{CtxId, StackWorld, ContextTable, count_in, FlowTable, carried, empty_table}
 use Rattle.fm_ctx.specs.Table as contexts
-use Rattle.fm_flow.specs.Table.{FlowTable, carried, empty_table}
 use Rattle.fm_world.specs.Files.{FileTable, empty_files}
 use Rattle.fm_world.specs.declared.worker.Worker.{Worker}
 use Rattle.fm_world.specs.declared.worker.Worker.TheVariants as place

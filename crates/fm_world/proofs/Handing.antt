@@ -1,10 +1,12 @@
 -- Each event changes its worker's hand alone.
-use Rattle.std.proofs.Common.{◌≡◌, ℕ, ◌+◌, Bool, true, false, List, [], ◌∷◌, length, Option, Some, None, Result, zero, suc, refl, ap, sym, ◌∙◌, subst, arith}
+use Rattle.std.proofs.Common.{◌≡◌, ℕ, ◌+◌, Bool, true, false, List, [], ◌∷◌, length, Option, Some, None, Result, Ok, zero, suc, refl, ap, sym, ◌∙◌, subst, arith}
 use Rattle.fm_world.proofs.Words.{slice_set, set-get_or, set-set, sum_by-cons, ContextKind, CtxId, OpId, WorkerId, Status, PreVerdict, PostVerdict, Data}
 use Rattle.fm_world.proofs.Words.{Object, SetMode, hand_of, set_after, delete_after, unlinked_for, Leaves, ContextTable, FlowRecord, SetAnswer, Begin}
 use Rattle.fm_world.proofs.Words.{pairs_in, OnlyHandOf, KeepsHands, World, carries, Begins, state_at, sent_in, sent, PreReturns, PostReturns, carries_after}
 use Rattle.fm_world.proofs.Words.{there_at, Sets, Deletes, LosesLinks}
-use Rattle.fm_world.proofs.Events.{memory_by, asked_by, set_by, pre_by, post_by, set_each}
+use Rattle.fm_world.proofs.Words.{FlowAction, Nexts, brought, received}
+use Rattle.fm_world.proofs.Events.{memory_by, asked_by, set_by, next_by, pre_by, post_by, set_each}
+use Rattle.fm_world.proofs.Keeps.{known_cases}
 use Rattle.fm_world.proofs.Operations.{begun_by}
 
 -- ---- lists of hands
@@ -88,6 +90,22 @@ begin_hands old what result new h n = memory_by (λ _ w. OnlyHandOf n old w) _ r
 loses_hand : (k : ℕ) (old mid new : World) → LosesLinks mid new → OnlyHandOf k old mid → OnlyHandOf k old new
 loses_hand k old mid new h only =
     subst (λ hands. pairs_in hands + length (hand_of old.contexts.hands k) ≡ pairs_in old.contexts.hands + length (hand_of hands k)) (sym h.0.hands) only
+
+brought_hand : (t : ContextTable) (k : WorkerId) (m : Option CtxId) → DifferAt k.0 t.hands (brought t k m).hands
+brought_hand t k None = no_change k.0 t.hands t.hands refl
+brought_hand t k (Some c) = (_, refl)
+
+received_hand : (t : ContextTable) (k : WorkerId) (result : Result FlowAction Status) → DifferAt k.0 t.hands (received t k result).hands
+received_hand t k (Ok (FlowAction.Post i lent completion)) = brought_hand t k completion.context
+received_hand t k (Ok (FlowAction.Drain i completion)) = brought_hand t k completion.context
+received_hand t k (Ok FlowAction.Moved) = no_change k.0 t.hands t.hands refl
+received_hand t k _ = no_change k.0 t.hands t.hands refl
+
+pub next_hand : (old : World) (k : WorkerId) (o : OpId) (result : Result FlowAction Status) (new : World) → Nexts old k o result new → OnlyHandOf k.0 old new
+next_hand old k o result new h =
+    next_by (λ _ w. OnlyHandOf k.0 old w) old k o result new h (same k.0 old) (λ e.
+    let only = by_table k.0 old e.mid (received old.contexts k result) (ap (λ (w : World). w.contexts) e.over.1) (received_hand old.contexts k result) in
+    known_cases (OnlyHandOf k.0 old) result e.lies e.mid new e.loses (λ loses. loses_hand k.0 old e.mid new loses only) only)
 
 sent_hand : (t : ContextTable) (k : WorkerId) (m : Option CtxId) → DifferAt k.0 t.hands (sent t k m).hands
 sent_hand t k None = no_change k.0 t.hands t.hands refl

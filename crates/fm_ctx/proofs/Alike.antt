@@ -1,16 +1,13 @@
 -- Two ways of telling what completions carry that agree on each id say the same of the table.
-use Rattle.std.proofs.Common.{◌≡◌, ℕ, ◌+◌, Bool, true, false, cond, ◌&&◌, eqb, List, [], ◌∷◌, ◌++◌, Option, Some, None, is_some, refl, sym, ap, ap₂, ◌∙◌, arith}
-use Rattle.fm_types.specs.declared.ids.CtxId.{CtxId}
-use Rattle.fm_ctx.specs.declared.object.Object.{Object}
+use Rattle.fm_ctx.proofs.Words.{◌≡◌, ℕ, ◌+◌, Bool, true, false, cond, ◌&&◌, eqb, List, [], ◌∷◌, ◌++◌, Option, Some, None, is_some, refl, sym, ap, ap₂}
+use Rattle.fm_ctx.proofs.Words.{◌∙◌, arith, CtxId, Object, one, held, holds, Context, ContextTable, context_at, link_count, count_in, IsLawful}
+use Rattle.fm_ctx.proofs.Words.{due_after, released, unlinked, unlinked_for, linked, count_reply_of, was_given, newly, Settles, Sweeps}
 use Rattle.fm_ctx.specs.declared.set_reply.SetMode.{SetMode}
 use Rattle.fm_ctx.specs.declared.set_reply.SetMode.TheVariants.{Keep, Replace}
-use Rattle.fm_ctx.specs.Bags.{one, held, holds, is_hand_full}
-use Rattle.fm_ctx.specs.Table.{Context, ContextTable, context_at, link_count, count_in}
-use Rattle.fm_ctx.specs.Laws.{IsLawful}
-use Rattle.fm_ctx.specs.References.{due_after, released}
-use Rattle.fm_ctx.specs.Links.{unlinked, unlinked_for, linked, set_mode_after, set_after, delete_after}
-use Rattle.fm_ctx.specs.Counting.{count_reply, count_reply_of, was_given}
-use Rattle.fm_ctx.specs.Settling.{newly, Settles, Leaves, Sweeps}
+use Rattle.fm_ctx.specs.Bags.{is_hand_full}
+use Rattle.fm_ctx.specs.Links.{set_mode_after, set_after, delete_after}
+use Rattle.fm_ctx.specs.Counting.{count_reply}
+use Rattle.fm_ctx.specs.Settling.{Leaves}
 
 pub count_alike : (carried carried' : CtxId → ℕ) (t : ContextTable) (c : CtxId) → carried c ≡ carried' c → count_in carried t c ≡ count_in carried' t c
 count_alike carried carried' t c same = ap (λ n. link_count (context_at t.slots c) + n + held t.hands c) same

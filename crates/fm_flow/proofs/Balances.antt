@@ -1,34 +1,22 @@
 -- By how much a step changes what an operation counts for.
-use Rattle.std.proofs.Common.{◌≡◌, ℕ, ◌+◌, ◌≤◌, ◌==◌, Bool, true, false, cond, List, [], ◌∷◌, ◌++◌, length, Option, Some, None, Err, find, slice_get, inl, inr, refl, sym, ap, ◌∙◌, subst, arith}
+use Rattle.fm_flow.proofs.Words.{◌≡◌, ℕ, ◌+◌, ◌≤◌, ◌==◌, Bool, true, false, cond, List, [], ◌∷◌, ◌++◌, length, Option, Some, None, Err, find}
+use Rattle.fm_flow.proofs.Words.{slice_get, inl, inr, refl, sym, ap, ◌∙◌, subst, arith, same_Some, InstanceId, WorkerId, WrongStep, BaseCall, Params}
+use Rattle.fm_flow.proofs.Words.{Answer, PostVerdict, Data, Stage, Descending, PreRunning, PreHeld, InBase, Ascending, PostRunning, PostHeld, InDrain}
+use Rattle.fm_flow.proofs.Words.{PreState, Ask, Entry, Base, Drain, Below, HandleId, FlowRecord, one, times, visited, last_visited, owed, instances}
+use Rattle.fm_flow.proofs.Words.{without, ask_of, answers, opens, Turned, turn, post_entry, bare_ask, call_pre, call_base, call_post, give_post}
+use Rattle.fm_flow.proofs.Words.{descend, ascend, unwound, unwound_to, may_take, next_at, next_of, MayLieBelow, pre_returned_of, base_returned_of}
+use Rattle.fm_flow.proofs.Words.{post_state, post_returned_of, drain_returned_of, IsSound, IsCourse}
 use Rattle.std.proofs.lemmas.Bool.{cases_Bool}
-use Rattle.std.proofs.lemmas.Option.{none-some, same_Some}
-use Rattle.fm_types.specs.declared.ids.InstanceId.{InstanceId}
-use Rattle.fm_types.specs.declared.ids.WorkerId.{WorkerId}
+use Rattle.std.proofs.lemmas.Option.{none-some}
 use Rattle.fm_types.specs.declared.ids.CtxId.{CtxId}
-use Rattle.fm_types.specs.declared.status.Status.TheVariants.{WrongStep}
-use Rattle.fm_data.specs.declared.base_call.BaseCall.{BaseCall}
-use Rattle.fm_data.specs.declared.params.Params.{Params}
-use Rattle.fm_data.specs.declared.answer.Answer.{Answer}
-use Rattle.fm_data.specs.declared.verdict.PostVerdict.{PostVerdict}
-use Rattle.fm_data.specs.Data.{Data}
 use Rattle.fm_flow.specs.Table.{change_first, total}
-use Rattle.fm_flow.specs.declared.stage.Stage.{Stage}
-use Rattle.fm_flow.specs.declared.stage.Stage.TheVariants.{Descending, PreRunning, PreHeld, InBase, Ascending, PostRunning, PostHeld, InDrain}
-use Rattle.fm_flow.specs.declared.entry.PreState.{PreState}
 use Rattle.fm_flow.specs.declared.entry.PreState.TheVariants as pre
 use Rattle.fm_flow.specs.declared.entry.PostState.TheVariants as post
-use Rattle.fm_flow.specs.declared.entry.Ask.{Ask}
-use Rattle.fm_flow.specs.declared.entry.Entry.{Entry}
-use Rattle.fm_flow.specs.declared.entry.Entry.TheVariants.{Base, Drain}
-use Rattle.fm_flow.specs.declared.action.Below.{Below}
 use Rattle.fm_flow.specs.declared.action.Below.TheVariants as below
-use Rattle.fm_types.specs.declared.ids.HandleId.{HandleId}
 use Rattle.fm_flow.specs.Answered.{bare_answer, base_counted}
-use Rattle.fm_flow.specs.Record.{FlowRecord}
-use Rattle.fm_flow.specs.Entries.{one, times, visited, last_visited, last_posted, owed, instances, without, ask_of, answers}
-use Rattle.fm_flow.specs.Counts.{carried_in, carried_among, carried_by, handed, taken_by, opens, flight, enters, leaves_by, leaves_at, post_leaves_by}
-use Rattle.fm_flow.specs.Steps.{Turned, turn, pre_entry, post_entry, bare_ask, with_base, with_drain, call_pre, call_base, call_post, give_post, descend, ascend, unwound, unwound_to, may_take, next_at, next_of, MayLieBelow, pre_returned_of, base_returned_of, post_state, post_returned_of, drain_returned_of}
-use Rattle.fm_flow.specs.Sound.{IsSound, IsCourse}
+use Rattle.fm_flow.specs.Entries.{last_posted}
+use Rattle.fm_flow.specs.Counts.{carried_in, carried_among, carried_by, handed, taken_by, flight, enters, leaves_by, leaves_at, post_leaves_by}
+use Rattle.fm_flow.specs.Steps.{pre_entry, with_base, with_drain}
 use Rattle.fm_flow.proofs.Lists.{without_head}
 use Rattle.fm_flow.proofs.Owed.{owed_push_none, owed_push_ask, owed_push_answer, unanswered}
 use Rattle.fm_flow.proofs.Course.{unvisited, owed_once}

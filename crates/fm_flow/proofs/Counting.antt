@@ -1,23 +1,14 @@
 -- What each step adds to the references carried and to the operations in flight, and what it takes away.
-use Rattle.std.proofs.Common.{◌≡◌, ℕ, ◌+◌, ◌≤◌, ◌==◌, Bool, true, false, cond, not, ◌&&◌, List, [], ◌∷◌, ◌++◌, map, reverse, Some, None, option_to_list, slice_get, inl, inr, refl, sym, ap, ◌∙◌, arith, zero-add}
-use Rattle.std.proofs.lemmas.List.{reverse-append}
-use Rattle.std.proofs.lemmas.List.Elements.{filter_map-append}
-use Rattle.std.proofs.lemmas.Bool.Decides.{nat_tests}
+use Rattle.fm_flow.proofs.Words.{◌≡◌, ℕ, ◌+◌, ◌≤◌, ◌==◌, Bool, true, false, cond, not, ◌&&◌, List, [], ◌∷◌, ◌++◌, map, reverse, Some, None}
+use Rattle.fm_flow.proofs.Words.{option_to_list, slice_get, inl, inr, refl, sym, ap, ◌∙◌, arith, zero-add, reverse-append, filter_map-append}
+use Rattle.fm_flow.proofs.Words.{nat_tests, Stage, Descending, PreState, PostState, PreVisit, DrainVisit, Ask, Entry, Pre, Base, Post, Drain, one}
+use Rattle.fm_flow.proofs.Words.{times, ask_in, visit_of, post_of, visited, last_visited, asked, posted, owed, instances, is_pre_open, settle_pre}
+use Rattle.fm_flow.proofs.Words.{settle_post, settle_drain, opens, drain_opens, answer_count, IsCourse}
 use Rattle.fm_types.specs.declared.ids.CtxId.{CtxId}
-use Rattle.fm_flow.specs.declared.stage.Stage.{Stage}
-use Rattle.fm_flow.specs.declared.stage.Stage.TheVariants.{Descending}
-use Rattle.fm_flow.specs.declared.entry.PreState.{PreState}
 use Rattle.fm_flow.specs.declared.entry.PreState.TheVariants as pre
-use Rattle.fm_flow.specs.declared.entry.PostState.{PostState}
 use Rattle.fm_flow.specs.declared.entry.PostState.TheVariants as post
-use Rattle.fm_flow.specs.declared.entry.PreVisit.{PreVisit}
-use Rattle.fm_flow.specs.declared.entry.DrainVisit.{DrainVisit}
-use Rattle.fm_flow.specs.declared.entry.Ask.{Ask}
-use Rattle.fm_flow.specs.declared.entry.Entry.{Entry}
-use Rattle.fm_flow.specs.declared.entry.Entry.TheVariants.{Pre, Base, Post, Drain}
-use Rattle.fm_flow.specs.Entries.{one, times, ask_in, visit_of, post_of, visited, last_visited, last_posted, asked, posted, owed, instances, is_pre_open, is_post_open, settle_pre, settle_post, settle_drain}
-use Rattle.fm_flow.specs.Counts.{carried_among, taken_by, opens_at, opens, leaves_by, leaves_at, post_leaves_by, drain_opens}
-use Rattle.fm_flow.specs.Sound.{answer_count, IsCourse}
+use Rattle.fm_flow.specs.Entries.{last_posted, is_post_open}
+use Rattle.fm_flow.specs.Counts.{carried_among, taken_by, opens_at, leaves_by, leaves_at, post_leaves_by}
 use Rattle.fm_flow.proofs.Lists.{either}
 use Rattle.fm_flow.proofs.Walks.{OpenPre, OpenPost, is_pre, is_post}
 use Rattle.fm_flow.proofs.Course.{asked_cons, owed_settled, times_instances-append, one_and}

@@ -1,26 +1,18 @@
 -- The laws of entries are kept by each step.
-use Rattle.std.proofs.Common.{◌≡◌, ℕ, ◌+◌, ◌<◌, ◌≤◌, ◌==◌, Bool, true, false, cond, not, ◌&&◌, List, [], ◌∷◌, ◌++◌, length, reverse, filter, Option, Some, None, option_to_list, inl, inr, refl, sym, ap, ap₂, ◌∙◌, arith, append-nil, append_assoc, zero-add}
+use Rattle.fm_flow.proofs.Words.{◌≡◌, ℕ, ◌+◌, ◌<◌, ◌≤◌, ◌==◌, Bool, true, false, cond, not, ◌&&◌, List, [], ◌∷◌, ◌++◌, length, reverse, filter}
+use Rattle.fm_flow.proofs.Words.{Option, Some, None, option_to_list, inl, inr, refl, sym, ap, ap₂, ◌∙◌, arith, append-nil, zero-add, cons_option}
+use Rattle.fm_flow.proofs.Words.{reverse-append, length-append, nat_tests, Stage, Descending, PreRunning, InBase, Ascending, PostRunning, PreState}
+use Rattle.fm_flow.proofs.Words.{PreVisit, PostVisit, DrainVisit, Status, pre_leads, drain_opens, Ask, Entry, Pre, Base, Post, Drain, one, times}
+use Rattle.fm_flow.proofs.Words.{ask_in, ask_of, is_drained, is_answered, visited, asked, posted, owed, instances, without, walk, way_of}
+use Rattle.fm_flow.proofs.Words.{answer_count, IsCourse}
+use Rattle.std.proofs.Common.{append_assoc}
 use Rattle.std.specs.Prelude.{⊤}
-use Rattle.std.specs.List.{cons_option}
-use Rattle.std.proofs.lemmas.List.{reverse-append, map-append, length-append}
+use Rattle.std.proofs.lemmas.List.{map-append}
 use Rattle.std.proofs.lemmas.List.Elements.{filter-append, filter_agree}
-use Rattle.std.proofs.lemmas.Bool.Decides.{nat_tests}
-use Rattle.fm_flow.specs.declared.stage.Stage.{Stage}
-use Rattle.fm_flow.specs.declared.stage.Stage.TheVariants.{Descending, PreRunning, InBase, Ascending, PostRunning}
-use Rattle.fm_flow.specs.declared.entry.PreState.{PreState}
 use Rattle.fm_flow.specs.declared.entry.PreState.TheVariants as pre
-use Rattle.fm_flow.specs.declared.entry.PreVisit.{PreVisit}
-use Rattle.fm_flow.specs.declared.entry.PostVisit.{PostVisit}
-use Rattle.fm_flow.specs.declared.entry.DrainVisit.{DrainVisit}
 use Rattle.fm_flow.specs.declared.entry.PostState.TheVariants as post
-use Rattle.fm_types.specs.declared.status.Status.{Status}
-use Rattle.fm_flow.specs.Steps.{pre_leads}
-use Rattle.fm_flow.specs.Counts.{drain_opens}
-use Rattle.fm_flow.specs.declared.entry.Ask.{Ask}
-use Rattle.fm_flow.specs.declared.entry.Entry.{Entry}
-use Rattle.fm_flow.specs.declared.entry.Entry.TheVariants.{Pre, Base, Post, Drain}
-use Rattle.fm_flow.specs.Entries.{one, times, ask_in, ask_of, is_drained, is_answered, visited, asked, posted, owed, undrained, instances, without}
-use Rattle.fm_flow.specs.Sound.{if_down, walk, way_of, answer_count, slack, HasItsDrain, IsCourse}
+use Rattle.fm_flow.specs.Entries.{undrained}
+use Rattle.fm_flow.specs.Sound.{if_down, slack, HasItsDrain}
 use Rattle.fm_flow.proofs.Lists.{without_head, others, times-append, instances_without, length_without, others_none, times_others_same, times_others_other, one-same, either}
 use Rattle.fm_flow.proofs.Owed.{asked_push, visited_push, posted_push, answer_count-append, owed_push_none, owed_push_ask, owed_push_answer, undrained_push_none, undrained_push_ask, undrained_push_drain, unanswered, not_drained}
 use Rattle.fm_flow.proofs.Walks.{walk_push, no_posts}

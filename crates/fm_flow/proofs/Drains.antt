@@ -1,28 +1,18 @@
 -- What each step adds to the drains that run, and what it takes away.
-use Rattle.std.proofs.Common.{◌≡◌, ℕ, ◌+◌, ◌≤◌, ◌==◌, ◌&&◌, ◌||◌, Bool, true, false, cond, List, [], ◌∷◌, ◌++◌, map, Option, Some, None, Result, Ok, Err, slice_get, refl, ap, subst, arith}
-use Rattle.std.specs.List.{list_any}
-use Rattle.fm_types.specs.declared.ids.InstanceId.{InstanceId}
-use Rattle.fm_types.specs.declared.ids.WorkerId.{WorkerId}
-use Rattle.fm_types.specs.declared.status.Status.{Status}
-use Rattle.fm_types.specs.declared.status.Status.TheVariants.{WrongStep}
-use Rattle.fm_data.specs.declared.params.Params.{Params}
-use Rattle.fm_flow.specs.declared.action.Below.{Below}
+use Rattle.fm_flow.proofs.Words.{◌≡◌, ℕ, ◌+◌, ◌≤◌, ◌==◌, ◌&&◌, ◌||◌, Bool, true, false, cond, List, [], ◌∷◌, ◌++◌, map, Option, Some, None, Ok, Err}
+use Rattle.fm_flow.proofs.Words.{slice_get, refl, ap, subst, arith, list_any, InstanceId, WorkerId, Status, WrongStep, Params, Below, Ask, Entry, Pre}
+use Rattle.fm_flow.proofs.Words.{Base, Post, Drain, PreState, PostState, Stage, Descending, PreRunning, PreHeld, InBase, Ascending, PostRunning}
+use Rattle.fm_flow.proofs.Words.{PostHeld, InDrain, drain_opens, opens, is_running_drain, one, owed, settle_pre, settle_post, settle_drain}
+use Rattle.fm_flow.proofs.Words.{FlowRecord, Turned, turn, post_entry, bare_ask, call_pre, call_base, call_post, give_post, descend, ascend, unwound}
+use Rattle.fm_flow.proofs.Words.{may_take, next_at, next_of}
+use Rattle.std.proofs.Common.{Result}
 use Rattle.fm_flow.specs.declared.action.Below.TheVariants as below
 use Rattle.fm_flow.specs.declared.action.FlowAction.{FlowAction}
 use Rattle.fm_flow.specs.declared.action.FlowAction.TheVariants as action
-use Rattle.fm_flow.specs.declared.entry.Ask.{Ask}
-use Rattle.fm_flow.specs.declared.entry.Entry.{Entry}
-use Rattle.fm_flow.specs.declared.entry.Entry.TheVariants.{Pre, Base, Post, Drain}
-use Rattle.fm_flow.specs.declared.entry.PreState.{PreState}
 use Rattle.fm_flow.specs.declared.entry.PreState.TheVariants as pre
-use Rattle.fm_flow.specs.declared.entry.PostState.{PostState}
 use Rattle.fm_flow.specs.declared.entry.PostState.TheVariants as post
-use Rattle.fm_flow.specs.declared.stage.Stage.{Stage}
-use Rattle.fm_flow.specs.declared.stage.Stage.TheVariants.{Descending, PreRunning, PreHeld, InBase, Ascending, PostRunning, PostHeld, InDrain}
-use Rattle.fm_flow.specs.Counts.{drain_opens_at, drain_opens, opens, is_running_drain}
-use Rattle.fm_flow.specs.Entries.{one, owed, settle_pre, settle_post, settle_drain}
-use Rattle.fm_flow.specs.Record.{FlowRecord}
-use Rattle.fm_flow.specs.Steps.{Turned, turn, pre_entry, post_entry, bare_ask, call_pre, call_base, call_post, give_post, descend, ascend, unwound, may_take, next_at, next_of}
+use Rattle.fm_flow.specs.Counts.{drain_opens_at}
+use Rattle.fm_flow.specs.Steps.{pre_entry}
 use Rattle.fm_flow.proofs.Balances.{unwound_entries}
 use Rattle.fm_flow.proofs.Counting.{and_true, and_false, same_either, cond_sum, drain_at}
 

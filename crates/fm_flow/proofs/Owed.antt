@@ -1,13 +1,11 @@
 -- What one more entry makes of the postoperations owed.
-use Rattle.std.proofs.Common.{◌≡◌, ℕ, ◌+◌, ◌==◌, Bool, true, false, cond, not, ◌&&◌, ◌||◌, List, [], ◌∷◌, ◌++◌, reverse, filter, Option, Some, None, option_to_list, refl, sym, ap, ◌∙◌, arith, append-nil, zero-add}
-use Rattle.std.proofs.lemmas.List.{reverse-append}
-use Rattle.std.proofs.lemmas.List.Elements.{filter_map-append, filter_agree}
+use Rattle.fm_flow.proofs.Words.{◌≡◌, ℕ, ◌+◌, ◌==◌, Bool, true, false, cond, not, ◌&&◌, ◌||◌, List, [], ◌∷◌, ◌++◌, reverse, filter, Option, Some}
+use Rattle.fm_flow.proofs.Words.{None, option_to_list, refl, sym, ap, ◌∙◌, arith, append-nil, zero-add, reverse-append, filter_map-append, Ask, Entry}
+use Rattle.fm_flow.proofs.Words.{Pre, Base, Post, Drain, one, ask_of, visit_of, post_of, answers, is_drained, is_answered, visited, asked, posted}
+use Rattle.fm_flow.proofs.Words.{owed, without, answer_count}
+use Rattle.std.proofs.lemmas.List.Elements.{filter_agree}
 use Rattle.std.proofs.lemmas.List.Folds.{list_any-append}
-use Rattle.fm_flow.specs.declared.entry.Ask.{Ask}
-use Rattle.fm_flow.specs.declared.entry.Entry.{Entry}
-use Rattle.fm_flow.specs.declared.entry.Entry.TheVariants.{Pre, Base, Post, Drain}
-use Rattle.fm_flow.specs.Entries.{one, ask_of, visit_of, post_of, drains, answers, is_drained, is_answered, visited, asked, posted, owed, undrained, without}
-use Rattle.fm_flow.specs.Sound.{answer_count}
+use Rattle.fm_flow.specs.Entries.{drains, undrained}
 use Rattle.fm_flow.proofs.Lists.{filter_both}
 
 -- ---- one more entry, list by list

@@ -1,11 +1,7 @@
 -- The path for the base's call is at hand until the call.
-use Rattle.std.proofs.Common.{◌≡◌, ℕ, List, Option}
-use Rattle.fm_flow.specs.declared.entry.PreState.{PreState}
+use Rattle.fm_flow.proofs.Words.{◌≡◌, ℕ, List, Option, PreState, PostState, pre_leads, post_leads, HasPath}
 use Rattle.fm_flow.specs.declared.entry.PreState.TheVariants as pre
-use Rattle.fm_flow.specs.declared.entry.PostState.{PostState}
 use Rattle.fm_flow.specs.declared.entry.PostState.TheVariants as post
-use Rattle.fm_flow.specs.Steps.{pre_leads, post_leads}
-use Rattle.fm_flow.specs.Sound.{HasPath}
 
 pub path_down : (state : PreState) (path given : Option (List ℕ)) → given ≡ path → HasPath (pre_leads state) path given
 path_down (pre.Completed status) path given h = tt

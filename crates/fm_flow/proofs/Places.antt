@@ -1,20 +1,16 @@
 -- The place of an operation in the table.
-use Rattle.std.proofs.Common.{◌≡◌, ℕ, ◌+◌, ◌<◌, ◌≤◌, Bool, true, false, cond, List, length, get_or, set, take, remove, find, position, Option, Some, None, option_map, unwrap_or, Ok, Err, refl, ap, sym, ◌∙◌, subst, arith}
-use Rattle.std.proofs.lemmas.Option.{same_Some}
-use Rattle.std.specs.List.{list_any}
+use Rattle.fm_flow.proofs.Words.{◌≡◌, ℕ, ◌+◌, ◌<◌, ◌≤◌, Bool, true, false, cond, List, length, get_or, take, find, Option, Some, None, option_map, Ok}
+use Rattle.fm_flow.proofs.Words.{Err, refl, ap, sym, ◌∙◌, subst, arith, same_Some, list_any, WrongStep, Answer, is_running_drain, FlowRecord, Stage}
+use Rattle.fm_flow.proofs.Words.{IsSound, StandsAt, marked}
+use Rattle.std.proofs.Common.{set, remove, position, unwrap_or}
 use Rattle.std.specs.Prelude.{count_by}
 use Rattle.std.proofs.lemmas.List.{take_more, get_or_default}
 use Rattle.std.proofs.lemmas.List.Sums.{sum_by_push}
 use Rattle.fm_types.specs.declared.ids.OpId.{OpId}
-use Rattle.fm_types.specs.declared.status.Status.TheVariants.{WrongStep}
-use Rattle.fm_data.specs.declared.answer.Answer.{Answer}
-use Rattle.fm_flow.specs.Counts.{is_running_drain}
-use Rattle.fm_flow.specs.Record.{FlowRecord}
-use Rattle.fm_flow.specs.declared.stage.Stage.{Stage}
-use Rattle.fm_flow.specs.Sound.{IsSound}
 use Rattle.fm_types.proofs.Firsts.{StandsThere, stands_there, absent, change_none, found_holds}
 use Rattle.fm_flow.proofs.Flows.{Stays, flow_changes, flow_collects}
-use Rattle.fm_flow.specs.Table.{IsFlow, FlowTable, is_number, operation_at, changed, removed, told, StandsAt, collected_of, collected_in, collect_reply, is_collectable, marked}
+use Rattle.fm_flow.specs.Table.{IsFlow, FlowTable, is_number, operation_at, changed, removed, told, collected_of, collected_in, collect_reply}
+use Rattle.fm_flow.specs.Table.{is_collectable}
 
 -- ---- a method finds no operation of that number
 

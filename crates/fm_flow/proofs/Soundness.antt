@@ -1,37 +1,26 @@
 -- Each step keeps the laws of an operation.
-use Rattle.std.proofs.Common.{◌≡◌, ℕ, ◌+◌, ◌<◌, ◌≤◌, ◌==◌, Bool, true, false, cond, not, ◌&&◌, List, [], ◌∷◌, ◌++◌, length, map, take, All, Option, Some, None, is_some, nat_le, unwrap_or, slice_get, refl, sym, ap, ap₂, ◌∙◌, subst, arith, append-nil}
-use Rattle.std.proofs.lemmas.List.{length-append, length-take}
+use Rattle.fm_flow.proofs.Words.{◌≡◌, ℕ, ◌+◌, ◌<◌, ◌≤◌, ◌==◌, Bool, true, false, cond, not, ◌&&◌, List, [], ◌∷◌, ◌++◌, length, map, take, Option}
+use Rattle.fm_flow.proofs.Words.{Some, None, slice_get, refl, sym, ap, ap₂, ◌∙◌, subst, arith, append-nil, length-append, nat_tests, InstanceId}
+use Rattle.fm_flow.proofs.Words.{WorkerId, Status, BaseCall, Params, Answer, PostVerdict, Data, data_fits, Stage, Descending, PreRunning, InBase}
+use Rattle.fm_flow.proofs.Words.{Ascending, PostRunning, InDrain, PreState, PostState, Ask, Entry, Pre, Base, Drain, times, visit_of, visited, owed}
+use Rattle.fm_flow.proofs.Words.{instances, settle_pre, settle_post, HandleId, FlowRecord, pre_leads, post_leads, post_entry, bare_ask, call_pre}
+use Rattle.fm_flow.proofs.Words.{call_base, unwound_to, unwound, give_post, pre_returned_of, base_returned_of, post_state, post_returned_of}
+use Rattle.fm_flow.proofs.Words.{drain_returned_of, base_fits, IsCourse, IsSound}
+use Rattle.std.proofs.Common.{All, is_some, nat_le, unwrap_or}
+use Rattle.std.proofs.lemmas.List.{length-take}
 use Rattle.std.proofs.lemmas.List.Elements.{All-append, All-take, All-nil, All-push}
-use Rattle.std.proofs.lemmas.Bool.Decides.{nat_tests}
 use Rattle.fm_types.proofs.Lists.{all_at}
-use Rattle.fm_types.specs.declared.ids.InstanceId.{InstanceId}
-use Rattle.fm_types.specs.declared.ids.WorkerId.{WorkerId}
 use Rattle.fm_types.specs.declared.operation.Operation.{Operation}
-use Rattle.fm_types.specs.declared.status.Status.{Status}
-use Rattle.fm_data.specs.declared.base_call.BaseCall.{BaseCall}
-use Rattle.fm_data.specs.declared.params.Params.{Params}
-use Rattle.fm_data.specs.declared.answer.Answer.{Answer}
-use Rattle.fm_data.specs.declared.verdict.PostVerdict.{PostVerdict}
 use Rattle.fm_data.specs.declared.verdict.PostVerdict.TheVariants as verdict
 use Rattle.fm_data.specs.Params.{is_within_limits, same_path, fit, call_fits}
-use Rattle.fm_data.specs.Data.{Data, change_passes, data_fits}
-use Rattle.fm_flow.specs.declared.stage.Stage.{Stage}
-use Rattle.fm_flow.specs.declared.stage.Stage.TheVariants.{Descending, PreRunning, InBase, Ascending, PostRunning, InDrain}
-use Rattle.fm_flow.specs.declared.entry.PreState.{PreState}
+use Rattle.fm_data.specs.Data.{change_passes}
 use Rattle.fm_flow.specs.declared.entry.PreState.TheVariants as pre
-use Rattle.fm_flow.specs.declared.entry.PostState.{PostState}
 use Rattle.fm_flow.specs.declared.entry.PostState.TheVariants as post
-use Rattle.fm_flow.specs.declared.entry.Ask.{Ask}
-use Rattle.fm_flow.specs.declared.entry.Entry.{Entry}
-use Rattle.fm_flow.specs.declared.entry.Entry.TheVariants.{Pre, Base, Drain}
-use Rattle.fm_flow.specs.Entries.{times, visit_of, visited, owed, instances, settle_pre, settle_post}
 use Rattle.fm_flow.specs.Verdict.{is_counted}
-use Rattle.fm_types.specs.declared.ids.HandleId.{HandleId}
 use Rattle.fm_data.specs.declared.params.Params.TheVariants as params
 use Rattle.fm_flow.specs.Answered.{bare_answer, is_success, success_of, base_counted}
-use Rattle.fm_flow.specs.Record.{FlowRecord}
-use Rattle.fm_flow.specs.Steps.{pre_leads, post_leads, post_entry, bare_ask, with_visit, call_pre, call_base, with_base, stands, left_answer, returned_answer, unwound_to, unwound, give_post, with_drain, kept_of, answer_after, pre_returned_of, base_returned_of, post_state, post_returned_of, drain_returned_of, done_at, is_done, base_fits}
-use Rattle.fm_flow.specs.Sound.{lends, keeps_more, IsCourse, IsSound}
+use Rattle.fm_flow.specs.Steps.{with_visit, with_base, stands, left_answer, returned_answer, with_drain, kept_of, answer_after, done_at, is_done}
+use Rattle.fm_flow.specs.Sound.{lends, keeps_more}
 use Rattle.fm_flow.proofs.Lists.{one-same}
 use Rattle.fm_flow.proofs.Walks.{is_pre, is_post}
 use Rattle.fm_flow.proofs.Owed.{visited_push}

@@ -1,22 +1,16 @@
 -- What the order of entries says: where the callback stands that runs or holds, and what may follow it.
-use Rattle.std.proofs.Common.{◌≡◌, ℕ, Bool, true, false, List, [], ◌∷◌, ◌++◌, map, Option, Some, None, option_and_then, option_map, option_to_list, slice_get, reverse, take, get_or, length, ◌+◌, ◌<◌, append-nil, inl, inr, refl, sym, ap, ap₂, ◌∙◌}
+use Rattle.fm_flow.proofs.Words.{◌≡◌, ℕ, Bool, true, false, List, [], ◌∷◌, ◌++◌, map, Option, Some, None, option_map, option_to_list, slice_get}
+use Rattle.fm_flow.proofs.Words.{reverse, take, get_or, length, ◌+◌, ◌<◌, append-nil, inl, inr, refl, sym, ap, ap₂, ◌∙◌, reverse-append, InstanceId}
+use Rattle.fm_flow.proofs.Words.{Stage, Descending, PreRunning, PreHeld, Ascending, PostRunning, PostHeld, PreState, PostState, PreVisit, PostVisit}
+use Rattle.fm_flow.proofs.Words.{DrainVisit, Entry, Pre, Base, Post, Drain, visit_of, last_visited, visited, asked, posted, is_pre_open, settle_pre}
+use Rattle.fm_flow.proofs.Words.{settle_post, pre_leads, post_leads, walk, way_of}
+use Rattle.std.proofs.Common.{option_and_then}
 use Rattle.std.specs.Option.{option_or}
-use Rattle.std.proofs.lemmas.List.{reverse-append, take_more}
-use Rattle.fm_types.specs.declared.ids.InstanceId.{InstanceId}
-use Rattle.fm_flow.specs.declared.stage.Stage.{Stage}
-use Rattle.fm_flow.specs.declared.stage.Stage.TheVariants.{Descending, PreRunning, PreHeld, Ascending, PostRunning, PostHeld}
-use Rattle.fm_flow.specs.declared.entry.PreState.{PreState}
+use Rattle.std.proofs.lemmas.List.{take_more}
 use Rattle.fm_flow.specs.declared.entry.PreState.TheVariants as pre
-use Rattle.fm_flow.specs.declared.entry.PostState.{PostState}
 use Rattle.fm_flow.specs.declared.entry.PostState.TheVariants as post
-use Rattle.fm_flow.specs.declared.entry.PreVisit.{PreVisit}
-use Rattle.fm_flow.specs.declared.entry.PostVisit.{PostVisit}
-use Rattle.fm_flow.specs.declared.entry.DrainVisit.{DrainVisit}
-use Rattle.fm_flow.specs.declared.entry.Entry.{Entry}
-use Rattle.fm_flow.specs.declared.entry.Entry.TheVariants.{Pre, Base, Post, Drain}
-use Rattle.fm_flow.specs.Entries.{visit_of, last_visited, visited, asked, posted, is_pre_open, is_post_open, settle_pre, settle_post}
-use Rattle.fm_flow.specs.Steps.{pre_leads, post_leads}
-use Rattle.fm_flow.specs.Sound.{if_down, if_up, after, walk, way_of}
+use Rattle.fm_flow.specs.Entries.{is_post_open}
+use Rattle.fm_flow.specs.Sound.{if_down, if_up, after}
 use Rattle.fm_flow.proofs.Lists.{either}
 use Rattle.fm_flow.proofs.Owed.{visited_push}
 

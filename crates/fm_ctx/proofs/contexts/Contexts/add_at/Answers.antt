@@ -1,8 +1,6 @@
-use Rattle.std.proofs.Common.{◌≡◌, ◌≤◌, ◌+◌, List, ℕ, true, is_some, length, refl, sym, ap, ap₂, subst, ◌∙◌, arith}
-use Rattle.fm_ctx.specs.Table.{context_at}
-use Rattle.fm_ctx.specs.Kept.{ContextsKept}
-use Rattle.fm_ctx.specs.Bodies.{body_at, bumped, raised, with_body, with_number}
-use Rattle.fm_ctx.specs.Rows.{slots_of, row_with}
+use Rattle.fm_ctx.proofs.Words.{◌≡◌, ◌≤◌, ◌+◌, List, ℕ, true, is_some, length, refl, sym, ap, ap₂, subst, ◌∙◌, arith, context_at, ContextsKept}
+use Rattle.fm_ctx.proofs.Words.{body_at, with_body, slots_of, row_with}
+use Rattle.fm_ctx.specs.Bodies.{bumped, raised, with_number}
 use Rattle.fm_ctx.proofs.Rows.{within_rows, row_of_context, body_row}
 use Rattle.fm_ctx.proofs.Sound.{sound_as, sound_rewritten}
 use Rattle.fm_ctx.proofs.Shown.{shown, slots_of_context, carried_kept, emptied_to}

@@ -1,8 +1,4 @@
-use Rattle.std.proofs.Common.{◌≡◌, true, is_some, sym, ap, subst, ◌∙◌, arith}
-use Rattle.fm_ctx.specs.declared.row.Row.{Row}
-use Rattle.fm_ctx.specs.Table.{context_at}
-use Rattle.fm_ctx.specs.Kept.{ContextsKept}
-use Rattle.fm_ctx.specs.Bodies.{body_at}
+use Rattle.fm_ctx.proofs.Words.{◌≡◌, true, is_some, sym, ap, subst, ◌∙◌, arith, Row, context_at, ContextsKept, body_at}
 use Rattle.fm_ctx.proofs.Rows.{within_rows, row_of_context, body_row}
 use Rattle.fm_ctx.proofs.contexts.Contexts.body.Goals as goal
 

@@ -1,9 +1,4 @@
-use Rattle.std.proofs.Common.{◌<◌, length, refl, sym, ap, subst, ◌∙◌}
-use Rattle.fm_ctx.specs.Table.{count_in}
-use Rattle.fm_ctx.specs.Kept.{ContextsKept, carried_of}
-use Rattle.fm_ctx.specs.Bags.{hand_of}
-use Rattle.fm_ctx.specs.References.{grabbed}
-use Rattle.fm_ctx.specs.Rows.{raised}
+use Rattle.fm_ctx.proofs.Words.{◌<◌, length, refl, sym, ap, subst, ◌∙◌, count_in, ContextsKept, carried_of, hand_of, grabbed, raised}
 use Rattle.fm_ctx.proofs.Rows.{within_rows}
 use Rattle.fm_ctx.proofs.Sound.{present, row_fits, sound_as, sound_grabbed}
 use Rattle.fm_ctx.proofs.Shown.{shown, slots_kept, carried_kept}

@@ -1,15 +1,9 @@
-use Rattle.std.proofs.Common.{◌<◌, Option, Some, is_some, arith, refl, sym, ap, subst, ◌∙◌}
-use Rattle.fm_ctx.specs.Table.{count_in}
-use Rattle.fm_ctx.specs.Kept.{ContextsKept, carried_of}
-use Rattle.fm_ctx.specs.Links.{with_link, linked, IsFree}
-use Rattle.fm_ctx.specs.Rows.{linked_row}
+use Rattle.fm_ctx.proofs.Words.{◌<◌, Option, Some, is_some, arith, refl, sym, ap, subst, ◌∙◌, count_in, ContextsKept, carried_of, with_link, linked}
+use Rattle.fm_ctx.proofs.Words.{IsFree, linked_row, link_count, one, Object}
 use Rattle.fm_ctx.proofs.Rows.{within_rows}
 use Rattle.fm_ctx.proofs.Sound.{present, row_fits, free_link, sound_as, sound_linked}
 use Rattle.fm_ctx.proofs.Shown.{shown, slots_of_context, carried_kept}
 use Rattle.fm_ctx.proofs.Seated.{seats_set, seat_within, seat_free, linked_seat}
-use Rattle.fm_ctx.specs.Table.{link_count}
-use Rattle.fm_ctx.specs.Bags.{one}
-use Rattle.fm_ctx.specs.declared.object.Object.{Object}
 use Rattle.fm_ctx.proofs.contexts.Contexts.link.Goals as goal
 
 pub index-requires : goal.index-requires

@@ -1,8 +1,5 @@
-use Rattle.std.proofs.Common.{◌≡◌, List, ℕ, true, is_some, length, refl, sym, ap, subst, ◌∙◌}
-use Rattle.fm_ctx.specs.Table.{context_at}
-use Rattle.fm_ctx.specs.Kept.{ContextsKept}
-use Rattle.fm_ctx.specs.Bodies.{body_at, rewritten, with_body}
-use Rattle.fm_ctx.specs.Rows.{row_with}
+use Rattle.fm_ctx.proofs.Words.{◌≡◌, List, ℕ, true, is_some, length, refl, sym, ap, subst, ◌∙◌, context_at, ContextsKept, body_at, rewritten}
+use Rattle.fm_ctx.proofs.Words.{with_body, row_with}
 use Rattle.fm_ctx.proofs.Rows.{within_rows, row_of_context, body_row}
 use Rattle.fm_ctx.proofs.Sound.{sound_as, sound_rewritten}
 use Rattle.fm_ctx.proofs.Shown.{shown, slots_of_context, carried_kept, emptied_to}

@@ -1,9 +1,5 @@
-use Rattle.std.proofs.Common.{◌≡◌, true, None, is_some, refl, sym, ap, subst, ◌∙◌}
-use Rattle.fm_types.specs.Lists.{updated}
-use Rattle.fm_ctx.specs.Table.{link_at}
-use Rattle.fm_ctx.specs.Kept.{ContextsKept, carried_of}
-use Rattle.fm_ctx.specs.Links.{with_link, unlinked}
-use Rattle.fm_ctx.specs.Rows.{kept_in, lowered, unlinked_row}
+use Rattle.fm_ctx.proofs.Words.{◌≡◌, true, None, is_some, refl, sym, ap, subst, ◌∙◌, updated, link_at, ContextsKept, carried_of, with_link, unlinked}
+use Rattle.fm_ctx.proofs.Words.{kept_in, lowered, unlinked_row}
 use Rattle.fm_ctx.proofs.Rows.{within_rows}
 use Rattle.fm_ctx.proofs.Sound.{dropped_row, present, live_linked, row_positive, read_count, due_fits, sound_as, sound_fits, sound_unlinked}
 use Rattle.fm_ctx.proofs.Shown.{shown, slots_of_context, carried_kept, due_by, updated_twice, within_updated}

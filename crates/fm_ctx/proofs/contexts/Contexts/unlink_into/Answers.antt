@@ -1,9 +1,5 @@
-use Rattle.std.proofs.Common.{◌≡◌, ◌<◌, true, None, length, is_some, refl, sym, ap, subst, ◌∙◌}
-use Rattle.fm_ctx.specs.Bags.{hand_of}
-use Rattle.fm_ctx.specs.Table.{link_at}
-use Rattle.fm_ctx.specs.Kept.{ContextsKept}
-use Rattle.fm_ctx.specs.Links.{with_link, unlinked_into}
-use Rattle.fm_ctx.specs.Rows.{unlinked_row}
+use Rattle.fm_ctx.proofs.Words.{◌≡◌, ◌<◌, true, None, length, is_some, refl, sym, ap, subst, ◌∙◌, hand_of, link_at, ContextsKept, with_link}
+use Rattle.fm_ctx.proofs.Words.{unlinked_into, unlinked_row}
 use Rattle.fm_ctx.proofs.Rows.{within_rows}
 use Rattle.fm_ctx.proofs.Sound.{present, live_linked, sound_as, sound_unlinked_into}
 use Rattle.fm_ctx.proofs.Shown.{shown, slots_of_context, carried_kept}

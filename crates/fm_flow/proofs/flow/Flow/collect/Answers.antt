@@ -1,9 +1,5 @@
-use Rattle.std.proofs.Common.{sym, ap, refl, ◌∙◌, ◌≡◌, List, Err, true, false}
-use Rattle.std.specs.List.{list_any}
-use Rattle.fm_types.specs.declared.status.Status.TheVariants.{WrongStep}
-use Rattle.fm_flow.specs.Counts.{is_running_drain}
-use Rattle.fm_flow.specs.Record.{FlowRecord}
-use Rattle.fm_flow.specs.Table.{collect_reply, marked}
+use Rattle.fm_flow.proofs.Words.{sym, ap, refl, ◌∙◌, ◌≡◌, List, Err, true, false, list_any, WrongStep, is_running_drain, FlowRecord, marked}
+use Rattle.fm_flow.specs.Table.{collect_reply}
 use Rattle.fm_flow.proofs.Places.{missing, told_none, collected_none, standing, same_place, collect_refused, collect_told, collect_marked, collect_removed, flow_collected}
 use Rattle.fm_flow.proofs.flow.Flow.collect.Goals as goal
 

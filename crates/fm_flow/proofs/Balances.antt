@@ -183,22 +183,12 @@ ascend_flies j lies worker false r (Some ask) st is h =
 carries_at : (c : CtxId) (worker : WorkerId) (lies : Below) (stops : Bool) (r : FlowRecord) (stage : Stage) → r.stage ≡ stage → (r.stage ≡ Descending → MayLieBelow lies r.entries) → IsSound r → Carries c r (next_at worker lies stops r stage)
 carries_at c worker lies stops r Descending st may h = descend_carries c worker lies r st (may st) h
 carries_at c worker lies stops r Ascending st may h = ascend_carries c worker stops r (slice_get (owed r.entries) 0) st refl h
-carries_at c worker lies stops r PreRunning st may h = omega arith
-carries_at c worker lies stops r PreHeld st may h = omega arith
-carries_at c worker lies stops r InBase st may h = omega arith
-carries_at c worker lies stops r PostRunning st may h = omega arith
-carries_at c worker lies stops r PostHeld st may h = omega arith
-carries_at c worker lies stops r (InDrain i) st may h = omega arith
+carries_at c worker lies stops r stage st may h = omega arith
 
 flies_at : (j : ℕ) (worker : WorkerId) (lies : Below) (stops : Bool) (r : FlowRecord) (stage : Stage) → r.stage ≡ stage → (r.stage ≡ Descending → MayLieBelow lies r.entries) → IsSound r → Flies j lies r (next_at worker lies stops r stage)
 flies_at j worker lies stops r Descending st may h = descend_flies j worker lies r st (may st) h
 flies_at j worker lies stops r Ascending st may h = ascend_flies j lies worker stops r (slice_get (owed r.entries) 0) st refl h
-flies_at j worker lies stops r PreRunning st may h = omega arith
-flies_at j worker lies stops r PreHeld st may h = omega arith
-flies_at j worker lies stops r InBase st may h = omega arith
-flies_at j worker lies stops r PostRunning st may h = omega arith
-flies_at j worker lies stops r PostHeld st may h = omega arith
-flies_at j worker lies stops r (InDrain i) st may h = omega arith
+flies_at j worker lies stops r stage st may h = omega arith
 
 pub next_carries : (c : CtxId) (worker : WorkerId) (lies : Below) (stops : Bool) (r : FlowRecord) → (r.stage ≡ Descending → MayLieBelow lies r.entries) → IsSound r → Carries c r (next_of worker lies stops r)
 next_carries c worker lies stops r may h =
@@ -233,12 +223,7 @@ enters_at : (i : ℕ) (worker : WorkerId) (lies : Below) (stops : Bool) (r : Flo
     → (r.stage ≡ Descending → (j : InstanceId) (called : Bool) → lies ≡ below.Instance j called → (j.0 == i) ≡ false) → enters i lies (next_at worker lies stops r stage).reply ≡ 0
 enters_at i worker lies stops r Descending st apart = enters_down i worker lies r (apart st)
 enters_at i worker lies stops r Ascending st apart = enters_up i lies worker stops r (slice_get (owed r.entries) 0)
-enters_at i worker lies stops r PreRunning st apart = refl
-enters_at i worker lies stops r PreHeld st apart = refl
-enters_at i worker lies stops r InBase st apart = refl
-enters_at i worker lies stops r PostRunning st apart = refl
-enters_at i worker lies stops r PostHeld st apart = refl
-enters_at i worker lies stops r (InDrain j) st apart = refl
+enters_at i worker lies stops r stage st apart = refl
 
 pub next_enters : (i : ℕ) (worker : WorkerId) (lies : Below) (stops : Bool) (r : FlowRecord)
     → (r.stage ≡ Descending → (j : InstanceId) (called : Bool) → lies ≡ below.Instance j called → (j.0 == i) ≡ false) → enters i lies (next_of worker lies stops r).reply ≡ 0

@@ -48,12 +48,11 @@ one_of_and false b = refl
 -- ---- in flight at most once
 
 opens_few : (i : ℕ) (visit : PreVisit) (state : PreState) → one ((visit.instance.0 == i) && is_pre_open state) + times i (instances (option_to_list (ask_in visit state))) ≤ one (visit.instance.0 == i)
-opens_few i visit pre.Running = let h = one_and (visit.instance.0 == i) true in omega (arith, h)
-opens_few i visit pre.Held = let h = one_and (visit.instance.0 == i) true in omega (arith, h)
 opens_few i visit (pre.Asked completion) = let h = and_false (visit.instance.0 == i) in omega (arith, h)
 opens_few i visit (pre.Synchronized completion) = let h = and_false (visit.instance.0 == i) in omega (arith, h)
 opens_few i visit pre.Passed = let h = and_false (visit.instance.0 == i) in omega (arith, h)
 opens_few i visit (pre.Completed status) = let h = and_false (visit.instance.0 == i) in omega (arith, h)
+opens_few i visit state = let h = one_and (visit.instance.0 == i) true in omega (arith, h)
 
 -- who is open was visited and hasn't asked, or is being answered
 pub opens_among : (i : ℕ) (es : List Entry) → opens i es + times i (instances (asked es)) ≤ times i (visited es) + answer_count i es
@@ -88,28 +87,19 @@ last_of_open_post es o =
     ∙ first_of_reverse (posted o.front) o.visit.instance.0
 
 pre_balance_here : (i : ℕ) (visit : PreVisit) (state : PreState) → (visit.instance.0 == i) ≡ true → 1 ≡ (one (is_pre_open state) + times i (instances (option_to_list (ask_in visit state)))) + leaves_by state
-pre_balance_here i visit pre.Running is = refl
-pre_balance_here i visit pre.Held is = refl
 pre_balance_here i visit (pre.Asked completion) is = rw is refl
 pre_balance_here i visit (pre.Synchronized completion) is = rw is refl
-pre_balance_here i visit pre.Passed is = refl
-pre_balance_here i visit (pre.Completed status) is = refl
+pre_balance_here i visit state is = refl
 
 pre_balance_there : (i : ℕ) (visit : PreVisit) (state : PreState) → (visit.instance.0 == i) ≡ false → 0 ≡ (0 + times i (instances (option_to_list (ask_in visit state)))) + 0
-pre_balance_there i visit pre.Running differs = refl
-pre_balance_there i visit pre.Held differs = refl
 pre_balance_there i visit (pre.Asked completion) differs = rw differs refl
 pre_balance_there i visit (pre.Synchronized completion) differs = rw differs refl
-pre_balance_there i visit pre.Passed differs = refl
-pre_balance_there i visit (pre.Completed status) differs = refl
+pre_balance_there i visit state differs = refl
 
 taken : (k : CtxId) (visit : PreVisit) (state : PreState) → carried_among k (option_to_list (ask_in visit state)) ≡ taken_by k state
-taken k visit pre.Running = refl
-taken k visit pre.Held = refl
 taken k visit (pre.Asked completion) = omega arith
 taken k visit (pre.Synchronized completion) = omega arith
-taken k visit pre.Passed = refl
-taken k visit (pre.Completed status) = refl
+taken k visit state = refl
 
 pre_balance : (i : ℕ) (visit : PreVisit) (state : PreState) → one (visit.instance.0 == i) ≡ (one ((visit.instance.0 == i) && is_pre_open state) + times i (instances (option_to_list (ask_in visit state)))) + cond (visit.instance.0 == i) (leaves_by state) 0
 pre_balance i visit state = elim (either (visit.instance.0 == i)) [
@@ -146,8 +136,7 @@ owed_pre_settled s es state p c =
 
 post_balance : (b : Bool) (state : PostState) → one b ≡ one (b && is_post_open state) + cond b (post_leaves_by state) 0
 post_balance true post.Running = refl
-post_balance true post.Held = refl
-post_balance true post.Finished = refl
+post_balance true state = refl
 post_balance false state = refl
 
 pub flight_post_settled : (s : Stage) (es : List Entry) (state : PostState) (j : ℕ) → is_post s ≡ true → IsCourse s es
@@ -184,7 +173,5 @@ drain_at i j visit = elim (either (visit.instance.0 == i)) [
 
 pub opens_drain_settled : (i j : ℕ) (es : List Entry) → opens j es ≡ opens j (map (settle_drain i) es) + cond (i == j) (drain_opens i es) 0
 opens_drain_settled i j [] = let h : cond {A = ℕ} (i == j) 0 0 ≡ 0 = same_either (i == j) 0 in omega (arith, h)
-opens_drain_settled i j (Pre visit ∷ es) = let h = opens_drain_settled i j es in let m = ap (λ n. cond (i == j) n 0) (zero-add (drain_opens i es)) in omega (arith, h, m)
-opens_drain_settled i j (Base status information ∷ es) = let h = opens_drain_settled i j es in let m = ap (λ n. cond (i == j) n 0) (zero-add (drain_opens i es)) in omega (arith, h, m)
-opens_drain_settled i j (Post visit ∷ es) = let h = opens_drain_settled i j es in let m = ap (λ n. cond (i == j) n 0) (zero-add (drain_opens i es)) in omega (arith, h, m)
 opens_drain_settled i j (Drain visit ∷ es) = let h = opens_drain_settled i j es in let k = drain_at i j visit in let m = cond_sum (i == j) (one ((visit.instance.0 == i) && visit.is_running)) (drain_opens i es) in omega (arith, h, k, m)
+opens_drain_settled i j (e ∷ es) = let h = opens_drain_settled i j es in let m = ap (λ n. cond (i == j) n 0) (zero-add (drain_opens i es)) in omega (arith, h, m)

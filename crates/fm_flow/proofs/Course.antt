@@ -24,11 +24,7 @@ times_instances-append i xs ys = ap (times i) (map-append (λ ask. ask.instance.
 
 ask_among : (i : ℕ) (visit : PreVisit) (state : PreState) (asks : List Ask) → times i (instances (option_to_list (ask_in visit state) ++ asks)) ≤ one (visit.instance.0 == i) + times i (instances asks)
 ask_among i visit pre.Running asks = omega arith
-ask_among i visit pre.Held asks = omega arith
-ask_among i visit (pre.Asked completion) asks = omega arith
-ask_among i visit (pre.Synchronized completion) asks = omega arith
-ask_among i visit pre.Passed asks = omega arith
-ask_among i visit (pre.Completed status) asks = omega arith
+ask_among i visit state asks = omega arith
 
 reverse_more : (xs : List Ask) (o : Option Ask) → reverse (xs ++ option_to_list o) ≡ option_to_list o ++ reverse xs
 reverse_more xs None = ap reverse (append-nil xs)
@@ -50,17 +46,13 @@ asked_among i (Pre visit ∷ es) =
     let a = ap (λ xs. times i (instances xs)) (asked_cons (Pre visit) es) in
     let b = ask_among i visit visit.state (asked es) in
     let h = asked_among i es in omega (arith, a, b, h)
-asked_among i (Base status information ∷ es) = asked_among i es
-asked_among i (Post visit ∷ es) = asked_among i es
-asked_among i (Drain visit ∷ es) = asked_among i es
+asked_among i (e ∷ es) = asked_among i es
 
 -- an instance that was visited on the way up was answered
 pub posted_among : (i : ℕ) (es : List Entry) → times i (posted es) ≤ answer_count i es
 posted_among i [] = omega arith
 posted_among i (Pre visit ∷ es) = let h = posted_among i es in omega (arith, h)
-posted_among i (Base status information ∷ es) = let h = posted_among i es in omega (arith, h)
-posted_among i (Post visit ∷ es) = let h = posted_among i es in omega (arith, h)
-posted_among i (Drain visit ∷ es) = let h = posted_among i es in omega (arith, h)
+posted_among i (e ∷ es) = let h = posted_among i es in omega (arith, h)
 
 -- an instance that wasn't visited was neither answered nor drained
 pub unvisited : (s : Stage) (es : List Entry) (i : ℕ) → IsCourse s es → times i (visited es) ≡ 0 → answer_count i es ≡ 0
@@ -275,10 +267,8 @@ answered_before s es i c once = let a = c.once i in let b = asked_among i es in 
 
 drains_among : (i : ℕ) (es : List Entry) → drain_opens i es ≤ answer_count i es
 drains_among i [] = omega arith
-drains_among i (Pre visit ∷ es) = let h = drains_among i es in omega (arith, h)
-drains_among i (Base status information ∷ es) = let h = drains_among i es in omega (arith, h)
-drains_among i (Post visit ∷ es) = let h = drains_among i es in omega (arith, h)
 drains_among i (Drain visit ∷ es) = let h = drains_among i es in let k : one ((visit.instance.0 == i) && visit.is_running) ≤ one (visit.instance.0 == i) = one_and (visit.instance.0 == i) visit.is_running in omega (arith, h, k)
+drains_among i (e ∷ es) = let h = drains_among i es in omega (arith, h)
 
 pub drain_opens-append : (i : ℕ) (es fs : List Entry) → drain_opens i (es ++ fs) ≡ drain_opens i es + drain_opens i fs
 drain_opens-append i [] fs = sym (zero-add (drain_opens i fs))

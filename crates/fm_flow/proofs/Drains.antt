@@ -24,48 +24,38 @@ drains_push i (x ∷ es) e = let h = drains_push i es e in omega (arith, h)
 pub drains_open : (i : ℕ) (es : List Entry) → drain_opens i es ≤ opens i es
 drains_open i [] = omega arith
 drains_open i (Pre visit ∷ es) = let h = drains_open i es in omega (arith, h)
-drains_open i (Base status information ∷ es) = let h = drains_open i es in omega (arith, h)
-drains_open i (Post visit ∷ es) = let h = drains_open i es in omega (arith, h)
-drains_open i (Drain visit ∷ es) = let h = drains_open i es in omega (arith, h)
+drains_open i (e ∷ es) = let h = drains_open i es in omega (arith, h)
 
 pub none_running : (i : ℕ) (es : List Entry) → list_any is_running_drain es ≡ false → drain_opens i es ≡ 0
 none_running i [] h = refl
-none_running i (Pre visit ∷ es) h = let k = none_running i es h in omega (arith, k)
-none_running i (Base status information ∷ es) h = let k = none_running i es h in omega (arith, k)
-none_running i (Post visit ∷ es) h = let k = none_running i es h in omega (arith, k)
 none_running i (Drain visit ∷ es) h = by_running visit.is_running (none_running i es) h
   where
     by_running : (b : Bool) → (list_any is_running_drain es ≡ false → drain_opens i es ≡ 0) → (b || list_any is_running_drain es) ≡ false
         → one ((visit.instance.0 == i) && b) + drain_opens i es ≡ 0
     by_running true rest h = cc
     by_running false rest h = let z = and_false (visit.instance.0 == i) in let k = rest h in omega (arith, z, k)
+none_running i (e ∷ es) h = let k = none_running i es h in omega (arith, k)
 
 -- ---- settled callbacks
 
 pub drains_pre_settled : (i : ℕ) (state : PreState) (es : List Entry) → drain_opens i (map (settle_pre state) es) ≡ drain_opens i es
 drains_pre_settled i state [] = refl
 drains_pre_settled i state (Pre visit ∷ es) = let h = drains_pre_settled i state es in omega (arith, h)
-drains_pre_settled i state (Base status information ∷ es) = let h = drains_pre_settled i state es in omega (arith, h)
-drains_pre_settled i state (Post visit ∷ es) = let h = drains_pre_settled i state es in omega (arith, h)
-drains_pre_settled i state (Drain visit ∷ es) = let h = drains_pre_settled i state es in omega (arith, h)
+drains_pre_settled i state (e ∷ es) = let h = drains_pre_settled i state es in omega (arith, h)
 
 pub drains_post_settled : (i : ℕ) (state : PostState) (es : List Entry) → drain_opens i (map (settle_post state) es) ≡ drain_opens i es
 drains_post_settled i state [] = refl
 drains_post_settled i state (Pre visit ∷ es) = let h = drains_post_settled i state es in omega (arith, h)
-drains_post_settled i state (Base status information ∷ es) = let h = drains_post_settled i state es in omega (arith, h)
-drains_post_settled i state (Post visit ∷ es) = let h = drains_post_settled i state es in omega (arith, h)
-drains_post_settled i state (Drain visit ∷ es) = let h = drains_post_settled i state es in omega (arith, h)
+drains_post_settled i state (e ∷ es) = let h = drains_post_settled i state es in omega (arith, h)
 
 pub drains_drain_settled : (i j : ℕ) (es : List Entry) → drain_opens j es ≡ drain_opens j (map (settle_drain i) es) + cond (i == j) (drain_opens i es) 0
 drains_drain_settled i j [] = let h : cond {A = ℕ} (i == j) 0 0 ≡ 0 = same_either (i == j) 0 in omega (arith, h)
-drains_drain_settled i j (Pre visit ∷ es) = let h = drains_drain_settled i j es in let m = cond_sum (i == j) 0 (drain_opens i es) in let z = same_either (i == j) 0 in omega (arith, h, m, z)
-drains_drain_settled i j (Base status information ∷ es) = let h = drains_drain_settled i j es in let m = cond_sum (i == j) 0 (drain_opens i es) in let z = same_either (i == j) 0 in omega (arith, h, m, z)
-drains_drain_settled i j (Post visit ∷ es) = let h = drains_drain_settled i j es in let m = cond_sum (i == j) 0 (drain_opens i es) in let z = same_either (i == j) 0 in omega (arith, h, m, z)
 drains_drain_settled i j (Drain visit ∷ es) =
     let h = drains_drain_settled i j es in
     let k = drain_at i j visit in
     let m = cond_sum (i == j) (one ((visit.instance.0 == i) && visit.is_running)) (drain_opens i es) in
     omega (arith, h, k, m)
+drains_drain_settled i j (e ∷ es) = let h = drains_drain_settled i j es in let m = cond_sum (i == j) 0 (drain_opens i es) in let z = same_either (i == j) 0 in omega (arith, h, m, z)
 
 -- ---- next
 
@@ -122,12 +112,7 @@ descend_drains i k (below.Known status) r = drains_push i r.entries (Base status
 drains_of : (i : ℕ) (k : WorkerId) (lies : Below) (stops : Bool) (r : FlowRecord) (stage : Stage) → Drains i r (next_at k lies stops r stage)
 drains_of i k lies stops r Descending = descend_drains i k lies r
 drains_of i k lies stops r Ascending = ascend_drains i k stops r (slice_get (owed r.entries) 0)
-drains_of i k lies stops r PreRunning = refused_drains i r
-drains_of i k lies stops r PreHeld = refused_drains i r
-drains_of i k lies stops r InBase = refused_drains i r
-drains_of i k lies stops r PostRunning = refused_drains i r
-drains_of i k lies stops r PostHeld = refused_drains i r
-drains_of i k lies stops r (InDrain j) = refused_drains i r
+drains_of i k lies stops r stage = refused_drains i r
 
 pub next_drains : (i : ℕ) (k : WorkerId) (lies : Below) (stops : Bool) (r : FlowRecord) → Drains i r (next_of k lies stops r)
 next_drains i k lies stops r = elim r.collected as (λ b. Drains i r (cond b (turn (Err WrongStep) r) (next_at k lies stops r r.stage))) [ true ↦ refused_drains i r | false ↦ drains_of i k lies stops r r.stage ]

@@ -79,12 +79,7 @@ sound_at : (k : WorkerId) (lies : Below) (drains : Bool) (r : FlowRecord) (stage
     → IsSound (next_at k lies drains r stage).after
 sound_at k lies drains r Descending e h may = sound_down k lies r e (may e) h
 sound_at k lies drains r Ascending e h may = sound_up k drains r (slice_get (owed r.entries) 0) e refl h
-sound_at k lies drains r PreRunning e h may = h
-sound_at k lies drains r PreHeld e h may = h
-sound_at k lies drains r InBase e h may = h
-sound_at k lies drains r PostRunning e h may = h
-sound_at k lies drains r PostHeld e h may = h
-sound_at k lies drains r (InDrain i) e h may = h
+sound_at k lies drains r stage e h may = h
 
 pub sound_next : (k : WorkerId) (lies : Below) (drains : Bool) (r : FlowRecord) → IsSound r → (r.stage ≡ Descending → MayLieBelow lies r.entries) → IsSound (next_of k lies drains r).after
 sound_next k lies drains r h may =
@@ -286,19 +281,13 @@ based_stays r None = stays r
 
 descend_stays : (k : WorkerId) (lies : Below) (r : FlowRecord) → Stays r (descend k lies r).after
 descend_stays k (below.Instance i true) r = called_stays k i r r.params
-descend_stays k (below.Instance i false) r = record { number = refl; collected = refl }
 descend_stays k below.Call r = based_stays r r.params
-descend_stays k (below.Known status) r = record { number = refl; collected = refl }
+descend_stays k lies r = record { number = refl; collected = refl }
 
 stays_at : (k : WorkerId) (lies : Below) (drains : Bool) (r : FlowRecord) (stage : Stage) → Stays r (next_at k lies drains r stage).after
 stays_at k lies drains r Descending = descend_stays k lies r
 stays_at k lies drains r Ascending = ascend_stays k drains r (slice_get (owed r.entries) 0)
-stays_at k lies drains r PreRunning = stays r
-stays_at k lies drains r PreHeld = stays r
-stays_at k lies drains r InBase = stays r
-stays_at k lies drains r PostRunning = stays r
-stays_at k lies drains r PostHeld = stays r
-stays_at k lies drains r (InDrain i) = stays r
+stays_at k lies drains r stage = stays r
 
 pub next_stays : (k : WorkerId) (lies : Below) (drains : Bool) (r : FlowRecord) → Stays r (next_of k lies drains r).after
 next_stays k lies drains r = elim r.collected as (λ b. Stays r (cond b (record { reply = Err WrongStep; after = r }) (next_at k lies drains r r.stage)).after) [ true ↦ stays r | false ↦ stays_at k lies drains r r.stage ]

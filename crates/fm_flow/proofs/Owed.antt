@@ -117,10 +117,8 @@ unanswered i (e ∷ es) none =
     rw differs (unanswered i es rest)
 
 drains_apart : (i : ℕ) (e : Entry) → one (answers i e) ≡ 0 → drains i e ≡ false
-drains_apart i (Pre visit) none = refl
-drains_apart i (Base status information) none = refl
-drains_apart i (Post visit) none = refl
 drains_apart i (Drain visit) none = grind (arith, none)
+drains_apart i e none = refl
 
 -- an instance that no entry drains
 pub not_drained : (i : ℕ) (es : List Entry) → answer_count i es ≡ 0 → is_drained es i ≡ false

@@ -92,12 +92,11 @@ owes_at : (P : Ask → Type 0) (worker : WorkerId) (lies : Below) (stops : Bool)
     → (r.stage ≡ Descending → MayLieBelow lies r.entries × MayAsk P worker lies r) → IsSound r → All P (owed r.entries) → Owes P (next_at worker lies stops r stage)
 owes_at P worker lies stops r Descending st may sound h = descend_owes P worker lies r st (may st).0 sound (may st).1 h
 owes_at P worker lies stops r Ascending st may sound h = ascend_owes P worker stops r (slice_get (owed r.entries) 0) st refl sound h
-owes_at P worker lies stops r PreHeld st may sound h = record { owes = h; hands = tt }
-owes_at P worker lies stops r PostHeld st may sound h = record { owes = h; hands = tt }
 owes_at P worker lies stops r PreRunning st may sound h = refused_owes P r h
 owes_at P worker lies stops r InBase st may sound h = refused_owes P r h
 owes_at P worker lies stops r PostRunning st may sound h = refused_owes P r h
 owes_at P worker lies stops r (InDrain i) st may sound h = refused_owes P r h
+owes_at P worker lies stops r stage st may sound h = record { owes = h; hands = tt }
 
 pub next_owes : (P : Ask → Type 0) (worker : WorkerId) (lies : Below) (stops : Bool) (r : FlowRecord)
     → (r.stage ≡ Descending → MayLieBelow lies r.entries × MayAsk P worker lies r) → IsSound r → All P (owed r.entries) → Owes P (next_of worker lies stops r)

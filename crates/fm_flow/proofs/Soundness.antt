@@ -106,16 +106,9 @@ sound_known status r st h = record {
 
 -- what counts of an answer isn't longer than the answer
 success_short : (call : Params) (answer : Answer) (handle : HandleId) → length answer.bytes ≤ 32768 → length (success_of call answer handle).bytes ≤ 32768
-success_short (params.Create path mode) answer handle h = omega arith
 success_short (params.Read offset len) answer handle h = h
-success_short (params.Write offset bytes) answer handle h = omega arith
-success_short params.QuerySize answer handle h = omega arith
-success_short (params.SetSize size) answer handle h = omega arith
-success_short params.Flush answer handle h = omega arith
 success_short params.List answer handle h = h
-success_short params.SetDelete answer handle h = omega arith
-success_short params.Cleanup answer handle h = omega arith
-success_short params.Close answer handle h = omega arith
+success_short call answer handle h = omega arith
 
 pub counted_short : (call : Params) (answer : Answer) (handle : HandleId) → length answer.bytes ≤ 32768 → length (base_counted call answer handle).bytes ≤ 32768
 counted_short call answer handle h = elim (is_success answer.status) as (λ b. length (cond b (success_of call answer handle) (bare_answer answer.status)).bytes ≤ 32768) [
@@ -140,27 +133,15 @@ sound_base_returned call answer handle r st fits short h =
 
 unlent : (state : PreState) → is_counted state ≡ true → lends (pre_leads state) ≡ false
 unlent pre.Running c = cc
-unlent pre.Held c = refl
-unlent (pre.Asked completion) c = refl
-unlent (pre.Synchronized completion) c = refl
-unlent pre.Passed c = refl
-unlent (pre.Completed status) c = refl
+unlent state c = refl
 
 keeps_none : (state : PreState) → is_counted state ≡ true → keeps_more (pre_leads state) ≡ 0
 keeps_none pre.Running c = cc
-keeps_none pre.Held c = refl
-keeps_none (pre.Asked completion) c = refl
-keeps_none (pre.Synchronized completion) c = refl
-keeps_none pre.Passed c = refl
-keeps_none (pre.Completed status) c = refl
+keeps_none state c = refl
 
 short_after : (state : PreState) (answer : Answer) → length answer.bytes ≤ 32768 → length (answer_after state answer).bytes ≤ 32768
-short_after pre.Running answer h = h
-short_after pre.Held answer h = h
-short_after (pre.Asked completion) answer h = h
-short_after (pre.Synchronized completion) answer h = h
-short_after pre.Passed answer h = h
 short_after (pre.Completed status) answer h = omega arith
+short_after state answer h = h
 
 fit_change : (operation : Operation) (path : Option (List ℕ)) (received : Params) (changed : Option Params) → fit operation path received ≡ true → change_passes (fit operation path) changed ≡ true → fit operation path (unwrap_or changed received) ≡ true
 fit_change operation path received None a b = a

@@ -70,23 +70,17 @@ way_of_post s p = cc
 
 pub way_of_pre_leads : (state : PreState) → way_of (pre_leads state) ≡ pre_leads state
 way_of_pre_leads pre.Running = refl
-way_of_pre_leads pre.Held = refl
-way_of_pre_leads (pre.Asked completion) = refl
-way_of_pre_leads (pre.Synchronized completion) = refl
-way_of_pre_leads pre.Passed = refl
-way_of_pre_leads (pre.Completed status) = refl
+way_of_pre_leads state = refl
 
 pub way_of_post_leads : (state : PostState) → way_of (post_leads state) ≡ post_leads state
 way_of_post_leads post.Running = refl
-way_of_post_leads post.Held = refl
-way_of_post_leads post.Finished = refl
+way_of_post_leads state = refl
 
 -- ---- nothing goes back down
 
 up_leads : (state : PostState) → is_down (post_leads state) ≡ false
 up_leads post.Running = refl
-up_leads post.Held = refl
-up_leads post.Finished = refl
+up_leads state = refl
 
 up_after_post : (s : Stage) (state : PostState) (u : Stage) → if_up s (post_leads state) ≡ Some u → is_down u ≡ false
 up_after_post Ascending state u k = let h = up_leads state in let e : post_leads state ≡ u = cc in rw (← e) h
@@ -167,8 +161,7 @@ closed_state state u k p = refl
 
 post_is_no_pre : (state : PostState) (u : Stage) → post_leads state ≡ u → is_pre u ≡ true → ⊥
 post_is_no_pre post.Running u k p = cc
-post_is_no_pre post.Held u k p = cc
-post_is_no_pre post.Finished u k p = cc
+post_is_no_pre state u k p = cc
 
 open_pre_here : (s : Stage) (e : Entry) (es : List Entry) (u t : Stage) → after s e ≡ Some u → walk u es ≡ Some t → is_pre u ≡ true → is_pre s ≡ false → OpenPre s (e ∷ es)
 open_pre_here Descending (Pre visit) es u t k w p q = record {
@@ -191,9 +184,7 @@ pre_closed s visit u k p = cc
 
 pre_stays_here : (s : Stage) (e : Entry) (u : Stage) (state : PreState) → after s e ≡ Some u → is_pre u ≡ false → settle_pre state e ≡ e
 pre_stays_here s (Pre visit) u state k p = let h = pre_closed s visit u k p in rw h refl
-pre_stays_here s (Base status information) u state k p = refl
-pre_stays_here s (Post visit) u state k p = refl
-pre_stays_here s (Drain visit) u state k p = refl
+pre_stays_here s e u state k p = refl
 
 open_pre_further : (s : Stage) (e : Entry) (es : List Entry) (u : Stage) → after s e ≡ Some u → is_pre u ≡ false → OpenPre u es → OpenPre s (e ∷ es)
 open_pre_further s e es u k p o = record {
@@ -227,14 +218,12 @@ pub record OpenPost (s : Stage) (es : List Entry) : Type 0 where
   pub quiet : Quiet back
 
 open_post_state : (state : PostState) (u : Stage) → post_leads state ≡ u → is_post u ≡ true → is_post_open state ≡ true
-open_post_state post.Running u k p = refl
-open_post_state post.Held u k p = refl
 open_post_state post.Finished u k p = cc
+open_post_state state u k p = refl
 
 closed_post_state : (state : PostState) (u : Stage) → post_leads state ≡ u → is_post u ≡ false → is_post_open state ≡ false
-closed_post_state post.Running u k p = cc
-closed_post_state post.Held u k p = cc
 closed_post_state post.Finished u k p = refl
+closed_post_state state u k p = cc
 
 pre_is_no_post : (state : PreState) (u : Stage) → pre_leads state ≡ u → is_post u ≡ true → ⊥
 pre_is_no_post pre.Running u k p = cc
@@ -261,9 +250,7 @@ post_closed s visit u k p = cc
 
 post_stays_here : (s : Stage) (e : Entry) (u : Stage) (state : PostState) → after s e ≡ Some u → is_post u ≡ false → settle_post state e ≡ e
 post_stays_here s (Post visit) u state k p = let h = post_closed s visit u k p in rw h refl
-post_stays_here s (Base status information) u state k p = refl
-post_stays_here s (Pre visit) u state k p = refl
-post_stays_here s (Drain visit) u state k p = refl
+post_stays_here s e u state k p = refl
 
 open_post_further : (s : Stage) (e : Entry) (es : List Entry) (u : Stage) → after s e ≡ Some u → is_post u ≡ false → OpenPost u es → OpenPost s (e ∷ es)
 open_post_further s e es u k p o = record {

@@ -18,7 +18,7 @@ use Rattle.fm_flow.specs.Entries.{last_posted}
 use Rattle.fm_flow.specs.Counts.{carried_in, carried_among, carried_by, handed, taken_by, flight, enters, leaves_by, leaves_at, post_leaves_by}
 use Rattle.fm_flow.specs.Steps.{pre_entry, with_base, with_drain}
 use Rattle.fm_flow.proofs.Lists.{without_head}
-use Rattle.fm_flow.proofs.Owed.{owed_push_none, owed_push_ask, owed_push_answer, unanswered}
+use Rattle.fm_flow.proofs.Owed.{owed_push_none, left_push_ask, left_push_answer, unanswered}
 use Rattle.fm_flow.proofs.Course.{unvisited, owed_once}
 use Rattle.fm_flow.proofs.Counting.{opens_push, and_true, and_false, flight_pre_settled, carried_pre_settled, flight_post_settled, owed_post_settled, owed_drain_settled, opens_drain_settled}
 use Rattle.fm_flow.proofs.Soundness.{sound_unwound}
@@ -42,7 +42,7 @@ running_asks worker i r = owed_push_none r.entries (pre_entry worker i pre.Runni
 pub bare_owed : (worker : WorkerId) (i : InstanceId) (r : FlowRecord) → r.stage ≡ Descending → times i.0 (visited r.entries) ≡ 0 → IsSound r
     → owed (r.entries ++ pre_entry worker i bare_ask r ∷ []) ≡ record { instance = i; worker = worker; completion = record { number = 0; context = None }; is_synchronized = false; place = length r.kept } ∷ owed r.entries
 bare_owed worker i r st fresh h =
-    owed_push_ask r.entries (pre_entry worker i bare_ask r) (record { instance = i; worker = worker; completion = record { number = 0; context = None }; is_synchronized = false; place = length r.kept }) refl (λ j. refl)
+    left_push_ask answers r.entries (pre_entry worker i bare_ask r) (record { instance = i; worker = worker; completion = record { number = 0; context = None }; is_synchronized = false; place = length r.kept }) refl (λ j. refl)
     (unanswered i.0 r.entries (unvisited Descending r.entries i.0 (subst (λ s. IsCourse s r.entries) st h.course) fresh))
 
 called_carries : (c : CtxId) (worker : WorkerId) (i : InstanceId) (r : FlowRecord) (m : Option Params) → Carries c r (call_pre worker i r m)
@@ -96,7 +96,7 @@ pub answered_owed : (r : FlowRecord) (e : Entry) (ask : Ask) (rest : List Ask) �
 answered_owed r e ask rest st next asks answers' h =
     let few = owed_once Ascending r.entries ask.instance.0 (subst (λ s. IsCourse s r.entries) st h.course) in
     let few' : times ask.instance.0 (instances (ask ∷ rest)) ≤ 1 = let k = ap (λ xs. times ask.instance.0 (instances xs)) next in omega (arith, few, k) in
-    owed_push_answer r.entries e ask.instance.0 asks answers' ∙ ap (without ask.instance.0) next ∙ without_head ask rest few'
+    left_push_answer answers r.entries e ask.instance.0 asks answers' ∙ ap (without ask.instance.0) next ∙ without_head ask rest few'
 
 pub unwound_entries : (place : ℕ) (r : FlowRecord) (m : Option Params) → (unwound_to place r m).entries ≡ r.entries
 unwound_entries place r None = refl

@@ -2,13 +2,11 @@
 use Rattle.fm_flow.proofs.Words.{◌≡◌, ℕ, ◌+◌, ◌≤◌, ◌<◌, ◌==◌, ◌||◌, Bool, true, false, cond, not, List, [], ◌∷◌, ◌++◌, Option, Some, None, Err}
 use Rattle.fm_flow.proofs.Words.{length, get_or, refl, ap, sym, ◌∙◌, subst, inl, inr, arith, list_any, same_Some, InstanceId, HandleId, WorkerId}
 use Rattle.fm_flow.proofs.Words.{WrongStep, BaseCall, Params, Answer, PostVerdict, Data, data_fits, Below, Ask, PreState, Stage, Descending}
-use Rattle.fm_flow.proofs.Words.{PreRunning, PreHeld, InBase, Ascending, PostRunning, PostHeld, InDrain, FlowRecord, visited, owed, times}
-use Rattle.fm_flow.proofs.Words.{is_running_drain, MayLieBelow, next_of, next_at, descend, ascend, call_pre, call_base, call_post, give_post, unwound}
-use Rattle.fm_flow.proofs.Words.{unwound_to, may_take, base_fits, pre_returned_of, post_returned_of, base_returned_of, drain_returned_of, IsSound}
-use Rattle.fm_flow.proofs.Words.{marked}
+use Rattle.fm_flow.proofs.Words.{PreRunning, InBase, Ascending, PostRunning, FlowRecord, visited, owed, times, is_running_drain, MayLieBelow, next_of}
+use Rattle.fm_flow.proofs.Words.{next_at, descend, ascend, call_pre, call_base, call_post, give_post, unwound, unwound_to, may_take, base_fits}
+use Rattle.fm_flow.proofs.Words.{pre_returned_of, post_returned_of, base_returned_of, drain_returned_of, IsSound, marked}
 use Rattle.std.proofs.Common.{zero, suc, count_by}
 use Rattle.std.specs.Prelude.{All, AllPairs, slice_get, nat_le}
-use Rattle.std.specs.Cmp.Lexicographic.{pointwise}
 use Rattle.std.proofs.lemmas.Bool.{false≢true, cases_Bool, eq-eqb, leb-false, and_parts, and_from}
 use Rattle.std.proofs.lemmas.Option.{none-some}
 use Rattle.std.proofs.lemmas.List.Elements.{All-push, All-weaker}
@@ -24,7 +22,8 @@ use Rattle.fm_flow.specs.Verdict.{is_counted}
 use Rattle.fm_flow.specs.Table.{FlowTable, IsFlow, change_first, without_first, is_number, operation_at, changed, removed, begun, begun_record}
 use Rattle.fm_flow.specs.Table.{under_way, is_full, collected_of, collected_in, is_collectable}
 use Rattle.fm_flow.proofs.Course.{course_start}
-use Rattle.fm_flow.proofs.Soundness.{sound_call_pre, sound_bare, sound_call_base, sound_known, sound_unwound, sound_give_post, sound_drain, sound_pre_returned, sound_post_returned, sound_base}
+use Rattle.fm_flow.proofs.Soundness.{sound_call_pre, sound_bare, sound_call_base, sound_known, sound_unwound, sound_give_post, sound_drain}
+use Rattle.fm_flow.proofs.Soundness.{sound_pre_returned, sound_post_returned, sound_base}
 use Rattle.fm_types.proofs.Firsts.{all_change, all_without, found_holds}
 
 count-cons : {X : Type 0} (p : X → Bool) (x : X) (xs : List X) → count_by p (x ∷ xs) ≡ cond (p x) 1 0 + count_by p xs

@@ -96,7 +96,7 @@ pub find_is_first : {X : Type 0} (p : X → Bool) (xs : List X) → find p xs �
 find_is_first p [] = refl
 find_is_first p (x ∷ xs) = elim (p x) as (λ b. cond b (Some x) (find p xs) ≡ slice_get (cond b (x ∷ filter p xs) (filter p xs)) 0) [ true ↦ refl | false ↦ find_is_first p xs ]
 
-filter_map_one : {X Y : Type 0} (f : X → Option Y) (x : X) (o : Option Y) → f x ≡ o → filter_map f (x ∷ []) ≡ option_to_list o
+pub filter_map_one : {X Y : Type 0} (f : X → Option Y) (x : X) (o : Option Y) → f x ≡ o → filter_map f (x ∷ []) ≡ option_to_list o
 filter_map_one f x None is = rw is refl
 filter_map_one f x (Some y) is = rw is refl
 

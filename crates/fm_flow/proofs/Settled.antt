@@ -1,10 +1,9 @@
 -- The laws of entries are kept where a callback that ran or held is settled.
 use Rattle.fm_flow.proofs.Words.{◌≡◌, ℕ, ◌+◌, ◌≤◌, true, cond, ◌||◌, List, [], ◌∷◌, ◌++◌, length, map, Option, Some, None, option_to_list, refl, sym}
 use Rattle.fm_flow.proofs.Words.{ap, ap₂, ◌∙◌, subst, arith, append-nil, cons_option, length-append, filter_map-append, InstanceId, Stage, Descending}
-use Rattle.fm_flow.proofs.Words.{PreRunning, PreHeld, Ascending, InDrain, PreState, PostState, PreVisit, PostVisit, Ask, Entry, Pre, Base, Post}
-use Rattle.fm_flow.proofs.Words.{Drain, one, times, ask_in, ask_of, visit_of, post_of, answers, is_drained, is_answered, visited, asked, posted}
-use Rattle.fm_flow.proofs.Words.{instances, is_pre_open, settle_pre, settle_post, settle_drain, pre_leads, post_leads, walk, way_of, answer_count}
-use Rattle.fm_flow.proofs.Words.{IsCourse}
+use Rattle.fm_flow.proofs.Words.{PreRunning, PreHeld, Ascending, InDrain, PreState, PostState, PreVisit, PostVisit, Ask, Entry, Pre, Post, one, times}
+use Rattle.fm_flow.proofs.Words.{ask_in, ask_of, visit_of, post_of, answers, is_drained, is_answered, visited, asked, posted, instances, is_pre_open}
+use Rattle.fm_flow.proofs.Words.{settle_pre, settle_post, settle_drain, pre_leads, post_leads, walk, way_of, answer_count, IsCourse}
 use Rattle.std.proofs.Common.{option_and_then}
 use Rattle.std.proofs.lemmas.List.{map-append, length-map}
 use Rattle.std.proofs.lemmas.List.Folds.{list_any-append}
@@ -14,7 +13,8 @@ use Rattle.fm_flow.specs.Entries.{drains}
 use Rattle.fm_flow.specs.Sound.{after, slack, HasItsDrain}
 use Rattle.fm_flow.proofs.Lists.{times-append, one-same}
 use Rattle.fm_flow.proofs.Owed.{answer_count-append}
-use Rattle.fm_flow.proofs.Walks.{Quiet, OpenPre, OpenPost, open_pre, open_post, is_pre, is_post, is_down, way_of_pre, way_of_post, way_of_pre_leads, way_of_post_leads, walk-append, no_posts}
+use Rattle.fm_flow.proofs.Walks.{Quiet, OpenPre, OpenPost, open_pre, open_post, is_pre, is_post, is_down, way_of_pre, way_of_post, way_of_pre_leads}
+use Rattle.fm_flow.proofs.Walks.{way_of_post_leads, walk-append, no_posts}
 use Rattle.fm_flow.proofs.Course.{Settles, IsFresh, course_settled, asked_among, asked_cons}
 
 -- ---- an entry in the midst of a list

@@ -23,7 +23,7 @@ use Rattle.fm_flow.specs.Steps.{with_visit, with_base, stands, left_answer, retu
 use Rattle.fm_flow.specs.Sound.{lends, keeps_more}
 use Rattle.fm_flow.proofs.Lists.{one-same}
 use Rattle.fm_flow.proofs.Walks.{is_pre, is_post}
-use Rattle.fm_flow.proofs.Owed.{visited_push}
+use Rattle.fm_flow.proofs.Owed.{filter_map-push}
 use Rattle.fm_flow.proofs.Course.{course_visit, course_visit_ask, course_in_base, course_base, course_post, course_drain, owed_once}
 use Rattle.fm_flow.proofs.Settled.{the_open_pre, the_open_post, settles_pre, settles_post, settles_drain, course_pre_settled, course_post_settled, course_drain_settled}
 
@@ -52,10 +52,10 @@ places_at r s st h = subst (λ t. length r.kept + keeps_more t ≤ length (visit
 
 visited_more : (es : List Entry) (worker : WorkerId) (i : InstanceId) (state : PreState) (place : ℕ) → length (visited (es ++ Pre (record { instance = i; worker = worker; state = state; place = place }) ∷ [])) ≡ length (visited es) + 1
 visited_more es worker i state place =
-    ap length (visited_push es (Pre (record { instance = i; worker = worker; state = state; place = place })) (Some i.0) refl) ∙ length-append (visited es) (i.0 ∷ [])
+    ap length (filter_map-push visit_of es (Pre (record { instance = i; worker = worker; state = state; place = place })) (Some i.0) refl) ∙ length-append (visited es) (i.0 ∷ [])
 
 visited_same : (es : List Entry) (e : Entry) → visit_of e ≡ None → length (visited (es ++ e ∷ [])) ≡ length (visited es)
-visited_same es e none = ap length (visited_push es e None none ∙ append-nil (visited es))
+visited_same es e none = ap length (filter_map-push visit_of es e None none ∙ append-nil (visited es))
 
 -- ---- down
 

@@ -2,7 +2,7 @@
 use Rattle.fm_flow.proofs.Words.{◌≡◌, ℕ, Bool, true, false, List, [], ◌∷◌, ◌++◌, map, Option, Some, None, option_map, option_to_list, slice_get}
 use Rattle.fm_flow.proofs.Words.{reverse, take, get_or, length, ◌+◌, ◌<◌, append-nil, inl, inr, refl, sym, ap, ap₂, ◌∙◌, reverse-append, InstanceId}
 use Rattle.fm_flow.proofs.Words.{Stage, Descending, PreRunning, PreHeld, Ascending, PostRunning, PostHeld, PreState, PostState, PreVisit, PostVisit}
-use Rattle.fm_flow.proofs.Words.{DrainVisit, Entry, Pre, Base, Post, Drain, visit_of, last_visited, visited, asked, posted, is_pre_open, settle_pre}
+use Rattle.fm_flow.proofs.Words.{DrainVisit, Entry, Pre, Post, Drain, visit_of, last_visited, visited, asked, posted, is_pre_open, settle_pre}
 use Rattle.fm_flow.proofs.Words.{settle_post, pre_leads, post_leads, walk, way_of}
 use Rattle.std.proofs.Common.{option_and_then}
 use Rattle.std.specs.Option.{option_or}
@@ -12,7 +12,7 @@ use Rattle.fm_flow.specs.declared.entry.PostState.TheVariants as post
 use Rattle.fm_flow.specs.Entries.{is_post_open}
 use Rattle.fm_flow.specs.Sound.{if_down, if_up, after}
 use Rattle.fm_flow.proofs.Lists.{either}
-use Rattle.fm_flow.proofs.Owed.{visited_push}
+use Rattle.fm_flow.proofs.Owed.{filter_map-push}
 
 pub walk-append : (s : Stage) (es fs : List Entry) → walk s (es ++ fs) ≡ option_and_then (λ t. walk t fs) (walk s es)
 walk-append s [] fs = refl
@@ -286,4 +286,4 @@ pub last_visited_more : (es : List Entry) (i : ℕ) (d : Entry) (found before af
 last_visited_more es i d found before after' below here so_far is =
     ap (option_map (λ j. j.0)) is ∙ map_or found before ∙ ap₂ option_or here so_far
     ∙ sym (last_with (visited (take i es)) (visit_of (get_or es i d)))
-    ∙ sym (ap (λ xs. slice_get (reverse xs) 0) (ap visited (take_more es i d below) ∙ visited_push (take i es) (get_or es i d) (visit_of (get_or es i d)) refl))
+    ∙ sym (ap (λ xs. slice_get (reverse xs) 0) (ap visited (take_more es i d below) ∙ filter_map-push visit_of (take i es) (get_or es i d) (visit_of (get_or es i d)) refl))

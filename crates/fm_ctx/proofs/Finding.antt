@@ -58,14 +58,6 @@ pub record IsPassed (seats : List (Option Seat)) (seat : Seat) (next : Option �
   pub next_is : next ≡ last_below (stands seats (chain_of seat)) upto
   pub passed : (k : ℕ) → upto ≤ k → k < length seats → is_seat seat (get_or seats k None) ≡ false
 
-pub passed_none : (seats : List (Option Seat)) (seat : Seat) (next : Option ℕ) → next ≡ last_below (stands seats (chain_of seat)) (length seats) → IsPassed seats seat next
-passed_none seats seat next is = record {
-  upto = length seats;
-  within = omega arith;
-  next_is = is;
-  passed = λ k past under. absurd (omega (arith, past, under));
-}
-
 -- the slot that comes next
 pub passed_slot : {seats : List (Option Seat)} {seat : Seat} {next : Option ℕ} (slot : ℕ) → (p : IsPassed seats seat next) → next ≡ Some slot
     → IsLast (stands seats (chain_of seat)) p.upto slot

@@ -1,11 +1,10 @@
 -- The place of an operation in the table.
 use Rattle.fm_flow.proofs.Words.{◌≡◌, ℕ, ◌+◌, ◌<◌, ◌≤◌, Bool, true, false, cond, List, length, get_or, take, find, Option, Some, None, option_map, Ok}
-use Rattle.fm_flow.proofs.Words.{Err, refl, ap, sym, ◌∙◌, subst, arith, same_Some, list_any, WrongStep, Answer, is_running_drain, FlowRecord, Stage}
-use Rattle.fm_flow.proofs.Words.{IsSound, StandsAt, marked}
+use Rattle.fm_flow.proofs.Words.{Err, refl, ap, sym, ◌∙◌, subst, same_Some, list_any, WrongStep, Answer, is_running_drain, FlowRecord, Stage, IsSound}
+use Rattle.fm_flow.proofs.Words.{StandsAt, marked}
 use Rattle.std.proofs.Common.{set, remove, position, unwrap_or}
 use Rattle.std.specs.Prelude.{count_by}
-use Rattle.std.proofs.lemmas.List.{take_more, get_or_default}
-use Rattle.std.proofs.lemmas.List.Sums.{sum_by_push}
+use Rattle.std.proofs.lemmas.List.{get_or_default}
 use Rattle.fm_types.specs.declared.ids.OpId.{OpId}
 use Rattle.fm_types.proofs.Firsts.{StandsThere, stands_there, absent, change_none, found_holds}
 use Rattle.fm_flow.proofs.Flows.{Stays, flow_changes, flow_collects}
@@ -64,23 +63,6 @@ absent_stands o t u stage same none h = subst (StandsAt stage) (ap (operation_at
 pub record IsCounted (p : FlowRecord → Bool) (rs : List FlowRecord) (i count : ℕ) : Type 0 where
   pub counted : count ≡ count_by p (take i rs)
   pub small : count ≤ i
-
-more_pass : (p : FlowRecord → Bool) (rs : List FlowRecord) (i : ℕ) (d : FlowRecord) → i < length rs → count_by p (take (i + 1) rs) ≡ count_by p (take i rs) + cond (p (get_or rs i d)) 1 0
-more_pass p rs i d below = ap (count_by p) (take_more rs i d below) ∙ sum_by_push (λ (r : FlowRecord). cond (p r) 1 0) (take i rs) (get_or rs i d)
-
-pub counted_more : (p : FlowRecord → Bool) (rs : List FlowRecord) (i count : ℕ) (d : FlowRecord) → i < length rs → d ≡ get_or rs i d → p d ≡ true → IsCounted p rs i count → IsCounted p rs (i + 1) (count + 1)
-counted_more p rs i count d below at passes h =
-    let e = more_pass p rs i d below in
-    let k : ◌≡◌ {A = ℕ} (cond (p (get_or rs i d)) 1 0) 1 = ap (λ (r : FlowRecord). cond (p r) 1 0) (sym at) ∙ ap (λ b. cond b 1 0) passes in
-    let a = h.counted in let b = h.small in
-    record { counted = omega (arith, e, k, a); small = omega (arith, b) }
-
-pub counted_same : (p : FlowRecord → Bool) (rs : List FlowRecord) (i count : ℕ) (d : FlowRecord) → i < length rs → d ≡ get_or rs i d → p d ≡ false → IsCounted p rs i count → IsCounted p rs (i + 1) count
-counted_same p rs i count d below at fails h =
-    let e = more_pass p rs i d below in
-    let k : ◌≡◌ {A = ℕ} (cond (p (get_or rs i d)) 1 0) 0 = ap (λ (r : FlowRecord). cond (p r) 1 0) (sym at) ∙ ap (λ b. cond b 1 0) fails in
-    let a = h.counted in let b = h.small in
-    record { counted = omega (arith, e, k, a); small = omega (arith, b) }
 
 -- ---- the answer is handed out
 

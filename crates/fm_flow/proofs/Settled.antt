@@ -128,7 +128,7 @@ pub course_pre_settled : (s : Stage) (es : List Entry) (state : PreState) → is
 course_pre_settled s es state p c =
     let o = the_open_pre s es c p in
     let w : walk Descending (map (settle_pre state) es) ≡ Some (way_of (pre_leads state)) =
-    ap (walk Descending) (settled_pre_is es state o) ∙ walk_mid Descending Descending (pre_leads state) o.front o.back (Pre (with_state o.visit state)) o.down refl o.quiet ∙ ap Some (sym (way_of_pre_leads state)) in
+    ap (walk Descending) (settled_pre_is es state o) ∙ walk_mid Descending Descending (pre_leads state) o.front o.back (Pre (with_state o.visit state)) o.way refl o.quiet ∙ ap Some (sym (way_of_pre_leads state)) in
     course_settled s (pre_leads state) es (map (settle_pre state) es) (ask_in (with_state o.visit state) state) (settles_pre es state o) c (fresh_of_open s es state c p) w (slack_of state (with_state o.visit state) s p) (no_drain_of_pre state (map (settle_pre state) es))
 
 -- ---- a postoperation
@@ -163,7 +163,7 @@ pub course_post_settled : (s : Stage) (es : List Entry) (state : PostState) → 
 course_post_settled s es state p c =
     let o = the_open_post s es c p in
     let w : walk Descending (map (settle_post state) es) ≡ Some (way_of (post_leads state)) =
-    ap (walk Descending) (settled_post_is es state o) ∙ walk_mid Descending Ascending (post_leads state) o.front o.back (Post (with_post o.visit state)) o.up refl o.quiet ∙ ap Some (sym (way_of_post_leads state)) in
+    ap (walk Descending) (settled_post_is es state o) ∙ walk_mid Descending Ascending (post_leads state) o.front o.back (Post (with_post o.visit state)) o.way refl o.quiet ∙ ap Some (sym (way_of_post_leads state)) in
     course_settled s (post_leads state) es (map (settle_post state) es) None (settles_post es state o) c tt w (slack_of_post state s p) (no_drain_of_post state (map (settle_post state) es))
 
 -- ---- a drain

@@ -265,10 +265,6 @@ sound_drain_returned i r st h = record {
   collected = uncollected r h (rw st refl);
 }
 
--- the laws of a value that is written in two ways
-pub same_sound : (a b : FlowRecord) → a ≡ b → IsSound a → IsSound b
-same_sound a b is h = subst IsSound is h
-
 abbrev pub tail_of : List Ask → List Ask
 tail_of [] = []
 tail_of (ask ∷ asks) = asks

@@ -137,17 +137,60 @@ drains_follow s (Drain visit ∷ es) t w k = quiet_cons visit es (drains_follow 
 drains_follow Descending (e ∷ es) t w k = cc
 drains_follow s (e ∷ es) t w k = cc
 
--- ---- the preoperation that runs or holds
+-- ---- the callback that runs or holds
 
-pub record OpenPre (s : Stage) (es : List Entry) : Type 0 where
+-- an entry of a kind that is open, before it only the way to it, after it only drains
+pub record Open {S V : Type 0} (entry : V → Entry) (opens : V → Bool) (settle : S → Entry → Entry) (from : Stage) (s : Stage) (es : List Entry) : Type 0 where
   pub front : List Entry
-  pub visit : PreVisit
+  pub visit : V
   pub back : List Entry
-  pub split : es ≡ front ++ Pre visit ∷ back
-  pub unsettled : is_pre_open visit.state ≡ true
-  pub down : walk s front ≡ Some Descending
-  pub stays : (state : PreState) → map (settle_pre state) front ≡ front
+  pub split : es ≡ front ++ entry visit ∷ back
+  pub unsettled : opens visit ≡ true
+  pub way : walk s front ≡ Some from
+  pub stays : (state : S) → map (settle state) front ≡ front
   pub quiet : Quiet back
+
+open_first : {S V : Type 0} {entry : V → Entry} {opens : V → Bool} {settle : S → Entry → Entry} (from : Stage) (visit : V) (es : List Entry) → opens visit ≡ true → Quiet es
+    → Open entry opens settle from from (entry visit ∷ es)
+open_first from visit es unsettled quiet = record {
+  front = [];
+  visit = visit;
+  back = es;
+  split = refl;
+  unsettled = unsettled;
+  way = refl;
+  stays = λ state. refl;
+  quiet = quiet;
+}
+
+open_further : {S V : Type 0} {entry : V → Entry} {opens : V → Bool} {settle : S → Entry → Entry} {from : Stage} (s : Stage) (e : Entry) (es : List Entry) (u : Stage) → after s e ≡ Some u
+    → ((state : S) → settle state e ≡ e) → Open entry opens settle from u es → Open entry opens settle from s (e ∷ es)
+open_further s e es u k same o = record {
+  front = e ∷ o.front;
+  visit = o.visit;
+  back = o.back;
+  split = ap (λ fs. e ∷ fs) o.split;
+  unsettled = o.unsettled;
+  way = rw k o.way;
+  stays = λ state. ap₂ (λ f fs. f ∷ fs) (same state) (o.stays state);
+  quiet = o.quiet;
+}
+
+-- each entry on the way is the open one or isn't
+open_walk : {is_kind : Stage → Bool} {P : Stage → List Entry → Type 0}
+    → ((s : Stage) (e : Entry) (es : List Entry) (u t : Stage) → after s e ≡ Some u → walk u es ≡ Some t → is_kind u ≡ true → is_kind s ≡ false → P s (e ∷ es))
+    → ((s : Stage) (e : Entry) (es : List Entry) (u : Stage) → after s e ≡ Some u → is_kind u ≡ false → P u es → P s (e ∷ es))
+    → (s : Stage) (es : List Entry) (t : Stage) → walk s es ≡ Some t → is_kind t ≡ true → is_kind s ≡ false → P s es
+open_walk here further s [] t w p q = cc
+open_walk {is_kind} {P} here further s (e ∷ es) t w p q = elim (after s e) as (λ o. after s e ≡ o → option_and_then (λ u. walk u es) o ≡ Some t → P s (e ∷ es)) [
+  | None ↦ λ k v. cc
+  | Some u ↦ λ k v. elim (either (is_kind u)) [ inl now ↦ here s e es u t k v now q | inr later ↦ further s e es u k later (open_walk here further u es t v p later) ]
+] refl w
+
+-- ---- the preoperation
+
+abbrev pub OpenPre : Stage → List Entry → Type 0
+OpenPre s es = Open Pre (λ visit. is_pre_open visit.state) settle_pre Descending s es
 
 open_state : (state : PreState) (u : Stage) → pre_leads state ≡ u → is_pre u ≡ true → is_pre_open state ≡ true
 open_state pre.Running u k p = refl
@@ -164,16 +207,7 @@ post_is_no_pre post.Running u k p = cc
 post_is_no_pre state u k p = cc
 
 open_pre_here : (s : Stage) (e : Entry) (es : List Entry) (u t : Stage) → after s e ≡ Some u → walk u es ≡ Some t → is_pre u ≡ true → is_pre s ≡ false → OpenPre s (e ∷ es)
-open_pre_here Descending (Pre visit) es u t k w p q = record {
-  front = [];
-  visit = visit;
-  back = es;
-  split = refl;
-  unsettled = open_state visit.state u (cc) p;
-  down = refl;
-  stays = λ state. refl;
-  quiet = drains_follow u es t w (callback_of_pre u p);
-}
+open_pre_here Descending (Pre visit) es u t k w p q = open_first Descending visit es (open_state visit.state u (cc) p) (drains_follow u es t w (callback_of_pre u p))
 open_pre_here Ascending (Post visit) es u t k w p q = absurd (post_is_no_pre visit.state u (cc) p)
 open_pre_here s (Drain visit) es u t k w p q = cc
 open_pre_here s e es u t k w p q = cc
@@ -186,36 +220,13 @@ pre_stays_here : (s : Stage) (e : Entry) (u : Stage) (state : PreState) → afte
 pre_stays_here s (Pre visit) u state k p = let h = pre_closed s visit u k p in rw h refl
 pre_stays_here s e u state k p = refl
 
-open_pre_further : (s : Stage) (e : Entry) (es : List Entry) (u : Stage) → after s e ≡ Some u → is_pre u ≡ false → OpenPre u es → OpenPre s (e ∷ es)
-open_pre_further s e es u k p o = record {
-  front = e ∷ o.front;
-  visit = o.visit;
-  back = o.back;
-  split = ap (λ fs. e ∷ fs) o.split;
-  unsettled = o.unsettled;
-  down = rw k o.down;
-  stays = λ state. ap₂ (λ f fs. f ∷ fs) (pre_stays_here s e u state k p) (o.stays state);
-  quiet = o.quiet;
-}
-
 pub open_pre : (s : Stage) (es : List Entry) (t : Stage) → walk s es ≡ Some t → is_pre t ≡ true → is_pre s ≡ false → OpenPre s es
-open_pre s [] t w p q = cc
-open_pre s (e ∷ es) t w p q = elim (after s e) as (λ o. after s e ≡ o → option_and_then (λ u. walk u es) o ≡ Some t → OpenPre s (e ∷ es)) [
-  | None ↦ λ k v. cc
-  | Some u ↦ λ k v. elim (either (is_pre u)) [ inl now ↦ open_pre_here s e es u t k v now q | inr later ↦ open_pre_further s e es u k later (open_pre u es t v p later) ]
-] refl w
+open_pre = open_walk open_pre_here (λ s e es u k p. open_further s e es u k (λ state. pre_stays_here s e u state k p))
 
--- ---- the postoperation that runs or holds
+-- ---- the postoperation
 
-pub record OpenPost (s : Stage) (es : List Entry) : Type 0 where
-  pub front : List Entry
-  pub visit : PostVisit
-  pub back : List Entry
-  pub split : es ≡ front ++ Post visit ∷ back
-  pub unsettled : is_post_open visit.state ≡ true
-  pub up : walk s front ≡ Some Ascending
-  pub stays : (state : PostState) → map (settle_post state) front ≡ front
-  pub quiet : Quiet back
+abbrev pub OpenPost : Stage → List Entry → Type 0
+OpenPost s es = Open Post (λ visit. is_post_open visit.state) settle_post Ascending s es
 
 open_post_state : (state : PostState) (u : Stage) → post_leads state ≡ u → is_post u ≡ true → is_post_open state ≡ true
 open_post_state post.Finished u k p = cc
@@ -230,16 +241,7 @@ pre_is_no_post pre.Running u k p = cc
 pre_is_no_post state u k p = cc
 
 open_post_here : (s : Stage) (e : Entry) (es : List Entry) (u t : Stage) → after s e ≡ Some u → walk u es ≡ Some t → is_post u ≡ true → is_post s ≡ false → OpenPost s (e ∷ es)
-open_post_here Ascending (Post visit) es u t k w p q = record {
-  front = [];
-  visit = visit;
-  back = es;
-  split = refl;
-  unsettled = open_post_state visit.state u (cc) p;
-  up = refl;
-  stays = λ state. refl;
-  quiet = drains_follow u es t w (callback_of_post u p);
-}
+open_post_here Ascending (Post visit) es u t k w p q = open_first Ascending visit es (open_post_state visit.state u (cc) p) (drains_follow u es t w (callback_of_post u p))
 open_post_here Descending (Pre visit) es u t k w p q = absurd (pre_is_no_post visit.state u (cc) p)
 open_post_here s (Drain visit) es u t k w p q = cc
 open_post_here s e es u t k w p q = cc
@@ -252,24 +254,8 @@ post_stays_here : (s : Stage) (e : Entry) (u : Stage) (state : PostState) → af
 post_stays_here s (Post visit) u state k p = let h = post_closed s visit u k p in rw h refl
 post_stays_here s e u state k p = refl
 
-open_post_further : (s : Stage) (e : Entry) (es : List Entry) (u : Stage) → after s e ≡ Some u → is_post u ≡ false → OpenPost u es → OpenPost s (e ∷ es)
-open_post_further s e es u k p o = record {
-  front = e ∷ o.front;
-  visit = o.visit;
-  back = o.back;
-  split = ap (λ fs. e ∷ fs) o.split;
-  unsettled = o.unsettled;
-  up = rw k o.up;
-  stays = λ state. ap₂ (λ f fs. f ∷ fs) (post_stays_here s e u state k p) (o.stays state);
-  quiet = o.quiet;
-}
-
 pub open_post : (s : Stage) (es : List Entry) (t : Stage) → walk s es ≡ Some t → is_post t ≡ true → is_post s ≡ false → OpenPost s es
-open_post s [] t w p q = cc
-open_post s (e ∷ es) t w p q = elim (after s e) as (λ o. after s e ≡ o → option_and_then (λ u. walk u es) o ≡ Some t → OpenPost s (e ∷ es)) [
-  | None ↦ λ k v. cc
-  | Some u ↦ λ k v. elim (either (is_post u)) [ inl now ↦ open_post_here s e es u t k v now q | inr later ↦ open_post_further s e es u k later (open_post u es t v p later) ]
-] refl w
+open_post = open_walk open_post_here (λ s e es u k p. open_further s e es u k (λ state. post_stays_here s e u state k p))
 
 -- ---- the instance that was visited last, entry by entry
 

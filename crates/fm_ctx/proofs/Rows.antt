@@ -10,6 +10,7 @@ use Rattle.fm_ctx.proofs.Words.{stored, is_referenced, kept_in}
 use Rattle.std.proofs.Common.{slice_index, leb, le-leb, not}
 use Rattle.std.proofs.lemmas.Bool.{and_right, lt-leb}
 use Rattle.std.proofs.lemmas.Option.{unwrap_or-slice_get}
+use Rattle.fm_ctx.specs.Kept.{ContextsKept}
 use Rattle.fm_ctx.specs.Counting.{born, cleaned_count}
 use Rattle.fm_ctx.proofs.Bags.{by_id, is_id-refl}
 use Rattle.fm_ctx.proofs.Slots.{other_generation}
@@ -151,6 +152,11 @@ row_of_context rows c has = at_row (row_at rows c) refl
     at_row : (o : Option Row) → row_at rows c ≡ o → InRow rows c
     at_row None is = absurd (true≢false (sym has ∙ ap is_some (context_at-rows rows c) ∙ ap (λ (o : Option Row). is_some (option_map context_of o)) is))
     at_row (Some r) is = in_row rows c r is
+
+-- of the state under its other name
+pub row_named : {hands : List (List CtxId)} {due : List CtxId} {cleaning : List (Option CtxId)} {leaks : ℕ} {now : ContextsKept} (rows : List Row) (c : CtxId)
+    → kept_in rows hands due cleaning leaks ≡ now → is_some (context_at now.table.slots c) ≡ true → InRow rows c
+row_named rows c same has = row_of_context rows c (subst (λ (k : ContextsKept). is_some (context_at k.table.slots c) ≡ true) (sym same) has)
 
 generation_zero : (n : ℕ) → leb n 0 ≡ eqb n 0
 generation_zero n =

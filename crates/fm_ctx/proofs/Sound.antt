@@ -293,6 +293,13 @@ pub live_carried : {rows : List Row} {kept : ContextsKept} {capacity : ℕ} (c :
     → 0 < count_in (carried_of kept) kept.table c
 live_carried c s some = omega (arith, some)
 
+-- the row of an id of which the state says something under its other name
+pub row_present : {rows : List Row} {kept now : ContextsKept} {capacity : ℕ} (c : CtxId) → IsSound rows kept capacity → kept ≡ now → 0 < count_in (carried_of now) now.table c → InRow rows c
+row_present c s same live = present c s (subst (λ (k : ContextsKept). 0 < count_in (carried_of k) k.table c) (sym same) live)
+
+pub row_linked : {rows : List Row} {kept now : ContextsKept} {capacity : ℕ} (c : CtxId) → IsSound rows kept capacity → kept ≡ now → is_some (link_at now.table.slots c) ≡ true → InRow rows c
+row_linked c s same has = present c s (live_linked c s (subst (λ (k : ContextsKept). is_some (link_at k.table.slots c) ≡ true) (sym same) has))
+
 -- the room of a list that keeps its capacity
 pub sound_fits : {rows : List Row} {kept : ContextsKept} {capacity capacity' : ℕ} → capacity' ≡ capacity → IsSound rows kept capacity → IsSound rows kept capacity'
 sound_fits {rows} {kept} same s = subst (λ n. IsSound rows kept n) (sym same) s

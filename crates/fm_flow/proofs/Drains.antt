@@ -61,13 +61,7 @@ drains_drain_settled i j (e ∷ es) = let h = drains_drain_settled i j es in let
 -- the drain that `next` gives
 abbrev pub drains_given : ℕ → Result FlowAction Status → ℕ
 drains_given i (Ok (action.Drain j completion)) = one (j.0 == i)
-drains_given i (Ok (action.Pre j lent)) = 0
-drains_given i (Ok (action.Base call)) = 0
-drains_given i (Ok (action.Post j lent completion)) = 0
-drains_given i (Ok action.Moved) = 0
-drains_given i (Ok action.Held) = 0
-drains_given i (Ok action.Done) = 0
-drains_given i (Err status) = 0
+drains_given i _ = 0
 
 abbrev Drains : ℕ → FlowRecord → Turned → Type 0
 Drains i r t = drain_opens i t.after.entries ≡ drain_opens i r.entries + drains_given i t.reply

@@ -1,16 +1,12 @@
 -- Two ways of telling what completions carry that agree on each id say the same of the table.
-use Rattle.std.proofs.Common.{◌≡◌, ℕ, ◌+◌, Bool, true, false, cond, ◌&&◌, eqb, List, [], ◌∷◌, ◌++◌, Option, Some, None, is_some, refl, sym, ap, ap₂, ◌∙◌, arith}
-use Rattle.fm_types.specs.declared.ids.CtxId.{CtxId}
-use Rattle.fm_ctx.specs.declared.object.Object.{Object}
+use Rattle.fm_ctx.proofs.Words.{◌≡◌, ℕ, ◌+◌, Bool, true, false, cond, ◌&&◌, eqb, List, [], ◌∷◌, ◌++◌, Option, Some, None, is_some, refl, sym, ap, ap₂}
+use Rattle.fm_ctx.proofs.Words.{◌∙◌, arith, CtxId, Object, one, held, Context, ContextTable, context_at, link_count, count_in, IsLawful, due_after}
+use Rattle.fm_ctx.proofs.Words.{released, unlinked, unlinked_for, linked, newly, Settles, Sweeps}
 use Rattle.fm_ctx.specs.declared.set_reply.SetMode.{SetMode}
 use Rattle.fm_ctx.specs.declared.set_reply.SetMode.TheVariants.{Keep, Replace}
-use Rattle.fm_ctx.specs.Bags.{one, held, holds, is_hand_full}
-use Rattle.fm_ctx.specs.Table.{Context, ContextTable, context_at, link_count, count_in}
-use Rattle.fm_ctx.specs.Laws.{IsLawful}
-use Rattle.fm_ctx.specs.References.{due_after, released}
-use Rattle.fm_ctx.specs.Links.{unlinked, unlinked_for, linked, set_mode_after, set_after, delete_after}
-use Rattle.fm_ctx.specs.Counting.{count_reply, count_reply_of, was_given}
-use Rattle.fm_ctx.specs.Settling.{newly, Settles, Leaves, Sweeps}
+use Rattle.fm_ctx.specs.Bags.{is_hand_full}
+use Rattle.fm_ctx.specs.Links.{set_mode_after, set_after, delete_after}
+use Rattle.fm_ctx.specs.Settling.{Leaves}
 
 pub count_alike : (carried carried' : CtxId → ℕ) (t : ContextTable) (c : CtxId) → carried c ≡ carried' c → count_in carried t c ≡ count_in carried' t c
 count_alike carried carried' t c same = ap (λ n. link_count (context_at t.slots c) + n + held t.hands c) same
@@ -55,10 +51,6 @@ pub set_alike : (carried carried' : CtxId → ℕ) (t : ContextTable) (w : ℕ) 
 set_alike carried carried' t w c object mode wants None same = refl
 set_alike carried carried' t w c object mode wants (Some old) same =
     ap (λ (u : ContextTable). cond (wants && is_hand_full t.hands w) t u) (set_mode_alike carried carried' t w c object mode wants old same)
-
--- the count that readers are told
-pub reply_alike : (carried carried' : CtxId → ℕ) (t : ContextTable) (c : CtxId) → carried c ≡ carried' c → count_reply carried t c ≡ count_reply carried' t c
-reply_alike carried carried' t c same = ap (λ n. count_reply_of n (holds t.due c) (was_given t.slots c) (context_at t.slots c)) (count_alike carried carried' t c same)
 
 pub settles_alike : {carried carried' : CtxId → ℕ} {old : ContextTable} {after after' : CtxId → ℕ} {new : ContextTable} → ((c : CtxId) → carried c ≡ carried' c) → ((c : CtxId) → after c ≡ after' c)
     → Settles carried old after new → Settles carried' old after' new

@@ -1,17 +1,15 @@
 -- What completions carry, after each change of what is kept.
-use Rattle.std.proofs.Common.{◌≡◌, ℕ, ◌+◌, ◌-◌, ◌<◌, ◌≤◌, Bool, true, false, cond, eqb, List, [], ◌∷◌, ◌++◌, length, slice_get, slice_index, Option, Some, None, is_some, option_and_then, unwrap_or, refl, sym, ap, ap₂, subst, ◌∙◌, arith, inl, inr, ◌⊎◌, length-append, eq-eqb, ne_eqb, add-zero}
-use Rattle.std.proofs.lemmas.Bool.{cases_Bool, cases_eq, cases_order, eqb-true, true≢false}
-use Rattle.std.proofs.lemmas.Option.{slice_get-get_or, get_or_from_slice_get, unwrap_or-slice_get, slice_get_within}
-use Rattle.std.proofs.lemmas.List.{get_or-set_same, get_or-set_other, get_or_past}
-use Rattle.fm_types.specs.declared.ids.CtxId.{CtxId}
-use Rattle.fm_types.specs.Lists.{updated}
-use Rattle.fm_types.proofs.Lists.{updated-same, updated-other, slice_get-push, slice_get-append_left}
-use Rattle.fm_ctx.specs.Bags.{one, is_id}
-use Rattle.fm_ctx.specs.Table.{Context, Slot, ContextTable, context_in, context_at}
-use Rattle.fm_ctx.specs.Kept.{ContextsKept, carried_of, carried_more, carried_fewer, carried_none}
+use Rattle.fm_ctx.proofs.Words.{◌≡◌, ℕ, ◌+◌, ◌-◌, ◌<◌, ◌≤◌, Bool, true, false, cond, eqb, List, [], ◌∷◌, ◌++◌, length, slice_get, Option, Some, None}
+use Rattle.fm_ctx.proofs.Words.{is_some, option_and_then, unwrap_or, refl, sym, ap, ap₂, subst, ◌∙◌, arith, inl, inr, length-append, eq-eqb, ne_eqb}
+use Rattle.fm_ctx.proofs.Words.{cases_Bool, cases_eq, cases_order, true≢false, get_or_from_slice_get, slice_get_within, get_or-set_same, CtxId}
+use Rattle.fm_ctx.proofs.Words.{updated, updated-same, updated-other, slice_get-push, slice_get-append_left, one, is_id, Context, Slot, ContextTable}
+use Rattle.fm_ctx.proofs.Words.{context_in, context_at, ContextsKept, carried_of, carried_more, carried_fewer, IsNew, kept_allocated, cleaned}
+use Rattle.std.proofs.Common.{slice_index, ◌⊎◌, add-zero}
+use Rattle.std.proofs.lemmas.Bool.{eqb-true}
+use Rattle.std.proofs.lemmas.Option.{slice_get-get_or, unwrap_or-slice_get}
+use Rattle.std.proofs.lemmas.List.{get_or-set_other, get_or_past}
+use Rattle.fm_ctx.specs.Kept.{carried_none}
 use Rattle.fm_ctx.proofs.Bags.{by_id, is_id-refl, is_id-parts, is_id-same}
-use Rattle.fm_ctx.specs.Births.{IsNew, kept_allocated}
-use Rattle.fm_ctx.specs.Cleanup.{cleaned}
 use Rattle.fm_ctx.proofs.Slots.{new_absent, new_slot_absent, context_at-placed, context_at-placed_other, context_at-here, context_at-other}
 
 carried_as : (kept : ContextsKept) (t : ContextTable) (c : CtxId) → is_some (context_at t.slots c) ≡ is_some (context_at kept.table.slots c)

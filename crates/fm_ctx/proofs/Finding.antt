@@ -1,12 +1,11 @@
 -- A seat is found along its chain.
-use Rattle.std.proofs.Common.{◌≡◌, ℕ, zero, suc, ◌+◌, ◌<◌, ◌≤◌, ◌%◌, Bool, true, false, List, [], ◌∷◌, length, get_or, position, count_by, Option, Some, None, refl, sym, ap, ◌∙◌, arith, inl, inr, eq-eqb, lt-ltb, le-ltb, IfSome}
-use Rattle.std.specs.List.{position_or_len}
-use Rattle.std.proofs.lemmas.Bool.{cases_Bool, cases_lt, cases_order, and_parts, true≢false}
-use Rattle.std.proofs.lemmas.List.Sums.{sum_by-cons, get_or-le-sum_by, position_or_len_is}
-use Rattle.fm_ctx.specs.declared.seat.Seat.{Seat}
-use Rattle.fm_ctx.specs.Bags.{one}
-use Rattle.fm_ctx.specs.Objects.{same_object, same_owner}
-use Rattle.fm_ctx.specs.Seats.{object_number, chain_of, is_seat, is_on, stands, last_below, end_of, IsAbove}
+use Rattle.fm_ctx.proofs.Words.{◌≡◌, ℕ, zero, suc, ◌+◌, ◌<◌, ◌≤◌, Bool, true, false, List, [], ◌∷◌, length, get_or, position, count_by, Option, Some}
+use Rattle.fm_ctx.proofs.Words.{None, refl, sym, ap, ◌∙◌, arith, inl, inr, eq-eqb, lt-ltb, le-ltb, IfSome, position_or_len, cases_Bool, cases_lt}
+use Rattle.fm_ctx.proofs.Words.{cases_order, and_parts, true≢false, sum_by-cons, get_or-le-sum_by, Seat, one, same_object, same_owner, chain_of}
+use Rattle.fm_ctx.proofs.Words.{is_seat, stands, last_below, end_of}
+use Rattle.std.proofs.Common.{◌%◌}
+use Rattle.std.proofs.lemmas.List.Sums.{position_or_len_is}
+use Rattle.fm_ctx.specs.Seats.{object_number, is_on, IsAbove}
 use Rattle.fm_ctx.proofs.Objects.{same_object-same}
 use Rattle.fm_ctx.proofs.Lasts.{IsLast, last_some, last_none}
 
@@ -58,14 +57,6 @@ pub record IsPassed (seats : List (Option Seat)) (seat : Seat) (next : Option �
   pub within : upto ≤ length seats
   pub next_is : next ≡ last_below (stands seats (chain_of seat)) upto
   pub passed : (k : ℕ) → upto ≤ k → k < length seats → is_seat seat (get_or seats k None) ≡ false
-
-pub passed_none : (seats : List (Option Seat)) (seat : Seat) (next : Option ℕ) → next ≡ last_below (stands seats (chain_of seat)) (length seats) → IsPassed seats seat next
-passed_none seats seat next is = record {
-  upto = length seats;
-  within = omega arith;
-  next_is = is;
-  passed = λ k past under. absurd (omega (arith, past, under));
-}
 
 -- the slot that comes next
 pub passed_slot : {seats : List (Option Seat)} {seat : Seat} {next : Option ℕ} (slot : ℕ) → (p : IsPassed seats seat next) → next ≡ Some slot

@@ -1,19 +1,13 @@
 -- The context of an owner that is linked to an object.
-use Rattle.std.proofs.Common.{◌≡◌, ℕ, zero, suc, ◌<◌, ◌≤◌, Bool, true, false, cond, ltb, List, [], ◌∷◌, length, get_or, remove, slice_get, position, All, count_by, Option, Some, None, is_some, option_map, option_and_then, unwrap_or, refl, sym, ap, subst, ◌∙◌, arith, inl, inr, eq-eqb, ltb-false}
-use Rattle.std.specs.List.{position_or_len}
-use Rattle.std.proofs.lemmas.Bool.{cases_Bool, and_parts, true≢false}
-use Rattle.std.proofs.lemmas.Option.{none-some, same_Some, get_or_from_slice_get}
+use Rattle.fm_ctx.proofs.Words.{◌≡◌, ℕ, zero, suc, ◌<◌, ◌≤◌, Bool, true, false, cond, ltb, List, [], ◌∷◌, length, get_or, slice_get, position, All}
+use Rattle.fm_ctx.proofs.Words.{count_by, Option, Some, None, is_some, option_map, option_and_then, unwrap_or, refl, sym, ap, subst, ◌∙◌, arith, inl}
+use Rattle.fm_ctx.proofs.Words.{inr, eq-eqb, position_or_len, cases_Bool, and_parts, true≢false, none-some, same_Some, get_or_from_slice_get, CtxId}
+use Rattle.fm_ctx.proofs.Words.{slice_get-some, count_by-updated, Object, Owner, one, is_id, references, holds, without, same_owner, Context, Slot}
+use Rattle.fm_ctx.proofs.Words.{context_at, link_at, changed_slot, change_context, has_link, links, id_at, holder, with_link}
+use Rattle.std.proofs.Common.{remove, ltb-false}
 use Rattle.std.proofs.lemmas.List.Quantifiers.{position-Some}
 use Rattle.std.proofs.lemmas.List.Sums.{fails_before_first, sum_by-le}
-use Rattle.fm_types.specs.declared.ids.CtxId.{CtxId}
-use Rattle.fm_types.proofs.Lists.{slice_get-some, count_by-updated}
-use Rattle.fm_ctx.specs.declared.object.Object.{Object}
-use Rattle.fm_ctx.specs.declared.owner.Owner.{Owner}
-use Rattle.fm_ctx.specs.Bags.{one, is_id, references, holds, without}
-use Rattle.fm_ctx.specs.Objects.{is_to, same_owner}
-use Rattle.fm_ctx.specs.Table.{Context, Slot, context_at, link_at, changed_slot, change_context}
-use Rattle.fm_ctx.specs.Laws.{has_link, links}
-use Rattle.fm_ctx.specs.Links.{id_at, holder, with_link}
+use Rattle.fm_ctx.specs.Objects.{is_to}
 use Rattle.fm_ctx.proofs.Bags.{counted_if_held, without_none}
 
 -- where no place passes, none is counted

@@ -1,20 +1,15 @@
 -- Leaving a callback and unlinking many contexts: such changes compose, and keep the laws.
-use Rattle.std.proofs.Common.{◌≡◌, ℕ, ◌+◌, ◌<◌, ◌≤◌, Bool, true, false, cond, eqb, List, [], ◌∷◌, ◌++◌, length, set, map, slice_get, All, count_by, Option, Some, None, is_some, option_map, option_and_then, refl, sym, ap, ap₂, subst, ◌∙◌, arith, inl, inr, append_assoc, append-nil, lit≤, length-set}
-use Rattle.std.proofs.lemmas.Bool.{cases_eq, true≢false}
-use Rattle.std.proofs.lemmas.Option.{none-some, slice_get-map}
-use Rattle.std.proofs.lemmas.List.{length-map, set-set, set-get_or, get_or-set_same}
+use Rattle.fm_ctx.proofs.Words.{◌≡◌, ℕ, ◌+◌, ◌<◌, ◌≤◌, Bool, true, false, cond, eqb, List, [], ◌∷◌, ◌++◌, length, set, map, slice_get, All, count_by}
+use Rattle.fm_ctx.proofs.Words.{Option, Some, None, is_some, option_map, option_and_then, refl, sym, ap, ap₂, subst, ◌∙◌, arith, inl, inr, length-set}
+use Rattle.fm_ctx.proofs.Words.{cases_eq, true≢false, none-some, slice_get-map, length-map, get_or-set_same, sum_by-cons, CtxId, Object, Owner, one}
+use Rattle.fm_ctx.proofs.Words.{is_id, holds, hand_of, without, Context, Slot, ContextTable, context_in, context_at, count_in, IsLawful, has_link}
+use Rattle.fm_ctx.proofs.Words.{links, newly, Settles, Sweeps, due_after, released}
+use Rattle.std.proofs.Common.{append_assoc, append-nil, lit≤}
+use Rattle.std.proofs.lemmas.List.{set-set, set-get_or}
 use Rattle.std.proofs.lemmas.List.Elements.{All-set}
-use Rattle.std.proofs.lemmas.List.Sums.{sum_by-cons}
-use Rattle.fm_types.specs.declared.ids.CtxId.{CtxId}
-use Rattle.fm_ctx.specs.declared.object.Object.{Object}
-use Rattle.fm_ctx.specs.declared.owner.Owner.{Owner}
-use Rattle.fm_ctx.specs.Bags.{one, is_id, holds, hand_of, without}
-use Rattle.fm_ctx.specs.Table.{Context, Slot, ContextTable, context_in, context_at, count_in}
-use Rattle.fm_ctx.specs.Laws.{IsLawful, has_link, links}
-use Rattle.fm_ctx.specs.Settling.{newly, Settles, Leaves, Sweeps, more_leaks, swept, swept_slot}
+use Rattle.fm_ctx.specs.Settling.{Leaves, more_leaks, swept, swept_slot}
 use Rattle.fm_ctx.proofs.Bags.{IsSmall, references_none, references_append, length-without}
 use Rattle.fm_ctx.proofs.Slots.{one_weaker}
-use Rattle.fm_ctx.specs.References.{due_after, released}
 use Rattle.fm_ctx.proofs.Counts.{count_released, newly_same, newly_above, newly_fallen, fresh_after, due_after_fresh, fresh_each}
 use Rattle.fm_ctx.proofs.Moves.{Moves, lawful_moved, settled}
 use Rattle.fm_ctx.proofs.Alike.{settles_alike}

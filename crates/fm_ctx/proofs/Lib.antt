@@ -1,3 +1,4 @@
+mod Words
 pub mod Bags
 pub mod Objects
 pub mod Lasts

@@ -1,15 +1,11 @@
 -- New contexts, and contexts that are cleaned up, keep the laws.
-use Rattle.std.proofs.Common.{◌≡◌, ℕ, ◌+◌, ◌<◌, ◌≤◌, Bool, true, false, cond, ◌&&◌, eqb, List, [], ◌∷◌, ◌++◌, length, slice_get, Option, Some, None, is_some, option_map, refl, sym, ap, ap₂, ◌∙◌, arith, eqb-true, ne_eqb, length-set}
-use Rattle.std.proofs.lemmas.Bool.{and_parts, true≢false}
-use Rattle.std.proofs.lemmas.Option.{none-some}
-use Rattle.fm_types.specs.declared.ids.CtxId.{CtxId}
-use Rattle.fm_ctx.specs.declared.object.Object.{Object}
-use Rattle.fm_ctx.specs.declared.owner.Owner.{Owner}
-use Rattle.fm_ctx.specs.Bags.{one, is_id, hand_of, held, places, cleaning_of}
-use Rattle.fm_ctx.specs.Table.{Context, Slot, ContextTable, context_at, link_count, count_in, changed_slot}
-use Rattle.fm_ctx.specs.Laws.{IsLawful, has_link, is_waiting}
-use Rattle.fm_ctx.specs.Births.{IsNew, new_slot, placed, allocated}
-use Rattle.fm_ctx.specs.Cleanup.{emptied, taken_due, cleaned}
+use Rattle.fm_ctx.proofs.Words.{◌≡◌, ℕ, ◌+◌, ◌<◌, ◌≤◌, Bool, true, false, cond, ◌&&◌, eqb, List, [], ◌∷◌, ◌++◌, length, slice_get, Option, Some, None}
+use Rattle.fm_ctx.proofs.Words.{is_some, option_map, refl, sym, ap, ap₂, ◌∙◌, arith, eqb-true, ne_eqb, length-set, and_parts, true≢false, none-some}
+use Rattle.fm_ctx.proofs.Words.{CtxId, Object, Owner, one, is_id, hand_of, held, places, cleaning_of, Context, Slot, ContextTable, context_at}
+use Rattle.fm_ctx.proofs.Words.{link_count, count_in, changed_slot, IsLawful, has_link, IsNew, new_slot, placed, emptied, cleaned}
+use Rattle.fm_ctx.specs.Laws.{is_waiting}
+use Rattle.fm_ctx.specs.Births.{allocated}
+use Rattle.fm_ctx.specs.Cleanup.{taken_due}
 use Rattle.fm_ctx.proofs.Bags.{by_id, is_id-refl, held_push, small_push, first_placed, places_taken, places_cleaned}
 use Rattle.fm_ctx.proofs.Slots.{new_absent, context_at-placed, context_at-placed_other, count_placed, few_placed, context_at-here, context_at-other, count_changed, there_changed}
 use Rattle.fm_ctx.proofs.Counts.{links_kept}

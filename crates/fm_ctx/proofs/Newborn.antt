@@ -1,18 +1,15 @@
 -- A new row stands for a new context.
-use Rattle.std.proofs.Common.{◌≡◌, ℕ, ◌+◌, ◌<◌, ◌≤◌, ◌&&◌, ◌||◌, Bool, true, false, cond, not, nat_lt, nat_le, eqb, List, [], ◌∷◌, ◌++◌, length, slice_get, slice_set, Some, None, is_none, option_and_then, refl, sym, ap, ◌∙◌, arith, inl, inr, eq-eqb, ne_eqb, leb-false, length-append}
-use Rattle.std.proofs.lemmas.Bool.{cases_order, true≢false}
+use Rattle.fm_ctx.proofs.Words.{◌≡◌, ℕ, ◌+◌, ◌<◌, ◌≤◌, ◌&&◌, Bool, true, false, cond, eqb, List, [], ◌∷◌, ◌++◌, length, slice_get, Some, None}
+use Rattle.fm_ctx.proofs.Words.{is_none, option_and_then, refl, sym, ap, ◌∙◌, arith, inl, inr, eq-eqb, ne_eqb, length-append, cases_order, true≢false}
+use Rattle.fm_ctx.proofs.Words.{slice_get_past, length-map, CtxId, slice_get-push, slice_get-append_left, Row, one, is_id, hand_of, Slot}
+use Rattle.fm_ctx.proofs.Words.{ContextsKept, carried_of, is_out_of_slots, IsNew, placed, new_slot, kept_allocated, context_of, slot_of, slots_of}
+use Rattle.fm_ctx.proofs.Words.{carried_in, row_in, row_at, stored, count_of_row, is_referenced, IsSound}
+use Rattle.std.proofs.Common.{◌||◌, not, nat_lt, nat_le, slice_set, leb-false}
 use Rattle.std.proofs.lemmas.Bool.Decides.{nat_tests}
-use Rattle.std.proofs.lemmas.Option.{slice_get_past}
-use Rattle.std.proofs.lemmas.List.{length-map, map_push}
+use Rattle.std.proofs.lemmas.List.{map_push}
 use Rattle.std.proofs.lemmas.List.Sums.{count_by-le-length}
-use Rattle.fm_types.specs.declared.ids.CtxId.{CtxId}
-use Rattle.fm_types.proofs.Lists.{slice_get-push, slice_get-append_left}
-use Rattle.fm_ctx.specs.declared.row.Row.{Row}
-use Rattle.fm_ctx.specs.Bags.{one, is_id, hand_of}
-use Rattle.fm_ctx.specs.Table.{Slot}
-use Rattle.fm_ctx.specs.Kept.{ContextsKept, carried_of, carried_none}
-use Rattle.fm_ctx.specs.Births.{last_generation, has_free_slot, is_out_of_slots, IsNew, placed, new_slot, allocated, kept_allocated}
-use Rattle.fm_ctx.specs.Rows.{context_of, slot_of, slots_of, carried_in, row_in, row_at, stored, count_of_row, is_referenced, IsSound}
+use Rattle.fm_ctx.specs.Kept.{carried_none}
+use Rattle.fm_ctx.specs.Births.{last_generation, has_free_slot, allocated}
 use Rattle.fm_ctx.proofs.Bags.{by_id, is_id-refl}
 use Rattle.fm_ctx.proofs.Slots.{other_generation}
 use Rattle.fm_ctx.proofs.Moves.{within_hands}

@@ -1,11 +1,7 @@
 -- Objects and owners that a test finds the same are the same.
-use Rattle.std.proofs.Common.{◌≡◌, true, sym, eqb-true}
-use Rattle.std.proofs.lemmas.Bool.{true≢false}
-use Rattle.fm_ctx.specs.declared.object.Object.{Object}
+use Rattle.fm_ctx.proofs.Words.{◌≡◌, true, sym, eqb-true, true≢false, Object, Owner, same_object, same_owner}
 use Rattle.fm_ctx.specs.declared.object.Object.TheVariants.{Volume, Instance, Stream, Handle}
-use Rattle.fm_ctx.specs.declared.owner.Owner.{Owner}
 use Rattle.fm_ctx.specs.declared.owner.Owner.TheVariants as owner
-use Rattle.fm_ctx.specs.Objects.{same_object, same_owner}
 
 pub same_object-same : (a b : Object) → same_object a b ≡ true → a ≡ b
 same_object-same (Volume v) (Volume u) is = let e = eqb-true v.0 u.0 is in λ i. Volume (record { 0 = e i })

@@ -1,14 +1,12 @@
 -- Where nothing was allocated yet.
-use Rattle.std.proofs.Common.{◌≡◌, ℕ, zero, suc, List, [], replicate, Option, None, count_by, refl, sym, ◌∙◌, arith, lit≤}
+use Rattle.fm_ctx.proofs.Words.{◌≡◌, ℕ, zero, suc, List, [], replicate, Option, None, count_by, refl, sym, ◌∙◌, arith, sum_by-cons, CtxId, one}
+use Rattle.fm_ctx.proofs.Words.{references, held, places, context_at, count_in, carried_of, IsLawful, row_at, stored, IsSound}
+use Rattle.std.proofs.Common.{lit≤}
 use Rattle.std.proofs.lemmas.List.{length-replicate}
 use Rattle.std.proofs.lemmas.List.Elements.{All-replicate}
-use Rattle.std.proofs.lemmas.List.Sums.{sum_by-cons}
-use Rattle.fm_types.specs.declared.ids.CtxId.{CtxId}
-use Rattle.fm_ctx.specs.Bags.{one, references, held, places, cleans}
-use Rattle.fm_ctx.specs.Table.{context_at, count_in, empty_table}
-use Rattle.fm_ctx.specs.Kept.{carried_of, nothing_kept}
-use Rattle.fm_ctx.specs.Laws.{IsLawful}
-use Rattle.fm_ctx.specs.Rows.{row_at, stored, IsSound}
+use Rattle.fm_ctx.specs.Bags.{cleans}
+use Rattle.fm_ctx.specs.Table.{empty_table}
+use Rattle.fm_ctx.specs.Kept.{nothing_kept}
 use Rattle.fm_ctx.proofs.Bags.{IsSmall, references_none}
 
 none_there : (c : CtxId) → context_at [] c ≡ None

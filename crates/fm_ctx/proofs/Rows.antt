@@ -1,24 +1,17 @@
 -- Rows stand for slots: which row an id names, and what changes of a row make of the slots.
-use Rattle.std.proofs.Common.{◌≡◌, ℕ, zero, suc, ◌+◌, ◌<◌, Bool, true, false, cond, ◌&&◌, eqb, ltb, List, [], ◌∷◌, length, map, get_or, slice_get, slice_index, count_by, Option, Some, None, is_some, is_none, option_map, option_and_then, refl, sym, ap, ap₂, subst, ◌∙◌, arith, inl, inr, eq-eqb, ne_eqb, eqb-true, lt-ltb, le-ltb, leb, le-leb, unwrap_or, not, position}
-use Rattle.std.specs.List.{position_or_len}
-use Rattle.std.proofs.lemmas.List.{length-map}
-use Rattle.std.proofs.lemmas.List.Sums.{sum_by-cons}
-use Rattle.std.proofs.lemmas.Bool.{cases_eq, cases_lt, and_right, lt-leb, true≢false}
-use Rattle.std.proofs.lemmas.Option.{none-some, same_Some, slice_get-map, slice_get_within, slice_get_past, get_or_from_slice_get, unwrap_or-slice_get}
-use Rattle.fm_types.specs.declared.ids.CtxId.{CtxId}
-use Rattle.fm_types.specs.Lists.{updated}
-use Rattle.fm_types.proofs.Lists.{updated-same, updated-other, count_by-updated, slice_get-some}
-use Rattle.fm_ctx.specs.declared.row.Row.{Row}
-use Rattle.fm_ctx.specs.Bags.{one, is_id}
-use Rattle.fm_ctx.specs.Table.{Context, Slot, context_in, context_at, link_at, changed_slot, change_context}
-use Rattle.fm_ctx.specs.Kept.{carried_of}
-use Rattle.fm_ctx.specs.declared.object.Object.{Object}
-use Rattle.fm_ctx.specs.declared.owner.Owner.{Owner}
-use Rattle.fm_ctx.specs.Laws.{links, has_link}
-use Rattle.fm_ctx.specs.Links.{id_at, holder}
-use Rattle.fm_ctx.specs.Counting.{was_given, born, cleaned_count}
-use Rattle.fm_ctx.specs.Bodies.{body_at}
-use Rattle.fm_ctx.specs.Rows.{context_of, slot_of, slots_of, carried_in, row_in, row_at, count_of_row, stored, is_referenced, kept_in}
+use Rattle.fm_ctx.proofs.Words.{◌≡◌, ℕ, zero, suc, ◌+◌, ◌<◌, Bool, true, false, cond, ◌&&◌, eqb, ltb, List, [], ◌∷◌, length, map, get_or, slice_get}
+use Rattle.fm_ctx.proofs.Words.{count_by, Option, Some, None, is_some, is_none, option_map, option_and_then, refl, sym, ap, ap₂, subst, ◌∙◌, arith}
+use Rattle.fm_ctx.proofs.Words.{inl, inr, eq-eqb, ne_eqb, eqb-true, lt-ltb, le-ltb, unwrap_or, position, position_or_len, length-map, sum_by-cons}
+use Rattle.fm_ctx.proofs.Words.{cases_eq, cases_lt, true≢false, none-some, same_Some, slice_get-map, slice_get_within, slice_get_past}
+use Rattle.fm_ctx.proofs.Words.{get_or_from_slice_get, CtxId, updated, updated-same, updated-other, count_by-updated, slice_get-some, Row, one, is_id}
+use Rattle.fm_ctx.proofs.Words.{Context, Slot, context_in, context_at, link_at, changed_slot, change_context, carried_of, Object, Owner, links}
+use Rattle.fm_ctx.proofs.Words.{has_link, id_at, holder, was_given, body_at, context_of, slot_of, slots_of, carried_in, row_in, row_at, count_of_row}
+use Rattle.fm_ctx.proofs.Words.{stored, is_referenced, kept_in}
+use Rattle.std.proofs.Common.{slice_index, leb, le-leb, not}
+use Rattle.std.proofs.lemmas.Bool.{and_right, lt-leb}
+use Rattle.std.proofs.lemmas.Option.{unwrap_or-slice_get}
+use Rattle.fm_ctx.specs.Kept.{ContextsKept}
+use Rattle.fm_ctx.specs.Counting.{born, cleaned_count}
 use Rattle.fm_ctx.proofs.Bags.{by_id, is_id-refl}
 use Rattle.fm_ctx.proofs.Slots.{other_generation}
 
@@ -159,6 +152,11 @@ row_of_context rows c has = at_row (row_at rows c) refl
     at_row : (o : Option Row) → row_at rows c ≡ o → InRow rows c
     at_row None is = absurd (true≢false (sym has ∙ ap is_some (context_at-rows rows c) ∙ ap (λ (o : Option Row). is_some (option_map context_of o)) is))
     at_row (Some r) is = in_row rows c r is
+
+-- of the state under its other name
+pub row_named : {hands : List (List CtxId)} {due : List CtxId} {cleaning : List (Option CtxId)} {leaks : ℕ} {now : ContextsKept} (rows : List Row) (c : CtxId)
+    → kept_in rows hands due cleaning leaks ≡ now → is_some (context_at now.table.slots c) ≡ true → InRow rows c
+row_named rows c same has = row_of_context rows c (subst (λ (k : ContextsKept). is_some (context_at k.table.slots c) ≡ true) (sym same) has)
 
 generation_zero : (n : ℕ) → leb n 0 ≡ eqb n 0
 generation_zero n =

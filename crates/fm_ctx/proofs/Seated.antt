@@ -1,20 +1,11 @@
 -- The seats of rows, and what changes of a row make of them.
-use Rattle.std.proofs.Common.{◌≡◌, ℕ, zero, suc, ◌<◌, ◌≤◌, Bool, true, false, cond, List, [], ◌∷◌, ◌++◌, length, set, get_or, slice_get, position, count_by, Option, Some, None, is_some, option_map, refl, sym, ap, subst, ◌∙◌, arith}
-use Rattle.std.proofs.lemmas.List.{length-map, map_push}
-use Rattle.std.proofs.lemmas.List.Sums.{sum_by-cons}
-use Rattle.std.proofs.lemmas.Option.{same_Some, slice_get-map, get_or_from_slice_get}
-use Rattle.fm_types.specs.declared.ids.CtxId.{CtxId}
-use Rattle.fm_types.specs.Lists.{updated}
-use Rattle.fm_ctx.specs.declared.object.Object.{Object}
-use Rattle.fm_ctx.specs.declared.owner.Owner.{Owner}
-use Rattle.fm_ctx.specs.declared.row.Row.{Row}
-use Rattle.fm_ctx.specs.declared.seat.Seat.{Seat}
-use Rattle.fm_ctx.specs.Bags.{one}
-use Rattle.fm_ctx.specs.Laws.{links, has_link}
-use Rattle.fm_ctx.specs.Links.{holder}
-use Rattle.fm_ctx.specs.Table.{Slot, context_at, link_count}
-use Rattle.fm_ctx.specs.Seats.{is_seat, seat_by}
-use Rattle.fm_ctx.specs.Rows.{context_of, slot_of, slots_of, seat_in, seats_of, linked_row, unlinked_row}
+use Rattle.fm_ctx.proofs.Words.{◌≡◌, ℕ, zero, suc, ◌<◌, ◌≤◌, Bool, true, false, cond, List, [], ◌∷◌, ◌++◌, length, set, get_or, slice_get, position}
+use Rattle.fm_ctx.proofs.Words.{count_by, Option, Some, None, is_some, option_map, refl, sym, ap, subst, ◌∙◌, arith, length-map, sum_by-cons}
+use Rattle.fm_ctx.proofs.Words.{same_Some, slice_get-map, get_or_from_slice_get, CtxId, updated, Object, Owner, Row, Seat, one, links, has_link}
+use Rattle.fm_ctx.proofs.Words.{holder, Slot, context_at, link_count, is_seat, context_of, slot_of, slots_of, linked_row, unlinked_row}
+use Rattle.std.proofs.lemmas.List.{map_push}
+use Rattle.fm_ctx.specs.Seats.{seat_by}
+use Rattle.fm_ctx.specs.Rows.{seat_in, seats_of}
 use Rattle.fm_ctx.proofs.Rows.{InRow, within_rows, row_read, context_in_row, map_updated, map_updated_kept, position-map, first_id, holder-rows}
 
 -- ---- who is linked, by seats

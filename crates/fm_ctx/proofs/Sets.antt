@@ -1,16 +1,13 @@
 -- Setting, finding and deleting contexts keep the laws.
-use Rattle.std.proofs.Common.{◌≡◌, ℕ, ◌<◌, ◌≤◌, Bool, true, false, cond, ◌&&◌, length, count_by, Option, Some, None, is_some, IfSome, option_map, option_and_then, refl, sym, ap, subst, ◌∙◌, arith, inl, inr}
-use Rattle.std.proofs.lemmas.Bool.{cases_Bool, leb-false, true≢false}
-use Rattle.fm_types.specs.declared.ids.CtxId.{CtxId}
-use Rattle.fm_ctx.specs.declared.object.Object.{Object}
-use Rattle.fm_ctx.specs.declared.owner.Owner.{Owner}
+use Rattle.fm_ctx.proofs.Words.{◌≡◌, ℕ, ◌<◌, ◌≤◌, Bool, true, false, cond, ◌&&◌, length, count_by, Option, Some, None, is_some, IfSome, option_map}
+use Rattle.fm_ctx.proofs.Words.{option_and_then, refl, sym, ap, subst, ◌∙◌, arith, inl, inr, cases_Bool, true≢false, CtxId, Object, Owner, is_id}
+use Rattle.fm_ctx.proofs.Words.{holds, hand_of, held, Context, ContextTable, context_at, link_at, count_in, change_context, IsLawful, has_link}
+use Rattle.fm_ctx.proofs.Words.{grabbed, with_link, holder, unlinked_for, IsFree}
+use Rattle.std.proofs.lemmas.Bool.{leb-false}
 use Rattle.fm_ctx.specs.declared.set_reply.SetMode.{SetMode}
 use Rattle.fm_ctx.specs.declared.set_reply.SetMode.TheVariants.{Keep, Replace}
-use Rattle.fm_ctx.specs.Bags.{is_id, holds, hand_of, held, is_hand_full}
-use Rattle.fm_ctx.specs.Table.{Context, ContextTable, context_at, link_at, count_in, change_context}
-use Rattle.fm_ctx.specs.Laws.{IsLawful, has_link}
-use Rattle.fm_ctx.specs.References.{grabbed}
-use Rattle.fm_ctx.specs.Links.{with_link, holder, unlinked_for, kept_after, set_mode_after, set_after, delete_after, IsUnlinkedOf, IsFree}
+use Rattle.fm_ctx.specs.Bags.{is_hand_full}
+use Rattle.fm_ctx.specs.Links.{kept_after, set_mode_after, set_after, delete_after, IsUnlinkedOf}
 use Rattle.fm_ctx.proofs.Bags.{is_id-same, held_push, counted_in_hand}
 use Rattle.fm_ctx.proofs.Slots.{context_at-other}
 use Rattle.fm_ctx.proofs.Counts.{count_linked_one, count_held}

@@ -1,18 +1,12 @@
 -- What is kept, as the fields show it after each change of one row.
-use Rattle.std.proofs.Common.{◌≡◌, ℕ, zero, suc, ◌<◌, cond, eqb, List, [], ◌∷◌, ◌++◌, length, get_or, slice_get, Option, Some, option_map, option_and_then, refl, sym, ap, ◌∙◌, arith}
-use Rattle.std.proofs.lemmas.List.{length-map}
-use Rattle.fm_types.specs.declared.ids.CtxId.{CtxId}
-use Rattle.fm_types.specs.Lists.{updated}
-use Rattle.std.proofs.lemmas.Option.{get_or_from_slice_get}
-use Rattle.fm_types.proofs.Lists.{length-updated, updated-same}
+use Rattle.fm_ctx.proofs.Words.{◌≡◌, ℕ, zero, suc, ◌<◌, cond, eqb, List, [], ◌∷◌, ◌++◌, length, get_or, slice_get, Option, Some, option_map}
+use Rattle.fm_ctx.proofs.Words.{option_and_then, refl, sym, ap, ◌∙◌, arith, length-map, CtxId, updated, get_or_from_slice_get, updated-same, Owner}
+use Rattle.fm_ctx.proofs.Words.{Row, Context, Slot, ContextTable, context_at, count_in, change_context, due_after, slot_of, slots_of, carried_in}
+use Rattle.fm_ctx.proofs.Words.{kept_in, context_of}
+use Rattle.fm_types.proofs.Lists.{length-updated}
 use Rattle.fm_types.specs.declared.context_kind.ContextKind.{ContextKind}
-use Rattle.fm_ctx.specs.declared.owner.Owner.{Owner}
 use Rattle.fm_ctx.specs.declared.due.Due.{Due}
-use Rattle.fm_ctx.specs.declared.row.Row.{Row}
-use Rattle.fm_ctx.specs.Table.{Context, Slot, ContextTable, context_at, count_in, change_context}
-use Rattle.fm_ctx.specs.References.{due_after}
 use Rattle.fm_ctx.specs.Cleanup.{due_of, due_reply}
-use Rattle.fm_ctx.specs.Rows.{slot_of, slots_of, carried_in, kept_in, context_of}
 use Rattle.fm_ctx.proofs.Rows.{InRow, context_in_row, map_updated, map_updated_kept, slots_changed}
 
 -- equal fields show equal values

@@ -1,20 +1,13 @@
 -- The rows stand for the contexts after each change of one row.
-use Rattle.std.proofs.Common.{◌≡◌, ℕ, ◌+◌, ◌-◌, ◌^◌, ◌<◌, ◌≤◌, Bool, true, false, cond, eqb, ltb, List, [], ◌∷◌, ◌++◌, length, get_or, slice_get, count_by, Option, Some, None, is_some, IfSome, refl, sym, ap, subst, ◌∙◌, arith, inl, inr, eq-eqb, ne_eqb, le-ltb, length-append, length-drop}
-use Rattle.std.proofs.lemmas.Bool.{cases_Bool, cases_eq, true≢false}
-use Rattle.std.proofs.lemmas.List.Sums.{get_or-le-sum_by}
-use Rattle.fm_types.specs.declared.ids.CtxId.{CtxId}
-use Rattle.fm_types.specs.Lists.{updated}
-use Rattle.fm_ctx.specs.declared.object.Object.{Object}
-use Rattle.fm_ctx.specs.declared.row.Row.{Row}
-use Rattle.fm_ctx.specs.Bags.{one, is_id, holds, hand_of, cleaning_of}
-use Rattle.fm_ctx.specs.Table.{Context, ContextTable, context_at, link_at, link_count, count_in}
-use Rattle.fm_ctx.specs.Kept.{ContextsKept, carried_of, carried_more, carried_fewer}
-use Rattle.fm_ctx.specs.Laws.{IsLawful, has_link}
-use Rattle.fm_ctx.specs.References.{grabbed, handed_on, released}
-use Rattle.fm_ctx.specs.Links.{with_link, linked, unlinked, unlinked_into, IsFree}
-use Rattle.fm_ctx.specs.Cleanup.{emptied, taken_due, cleaned}
-use Rattle.fm_ctx.specs.Bodies.{with_body, rewritten}
-use Rattle.fm_ctx.specs.Rows.{kept_in, row_in, row_at, count_of_row, stored, is_referenced, IsSound, raised, lowered, carried_away, brought_back, linked_row, unlinked_row, cleaned_row}
+use Rattle.fm_ctx.proofs.Words.{◌≡◌, ℕ, ◌+◌, ◌-◌, ◌^◌, ◌<◌, ◌≤◌, Bool, true, false, cond, eqb, ltb, List, [], ◌∷◌, ◌++◌, length, get_or, slice_get}
+use Rattle.fm_ctx.proofs.Words.{count_by, Option, Some, None, is_some, IfSome, refl, sym, ap, subst, ◌∙◌, arith, inl, inr, eq-eqb, ne_eqb, le-ltb}
+use Rattle.fm_ctx.proofs.Words.{length-append, cases_Bool, cases_eq, true≢false, get_or-le-sum_by, CtxId, updated, Object, Row, one, is_id, holds}
+use Rattle.fm_ctx.proofs.Words.{hand_of, cleaning_of, Context, ContextTable, context_at, link_at, link_count, count_in, ContextsKept, carried_of}
+use Rattle.fm_ctx.proofs.Words.{carried_more, carried_fewer, IsLawful, has_link, grabbed, handed_on, released, with_link, linked, unlinked}
+use Rattle.fm_ctx.proofs.Words.{unlinked_into, IsFree, emptied, cleaned, with_body, rewritten, kept_in, row_in, row_at, count_of_row, stored}
+use Rattle.fm_ctx.proofs.Words.{is_referenced, IsSound, raised, lowered, carried_away, brought_back, linked_row, unlinked_row, cleaned_row}
+use Rattle.std.proofs.Common.{length-drop}
+use Rattle.fm_ctx.specs.Cleanup.{taken_due}
 use Rattle.fm_ctx.proofs.Bags.{by_id, is_id-refl, held_few}
 use Rattle.fm_ctx.proofs.Slots.{there_changed, none_from}
 use Rattle.fm_ctx.proofs.Counts.{count_grabbed, count_handed_on, count_released, count_held, count_linked_one, count_linked, count_unlinked, count_unlinked_into, count_rewritten}
@@ -299,6 +292,13 @@ live_linked {rows} {kept} c s has = count_linked_one (carried_of kept) kept.tabl
 pub live_carried : {rows : List Row} {kept : ContextsKept} {capacity : ℕ} (c : CtxId) → IsSound rows kept capacity → 0 < carried_of kept c
     → 0 < count_in (carried_of kept) kept.table c
 live_carried c s some = omega (arith, some)
+
+-- the row of an id of which the state says something under its other name
+pub row_present : {rows : List Row} {kept now : ContextsKept} {capacity : ℕ} (c : CtxId) → IsSound rows kept capacity → kept ≡ now → 0 < count_in (carried_of now) now.table c → InRow rows c
+row_present c s same live = present c s (subst (λ (k : ContextsKept). 0 < count_in (carried_of k) k.table c) (sym same) live)
+
+pub row_linked : {rows : List Row} {kept now : ContextsKept} {capacity : ℕ} (c : CtxId) → IsSound rows kept capacity → kept ≡ now → is_some (link_at now.table.slots c) ≡ true → InRow rows c
+row_linked c s same has = present c s (live_linked c s (subst (λ (k : ContextsKept). is_some (link_at k.table.slots c) ≡ true) (sym same) has))
 
 -- the room of a list that keeps its capacity
 pub sound_fits : {rows : List Row} {kept : ContextsKept} {capacity capacity' : ℕ} → capacity' ≡ capacity → IsSound rows kept capacity → IsSound rows kept capacity'

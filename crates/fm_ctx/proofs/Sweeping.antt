@@ -1,19 +1,14 @@
 -- Sweeps: links go, slot by slot.
-use Rattle.std.proofs.Common.{◌≡◌, ℕ, zero, suc, ◌+◌, Bool, true, false, cond, eqb, List, [], ◌∷◌, length, map, slice_get, Option, Some, None, is_some, option_map, option_and_then, refl, sym, ap, ◌∙◌, add-one, eq-eqb, unwrap_or}
-use Rattle.std.proofs.lemmas.Bool.{and_parts, true≢false}
-use Rattle.std.proofs.lemmas.Option.{none-some, slice_get-map}
-use Rattle.fm_types.specs.declared.ids.CtxId.{CtxId}
-use Rattle.fm_types.specs.Lists.{updated}
-use Rattle.fm_ctx.specs.declared.object.Object.{Object}
-use Rattle.fm_ctx.specs.declared.row.Row.{Row}
+use Rattle.fm_ctx.proofs.Words.{◌≡◌, ℕ, zero, suc, ◌+◌, Bool, true, false, cond, eqb, List, [], ◌∷◌, length, map, slice_get, Option, Some, None}
+use Rattle.fm_ctx.proofs.Words.{is_some, option_map, option_and_then, refl, sym, ap, ◌∙◌, eq-eqb, unwrap_or, and_parts, true≢false, none-some}
+use Rattle.fm_ctx.proofs.Words.{slice_get-map, CtxId, updated, Object, Row, same_owner, Context, Slot, ContextTable, context_in, context_at, link_at}
+use Rattle.fm_ctx.proofs.Words.{changed_slot, change_context, with_link, unlinked, id_at, Settles, Sweeps, link_test, context_of, slot_of, slots_of}
+use Rattle.std.proofs.Common.{add-one}
 use Rattle.fm_ctx.specs.declared.row.Links.{Links}
 use Rattle.fm_ctx.specs.declared.row.Links.TheVariants.{To, Of}
-use Rattle.fm_ctx.specs.Objects.{is_to, same_owner}
-use Rattle.fm_ctx.specs.Table.{Context, Slot, ContextTable, context_in, context_at, link_at, changed_slot, change_context}
-use Rattle.fm_ctx.specs.Links.{with_link, unlinked, id_at}
-use Rattle.fm_ctx.specs.Settling.{Settles, Sweeps, swept, swept_slot}
-use Rattle.fm_ctx.specs.Sweep.{link_test, passes, context_of_slot, swept_at}
-use Rattle.fm_ctx.specs.Rows.{context_of, slot_of, slots_of}
+use Rattle.fm_ctx.specs.Objects.{is_to}
+use Rattle.fm_ctx.specs.Settling.{swept, swept_slot}
+use Rattle.fm_ctx.specs.Sweep.{passes, context_of_slot, swept_at}
 use Rattle.fm_ctx.proofs.Counts.{count_unlinked}
 use Rattle.fm_ctx.proofs.Leaving.{settles_none, settles_both, settles_by_one}
 use Rattle.fm_ctx.proofs.Alike.{settles_alike}

@@ -1,36 +1,24 @@
 -- By how much a step changes what an operation counts for.
-use Rattle.std.proofs.Common.{◌≡◌, ℕ, ◌+◌, ◌≤◌, ◌==◌, Bool, true, false, cond, List, [], ◌∷◌, ◌++◌, length, Option, Some, None, Err, find, slice_get, inl, inr, refl, sym, ap, ◌∙◌, subst, arith}
+use Rattle.fm_flow.proofs.Words.{◌≡◌, ℕ, ◌+◌, ◌≤◌, ◌==◌, Bool, true, false, cond, List, [], ◌∷◌, ◌++◌, length, Option, Some, None, Err, find}
+use Rattle.fm_flow.proofs.Words.{slice_get, inl, inr, refl, sym, ap, ◌∙◌, subst, arith, same_Some, InstanceId, WorkerId, WrongStep, BaseCall, Params}
+use Rattle.fm_flow.proofs.Words.{Answer, PostVerdict, Data, Stage, Descending, PreRunning, PreHeld, InBase, Ascending, PostRunning, PostHeld, InDrain}
+use Rattle.fm_flow.proofs.Words.{PreState, Ask, Entry, Base, Drain, Below, HandleId, FlowRecord, one, times, visited, last_visited, owed, instances}
+use Rattle.fm_flow.proofs.Words.{without, ask_of, answers, opens, Turned, turn, post_entry, bare_ask, call_pre, call_base, call_post, give_post}
+use Rattle.fm_flow.proofs.Words.{descend, ascend, unwound, unwound_to, may_take, next_at, next_of, MayLieBelow, pre_returned_of, base_returned_of}
+use Rattle.fm_flow.proofs.Words.{post_state, post_returned_of, drain_returned_of, IsSound, IsCourse}
 use Rattle.std.proofs.lemmas.Bool.{cases_Bool}
-use Rattle.std.proofs.lemmas.Option.{none-some, same_Some}
-use Rattle.fm_types.specs.declared.ids.InstanceId.{InstanceId}
-use Rattle.fm_types.specs.declared.ids.WorkerId.{WorkerId}
+use Rattle.std.proofs.lemmas.Option.{none-some}
 use Rattle.fm_types.specs.declared.ids.CtxId.{CtxId}
-use Rattle.fm_types.specs.declared.status.Status.TheVariants.{WrongStep}
-use Rattle.fm_data.specs.declared.base_call.BaseCall.{BaseCall}
-use Rattle.fm_data.specs.declared.params.Params.{Params}
-use Rattle.fm_data.specs.declared.answer.Answer.{Answer}
-use Rattle.fm_data.specs.declared.verdict.PostVerdict.{PostVerdict}
-use Rattle.fm_data.specs.Data.{Data}
 use Rattle.fm_flow.specs.Table.{change_first, total}
-use Rattle.fm_flow.specs.declared.stage.Stage.{Stage}
-use Rattle.fm_flow.specs.declared.stage.Stage.TheVariants.{Descending, PreRunning, PreHeld, InBase, Ascending, PostRunning, PostHeld, InDrain}
-use Rattle.fm_flow.specs.declared.entry.PreState.{PreState}
 use Rattle.fm_flow.specs.declared.entry.PreState.TheVariants as pre
 use Rattle.fm_flow.specs.declared.entry.PostState.TheVariants as post
-use Rattle.fm_flow.specs.declared.entry.Ask.{Ask}
-use Rattle.fm_flow.specs.declared.entry.Entry.{Entry}
-use Rattle.fm_flow.specs.declared.entry.Entry.TheVariants.{Base, Drain}
-use Rattle.fm_flow.specs.declared.action.Below.{Below}
 use Rattle.fm_flow.specs.declared.action.Below.TheVariants as below
-use Rattle.fm_types.specs.declared.ids.HandleId.{HandleId}
 use Rattle.fm_flow.specs.Answered.{bare_answer, base_counted}
-use Rattle.fm_flow.specs.Record.{FlowRecord}
-use Rattle.fm_flow.specs.Entries.{one, times, visited, last_visited, last_posted, owed, instances, without, ask_of, answers}
-use Rattle.fm_flow.specs.Counts.{carried_in, carried_among, carried_by, handed, taken_by, opens, flight, enters, leaves_by, leaves_at, post_leaves_by}
-use Rattle.fm_flow.specs.Steps.{Turned, turn, pre_entry, post_entry, bare_ask, with_base, with_drain, call_pre, call_base, call_post, give_post, descend, ascend, unwound, unwound_to, may_take, next_at, next_of, MayLieBelow, pre_returned_of, base_returned_of, post_state, post_returned_of, drain_returned_of}
-use Rattle.fm_flow.specs.Sound.{IsSound, IsCourse}
+use Rattle.fm_flow.specs.Entries.{last_posted}
+use Rattle.fm_flow.specs.Counts.{carried_in, carried_among, carried_by, handed, taken_by, flight, enters, leaves_by, leaves_at, post_leaves_by}
+use Rattle.fm_flow.specs.Steps.{pre_entry, with_base, with_drain}
 use Rattle.fm_flow.proofs.Lists.{without_head}
-use Rattle.fm_flow.proofs.Owed.{owed_push_none, owed_push_ask, owed_push_answer, unanswered}
+use Rattle.fm_flow.proofs.Owed.{owed_push_none, left_push_ask, left_push_answer, unanswered}
 use Rattle.fm_flow.proofs.Course.{unvisited, owed_once}
 use Rattle.fm_flow.proofs.Counting.{opens_push, and_true, and_false, flight_pre_settled, carried_pre_settled, flight_post_settled, owed_post_settled, owed_drain_settled, opens_drain_settled}
 use Rattle.fm_flow.proofs.Soundness.{sound_unwound}
@@ -54,7 +42,7 @@ running_asks worker i r = owed_push_none r.entries (pre_entry worker i pre.Runni
 pub bare_owed : (worker : WorkerId) (i : InstanceId) (r : FlowRecord) → r.stage ≡ Descending → times i.0 (visited r.entries) ≡ 0 → IsSound r
     → owed (r.entries ++ pre_entry worker i bare_ask r ∷ []) ≡ record { instance = i; worker = worker; completion = record { number = 0; context = None }; is_synchronized = false; place = length r.kept } ∷ owed r.entries
 bare_owed worker i r st fresh h =
-    owed_push_ask r.entries (pre_entry worker i bare_ask r) (record { instance = i; worker = worker; completion = record { number = 0; context = None }; is_synchronized = false; place = length r.kept }) refl (λ j. refl)
+    left_push_ask answers r.entries (pre_entry worker i bare_ask r) (record { instance = i; worker = worker; completion = record { number = 0; context = None }; is_synchronized = false; place = length r.kept }) refl (λ j. refl)
     (unanswered i.0 r.entries (unvisited Descending r.entries i.0 (subst (λ s. IsCourse s r.entries) st h.course) fresh))
 
 called_carries : (c : CtxId) (worker : WorkerId) (i : InstanceId) (r : FlowRecord) (m : Option Params) → Carries c r (call_pre worker i r m)
@@ -108,7 +96,7 @@ pub answered_owed : (r : FlowRecord) (e : Entry) (ask : Ask) (rest : List Ask) �
 answered_owed r e ask rest st next asks answers' h =
     let few = owed_once Ascending r.entries ask.instance.0 (subst (λ s. IsCourse s r.entries) st h.course) in
     let few' : times ask.instance.0 (instances (ask ∷ rest)) ≤ 1 = let k = ap (λ xs. times ask.instance.0 (instances xs)) next in omega (arith, few, k) in
-    owed_push_answer r.entries e ask.instance.0 asks answers' ∙ ap (without ask.instance.0) next ∙ without_head ask rest few'
+    left_push_answer answers r.entries e ask.instance.0 asks answers' ∙ ap (without ask.instance.0) next ∙ without_head ask rest few'
 
 pub unwound_entries : (place : ℕ) (r : FlowRecord) (m : Option Params) → (unwound_to place r m).entries ≡ r.entries
 unwound_entries place r None = refl
@@ -195,22 +183,12 @@ ascend_flies j lies worker false r (Some ask) st is h =
 carries_at : (c : CtxId) (worker : WorkerId) (lies : Below) (stops : Bool) (r : FlowRecord) (stage : Stage) → r.stage ≡ stage → (r.stage ≡ Descending → MayLieBelow lies r.entries) → IsSound r → Carries c r (next_at worker lies stops r stage)
 carries_at c worker lies stops r Descending st may h = descend_carries c worker lies r st (may st) h
 carries_at c worker lies stops r Ascending st may h = ascend_carries c worker stops r (slice_get (owed r.entries) 0) st refl h
-carries_at c worker lies stops r PreRunning st may h = omega arith
-carries_at c worker lies stops r PreHeld st may h = omega arith
-carries_at c worker lies stops r InBase st may h = omega arith
-carries_at c worker lies stops r PostRunning st may h = omega arith
-carries_at c worker lies stops r PostHeld st may h = omega arith
-carries_at c worker lies stops r (InDrain i) st may h = omega arith
+carries_at c worker lies stops r stage st may h = omega arith
 
 flies_at : (j : ℕ) (worker : WorkerId) (lies : Below) (stops : Bool) (r : FlowRecord) (stage : Stage) → r.stage ≡ stage → (r.stage ≡ Descending → MayLieBelow lies r.entries) → IsSound r → Flies j lies r (next_at worker lies stops r stage)
 flies_at j worker lies stops r Descending st may h = descend_flies j worker lies r st (may st) h
 flies_at j worker lies stops r Ascending st may h = ascend_flies j lies worker stops r (slice_get (owed r.entries) 0) st refl h
-flies_at j worker lies stops r PreRunning st may h = omega arith
-flies_at j worker lies stops r PreHeld st may h = omega arith
-flies_at j worker lies stops r InBase st may h = omega arith
-flies_at j worker lies stops r PostRunning st may h = omega arith
-flies_at j worker lies stops r PostHeld st may h = omega arith
-flies_at j worker lies stops r (InDrain i) st may h = omega arith
+flies_at j worker lies stops r stage st may h = omega arith
 
 pub next_carries : (c : CtxId) (worker : WorkerId) (lies : Below) (stops : Bool) (r : FlowRecord) → (r.stage ≡ Descending → MayLieBelow lies r.entries) → IsSound r → Carries c r (next_of worker lies stops r)
 next_carries c worker lies stops r may h =
@@ -245,12 +223,7 @@ enters_at : (i : ℕ) (worker : WorkerId) (lies : Below) (stops : Bool) (r : Flo
     → (r.stage ≡ Descending → (j : InstanceId) (called : Bool) → lies ≡ below.Instance j called → (j.0 == i) ≡ false) → enters i lies (next_at worker lies stops r stage).reply ≡ 0
 enters_at i worker lies stops r Descending st apart = enters_down i worker lies r (apart st)
 enters_at i worker lies stops r Ascending st apart = enters_up i lies worker stops r (slice_get (owed r.entries) 0)
-enters_at i worker lies stops r PreRunning st apart = refl
-enters_at i worker lies stops r PreHeld st apart = refl
-enters_at i worker lies stops r InBase st apart = refl
-enters_at i worker lies stops r PostRunning st apart = refl
-enters_at i worker lies stops r PostHeld st apart = refl
-enters_at i worker lies stops r (InDrain j) st apart = refl
+enters_at i worker lies stops r stage st apart = refl
 
 pub next_enters : (i : ℕ) (worker : WorkerId) (lies : Below) (stops : Bool) (r : FlowRecord)
     → (r.stage ≡ Descending → (j : InstanceId) (called : Bool) → lies ≡ below.Instance j called → (j.0 == i) ≡ false) → enters i lies (next_of worker lies stops r).reply ≡ 0

@@ -1,23 +1,14 @@
 -- What each step adds to the references carried and to the operations in flight, and what it takes away.
-use Rattle.std.proofs.Common.{◌≡◌, ℕ, ◌+◌, ◌≤◌, ◌==◌, Bool, true, false, cond, not, ◌&&◌, List, [], ◌∷◌, ◌++◌, map, reverse, Some, None, option_to_list, slice_get, inl, inr, refl, sym, ap, ◌∙◌, arith, zero-add}
-use Rattle.std.proofs.lemmas.List.{reverse-append}
-use Rattle.std.proofs.lemmas.List.Elements.{filter_map-append}
-use Rattle.std.proofs.lemmas.Bool.Decides.{nat_tests}
+use Rattle.fm_flow.proofs.Words.{◌≡◌, ℕ, ◌+◌, ◌≤◌, ◌==◌, Bool, true, false, cond, not, ◌&&◌, List, [], ◌∷◌, ◌++◌, map, reverse, Some, None}
+use Rattle.fm_flow.proofs.Words.{option_to_list, slice_get, inl, inr, refl, sym, ap, ◌∙◌, arith, zero-add, reverse-append, filter_map-append}
+use Rattle.fm_flow.proofs.Words.{nat_tests, Stage, Descending, PreState, PostState, PreVisit, DrainVisit, Ask, Entry, Pre, Base, Post, Drain, one}
+use Rattle.fm_flow.proofs.Words.{times, ask_in, visit_of, post_of, visited, last_visited, asked, posted, owed, instances, is_pre_open, settle_pre}
+use Rattle.fm_flow.proofs.Words.{settle_post, settle_drain, opens, drain_opens, answer_count, IsCourse}
 use Rattle.fm_types.specs.declared.ids.CtxId.{CtxId}
-use Rattle.fm_flow.specs.declared.stage.Stage.{Stage}
-use Rattle.fm_flow.specs.declared.stage.Stage.TheVariants.{Descending}
-use Rattle.fm_flow.specs.declared.entry.PreState.{PreState}
 use Rattle.fm_flow.specs.declared.entry.PreState.TheVariants as pre
-use Rattle.fm_flow.specs.declared.entry.PostState.{PostState}
 use Rattle.fm_flow.specs.declared.entry.PostState.TheVariants as post
-use Rattle.fm_flow.specs.declared.entry.PreVisit.{PreVisit}
-use Rattle.fm_flow.specs.declared.entry.DrainVisit.{DrainVisit}
-use Rattle.fm_flow.specs.declared.entry.Ask.{Ask}
-use Rattle.fm_flow.specs.declared.entry.Entry.{Entry}
-use Rattle.fm_flow.specs.declared.entry.Entry.TheVariants.{Pre, Base, Post, Drain}
-use Rattle.fm_flow.specs.Entries.{one, times, ask_in, visit_of, post_of, visited, last_visited, last_posted, asked, posted, owed, instances, is_pre_open, is_post_open, settle_pre, settle_post, settle_drain}
-use Rattle.fm_flow.specs.Counts.{carried_among, taken_by, opens_at, opens, leaves_by, leaves_at, post_leaves_by, drain_opens}
-use Rattle.fm_flow.specs.Sound.{answer_count, IsCourse}
+use Rattle.fm_flow.specs.Entries.{last_posted, is_post_open}
+use Rattle.fm_flow.specs.Counts.{carried_among, taken_by, opens_at, leaves_by, leaves_at, post_leaves_by}
 use Rattle.fm_flow.proofs.Lists.{either}
 use Rattle.fm_flow.proofs.Walks.{OpenPre, OpenPost, is_pre, is_post}
 use Rattle.fm_flow.proofs.Course.{asked_cons, owed_settled, times_instances-append, one_and}
@@ -57,12 +48,11 @@ one_of_and false b = refl
 -- ---- in flight at most once
 
 opens_few : (i : ℕ) (visit : PreVisit) (state : PreState) → one ((visit.instance.0 == i) && is_pre_open state) + times i (instances (option_to_list (ask_in visit state))) ≤ one (visit.instance.0 == i)
-opens_few i visit pre.Running = let h = one_and (visit.instance.0 == i) true in omega (arith, h)
-opens_few i visit pre.Held = let h = one_and (visit.instance.0 == i) true in omega (arith, h)
 opens_few i visit (pre.Asked completion) = let h = and_false (visit.instance.0 == i) in omega (arith, h)
 opens_few i visit (pre.Synchronized completion) = let h = and_false (visit.instance.0 == i) in omega (arith, h)
 opens_few i visit pre.Passed = let h = and_false (visit.instance.0 == i) in omega (arith, h)
 opens_few i visit (pre.Completed status) = let h = and_false (visit.instance.0 == i) in omega (arith, h)
+opens_few i visit state = let h = one_and (visit.instance.0 == i) true in omega (arith, h)
 
 -- who is open was visited and hasn't asked, or is being answered
 pub opens_among : (i : ℕ) (es : List Entry) → opens i es + times i (instances (asked es)) ≤ times i (visited es) + answer_count i es
@@ -97,28 +87,19 @@ last_of_open_post es o =
     ∙ first_of_reverse (posted o.front) o.visit.instance.0
 
 pre_balance_here : (i : ℕ) (visit : PreVisit) (state : PreState) → (visit.instance.0 == i) ≡ true → 1 ≡ (one (is_pre_open state) + times i (instances (option_to_list (ask_in visit state)))) + leaves_by state
-pre_balance_here i visit pre.Running is = refl
-pre_balance_here i visit pre.Held is = refl
 pre_balance_here i visit (pre.Asked completion) is = rw is refl
 pre_balance_here i visit (pre.Synchronized completion) is = rw is refl
-pre_balance_here i visit pre.Passed is = refl
-pre_balance_here i visit (pre.Completed status) is = refl
+pre_balance_here i visit state is = refl
 
 pre_balance_there : (i : ℕ) (visit : PreVisit) (state : PreState) → (visit.instance.0 == i) ≡ false → 0 ≡ (0 + times i (instances (option_to_list (ask_in visit state)))) + 0
-pre_balance_there i visit pre.Running differs = refl
-pre_balance_there i visit pre.Held differs = refl
 pre_balance_there i visit (pre.Asked completion) differs = rw differs refl
 pre_balance_there i visit (pre.Synchronized completion) differs = rw differs refl
-pre_balance_there i visit pre.Passed differs = refl
-pre_balance_there i visit (pre.Completed status) differs = refl
+pre_balance_there i visit state differs = refl
 
 taken : (k : CtxId) (visit : PreVisit) (state : PreState) → carried_among k (option_to_list (ask_in visit state)) ≡ taken_by k state
-taken k visit pre.Running = refl
-taken k visit pre.Held = refl
 taken k visit (pre.Asked completion) = omega arith
 taken k visit (pre.Synchronized completion) = omega arith
-taken k visit pre.Passed = refl
-taken k visit (pre.Completed status) = refl
+taken k visit state = refl
 
 pre_balance : (i : ℕ) (visit : PreVisit) (state : PreState) → one (visit.instance.0 == i) ≡ (one ((visit.instance.0 == i) && is_pre_open state) + times i (instances (option_to_list (ask_in visit state)))) + cond (visit.instance.0 == i) (leaves_by state) 0
 pre_balance i visit state = elim (either (visit.instance.0 == i)) [
@@ -155,8 +136,7 @@ owed_pre_settled s es state p c =
 
 post_balance : (b : Bool) (state : PostState) → one b ≡ one (b && is_post_open state) + cond b (post_leaves_by state) 0
 post_balance true post.Running = refl
-post_balance true post.Held = refl
-post_balance true post.Finished = refl
+post_balance true state = refl
 post_balance false state = refl
 
 pub flight_post_settled : (s : Stage) (es : List Entry) (state : PostState) (j : ℕ) → is_post s ≡ true → IsCourse s es
@@ -193,7 +173,5 @@ drain_at i j visit = elim (either (visit.instance.0 == i)) [
 
 pub opens_drain_settled : (i j : ℕ) (es : List Entry) → opens j es ≡ opens j (map (settle_drain i) es) + cond (i == j) (drain_opens i es) 0
 opens_drain_settled i j [] = let h : cond {A = ℕ} (i == j) 0 0 ≡ 0 = same_either (i == j) 0 in omega (arith, h)
-opens_drain_settled i j (Pre visit ∷ es) = let h = opens_drain_settled i j es in let m = ap (λ n. cond (i == j) n 0) (zero-add (drain_opens i es)) in omega (arith, h, m)
-opens_drain_settled i j (Base status information ∷ es) = let h = opens_drain_settled i j es in let m = ap (λ n. cond (i == j) n 0) (zero-add (drain_opens i es)) in omega (arith, h, m)
-opens_drain_settled i j (Post visit ∷ es) = let h = opens_drain_settled i j es in let m = ap (λ n. cond (i == j) n 0) (zero-add (drain_opens i es)) in omega (arith, h, m)
 opens_drain_settled i j (Drain visit ∷ es) = let h = opens_drain_settled i j es in let k = drain_at i j visit in let m = cond_sum (i == j) (one ((visit.instance.0 == i) && visit.is_running)) (drain_opens i es) in omega (arith, h, k, m)
+opens_drain_settled i j (e ∷ es) = let h = opens_drain_settled i j es in let m = ap (λ n. cond (i == j) n 0) (zero-add (drain_opens i es)) in omega (arith, h, m)

@@ -1,28 +1,22 @@
 -- The laws of entries are kept by each step.
-use Rattle.std.proofs.Common.{◌≡◌, ℕ, ◌+◌, ◌<◌, ◌≤◌, ◌==◌, Bool, true, false, cond, not, ◌&&◌, List, [], ◌∷◌, ◌++◌, length, reverse, filter, Option, Some, None, option_to_list, inl, inr, refl, sym, ap, ap₂, ◌∙◌, arith, append-nil, append_assoc, zero-add}
+use Rattle.fm_flow.proofs.Words.{◌≡◌, ℕ, ◌+◌, ◌<◌, ◌≤◌, ◌==◌, Bool, true, false, cond, not, ◌&&◌, List, [], ◌∷◌, ◌++◌, length, reverse, filter}
+use Rattle.fm_flow.proofs.Words.{Option, Some, None, option_to_list, inl, inr, refl, sym, ap, ap₂, ◌∙◌, arith, append-nil, zero-add, cons_option}
+use Rattle.fm_flow.proofs.Words.{reverse-append, length-append, nat_tests, Stage, Descending, PreRunning, InBase, Ascending, PostRunning, PreState}
+use Rattle.fm_flow.proofs.Words.{PreVisit, PostVisit, DrainVisit, Status, pre_leads, drain_opens, Ask, Entry, Pre, Base, Post, Drain, one, times}
+use Rattle.fm_flow.proofs.Words.{ask_in, ask_of, is_drained, is_answered, visited, asked, posted, owed, instances, without, walk, way_of}
+use Rattle.fm_flow.proofs.Words.{answer_count, IsCourse, answers, visit_of}
+use Rattle.std.proofs.Common.{append_assoc}
 use Rattle.std.specs.Prelude.{⊤}
-use Rattle.std.specs.List.{cons_option}
-use Rattle.std.proofs.lemmas.List.{reverse-append, map-append, length-append}
+use Rattle.std.proofs.lemmas.List.{map-append}
 use Rattle.std.proofs.lemmas.List.Elements.{filter-append, filter_agree}
-use Rattle.std.proofs.lemmas.Bool.Decides.{nat_tests}
-use Rattle.fm_flow.specs.declared.stage.Stage.{Stage}
-use Rattle.fm_flow.specs.declared.stage.Stage.TheVariants.{Descending, PreRunning, InBase, Ascending, PostRunning}
-use Rattle.fm_flow.specs.declared.entry.PreState.{PreState}
 use Rattle.fm_flow.specs.declared.entry.PreState.TheVariants as pre
-use Rattle.fm_flow.specs.declared.entry.PreVisit.{PreVisit}
-use Rattle.fm_flow.specs.declared.entry.PostVisit.{PostVisit}
-use Rattle.fm_flow.specs.declared.entry.DrainVisit.{DrainVisit}
 use Rattle.fm_flow.specs.declared.entry.PostState.TheVariants as post
-use Rattle.fm_types.specs.declared.status.Status.{Status}
-use Rattle.fm_flow.specs.Steps.{pre_leads}
-use Rattle.fm_flow.specs.Counts.{drain_opens}
-use Rattle.fm_flow.specs.declared.entry.Ask.{Ask}
-use Rattle.fm_flow.specs.declared.entry.Entry.{Entry}
-use Rattle.fm_flow.specs.declared.entry.Entry.TheVariants.{Pre, Base, Post, Drain}
-use Rattle.fm_flow.specs.Entries.{one, times, ask_in, ask_of, is_drained, is_answered, visited, asked, posted, owed, undrained, instances, without}
-use Rattle.fm_flow.specs.Sound.{if_down, walk, way_of, answer_count, slack, HasItsDrain, IsCourse}
-use Rattle.fm_flow.proofs.Lists.{without_head, others, times-append, instances_without, length_without, others_none, times_others_same, times_others_other, one-same, either}
-use Rattle.fm_flow.proofs.Owed.{asked_push, visited_push, posted_push, answer_count-append, owed_push_none, owed_push_ask, owed_push_answer, undrained_push_none, undrained_push_ask, undrained_push_drain, unanswered, not_drained}
+use Rattle.fm_flow.specs.Entries.{undrained, drains, post_of}
+use Rattle.fm_flow.specs.Sound.{if_down, slack, HasItsDrain}
+use Rattle.fm_flow.proofs.Lists.{without_head, others, times-append, instances_without, length_without, others_none, times_others_same}
+use Rattle.fm_flow.proofs.Lists.{times_others_other, one-same, either}
+use Rattle.fm_flow.proofs.Owed.{filter_map-push, answer_count-append, owed_push_none, left_push_ask, left_push_answer, left_push_none, unanswered}
+use Rattle.fm_flow.proofs.Owed.{not_drained}
 use Rattle.fm_flow.proofs.Walks.{walk_push, no_posts}
 
 -- ---- counts of instances
@@ -32,11 +26,7 @@ times_instances-append i xs ys = ap (times i) (map-append (λ ask. ask.instance.
 
 ask_among : (i : ℕ) (visit : PreVisit) (state : PreState) (asks : List Ask) → times i (instances (option_to_list (ask_in visit state) ++ asks)) ≤ one (visit.instance.0 == i) + times i (instances asks)
 ask_among i visit pre.Running asks = omega arith
-ask_among i visit pre.Held asks = omega arith
-ask_among i visit (pre.Asked completion) asks = omega arith
-ask_among i visit (pre.Synchronized completion) asks = omega arith
-ask_among i visit pre.Passed asks = omega arith
-ask_among i visit (pre.Completed status) asks = omega arith
+ask_among i visit state asks = omega arith
 
 reverse_more : (xs : List Ask) (o : Option Ask) → reverse (xs ++ option_to_list o) ≡ option_to_list o ++ reverse xs
 reverse_more xs None = ap reverse (append-nil xs)
@@ -58,17 +48,13 @@ asked_among i (Pre visit ∷ es) =
     let a = ap (λ xs. times i (instances xs)) (asked_cons (Pre visit) es) in
     let b = ask_among i visit visit.state (asked es) in
     let h = asked_among i es in omega (arith, a, b, h)
-asked_among i (Base status information ∷ es) = asked_among i es
-asked_among i (Post visit ∷ es) = asked_among i es
-asked_among i (Drain visit ∷ es) = asked_among i es
+asked_among i (e ∷ es) = asked_among i es
 
 -- an instance that was visited on the way up was answered
 pub posted_among : (i : ℕ) (es : List Entry) → times i (posted es) ≤ answer_count i es
 posted_among i [] = omega arith
 posted_among i (Pre visit ∷ es) = let h = posted_among i es in omega (arith, h)
-posted_among i (Base status information ∷ es) = let h = posted_among i es in omega (arith, h)
-posted_among i (Post visit ∷ es) = let h = posted_among i es in omega (arith, h)
-posted_among i (Drain visit ∷ es) = let h = posted_among i es in omega (arith, h)
+posted_among i (e ∷ es) = let h = posted_among i es in omega (arith, h)
 
 -- an instance that wasn't visited was neither answered nor drained
 pub unvisited : (s : Stage) (es : List Entry) (i : ℕ) → IsCourse s es → times i (visited es) ≡ 0 → answer_count i es ≡ 0
@@ -163,10 +149,10 @@ pub course_visit : (es : List Entry) (visit : PreVisit) → visit.state ≡ pre.
 course_visit es visit runs c fresh few =
     let asks : ask_of (Pre visit) ≡ None = rw runs refl in
     let o = owed_push_none es (Pre visit) asks (λ i. refl) in
-    let u = undrained_push_none es (Pre visit) asks (λ i. refl) in
-    let v = visited_push es (Pre visit) (Some visit.instance.0) refl in
-    let p = posted_push es (Pre visit) None refl ∙ append-nil (posted es) in
-    let q = asked_push es (Pre visit) None asks ∙ append-nil (asked es) in
+    let u = left_push_none drains es (Pre visit) asks (λ i. refl) in
+    let v = filter_map-push visit_of es (Pre visit) (Some visit.instance.0) refl in
+    let p = filter_map-push post_of es (Pre visit) None refl ∙ append-nil (posted es) in
+    let q = filter_map-push ask_of es (Pre visit) None asks ∙ append-nil (asked es) in
     let lv = ap length v ∙ length-append (visited es) (visit.instance.0 ∷ []) in
     let le = length-append es (Pre visit ∷ []) in
     let lo = ap length o in
@@ -187,11 +173,11 @@ course_visit_ask es visit ask asks same leads c fresh few =
     let none = unvisited Descending es visit.instance.0 c fresh in
     let unanswered' : is_answered es ask.instance.0 ≡ false = rw same (unanswered visit.instance.0 es none) in
     let undrained' : is_drained es ask.instance.0 ≡ false = rw same (not_drained visit.instance.0 es none) in
-    let o = owed_push_ask es (Pre visit) ask asks (λ i. refl) unanswered' in
-    let u = undrained_push_ask es (Pre visit) ask asks (λ i. refl) undrained' in
-    let v = visited_push es (Pre visit) (Some visit.instance.0) refl in
-    let p = posted_push es (Pre visit) None refl ∙ append-nil (posted es) ∙ no_posts Descending es Descending c.order refl in
-    let q = asked_push es (Pre visit) (Some ask) asks in
+    let o = left_push_ask answers es (Pre visit) ask asks (λ i. refl) unanswered' in
+    let u = left_push_ask drains es (Pre visit) ask asks (λ i. refl) undrained' in
+    let v = filter_map-push visit_of es (Pre visit) (Some visit.instance.0) refl in
+    let p = filter_map-push post_of es (Pre visit) None refl ∙ append-nil (posted es) ∙ no_posts Descending es Descending c.order refl in
+    let q = filter_map-push ask_of es (Pre visit) (Some ask) asks in
     let lv = ap length v ∙ length-append (visited es) (visit.instance.0 ∷ []) in
     let le = length-append es (Pre visit ∷ []) in
     let lo = ap length o in
@@ -213,10 +199,10 @@ course_in_base es c = record { order = c.order; apart = c.apart; once = c.once; 
 pub course_base : (s : Stage) (es : List Entry) (status : Status) (information : ℕ) → way_of s ≡ Descending → slack s ≡ 1 → IsCourse s es → IsCourse Ascending (es ++ Base status information ∷ [])
 course_base s es status information way slack_is c =
     let o = owed_push_none es (Base status information) refl (λ i. refl) in
-    let u = undrained_push_none es (Base status information) refl (λ i. refl) in
-    let v = visited_push es (Base status information) None refl ∙ append-nil (visited es) in
-    let p = posted_push es (Base status information) None refl ∙ append-nil (posted es) in
-    let q = asked_push es (Base status information) None refl ∙ append-nil (asked es) in
+    let u = left_push_none drains es (Base status information) refl (λ i. refl) in
+    let v = filter_map-push visit_of es (Base status information) None refl ∙ append-nil (visited es) in
+    let p = filter_map-push post_of es (Base status information) None refl ∙ append-nil (posted es) in
+    let q = filter_map-push ask_of es (Base status information) None refl ∙ append-nil (asked es) in
     let lv = ap length v in
     let le = length-append es (Base status information ∷ []) in
     let lo = ap length o in
@@ -252,12 +238,12 @@ course_post es visit ask rest runs same next c =
     let i = visit.instance.0 in
     let few' : times ask.instance.0 (instances (ask ∷ rest)) ≤ 1 = let h = owed_once Ascending es ask.instance.0 c in let k = ap (λ xs. times ask.instance.0 (instances xs)) next in omega (arith, h, k) in
     let first : times visit.instance.0 (instances (owed es)) ≡ 1 = let k = ap (λ xs. times visit.instance.0 (instances xs)) next in let h = owed_once Ascending es visit.instance.0 c in let one' : one (ask.instance.0 == visit.instance.0) ≡ 1 = grind (arith, nat_tests) in omega (arith, k, h, one') in
-    let w = owed_push_answer es (Post visit) visit.instance.0 refl (λ j. refl) in
+    let w = left_push_answer answers es (Post visit) visit.instance.0 refl (λ j. refl) in
     let r : owed (es ++ Post visit ∷ []) ≡ rest = w ∙ ap₂ (λ j xs. without j xs) same next ∙ without_head ask rest few' in
-    let u = undrained_push_none es (Post visit) refl (λ j. refl) in
-    let v = visited_push es (Post visit) None refl ∙ append-nil (visited es) in
-    let p = posted_push es (Post visit) (Some visit.instance.0) refl in
-    let q = asked_push es (Post visit) None refl ∙ append-nil (asked es) in
+    let u = left_push_none drains es (Post visit) refl (λ j. refl) in
+    let v = filter_map-push visit_of es (Post visit) None refl ∙ append-nil (visited es) in
+    let p = filter_map-push post_of es (Post visit) (Some visit.instance.0) refl in
+    let q = filter_map-push ask_of es (Post visit) None refl ∙ append-nil (asked es) in
     let lv = ap length v in
     let le = length-append es (Post visit ∷ []) in
     let lo = ap length r in
@@ -283,10 +269,8 @@ answered_before s es i c once = let a = c.once i in let b = asked_among i es in 
 
 drains_among : (i : ℕ) (es : List Entry) → drain_opens i es ≤ answer_count i es
 drains_among i [] = omega arith
-drains_among i (Pre visit ∷ es) = let h = drains_among i es in omega (arith, h)
-drains_among i (Base status information ∷ es) = let h = drains_among i es in omega (arith, h)
-drains_among i (Post visit ∷ es) = let h = drains_among i es in omega (arith, h)
 drains_among i (Drain visit ∷ es) = let h = drains_among i es in let k : one ((visit.instance.0 == i) && visit.is_running) ≤ one (visit.instance.0 == i) = one_and (visit.instance.0 == i) visit.is_running in omega (arith, h, k)
+drains_among i (e ∷ es) = let h = drains_among i es in omega (arith, h)
 
 pub drain_opens-append : (i : ℕ) (es fs : List Entry) → drain_opens i (es ++ fs) ≡ drain_opens i es + drain_opens i fs
 drain_opens-append i [] fs = sym (zero-add (drain_opens i fs))
@@ -303,11 +287,11 @@ drain_opened es visit runs none =
 pub course_drain : (s t : Stage) (es : List Entry) (visit : DrainVisit) → visit.is_running ≡ true → times visit.instance.0 (instances (owed es)) ≡ 1 → way_of t ≡ way_of s → slack t ≡ slack s
     → (drain_opens visit.instance.0 (es ++ Drain visit ∷ []) ≡ 1 → HasItsDrain s es → HasItsDrain t (es ++ Drain visit ∷ [])) → IsCourse s es → IsCourse t (es ++ Drain visit ∷ [])
 course_drain s t es visit runs once way slack_is drains' c =
-    let w = owed_push_answer es (Drain visit) visit.instance.0 refl (λ j. refl) in
-    let n = undrained_push_drain es (Drain visit) visit.instance.0 refl (λ j. refl) in
-    let v = visited_push es (Drain visit) None refl ∙ append-nil (visited es) in
-    let p = posted_push es (Drain visit) None refl ∙ append-nil (posted es) in
-    let q = asked_push es (Drain visit) None refl ∙ append-nil (asked es) in
+    let w = left_push_answer answers es (Drain visit) visit.instance.0 refl (λ j. refl) in
+    let n = left_push_answer drains es (Drain visit) visit.instance.0 refl (λ j. refl) in
+    let v = filter_map-push visit_of es (Drain visit) None refl ∙ append-nil (visited es) in
+    let p = filter_map-push post_of es (Drain visit) None refl ∙ append-nil (posted es) in
+    let q = filter_map-push ask_of es (Drain visit) None refl ∙ append-nil (asked es) in
     let unposted : times visit.instance.0 (posted es) ≡ 0 = let a = posted_among visit.instance.0 es in let b = c.once visit.instance.0 in let d = asked_among visit.instance.0 es in let e = c.apart visit.instance.0 in omega (arith, a, b, d, e, once) in
     let lv = ap length v in
     let le = length-append es (Drain visit ∷ []) in

@@ -1,28 +1,17 @@
 -- What each step adds to the drains that run, and what it takes away.
-use Rattle.std.proofs.Common.{◌≡◌, ℕ, ◌+◌, ◌≤◌, ◌==◌, ◌&&◌, ◌||◌, Bool, true, false, cond, List, [], ◌∷◌, ◌++◌, map, Option, Some, None, Result, Ok, Err, slice_get, refl, ap, subst, arith}
-use Rattle.std.specs.List.{list_any}
-use Rattle.fm_types.specs.declared.ids.InstanceId.{InstanceId}
-use Rattle.fm_types.specs.declared.ids.WorkerId.{WorkerId}
-use Rattle.fm_types.specs.declared.status.Status.{Status}
-use Rattle.fm_types.specs.declared.status.Status.TheVariants.{WrongStep}
-use Rattle.fm_data.specs.declared.params.Params.{Params}
-use Rattle.fm_flow.specs.declared.action.Below.{Below}
+use Rattle.fm_flow.proofs.Words.{◌≡◌, ℕ, ◌+◌, ◌≤◌, ◌==◌, ◌&&◌, ◌||◌, Bool, true, false, cond, List, [], ◌∷◌, ◌++◌, map, Option, Some, None, Ok, Err}
+use Rattle.fm_flow.proofs.Words.{slice_get, refl, ap, subst, arith, list_any, InstanceId, WorkerId, Status, WrongStep, Params, Below, Ask, Entry, Pre}
+use Rattle.fm_flow.proofs.Words.{Base, Post, Drain, PreState, PostState, Stage, Descending, Ascending, drain_opens, opens, is_running_drain, one}
+use Rattle.fm_flow.proofs.Words.{owed, settle_pre, settle_post, settle_drain, FlowRecord, Turned, turn, post_entry, bare_ask, call_pre, call_base}
+use Rattle.fm_flow.proofs.Words.{call_post, give_post, descend, ascend, unwound, may_take, next_at, next_of}
+use Rattle.std.proofs.Common.{Result}
 use Rattle.fm_flow.specs.declared.action.Below.TheVariants as below
 use Rattle.fm_flow.specs.declared.action.FlowAction.{FlowAction}
 use Rattle.fm_flow.specs.declared.action.FlowAction.TheVariants as action
-use Rattle.fm_flow.specs.declared.entry.Ask.{Ask}
-use Rattle.fm_flow.specs.declared.entry.Entry.{Entry}
-use Rattle.fm_flow.specs.declared.entry.Entry.TheVariants.{Pre, Base, Post, Drain}
-use Rattle.fm_flow.specs.declared.entry.PreState.{PreState}
 use Rattle.fm_flow.specs.declared.entry.PreState.TheVariants as pre
-use Rattle.fm_flow.specs.declared.entry.PostState.{PostState}
 use Rattle.fm_flow.specs.declared.entry.PostState.TheVariants as post
-use Rattle.fm_flow.specs.declared.stage.Stage.{Stage}
-use Rattle.fm_flow.specs.declared.stage.Stage.TheVariants.{Descending, PreRunning, PreHeld, InBase, Ascending, PostRunning, PostHeld, InDrain}
-use Rattle.fm_flow.specs.Counts.{drain_opens_at, drain_opens, opens, is_running_drain}
-use Rattle.fm_flow.specs.Entries.{one, owed, settle_pre, settle_post, settle_drain}
-use Rattle.fm_flow.specs.Record.{FlowRecord}
-use Rattle.fm_flow.specs.Steps.{Turned, turn, pre_entry, post_entry, bare_ask, call_pre, call_base, call_post, give_post, descend, ascend, unwound, may_take, next_at, next_of}
+use Rattle.fm_flow.specs.Counts.{drain_opens_at}
+use Rattle.fm_flow.specs.Steps.{pre_entry}
 use Rattle.fm_flow.proofs.Balances.{unwound_entries}
 use Rattle.fm_flow.proofs.Counting.{and_true, and_false, same_either, cond_sum, drain_at}
 
@@ -34,61 +23,45 @@ drains_push i (x ∷ es) e = let h = drains_push i es e in omega (arith, h)
 pub drains_open : (i : ℕ) (es : List Entry) → drain_opens i es ≤ opens i es
 drains_open i [] = omega arith
 drains_open i (Pre visit ∷ es) = let h = drains_open i es in omega (arith, h)
-drains_open i (Base status information ∷ es) = let h = drains_open i es in omega (arith, h)
-drains_open i (Post visit ∷ es) = let h = drains_open i es in omega (arith, h)
-drains_open i (Drain visit ∷ es) = let h = drains_open i es in omega (arith, h)
+drains_open i (e ∷ es) = let h = drains_open i es in omega (arith, h)
 
 pub none_running : (i : ℕ) (es : List Entry) → list_any is_running_drain es ≡ false → drain_opens i es ≡ 0
 none_running i [] h = refl
-none_running i (Pre visit ∷ es) h = let k = none_running i es h in omega (arith, k)
-none_running i (Base status information ∷ es) h = let k = none_running i es h in omega (arith, k)
-none_running i (Post visit ∷ es) h = let k = none_running i es h in omega (arith, k)
 none_running i (Drain visit ∷ es) h = by_running visit.is_running (none_running i es) h
   where
     by_running : (b : Bool) → (list_any is_running_drain es ≡ false → drain_opens i es ≡ 0) → (b || list_any is_running_drain es) ≡ false
         → one ((visit.instance.0 == i) && b) + drain_opens i es ≡ 0
     by_running true rest h = cc
     by_running false rest h = let z = and_false (visit.instance.0 == i) in let k = rest h in omega (arith, z, k)
+none_running i (e ∷ es) h = let k = none_running i es h in omega (arith, k)
 
 -- ---- settled callbacks
 
 pub drains_pre_settled : (i : ℕ) (state : PreState) (es : List Entry) → drain_opens i (map (settle_pre state) es) ≡ drain_opens i es
 drains_pre_settled i state [] = refl
 drains_pre_settled i state (Pre visit ∷ es) = let h = drains_pre_settled i state es in omega (arith, h)
-drains_pre_settled i state (Base status information ∷ es) = let h = drains_pre_settled i state es in omega (arith, h)
-drains_pre_settled i state (Post visit ∷ es) = let h = drains_pre_settled i state es in omega (arith, h)
-drains_pre_settled i state (Drain visit ∷ es) = let h = drains_pre_settled i state es in omega (arith, h)
+drains_pre_settled i state (e ∷ es) = let h = drains_pre_settled i state es in omega (arith, h)
 
 pub drains_post_settled : (i : ℕ) (state : PostState) (es : List Entry) → drain_opens i (map (settle_post state) es) ≡ drain_opens i es
 drains_post_settled i state [] = refl
 drains_post_settled i state (Pre visit ∷ es) = let h = drains_post_settled i state es in omega (arith, h)
-drains_post_settled i state (Base status information ∷ es) = let h = drains_post_settled i state es in omega (arith, h)
-drains_post_settled i state (Post visit ∷ es) = let h = drains_post_settled i state es in omega (arith, h)
-drains_post_settled i state (Drain visit ∷ es) = let h = drains_post_settled i state es in omega (arith, h)
+drains_post_settled i state (e ∷ es) = let h = drains_post_settled i state es in omega (arith, h)
 
 pub drains_drain_settled : (i j : ℕ) (es : List Entry) → drain_opens j es ≡ drain_opens j (map (settle_drain i) es) + cond (i == j) (drain_opens i es) 0
 drains_drain_settled i j [] = let h : cond {A = ℕ} (i == j) 0 0 ≡ 0 = same_either (i == j) 0 in omega (arith, h)
-drains_drain_settled i j (Pre visit ∷ es) = let h = drains_drain_settled i j es in let m = cond_sum (i == j) 0 (drain_opens i es) in let z = same_either (i == j) 0 in omega (arith, h, m, z)
-drains_drain_settled i j (Base status information ∷ es) = let h = drains_drain_settled i j es in let m = cond_sum (i == j) 0 (drain_opens i es) in let z = same_either (i == j) 0 in omega (arith, h, m, z)
-drains_drain_settled i j (Post visit ∷ es) = let h = drains_drain_settled i j es in let m = cond_sum (i == j) 0 (drain_opens i es) in let z = same_either (i == j) 0 in omega (arith, h, m, z)
 drains_drain_settled i j (Drain visit ∷ es) =
     let h = drains_drain_settled i j es in
     let k = drain_at i j visit in
     let m = cond_sum (i == j) (one ((visit.instance.0 == i) && visit.is_running)) (drain_opens i es) in
     omega (arith, h, k, m)
+drains_drain_settled i j (e ∷ es) = let h = drains_drain_settled i j es in let m = cond_sum (i == j) 0 (drain_opens i es) in let z = same_either (i == j) 0 in omega (arith, h, m, z)
 
 -- ---- next
 
 -- the drain that `next` gives
 abbrev pub drains_given : ℕ → Result FlowAction Status → ℕ
 drains_given i (Ok (action.Drain j completion)) = one (j.0 == i)
-drains_given i (Ok (action.Pre j lent)) = 0
-drains_given i (Ok (action.Base call)) = 0
-drains_given i (Ok (action.Post j lent completion)) = 0
-drains_given i (Ok action.Moved) = 0
-drains_given i (Ok action.Held) = 0
-drains_given i (Ok action.Done) = 0
-drains_given i (Err status) = 0
+drains_given i _ = 0
 
 abbrev Drains : ℕ → FlowRecord → Turned → Type 0
 Drains i r t = drain_opens i t.after.entries ≡ drain_opens i r.entries + drains_given i t.reply
@@ -132,12 +105,7 @@ descend_drains i k (below.Known status) r = drains_push i r.entries (Base status
 drains_of : (i : ℕ) (k : WorkerId) (lies : Below) (stops : Bool) (r : FlowRecord) (stage : Stage) → Drains i r (next_at k lies stops r stage)
 drains_of i k lies stops r Descending = descend_drains i k lies r
 drains_of i k lies stops r Ascending = ascend_drains i k stops r (slice_get (owed r.entries) 0)
-drains_of i k lies stops r PreRunning = refused_drains i r
-drains_of i k lies stops r PreHeld = refused_drains i r
-drains_of i k lies stops r InBase = refused_drains i r
-drains_of i k lies stops r PostRunning = refused_drains i r
-drains_of i k lies stops r PostHeld = refused_drains i r
-drains_of i k lies stops r (InDrain j) = refused_drains i r
+drains_of i k lies stops r stage = refused_drains i r
 
 pub next_drains : (i : ℕ) (k : WorkerId) (lies : Below) (stops : Bool) (r : FlowRecord) → Drains i r (next_of k lies stops r)
 next_drains i k lies stops r = elim r.collected as (λ b. Drains i r (cond b (turn (Err WrongStep) r) (next_at k lies stops r r.stage))) [ true ↦ refused_drains i r | false ↦ drains_of i k lies stops r r.stage ]

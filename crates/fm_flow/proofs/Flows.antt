@@ -1,41 +1,29 @@
 -- The laws of the table of operations are kept by what the events make of it.
-use Rattle.std.proofs.Common.{◌≡◌, ℕ, zero, suc, ◌+◌, ◌≤◌, ◌<◌, ◌==◌, ◌||◌, Bool, true, false, cond, not, List, [], ◌∷◌, ◌++◌, count_by, Option, Some, None, Err, length, get_or, refl, ap, sym, ◌∙◌, subst, inl, inr, arith}
+use Rattle.fm_flow.proofs.Words.{◌≡◌, ℕ, ◌+◌, ◌≤◌, ◌<◌, ◌==◌, ◌||◌, Bool, true, false, cond, not, List, [], ◌∷◌, ◌++◌, Option, Some, None, Err}
+use Rattle.fm_flow.proofs.Words.{length, get_or, refl, ap, sym, ◌∙◌, subst, inl, inr, arith, list_any, same_Some, InstanceId, HandleId, WorkerId}
+use Rattle.fm_flow.proofs.Words.{WrongStep, BaseCall, Params, Answer, PostVerdict, Data, data_fits, Below, Ask, PreState, Stage, Descending}
+use Rattle.fm_flow.proofs.Words.{PreRunning, InBase, Ascending, PostRunning, FlowRecord, visited, owed, times, is_running_drain, MayLieBelow, next_of}
+use Rattle.fm_flow.proofs.Words.{next_at, descend, ascend, call_pre, call_base, call_post, give_post, unwound, unwound_to, may_take, base_fits}
+use Rattle.fm_flow.proofs.Words.{pre_returned_of, post_returned_of, base_returned_of, drain_returned_of, IsSound, marked}
+use Rattle.std.proofs.Common.{zero, suc, count_by}
 use Rattle.std.specs.Prelude.{All, AllPairs, slice_get, nat_le}
-use Rattle.std.specs.List.{list_any}
-use Rattle.std.specs.Cmp.Lexicographic.{pointwise}
 use Rattle.std.proofs.lemmas.Bool.{false≢true, cases_Bool, eq-eqb, leb-false, and_parts, and_from}
-use Rattle.std.proofs.lemmas.Option.{none-some, same_Some}
+use Rattle.std.proofs.lemmas.Option.{none-some}
 use Rattle.std.proofs.lemmas.List.Elements.{All-push, All-weaker}
 use Rattle.std.proofs.lemmas.List.Quantifiers.{all_pairs_push}
 use Rattle.std.proofs.lemmas.List.Sums.{sum_by-cons, sum_by_push}
-use Rattle.fm_types.specs.declared.ids.InstanceId.{InstanceId}
 use Rattle.fm_types.specs.declared.ids.OpId.{OpId}
 use Rattle.fm_types.specs.declared.ids.VolumeId.{VolumeId}
 use Rattle.fm_types.specs.declared.ids.StreamId.{StreamId}
-use Rattle.fm_types.specs.declared.ids.HandleId.{HandleId}
-use Rattle.fm_types.specs.declared.ids.WorkerId.{WorkerId}
-use Rattle.fm_types.specs.declared.status.Status.TheVariants.{WrongStep}
-use Rattle.fm_data.specs.declared.base_call.BaseCall.{BaseCall}
-use Rattle.fm_data.specs.declared.params.Params.{Params}
-use Rattle.fm_data.specs.declared.answer.Answer.{Answer}
-use Rattle.fm_data.specs.declared.verdict.PostVerdict.{PostVerdict}
-use Rattle.fm_data.specs.Data.{Data, data_fits}
 use Rattle.fm_data.specs.Params.{operation_of, is_within_limits, same_operation, are_on, are_for, fit}
-use Rattle.fm_flow.specs.declared.action.Below.{Below}
 use Rattle.fm_flow.specs.declared.action.Below.TheVariants as below
-use Rattle.fm_flow.specs.declared.entry.Ask.{Ask}
-use Rattle.fm_flow.specs.declared.entry.PreState.{PreState}
-use Rattle.fm_flow.specs.declared.stage.Stage.{Stage}
-use Rattle.fm_flow.specs.declared.stage.Stage.TheVariants.{Descending, PreRunning, PreHeld, InBase, Ascending, PostRunning, PostHeld, InDrain}
-use Rattle.fm_flow.specs.Record.{FlowRecord}
-use Rattle.fm_flow.specs.Entries.{visited, owed, times}
-use Rattle.fm_flow.specs.Counts.{is_running_drain}
-use Rattle.fm_flow.specs.Steps.{MayLieBelow, next_of, next_at, descend, ascend, call_pre, call_base, call_post, give_post, unwound, unwound_to, may_take, is_done, pre_after, post_after, base_after, base_fits, pre_returned_of, post_returned_of, base_returned_of, drain_returned_of}
+use Rattle.fm_flow.specs.Steps.{is_done, pre_after, post_after, base_after}
 use Rattle.fm_flow.specs.Verdict.{is_counted}
-use Rattle.fm_flow.specs.Sound.{IsSound}
-use Rattle.fm_flow.specs.Table.{FlowTable, IsFlow, change_first, without_first, is_number, operation_at, changed, removed, begun, begun_record, under_way, is_full, collected_of, collected_in, is_collectable, marked}
+use Rattle.fm_flow.specs.Table.{FlowTable, IsFlow, change_first, without_first, is_number, operation_at, changed, removed, begun, begun_record}
+use Rattle.fm_flow.specs.Table.{under_way, is_full, collected_of, collected_in, is_collectable}
 use Rattle.fm_flow.proofs.Course.{course_start}
-use Rattle.fm_flow.proofs.Soundness.{sound_call_pre, sound_bare, sound_call_base, sound_known, sound_unwound, sound_give_post, sound_drain, sound_pre_returned, sound_post_returned, sound_base}
+use Rattle.fm_flow.proofs.Soundness.{sound_call_pre, sound_bare, sound_call_base, sound_known, sound_unwound, sound_give_post, sound_drain}
+use Rattle.fm_flow.proofs.Soundness.{sound_pre_returned, sound_post_returned, sound_base}
 use Rattle.fm_types.proofs.Firsts.{all_change, all_without, found_holds}
 
 count-cons : {X : Type 0} (p : X → Bool) (x : X) (xs : List X) → count_by p (x ∷ xs) ≡ cond (p x) 1 0 + count_by p xs
@@ -90,12 +78,7 @@ sound_at : (k : WorkerId) (lies : Below) (drains : Bool) (r : FlowRecord) (stage
     → IsSound (next_at k lies drains r stage).after
 sound_at k lies drains r Descending e h may = sound_down k lies r e (may e) h
 sound_at k lies drains r Ascending e h may = sound_up k drains r (slice_get (owed r.entries) 0) e refl h
-sound_at k lies drains r PreRunning e h may = h
-sound_at k lies drains r PreHeld e h may = h
-sound_at k lies drains r InBase e h may = h
-sound_at k lies drains r PostRunning e h may = h
-sound_at k lies drains r PostHeld e h may = h
-sound_at k lies drains r (InDrain i) e h may = h
+sound_at k lies drains r stage e h may = h
 
 pub sound_next : (k : WorkerId) (lies : Below) (drains : Bool) (r : FlowRecord) → IsSound r → (r.stage ≡ Descending → MayLieBelow lies r.entries) → IsSound (next_of k lies drains r).after
 sound_next k lies drains r h may =
@@ -297,19 +280,13 @@ based_stays r None = stays r
 
 descend_stays : (k : WorkerId) (lies : Below) (r : FlowRecord) → Stays r (descend k lies r).after
 descend_stays k (below.Instance i true) r = called_stays k i r r.params
-descend_stays k (below.Instance i false) r = record { number = refl; collected = refl }
 descend_stays k below.Call r = based_stays r r.params
-descend_stays k (below.Known status) r = record { number = refl; collected = refl }
+descend_stays k lies r = record { number = refl; collected = refl }
 
 stays_at : (k : WorkerId) (lies : Below) (drains : Bool) (r : FlowRecord) (stage : Stage) → Stays r (next_at k lies drains r stage).after
 stays_at k lies drains r Descending = descend_stays k lies r
 stays_at k lies drains r Ascending = ascend_stays k drains r (slice_get (owed r.entries) 0)
-stays_at k lies drains r PreRunning = stays r
-stays_at k lies drains r PreHeld = stays r
-stays_at k lies drains r InBase = stays r
-stays_at k lies drains r PostRunning = stays r
-stays_at k lies drains r PostHeld = stays r
-stays_at k lies drains r (InDrain i) = stays r
+stays_at k lies drains r stage = stays r
 
 pub next_stays : (k : WorkerId) (lies : Below) (drains : Bool) (r : FlowRecord) → Stays r (next_of k lies drains r).after
 next_stays k lies drains r = elim r.collected as (λ b. Stays r (cond b (record { reply = Err WrongStep; after = r }) (next_at k lies drains r r.stage)).after) [ true ↦ stays r | false ↦ stays_at k lies drains r r.stage ]

@@ -1,3 +1,4 @@
+mod Words
 pub mod Lists
 pub mod Owed
 pub mod Walks

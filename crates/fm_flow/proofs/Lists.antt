@@ -1,13 +1,11 @@
 -- Lists of numbers in which each is counted, and filters of lists.
-use Rattle.std.proofs.Common.{◌≡◌, ℕ, ◌+◌, ◌<◌, ◌≤◌, ◌==◌, Bool, true, false, cond, not, ◌&&◌, List, [], ◌∷◌, ◌++◌, length, map, filter, filter_map, find, reverse, take, drop, set, get_or, slice_get, Option, Some, None, option_to_list, ◌⊎◌, inl, inr, refl, sym, ap, ◌∙◌, arith, zero-add, ap₂, append-nil}
-use Rattle.std.proofs.lemmas.List.{reverse-append}
-use Rattle.std.proofs.lemmas.List.Elements.{filter_map-append}
+use Rattle.fm_flow.proofs.Words.{◌≡◌, ℕ, ◌+◌, ◌<◌, ◌≤◌, ◌==◌, Bool, true, false, cond, not, ◌&&◌, List, [], ◌∷◌, ◌++◌, length, map, filter, find}
+use Rattle.fm_flow.proofs.Words.{reverse, take, drop, get_or, slice_get, Option, Some, None, option_to_list, inl, inr, refl, sym, ap, ◌∙◌, arith}
+use Rattle.fm_flow.proofs.Words.{zero-add, ap₂, append-nil, reverse-append, filter_map-append, nat_tests, cons_option, Ask, one, times, instances}
+use Rattle.fm_flow.proofs.Words.{without}
+use Rattle.std.proofs.Common.{filter_map, set, ◌⊎◌}
 use Rattle.std.proofs.lemmas.List.Edits.{map_over_more}
 use Rattle.std.proofs.lemmas.List.{get_or_default}
-use Rattle.std.proofs.lemmas.Bool.Decides.{nat_tests}
-use Rattle.std.specs.List.{cons_option}
-use Rattle.fm_flow.specs.declared.entry.Ask.{Ask}
-use Rattle.fm_flow.specs.Entries.{one, times, instances, without}
 
 -- the numbers other than i
 abbrev pub others : ℕ → List ℕ → List ℕ
@@ -98,7 +96,7 @@ pub find_is_first : {X : Type 0} (p : X → Bool) (xs : List X) → find p xs �
 find_is_first p [] = refl
 find_is_first p (x ∷ xs) = elim (p x) as (λ b. cond b (Some x) (find p xs) ≡ slice_get (cond b (x ∷ filter p xs) (filter p xs)) 0) [ true ↦ refl | false ↦ find_is_first p xs ]
 
-filter_map_one : {X Y : Type 0} (f : X → Option Y) (x : X) (o : Option Y) → f x ≡ o → filter_map f (x ∷ []) ≡ option_to_list o
+pub filter_map_one : {X Y : Type 0} (f : X → Option Y) (x : X) (o : Option Y) → f x ≡ o → filter_map f (x ∷ []) ≡ option_to_list o
 filter_map_one f x None is = rw is refl
 filter_map_one f x (Some y) is = rw is refl
 

@@ -1,112 +1,75 @@
 -- What one more entry makes of the postoperations owed.
-use Rattle.std.proofs.Common.{◌≡◌, ℕ, ◌+◌, ◌==◌, Bool, true, false, cond, not, ◌&&◌, ◌||◌, List, [], ◌∷◌, ◌++◌, reverse, filter, Option, Some, None, option_to_list, refl, sym, ap, ◌∙◌, arith, append-nil, zero-add}
-use Rattle.std.proofs.lemmas.List.{reverse-append}
-use Rattle.std.proofs.lemmas.List.Elements.{filter_map-append, filter_agree}
+use Rattle.fm_flow.proofs.Words.{◌≡◌, ℕ, ◌+◌, ◌==◌, Bool, true, false, cond, not, ◌&&◌, ◌||◌, List, [], ◌∷◌, ◌++◌, reverse, filter, Option, Some}
+use Rattle.fm_flow.proofs.Words.{None, option_to_list, refl, sym, ap, ◌∙◌, arith, append-nil, zero-add, reverse-append, filter_map-append, Ask, Entry}
+use Rattle.fm_flow.proofs.Words.{Drain, one, ask_of, answers, is_drained, is_answered, asked, owed, without, answer_count, list_any}
+use Rattle.std.proofs.lemmas.List.Elements.{filter_agree}
 use Rattle.std.proofs.lemmas.List.Folds.{list_any-append}
-use Rattle.fm_flow.specs.declared.entry.Ask.{Ask}
-use Rattle.fm_flow.specs.declared.entry.Entry.{Entry}
-use Rattle.fm_flow.specs.declared.entry.Entry.TheVariants.{Pre, Base, Post, Drain}
-use Rattle.fm_flow.specs.Entries.{one, ask_of, visit_of, post_of, drains, answers, is_drained, is_answered, visited, asked, posted, owed, undrained, without}
-use Rattle.fm_flow.specs.Sound.{answer_count}
-use Rattle.fm_flow.proofs.Lists.{filter_both}
+use Rattle.fm_flow.specs.Entries.{drains}
+use Rattle.std.proofs.Common.{filter_map}
+use Rattle.fm_flow.proofs.Lists.{filter_both, filter_map_one}
 
 -- ---- one more entry, list by list
 
-asked_one : (e : Entry) (o : Option Ask) → ask_of e ≡ o → asked (e ∷ []) ≡ option_to_list o
-asked_one e None is = rw is refl
-asked_one e (Some a) is = rw is refl
-
-pub asked_push : (es : List Entry) (e : Entry) (o : Option Ask) → ask_of e ≡ o → asked (es ++ e ∷ []) ≡ asked es ++ option_to_list o
-asked_push es e o is = filter_map-append ask_of es (e ∷ []) ∙ ap (λ xs. asked es ++ xs) (asked_one e o is)
-
-visited_one : (e : Entry) (o : Option ℕ) → visit_of e ≡ o → visited (e ∷ []) ≡ option_to_list o
-visited_one e None is = rw is refl
-visited_one e (Some a) is = rw is refl
-
-pub visited_push : (es : List Entry) (e : Entry) (o : Option ℕ) → visit_of e ≡ o → visited (es ++ e ∷ []) ≡ visited es ++ option_to_list o
-visited_push es e o is = filter_map-append visit_of es (e ∷ []) ∙ ap (λ xs. visited es ++ xs) (visited_one e o is)
-
-posted_one : (e : Entry) (o : Option ℕ) → post_of e ≡ o → posted (e ∷ []) ≡ option_to_list o
-posted_one e None is = rw is refl
-posted_one e (Some a) is = rw is refl
-
-pub posted_push : (es : List Entry) (e : Entry) (o : Option ℕ) → post_of e ≡ o → posted (es ++ e ∷ []) ≡ posted es ++ option_to_list o
-posted_push es e o is = filter_map-append post_of es (e ∷ []) ∙ ap (λ xs. posted es ++ xs) (posted_one e o is)
+pub filter_map-push : {X Y : Type 0} (f : X → Option Y) (xs : List X) (x : X) (o : Option Y) → f x ≡ o → filter_map f (xs ++ x ∷ []) ≡ filter_map f xs ++ option_to_list o
+filter_map-push f xs x o is = filter_map-append f xs (x ∷ []) ∙ ap (λ ys. filter_map f xs ++ ys) (filter_map_one f x o is)
 
 or_false : (b : Bool) → (b || false) ≡ b
 or_false true = refl
 or_false false = refl
 
-pub is_answered_push : (es : List Entry) (e : Entry) (i : ℕ) → is_answered (es ++ e ∷ []) i ≡ (is_answered es i || answers i e)
-is_answered_push es e i = list_any-append (answers i) es (e ∷ []) ∙ ap (λ b. is_answered es i || b) (or_false (answers i e))
-
-pub is_drained_push : (es : List Entry) (e : Entry) (i : ℕ) → is_drained (es ++ e ∷ []) i ≡ (is_drained es i || drains i e)
-is_drained_push es e i = list_any-append (drains i) es (e ∷ []) ∙ ap (λ b. is_drained es i || b) (or_false (drains i e))
+any_push : (test : ℕ → Entry → Bool) (es : List Entry) (e : Entry) (i : ℕ) → list_any (test i) (es ++ e ∷ []) ≡ (list_any (test i) es || test i e)
+any_push test es e i = list_any-append (test i) es (e ∷ []) ∙ ap (λ b. list_any (test i) es || b) (or_false (test i e))
 
 pub answer_count-append : (i : ℕ) (es fs : List Entry) → answer_count i (es ++ fs) ≡ answer_count i es + answer_count i fs
 answer_count-append i [] fs = sym (zero-add (answer_count i fs))
 answer_count-append i (e ∷ es) fs = let h = answer_count-append i es fs in omega (arith, h)
 
--- ---- the postoperations owed
+-- ---- the postoperations owed, and those asked for without drained ones
 
 reverse_asked : (es : List Entry) (e : Entry) (o : Option Ask) → ask_of e ≡ o → reverse (asked (es ++ e ∷ [])) ≡ option_to_list o ++ reverse (asked es)
-reverse_asked es e None is = ap reverse (asked_push es e None is ∙ append-nil (asked es))
-reverse_asked es e (Some a) is = ap reverse (asked_push es e (Some a) is) ∙ reverse-append (asked es) (a ∷ [])
+reverse_asked es e None is = ap reverse (filter_map-push ask_of es e None is ∙ append-nil (asked es))
+reverse_asked es e (Some a) is = ap reverse (filter_map-push ask_of es e (Some a) is) ∙ reverse-append (asked es) (a ∷ [])
 
 not_or : (a b : Bool) → not (a || b) ≡ (not a && not b)
 not_or true b = refl
 not_or false b = refl
 
+-- those asked for, last first, without those of instances of which the test holds: those owed, those not drained
+abbrev pub left : (ℕ → Entry → Bool) → List Entry → List Ask
+left test es = filter (λ ask. not (list_any (test ask.instance.0) es)) (reverse (asked es))
+
+-- an entry of which the test holds for the instances that pass, and that asks for what it may
+left_push : (test : ℕ → Entry → Bool) (es : List Entry) (e : Entry) (o : Option Ask) (passes : ℕ → Bool) → ask_of e ≡ o → ((i : ℕ) → test i e ≡ passes i)
+    → left test (es ++ e ∷ []) ≡ filter (λ ask. not (list_any (test ask.instance.0) es || passes ask.instance.0)) (option_to_list o ++ reverse (asked es))
+left_push test es e o passes asks same =
+    ap (λ xs. filter (λ ask. not (list_any (test ask.instance.0) (es ++ e ∷ []))) xs) (reverse_asked es e o asks)
+    ∙ filter_agree (λ ask. not (list_any (test ask.instance.0) (es ++ e ∷ []))) (λ ask. not (list_any (test ask.instance.0) es || passes ask.instance.0))
+    (λ ask. ap not (any_push test es e ask.instance.0 ∙ ap (λ b. list_any (test ask.instance.0) es || b) (same ask.instance.0))) (option_to_list o ++ reverse (asked es))
+
+left_agrees : (test : ℕ → Entry → Bool) (es : List Entry) (asks : List Ask)
+    → filter (λ ask. not (list_any (test ask.instance.0) es || false)) asks ≡ filter (λ ask. not (list_any (test ask.instance.0) es)) asks
+left_agrees test es asks = filter_agree (λ ask. not (list_any (test ask.instance.0) es || false)) (λ ask. not (list_any (test ask.instance.0) es)) (λ ask. ap not (or_false (list_any (test ask.instance.0) es))) asks
+
 -- an entry that asks for nothing and answers nothing
+pub left_push_none : (test : ℕ → Entry → Bool) (es : List Entry) (e : Entry) → ask_of e ≡ None → ((i : ℕ) → test i e ≡ false) → left test (es ++ e ∷ []) ≡ left test es
+left_push_none test es e asks none = left_push test es e None (λ i. false) asks none ∙ left_agrees test es (reverse (asked es))
+
 pub owed_push_none : (es : List Entry) (e : Entry) → ask_of e ≡ None → ((i : ℕ) → answers i e ≡ false) → owed (es ++ e ∷ []) ≡ owed es
-owed_push_none es e asks answers_none =
-    ap (λ xs. filter (λ ask. not (is_answered (es ++ e ∷ []) ask.instance.0)) xs) (reverse_asked es e None asks)
-    ∙ filter_agree (λ ask. not (is_answered (es ++ e ∷ []) ask.instance.0)) (λ ask. not (is_answered es ask.instance.0))
-    (λ ask. ap not (is_answered_push es e ask.instance.0 ∙ ap (λ b. is_answered es ask.instance.0 || b) (answers_none ask.instance.0) ∙ or_false (is_answered es ask.instance.0)))
-    (reverse (asked es))
+owed_push_none es e asks answers_none = left_push_none answers es e asks answers_none
 
 -- an entry that asks
-pub owed_push_ask : (es : List Entry) (e : Entry) (a : Ask) → ask_of e ≡ Some a → ((i : ℕ) → answers i e ≡ false) → is_answered es a.instance.0 ≡ false → owed (es ++ e ∷ []) ≡ a ∷ owed es
-owed_push_ask es e a asks answers_none unseen =
-    ap (λ xs. filter (λ ask. not (is_answered (es ++ e ∷ []) ask.instance.0)) xs) (reverse_asked es e (Some a) asks)
-    ∙ filter_agree (λ ask. not (is_answered (es ++ e ∷ []) ask.instance.0)) (λ ask. not (is_answered es ask.instance.0))
-    (λ ask. ap not (is_answered_push es e ask.instance.0 ∙ ap (λ b. is_answered es ask.instance.0 || b) (answers_none ask.instance.0) ∙ or_false (is_answered es ask.instance.0)))
-    (a ∷ reverse (asked es))
-    ∙ ap (λ b. cond (not b) (a ∷ owed es) (owed es)) unseen
+pub left_push_ask : (test : ℕ → Entry → Bool) (es : List Entry) (e : Entry) (a : Ask) → ask_of e ≡ Some a → ((i : ℕ) → test i e ≡ false) → list_any (test a.instance.0) es ≡ false
+    → left test (es ++ e ∷ []) ≡ a ∷ left test es
+left_push_ask test es e a asks none unseen =
+    left_push test es e (Some a) (λ i. false) asks none ∙ left_agrees test es (a ∷ reverse (asked es)) ∙ ap (λ b. cond (not b) (a ∷ left test es) (left test es)) unseen
 
 -- an entry that answers an instance
-pub owed_push_answer : (es : List Entry) (e : Entry) (j : ℕ) → ask_of e ≡ None → ((i : ℕ) → answers i e ≡ (j == i)) → owed (es ++ e ∷ []) ≡ without j (owed es)
-owed_push_answer es e j asks answers_j =
-    ap (λ xs. filter (λ ask. not (is_answered (es ++ e ∷ []) ask.instance.0)) xs) (reverse_asked es e None asks)
-    ∙ filter_agree (λ ask. not (is_answered (es ++ e ∷ []) ask.instance.0)) (λ ask. not (is_answered es ask.instance.0) && not (j == ask.instance.0))
-    (λ ask. ap not (is_answered_push es e ask.instance.0 ∙ ap (λ b. is_answered es ask.instance.0 || b) (answers_j ask.instance.0)) ∙ not_or (is_answered es ask.instance.0) (j == ask.instance.0))
-    (reverse (asked es))
-    ∙ sym (filter_both (λ ask. not (j == ask.instance.0)) (λ ask. not (is_answered es ask.instance.0)) (reverse (asked es)))
-
--- ---- those asked for without drained ones
-
-pub undrained_push_none : (es : List Entry) (e : Entry) → ask_of e ≡ None → ((i : ℕ) → drains i e ≡ false) → undrained (es ++ e ∷ []) ≡ undrained es
-undrained_push_none es e asks drains_none =
-    ap (λ xs. filter (λ ask. not (is_drained (es ++ e ∷ []) ask.instance.0)) xs) (reverse_asked es e None asks)
-    ∙ filter_agree (λ ask. not (is_drained (es ++ e ∷ []) ask.instance.0)) (λ ask. not (is_drained es ask.instance.0))
-    (λ ask. ap not (is_drained_push es e ask.instance.0 ∙ ap (λ b. is_drained es ask.instance.0 || b) (drains_none ask.instance.0) ∙ or_false (is_drained es ask.instance.0)))
-    (reverse (asked es))
-
-pub undrained_push_ask : (es : List Entry) (e : Entry) (a : Ask) → ask_of e ≡ Some a → ((i : ℕ) → drains i e ≡ false) → is_drained es a.instance.0 ≡ false → undrained (es ++ e ∷ []) ≡ a ∷ undrained es
-undrained_push_ask es e a asks drains_none unseen =
-    ap (λ xs. filter (λ ask. not (is_drained (es ++ e ∷ []) ask.instance.0)) xs) (reverse_asked es e (Some a) asks)
-    ∙ filter_agree (λ ask. not (is_drained (es ++ e ∷ []) ask.instance.0)) (λ ask. not (is_drained es ask.instance.0))
-    (λ ask. ap not (is_drained_push es e ask.instance.0 ∙ ap (λ b. is_drained es ask.instance.0 || b) (drains_none ask.instance.0) ∙ or_false (is_drained es ask.instance.0)))
-    (a ∷ reverse (asked es))
-    ∙ ap (λ b. cond (not b) (a ∷ undrained es) (undrained es)) unseen
-
-pub undrained_push_drain : (es : List Entry) (e : Entry) (j : ℕ) → ask_of e ≡ None → ((i : ℕ) → drains i e ≡ (j == i)) → undrained (es ++ e ∷ []) ≡ without j (undrained es)
-undrained_push_drain es e j asks drains_j =
-    ap (λ xs. filter (λ ask. not (is_drained (es ++ e ∷ []) ask.instance.0)) xs) (reverse_asked es e None asks)
-    ∙ filter_agree (λ ask. not (is_drained (es ++ e ∷ []) ask.instance.0)) (λ ask. not (is_drained es ask.instance.0) && not (j == ask.instance.0))
-    (λ ask. ap not (is_drained_push es e ask.instance.0 ∙ ap (λ b. is_drained es ask.instance.0 || b) (drains_j ask.instance.0)) ∙ not_or (is_drained es ask.instance.0) (j == ask.instance.0))
-    (reverse (asked es))
-    ∙ sym (filter_both (λ ask. not (j == ask.instance.0)) (λ ask. not (is_drained es ask.instance.0)) (reverse (asked es)))
+pub left_push_answer : (test : ℕ → Entry → Bool) (es : List Entry) (e : Entry) (j : ℕ) → ask_of e ≡ None → ((i : ℕ) → test i e ≡ (j == i)) → left test (es ++ e ∷ []) ≡ without j (left test es)
+left_push_answer test es e j asks answers_j =
+    left_push test es e None (λ i. j == i) asks answers_j
+    ∙ filter_agree (λ ask. not (list_any (test ask.instance.0) es || (j == ask.instance.0))) (λ ask. not (list_any (test ask.instance.0) es) && not (j == ask.instance.0))
+    (λ ask. not_or (list_any (test ask.instance.0) es) (j == ask.instance.0)) (reverse (asked es))
+    ∙ sym (filter_both (λ ask. not (j == ask.instance.0)) (λ ask. not (list_any (test ask.instance.0) es)) (reverse (asked es)))
 
 -- ---- what follows of counts
 
@@ -119,10 +82,8 @@ unanswered i (e ∷ es) none =
     rw differs (unanswered i es rest)
 
 drains_apart : (i : ℕ) (e : Entry) → one (answers i e) ≡ 0 → drains i e ≡ false
-drains_apart i (Pre visit) none = refl
-drains_apart i (Base status information) none = refl
-drains_apart i (Post visit) none = refl
 drains_apart i (Drain visit) none = grind (arith, none)
+drains_apart i e none = refl
 
 -- an instance that no entry drains
 pub not_drained : (i : ℕ) (es : List Entry) → answer_count i es ≡ 0 → is_drained es i ≡ false

@@ -1,25 +1,15 @@
 -- What a step makes of the postoperations that are owed: a fact on each of them stays, and what `next` hands out was owed.
-use Rattle.std.proofs.Common.{◌≡◌, ℕ, Bool, true, false, cond, List, ◌∷◌, length, Option, Some, None, Result, Ok, Err, slice_get, refl, sym, ap, ◌∙◌, subst}
+use Rattle.fm_flow.proofs.Words.{◌≡◌, ℕ, Bool, true, false, cond, List, ◌∷◌, length, Option, Some, None, Ok, Err, slice_get, refl, sym, ap, ◌∙◌}
+use Rattle.fm_flow.proofs.Words.{subst, InstanceId, WorkerId, Status, WrongStep, Params, Below, Ask, Base, Drain, Stage, Descending, PreRunning}
+use Rattle.fm_flow.proofs.Words.{InBase, Ascending, PostRunning, InDrain, FlowRecord, owed, Turned, turn, call_pre, call_base, call_post, give_post}
+use Rattle.fm_flow.proofs.Words.{descend, ascend, post_entry, may_take, next_at, next_of, unwound, MayLieBelow, IsSound}
+use Rattle.std.proofs.Common.{Result}
 use Rattle.std.specs.Prelude.{All}
 use Rattle.std.proofs.lemmas.List.Elements.{All-cons, All-head, All-tail}
-use Rattle.fm_types.specs.declared.ids.InstanceId.{InstanceId}
-use Rattle.fm_types.specs.declared.ids.WorkerId.{WorkerId}
-use Rattle.fm_types.specs.declared.status.Status.{Status}
-use Rattle.fm_types.specs.declared.status.Status.TheVariants.{WrongStep}
-use Rattle.fm_data.specs.declared.params.Params.{Params}
-use Rattle.fm_flow.specs.declared.action.Below.{Below}
 use Rattle.fm_flow.specs.declared.action.Below.TheVariants as below
 use Rattle.fm_flow.specs.declared.action.FlowAction.{FlowAction}
 use Rattle.fm_flow.specs.declared.action.FlowAction.TheVariants as action
-use Rattle.fm_flow.specs.declared.entry.Ask.{Ask}
-use Rattle.fm_flow.specs.declared.entry.Entry.TheVariants.{Base, Drain}
 use Rattle.fm_flow.specs.declared.entry.PostState.TheVariants as post
-use Rattle.fm_flow.specs.declared.stage.Stage.{Stage}
-use Rattle.fm_flow.specs.declared.stage.Stage.TheVariants.{Descending, PreRunning, PreHeld, InBase, Ascending, PostRunning, PostHeld, InDrain}
-use Rattle.fm_flow.specs.Record.{FlowRecord}
-use Rattle.fm_flow.specs.Entries.{owed}
-use Rattle.fm_flow.specs.Steps.{Turned, turn, call_pre, call_base, call_post, give_post, descend, ascend, post_entry, may_take, next_at, next_of, unwound, MayLieBelow}
-use Rattle.fm_flow.specs.Sound.{IsSound}
 use Rattle.fm_flow.proofs.Balances.{running_asks, bare_owed, head_of, answered_owed, unwound_entries, unwound_stage}
 use Rattle.fm_flow.proofs.Owed.{owed_push_none}
 use Rattle.fm_flow.proofs.Soundness.{sound_unwound}
@@ -102,12 +92,11 @@ owes_at : (P : Ask → Type 0) (worker : WorkerId) (lies : Below) (stops : Bool)
     → (r.stage ≡ Descending → MayLieBelow lies r.entries × MayAsk P worker lies r) → IsSound r → All P (owed r.entries) → Owes P (next_at worker lies stops r stage)
 owes_at P worker lies stops r Descending st may sound h = descend_owes P worker lies r st (may st).0 sound (may st).1 h
 owes_at P worker lies stops r Ascending st may sound h = ascend_owes P worker stops r (slice_get (owed r.entries) 0) st refl sound h
-owes_at P worker lies stops r PreHeld st may sound h = record { owes = h; hands = tt }
-owes_at P worker lies stops r PostHeld st may sound h = record { owes = h; hands = tt }
 owes_at P worker lies stops r PreRunning st may sound h = refused_owes P r h
 owes_at P worker lies stops r InBase st may sound h = refused_owes P r h
 owes_at P worker lies stops r PostRunning st may sound h = refused_owes P r h
 owes_at P worker lies stops r (InDrain i) st may sound h = refused_owes P r h
+owes_at P worker lies stops r stage st may sound h = record { owes = h; hands = tt }
 
 pub next_owes : (P : Ask → Type 0) (worker : WorkerId) (lies : Below) (stops : Bool) (r : FlowRecord)
     → (r.stage ≡ Descending → MayLieBelow lies r.entries × MayAsk P worker lies r) → IsSound r → All P (owed r.entries) → Owes P (next_of worker lies stops r)

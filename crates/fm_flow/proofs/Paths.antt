@@ -1,21 +1,12 @@
 -- The path for the base's call is at hand until the call.
-use Rattle.std.proofs.Common.{◌≡◌, ℕ, List, Option}
-use Rattle.fm_flow.specs.declared.entry.PreState.{PreState}
+use Rattle.fm_flow.proofs.Words.{◌≡◌, ℕ, List, Option, PreState, PostState, pre_leads, post_leads, HasPath}
 use Rattle.fm_flow.specs.declared.entry.PreState.TheVariants as pre
-use Rattle.fm_flow.specs.declared.entry.PostState.{PostState}
 use Rattle.fm_flow.specs.declared.entry.PostState.TheVariants as post
-use Rattle.fm_flow.specs.Steps.{pre_leads, post_leads}
-use Rattle.fm_flow.specs.Sound.{HasPath}
 
 pub path_down : (state : PreState) (path given : Option (List ℕ)) → given ≡ path → HasPath (pre_leads state) path given
 path_down (pre.Completed status) path given h = tt
-path_down pre.Running path given h = h
-path_down pre.Held path given h = h
-path_down (pre.Asked completion) path given h = h
-path_down (pre.Synchronized completion) path given h = h
-path_down pre.Passed path given h = h
+path_down state path given h = h
 
 pub path_up : (state : PostState) (path given : Option (List ℕ)) → HasPath (post_leads state) path given
 path_up post.Running path given = tt
-path_up post.Held path given = tt
-path_up post.Finished path given = tt
+path_up state path given = tt

@@ -1,15 +1,12 @@
 -- What callbacks see of an operation's parameters, through its steps.
-use Rattle.std.proofs.Common.{◌≡◌, ℕ, zero, suc, ◌≤◌, List, [], ◌∷◌, ◌++◌, length, take, Option, Some, None, Ok, slice_get, refl, ap, ap₂, sym, ◌∙◌, arith}
+use Rattle.fm_flow.proofs.Words.{◌≡◌, ℕ, ◌≤◌, List, [], ◌∷◌, ◌++◌, length, take, Option, Some, None, Ok, slice_get, refl, ap, ap₂, sym, ◌∙◌, arith}
+use Rattle.fm_flow.proofs.Words.{same_Some, WorkerId, Params, Ask, FlowRecord, unwound, unwound_to, give_post}
+use Rattle.std.proofs.Common.{zero, suc}
 use Rattle.std.specs.Prelude.{unwrap_or}
-use Rattle.std.proofs.lemmas.Option.{same_Some}
-use Rattle.fm_types.specs.declared.ids.WorkerId.{WorkerId}
-use Rattle.fm_data.specs.declared.params.Params.{Params}
 use Rattle.fm_data.specs.Data.{answered_data}
 use Rattle.fm_flow.specs.declared.action.FlowAction.TheVariants as action
-use Rattle.fm_flow.specs.declared.entry.Ask.{Ask}
-use Rattle.fm_flow.specs.Record.{FlowRecord}
 use Rattle.fm_flow.specs.Seen.{sees, ParametersSeen}
-use Rattle.fm_flow.specs.Steps.{kept_of, lent_answer, unwound, unwound_to, give_post}
+use Rattle.fm_flow.specs.Steps.{kept_of, lent_answer}
 
 -- what one visit keeps, seen from a place at or above it
 kept_here : (kept : List Params) (received : Params) (changed : Option Params) (place : ℕ) → place ≤ length kept

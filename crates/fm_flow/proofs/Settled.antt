@@ -1,27 +1,20 @@
 -- The laws of entries are kept where a callback that ran or held is settled.
-use Rattle.std.proofs.Common.{◌≡◌, ℕ, ◌+◌, ◌≤◌, true, cond, ◌||◌, List, [], ◌∷◌, ◌++◌, length, map, Option, Some, None, option_to_list, option_and_then, refl, sym, ap, ap₂, ◌∙◌, subst, arith, append-nil}
-use Rattle.std.specs.List.{cons_option}
-use Rattle.std.proofs.lemmas.List.{map-append, length-append, length-map}
-use Rattle.std.proofs.lemmas.List.Elements.{filter_map-append}
+use Rattle.fm_flow.proofs.Words.{◌≡◌, ℕ, ◌+◌, ◌≤◌, true, cond, ◌||◌, List, [], ◌∷◌, ◌++◌, length, map, Option, Some, None, option_to_list, refl, sym}
+use Rattle.fm_flow.proofs.Words.{ap, ap₂, ◌∙◌, subst, arith, append-nil, cons_option, length-append, filter_map-append, InstanceId, Stage, Descending}
+use Rattle.fm_flow.proofs.Words.{PreRunning, PreHeld, Ascending, InDrain, PreState, PostState, PreVisit, PostVisit, Ask, Entry, Pre, Post, one, times}
+use Rattle.fm_flow.proofs.Words.{ask_in, ask_of, visit_of, post_of, answers, is_drained, is_answered, visited, asked, posted, instances, is_pre_open}
+use Rattle.fm_flow.proofs.Words.{settle_pre, settle_post, settle_drain, pre_leads, post_leads, walk, way_of, answer_count, IsCourse}
+use Rattle.std.proofs.Common.{option_and_then}
+use Rattle.std.proofs.lemmas.List.{map-append, length-map}
 use Rattle.std.proofs.lemmas.List.Folds.{list_any-append}
-use Rattle.fm_types.specs.declared.ids.InstanceId.{InstanceId}
-use Rattle.fm_flow.specs.declared.stage.Stage.{Stage}
-use Rattle.fm_flow.specs.declared.stage.Stage.TheVariants.{Descending, PreRunning, PreHeld, Ascending, InDrain}
-use Rattle.fm_flow.specs.declared.entry.PreState.{PreState}
 use Rattle.fm_flow.specs.declared.entry.PreState.TheVariants as pre
-use Rattle.fm_flow.specs.declared.entry.PostState.{PostState}
 use Rattle.fm_flow.specs.declared.entry.PostState.TheVariants as post
-use Rattle.fm_flow.specs.declared.entry.PreVisit.{PreVisit}
-use Rattle.fm_flow.specs.declared.entry.PostVisit.{PostVisit}
-use Rattle.fm_flow.specs.declared.entry.Ask.{Ask}
-use Rattle.fm_flow.specs.declared.entry.Entry.{Entry}
-use Rattle.fm_flow.specs.declared.entry.Entry.TheVariants.{Pre, Base, Post, Drain}
-use Rattle.fm_flow.specs.Entries.{one, times, ask_in, ask_of, visit_of, post_of, drains, answers, is_drained, is_answered, visited, asked, posted, instances, is_pre_open, settle_pre, settle_post, settle_drain}
-use Rattle.fm_flow.specs.Steps.{pre_leads, post_leads}
-use Rattle.fm_flow.specs.Sound.{after, walk, way_of, answer_count, slack, HasItsDrain, IsCourse}
+use Rattle.fm_flow.specs.Entries.{drains}
+use Rattle.fm_flow.specs.Sound.{after, slack, HasItsDrain}
 use Rattle.fm_flow.proofs.Lists.{times-append, one-same}
 use Rattle.fm_flow.proofs.Owed.{answer_count-append}
-use Rattle.fm_flow.proofs.Walks.{Quiet, OpenPre, OpenPost, open_pre, open_post, is_pre, is_post, is_down, way_of_pre, way_of_post, way_of_pre_leads, way_of_post_leads, walk-append, no_posts}
+use Rattle.fm_flow.proofs.Walks.{Quiet, OpenPre, OpenPost, open_pre, open_post, is_pre, is_post, is_down, way_of_pre, way_of_post, way_of_pre_leads}
+use Rattle.fm_flow.proofs.Walks.{way_of_post_leads, walk-append, no_posts}
 use Rattle.fm_flow.proofs.Course.{Settles, IsFresh, course_settled, asked_among, asked_cons}
 
 -- ---- an entry in the midst of a list
@@ -77,34 +70,19 @@ unasked visit state h = cc
 
 slack_of : (state : PreState) (visit : PreVisit) (s : Stage) → is_pre s ≡ true → length (option_to_list (ask_in visit state)) + slack (pre_leads state) ≤ slack s
 slack_of pre.Running visit PreRunning p = omega arith
-slack_of pre.Held visit PreRunning p = omega arith
-slack_of (pre.Asked completion) visit PreRunning p = omega arith
-slack_of (pre.Synchronized completion) visit PreRunning p = omega arith
-slack_of pre.Passed visit PreRunning p = omega arith
-slack_of (pre.Completed status) visit PreRunning p = omega arith
+slack_of state visit PreRunning p = omega arith
 slack_of pre.Running visit PreHeld p = omega arith
-slack_of pre.Held visit PreHeld p = omega arith
-slack_of (pre.Asked completion) visit PreHeld p = omega arith
-slack_of (pre.Synchronized completion) visit PreHeld p = omega arith
-slack_of pre.Passed visit PreHeld p = omega arith
-slack_of (pre.Completed status) visit PreHeld p = omega arith
+slack_of state visit PreHeld p = omega arith
 slack_of state visit s p = cc
 
 no_drain_of_pre : (state : PreState) (es : List Entry) → HasItsDrain (pre_leads state) es
 no_drain_of_pre pre.Running es = tt
-no_drain_of_pre pre.Held es = tt
-no_drain_of_pre (pre.Asked completion) es = tt
-no_drain_of_pre (pre.Synchronized completion) es = tt
-no_drain_of_pre pre.Passed es = tt
-no_drain_of_pre (pre.Completed status) es = tt
+no_drain_of_pre state es = tt
 
 fresh_ask : (es : List Entry) (visit : PreVisit) (state : PreState) → answer_count visit.instance.0 es ≡ 0 → posted es ≡ [] → IsFresh es (ask_in visit state)
-fresh_ask es visit pre.Running none posts = tt
-fresh_ask es visit pre.Held none posts = tt
 fresh_ask es visit (pre.Asked completion) none posts = (none, posts)
 fresh_ask es visit (pre.Synchronized completion) none posts = (none, posts)
-fresh_ask es visit pre.Passed none posts = tt
-fresh_ask es visit (pre.Completed status) none posts = tt
+fresh_ask es visit state none posts = tt
 
 down_of_pre : (s : Stage) → is_pre s ≡ true → is_down s ≡ true
 down_of_pre PreRunning p = refl
@@ -150,7 +128,7 @@ pub course_pre_settled : (s : Stage) (es : List Entry) (state : PreState) → is
 course_pre_settled s es state p c =
     let o = the_open_pre s es c p in
     let w : walk Descending (map (settle_pre state) es) ≡ Some (way_of (pre_leads state)) =
-    ap (walk Descending) (settled_pre_is es state o) ∙ walk_mid Descending Descending (pre_leads state) o.front o.back (Pre (with_state o.visit state)) o.down refl o.quiet ∙ ap Some (sym (way_of_pre_leads state)) in
+    ap (walk Descending) (settled_pre_is es state o) ∙ walk_mid Descending Descending (pre_leads state) o.front o.back (Pre (with_state o.visit state)) o.way refl o.quiet ∙ ap Some (sym (way_of_pre_leads state)) in
     course_settled s (pre_leads state) es (map (settle_pre state) es) (ask_in (with_state o.visit state) state) (settles_pre es state o) c (fresh_of_open s es state c p) w (slack_of state (with_state o.visit state) s p) (no_drain_of_pre state (map (settle_pre state) es))
 
 -- ---- a postoperation
@@ -160,13 +138,11 @@ with_post visit state = record visit { state = state }
 
 slack_of_post : (state : PostState) (s : Stage) → is_post s ≡ true → 0 + slack (post_leads state) ≤ slack s
 slack_of_post post.Running s p = omega arith
-slack_of_post post.Held s p = omega arith
-slack_of_post post.Finished s p = omega arith
+slack_of_post state s p = omega arith
 
 no_drain_of_post : (state : PostState) (es : List Entry) → HasItsDrain (post_leads state) es
 no_drain_of_post post.Running es = tt
-no_drain_of_post post.Held es = tt
-no_drain_of_post post.Finished es = tt
+no_drain_of_post state es = tt
 
 pub settled_post_is : (es : List Entry) (state : PostState) (o : OpenPost Descending es) → map (settle_post state) es ≡ o.front ++ Post (with_post o.visit state) ∷ o.back
 settled_post_is es state o =
@@ -187,7 +163,7 @@ pub course_post_settled : (s : Stage) (es : List Entry) (state : PostState) → 
 course_post_settled s es state p c =
     let o = the_open_post s es c p in
     let w : walk Descending (map (settle_post state) es) ≡ Some (way_of (post_leads state)) =
-    ap (walk Descending) (settled_post_is es state o) ∙ walk_mid Descending Ascending (post_leads state) o.front o.back (Post (with_post o.visit state)) o.up refl o.quiet ∙ ap Some (sym (way_of_post_leads state)) in
+    ap (walk Descending) (settled_post_is es state o) ∙ walk_mid Descending Ascending (post_leads state) o.front o.back (Post (with_post o.visit state)) o.way refl o.quiet ∙ ap Some (sym (way_of_post_leads state)) in
     course_settled s (post_leads state) es (map (settle_post state) es) None (settles_post es state o) c tt w (slack_of_post state s p) (no_drain_of_post state (map (settle_post state) es))
 
 -- ---- a drain
@@ -195,35 +171,25 @@ course_post_settled s es state p c =
 drain_asks : (i : ℕ) (es : List Entry) → asked (map (settle_drain i) es) ≡ asked es
 drain_asks i [] = refl
 drain_asks i (Pre visit ∷ es) = ap (cons_option (ask_of (Pre visit))) (drain_asks i es)
-drain_asks i (Base status information ∷ es) = drain_asks i es
-drain_asks i (Post visit ∷ es) = drain_asks i es
-drain_asks i (Drain visit ∷ es) = drain_asks i es
+drain_asks i (e ∷ es) = drain_asks i es
 
 drain_visits : (i : ℕ) (es : List Entry) → visited (map (settle_drain i) es) ≡ visited es
 drain_visits i [] = refl
 drain_visits i (Pre visit ∷ es) = ap (λ xs. visit.instance.0 ∷ xs) (drain_visits i es)
-drain_visits i (Base status information ∷ es) = drain_visits i es
-drain_visits i (Post visit ∷ es) = drain_visits i es
-drain_visits i (Drain visit ∷ es) = drain_visits i es
+drain_visits i (e ∷ es) = drain_visits i es
 
 drain_posts : (i : ℕ) (es : List Entry) → posted (map (settle_drain i) es) ≡ posted es
 drain_posts i [] = refl
-drain_posts i (Pre visit ∷ es) = drain_posts i es
-drain_posts i (Base status information ∷ es) = drain_posts i es
 drain_posts i (Post visit ∷ es) = ap (λ xs. visit.instance.0 ∷ xs) (drain_posts i es)
-drain_posts i (Drain visit ∷ es) = drain_posts i es
+drain_posts i (e ∷ es) = drain_posts i es
 
 same_answers : (i j : ℕ) (e : Entry) → answers j (settle_drain i e) ≡ answers j e
 same_answers i j (Pre visit) = refl
-same_answers i j (Base status information) = refl
-same_answers i j (Post visit) = refl
-same_answers i j (Drain visit) = refl
+same_answers i j e = refl
 
 same_drains : (i j : ℕ) (e : Entry) → drains j (settle_drain i e) ≡ drains j e
 same_drains i j (Pre visit) = refl
-same_drains i j (Base status information) = refl
-same_drains i j (Post visit) = refl
-same_drains i j (Drain visit) = refl
+same_drains i j e = refl
 
 drain_answered : (i : ℕ) (es : List Entry) (j : ℕ) → is_answered (map (settle_drain i) es) j ≡ is_answered es j
 drain_answered i [] j = refl
@@ -250,9 +216,7 @@ settles_drain i es = record {
 
 same_after : (i : ℕ) (s : Stage) (e : Entry) → after s (settle_drain i e) ≡ after s e
 same_after i s (Pre visit) = refl
-same_after i s (Base status information) = refl
-same_after i s (Post visit) = refl
-same_after i s (Drain visit) = refl
+same_after i s e = refl
 
 drain_walks : (i : ℕ) (s : Stage) (es : List Entry) → walk s (map (settle_drain i) es) ≡ walk s es
 drain_walks i s [] = refl

@@ -1,40 +1,29 @@
 -- Each step keeps the laws of an operation.
-use Rattle.std.proofs.Common.{◌≡◌, ℕ, ◌+◌, ◌<◌, ◌≤◌, ◌==◌, Bool, true, false, cond, not, ◌&&◌, List, [], ◌∷◌, ◌++◌, length, map, take, All, Option, Some, None, is_some, nat_le, unwrap_or, slice_get, refl, sym, ap, ap₂, ◌∙◌, subst, arith, append-nil}
-use Rattle.std.proofs.lemmas.List.{length-append, length-take}
+use Rattle.fm_flow.proofs.Words.{◌≡◌, ℕ, ◌+◌, ◌<◌, ◌≤◌, ◌==◌, Bool, true, false, cond, not, ◌&&◌, List, [], ◌∷◌, ◌++◌, length, map, take, Option}
+use Rattle.fm_flow.proofs.Words.{Some, None, slice_get, refl, sym, ap, ap₂, ◌∙◌, subst, arith, append-nil, length-append, nat_tests, InstanceId}
+use Rattle.fm_flow.proofs.Words.{WorkerId, Status, BaseCall, Params, Answer, PostVerdict, Data, data_fits, Stage, Descending, PreRunning, InBase}
+use Rattle.fm_flow.proofs.Words.{Ascending, PostRunning, InDrain, PreState, PostState, Ask, Entry, Pre, Base, Drain, times, visit_of, visited, owed}
+use Rattle.fm_flow.proofs.Words.{instances, settle_pre, settle_post, HandleId, FlowRecord, pre_leads, post_leads, post_entry, bare_ask, call_pre}
+use Rattle.fm_flow.proofs.Words.{call_base, unwound_to, unwound, give_post, pre_returned_of, base_returned_of, post_state, post_returned_of}
+use Rattle.fm_flow.proofs.Words.{drain_returned_of, base_fits, IsCourse, IsSound}
+use Rattle.std.proofs.Common.{All, is_some, nat_le, unwrap_or}
+use Rattle.std.proofs.lemmas.List.{length-take}
 use Rattle.std.proofs.lemmas.List.Elements.{All-append, All-take, All-nil, All-push}
-use Rattle.std.proofs.lemmas.Bool.Decides.{nat_tests}
 use Rattle.fm_types.proofs.Lists.{all_at}
-use Rattle.fm_types.specs.declared.ids.InstanceId.{InstanceId}
-use Rattle.fm_types.specs.declared.ids.WorkerId.{WorkerId}
 use Rattle.fm_types.specs.declared.operation.Operation.{Operation}
-use Rattle.fm_types.specs.declared.status.Status.{Status}
-use Rattle.fm_data.specs.declared.base_call.BaseCall.{BaseCall}
-use Rattle.fm_data.specs.declared.params.Params.{Params}
-use Rattle.fm_data.specs.declared.answer.Answer.{Answer}
-use Rattle.fm_data.specs.declared.verdict.PostVerdict.{PostVerdict}
 use Rattle.fm_data.specs.declared.verdict.PostVerdict.TheVariants as verdict
 use Rattle.fm_data.specs.Params.{is_within_limits, same_path, fit, call_fits}
-use Rattle.fm_data.specs.Data.{Data, change_passes, data_fits}
-use Rattle.fm_flow.specs.declared.stage.Stage.{Stage}
-use Rattle.fm_flow.specs.declared.stage.Stage.TheVariants.{Descending, PreRunning, InBase, Ascending, PostRunning, InDrain}
-use Rattle.fm_flow.specs.declared.entry.PreState.{PreState}
+use Rattle.fm_data.specs.Data.{change_passes}
 use Rattle.fm_flow.specs.declared.entry.PreState.TheVariants as pre
-use Rattle.fm_flow.specs.declared.entry.PostState.{PostState}
 use Rattle.fm_flow.specs.declared.entry.PostState.TheVariants as post
-use Rattle.fm_flow.specs.declared.entry.Ask.{Ask}
-use Rattle.fm_flow.specs.declared.entry.Entry.{Entry}
-use Rattle.fm_flow.specs.declared.entry.Entry.TheVariants.{Pre, Base, Drain}
-use Rattle.fm_flow.specs.Entries.{times, visit_of, visited, owed, instances, settle_pre, settle_post}
 use Rattle.fm_flow.specs.Verdict.{is_counted}
-use Rattle.fm_types.specs.declared.ids.HandleId.{HandleId}
 use Rattle.fm_data.specs.declared.params.Params.TheVariants as params
 use Rattle.fm_flow.specs.Answered.{bare_answer, is_success, success_of, base_counted}
-use Rattle.fm_flow.specs.Record.{FlowRecord}
-use Rattle.fm_flow.specs.Steps.{pre_leads, post_leads, post_entry, bare_ask, with_visit, call_pre, call_base, with_base, stands, left_answer, returned_answer, unwound_to, unwound, give_post, with_drain, kept_of, answer_after, pre_returned_of, base_returned_of, post_state, post_returned_of, drain_returned_of, done_at, is_done, base_fits}
-use Rattle.fm_flow.specs.Sound.{lends, keeps_more, IsCourse, IsSound}
+use Rattle.fm_flow.specs.Steps.{with_visit, with_base, stands, left_answer, returned_answer, with_drain, kept_of, answer_after, done_at, is_done}
+use Rattle.fm_flow.specs.Sound.{lends, keeps_more}
 use Rattle.fm_flow.proofs.Lists.{one-same}
 use Rattle.fm_flow.proofs.Walks.{is_pre, is_post}
-use Rattle.fm_flow.proofs.Owed.{visited_push}
+use Rattle.fm_flow.proofs.Owed.{filter_map-push}
 use Rattle.fm_flow.proofs.Course.{course_visit, course_visit_ask, course_in_base, course_base, course_post, course_drain, owed_once}
 use Rattle.fm_flow.proofs.Settled.{the_open_pre, the_open_post, settles_pre, settles_post, settles_drain, course_pre_settled, course_post_settled, course_drain_settled}
 
@@ -63,10 +52,10 @@ places_at r s st h = subst (λ t. length r.kept + keeps_more t ≤ length (visit
 
 visited_more : (es : List Entry) (worker : WorkerId) (i : InstanceId) (state : PreState) (place : ℕ) → length (visited (es ++ Pre (record { instance = i; worker = worker; state = state; place = place }) ∷ [])) ≡ length (visited es) + 1
 visited_more es worker i state place =
-    ap length (visited_push es (Pre (record { instance = i; worker = worker; state = state; place = place })) (Some i.0) refl) ∙ length-append (visited es) (i.0 ∷ [])
+    ap length (filter_map-push visit_of es (Pre (record { instance = i; worker = worker; state = state; place = place })) (Some i.0) refl) ∙ length-append (visited es) (i.0 ∷ [])
 
 visited_same : (es : List Entry) (e : Entry) → visit_of e ≡ None → length (visited (es ++ e ∷ [])) ≡ length (visited es)
-visited_same es e none = ap length (visited_push es e None none ∙ append-nil (visited es))
+visited_same es e none = ap length (filter_map-push visit_of es e None none ∙ append-nil (visited es))
 
 -- ---- down
 
@@ -117,16 +106,9 @@ sound_known status r st h = record {
 
 -- what counts of an answer isn't longer than the answer
 success_short : (call : Params) (answer : Answer) (handle : HandleId) → length answer.bytes ≤ 32768 → length (success_of call answer handle).bytes ≤ 32768
-success_short (params.Create path mode) answer handle h = omega arith
 success_short (params.Read offset len) answer handle h = h
-success_short (params.Write offset bytes) answer handle h = omega arith
-success_short params.QuerySize answer handle h = omega arith
-success_short (params.SetSize size) answer handle h = omega arith
-success_short params.Flush answer handle h = omega arith
 success_short params.List answer handle h = h
-success_short params.SetDelete answer handle h = omega arith
-success_short params.Cleanup answer handle h = omega arith
-success_short params.Close answer handle h = omega arith
+success_short call answer handle h = omega arith
 
 pub counted_short : (call : Params) (answer : Answer) (handle : HandleId) → length answer.bytes ≤ 32768 → length (base_counted call answer handle).bytes ≤ 32768
 counted_short call answer handle h = elim (is_success answer.status) as (λ b. length (cond b (success_of call answer handle) (bare_answer answer.status)).bytes ≤ 32768) [
@@ -151,27 +133,15 @@ sound_base_returned call answer handle r st fits short h =
 
 unlent : (state : PreState) → is_counted state ≡ true → lends (pre_leads state) ≡ false
 unlent pre.Running c = cc
-unlent pre.Held c = refl
-unlent (pre.Asked completion) c = refl
-unlent (pre.Synchronized completion) c = refl
-unlent pre.Passed c = refl
-unlent (pre.Completed status) c = refl
+unlent state c = refl
 
 keeps_none : (state : PreState) → is_counted state ≡ true → keeps_more (pre_leads state) ≡ 0
 keeps_none pre.Running c = cc
-keeps_none pre.Held c = refl
-keeps_none (pre.Asked completion) c = refl
-keeps_none (pre.Synchronized completion) c = refl
-keeps_none pre.Passed c = refl
-keeps_none (pre.Completed status) c = refl
+keeps_none state c = refl
 
 short_after : (state : PreState) (answer : Answer) → length answer.bytes ≤ 32768 → length (answer_after state answer).bytes ≤ 32768
-short_after pre.Running answer h = h
-short_after pre.Held answer h = h
-short_after (pre.Asked completion) answer h = h
-short_after (pre.Synchronized completion) answer h = h
-short_after pre.Passed answer h = h
 short_after (pre.Completed status) answer h = omega arith
+short_after state answer h = h
 
 fit_change : (operation : Operation) (path : Option (List ℕ)) (received : Params) (changed : Option Params) → fit operation path received ≡ true → change_passes (fit operation path) changed ≡ true → fit operation path (unwrap_or changed received) ≡ true
 fit_change operation path received None a b = a
@@ -294,10 +264,6 @@ sound_drain_returned i r st h = record {
   bytes = h.bytes;
   collected = uncollected r h (rw st refl);
 }
-
--- the laws of a value that is written in two ways
-pub same_sound : (a b : FlowRecord) → a ≡ b → IsSound a → IsSound b
-same_sound a b is h = subst IsSound is h
 
 abbrev pub tail_of : List Ask → List Ask
 tail_of [] = []

@@ -1,24 +1,18 @@
 -- What the order of entries says: where the callback stands that runs or holds, and what may follow it.
-use Rattle.std.proofs.Common.{◌≡◌, ℕ, Bool, true, false, List, [], ◌∷◌, ◌++◌, map, Option, Some, None, option_and_then, option_map, option_to_list, slice_get, reverse, take, get_or, length, ◌+◌, ◌<◌, append-nil, inl, inr, refl, sym, ap, ap₂, ◌∙◌}
+use Rattle.fm_flow.proofs.Words.{◌≡◌, ℕ, Bool, true, false, List, [], ◌∷◌, ◌++◌, map, Option, Some, None, option_map, option_to_list, slice_get}
+use Rattle.fm_flow.proofs.Words.{reverse, take, get_or, length, ◌+◌, ◌<◌, append-nil, inl, inr, refl, sym, ap, ap₂, ◌∙◌, reverse-append, InstanceId}
+use Rattle.fm_flow.proofs.Words.{Stage, Descending, PreRunning, PreHeld, Ascending, PostRunning, PostHeld, PreState, PostState, PreVisit, PostVisit}
+use Rattle.fm_flow.proofs.Words.{DrainVisit, Entry, Pre, Post, Drain, visit_of, last_visited, visited, asked, posted, is_pre_open, settle_pre}
+use Rattle.fm_flow.proofs.Words.{settle_post, pre_leads, post_leads, walk, way_of}
+use Rattle.std.proofs.Common.{option_and_then}
 use Rattle.std.specs.Option.{option_or}
-use Rattle.std.proofs.lemmas.List.{reverse-append, take_more}
-use Rattle.fm_types.specs.declared.ids.InstanceId.{InstanceId}
-use Rattle.fm_flow.specs.declared.stage.Stage.{Stage}
-use Rattle.fm_flow.specs.declared.stage.Stage.TheVariants.{Descending, PreRunning, PreHeld, Ascending, PostRunning, PostHeld}
-use Rattle.fm_flow.specs.declared.entry.PreState.{PreState}
+use Rattle.std.proofs.lemmas.List.{take_more}
 use Rattle.fm_flow.specs.declared.entry.PreState.TheVariants as pre
-use Rattle.fm_flow.specs.declared.entry.PostState.{PostState}
 use Rattle.fm_flow.specs.declared.entry.PostState.TheVariants as post
-use Rattle.fm_flow.specs.declared.entry.PreVisit.{PreVisit}
-use Rattle.fm_flow.specs.declared.entry.PostVisit.{PostVisit}
-use Rattle.fm_flow.specs.declared.entry.DrainVisit.{DrainVisit}
-use Rattle.fm_flow.specs.declared.entry.Entry.{Entry}
-use Rattle.fm_flow.specs.declared.entry.Entry.TheVariants.{Pre, Base, Post, Drain}
-use Rattle.fm_flow.specs.Entries.{visit_of, last_visited, visited, asked, posted, is_pre_open, is_post_open, settle_pre, settle_post}
-use Rattle.fm_flow.specs.Steps.{pre_leads, post_leads}
-use Rattle.fm_flow.specs.Sound.{if_down, if_up, after, walk, way_of}
+use Rattle.fm_flow.specs.Entries.{is_post_open}
+use Rattle.fm_flow.specs.Sound.{if_down, if_up, after}
 use Rattle.fm_flow.proofs.Lists.{either}
-use Rattle.fm_flow.proofs.Owed.{visited_push}
+use Rattle.fm_flow.proofs.Owed.{filter_map-push}
 
 pub walk-append : (s : Stage) (es fs : List Entry) → walk s (es ++ fs) ≡ option_and_then (λ t. walk t fs) (walk s es)
 walk-append s [] fs = refl
@@ -76,23 +70,17 @@ way_of_post s p = cc
 
 pub way_of_pre_leads : (state : PreState) → way_of (pre_leads state) ≡ pre_leads state
 way_of_pre_leads pre.Running = refl
-way_of_pre_leads pre.Held = refl
-way_of_pre_leads (pre.Asked completion) = refl
-way_of_pre_leads (pre.Synchronized completion) = refl
-way_of_pre_leads pre.Passed = refl
-way_of_pre_leads (pre.Completed status) = refl
+way_of_pre_leads state = refl
 
 pub way_of_post_leads : (state : PostState) → way_of (post_leads state) ≡ post_leads state
 way_of_post_leads post.Running = refl
-way_of_post_leads post.Held = refl
-way_of_post_leads post.Finished = refl
+way_of_post_leads state = refl
 
 -- ---- nothing goes back down
 
 up_leads : (state : PostState) → is_down (post_leads state) ≡ false
 up_leads post.Running = refl
-up_leads post.Held = refl
-up_leads post.Finished = refl
+up_leads state = refl
 
 up_after_post : (s : Stage) (state : PostState) (u : Stage) → if_up s (post_leads state) ≡ Some u → is_down u ≡ false
 up_after_post Ascending state u k = let h = up_leads state in let e : post_leads state ≡ u = cc in rw (← e) h
@@ -149,17 +137,60 @@ drains_follow s (Drain visit ∷ es) t w k = quiet_cons visit es (drains_follow 
 drains_follow Descending (e ∷ es) t w k = cc
 drains_follow s (e ∷ es) t w k = cc
 
--- ---- the preoperation that runs or holds
+-- ---- the callback that runs or holds
 
-pub record OpenPre (s : Stage) (es : List Entry) : Type 0 where
+-- an entry of a kind that is open, before it only the way to it, after it only drains
+pub record Open {S V : Type 0} (entry : V → Entry) (opens : V → Bool) (settle : S → Entry → Entry) (from : Stage) (s : Stage) (es : List Entry) : Type 0 where
   pub front : List Entry
-  pub visit : PreVisit
+  pub visit : V
   pub back : List Entry
-  pub split : es ≡ front ++ Pre visit ∷ back
-  pub unsettled : is_pre_open visit.state ≡ true
-  pub down : walk s front ≡ Some Descending
-  pub stays : (state : PreState) → map (settle_pre state) front ≡ front
+  pub split : es ≡ front ++ entry visit ∷ back
+  pub unsettled : opens visit ≡ true
+  pub way : walk s front ≡ Some from
+  pub stays : (state : S) → map (settle state) front ≡ front
   pub quiet : Quiet back
+
+open_first : {S V : Type 0} {entry : V → Entry} {opens : V → Bool} {settle : S → Entry → Entry} (from : Stage) (visit : V) (es : List Entry) → opens visit ≡ true → Quiet es
+    → Open entry opens settle from from (entry visit ∷ es)
+open_first from visit es unsettled quiet = record {
+  front = [];
+  visit = visit;
+  back = es;
+  split = refl;
+  unsettled = unsettled;
+  way = refl;
+  stays = λ state. refl;
+  quiet = quiet;
+}
+
+open_further : {S V : Type 0} {entry : V → Entry} {opens : V → Bool} {settle : S → Entry → Entry} {from : Stage} (s : Stage) (e : Entry) (es : List Entry) (u : Stage) → after s e ≡ Some u
+    → ((state : S) → settle state e ≡ e) → Open entry opens settle from u es → Open entry opens settle from s (e ∷ es)
+open_further s e es u k same o = record {
+  front = e ∷ o.front;
+  visit = o.visit;
+  back = o.back;
+  split = ap (λ fs. e ∷ fs) o.split;
+  unsettled = o.unsettled;
+  way = rw k o.way;
+  stays = λ state. ap₂ (λ f fs. f ∷ fs) (same state) (o.stays state);
+  quiet = o.quiet;
+}
+
+-- each entry on the way is the open one or isn't
+open_walk : {is_kind : Stage → Bool} {P : Stage → List Entry → Type 0}
+    → ((s : Stage) (e : Entry) (es : List Entry) (u t : Stage) → after s e ≡ Some u → walk u es ≡ Some t → is_kind u ≡ true → is_kind s ≡ false → P s (e ∷ es))
+    → ((s : Stage) (e : Entry) (es : List Entry) (u : Stage) → after s e ≡ Some u → is_kind u ≡ false → P u es → P s (e ∷ es))
+    → (s : Stage) (es : List Entry) (t : Stage) → walk s es ≡ Some t → is_kind t ≡ true → is_kind s ≡ false → P s es
+open_walk here further s [] t w p q = cc
+open_walk {is_kind} {P} here further s (e ∷ es) t w p q = elim (after s e) as (λ o. after s e ≡ o → option_and_then (λ u. walk u es) o ≡ Some t → P s (e ∷ es)) [
+  | None ↦ λ k v. cc
+  | Some u ↦ λ k v. elim (either (is_kind u)) [ inl now ↦ here s e es u t k v now q | inr later ↦ further s e es u k later (open_walk here further u es t v p later) ]
+] refl w
+
+-- ---- the preoperation
+
+abbrev pub OpenPre : Stage → List Entry → Type 0
+OpenPre s es = Open Pre (λ visit. is_pre_open visit.state) settle_pre Descending s es
 
 open_state : (state : PreState) (u : Stage) → pre_leads state ≡ u → is_pre u ≡ true → is_pre_open state ≡ true
 open_state pre.Running u k p = refl
@@ -173,20 +204,10 @@ closed_state state u k p = refl
 
 post_is_no_pre : (state : PostState) (u : Stage) → post_leads state ≡ u → is_pre u ≡ true → ⊥
 post_is_no_pre post.Running u k p = cc
-post_is_no_pre post.Held u k p = cc
-post_is_no_pre post.Finished u k p = cc
+post_is_no_pre state u k p = cc
 
 open_pre_here : (s : Stage) (e : Entry) (es : List Entry) (u t : Stage) → after s e ≡ Some u → walk u es ≡ Some t → is_pre u ≡ true → is_pre s ≡ false → OpenPre s (e ∷ es)
-open_pre_here Descending (Pre visit) es u t k w p q = record {
-  front = [];
-  visit = visit;
-  back = es;
-  split = refl;
-  unsettled = open_state visit.state u (cc) p;
-  down = refl;
-  stays = λ state. refl;
-  quiet = drains_follow u es t w (callback_of_pre u p);
-}
+open_pre_here Descending (Pre visit) es u t k w p q = open_first Descending visit es (open_state visit.state u (cc) p) (drains_follow u es t w (callback_of_pre u p))
 open_pre_here Ascending (Post visit) es u t k w p q = absurd (post_is_no_pre visit.state u (cc) p)
 open_pre_here s (Drain visit) es u t k w p q = cc
 open_pre_here s e es u t k w p q = cc
@@ -197,66 +218,30 @@ pre_closed s visit u k p = cc
 
 pre_stays_here : (s : Stage) (e : Entry) (u : Stage) (state : PreState) → after s e ≡ Some u → is_pre u ≡ false → settle_pre state e ≡ e
 pre_stays_here s (Pre visit) u state k p = let h = pre_closed s visit u k p in rw h refl
-pre_stays_here s (Base status information) u state k p = refl
-pre_stays_here s (Post visit) u state k p = refl
-pre_stays_here s (Drain visit) u state k p = refl
-
-open_pre_further : (s : Stage) (e : Entry) (es : List Entry) (u : Stage) → after s e ≡ Some u → is_pre u ≡ false → OpenPre u es → OpenPre s (e ∷ es)
-open_pre_further s e es u k p o = record {
-  front = e ∷ o.front;
-  visit = o.visit;
-  back = o.back;
-  split = ap (λ fs. e ∷ fs) o.split;
-  unsettled = o.unsettled;
-  down = rw k o.down;
-  stays = λ state. ap₂ (λ f fs. f ∷ fs) (pre_stays_here s e u state k p) (o.stays state);
-  quiet = o.quiet;
-}
+pre_stays_here s e u state k p = refl
 
 pub open_pre : (s : Stage) (es : List Entry) (t : Stage) → walk s es ≡ Some t → is_pre t ≡ true → is_pre s ≡ false → OpenPre s es
-open_pre s [] t w p q = cc
-open_pre s (e ∷ es) t w p q = elim (after s e) as (λ o. after s e ≡ o → option_and_then (λ u. walk u es) o ≡ Some t → OpenPre s (e ∷ es)) [
-  | None ↦ λ k v. cc
-  | Some u ↦ λ k v. elim (either (is_pre u)) [ inl now ↦ open_pre_here s e es u t k v now q | inr later ↦ open_pre_further s e es u k later (open_pre u es t v p later) ]
-] refl w
+open_pre = open_walk open_pre_here (λ s e es u k p. open_further s e es u k (λ state. pre_stays_here s e u state k p))
 
--- ---- the postoperation that runs or holds
+-- ---- the postoperation
 
-pub record OpenPost (s : Stage) (es : List Entry) : Type 0 where
-  pub front : List Entry
-  pub visit : PostVisit
-  pub back : List Entry
-  pub split : es ≡ front ++ Post visit ∷ back
-  pub unsettled : is_post_open visit.state ≡ true
-  pub up : walk s front ≡ Some Ascending
-  pub stays : (state : PostState) → map (settle_post state) front ≡ front
-  pub quiet : Quiet back
+abbrev pub OpenPost : Stage → List Entry → Type 0
+OpenPost s es = Open Post (λ visit. is_post_open visit.state) settle_post Ascending s es
 
 open_post_state : (state : PostState) (u : Stage) → post_leads state ≡ u → is_post u ≡ true → is_post_open state ≡ true
-open_post_state post.Running u k p = refl
-open_post_state post.Held u k p = refl
 open_post_state post.Finished u k p = cc
+open_post_state state u k p = refl
 
 closed_post_state : (state : PostState) (u : Stage) → post_leads state ≡ u → is_post u ≡ false → is_post_open state ≡ false
-closed_post_state post.Running u k p = cc
-closed_post_state post.Held u k p = cc
 closed_post_state post.Finished u k p = refl
+closed_post_state state u k p = cc
 
 pre_is_no_post : (state : PreState) (u : Stage) → pre_leads state ≡ u → is_post u ≡ true → ⊥
 pre_is_no_post pre.Running u k p = cc
 pre_is_no_post state u k p = cc
 
 open_post_here : (s : Stage) (e : Entry) (es : List Entry) (u t : Stage) → after s e ≡ Some u → walk u es ≡ Some t → is_post u ≡ true → is_post s ≡ false → OpenPost s (e ∷ es)
-open_post_here Ascending (Post visit) es u t k w p q = record {
-  front = [];
-  visit = visit;
-  back = es;
-  split = refl;
-  unsettled = open_post_state visit.state u (cc) p;
-  up = refl;
-  stays = λ state. refl;
-  quiet = drains_follow u es t w (callback_of_post u p);
-}
+open_post_here Ascending (Post visit) es u t k w p q = open_first Ascending visit es (open_post_state visit.state u (cc) p) (drains_follow u es t w (callback_of_post u p))
 open_post_here Descending (Pre visit) es u t k w p q = absurd (pre_is_no_post visit.state u (cc) p)
 open_post_here s (Drain visit) es u t k w p q = cc
 open_post_here s e es u t k w p q = cc
@@ -267,28 +252,10 @@ post_closed s visit u k p = cc
 
 post_stays_here : (s : Stage) (e : Entry) (u : Stage) (state : PostState) → after s e ≡ Some u → is_post u ≡ false → settle_post state e ≡ e
 post_stays_here s (Post visit) u state k p = let h = post_closed s visit u k p in rw h refl
-post_stays_here s (Base status information) u state k p = refl
-post_stays_here s (Pre visit) u state k p = refl
-post_stays_here s (Drain visit) u state k p = refl
-
-open_post_further : (s : Stage) (e : Entry) (es : List Entry) (u : Stage) → after s e ≡ Some u → is_post u ≡ false → OpenPost u es → OpenPost s (e ∷ es)
-open_post_further s e es u k p o = record {
-  front = e ∷ o.front;
-  visit = o.visit;
-  back = o.back;
-  split = ap (λ fs. e ∷ fs) o.split;
-  unsettled = o.unsettled;
-  up = rw k o.up;
-  stays = λ state. ap₂ (λ f fs. f ∷ fs) (post_stays_here s e u state k p) (o.stays state);
-  quiet = o.quiet;
-}
+post_stays_here s e u state k p = refl
 
 pub open_post : (s : Stage) (es : List Entry) (t : Stage) → walk s es ≡ Some t → is_post t ≡ true → is_post s ≡ false → OpenPost s es
-open_post s [] t w p q = cc
-open_post s (e ∷ es) t w p q = elim (after s e) as (λ o. after s e ≡ o → option_and_then (λ u. walk u es) o ≡ Some t → OpenPost s (e ∷ es)) [
-  | None ↦ λ k v. cc
-  | Some u ↦ λ k v. elim (either (is_post u)) [ inl now ↦ open_post_here s e es u t k v now q | inr later ↦ open_post_further s e es u k later (open_post u es t v p later) ]
-] refl w
+open_post = open_walk open_post_here (λ s e es u k p. open_further s e es u k (λ state. post_stays_here s e u state k p))
 
 -- ---- the instance that was visited last, entry by entry
 
@@ -305,4 +272,4 @@ pub last_visited_more : (es : List Entry) (i : ℕ) (d : Entry) (found before af
 last_visited_more es i d found before after' below here so_far is =
     ap (option_map (λ j. j.0)) is ∙ map_or found before ∙ ap₂ option_or here so_far
     ∙ sym (last_with (visited (take i es)) (visit_of (get_or es i d)))
-    ∙ sym (ap (λ xs. slice_get (reverse xs) 0) (ap visited (take_more es i d below) ∙ visited_push (take i es) (get_or es i d) (visit_of (get_or es i d)) refl))
+    ∙ sym (ap (λ xs. slice_get (reverse xs) 0) (ap visited (take_more es i d below) ∙ filter_map-push visit_of (take i es) (get_or es i d) (visit_of (get_or es i d)) refl))

@@ -1,9 +1,5 @@
-use Rattle.std.proofs.Common.{refl, ap, ◌∙◌}
-use Rattle.std.proofs.lemmas.List.{get_or_default}
-use Rattle.fm_types.proofs.Lists.{set_is_updated}
-use Rattle.fm_ctx.specs.declared.row.Row.{Row}
+use Rattle.fm_ctx.proofs.Words.{refl, ap, ◌∙◌, get_or_default, set_is_updated, Row, row_with}
 use Rattle.fm_ctx.specs.Bodies.{with_number}
-use Rattle.fm_ctx.specs.Rows.{row_with}
 use Rattle.fm_ctx.proofs.row.bump.Goals as goal
 
 pub returns-clause-rest : goal.returns-clause-rest

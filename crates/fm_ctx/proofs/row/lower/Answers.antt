@@ -1,9 +1,5 @@
-use Rattle.std.proofs.Common.{◌≡◌, ℕ, ◌-◌, ◌<◌, eqb, get_or, refl, sym, ap, ◌∙◌, arith, inl, inr, eq-eqb, ne_eqb}
-use Rattle.std.proofs.lemmas.Bool.{cases_eq}
-use Rattle.std.proofs.lemmas.List.{get_or_default}
-use Rattle.fm_types.proofs.Lists.{set_is_updated}
-use Rattle.fm_ctx.specs.declared.row.Row.{Row}
-use Rattle.fm_ctx.specs.Rows.{lowered}
+use Rattle.fm_ctx.proofs.Words.{◌≡◌, ℕ, ◌-◌, ◌<◌, eqb, get_or, refl, sym, ap, ◌∙◌, arith, inl, inr, eq-eqb, ne_eqb, cases_eq, get_or_default}
+use Rattle.fm_ctx.proofs.Words.{set_is_updated, Row, lowered}
 use Rattle.fm_ctx.proofs.row.lower.Goals as goal
 
 last : (n : ℕ) → 0 < n → eqb (n - 1) 0 ≡ eqb n 1

@@ -1,8 +1,5 @@
-use Rattle.std.proofs.Common.{ap}
+use Rattle.fm_ctx.proofs.Words.{ap, ℕ, set_is_updated, row_with}
 use Rattle.std.specs.Global.{Vec}
-use Rattle.std.proofs.Common.{ℕ}
-use Rattle.fm_types.proofs.Lists.{set_is_updated}
-use Rattle.fm_ctx.specs.Rows.{row_with}
 use Rattle.fm_ctx.proofs.row.take_body.Goals as goal
 
 pub returns-clause-rest : goal.returns-clause-rest

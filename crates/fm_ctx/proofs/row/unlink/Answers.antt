@@ -1,6 +1,4 @@
-use Rattle.std.proofs.Common.{refl}
-use Rattle.fm_types.proofs.Lists.{set_is_updated}
-use Rattle.fm_ctx.specs.Rows.{unlinked_row}
+use Rattle.fm_ctx.proofs.Words.{refl, set_is_updated, unlinked_row}
 use Rattle.fm_ctx.proofs.row.unlink.Goals as goal
 
 pub returns : goal.returns

@@ -1,5 +1,4 @@
-use Rattle.std.proofs.Common.{◌≡◌, take, option_map}
-use Rattle.fm_flow.specs.Entries.{last_visited}
+use Rattle.fm_flow.proofs.Words.{◌≡◌, take, option_map, last_visited}
 use Rattle.fm_flow.proofs.entries.last_visited.Given as goal
 
 -- the last one visited of the entries so far

@@ -1,5 +1,4 @@
-use Rattle.std.proofs.Common.{◌≡◌, ◌++◌, map, take, drop}
-use Rattle.fm_flow.specs.Entries.{settle_post}
+use Rattle.fm_flow.proofs.Words.{◌≡◌, ◌++◌, map, take, drop, settle_post}
 use Rattle.fm_flow.proofs.entries.settle_each_post.Given as goal
 
 -- the entries before the place are settled

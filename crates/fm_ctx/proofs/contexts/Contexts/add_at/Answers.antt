@@ -1,9 +1,7 @@
-use Rattle.std.proofs.Common.{◌≡◌, ◌≤◌, ◌+◌, List, ℕ, true, is_some, length, refl, sym, ap, ap₂, subst, ◌∙◌, arith}
-use Rattle.fm_ctx.specs.Table.{context_at}
-use Rattle.fm_ctx.specs.Kept.{ContextsKept}
-use Rattle.fm_ctx.specs.Bodies.{body_at, bumped, raised, with_body, with_number}
-use Rattle.fm_ctx.specs.Rows.{slots_of, row_with}
-use Rattle.fm_ctx.proofs.Rows.{within_rows, row_of_context, body_row}
+use Rattle.fm_ctx.proofs.Words.{◌≡◌, ◌≤◌, ◌+◌, List, ℕ, length, refl, sym, ap, ap₂, subst, ◌∙◌, arith, ContextsKept, body_at, with_body, slots_of}
+use Rattle.fm_ctx.proofs.Words.{row_with}
+use Rattle.fm_ctx.specs.Bodies.{bumped, raised, with_number}
+use Rattle.fm_ctx.proofs.Rows.{row_named, within_rows, body_row}
 use Rattle.fm_ctx.proofs.Sound.{sound_as, sound_rewritten}
 use Rattle.fm_ctx.proofs.Shown.{shown, slots_of_context, carried_kept, emptied_to}
 use Rattle.fm_ctx.proofs.Seated.{seats_kept}
@@ -12,21 +10,18 @@ use Rattle.fm_ctx.proofs.contexts.Contexts.add_at.Goals as goal
 pub bump-requires-clause-room : goal.bump-requires-clause-room
 bump-requires-clause-room c =
     let rows = c.self.inside.rows.items in
-    let there = subst (λ (k : ContextsKept). is_some (context_at k.table.slots c.args.id) ≡ true) (sym c.self.view_is) c.requires.there in
-    within_rows rows c.args.id (row_of_context rows c.args.id there)
+    within_rows rows c.args.id (row_named rows c.args.id c.self.view_is c.requires.there)
 
 pub bump-requires-clause-within : goal.bump-requires-clause-within
 bump-requires-clause-within c d =
     let rows = c.self.inside.rows.items in
-    let there = subst (λ (k : ContextsKept). is_some (context_at k.table.slots c.args.id) ≡ true) (sym c.self.view_is) c.requires.there in
     let within = subst (λ (k : ContextsKept). c.args.place + 8 ≤ length (body_at k.table.slots c.args.id)) (sym c.self.view_is) c.requires.within in
-    omega (arith, within, ap length (body_row rows c.args.id (row_of_context rows c.args.id there) d))
+    omega (arith, within, ap length (body_row rows c.args.id (row_named rows c.args.id c.self.view_is c.requires.there) d))
 
 pub invariant_of-self : goal.invariant_of-self
 invariant_of-self c =
     let rows = c.self.inside.rows.items in
-    let there = subst (λ (k : ContextsKept). is_some (context_at k.table.slots c.args.id) ≡ true) (sym c.self.view_is) c.requires.there in
-    let i = row_of_context rows c.args.id there in
+    let i = row_named rows c.args.id c.self.view_is c.requires.there in
     let made = c.bump.ensures.rest in
     let old = body_row rows c.args.id i i.row in
     let sum = c.bump.ensures.sum i.row ∙ ap (raised c.args.place c.args.by) old in
@@ -42,15 +37,13 @@ invariant_of-self c =
 pub returns-clause-sum : goal.returns-clause-sum
 returns-clause-sum c =
     let rows = c.self.inside.rows.items in
-    let there = subst (λ (k : ContextsKept). is_some (context_at k.table.slots c.args.id) ≡ true) (sym c.self.view_is) c.requires.there in
-    let i = row_of_context rows c.args.id there in
+    let i = row_named rows c.args.id c.self.view_is c.requires.there in
     c.bump.ensures.sum i.row ∙ ap (raised c.args.place c.args.by) (body_row rows c.args.id i i.row ∙ ap (λ (k : ContextsKept). body_at k.table.slots c.args.id) c.self.view_is)
 
 pub returns-clause-after : goal.returns-clause-after
 returns-clause-after c =
     let rows = c.self.inside.rows.items in
-    let there = subst (λ (k : ContextsKept). is_some (context_at k.table.slots c.args.id) ≡ true) (sym c.self.view_is) c.requires.there in
-    let i = row_of_context rows c.args.id there in
+    let i = row_named rows c.args.id c.self.view_is c.requires.there in
     let made = c.bump.ensures.rest in
     let old = body_row rows c.args.id i i.row in
     let sum = c.bump.ensures.sum i.row ∙ ap (raised c.args.place c.args.by) old in

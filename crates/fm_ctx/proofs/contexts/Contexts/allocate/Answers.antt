@@ -1,11 +1,7 @@
-use Rattle.std.proofs.Common.{rules, ◌≡◌, ℕ, ◌<◌, ◌≤◌, ◌+◌, ◌++◌, ◌∷◌, [], List, None, false, length, deque_capacity, leb-false, refl, sym, ap, subst, ◌∙◌, arith}
-use Rattle.std.proofs.lemmas.List.{length-map}
-use Rattle.fm_types.specs.declared.ids.CtxId.{CtxId}
-use Rattle.fm_ctx.specs.declared.row.Row.{Row}
-use Rattle.fm_ctx.specs.Bags.{hand_of}
-use Rattle.fm_ctx.specs.Births.{is_out_of_slots, kept_allocated, new_context}
-use Rattle.fm_ctx.specs.Kept.{ContextsKept}
-use Rattle.fm_ctx.specs.Rows.{context_of, slot_of, slots_of, carried_in, kept_in}
+use Rattle.fm_ctx.proofs.Words.{◌≡◌, ℕ, ◌<◌, ◌≤◌, ◌+◌, ◌++◌, ◌∷◌, [], List, None, false, length, refl, sym, ap, subst, ◌∙◌, arith, length-map, CtxId}
+use Rattle.fm_ctx.proofs.Words.{Row, hand_of, is_out_of_slots, kept_allocated, ContextsKept, context_of, slot_of, slots_of, carried_in, kept_in}
+use Rattle.std.proofs.Common.{rules, deque_capacity, leb-false}
+use Rattle.fm_ctx.specs.Births.{new_context}
 use Rattle.fm_ctx.proofs.Sound.{sound_as}
 use Rattle.fm_ctx.proofs.Shown.{shown, matched}
 use Rattle.fm_ctx.proofs.Newborn.{IsFresh, is_new, sound_allocated, slots_pushed, carried_pushed}

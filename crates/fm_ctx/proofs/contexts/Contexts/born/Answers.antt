@@ -1,5 +1,4 @@
-use Rattle.std.proofs.Common.{sym, ap, ◌∙◌}
-use Rattle.fm_ctx.specs.Kept.{ContextsKept}
+use Rattle.fm_ctx.proofs.Words.{sym, ap, ◌∙◌, ContextsKept}
 use Rattle.fm_ctx.specs.Counting.{born}
 use Rattle.fm_ctx.proofs.Rows.{born_rows}
 use Rattle.fm_ctx.proofs.contexts.Contexts.born.Goals as goal

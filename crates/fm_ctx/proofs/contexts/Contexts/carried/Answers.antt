@@ -1,7 +1,4 @@
-use Rattle.std.proofs.Common.{List, ap, ◌∙◌}
-use Rattle.fm_ctx.specs.declared.row.Row.{Row}
-use Rattle.fm_ctx.specs.Kept.{ContextsKept, carried_of}
-use Rattle.fm_ctx.specs.Rows.{row_at}
+use Rattle.fm_ctx.proofs.Words.{List, ap, ◌∙◌, Row, ContextsKept, carried_of, row_at}
 use Rattle.fm_ctx.proofs.Rows.{uncarried_row, carried_told}
 use Rattle.fm_ctx.proofs.contexts.Contexts.carried.Goals as goal
 

@@ -1,8 +1,4 @@
-use Rattle.std.proofs.Common.{◌≡◌, Some, None, refl, sym, ap, subst, ◌∙◌, arith}
-use Rattle.fm_ctx.specs.Bags.{cleaning_of}
-use Rattle.fm_ctx.specs.Kept.{ContextsKept}
-use Rattle.fm_ctx.specs.Cleanup.{cleaned}
-use Rattle.fm_ctx.specs.Rows.{cleaned_row}
+use Rattle.fm_ctx.proofs.Words.{◌≡◌, Some, None, refl, sym, ap, subst, ◌∙◌, arith, cleaning_of, ContextsKept, cleaned, cleaned_row}
 use Rattle.fm_ctx.proofs.Lives.{count_cleaning}
 use Rattle.fm_ctx.proofs.Rows.{within_rows, row_of_context}
 use Rattle.fm_ctx.proofs.Sound.{sound_as, sound_cleaned}

@@ -1,6 +1,4 @@
-use Rattle.std.proofs.Common.{count_by, sym, ap, ◌∙◌}
-use Rattle.fm_ctx.specs.declared.row.Row.{Row}
-use Rattle.fm_ctx.specs.Kept.{ContextsKept}
+use Rattle.fm_ctx.proofs.Words.{count_by, sym, ap, ◌∙◌, Row, ContextsKept}
 use Rattle.fm_ctx.specs.Counting.{cleaned_count}
 use Rattle.fm_ctx.proofs.Rows.{cleaned_rows}
 use Rattle.fm_ctx.proofs.contexts.Contexts.cleaned_count.Goals as goal

@@ -1,10 +1,5 @@
-use Rattle.std.proofs.Common.{◌≡◌, List, None, option_map, sym, ap, subst, ◌∙◌, arith}
-use Rattle.fm_ctx.specs.declared.row.Row.{Row}
-use Rattle.fm_ctx.specs.Bags.{holds}
-use Rattle.fm_ctx.specs.Table.{context_at, count_in}
-use Rattle.fm_ctx.specs.Kept.{ContextsKept, carried_of}
-use Rattle.fm_ctx.specs.Counting.{count_reply_of, was_given}
-use Rattle.fm_ctx.specs.Rows.{row_at, context_of}
+use Rattle.fm_ctx.proofs.Words.{◌≡◌, List, None, option_map, sym, ap, subst, ◌∙◌, arith, Row, holds, context_at, count_in, ContextsKept, carried_of}
+use Rattle.fm_ctx.proofs.Words.{count_reply_of, was_given, row_at, context_of}
 use Rattle.fm_ctx.proofs.Rows.{context_at-rows}
 use Rattle.fm_ctx.proofs.Sound.{count_told}
 use Rattle.fm_ctx.proofs.Replies.{reply_due, reply_cleaning}

@@ -1,6 +1,4 @@
-use Rattle.std.proofs.Common.{ap, option_map, sym, ◌∙◌}
-use Rattle.fm_ctx.specs.Kept.{ContextsKept}
-use Rattle.fm_ctx.specs.Links.{holder}
+use Rattle.fm_ctx.proofs.Words.{ap, option_map, sym, ◌∙◌, ContextsKept, holder}
 use Rattle.fm_ctx.proofs.Rows.{first_id}
 use Rattle.fm_ctx.proofs.Seated.{seat_once, holder_seat}
 use Rattle.fm_ctx.proofs.contexts.Contexts.find.Goals as goal

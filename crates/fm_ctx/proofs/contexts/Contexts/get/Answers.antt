@@ -1,5 +1,4 @@
-use Rattle.std.proofs.Common.{sym}
-use Rattle.fm_ctx.specs.Kept.{carried_of}
+use Rattle.fm_ctx.proofs.Words.{sym, carried_of}
 use Rattle.fm_ctx.proofs.Counts.{count_linked_one}
 use Rattle.fm_ctx.proofs.Holders.{holder_linked}
 use Rattle.fm_ctx.proofs.contexts.Contexts.get.Goals as goal

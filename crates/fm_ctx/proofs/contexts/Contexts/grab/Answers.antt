@@ -1,24 +1,17 @@
-use Rattle.std.proofs.Common.{◌<◌, length, refl, sym, ap, subst, ◌∙◌}
-use Rattle.fm_ctx.specs.Table.{count_in}
-use Rattle.fm_ctx.specs.Kept.{ContextsKept, carried_of}
-use Rattle.fm_ctx.specs.Bags.{hand_of}
-use Rattle.fm_ctx.specs.References.{grabbed}
-use Rattle.fm_ctx.specs.Rows.{raised}
+use Rattle.fm_ctx.proofs.Words.{◌<◌, length, refl, sym, ap, subst, ◌∙◌, count_in, ContextsKept, carried_of, hand_of, grabbed, raised}
 use Rattle.fm_ctx.proofs.Rows.{within_rows}
-use Rattle.fm_ctx.proofs.Sound.{present, row_fits, sound_as, sound_grabbed}
+use Rattle.fm_ctx.proofs.Sound.{row_present, row_fits, sound_as, sound_grabbed}
 use Rattle.fm_ctx.proofs.Shown.{shown, slots_kept, carried_kept}
 use Rattle.fm_ctx.proofs.Seated.{seats_kept}
 use Rattle.fm_ctx.proofs.contexts.Contexts.grab.Goals as goal
 
 pub raise-requires-clause-room : goal.raise-requires-clause-room
 raise-requires-clause-room c =
-    let live = subst (λ (k : ContextsKept). 0 < count_in (carried_of k) k.table c.args.id) (sym c.self.view_is) c.requires.live in
-    within_rows c.self.inside.rows.items c.args.id (present c.args.id c.self.invariant.sound live)
+    within_rows c.self.inside.rows.items c.args.id (row_present c.args.id c.self.invariant.sound c.self.view_is c.requires.live)
 
 pub raise-requires-clause-fits : goal.raise-requires-clause-fits
 raise-requires-clause-fits c =
-    let live = subst (λ (k : ContextsKept). 0 < count_in (carried_of k) k.table c.args.id) (sym c.self.view_is) c.requires.live in
-    row_fits c.args.id c.self.invariant.sound (present c.args.id c.self.invariant.sound live)
+    row_fits c.args.id c.self.invariant.sound (row_present c.args.id c.self.invariant.sound c.self.view_is c.requires.live)
 
 pub invariant_of-self : goal.invariant_of-self
 invariant_of-self c =

@@ -1,9 +1,5 @@
-use Rattle.std.proofs.Common.{◌≡◌, ◌<◌, List, [], true, length, is_some, sym, ap, subst, ◌∙◌, arith}
-use Rattle.std.proofs.lemmas.List.{get_or_default}
-use Rattle.fm_types.specs.declared.ids.CtxId.{CtxId}
-use Rattle.fm_ctx.specs.Bags.{holds}
-use Rattle.fm_ctx.specs.Table.{context_at}
-use Rattle.fm_ctx.specs.Kept.{ContextsKept}
+use Rattle.fm_ctx.proofs.Words.{◌≡◌, ◌<◌, List, [], true, length, is_some, sym, ap, subst, ◌∙◌, arith, get_or_default, CtxId, holds, context_at}
+use Rattle.fm_ctx.proofs.Words.{ContextsKept}
 use Rattle.fm_ctx.proofs.Sound.{context_there, live_held}
 use Rattle.fm_ctx.proofs.contexts.Contexts.holds.Goals as goal
 

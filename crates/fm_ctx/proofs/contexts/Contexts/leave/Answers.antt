@@ -1,6 +1,5 @@
-use Rattle.std.proofs.Common.{◌+◌, ◌-◌, ◌^◌, ◌<◌, length, min, refl, sym, ap, ap₂, subst, ◌∙◌, arith}
-use Rattle.fm_ctx.specs.Bags.{hand_of}
-use Rattle.fm_ctx.specs.Kept.{ContextsKept, carried_of}
+use Rattle.fm_ctx.proofs.Words.{◌+◌, ◌-◌, ◌^◌, ◌<◌, length, refl, sym, ap, ap₂, subst, ◌∙◌, arith, hand_of, ContextsKept, carried_of}
+use Rattle.std.proofs.Common.{min}
 use Rattle.fm_ctx.proofs.Bags.{without_first}
 use Rattle.fm_ctx.proofs.Carried.{carried_equal}
 use Rattle.fm_ctx.proofs.Leaving.{LeavesSome, leave_none, leave_more, leave_all, no_first, hand_shorter}

@@ -1,6 +1,4 @@
-use Rattle.std.proofs.Common.{◌≡◌, length}
-use Rattle.fm_ctx.specs.Bags.{hand_of}
-use Rattle.fm_ctx.specs.Kept.{carried_of}
+use Rattle.fm_ctx.proofs.Words.{◌≡◌, length, hand_of, carried_of}
 use Rattle.fm_ctx.proofs.Leaving.{LeavesSome}
 use Rattle.fm_ctx.proofs.contexts.Contexts.leave.Given as goal
 

@@ -1,8 +1,4 @@
-use Rattle.std.proofs.Common.{◌≡◌, true, refl, sym, ap, subst, ◌∙◌}
-use Rattle.fm_ctx.specs.Bags.{holds, hand_of}
-use Rattle.fm_ctx.specs.Kept.{ContextsKept, carried_of}
-use Rattle.fm_ctx.specs.References.{released}
-use Rattle.fm_ctx.specs.Rows.{kept_in, lowered}
+use Rattle.fm_ctx.proofs.Words.{◌≡◌, true, refl, sym, ap, subst, ◌∙◌, holds, hand_of, ContextsKept, carried_of, released, kept_in, lowered}
 use Rattle.fm_ctx.proofs.Rows.{within_rows}
 use Rattle.fm_ctx.proofs.Sound.{present, live_held, row_positive, read_count, due_fits, sound_as, sound_fits, sound_released}
 use Rattle.fm_ctx.proofs.Shown.{shown, slots_kept, carried_kept, due_by}

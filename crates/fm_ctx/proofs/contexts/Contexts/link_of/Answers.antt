@@ -1,8 +1,4 @@
-use Rattle.std.proofs.Common.{List, None, Some, ap, ◌∙◌}
-use Rattle.fm_ctx.specs.declared.row.Row.{Row}
-use Rattle.fm_ctx.specs.Table.{link_at}
-use Rattle.fm_ctx.specs.Kept.{ContextsKept}
-use Rattle.fm_ctx.specs.Rows.{row_at}
+use Rattle.fm_ctx.proofs.Words.{List, None, Some, ap, ◌∙◌, Row, link_at, ContextsKept, row_at}
 use Rattle.fm_ctx.proofs.Rows.{linked_row_is}
 use Rattle.fm_ctx.proofs.contexts.Contexts.link_of.Goals as goal
 

@@ -1,8 +1,4 @@
-use Rattle.std.proofs.Common.{List, None, Some, option_map, ap, ◌∙◌}
-use Rattle.fm_ctx.specs.declared.row.Row.{Row}
-use Rattle.fm_ctx.specs.Table.{Context, context_at}
-use Rattle.fm_ctx.specs.Kept.{ContextsKept}
-use Rattle.fm_ctx.specs.Rows.{row_at}
+use Rattle.fm_ctx.proofs.Words.{List, None, Some, option_map, ap, ◌∙◌, Row, Context, context_at, ContextsKept, row_at}
 use Rattle.fm_ctx.proofs.Rows.{told_row}
 use Rattle.fm_ctx.proofs.contexts.Contexts.owner_of.Goals as goal
 

@@ -1,5 +1,4 @@
-use Rattle.std.proofs.Common.{sym}
-use Rattle.fm_ctx.specs.Kept.{carried_of}
+use Rattle.fm_ctx.proofs.Words.{sym, carried_of}
 use Rattle.fm_ctx.proofs.Counts.{count_held}
 use Rattle.fm_ctx.proofs.Moves.{within_hands}
 use Rattle.fm_ctx.proofs.contexts.Contexts.reference.Goals as goal

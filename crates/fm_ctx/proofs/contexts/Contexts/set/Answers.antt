@@ -1,7 +1,4 @@
-use Rattle.std.proofs.Common.{◌<◌, sym, subst}
-use Rattle.fm_ctx.specs.Table.{count_in}
-use Rattle.fm_ctx.specs.Kept.{ContextsKept, carried_of}
-use Rattle.fm_ctx.specs.Links.{IsFree, unlinked_for}
+use Rattle.fm_ctx.proofs.Words.{◌<◌, sym, subst, count_in, ContextsKept, carried_of, IsFree, unlinked_for}
 use Rattle.fm_ctx.proofs.Counts.{count_held}
 use Rattle.fm_ctx.proofs.Moves.{within_hands}
 use Rattle.fm_ctx.proofs.Holders.{holder_linked}

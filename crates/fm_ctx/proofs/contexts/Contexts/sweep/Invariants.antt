@@ -1,6 +1,4 @@
-use Rattle.std.proofs.Common.{◌≡◌, length}
-use Rattle.fm_ctx.specs.Kept.{carried_of}
-use Rattle.fm_ctx.specs.Sweep.{link_test}
+use Rattle.fm_ctx.proofs.Words.{◌≡◌, length, carried_of, link_test}
 use Rattle.fm_ctx.proofs.Sweeping.{SweptUpto}
 use Rattle.fm_ctx.proofs.contexts.Contexts.sweep.Given as goal
 

@@ -1,11 +1,7 @@
-use Rattle.std.proofs.Common.{◌≡◌, ◌<◌, true, length, is_some, sym, ap, subst, ◌∙◌, arith, refl}
+use Rattle.fm_ctx.proofs.Words.{◌≡◌, ◌<◌, true, length, is_some, sym, ap, subst, ◌∙◌, arith, refl, length-map, ContextTable, link_at, ContextsKept}
+use Rattle.fm_ctx.proofs.Words.{carried_of, id_at, link_test, slot_of}
 use Rattle.std.proofs.lemmas.Option.{slice_get_read}
-use Rattle.std.proofs.lemmas.List.{length-map}
-use Rattle.fm_ctx.specs.Table.{ContextTable, link_at}
-use Rattle.fm_ctx.specs.Kept.{ContextsKept, carried_of}
-use Rattle.fm_ctx.specs.Links.{id_at}
-use Rattle.fm_ctx.specs.Sweep.{passes, link_test, context_of_slot}
-use Rattle.fm_ctx.specs.Rows.{slot_of}
+use Rattle.fm_ctx.specs.Sweep.{passes, context_of_slot}
 use Rattle.fm_ctx.proofs.Rows.{first_id, id_at-rows}
 use Rattle.fm_ctx.proofs.Sweeping.{slot_shown, slot_linked, swept_then, swept_else}
 use Rattle.fm_ctx.proofs.contexts.Contexts.sweep_slot.Goals as goal

@@ -1,11 +1,7 @@
-use Rattle.std.proofs.Common.{◌≡◌, ℕ, List, Some, None, slice_get, refl, sym, ap, subst, ◌∙◌, arith}
+use Rattle.fm_ctx.proofs.Words.{◌≡◌, ℕ, List, Some, None, slice_get, refl, sym, ap, subst, ◌∙◌, arith, CtxId, Row, cleaning_of, ContextsKept, emptied}
+use Rattle.fm_ctx.proofs.Words.{row_with, kept_in}
 use Rattle.std.specs.Global.{Vec}
-use Rattle.fm_types.specs.declared.ids.CtxId.{CtxId}
-use Rattle.fm_ctx.specs.declared.row.Row.{Row}
-use Rattle.fm_ctx.specs.Bags.{cleaning_of}
-use Rattle.fm_ctx.specs.Kept.{ContextsKept}
-use Rattle.fm_ctx.specs.Cleanup.{emptied, due_reply, taken_of, after_take_due}
-use Rattle.fm_ctx.specs.Rows.{row_with, kept_in}
+use Rattle.fm_ctx.specs.Cleanup.{due_reply, taken_of, after_take_due}
 use Rattle.fm_ctx.proofs.Lives.{due_there}
 use Rattle.fm_ctx.proofs.Rows.{row_read, within_rows, row_of_context}
 use Rattle.fm_ctx.proofs.Sound.{sound_as, sound_fits, sound_taken}

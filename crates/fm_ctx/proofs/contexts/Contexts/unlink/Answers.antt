@@ -1,20 +1,14 @@
-use Rattle.std.proofs.Common.{◌≡◌, true, None, is_some, refl, sym, ap, subst, ◌∙◌}
-use Rattle.fm_types.specs.Lists.{updated}
-use Rattle.fm_ctx.specs.Table.{link_at}
-use Rattle.fm_ctx.specs.Kept.{ContextsKept, carried_of}
-use Rattle.fm_ctx.specs.Links.{with_link, unlinked}
-use Rattle.fm_ctx.specs.Rows.{kept_in, lowered, unlinked_row}
+use Rattle.fm_ctx.proofs.Words.{◌≡◌, true, None, is_some, refl, sym, ap, subst, ◌∙◌, updated, link_at, ContextsKept, carried_of, with_link, unlinked}
+use Rattle.fm_ctx.proofs.Words.{kept_in, lowered, unlinked_row}
 use Rattle.fm_ctx.proofs.Rows.{within_rows}
-use Rattle.fm_ctx.proofs.Sound.{dropped_row, present, live_linked, row_positive, read_count, due_fits, sound_as, sound_fits, sound_unlinked}
+use Rattle.fm_ctx.proofs.Sound.{row_linked, dropped_row, present, live_linked, row_positive, read_count, due_fits, sound_as, sound_fits, sound_unlinked}
 use Rattle.fm_ctx.proofs.Shown.{shown, slots_of_context, carried_kept, due_by, updated_twice, within_updated}
 use Rattle.fm_ctx.proofs.Seated.{seats_set, seat_within, unlinked_seat}
 use Rattle.fm_ctx.proofs.contexts.Contexts.unlink.Goals as goal
 
 pub drop_reference-requires-clause-within : goal.drop_reference-requires-clause-within
 drop_reference-requires-clause-within c =
-    let has = subst (λ (k : ContextsKept). is_some (link_at k.table.slots c.args.id) ≡ true) (sym c.self.view_is) c.requires in
-    let i = present c.args.id c.self.invariant.sound (live_linked c.args.id c.self.invariant.sound has) in
-    within_rows c.self.inside.rows.items c.args.id i
+    within_rows c.self.inside.rows.items c.args.id (row_linked c.args.id c.self.invariant.sound c.self.view_is c.requires)
 
 pub drop_reference-requires-clause-some : goal.drop_reference-requires-clause-some
 drop_reference-requires-clause-some c =
@@ -30,15 +24,12 @@ drop_reference-requires-clause-room c d last =
 
 pub unlink-requires : goal.unlink-requires
 unlink-requires c =
-    let has = subst (λ (k : ContextsKept). is_some (link_at k.table.slots c.args.id) ≡ true) (sym c.self.view_is) c.requires in
-    let i = present c.args.id c.self.invariant.sound (live_linked c.args.id c.self.invariant.sound has) in
+    let i = row_linked c.args.id c.self.invariant.sound c.self.view_is c.requires in
     within_updated lowered c.self.inside.rows.items c.args.id.slot c.drop_reference.ensures.rows (within_rows c.self.inside.rows.items c.args.id i)
 
 pub take-requires : goal.take-requires
 take-requires c =
-    let has = subst (λ (k : ContextsKept). is_some (link_at k.table.slots c.args.id) ≡ true) (sym c.self.view_is) c.requires in
-    let i = present c.args.id c.self.invariant.sound (live_linked c.args.id c.self.invariant.sound has) in
-    seat_within c.self.inside.rows.items c.args.id i c.self.invariant.seated
+    seat_within c.self.inside.rows.items c.args.id (row_linked c.args.id c.self.invariant.sound c.self.view_is c.requires) c.self.invariant.seated
 
 pub invariant_of-self : goal.invariant_of-self
 invariant_of-self c =
@@ -57,8 +48,7 @@ invariant_of-self c =
 
 pub returns : goal.returns
 returns c =
-    let has = subst (λ (k : ContextsKept). is_some (link_at k.table.slots c.args.id) ≡ true) (sym c.self.view_is) c.requires in
-    let i = present c.args.id c.self.invariant.sound (live_linked c.args.id c.self.invariant.sound has) in
+    let i = row_linked c.args.id c.self.invariant.sound c.self.view_is c.requires in
     let rows = c.self.inside.rows.items in
     let is = c.unlink.ensures ∙ ap (λ rs. updated unlinked_row rs c.args.id.slot) c.drop_reference.ensures.rows ∙ updated_twice unlinked_row lowered rows c.args.id.slot in
     let kept = kept_in c.self.inside.rows.items c.self.inside.hands.items c.self.inside.due.items c.self.inside.cleaning.items c.self.inside.leaks in

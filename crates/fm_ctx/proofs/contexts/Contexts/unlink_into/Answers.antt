@@ -1,25 +1,18 @@
-use Rattle.std.proofs.Common.{◌≡◌, ◌<◌, true, None, length, is_some, refl, sym, ap, subst, ◌∙◌}
-use Rattle.fm_ctx.specs.Bags.{hand_of}
-use Rattle.fm_ctx.specs.Table.{link_at}
-use Rattle.fm_ctx.specs.Kept.{ContextsKept}
-use Rattle.fm_ctx.specs.Links.{with_link, unlinked_into}
-use Rattle.fm_ctx.specs.Rows.{unlinked_row}
+use Rattle.fm_ctx.proofs.Words.{◌≡◌, ◌<◌, true, None, length, is_some, refl, sym, ap, subst, ◌∙◌, hand_of, link_at, ContextsKept, with_link}
+use Rattle.fm_ctx.proofs.Words.{unlinked_into, unlinked_row}
 use Rattle.fm_ctx.proofs.Rows.{within_rows}
-use Rattle.fm_ctx.proofs.Sound.{present, live_linked, sound_as, sound_unlinked_into}
+use Rattle.fm_ctx.proofs.Sound.{row_linked, present, live_linked, sound_as, sound_unlinked_into}
 use Rattle.fm_ctx.proofs.Shown.{shown, slots_of_context, carried_kept}
 use Rattle.fm_ctx.proofs.Seated.{seats_set, seat_within, unlinked_seat}
 use Rattle.fm_ctx.proofs.contexts.Contexts.unlink_into.Goals as goal
 
 pub unlink-requires : goal.unlink-requires
 unlink-requires c =
-    let has = subst (λ (k : ContextsKept). is_some (link_at k.table.slots c.args.id) ≡ true) (sym c.self.view_is) c.requires.linked in
-    let i = present c.args.id c.self.invariant.sound (live_linked c.args.id c.self.invariant.sound has) in
-    within_rows c.self.inside.rows.items c.args.id i
+    within_rows c.self.inside.rows.items c.args.id (row_linked c.args.id c.self.invariant.sound c.self.view_is c.requires.linked)
 
 pub take-requires : goal.take-requires
 take-requires c =
-    let has = subst (λ (k : ContextsKept). is_some (link_at k.table.slots c.args.id) ≡ true) (sym c.self.view_is) c.requires.linked in
-    let i = present c.args.id c.self.invariant.sound (live_linked c.args.id c.self.invariant.sound has) in
+    let i = row_linked c.args.id c.self.invariant.sound c.self.view_is c.requires.linked in
     seat_within c.self.inside.rows.items c.args.id i c.self.invariant.seated
 
 pub invariant_of-self : goal.invariant_of-self
@@ -37,8 +30,7 @@ invariant_of-self c =
 
 pub returns : goal.returns
 returns c =
-    let has = subst (λ (k : ContextsKept). is_some (link_at k.table.slots c.args.id) ≡ true) (sym c.self.view_is) c.requires.linked in
-    let i = present c.args.id c.self.invariant.sound (live_linked c.args.id c.self.invariant.sound has) in
+    let i = row_linked c.args.id c.self.invariant.sound c.self.view_is c.requires.linked in
     let rows = c.self.inside.rows.items in
     shown c.unlink.new.rows.items c.self.inside.leaks (slots_of_context unlinked_row (with_link None) rows c.args.id i c.unlink.ensures refl refl) (carried_kept unlinked_row rows c.args.id.slot c.unlink.ensures (λ r. refl)) c.put.ensures refl refl
     ∙ ap (λ (k : ContextsKept). record k { table = unlinked_into k.table c.args.worker.0 c.args.id }) c.self.view_is

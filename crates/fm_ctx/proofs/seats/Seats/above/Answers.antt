@@ -1,6 +1,4 @@
-use Rattle.std.proofs.Common.{List, Option, length, ap, subst, arith}
-use Rattle.fm_ctx.specs.declared.seat.Seat.{Seat}
-use Rattle.fm_ctx.specs.Seats.{stands, IsChained}
+use Rattle.fm_ctx.proofs.Words.{List, Option, length, ap, subst, arith, Seat, stands, IsChained}
 use Rattle.fm_ctx.proofs.Lasts.{last_falls}
 use Rattle.fm_ctx.proofs.Chains.{led_by}
 use Rattle.fm_ctx.proofs.Finding.{climbed, above_found, above_last}

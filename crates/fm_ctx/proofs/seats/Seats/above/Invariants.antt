@@ -1,5 +1,4 @@
-use Rattle.std.proofs.Common.{◌≡◌, ◌<◌, true, length, IfSome}
-use Rattle.fm_ctx.specs.Seats.{stands, last_below, end_of}
+use Rattle.fm_ctx.proofs.Words.{◌≡◌, ◌<◌, true, length, IfSome, stands, last_below, end_of}
 use Rattle.fm_ctx.proofs.Lasts.{height}
 use Rattle.fm_ctx.proofs.seats.Seats.above.Given as goal
 

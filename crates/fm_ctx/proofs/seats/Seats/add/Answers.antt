@@ -1,5 +1,4 @@
-use Rattle.std.proofs.Common.{◌++◌, ◌∷◌, [], List, Option, None, ℕ, ap, ◌∙◌}
-use Rattle.fm_ctx.specs.declared.seat.Seat.{Seat}
+use Rattle.fm_ctx.proofs.Words.{◌++◌, ◌∷◌, [], List, Option, None, ℕ, ap, ◌∙◌, Seat}
 use Rattle.fm_ctx.proofs.Chains.{chained_as, chained_more}
 use Rattle.fm_ctx.proofs.seats.Seats.add.Goals as goal
 

@@ -1,6 +1,4 @@
-use Rattle.std.proofs.Common.{List, Option, None, length, sym, ap, subst, arith}
-use Rattle.fm_ctx.specs.declared.seat.Seat.{Seat}
-use Rattle.fm_ctx.specs.Seats.{chain_of, is_seat, stands, IsChained}
+use Rattle.fm_ctx.proofs.Words.{List, Option, None, length, sym, ap, subst, arith, Seat, chain_of, is_seat, stands, IsChained}
 use Rattle.fm_ctx.proofs.Lasts.{last_falls}
 use Rattle.fm_ctx.proofs.Chains.{led_by}
 use Rattle.fm_ctx.proofs.Finding.{position_at, passed_slot, passed_within, passed_more, passed_all}

@@ -1,6 +1,4 @@
-use Rattle.std.proofs.Common.{List, Option, subst}
-use Rattle.fm_ctx.specs.declared.seat.Seat.{Seat}
-use Rattle.fm_ctx.specs.Seats.{IsChained}
+use Rattle.fm_ctx.proofs.Words.{List, Option, subst, Seat, IsChained}
 use Rattle.fm_ctx.proofs.Chains.{chained_put}
 use Rattle.fm_ctx.proofs.seats.Seats.put.Goals as goal
 

@@ -1,7 +1,4 @@
-use Rattle.std.proofs.Common.{List, Option, None, ap, get_or, sym, subst, ◌∙◌}
-use Rattle.std.proofs.lemmas.List.{get_or_default}
-use Rattle.fm_ctx.specs.declared.seat.Seat.{Seat}
-use Rattle.fm_ctx.specs.Seats.{IsChained}
+use Rattle.fm_ctx.proofs.Words.{List, Option, None, ap, get_or, sym, subst, ◌∙◌, get_or_default, Seat, IsChained}
 use Rattle.fm_ctx.proofs.Chains.{chained_taken}
 use Rattle.fm_ctx.proofs.seats.Seats.take.Goals as goal
 

@@ -1,5 +1,4 @@
-use Rattle.std.proofs.Common.{ap, ◌∙◌, arith}
-use Rattle.fm_flow.specs.Record.{FlowRecord}
+use Rattle.fm_flow.proofs.Words.{ap, ◌∙◌, arith, FlowRecord}
 use Rattle.fm_flow.proofs.Soundness.{sound_known}
 use Rattle.fm_flow.proofs.operation_record.OperationRecord.answer_known.Goals as goal
 

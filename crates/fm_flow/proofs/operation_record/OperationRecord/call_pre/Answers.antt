@@ -1,7 +1,4 @@
-use Rattle.std.proofs.Common.{◌≡◌, ◌<◌, length, ap, subst, ◌∙◌, arith}
-use Rattle.fm_flow.specs.Entries.{times, visited}
-use Rattle.fm_flow.specs.Record.{FlowRecord}
-use Rattle.fm_flow.specs.Sound.{HasPath}
+use Rattle.fm_flow.proofs.Words.{◌≡◌, ◌<◌, length, ap, subst, ◌∙◌, arith, times, visited, FlowRecord, HasPath}
 use Rattle.std.proofs.Common.{rules}
 use Rattle.fm_flow.proofs.Soundness.{sound_call_pre}
 use Rattle.fm_flow.proofs.operation_record.OperationRecord.call_pre.Goals as goal

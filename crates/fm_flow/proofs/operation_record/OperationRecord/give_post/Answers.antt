@@ -1,7 +1,4 @@
-use Rattle.std.proofs.Common.{ap, ◌∙◌, arith}
-use Rattle.fm_flow.specs.Entries.{owed}
-use Rattle.fm_flow.specs.Record.{FlowRecord}
-use Rattle.std.proofs.Common.{slice_get}
+use Rattle.fm_flow.proofs.Words.{ap, ◌∙◌, arith, owed, FlowRecord, slice_get}
 use Rattle.fm_flow.proofs.Soundness.{sound_give_post, head_of}
 use Rattle.fm_flow.proofs.operation_record.OperationRecord.give_post.Goals as goal
 

@@ -1,6 +1,4 @@
-use Rattle.std.proofs.Common.{ap, ◌∙◌, arith}
-use Rattle.fm_flow.specs.Record.{FlowRecord}
-use Rattle.fm_flow.specs.Steps.{base_fits}
+use Rattle.fm_flow.proofs.Words.{ap, ◌∙◌, arith, FlowRecord, base_fits}
 use Rattle.fm_flow.proofs.Soundness.{sound_base}
 use Rattle.fm_flow.proofs.operation_record.OperationRecord.take_base.Goals as goal
 

@@ -1,7 +1,4 @@
-use Rattle.std.proofs.Common.{ap, ◌∙◌, arith}
-use Rattle.fm_flow.specs.Record.{FlowRecord}
-use Rattle.fm_data.specs.Data.{data_fits}
-use Rattle.fm_flow.specs.Steps.{post_state}
+use Rattle.fm_flow.proofs.Words.{ap, ◌∙◌, arith, FlowRecord, data_fits, post_state}
 use Rattle.fm_flow.proofs.Paths.{path_up}
 use Rattle.fm_flow.proofs.Soundness.{sound_post_returned}
 use Rattle.fm_flow.proofs.operation_record.OperationRecord.take_post.Goals as goal

@@ -1,7 +1,4 @@
-use Rattle.std.proofs.Common.{ap, subst, ◌∙◌, arith}
-use Rattle.fm_flow.specs.Record.{FlowRecord}
-use Rattle.fm_flow.specs.Sound.{HasPath}
-use Rattle.fm_data.specs.Data.{data_fits}
+use Rattle.fm_flow.proofs.Words.{ap, subst, ◌∙◌, arith, FlowRecord, HasPath, data_fits}
 use Rattle.fm_flow.proofs.Paths.{path_down}
 use Rattle.fm_flow.proofs.Soundness.{sound_pre_returned}
 use Rattle.fm_flow.proofs.operation_record.OperationRecord.take_pre.Goals as goal

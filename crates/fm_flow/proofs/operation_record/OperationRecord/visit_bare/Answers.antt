@@ -1,6 +1,4 @@
-use Rattle.std.proofs.Common.{◌≡◌, ◌<◌, length, ap, ◌∙◌, arith}
-use Rattle.fm_flow.specs.Entries.{times, visited}
-use Rattle.fm_flow.specs.Record.{FlowRecord}
+use Rattle.fm_flow.proofs.Words.{◌≡◌, ◌<◌, length, ap, ◌∙◌, arith, times, visited, FlowRecord}
 use Rattle.std.proofs.Common.{rules}
 use Rattle.fm_flow.proofs.Soundness.{sound_bare}
 use Rattle.fm_flow.proofs.operation_record.OperationRecord.visit_bare.Goals as goal

@@ -1,7 +1,8 @@
 -- Two ways of telling what completions carry that agree on each id say the same of the table.
-use Rattle.fm_ctx.proofs.Words.{◌≡◌, ℕ, ◌+◌, Bool, true, false, cond, ◌&&◌, eqb, List, [], ◌∷◌, ◌++◌, Option, Some, None, is_some, refl, sym, ap, ap₂}
-use Rattle.fm_ctx.proofs.Words.{◌∙◌, arith, CtxId, Object, one, held, Context, ContextTable, context_at, link_count, count_in, IsLawful, due_after}
-use Rattle.fm_ctx.proofs.Words.{released, unlinked, unlinked_for, linked, newly, Settles, Sweeps}
+use Rattle.std.proofs.Common.{◌≡◌, ◌+◌, ◌&&◌, ◌∷◌, ◌++◌, ◌∙◌}
+use Rattle.fm_ctx.proofs.Words.{ℕ, Bool, true, false, cond, eqb, List, [], Option, Some, None, is_some, refl, sym, ap, ap₂, arith, CtxId, Object, one}
+use Rattle.fm_ctx.proofs.Words.{held, Context, ContextTable, context_at, link_count, count_in, IsLawful, due_after, released, unlinked, unlinked_for}
+use Rattle.fm_ctx.proofs.Words.{linked, newly, Settles, Sweeps}
 use Rattle.fm_ctx.specs.declared.set_reply.SetMode.{SetMode}
 use Rattle.fm_ctx.specs.declared.set_reply.SetMode.TheVariants.{Keep, Replace}
 use Rattle.fm_ctx.specs.Bags.{is_hand_full}

@@ -1,10 +1,10 @@
 -- What completions carry, after each change of what is kept.
-use Rattle.fm_ctx.proofs.Words.{◌≡◌, ℕ, ◌+◌, ◌-◌, ◌<◌, ◌≤◌, Bool, true, false, cond, eqb, List, [], ◌∷◌, ◌++◌, length, slice_get, Option, Some, None}
-use Rattle.fm_ctx.proofs.Words.{is_some, option_and_then, unwrap_or, refl, sym, ap, ap₂, subst, ◌∙◌, arith, inl, inr, length-append, eq-eqb, ne_eqb}
-use Rattle.fm_ctx.proofs.Words.{cases_Bool, cases_eq, cases_order, true≢false, get_or_from_slice_get, slice_get_within, get_or-set_same, CtxId}
-use Rattle.fm_ctx.proofs.Words.{updated, updated-same, updated-other, slice_get-push, slice_get-append_left, one, is_id, Context, Slot, ContextTable}
-use Rattle.fm_ctx.proofs.Words.{context_in, context_at, ContextsKept, carried_of, carried_more, carried_fewer, IsNew, kept_allocated, cleaned}
-use Rattle.std.proofs.Common.{slice_index, ◌⊎◌, add-zero}
+use Rattle.fm_ctx.proofs.Words.{ℕ, Bool, true, false, cond, eqb, List, [], length, slice_get, Option, Some, None, is_some, option_and_then, unwrap_or}
+use Rattle.fm_ctx.proofs.Words.{refl, sym, ap, ap₂, subst, arith, inl, inr, length-append, eq-eqb, ne_eqb, cases_Bool, cases_eq, cases_order}
+use Rattle.fm_ctx.proofs.Words.{true≢false, get_or_from_slice_get, slice_get_within, get_or-set_same, CtxId, updated, updated-same, updated-other}
+use Rattle.fm_ctx.proofs.Words.{slice_get-push, slice_get-append_left, one, is_id, Context, Slot, ContextTable, context_in, context_at, ContextsKept}
+use Rattle.fm_ctx.proofs.Words.{carried_of, carried_more, carried_fewer, IsNew, kept_allocated, cleaned}
+use Rattle.std.proofs.Common.{◌≡◌, ◌+◌, ◌-◌, ◌<◌, ◌≤◌, ◌∷◌, ◌++◌, ◌∙◌, slice_index, ◌⊎◌, add-zero}
 use Rattle.std.proofs.lemmas.Bool.{eqb-true}
 use Rattle.std.proofs.lemmas.Option.{slice_get-get_or, unwrap_or-slice_get}
 use Rattle.std.proofs.lemmas.List.{get_or-set_other, get_or_past}

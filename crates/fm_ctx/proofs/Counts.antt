@@ -1,10 +1,9 @@
 -- Reference counts after each change of the table.
-use Rattle.fm_ctx.proofs.Words.{◌≡◌, ℕ, ◌+◌, ◌<◌, Bool, true, false, cond, ◌&&◌, eqb, ltb, List, [], ◌∷◌, ◌++◌, length, Option, Some, None, is_some}
-use Rattle.fm_ctx.proofs.Words.{option_map, option_and_then, refl, sym, ap, ◌∙◌, arith, inl, inr, eq-eqb, ne_eqb, lt-ltb, cases_Bool, cases_eq}
-use Rattle.fm_ctx.proofs.Words.{true≢false, CtxId, Object, one, is_id, references, holds, hand_of, Context, Slot, ContextTable, context_at, link_at}
-use Rattle.fm_ctx.proofs.Words.{link_count, count_in, change_context, grabbed, handed_on, released, due_after, with_link, linked, unlinked}
-use Rattle.fm_ctx.proofs.Words.{unlinked_into, with_body, rewritten, newly}
-use Rattle.std.proofs.Common.{append-nil}
+use Rattle.fm_ctx.proofs.Words.{ℕ, Bool, true, false, cond, eqb, ltb, List, [], length, Option, Some, None, is_some, option_map, option_and_then}
+use Rattle.fm_ctx.proofs.Words.{refl, sym, ap, arith, inl, inr, eq-eqb, ne_eqb, lt-ltb, cases_Bool, cases_eq, true≢false, CtxId, Object, one, is_id}
+use Rattle.fm_ctx.proofs.Words.{references, holds, hand_of, Context, Slot, ContextTable, context_at, link_at, link_count, count_in, change_context}
+use Rattle.fm_ctx.proofs.Words.{grabbed, handed_on, released, due_after, with_link, linked, unlinked, unlinked_into, with_body, rewritten, newly}
+use Rattle.std.proofs.Common.{◌≡◌, ◌+◌, ◌<◌, ◌&&◌, ◌∷◌, ◌++◌, ◌∙◌, append-nil}
 use Rattle.fm_ctx.proofs.Bags.{by_id, is_id-refl, references_none, references_cons, held_push, held_without, counted_in_hand}
 use Rattle.fm_ctx.proofs.Slots.{links_changed}
 

@@ -1,9 +1,9 @@
 -- A seat is found along its chain.
-use Rattle.fm_ctx.proofs.Words.{◌≡◌, ℕ, zero, suc, ◌+◌, ◌<◌, ◌≤◌, Bool, true, false, List, [], ◌∷◌, length, get_or, position, count_by, Option, Some}
-use Rattle.fm_ctx.proofs.Words.{None, refl, sym, ap, ◌∙◌, arith, inl, inr, eq-eqb, lt-ltb, le-ltb, IfSome, position_or_len, cases_Bool, cases_lt}
-use Rattle.fm_ctx.proofs.Words.{cases_order, and_parts, true≢false, sum_by-cons, get_or-le-sum_by, Seat, one, same_object, same_owner, chain_of}
-use Rattle.fm_ctx.proofs.Words.{is_seat, stands, last_below, end_of}
-use Rattle.std.proofs.Common.{◌%◌}
+use Rattle.fm_ctx.proofs.Words.{ℕ, zero, suc, Bool, true, false, List, [], length, get_or, position, count_by, Option, Some, None, refl, sym, ap}
+use Rattle.fm_ctx.proofs.Words.{arith, inl, inr, eq-eqb, lt-ltb, le-ltb, IfSome, position_or_len, cases_Bool, cases_lt, cases_order, and_parts}
+use Rattle.fm_ctx.proofs.Words.{true≢false, sum_by-cons, get_or-le-sum_by, Seat, one, same_object, same_owner, chain_of, is_seat, stands, last_below}
+use Rattle.fm_ctx.proofs.Words.{end_of}
+use Rattle.std.proofs.Common.{◌≡◌, ◌+◌, ◌<◌, ◌≤◌, ◌∷◌, ◌∙◌, ◌%◌}
 use Rattle.std.proofs.lemmas.List.Sums.{position_or_len_is}
 use Rattle.fm_ctx.specs.Seats.{object_number, is_on, IsAbove}
 use Rattle.fm_ctx.proofs.Objects.{same_object-same}

@@ -1,10 +1,10 @@
 -- The context of an owner that is linked to an object.
-use Rattle.fm_ctx.proofs.Words.{◌≡◌, ℕ, zero, suc, ◌<◌, ◌≤◌, Bool, true, false, cond, ltb, List, [], ◌∷◌, length, get_or, slice_get, position, All}
-use Rattle.fm_ctx.proofs.Words.{count_by, Option, Some, None, is_some, option_map, option_and_then, unwrap_or, refl, sym, ap, subst, ◌∙◌, arith, inl}
-use Rattle.fm_ctx.proofs.Words.{inr, eq-eqb, position_or_len, cases_Bool, and_parts, true≢false, none-some, same_Some, get_or_from_slice_get, CtxId}
+use Rattle.fm_ctx.proofs.Words.{ℕ, zero, suc, Bool, true, false, cond, ltb, List, [], length, get_or, slice_get, position, All, count_by, Option}
+use Rattle.fm_ctx.proofs.Words.{Some, None, is_some, option_map, option_and_then, unwrap_or, refl, sym, ap, subst, arith, inl, inr, eq-eqb}
+use Rattle.fm_ctx.proofs.Words.{position_or_len, cases_Bool, and_parts, true≢false, none-some, same_Some, get_or_from_slice_get, CtxId}
 use Rattle.fm_ctx.proofs.Words.{slice_get-some, count_by-updated, Object, Owner, one, is_id, references, holds, without, same_owner, Context, Slot}
 use Rattle.fm_ctx.proofs.Words.{context_at, link_at, changed_slot, change_context, has_link, links, id_at, holder, with_link}
-use Rattle.std.proofs.Common.{remove, ltb-false}
+use Rattle.std.proofs.Common.{◌≡◌, ◌<◌, ◌≤◌, ◌∷◌, ◌∙◌, remove, ltb-false}
 use Rattle.std.proofs.lemmas.List.Quantifiers.{position-Some}
 use Rattle.std.proofs.lemmas.List.Sums.{fails_before_first, sum_by-le}
 use Rattle.fm_ctx.specs.Objects.{is_to}

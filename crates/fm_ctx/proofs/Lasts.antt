@@ -1,6 +1,7 @@
 -- The last number below another one that passes a test.
-use Rattle.fm_ctx.proofs.Words.{◌≡◌, ℕ, zero, suc, ◌<◌, ◌≤◌, Bool, true, false, cond, Option, Some, None, refl, sym, ap, ap₂, ◌∙◌, arith, inl, inr}
-use Rattle.fm_ctx.proofs.Words.{cases_eq, none-some, same_Some, last_below}
+use Rattle.std.proofs.Common.{◌≡◌, ◌<◌, ◌≤◌, ◌∙◌}
+use Rattle.fm_ctx.proofs.Words.{ℕ, zero, suc, Bool, true, false, cond, Option, Some, None, refl, sym, ap, ap₂, arith, inl, inr, cases_eq, none-some}
+use Rattle.fm_ctx.proofs.Words.{same_Some, last_below}
 
 -- tests that agree below
 pub last_agrees : (p q : ℕ → Bool) (n : ℕ) → ((k : ℕ) → k < n → p k ≡ q k) → last_below p n ≡ last_below q n

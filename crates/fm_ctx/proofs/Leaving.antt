@@ -1,10 +1,10 @@
 -- Leaving a callback and unlinking many contexts: such changes compose, and keep the laws.
-use Rattle.fm_ctx.proofs.Words.{◌≡◌, ℕ, ◌+◌, ◌<◌, ◌≤◌, Bool, true, false, cond, eqb, List, [], ◌∷◌, ◌++◌, length, set, map, slice_get, All, count_by}
-use Rattle.fm_ctx.proofs.Words.{Option, Some, None, is_some, option_map, option_and_then, refl, sym, ap, ap₂, subst, ◌∙◌, arith, inl, inr, length-set}
-use Rattle.fm_ctx.proofs.Words.{cases_eq, true≢false, none-some, slice_get-map, length-map, get_or-set_same, sum_by-cons, CtxId, Object, Owner, one}
-use Rattle.fm_ctx.proofs.Words.{is_id, holds, hand_of, without, Context, Slot, ContextTable, context_in, context_at, count_in, IsLawful, has_link}
-use Rattle.fm_ctx.proofs.Words.{links, newly, Settles, Sweeps, due_after, released}
-use Rattle.std.proofs.Common.{append_assoc, append-nil, lit≤}
+use Rattle.fm_ctx.proofs.Words.{ℕ, Bool, true, false, cond, eqb, List, [], length, set, map, slice_get, All, count_by, Option, Some, None, is_some}
+use Rattle.fm_ctx.proofs.Words.{option_map, option_and_then, refl, sym, ap, ap₂, subst, arith, inl, inr, length-set, cases_eq, true≢false, none-some}
+use Rattle.fm_ctx.proofs.Words.{slice_get-map, length-map, get_or-set_same, sum_by-cons, CtxId, Object, Owner, one, is_id, holds, hand_of, without}
+use Rattle.fm_ctx.proofs.Words.{Context, Slot, ContextTable, context_in, context_at, count_in, IsLawful, has_link, links, newly, Settles, Sweeps}
+use Rattle.fm_ctx.proofs.Words.{due_after, released}
+use Rattle.std.proofs.Common.{◌≡◌, ◌+◌, ◌<◌, ◌≤◌, ◌∷◌, ◌++◌, ◌∙◌, append_assoc, append-nil, lit≤}
 use Rattle.std.proofs.lemmas.List.{set-set, set-get_or}
 use Rattle.std.proofs.lemmas.List.Elements.{All-set}
 use Rattle.fm_ctx.specs.Settling.{Leaves, more_leaks, swept, swept_slot}

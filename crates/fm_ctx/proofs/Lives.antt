@@ -1,8 +1,9 @@
 -- New contexts, and contexts that are cleaned up, keep the laws.
-use Rattle.fm_ctx.proofs.Words.{◌≡◌, ℕ, ◌+◌, ◌<◌, ◌≤◌, Bool, true, false, cond, ◌&&◌, eqb, List, [], ◌∷◌, ◌++◌, length, slice_get, Option, Some, None}
-use Rattle.fm_ctx.proofs.Words.{is_some, option_map, refl, sym, ap, ap₂, ◌∙◌, arith, eqb-true, ne_eqb, length-set, and_parts, true≢false, none-some}
-use Rattle.fm_ctx.proofs.Words.{CtxId, Object, Owner, one, is_id, hand_of, held, places, cleaning_of, Context, Slot, ContextTable, context_at}
-use Rattle.fm_ctx.proofs.Words.{link_count, count_in, changed_slot, IsLawful, has_link, IsNew, new_slot, placed, emptied, cleaned}
+use Rattle.std.proofs.Common.{◌≡◌, ◌+◌, ◌<◌, ◌≤◌, ◌&&◌, ◌∷◌, ◌++◌, ◌∙◌}
+use Rattle.fm_ctx.proofs.Words.{ℕ, Bool, true, false, cond, eqb, List, [], length, slice_get, Option, Some, None, is_some, option_map, refl, sym, ap}
+use Rattle.fm_ctx.proofs.Words.{ap₂, arith, eqb-true, ne_eqb, length-set, and_parts, true≢false, none-some, CtxId, Object, Owner, one, is_id, hand_of}
+use Rattle.fm_ctx.proofs.Words.{held, places, cleaning_of, Context, Slot, ContextTable, context_at, link_count, count_in, changed_slot, IsLawful}
+use Rattle.fm_ctx.proofs.Words.{has_link, IsNew, new_slot, placed, emptied, cleaned}
 use Rattle.fm_ctx.specs.Laws.{is_waiting}
 use Rattle.fm_ctx.specs.Births.{allocated}
 use Rattle.fm_ctx.specs.Cleanup.{taken_due}

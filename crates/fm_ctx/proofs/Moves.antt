@@ -1,11 +1,10 @@
 -- Changes that keep the laws of contexts.
-use Rattle.fm_ctx.proofs.Words.{◌≡◌, ℕ, ◌+◌, ◌<◌, ◌≤◌, Bool, true, false, cond, ◌&&◌, eqb, List, [], ◌∷◌, ◌++◌, length, slice_get, All, count_by}
-use Rattle.fm_ctx.proofs.Words.{Option, Some, None, is_some, option_map, refl, sym, ap, ap₂, ◌∙◌, arith, inl, inr, ne_eqb, lt-ltb, length-set}
-use Rattle.fm_ctx.proofs.Words.{cases_Bool, cases_eq, and_parts, true≢false, CtxId, Object, Owner, one, is_id, references, holds, hand_of, without}
-use Rattle.fm_ctx.proofs.Words.{places, same_object, same_owner, Context, Slot, ContextTable, context_in, context_at, link_at, count_in, changed_slot}
-use Rattle.fm_ctx.proofs.Words.{change_context, IsLawful, has_link, links, grabbed, handed_on, released, with_link, linked, unlinked, unlinked_into}
-use Rattle.fm_ctx.proofs.Words.{newly, with_body, rewritten}
-use Rattle.std.proofs.Common.{zero-add, add-zero}
+use Rattle.fm_ctx.proofs.Words.{ℕ, Bool, true, false, cond, eqb, List, [], length, slice_get, All, count_by, Option, Some, None, is_some, option_map}
+use Rattle.fm_ctx.proofs.Words.{refl, sym, ap, ap₂, arith, inl, inr, ne_eqb, lt-ltb, length-set, cases_Bool, cases_eq, and_parts, true≢false, CtxId}
+use Rattle.fm_ctx.proofs.Words.{Object, Owner, one, is_id, references, holds, hand_of, without, places, same_object, same_owner, Context, Slot}
+use Rattle.fm_ctx.proofs.Words.{ContextTable, context_in, context_at, link_at, count_in, changed_slot, change_context, IsLawful, has_link, links}
+use Rattle.fm_ctx.proofs.Words.{grabbed, handed_on, released, with_link, linked, unlinked, unlinked_into, newly, with_body, rewritten}
+use Rattle.std.proofs.Common.{◌≡◌, ◌+◌, ◌<◌, ◌≤◌, ◌&&◌, ◌∷◌, ◌++◌, ◌∙◌, zero-add, add-zero}
 use Rattle.fm_types.proofs.Lists.{length-updated}
 use Rattle.fm_ctx.proofs.Bags.{is_id-same, IsSmall, small_push, small_without, places_push}
 use Rattle.fm_ctx.proofs.Objects.{same_object-same, same_owner-same}

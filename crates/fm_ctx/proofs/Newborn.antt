@@ -1,10 +1,10 @@
 -- A new row stands for a new context.
-use Rattle.fm_ctx.proofs.Words.{◌≡◌, ℕ, ◌+◌, ◌<◌, ◌≤◌, ◌&&◌, Bool, true, false, cond, eqb, List, [], ◌∷◌, ◌++◌, length, slice_get, Some, None}
-use Rattle.fm_ctx.proofs.Words.{is_none, option_and_then, refl, sym, ap, ◌∙◌, arith, inl, inr, eq-eqb, ne_eqb, length-append, cases_order, true≢false}
-use Rattle.fm_ctx.proofs.Words.{slice_get_past, length-map, CtxId, slice_get-push, slice_get-append_left, Row, one, is_id, hand_of, Slot}
-use Rattle.fm_ctx.proofs.Words.{ContextsKept, carried_of, is_out_of_slots, IsNew, placed, new_slot, kept_allocated, context_of, slot_of, slots_of}
-use Rattle.fm_ctx.proofs.Words.{carried_in, row_in, row_at, stored, count_of_row, is_referenced, IsSound}
-use Rattle.std.proofs.Common.{◌||◌, not, nat_lt, nat_le, slice_set, leb-false}
+use Rattle.fm_ctx.proofs.Words.{ℕ, Bool, true, false, cond, eqb, List, [], length, slice_get, Some, None, is_none, option_and_then, refl, sym, ap}
+use Rattle.fm_ctx.proofs.Words.{arith, inl, inr, eq-eqb, ne_eqb, length-append, cases_order, true≢false, slice_get_past, length-map, CtxId}
+use Rattle.fm_ctx.proofs.Words.{slice_get-push, slice_get-append_left, Row, one, is_id, hand_of, Slot, ContextsKept, carried_of, is_out_of_slots}
+use Rattle.fm_ctx.proofs.Words.{IsNew, placed, new_slot, kept_allocated, context_of, slot_of, slots_of, carried_in, row_in, row_at, stored}
+use Rattle.fm_ctx.proofs.Words.{count_of_row, is_referenced, IsSound}
+use Rattle.std.proofs.Common.{◌≡◌, ◌+◌, ◌<◌, ◌≤◌, ◌&&◌, ◌∷◌, ◌++◌, ◌∙◌, ◌||◌, not, nat_lt, nat_le, slice_set, leb-false}
 use Rattle.std.proofs.lemmas.Bool.Decides.{nat_tests}
 use Rattle.std.proofs.lemmas.List.{map_push}
 use Rattle.std.proofs.lemmas.List.Sums.{count_by-le-length}

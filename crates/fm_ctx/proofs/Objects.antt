@@ -1,5 +1,6 @@
 -- Objects and owners that a test finds the same are the same.
-use Rattle.fm_ctx.proofs.Words.{◌≡◌, true, sym, eqb-true, true≢false, Object, Owner, same_object, same_owner}
+use Rattle.std.proofs.Common.{◌≡◌}
+use Rattle.fm_ctx.proofs.Words.{true, sym, eqb-true, true≢false, Object, Owner, same_object, same_owner}
 use Rattle.fm_ctx.specs.declared.object.Object.TheVariants.{Volume, Instance, Stream, Handle}
 use Rattle.fm_ctx.specs.declared.owner.Owner.TheVariants as owner
 

@@ -1,7 +1,7 @@
 -- Where nothing was allocated yet.
-use Rattle.fm_ctx.proofs.Words.{◌≡◌, ℕ, zero, suc, List, [], replicate, Option, None, count_by, refl, sym, ◌∙◌, arith, sum_by-cons, CtxId, one}
-use Rattle.fm_ctx.proofs.Words.{references, held, places, context_at, count_in, carried_of, IsLawful, row_at, stored, IsSound}
-use Rattle.std.proofs.Common.{lit≤}
+use Rattle.fm_ctx.proofs.Words.{ℕ, zero, suc, List, [], replicate, Option, None, count_by, refl, sym, arith, sum_by-cons, CtxId, one, references}
+use Rattle.fm_ctx.proofs.Words.{held, places, context_at, count_in, carried_of, IsLawful, row_at, stored, IsSound}
+use Rattle.std.proofs.Common.{◌≡◌, ◌∙◌, lit≤}
 use Rattle.std.proofs.lemmas.List.{length-replicate}
 use Rattle.std.proofs.lemmas.List.Elements.{All-replicate}
 use Rattle.fm_ctx.specs.Bags.{cleans}

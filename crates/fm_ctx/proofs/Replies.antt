@@ -1,5 +1,6 @@
 -- How far a context's life has come.
-use Rattle.fm_ctx.proofs.Words.{◌≡◌, ℕ, Bool, true, false, Option, Some, refl, Context, count_reply_of}
+use Rattle.std.proofs.Common.{◌≡◌}
+use Rattle.fm_ctx.proofs.Words.{ℕ, Bool, true, false, Option, Some, refl, Context, count_reply_of}
 use Rattle.fm_ctx.specs.declared.count.Count.TheVariants.{Due, Cleaning}
 
 pub reply_due : (n : ℕ) (is_due given : Bool) (o : Option Context) (x : Context) → o ≡ Some x → n ≡ 0 → is_due ≡ true → Due ≡ count_reply_of n is_due given o

@@ -1,13 +1,13 @@
 -- Rows stand for slots: which row an id names, and what changes of a row make of the slots.
-use Rattle.fm_ctx.proofs.Words.{◌≡◌, ℕ, zero, suc, ◌+◌, ◌<◌, Bool, true, false, cond, ◌&&◌, eqb, ltb, List, [], ◌∷◌, length, map, get_or, slice_get}
-use Rattle.fm_ctx.proofs.Words.{count_by, Option, Some, None, is_some, is_none, option_map, option_and_then, refl, sym, ap, ap₂, subst, ◌∙◌, arith}
-use Rattle.fm_ctx.proofs.Words.{inl, inr, eq-eqb, ne_eqb, eqb-true, lt-ltb, le-ltb, unwrap_or, position, position_or_len, length-map, sum_by-cons}
-use Rattle.fm_ctx.proofs.Words.{cases_eq, cases_lt, true≢false, none-some, same_Some, slice_get-map, slice_get_within, slice_get_past}
-use Rattle.fm_ctx.proofs.Words.{get_or_from_slice_get, CtxId, updated, updated-same, updated-other, count_by-updated, slice_get-some, Row, one, is_id}
-use Rattle.fm_ctx.proofs.Words.{Context, Slot, context_in, context_at, link_at, changed_slot, change_context, carried_of, Object, Owner, links}
-use Rattle.fm_ctx.proofs.Words.{has_link, id_at, holder, was_given, body_at, context_of, slot_of, slots_of, carried_in, row_in, row_at, count_of_row}
-use Rattle.fm_ctx.proofs.Words.{stored, is_referenced, kept_in}
-use Rattle.std.proofs.Common.{slice_index, leb, le-leb, not}
+use Rattle.fm_ctx.proofs.Words.{ℕ, zero, suc, Bool, true, false, cond, eqb, ltb, List, [], length, map, get_or, slice_get, count_by, Option, Some}
+use Rattle.fm_ctx.proofs.Words.{None, is_some, is_none, option_map, option_and_then, refl, sym, ap, ap₂, subst, arith, inl, inr, eq-eqb, ne_eqb}
+use Rattle.fm_ctx.proofs.Words.{eqb-true, lt-ltb, le-ltb, unwrap_or, position, position_or_len, length-map, sum_by-cons, cases_eq, cases_lt}
+use Rattle.fm_ctx.proofs.Words.{true≢false, none-some, same_Some, slice_get-map, slice_get_within, slice_get_past, get_or_from_slice_get, CtxId}
+use Rattle.fm_ctx.proofs.Words.{updated, updated-same, updated-other, count_by-updated, slice_get-some, Row, one, is_id, Context, Slot, context_in}
+use Rattle.fm_ctx.proofs.Words.{context_at, link_at, changed_slot, change_context, carried_of, Object, Owner, links, has_link, id_at, holder}
+use Rattle.fm_ctx.proofs.Words.{was_given, body_at, context_of, slot_of, slots_of, carried_in, row_in, row_at, count_of_row, stored, is_referenced}
+use Rattle.fm_ctx.proofs.Words.{kept_in}
+use Rattle.std.proofs.Common.{◌≡◌, ◌+◌, ◌<◌, ◌&&◌, ◌∷◌, ◌∙◌, slice_index, leb, le-leb, not}
 use Rattle.std.proofs.lemmas.Bool.{and_right, lt-leb}
 use Rattle.std.proofs.lemmas.Option.{unwrap_or-slice_get}
 use Rattle.fm_ctx.specs.Kept.{ContextsKept}

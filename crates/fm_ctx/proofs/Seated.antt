@@ -1,8 +1,9 @@
 -- The seats of rows, and what changes of a row make of them.
-use Rattle.fm_ctx.proofs.Words.{◌≡◌, ℕ, zero, suc, ◌<◌, ◌≤◌, Bool, true, false, cond, List, [], ◌∷◌, ◌++◌, length, set, get_or, slice_get, position}
-use Rattle.fm_ctx.proofs.Words.{count_by, Option, Some, None, is_some, option_map, refl, sym, ap, subst, ◌∙◌, arith, length-map, sum_by-cons}
-use Rattle.fm_ctx.proofs.Words.{same_Some, slice_get-map, get_or_from_slice_get, CtxId, updated, Object, Owner, Row, Seat, one, links, has_link}
-use Rattle.fm_ctx.proofs.Words.{holder, Slot, context_at, link_count, is_seat, context_of, slot_of, slots_of, linked_row, unlinked_row}
+use Rattle.std.proofs.Common.{◌≡◌, ◌<◌, ◌≤◌, ◌∷◌, ◌++◌, ◌∙◌}
+use Rattle.fm_ctx.proofs.Words.{ℕ, zero, suc, Bool, true, false, cond, List, [], length, set, get_or, slice_get, position, count_by, Option, Some}
+use Rattle.fm_ctx.proofs.Words.{None, is_some, option_map, refl, sym, ap, subst, arith, length-map, sum_by-cons, same_Some, slice_get-map}
+use Rattle.fm_ctx.proofs.Words.{get_or_from_slice_get, CtxId, updated, Object, Owner, Row, Seat, one, links, has_link, holder, Slot, context_at}
+use Rattle.fm_ctx.proofs.Words.{link_count, is_seat, context_of, slot_of, slots_of, linked_row, unlinked_row}
 use Rattle.std.proofs.lemmas.List.{map_push}
 use Rattle.fm_ctx.specs.Seats.{seat_by}
 use Rattle.fm_ctx.specs.Rows.{seat_in, seats_of}

@@ -1,8 +1,9 @@
 -- Setting, finding and deleting contexts keep the laws.
-use Rattle.fm_ctx.proofs.Words.{◌≡◌, ℕ, ◌<◌, ◌≤◌, Bool, true, false, cond, ◌&&◌, length, count_by, Option, Some, None, is_some, IfSome, option_map}
-use Rattle.fm_ctx.proofs.Words.{option_and_then, refl, sym, ap, subst, ◌∙◌, arith, inl, inr, cases_Bool, true≢false, CtxId, Object, Owner, is_id}
-use Rattle.fm_ctx.proofs.Words.{holds, hand_of, held, Context, ContextTable, context_at, link_at, count_in, change_context, IsLawful, has_link}
-use Rattle.fm_ctx.proofs.Words.{grabbed, with_link, holder, unlinked_for, IsFree}
+use Rattle.std.proofs.Common.{◌≡◌, ◌<◌, ◌≤◌, ◌&&◌, ◌∙◌}
+use Rattle.fm_ctx.proofs.Words.{ℕ, Bool, true, false, cond, length, count_by, Option, Some, None, is_some, IfSome, option_map, option_and_then, refl}
+use Rattle.fm_ctx.proofs.Words.{sym, ap, subst, arith, inl, inr, cases_Bool, true≢false, CtxId, Object, Owner, is_id, holds, hand_of, held, Context}
+use Rattle.fm_ctx.proofs.Words.{ContextTable, context_at, link_at, count_in, change_context, IsLawful, has_link, grabbed, with_link, holder}
+use Rattle.fm_ctx.proofs.Words.{unlinked_for, IsFree}
 use Rattle.std.proofs.lemmas.Bool.{leb-false}
 use Rattle.fm_ctx.specs.declared.set_reply.SetMode.{SetMode}
 use Rattle.fm_ctx.specs.declared.set_reply.SetMode.TheVariants.{Keep, Replace}

@@ -1,8 +1,8 @@
 -- What is kept, as the fields show it after each change of one row.
-use Rattle.fm_ctx.proofs.Words.{◌≡◌, ℕ, zero, suc, ◌<◌, cond, eqb, List, [], ◌∷◌, ◌++◌, length, get_or, slice_get, Option, Some, option_map}
-use Rattle.fm_ctx.proofs.Words.{option_and_then, refl, sym, ap, ◌∙◌, arith, length-map, CtxId, updated, get_or_from_slice_get, updated-same, Owner}
-use Rattle.fm_ctx.proofs.Words.{Row, Context, Slot, ContextTable, context_at, count_in, change_context, due_after, slot_of, slots_of, carried_in}
-use Rattle.fm_ctx.proofs.Words.{kept_in, context_of}
+use Rattle.std.proofs.Common.{◌≡◌, ◌<◌, ◌∷◌, ◌++◌, ◌∙◌}
+use Rattle.fm_ctx.proofs.Words.{ℕ, zero, suc, cond, eqb, List, [], length, get_or, slice_get, Option, Some, option_map, option_and_then, refl, sym}
+use Rattle.fm_ctx.proofs.Words.{ap, arith, length-map, CtxId, updated, get_or_from_slice_get, updated-same, Owner, Row, Context, Slot, ContextTable}
+use Rattle.fm_ctx.proofs.Words.{context_at, count_in, change_context, due_after, slot_of, slots_of, carried_in, kept_in, context_of}
 use Rattle.fm_types.proofs.Lists.{length-updated}
 use Rattle.fm_types.specs.declared.context_kind.ContextKind.{ContextKind}
 use Rattle.fm_ctx.specs.declared.due.Due.{Due}

@@ -1,12 +1,12 @@
 -- The rows stand for the contexts after each change of one row.
-use Rattle.fm_ctx.proofs.Words.{◌≡◌, ℕ, ◌+◌, ◌-◌, ◌^◌, ◌<◌, ◌≤◌, Bool, true, false, cond, eqb, ltb, List, [], ◌∷◌, ◌++◌, length, get_or, slice_get}
-use Rattle.fm_ctx.proofs.Words.{count_by, Option, Some, None, is_some, IfSome, refl, sym, ap, subst, ◌∙◌, arith, inl, inr, eq-eqb, ne_eqb, le-ltb}
-use Rattle.fm_ctx.proofs.Words.{length-append, cases_Bool, cases_eq, true≢false, get_or-le-sum_by, CtxId, updated, Object, Row, one, is_id, holds}
-use Rattle.fm_ctx.proofs.Words.{hand_of, cleaning_of, Context, ContextTable, context_at, link_at, link_count, count_in, ContextsKept, carried_of}
-use Rattle.fm_ctx.proofs.Words.{carried_more, carried_fewer, IsLawful, has_link, grabbed, handed_on, released, with_link, linked, unlinked}
-use Rattle.fm_ctx.proofs.Words.{unlinked_into, IsFree, emptied, cleaned, with_body, rewritten, kept_in, row_in, row_at, count_of_row, stored}
-use Rattle.fm_ctx.proofs.Words.{is_referenced, IsSound, raised, lowered, carried_away, brought_back, linked_row, unlinked_row, cleaned_row}
-use Rattle.std.proofs.Common.{length-drop}
+use Rattle.fm_ctx.proofs.Words.{ℕ, Bool, true, false, cond, eqb, ltb, List, [], length, get_or, slice_get, count_by, Option, Some, None, is_some}
+use Rattle.fm_ctx.proofs.Words.{IfSome, refl, sym, ap, subst, arith, inl, inr, eq-eqb, ne_eqb, le-ltb, length-append, cases_Bool, cases_eq}
+use Rattle.fm_ctx.proofs.Words.{true≢false, get_or-le-sum_by, CtxId, updated, Object, Row, one, is_id, holds, hand_of, cleaning_of, Context}
+use Rattle.fm_ctx.proofs.Words.{ContextTable, context_at, link_at, link_count, count_in, ContextsKept, carried_of, carried_more, carried_fewer}
+use Rattle.fm_ctx.proofs.Words.{IsLawful, has_link, grabbed, handed_on, released, with_link, linked, unlinked, unlinked_into, IsFree, emptied}
+use Rattle.fm_ctx.proofs.Words.{cleaned, with_body, rewritten, kept_in, row_in, row_at, count_of_row, stored, is_referenced, IsSound, raised, lowered}
+use Rattle.fm_ctx.proofs.Words.{carried_away, brought_back, linked_row, unlinked_row, cleaned_row}
+use Rattle.std.proofs.Common.{◌≡◌, ◌+◌, ◌-◌, ◌^◌, ◌<◌, ◌≤◌, ◌∷◌, ◌++◌, ◌∙◌, length-drop}
 use Rattle.fm_ctx.specs.Cleanup.{taken_due}
 use Rattle.fm_ctx.proofs.Bags.{by_id, is_id-refl, held_few}
 use Rattle.fm_ctx.proofs.Slots.{there_changed, none_from}

@@ -1,9 +1,9 @@
 -- Sweeps: links go, slot by slot.
-use Rattle.fm_ctx.proofs.Words.{◌≡◌, ℕ, zero, suc, ◌+◌, Bool, true, false, cond, eqb, List, [], ◌∷◌, length, map, slice_get, Option, Some, None}
-use Rattle.fm_ctx.proofs.Words.{is_some, option_map, option_and_then, refl, sym, ap, ◌∙◌, eq-eqb, unwrap_or, and_parts, true≢false, none-some}
-use Rattle.fm_ctx.proofs.Words.{slice_get-map, CtxId, updated, Object, Row, same_owner, Context, Slot, ContextTable, context_in, context_at, link_at}
-use Rattle.fm_ctx.proofs.Words.{changed_slot, change_context, with_link, unlinked, id_at, Settles, Sweeps, link_test, context_of, slot_of, slots_of}
-use Rattle.std.proofs.Common.{add-one}
+use Rattle.fm_ctx.proofs.Words.{ℕ, zero, suc, Bool, true, false, cond, eqb, List, [], length, map, slice_get, Option, Some, None, is_some, option_map}
+use Rattle.fm_ctx.proofs.Words.{option_and_then, refl, sym, ap, eq-eqb, unwrap_or, and_parts, true≢false, none-some, slice_get-map, CtxId, updated}
+use Rattle.fm_ctx.proofs.Words.{Object, Row, same_owner, Context, Slot, ContextTable, context_in, context_at, link_at, changed_slot, change_context}
+use Rattle.fm_ctx.proofs.Words.{with_link, unlinked, id_at, Settles, Sweeps, link_test, context_of, slot_of, slots_of}
+use Rattle.std.proofs.Common.{◌≡◌, ◌+◌, ◌∷◌, ◌∙◌, add-one}
 use Rattle.fm_ctx.specs.declared.row.Links.{Links}
 use Rattle.fm_ctx.specs.declared.row.Links.TheVariants.{To, Of}
 use Rattle.fm_ctx.specs.Objects.{is_to}

@@ -33,7 +33,6 @@ pub use Rattle.fm_types.specs.declared.ids.CtxId.{CtxId}
 pub use Rattle.std.proofs.Common.{All, Bool, IfSome, List, None, Option, Some, [], ap, ap₂, arith, cond, count_by, eq-eqb, eqb, eqb-true, false}
 pub use Rattle.std.proofs.Common.{get_or, inl, inr, is_none, is_some, le-ltb, length, length-append, length-set, lt-ltb, ltb, map, ne_eqb}
 pub use Rattle.std.proofs.Common.{option_and_then, option_map, position, refl, replicate, set, slice_get, subst, suc, sym, true, unwrap_or, zero, ℕ}
-pub use Rattle.std.proofs.Common.{◌&&◌, ◌++◌, ◌+◌, ◌-◌, ◌<◌, ◌^◌, ◌∙◌, ◌∷◌, ◌≡◌, ◌≤◌}
 pub use Rattle.std.proofs.lemmas.Bool.{and_parts, cases_Bool, cases_eq, cases_lt, cases_order, true≢false}
 pub use Rattle.std.proofs.lemmas.List.{get_or-set_same, get_or_default, length-map}
 pub use Rattle.std.proofs.lemmas.List.Sums.{get_or-le-sum_by, sum_by-cons}

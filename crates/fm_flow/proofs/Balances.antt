@@ -1,11 +1,12 @@
 -- By how much a step changes what an operation counts for.
-use Rattle.fm_flow.proofs.Words.{◌≡◌, ℕ, ◌+◌, ◌≤◌, ◌==◌, Bool, true, false, cond, List, [], ◌∷◌, ◌++◌, length, Option, Some, None, Err, find}
-use Rattle.fm_flow.proofs.Words.{slice_get, inl, inr, refl, sym, ap, ◌∙◌, subst, arith, same_Some, InstanceId, WorkerId, WrongStep, BaseCall, Params}
-use Rattle.fm_flow.proofs.Words.{Answer, PostVerdict, Data, Stage, Descending, PreRunning, PreHeld, InBase, Ascending, PostRunning, PostHeld, InDrain}
-use Rattle.fm_flow.proofs.Words.{PreState, Ask, Entry, Base, Drain, Below, HandleId, FlowRecord, one, times, visited, last_visited, owed, instances}
-use Rattle.fm_flow.proofs.Words.{without, ask_of, answers, opens, Turned, turn, post_entry, bare_ask, call_pre, call_base, call_post, give_post}
-use Rattle.fm_flow.proofs.Words.{descend, ascend, unwound, unwound_to, may_take, next_at, next_of, MayLieBelow, pre_returned_of, base_returned_of}
-use Rattle.fm_flow.proofs.Words.{post_state, post_returned_of, drain_returned_of, IsSound, IsCourse}
+use Rattle.std.proofs.Common.{◌≡◌, ◌+◌, ◌≤◌, ◌==◌, ◌∷◌, ◌++◌, ◌∙◌}
+use Rattle.fm_flow.proofs.Words.{ℕ, Bool, true, false, cond, List, [], length, Option, Some, None, Err, find, slice_get, inl, inr, refl, sym, ap}
+use Rattle.fm_flow.proofs.Words.{subst, arith, same_Some, InstanceId, WorkerId, WrongStep, BaseCall, Params, Answer, PostVerdict, Data, Stage}
+use Rattle.fm_flow.proofs.Words.{Descending, PreRunning, PreHeld, InBase, Ascending, PostRunning, PostHeld, InDrain, PreState, Ask, Entry, Base}
+use Rattle.fm_flow.proofs.Words.{Drain, Below, HandleId, FlowRecord, one, times, visited, last_visited, owed, instances, without, ask_of, answers}
+use Rattle.fm_flow.proofs.Words.{opens, Turned, turn, post_entry, bare_ask, call_pre, call_base, call_post, give_post, descend, ascend, unwound}
+use Rattle.fm_flow.proofs.Words.{unwound_to, may_take, next_at, next_of, MayLieBelow, pre_returned_of, base_returned_of, post_state, post_returned_of}
+use Rattle.fm_flow.proofs.Words.{drain_returned_of, IsSound, IsCourse}
 use Rattle.std.proofs.lemmas.Bool.{cases_Bool}
 use Rattle.std.proofs.lemmas.Option.{none-some}
 use Rattle.fm_types.specs.declared.ids.CtxId.{CtxId}

@@ -1,9 +1,10 @@
 -- What each step adds to the references carried and to the operations in flight, and what it takes away.
-use Rattle.fm_flow.proofs.Words.{◌≡◌, ℕ, ◌+◌, ◌≤◌, ◌==◌, Bool, true, false, cond, not, ◌&&◌, List, [], ◌∷◌, ◌++◌, map, reverse, Some, None}
-use Rattle.fm_flow.proofs.Words.{option_to_list, slice_get, inl, inr, refl, sym, ap, ◌∙◌, arith, zero-add, reverse-append, filter_map-append}
-use Rattle.fm_flow.proofs.Words.{nat_tests, Stage, Descending, PreState, PostState, PreVisit, DrainVisit, Ask, Entry, Pre, Base, Post, Drain, one}
-use Rattle.fm_flow.proofs.Words.{times, ask_in, visit_of, post_of, visited, last_visited, asked, posted, owed, instances, is_pre_open, settle_pre}
-use Rattle.fm_flow.proofs.Words.{settle_post, settle_drain, opens, drain_opens, answer_count, IsCourse}
+use Rattle.std.proofs.Common.{◌≡◌, ◌+◌, ◌≤◌, ◌==◌, ◌&&◌, ◌∷◌, ◌++◌, ◌∙◌}
+use Rattle.fm_flow.proofs.Words.{ℕ, Bool, true, false, cond, not, List, [], map, reverse, Some, None, option_to_list, slice_get, inl, inr, refl, sym}
+use Rattle.fm_flow.proofs.Words.{ap, arith, zero-add, reverse-append, filter_map-append, nat_tests, Stage, Descending, PreState, PostState, PreVisit}
+use Rattle.fm_flow.proofs.Words.{DrainVisit, Ask, Entry, Pre, Base, Post, Drain, one, times, ask_in, visit_of, post_of, visited, last_visited, asked}
+use Rattle.fm_flow.proofs.Words.{posted, owed, instances, is_pre_open, settle_pre, settle_post, settle_drain, opens, drain_opens, answer_count}
+use Rattle.fm_flow.proofs.Words.{IsCourse}
 use Rattle.fm_types.specs.declared.ids.CtxId.{CtxId}
 use Rattle.fm_flow.specs.declared.entry.PreState.TheVariants as pre
 use Rattle.fm_flow.specs.declared.entry.PostState.TheVariants as post

@@ -1,11 +1,10 @@
 -- The laws of entries are kept by each step.
-use Rattle.fm_flow.proofs.Words.{◌≡◌, ℕ, ◌+◌, ◌<◌, ◌≤◌, ◌==◌, Bool, true, false, cond, not, ◌&&◌, List, [], ◌∷◌, ◌++◌, length, reverse, filter}
-use Rattle.fm_flow.proofs.Words.{Option, Some, None, option_to_list, inl, inr, refl, sym, ap, ap₂, ◌∙◌, arith, append-nil, zero-add, cons_option}
-use Rattle.fm_flow.proofs.Words.{reverse-append, length-append, nat_tests, Stage, Descending, PreRunning, InBase, Ascending, PostRunning, PreState}
-use Rattle.fm_flow.proofs.Words.{PreVisit, PostVisit, DrainVisit, Status, pre_leads, drain_opens, Ask, Entry, Pre, Base, Post, Drain, one, times}
-use Rattle.fm_flow.proofs.Words.{ask_in, ask_of, is_drained, is_answered, visited, asked, posted, owed, instances, without, walk, way_of}
-use Rattle.fm_flow.proofs.Words.{answer_count, IsCourse, answers, visit_of}
-use Rattle.std.proofs.Common.{append_assoc}
+use Rattle.fm_flow.proofs.Words.{ℕ, Bool, true, false, cond, not, List, [], length, reverse, filter, Option, Some, None, option_to_list, inl, inr}
+use Rattle.fm_flow.proofs.Words.{refl, sym, ap, ap₂, arith, append-nil, zero-add, cons_option, reverse-append, length-append, nat_tests, Stage}
+use Rattle.fm_flow.proofs.Words.{Descending, PreRunning, InBase, Ascending, PostRunning, PreState, PreVisit, PostVisit, DrainVisit, Status, pre_leads}
+use Rattle.fm_flow.proofs.Words.{drain_opens, Ask, Entry, Pre, Base, Post, Drain, one, times, ask_in, ask_of, is_drained, is_answered, visited, asked}
+use Rattle.fm_flow.proofs.Words.{posted, owed, instances, without, walk, way_of, answer_count, IsCourse, answers, visit_of}
+use Rattle.std.proofs.Common.{◌≡◌, ◌+◌, ◌<◌, ◌≤◌, ◌==◌, ◌&&◌, ◌∷◌, ◌++◌, ◌∙◌, append_assoc}
 use Rattle.std.specs.Prelude.{⊤}
 use Rattle.std.proofs.lemmas.List.{map-append}
 use Rattle.std.proofs.lemmas.List.Elements.{filter-append, filter_agree}

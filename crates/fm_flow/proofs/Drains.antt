@@ -1,10 +1,10 @@
 -- What each step adds to the drains that run, and what it takes away.
-use Rattle.fm_flow.proofs.Words.{◌≡◌, ℕ, ◌+◌, ◌≤◌, ◌==◌, ◌&&◌, ◌||◌, Bool, true, false, cond, List, [], ◌∷◌, ◌++◌, map, Option, Some, None, Ok, Err}
-use Rattle.fm_flow.proofs.Words.{slice_get, refl, ap, subst, arith, list_any, InstanceId, WorkerId, Status, WrongStep, Params, Below, Ask, Entry, Pre}
-use Rattle.fm_flow.proofs.Words.{Base, Post, Drain, PreState, PostState, Stage, Descending, Ascending, drain_opens, opens, is_running_drain, one}
-use Rattle.fm_flow.proofs.Words.{owed, settle_pre, settle_post, settle_drain, FlowRecord, Turned, turn, post_entry, bare_ask, call_pre, call_base}
-use Rattle.fm_flow.proofs.Words.{call_post, give_post, descend, ascend, unwound, may_take, next_at, next_of}
-use Rattle.std.proofs.Common.{Result}
+use Rattle.fm_flow.proofs.Words.{ℕ, Bool, true, false, cond, List, [], map, Option, Some, None, Ok, Err, slice_get, refl, ap, subst, arith, list_any}
+use Rattle.fm_flow.proofs.Words.{InstanceId, WorkerId, Status, WrongStep, Params, Below, Ask, Entry, Pre, Base, Post, Drain, PreState, PostState}
+use Rattle.fm_flow.proofs.Words.{Stage, Descending, Ascending, drain_opens, opens, is_running_drain, one, owed, settle_pre, settle_post, settle_drain}
+use Rattle.fm_flow.proofs.Words.{FlowRecord, Turned, turn, post_entry, bare_ask, call_pre, call_base, call_post, give_post, descend, ascend, unwound}
+use Rattle.fm_flow.proofs.Words.{may_take, next_at, next_of}
+use Rattle.std.proofs.Common.{◌≡◌, ◌+◌, ◌≤◌, ◌==◌, ◌&&◌, ◌||◌, ◌∷◌, ◌++◌, Result}
 use Rattle.fm_flow.specs.declared.action.Below.TheVariants as below
 use Rattle.fm_flow.specs.declared.action.FlowAction.{FlowAction}
 use Rattle.fm_flow.specs.declared.action.FlowAction.TheVariants as action

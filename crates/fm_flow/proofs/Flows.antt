@@ -1,11 +1,11 @@
 -- The laws of the table of operations are kept by what the events make of it.
-use Rattle.fm_flow.proofs.Words.{◌≡◌, ℕ, ◌+◌, ◌≤◌, ◌<◌, ◌==◌, ◌||◌, Bool, true, false, cond, not, List, [], ◌∷◌, ◌++◌, Option, Some, None, Err}
-use Rattle.fm_flow.proofs.Words.{length, get_or, refl, ap, sym, ◌∙◌, subst, inl, inr, arith, list_any, same_Some, InstanceId, HandleId, WorkerId}
-use Rattle.fm_flow.proofs.Words.{WrongStep, BaseCall, Params, Answer, PostVerdict, Data, data_fits, Below, Ask, PreState, Stage, Descending}
-use Rattle.fm_flow.proofs.Words.{PreRunning, InBase, Ascending, PostRunning, FlowRecord, visited, owed, times, is_running_drain, MayLieBelow, next_of}
-use Rattle.fm_flow.proofs.Words.{next_at, descend, ascend, call_pre, call_base, call_post, give_post, unwound, unwound_to, may_take, base_fits}
-use Rattle.fm_flow.proofs.Words.{pre_returned_of, post_returned_of, base_returned_of, drain_returned_of, IsSound, marked}
-use Rattle.std.proofs.Common.{zero, suc, count_by}
+use Rattle.fm_flow.proofs.Words.{ℕ, Bool, true, false, cond, not, List, [], Option, Some, None, Err, length, get_or, refl, ap, sym, subst, inl, inr}
+use Rattle.fm_flow.proofs.Words.{arith, list_any, same_Some, InstanceId, HandleId, WorkerId, WrongStep, BaseCall, Params, Answer, PostVerdict, Data}
+use Rattle.fm_flow.proofs.Words.{data_fits, Below, Ask, PreState, Stage, Descending, PreRunning, InBase, Ascending, PostRunning, FlowRecord, visited}
+use Rattle.fm_flow.proofs.Words.{owed, times, is_running_drain, MayLieBelow, next_of, next_at, descend, ascend, call_pre, call_base, call_post}
+use Rattle.fm_flow.proofs.Words.{give_post, unwound, unwound_to, may_take, base_fits, pre_returned_of, post_returned_of, base_returned_of}
+use Rattle.fm_flow.proofs.Words.{drain_returned_of, IsSound, marked}
+use Rattle.std.proofs.Common.{◌≡◌, ◌+◌, ◌≤◌, ◌<◌, ◌==◌, ◌||◌, ◌∷◌, ◌++◌, ◌∙◌, zero, suc, count_by}
 use Rattle.std.specs.Prelude.{All, AllPairs, slice_get, nat_le}
 use Rattle.std.proofs.lemmas.Bool.{false≢true, cases_Bool, eq-eqb, leb-false, and_parts, and_from}
 use Rattle.std.proofs.lemmas.Option.{none-some}

@@ -1,9 +1,8 @@
 -- Lists of numbers in which each is counted, and filters of lists.
-use Rattle.fm_flow.proofs.Words.{◌≡◌, ℕ, ◌+◌, ◌<◌, ◌≤◌, ◌==◌, Bool, true, false, cond, not, ◌&&◌, List, [], ◌∷◌, ◌++◌, length, map, filter, find}
-use Rattle.fm_flow.proofs.Words.{reverse, take, drop, get_or, slice_get, Option, Some, None, option_to_list, inl, inr, refl, sym, ap, ◌∙◌, arith}
-use Rattle.fm_flow.proofs.Words.{zero-add, ap₂, append-nil, reverse-append, filter_map-append, nat_tests, cons_option, Ask, one, times, instances}
-use Rattle.fm_flow.proofs.Words.{without}
-use Rattle.std.proofs.Common.{filter_map, set, ◌⊎◌}
+use Rattle.fm_flow.proofs.Words.{ℕ, Bool, true, false, cond, not, List, [], length, map, filter, find, reverse, take, drop, get_or, slice_get, Option}
+use Rattle.fm_flow.proofs.Words.{Some, None, option_to_list, inl, inr, refl, sym, ap, arith, zero-add, ap₂, append-nil, reverse-append}
+use Rattle.fm_flow.proofs.Words.{filter_map-append, nat_tests, cons_option, Ask, one, times, instances, without}
+use Rattle.std.proofs.Common.{◌≡◌, ◌+◌, ◌<◌, ◌≤◌, ◌==◌, ◌&&◌, ◌∷◌, ◌++◌, ◌∙◌, filter_map, set, ◌⊎◌}
 use Rattle.std.proofs.lemmas.List.Edits.{map_over_more}
 use Rattle.std.proofs.lemmas.List.{get_or_default}
 

@@ -1,11 +1,11 @@
 -- What one more entry makes of the postoperations owed.
-use Rattle.fm_flow.proofs.Words.{◌≡◌, ℕ, ◌+◌, ◌==◌, Bool, true, false, cond, not, ◌&&◌, ◌||◌, List, [], ◌∷◌, ◌++◌, reverse, filter, Option, Some}
-use Rattle.fm_flow.proofs.Words.{None, option_to_list, refl, sym, ap, ◌∙◌, arith, append-nil, zero-add, reverse-append, filter_map-append, Ask, Entry}
-use Rattle.fm_flow.proofs.Words.{Drain, one, ask_of, answers, is_drained, is_answered, asked, owed, without, answer_count, list_any}
+use Rattle.fm_flow.proofs.Words.{ℕ, Bool, true, false, cond, not, List, [], reverse, filter, Option, Some, None, option_to_list, refl, sym, ap, arith}
+use Rattle.fm_flow.proofs.Words.{append-nil, zero-add, reverse-append, filter_map-append, Ask, Entry, Drain, one, ask_of, answers, is_drained}
+use Rattle.fm_flow.proofs.Words.{is_answered, asked, owed, without, answer_count, list_any}
 use Rattle.std.proofs.lemmas.List.Elements.{filter_agree}
 use Rattle.std.proofs.lemmas.List.Folds.{list_any-append}
 use Rattle.fm_flow.specs.Entries.{drains}
-use Rattle.std.proofs.Common.{filter_map}
+use Rattle.std.proofs.Common.{◌≡◌, ◌+◌, ◌==◌, ◌&&◌, ◌||◌, ◌∷◌, ◌++◌, ◌∙◌, filter_map}
 use Rattle.fm_flow.proofs.Lists.{filter_both, filter_map_one}
 
 -- ---- one more entry, list by list

@@ -1,9 +1,9 @@
 -- What a step makes of the postoperations that are owed: a fact on each of them stays, and what `next` hands out was owed.
-use Rattle.fm_flow.proofs.Words.{◌≡◌, ℕ, Bool, true, false, cond, List, ◌∷◌, length, Option, Some, None, Ok, Err, slice_get, refl, sym, ap, ◌∙◌}
-use Rattle.fm_flow.proofs.Words.{subst, InstanceId, WorkerId, Status, WrongStep, Params, Below, Ask, Base, Drain, Stage, Descending, PreRunning}
-use Rattle.fm_flow.proofs.Words.{InBase, Ascending, PostRunning, InDrain, FlowRecord, owed, Turned, turn, call_pre, call_base, call_post, give_post}
-use Rattle.fm_flow.proofs.Words.{descend, ascend, post_entry, may_take, next_at, next_of, unwound, MayLieBelow, IsSound}
-use Rattle.std.proofs.Common.{Result}
+use Rattle.fm_flow.proofs.Words.{ℕ, Bool, true, false, cond, List, length, Option, Some, None, Ok, Err, slice_get, refl, sym, ap, subst, InstanceId}
+use Rattle.fm_flow.proofs.Words.{WorkerId, Status, WrongStep, Params, Below, Ask, Base, Drain, Stage, Descending, PreRunning, InBase, Ascending}
+use Rattle.fm_flow.proofs.Words.{PostRunning, InDrain, FlowRecord, owed, Turned, turn, call_pre, call_base, call_post, give_post, descend, ascend}
+use Rattle.fm_flow.proofs.Words.{post_entry, may_take, next_at, next_of, unwound, MayLieBelow, IsSound}
+use Rattle.std.proofs.Common.{◌≡◌, ◌∷◌, ◌∙◌, Result}
 use Rattle.std.specs.Prelude.{All}
 use Rattle.std.proofs.lemmas.List.Elements.{All-cons, All-head, All-tail}
 use Rattle.fm_flow.specs.declared.action.Below.TheVariants as below

@@ -1,8 +1,7 @@
 -- The place of an operation in the table.
-use Rattle.fm_flow.proofs.Words.{◌≡◌, ℕ, ◌+◌, ◌<◌, ◌≤◌, Bool, true, false, cond, List, length, get_or, take, find, Option, Some, None, option_map, Ok}
-use Rattle.fm_flow.proofs.Words.{Err, refl, ap, sym, ◌∙◌, subst, same_Some, list_any, WrongStep, Answer, is_running_drain, FlowRecord, Stage, IsSound}
-use Rattle.fm_flow.proofs.Words.{StandsAt, marked}
-use Rattle.std.proofs.Common.{set, remove, position, unwrap_or}
+use Rattle.fm_flow.proofs.Words.{ℕ, Bool, true, false, cond, List, length, get_or, take, find, Option, Some, None, option_map, Ok, Err, refl, ap, sym}
+use Rattle.fm_flow.proofs.Words.{subst, same_Some, list_any, WrongStep, Answer, is_running_drain, FlowRecord, Stage, IsSound, StandsAt, marked}
+use Rattle.std.proofs.Common.{◌≡◌, ◌+◌, ◌<◌, ◌≤◌, ◌∙◌, set, remove, position, unwrap_or}
 use Rattle.std.specs.Prelude.{count_by}
 use Rattle.std.proofs.lemmas.List.{get_or_default}
 use Rattle.fm_types.specs.declared.ids.OpId.{OpId}

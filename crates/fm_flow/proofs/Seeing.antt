@@ -1,7 +1,7 @@
 -- What callbacks see of an operation's parameters, through its steps.
-use Rattle.fm_flow.proofs.Words.{◌≡◌, ℕ, ◌≤◌, List, [], ◌∷◌, ◌++◌, length, take, Option, Some, None, Ok, slice_get, refl, ap, ap₂, sym, ◌∙◌, arith}
-use Rattle.fm_flow.proofs.Words.{same_Some, WorkerId, Params, Ask, FlowRecord, unwound, unwound_to, give_post}
-use Rattle.std.proofs.Common.{zero, suc}
+use Rattle.fm_flow.proofs.Words.{ℕ, List, [], length, take, Option, Some, None, Ok, slice_get, refl, ap, ap₂, sym, arith, same_Some, WorkerId, Params}
+use Rattle.fm_flow.proofs.Words.{Ask, FlowRecord, unwound, unwound_to, give_post}
+use Rattle.std.proofs.Common.{◌≡◌, ◌≤◌, ◌∷◌, ◌++◌, ◌∙◌, zero, suc}
 use Rattle.std.specs.Prelude.{unwrap_or}
 use Rattle.fm_data.specs.Data.{answered_data}
 use Rattle.fm_flow.specs.declared.action.FlowAction.TheVariants as action

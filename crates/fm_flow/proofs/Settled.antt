@@ -1,10 +1,10 @@
 -- The laws of entries are kept where a callback that ran or held is settled.
-use Rattle.fm_flow.proofs.Words.{◌≡◌, ℕ, ◌+◌, ◌≤◌, true, cond, ◌||◌, List, [], ◌∷◌, ◌++◌, length, map, Option, Some, None, option_to_list, refl, sym}
-use Rattle.fm_flow.proofs.Words.{ap, ap₂, ◌∙◌, subst, arith, append-nil, cons_option, length-append, filter_map-append, InstanceId, Stage, Descending}
-use Rattle.fm_flow.proofs.Words.{PreRunning, PreHeld, Ascending, InDrain, PreState, PostState, PreVisit, PostVisit, Ask, Entry, Pre, Post, one, times}
-use Rattle.fm_flow.proofs.Words.{ask_in, ask_of, visit_of, post_of, answers, is_drained, is_answered, visited, asked, posted, instances, is_pre_open}
-use Rattle.fm_flow.proofs.Words.{settle_pre, settle_post, settle_drain, pre_leads, post_leads, walk, way_of, answer_count, IsCourse}
-use Rattle.std.proofs.Common.{option_and_then}
+use Rattle.fm_flow.proofs.Words.{ℕ, true, cond, List, [], length, map, Option, Some, None, option_to_list, refl, sym, ap, ap₂, subst, arith}
+use Rattle.fm_flow.proofs.Words.{append-nil, cons_option, length-append, filter_map-append, InstanceId, Stage, Descending, PreRunning, PreHeld}
+use Rattle.fm_flow.proofs.Words.{Ascending, InDrain, PreState, PostState, PreVisit, PostVisit, Ask, Entry, Pre, Post, one, times, ask_in, ask_of}
+use Rattle.fm_flow.proofs.Words.{visit_of, post_of, answers, is_drained, is_answered, visited, asked, posted, instances, is_pre_open, settle_pre}
+use Rattle.fm_flow.proofs.Words.{settle_post, settle_drain, pre_leads, post_leads, walk, way_of, answer_count, IsCourse}
+use Rattle.std.proofs.Common.{◌≡◌, ◌+◌, ◌≤◌, ◌||◌, ◌∷◌, ◌++◌, ◌∙◌, option_and_then}
 use Rattle.std.proofs.lemmas.List.{map-append, length-map}
 use Rattle.std.proofs.lemmas.List.Folds.{list_any-append}
 use Rattle.fm_flow.specs.declared.entry.PreState.TheVariants as pre

@@ -1,12 +1,12 @@
 -- Each step keeps the laws of an operation.
-use Rattle.fm_flow.proofs.Words.{◌≡◌, ℕ, ◌+◌, ◌<◌, ◌≤◌, ◌==◌, Bool, true, false, cond, not, ◌&&◌, List, [], ◌∷◌, ◌++◌, length, map, take, Option}
-use Rattle.fm_flow.proofs.Words.{Some, None, slice_get, refl, sym, ap, ap₂, ◌∙◌, subst, arith, append-nil, length-append, nat_tests, InstanceId}
-use Rattle.fm_flow.proofs.Words.{WorkerId, Status, BaseCall, Params, Answer, PostVerdict, Data, data_fits, Stage, Descending, PreRunning, InBase}
-use Rattle.fm_flow.proofs.Words.{Ascending, PostRunning, InDrain, PreState, PostState, Ask, Entry, Pre, Base, Drain, times, visit_of, visited, owed}
-use Rattle.fm_flow.proofs.Words.{instances, settle_pre, settle_post, HandleId, FlowRecord, pre_leads, post_leads, post_entry, bare_ask, call_pre}
-use Rattle.fm_flow.proofs.Words.{call_base, unwound_to, unwound, give_post, pre_returned_of, base_returned_of, post_state, post_returned_of}
-use Rattle.fm_flow.proofs.Words.{drain_returned_of, base_fits, IsCourse, IsSound}
-use Rattle.std.proofs.Common.{All, is_some, nat_le, unwrap_or}
+use Rattle.fm_flow.proofs.Words.{ℕ, Bool, true, false, cond, not, List, [], length, map, take, Option, Some, None, slice_get, refl, sym, ap, ap₂}
+use Rattle.fm_flow.proofs.Words.{subst, arith, append-nil, length-append, nat_tests, InstanceId, WorkerId, Status, BaseCall, Params, Answer}
+use Rattle.fm_flow.proofs.Words.{PostVerdict, Data, data_fits, Stage, Descending, PreRunning, InBase, Ascending, PostRunning, InDrain, PreState}
+use Rattle.fm_flow.proofs.Words.{PostState, Ask, Entry, Pre, Base, Drain, times, visit_of, visited, owed, instances, settle_pre, settle_post}
+use Rattle.fm_flow.proofs.Words.{HandleId, FlowRecord, pre_leads, post_leads, post_entry, bare_ask, call_pre, call_base, unwound_to, unwound}
+use Rattle.fm_flow.proofs.Words.{give_post, pre_returned_of, base_returned_of, post_state, post_returned_of, drain_returned_of, base_fits, IsCourse}
+use Rattle.fm_flow.proofs.Words.{IsSound}
+use Rattle.std.proofs.Common.{◌≡◌, ◌+◌, ◌<◌, ◌≤◌, ◌==◌, ◌&&◌, ◌∷◌, ◌++◌, ◌∙◌, All, is_some, nat_le, unwrap_or}
 use Rattle.std.proofs.lemmas.List.{length-take}
 use Rattle.std.proofs.lemmas.List.Elements.{All-append, All-take, All-nil, All-push}
 use Rattle.fm_types.proofs.Lists.{all_at}

@@ -1,10 +1,10 @@
 -- What the order of entries says: where the callback stands that runs or holds, and what may follow it.
-use Rattle.fm_flow.proofs.Words.{◌≡◌, ℕ, Bool, true, false, List, [], ◌∷◌, ◌++◌, map, Option, Some, None, option_map, option_to_list, slice_get}
-use Rattle.fm_flow.proofs.Words.{reverse, take, get_or, length, ◌+◌, ◌<◌, append-nil, inl, inr, refl, sym, ap, ap₂, ◌∙◌, reverse-append, InstanceId}
-use Rattle.fm_flow.proofs.Words.{Stage, Descending, PreRunning, PreHeld, Ascending, PostRunning, PostHeld, PreState, PostState, PreVisit, PostVisit}
-use Rattle.fm_flow.proofs.Words.{DrainVisit, Entry, Pre, Post, Drain, visit_of, last_visited, visited, asked, posted, is_pre_open, settle_pre}
-use Rattle.fm_flow.proofs.Words.{settle_post, pre_leads, post_leads, walk, way_of}
-use Rattle.std.proofs.Common.{option_and_then}
+use Rattle.fm_flow.proofs.Words.{ℕ, Bool, true, false, List, [], map, Option, Some, None, option_map, option_to_list, slice_get, reverse, take}
+use Rattle.fm_flow.proofs.Words.{get_or, length, append-nil, inl, inr, refl, sym, ap, ap₂, reverse-append, InstanceId, Stage, Descending, PreRunning}
+use Rattle.fm_flow.proofs.Words.{PreHeld, Ascending, PostRunning, PostHeld, PreState, PostState, PreVisit, PostVisit, DrainVisit, Entry, Pre, Post}
+use Rattle.fm_flow.proofs.Words.{Drain, visit_of, last_visited, visited, asked, posted, is_pre_open, settle_pre, settle_post, pre_leads, post_leads}
+use Rattle.fm_flow.proofs.Words.{walk, way_of}
+use Rattle.std.proofs.Common.{◌≡◌, ◌∷◌, ◌++◌, ◌+◌, ◌<◌, ◌∙◌, option_and_then}
 use Rattle.std.specs.Option.{option_or}
 use Rattle.std.proofs.lemmas.List.{take_more}
 use Rattle.fm_flow.specs.declared.entry.PreState.TheVariants as pre

@@ -31,7 +31,7 @@ pub use Rattle.fm_types.specs.declared.status.Status.{Status}
 pub use Rattle.fm_types.specs.declared.status.Status.TheVariants.{WrongStep}
 pub use Rattle.std.proofs.Common.{Bool, Err, List, None, Ok, Option, Some, [], ap, append-nil, ap₂, arith, cond, drop, false, filter, find, get_or}
 pub use Rattle.std.proofs.Common.{inl, inr, length, map, not, option_map, option_to_list, refl, reverse, slice_get, subst, sym, take, true, zero-add}
-pub use Rattle.std.proofs.Common.{ℕ, ◌&&◌, ◌++◌, ◌+◌, ◌<◌, ◌==◌, ◌||◌, ◌∙◌, ◌∷◌, ◌≡◌, ◌≤◌}
+pub use Rattle.std.proofs.Common.{ℕ}
 pub use Rattle.std.proofs.lemmas.Bool.Decides.{nat_tests}
 pub use Rattle.std.proofs.lemmas.List.{length-append, reverse-append}
 pub use Rattle.std.proofs.lemmas.List.Elements.{filter_map-append}

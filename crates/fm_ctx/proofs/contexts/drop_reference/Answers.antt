@@ -1,4 +1,5 @@
-use Rattle.fm_ctx.proofs.Words.{get_or, refl, sym, ◌∙◌, arith, eqb-true, slice_get-some}
+use Rattle.std.proofs.Common.{◌∙◌}
+use Rattle.fm_ctx.proofs.Words.{get_or, refl, sym, arith, eqb-true, slice_get-some}
 use Rattle.fm_ctx.proofs.contexts.drop_reference.Goals as goal
 
 pub push_back_reserved-requires : goal.push_back_reserved-requires

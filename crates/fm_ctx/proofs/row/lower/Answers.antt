@@ -1,5 +1,6 @@
-use Rattle.fm_ctx.proofs.Words.{◌≡◌, ℕ, ◌-◌, ◌<◌, eqb, get_or, refl, sym, ap, ◌∙◌, arith, inl, inr, eq-eqb, ne_eqb, cases_eq, get_or_default}
-use Rattle.fm_ctx.proofs.Words.{set_is_updated, Row, lowered}
+use Rattle.std.proofs.Common.{◌≡◌, ◌-◌, ◌<◌, ◌∙◌}
+use Rattle.fm_ctx.proofs.Words.{ℕ, eqb, get_or, refl, sym, ap, arith, inl, inr, eq-eqb, ne_eqb, cases_eq, get_or_default, set_is_updated, Row}
+use Rattle.fm_ctx.proofs.Words.{lowered}
 use Rattle.fm_ctx.proofs.row.lower.Goals as goal
 
 last : (n : ℕ) → 0 < n → eqb (n - 1) 0 ≡ eqb n 1

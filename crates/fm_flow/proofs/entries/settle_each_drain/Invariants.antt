@@ -1,4 +1,5 @@
-use Rattle.fm_flow.proofs.Words.{◌≡◌, ◌++◌, map, take, drop, settle_drain}
+use Rattle.std.proofs.Common.{◌≡◌, ◌++◌}
+use Rattle.fm_flow.proofs.Words.{map, take, drop, settle_drain}
 use Rattle.fm_flow.proofs.entries.settle_each_drain.Given as goal
 
 -- the entries before the place are settled

@@ -1,4 +1,5 @@
-use Rattle.fm_flow.proofs.Words.{◌≡◌, ◌++◌, map, take, drop, settle_pre}
+use Rattle.std.proofs.Common.{◌≡◌, ◌++◌}
+use Rattle.fm_flow.proofs.Words.{map, take, drop, settle_pre}
 use Rattle.fm_flow.proofs.entries.settle_each_pre.Given as goal
 
 -- the entries before the place are settled

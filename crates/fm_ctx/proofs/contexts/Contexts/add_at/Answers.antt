@@ -1,5 +1,5 @@
-use Rattle.fm_ctx.proofs.Words.{◌≡◌, ◌≤◌, ◌+◌, List, ℕ, length, refl, sym, ap, ap₂, subst, ◌∙◌, arith, ContextsKept, body_at, with_body, slots_of}
-use Rattle.fm_ctx.proofs.Words.{row_with}
+use Rattle.std.proofs.Common.{◌≡◌, ◌≤◌, ◌+◌, ◌∙◌}
+use Rattle.fm_ctx.proofs.Words.{List, ℕ, length, refl, sym, ap, ap₂, subst, arith, ContextsKept, body_at, with_body, slots_of, row_with}
 use Rattle.fm_ctx.specs.Bodies.{bumped, raised, with_number}
 use Rattle.fm_ctx.proofs.Rows.{row_named, within_rows, body_row}
 use Rattle.fm_ctx.proofs.Sound.{sound_as, sound_rewritten}

@@ -1,6 +1,6 @@
-use Rattle.fm_ctx.proofs.Words.{◌≡◌, ℕ, ◌<◌, ◌≤◌, ◌+◌, ◌++◌, ◌∷◌, [], List, None, false, length, refl, sym, ap, subst, ◌∙◌, arith, length-map, CtxId}
-use Rattle.fm_ctx.proofs.Words.{Row, hand_of, is_out_of_slots, kept_allocated, ContextsKept, context_of, slot_of, slots_of, carried_in, kept_in}
-use Rattle.std.proofs.Common.{rules, deque_capacity, leb-false}
+use Rattle.fm_ctx.proofs.Words.{ℕ, [], List, None, false, length, refl, sym, ap, subst, arith, length-map, CtxId, Row, hand_of, is_out_of_slots}
+use Rattle.fm_ctx.proofs.Words.{kept_allocated, ContextsKept, context_of, slot_of, slots_of, carried_in, kept_in}
+use Rattle.std.proofs.Common.{◌≡◌, ◌<◌, ◌≤◌, ◌+◌, ◌++◌, ◌∷◌, ◌∙◌, rules, deque_capacity, leb-false}
 use Rattle.fm_ctx.specs.Births.{new_context}
 use Rattle.fm_ctx.proofs.Sound.{sound_as}
 use Rattle.fm_ctx.proofs.Shown.{shown, matched}

@@ -1,4 +1,5 @@
-use Rattle.fm_ctx.proofs.Words.{◌≡◌, ap, ◌∙◌, arith, Row, ContextsKept, body_at}
+use Rattle.std.proofs.Common.{◌≡◌, ◌∙◌}
+use Rattle.fm_ctx.proofs.Words.{ap, arith, Row, ContextsKept, body_at}
 use Rattle.fm_ctx.proofs.Rows.{row_named, within_rows, body_row}
 use Rattle.fm_ctx.proofs.contexts.Contexts.body.Goals as goal
 

@@ -1,5 +1,5 @@
-use Rattle.fm_ctx.proofs.Words.{◌<◌, ◌-◌, length, refl, sym, ap, subst, ◌∙◌, arith, hand_of, ContextsKept, carried_of, carried_fewer, grabbed}
-use Rattle.fm_ctx.proofs.Words.{brought_back}
+use Rattle.std.proofs.Common.{◌<◌, ◌-◌, ◌∙◌}
+use Rattle.fm_ctx.proofs.Words.{length, refl, sym, ap, subst, arith, hand_of, ContextsKept, carried_of, carried_fewer, grabbed, brought_back}
 use Rattle.fm_ctx.proofs.Rows.{within_rows}
 use Rattle.fm_ctx.proofs.Sound.{present, live_carried, row_carried, sound_as, sound_brought}
 use Rattle.fm_ctx.proofs.Shown.{shown, slots_kept, carried_by, within_carried}

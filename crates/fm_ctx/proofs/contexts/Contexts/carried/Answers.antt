@@ -1,4 +1,5 @@
-use Rattle.fm_ctx.proofs.Words.{List, ap, ◌∙◌, Row, ContextsKept, carried_of, row_at}
+use Rattle.std.proofs.Common.{◌∙◌}
+use Rattle.fm_ctx.proofs.Words.{List, ap, Row, ContextsKept, carried_of, row_at}
 use Rattle.fm_ctx.proofs.Rows.{uncarried_row, carried_told}
 use Rattle.fm_ctx.proofs.contexts.Contexts.carried.Goals as goal
 

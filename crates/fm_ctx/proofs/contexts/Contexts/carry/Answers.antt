@@ -1,5 +1,5 @@
-use Rattle.fm_ctx.proofs.Words.{◌≡◌, ◌<◌, ◌^◌, ◌+◌, true, refl, sym, ap, subst, ◌∙◌, arith, holds, hand_of, ContextsKept, carried_of, carried_more}
-use Rattle.fm_ctx.proofs.Words.{handed_on, carried_away}
+use Rattle.std.proofs.Common.{◌≡◌, ◌<◌, ◌^◌, ◌+◌, ◌∙◌}
+use Rattle.fm_ctx.proofs.Words.{true, refl, sym, ap, subst, arith, holds, hand_of, ContextsKept, carried_of, carried_more, handed_on, carried_away}
 use Rattle.fm_ctx.proofs.Rows.{within_rows}
 use Rattle.fm_ctx.proofs.Sound.{present, live_held, row_carried, sound_as, sound_carried}
 use Rattle.fm_ctx.proofs.Shown.{shown, slots_kept, carried_by, within_carried}

@@ -1,4 +1,5 @@
-use Rattle.fm_ctx.proofs.Words.{◌≡◌, Some, None, refl, sym, ap, subst, ◌∙◌, arith, cleaning_of, ContextsKept, cleaned, cleaned_row}
+use Rattle.std.proofs.Common.{◌≡◌, ◌∙◌}
+use Rattle.fm_ctx.proofs.Words.{Some, None, refl, sym, ap, subst, arith, cleaning_of, ContextsKept, cleaned, cleaned_row}
 use Rattle.fm_ctx.proofs.Lives.{count_cleaning}
 use Rattle.fm_ctx.proofs.Rows.{within_rows, row_of_context}
 use Rattle.fm_ctx.proofs.Sound.{sound_as, sound_cleaned}

@@ -1,4 +1,5 @@
-use Rattle.fm_ctx.proofs.Words.{count_by, sym, ap, ◌∙◌, Row, ContextsKept}
+use Rattle.std.proofs.Common.{◌∙◌}
+use Rattle.fm_ctx.proofs.Words.{count_by, sym, ap, Row, ContextsKept}
 use Rattle.fm_ctx.specs.Counting.{cleaned_count}
 use Rattle.fm_ctx.proofs.Rows.{cleaned_rows}
 use Rattle.fm_ctx.proofs.contexts.Contexts.cleaned_count.Goals as goal

@@ -1,4 +1,5 @@
-use Rattle.fm_ctx.proofs.Words.{◌≡◌, List, None, option_map, sym, ap, subst, ◌∙◌, arith, Row, holds, context_at, count_in, ContextsKept, carried_of}
+use Rattle.std.proofs.Common.{◌≡◌, ◌∙◌}
+use Rattle.fm_ctx.proofs.Words.{List, None, option_map, sym, ap, subst, arith, Row, holds, context_at, count_in, ContextsKept, carried_of}
 use Rattle.fm_ctx.proofs.Words.{count_reply_of, was_given, row_at, context_of}
 use Rattle.fm_ctx.proofs.Rows.{context_at-rows}
 use Rattle.fm_ctx.proofs.Sound.{count_told}

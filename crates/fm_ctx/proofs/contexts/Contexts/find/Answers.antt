@@ -1,4 +1,5 @@
-use Rattle.fm_ctx.proofs.Words.{ap, option_map, sym, ◌∙◌, ContextsKept, holder}
+use Rattle.std.proofs.Common.{◌∙◌}
+use Rattle.fm_ctx.proofs.Words.{ap, option_map, sym, ContextsKept, holder}
 use Rattle.fm_ctx.proofs.Rows.{first_id}
 use Rattle.fm_ctx.proofs.Seated.{seat_once, holder_seat}
 use Rattle.fm_ctx.proofs.contexts.Contexts.find.Goals as goal

@@ -1,4 +1,5 @@
-use Rattle.fm_ctx.proofs.Words.{◌<◌, length, refl, sym, ap, subst, ◌∙◌, count_in, ContextsKept, carried_of, hand_of, grabbed, raised}
+use Rattle.std.proofs.Common.{◌<◌, ◌∙◌}
+use Rattle.fm_ctx.proofs.Words.{length, refl, sym, ap, subst, count_in, ContextsKept, carried_of, hand_of, grabbed, raised}
 use Rattle.fm_ctx.proofs.Rows.{within_rows}
 use Rattle.fm_ctx.proofs.Sound.{row_present, row_fits, sound_as, sound_grabbed}
 use Rattle.fm_ctx.proofs.Shown.{shown, slots_kept, carried_kept}

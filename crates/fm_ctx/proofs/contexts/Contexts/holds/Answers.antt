@@ -1,5 +1,5 @@
-use Rattle.fm_ctx.proofs.Words.{◌≡◌, ◌<◌, List, [], true, length, is_some, sym, ap, subst, ◌∙◌, arith, get_or_default, CtxId, holds, context_at}
-use Rattle.fm_ctx.proofs.Words.{ContextsKept}
+use Rattle.std.proofs.Common.{◌≡◌, ◌<◌, ◌∙◌}
+use Rattle.fm_ctx.proofs.Words.{List, [], true, length, is_some, sym, ap, subst, arith, get_or_default, CtxId, holds, context_at, ContextsKept}
 use Rattle.fm_ctx.proofs.Sound.{context_there, live_held}
 use Rattle.fm_ctx.proofs.contexts.Contexts.holds.Goals as goal
 

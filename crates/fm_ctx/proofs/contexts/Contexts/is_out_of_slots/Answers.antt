@@ -1,5 +1,5 @@
-use Rattle.fm_ctx.proofs.Words.{sym, ap, ◌∙◌, length-map, is_out_of_slots, ContextsKept, slot_of, slots_of}
-use Rattle.std.proofs.Common.{nat_le}
+use Rattle.fm_ctx.proofs.Words.{sym, ap, length-map, is_out_of_slots, ContextsKept, slot_of, slots_of}
+use Rattle.std.proofs.Common.{◌∙◌, nat_le}
 use Rattle.fm_ctx.proofs.Newborn.{out_of_slots}
 use Rattle.fm_ctx.proofs.contexts.Contexts.is_out_of_slots.Goals as goal
 

@@ -1,5 +1,5 @@
-use Rattle.fm_ctx.proofs.Words.{◌+◌, ◌-◌, ◌^◌, ◌<◌, length, refl, sym, ap, ap₂, subst, ◌∙◌, arith, hand_of, ContextsKept, carried_of}
-use Rattle.std.proofs.Common.{min}
+use Rattle.fm_ctx.proofs.Words.{length, refl, sym, ap, ap₂, subst, arith, hand_of, ContextsKept, carried_of}
+use Rattle.std.proofs.Common.{◌+◌, ◌-◌, ◌^◌, ◌<◌, ◌∙◌, min}
 use Rattle.fm_ctx.proofs.Bags.{without_first}
 use Rattle.fm_ctx.proofs.Carried.{carried_equal}
 use Rattle.fm_ctx.proofs.Leaving.{LeavesSome, leave_none, leave_more, leave_all, no_first, hand_shorter}

@@ -1,4 +1,5 @@
-use Rattle.fm_ctx.proofs.Words.{◌≡◌, length, hand_of, carried_of}
+use Rattle.std.proofs.Common.{◌≡◌}
+use Rattle.fm_ctx.proofs.Words.{length, hand_of, carried_of}
 use Rattle.fm_ctx.proofs.Leaving.{LeavesSome}
 use Rattle.fm_ctx.proofs.contexts.Contexts.leave.Given as goal
 

@@ -1,4 +1,5 @@
-use Rattle.fm_ctx.proofs.Words.{◌≡◌, true, refl, sym, ap, subst, ◌∙◌, holds, hand_of, ContextsKept, carried_of, released, kept_in, lowered}
+use Rattle.std.proofs.Common.{◌≡◌, ◌∙◌}
+use Rattle.fm_ctx.proofs.Words.{true, refl, sym, ap, subst, holds, hand_of, ContextsKept, carried_of, released, kept_in, lowered}
 use Rattle.fm_ctx.proofs.Rows.{within_rows}
 use Rattle.fm_ctx.proofs.Sound.{present, live_held, row_positive, read_count, due_fits, sound_as, sound_fits, sound_released}
 use Rattle.fm_ctx.proofs.Shown.{shown, slots_kept, carried_kept, due_by}

@@ -1,5 +1,6 @@
-use Rattle.fm_ctx.proofs.Words.{◌<◌, Option, Some, is_some, arith, refl, sym, ap, subst, ◌∙◌, count_in, ContextsKept, carried_of, with_link, linked}
-use Rattle.fm_ctx.proofs.Words.{IsFree, linked_row, link_count, one, Object}
+use Rattle.std.proofs.Common.{◌<◌, ◌∙◌}
+use Rattle.fm_ctx.proofs.Words.{Option, Some, is_some, arith, refl, sym, ap, subst, count_in, ContextsKept, carried_of, with_link, linked, IsFree}
+use Rattle.fm_ctx.proofs.Words.{linked_row, link_count, one, Object}
 use Rattle.fm_ctx.proofs.Rows.{within_rows}
 use Rattle.fm_ctx.proofs.Sound.{row_present, present, row_fits, free_link, sound_as, sound_linked}
 use Rattle.fm_ctx.proofs.Shown.{shown, slots_of_context, carried_kept}

@@ -1,4 +1,5 @@
-use Rattle.fm_ctx.proofs.Words.{List, None, Some, ap, ◌∙◌, Row, link_at, ContextsKept, row_at}
+use Rattle.std.proofs.Common.{◌∙◌}
+use Rattle.fm_ctx.proofs.Words.{List, None, Some, ap, Row, link_at, ContextsKept, row_at}
 use Rattle.fm_ctx.proofs.Rows.{linked_row_is}
 use Rattle.fm_ctx.proofs.contexts.Contexts.link_of.Goals as goal
 

@@ -1,4 +1,5 @@
-use Rattle.fm_ctx.proofs.Words.{List, None, Some, option_map, ap, ◌∙◌, Row, Context, context_at, ContextsKept, row_at}
+use Rattle.std.proofs.Common.{◌∙◌}
+use Rattle.fm_ctx.proofs.Words.{List, None, Some, option_map, ap, Row, Context, context_at, ContextsKept, row_at}
 use Rattle.fm_ctx.proofs.Rows.{told_row}
 use Rattle.fm_ctx.proofs.contexts.Contexts.owner_of.Goals as goal
 

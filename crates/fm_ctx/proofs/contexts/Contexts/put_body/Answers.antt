@@ -1,4 +1,5 @@
-use Rattle.fm_ctx.proofs.Words.{◌≡◌, List, ℕ, length, refl, sym, ap, ◌∙◌, ContextsKept, body_at, rewritten, with_body, row_with}
+use Rattle.std.proofs.Common.{◌≡◌, ◌∙◌}
+use Rattle.fm_ctx.proofs.Words.{List, ℕ, length, refl, sym, ap, ContextsKept, body_at, rewritten, with_body, row_with}
 use Rattle.fm_ctx.proofs.Rows.{row_named, within_rows, body_row}
 use Rattle.fm_ctx.proofs.Sound.{sound_as, sound_rewritten}
 use Rattle.fm_ctx.proofs.Shown.{shown, slots_of_context, carried_kept, emptied_to}

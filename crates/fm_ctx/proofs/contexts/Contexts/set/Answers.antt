@@ -1,4 +1,5 @@
-use Rattle.fm_ctx.proofs.Words.{◌<◌, sym, subst, count_in, ContextsKept, carried_of, IsFree, unlinked_for}
+use Rattle.std.proofs.Common.{◌<◌}
+use Rattle.fm_ctx.proofs.Words.{sym, subst, count_in, ContextsKept, carried_of, IsFree, unlinked_for}
 use Rattle.fm_ctx.proofs.Counts.{count_held}
 use Rattle.fm_ctx.proofs.Moves.{within_hands}
 use Rattle.fm_ctx.proofs.Holders.{holder_linked}

@@ -1,4 +1,5 @@
-use Rattle.fm_ctx.proofs.Words.{◌≡◌, ◌+◌, length, refl, sym, ap, subst, ◌∙◌, arith, CtxId, ContextsKept, carried_of, link_test}
+use Rattle.std.proofs.Common.{◌≡◌, ◌+◌, ◌∙◌}
+use Rattle.fm_ctx.proofs.Words.{length, refl, sym, ap, subst, arith, CtxId, ContextsKept, carried_of, link_test}
 use Rattle.fm_ctx.proofs.Carried.{carried_there, carried_numbers}
 use Rattle.fm_ctx.proofs.Sweeping.{SweptUpto, tested_linked, length-swept, sweep_none, sweep_more, sweep_all, swept_there}
 use Rattle.fm_ctx.proofs.contexts.Contexts.sweep.Goals as goal

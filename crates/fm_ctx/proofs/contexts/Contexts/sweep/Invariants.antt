@@ -1,4 +1,5 @@
-use Rattle.fm_ctx.proofs.Words.{◌≡◌, length, carried_of, link_test}
+use Rattle.std.proofs.Common.{◌≡◌}
+use Rattle.fm_ctx.proofs.Words.{length, carried_of, link_test}
 use Rattle.fm_ctx.proofs.Sweeping.{SweptUpto}
 use Rattle.fm_ctx.proofs.contexts.Contexts.sweep.Given as goal
 

@@ -1,5 +1,6 @@
-use Rattle.fm_ctx.proofs.Words.{◌≡◌, ◌<◌, true, length, is_some, sym, ap, subst, ◌∙◌, arith, refl, length-map, ContextTable, link_at, ContextsKept}
-use Rattle.fm_ctx.proofs.Words.{carried_of, id_at, link_test, slot_of}
+use Rattle.std.proofs.Common.{◌≡◌, ◌<◌, ◌∙◌}
+use Rattle.fm_ctx.proofs.Words.{true, length, is_some, sym, ap, subst, arith, refl, length-map, ContextTable, link_at, ContextsKept, carried_of}
+use Rattle.fm_ctx.proofs.Words.{id_at, link_test, slot_of}
 use Rattle.std.proofs.lemmas.Option.{slice_get_read}
 use Rattle.fm_ctx.specs.Sweep.{passes, context_of_slot}
 use Rattle.fm_ctx.proofs.Rows.{first_id, id_at-rows}

@@ -1,5 +1,6 @@
-use Rattle.fm_ctx.proofs.Words.{◌≡◌, ℕ, List, Some, None, slice_get, refl, sym, ap, subst, ◌∙◌, arith, CtxId, Row, cleaning_of, ContextsKept, emptied}
-use Rattle.fm_ctx.proofs.Words.{row_with, kept_in}
+use Rattle.std.proofs.Common.{◌≡◌, ◌∙◌}
+use Rattle.fm_ctx.proofs.Words.{ℕ, List, Some, None, slice_get, refl, sym, ap, subst, arith, CtxId, Row, cleaning_of, ContextsKept, emptied, row_with}
+use Rattle.fm_ctx.proofs.Words.{kept_in}
 use Rattle.std.specs.Global.{Vec}
 use Rattle.fm_ctx.specs.Cleanup.{due_reply, taken_of, after_take_due}
 use Rattle.fm_ctx.proofs.Lives.{due_there}

@@ -1,5 +1,6 @@
-use Rattle.fm_ctx.proofs.Words.{◌≡◌, true, None, is_some, refl, sym, ap, subst, ◌∙◌, updated, link_at, ContextsKept, carried_of, with_link, unlinked}
-use Rattle.fm_ctx.proofs.Words.{kept_in, lowered, unlinked_row}
+use Rattle.std.proofs.Common.{◌≡◌, ◌∙◌}
+use Rattle.fm_ctx.proofs.Words.{true, None, is_some, refl, sym, ap, subst, updated, link_at, ContextsKept, carried_of, with_link, unlinked, kept_in}
+use Rattle.fm_ctx.proofs.Words.{lowered, unlinked_row}
 use Rattle.fm_ctx.proofs.Rows.{within_rows}
 use Rattle.fm_ctx.proofs.Sound.{row_linked, dropped_row, present, live_linked, row_positive, read_count, due_fits, sound_as, sound_fits, sound_unlinked}
 use Rattle.fm_ctx.proofs.Shown.{shown, slots_of_context, carried_kept, due_by, updated_twice, within_updated}

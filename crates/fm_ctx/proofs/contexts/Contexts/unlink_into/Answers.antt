@@ -1,5 +1,6 @@
-use Rattle.fm_ctx.proofs.Words.{◌≡◌, ◌<◌, true, None, length, is_some, refl, sym, ap, subst, ◌∙◌, hand_of, link_at, ContextsKept, with_link}
-use Rattle.fm_ctx.proofs.Words.{unlinked_into, unlinked_row}
+use Rattle.std.proofs.Common.{◌≡◌, ◌<◌, ◌∙◌}
+use Rattle.fm_ctx.proofs.Words.{true, None, length, is_some, refl, sym, ap, subst, hand_of, link_at, ContextsKept, with_link, unlinked_into}
+use Rattle.fm_ctx.proofs.Words.{unlinked_row}
 use Rattle.fm_ctx.proofs.Rows.{within_rows}
 use Rattle.fm_ctx.proofs.Sound.{row_linked, present, live_linked, sound_as, sound_unlinked_into}
 use Rattle.fm_ctx.proofs.Shown.{shown, slots_of_context, carried_kept}

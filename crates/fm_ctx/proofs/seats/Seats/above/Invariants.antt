@@ -1,4 +1,5 @@
-use Rattle.fm_ctx.proofs.Words.{◌≡◌, ◌<◌, true, length, IfSome, stands, last_below, end_of}
+use Rattle.std.proofs.Common.{◌≡◌, ◌<◌}
+use Rattle.fm_ctx.proofs.Words.{true, length, IfSome, stands, last_below, end_of}
 use Rattle.fm_ctx.proofs.Lasts.{height}
 use Rattle.fm_ctx.proofs.seats.Seats.above.Given as goal
 

@@ -1,4 +1,5 @@
-use Rattle.fm_ctx.proofs.Words.{◌++◌, ◌∷◌, [], List, Option, None, ℕ, ap, ◌∙◌, Seat}
+use Rattle.std.proofs.Common.{◌++◌, ◌∷◌, ◌∙◌}
+use Rattle.fm_ctx.proofs.Words.{[], List, Option, None, ℕ, ap, Seat}
 use Rattle.fm_ctx.proofs.Chains.{chained_as, chained_more}
 use Rattle.fm_ctx.proofs.seats.Seats.add.Goals as goal
 

@@ -1,4 +1,5 @@
-use Rattle.fm_ctx.proofs.Words.{List, Option, None, ap, get_or, sym, subst, ◌∙◌, get_or_default, Seat, IsChained}
+use Rattle.std.proofs.Common.{◌∙◌}
+use Rattle.fm_ctx.proofs.Words.{List, Option, None, ap, get_or, sym, subst, get_or_default, Seat, IsChained}
 use Rattle.fm_ctx.proofs.Chains.{chained_taken}
 use Rattle.fm_ctx.proofs.seats.Seats.take.Goals as goal
 

@@ -1,4 +1,5 @@
-use Rattle.fm_flow.proofs.Words.{sym, ap, refl, ◌∙◌, ◌≡◌, List, Err, true, false, list_any, WrongStep, is_running_drain, FlowRecord, marked}
+use Rattle.std.proofs.Common.{◌∙◌, ◌≡◌}
+use Rattle.fm_flow.proofs.Words.{sym, ap, refl, List, Err, true, false, list_any, WrongStep, is_running_drain, FlowRecord, marked}
 use Rattle.fm_flow.specs.Table.{collect_reply}
 use Rattle.fm_flow.proofs.Places.{missing, told_none, collected_none, found, itself, same_place, collect_refused, collect_told, collect_marked, collect_removed, flow_collected}
 use Rattle.fm_flow.proofs.flow.Flow.collect.Goals as goal

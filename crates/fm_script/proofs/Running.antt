@@ -19,7 +19,7 @@ use Rattle.fm_world.specs.declared.step.StepReply.TheVariants as reply
 use Rattle.fm_session.specs.Sessions.{Lending, ReturnsPre, ReturnsPost, ReturnsBase, pre_in, post_in, base_in, lent_to}
 use Rattle.fm_script.specs.Devices.{Calls}
 use Rattle.fm_script.specs.Events.{Names, RunsBy, TasksAreRuns}
-use Rattle.fm_script.specs.Runs.{Accepts, Acts, Goes, IsTurn, Turns, worker_0}
+use Rattle.fm_script.specs.Runs.{Performs, Accepts, Acts, Goes, IsTurn, Turns, worker_0}
 use Rattle.fm_script.specs.declared.devices.Devices.{Devices}
 use Rattle.fm_script.specs.declared.interpreter.Interpreter.{Interpreter}
 use Rattle.fm_script.specs.declared.task.Task.{Task}
@@ -137,23 +137,25 @@ still t old new same = runs_by t old new (none (Names t) old.session.world new.s
 acts_by : (t : Task) (old new : Interpreter) → Acts t old new → RunsBy t old new
 acts_by t old new acts = runs_by t old new (acts_run t old new (λ s is. is) acts)
 
-pub tasks_are_runs : TasksAreRuns
-unfolding TasksAreRuns
-tasks_are_runs (task.Event s) old new (inl acts) = acts_by (task.Event s) old new acts
-tasks_are_runs (task.Event s) old new (inr stays) = still (task.Event s) old new stays.0.session
-tasks_are_runs (task.Attach f v name altitude) old new (result, (r, mid, attaches, accepts), _, _) =
+performed : (t : Task) (old new : Interpreter) → Performs t old new → RunsBy t old new
+performed (task.Event s) old new acts = acts_by (task.Event s) old new acts
+performed (task.Attach f v name altitude) old new (result, (r, mid, attaches, accepts), _, _) =
     runs_by (task.Attach f v name altitude) old new
     (both (one (Names (task.Attach f v name altitude)) old.session.world mid (step.Attach worker_0 f v name altitude) (reply.Instance r) (inl refl) attaches)
     (accepts_run mid new.session.world r result (inr refl) accepts))
-tasks_are_runs (task.Next k o) old new acts = acts_by (task.Next k o) old new acts
-tasks_are_runs (task.Pre k answer) old new acts = acts_by (task.Pre k answer) old new acts
-tasks_are_runs (task.Base k) old new acts = acts_by (task.Base k) old new acts
-tasks_are_runs (task.Post k) old new acts = acts_by (task.Post k) old new acts
-tasks_are_runs (task.Go k o) old new goes = runs_by (task.Go k o) old new (goes_run k o old new goes)
-tasks_are_runs (task.Plan i answer) old new (inl plans) = still (task.Plan i answer) old new plans.manager.session
-tasks_are_runs (task.Plan i answer) old new (inr stays) = still (task.Plan i answer) old new stays.0.session
-tasks_are_runs (task.Phase i) old new stays = still (task.Phase i) old new stays.0.session
-tasks_are_runs (task.Count c) old new stays = still (task.Count c) old new stays.0.session
-tasks_are_runs task.Leaks old new stays = still task.Leaks old new stays.0.session
-tasks_are_runs task.Failures old new stays = still task.Failures old new stays.0.session
-tasks_are_runs (task.Fail n) old new fails = still (task.Fail n) old new fails.session
+performed (task.Next k o) old new acts = acts_by (task.Next k o) old new acts
+performed (task.Pre k answer) old new acts = acts_by (task.Pre k answer) old new acts
+performed (task.Base k) old new acts = acts_by (task.Base k) old new acts
+performed (task.Post k) old new acts = acts_by (task.Post k) old new acts
+performed (task.Go k o) old new goes = runs_by (task.Go k o) old new (goes_run k o old new goes)
+performed (task.Plan i answer) old new plans = still (task.Plan i answer) old new plans.manager.session
+performed (task.Phase i) old new stays = still (task.Phase i) old new stays.0.session
+performed (task.Count c) old new stays = still (task.Count c) old new stays.0.session
+performed task.Leaks old new stays = still task.Leaks old new stays.0.session
+performed task.Failures old new stays = still task.Failures old new stays.0.session
+performed (task.Fail n) old new fails = still (task.Fail n) old new fails.session
+
+pub tasks_are_runs : TasksAreRuns
+unfolding TasksAreRuns
+tasks_are_runs t result old new (inl performs) = performed t old new performs
+tasks_are_runs t result old new (inr (ended, stays)) = still t old new stays.0.session

@@ -1,6 +1,6 @@
 -- The events that a line stands for: whatever a task makes of the manager's state is a run of events that it names, and of a `go` those of its worker
 -- and its operation.
-use Rattle.std.specs.Prelude.{◌≡◌, ◌⊎◌, true, List, Option}
+use Rattle.std.specs.Prelude.{◌≡◌, ◌⊎◌, true, List, Option, Result}
 use Rattle.std.specs.List.{AllByRecursion}
 use Rattle.fm_types.specs.declared.ids.WorkerId.{WorkerId}
 use Rattle.fm_data.specs.Data.{Data}
@@ -12,8 +12,9 @@ use Rattle.fm_world.specs.Steps.{Run}
 use Rattle.fm_world.specs.declared.step.Step.{Step}
 use Rattle.fm_world.specs.declared.step.Step.TheVariants as step
 use Rattle.fm_world.specs.declared.step.StepReply.{StepReply}
-use Rattle.fm_script.specs.Runs.{Performs, worker_0}
+use Rattle.fm_script.specs.Runs.{PerformsOr, worker_0}
 use Rattle.fm_script.specs.declared.interpreter.Interpreter.{Interpreter}
+use Rattle.fm_script.specs.declared.script_end.ScriptEnd.{ScriptEnd}
 use Rattle.fm_script.specs.declared.task.Task.{Task}
 use Rattle.fm_script.specs.declared.task.Task.TheVariants as task
 
@@ -45,4 +46,4 @@ pub record RunsBy (t : Task) (old new : Interpreter) : Type 0 where
   pub named : AllByRecursion (Names t) steps
 
 unfoldable pub TasksAreRuns : Type 0
-TasksAreRuns = (t : Task) (old new : Interpreter) → Performs t old new → RunsBy t old new
+TasksAreRuns = (t : Task) (result : Result (Unit {0}) ScriptEnd) (old new : Interpreter) → PerformsOr t result old new → RunsBy t old new

@@ -13,6 +13,7 @@ use Rattle.fm_script.specs.declared.context_command.ContextCommand.TheVariants a
 use Rattle.fm_script.specs.declared.file_command.FileCommand.TheVariants as file
 use Rattle.fm_script.specs.declared.task.Task.{Task}
 use Rattle.fm_script.specs.declared.interpreter.Interpreter.{Interpreter}
+use Rattle.fm_script.specs.declared.script_end.ScriptEnd.{ScriptEnd}
 
 -- a line that asks for nothing
 abbrev pub is_silent : List ℕ → Bool
@@ -51,10 +52,10 @@ abbrev pub OrMemory : {T : Type 0} → Result T Status → Type 0 → Type 0
 OrMemory (Err NoMemory) P = Unit {0}
 OrMemory r P = P
 
-abbrev pub RunsWords : List (List ℕ) → Interpreter → Interpreter → Type 0
-RunsWords words old new = (r : Result Task Status) × OrMemory r (ReadsTask words old r) × PerformsRead r old new
+abbrev pub RunsWords : List (List ℕ) → Result (Unit {0}) ScriptEnd → Interpreter → Interpreter → Type 0
+RunsWords words result old new = (r : Result Task Status) × OrMemory r (ReadsTask words old r) × PerformsRead r result old new
 
 -- what a line makes
-abbrev pub RunsLine : List ℕ → Interpreter → Interpreter → Type 0
-RunsLine line old new =
-    Either (nat_lt 4096 (length line)) (new ≡ old) (Either (is_silent line) (new ≡ old) (RunsWords (words_of line) old new))
+abbrev pub RunsLine : List ℕ → Result (Unit {0}) ScriptEnd → Interpreter → Interpreter → Type 0
+RunsLine line result old new =
+    Either (nat_lt 4096 (length line)) (new ≡ old) (Either (is_silent line) (new ≡ old) (RunsWords (words_of line) result old new))

@@ -1,6 +1,6 @@
 -- What the lines of a script make of the manager's state, of what its workers were lent, and of the devices: each is a run of events, and the devices
 -- change by the calls alone that a `next` gave.
-use Rattle.std.specs.Prelude.{◌≡◌, ◌⊎◌, ℕ, ◌==◌, ◌++◌, Bool, true, false, List, [], ◌∷◌, Result, Ok, Err, slice_index_or}
+use Rattle.std.specs.Prelude.{◌≡◌, ◌⊎◌, ℕ, ◌==◌, ◌++◌, Bool, true, false, List, [], ◌∷◌, Result, Ok, Err, cond, nat_lt, slice_index_or}
 use Rattle.fm_types.specs.declared.ids.CtxId.{CtxId}
 use Rattle.fm_types.specs.declared.ids.FilterId.{FilterId}
 use Rattle.fm_types.specs.declared.ids.VolumeId.{VolumeId}
@@ -21,14 +21,23 @@ use Rattle.fm_session.specs.declared.lent.Given.{Given}
 use Rattle.fm_session.specs.Sessions.{LendsNext, LentPreReturns, LentPostReturns, LentBaseReturns}
 use Rattle.fm_script.specs.Devices.{Calls}
 use Rattle.fm_script.specs.Commands.{with_callback}
+use Rattle.fm_script.specs.declared.devices.Devices.{Devices}
 use Rattle.fm_script.specs.declared.interpreter.Interpreter.{Interpreter}
+use Rattle.fm_script.specs.declared.script_end.ScriptEnd.{ScriptEnd}
+use Rattle.fm_script.specs.declared.script_end.ScriptEnd.TheVariants.{NoMemory}
 use Rattle.fm_script.specs.declared.task.Task.{Task}
 use Rattle.fm_script.specs.declared.task.Task.TheVariants as task
 
--- nothing of these three changes; the script's own lists may
+-- the devices stay, and which of their calls will fail
+pub record KeepsDevices (old new : Devices) : Type 0 where
+  pub folders : new.folders ≡ old.folders
+  pub counts : (new.calls ≡ old.calls) × (new.failures ≡ old.failures)
+  pub failing : new.failing.items ≡ old.failing.items
+
+-- the manager's state, what its workers were lent, and the devices stay
 pub record KeepsManager (old new : Interpreter) : Type 0 where
   pub session : new.session ≡ old.session
-  pub devices : new.devices ≡ old.devices
+  pub devices : KeepsDevices old.devices new.devices
 
 -- the script's own lists stay
 pub record KeepsLists (old new : Interpreter) : Type 0 where
@@ -73,7 +82,7 @@ abbrev pub AttachesAndAccepts : World → FilterId → VolumeId → List ℕ →
 AttachesAndAccepts old f v name altitude result new =
     (r : Result InstanceId Status) × (mid : World) × Attaches old worker_0 f v name altitude r mid × Accepts mid r result new
 
--- ---- what a task makes
+-- ---- tasks
 
 abbrev pub BySession : Interpreter → Interpreter → Type 0
 BySession old new = (new.devices ≡ old.devices) × KeepsLists old new
@@ -115,31 +124,37 @@ pub record Plans (old : Interpreter) (i : InstanceId) (answer : PreVerdict) (new
   pub plan : planned new.plans.items i ≡ answer
   pub others : (other : InstanceId) → (other.0 == i.0) ≡ false → planned new.plans.items other ≡ planned old.plans.items other
 
--- a device call will fail
-pub record Fails (old new : Interpreter) : Type 0 where
+-- the device call of that number will fail, unless it was made already
+pub record Fails (old : Interpreter) (n : ℕ) (new : Interpreter) : Type 0 where
   pub session : new.session ≡ old.session
   pub folders : new.devices.folders ≡ old.devices.folders
+  pub counts : (new.devices.calls ≡ old.devices.calls) × (new.devices.failures ≡ old.devices.failures)
   pub lists : KeepsLists old new
+  pub failing : new.devices.failing.items ≡ cond (nat_lt old.devices.calls n) (old.devices.failing.items ++ n ∷ []) old.devices.failing.items
 
--- want of memory for a note of the script's own leaves all as it was
+-- what a task makes
 abbrev pub Performs : Task → Interpreter → Interpreter → Type 0
 Performs (task.Attach f v name altitude) old new =
     (r : Result InstanceId Status) × AttachesAndAccepts old.session.world f v name altitude r new.session.world
     × (new.session.lent ≡ old.session.lent) × BySession old new
 Performs (task.Go k o) old new = Goes k o old new
-Performs (task.Plan i answer) old new = Plans old i answer new ⊎ Stays old new
-Performs (task.Fail n) old new = Fails old new
+Performs (task.Plan i answer) old new = Plans old i answer new
+Performs (task.Fail n) old new = Fails old n new
 Performs (task.Phase i) old new = Stays old new
 Performs (task.Count c) old new = Stays old new
 Performs task.Leaks old new = Stays old new
 Performs task.Failures old new = Stays old new
-Performs (task.Event s) old new = Acts (task.Event s) old new ⊎ Stays old new
+Performs (task.Event s) old new = Acts (task.Event s) old new
 Performs (task.Next k o) old new = Acts (task.Next k o) old new
 Performs (task.Pre k answer) old new = Acts (task.Pre k answer) old new
 Performs (task.Base k) old new = Acts (task.Base k) old new
 Performs (task.Post k) old new = Acts (task.Post k) old new
 
+-- or nothing, where a note of the script's own wants memory: that ends the script
+abbrev pub PerformsOr : Task → Result (Unit {0}) ScriptEnd → Interpreter → Interpreter → Type 0
+PerformsOr t result old new = Performs t old new ⊎ ((result ≡ Err NoMemory) × Stays old new)
+
 -- a refused command changes nothing
-abbrev pub PerformsRead : Result Task Status → Interpreter → Interpreter → Type 0
-PerformsRead (Ok t) old new = Performs t old new
-PerformsRead (Err status) old new = new ≡ old
+abbrev pub PerformsRead : Result Task Status → Result (Unit {0}) ScriptEnd → Interpreter → Interpreter → Type 0
+PerformsRead (Ok t) result old new = PerformsOr t result old new
+PerformsRead (Err status) result old new = new ≡ old

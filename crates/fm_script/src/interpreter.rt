@@ -153,7 +153,8 @@ impl Interpreter {
 
     /// The device call of that number will fail. It fails itself, nothing changed, where there is no memory for it.
     pub fn fail(&mut self, number: u64) -> Result<(), AllocError>
-        ensures { Fails self.old self.new }
+        ensures ok { OnOk result (Fails self.old number self.new) }
+        ensures err { OnErr result (Stays self.old self.new) }
     {
         self.devices.fail(number)
     }

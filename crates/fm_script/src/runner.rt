@@ -2,7 +2,7 @@
 
 ghost use Rattle.std.specs.Prelude.{◌≡◌, map};
 ghost use Rattle.fm_script.specs.Lines.{Brings, OrMemory, ReadsTask, RunsLine, is_silent, takes_bytes};
-ghost use Rattle.fm_script.specs.Runs.{Goes, Performs};
+ghost use Rattle.fm_script.specs.Runs.{Goes, PerformsOr};
 ghost use Rattle.fm_script.specs.Words.{words_of};
 ghost use Rattle.fm_script.specs.declared.task.Task.TheVariants as TaskOf;
 
@@ -19,8 +19,9 @@ use crate::script_end::ScriptEnd;
 use crate::task::{Task, task_of};
 use crate::words::split_words;
 use fm_core::Step;
+use fm_data::PreVerdict;
 use fm_types::{Bytes, InstanceId, OpId, Status, WorkerId};
-use std::alloc::{AllocError, Global};
+use std::alloc::Global;
 use std::io::Write;
 
 /// The most bytes of a line.
@@ -55,7 +56,7 @@ impl<W: Write + Drop> Runner<W> {
 
     /// Runs one line, of which at most 4,097 bytes are given: one that is longer than 4,096 is refused. An empty line and a comment do nothing.
     pub fn run(&mut self, line: &[u8]) -> Result<(), ScriptEnd>
-        ensures { RunsLine line.now self.old.interpreter self.new.interpreter }
+        ensures { RunsLine line.now result self.old.interpreter self.new.interpreter }
     {
         if line.len() > MAX_LINE {
             return self.output.say(&Said::Refused(Status::BadRequest));
@@ -101,7 +102,7 @@ impl<W: Write + Drop> Runner<W> {
 
     // Makes one event, and prints what it answers.
     fn event(&mut self, step: Step) -> Result<(), ScriptEnd>
-        ensures { Performs (TaskOf.Event step) self.old.interpreter self.new.interpreter }
+        ensures { PerformsOr (TaskOf.Event step) result self.old.interpreter self.new.interpreter }
     {
         match self.interpreter.event(step) {
             Ok(reply) => {
@@ -140,11 +141,21 @@ impl<W: Write + Drop> Runner<W> {
         self.output.say(&line)
     }
 
-    // `ok`, unless there was no memory for the script's own note.
-    fn noted(&mut self, outcome: Result<(), AllocError>) -> Result<(), ScriptEnd>
-        ensures { self.new.interpreter ≡ self.old.interpreter }
+    // What `go` will answer for an instance.
+    fn plan(&mut self, instance: InstanceId, verdict: PreVerdict) -> Result<(), ScriptEnd>
+        ensures { PerformsOr (TaskOf.Plan instance verdict) result self.old.interpreter self.new.interpreter }
     {
-        match outcome {
+        match self.interpreter.plan(instance, verdict) {
+            Ok(()) => self.output.say(&Said::Plain(Word::Ok)),
+            Err(_) => Err(ScriptEnd::NoMemory),
+        }
+    }
+
+    // A device call that will fail.
+    fn fail(&mut self, number: u64) -> Result<(), ScriptEnd>
+        ensures { PerformsOr (TaskOf.Fail number) result self.old.interpreter self.new.interpreter }
+    {
+        match self.interpreter.fail(number) {
             Ok(()) => self.output.say(&Said::Plain(Word::Ok)),
             Err(_) => Err(ScriptEnd::NoMemory),
         }
@@ -152,7 +163,7 @@ impl<W: Write + Drop> Runner<W> {
 
     // Does it, and prints what it answers.
     fn perform(&mut self, task: Task) -> Result<(), ScriptEnd>
-        ensures { Performs task self.old.interpreter self.new.interpreter }
+        ensures { PerformsOr task result self.old.interpreter self.new.interpreter }
     {
         match task {
             Task::Event(step) => self.event(step),
@@ -182,10 +193,7 @@ impl<W: Write + Drop> Runner<W> {
                 self.output.say(&said_done(answer))
             }
             Task::Go { worker, operation } => self.go(worker, operation),
-            Task::Plan { instance, verdict } => {
-                let planned = self.interpreter.plan(instance, verdict);
-                self.noted(planned)
-            }
+            Task::Plan { instance, verdict } => self.plan(instance, verdict),
             Task::Phase(instance) => self.phase(instance),
             Task::Count(context) => {
                 let count = self.interpreter.state().count(context);
@@ -195,10 +203,7 @@ impl<W: Write + Drop> Runner<W> {
                 let leaks = self.interpreter.state().leaks();
                 self.output.say(&Said::Number(Word::Leaks, leaks))
             }
-            Task::Fail(number) => {
-                let noted = self.interpreter.fail(number);
-                self.noted(noted)
-            }
+            Task::Fail(number) => self.fail(number),
             Task::Failures => {
                 let failures = self.interpreter.failures();
                 self.output.say(&Said::Number(Word::Failures, failures))

@@ -1,39 +1,104 @@
-//! Runs each example script, NAME.flt in the folder that it is run in, and says whether it prints what NAME.out has.
+//! Runs each script, NAME.flt in the folder that it is run in or in its folder `rows`, and says whether it prints what NAME.out has: read whole, read in
+//! pieces of any length, and without its last line's end.
 #![tactic(auto)]
 
 use fm_script::{ScriptEnd, script};
 use std::alloc::{AllocError, Global};
+use std::io::Read;
 use std::{fs, io};
 
-// The names of the scripts, ascending and without their ending.
-fn names(rt: &HostRuntime) -> io::Result<Vec<String>> {
+// The lengths of the pieces that a script is read in.
+const PIECES: [usize; 3] = [1, 7, 4096];
+
+// A reader that gives a script in pieces of at most that many bytes, and is interrupted before each.
+#[derive(Drop)]
+struct Pieces<'a> {
+    rest: &'a [u8],
+    most: usize,
+    is_interrupted: bool,
+}
+
+impl Read for Pieces<'_> {
+    fn read(&mut self, buf: &mut [u8]) -> io::Result<usize> {
+        self.is_interrupted = !self.is_interrupted;
+        if self.is_interrupted {
+            return Err(io::Error::from(io::ErrorKind::Interrupted));
+        }
+        let count = self.most.min(self.rest.len()).min(buf.len());
+        let (front, behind) = self.rest.split_at(count);
+        buf[..count].copy_from_slice(front);
+        self.rest = behind;
+        Ok(count)
+    }
+}
+
+// The names of a folder's scripts, ascending and without their ending.
+fn names(rt: &HostRuntime, folder: &str) -> io::Result<Vec<String>> {
     let mut names = Vec::new(rt.alloc());
-    for entry in fs::read_dir(rt, ".")? {
+    for entry in fs::read_dir(rt, folder)? {
         let entry = entry?;
         if let Some(name) = entry.file_name().strip_suffix(".flt") {
-            names.push(format!(in rt.alloc(); "{name}")?)?;
+            names.push(format!(in rt.alloc(); "{folder}/{name}")?)?;
         }
     }
     names.sort_unstable();
     Ok(names)
 }
 
-// Whether the script runs to its end and prints just that.
-fn prints(alloc: Global, input: &[u8], output: &[u8]) -> bool {
+// What came of a script, beside what it is to print.
+#[derive(Clone, Copy, PartialEq)]
+enum Outcome {
+    Same,
+    // It ended for want of memory behind a right beginning, as `rt try --fail-alloc` may have it.
+    Beginning,
+    Other,
+}
+
+impl Outcome {
+    fn text(self) -> &'static str {
+        match self {
+            Outcome::Same => "prints what",
+            Outcome::Beginning => "ends for want of memory, and prints the beginning of what",
+            Outcome::Other => "prints something else than",
+        }
+    }
+}
+
+// Runs the script, read in pieces of that length.
+fn run(alloc: Global, input: &[u8], output: &[u8], most: usize) -> Outcome {
     let mut bytes = Vec::new(alloc);
-    let end = script(alloc, input, &mut bytes);
-    end == ScriptEnd::Ended && bytes.as_slice() == output
+    let reader = Pieces {
+        rest: input,
+        most,
+        is_interrupted: false,
+    };
+    match script(alloc, reader, &mut bytes) {
+        ScriptEnd::Ended if bytes.as_slice() == output => Outcome::Same,
+        ScriptEnd::NoMemory if output.starts_with(bytes.as_slice()) => Outcome::Beginning,
+        _ => Outcome::Other,
+    }
+}
+
+// What comes of it however it is read: the first that isn't the same.
+fn run_in_pieces(alloc: Global, input: &[u8], output: &[u8]) -> Outcome {
+    let cut = input.strip_suffix(b"\n").unwrap_or(input);
+    for most in PIECES {
+        let outcome = run(alloc, input, output, most);
+        if outcome != Outcome::Same {
+            return outcome;
+        }
+    }
+    run(alloc, cut, output, 4096)
 }
 
 fn main(rt: HostRuntime) -> io::Result<()> {
     let alloc = rt.alloc();
-    for name in names(&rt)? {
-        let input = fs::read(&rt, format!(in alloc; "{name}.flt")?)?;
-        let output = fs::read(&rt, format!(in alloc; "{name}.out")?)?;
-        if prints(alloc, input.as_slice(), output.as_slice()) {
-            println!(rt; "{name} prints what {name}.out has")?;
-        } else {
-            println!(rt; "{name} prints something else than {name}.out has")?;
+    for folder in [".", "rows"] {
+        for name in names(&rt, folder)? {
+            let input = fs::read(&rt, format!(in alloc; "{name}.flt")?)?;
+            let output = fs::read(&rt, format!(in alloc; "{name}.out")?)?;
+            let outcome = run_in_pieces(alloc, input.as_slice(), output.as_slice());
+            println!(rt; "{name} {} {name}.out has", outcome.text())?;
         }
     }
     Ok(())

@@ -1,10 +1,25 @@
-//! Worked rows of scripts, with what they print; the limits; and operations on files through instances that change what is written. There is nothing here but
-//! tests, so that what they call is proved once, in its own crate.
+//! What no stored script can say: texts and frames by hand, lists of events with what each is told, an operation through instances that change what is
+//! written, limits, readers and writers that fail, and refused memory. There is nothing here but tests, so that what they call is proved once, in its own
+//! crate. Stored scripts stand in the crate `examples`.
 #![tactic(auto)]
 
 #[cfg(test)]
+mod context_tests;
+#[cfg(test)]
+mod events;
+#[cfg(test)]
+mod frame_tests;
+#[cfg(test)]
 mod limit_tests;
+#[cfg(test)]
+mod memory_tests;
 #[cfg(test)]
 mod operation_tests;
 #[cfg(test)]
+mod run_tests;
+#[cfg(test)]
 mod script_tests;
+#[cfg(test)]
+mod text_tests;
+#[cfg(test)]
+mod told;

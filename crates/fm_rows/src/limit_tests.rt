@@ -1,4 +1,4 @@
-//! What a script meets at its limits: the last that is given, and the refusal of the next. No want of memory is met there.
+//! Scripts at limits that are too long to be stored.
 
 use fm_script::{ScriptEnd, script};
 use std::alloc::Global;
@@ -56,54 +56,6 @@ impl Row {
     }
 }
 
-// Lines that are given ids up to a limit, each with a name of its own, and one more.
-fn names_up_to(alloc: Global, word: &str, letter: char, most: u32) -> Result<Row, Fail> {
-    let mut row = Row::new(alloc);
-    for number in 0..most {
-        writeln!(row.input, "{word} n{number}")?;
-        writeln!(row.output, "ok {letter}{number}")?;
-    }
-    writeln!(row.input, "{word} one-more")?;
-    writeln!(row.output, "no 29")?;
-    Ok(row)
-}
-
-#[test]
-fn most_loads(rt: HostRuntime) -> Result<(), Fail> {
-    names_up_to(rt.alloc(), "load", 'f', 16)?.run(&rt, rt.alloc());
-    Ok(())
-}
-
-#[test]
-fn most_volumes(rt: HostRuntime) -> Result<(), Fail> {
-    names_up_to(rt.alloc(), "mount", 'v', 8)?.run(&rt, rt.alloc());
-    Ok(())
-}
-
-// As many operations as may be under way, but for one.
-fn flushes(row: &mut Row) -> Result<(), Fail> {
-    for number in 1..257u32 {
-        writeln!(row.input, "flush h0")?;
-        writeln!(row.output, "ok o{number}")?;
-    }
-    Ok(())
-}
-
-const ONE_MORE_OPERATION: Lines = &[
-    ("flush h0", "no 29"),
-    ("go w0 o7", "base 0\nreply 0 0 -"),
-    ("flush h0", "ok o257"),
-];
-
-#[test]
-fn most_operations(rt: HostRuntime) -> Result<(), Fail> {
-    let mut row = Row::of(rt.alloc(), FILE)?;
-    flushes(&mut row)?;
-    row.add(ONE_MORE_OPERATION)?;
-    row.run(&rt, rt.alloc());
-    Ok(())
-}
-
 // All handles that there may be, but for the first.
 fn creates(row: &mut Row) -> Result<(), Fail> {
     for number in 1..4096u32 {
@@ -156,35 +108,6 @@ fn longest_read(rt: HostRuntime) -> Result<(), Fail> {
     let mut row = Row::of(rt.alloc(), FILE)?;
     row.add(LONG_READ)?;
     zeros(&mut row)?;
-    row.run(&rt, rt.alloc());
-    Ok(())
-}
-
-// 2^40 is 1,099,511,627,776.
-const FAR_END: Lines = &[
-    ("write h0 1099511627775 41", "ok o1"),
-    ("go w0 o1", "base 0\nreply 0 1 -"),
-    ("write h0 1099511627776 41", "no 32"),
-    ("write h0 1099511627775 4142", "no 32"),
-    ("size h0", "ok o2"),
-    ("go w0 o2", "base 0\nreply 0 1099511627776 -"),
-    ("read h0 1099511627774 2", "ok o3"),
-    ("go w0 o3", "base 0\nreply 0 2 0041"),
-    ("read h0 1099511627775 2", "no 32"),
-    ("read h0 18446744073709551615 1", "no 32"),
-    ("setsize h0 0", "ok o4"),
-    ("go w0 o4", "base 0\nreply 0 0 -"),
-    ("setsize h0 1099511627777", "no 32"),
-    ("setsize h0 1099511627776", "ok o5"),
-    ("go w0 o5", "base 0\nreply 0 0 -"),
-    ("read h0 1099511627775 1", "ok o6"),
-    ("go w0 o6", "base 0\nreply 0 1 00"),
-];
-
-#[test]
-fn farthest_end(rt: HostRuntime) -> Result<(), Fail> {
-    let mut row = Row::of(rt.alloc(), FILE)?;
-    row.add(FAR_END)?;
     row.run(&rt, rt.alloc());
     Ok(())
 }

@@ -89,14 +89,7 @@ acts_run {P} (task.Base k) old new is (r, event, _) =
     (λ call answer. is (step.BaseReturned k call answer) (call, answer, refl)) event
 acts_run {P} (task.Post k) old new is (r, event, _) =
     post_runs old.session new.session k r (post_in (lent_to old.session.lent k)) (λ own. is (step.PostReturned k Finished own) (own, refl)) event
-acts_run {P} (task.Attach f v name altitude) old new is acts = absurd acts
-acts_run {P} (task.Go by own) old new is acts = absurd acts
-acts_run {P} (task.Plan i answer) old new is acts = absurd acts
-acts_run {P} (task.Phase i) old new is acts = absurd acts
-acts_run {P} (task.Count c) old new is acts = absurd acts
-acts_run {P} task.Leaks old new is acts = absurd acts
-acts_run {P} (task.Fail n) old new is acts = absurd acts
-acts_run {P} task.Failures old new is acts = absurd acts
+acts_run {P} t old new is acts = absurd acts
 
 turn_named : (k : WorkerId) (o : OpId) (t : Task) → IsTurn k o t → (s : Step) → Names t s → Names (task.Go k o) s
 turn_named k o (task.Next by own) (worker, operation) s is = inl (is ∙ ap (λ (w : WorkerId). step.Next w own) worker ∙ ap (step.Next k) operation)
@@ -105,14 +98,7 @@ turn_named k o (task.Base by) worker s (call, answer, is) =
     inr (inr (inl (call, answer, is ∙ ap (λ (w : WorkerId). step.BaseReturned w call answer) worker)))
 turn_named k o (task.Post by) worker s (own, is) = inr (inr (inr (inl (own, is ∙ ap (λ (w : WorkerId). step.PostReturned w Finished own) worker))))
 turn_named k o (task.Event own) collects s is = inr (inr (inr (inr (is ∙ collects))))
-turn_named k o (task.Attach f v name altitude) turn s is = absurd turn
-turn_named k o (task.Go by own) turn s is = absurd turn
-turn_named k o (task.Plan i answer) turn s is = absurd turn
-turn_named k o (task.Phase i) turn s is = absurd turn
-turn_named k o (task.Count c) turn s is = absurd turn
-turn_named k o task.Leaks turn s is = absurd turn
-turn_named k o (task.Fail n) turn s is = absurd turn
-turn_named k o task.Failures turn s is = absurd turn
+turn_named k o t turn s is = absurd turn
 
 turns_run : (k : WorkerId) (o : OpId) (turns : List Task) (old new : Interpreter) → Turns k o turns old new
     → RunOf (Names (task.Go k o)) old.session.world new.session.world

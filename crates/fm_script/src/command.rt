@@ -16,7 +16,7 @@ use fm_data::{Completion, PreVerdict};
 use fm_types::{CreateMode, Name, RelPath, Status};
 
 /// Which callbacks a filter that a script loads has for each operation.
-#[derive(Clone, Copy, Debug, PartialEq, Eq)]
+#[derive(Clone, Copy)]
 pub enum Callbacks {
     /// Preoperation and postoperation callbacks.
     Both,
@@ -35,7 +35,7 @@ pub const WITH: PreVerdict = PreVerdict::WithCallback(Completion {
 });
 
 /// A command that was read. Its ids are numbers as they stood in the line: whether they are there is asked when the command is run.
-#[derive(Clone, Copy, Debug)]
+#[derive(Clone, Copy)]
 pub enum Command {
     /// `load NAME`, then perhaps `only-pre`, `only-post` or `bare`: a filter registers.
     Load {

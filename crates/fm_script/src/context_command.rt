@@ -10,7 +10,7 @@ use fm_types::ContextKind;
 
 /// A command on contexts that was read. A context is meant by its number in the order of allocation. Bytes stay in the line, whose last word they are:
 /// they are read when the command is run, since that takes memory.
-#[derive(Clone, Copy, Debug, PartialEq, Eq)]
+#[derive(Clone, Copy)]
 pub enum ContextCommand {
     /// `alloc W KIND HEX`: a context is allocated, with those bytes as its body.
     Allocate {

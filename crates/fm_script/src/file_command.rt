@@ -9,7 +9,7 @@ use fm_types::CreateMode;
 
 /// A command on a handle or on the device that was read. The bytes of a write stay in the line, whose last word they are: they are read when the
 /// command is run, since that takes memory.
-#[derive(Clone, Copy, Debug, PartialEq, Eq)]
+#[derive(Clone, Copy)]
 pub enum FileCommand {
     /// `read H OFFSET LEN`: a read begins.
     Read { handle: u64, offset: u64, len: u64 },

@@ -14,7 +14,7 @@ use fm_types::{Bytes, CtxId, InstanceId, Status};
 use std::alloc::AllocError;
 
 /// The words that lines begin with.
-#[derive(Clone, Copy, Debug, PartialEq, Eq)]
+#[derive(Clone, Copy)]
 pub enum Word {
     Ok,
     Pre,

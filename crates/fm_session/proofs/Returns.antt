@@ -15,26 +15,18 @@ given_back all k what was =
 
 is_pre : (what : Lent) (given : Data) → pre_in what ≡ Some given → what ≡ lent.Pre given
 is_pre (lent.Pre own) given same = cc
-is_pre lent.Nothing given same = absurd (cc)
-is_pre (lent.Base call) given same = absurd (cc)
-is_pre (lent.Post own) given same = absurd (cc)
-is_pre lent.Drain given same = absurd (cc)
+is_pre what given same = absurd (cc)
 
 is_base : (what : Lent) (call : BaseCall) → base_in what ≡ Some call → what ≡ lent.Base call
 is_base (lent.Base own) call same = cc
-is_base lent.Nothing call same = absurd (cc)
-is_base (lent.Pre own) call same = absurd (cc)
-is_base (lent.Post own) call same = absurd (cc)
-is_base lent.Drain call same = absurd (cc)
+is_base what call same = absurd (cc)
 
 is_post : (what : Lent) (given : Option Data) → post_in what ≡ Some given → what ≡ post_lent given
 is_post (lent.Post own) (Some given) same = cc
 is_post (lent.Post own) None same = absurd (cc)
 is_post lent.Drain None same = refl
 is_post lent.Drain (Some given) same = absurd (cc)
-is_post lent.Nothing given same = absurd (cc)
-is_post (lent.Pre own) given same = absurd (cc)
-is_post (lent.Base call) given same = absurd (cc)
+is_post what given same = absurd (cc)
 
 pub pre_back : (all : List Lent) (k : WorkerId) (given : Data) → pre_in (lent_to all k) ≡ Some given → lend (lend all k lent.Nothing) k (lent.Pre given) ≡ all
 pre_back all k given was = given_back all k (lent.Pre given) (is_pre (lent_to all k) given was)

@@ -1,0 +1,42 @@
+//! Measures parts of the house: `bench memory`, `queue`, `gate` or `wire`, and behind it a number that says how much is done; the figures are printed.
+//! Given no word, it does a little of each and prints nothing.
+#![tactic(auto)]
+
+mod gate;
+mod gated;
+mod listed;
+mod locked;
+mod memory;
+mod queue;
+mod ruled;
+mod wire;
+
+use std::time::Duration;
+use std::{env, io};
+
+// How many a second, where so many took so long.
+fn a_second(count: u64, time: Duration) -> u128 {
+    let nanoseconds = time.as_nanos().max(1);
+    u128::from(count).saturating_mul(1_000_000_000) / nanoseconds
+}
+
+fn main(rt: HostRuntime) -> io::Result<()> {
+    let mut words = env::args(&rt)?;
+    let part = words.nth(1);
+    let count: Option<u64> = words.next().and_then(|word| word.parse().ok());
+    match part {
+        None => {
+            memory::measure(&rt, None)?;
+            queue::measure(&rt, &rt, None)?;
+            gate::measure(&rt, &rt, None)?;
+            wire::measure(&rt, None)
+        }
+        Some(part) => match part.as_str() {
+            "memory" => memory::measure(&rt, count),
+            "queue" => queue::measure(&rt, &rt, count),
+            "gate" => gate::measure(&rt, &rt, count),
+            "wire" => wire::measure(&rt, count),
+            _ => Err(io::Error::from(io::ErrorKind::InvalidInput)),
+        },
+    }
+}

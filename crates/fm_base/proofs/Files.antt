@@ -1,22 +1,14 @@
 -- The folder of a map's entries, against the look-ups and the changes of the map.
-use Rattle.std.specs.Prelude.{◌≡◌, ◌≢◌, ◌⊎◌, ℕ, true, false, cond, is_some, List, [], ◌∷◌, Option, Some, None, Result, Ok, Err, IsOk, OnOk, OnErr}
-use Rattle.std.specs.Prelude.{IfErr, refl}
+use Rattle.fm_base.proofs.Words.{nat_cmp, eq_by_cmp_equiv, slice_cmp, nat_list_cmp_total, lookup, set_value, is_at, get, insert, remove}
+use Rattle.fm_base.proofs.Words.{find, get-from_entries, get-insert, get-remove, same_map, slice_cmp-IsAntisymmetric}
+use Rattle.fm_base.proofs.Words.{nat_cmp-IsAntisymmetric, Status, NoMemory, DeviceFault, FileNotFound, AlreadyExists, Folder, create_at}
+use Rattle.fm_base.proofs.Words.{created, change_at, changed, unlink_at, unlinked, tell_at, told, Makes, Entries, folder_of}
+use Rattle.std.specs.Prelude.{◌≡◌, ◌≢◌, ◌⊎◌, ℕ, true, false, cond, is_some, List, [], ◌∷◌, Option, Some, None, Result, Ok, Err, IsOk, OnOk}
+use Rattle.std.specs.Prelude.{OnErr, IfErr, refl}
 use Rattle.std.proofs.Common.{sym, ap, ◌∙◌, inl, inr}
-use Rattle.std.specs.Ordering.{nat_cmp}
-use Rattle.std.specs.Cmp.{eq_by_cmp_equiv}
-use Rattle.std.specs.Cmp.Lexicographic.{slice_cmp, nat_list_cmp_total}
-use Rattle.std.specs.Map.{lookup, set_value}
 use Rattle.std.proofs.lemmas.Map.Steps.{set_value_same}
-use Rattle.std.specs.BTreeMap.{is_at}
-use Rattle.std.specs.FinMap.{get, insert, remove, find, get-from_entries, get-insert, get-remove, same_map, slice_cmp-IsAntisymmetric}
-use Rattle.std.specs.FinMap.{nat_cmp-IsAntisymmetric}
-use Rattle.fm_types.specs.declared.status.Status.{Status}
-use Rattle.fm_types.specs.declared.status.Status.TheVariants.{NoMemory, DeviceFault, FileNotFound, AlreadyExists}
 use Rattle.fm_types.specs.declared.operation.CreateMode.{CreateMode}
 use Rattle.fm_types.specs.declared.operation.CreateMode.TheVariants.{Existing, New, Always}
-use Rattle.fm_base.specs.Folders.{Folder, create_at, created, change_at, changed, unlink_at, unlinked, tell_at, told}
-use Rattle.fm_base.specs.Answers.{Makes}
-use Rattle.fm_base.specs.Stored.{Entries, folder_of}
 
 -- what entries have at a path
 abbrev pub file_at : Entries → List ℕ → Option (List ℕ)
@@ -67,40 +59,29 @@ kept_entries es fs path file w wrote found same = wrote
     ∙ set_value_same (is_at (slice_cmp nat_cmp path)) es w (found ∙ ap (λ (x : List ℕ). Some x) (sym same))
 
 -- a create by its mode, where the test of the path said that the file is there, and where it said that it isn't
-taken_at : (path : List ℕ) (folder : Folder) (found : Option (List ℕ)) → true ≡ is_some found → create_at New path folder found ≡ Err AlreadyExists
-taken_at path folder None h = cc
-taken_at path folder (Some file) h = refl
-
-opened_at : (mode : CreateMode) (path : List ℕ) (folder : Folder) (found : Option (List ℕ)) → (mode ≡ Existing) ⊎ (mode ≡ Always)
-    → true ≡ is_some found → create_at mode path folder found ≡ Ok folder
-opened_at mode path folder None is h = cc
-opened_at mode path folder (Some file) (inl is) h = rw is refl
-opened_at mode path folder (Some file) (inr is) h = rw is refl
-
-missing_at : (path : List ℕ) (folder : Folder) (found : Option (List ℕ)) → false ≡ is_some found
-    → create_at Existing path folder found ≡ Err FileNotFound
-missing_at path folder None h = refl
-missing_at path folder (Some file) h = cc
-
-fresh_at : (mode : CreateMode) (path : List ℕ) (folder : Folder) (found : Option (List ℕ)) → (mode ≡ New) ⊎ (mode ≡ Always)
-    → false ≡ is_some found → create_at mode path folder found ≡ Ok (insert folder path [])
-fresh_at mode path folder None (inl is) h = rw is refl
-fresh_at mode path folder None (inr is) h = rw is refl
-fresh_at mode path folder (Some file) is h = cc
-
 pub taken : (path : List ℕ) (es : Entries) → true ≡ is_some (file_at es path) → created New path (folder_of es) ≡ Err AlreadyExists
-taken path es h = created_at New path es _ refl ∙ taken_at path (folder_of es) _ h
+taken path es h = created_at New path es _ refl
+    ∙ (elim (file_at es path) as (λ o. true ≡ is_some o → create_at New path (folder_of es) o ≡ Err AlreadyExists) [ None ↦ λ e. cc | Some file ↦ λ e. refl ]) h
 
 pub opened : (mode : CreateMode) (path : List ℕ) (es : Entries) → (mode ≡ Existing) ⊎ (mode ≡ Always) → true ≡ is_some (file_at es path)
     → created mode path (folder_of es) ≡ Ok (folder_of es)
-opened mode path es is h = created_at mode path es _ refl ∙ opened_at mode path (folder_of es) _ is h
+opened mode path es is h = created_at mode path es _ refl
+    ∙ (elim (file_at es path) as (λ o. true ≡ is_some o → create_at mode path (folder_of es) o ≡ Ok (folder_of es)) [
+      | None ↦ λ e. cc
+      | Some file ↦ λ e. elim is [ inl m ↦ rw m refl | inr m ↦ rw m refl ]
+    ]) h
 
 pub missing : (path : List ℕ) (es : Entries) → false ≡ is_some (file_at es path) → created Existing path (folder_of es) ≡ Err FileNotFound
-missing path es h = created_at Existing path es _ refl ∙ missing_at path (folder_of es) _ h
+missing path es h = created_at Existing path es _ refl
+    ∙ (elim (file_at es path) as (λ o. false ≡ is_some o → create_at Existing path (folder_of es) o ≡ Err FileNotFound) [ None ↦ λ e. refl | Some file ↦ λ e. cc ]) h
 
 pub fresh : (mode : CreateMode) (path : List ℕ) (es : Entries) → (mode ≡ New) ⊎ (mode ≡ Always) → false ≡ is_some (file_at es path)
     → created mode path (folder_of es) ≡ Ok (insert (folder_of es) path [])
-fresh mode path es is h = created_at mode path es _ refl ∙ fresh_at mode path (folder_of es) _ is h
+fresh mode path es is h = created_at mode path es _ refl
+    ∙ (elim (file_at es path) as (λ o. false ≡ is_some o → create_at mode path (folder_of es) o ≡ Ok (insert (folder_of es) path [])) [
+      | None ↦ λ e. elim is [ inl m ↦ rw m refl | inr m ↦ rw m refl ]
+      | Some file ↦ λ e. cc
+    ]) h
 
 -- what makes all that is wanted, or is refused for want of memory alone and changes nothing, answers as it is to
 pub makes_or_memory : (path : List ℕ) (wanted : Folder → Result Folder Status) (made old new : Folder) (result : Result (Unit {0}) Status)

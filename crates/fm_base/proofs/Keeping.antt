@@ -1,12 +1,10 @@
 -- What a file's pages hold, against what the calls of a file are to make of its bytes.
-use Rattle.std.specs.Prelude.{◌≡◌, ◌⊎◌, ℕ, ◌+◌, ◌-◌, ◌*◌, ◌/◌, ◌%◌, ◌<◌, ◌≤◌, ◌==◌, min, max, false, List, [], ◌∷◌, length, take, drop, map, get_or}
+use Rattle.fm_base.proofs.Words.{cases_lt, get_or-take, get_or-drop, get_or_past, length-take, range_with_len, resized, written, Pages}
+use Rattle.fm_base.proofs.Words.{byte_at, contents, IsZeroFrom, SameBytes, Overwrites, Cuts}
+use Rattle.std.specs.Prelude.{◌≡◌, ◌⊎◌, ℕ, ◌+◌, ◌-◌, ◌*◌, ◌/◌, ◌%◌, ◌<◌, ◌≤◌, ◌==◌, min, max, false, List, [], ◌∷◌, length, take, drop, map}
+use Rattle.std.specs.Prelude.{get_or}
 use Rattle.std.proofs.Common.{sym, ap, ◌∙◌, inl, inr, arith, length-drop}
-use Rattle.std.proofs.lemmas.Bool.{cases_lt}
-use Rattle.std.proofs.lemmas.List.{get_or-take, get_or-drop, get_or_past, length-take}
 use Rattle.std.proofs.lemmas.List.FromFn.{length-map-range_with_len, get_or-map-range_with_len}
-use Rattle.std.specs.List.{range_with_len}
-use Rattle.fm_types.specs.ByteLists.{resized, written}
-use Rattle.fm_base.specs.Pages.{Pages, byte_at, contents, IsZeroFrom, SameBytes, Overwrites, Cuts}
 use Rattle.fm_base.proofs.Writes.{length-resized}
 use Rattle.fm_base.proofs.Reading.{run_of, get_or-resized, length-written, get_or-written_inside, get_or-written_outside}
 

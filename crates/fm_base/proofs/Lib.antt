@@ -1,3 +1,4 @@
+mod Words
 pub mod Files
 pub mod Listings
 pub mod Writes

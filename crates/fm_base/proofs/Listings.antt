@@ -1,16 +1,9 @@
 -- The names of a folder, against the keys of the map that keeps it.
+use Rattle.fm_base.proofs.Words.{cond-true, cond-false, lt-ltb, le-ltb, nat_cmp, slice_cmp, nat_list_cmp_total, keys_of, entries, empty}
+use Rattle.fm_base.proofs.Words.{put, entries-insert, len-entries, len-empty, Status, TooMany, listing_of, listed, Entries, folder_of}
 use Rattle.std.specs.Prelude.{◌≡◌, ℕ, ◌≤◌, ◌<◌, cond, List, [], ◌∷◌, length, Result, Ok, Err, nat_lt, refl}
 use Rattle.std.proofs.Common.{sym, ap, ◌∙◌, arith}
-use Rattle.std.proofs.lemmas.Bool.{cond-true, cond-false, lt-ltb, le-ltb}
-use Rattle.std.specs.Ordering.{nat_cmp}
 use Rattle.std.specs.List.Sorted.{IsStrictlySortedBy}
-use Rattle.std.specs.Cmp.Lexicographic.{slice_cmp, nat_list_cmp_total}
-use Rattle.std.specs.Map.{keys_of}
-use Rattle.std.specs.FinMap.{entries, empty, put, entries-insert, len-entries, len-empty}
-use Rattle.fm_types.specs.declared.status.Status.{Status}
-use Rattle.fm_types.specs.declared.status.Status.TheVariants.{TooMany}
-use Rattle.fm_base.specs.Folders.{listing_of, listed}
-use Rattle.fm_base.specs.Stored.{Entries, folder_of}
 
 nothing : {X : Type 0} (xs : List X) → length xs ≡ 0 → xs ≡ []
 nothing [] h = refl

@@ -1,12 +1,9 @@
 -- What one turn of the loops over a file's pages does.
-use Rattle.std.specs.Prelude.{◌≡◌, ◌≢◌, ◌⊎◌, ℕ, suc, zero, ◌+◌, ◌-◌, ◌*◌, ◌/◌, ◌%◌, ◌<◌, ◌≤◌, ◌==◌, min, cond, List, ◌∷◌, ◌++◌, length, take}
-use Rattle.std.specs.Prelude.{drop, map, get_or, refl}
+use Rattle.fm_base.proofs.Words.{cases_lt, cases_eq, eq-eqb, ne_eqb, cond-true, cond-false, get_or-take, get_or-drop, length-take}
+use Rattle.fm_base.proofs.Words.{range_with_len, resized, Pages, page_of, byte_in, byte_at, NoneShorter, HasRoom, Overwrites}
+use Rattle.std.specs.Prelude.{◌≡◌, ◌≢◌, ◌⊎◌, ℕ, suc, zero, ◌+◌, ◌-◌, ◌*◌, ◌/◌, ◌%◌, ◌<◌, ◌≤◌, ◌==◌, min, cond, List, ◌∷◌, ◌++◌, length}
+use Rattle.std.specs.Prelude.{take, drop, map, get_or, refl}
 use Rattle.std.proofs.Common.{sym, ap, ◌∙◌, inl, inr, arith, length-drop}
-use Rattle.std.proofs.lemmas.Bool.{cases_lt, cases_eq, eq-eqb, ne_eqb, cond-true, cond-false}
-use Rattle.std.proofs.lemmas.List.{get_or-take, get_or-drop, length-take}
-use Rattle.std.specs.List.{range_with_len}
-use Rattle.fm_types.specs.ByteLists.{resized}
-use Rattle.fm_base.specs.Pages.{Pages, page_of, byte_in, byte_at, NoneShorter, HasRoom, Overwrites}
 use Rattle.fm_base.proofs.Writes.{length-resized}
 use Rattle.fm_base.proofs.Reading.{run_of, get_or-resized, pasted, length-pasted, get_or-pasted_inside, get_or-pasted_outside}
 

@@ -1,11 +1,9 @@
 -- Lists of bytes read at each place, where places past the end read as zeros.
-use Rattle.std.specs.Prelude.{◌≡◌, ◌⊎◌, ℕ, suc, ◌+◌, ◌-◌, ◌<◌, ◌≤◌, max, List, [], ◌∷◌, ◌++◌, length, take, drop, map, replicate, get_or, refl}
+use Rattle.fm_base.proofs.Words.{cases_lt, get_or_append_left, get_or-append_right, get_or-take, get_or-drop, get_or-replicate, get_or_past}
+use Rattle.fm_base.proofs.Words.{length-take, length-replicate, range_with_len, resized, written}
+use Rattle.std.specs.Prelude.{◌≡◌, ◌⊎◌, ℕ, suc, ◌+◌, ◌-◌, ◌<◌, ◌≤◌, max, List, [], ◌∷◌, ◌++◌, length, take, drop, map, replicate, get_or}
+use Rattle.std.specs.Prelude.{refl}
 use Rattle.std.proofs.Common.{sym, ap, ◌∙◌, inl, inr, arith, length-append, length-drop}
-use Rattle.std.proofs.lemmas.Bool.{cases_lt}
-use Rattle.std.proofs.lemmas.List.{get_or_append_left, get_or-append_right, get_or-take, get_or-drop, get_or-replicate, get_or_past, length-take}
-use Rattle.std.proofs.lemmas.List.{length-replicate}
-use Rattle.std.specs.List.{range_with_len}
-use Rattle.fm_types.specs.ByteLists.{resized, written}
 use Rattle.fm_base.proofs.Writes.{length-resized}
 
 -- bytes that are those of a function at each place from one on are its run from there

@@ -1,18 +1,11 @@
 -- What a write leaves is read back from the same place.
-use Rattle.std.specs.Prelude.{◌≡◌, ℕ, ◌+◌, ◌-◌, Bool, true, false, cond, List, [], ◌∷◌, ◌++◌, length, take, drop, replicate, Option, Some, None}
-use Rattle.std.specs.Prelude.{◌<◌, ◌&&◌, nat_le, nat_lt, Result, Ok, Err, refl}
+use Rattle.fm_base.proofs.Words.{lt-leb, cond-false, length-take, length-replicate, eq_by_cmp_equiv, nat_list_cmp_total, get, insert}
+use Rattle.fm_base.proofs.Words.{get-insert, resized, written, Status, NoMemory, DeviceFault, FileNotFound, Folder, change_at, changed}
+use Rattle.fm_base.proofs.Words.{tell_at, told, bytes_from, Makes, MakesKnown, Tells, TellsKnown}
+use Rattle.std.specs.Prelude.{◌≡◌, ℕ, ◌+◌, ◌-◌, Bool, true, false, cond, List, [], ◌∷◌, ◌++◌, length, take, drop, replicate, Option, Some}
+use Rattle.std.specs.Prelude.{None, ◌<◌, ◌&&◌, nat_le, nat_lt, Result, Ok, Err, refl}
 use Rattle.std.proofs.Common.{sym, ap, subst, ◌∙◌, arith, length-append, append_assoc}
 use Rattle.std.proofs.Math.Seq.{take-append_seam, drop-append_seam}
-use Rattle.std.proofs.lemmas.Bool.{lt-leb, cond-false}
-use Rattle.std.proofs.lemmas.List.{length-take, length-replicate}
-use Rattle.std.specs.Cmp.{eq_by_cmp_equiv}
-use Rattle.std.specs.Cmp.Lexicographic.{nat_list_cmp_total}
-use Rattle.std.specs.FinMap.{get, insert, get-insert}
-use Rattle.fm_types.specs.ByteLists.{resized, written}
-use Rattle.fm_types.specs.declared.status.Status.{Status}
-use Rattle.fm_types.specs.declared.status.Status.TheVariants.{NoMemory, DeviceFault, FileNotFound}
-use Rattle.fm_base.specs.Folders.{Folder, change_at, changed, tell_at, told, bytes_from}
-use Rattle.fm_base.specs.Answers.{Makes, MakesKnown, Tells, TellsKnown}
 
 pub length-resized : (n : ℕ) (bytes : List ℕ) → length (resized n bytes) ≡ n
 length-resized n bytes = omega (

@@ -1,19 +1,18 @@
 -- What each step adds to the references carried and to the operations in flight, and what it takes away.
-use Rattle.std.proofs.Common.{◌≡◌, ◌+◌, ◌≤◌, ◌==◌, ◌&&◌, ◌∷◌, ◌++◌, ◌∙◌}
-use Rattle.fm_flow.proofs.Words.{ℕ, Bool, true, false, cond, not, List, [], map, reverse, Some, None, option_to_list, slice_get, inl, inr, refl, sym}
-use Rattle.fm_flow.proofs.Words.{ap, arith, zero-add, reverse-append, filter_map-append, nat_tests, Stage, Descending, PreState, PostState, PreVisit}
-use Rattle.fm_flow.proofs.Words.{DrainVisit, Ask, Entry, Pre, Base, Post, Drain, one, times, ask_in, visit_of, post_of, visited, last_visited, asked}
-use Rattle.fm_flow.proofs.Words.{posted, owed, instances, is_pre_open, settle_pre, settle_post, settle_drain, opens, drain_opens, answer_count}
-use Rattle.fm_flow.proofs.Words.{IsCourse}
-use Rattle.fm_types.specs.declared.ids.CtxId.{CtxId}
+use Rattle.fm_flow.proofs.Words.{ℕ, Bool, true, false, cond, not, List, [], map, reverse, Option, Some, None, option_to_list, slice_get}
+use Rattle.fm_flow.proofs.Words.{inl, inr, refl, sym, ap, ap₂, cons_option, arith, zero-add, reverse-append, filter_map-append, nat_tests}
+use Rattle.fm_flow.proofs.Words.{Stage, PreState, PostState, PreVisit, DrainVisit, Ask, Entry, Pre, Base, Post, Drain, one, times, ask_in}
+use Rattle.fm_flow.proofs.Words.{visit_of, post_of, visited, last_visited, asked, owed, instances, is_pre_open, settle_pre, settle_post}
+use Rattle.fm_flow.proofs.Words.{settle_drain, opens, drain_opens, answer_count, IsCourse, CtxId, last_posted, is_post_open}
+use Rattle.std.proofs.Common.{◌≡◌, ◌+◌, ◌≤◌, ◌==◌, ◌&&◌, ◌∷◌, ◌++◌, ◌∙◌, filter_map}
 use Rattle.fm_flow.specs.declared.entry.PreState.TheVariants as pre
 use Rattle.fm_flow.specs.declared.entry.PostState.TheVariants as post
-use Rattle.fm_flow.specs.Entries.{last_posted, is_post_open}
 use Rattle.fm_flow.specs.Counts.{carried_among, taken_by, opens_at, leaves_by, leaves_at, post_leaves_by}
 use Rattle.fm_flow.proofs.Lists.{either}
-use Rattle.fm_flow.proofs.Walks.{OpenPre, OpenPost, is_pre, is_post}
+use Rattle.fm_flow.proofs.Walks.{OpenAs, OpenPre, OpenPost, is_pre, is_post}
 use Rattle.fm_flow.proofs.Course.{asked_cons, owed_settled, times_instances-append, one_and}
-use Rattle.fm_flow.proofs.Settled.{with_state, with_post, settled_pre_is, settles_pre, the_open_pre, settled_post_is, settles_post, the_open_post, settles_drain, fresh_of_open}
+use Rattle.fm_flow.proofs.Settled.{with_state, with_post, settled_pre_is, settles_pre, the_open_pre, settled_post_is, settles_post}
+use Rattle.fm_flow.proofs.Settled.{the_open_post, settles_drain, fresh_of_open}
 
 pub opens-append : (i : ℕ) (es fs : List Entry) → opens i (es ++ fs) ≡ opens i es + opens i fs
 opens-append i [] fs = sym (zero-add (opens i fs))
@@ -49,11 +48,9 @@ one_of_and false b = refl
 -- ---- in flight at most once
 
 opens_few : (i : ℕ) (visit : PreVisit) (state : PreState) → one ((visit.instance.0 == i) && is_pre_open state) + times i (instances (option_to_list (ask_in visit state))) ≤ one (visit.instance.0 == i)
-opens_few i visit (pre.Asked completion) = let h = and_false (visit.instance.0 == i) in omega (arith, h)
-opens_few i visit (pre.Synchronized completion) = let h = and_false (visit.instance.0 == i) in omega (arith, h)
-opens_few i visit pre.Passed = let h = and_false (visit.instance.0 == i) in omega (arith, h)
-opens_few i visit (pre.Completed status) = let h = and_false (visit.instance.0 == i) in omega (arith, h)
-opens_few i visit state = let h = one_and (visit.instance.0 == i) true in omega (arith, h)
+opens_few i visit pre.Running = let h = one_and (visit.instance.0 == i) true in omega (arith, h)
+opens_few i visit pre.Held = let h = one_and (visit.instance.0 == i) true in omega (arith, h)
+opens_few i visit state = let h = and_false (visit.instance.0 == i) in omega (arith, h)
 
 -- who is open was visited and hasn't asked, or is being answered
 pub opens_among : (i : ℕ) (es : List Entry) → opens i es + times i (instances (asked es)) ≤ times i (visited es) + answer_count i es
@@ -71,60 +68,57 @@ flight_few s es i c = let a = opens_among i es in let b = c.once i in let d = c.
 
 -- ---- settled callbacks
 
-opens_mid : (i : ℕ) (front back : List Entry) (e : Entry) → opens i (front ++ e ∷ back) ≡ opens i front + (opens_at i e + opens i back)
-opens_mid i front back e = opens-append i front (e ∷ back)
+last_mid : (g : Entry → Option ℕ) (front back : List Entry) (e : Entry) (x : ℕ) → g e ≡ Some x → filter_map g back ≡ [] → slice_get (reverse (filter_map g (front ++ e ∷ back))) 0 ≡ Some x
+last_mid g front back e x is none =
+    ap (λ xs. slice_get (reverse xs) 0) (filter_map-append g front (e ∷ back) ∙ ap₂ (λ o xs. filter_map g front ++ cons_option o xs) is none)
+    ∙ ap (λ ys. slice_get ys 0) (reverse-append (filter_map g front) (x ∷ []))
 
-first_of_reverse : (xs : List ℕ) (x : ℕ) → slice_get (reverse (xs ++ x ∷ [])) 0 ≡ Some x
-first_of_reverse xs x = ap (λ ys. slice_get ys 0) (reverse-append xs (x ∷ []))
+pub last_of_open_pre : (es : List Entry) (o : OpenPre es) → last_visited es ≡ Some o.visit.instance.0
+last_of_open_pre es o = ap last_visited o.split ∙ last_mid visit_of o.front o.back (Pre o.visit) o.visit.instance.0 refl o.quiet.visits
 
-pub last_of_open_pre : (es : List Entry) (o : OpenPre Descending es) → last_visited es ≡ Some o.visit.instance.0
-last_of_open_pre es o =
-    ap (λ xs. slice_get (reverse xs) 0) (ap visited o.split ∙ filter_map-append visit_of o.front (Pre o.visit ∷ o.back) ∙ ap (λ xs. visited o.front ++ o.visit.instance.0 ∷ xs) o.quiet.visits)
-    ∙ first_of_reverse (visited o.front) o.visit.instance.0
+pub last_of_open_post : (es : List Entry) (o : OpenPost es) → last_posted es ≡ Some o.visit.instance.0
+last_of_open_post es o = ap last_posted o.split ∙ last_mid post_of o.front o.back (Post o.visit) o.visit.instance.0 refl o.quiet.posts
 
-pub last_of_open_post : (es : List Entry) (o : OpenPost Descending es) → last_posted es ≡ Some o.visit.instance.0
-last_of_open_post es o =
-    ap (λ xs. slice_get (reverse xs) 0) (ap posted o.split ∙ filter_map-append post_of o.front (Post o.visit ∷ o.back) ∙ ap (λ xs. posted o.front ++ o.visit.instance.0 ∷ xs) o.quiet.posts)
-    ∙ first_of_reverse (posted o.front) o.visit.instance.0
-
-pre_balance_here : (i : ℕ) (visit : PreVisit) (state : PreState) → (visit.instance.0 == i) ≡ true → 1 ≡ (one (is_pre_open state) + times i (instances (option_to_list (ask_in visit state)))) + leaves_by state
-pre_balance_here i visit (pre.Asked completion) is = rw is refl
-pre_balance_here i visit (pre.Synchronized completion) is = rw is refl
-pre_balance_here i visit state is = refl
-
-pre_balance_there : (i : ℕ) (visit : PreVisit) (state : PreState) → (visit.instance.0 == i) ≡ false → 0 ≡ (0 + times i (instances (option_to_list (ask_in visit state)))) + 0
-pre_balance_there i visit (pre.Asked completion) differs = rw differs refl
-pre_balance_there i visit (pre.Synchronized completion) differs = rw differs refl
-pre_balance_there i visit state differs = refl
+-- the entry alone tells how much is open before and after
+opens_settled : {V : Type 0} {kind : V → Entry} {from : Stage} {es fs : List Entry} (i : ℕ) (e : Entry) (o : OpenAs kind from es) → fs ≡ o.front ++ e ∷ o.back
+    → opens i es + opens_at i e ≡ opens i fs + opens_at i (kind o.visit)
+opens_settled {kind = kind} i e o is =
+    let a = ap (opens i) o.split ∙ opens-append i o.front (kind o.visit ∷ o.back) in let b = ap (opens i) is ∙ opens-append i o.front (e ∷ o.back) in omega (arith, a, b)
 
 taken : (k : CtxId) (visit : PreVisit) (state : PreState) → carried_among k (option_to_list (ask_in visit state)) ≡ taken_by k state
 taken k visit (pre.Asked completion) = omega arith
 taken k visit (pre.Synchronized completion) = omega arith
 taken k visit state = refl
 
-pre_balance : (i : ℕ) (visit : PreVisit) (state : PreState) → one (visit.instance.0 == i) ≡ (one ((visit.instance.0 == i) && is_pre_open state) + times i (instances (option_to_list (ask_in visit state)))) + cond (visit.instance.0 == i) (leaves_by state) 0
-pre_balance i visit state = elim (either (visit.instance.0 == i)) [
-  | inl is ↦ rw is (pre_balance_here i visit state is)
-  | inr differs ↦ rw differs (pre_balance_there i visit state differs)
-]
+pre_balance : (i : ℕ) (visit : PreVisit) (state : PreState)
+    → one (visit.instance.0 == i) ≡ (one ((visit.instance.0 == i) && is_pre_open state) + times i (instances (option_to_list (ask_in visit state)))) + cond (visit.instance.0 == i) (leaves_by state) 0
+pre_balance i visit pre.Passed = let z = and_false (visit.instance.0 == i) in omega (arith, z)
+pre_balance i visit (pre.Completed status) = let z = and_false (visit.instance.0 == i) in omega (arith, z)
+pre_balance i visit pre.Running = let y = ap one (and_true (visit.instance.0 == i)) in let w = same_either (visit.instance.0 == i) 0 in omega (arith, y, w)
+pre_balance i visit pre.Held = let y = ap one (and_true (visit.instance.0 == i)) in let w = same_either (visit.instance.0 == i) 0 in omega (arith, y, w)
+pre_balance i visit state = let z = and_false (visit.instance.0 == i) in let w = same_either (visit.instance.0 == i) 0 in omega (arith, z, w)
+
+owed_asked : (s : Stage) (es : List Entry) (state : PreState) (p : is_pre s ≡ true) (c : IsCourse s es)
+    → owed (map (settle_pre state) es) ≡ option_to_list (ask_in (with_state (the_open_pre s es c p).visit state) state) ++ owed es
+owed_asked s es state p c =
+    let o = the_open_pre s es c p in owed_settled es (map (settle_pre state) es) (ask_in (with_state o.visit state) state) (settles_pre es state o) (fresh_of_open s es state c p)
 
 pub flight_pre_settled : (s : Stage) (es : List Entry) (state : PreState) (j : ℕ) → is_pre s ≡ true → IsCourse s es
     → opens j es + times j (instances (owed es)) ≡ (opens j (map (settle_pre state) es) + times j (instances (owed (map (settle_pre state) es)))) + leaves_at j (last_visited es) (leaves_by state)
 flight_pre_settled s es state j p c =
     let o = the_open_pre s es c p in
-    let a = ap (opens j) o.split ∙ opens_mid j o.front o.back (Pre o.visit) in
-    let b = ap (opens j) (settled_pre_is es state o) ∙ opens_mid j o.front o.back (Pre (with_state o.visit state)) in
-    let d = ap (λ xs. times j (instances xs)) (owed_settled es (map (settle_pre state) es) (ask_in (with_state o.visit state) state) (settles_pre es state o) (fresh_of_open s es state c p)) ∙ times_instances-append j (option_to_list (ask_in (with_state o.visit state) state)) (owed es) in
+    let a = opens_settled j (Pre (with_state o.visit state)) o (settled_pre_is es state o) in
+    let d = ap (λ xs. times j (instances xs)) (owed_asked s es state p c) ∙ times_instances-append j (option_to_list (ask_in (with_state o.visit state) state)) (owed es) in
     let e = ap (λ l. leaves_at j l (leaves_by state)) (last_of_open_pre es o) in
     let f = pre_balance j (with_state o.visit state) state in
     let g : one ((o.visit.instance.0 == j) && is_pre_open o.visit.state) ≡ one (o.visit.instance.0 == j) = rw o.unsettled (ap one (and_true (o.visit.instance.0 == j))) in
-    omega (arith, a, b, d, e, f, g)
+    omega (arith, a, d, e, f, g)
 
 pub carried_pre_settled : (s : Stage) (es : List Entry) (state : PreState) (k : CtxId) → is_pre s ≡ true → IsCourse s es
     → carried_among k (owed (map (settle_pre state) es)) ≡ carried_among k (owed es) + taken_by k state
 carried_pre_settled s es state k p c =
     let o = the_open_pre s es c p in
-    let d = ap (carried_among k) (owed_settled es (map (settle_pre state) es) (ask_in (with_state o.visit state) state) (settles_pre es state o) (fresh_of_open s es state c p)) ∙ carried-append k (option_to_list (ask_in (with_state o.visit state) state)) (owed es) in
+    let d = ap (carried_among k) (owed_asked s es state p c) ∙ carried-append k (option_to_list (ask_in (with_state o.visit state) state)) (owed es) in
     let e = taken k (with_state o.visit state) state in
     omega (arith, d, e)
 
@@ -133,7 +127,7 @@ pub owed_pre_settled : (s : Stage) (es : List Entry) (state : PreState) → is_p
     → (visit : PreVisit) × (last_visited es ≡ Some visit.instance.0) × (owed (map (settle_pre state) es) ≡ option_to_list (ask_in visit state) ++ owed es)
 owed_pre_settled s es state p c =
     let o = the_open_pre s es c p in
-    (with_state o.visit state, last_of_open_pre es o, owed_settled es (map (settle_pre state) es) (ask_in (with_state o.visit state) state) (settles_pre es state o) (fresh_of_open s es state c p))
+    (with_state o.visit state, last_of_open_pre es o, owed_asked s es state p c)
 
 post_balance : (b : Bool) (state : PostState) → one b ≡ one (b && is_post_open state) + cond b (post_leaves_by state) 0
 post_balance true post.Running = refl
@@ -144,16 +138,15 @@ pub flight_post_settled : (s : Stage) (es : List Entry) (state : PostState) (j :
     → opens j es + times j (instances (owed es)) ≡ (opens j (map (settle_post state) es) + times j (instances (owed (map (settle_post state) es)))) + leaves_at j (last_posted es) (post_leaves_by state)
 flight_post_settled s es state j p c =
     let o = the_open_post s es c p in
-    let a = ap (opens j) o.split ∙ opens_mid j o.front o.back (Post o.visit) in
-    let b = ap (opens j) (settled_post_is es state o) ∙ opens_mid j o.front o.back (Post (with_post o.visit state)) in
-    let d = ap (λ xs. times j (instances xs)) (owed_settled es (map (settle_post state) es) None (settles_post es state o) tt) in
+    let a = opens_settled j (Post (with_post o.visit state)) o (settled_post_is es state o) in
+    let d = ap (λ xs. times j (instances xs)) (owed_settled es (map (settle_post state) es) None (settles_post es state) tt) in
     let e = ap (λ l. leaves_at j l (post_leaves_by state)) (last_of_open_post es o) in
     let f = post_balance (o.visit.instance.0 == j) state in
     let g : one ((o.visit.instance.0 == j) && is_post_open o.visit.state) ≡ one (o.visit.instance.0 == j) = rw o.unsettled (ap one (and_true (o.visit.instance.0 == j))) in
-    omega (arith, a, b, d, e, f, g)
+    omega (arith, a, d, e, f, g)
 
 pub owed_post_settled : (s : Stage) (es : List Entry) (state : PostState) → is_post s ≡ true → IsCourse s es → owed (map (settle_post state) es) ≡ owed es
-owed_post_settled s es state p c = let o = the_open_post s es c p in owed_settled es (map (settle_post state) es) None (settles_post es state o) tt
+owed_post_settled s es state p c = owed_settled es (map (settle_post state) es) None (settles_post es state) tt
 
 pub owed_drain_settled : (i : ℕ) (es : List Entry) → owed (map (settle_drain i) es) ≡ owed es
 owed_drain_settled i es = owed_settled es (map (settle_drain i) es) None (settles_drain i es) tt

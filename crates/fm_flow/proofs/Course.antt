@@ -1,21 +1,19 @@
 -- The laws of entries are kept by each step.
-use Rattle.fm_flow.proofs.Words.{ℕ, Bool, true, false, cond, not, List, [], length, reverse, filter, Option, Some, None, option_to_list, inl, inr}
-use Rattle.fm_flow.proofs.Words.{refl, sym, ap, ap₂, arith, append-nil, zero-add, cons_option, reverse-append, length-append, nat_tests, Stage}
-use Rattle.fm_flow.proofs.Words.{Descending, PreRunning, InBase, Ascending, PostRunning, PreState, PreVisit, PostVisit, DrainVisit, Status, pre_leads}
-use Rattle.fm_flow.proofs.Words.{drain_opens, Ask, Entry, Pre, Base, Post, Drain, one, times, ask_in, ask_of, is_drained, is_answered, visited, asked}
-use Rattle.fm_flow.proofs.Words.{posted, owed, instances, without, walk, way_of, answer_count, IsCourse, answers, visit_of}
-use Rattle.std.proofs.Common.{◌≡◌, ◌+◌, ◌<◌, ◌≤◌, ◌==◌, ◌&&◌, ◌∷◌, ◌++◌, ◌∙◌, append_assoc}
-use Rattle.std.specs.Prelude.{⊤}
-use Rattle.std.proofs.lemmas.List.{map-append}
-use Rattle.std.proofs.lemmas.List.Elements.{filter-append, filter_agree}
+use Rattle.fm_flow.proofs.Words.{ℕ, Bool, true, false, cond, not, List, [], length, reverse, filter, Option, Some, None, option_to_list}
+use Rattle.fm_flow.proofs.Words.{inl, inr, refl, sym, ap, arith, append-nil, cons_option, reverse-append, length-append, nat_tests, Stage}
+use Rattle.fm_flow.proofs.Words.{Descending, PreRunning, InBase, Ascending, PostRunning, PreState, PreVisit, Status, InstanceId, WorkerId}
+use Rattle.fm_flow.proofs.Words.{bare_ask, drain_opens, Ask, Entry, Pre, Base, Drain, one, times, ask_in, ask_of, is_drained, is_answered}
+use Rattle.fm_flow.proofs.Words.{visited, asked, posted, owed, instances, without, walk, way_of, answer_count, IsCourse, answers, visit_of}
+use Rattle.fm_flow.proofs.Words.{post_of, post_entry, ⊤, map-append, filter-append, filter_agree, undrained, drains, after, slack}
+use Rattle.fm_flow.proofs.Words.{HasItsDrain}
+use Rattle.std.proofs.Common.{◌≡◌, ◌+◌, ◌*◌, ◌<◌, ◌≤◌, ◌==◌, ◌&&◌, ◌∷◌, ◌++◌, ◌∙◌, append_assoc}
 use Rattle.fm_flow.specs.declared.entry.PreState.TheVariants as pre
 use Rattle.fm_flow.specs.declared.entry.PostState.TheVariants as post
-use Rattle.fm_flow.specs.Entries.{undrained, drains, post_of}
-use Rattle.fm_flow.specs.Sound.{if_down, slack, HasItsDrain}
+use Rattle.fm_flow.specs.Counts.{drain_opens_at}
 use Rattle.fm_flow.proofs.Lists.{without_head, others, times-append, instances_without, length_without, others_none, times_others_same}
 use Rattle.fm_flow.proofs.Lists.{times_others_other, one-same, either}
-use Rattle.fm_flow.proofs.Owed.{filter_map-push, answer_count-append, owed_push_none, left_push_ask, left_push_answer, left_push_none, unanswered}
-use Rattle.fm_flow.proofs.Owed.{not_drained}
+use Rattle.fm_flow.proofs.Owed.{filter_map-push, answer_count_push, owed_push_none, left_push_ask, left_push_answer, left_push_none}
+use Rattle.fm_flow.proofs.Owed.{unanswered, not_drained}
 use Rattle.fm_flow.proofs.Walks.{walk_push, no_posts}
 
 -- ---- counts of instances
@@ -31,10 +29,10 @@ reverse_more : (xs : List Ask) (o : Option Ask) → reverse (xs ++ option_to_lis
 reverse_more xs None = ap reverse (append-nil xs)
 reverse_more xs (Some ask) = reverse-append xs (ask ∷ [])
 
-apart_more : (i j : ℕ) (js ks : List ℕ) → times j js ≡ 0 → times i ks ≡ times i js + times i (j ∷ []) → times i js ≤ 1 → times i ks ≤ 1
-apart_more i j js ks fresh k a = elim (either (j == i)) [
-  | inl is ↦ let e : j ≡ i = grind (arith, nat_tests) in let u = ap one is in let same : times i js ≡ times j js = ap (λ n. times n js) (sym e) in omega (arith, same, fresh, k, u)
-  | inr other ↦ let z : one (j == i) ≡ 0 = ap one other in omega (arith, k, a, z)
+apart_more : (i j : ℕ) (js : List ℕ) → times j js ≡ 0 → times i js ≤ 1 → times i js + times i (j ∷ []) ≤ 1
+apart_more i j js fresh a = elim (either (j == i)) [
+  | inl is ↦ let e : j ≡ i = grind (arith, nat_tests) in let u = ap one is in let same = ap (λ n. times n js) e in omega (arith, same, fresh, u)
+  | inr other ↦ let z : one (j == i) ≡ 0 = ap one other in omega (arith, a, z)
 ]
 
 pub asked_cons : (e : Entry) (es : List Entry) → asked (e ∷ es) ≡ option_to_list (ask_of e) ++ asked es
@@ -58,6 +56,15 @@ posted_among i (e ∷ es) = let h = posted_among i es in omega (arith, h)
 -- an instance that wasn't visited was neither answered nor drained
 pub unvisited : (s : Stage) (es : List Entry) (i : ℕ) → IsCourse s es → times i (visited es) ≡ 0 → answer_count i es ≡ 0
 unvisited s es i h none = let a = asked_among i es in let o = h.once i in omega (arith, a, o, none)
+
+-- the ask of an instance that is passed without a call
+abbrev pub bare_ask_of : WorkerId → InstanceId → ℕ → Ask
+bare_ask_of worker i place = record { instance = i; worker = worker; completion = record { number = 0; context = None }; is_synchronized = false; place = place }
+
+pub owed_bare : (es : List Entry) (worker : WorkerId) (i : InstanceId) (place : ℕ) → IsCourse Descending es → times i.0 (visited es) ≡ 0
+    → owed (es ++ Pre (record { instance = i; worker = worker; state = bare_ask; place = place }) ∷ []) ≡ bare_ask_of worker i place ∷ owed es
+owed_bare es worker i place c fresh =
+    left_push_ask answers es (Pre (record { instance = i; worker = worker; state = bare_ask; place = place })) (bare_ask_of worker i place) refl (λ j. refl) (unanswered i.0 es (unvisited Descending es i.0 c fresh))
 
 pub one_and : (a b : Bool) → one (a && b) ≤ one a
 one_and true true = omega arith
@@ -143,52 +150,56 @@ course_start = record {
   drain = tt;
 }
 
--- a visit that asks for nothing yet
-pub course_visit : (es : List Entry) (visit : PreVisit) → visit.state ≡ pre.Running → IsCourse Descending es → times visit.instance.0 (visited es) ≡ 0 → length (visited es) < 32 → IsCourse PreRunning (es ++ Pre visit ∷ [])
-course_visit es visit runs c fresh few =
-    let asks : ask_of (Pre visit) ≡ None = rw runs refl in
-    let o = owed_push_none es (Pre visit) asks (λ i. refl) in
-    let u = left_push_none drains es (Pre visit) asks (λ i. refl) in
-    let v = filter_map-push visit_of es (Pre visit) (Some visit.instance.0) refl in
-    let p = filter_map-push post_of es (Pre visit) None refl ∙ append-nil (posted es) in
-    let q = filter_map-push ask_of es (Pre visit) None asks ∙ append-nil (asked es) in
-    let lv = ap length v ∙ length-append (visited es) (visit.instance.0 ∷ []) in
-    let le = length-append es (Pre visit ∷ []) in
-    let lo = ap length o in
+-- one more entry at a stage that allows it
+course_push : (s t : Stage) (es : List Entry) (e : Entry) → IsCourse s es → after (way_of s) e ≡ Some (way_of t)
+    → ((i : ℕ) → times i (visited es) + times i (option_to_list (visit_of e)) ≤ 1)
+    → ((i : ℕ) → one (answers i e) + times i (instances (owed (es ++ e ∷ []))) ≡ times i (instances (owed es)) + times i (instances (option_to_list (ask_of e))))
+    → posted es ++ (option_to_list (post_of e) ++ instances (owed (es ++ e ∷ []))) ≡ instances (undrained (es ++ e ∷ []))
+    → length (visited es) + length (option_to_list (visit_of e)) ≤ 32
+    → length (owed (es ++ e ∷ [])) + slack t + 1 ≤ length (owed es) + slack s + 2 * length (option_to_list (visit_of e))
+    → HasItsDrain t (es ++ e ∷ []) → IsCourse t (es ++ e ∷ [])
+course_push s t es e c comes apart once ascent few room drain =
+    let v = filter_map-push visit_of es e (visit_of e) refl in
+    let lv = ap length v ∙ length-append (visited es) (option_to_list (visit_of e)) in
     record {
-      order = walk_push Descending es (Pre visit) Descending PreRunning c.order (rw runs refl);
-      apart = λ i. let k = ap (times i) v ∙ times-append i (visited es) (visit.instance.0 ∷ []) in let a = c.apart i in apart_more i visit.instance.0 (visited es) (visited (es ++ Pre visit ∷ [])) fresh k a;
-      once = λ i. let k = answer_count-append i es (Pre visit ∷ []) in let a = c.once i in let b = ap (λ xs. times i (instances xs)) o in let d = ap (λ xs. times i (instances xs)) q in omega (arith, k, a, b, d);
-      ascent = rw (o, u, p) c.ascent;
+      order = walk_push Descending es e (way_of s) (way_of t) c.order comes;
+      apart = λ i. let k = ap (times i) v ∙ times-append i (visited es) (option_to_list (visit_of e)) in let a = apart i in omega (arith, k, a);
+      once = λ i.
+          let k = answer_count_push i es e in
+          let q = ap (λ xs. times i (instances xs)) (filter_map-push ask_of es e (ask_of e) refl) ∙ times_instances-append i (asked es) (option_to_list (ask_of e)) in
+          let a = c.once i in let b = once i in omega (arith, k, q, a, b);
+      ascent =
+          ap (λ xs. xs ++ instances (owed (es ++ e ∷ []))) (filter_map-push post_of es e (post_of e) refl)
+          ∙ append_assoc (posted es) (option_to_list (post_of e)) (instances (owed (es ++ e ∷ []))) ∙ ascent;
       few = omega (arith, lv, few);
-      room = let a = c.room in omega (arith, lv, le, lo, a, few);
-      drain = tt;
+      room = let le = length-append es (e ∷ []) in let a = c.room in omega (arith, lv, le, a, few, room);
+      drain = drain;
     }
 
--- a visit that asks at once
-pub course_visit_ask : (es : List Entry) (visit : PreVisit) (ask : Ask) → ask_of (Pre visit) ≡ Some ask → ask.instance.0 ≡ visit.instance.0 → pre_leads visit.state ≡ Descending
-    → IsCourse Descending es → times visit.instance.0 (visited es) ≡ 0 → length (visited es) < 32 → IsCourse Descending (es ++ Pre visit ∷ [])
-course_visit_ask es visit ask asks same leads c fresh few =
-    let none = unvisited Descending es visit.instance.0 c fresh in
-    let unanswered' : is_answered es ask.instance.0 ≡ false = rw same (unanswered visit.instance.0 es none) in
-    let undrained' : is_drained es ask.instance.0 ≡ false = rw same (not_drained visit.instance.0 es none) in
-    let o = left_push_ask answers es (Pre visit) ask asks (λ i. refl) unanswered' in
-    let u = left_push_ask drains es (Pre visit) ask asks (λ i. refl) undrained' in
-    let v = filter_map-push visit_of es (Pre visit) (Some visit.instance.0) refl in
-    let p = filter_map-push post_of es (Pre visit) None refl ∙ append-nil (posted es) ∙ no_posts Descending es Descending c.order refl in
-    let q = filter_map-push ask_of es (Pre visit) (Some ask) asks in
-    let lv = ap length v ∙ length-append (visited es) (visit.instance.0 ∷ []) in
-    let le = length-append es (Pre visit ∷ []) in
+-- an entry that asks for nothing and answers nothing leaves those owed
+same_owed : (es : List Entry) (e : Entry) → owed (es ++ e ∷ []) ≡ owed es → (i : ℕ) → 0 + times i (instances (owed (es ++ e ∷ []))) ≡ times i (instances (owed es)) + 0
+same_owed es e o i = let b = ap (λ xs. times i (instances xs)) o in omega (arith, b)
+
+-- a visit that asks for nothing yet
+pub course_visit : (es : List Entry) (worker : WorkerId) (i : InstanceId) (place : ℕ) → IsCourse Descending es → times i.0 (visited es) ≡ 0 → length (visited es) < 32
+    → IsCourse PreRunning (es ++ Pre (record { instance = i; worker = worker; state = pre.Running; place = place }) ∷ [])
+course_visit es worker i place c fresh few =
+    let e : Entry = Pre (record { instance = i; worker = worker; state = pre.Running; place = place }) in
+    let o = owed_push_none es e refl (λ j. refl) in
+    let u = left_push_none drains es e refl (λ j. refl) in
     let lo = ap length o in
-    record {
-      order = walk_push Descending es (Pre visit) Descending Descending c.order (ap (if_down Descending) leads);
-      apart = λ i. let k = ap (times i) v ∙ times-append i (visited es) (visit.instance.0 ∷ []) in let a = c.apart i in apart_more i visit.instance.0 (visited es) (visited (es ++ Pre visit ∷ [])) fresh k a;
-      once = λ i. let k = answer_count-append i es (Pre visit ∷ []) in let a = c.once i in let b = ap (λ xs. times i (instances xs)) o in let d = ap (λ xs. times i (instances xs)) q in let f = times_instances-append i (asked es) (ask ∷ []) in omega (arith, k, a, b, d, f);
-      ascent = let h = c.ascent in let n = no_posts Descending es Descending c.order refl in rw (o, u, p) (ap (λ xs. ask.instance.0 ∷ xs) (rw n at h));
-      few = omega (arith, lv, few);
-      room = let a = c.room in omega (arith, lv, le, lo, a, few);
-      drain = tt;
-    }
+    course_push Descending PreRunning es e c refl (λ j. apart_more j i.0 (visited es) fresh (c.apart j)) (same_owed es e o) (rw (o, u) c.ascent) (omega (arith, few)) (omega (arith, lo)) tt
+
+-- a visit that asks at once
+pub course_visit_ask : (es : List Entry) (worker : WorkerId) (i : InstanceId) (place : ℕ) → IsCourse Descending es → times i.0 (visited es) ≡ 0 → length (visited es) < 32
+    → IsCourse Descending (es ++ Pre (record { instance = i; worker = worker; state = bare_ask; place = place }) ∷ [])
+course_visit_ask es worker i place c fresh few =
+    let e : Entry = Pre (record { instance = i; worker = worker; state = bare_ask; place = place }) in
+    let o = owed_bare es worker i place c fresh in
+    let u = left_push_ask drains es e (bare_ask_of worker i place) refl (λ j. refl) (not_drained i.0 es (unvisited Descending es i.0 c fresh)) in
+    let lo = ap length o in let n = no_posts Descending es Descending c.order refl in let h = c.ascent in
+    course_push Descending Descending es e c refl (λ j. apart_more j i.0 (visited es) fresh (c.apart j)) (λ j. let b = ap (λ xs. times j (instances xs)) o in omega (arith, b))
+    (rw (o, u, n) (ap (λ xs. i.0 ∷ xs) (rw n at h))) (omega (arith, few)) (omega (arith, lo)) tt
 
 -- a base call begins
 pub course_in_base : (es : List Entry) → IsCourse Descending es → IsCourse InBase es
@@ -197,70 +208,56 @@ course_in_base es c = record { order = c.order; apart = c.apart; once = c.once; 
 -- the base's entry
 pub course_base : (s : Stage) (es : List Entry) (status : Status) (information : ℕ) → way_of s ≡ Descending → slack s ≡ 1 → IsCourse s es → IsCourse Ascending (es ++ Base status information ∷ [])
 course_base s es status information way slack_is c =
-    let o = owed_push_none es (Base status information) refl (λ i. refl) in
-    let u = left_push_none drains es (Base status information) refl (λ i. refl) in
-    let v = filter_map-push visit_of es (Base status information) None refl ∙ append-nil (visited es) in
-    let p = filter_map-push post_of es (Base status information) None refl ∙ append-nil (posted es) in
-    let q = filter_map-push ask_of es (Base status information) None refl ∙ append-nil (asked es) in
-    let lv = ap length v in
-    let le = length-append es (Base status information ∷ []) in
-    let lo = ap length o in
-    record {
-      order = walk_push Descending es (Base status information) Descending Ascending (c.order ∙ ap Some way) refl;
-      apart = λ i. let k = ap (times i) v in let a = c.apart i in omega (arith, k, a);
-      once = λ i. let k = answer_count-append i es (Base status information ∷ []) in let a = c.once i in let b = ap (λ xs. times i (instances xs)) o in let d = ap (λ xs. times i (instances xs)) q in omega (arith, k, a, b, d);
-      ascent = rw (o, u, p) c.ascent;
-      few = let a = c.few in omega (arith, lv, a);
-      room = let a = c.room in omega (arith, lv, le, lo, a, slack_is);
-      drain = tt;
-    }
+    let e = Base status information in
+    let o = owed_push_none es e refl (λ i. refl) in
+    let u = left_push_none drains es e refl (λ i. refl) in
+    let lo = ap length o in let few = c.few in
+    course_push s Ascending es e c (rw way refl) (λ i. let a = c.apart i in omega (arith, a)) (same_owed es e o) (rw (o, u) c.ascent) (omega (arith, few)) (omega (arith, lo, slack_is)) tt
 
--- an instance stands at most once among those owed
+-- an instance stands at most once among those owed, and so the first of them does
 pub owed_once : (s : Stage) (es : List Entry) (i : ℕ) → IsCourse s es → times i (instances (owed es)) ≤ 1
 owed_once s es i c = let a = asked_among i es in let b = c.once i in let d = c.apart i in omega (arith, a, b, d)
 
-others_once : (i k n m : ℕ) (js : List ℕ) → times i js ≡ 1 → n + times k js ≡ m → (n + one (i == k)) + times k (others i js) ≡ m
-others_once i k n m js once h = elim (either (i == k)) [
+pub owed_first : (s : Stage) (es : List Entry) (ask : Ask) (rest : List Ask) → IsCourse s es → owed es ≡ ask ∷ rest → times ask.instance.0 (instances (owed es)) ≡ 1
+owed_first s es ask rest c next =
+    let k = ap (λ xs. times ask.instance.0 (instances xs)) next in let h = one-same ask.instance.0 in let few = owed_once s es ask.instance.0 c in omega (arith, k, few, h)
+
+-- an answer to the one that is owed next leaves the others
+pub owed_answered : (s : Stage) (es : List Entry) (e : Entry) (ask : Ask) (rest : List Ask) → IsCourse s es → owed es ≡ ask ∷ rest → ask_of e ≡ None → ((j : ℕ) → answers j e ≡ (ask.instance.0 == j))
+    → owed (es ++ e ∷ []) ≡ rest
+owed_answered s es e ask rest c next asks same =
+    let few : times ask.instance.0 (instances (ask ∷ rest)) ≤ 1 = let h = owed_first s es ask rest c next in let k = ap (λ xs. times ask.instance.0 (instances xs)) next in omega (arith, h, k) in
+    left_push_answer answers es e ask.instance.0 asks same ∙ ap (without ask.instance.0) next ∙ without_head ask rest few
+
+others_once : (i k : ℕ) (js : List ℕ) → times i js ≡ 1 → one (i == k) + times k (others i js) ≡ times k js
+others_once i k js once = elim (either (i == k)) [
   | inl is ↦
       let e : i ≡ k = grind (arith, nat_tests) in
       let a = ap one is in
       let b : times k (others i js) ≡ 0 = ap (λ j. times j (others i js)) (sym e) ∙ times_others_same i js in
       let d : times k js ≡ 1 = ap (λ j. times j js) (sym e) ∙ once in
-      omega (arith, a, b, d, h)
-  | inr differs ↦ let a = ap one differs in let b = times_others_other i k js differs in omega (arith, a, b, h)
+      omega (arith, a, b, d)
+  | inr differs ↦ let a = ap one differs in let b = times_others_other i k js differs in omega (arith, a, b)
 ]
 
+answered_once : (es : List Entry) (e : Entry) (i : ℕ) → ask_of e ≡ None → ((j : ℕ) → answers j e ≡ (i == j)) → times i (instances (owed es)) ≡ 1
+    → (j : ℕ) → one (answers j e) + times j (instances (owed (es ++ e ∷ []))) ≡ times j (instances (owed es)) + 0
+answered_once es e i asks same once j =
+    let a = ap one (same j) in
+    let b = ap (λ xs. times j (instances xs)) (left_push_answer answers es e i asks same) ∙ ap (times j) (instances_without i (owed es)) in
+    let h = others_once i j (instances (owed es)) once in
+    omega (arith, a, b, h)
+
 -- the postoperation that comes next
-pub course_post : (es : List Entry) (visit : PostVisit) (ask : Ask) (rest : List Ask) → visit.state ≡ post.Running → visit.instance.0 ≡ ask.instance.0 → owed es ≡ ask ∷ rest → IsCourse Ascending es
-    → IsCourse PostRunning (es ++ Post visit ∷ [])
-course_post es visit ask rest runs same next c =
-    let i = visit.instance.0 in
-    let few' : times ask.instance.0 (instances (ask ∷ rest)) ≤ 1 = let h = owed_once Ascending es ask.instance.0 c in let k = ap (λ xs. times ask.instance.0 (instances xs)) next in omega (arith, h, k) in
-    let first : times visit.instance.0 (instances (owed es)) ≡ 1 = let k = ap (λ xs. times visit.instance.0 (instances xs)) next in let h = owed_once Ascending es visit.instance.0 c in let one' : one (ask.instance.0 == visit.instance.0) ≡ 1 = grind (arith, nat_tests) in omega (arith, k, h, one') in
-    let w = left_push_answer answers es (Post visit) visit.instance.0 refl (λ j. refl) in
-    let r : owed (es ++ Post visit ∷ []) ≡ rest = w ∙ ap₂ (λ j xs. without j xs) same next ∙ without_head ask rest few' in
-    let u = left_push_none drains es (Post visit) refl (λ j. refl) in
-    let v = filter_map-push visit_of es (Post visit) None refl ∙ append-nil (visited es) in
-    let p = filter_map-push post_of es (Post visit) (Some visit.instance.0) refl in
-    let q = filter_map-push ask_of es (Post visit) None refl ∙ append-nil (asked es) in
-    let lv = ap length v in
-    let le = length-append es (Post visit ∷ []) in
-    let lo = ap length r in
-    let ln = ap length next in
-    record {
-      order = walk_push Descending es (Post visit) Ascending PostRunning c.order (rw runs refl);
-      apart = λ j. let k = ap (times j) v in let a = c.apart j in omega (arith, k, a);
-      once = λ j.
-          let k = answer_count-append j es (Post visit ∷ []) in
-          let d = ap (λ xs. times j (instances xs)) q in
-          let b = ap (λ xs. times j (instances xs)) w ∙ ap (times j) (instances_without visit.instance.0 (owed es)) in
-          let e = others_once visit.instance.0 j (answer_count j es) (times j (instances (asked es))) (instances (owed es)) first (c.once j) in
-          omega (arith, k, d, b, e);
-      ascent = let h = c.ascent in rw (r, u, p) (append_assoc (posted es) (visit.instance.0 ∷ []) (instances rest) ∙ rw same (sym (ap (λ xs. posted es ++ instances xs) next) ∙ h));
-      few = let a = c.few in omega (arith, lv, a);
-      room = let a = c.room in omega (arith, lv, le, lo, ln, a);
-      drain = tt;
-    }
+pub course_post : (es : List Entry) (worker : WorkerId) (ask : Ask) (rest : List Ask) → owed es ≡ ask ∷ rest → IsCourse Ascending es
+    → IsCourse PostRunning (es ++ post_entry worker ask.instance post.Running ∷ [])
+course_post es worker ask rest next c =
+    let e = post_entry worker ask.instance post.Running in
+    let r = owed_answered Ascending es e ask rest c next refl (λ j. refl) in
+    let u = left_push_none drains es e refl (λ j. refl) in
+    let lo = ap length r in let ln = ap length next in let few = c.few in let h = c.ascent in
+    course_push Ascending PostRunning es e c refl (λ j. let a = c.apart j in omega (arith, a)) (answered_once es e ask.instance.0 refl (λ j. refl) (owed_first Ascending es ask rest c next))
+    (rw (r, u) (sym (ap (λ xs. posted es ++ instances xs) next) ∙ h)) (omega (arith, few)) (omega (arith, lo, ln)) tt
 
 -- an instance that is owed was answered by no entry
 pub answered_before : (s : Stage) (es : List Entry) (i : ℕ) → IsCourse s es → times i (instances (owed es)) ≡ 1 → answer_count i es ≡ 0
@@ -271,46 +268,23 @@ drains_among i [] = omega arith
 drains_among i (Drain visit ∷ es) = let h = drains_among i es in let k : one ((visit.instance.0 == i) && visit.is_running) ≤ one (visit.instance.0 == i) = one_and (visit.instance.0 == i) visit.is_running in omega (arith, h, k)
 drains_among i (e ∷ es) = let h = drains_among i es in omega (arith, h)
 
-pub drain_opens-append : (i : ℕ) (es fs : List Entry) → drain_opens i (es ++ fs) ≡ drain_opens i es + drain_opens i fs
-drain_opens-append i [] fs = sym (zero-add (drain_opens i fs))
-drain_opens-append i (e ∷ es) fs = let h = drain_opens-append i es fs in omega (arith, h)
-
-drain_opened : (es : List Entry) (visit : DrainVisit) → visit.is_running ≡ true → answer_count visit.instance.0 es ≡ 0 → drain_opens visit.instance.0 (es ++ Drain visit ∷ []) ≡ 1
-drain_opened es visit runs none =
-    let a = drain_opens-append visit.instance.0 es (Drain visit ∷ []) in
-    let b = drains_among visit.instance.0 es in
-    let d : one ((visit.instance.0 == visit.instance.0) && visit.is_running) ≡ 1 = rw runs (one_true (visit.instance.0 == visit.instance.0) (one-same visit.instance.0)) in
-    omega (arith, a, b, d, none)
+pub drains_push : (i : ℕ) (es : List Entry) (e : Entry) → drain_opens i (es ++ e ∷ []) ≡ drain_opens i es + drain_opens_at i e
+drains_push i [] e = omega arith
+drains_push i (x ∷ es) e = let h = drains_push i es e in omega (arith, h)
 
 -- a drain, which may come at any stage
-pub course_drain : (s t : Stage) (es : List Entry) (visit : DrainVisit) → visit.is_running ≡ true → times visit.instance.0 (instances (owed es)) ≡ 1 → way_of t ≡ way_of s → slack t ≡ slack s
-    → (drain_opens visit.instance.0 (es ++ Drain visit ∷ []) ≡ 1 → HasItsDrain s es → HasItsDrain t (es ++ Drain visit ∷ [])) → IsCourse s es → IsCourse t (es ++ Drain visit ∷ [])
-course_drain s t es visit runs once way slack_is drains' c =
-    let w = left_push_answer answers es (Drain visit) visit.instance.0 refl (λ j. refl) in
-    let n = left_push_answer drains es (Drain visit) visit.instance.0 refl (λ j. refl) in
-    let v = filter_map-push visit_of es (Drain visit) None refl ∙ append-nil (visited es) in
-    let p = filter_map-push post_of es (Drain visit) None refl ∙ append-nil (posted es) in
-    let q = filter_map-push ask_of es (Drain visit) None refl ∙ append-nil (asked es) in
-    let unposted : times visit.instance.0 (posted es) ≡ 0 = let a = posted_among visit.instance.0 es in let b = c.once visit.instance.0 in let d = asked_among visit.instance.0 es in let e = c.apart visit.instance.0 in omega (arith, a, b, d, e, once) in
-    let lv = ap length v in
-    let le = length-append es (Drain visit ∷ []) in
-    let lo = ap length w in
-    let ln = length_without visit.instance.0 (owed es) in
-    record {
-      order = walk_push Descending es (Drain visit) (way_of s) (way_of t) c.order (ap Some (sym way));
-      apart = λ j. let k = ap (times j) v in let a = c.apart j in omega (arith, k, a);
-      once = λ j.
-          let k = answer_count-append j es (Drain visit ∷ []) in
-          let d = ap (λ xs. times j (instances xs)) q in
-          let b = ap (λ xs. times j (instances xs)) w ∙ ap (times j) (instances_without visit.instance.0 (owed es)) in
-          let e = others_once visit.instance.0 j (answer_count j es) (times j (instances (asked es))) (instances (owed es)) once (c.once j) in
-          omega (arith, k, d, b, e);
-      ascent =
-          let h = c.ascent in
-          let a = ap (λ xs. posted es ++ xs) (instances_without visit.instance.0 (owed es)) in
-          let b = sym (filter-append (λ j. not (visit.instance.0 == j)) (posted es) (instances (owed es)) ∙ ap (λ xs. xs ++ others visit.instance.0 (instances (owed es))) (others_none visit.instance.0 (posted es) unposted)) in
-          rw (w, n, p) (a ∙ b ∙ ap (others visit.instance.0) h ∙ sym (instances_without visit.instance.0 (undrained es)));
-      few = let a = c.few in omega (arith, lv, a);
-      room = let a = c.room in omega (arith, lv, le, lo, ln, a, once, slack_is);
-      drain = drains' (drain_opened es visit runs (answered_before s es visit.instance.0 c once)) c.drain;
-    }
+pub course_drain : (s t : Stage) (es : List Entry) (i : InstanceId) → times i.0 (instances (owed es)) ≡ 1 → way_of t ≡ way_of s → slack t ≡ slack s
+    → (drain_opens i.0 (es ++ Drain (record { instance = i; is_running = true }) ∷ []) ≡ 1 → HasItsDrain s es → HasItsDrain t (es ++ Drain (record { instance = i; is_running = true }) ∷ []))
+    → IsCourse s es → IsCourse t (es ++ Drain (record { instance = i; is_running = true }) ∷ [])
+course_drain s t es i once way slack_is drains' c =
+    let e : Entry = Drain (record { instance = i; is_running = true }) in
+    let w = left_push_answer answers es e i.0 refl (λ j. refl) in
+    let n = left_push_answer drains es e i.0 refl (λ j. refl) in
+    let none = answered_before s es i.0 c once in
+    let unposted : times i.0 (posted es) ≡ 0 = let a = posted_among i.0 es in omega (arith, a, none) in
+    let lo = ap length w in let ln = length_without i.0 (owed es) in let few = c.few in
+    let runs : drain_opens i.0 (es ++ e ∷ []) ≡ 1 = let a = drains_push i.0 es e in let b = drains_among i.0 es in let d = one_true (i.0 == i.0) (one-same i.0) in omega (arith, a, b, d, none) in
+    let a = ap (λ xs. posted es ++ xs) (instances_without i.0 (owed es)) in
+    let b = sym (filter-append (λ j. not (i.0 == j)) (posted es) (instances (owed es)) ∙ ap (λ xs. xs ++ others i.0 (instances (owed es))) (others_none i.0 (posted es) unposted)) in
+    course_push s t es e c (ap Some (sym way)) (λ j. let k = c.apart j in omega (arith, k)) (answered_once es e i.0 refl (λ j. refl) once)
+    (rw (w, n) (a ∙ b ∙ ap (others i.0) c.ascent ∙ sym (instances_without i.0 (undrained es)))) (omega (arith, few)) (omega (arith, lo, ln, once, slack_is)) (drains' runs c.drain)

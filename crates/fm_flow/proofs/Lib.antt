@@ -6,6 +6,7 @@ pub mod Course
 pub mod Settled
 pub mod Counting
 pub mod Soundness
+pub mod Turns
 pub mod Flows
 pub mod Paths
 pub mod Places

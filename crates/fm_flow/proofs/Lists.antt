@@ -1,10 +1,10 @@
 -- Lists of numbers in which each is counted, and filters of lists.
-use Rattle.fm_flow.proofs.Words.{ℕ, Bool, true, false, cond, not, List, [], length, map, filter, find, reverse, take, drop, get_or, slice_get, Option}
-use Rattle.fm_flow.proofs.Words.{Some, None, option_to_list, inl, inr, refl, sym, ap, arith, zero-add, ap₂, append-nil, reverse-append}
-use Rattle.fm_flow.proofs.Words.{filter_map-append, nat_tests, cons_option, Ask, one, times, instances, without}
-use Rattle.std.proofs.Common.{◌≡◌, ◌+◌, ◌<◌, ◌≤◌, ◌==◌, ◌&&◌, ◌∷◌, ◌++◌, ◌∙◌, filter_map, set, ◌⊎◌}
+use Rattle.fm_flow.proofs.Words.{ℕ, Bool, true, false, cond, not, List, [], length, map, filter, find, reverse, take, drop, get_or}
+use Rattle.fm_flow.proofs.Words.{slice_get, Option, Some, None, option_to_list, inl, inr, refl, sym, ap, arith, zero-add, ap₂, append-nil}
+use Rattle.fm_flow.proofs.Words.{reverse-append, filter_map-append, nat_tests, cons_option, Ask, one, times, instances, without}
+use Rattle.fm_flow.proofs.Words.{get_or_default}
+use Rattle.std.proofs.Common.{◌≡◌, ◌+◌, ◌<◌, ◌≤◌, ◌==◌, ◌&&◌, ◌||◌, ◌∷◌, ◌++◌, ◌∙◌, filter_map, set, ◌⊎◌}
 use Rattle.std.proofs.lemmas.List.Edits.{map_over_more}
-use Rattle.std.proofs.lemmas.List.{get_or_default}
 
 -- the numbers other than i
 abbrev pub others : ℕ → List ℕ → List ℕ
@@ -13,6 +13,10 @@ others i js = filter (λ j. not (i == j)) js
 pub either : (b : Bool) → (b ≡ true) ⊎ (b ≡ false)
 either true = inl refl
 either false = inr refl
+
+pub or_true : (b : Bool) → (b || true) ≡ true
+or_true true = refl
+or_true false = refl
 
 pub one-same : (i : ℕ) → one (i == i) ≡ 1
 one-same i = grind (arith, nat_tests)

@@ -1,10 +1,8 @@
 -- What one more entry makes of the postoperations owed.
-use Rattle.fm_flow.proofs.Words.{ℕ, Bool, true, false, cond, not, List, [], reverse, filter, Option, Some, None, option_to_list, refl, sym, ap, arith}
-use Rattle.fm_flow.proofs.Words.{append-nil, zero-add, reverse-append, filter_map-append, Ask, Entry, Drain, one, ask_of, answers, is_drained}
-use Rattle.fm_flow.proofs.Words.{is_answered, asked, owed, without, answer_count, list_any}
-use Rattle.std.proofs.lemmas.List.Elements.{filter_agree}
+use Rattle.fm_flow.proofs.Words.{ℕ, Bool, true, false, cond, not, List, [], reverse, filter, Option, Some, None, option_to_list, refl, sym}
+use Rattle.fm_flow.proofs.Words.{ap, arith, append-nil, reverse-append, filter_map-append, Ask, Entry, Drain, one, ask_of, answers}
+use Rattle.fm_flow.proofs.Words.{is_drained, is_answered, asked, owed, without, answer_count, list_any, filter_agree, drains}
 use Rattle.std.proofs.lemmas.List.Folds.{list_any-append}
-use Rattle.fm_flow.specs.Entries.{drains}
 use Rattle.std.proofs.Common.{◌≡◌, ◌+◌, ◌==◌, ◌&&◌, ◌||◌, ◌∷◌, ◌++◌, ◌∙◌, filter_map}
 use Rattle.fm_flow.proofs.Lists.{filter_both, filter_map_one}
 
@@ -20,9 +18,9 @@ or_false false = refl
 any_push : (test : ℕ → Entry → Bool) (es : List Entry) (e : Entry) (i : ℕ) → list_any (test i) (es ++ e ∷ []) ≡ (list_any (test i) es || test i e)
 any_push test es e i = list_any-append (test i) es (e ∷ []) ∙ ap (λ b. list_any (test i) es || b) (or_false (test i e))
 
-pub answer_count-append : (i : ℕ) (es fs : List Entry) → answer_count i (es ++ fs) ≡ answer_count i es + answer_count i fs
-answer_count-append i [] fs = sym (zero-add (answer_count i fs))
-answer_count-append i (e ∷ es) fs = let h = answer_count-append i es fs in omega (arith, h)
+pub answer_count_push : (i : ℕ) (es : List Entry) (e : Entry) → answer_count i (es ++ e ∷ []) ≡ answer_count i es + one (answers i e)
+answer_count_push i [] e = omega arith
+answer_count_push i (x ∷ es) e = let h = answer_count_push i es e in omega (arith, h)
 
 -- ---- the postoperations owed, and those asked for without drained ones
 

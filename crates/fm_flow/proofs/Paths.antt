@@ -1,6 +1,6 @@
 -- The path for the base's call is at hand until the call.
-use Rattle.std.proofs.Common.{◌≡◌}
 use Rattle.fm_flow.proofs.Words.{ℕ, List, Option, PreState, PostState, pre_leads, post_leads, HasPath}
+use Rattle.std.proofs.Common.{◌≡◌}
 use Rattle.fm_flow.specs.declared.entry.PreState.TheVariants as pre
 use Rattle.fm_flow.specs.declared.entry.PostState.TheVariants as post
 

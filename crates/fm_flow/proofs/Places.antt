@@ -1,14 +1,12 @@
 -- The place of an operation in the table.
-use Rattle.fm_flow.proofs.Words.{ℕ, Bool, true, false, cond, List, length, get_or, take, find, Option, Some, None, option_map, Ok, Err, refl, ap, sym}
-use Rattle.fm_flow.proofs.Words.{subst, same_Some, list_any, WrongStep, Answer, is_running_drain, FlowRecord, Stage, IsSound, StandsAt, marked}
-use Rattle.std.proofs.Common.{◌≡◌, ◌+◌, ◌<◌, ◌≤◌, ◌∙◌, set, remove, position, unwrap_or}
-use Rattle.std.specs.Prelude.{count_by}
-use Rattle.std.proofs.lemmas.List.{get_or_default}
+use Rattle.fm_flow.proofs.Words.{ℕ, Bool, true, false, cond, List, length, get_or, take, find, Option, Some, None, option_map, Ok, Err}
+use Rattle.fm_flow.proofs.Words.{refl, ap, sym, subst, same_Some, list_any, WrongStep, Answer, is_running_drain, FlowRecord, Stage, IsSound}
+use Rattle.fm_flow.proofs.Words.{StandsAt, marked, count_by, get_or_default, IsFlow, FlowTable, is_number, operation_at, changed, removed}
+use Rattle.fm_flow.proofs.Words.{told, collected_of, collected_in, collect_reply, is_collectable}
+use Rattle.std.proofs.Common.{◌≡◌, ◌<◌, ◌≤◌, ◌∙◌, set, remove, position, unwrap_or}
 use Rattle.fm_types.specs.declared.ids.OpId.{OpId}
 use Rattle.fm_types.proofs.Firsts.{StandsThere, stands_there, absent, change_none, found_holds}
 use Rattle.fm_flow.proofs.Flows.{Stays, flow_changes, flow_collects}
-use Rattle.fm_flow.specs.Table.{IsFlow, FlowTable, is_number, operation_at, changed, removed, told, collected_of, collected_in, collect_reply}
-use Rattle.fm_flow.specs.Table.{is_collectable}
 
 -- ---- a method finds no operation of that number
 

@@ -1,12 +1,10 @@
 -- What callbacks see of an operation's parameters, through its steps.
-use Rattle.fm_flow.proofs.Words.{ℕ, List, [], length, take, Option, Some, None, Ok, slice_get, refl, ap, ap₂, sym, arith, same_Some, WorkerId, Params}
-use Rattle.fm_flow.proofs.Words.{Ask, FlowRecord, unwound, unwound_to, give_post}
+use Rattle.fm_flow.proofs.Words.{ℕ, List, [], length, take, Option, Some, None, Ok, slice_get, refl, ap, ap₂, sym, arith, same_Some}
+use Rattle.fm_flow.proofs.Words.{WorkerId, Params, Ask, FlowRecord, unwound, unwound_to, give_post, unwrap_or, answered_data, kept_of}
+use Rattle.fm_flow.proofs.Words.{lent_answer}
 use Rattle.std.proofs.Common.{◌≡◌, ◌≤◌, ◌∷◌, ◌++◌, ◌∙◌, zero, suc}
-use Rattle.std.specs.Prelude.{unwrap_or}
-use Rattle.fm_data.specs.Data.{answered_data}
 use Rattle.fm_flow.specs.declared.action.FlowAction.TheVariants as action
 use Rattle.fm_flow.specs.Seen.{sees, ParametersSeen}
-use Rattle.fm_flow.specs.Steps.{kept_of, lent_answer}
 
 -- what one visit keeps, seen from a place at or above it
 kept_here : (kept : List Params) (received : Params) (changed : Option Params) (place : ℕ) → place ≤ length kept

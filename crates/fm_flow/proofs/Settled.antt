@@ -1,62 +1,83 @@
 -- The laws of entries are kept where a callback that ran or held is settled.
-use Rattle.fm_flow.proofs.Words.{ℕ, true, cond, List, [], length, map, Option, Some, None, option_to_list, refl, sym, ap, ap₂, subst, arith}
-use Rattle.fm_flow.proofs.Words.{append-nil, cons_option, length-append, filter_map-append, InstanceId, Stage, Descending, PreRunning, PreHeld}
-use Rattle.fm_flow.proofs.Words.{Ascending, InDrain, PreState, PostState, PreVisit, PostVisit, Ask, Entry, Pre, Post, one, times, ask_in, ask_of}
-use Rattle.fm_flow.proofs.Words.{visit_of, post_of, answers, is_drained, is_answered, visited, asked, posted, instances, is_pre_open, settle_pre}
-use Rattle.fm_flow.proofs.Words.{settle_post, settle_drain, pre_leads, post_leads, walk, way_of, answer_count, IsCourse}
-use Rattle.std.proofs.Common.{◌≡◌, ◌+◌, ◌≤◌, ◌||◌, ◌∷◌, ◌++◌, ◌∙◌, option_and_then}
-use Rattle.std.proofs.lemmas.List.{map-append, length-map}
-use Rattle.std.proofs.lemmas.List.Folds.{list_any-append}
+use Rattle.fm_flow.proofs.Words.{ℕ, true, cond, List, [], length, map, Option, Some, None, option_to_list, refl, sym, ap, ap₂, arith}
+use Rattle.fm_flow.proofs.Words.{append-nil, cons_option, filter_map-append, InstanceId, Stage, Descending, PreRunning, PreHeld, Bool}
+use Rattle.fm_flow.proofs.Words.{Ascending, InDrain, PreState, PostState, PreVisit, PostVisit, Ask, Entry, Pre, Post, Drain, one, times}
+use Rattle.fm_flow.proofs.Words.{ask_in, ask_of, visit_of, post_of, answers, visited, asked, posted, instances, is_pre_open, settle_pre}
+use Rattle.fm_flow.proofs.Words.{list_any, settle_post, settle_drain, pre_leads, post_leads, walk, way_of, answer_count, IsCourse}
+use Rattle.fm_flow.proofs.Words.{map-append, length-map, drains, after, slack, HasItsDrain}
+use Rattle.std.proofs.Common.{◌≡◌, ◌+◌, ◌≤◌, ◌||◌, ◌∷◌, ◌++◌, ◌∙◌, option_and_then, filter_map}
 use Rattle.fm_flow.specs.declared.entry.PreState.TheVariants as pre
 use Rattle.fm_flow.specs.declared.entry.PostState.TheVariants as post
-use Rattle.fm_flow.specs.Entries.{drains}
-use Rattle.fm_flow.specs.Sound.{after, slack, HasItsDrain}
 use Rattle.fm_flow.proofs.Lists.{times-append, one-same}
-use Rattle.fm_flow.proofs.Owed.{answer_count-append}
-use Rattle.fm_flow.proofs.Walks.{Quiet, OpenPre, OpenPost, open_pre, open_post, is_pre, is_post, is_down, way_of_pre, way_of_post, way_of_pre_leads}
-use Rattle.fm_flow.proofs.Walks.{way_of_post_leads, walk-append, no_posts}
+use Rattle.fm_flow.proofs.Walks.{Settling, OpenAs, OpenPre, OpenPost, open_pre, open_post, settling_pre, settling_post, is_pre, is_post}
+use Rattle.fm_flow.proofs.Walks.{is_down, callback_of_pre, callback_of_post, way_of_callback, way_of_pre_leads, way_of_post_leads}
+use Rattle.fm_flow.proofs.Walks.{walk-append, no_posts}
 use Rattle.fm_flow.proofs.Course.{Settles, IsFresh, course_settled, asked_among, asked_cons}
 
--- ---- an entry in the midst of a list
+-- ---- entry by entry
 
-is_answered_mid : (front back : List Entry) (e f : Entry) (i : ℕ) → answers i f ≡ answers i e → is_answered (front ++ f ∷ back) i ≡ is_answered (front ++ e ∷ back) i
-is_answered_mid front back e f i same = list_any-append (answers i) front (f ∷ back) ∙ ap (λ b. is_answered front i || (b || is_answered back i)) same ∙ sym (list_any-append (answers i) front (e ∷ back))
+-- what a return leaves of an entry: all but what it asks for
+pub record Alike (f e : Entry) : Type 0 where
+  pub visits : visit_of f ≡ visit_of e
+  pub posts : post_of f ≡ post_of e
+  pub answered : (i : ℕ) → answers i f ≡ answers i e
+  pub drained : (i : ℕ) → drains i f ≡ drains i e
 
-is_drained_mid : (front back : List Entry) (e f : Entry) (i : ℕ) → drains i f ≡ drains i e → is_drained (front ++ f ∷ back) i ≡ is_drained (front ++ e ∷ back) i
-is_drained_mid front back e f i same = list_any-append (drains i) front (f ∷ back) ∙ ap (λ b. is_drained front i || (b || is_drained back i)) same ∙ sym (list_any-append (drains i) front (e ∷ back))
+alike : (e : Entry) → Alike e e
+alike e = record { visits = refl; posts = refl; answered = λ i. refl; drained = λ i. refl }
 
-answer_count_mid : (front back : List Entry) (e f : Entry) (i : ℕ) → answers i f ≡ answers i e → answer_count i (front ++ f ∷ back) ≡ answer_count i (front ++ e ∷ back)
-answer_count_mid front back e f i same =
-    let a = answer_count-append i front (f ∷ back) in let b = answer_count-append i front (e ∷ back) in let d = ap one same in omega (arith, a, b, d)
+pre_alike : (state : PreState) (e : Entry) → Alike (settle_pre state e) e
+pre_alike state (Pre visit) = record { visits = refl; posts = refl; answered = λ i. refl; drained = λ i. refl }
+pre_alike state e = alike e
 
-length_mid : (front back : List Entry) (e f : Entry) → length (front ++ f ∷ back) ≡ length (front ++ e ∷ back)
-length_mid front back e f = length-append front (f ∷ back) ∙ sym (length-append front (e ∷ back))
+post_alike : (state : PostState) (e : Entry) → Alike (settle_post state e) e
+post_alike state (Post visit) = record { visits = refl; posts = refl; answered = λ i. refl; drained = λ i. refl }
+post_alike state e = alike e
 
-visited_mid : (front back : List Entry) (e f : Entry) → visit_of f ≡ visit_of e → visited (front ++ f ∷ back) ≡ visited (front ++ e ∷ back)
-visited_mid front back e f same = filter_map-append visit_of front (f ∷ back) ∙ ap (λ o. visited front ++ cons_option o (visited back)) same ∙ sym (filter_map-append visit_of front (e ∷ back))
+drain_alike : (i : ℕ) (e : Entry) → Alike (settle_drain i e) e
+drain_alike i (Drain visit) = record { visits = refl; posts = refl; answered = λ j. refl; drained = λ j. refl }
+drain_alike i e = alike e
 
-posted_mid : (front back : List Entry) (e f : Entry) → post_of f ≡ post_of e → posted (front ++ f ∷ back) ≡ posted (front ++ e ∷ back)
-posted_mid front back e f same = filter_map-append post_of front (f ∷ back) ∙ ap (λ o. posted front ++ cons_option o (posted back)) same ∙ sym (filter_map-append post_of front (e ∷ back))
+map_alike : {Y : Type 0} (g : Entry → Option Y) (f : Entry → Entry) → ((e : Entry) → g (f e) ≡ g e) → (es : List Entry) → filter_map g (map f es) ≡ filter_map g es
+map_alike g f same [] = refl
+map_alike g f same (e ∷ es) = ap₂ cons_option (same e) (map_alike g f same es)
+
+any_alike : (p : Entry → Bool) (f : Entry → Entry) → ((e : Entry) → p (f e) ≡ p e) → (es : List Entry) → list_any p (map f es) ≡ list_any p es
+any_alike p f same [] = refl
+any_alike p f same (e ∷ es) = ap₂ (λ a b. a || b) (same e) (any_alike p f same es)
+
+count_alike : (i : ℕ) (f : Entry → Entry) → ((e : Entry) → answers i (f e) ≡ answers i e) → (es : List Entry) → answer_count i (map f es) ≡ answer_count i es
+count_alike i f same [] = refl
+count_alike i f same (e ∷ es) = ap₂ (λ a b. one a + b) (same e) (count_alike i f same es)
+
+settles : (f : Entry → Entry) (es : List Entry) (o : Option Ask) → ((e : Entry) → Alike (f e) e) → asked (map f es) ≡ asked es ++ option_to_list o → Settles es (map f es) o
+settles f es o same asks = record {
+  asks = asks;
+  visits = map_alike visit_of f (λ e. (same e).visits) es;
+  posts = map_alike post_of f (λ e. (same e).posts) es;
+  answered = λ i. any_alike (answers i) f (λ e. (same e).answered i) es;
+  drained = λ i. any_alike (drains i) f (λ e. (same e).drained i) es;
+  counts = λ i. count_alike i f (λ e. (same e).answered i) es;
+  len = length-map es f;
+}
+
+-- ---- the entry of a callback in the midst of a list
 
 asked_mid : (front back : List Entry) (e : Entry) (o : Option Ask) → ask_of e ≡ o → asked back ≡ [] → asked (front ++ e ∷ back) ≡ asked front ++ option_to_list o
 asked_mid front back e o is quiet =
     filter_map-append ask_of front (e ∷ back) ∙ ap (λ xs. asked front ++ xs) (asked_cons e back ∙ ap₂ (λ p xs. option_to_list p ++ xs) is quiet ∙ append-nil (option_to_list o))
 
--- the entry settled asks for what the entry before didn't
-settles_mid : (front back : List Entry) (e f : Entry) (o : Option Ask) → ask_of e ≡ None → ask_of f ≡ o → visit_of f ≡ visit_of e → post_of f ≡ post_of e
-    → ((i : ℕ) → answers i f ≡ answers i e) → ((i : ℕ) → drains i f ≡ drains i e) → asked back ≡ [] → Settles (front ++ e ∷ back) (front ++ f ∷ back) o
-settles_mid front back e f o none asks visits posts answered drained quiet = record {
-  asks = asked_mid front back f o asks quiet ∙ ap (λ xs. xs ++ option_to_list o) (sym (asked_mid front back e None none quiet ∙ append-nil (asked front)));
-  visits = visited_mid front back e f visits;
-  posts = posted_mid front back e f posts;
-  answered = λ i. is_answered_mid front back e f i (answered i);
-  drained = λ i. is_drained_mid front back e f i (drained i);
-  counts = λ i. answer_count_mid front back e f i (answered i);
-  len = length_mid front back e f;
-}
+settled_is : {V : Type 0} {kind : V → Entry} {from : Stage} {es : List Entry} {f : Entry → Entry} (e : Entry) (o : OpenAs kind from es) → Settling f → f (kind o.visit) ≡ e
+    → map f es ≡ o.front ++ e ∷ o.back
+settled_is {kind = kind} {f = f} e o closed is =
+    ap (map f) o.split ∙ map-append f o.front (kind o.visit ∷ o.back) ∙ ap₂ (λ xs ys. xs ++ f (kind o.visit) ∷ ys) (o.stays f closed) (o.quiet.stays f closed)
+    ∙ ap (λ x. o.front ++ x ∷ o.back) is
 
-walk_mid : (s t u : Stage) (front back : List Entry) (e : Entry) → walk s front ≡ Some t → after t e ≡ Some u → Quiet back → walk s (front ++ e ∷ back) ≡ Some u
-walk_mid s t u front back e w a q = walk-append s front (e ∷ back) ∙ ap (option_and_then (λ v. walk v (e ∷ back))) w ∙ ap (option_and_then (λ v. walk v back)) a ∙ q.walks u
+walk_settled : {V : Type 0} {kind : V → Entry} {from : Stage} {es fs : List Entry} (e : Entry) (u : Stage) (o : OpenAs kind from es) → fs ≡ o.front ++ e ∷ o.back → after from e ≡ Some u
+    → way_of u ≡ u → walk Descending fs ≡ Some (way_of u)
+walk_settled e u o is leads way =
+    ap (walk Descending) is ∙ walk-append Descending o.front (e ∷ o.back) ∙ ap (option_and_then (λ v. walk v (e ∷ o.back))) o.way
+    ∙ ap (option_and_then (λ v. walk v o.back)) leads ∙ o.quiet.walks u ∙ ap Some (sym way)
 
 -- ---- a preoperation
 
@@ -85,51 +106,46 @@ fresh_ask es visit (pre.Synchronized completion) none posts = (none, posts)
 fresh_ask es visit state none posts = tt
 
 down_of_pre : (s : Stage) → is_pre s ≡ true → is_down s ≡ true
-down_of_pre PreRunning p = refl
-down_of_pre PreHeld p = refl
-down_of_pre s p = cc
+down_of_pre Descending p = refl
+down_of_pre s p = p
 
 -- a preoperation that runs or holds hasn't asked, so nothing answered it
-open_unanswered : (s : Stage) (front back : List Entry) (visit : PreVisit) → is_pre_open visit.state ≡ true → asked back ≡ [] → visited back ≡ [] → IsCourse s (front ++ Pre visit ∷ back)
-    → answer_count visit.instance.0 (front ++ Pre visit ∷ back) ≡ 0
-open_unanswered s front back visit unsettled quiet quiet' c =
-    let i = visit.instance.0 in
-    let a = asked_among visit.instance.0 front in
-    let b = ap (λ xs. times visit.instance.0 (instances xs)) (asked_mid front back (Pre visit) None (unasked visit visit.state unsettled) quiet ∙ append-nil (asked front)) in
-    let d = ap (times visit.instance.0) (filter_map-append visit_of front (Pre visit ∷ back) ∙ ap (λ xs. visited front ++ visit.instance.0 ∷ xs) quiet') ∙ times-append visit.instance.0 (visited front) (visit.instance.0 ∷ []) in
-    let e = c.apart visit.instance.0 in
-    let f = c.once visit.instance.0 in
-    let g = one-same visit.instance.0 in
+open_unanswered : (s : Stage) (es : List Entry) (o : OpenPre es) → IsCourse s es → answer_count o.visit.instance.0 es ≡ 0
+open_unanswered s es o c =
+    let a = asked_among o.visit.instance.0 o.front in
+    let b = ap (λ xs. times o.visit.instance.0 (instances xs)) (ap asked o.split ∙ asked_mid o.front o.back (Pre o.visit) None (unasked o.visit o.visit.state o.unsettled) o.quiet.asks ∙ append-nil (asked o.front)) in
+    let d = ap (times o.visit.instance.0) (ap visited o.split ∙ filter_map-append visit_of o.front (Pre o.visit ∷ o.back) ∙ ap (λ xs. visited o.front ++ o.visit.instance.0 ∷ xs) o.quiet.visits) ∙ times-append o.visit.instance.0 (visited o.front) (o.visit.instance.0 ∷ []) in
+    let e = c.apart o.visit.instance.0 in
+    let f = c.once o.visit.instance.0 in
+    let g = one-same o.visit.instance.0 in
     omega (arith, a, b, d, e, f, g)
 
-pub settled_pre_is : (es : List Entry) (state : PreState) (o : OpenPre Descending es) → map (settle_pre state) es ≡ o.front ++ Pre (with_state o.visit state) ∷ o.back
-settled_pre_is es state o =
-    ap (map (settle_pre state)) o.split ∙ map-append (settle_pre state) o.front (Pre o.visit ∷ o.back)
-    ∙ ap₂ (λ xs ys. xs ++ settle_pre state (Pre o.visit) ∷ ys) (o.stays state) (o.quiet.pre_stays state)
-    ∙ ap (λ b. o.front ++ Pre (record o.visit { state = cond b state o.visit.state }) ∷ o.back) o.unsettled
+pub settled_pre_is : (es : List Entry) (state : PreState) (o : OpenPre es) → map (settle_pre state) es ≡ o.front ++ Pre (with_state o.visit state) ∷ o.back
+settled_pre_is es state o = settled_is (Pre (with_state o.visit state)) o (settling_pre state) (ap (λ b. Pre (with_state o.visit (cond b state o.visit.state))) o.unsettled)
 
-pub settles_pre : (es : List Entry) (state : PreState) (o : OpenPre Descending es) → Settles es (map (settle_pre state) es) (ask_in (with_state o.visit state) state)
+pub settles_pre : (es : List Entry) (state : PreState) (o : OpenPre es) → Settles es (map (settle_pre state) es) (ask_in (with_state o.visit state) state)
 settles_pre es state o =
-    subst (λ fs. Settles es fs (ask_in (with_state o.visit state) state)) (sym (settled_pre_is es state o))
-    (subst (λ gs. Settles gs (o.front ++ Pre (with_state o.visit state) ∷ o.back) (ask_in (with_state o.visit state) state)) (sym o.split)
-    (settles_mid o.front o.back (Pre o.visit) (Pre (with_state o.visit state)) (ask_in (with_state o.visit state) state) (unasked o.visit o.visit.state o.unsettled) refl refl refl (λ i. refl) (λ i. refl) o.quiet.asks))
+    let new = ask_in (with_state o.visit state) state in
+    settles (settle_pre state) es new (pre_alike state)
+    (ap asked (settled_pre_is es state o) ∙ asked_mid o.front o.back (Pre (with_state o.visit state)) new refl o.quiet.asks
+    ∙ ap (λ xs. xs ++ option_to_list new) (sym (ap asked o.split ∙ asked_mid o.front o.back (Pre o.visit) None (unasked o.visit o.visit.state o.unsettled) o.quiet.asks ∙ append-nil (asked o.front))))
 
-pub the_open_pre : (s : Stage) (es : List Entry) → IsCourse s es → is_pre s ≡ true → OpenPre Descending es
-the_open_pre s es c p = open_pre Descending es s (c.order ∙ ap Some (way_of_pre s p)) p refl
+walks_to : (s : Stage) (es : List Entry) → IsCourse s es → way_of s ≡ s → walk Descending es ≡ Some s
+walks_to s es c way = c.order ∙ ap Some way
+
+pub the_open_pre : (s : Stage) (es : List Entry) → IsCourse s es → is_pre s ≡ true → OpenPre es
+the_open_pre s es c p = open_pre es s (walks_to s es c (way_of_callback s (callback_of_pre s p))) p
 
 pub fresh_of_open : (s : Stage) (es : List Entry) (state : PreState) (c : IsCourse s es) (p : is_pre s ≡ true) → IsFresh es (ask_in (with_state (the_open_pre s es c p).visit state) state)
 fresh_of_open s es state c p =
     let o = the_open_pre s es c p in
-    let none : answer_count o.visit.instance.0 es ≡ 0 = ap (answer_count o.visit.instance.0) o.split ∙ open_unanswered s o.front o.back o.visit o.unsettled o.quiet.asks o.quiet.visits (subst (IsCourse s) o.split c) in
-    let posts = no_posts Descending es s (c.order ∙ ap Some (way_of_pre s p)) (down_of_pre s p) in
-    fresh_ask es (with_state o.visit state) state none posts
+    fresh_ask es (with_state o.visit state) state (open_unanswered s es o c) (no_posts Descending es s (walks_to s es c (way_of_callback s (callback_of_pre s p))) (down_of_pre s p))
 
 pub course_pre_settled : (s : Stage) (es : List Entry) (state : PreState) → is_pre s ≡ true → IsCourse s es → IsCourse (pre_leads state) (map (settle_pre state) es)
 course_pre_settled s es state p c =
     let o = the_open_pre s es c p in
-    let w : walk Descending (map (settle_pre state) es) ≡ Some (way_of (pre_leads state)) =
-    ap (walk Descending) (settled_pre_is es state o) ∙ walk_mid Descending Descending (pre_leads state) o.front o.back (Pre (with_state o.visit state)) o.way refl o.quiet ∙ ap Some (sym (way_of_pre_leads state)) in
-    course_settled s (pre_leads state) es (map (settle_pre state) es) (ask_in (with_state o.visit state) state) (settles_pre es state o) c (fresh_of_open s es state c p) w (slack_of state (with_state o.visit state) s p) (no_drain_of_pre state (map (settle_pre state) es))
+    course_settled s (pre_leads state) es (map (settle_pre state) es) (ask_in (with_state o.visit state) state) (settles_pre es state o) c (fresh_of_open s es state c p)
+    (walk_settled (Pre (with_state o.visit state)) (pre_leads state) o (settled_pre_is es state o) refl (way_of_pre_leads state)) (slack_of state (with_state o.visit state) s p) (no_drain_of_pre state (map (settle_pre state) es))
 
 -- ---- a postoperation
 
@@ -144,78 +160,36 @@ no_drain_of_post : (state : PostState) (es : List Entry) → HasItsDrain (post_l
 no_drain_of_post post.Running es = tt
 no_drain_of_post state es = tt
 
-pub settled_post_is : (es : List Entry) (state : PostState) (o : OpenPost Descending es) → map (settle_post state) es ≡ o.front ++ Post (with_post o.visit state) ∷ o.back
-settled_post_is es state o =
-    ap (map (settle_post state)) o.split ∙ map-append (settle_post state) o.front (Post o.visit ∷ o.back)
-    ∙ ap₂ (λ xs ys. xs ++ settle_post state (Post o.visit) ∷ ys) (o.stays state) (o.quiet.post_stays state)
-    ∙ ap (λ b. o.front ++ Post (record o.visit { state = cond b state o.visit.state }) ∷ o.back) o.unsettled
+post_asks : (state : PostState) (e : Entry) → ask_of (settle_post state e) ≡ ask_of e
+post_asks state (Post visit) = refl
+post_asks state e = refl
 
-pub settles_post : (es : List Entry) (state : PostState) (o : OpenPost Descending es) → Settles es (map (settle_post state) es) None
-settles_post es state o =
-    subst (λ fs. Settles es fs None) (sym (settled_post_is es state o))
-    (subst (λ gs. Settles gs (o.front ++ Post (with_post o.visit state) ∷ o.back) None) (sym o.split)
-    (settles_mid o.front o.back (Post o.visit) (Post (with_post o.visit state)) None refl refl refl refl (λ i. refl) (λ i. refl) o.quiet.asks))
+pub settled_post_is : (es : List Entry) (state : PostState) (o : OpenPost es) → map (settle_post state) es ≡ o.front ++ Post (with_post o.visit state) ∷ o.back
+settled_post_is es state o = settled_is (Post (with_post o.visit state)) o (settling_post state) (ap (λ b. Post (with_post o.visit (cond b state o.visit.state))) o.unsettled)
 
-pub the_open_post : (s : Stage) (es : List Entry) → IsCourse s es → is_post s ≡ true → OpenPost Descending es
-the_open_post s es c p = open_post Descending es s (c.order ∙ ap Some (way_of_post s p)) p refl
+pub settles_post : (es : List Entry) (state : PostState) → Settles es (map (settle_post state) es) None
+settles_post es state = settles (settle_post state) es None (post_alike state) (map_alike ask_of (settle_post state) (post_asks state) es ∙ sym (append-nil (asked es)))
+
+pub the_open_post : (s : Stage) (es : List Entry) → IsCourse s es → is_post s ≡ true → OpenPost es
+the_open_post s es c p = open_post es s (walks_to s es c (way_of_callback s (callback_of_post s p))) p
 
 pub course_post_settled : (s : Stage) (es : List Entry) (state : PostState) → is_post s ≡ true → IsCourse s es → IsCourse (post_leads state) (map (settle_post state) es)
 course_post_settled s es state p c =
     let o = the_open_post s es c p in
-    let w : walk Descending (map (settle_post state) es) ≡ Some (way_of (post_leads state)) =
-    ap (walk Descending) (settled_post_is es state o) ∙ walk_mid Descending Ascending (post_leads state) o.front o.back (Post (with_post o.visit state)) o.way refl o.quiet ∙ ap Some (sym (way_of_post_leads state)) in
-    course_settled s (post_leads state) es (map (settle_post state) es) None (settles_post es state o) c tt w (slack_of_post state s p) (no_drain_of_post state (map (settle_post state) es))
+    course_settled s (post_leads state) es (map (settle_post state) es) None (settles_post es state) c tt
+    (walk_settled (Post (with_post o.visit state)) (post_leads state) o (settled_post_is es state o) refl (way_of_post_leads state)) (slack_of_post state s p) (no_drain_of_post state (map (settle_post state) es))
 
 -- ---- a drain
 
-drain_asks : (i : ℕ) (es : List Entry) → asked (map (settle_drain i) es) ≡ asked es
-drain_asks i [] = refl
-drain_asks i (Pre visit ∷ es) = ap (cons_option (ask_of (Pre visit))) (drain_asks i es)
-drain_asks i (e ∷ es) = drain_asks i es
-
-drain_visits : (i : ℕ) (es : List Entry) → visited (map (settle_drain i) es) ≡ visited es
-drain_visits i [] = refl
-drain_visits i (Pre visit ∷ es) = ap (λ xs. visit.instance.0 ∷ xs) (drain_visits i es)
-drain_visits i (e ∷ es) = drain_visits i es
-
-drain_posts : (i : ℕ) (es : List Entry) → posted (map (settle_drain i) es) ≡ posted es
-drain_posts i [] = refl
-drain_posts i (Post visit ∷ es) = ap (λ xs. visit.instance.0 ∷ xs) (drain_posts i es)
-drain_posts i (e ∷ es) = drain_posts i es
-
-same_answers : (i j : ℕ) (e : Entry) → answers j (settle_drain i e) ≡ answers j e
-same_answers i j (Pre visit) = refl
-same_answers i j e = refl
-
-same_drains : (i j : ℕ) (e : Entry) → drains j (settle_drain i e) ≡ drains j e
-same_drains i j (Pre visit) = refl
-same_drains i j e = refl
-
-drain_answered : (i : ℕ) (es : List Entry) (j : ℕ) → is_answered (map (settle_drain i) es) j ≡ is_answered es j
-drain_answered i [] j = refl
-drain_answered i (e ∷ es) j = ap₂ (λ a b. a || b) (same_answers i j e) (drain_answered i es j)
-
-drain_drained : (i : ℕ) (es : List Entry) (j : ℕ) → is_drained (map (settle_drain i) es) j ≡ is_drained es j
-drain_drained i [] j = refl
-drain_drained i (e ∷ es) j = ap₂ (λ a b. a || b) (same_drains i j e) (drain_drained i es j)
-
-drain_counts : (i : ℕ) (es : List Entry) (j : ℕ) → answer_count j (map (settle_drain i) es) ≡ answer_count j es
-drain_counts i [] j = refl
-drain_counts i (e ∷ es) j = ap₂ (λ a b. one a + b) (same_answers i j e) (drain_counts i es j)
+drain_asks : (i : ℕ) (e : Entry) → ask_of (settle_drain i e) ≡ ask_of e
+drain_asks i (Drain visit) = refl
+drain_asks i e = refl
 
 pub settles_drain : (i : ℕ) (es : List Entry) → Settles es (map (settle_drain i) es) None
-settles_drain i es = record {
-  asks = drain_asks i es ∙ sym (append-nil (asked es));
-  visits = drain_visits i es;
-  posts = drain_posts i es;
-  answered = drain_answered i es;
-  drained = drain_drained i es;
-  counts = drain_counts i es;
-  len = length-map es (settle_drain i);
-}
+settles_drain i es = settles (settle_drain i) es None (drain_alike i) (map_alike ask_of (settle_drain i) (drain_asks i) es ∙ sym (append-nil (asked es)))
 
 same_after : (i : ℕ) (s : Stage) (e : Entry) → after s (settle_drain i e) ≡ after s e
-same_after i s (Pre visit) = refl
+same_after i s (Drain visit) = refl
 same_after i s e = refl
 
 drain_walks : (i : ℕ) (s : Stage) (es : List Entry) → walk s (map (settle_drain i) es) ≡ walk s es

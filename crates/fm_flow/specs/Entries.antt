@@ -1,6 +1,8 @@
 -- What an operation's entries say: whom it visited, who asked for a postoperation, and who is still owed one.
 use Rattle.std.specs.Prelude.{ℕ, ◌+◌, ◌==◌, Bool, true, false, cond, not, ◌&&◌, List, [], ◌∷◌, map, reverse, filter, filter_map, Option, Some, None, slice_get}
 use Rattle.std.specs.List.{list_any}
+use Rattle.fm_flow.specs.declared.entries.Ending.{Ending}
+use Rattle.fm_flow.specs.declared.entries.Ending.TheVariants as ending
 use Rattle.fm_flow.specs.declared.entry.PreState.{PreState}
 use Rattle.fm_flow.specs.declared.entry.PreState.TheVariants as pre
 use Rattle.fm_flow.specs.declared.entry.PostState.{PostState}
@@ -124,3 +126,9 @@ settle_post state entry = entry
 abbrev pub settle_drain : ℕ → Entry → Entry
 settle_drain i (Drain visit) = Drain (record visit { is_running = not (visit.instance.0 == i) && visit.is_running })
 settle_drain i entry = entry
+
+-- the entry with what is over settled
+abbrev pub settle : Ending → Entry → Entry
+settle (ending.Pre state) = settle_pre state
+settle (ending.Post state) = settle_post state
+settle (ending.Drain instance) = settle_drain instance.0

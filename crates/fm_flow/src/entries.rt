@@ -2,7 +2,7 @@
 
 ghost use Rattle.std.specs.Prelude.{◌≡◌, ◌==◌, not, map, reverse, filter_map, find, vec_capacity, slice_get, option_map};
 ghost use Rattle.std.specs.List.{list_any};
-ghost use Rattle.fm_flow.specs.Entries.{ask_of, visit_of, answers, is_answered, owed, last_visited, settle_pre, settle_post, settle_drain};
+ghost use Rattle.fm_flow.specs.Entries.{ask_of, visit_of, answers, is_answered, owed, last_visited, settle_pre, settle_post, settle_drain, settle};
 ghost use Rattle.fm_flow.specs.Counts.{is_running_drain};
 
 use crate::entry::{Ask, DrainVisit, Entry, PostState, PostVisit, PreState, PreVisit};
@@ -115,11 +115,29 @@ fn settled_drain(entry: Entry, instance: InstanceId) -> Entry
     }
 }
 
-fn settle_each_pre(entries: &mut [Entry], state: PreState)
-    ensures { entries.new ≡ map (settle_pre state) entries.old }
+/// What is over: a preoperation or a postoperation, which gets its verdict, or the drains of an instance.
+#[derive(Clone, Copy)]
+enum Ending {
+    Pre(PreState),
+    Post(PostState),
+    Drain(InstanceId),
+}
+
+fn settled(entry: Entry, ending: Ending) -> Entry
+    ensures { result ≡ settle ending entry }
+{
+    match ending {
+        Ending::Pre(state) => settled_pre(entry, state),
+        Ending::Post(state) => settled_post(entry, state),
+        Ending::Drain(instance) => settled_drain(entry, instance),
+    }
+}
+
+fn settle_each(entries: &mut [Entry], ending: Ending)
+    ensures { entries.new ≡ map (settle ending) entries.old }
 {
     for entry in entries.iter_mut() {
-        *entry = settled_pre(*entry, state);
+        *entry = settled(*entry, ending);
     }
 }
 
@@ -128,15 +146,7 @@ pub(crate) fn settle_pre(entries: &mut Vec<Entry>, state: PreState)
     ensures items { entries.new.items ≡ map (settle_pre state) entries.old.items }
     ensures capacity { vec_capacity entries.new ≡ vec_capacity entries.old }
 {
-    settle_each_pre(entries, state);
-}
-
-fn settle_each_post(entries: &mut [Entry], state: PostState)
-    ensures { entries.new ≡ map (settle_post state) entries.old }
-{
-    for entry in entries.iter_mut() {
-        *entry = settled_post(*entry, state);
-    }
+    settle_each(entries, Ending::Pre(state));
 }
 
 /// The postoperation that runs or holds gets its verdict.
@@ -144,15 +154,7 @@ pub(crate) fn settle_post(entries: &mut Vec<Entry>, state: PostState)
     ensures items { entries.new.items ≡ map (settle_post state) entries.old.items }
     ensures capacity { vec_capacity entries.new ≡ vec_capacity entries.old }
 {
-    settle_each_post(entries, state);
-}
-
-fn settle_each_drain(entries: &mut [Entry], instance: InstanceId)
-    ensures { entries.new ≡ map (settle_drain instance.0) entries.old }
-{
-    for entry in entries.iter_mut() {
-        *entry = settled_drain(*entry, instance);
-    }
+    settle_each(entries, Ending::Post(state));
 }
 
 /// The drains of that instance are over.
@@ -160,7 +162,7 @@ pub(crate) fn settle_drain(entries: &mut Vec<Entry>, instance: InstanceId)
     ensures items { entries.new.items ≡ map (settle_drain instance.0) entries.old.items }
     ensures capacity { vec_capacity entries.new ≡ vec_capacity entries.old }
 {
-    settle_each_drain(entries, instance);
+    settle_each(entries, Ending::Drain(instance));
 }
 
 fn is_running_drain(entry: Entry) -> bool

@@ -1,5 +1,5 @@
 -- Each step of a pass keeps the rule that jobs are kept, and what a pass with every part learns from it.
-use Rattle.std.proofs.Common.{◌≡◌, ◌<◌, ℕ, suc, List, [], ◌∷◌, ◌++◌, All, set, sum_by, flat_map, refl, ap, ◌∙◌, arith}
+use Rattle.std.proofs.Common.{◌≡◌, ◌+◌, ◌<◌, ℕ, suc, List, [], ◌∷◌, ◌++◌, All, set, sum_by, flat_map, refl, ap, ◌∙◌, arith}
 use Rattle.std.proofs.lemmas.List.Elements.{All-set, All-push}
 use Rattle.std.proofs.lemmas.List.Sums.{sum_by-append, sum_by_push, sum_by-cons}
 use mathlib.Core.Option.{some}
@@ -23,39 +23,38 @@ takes_of t = t.takes
 pub begins : JobsAreKept [] (first_tally ∷ [])
 begins = ((λ weight. refl), refl, All-push IsIdleWithNoPart [] first_tally (λ k d within. absurd (omega (arith, within))) (λ none. (refl, refl)))
 
+-- a pass that keeps its parts, of which it has some, puts and takes
+goes_on : (queued queued' : List Job) (tallies : List Tally) (pass : ℕ) (t after : Tally) → 0 < t.parts → JobsAreKept queued tallies → get_elem? tallies pass ≡ some t
+    → after.parts ≡ t.parts
+    → ((weight : Job → ℕ) → sum_by weight queued' + (sum_by weight t.puts + sum_by weight after.takes) ≡ sum_by weight queued + (sum_by weight after.puts + sum_by weight t.takes))
+    → JobsAreKept queued' (set tallies pass after)
+goes_on queued queued' tallies pass t after some_part rule at same change = (
+  (λ weight.
+      let p = flat_changed weight puts_of tallies pass t after at in
+      let q = flat_changed weight takes_of tallies pass t after at in
+      let kept = rule.0 weight in
+      omega (arith, p, q, kept, change weight)),
+  (let s = sum_changed parts_of tallies pass t after at in let all = rule.1 in omega (arith, s, all, same)),
+  All-set IsIdleWithNoPart tallies pass after (λ none. absurd (omega (arith, none, same, some_part))) rule.2,
+)
+
 -- a pass with a part puts a job
 pub puts : (room pass : ℕ) (t : Tally) (job : Job) → 0 < t.parts → Pushes JobsAreKept room pass t job (λ after. after ≡ after_put t job)
-puts room pass t job some_part queued tallies _ rule at =
-    let after = after_put t job in (
-      after,
-      (
-        (λ weight.
-            let p = flat_changed weight puts_of tallies pass t after at in
-            let q = flat_changed weight takes_of tallies pass t after at in
-            let kept = rule.0 weight in
-            omega (arith, p, q, kept, sum_by_push weight t.puts job, sum_by_push weight queued job)),
-        (let s = sum_changed parts_of tallies pass t after at in let all = rule.1 in omega (arith, s, all)),
-        All-set IsIdleWithNoPart tallies pass after (λ none. absurd (omega (arith, none, some_part))) rule.2,
-      ),
-      refl,
-    )
+puts room pass t job some_part queued tallies _ rule at = (
+  after_put t job,
+  goes_on queued (queued ++ job ∷ []) tallies pass t (after_put t job) some_part rule at refl
+      (λ weight. omega (arith, sum_by_push weight t.puts job, sum_by_push weight queued job)),
+  refl,
+)
 
 -- a pass with a part takes a job
 pub takes : (pass : ℕ) (t : Tally) → 0 < t.parts → Pops JobsAreKept pass t (λ job after. after ≡ after_take t job)
-takes pass t some_part job queued tallies rule at =
-    let after = after_take t job in (
-      after,
-      (
-        (λ weight.
-            let p = flat_changed weight puts_of tallies pass t after at in
-            let q = flat_changed weight takes_of tallies pass t after at in
-            let kept = rule.0 weight in
-            omega (arith, p, q, kept, sum_by_push weight t.takes job, sum_by-cons weight job queued)),
-        (let s = sum_changed parts_of tallies pass t after at in let all = rule.1 in omega (arith, s, all)),
-        All-set IsIdleWithNoPart tallies pass after (λ none. absurd (omega (arith, none, some_part))) rule.2,
-      ),
-      refl,
-    )
+takes pass t some_part job queued tallies rule at = (
+  after_take t job,
+  goes_on (job ∷ queued) queued tallies pass t (after_take t job) some_part rule at refl
+      (λ weight. omega (arith, sum_by_push weight t.takes job, sum_by-cons weight job queued)),
+  refl,
+)
 
 -- a pass with two parts makes another
 pub cuts : (pass : ℕ) (t : Tally) → 1 < t.parts → Forks JobsAreKept pass t (cut_tally t) new_tally

@@ -1,11 +1,8 @@
 -- What a seat knows after one step, and after `enter` took its pass back.
+use Rattle.fm_rundown.proofs.Words.{cond-true, cond-false, le-ltb, false_from_ne_true, true≢false, get_or-set_same, set-set, set-get_or}
+use Rattle.fm_rundown.proofs.Words.{VolumeView, SeatView, no_pass, volume_of, changed, is_closing_word, gained, tried, undone, saw_closing}
+use Rattle.fm_rundown.proofs.Words.{most_passes, entered}
 use Rattle.std.proofs.Common.{◌≡◌, ◌+◌, ◌-◌, ◌<◌, ◌≤◌, ℕ, Bool, true, false, nat_lt, length, set, ap, sym, ◌∙◌, arith, subst}
-use Rattle.std.proofs.lemmas.Bool.{cond-true, cond-false, le-ltb, false_from_ne_true, true≢false}
-use Rattle.std.proofs.lemmas.List.{get_or-set_same, set-set, set-get_or}
-use Rattle.fm_rundown.specs.declared.view.VolumeView.{VolumeView}
-use Rattle.fm_rundown.specs.declared.view.SeatView.{SeatView}
-use Rattle.fm_rundown.specs.Views.{no_pass, volume_of, changed}
-use Rattle.fm_rundown.specs.Kinds.{is_closing_word, gained, tried, undone, saw_closing, most_passes, entered}
 
 -- the changed volume
 pub volume_changed : (v : ℕ) (change : VolumeView → VolumeView) (seat : SeatView) → v < length seat.volumes

@@ -1,15 +1,12 @@
 -- Each kind of step keeps the count of a volume's word.
-use Rattle.std.proofs.Common.{◌≡◌, ◌+◌, ◌*◌, ◌^◌, ◌<◌, ◌≤◌, ◌==◌, ℕ, List, [], ◌∷◌, ◌++◌, Bool, true, false, cond, nat_lt, All, get_or, set, length, sum_by, bit_or, refl, ap, sym, ◌∙◌, arith, subst, true≢false, mod-eq_of_lt}
-use Rattle.std.proofs.lemmas.Bool.{eqb-true, ltb-true, false_from_ne_true, true_from_ne_false, cond_both}
+use Rattle.fm_rundown.proofs.Words.{eqb-true, ltb-true, false_from_ne_true, true_from_ne_false, cond_both, sum_by-le, sum_by_push}
+use Rattle.fm_rundown.proofs.Words.{get_or-le-sum_by, some, get_elem?, VolumeView, no_pass, Kind, is_closing_word, one_more, one_less}
+use Rattle.fm_rundown.proofs.Words.{gained, lost, tried, undone, saw_closing, saw_drained, closed, took_look, most_passes, enters, undoes}
+use Rattle.fm_rundown.proofs.Words.{leaves, closes, looks, passes_of, is_closed, is_seen_drained, NobodyHolds, Fits, IsCounted}
+use Rattle.std.proofs.Common.{◌≡◌, ◌+◌, ◌*◌, ◌^◌, ◌<◌, ◌≤◌, ◌==◌, ℕ, List, [], ◌∷◌, ◌++◌, Bool, true, false, cond, nat_lt, All, set}
+use Rattle.std.proofs.Common.{length, sum_by, bit_or, refl, ap, sym, ◌∙◌, arith, subst, true≢false, mod-eq_of_lt}
 use Rattle.std.proofs.lemmas.List.Elements.{All-set, All-weaker, All-push}
-use Rattle.std.proofs.lemmas.List.Sums.{sum_by-le, sum_by_push, get_or-le-sum_by}
-use mathlib.Core.Option.{some}
-use lib.ListN.{get_elem?}
-use Rattle.fm_rundown.specs.declared.view.VolumeView.{VolumeView}
-use Rattle.fm_rundown.specs.Views.{no_pass}
-use Rattle.fm_rundown.specs.Kinds.{Kind, is_closing_word, one_more, one_less, gained, lost, tried, undone, saw_closing, saw_drained, closed, took_look, most_passes, enters, undoes, leaves, closes, looks}
-use Rattle.fm_rundown.specs.Counts.{passes_of, is_closed, is_seen_drained, NobodyHolds, Fits, IsCounted}
-use Rattle.fm_rundown.proofs.Words.{lowest_bit, or_one}
+use Rattle.fm_rundown.proofs.Bits.{lowest_bit, or_one}
 use Rattle.fm_rundown.proofs.Lists.{found, sum_changed, all_found, any_changed, any_passes, any_none, any_pushed}
 
 abbrev has_closed : VolumeView → Bool
@@ -45,21 +42,13 @@ has_passes word ps k p counted at =
     let here = found ps k p at in
     let part : passes_of p ≤ sum_by passes_of ps =
     subst (λ q. passes_of q ≤ sum_by passes_of ps) (here.1 p) (get_or-le-sum_by passes_of ps k p here.0) in
-    above word (sum_by passes_of ps) (passes_of p) (is_closed ps) counted.0 part
-  where
-    above : (word sum n : ℕ) (b : Bool) → word ≡ 2 * sum + cond b 1 0 → n ≤ sum → 2 * n ≤ word
-    above word sum n true is part = omega (arith, is, part)
-    above word sum n false is part = omega (arith, is, part)
+    omega (arith, counted.0, part)
 
 -- a closing volume without a pass: nobody holds one
 nobody_at_one : (word : ℕ) (ps : List VolumeView) → IsCounted word ps → word ≡ 1 → NobodyHolds ps
 nobody_at_one word ps counted one k d within =
     let part = get_or-le-sum_by passes_of ps k d within in
-    none word (sum_by passes_of ps) (get_or ps k d) (is_closed ps) counted.0 one part
-  where
-    none : (word sum : ℕ) (p : VolumeView) (b : Bool) → word ≡ 2 * sum + cond b 1 0 → word ≡ 1 → passes_of p ≤ sum → p.held ≡ 0
-    none word sum p true is one part = omega (arith, is, one, part)
-    none word sum p false is one part = omega (arith, is, one, part)
+    omega (arith, counted.0, one, part)
 
 -- ---- the count after one seat's change ----
 
@@ -70,16 +59,11 @@ recounted : (word word' : ℕ) (ps : List VolumeView) (k : ℕ) (p q : VolumeVie
 recounted word word' ps k p q at counted same moved fits drained =
     let as_before = any_changed has_closed ps k p q at same in
     let sum = sum_changed passes_of ps k p q at in (
-      moved_word word word' (sum_by passes_of ps) (sum_by passes_of (set ps k q)) (passes_of p) (passes_of q) (is_closed ps) counted.0 moved sum
+      (let is : word' ≡ 2 * sum_by passes_of (set ps k q) + cond (is_closed ps) 1 0 = omega (arith, counted.0, moved, sum) in is)
           ∙ ap (λ b. 2 * sum_by passes_of (set ps k q) + cond b 1 0) (sym as_before),
       subst (λ b. All (Fits b) (set ps k q)) (sym as_before) (All-set (Fits (is_closed ps)) ps k q fits counted.1),
       drained,
     )
-  where
-    moved_word : (word word' sum sum' m n : ℕ) (b : Bool) → word ≡ 2 * sum + cond b 1 0 → word' + 2 * m ≡ word + 2 * n → sum' + m ≡ sum + n
-        → word' ≡ 2 * sum' + cond b 1 0
-    moved_word word word' sum sum' m n true is moved change = omega (arith, is, moved, change)
-    moved_word word word' sum sum' m n false is moved change = omega (arith, is, moved, change)
 
 -- where the seat sees nothing new and holds no more
 nobody_stays : (ps : List VolumeView) (k : ℕ) (p q : VolumeView) → get_elem? ps k ≡ some p → q.is_drained ≡ p.is_drained → q.held ≤ p.held

@@ -1,9 +1,6 @@
 -- The passes that a seat counts are those that it holds.
+use Rattle.fm_rundown.proofs.Words.{sum_by-cons, VolumeView, SeatView, no_pass}
 use Rattle.std.proofs.Common.{◌≡◌, ◌+◌, ◌<◌, ℕ, suc, List, [], ◌∷◌, length, get_or, sum, sum_by, refl, sym, ◌∙◌, arith}
-use Rattle.std.proofs.lemmas.List.Sums.{sum_by-cons}
-use Rattle.fm_rundown.specs.declared.view.VolumeView.{VolumeView}
-use Rattle.fm_rundown.specs.declared.view.SeatView.{SeatView}
-use Rattle.fm_rundown.specs.Views.{no_pass}
 use Rattle.fm_rundown.specs.Rest.{IsAtRest}
 
 abbrev held_of : VolumeView → ℕ

@@ -1,22 +1,13 @@
 -- The rule holds at the beginning and is kept by each step of each seat.
-use Rattle.std.proofs.Common.{◌≡◌, ◌≢◌, ◌-◌, ◌<◌, ◌≤◌, ◌∷◌, ◌++◌, ℕ, List, [], length, set, replicate, slice_index, refl, ap, sym, ◌∙◌, arith, subst, inl, inr, length-set}
-use Rattle.std.proofs.lemmas.Bool.{cases_eq}
-use Rattle.std.proofs.lemmas.List.{get_or-set_same, get_or-set_other, map-set, map_push, length-map}
+use Rattle.fm_rundown.proofs.Words.{cases_eq, get_or-set_same, get_or-set_other, map-set, map_push, length-map, sum_by_push, some}
+use Rattle.fm_rundown.proofs.Words.{get_elem?, length-append, at_map, set_again, VolumeView, SeatView, most_volumes, no_pass, fresh_seat}
+use Rattle.fm_rundown.proofs.Words.{volume_of, changed, one_made, Kind, IsCounted, most_seats, GateState, column, IsKept, Tells, IsAt}
+use Rattle.std.proofs.Common.{◌≡◌, ◌≢◌, ◌-◌, ◌<◌, ◌≤◌, ◌∷◌, ◌++◌, ℕ, List, [], length, set, replicate, slice_index, refl, ap, sym, ◌∙◌}
+use Rattle.std.proofs.Common.{arith, subst, inl, inr, length-set}
 use Rattle.std.proofs.lemmas.List.Elements.{All-set, All-push, All-cons, All-nil}
-use Rattle.std.proofs.lemmas.List.Sums.{sum_by_push}
-use mathlib.Core.Option.{some}
-use lib.ListN.{get_elem?, length-append}
 use Rattle.atomic_table.specs.Table.{Allows, Splits, opening, stepped, keeps}
 use Rattle.atomic_table.specs.Seated.{TableId}
 use Rattle.atomic_table.specs.declared.shared.Seat.{Seat}
-use Rattle.atomic_table.proofs.Lists.{at_map, set_again}
-use Rattle.fm_rundown.specs.declared.view.VolumeView.{VolumeView}
-use Rattle.fm_rundown.specs.declared.view.SeatView.{SeatView}
-use Rattle.fm_rundown.specs.Views.{most_volumes, no_pass, fresh_seat, volume_of, changed, one_made}
-use Rattle.fm_rundown.specs.Kinds.{Kind}
-use Rattle.fm_rundown.specs.Counts.{IsCounted}
-use Rattle.fm_rundown.specs.Rule.{most_seats, GateState, column, IsKept, Tells}
-use Rattle.fm_rundown.specs.Tables.{IsAt}
 use Rattle.fm_rundown.proofs.Lists.{all_found, sum_changed, copies}
 use Rattle.fm_rundown.proofs.Counts.{Keeps, closing_is_found, none_at_one, seat_more}
 

@@ -1,5 +1,6 @@
-mod Lists
 mod Words
+mod Lists
+mod Bits
 pub mod Counts
 pub mod Kept
 pub mod Changed

@@ -1,10 +1,8 @@
 -- Lists where one element was changed: sums, tests of some element, and look-ups.
-use Rattle.std.proofs.Common.{◌≡◌, ◌+◌, ◌<◌, ℕ, zero, suc, List, [], ◌∷◌, Bool, true, false, ◌||◌, All, get_or, set, length, sum_by, replicate, ◌++◌, refl, ap, sym, ◌∙◌, arith, subst, inl, inr}
-use Rattle.std.proofs.lemmas.Bool.{or_from, or_left, or_right, or_cases}
-use Rattle.std.proofs.lemmas.List.Sums.{sum_by-set}
+use Rattle.fm_rundown.proofs.Words.{or_from, or_left, or_right, or_cases, sum_by-set, some, some-injective, some-ne-none, get_elem?}
+use Rattle.std.proofs.Common.{◌≡◌, ◌+◌, ◌<◌, ℕ, zero, suc, List, [], ◌∷◌, Bool, true, false, ◌||◌, All, get_or, set, length, sum_by}
+use Rattle.std.proofs.Common.{replicate, ◌++◌, refl, ap, sym, ◌∙◌, arith, subst, inl, inr}
 use Rattle.std.specs.List.{list_any}
-use mathlib.Core.Option.{some, some-injective, some-ne-none}
-use lib.ListN.{get_elem?}
 
 -- a look-up that finds an element, by its place
 pub found : {X : Type 0} (xs : List X) (k : ℕ) (x : X) → get_elem? xs k ≡ some x → (k < length xs) × ((d : X) → get_or xs k d ≡ x)

@@ -1,20 +1,13 @@
 -- The laws over schedules.
+use Rattle.fm_rundown.proofs.Words.{cases_eq, cond_both, length-map, some, get_elem?, at_map, VolumeView, SeatView, most_volumes, volume_of}
+use Rattle.fm_rundown.proofs.Words.{changed, is_closing_word, gained, tried, saw_closing, saw_drained, took_look, most_passes}
+use Rattle.fm_rundown.proofs.Words.{is_seen_drained, NobodyHolds, GateState, IsKept, column}
 use Rattle.std.proofs.Common.{◌≡◌, ◌<◌, ◌∷◌, ◌==◌, ℕ, true, [], cond, set, nat_lt, slice_index, refl, ap, sym, ◌∙◌, arith, subst, inl, inr}
-use Rattle.std.proofs.lemmas.Bool.{cases_eq, cond_both}
-use Rattle.std.proofs.lemmas.List.{length-map}
-use mathlib.Core.Option.{some}
-use lib.ListN.{get_elem?}
-use Rattle.atomic_table.proofs.Lists.{at_map}
-use Rattle.fm_rundown.specs.declared.view.VolumeView.{VolumeView}
-use Rattle.fm_rundown.specs.declared.view.SeatView.{SeatView}
-use Rattle.fm_rundown.specs.Views.{most_volumes, volume_of, changed}
-use Rattle.fm_rundown.specs.Kinds.{is_closing_word, gained, tried, saw_closing, saw_drained, took_look, most_passes}
-use Rattle.fm_rundown.specs.Counts.{is_seen_drained, NobodyHolds}
-use Rattle.fm_rundown.specs.Rule.{GateState, IsKept, column}
 use Rattle.fm_rundown.specs.Schedules.{Call, enter, undo, leave, close, look, kind_of, Step, after_step}
 use Rattle.fm_rundown.specs.Laws.{RuleIsKept, NoWordWraps, DrainedIsFinal}
 use Rattle.fm_rundown.proofs.Lists.{all_found, any_kept}
-use Rattle.fm_rundown.proofs.Counts.{Keeps, enters_keeps, undoes_keeps, leaves_keeps, closes_keeps, looks_keeps, closing_bit, closed_where_seen, word_bound}
+use Rattle.fm_rundown.proofs.Counts.{Keeps, enters_keeps, undoes_keeps, leaves_keeps, closes_keeps, looks_keeps, closing_bit}
+use Rattle.fm_rundown.proofs.Counts.{closed_where_seen, word_bound}
 use Rattle.fm_rundown.proofs.Kept.{IsLong, kept_after, column_here, column_other}
 
 keeps_of : (call : Call) → Keeps (kind_of call)

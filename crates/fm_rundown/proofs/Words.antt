@@ -1,23 +1,16 @@
--- What the exchanges do to a word's lowest bit.
-use Rattle.std.proofs.Common.{◌≡◌, ◌+◌, ◌*◌, ◌%◌, ◌^◌, ◌==◌, ℕ, Bool, true, false, cond, bit_or, ap, sym, ◌∙◌, arith}
-use Rattle.std.proofs.lemmas.Bool.{eq-eqb, ne_eqb}
-use lib.Bits.{or_shifted, or_block}
-
--- the lowest bit of twice a number and a bit is the bit
-pub lowest_bit : (n : ℕ) (b : Bool) → (2 * n + cond b 1 0) % 2 == 1 ≡ b
-lowest_bit n true = eq-eqb ((2 * n + 1) % 2) 1 (omega arith)
-lowest_bit n false = ne_eqb ((2 * n + 0) % 2) 1 (λ is. omega (arith, is))
-
-twice : (n : ℕ) → n * 2 ^ 1 ≡ 2 * n
-twice n = omega arith
-
-or_none : (n : ℕ) → bit_or n 0 ≡ n
-or_none n = ap (λ m. bit_or m 0) (omega arith) ∙ or_shifted n 0 0 (omega arith) ∙ omega arith
-
--- after an or of 1 the lowest bit is set, and the others are as they were
-pub or_one : (n : ℕ) (b : Bool) → bit_or (2 * n + cond b 1 0) 1 ≡ 2 * n + 1
-or_one n true =
-    ap (λ m. bit_or (m + 1) 1) (sym (twice n)) ∙ or_block 1 n 0 1 1 (omega arith) (omega arith)
-    ∙ ap (λ m. m * 2 ^ 1 + bit_or 1 1) (or_none n) ∙ ap (λ m. m + 1) (twice n)
-or_one n false =
-    ap (λ m. bit_or m 1) (omega (arith, twice n)) ∙ or_shifted n 1 1 (omega arith) ∙ ap (λ m. m + 1) (twice n)
+-- The words that the proofs share.
+pub use Rattle.atomic_table.proofs.Lists.{at_map, set_again}
+pub use Rattle.fm_rundown.specs.Counts.{Fits, IsCounted, NobodyHolds, is_closed, is_seen_drained, passes_of}
+pub use Rattle.fm_rundown.specs.Kinds.{Kind, closed, closes, entered, enters, gained, is_closing_word, leaves, looks, lost, most_passes}
+pub use Rattle.fm_rundown.specs.Kinds.{one_less, one_more, saw_closing, saw_drained, took_look, tried, undoes, undone}
+pub use Rattle.fm_rundown.specs.Rule.{GateState, IsKept, Tells, column, most_seats}
+pub use Rattle.fm_rundown.specs.Tables.{IsAt}
+pub use Rattle.fm_rundown.specs.Views.{changed, fresh_seat, most_volumes, no_pass, one_made, volume_of}
+pub use Rattle.fm_rundown.specs.declared.view.SeatView.{SeatView}
+pub use Rattle.fm_rundown.specs.declared.view.VolumeView.{VolumeView}
+pub use Rattle.std.proofs.lemmas.Bool.{cases_eq, cond-false, cond-true, cond_both, eq-eqb, eqb-true, false_from_ne_true, le-ltb, ltb-true}
+pub use Rattle.std.proofs.lemmas.Bool.{ne_eqb, or_cases, or_from, or_left, or_right, true_from_ne_false, true≢false}
+pub use Rattle.std.proofs.lemmas.List.{get_or-set_other, get_or-set_same, length-map, map-set, map_push, set-get_or, set-set, take_all}
+pub use Rattle.std.proofs.lemmas.List.Sums.{get_or-le-sum_by, sum_by-cons, sum_by-le, sum_by-set, sum_by_push}
+pub use lib.ListN.{get_elem?, length-append}
+pub use mathlib.Core.Option.{some, some-injective, some-ne-none}

@@ -1,30 +1,39 @@
 -- Changes of an instance that leave its name, its altitude and its place on the volume alone.
-use Rattle.std.proofs.Common.{◌≡◌, ℕ, ◌+◌, ◌≤◌, Bool, true, false, cond, length, slice_get, Some, count_by, refl, sym, ap, subst, ◌∙◌, arith}
+use Rattle.fm_stack.proofs.Words.{cases_eq, All-updated, all_pairs_alike, count_by-updated, length-updated, updated-same, updated-other}
+use Rattle.fm_stack.proofs.Words.{updated_cases, VolumeId, Operation, Instance, StackWorld, Follows, clashes, is_detached, is_live_on}
+use Rattle.fm_stack.proofs.Words.{is_setup, is_to_visit, IsPlaced, IsStack}
+use Rattle.std.proofs.Common.{◌≡◌, ◌⊎◌, ◌∙◌, ◌+◌, ◌≤◌, ◌==◌, ◌&&◌, ℕ, Bool, true, false, not, cond, List, length, slice_get, Some, refl}
+use Rattle.std.proofs.Common.{sym, subst, arith, inl, inr}
 use Rattle.std.proofs.lemmas.Option.{same_Some}
 use Rattle.fm_types.specs.Lists.{updated}
-use Rattle.fm_types.proofs.Lists.{All-updated, all_pairs_alike, count_by-updated, length-updated}
-use Rattle.fm_types.specs.declared.ids.VolumeId.{VolumeId}
-use Rattle.fm_stack.specs.declared.instance.Instance.{Instance}
-use Rattle.fm_stack.specs.StackWorld.{StackWorld}
-use Rattle.fm_stack.specs.Instances.{clashes, is_detached, is_live_on, is_setup}
-use Rattle.fm_stack.specs.Stacks.{IsPlaced, IsStack}
 
--- y is x but for how far its life has come, and isn't gone if x isn't
+-- y is x but for how far its life has come, and is gone, or is there as x is
 pub record IsAlike (x y : Instance) : Type 0 where
   pub filter : y.filter ≡ x.filter
   pub volume : y.volume ≡ x.volume
   pub name : y.name ≡ x.name
   pub altitude : y.altitude ≡ x.altitude
-  pub live : is_detached y.phase ≡ is_detached x.phase
+  pub live : (is_detached y.phase ≡ true) ⊎ (is_detached y.phase ≡ is_detached x.phase)
 
-live_alike : (v : VolumeId) (x y : Instance) → IsAlike x y → is_live_on v y ≡ is_live_on v x
-live_alike v x y alike = rw (alike.volume, alike.live) refl
+and_none : (a b : Bool) → ((a && false) && b) ≡ false
+and_none true b = refl
+and_none false b = refl
 
-clash_first : (x y z : Instance) → IsAlike x y → clashes y z ≡ clashes x z
-clash_first x y z alike = rw (alike.volume, alike.live, alike.name, alike.altitude) refl
+and_nothing : (a b c : Bool) → (a && ((b && false) && c)) ≡ false
+and_nothing true b c = and_none b c
+and_nothing false b c = refl
 
-clash_second : (x y z : Instance) → IsAlike x y → clashes z y ≡ clashes z x
-clash_second x y z alike = rw (alike.volume, alike.live, alike.name, alike.altitude) refl
+clash_first : (x y z : Instance) → IsAlike x y → clashes x z ≡ false → clashes y z ≡ false
+clash_first x y z alike apart = elim alike.live [
+  | inl gone ↦ rw gone (and_none (y.volume.0 == y.volume.0) _)
+  | inr same ↦ rw (alike.volume, same, alike.name, alike.altitude) apart
+]
+
+clash_second : (x y z : Instance) → IsAlike x y → clashes z x ≡ false → clashes z y ≡ false
+clash_second x y z alike apart = elim alike.live [
+  | inl gone ↦ rw gone (and_nothing (is_live_on z.volume z) (y.volume.0 == z.volume.0) _)
+  | inr same ↦ rw (alike.volume, same, alike.name, alike.altitude) apart
+]
 
 placed_alike : (s t : StackWorld) (x y : Instance) → IsAlike x y → t.filters ≡ s.filters → t.volumes ≡ s.volumes → IsPlaced s x → IsPlaced t y
 placed_alike s t x y alike filters volumes placed = record {
@@ -32,31 +41,29 @@ placed_alike s t x y alike filters volumes placed = record {
   volume = rw (alike.volume, volumes) placed.volume;
 }
 
-abbrev one : Bool → ℕ
+abbrev pub one : Bool → ℕ
 one b = cond b 1 0
 
-few_alike : (s : StackWorld) (change : Instance → Instance) (i : ℕ) (row : Instance) → slice_get s.instances i ≡ Some row
-    → IsAlike row (change row) → (v : VolumeId) → count_by (is_live_on v) s.instances ≤ 32 → count_by (is_live_on v) (updated change s.instances i) ≤ 32
-few_alike s change i row there alike v few =
-    let counts = count_by-updated (is_live_on v) change s.instances i row there in
-    let same : one (is_live_on v (change row)) ≡ one (is_live_on v row) = ap one (live_alike v row (change row) alike) in
-    omega (arith, counts, same, few)
+no_more : (a b : Bool) → one (a && false) ≤ one (a && b)
+no_more true b = omega arith
+no_more false b = omega arith
 
--- the end of a setup callback: an instance in Setup goes on, and at most one more birth was counted
-pub setup_ends : (s : StackWorld) (change : Instance → Instance) (i births : ℕ) (row : Instance) → IsStack s
-    → slice_get s.instances i ≡ Some row → is_setup row.phase ≡ true
-    → ((x : Instance) → is_setup x.phase ≡ true → IsAlike x (change x))
-    → is_setup (change row).phase ≡ false → births ≤ s.births + 1
+live_falls : (v : VolumeId) (x y : Instance) → IsAlike x y → one (is_live_on v y) ≤ one (is_live_on v x)
+live_falls v x y alike = rw alike.volume (elim alike.live [
+  | inl gone ↦ rw gone (no_more (x.volume.0 == v.0) (not (is_detached x.phase)))
+  | inr same ↦ rw same (omega arith)
+])
+
+-- an instance goes on in its life, and no more than its birth is counted in place of its setup
+pub row_changes : (s : StackWorld) (change : Instance → Instance) (i births : ℕ) (row : Instance) → IsStack s → slice_get s.instances i ≡ Some row
+    → IsAlike row (change row) → births + one (is_setup (change row).phase) ≤ s.births + one (is_setup row.phase)
     → IsStack (record s { instances = updated change s.instances i; births = births })
-setup_ends s change i births row sound there before alike after grown =
+row_changes s change i births row sound there alike grown =
     let t : StackWorld = record s { instances = updated change s.instances i; births = births } in
     let long : length (updated change s.instances i) ≡ length s.instances = length-updated change s.instances i in
-    let in_setup : Instance → Bool = λ x. is_setup x.phase in
     let same : (x : Instance) → slice_get s.instances i ≡ Some x → IsAlike x (change x) = λ x found.
-    alike x (subst (λ (y : Instance). is_setup y.phase ≡ true) (same_Some row x (sym there ∙ found)) before) in
-    let counts = count_by-updated in_setup change s.instances i row there in
-    let was : one (in_setup row) ≡ 1 = ap one before in
-    let is : one (in_setup (change row)) ≡ 0 = ap one after in
+    subst (λ (y : Instance). IsAlike y (change y)) (same_Some row x (sym there ∙ found)) alike in
+    let counts = count_by-updated (λ (x : Instance). is_setup x.phase) change s.instances i row there in
     let born = sound.born in
     record {
       filters = sound.filters;
@@ -66,7 +73,37 @@ setup_ends s change i births row sound there before alike after grown =
           (λ x found placed. placed_alike s t x (change x) (same x found) refl refl placed)
           (λ k x other found placed. record { filter = placed.filter; volume = placed.volume });
       apart = all_pairs_alike (λ x y. clashes x y ≡ false) change s.instances i sound.apart
-          (λ x y found. (λ apart. clash_first x (change x) y (same x found) ∙ apart, λ apart. clash_second x (change x) y (same x found) ∙ apart));
-      few = λ v. few_alike s change i row there (same row there) v (sound.few v);
-      born = rw long (omega (arith, counts, was, is, born, grown));
+          (λ x y found. (clash_first x (change x) y (same x found), clash_second x (change x) y (same x found)));
+      few = λ v.
+          let lives = count_by-updated (is_live_on v) change s.instances i row there in
+          omega (arith, lives, live_falls v row (change row) alike, sound.few v);
+      born = rw long (omega (arith, counts, born, grown));
     }
+
+-- an update that keeps altitudes leaves each instance its altitude
+altitudes_stay : (change : Instance → Instance) (rows : List Instance) (at : ℕ) → ((x : Instance) → (change x).altitude ≡ x.altitude)
+    → (i : ℕ) (row : Instance) → slice_get rows i ≡ Some row
+    → (after : Instance) × (slice_get (updated change rows at) i ≡ Some after) × (after.altitude ≡ row.altitude)
+altitudes_stay change rows at keeps i row there =
+    elim (cases_eq i at) [
+      | inl is ↦
+          let old : slice_get rows at ≡ Some row = subst (λ n. slice_get rows n ≡ Some row) is there in
+          let new : slice_get (updated change rows at) i ≡ Some (change row) =
+          subst (λ n. slice_get (updated change rows at) n ≡ Some (change row)) (sym is) (updated-same change rows at row old) in
+          (change row, new, keeps row)
+      | inr other ↦ (row, updated-other change rows at i other ∙ there, refl)
+    ]
+
+-- and what began before visits no changed instance
+pub row_follows : (s : StackWorld) (change : Instance → Instance) (i births : ℕ) → ((x : Instance) → (change x).altitude ≡ x.altitude) → s.births ≤ births
+    → ((v : VolumeId) (born : ℕ) (operation : Operation) (x : Instance) → born ≤ s.births → is_to_visit s v born operation (change x) ≡ true → ⊥)
+    → Follows s (record s { instances = updated change s.instances i; births = births })
+row_follows s change i births keeps grown passed = record {
+  births = grown;
+  longer = omega (arith, length-updated change s.instances i);
+  altitudes = altitudes_stay change s.instances i keeps;
+  visits = λ v born operation k after early found visited. elim (updated_cases change s.instances i k after found) [
+    | inl old ↦ (after, old.1, visited, refl)
+    | inr made ↦ absurd (passed v born operation made.1.0 early (subst (λ (x : Instance). is_to_visit s v born operation x ≡ true) made.1.2 visited))
+  ];
+}

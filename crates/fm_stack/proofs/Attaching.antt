@@ -1,22 +1,14 @@
 -- Attaching an instance keeps what holds of the stack, and changes nothing for operations under way.
-use Rattle.std.proofs.Common.{◌≡◌, ℕ, ◌+◌, ◌<◌, ◌≤◌, Bool, true, false, not, cond, ◌&&◌, ◌||◌, ◌==◌, nat_le, eqb, List, [], ◌∷◌, ◌++◌, length, slice_get, get_or, Some, None, count_by, refl, sym, ap, subst, ◌∙◌, arith, inl, inr}
+use Rattle.fm_stack.proofs.Words.{leb-false, or_parts, cases_eq, cases_Bool, eq-eqb, ne_eqb, length_push, VolumeId, first_of, none_refuses}
+use Rattle.fm_stack.proofs.Words.{all_at, all_from_slice_get, all_pairs_pushed, count_by-push, slice_get-kept, slice_get-push_cases}
+use Rattle.fm_stack.proofs.Words.{Instance, StackWorld, attach_refusals, attached, has_altitude_on, has_name_on, new_instance, Follows}
+use Rattle.fm_stack.proofs.Words.{clashes, is_detached, is_live_on, is_setup, same_altitude, same_name, is_to_visit, IsPlaced, IsStack}
+use Rattle.std.proofs.Common.{◌≡◌, ℕ, ◌<◌, ◌≤◌, Bool, true, false, not, cond, ◌&&◌, ◌||◌, ◌==◌, nat_le, eqb, List, [], ◌∷◌, ◌++◌, length}
+use Rattle.std.proofs.Common.{slice_get, get_or, Some, None, count_by, refl, sym, ap, subst, ◌∙◌, arith, inl, inr}
 use Rattle.std.specs.List.{list_any}
-use Rattle.std.proofs.lemmas.Bool.{leb-false, or_parts, cases_eq, cases_Bool, eq-eqb, ne_eqb}
-use Rattle.std.proofs.lemmas.List.{length_push}
 use Rattle.std.proofs.lemmas.List.Folds.{list_any_at}
 use Rattle.std.proofs.lemmas.Option.{get_or_from_slice_get, slice_get_within}
 use Rattle.fm_types.specs.declared.ids.FilterId.{FilterId}
-use Rattle.fm_types.specs.declared.ids.VolumeId.{VolumeId}
-use Rattle.fm_types.specs.Refusals.{first_of}
-use Rattle.fm_types.proofs.Refusals.{none_refuses}
-use Rattle.fm_types.proofs.Lists.{all_at, all_from_slice_get, all_pairs_pushed, count_by-push, slice_get-kept, slice_get-push_cases}
-use Rattle.fm_stack.specs.declared.instance.Instance.{Instance}
-use Rattle.fm_stack.specs.StackWorld.{StackWorld}
-use Rattle.fm_stack.specs.Events.{attach_refusals, attached, has_altitude_on, has_name_on, new_instance}
-use Rattle.fm_stack.specs.Follows.{Follows}
-use Rattle.fm_stack.specs.Instances.{clashes, is_detached, is_live_on, is_setup, same_altitude, same_name}
-use Rattle.fm_stack.specs.Next.{is_to_visit}
-use Rattle.fm_stack.specs.Stacks.{IsPlaced, IsStack}
 
 -- a test that no row passes fails at each row
 none_passes : (p : Instance → Bool) (rows : List Instance) (k : ℕ) (row : Instance) → list_any p rows ≡ false → slice_get rows k ≡ Some row → p row ≡ false
@@ -61,25 +53,24 @@ new_is_apart f v name altitude row names altitudes =
           rw elsewhere (apart_elsewhere (eqb row.volume.0 row.volume.0) live (same || level))
     ]
 
-few_with_one : (n : ℕ) (live : Bool) → n < 32 → n + cond live 1 0 ≤ 32
-few_with_one n true few = omega (arith, few)
-few_with_one n false few = omega (arith, few)
-
-few_elsewhere : (m : ℕ) (w v : VolumeId) (live : Bool) → m ≤ 32 → (w.0 ≡ v.0 → m < 32) → m + cond (eqb v.0 w.0 && live) 1 0 ≤ 32
-few_elsewhere m w v live few below =
-    elim (cases_eq w.0 v.0) [
-      | inl is ↦ few_with_one m (eqb v.0 w.0 && live) (below is)
-      | inr other ↦
-          let elsewhere : eqb v.0 w.0 ≡ false = ne_eqb v.0 w.0 (λ is. other (sym is)) in
-          rw elsewhere (omega (arith, few))
-    ]
+one_at_most : (live : Bool) → cond live 1 0 ≤ 1
+one_at_most true = omega arith
+one_at_most false = omega arith
 
 few_still : (s : StackWorld) (f : FilterId) (v : VolumeId) (name altitude : List ℕ) → IsStack s → count_by (is_live_on v) s.instances < 32
     → (w : VolumeId) → count_by (is_live_on w) (s.instances ++ new_instance f v name altitude ∷ []) ≤ 32
 few_still s f v name altitude sound few w =
-    rw (count_by-push (is_live_on w) s.instances (new_instance f v name altitude))
-    (few_elsewhere (count_by (is_live_on w) s.instances) w v true (sound.few w)
-    (λ is. subst (λ n. count_by (λ (row : Instance). (row.volume.0 == n) && not (is_detached row.phase)) s.instances < 32) (sym is) few))
+    let new = new_instance f v name altitude in
+    let counts = count_by-push (is_live_on w) s.instances new in
+    elim (cases_eq w.0 v.0) [
+      | inl is ↦
+          let here : count_by (is_live_on w) s.instances < 32 =
+          subst (λ n. count_by (λ (row : Instance). (row.volume.0 == n) && not (is_detached row.phase)) s.instances < 32) (sym is) few in
+          omega (arith, counts, here, one_at_most (is_live_on w new))
+      | inr other ↦
+          let elsewhere : ◌≡◌ {A = ℕ} (cond (is_live_on w new) 1 0) 0 = ap (λ b. cond (b && true) 1 0) (ne_eqb v.0 w.0 (λ is. other (sym is))) in
+          omega (arith, counts, elsewhere, sound.few w)
+    ]
 
 pub attached_keeps : (s : StackWorld) (f : FilterId) (v : VolumeId) (name altitude : List ℕ) → IsStack s
     → first_of (attach_refusals s f v name altitude) ≡ None → IsStack (attached s f v name altitude)
@@ -131,13 +122,3 @@ attached_follows s f v name altitude sound =
                 absurd (cc)
           ];
     }
-
--- the same with what attach leaves written out
-pub attach_keeps : (s : StackWorld) (f : FilterId) (v : VolumeId) (name altitude : List ℕ) (new : Instance) (rows : List Instance) → IsStack s
-    → first_of (attach_refusals s f v name altitude) ≡ None → new ≡ new_instance f v name altitude → rows ≡ s.instances ++ new ∷ []
-    → IsStack (record s { instances = rows })
-attach_keeps s f v name altitude new rows sound none made written = rw (written, made) (attached_keeps s f v name altitude sound none)
-
-pub attach_follows : (s : StackWorld) (f : FilterId) (v : VolumeId) (name altitude : List ℕ) (new : Instance) (rows : List Instance) → IsStack s
-    → new ≡ new_instance f v name altitude → rows ≡ s.instances ++ new ∷ [] → Follows s (record s { instances = rows })
-attach_follows s f v name altitude new rows sound made written = rw (written, made) (attached_follows s f v name altitude sound)

@@ -1,17 +1,13 @@
 -- The search for the highest row that passes a test, one row further.
-use Rattle.std.proofs.Common.{◌≡◌, ◌⊎◌, ℕ, ◌+◌, ◌<◌, ◌≤◌, Bool, true, false, List, length, slice_get, Option, Some, None, refl, sym, ap, subst, ◌∙◌, arith, inl, inr}
+use Rattle.fm_stack.proofs.Words.{cases_Bool, cases_eq, InstanceId, Instance, is_lower, IsHighestOrNone, IsBestSoFar, IsHighestAmong}
+use Rattle.std.proofs.Common.{◌≡◌, ◌⊎◌, ℕ, ◌+◌, ◌<◌, ◌≤◌, Bool, true, false, List, length, slice_get, Option, Some, None, refl, sym, ap}
+use Rattle.std.proofs.Common.{subst, ◌∙◌, arith, inl, inr}
 use Rattle.std.specs.Ordering.{is_lt, ordering_reverse}
 use Rattle.std.specs.declared.cmp.Ordering.{Ordering}
 use Rattle.std.specs.declared.cmp.Ordering.TheVariants.{Less, Equal, Greater}
-use Rattle.std.proofs.lemmas.Bool.{cases_Bool, cases_eq}
 use Rattle.std.proofs.lemmas.Option.{same_Some, slice_get_within}
-use Rattle.fm_types.specs.declared.ids.InstanceId.{InstanceId}
 use Rattle.fm_altitude.specs.Order.{altitude_cmp}
 use Rattle.fm_altitude.specs.Total.{altitude_total}
-use Rattle.fm_stack.specs.declared.instance.Instance.{Instance}
-use Rattle.fm_stack.specs.Instances.{is_lower}
-use Rattle.fm_stack.specs.Next.{IsHighestOrNone}
-use Rattle.fm_stack.specs.Search.{IsBestSoFar, IsHighestAmong}
 
 less : (o : Ordering) → is_lt o ≡ true → o ≡ Less
 less Less is = refl
@@ -22,11 +18,6 @@ not_less : (o : Ordering) → o ≡ ordering_reverse o → is_lt o ≡ false
 not_less Less is = cc
 not_less Equal is = refl
 not_less Greater is = refl
-
-not_greater : (o : Ordering) → o ≡ Less → is_lt (ordering_reverse o) ≡ false
-not_greater Less is = refl
-not_greater Equal is = refl
-not_greater Greater is = cc
 
 -- b is lower than a and not lower than c, so a isn't lower than c
 not_lower : (a b c : List ℕ) → is_lower b a ≡ true → is_lower b c ≡ false → is_lower a c ≡ false
@@ -41,11 +32,6 @@ not_lower a b c below level =
 -- an altitude isn't lower than itself
 not_below_itself : (a : List ℕ) → is_lower a a ≡ false
 not_below_itself a = not_less (altitude_cmp a a) (altitude_total.antisymm a a)
-
--- b is lower than a, so a isn't lower than b
-not_below_lower : (a b : List ℕ) → is_lower b a ≡ true → is_lower a b ≡ false
-not_below_lower a b below =
-    ap is_lt (altitude_total.antisymm a b) ∙ not_greater (altitude_cmp b a) (less (altitude_cmp b a) below)
 
 -- one of the first n + 1 rows is one of the first n, or the one at n
 among : (rows : List Instance) (n j : ℕ) (row other : Instance) → slice_get rows n ≡ Some row → j < n + 1 → slice_get rows j ≡ Some other

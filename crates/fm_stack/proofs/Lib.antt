@@ -1,3 +1,4 @@
+mod Words
 pub mod Alike
 pub mod Registering
 pub mod Attaching

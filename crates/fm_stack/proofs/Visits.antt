@@ -1,25 +1,13 @@
 -- How many instances an operation may visit.
+use Rattle.fm_stack.proofs.Words.{and_parts, and_from, VolumeId, Operation, count_by_weaker, Instance, Phase, StackWorld, is_attached}
+use Rattle.fm_stack.proofs.Words.{is_detached, is_live_on, is_registered, is_to_visit, IsStack}
 use Rattle.std.proofs.Common.{◌≡◌, ℕ, ◌≤◌, true, ◌&&◌, ◌==◌, not, nat_lt, count_by, refl, arith}
-use Rattle.std.proofs.lemmas.Bool.{and_parts, and_from}
-use Rattle.fm_types.specs.declared.ids.VolumeId.{VolumeId}
-use Rattle.fm_types.specs.declared.operation.Operation.{Operation}
-use Rattle.fm_types.proofs.Lists.{count_by_weaker}
-use Rattle.fm_stack.specs.declared.instance.Instance.{Instance}
-use Rattle.fm_stack.specs.declared.instance.Phase.{Phase}
 use Rattle.fm_stack.specs.declared.instance.Phase.TheVariants as phase
-use Rattle.fm_stack.specs.StackWorld.{StackWorld}
-use Rattle.fm_stack.specs.Instances.{is_attached, is_detached, is_live_on}
-use Rattle.fm_stack.specs.Next.{is_registered, is_to_visit}
-use Rattle.fm_stack.specs.Stacks.{IsStack}
 
 -- what is attached isn't detached
 attached_is_live : (p : Phase) → is_attached p ≡ true → not (is_detached p) ≡ true
-attached_is_live phase.Setup attached = refl
-attached_is_live phase.Attached attached = refl
-attached_is_live phase.Stopping attached = refl
-attached_is_live phase.Completing attached = refl
-attached_is_live phase.Emptying attached = refl
 attached_is_live phase.Detached attached = attached
+attached_is_live p attached = refl
 
 -- what is to be visited is live on the volume
 visited_is_live : (s : StackWorld) (v : VolumeId) (born : ℕ) (operation : Operation) (row : Instance)

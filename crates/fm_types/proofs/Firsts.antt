@@ -9,88 +9,89 @@ use Rattle.std.proofs.lemmas.Option.{same_Some, none-some}
 use Rattle.std.proofs.lemmas.List.Elements.{All-nil, All-cons, All-head, All-tail}
 use Rattle.fm_types.specs.Lists.{change_first, without_first}
 
+-- whether the first element is found
+hit : {A : Type 0} (test : A → Bool) (x : A) (rs : List A) → test x ≡ true → find test (x ∷ rs) ≡ Some x
+hit test x rs e = rw e refl
+
+miss : {A : Type 0} (test : A → Bool) (x : A) (rs : List A) → test x ≡ false → find test (x ∷ rs) ≡ find test rs
+miss test x rs e = rw e refl
+
+same_hit : {A : Type 0} (test : A → Bool) (x r : A) (rs : List A) → find test (x ∷ rs) ≡ Some r → test x ≡ true → x ≡ r
+same_hit test x r rs h e = same_Some x r (sym (hit test x rs e) ∙ h)
+
 pub change_none : {A : Type 0} (test : A → Bool) (f : A → A) (rs : List A) → find test rs ≡ None → change_first test f rs ≡ rs
-change_none {A = A} test f [] h = refl
-change_none {A = A} test f (r ∷ rs) h =
-    elim (cases_Bool (test r)) [
-      | inl e ↦ absurd (none-some r (sym h ∙ ap (λ c. cond c (Some r) (find test rs)) e))
-      | inr e ↦ ap (λ c. cond c (f r ∷ rs) (r ∷ change_first test f rs)) e
-          ∙ ap (λ (xs : List A). r ∷ xs) (change_none test f rs (sym (ap (λ c. cond c (Some r) (find test rs)) e) ∙ h))
-    ]
+change_none test f [] h = refl
+change_none {A = A} test f (r ∷ rs) h = elim (cases_Bool (test r)) [
+  | inl e ↦ absurd (none-some r (sym h ∙ hit test r rs e))
+  | inr e ↦ rw e (ap (λ (xs : List A). r ∷ xs) (change_none test f rs (sym (miss test r rs e) ∙ h)))
+]
+
+pub without_none : {A : Type 0} (test : A → Bool) (rs : List A) → find test rs ≡ None → without_first test rs ≡ rs
+without_none test [] h = refl
+without_none {A = A} test (r ∷ rs) h = elim (cases_Bool (test r)) [
+  | inl e ↦ absurd (none-some r (sym h ∙ hit test r rs e))
+  | inr e ↦ rw e (ap (λ (xs : List A). r ∷ xs) (without_none test rs (sym (miss test r rs e) ∙ h)))
+]
 
 -- what holds of each holds of the one that is found
 pub found_holds : {A : Type 0} (P : A → Type 0) (test : A → Bool) (rs : List A) (r : A) → All P rs → find test rs ≡ Some r → P r
 found_holds P test [] r all h = absurd (none-some r h)
-found_holds P test (x ∷ rs) r all h =
-    elim (cases_Bool (test x)) [
-      | inl e ↦ subst P (same_Some x r (sym (ap (λ c. cond c (Some x) (find test rs)) e) ∙ h)) (All-head P x rs all)
-      | inr e ↦ found_holds P test rs r (All-tail P x rs all) (sym (ap (λ c. cond c (Some x) (find test rs)) e) ∙ h)
-    ]
+found_holds P test (x ∷ rs) r all h = elim (cases_Bool (test x)) [
+  | inl e ↦ subst P (same_hit test x r rs h e) (All-head P x rs all)
+  | inr e ↦ found_holds P test rs r (All-tail P x rs all) (sym (miss test x rs e) ∙ h)
+]
 
 pub found_passes : {A : Type 0} (test : A → Bool) (rs : List A) (r : A) → find test rs ≡ Some r → test r ≡ true
 found_passes test [] r h = absurd (none-some r h)
-found_passes test (x ∷ rs) r h =
-    elim (cases_Bool (test x)) [
-      | inl e ↦ subst (λ y. test y ≡ true) (same_Some x r (sym (ap (λ c. cond c (Some x) (find test rs)) e) ∙ h)) e
-      | inr e ↦ found_passes test rs r (sym (ap (λ c. cond c (Some x) (find test rs)) e) ∙ h)
-    ]
+found_passes test (x ∷ rs) r h = elim (cases_Bool (test x)) [
+  | inl e ↦ subst (λ y. test y ≡ true) (same_hit test x r rs h e) e
+  | inr e ↦ found_passes test rs r (sym (miss test x rs e) ∙ h)
+]
 
 -- what holds of each, and of the changed one, holds of each afterwards
 pub all_change : {A : Type 0} (P : A → Type 0) (test : A → Bool) (f : A → A) (rs : List A)
     → ((r : A) → find test rs ≡ Some r → P (f r)) → All P rs → All P (change_first test f rs)
 all_change P test f [] h all = All-nil P
-all_change P test f (x ∷ rs) h all =
-    elim (cases_Bool (test x)) [
-      | inl e ↦ subst (λ c. All P (cond c (f x ∷ rs) (x ∷ change_first test f rs))) (sym e)
-          (All-cons P (f x) rs (h x (ap (λ c. cond c (Some x) (find test rs)) e)) (All-tail P x rs all))
-      | inr e ↦ subst (λ c. All P (cond c (f x ∷ rs) (x ∷ change_first test f rs))) (sym e)
-          (All-cons P x (change_first test f rs) (All-head P x rs all)
-          (all_change P test f rs (λ r k. h r (ap (λ c. cond c (Some x) (find test rs)) e ∙ k)) (All-tail P x rs all)))
-    ]
+all_change P test f (x ∷ rs) h all = elim (cases_Bool (test x)) [
+  | inl e ↦ rw e (All-cons P (f x) rs (h x (hit test x rs e)) (All-tail P x rs all))
+  | inr e ↦ rw e (All-cons P x (change_first test f rs) (All-head P x rs all)
+      (all_change P test f rs (λ r k. h r (miss test x rs e ∙ k)) (All-tail P x rs all)))
+]
 
 pub all_without : {A : Type 0} (P : A → Type 0) (test : A → Bool) (rs : List A) → All P rs → All P (without_first test rs)
 all_without P test [] all = All-nil P
-all_without P test (x ∷ rs) all =
-    elim (cases_Bool (test x)) [
-      | inl e ↦ subst (λ c. All P (cond c rs (x ∷ without_first test rs))) (sym e) (All-tail P x rs all)
-      | inr e ↦ subst (λ c. All P (cond c rs (x ∷ without_first test rs))) (sym e)
-          (All-cons P x (without_first test rs) (All-head P x rs all) (all_without P test rs (All-tail P x rs all)))
-    ]
+all_without P test (x ∷ rs) all = elim (cases_Bool (test x)) [
+  | inl e ↦ rw e (All-tail P x rs all)
+  | inr e ↦ rw e (All-cons P x (without_first test rs) (All-head P x rs all) (all_without P test rs (All-tail P x rs all)))
+]
 
 -- a change that keeps what the test reads is found again
 pub find_changed : {A : Type 0} (test : A → Bool) (f : A → A) (rs : List A) → ((r : A) → test (f r) ≡ test r)
     → find test (change_first test f rs) ≡ option_map f (find test rs)
 find_changed test f [] same = refl
-find_changed test f (x ∷ rs) same =
-    let P : Bool → Type 0 = λ c. find test (cond c (f x ∷ rs) (x ∷ change_first test f rs)) ≡ option_map f (cond c (Some x) (find test rs)) in
-    elim (cases_Bool (test x)) [
-      | inl e ↦ subst P (sym e) (ap (λ c. cond c (Some (f x)) (find test rs)) (same x ∙ e))
-      | inr e ↦ subst P (sym e) (ap (λ c. cond c (Some x) (find test (change_first test f rs))) e ∙ find_changed test f rs same)
-    ]
+find_changed test f (x ∷ rs) same = elim (cases_Bool (test x)) [
+  | inl e ↦ rw e (hit test (f x) rs (same x ∙ e))
+  | inr e ↦ rw e (miss test x (change_first test f rs) e ∙ find_changed test f rs same)
+]
 
 -- a test that no changed element passes, before or after, finds what it found
 pub find_unchanged : {A : Type 0} (test other : A → Bool) (f : A → A) (rs : List A)
     → ((r : A) → test r ≡ true → (other r ≡ false) × (other (f r) ≡ false))
     → find other (change_first test f rs) ≡ find other rs
-find_unchanged {A = A} test other f [] apart = refl
-find_unchanged {A = A} test other f (x ∷ rs) apart =
-    let P : Bool → Type 0 = λ c. find other (cond c (f x ∷ rs) (x ∷ change_first test f rs)) ≡ cond (other x) (Some x) (find other rs) in
-    elim (cases_Bool (test x)) [
-      | inl e ↦ let k = apart x e in
-          subst P (sym e) (ap (λ c. cond c (Some (f x)) (find other rs)) k.1 ∙ sym (ap (λ c. cond c (Some x) (find other rs)) k.0))
-      | inr e ↦ subst P (sym e) (ap (λ (m : Option A). cond (other x) (Some x) m) (find_unchanged test other f rs apart))
-    ]
+find_unchanged test other f [] apart = refl
+find_unchanged {A = A} test other f (x ∷ rs) apart = elim (cases_Bool (test x)) [
+  | inl e ↦ let k = apart x e in rw e (miss other (f x) rs k.1 ∙ sym (miss other x rs k.0))
+  | inr e ↦ rw e (ap (λ (m : Option A). cond (other x) (Some x) m) (find_unchanged test other f rs apart))
+]
 
 -- the list without it finds what it found
 pub find_without : {A : Type 0} (test other : A → Bool) (rs : List A) → ((r : A) → test r ≡ true → other r ≡ false)
     → find other (without_first test rs) ≡ find other rs
-find_without {A = A} test other [] apart = refl
-find_without {A = A} test other (x ∷ rs) apart =
-    let P : Bool → Type 0 = λ c. find other (cond c rs (x ∷ without_first test rs)) ≡ cond (other x) (Some x) (find other rs) in
-    elim (cases_Bool (test x)) [
-      | inl e ↦ subst P (sym e) (sym (ap (λ c. cond c (Some x) (find other rs)) (apart x e)))
-      | inr e ↦ subst P (sym e) (ap (λ (m : Option A). cond (other x) (Some x) m) (find_without test other rs apart))
-    ]
+find_without test other [] apart = refl
+find_without {A = A} test other (x ∷ rs) apart = elim (cases_Bool (test x)) [
+  | inl e ↦ rw e (sym (miss other x rs (apart x e)))
+  | inr e ↦ rw e (ap (λ (m : Option A). cond (other x) (Some x) m) (find_without test other rs apart))
+]
 
 -- ---- its place
 
@@ -155,65 +156,38 @@ count-cons p x xs = sum_by-cons (λ y. cond (p y) 1 0) x xs
 
 pub count_changed : {A : Type 0} (counts : A → Bool) (test : A → Bool) (f : A → A) (rs : List A) (r : A) → find test rs ≡ Some r
     → count_by counts (change_first test f rs) + cond (counts r) 1 0 ≡ count_by counts rs + cond (counts (f r)) 1 0
-count_changed {A = A} counts test f [] r h = absurd (none-some r h)
-count_changed {A = A} counts test f (x ∷ rs) r h =
-    let P : Bool → Type 0 = λ c. count_by counts (cond c (f x ∷ rs) (x ∷ change_first test f rs)) + cond (counts r) 1 0 ≡ count_by counts (x ∷ rs) + cond (counts (f r)) 1 0 in
-    elim (cases_Bool (test x)) [
-      | inl e ↦ let is = same_Some x r (sym (ap (λ c. cond c (Some x) (find test rs)) e) ∙ h) in
-          subst P (sym e) (subst (λ (y : A). count_by counts (f x ∷ rs) + cond (counts y) 1 0 ≡ count_by counts (x ∷ rs) + cond (counts (f y)) 1 0) is
-          (omega (arith, count-cons counts (f x) rs, count-cons counts x rs)))
-      | inr e ↦ subst P (sym e) (omega (
-        arith,
-        count-cons counts x (change_first test f rs),
-        count-cons counts x rs,
-        count_changed counts test f rs r (sym (ap (λ c. cond c (Some x) (find test rs)) e) ∙ h),
-      ))
-    ]
+count_changed counts test f [] r h = absurd (none-some r h)
+count_changed {A = A} counts test f (x ∷ rs) r h = elim (cases_Bool (test x)) [
+  | inl e ↦ rw e (subst (λ (y : A). count_by counts (f x ∷ rs) + cond (counts y) 1 0 ≡ count_by counts (x ∷ rs) + cond (counts (f y)) 1 0)
+      (same_hit test x r rs h e) (omega (arith, count-cons counts (f x) rs, count-cons counts x rs)))
+  | inr e ↦
+      let rest = count_changed counts test f rs r (sym (miss test x rs e) ∙ h) in
+      rw e (omega (arith, count-cons counts x (change_first test f rs), count-cons counts x rs, rest))
+]
 
 pub count_without : {A : Type 0} (counts : A → Bool) (test : A → Bool) (rs : List A) → count_by counts (without_first test rs) ≤ count_by counts rs
 count_without counts test [] = omega arith
-count_without counts test (x ∷ rs) =
-    let P : Bool → Type 0 = λ c. count_by counts (cond c rs (x ∷ without_first test rs)) ≤ count_by counts (x ∷ rs) in
-    elim (cases_Bool (test x)) [
-      | inl e ↦ subst P (sym e) (omega (arith, count-cons counts x rs))
-      | inr e ↦ subst P (sym e) (omega (arith, count-cons counts x (without_first test rs), count-cons counts x rs, count_without counts test rs))
-    ]
+count_without counts test (x ∷ rs) = elim (cases_Bool (test x)) [
+  | inl e ↦ rw e (omega (arith, count-cons counts x rs))
+  | inr e ↦ rw e (omega (arith, count-cons counts x (without_first test rs), count-cons counts x rs, count_without counts test rs))
+]
+
+-- one that is found counts
+pub found_counts : {A : Type 0} (counts : A → Bool) (test : A → Bool) (rs : List A) (r : A) → find test rs ≡ Some r → counts r ≡ true → 1 ≤ count_by counts rs
+found_counts counts test [] r h passes = absurd (none-some r h)
+found_counts {A = A} counts test (x ∷ rs) r h passes = elim (cases_Bool (test x)) [
+  | inl e ↦
+      let one : ◌≡◌ {A = ℕ} (cond (counts x) 1 0) 1 = ap (λ (y : A). cond (counts y) 1 0) (same_hit test x r rs h e) ∙ ap (λ b. cond b 1 0) passes in
+      omega (arith, count-cons counts x rs, one)
+  | inr e ↦ omega (arith, count-cons counts x rs, found_counts counts test rs r (sym (miss test x rs e) ∙ h) passes)
+]
 
 -- ---- how long the list is
 
 pub length_change : {A : Type 0} (test : A → Bool) (f : A → A) (rs : List A) → length (change_first test f rs) ≡ length rs
 length_change test f [] = refl
-length_change test f (x ∷ rs) =
-    elim (cases_Bool (test x)) [
-      | inl e ↦ ap (λ b. length (cond b (f x ∷ rs) (x ∷ change_first test f rs))) e
-      | inr e ↦ ap (λ b. length (cond b (f x ∷ rs) (x ∷ change_first test f rs))) e ∙ ap suc (length_change test f rs)
-    ]
+length_change test f (x ∷ rs) = elim (cases_Bool (test x)) [ inl e ↦ rw e refl | inr e ↦ rw e (ap suc (length_change test f rs)) ]
 
 pub length_without : {A : Type 0} (test : A → Bool) (rs : List A) → length (without_first test rs) ≤ length rs
 length_without test [] = omega arith
-length_without test (x ∷ rs) =
-    elim (cases_Bool (test x)) [
-      | inl e ↦ subst (λ b. length (cond b rs (x ∷ without_first test rs)) ≤ length (x ∷ rs)) (sym e) (omega arith)
-      | inr e ↦ subst (λ b. length (cond b rs (x ∷ without_first test rs)) ≤ length (x ∷ rs)) (sym e) (omega (arith, length_without test rs))
-    ]
-
--- one that is found counts
-pub found_counts : {A : Type 0} (counts : A → Bool) (test : A → Bool) (rs : List A) (r : A) → find test rs ≡ Some r → counts r ≡ true → 1 ≤ count_by counts rs
-found_counts counts test [] r h passes = absurd (none-some r h)
-found_counts {A = A} counts test (x ∷ rs) r h passes =
-    elim (cases_Bool (test x)) [
-      | inl e ↦
-          let is = same_Some x r (sym (ap (λ c. cond c (Some x) (find test rs)) e) ∙ h) in
-          let one : ◌≡◌ {A = ℕ} (cond (counts x) 1 0) 1 = ap (λ (y : A). cond (counts y) 1 0) is ∙ ap (λ b. cond b 1 0) passes in
-          omega (arith, count-cons counts x rs, one)
-      | inr e ↦ omega (arith, count-cons counts x rs, found_counts counts test rs r (sym (ap (λ c. cond c (Some x) (find test rs)) e) ∙ h) passes)
-    ]
-
-pub without_none : {A : Type 0} (test : A → Bool) (rs : List A) → find test rs ≡ None → without_first test rs ≡ rs
-without_none test [] h = refl
-without_none {A = A} test (r ∷ rs) h =
-    elim (cases_Bool (test r)) [
-      | inl e ↦ absurd (none-some r (sym h ∙ ap (λ c. cond c (Some r) (find test rs)) e))
-      | inr e ↦ ap (λ c. cond c rs (r ∷ without_first test rs)) e
-          ∙ ap (λ (xs : List A). r ∷ xs) (without_none test rs (sym (ap (λ c. cond c (Some r) (find test rs)) e) ∙ h))
-    ]
+length_without test (x ∷ rs) = elim (cases_Bool (test x)) [ inl e ↦ rw e (omega arith) | inr e ↦ rw e (omega (arith, length_without test rs)) ]

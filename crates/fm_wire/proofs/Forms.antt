@@ -1,44 +1,30 @@
 -- Which field texts no form has.
-use Rattle.std.proofs.Common.{◌≡◌, ◌≢◌, ℕ, ◌+◌, ◌<◌, ◌≤◌, ◌⊎◌, ◌==◌, cond, List, ◌∷◌, ◌++◌, length, refl, sym, ◌∙◌, arith, inl, inr, length-append}
-use Rattle.fm_types.specs.Statuses.{number_of}
-use Rattle.fm_types.specs.declared.status.Status.{Status}
-use Rattle.fm_types.specs.declared.operation.CreateMode.{CreateMode}
-use Rattle.fm_types.specs.declared.operation.CreateMode.TheVariants.{Existing, New, Always}
-use Rattle.fm_data.specs.declared.request.Request.{Request}
+use Rattle.fm_wire.proofs.Words.{ℕ, cond, List, length, refl, sym, arith, inl, inr, length-append, number_of, Status, CreateMode, Existing}
+use Rattle.fm_wire.proofs.Words.{Request, bytes_of_u32, bytes_of_u64, mode_number, request_code, request_fields, control_code}
+use Rattle.fm_wire.proofs.Words.{control_fields, reply_code, reply_fields}
+use Rattle.std.proofs.Common.{◌≡◌, ◌≢◌, ◌+◌, ◌<◌, ◌≤◌, ◌⊎◌, ◌==◌, ◌∷◌, ◌++◌, ◌∙◌}
 use Rattle.fm_data.specs.declared.request.Request.TheVariants as request
 use Rattle.fm_data.specs.declared.request.Reply.{Reply}
 use Rattle.fm_data.specs.declared.request.Reply.TheVariants as reply
 use Rattle.fm_wire.specs.declared.frame.Control.{Control}
 use Rattle.fm_wire.specs.declared.frame.Control.TheVariants as control
 use Rattle.fm_wire.specs.declared.frame.Body.TheVariants as body
-use Rattle.fm_wire.specs.Spelling.{bytes_of_u32, bytes_of_u64, mode_number, request_code, request_fields, control_code, control_fields, reply_code, reply_fields}
 use Rattle.fm_wire.specs.Grammar.{FitsRequest, FitsControl, FitsReply, KeepsRequestLimits, KeepsReplyLimits, IsFormless}
-use Rattle.fm_wire.proofs.Words.{length-u16, length-u32, length-u64}
+use Rattle.fm_wire.proofs.Bytes.{length-u16, length-u32, length-u64}
 
 -- ---- whose codes are which
 
 pub request_codes : (r : Request) → (1 ≤ request_code r) × (request_code r ≤ 9)
 request_codes (request.Create volume path mode) = (omega arith, omega arith)
-request_codes (request.Read handle offset len) = (omega arith, omega arith)
-request_codes (request.Write handle offset bytes) = (omega arith, omega arith)
-request_codes (request.QuerySize handle) = (omega arith, omega arith)
-request_codes (request.SetSize handle size) = (omega arith, omega arith)
-request_codes (request.Flush handle) = (omega arith, omega arith)
-request_codes (request.List volume) = (omega arith, omega arith)
-request_codes (request.SetDelete handle) = (omega arith, omega arith)
-request_codes (request.Close handle) = (omega arith, omega arith)
+request_codes r = (omega arith, omega arith)
 
 pub control_codes : (c : Control) → (16 ≤ control_code c) × (control_code c ≤ 21)
 control_codes (control.Load name) = (omega arith, omega arith)
-control_codes (control.Attach filter volume name altitude) = (omega arith, omega arith)
-control_codes (control.Detach instance) = (omega arith, omega arith)
-control_codes (control.Unload filter) = (omega arith, omega arith)
-control_codes (control.Dismount volume) = (omega arith, omega arith)
-control_codes control.Stop = (omega arith, omega arith)
+control_codes c = (omega arith, omega arith)
 
 pub reply_codes : (r : Reply) → (128 ≤ reply_code r) × (reply_code r ≤ 129)
-reply_codes (reply.Done status information bytes) = (omega arith, omega arith)
 reply_codes (reply.Held operation) = (omega arith, omega arith)
+reply_codes r = (omega arith, omega arith)
 
 pub formless_request : (code : ℕ) (fields : List ℕ) → code ≤ 9 → ((r : Request) → request_code r ≡ code → request_fields r ≡ fields → FitsRequest r → KeepsRequestLimits r → ⊥) → IsFormless code fields
 formless_request code fields small none (body.Operation r) s = none r s.code_is s.fields_are s.fits s.limits
@@ -67,8 +53,8 @@ request_has_size : (r : Request) → request_code r ≢ 1 → request_code r ≢
 request_has_size (request.Create volume path mode) a b = absurd (a refl)
 request_has_size (request.Read handle offset len) a b = simp (length-append, length-u64, length-u32)
 request_has_size (request.Write handle offset bytes) a b = absurd (b refl)
-request_has_size (request.QuerySize handle) a b = length-u64 handle.0
 request_has_size (request.SetSize handle size) a b = simp (length-append, length-u64)
+request_has_size (request.QuerySize handle) a b = length-u64 handle.0
 request_has_size (request.Flush handle) a b = length-u64 handle.0
 request_has_size (request.List volume) a b = refl
 request_has_size (request.SetDelete handle) a b = length-u64 handle.0
@@ -93,33 +79,38 @@ pub control_of_wrong_size : (code : ℕ) (fields : List ℕ) → 16 ≤ code →
 control_of_wrong_size code fields low high a b bad =
     formless_control code fields low high (λ r c f fits. bad (rw (← c, ← f) (control_has_size r (λ e. a (sym c ∙ e)) (λ e. b (sym c ∙ e)))))
 
-held_size : (r : Reply) → reply_code r ≡ 129 → length (reply_fields r) ≡ 8
-held_size (reply.Done status information bytes) e = absurd (omega arith)
-held_size (reply.Held operation) e = length-u64 operation.0
-
 pub held_of_wrong_size : (fields : List ℕ) → length fields ≢ 8 → IsFormless 129 fields
-held_of_wrong_size fields bad = formless_reply 129 fields (omega arith) (λ r c f fits limits. bad (rw (← f) (held_size r c)))
+held_of_wrong_size fields bad = formless_reply 129 fields (omega arith) (elim [
+  | reply.Done status information bytes ↦ λ c f fits limits. absurd (omega arith)
+  | reply.Held operation ↦ λ c f fits limits. bad (rw (← f) (length-u64 operation.0))
+])
+
+pub number_of_wrong_size : (code : ℕ) (fields : List ℕ) → (code ≡ 4) ⊎ (code ≡ 6) ⊎ (code ≡ 8) ⊎ (code ≡ 9) ⊎ (code ≡ 129) → length fields ≢ 8 → IsFormless code fields
+number_of_wrong_size code fields is bad = elim is [
+  | inl e ↦ rw e (request_of_wrong_size 4 fields (omega arith) (λ e. omega arith) (λ e. omega arith) bad)
+  | inr (inl e) ↦ rw e (request_of_wrong_size 6 fields (omega arith) (λ e. omega arith) (λ e. omega arith) bad)
+  | inr (inr (inl e)) ↦ rw e (request_of_wrong_size 8 fields (omega arith) (λ e. omega arith) (λ e. omega arith) bad)
+  | inr (inr (inr (inl e))) ↦ rw e (request_of_wrong_size 9 fields (omega arith) (λ e. omega arith) (λ e. omega arith) bad)
+  | inr (inr (inr (inr e))) ↦ rw e (held_of_wrong_size fields bad)
+]
 
 -- ---- the other forms
 
 mode_small : (mode : CreateMode) → mode_number mode ≤ 2
 mode_small Existing = omega arith
-mode_small New = omega arith
-mode_small Always = omega arith
-
-no_create_at : (fields : List ℕ) → ((volume mode : ℕ) (path : List ℕ) → fields ≡ volume ∷ mode ∷ path → mode ≤ 2 → ⊥) → (r : Request) → request_code r ≡ 1 → request_fields r ≡ fields → ⊥
-no_create_at fields none (request.Create volume path mode) c f = none volume.0 (mode_number mode) path (sym f) (mode_small mode)
-no_create_at fields none _ c f = absurd (omega arith)
+mode_small mode = omega arith
 
 pub no_create : (fields : List ℕ) → ((volume mode : ℕ) (path : List ℕ) → fields ≡ volume ∷ mode ∷ path → mode ≤ 2 → ⊥) → IsFormless 1 fields
-no_create fields none = formless_request 1 fields (omega arith) (λ r c f fits limits. no_create_at fields none r c f)
-
-no_read_at : (fields : List ℕ) → ((handle offset len : ℕ) → fields ≡ bytes_of_u64 handle ++ (bytes_of_u64 offset ++ bytes_of_u32 len) → len ≤ 32768 → ⊥) → (r : Request) → request_code r ≡ 2 → request_fields r ≡ fields → KeepsRequestLimits r → ⊥
-no_read_at fields none (request.Read handle offset len) c f limits = none handle.0 offset len (sym f) limits
-no_read_at fields none _ c f limits = absurd (omega arith)
+no_create fields none = formless_request 1 fields (omega arith) (elim [
+  | request.Create volume path mode ↦ λ c f fits limits. none volume.0 (mode_number mode) path (sym f) (mode_small mode)
+  | r ↦ λ c f fits limits. absurd (omega arith)
+])
 
 pub no_read : (fields : List ℕ) → ((handle offset len : ℕ) → fields ≡ bytes_of_u64 handle ++ (bytes_of_u64 offset ++ bytes_of_u32 len) → len ≤ 32768 → ⊥) → IsFormless 2 fields
-no_read fields none = formless_request 2 fields (omega arith) (λ r c f fits limits. no_read_at fields none r c f limits)
+no_read fields none = formless_request 2 fields (omega arith) (elim [
+  | request.Read handle offset len ↦ λ c f fits limits. none handle.0 offset len (sym f) limits
+  | r ↦ λ c f fits limits. absurd (omega arith)
+])
 
 write_size : (fields : List ℕ) (r : Request) → request_code r ≡ 3 → request_fields r ≡ fields → KeepsRequestLimits r → (16 ≤ length fields) × (length fields ≤ 16 + 32768)
 write_size fields (request.Write handle offset bytes) c f limits =
@@ -128,19 +119,16 @@ write_size fields (request.Write handle offset bytes) c f limits =
 write_size fields _ c f limits = absurd (omega arith)
 
 pub no_write : (fields : List ℕ) → (length fields < 16) ⊎ (16 + 32768 < length fields) → IsFormless 3 fields
-no_write fields (inl short) = formless_request 3 fields (omega arith) (λ r c f fits limits. let size = write_size fields r c f limits in omega arith)
-no_write fields (inr long) = formless_request 3 fields (omega arith) (λ r c f fits limits. let size = write_size fields r c f limits in omega arith)
-
-no_attach_at : (fields : List ℕ) → ((filter volume : ℕ) (name altitude : List ℕ) → fields ≡ filter ∷ volume ∷ length name ∷ name ++ altitude → ⊥) → (r : Control) → control_code r ≡ 17 → control_fields r ≡ fields → ⊥
-no_attach_at fields none (control.Attach filter volume name altitude) c f = none filter.0 volume.0 name altitude (sym f)
-no_attach_at fields none _ c f = absurd (omega arith)
+no_write fields bad = formless_request 3 fields (omega arith) (λ r c f fits limits. let size = write_size fields r c f limits in elim bad [ inl short ↦ omega arith | inr long ↦ omega arith ])
 
 pub no_attach : (fields : List ℕ) → ((filter volume : ℕ) (name altitude : List ℕ) → fields ≡ filter ∷ volume ∷ length name ∷ name ++ altitude → ⊥) → IsFormless 17 fields
-no_attach fields none = formless_control 17 fields (omega arith) (omega arith) (λ r c f fits. no_attach_at fields none r c f)
-
-no_reply_at : (fields : List ℕ) → ((status : Status) (information : ℕ) (bytes : List ℕ) → fields ≡ number_of status ∷ bytes_of_u64 information ++ bytes → ⊥) → (r : Reply) → reply_code r ≡ 128 → reply_fields r ≡ fields → ⊥
-no_reply_at fields none (reply.Done status information bytes) c f = none status information bytes (sym f)
-no_reply_at fields none (reply.Held operation) c f = absurd (omega arith)
+no_attach fields none = formless_control 17 fields (omega arith) (omega arith) (elim [
+  | control.Attach filter volume name altitude ↦ λ c f fits. none filter.0 volume.0 name altitude (sym f)
+  | r ↦ λ c f fits. absurd (omega arith)
+])
 
 pub no_reply : (fields : List ℕ) → ((status : Status) (information : ℕ) (bytes : List ℕ) → fields ≡ number_of status ∷ bytes_of_u64 information ++ bytes → ⊥) → IsFormless 128 fields
-no_reply fields none = formless_reply 128 fields (omega arith) (λ r c f fits limits. no_reply_at fields none r c f)
+no_reply fields none = formless_reply 128 fields (omega arith) (elim [
+  | reply.Done status information bytes ↦ λ c f fits limits. none status information bytes (sym f)
+  | reply.Held operation ↦ λ c f fits limits. absurd (omega arith)
+])

@@ -1,4 +1,5 @@
-pub mod Words
+mod Words
+pub mod Bytes
 pub mod Forms
 pub mod Parts
 pub mod Streams

@@ -1,17 +1,13 @@
 -- Bytes are one frame, and a stream one list of frames.
-use Rattle.std.proofs.Common.{◌≡◌, ℕ, ◌+◌, ◌⊎◌, List, [], ◌∷◌, ◌++◌, length, Result, Ok, Err, refl, sym, ap, ◌∙◌, arith, inl, inr, length-append, append_assoc}
-use Rattle.std.proofs.lemmas.List.{append-nil}
-use Rattle.fm_types.specs.declared.status.Status.{Status}
+use Rattle.fm_wire.proofs.Words.{ℕ, List, [], length, Result, Ok, Err, refl, sym, ap, arith, inl, inr, length-append, append_assoc}
+use Rattle.fm_wire.proofs.Words.{append-nil, Status, Body, Frame, bytes_of_u32, framed, IsPartial, IsFault, Begins}
+use Rattle.std.proofs.Common.{◌≡◌, ◌+◌, ◌⊎◌, ◌∷◌, ◌++◌, ◌∙◌}
 use Rattle.fm_data.specs.declared.request.Request.TheVariants as request
 use Rattle.fm_wire.specs.declared.frame.Control.TheVariants as control
-use Rattle.fm_wire.specs.declared.frame.Body.{Body}
 use Rattle.fm_wire.specs.declared.frame.Body.TheVariants as body
-use Rattle.fm_wire.specs.declared.frame.Frame.{Frame}
-use Rattle.fm_wire.specs.Spelling.{bytes_of_u32, framed}
 use Rattle.fm_wire.specs.Grammar.{HasTexts, RefusesText, Reading, canonical_body, outcome_of, IsBody, IsFrame}
-use Rattle.fm_wire.specs.Stream.{IsPartial, IsFault, Begins}
 use Rattle.fm_wire.specs.Laws.{NoPrefix, OneFrame, OneReading, Pieces}
-use Rattle.fm_wire.proofs.Words.{length-u32}
+use Rattle.fm_wire.proofs.Bytes.{length-u32}
 use Rattle.fm_wire.proofs.Parts.{same_parts, same_u32}
 use Rattle.fm_wire.proofs.OneReading.{one_said}
 use Rattle.fm_wire.proofs.Streams.{out_of_range}
@@ -20,44 +16,37 @@ use Rattle.fm_wire.proofs.Streams.{out_of_range}
 
 text_or_refused : (said : Body) (status : Status) → HasTexts said → RefusesText said status → ⊥
 text_or_refused (body.Operation (request.Create volume path mode)) status has refused = refused.1 has
-text_or_refused (body.Operation _) status has refused = refused
 text_or_refused (body.Control (control.Load name)) status has refused = refused.1 has
 text_or_refused (body.Control (control.Attach filter volume name altitude)) status has (inl refused) = refused.1 has.0
 text_or_refused (body.Control (control.Attach filter volume name altitude)) status has (inr refused) = refused.2 has.1
-text_or_refused (body.Control _) status has refused = refused
-text_or_refused (body.Reply r) status has refused = refused
-text_or_refused (body.Refused s) status has refused = refused
+text_or_refused said status has refused = refused
 
 one_refusal : (said : Body) (status other : Status) → RefusesText said status → RefusesText said other → status ≡ other
 one_refusal (body.Operation (request.Create volume path mode)) status other a b = a.0 ∙ sym b.0
-one_refusal (body.Operation _) status other a b = absurd a
 one_refusal (body.Control (control.Load name)) status other a b = a.0 ∙ sym b.0
 one_refusal (body.Control (control.Attach filter volume name altitude)) status other (inl a) (inl b) = a.0 ∙ sym b.0
 one_refusal (body.Control (control.Attach filter volume name altitude)) status other (inl a) (inr b) = absurd (a.1 b.1)
 one_refusal (body.Control (control.Attach filter volume name altitude)) status other (inr a) (inl b) = absurd (b.1 a.1)
 one_refusal (body.Control (control.Attach filter volume name altitude)) status other (inr a) (inr b) = a.0 ∙ sym b.0
-one_refusal (body.Control _) status other a b = absurd a
-one_refusal (body.Reply r) status other a b = absurd a
-one_refusal (body.Refused s) status other a b = absurd a
+one_refusal said status other a b = absurd a
 
 abbrev Outcome : Type 0
 Outcome = Result Body Status
+
+read_or_refused : (code : ℕ) (fields : List ℕ) (read : Body) (status : Status) → Reading code fields (Ok read) → Reading code fields (Err status) → ⊥
+read_or_refused code fields read status p (inl q) = q.1 p.0 p.1
+read_or_refused code fields read status p (inr q) =
+    let same = one_said code fields q.0 p.0 q.1 p.1 in
+    let refused : RefusesText p.0 status = rw (← same) q.2 in
+    text_or_refused p.0 status p.2 refused
 
 one_outcome : (code : ℕ) (fields : List ℕ) (a b : Outcome) → Reading code fields a → Reading code fields b → a ≡ b
 one_outcome code fields (Ok x) (Ok y) p q =
     let same = one_said code fields p.0 q.0 p.1 q.1 in
     let ok : Body → Outcome = λ b. Ok b in
     ap ok (p.3 ∙ ap (λ (b : Body). canonical_body b) same ∙ sym q.3)
-one_outcome code fields (Ok x) (Err t) p (inl q) = absurd (q.1 p.0 p.1)
-one_outcome code fields (Ok x) (Err t) p (inr q) =
-    let same = one_said code fields q.0 p.0 q.1 p.1 in
-    let refused : RefusesText p.0 t = rw (← same) q.2 in
-    absurd (text_or_refused p.0 t p.2 refused)
-one_outcome code fields (Err s) (Ok y) (inl p) q = absurd (p.1 q.0 q.1)
-one_outcome code fields (Err s) (Ok y) (inr p) q =
-    let same = one_said code fields p.0 q.0 p.1 q.1 in
-    let refused : RefusesText q.0 s = rw (← same) p.2 in
-    absurd (text_or_refused q.0 s q.2 refused)
+one_outcome code fields (Ok x) (Err t) p q = absurd (read_or_refused code fields x t p q)
+one_outcome code fields (Err s) (Ok y) p q = absurd (read_or_refused code fields y s q p)
 one_outcome code fields (Err s) (Err t) (inl p) (inl q) = let err : Status → Outcome = λ e. Err e in ap err (p.0 ∙ sym q.0)
 one_outcome code fields (Err s) (Err t) (inl p) (inr q) = absurd (p.1 q.0 q.1)
 one_outcome code fields (Err s) (Err t) (inr p) (inl q) = absurd (q.1 p.0 p.1)
@@ -75,10 +64,8 @@ body_from (Err status) = body.Refused status
 
 body_again : (b : Body) → body_from (outcome_of b) ≡ b
 unfolding body_from
-body_again (body.Operation r) = refl
-body_again (body.Control c) = refl
-body_again (body.Reply r) = refl
 body_again (body.Refused status) = refl
+body_again b = refl
 
 frame_is : (f g : Frame) → f.number ≡ g.number → f.body ≡ g.body → f ≡ g
 frame_is f g n b =

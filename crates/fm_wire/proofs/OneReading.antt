@@ -1,25 +1,23 @@
 -- Bytes are read in one way.
-use Rattle.std.proofs.Common.{◌≡◌, ℕ, ◌^◌, ◌<◌, ◌==◌, cond, List, [], ◌∷◌, ◌++◌, length, get_or, refl, sym, ap, ◌∙◌, arith}
-use Rattle.std.proofs.lemmas.List.{append-nil}
-use Rattle.fm_types.specs.Statuses.{number_of, information_of}
+use Rattle.fm_wire.proofs.Words.{ℕ, cond, List, [], length, get_or, refl, sym, ap, arith, append-nil, number_of, Status}
+use Rattle.fm_wire.proofs.Words.{CreateMode, Existing, New, Always, Request, Body, bytes_of_u16, bytes_of_u32, bytes_of_u64, mode_number}
+use Rattle.fm_wire.proofs.Words.{request_code, request_fields, control_code, control_fields, reply_code, reply_fields, code_of, fields_of}
+use Rattle.std.proofs.Common.{◌≡◌, ◌^◌, ◌<◌, ◌==◌, ◌∷◌, ◌++◌, ◌∙◌}
 use Rattle.fm_types.specs.declared.ids.HandleId.{HandleId}
 use Rattle.fm_types.specs.declared.ids.VolumeId.{VolumeId}
 use Rattle.fm_types.specs.declared.ids.FilterId.{FilterId}
-use Rattle.fm_types.specs.declared.ids.InstanceId.{InstanceId}
-use Rattle.fm_types.specs.declared.ids.OpId.{OpId}
-use Rattle.fm_types.specs.declared.status.Status.{Status}
-use Rattle.fm_types.specs.declared.status.Status.TheVariants.{Success, NoMemory, BadAltitude, BadName, NameCollision, AltitudeCollision, NoFilter, NoVolume, NoInstance, NotLoaded, AlreadyLoaded, DoNotAttach, DoNotDetach, DeletingObject, NoHandle, BadPath, DeletePending, AccessDenied, DeviceFault, FileNotFound, AlreadyExists, NotRegistered, AlreadyDefined, AlreadyLinked, NoContext, NotHeld, HandFull, NoObject, NotPended, TooMany, WrongStep, EndOfFile, BadRequest, Dismounting, Busy}
-use Rattle.fm_types.specs.declared.operation.CreateMode.{CreateMode}
-use Rattle.fm_types.specs.declared.operation.CreateMode.TheVariants.{Existing, New, Always}
-use Rattle.fm_data.specs.declared.request.Request.{Request}
+use Rattle.fm_types.specs.declared.status.Status.TheVariants.{Success, NoMemory, BadAltitude, BadName, NameCollision, AltitudeCollision}
+use Rattle.fm_types.specs.declared.status.Status.TheVariants.{NoFilter, NoVolume, NoInstance, NotLoaded, AlreadyLoaded, DoNotAttach}
+use Rattle.fm_types.specs.declared.status.Status.TheVariants.{DoNotDetach, DeletingObject, NoHandle, BadPath, DeletePending, AccessDenied}
+use Rattle.fm_types.specs.declared.status.Status.TheVariants.{DeviceFault, FileNotFound, AlreadyExists, NotRegistered, AlreadyDefined}
+use Rattle.fm_types.specs.declared.status.Status.TheVariants.{AlreadyLinked, NoContext, NotHeld, HandFull, NoObject, NotPended, TooMany}
+use Rattle.fm_types.specs.declared.status.Status.TheVariants.{WrongStep, EndOfFile, BadRequest, Dismounting, Busy}
 use Rattle.fm_data.specs.declared.request.Request.TheVariants as request
 use Rattle.fm_data.specs.declared.request.Reply.{Reply}
 use Rattle.fm_data.specs.declared.request.Reply.TheVariants as reply
 use Rattle.fm_wire.specs.declared.frame.Control.{Control}
 use Rattle.fm_wire.specs.declared.frame.Control.TheVariants as control
-use Rattle.fm_wire.specs.declared.frame.Body.{Body}
 use Rattle.fm_wire.specs.declared.frame.Body.TheVariants as body
-use Rattle.fm_wire.specs.Spelling.{bytes_of_u16, bytes_of_u32, bytes_of_u64, mode_number, request_code, request_fields, control_code, control_fields, reply_code, reply_fields, code_of, fields_of}
 use Rattle.fm_wire.specs.Grammar.{Fits, FitsRequest, FitsControl, FitsReply, KeepsLimits, KeepsReplyLimits, HasCount, Says}
 use Rattle.fm_wire.proofs.Parts.{same_parts, same_u16, same_u32, same_u64}
 use Rattle.fm_wire.proofs.Forms.{request_codes, control_codes, reply_codes}
@@ -34,12 +32,6 @@ volume_is a b e = let made : ℕ → VolumeId = λ n. record { 0 = n } in ap mad
 
 filter_is : (a b : FilterId) → a.0 ≡ b.0 → a ≡ b
 filter_is a b e = let made : ℕ → FilterId = λ n. record { 0 = n } in ap made e
-
-instance_is : (a b : InstanceId) → a.0 ≡ b.0 → a ≡ b
-instance_is a b e = let made : ℕ → InstanceId = λ n. record { 0 = n } in ap made e
-
-operation_is : (a b : OpId) → a.0 ≡ b.0 → a ≡ b
-operation_is a b e = let made : ℕ → OpId = λ n. record { 0 = n } in ap made e
 
 -- numbers that are all there is
 alone_u16 : (m n : ℕ) → m < 2 ^ 16 → n < 2 ^ 16 → bytes_of_u16 m ≡ bytes_of_u16 n → m ≡ n
@@ -60,8 +52,7 @@ mode_of number = cond (number == 0) Existing (cond (number == 1) New Always)
 mode_again : (mode : CreateMode) → mode_of (mode_number mode) ≡ mode
 unfolding mode_of
 mode_again Existing = refl
-mode_again New = refl
-mode_again Always = refl
+mode_again mode = refl
 
 one_mode : (a b : CreateMode) → mode_number a ≡ mode_number b → a ≡ b
 one_mode a b e = sym (mode_again a) ∙ ap (λ (n : ℕ). mode_of n) e ∙ mode_again b
@@ -100,7 +91,7 @@ one_control (control.Attach filter volume name altitude) (control.Attach g v n a
     let texts : name ++ altitude ≡ n ++ a = cc in
     let parts = same_parts name n altitude a len texts in
     rw (fs, vs, parts.0, parts.1) refl
-one_control (control.Detach instance) (control.Detach i) c f x y = rw (instance_is instance i (alone_u16 instance.0 i.0 x y f)) refl
+one_control (control.Detach instance) (control.Detach i) c f x y = ap (λ (n : ℕ). control.Detach (record { 0 = n })) (alone_u16 instance.0 i.0 x y f)
 one_control (control.Unload filter) (control.Unload g) c f x y = rw (filter_is filter g cc) refl
 one_control (control.Dismount volume) (control.Dismount v) c f x y = rw (volume_is volume v cc) refl
 one_control control.Stop control.Stop c f x y = refl
@@ -111,45 +102,6 @@ statuses = Success ∷ NoMemory ∷ BadAltitude ∷ BadName ∷ NameCollision �
 
 status_of : ℕ → ℕ → Status
 status_of number information = get_or statuses number (Busy information)
-
--- a status is known by its number and its count
-status_again : (status : Status) → status_of (number_of status) (information_of status) ≡ status
-unfolding status_of statuses
-status_again Success = refl
-status_again NoMemory = refl
-status_again BadAltitude = refl
-status_again BadName = refl
-status_again NameCollision = refl
-status_again AltitudeCollision = refl
-status_again NoFilter = refl
-status_again NoVolume = refl
-status_again NoInstance = refl
-status_again NotLoaded = refl
-status_again AlreadyLoaded = refl
-status_again DoNotAttach = refl
-status_again DoNotDetach = refl
-status_again DeletingObject = refl
-status_again NoHandle = refl
-status_again BadPath = refl
-status_again DeletePending = refl
-status_again AccessDenied = refl
-status_again DeviceFault = refl
-status_again FileNotFound = refl
-status_again AlreadyExists = refl
-status_again NotRegistered = refl
-status_again AlreadyDefined = refl
-status_again AlreadyLinked = refl
-status_again NoContext = refl
-status_again NotHeld = refl
-status_again HandFull = refl
-status_again NoObject = refl
-status_again NotPended = refl
-status_again TooMany = refl
-status_again WrongStep = refl
-status_again EndOfFile = refl
-status_again BadRequest = refl
-status_again Dismounting = refl
-status_again (Busy count) = refl
 
 -- beside an information, which is Busy's count
 counted : (information : ℕ) (status : Status) → HasCount status information → status_of (number_of status) information ≡ status
@@ -164,7 +116,7 @@ one_reply (reply.Done status information bytes) (reply.Done t i b) c f x y has h
     let first = same_u64 information i bytes b x y tails in
     let same : status ≡ t = sym (counted information status has) ∙ rw (numbers, first.0) (counted i t had) in
     rw (same, first.0, first.1) refl
-one_reply (reply.Held operation) (reply.Held o) c f x y has had = rw (operation_is operation o (alone_u64 operation.0 o.0 x y f)) refl
+one_reply (reply.Held operation) (reply.Held o) c f x y has had = ap (λ (n : ℕ). reply.Held (record { 0 = n })) (alone_u64 operation.0 o.0 x y f)
 one_reply _ _ c f x y has had = absurd (omega arith)
 
 one_body : (a b : Body) → code_of a ≡ code_of b → fields_of a ≡ fields_of b → Fits a → Fits b → KeepsLimits a → KeepsLimits b → a ≡ b

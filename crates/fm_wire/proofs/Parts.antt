@@ -1,9 +1,10 @@
 -- Field texts in parts.
-use Rattle.std.proofs.Common.{◌≡◌, ℕ, ◌^◌, ◌<◌, ◌≤◌, ◌==◌, cond, true, false, List, [], ◌∷◌, ◌++◌, length, take, drop, refl, sym, ap, ◌∙◌, arith}
-use Rattle.std.specs.Int.{w16, w32, w64, from_be_bytes}
-use Rattle.std.proofs.lemmas.List.{nil_from_length, append-nil, take-append-drop, length-take}
-use Rattle.fm_wire.specs.Spelling.{bytes_of_u16, bytes_of_u32, bytes_of_u64}
-use Rattle.fm_wire.proofs.Words.{length-u16, length-u32, length-u64, from-u16, from-u32, from-u64}
+use Rattle.fm_wire.proofs.Words.{Control, ℕ, cond, true, false, List, [], length, take, drop, refl, sym, ap, arith, w16, w32, w64, from_be_bytes}
+use Rattle.fm_wire.proofs.Words.{nil_from_length, append-nil, take-append-drop, length-take, bytes_of_u16, bytes_of_u32, bytes_of_u64}
+use Rattle.std.proofs.Common.{◌≡◌, ◌^◌, ◌<◌, ◌≤◌, ◌==◌, ◌∷◌, ◌++◌, ◌∙◌}
+use Rattle.fm_wire.proofs.Bytes.{length-u16, length-u32, length-u64, from-u16, from-u32, from-u64}
+use Rattle.fm_wire.specs.declared.frame.Control.TheVariants as control
+use Rattle.fm_wire.specs.Grammar.{Says}
 
 pub joined : (fields a r : List ℕ) → fields ≡ a ++ r → length r ≡ 0 → a ≡ fields
 joined fields a r e done = sym (e ∙ rw (nil_from_length r done) (append-nil a))
@@ -50,12 +51,13 @@ same_length fields r s t handle offset len h o l e f g other small ls =
     (same_u32 len l t [] small ls (sym g ∙ second.1 ∙ sym (append-nil (bytes_of_u32 l)))).0
 
 -- a name behind its length, and an altitude
-pub attach_parts : (fields r s texts name altitude : List ℕ) (filter volume len : ℕ) → fields ≡ filter ∷ r → r ≡ volume ∷ s → s ≡ len ∷ texts
-    → name ≡ take len texts → altitude ≡ drop len texts → len ≤ length texts → (filter ∷ volume ∷ length name ∷ name ++ altitude ≡ fields) × (length name ≡ len)
-attach_parts fields r s texts name altitude filter volume len e f g n a long =
+pub attach_said : (fields r s texts name altitude : List ℕ) (filter volume len : ℕ) → fields ≡ filter ∷ r → r ≡ volume ∷ s → s ≡ len ∷ texts
+    → name ≡ take len texts → altitude ≡ drop len texts → len ≤ length texts → filter < 256 → volume < 256 → len < 256
+    → Says 17 fields (Control (control.Attach (record { 0 = filter }) (record { 0 = volume }) name altitude))
+attach_said fields r s texts name altitude filter volume len e f g n a long small small_volume small_len =
     let size : length name ≡ len = rw n (omega (arith, length-take len texts)) in
     let whole : name ++ altitude ≡ texts = rw (n, a) (take-append-drop len texts) in
-    (rw (size, whole, ← g, ← f, ← e) refl, size)
+    record { code_is = refl; fields_are = rw (size, whole, ← g, ← f, ← e) refl; fits = (small, small_volume, omega (arith, size, small_len)); limits = tt }
 
 pub count_of_busy : (number information count : ℕ) → number ≡ 34 → count ≡ cond (number == 34) information 0 → count ≡ information
 count_of_busy number information count e h = rw e at h

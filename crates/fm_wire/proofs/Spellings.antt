@@ -1,17 +1,15 @@
 -- What is spelled by the table is read as the frame.
-use Rattle.std.proofs.Common.{◌≡◌, ◌⊎◌, ℕ, ◌+◌, ◌<◌, ◌≤◌, ◌^◌, List, length, Ok, refl, sym, ap, ◌∙◌, arith, inl, inr, length-append}
-use Rattle.fm_types.specs.declared.status.Status.{Status}
+use Rattle.fm_wire.proofs.Words.{ℕ, List, length, Ok, refl, sym, ap, arith, inl, inr, length-append, Status, Body, Frame, bytes_of_u32}
+use Rattle.fm_wire.proofs.Words.{body_of, code_of, fields_of, spelling_of}
+use Rattle.std.proofs.Common.{◌≡◌, ◌⊎◌, ◌+◌, ◌<◌, ◌≤◌, ◌^◌, ◌∙◌}
 use Rattle.fm_altitude.specs.Grammar.{canonical}
 use Rattle.fm_altitude.specs.Spelling.{canonical-again}
 use Rattle.fm_altitude.proofs.Grammar.{IsAltitude-canonical, length-altitude}
 use Rattle.fm_wire.specs.declared.frame.Control.TheVariants as control
-use Rattle.fm_wire.specs.declared.frame.Body.{Body}
 use Rattle.fm_wire.specs.declared.frame.Body.TheVariants as body
-use Rattle.fm_wire.specs.declared.frame.Frame.{Frame}
-use Rattle.fm_wire.specs.Spelling.{bytes_of_u32, body_of, code_of, fields_of, spelling_of}
 use Rattle.fm_wire.specs.Grammar.{Fits, HasNoBytes, HasTexts, KeepsLimits, IsFrame, IsSpelled, Reading, canonical_body, outcome_of}
 use Rattle.fm_wire.specs.Laws.{OnlySpelled}
-use Rattle.fm_wire.proofs.Words.{length-u32}
+use Rattle.fm_wire.proofs.Bytes.{length-u32}
 
 pub length-body : (frame : Frame) → length (body_of frame) ≡ 5 + length (fields_of frame.body)
 length-body frame = omega (arith, length-append (bytes_of_u32 frame.number) (fields_of frame.body), length-u32 frame.number)
@@ -24,10 +22,8 @@ too_long frame long spelled = let len = length-body frame in let short = spelled
 
 -- what may be said isn't refused
 said_is_read : (said : Body) → KeepsLimits said → outcome_of said ≡ Ok said
-said_is_read (body.Operation r) limits = refl
-said_is_read (body.Control c) limits = refl
-said_is_read (body.Reply r) limits = refl
 said_is_read (body.Refused status) limits = absurd limits
+said_is_read said limits = refl
 
 pub spelled_frame : (text : List ℕ) (frame : Frame) → text ≡ spelling_of frame → IsSpelled frame → frame.number < 2 ^ 32 → Fits frame.body → HasTexts frame.body → canonical_body frame.body ≡ frame.body → IsFrame text frame
 spelled_frame text frame e spelled number fits texts canonical =
@@ -51,7 +47,6 @@ record IsSaid (said read : Body) : Type 0 where
   shorter : length (fields_of read) ≤ length (fields_of said)
 
 said_again : (said : Body) → KeepsLimits said → Fits said → HasTexts said → IsSaid said (canonical_body said)
-said_again (body.Operation r) limits fits texts = record { limits = limits; fits = fits; texts = texts; canonical = refl; shorter = omega arith }
 said_again (body.Control (control.Attach filter volume name altitude)) limits fits texts =
     let short = length-altitude altitude texts.1 in
     record {
@@ -61,13 +56,8 @@ said_again (body.Control (control.Attach filter volume name altitude)) limits fi
       canonical = ap (λ (a : List ℕ). body.Control (control.Attach filter volume name a)) (canonical-again altitude);
       shorter = omega (arith, length-append name altitude, length-append name (canonical altitude));
     }
-said_again (body.Control (control.Load name)) limits fits texts = record { limits = tt; fits = fits; texts = texts; canonical = refl; shorter = omega arith }
-said_again (body.Control (control.Detach instance)) limits fits texts = record { limits = tt; fits = fits; texts = texts; canonical = refl; shorter = omega arith }
-said_again (body.Control (control.Unload filter)) limits fits texts = record { limits = tt; fits = fits; texts = texts; canonical = refl; shorter = omega arith }
-said_again (body.Control (control.Dismount volume)) limits fits texts = record { limits = tt; fits = fits; texts = texts; canonical = refl; shorter = omega arith }
-said_again (body.Control control.Stop) limits fits texts = record { limits = tt; fits = fits; texts = texts; canonical = refl; shorter = omega arith }
-said_again (body.Reply r) limits fits texts = record { limits = limits; fits = fits; texts = texts; canonical = refl; shorter = omega arith }
 said_again (body.Refused status) limits fits texts = absurd limits
+said_again said limits fits texts = record { limits = limits; fits = fits; texts = texts; canonical = refl; shorter = omega arith }
 
 abbrev IsRefused : Body → Type 0
 IsRefused read = (status : Status) × (read ≡ body.Refused status)
@@ -81,10 +71,8 @@ said_by code fields read p =
     (p.0, p.1.fields_are, said)
 
 refused_or_said : (code : ℕ) (fields : List ℕ) (read : Body) → Reading code fields (outcome_of read) → IsRefused read ⊎ IsSaidBy code fields read
-refused_or_said code fields (body.Operation r) p = inr (said_by code fields (body.Operation r) p)
-refused_or_said code fields (body.Control c) p = inr (said_by code fields (body.Control c) p)
-refused_or_said code fields (body.Reply r) p = inr (said_by code fields (body.Reply r) p)
 refused_or_said code fields (body.Refused status) p = inl (status, refl)
+refused_or_said code fields read p = inr (said_by code fields read p)
 
 spelled_from : (text : List ℕ) (frame : Frame) (is : IsFrame text frame) → IsRefused frame.body ⊎ IsSaidBy is.body.code is.body.fields frame.body → IsRefused frame.body ⊎ (IsSpelled frame × IsFrame (spelling_of frame) frame)
 spelled_from text frame is (inl refused) = inl refused
@@ -101,9 +89,5 @@ spelled_from text frame is (inr said) =
 pub only_spelled : OnlySpelled
 only_spelled text frame is = spelled_from text frame is (refused_or_said is.body.code is.body.fields frame.body is.body.reading)
 
-no_bytes_by : (frame : Frame) → (IsSpelled frame → ⊥) → IsRefused frame.body ⊎ (IsSpelled frame × IsFrame (spelling_of frame) frame) → IsRefused frame.body
-no_bytes_by frame none (inl refused) = refused
-no_bytes_by frame none (inr said) = absurd (none said.0)
-
 pub no_bytes : (frame : Frame) → (IsSpelled frame → ⊥) → HasNoBytes frame
-no_bytes frame none text is = no_bytes_by frame none (only_spelled text frame is)
+no_bytes frame none text is = elim (only_spelled text frame is) [ inl refused ↦ refused | inr said ↦ absurd (none said.0) ]

@@ -1,12 +1,10 @@
 -- Streams of frames.
-use Rattle.std.proofs.Common.{◌≡◌, ◌↔◌, ◌⊎◌, ℕ, ◌+◌, ◌-◌, ◌^◌, ◌<◌, ◌≤◌, Bool, true, false, IsTrue, List, [], ◌∷◌, ◌++◌, length, get_or, drop, refl, sym, ap, ◌∙◌, arith, length-append, append_assoc}
+use Rattle.fm_wire.proofs.Words.{ℕ, Bool, true, false, IsTrue, List, [], length, get_or, drop, refl, sym, ap, arith, length-append}
+use Rattle.fm_wire.proofs.Words.{append_assoc, append-nil, drop_at, Frame, bytes_of_u32, framed, IsPartial, IsFault, Begins, Splits}
+use Rattle.std.proofs.Common.{◌≡◌, ◌↔◌, ◌⊎◌, ◌+◌, ◌-◌, ◌^◌, ◌<◌, ◌≤◌, ◌∷◌, ◌++◌, ◌∙◌}
 use Rattle.std.specs.Prelude.{not}
-use Rattle.std.proofs.lemmas.List.{append-nil, drop_at}
-use Rattle.fm_wire.specs.declared.frame.Frame.{Frame}
-use Rattle.fm_wire.specs.Spelling.{bytes_of_u32, framed}
 use Rattle.fm_wire.specs.Grammar.{IsBody, IsBodyLength, IsFrame}
-use Rattle.fm_wire.specs.Stream.{IsPartial, IsFault, Begins, Splits}
-use Rattle.fm_wire.proofs.Words.{length-u32}
+use Rattle.fm_wire.proofs.Bytes.{length-u32}
 use Rattle.fm_wire.proofs.Parts.{same_parts, same_u32}
 
 -- a length in front that is in range is no fault

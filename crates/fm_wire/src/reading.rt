@@ -6,17 +6,14 @@ ghost use Rattle.fm_wire.specs.Grammar.{IsBody, Reading};
 mod controls;
 mod replies;
 mod requests;
+mod single;
 
 use crate::frame::{Body, Frame};
 use crate::numbers::{split_u8, split_u32};
-use crate::reading::controls::{
-    read_attach, read_detach, read_dismount, read_load, read_stop, read_unload,
-};
-use crate::reading::replies::{read_held_reply, read_reply};
-use crate::reading::requests::{
-    read_close, read_create, read_flush, read_list, read_query_size, read_read, read_set_delete,
-    read_set_size, read_write,
-};
+use crate::reading::controls::{read_attach, read_detach, read_load, read_stop};
+use crate::reading::replies::read_reply;
+use crate::reading::requests::{read_create, read_read, read_set_size, read_write};
+use crate::reading::single::{read_on_byte, read_on_number};
 use fm_types::Status;
 use std::alloc::Global;
 
@@ -28,20 +25,14 @@ fn read_fields(alloc: Global, code: u8, fields: &[u8]) -> Result<Body, Status>
         1 => read_create(fields),
         2 => read_read(fields),
         3 => read_write(alloc, fields),
-        4 => read_query_size(fields),
+        4 | 6 | 8 | 9 | 129 => read_on_number(code, fields),
         5 => read_set_size(fields),
-        6 => read_flush(fields),
-        7 => read_list(fields),
-        8 => read_set_delete(fields),
-        9 => read_close(fields),
+        7 | 19 | 20 => read_on_byte(code, fields),
         16 => read_load(fields),
         17 => read_attach(fields),
         18 => read_detach(fields),
-        19 => read_unload(fields),
-        20 => read_dismount(fields),
         21 => read_stop(fields),
         128 => read_reply(alloc, fields),
-        129 => read_held_reply(fields),
         _ => Err(Status::BadRequest),
     }
 }

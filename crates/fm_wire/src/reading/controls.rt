@@ -1,10 +1,9 @@
 //! The fields of the requests that manage filters.
 
-ghost use Rattle.std.specs.Prelude.{◌≡◌, ◌≢◌, ◌<◌, ◌≤◌, ◌⊎◌, ◌^◌, Ok, Err, IfOk, IfErr, length};
 ghost use Rattle.fm_wire.specs.Grammar.{Reading};
 
 use crate::frame::{Body, Control};
-use crate::numbers::{read_byte, split_u8, split_u16};
+use crate::numbers::{split_u8, split_u16};
 use fm_altitude::Altitude;
 use fm_types::{FilterId, InstanceId, Name, Status, VolumeId};
 
@@ -58,30 +57,6 @@ pub(crate) fn read_detach(fields: &[u8]) -> Result<Body, Status>
     Ok(Body::Control(Control::Detach {
         instance: InstanceId(instance),
     }))
-}
-
-/// Reads a filter.
-pub(crate) fn read_unload(fields: &[u8]) -> Result<Body, Status>
-    ensures { Reading 19 fields.now result }
-{
-    match read_byte(fields) {
-        Ok(filter) => Ok(Body::Control(Control::Unload {
-            filter: FilterId(filter),
-        })),
-        Err(status) => Err(status),
-    }
-}
-
-/// Reads a volume.
-pub(crate) fn read_dismount(fields: &[u8]) -> Result<Body, Status>
-    ensures { Reading 20 fields.now result }
-{
-    match read_byte(fields) {
-        Ok(volume) => Ok(Body::Control(Control::Dismount {
-            volume: VolumeId(volume),
-        })),
-        Err(status) => Err(status),
-    }
 }
 
 /// Reads nothing, which is all there may be.

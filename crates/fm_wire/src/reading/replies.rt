@@ -4,9 +4,9 @@ ghost use Rattle.std.specs.Prelude.{◌≡◌, ◌⊎◌, Ok, Err, IfOk, IfErr};
 ghost use Rattle.fm_wire.specs.Grammar.{Reading};
 
 use crate::frame::Body;
-use crate::numbers::{read_u64, split_u8, split_u64};
+use crate::numbers::{split_u8, split_u64};
 use fm_data::Reply;
-use fm_types::{Bytes, OpId, Status};
+use fm_types::{Bytes, Status};
 use std::alloc::Global;
 
 /// Reads a status, an information and bytes that fill the rest.
@@ -26,15 +26,5 @@ pub(crate) fn read_reply(alloc: Global, fields: &[u8]) -> Result<Body, Status>
             bytes: Bytes::copy_of(alloc, bytes)?,
         })),
         None => Err(Status::BadRequest),
-    }
-}
-
-/// Reads an operation.
-pub(crate) fn read_held_reply(fields: &[u8]) -> Result<Body, Status>
-    ensures { Reading 129 fields.now result }
-{
-    match read_u64(fields) {
-        Ok(operation) => Ok(Body::Reply(Reply::Held(OpId(operation)))),
-        Err(status) => Err(status),
     }
 }

@@ -1,11 +1,11 @@
 //! The fields of the requests that ask for operations.
 
-ghost use Rattle.std.specs.Prelude.{◌≡◌, ◌≢◌, ◌<◌, ◌≤◌, ◌⊎◌, ◌^◌, Ok, Err, IfOk, IfErr, length};
-ghost use Rattle.fm_wire.specs.Spelling.{bytes_of_u64, mode_number};
+ghost use Rattle.std.specs.Prelude.{◌≡◌, ◌<◌, ◌⊎◌, Ok, Err, IfOk, IfErr};
+ghost use Rattle.fm_wire.specs.Spelling.{mode_number};
 ghost use Rattle.fm_wire.specs.Grammar.{Reading};
 
 use crate::frame::Body;
-use crate::numbers::{read_byte, read_u64, split_u8, split_u32, split_u64};
+use crate::numbers::{split_u8, split_u32, split_u64};
 use fm_data::{MAX_TRANSFER, Request};
 use fm_types::{Bytes, CreateMode, HandleId, RelPath, Status, VolumeId};
 use std::alloc::Global;
@@ -19,16 +19,6 @@ fn read_mode(number: u8) -> Result<CreateMode, Status>
         1 => Ok(CreateMode::New),
         2 => Ok(CreateMode::Always),
         _ => Err(Status::BadRequest),
-    }
-}
-
-fn read_handle(fields: &[u8]) -> Result<HandleId, Status>
-    ensures ok { IfOk result (λ handle. (fields.now ≡ bytes_of_u64 handle.0) × (handle.0 < 2 ^ 64)) }
-    ensures refused { IfErr result (λ status. (status ≡ Status.BadRequest) × (length fields.now ≢ 8)) }
-{
-    match read_u64(fields) {
-        Ok(handle) => Ok(HandleId(handle)),
-        Err(status) => Err(status),
     }
 }
 
@@ -105,56 +95,4 @@ pub(crate) fn read_set_size(fields: &[u8]) -> Result<Body, Status>
         handle: HandleId(handle),
         size,
     }))
-}
-
-/// Reads a volume.
-pub(crate) fn read_list(fields: &[u8]) -> Result<Body, Status>
-    ensures { Reading 7 fields.now result }
-{
-    match read_byte(fields) {
-        Ok(volume) => Ok(Body::Operation(Request::List {
-            volume: VolumeId(volume),
-        })),
-        Err(status) => Err(status),
-    }
-}
-
-/// Reads a handle.
-pub(crate) fn read_query_size(fields: &[u8]) -> Result<Body, Status>
-    ensures { Reading 4 fields.now result }
-{
-    match read_handle(fields) {
-        Ok(handle) => Ok(Body::Operation(Request::QuerySize { handle })),
-        Err(status) => Err(status),
-    }
-}
-
-/// Reads a handle.
-pub(crate) fn read_flush(fields: &[u8]) -> Result<Body, Status>
-    ensures { Reading 6 fields.now result }
-{
-    match read_handle(fields) {
-        Ok(handle) => Ok(Body::Operation(Request::Flush { handle })),
-        Err(status) => Err(status),
-    }
-}
-
-/// Reads a handle.
-pub(crate) fn read_set_delete(fields: &[u8]) -> Result<Body, Status>
-    ensures { Reading 8 fields.now result }
-{
-    match read_handle(fields) {
-        Ok(handle) => Ok(Body::Operation(Request::SetDelete { handle })),
-        Err(status) => Err(status),
-    }
-}
-
-/// Reads a handle.
-pub(crate) fn read_close(fields: &[u8]) -> Result<Body, Status>
-    ensures { Reading 9 fields.now result }
-{
-    match read_handle(fields) {
-        Ok(handle) => Ok(Body::Operation(Request::Close { handle })),
-        Err(status) => Err(status),
-    }
 }

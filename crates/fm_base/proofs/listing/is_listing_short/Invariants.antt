@@ -1,6 +1,5 @@
+use Rattle.fm_base.proofs.Words.{keys, listing_of}
 use Rattle.std.specs.Prelude.{◌≡◌, ◌+◌, length}
-use Rattle.std.specs.BTreeMap.{keys}
-use Rattle.fm_base.specs.Folders.{listing_of}
 use Rattle.fm_base.proofs.listing.is_listing_short.Given as goal
 
 -- the room that is left lacks as much as the lines so far

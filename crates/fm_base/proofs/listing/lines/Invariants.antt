@@ -1,6 +1,5 @@
+use Rattle.fm_base.proofs.Words.{keys, listing_of}
 use Rattle.std.specs.Prelude.{◌≡◌, ◌++◌}
-use Rattle.std.specs.BTreeMap.{keys}
-use Rattle.fm_base.specs.Folders.{listing_of}
 use Rattle.fm_base.proofs.listing.lines.Given as goal
 
 -- the lines so far and those of the paths that are left are all lines

@@ -1,6 +1,5 @@
+use Rattle.fm_base.proofs.Words.{insert, folder_of}
 use Rattle.std.proofs.Common.{ap, ◌∙◌}
-use Rattle.std.specs.FinMap.{insert}
-use Rattle.fm_base.specs.Stored.{folder_of}
 use Rattle.fm_base.proofs.Files.{one_made}
 use Rattle.fm_base.proofs.memory_base.add_file.Goals as goal
 

@@ -1,5 +1,5 @@
+use Rattle.fm_base.proofs.Words.{bytes_from}
 use Rattle.std.proofs.Common.{sym}
-use Rattle.fm_base.specs.Folders.{bytes_from}
 use Rattle.fm_base.proofs.Files.{told_at}
 use Rattle.fm_base.proofs.memory_base.read_file.Goals as goal
 

@@ -1,11 +1,6 @@
+use Rattle.fm_base.proofs.Words.{get_by, insert, nat_cmp, slice_cmp, resized, folder_of}
 use Rattle.std.proofs.Common.{sym, refl, ap, ◌∙◌}
 use Rattle.std.specs.Prelude.{IsSome, Ok}
-use Rattle.std.specs.BTreeMap.{get_by}
-use Rattle.std.specs.FinMap.{insert}
-use Rattle.std.specs.Ordering.{nat_cmp}
-use Rattle.std.specs.Cmp.Lexicographic.{slice_cmp}
-use Rattle.fm_types.specs.ByteLists.{resized}
-use Rattle.fm_base.specs.Stored.{folder_of}
 use Rattle.fm_base.proofs.Files.{changed_at, one_made}
 use Rattle.fm_base.proofs.memory_base.set_size_of_file.Goals as goal
 

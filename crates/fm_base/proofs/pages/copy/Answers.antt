@@ -1,8 +1,6 @@
+use Rattle.fm_base.proofs.Words.{range_with_len, resized, page_of, byte_at}
 use Rattle.std.specs.Prelude.{◌≡◌, ℕ, ◌+◌, ◌/◌, ◌%◌, ◌++◌, length, drop, map}
 use Rattle.std.proofs.Common.{arith, ◌∙◌, ap, sym, length-append}
-use Rattle.std.specs.List.{range_with_len}
-use Rattle.fm_types.specs.ByteLists.{resized}
-use Rattle.fm_base.specs.Pages.{page_of, byte_at}
 use Rattle.fm_base.proofs.Writes.{length-resized}
 use Rattle.fm_base.proofs.Paging.{page_run, run_more}
 use Rattle.fm_base.proofs.pages.copy.Goals as goal

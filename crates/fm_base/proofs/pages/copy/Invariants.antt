@@ -1,6 +1,5 @@
+use Rattle.fm_base.proofs.Words.{range_with_len, byte_at}
 use Rattle.std.specs.Prelude.{◌≡◌, ◌-◌, ◌≤◌, length, map}
-use Rattle.std.specs.List.{range_with_len}
-use Rattle.fm_base.specs.Pages.{byte_at}
 use Rattle.fm_base.proofs.pages.copy.Given as goal
 
 -- the bytes so far

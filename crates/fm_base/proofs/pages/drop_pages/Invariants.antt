@@ -1,5 +1,5 @@
+use Rattle.fm_base.proofs.Words.{nat_cmp}
 use Rattle.std.specs.Prelude.{◌≡◌, ℕ, ◌<◌, length}
-use Rattle.std.specs.Ordering.{nat_cmp}
 use Rattle.std.specs.BTreeMap as tree
 use Rattle.fm_base.proofs.pages.drop_pages.Given as goal
 

@@ -1,5 +1,5 @@
+use Rattle.fm_base.proofs.Words.{page_of, SameBytes}
 use Rattle.std.specs.Prelude.{ℕ, ◌+◌, ◌*◌, ◌<◌, ◌≤◌, length}
-use Rattle.fm_base.specs.Pages.{page_of, SameBytes}
 use Rattle.fm_base.proofs.pages.make_room.Given as goal
 
 -- the pages so far have room, and all of them the bytes that they had

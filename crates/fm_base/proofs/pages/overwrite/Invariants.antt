@@ -1,5 +1,5 @@
+use Rattle.fm_base.proofs.Words.{page_of, Overwrites}
 use Rattle.std.specs.Prelude.{◌≡◌, ℕ, ◌-◌, ◌≤◌, length, take}
-use Rattle.fm_base.specs.Pages.{page_of, Overwrites}
 use Rattle.fm_base.proofs.pages.overwrite.Given as goal
 
 -- so many bytes are written, and no page is longer or shorter

@@ -1,5 +1,5 @@
-use Rattle.std.proofs.Common.{◌≡◌}
 use Rattle.fm_flow.proofs.Words.{take, option_map, last_visited}
+use Rattle.std.proofs.Common.{◌≡◌}
 use Rattle.fm_flow.proofs.entries.last_visited.Given as goal
 
 -- the last one visited of the entries so far

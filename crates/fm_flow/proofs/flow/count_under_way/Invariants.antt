@@ -1,4 +1,4 @@
-use Rattle.std.specs.Prelude.{not}
+use Rattle.fm_flow.proofs.Words.{not}
 use Rattle.fm_flow.proofs.Places.{IsCounted}
 use Rattle.fm_flow.proofs.flow.count_under_way.Given as goal
 

@@ -1,13 +1,7 @@
-use Rattle.std.proofs.Common.{◌<◌, ◌≤◌, ◌∙◌, ap, arith, subst, sym}
-use Rattle.fm_rundown.specs.Views.{volume_of, changed}
-use Rattle.fm_rundown.specs.Kinds.{undone, most_passes}
-use Rattle.fm_rundown.proofs.Changed.{tried_at_closing, undone_at_closing, undone_at_full, unseen}
+use Rattle.fm_rundown.proofs.Words.{volume_of, changed, undone, most_passes}
+use Rattle.std.proofs.Common.{◌≤◌, ◌∙◌, ap, arith, sym}
+use Rattle.fm_rundown.proofs.Changed.{undone_at_closing, undone_at_full, unseen}
 use Rattle.fm_rundown.proofs.calls.try_enter.Goals as goal
-
-pub undo-requires-clause-may : goal.undo-requires-clause-may
-undo-requires-clause-may c =
-    subst (λ me. 0 < (volume_of c.args.volume me.0).tentative) (sym c.add-found.ensures.tells.0)
-    (tried_at_closing c.args.volume c.add-found.result c.args.seat.now.me.0 c.requires.long (sym c.is_closing.ensures ∙ c.if-is_closing.true))
 
 pub returns-then-is_closing-clause-enters : goal.returns-then-is_closing-clause-enters
 returns-then-is_closing-clause-enters c =

@@ -1,4 +1,4 @@
-use Rattle.fm_rundown.specs.Kinds.{enters}
+use Rattle.fm_rundown.proofs.Words.{enters}
 use Rattle.fm_rundown.proofs.Counts.{enters_keeps}
 use Rattle.fm_rundown.proofs.Kept.{may_step}
 use Rattle.fm_rundown.proofs.steps.add.Goals as goal

@@ -1,4 +1,4 @@
-use Rattle.fm_rundown.specs.Kinds.{looks}
+use Rattle.fm_rundown.proofs.Words.{looks}
 use Rattle.fm_rundown.proofs.Counts.{looks_keeps}
 use Rattle.fm_rundown.proofs.Kept.{may_step}
 use Rattle.fm_rundown.proofs.steps.read.Goals as goal

@@ -1,4 +1,4 @@
-use Rattle.fm_rundown.specs.Kinds.{leaves}
+use Rattle.fm_rundown.proofs.Words.{leaves}
 use Rattle.fm_rundown.proofs.Counts.{leaves_keeps}
 use Rattle.fm_rundown.proofs.Kept.{may_step}
 use Rattle.fm_rundown.proofs.steps.release.Goals as goal

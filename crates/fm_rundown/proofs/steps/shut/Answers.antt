@@ -1,4 +1,4 @@
-use Rattle.fm_rundown.specs.Kinds.{closes}
+use Rattle.fm_rundown.proofs.Words.{closes}
 use Rattle.fm_rundown.proofs.Counts.{closes_keeps}
 use Rattle.fm_rundown.proofs.Kept.{may_step}
 use Rattle.fm_rundown.proofs.steps.shut.Goals as goal

@@ -1,4 +1,4 @@
-use Rattle.fm_rundown.specs.Kinds.{undoes}
+use Rattle.fm_rundown.proofs.Words.{undoes}
 use Rattle.fm_rundown.proofs.Counts.{undoes_keeps}
 use Rattle.fm_rundown.proofs.Kept.{may_step}
 use Rattle.fm_rundown.proofs.steps.undo.Goals as goal

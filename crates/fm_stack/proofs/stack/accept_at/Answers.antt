@@ -1,5 +1,4 @@
-use Rattle.fm_types.proofs.Lists.{set_is_updated}
-use Rattle.fm_stack.specs.Events.{accept_row}
+use Rattle.fm_stack.proofs.Words.{set_is_updated, accept_row}
 use Rattle.fm_stack.proofs.stack.accept_at.Goals as goal
 
 pub returns : goal.returns

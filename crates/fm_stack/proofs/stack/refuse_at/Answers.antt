@@ -1,5 +1,4 @@
-use Rattle.fm_types.proofs.Lists.{set_is_updated}
-use Rattle.fm_stack.specs.Events.{refuse_row}
+use Rattle.fm_stack.proofs.Words.{set_is_updated, refuse_row}
 use Rattle.fm_stack.proofs.stack.refuse_at.Goals as goal
 
 pub returns : goal.returns

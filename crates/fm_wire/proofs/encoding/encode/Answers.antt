@@ -1,8 +1,7 @@
-use Rattle.std.proofs.Common.{◌≤◌, ◌<◌, arith, refl, length}
+use Rattle.fm_wire.proofs.Words.{arith, refl, length, fields_of}
+use Rattle.std.proofs.Common.{◌≤◌, ◌<◌}
 use Rattle.std.proofs.lemmas.Result.{err_from_is_err_and}
-use Rattle.fm_wire.specs.Spelling.{fields_of}
 use Rattle.fm_wire.proofs.Spellings.{is_spelled, no_bytes, length-body, spelled_frame, too_long}
-use Rattle.fm_wire.proofs.Parts.{refuted}
 use Rattle.fm_wire.proofs.encoding.encode.Goals as goal
 
 pub returns-then-len-clause-refused : goal.returns-then-len-clause-refused
@@ -33,16 +32,7 @@ returns-clause-frame c =
     rw c.from_vec.ensures
     (spelled_frame c.in_ok-text.text.items c.args.frame.now put.text (is_spelled c.args.frame.now (c.if-not-keeps_limits.ensures.0 refl) short) put.fits.0 put.fits.1 put.texts.0 put.texts.1)
 
-pub returns-then-not-keeps_limits-clause-none : goal.returns-then-not-keeps_limits-clause-none
-returns-then-not-keeps_limits-clause-none c =
-    λ e. no_bytes c.args.frame.now (λ spelled. refuted c.if-not-keeps_limits.ensures.1 spelled.limits)
-
 pub returns-then-len-clause-none : goal.returns-then-len-clause-none
 returns-then-len-clause-none c =
     let long : 32995 < length (fields_of c.args.frame.now.body) = omega arith in
     λ e. no_bytes c.args.frame.now (too_long c.args.frame.now long)
-
-pub returns-in_err-text-clause-none : goal.returns-in_err-text-clause-none
-returns-in_err-text-clause-none c =
-    let exit = err_from_is_err_and c.from_residual.result c.from_residual.ensures.1 in
-    λ e. absurd (cc (exit.1, exit.2))

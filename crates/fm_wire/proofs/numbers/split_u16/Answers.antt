@@ -1,4 +1,4 @@
-use Rattle.fm_wire.proofs.Words.{taken_u16}
+use Rattle.fm_wire.proofs.Bytes.{taken_u16}
 use Rattle.fm_wire.proofs.numbers.split_u16.Goals as goal
 
 pub returns-clause-spelled : goal.returns-clause-spelled

@@ -1,4 +1,5 @@
-use Rattle.std.proofs.Common.{◌≤◌, ◌<◌, ◌++◌, length, arith, length-append}
+use Rattle.fm_wire.proofs.Words.{length, arith, length-append}
+use Rattle.std.proofs.Common.{◌≤◌, ◌<◌, ◌++◌}
 use Rattle.fm_wire.proofs.Streams.{fault_across, too_short}
 use Rattle.fm_wire.proofs.stream.is_fault_across.Goals as goal
 

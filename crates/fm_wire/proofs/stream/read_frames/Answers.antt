@@ -1,4 +1,4 @@
-use Rattle.std.proofs.Common.{arith}
+use Rattle.fm_wire.proofs.Words.{arith}
 use Rattle.fm_wire.proofs.Streams.{begins_body, rest_is, splits_at}
 use Rattle.fm_wire.proofs.stream.read_frames.Goals as goal
 

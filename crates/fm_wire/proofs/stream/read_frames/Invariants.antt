@@ -1,5 +1,4 @@
-use Rattle.std.proofs.Common.{length}
-use Rattle.fm_wire.specs.Stream.{Begins}
+use Rattle.fm_wire.proofs.Words.{length, Begins}
 use Rattle.fm_wire.proofs.stream.read_frames.Given as goal
 
 abbrev pub invariant-loop-body : goal.invariant-loop-body

@@ -1,12 +1,8 @@
+use Rattle.fm_base.proofs.Words.{range_with_len, byte_at}
 use Rattle.std.specs.Prelude.{◌≡◌, ℕ, ◌-◌, min, List, take, drop, map}
 use Rattle.std.proofs.Common.{◌∙◌, ap, arith}
-use Rattle.std.specs.List.{range_with_len}
-use Rattle.fm_base.specs.Pages.{byte_at}
 use Rattle.fm_base.proofs.Keeping.{read_run}
 use Rattle.fm_base.proofs.file.File.read.Goals as goal
-
-pub copy-requires : goal.copy-requires
-copy-requires c = let small = c.self.invariant.small in omega arith
 
 pub returns : goal.returns
 returns c =

@@ -1,6 +1,5 @@
+use Rattle.fm_base.proofs.Words.{resized, contents}
 use Rattle.std.proofs.Common.{◌∙◌, ap}
-use Rattle.fm_types.specs.ByteLists.{resized}
-use Rattle.fm_base.specs.Pages.{contents}
 use Rattle.fm_base.specs.declared.file.File.TheInside.{Inside}
 use Rattle.fm_base.proofs.Keeping.{cut_contents, grown_contents}
 use Rattle.fm_base.proofs.file.File.set_size.Goals as goal

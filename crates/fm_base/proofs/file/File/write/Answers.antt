@@ -1,7 +1,6 @@
+use Rattle.fm_base.proofs.Words.{written, contents}
 use Rattle.std.specs.Prelude.{◌≡◌, ℕ, ◌+◌, max, length}
 use Rattle.std.proofs.Common.{◌∙◌, ap, arith}
-use Rattle.fm_types.specs.ByteLists.{written}
-use Rattle.fm_base.specs.Pages.{contents}
 use Rattle.fm_base.proofs.Keeping.{written_file}
 use Rattle.fm_base.proofs.file.File.write.Goals as goal
 

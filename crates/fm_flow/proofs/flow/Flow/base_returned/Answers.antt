@@ -1,6 +1,5 @@
-use Rattle.fm_flow.proofs.Words.{Err, StandsAt, InBase}
+use Rattle.fm_flow.proofs.Words.{Err, StandsAt, InBase, base_reply, base_after}
 use Rattle.fm_flow.proofs.Places.{missing, found, told_some, changed_some, said_there, flow_set, absent_stands}
-use Rattle.fm_flow.specs.Steps.{base_reply, base_after}
 use Rattle.fm_flow.proofs.Flows.{base_stays, sound_base_after}
 use Rattle.fm_flow.proofs.flow.Flow.base_returned.Goals as goal
 

@@ -1,5 +1,5 @@
-use Rattle.std.proofs.Common.{sym, ap, ◌∙◌}
-use Rattle.fm_flow.specs.Table.{is_full}
+use Rattle.fm_flow.proofs.Words.{sym, ap, is_full}
+use Rattle.std.proofs.Common.{◌∙◌}
 use Rattle.fm_flow.proofs.Flows.{flow_begins}
 use Rattle.fm_flow.proofs.flow.Flow.begin.Goals as goal
 

@@ -1,7 +1,7 @@
+use Rattle.fm_flow.proofs.Words.{sym, ap, List, Err, true, false, list_any, WrongStep, is_running_drain, FlowRecord, marked, collect_reply}
 use Rattle.std.proofs.Common.{◌∙◌, ◌≡◌}
-use Rattle.fm_flow.proofs.Words.{sym, ap, refl, List, Err, true, false, list_any, WrongStep, is_running_drain, FlowRecord, marked}
-use Rattle.fm_flow.specs.Table.{collect_reply}
-use Rattle.fm_flow.proofs.Places.{missing, told_none, collected_none, found, itself, same_place, collect_refused, collect_told, collect_marked, collect_removed, flow_collected}
+use Rattle.fm_flow.proofs.Places.{missing, told_none, collected_none, found, itself, same_place, collect_refused, collect_told}
+use Rattle.fm_flow.proofs.Places.{collect_marked, collect_removed, flow_collected}
 use Rattle.fm_flow.proofs.flow.Flow.collect.Goals as goal
 
 pub returns-in_default-clause-reply : goal.returns-in_default-clause-reply

@@ -1,5 +1,5 @@
-use Rattle.fm_flow.proofs.Places.{missing, found, changed_some, said_there, flow_set, absent_stands}
 use Rattle.fm_flow.proofs.Words.{StandsAt, InDrain, drain_returned_of}
+use Rattle.fm_flow.proofs.Places.{missing, found, changed_some, said_there, flow_set, absent_stands}
 use Rattle.fm_flow.proofs.Soundness.{sound_drain_returned}
 use Rattle.fm_flow.proofs.Flows.{drain_stays}
 use Rattle.fm_flow.proofs.flow.Flow.drain_returned.Goals as goal

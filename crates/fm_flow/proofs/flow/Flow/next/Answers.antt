@@ -1,6 +1,5 @@
-use Rattle.fm_flow.proofs.Words.{Err, FlowRecord, WrongStep, next_of}
+use Rattle.fm_flow.proofs.Words.{Err, FlowRecord, WrongStep, next_of, MayLieBelowOf}
 use Rattle.fm_flow.proofs.Places.{missing, told_none, changed_none, found, told_some, changed_some, said_there, flow_set}
-use Rattle.fm_flow.specs.Table.{MayLieBelowOf}
 use Rattle.fm_flow.proofs.Flows.{next_stays, sound_next}
 use Rattle.fm_flow.proofs.flow.Flow.next.Goals as goal
 

@@ -1,6 +1,5 @@
-use Rattle.fm_flow.proofs.Words.{Err, StandsAt, PostRunning}
+use Rattle.fm_flow.proofs.Words.{Err, StandsAt, PostRunning, data_reply, post_after}
 use Rattle.fm_flow.proofs.Places.{missing, found, told_some, changed_some, said_there, flow_set, absent_stands}
-use Rattle.fm_flow.specs.Steps.{data_reply, post_after}
 use Rattle.fm_flow.proofs.Flows.{post_after_stays, sound_post_after}
 use Rattle.fm_flow.proofs.flow.Flow.post_returned.Goals as goal
 

@@ -1,6 +1,5 @@
-use Rattle.fm_flow.proofs.Words.{Err, StandsAt, PreRunning}
+use Rattle.fm_flow.proofs.Words.{Err, StandsAt, PreRunning, data_reply, pre_after}
 use Rattle.fm_flow.proofs.Places.{missing, found, told_some, changed_some, said_there, flow_set, absent_stands}
-use Rattle.fm_flow.specs.Steps.{data_reply, pre_after}
 use Rattle.fm_flow.proofs.Flows.{pre_stays, sound_pre_after}
 use Rattle.fm_flow.proofs.flow.Flow.pre_returned.Goals as goal
 

@@ -1,5 +1,5 @@
-use Rattle.std.proofs.Common.{◌∙◌}
 use Rattle.fm_flow.proofs.Words.{ap, arith, FlowRecord}
+use Rattle.std.proofs.Common.{◌∙◌}
 use Rattle.fm_flow.proofs.Soundness.{sound_known}
 use Rattle.fm_flow.proofs.operation_record.OperationRecord.answer_known.Goals as goal
 

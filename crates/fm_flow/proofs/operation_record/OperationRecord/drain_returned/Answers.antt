@@ -1,5 +1,5 @@
-use Rattle.std.proofs.Common.{◌∙◌}
 use Rattle.fm_flow.proofs.Words.{ap, arith, FlowRecord}
+use Rattle.std.proofs.Common.{◌∙◌}
 use Rattle.fm_flow.proofs.Soundness.{sound_drain_returned}
 use Rattle.fm_flow.proofs.operation_record.OperationRecord.drain_returned.Goals as goal
 

@@ -1,5 +1,5 @@
-use Rattle.std.proofs.Common.{◌∙◌}
 use Rattle.fm_flow.proofs.Words.{ap, arith, owed, FlowRecord, slice_get}
+use Rattle.std.proofs.Common.{◌∙◌}
 use Rattle.fm_flow.proofs.Soundness.{sound_give_post, head_of}
 use Rattle.fm_flow.proofs.operation_record.OperationRecord.give_post.Goals as goal
 

@@ -1,5 +1,5 @@
-use Rattle.std.proofs.Common.{◌∙◌}
 use Rattle.fm_flow.proofs.Words.{ap, arith, FlowRecord, base_fits}
+use Rattle.std.proofs.Common.{◌∙◌}
 use Rattle.fm_flow.proofs.Soundness.{sound_base}
 use Rattle.fm_flow.proofs.operation_record.OperationRecord.take_base.Goals as goal
 

@@ -1,5 +1,5 @@
-use Rattle.std.proofs.Common.{◌∙◌}
 use Rattle.fm_flow.proofs.Words.{ap, arith, FlowRecord, data_fits, post_state}
+use Rattle.std.proofs.Common.{◌∙◌}
 use Rattle.fm_flow.proofs.Paths.{path_up}
 use Rattle.fm_flow.proofs.Soundness.{sound_post_returned}
 use Rattle.fm_flow.proofs.operation_record.OperationRecord.take_post.Goals as goal

@@ -1,5 +1,5 @@
-use Rattle.std.proofs.Common.{◌∙◌}
 use Rattle.fm_flow.proofs.Words.{ap, subst, arith, FlowRecord, HasPath, data_fits}
+use Rattle.std.proofs.Common.{◌∙◌}
 use Rattle.fm_flow.proofs.Paths.{path_down}
 use Rattle.fm_flow.proofs.Soundness.{sound_pre_returned}
 use Rattle.fm_flow.proofs.operation_record.OperationRecord.take_pre.Goals as goal

@@ -1,6 +1,5 @@
+use Rattle.fm_rundown.proofs.Words.{fresh_seat, IsAt}
 use Rattle.std.proofs.Common.{◌≡◌, ◌+◌, All, length}
-use Rattle.fm_rundown.specs.Views.{fresh_seat}
-use Rattle.fm_rundown.specs.Tables.{IsAt}
 use Rattle.fm_rundown.specs.Seats.{view_of, IsSeatOf, volumes_of, seats_of}
 use Rattle.fm_rundown.proofs.gate.RundownGate.new.Given as goal
 

@@ -1,5 +1,5 @@
+use Rattle.fm_rundown.proofs.Words.{take_all}
 use Rattle.std.proofs.Common.{◌≡◌, ◌≤◌, ◌∙◌, ap, length, sum, rules}
-use Rattle.std.proofs.lemmas.List.{take_all}
 use Rattle.fm_rundown.proofs.Held.{count_is_held}
 use Rattle.fm_rundown.proofs.seat.GateSeat.passes.Goals as goal
 

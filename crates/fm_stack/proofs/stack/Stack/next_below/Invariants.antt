@@ -1,7 +1,4 @@
-use Rattle.std.specs.Option.{option_map}
-use Rattle.fm_types.specs.declared.ids.InstanceId.{InstanceId}
-use Rattle.fm_stack.specs.Next.{is_candidate}
-use Rattle.fm_stack.specs.Search.{IsBestSoFar}
+use Rattle.fm_stack.proofs.Words.{option_map, InstanceId, is_candidate, IsBestSoFar}
 use Rattle.fm_stack.proofs.stack.Stack.next_below.Given as goal
 
 abbrev pub invariant-loop-at : goal.invariant-loop-at

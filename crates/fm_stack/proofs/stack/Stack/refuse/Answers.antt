@@ -1,22 +1,14 @@
-use Rattle.std.proofs.Common.{◌≡◌, true, slice_get, sym, subst}
-use Rattle.fm_stack.specs.Events.{is_setup_at}
-use Rattle.fm_stack.specs.Follows.{Follows}
-use Rattle.fm_stack.specs.StackWorld.{StackWorld}
-use Rattle.fm_stack.proofs.SettingUp.{refuse_follows, refuse_keeps}
+use Rattle.fm_stack.proofs.Words.{is_setup_at, StackWorld}
+use Rattle.std.proofs.Common.{◌∙◌, slice_get, ap}
+use Rattle.fm_stack.proofs.SettingUp.{refused_follows, refused_keeps, setup_row}
 use Rattle.fm_stack.proofs.stack.Stack.refuse.Goals as goal
 
 pub invariant_of-self : goal.invariant_of-self
 invariant_of-self c =
-    let fields = c.self.inside in
-    let s : StackWorld = record { filters = fields.filters.items; volumes = fields.volumes.items; instances = fields.instances.items; births = fields.births } in
-    let in_setup = subst (λ (w : StackWorld). is_setup_at (slice_get w.instances c.args.instance.0) ≡ true) (sym c.self.view_is) c.requires in
-    refuse_keeps s c.args.instance c.refuse_at.new.rows.items c.self.invariant in_setup c.refuse_at.ensures
+    let found = setup_row _ (ap (λ (w : StackWorld). is_setup_at (slice_get w.instances c.args.instance.0)) c.self.view_is ∙ c.requires) in
+    rw c.refuse_at.ensures (refused_keeps _ c.args.instance c.self.invariant found.0 found.1 found.2)
 
 pub returns-clause-follows : goal.returns-clause-follows
 returns-clause-follows c =
-    let fields = c.self.inside in
-    let s : StackWorld = record { filters = fields.filters.items; volumes = fields.volumes.items; instances = fields.instances.items; births = fields.births } in
-    let new : StackWorld = record s { instances = c.refuse_at.new.rows.items; births = c.self.inside.births } in
-    let in_setup = subst (λ (w : StackWorld). is_setup_at (slice_get w.instances c.args.instance.0) ≡ true) (sym c.self.view_is) c.requires in
-    subst (λ (w : StackWorld). Follows w new) c.self.view_is
-    (refuse_follows s c.args.instance c.refuse_at.new.rows.items c.self.invariant in_setup c.refuse_at.ensures)
+    let found = setup_row _ (ap (λ (w : StackWorld). is_setup_at (slice_get w.instances c.args.instance.0)) c.self.view_is ∙ c.requires) in
+    rw (← c.self.view_is, c.refuse_at.ensures) (refused_follows _ c.args.instance c.self.invariant found.0 found.1 found.2)

@@ -1,6 +1,5 @@
-use Rattle.std.proofs.Common.{refl, arith, inl}
+use Rattle.fm_wire.proofs.Words.{refl, arith, inl, Control}
 use Rattle.fm_wire.specs.declared.frame.Control.TheVariants as control
-use Rattle.fm_wire.specs.declared.frame.Body.TheVariants.{Control}
 use Rattle.fm_wire.proofs.Parts.{joined}
 use Rattle.fm_wire.proofs.Forms.{control_of_wrong_size}
 use Rattle.fm_wire.proofs.reading.controls.read_detach.Goals as goal

@@ -1,6 +1,5 @@
-use Rattle.std.proofs.Common.{refl, inr}
+use Rattle.fm_wire.proofs.Words.{refl, inr, Control}
 use Rattle.fm_wire.specs.declared.frame.Control.TheVariants as control
-use Rattle.fm_wire.specs.declared.frame.Body.TheVariants.{Control}
 use Rattle.fm_wire.proofs.Parts.{refuted}
 use Rattle.fm_wire.proofs.reading.controls.read_load.Goals as goal
 

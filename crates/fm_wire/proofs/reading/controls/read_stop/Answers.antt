@@ -1,7 +1,6 @@
-use Rattle.std.proofs.Common.{◌≡◌, length, refl, sym, arith}
+use Rattle.fm_wire.proofs.Words.{length, refl, sym, arith, Control, nil_from_length}
+use Rattle.std.proofs.Common.{◌≡◌}
 use Rattle.fm_wire.specs.declared.frame.Control.TheVariants as control
-use Rattle.fm_wire.specs.declared.frame.Body.TheVariants.{Control}
-use Rattle.std.proofs.lemmas.List.{nil_from_length}
 use Rattle.std.proofs.lemmas.Bool.Decides.{nat_tests}
 use Rattle.fm_wire.proofs.reading.controls.read_stop.Goals as goal
 

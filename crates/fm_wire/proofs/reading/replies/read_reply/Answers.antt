@@ -1,11 +1,9 @@
-use Rattle.std.proofs.Common.{◌≡◌, ◌+◌, length, refl, sym, ◌∙◌, arith, inl, inr}
+use Rattle.fm_wire.proofs.Words.{length, refl, sym, arith, inl, inr, Reply, length-append, bytes_of_u64}
+use Rattle.std.proofs.Common.{◌≡◌, ◌+◌, ◌∙◌}
 use Rattle.fm_data.specs.declared.request.Reply.TheVariants as reply
-use Rattle.fm_wire.specs.declared.frame.Body.TheVariants.{Reply}
 use Rattle.fm_wire.proofs.Forms.{no_reply}
-use Rattle.fm_wire.proofs.Words.{length-u64}
+use Rattle.fm_wire.proofs.Bytes.{length-u64}
 use Rattle.fm_wire.proofs.Parts.{count_of_busy}
-use Rattle.std.proofs.Common.{length-append}
-use Rattle.fm_wire.specs.Spelling.{bytes_of_u64}
 use Rattle.fm_wire.proofs.reading.replies.read_reply.Goals as goal
 
 pub returns-then-fields-lt9-clause-refused : goal.returns-then-fields-lt9-clause-refused

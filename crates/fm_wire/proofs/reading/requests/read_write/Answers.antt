@@ -1,8 +1,8 @@
-use Rattle.std.proofs.Common.{refl, sym, arith, inl, inr}
+use Rattle.fm_wire.proofs.Words.{refl, sym, arith, inl, inr, Operation}
 use Rattle.fm_data.specs.declared.request.Request.TheVariants as request
-use Rattle.fm_wire.specs.declared.frame.Body.TheVariants.{Operation}
 use Rattle.fm_wire.proofs.Forms.{no_write}
-use Rattle.fm_wire.proofs.reading.requests.read_write.Goals.{then-fields-lt16-via-then-fields-lt16, then-fields-lt16-via-else-fields-lt16+then-fields}
+use Rattle.fm_wire.proofs.reading.requests.read_write.Goals.{then-fields-lt16-via-then-fields-lt16}
+use Rattle.fm_wire.proofs.reading.requests.read_write.Goals.{then-fields-lt16-via-else-fields-lt16+then-fields}
 use Rattle.fm_wire.proofs.reading.requests.read_write.Goals as goal
 
 pub returns-then-fields-lt16-clause-refused : goal.returns-then-fields-lt16-clause-refused

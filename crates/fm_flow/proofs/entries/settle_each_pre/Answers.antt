@@ -1,7 +1,0 @@
-use Rattle.fm_flow.specs.Entries.{settle_pre}
-use Rattle.fm_flow.proofs.Lists.{settled_more}
-use Rattle.fm_flow.proofs.entries.settle_each_pre.Goals as goal
-
-pub loop-entry-preserved : goal.loop-entry-preserved
-loop-entry-preserved c =
-    settled_more (settle_pre c.args.state) c.args.entries.now c.loop-entry.entries c.loop-entry.entry-index _ c.settled_pre.result c.loop-entry-test.true c.loop-entry.auto.entries c.loop-entry.invariant c.settled_pre.ensures

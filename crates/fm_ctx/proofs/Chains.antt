@@ -1,7 +1,8 @@
 -- Chains when a slot gets a seat or loses it.
-use Rattle.std.proofs.Common.{◌≡◌, ℕ, zero, suc, ◌+◌, ◌<◌, ◌≤◌, Bool, true, false, List, [], ◌∷◌, ◌++◌, length, set, get_or, replicate, Option, Some, None, refl, sym, ap, ap₂, ◌∙◌, ◌≢◌, arith, inl, inr, eqb-true, eq-eqb, ne_eqb, length-append}
-use Rattle.std.proofs.lemmas.Bool.{cases_eq, cases_lt, cases_order, true≢false}
-use Rattle.std.proofs.lemmas.List.{length-set, length-replicate, get_or-set_same, get_or-set_other, get_or-replicate, get_or_default}
+use Rattle.std.proofs.Common.{◌≡◌, ℕ, zero, suc, ◌+◌, ◌<◌, Bool, true, false, List, [], ◌∷◌, ◌++◌, length, set, get_or, replicate, Option, Some, None, refl, sym, ap, ◌∙◌, ◌≢◌, arith, inl, inr, eqb-true, eq-eqb, ne_eqb, length-append}
+use Rattle.std.proofs.lemmas.Bool.{cases_eq, cases_order, true≢false}
+use Rattle.std.proofs.lemmas.List.{length-set, length-replicate, get_or-set_same, get_or-set_other, get_or-replicate, get_or_default, get_or_past}
+use Rattle.fm_ctx.proofs.Words.{nat_tests}
 use Rattle.fm_ctx.specs.declared.seat.Seat.{Seat}
 use Rattle.fm_ctx.specs.Seats.{chain_of, is_on, stands, last_below, end_of, IsChained, IsAbove, firsts_led, nexts_led}
 use Rattle.fm_ctx.proofs.Lasts.{last_agrees, last_skips, last_above, last_passes, last_fails}
@@ -23,19 +24,16 @@ padded [] (suc k) = refl
 padded (x ∷ xs) zero = refl
 padded (x ∷ xs) (suc k) = padded xs k
 
-past_end : {X : Type 0} (xs : List (Option X)) (k : ℕ) → length xs ≤ k → get_or xs k None ≡ None
-past_end [] k past = refl
-past_end (x ∷ xs) zero past = absurd (omega (arith, past))
-past_end (x ∷ xs) (suc k) past = past_end xs k (omega (arith, past))
-
-pub chained_more : {firsts nexts : List (Option ℕ)} {seats : List (Option Seat)} → IsChained firsts nexts seats → IsChained firsts (nexts ++ None ∷ []) (seats ++ None ∷ [])
+pub chained_more : {firsts nexts : List (Option ℕ)} {seats : List (Option Seat)} → IsChained firsts nexts seats
+    → IsChained firsts (nexts ++ None ∷ []) (seats ++ None ∷ [])
 chained_more {firsts} {nexts} {seats} c =
     let more : (chain k : ℕ) → stands seats chain k ≡ stands (seats ++ None ∷ []) chain k = λ chain k. ap (is_on chain) (sym (padded seats k)) in
     record {
       chains = c.chains;
       matched = length-append nexts (None ∷ []) ∙ ap (λ n. n + 1) c.matched ∙ sym (length-append seats (None ∷ []));
       first = λ chain within.
-          let new : stands (seats ++ None ∷ []) chain (length seats) ≡ false = ap (is_on chain) (padded seats (length seats) ∙ past_end seats (length seats) (omega arith)) in
+          let new : stands (seats ++ None ∷ []) chain (length seats) ≡ false =
+          ap (is_on chain) (padded seats (length seats) ∙ get_or_past seats (length seats) None (omega arith)) in
           c.first chain within ∙ last_agrees (stands seats chain) (stands (seats ++ None ∷ []) chain) (length seats) (λ k below. more chain k)
           ∙ sym (last_skips (stands (seats ++ None ∷ []) chain) (length seats) (length (seats ++ None ∷ [])) (omega (arith, length-append seats (None ∷ [])))
           (λ k past under.
@@ -50,16 +48,11 @@ chained_more {firsts} {nexts} {seats} c =
 
 -- a seat is on one chain
 one_chain : (a b : ℕ) (o : Option Seat) → is_on a o ≡ true → is_on b o ≡ true → a ≡ b
-one_chain a b None on_a on_b = absurd (true≢false (sym on_a))
-one_chain a b (Some seat) on_a on_b = sym (eqb-true (chain_of seat) a on_a) ∙ eqb-true (chain_of seat) b on_b
+one_chain a b o on_a on_b = grind (arith, nat_tests)
 
 -- and a slot that has one is among the slots
 stands_within : (seats : List (Option Seat)) (chain k : ℕ) → stands seats chain k ≡ true → k < length seats
-stands_within seats chain k has =
-    elim (cases_lt k (length seats)) [
-      | inl within ↦ within
-      | inr past ↦ absurd (true≢false (sym has ∙ ap (is_on chain) (past_end seats k past)))
-    ]
+stands_within seats chain k has = grind (arith, nat_tests, get_or_past seats k None)
 
 -- one slot has another seat, and on other chains than this one nothing changes
 pub record Reseats (nexts nexts' : List (Option ℕ)) (seats : List (Option Seat)) (chain slot : ℕ) (o : Option Seat) : Type 0 where
@@ -79,14 +72,13 @@ agree_on : {nexts nexts' : List (Option ℕ)} {seats : List (Option Seat)} {chai
     → (other : ℕ) → other ≢ chain → (k : ℕ) → stands seats other k ≡ stands (set seats slot o) other k
 agree_on {nexts} {nexts'} {seats} {chain} {slot} {o} r other apart k =
     elim (cases_eq k slot) [
-      | inl is ↦
-          ap (stands seats other) is ∙ sym (r.apart other apart) ∙ ap (is_on other) (sym (get_or-set_same seats slot o None r.within))
-          ∙ ap (stands (set seats slot o) other) (sym is)
+      | inl is ↦ grind (arith, r.apart other apart, get_or-set_same seats slot o None r.within)
       | inr off ↦ agree_at r other k off
     ]
 
 -- what a slot below, or of another chain, leads to
-next_kept : {firsts nexts nexts' : List (Option ℕ)} {seats : List (Option Seat)} {chain slot : ℕ} {o : Option Seat} → IsChained firsts nexts seats → Reseats nexts nexts' seats chain slot o
+next_kept : {firsts nexts nexts' : List (Option ℕ)} {seats : List (Option Seat)} {chain slot : ℕ} {o : Option Seat}
+    → IsChained firsts nexts seats → Reseats nexts nexts' seats chain slot o
     → (other k : ℕ) → k ≢ slot → stands seats other k ≡ true → ((j : ℕ) → j < k → stands seats other j ≡ stands (set seats slot o) other j)
     → get_or nexts' k None ≡ last_below (stands (set seats slot o) other) k
 next_kept {firsts} {nexts} {nexts'} {seats} {chain} {slot} {o} c r other k apart has same =
@@ -108,14 +100,16 @@ led_to {nexts} {nexts'} {seats} {chain} {slot} {o} r end above none =
     (λ k past under. sym (agree_at r chain k (λ is. omega (arith, past, is))) ∙ none k (omega (arith, past)) under))
 
 -- what a chain leads to, where none or a higher slot of it leads to the slot
-first_kept : {firsts nexts nexts' : List (Option ℕ)} {seats : List (Option Seat)} {chain slot : ℕ} {o : Option Seat} → IsChained firsts nexts seats → Reseats nexts nexts' seats chain slot o
+first_kept : {firsts nexts nexts' : List (Option ℕ)} {seats : List (Option Seat)} {chain slot : ℕ} {o : Option Seat}
+    → IsChained firsts nexts seats → Reseats nexts nexts' seats chain slot o
     → (other : ℕ) → other < 4096 → last_below (stands seats other) (length seats) ≡ last_below (stands (set seats slot o) other) (length seats)
     → get_or firsts other None ≡ last_below (stands (set seats slot o) other) (length (set seats slot o))
 first_kept {firsts} {nexts} {nexts'} {seats} {chain} {slot} {o} c r other small same =
     c.first other small ∙ same ∙ ap (last_below (stands (set seats slot o) other)) (sym (length-set seats slot o))
 
 -- no slot of the chain is above
-chained_first : {firsts nexts nexts' : List (Option ℕ)} {seats : List (Option Seat)} {chain slot : ℕ} {o : Option Seat} (led : Option ℕ) → IsChained firsts nexts seats → chain < 4096
+chained_first : {firsts nexts nexts' : List (Option ℕ)} {seats : List (Option Seat)} {chain slot : ℕ} {o : Option Seat} (led : Option ℕ)
+    → IsChained firsts nexts seats → chain < 4096
     → Reseats nexts nexts' seats chain slot o → ((k : ℕ) → slot < k → k < length seats → stands seats chain k ≡ false)
     → led ≡ last_below (stands (set seats slot o) chain) (suc slot) → IsChained (set firsts chain led) nexts' (set seats slot o)
 chained_first {firsts} {nexts} {nexts'} {seats} {chain} {slot} {o} led c within r none is = record {
@@ -128,10 +122,7 @@ chained_first {firsts} {nexts} {nexts'} {seats} {chain} {slot} {o} led c within 
     at_first : (other : ℕ) → other < 4096 → get_or (set firsts chain led) other None ≡ last_below (stands (set seats slot o) other) (length (set seats slot o))
     at_first other small =
         elim (cases_eq other chain) [
-          | inl same ↦
-              ap (λ n. get_or (set firsts chain led) n None) same ∙ get_or-set_same firsts chain led None (omega (arith, within, c.chains))
-              ∙ is ∙ led_to r (length seats) r.within none
-              ∙ ap₂ (λ n m. last_below (stands (set seats slot o) n) m) (sym same) (sym (length-set seats slot o))
+          | inl same ↦ grind (arith, get_or-set_same firsts chain led None, led_to r (length seats) r.within none, length-set seats slot o, c.chains)
           | inr apart ↦
               get_or-set_other firsts chain other led None apart
               ∙ first_kept c r other small (last_agrees (stands seats other) (stands (set seats slot o) other) (length seats) (λ k below. agree_on r other apart k))
@@ -139,31 +130,24 @@ chained_first {firsts} {nexts} {nexts'} {seats} {chain} {slot} {o} led c within 
 
     below_slot : (k : ℕ) → k ≢ slot → stands seats chain k ≡ true → k < length seats → k < slot
     below_slot k off has under =
-        elim (cases_order k slot) [
-          | inl same ↦ absurd (off same)
-          | inr (inl below) ↦ below
-          | inr (inr above) ↦ absurd (true≢false (sym has ∙ none k above under))
-        ]
+        elim (cases_order k slot) [ inl same ↦ absurd (off same) | inr (inl below) ↦ below | inr (inr above) ↦ grind (arith, none k above) ]
 
     at_next : (other k : ℕ) → stands (set seats slot o) other k ≡ true → get_or nexts' k None ≡ last_below (stands (set seats slot o) other) k
     at_next other k has =
         elim (cases_eq k slot) [
-          | inl same ↦
-              ap (λ n. get_or nexts' n None) same ∙ next_here r other (ap (stands (set seats slot o) other) (sym same) ∙ has)
-              ∙ ap (last_below (stands (set seats slot o) other)) (sym same)
+          | inl same ↦ grind (arith, next_here r other)
           | inr off ↦
               let had : stands seats other k ≡ true = agree_at r other k off ∙ has in
-              elim (cases_eq other chain) [
-                | inl same ↦
-                    let below = below_slot k off (ap (λ n. stands seats n k) (sym same) ∙ had) (stands_within seats other k had) in
-                    next_kept c r other k off had (λ j under. agree_at r other j (λ at. omega (arith, at, under, below)))
-                | inr apart ↦ next_kept c r other k off had (λ j under. agree_on r other apart j)
-              ]
+              next_kept c r other k off had (λ j under. elim (cases_eq other chain) [
+                | inl same ↦ grind (arith, agree_at r other j, below_slot k off, stands_within seats other k had)
+                | inr apart ↦ agree_on r other apart j
+              ])
         ]
 
 -- the next higher slot of the chain leads to it
 chained_after : {firsts nexts nexts' : List (Option ℕ)} {seats : List (Option Seat)} {chain slot : ℕ} {o : Option Seat} (led : Option ℕ) (a : ℕ) → IsChained firsts nexts seats
-    → Reseats nexts nexts' seats chain slot o → slot < a → a < length seats → stands seats chain a ≡ true → ((k : ℕ) → slot < k → k < a → stands seats chain k ≡ false)
+    → Reseats nexts nexts' seats chain slot o → slot < a → a < length seats → stands seats chain a ≡ true
+    → ((k : ℕ) → slot < k → k < a → stands seats chain k ≡ false)
     → led ≡ last_below (stands (set seats slot o) chain) (suc slot) → IsChained firsts (set nexts' a led) (set seats slot o)
 chained_after {firsts} {nexts} {nexts'} {seats} {chain} {slot} {o} led a c r above within passes none is = record {
   chains = c.chains;
@@ -178,25 +162,18 @@ chained_after {firsts} {nexts} {nexts'} {seats} {chain} {slot} {o} led a c r abo
 
     at_first : (other : ℕ) → other < 4096 → get_or firsts other None ≡ last_below (stands (set seats slot o) other) (length (set seats slot o))
     at_first other small =
-        elim (cases_eq other chain) [
-          | inl same ↦
-              first_kept c r other small
-              (ap (λ n. last_below (stands seats n) (length seats)) same ∙ higher (length seats) within ∙ ap (λ n. last_below (stands (set seats slot o) n) (length seats)) (sym same))
-          | inr apart ↦ first_kept c r other small (last_agrees (stands seats other) (stands (set seats slot o) other) (length seats) (λ k below. agree_on r other apart k))
-        ]
+        first_kept c r other small (elim (cases_eq other chain) [
+          | inl same ↦ grind (arith, higher (length seats) within)
+          | inr apart ↦ last_agrees (stands seats other) (stands (set seats slot o) other) (length seats) (λ k below. agree_on r other apart k)
+        ])
 
     on_chain : (k : ℕ) → k ≢ slot → stands seats chain k ≡ true → get_or (set nexts' a led) k None ≡ last_below (stands (set seats slot o) chain) k
     on_chain k off had =
         elim (cases_order k a) [
-          | inl same ↦
-              ap (λ n. get_or (set nexts' a led) n None) same ∙ get_or-set_same nexts' a led None (omega (arith, within, r.as_long, c.matched))
-              ∙ is ∙ led_to r a above none ∙ ap (last_below (stands (set seats slot o) chain)) (sym same)
+          | inl same ↦ grind (arith, get_or-set_same nexts' a led None, within, r.as_long, c.matched, led_to r a above none)
           | inr (inl under) ↦
-              let below : k < slot = elim (cases_order k slot) [
-                | inl same ↦ absurd (off same)
-                | inr (inl lower) ↦ lower
-                | inr (inr past) ↦ absurd (true≢false (sym had ∙ none k past under))
-              ] in
+              let below : k < slot =
+              elim (cases_order k slot) [ inl same ↦ absurd (off same) | inr (inl lower) ↦ lower | inr (inr past) ↦ grind (arith, none k past under) ] in
               get_or-set_other nexts' a k led None (λ at. omega (arith, at, under))
               ∙ next_kept c r chain k off had (λ j lower. agree_at r chain j (λ at. omega (arith, at, lower, below)))
           | inr (inr past) ↦
@@ -206,15 +183,11 @@ chained_after {firsts} {nexts} {nexts'} {seats} {chain} {slot} {o} led a c r abo
     at_next : (other k : ℕ) → stands (set seats slot o) other k ≡ true → get_or (set nexts' a led) k None ≡ last_below (stands (set seats slot o) other) k
     at_next other k has =
         elim (cases_eq k slot) [
-          | inl same ↦
-              get_or-set_other nexts' a k led None (λ at. omega (arith, at, same, above))
-              ∙ ap (λ n. get_or nexts' n None) same ∙ next_here r other (ap (stands (set seats slot o) other) (sym same) ∙ has)
-              ∙ ap (last_below (stands (set seats slot o) other)) (sym same)
+          | inl same ↦ get_or-set_other nexts' a k led None (λ at. omega (arith, at, same, above)) ∙ grind (arith, next_here r other)
           | inr off ↦
               let had : stands seats other k ≡ true = agree_at r other k off ∙ has in
               elim (cases_eq other chain) [
-                | inl same ↦
-                    on_chain k off (ap (λ n. stands seats n k) (sym same) ∙ had) ∙ ap (λ n. last_below (stands (set seats slot o) n) k) (sym same)
+                | inl same ↦ grind (arith, on_chain k off)
                 | inr apart ↦
                     get_or-set_other nexts' a k led None (λ at. apart (one_chain other chain (get_or seats a None) (ap (stands seats other) (sym at) ∙ had) passes))
                     ∙ next_kept c r other k off had (λ j under. agree_on r other apart j)
@@ -224,16 +197,19 @@ chained_after {firsts} {nexts} {nexts'} {seats} {chain} {slot} {o} led a c r abo
 -- whatever leads to the slot
 pub chained_led : {firsts nexts nexts' : List (Option ℕ)} {seats : List (Option Seat)} {chain slot : ℕ} {o : Option Seat} (led above : Option ℕ) → IsChained firsts nexts seats → chain < 4096
     → Reseats nexts nexts' seats chain slot o → IsAbove (stands seats chain) slot (length seats) above
-    → led ≡ last_below (stands (set seats slot o) chain) (suc slot) → IsChained (firsts_led firsts chain above led) (nexts_led nexts' above led) (set seats slot o)
+    → led ≡ last_below (stands (set seats slot o) chain) (suc slot)
+    → IsChained (firsts_led firsts chain above led) (nexts_led nexts' above led) (set seats slot o)
 chained_led led None c within r above is = chained_first led c within r above.between is
 chained_led led (Some a) c within r above is = chained_after led a c r above.there.0 above.there.1 above.there.2 above.between is
 
 -- equal lists
-pub chained_as : {firsts nexts nexts' : List (Option ℕ)} {seats seats' : List (Option Seat)} → nexts' ≡ nexts → seats' ≡ seats → IsChained firsts nexts seats → IsChained firsts nexts' seats'
+pub chained_as : {firsts nexts nexts' : List (Option ℕ)} {seats seats' : List (Option Seat)} → nexts' ≡ nexts → seats' ≡ seats
+    → IsChained firsts nexts seats → IsChained firsts nexts' seats'
 chained_as {firsts} same_nexts same_seats c = rw (same_nexts, same_seats) c
 
 -- what is read of a slot on a chain
-pub led_by : {firsts nexts : List (Option ℕ)} {seats : List (Option Seat)} (chain slot : ℕ) (found : Option ℕ) → IsChained firsts nexts seats → stands seats chain slot ≡ true
+pub led_by : {firsts nexts : List (Option ℕ)} {seats : List (Option Seat)} (chain slot : ℕ) (found : Option ℕ)
+    → IsChained firsts nexts seats → stands seats chain slot ≡ true
     → found ≡ get_or nexts slot found → found ≡ last_below (stands seats chain) slot
 led_by {firsts} {nexts} {seats} chain slot found c has is =
     is ∙ get_or_default nexts slot found None (omega (arith, stands_within seats chain slot has, c.matched)) ∙ c.next chain slot has
@@ -243,8 +219,10 @@ end_past test slot all None at within = within
 end_past test slot all (Some a) at within = at.there.0
 
 -- a slot gets a seat
-pub chained_put : {firsts nexts : List (Option ℕ)} {seats : List (Option Seat)} (chain slot : ℕ) (seat : Seat) (above next : Option ℕ) → IsChained firsts nexts seats → chain < 4096 → chain ≡ chain_of seat
-    → slot < length seats → get_or seats slot None ≡ None → IsAbove (stands seats chain) slot (length seats) above → next ≡ last_below (stands seats chain) (end_of above (length seats))
+pub chained_put : {firsts nexts : List (Option ℕ)} {seats : List (Option Seat)} (chain slot : ℕ) (seat : Seat) (above next : Option ℕ)
+    → IsChained firsts nexts seats → chain < 4096 → chain ≡ chain_of seat
+    → slot < length seats → get_or seats slot None ≡ None → IsAbove (stands seats chain) slot (length seats) above
+    → next ≡ last_below (stands seats chain) (end_of above (length seats))
     → IsChained (firsts_led firsts chain above (Some slot)) (nexts_led (set nexts slot next) above (Some slot)) (set seats slot (Some seat))
 chained_put {firsts} {nexts} {seats} chain slot seat above next c small is within free at leads =
     let past = end_past (stands seats chain) slot (length seats) above at within in
@@ -266,7 +244,8 @@ chained_put {firsts} {nexts} {seats} chain slot seat above next c small is withi
     chained_led (Some slot) above c small reseats at (last_passes (stands (set seats slot (Some seat)) chain) slot on)
 
 -- a slot loses its seat
-pub chained_taken : {firsts nexts : List (Option ℕ)} {seats : List (Option Seat)} (chain slot : ℕ) (seat : Seat) (above next : Option ℕ) → IsChained firsts nexts seats → chain < 4096 → chain ≡ chain_of seat
+pub chained_taken : {firsts nexts : List (Option ℕ)} {seats : List (Option Seat)} (chain slot : ℕ) (seat : Seat) (above next : Option ℕ)
+    → IsChained firsts nexts seats → chain < 4096 → chain ≡ chain_of seat
     → get_or seats slot None ≡ Some seat → IsAbove (stands seats chain) slot (length seats) above → next ≡ get_or nexts slot next
     → IsChained (firsts_led firsts chain above next) (nexts_led nexts above next) (set seats slot None)
 chained_taken {firsts} {nexts} {seats} chain slot seat above next c small is had at read =

@@ -1,36 +1,24 @@
 -- A seat is found along its chain.
 use Rattle.fm_ctx.proofs.Words.{ℕ, zero, suc, Bool, true, false, List, [], length, get_or, position, count_by, Option, Some, None, refl, sym, ap}
-use Rattle.fm_ctx.proofs.Words.{arith, inl, inr, eq-eqb, lt-ltb, le-ltb, IfSome, position_or_len, cases_Bool, cases_lt, cases_order, and_parts}
-use Rattle.fm_ctx.proofs.Words.{true≢false, sum_by-cons, get_or-le-sum_by, Seat, one, same_object, same_owner, chain_of, is_seat, stands, last_below}
+use Rattle.fm_ctx.proofs.Words.{arith, inl, inr, lt-ltb, le-ltb, IfSome, position_or_len, cases_order}
+use Rattle.fm_ctx.proofs.Words.{sum_by-cons, get_or-le-sum_by, Seat, one, chain_of, is_seat, stands, last_below}
 use Rattle.fm_ctx.proofs.Words.{end_of}
-use Rattle.std.proofs.Common.{◌≡◌, ◌+◌, ◌<◌, ◌≤◌, ◌∷◌, ◌∙◌, ◌%◌}
+use Rattle.fm_ctx.proofs.Words.{nat_tests}
+use Rattle.std.proofs.Common.{◌≡◌, ◌<◌, ◌≤◌, ◌∷◌, ◌∙◌}
 use Rattle.std.proofs.lemmas.List.Sums.{position_or_len_is}
-use Rattle.fm_ctx.specs.Seats.{object_number, is_on, IsAbove}
+use Rattle.fm_ctx.specs.Seats.{is_on, IsAbove}
 use Rattle.fm_ctx.proofs.Objects.{same_object-same}
 use Rattle.fm_ctx.proofs.Lasts.{IsLast, last_some, last_none}
 
-one_more : (k : ℕ) → 1 + k ≡ suc k
-one_more k = omega arith
-
 -- where one is counted at most, the place that passes is the one that is found
 found_at : {X : Type 0} (p : X → Bool) (xs : List X) (k : ℕ) (d : X) → count_by p xs ≤ 1 → k < length xs → p (get_or xs k d) ≡ true → position_or_len p xs ≡ k
-found_at p [] k d few within passes = absurd (omega (arith, within))
-found_at p (x ∷ xs) zero d few within passes = rw passes refl
-found_at {X} p (x ∷ xs) (suc k) d few within passes =
-    let by : X → ℕ = λ y. one (p y) in
-    let later : by (get_or xs k d) ≡ 1 = ap one passes in
-    let inside : k < length xs = omega (arith, within) in
-    let counted : 1 ≤ count_by p xs = omega (arith, later, get_or-le-sum_by by xs k d inside) in
-    elim (cases_Bool (p x)) [
-      | inl first ↦
-          let now : by x ≡ 1 = ap one first in
-          absurd (omega (arith, now, few, sum_by-cons by x xs, counted))
-      | inr lacks ↦
-          let fewer : count_by p xs ≤ 1 = omega (arith, few, sum_by-cons by x xs) in
-          rw lacks (ap (λ n. 1 + n) (found_at p xs k d fewer inside passes) ∙ one_more k)
-    ]
+found_at p [] k d few within passes = grind arith
+found_at p (x ∷ xs) zero d few within passes = grind (arith, nat_tests)
+found_at p (x ∷ xs) (suc k) d few within passes =
+    grind (arith, nat_tests, sum_by-cons (λ y. one (p y)) x xs, get_or-le-sum_by (λ y. one (p y)) xs k d, found_at p xs k d)
 
-pub position_at : {X : Type 0} (p : X → Bool) (xs : List X) (k : ℕ) (d : X) → count_by p xs ≤ 1 → k < length xs → p (get_or xs k d) ≡ true → Some k ≡ position p xs
+pub position_at : {X : Type 0} (p : X → Bool) (xs : List X) (k : ℕ) (d : X) → count_by p xs ≤ 1 → k < length xs
+    → p (get_or xs k d) ≡ true → Some k ≡ position p xs
 position_at p xs k d few within passes = rw (found_at p xs k d few within passes, lt-ltb k (length xs) within) refl
 
 pub position_none : {X : Type 0} (p : X → Bool) (xs : List X) (d : X) → ((k : ℕ) → k < length xs → p (get_or xs k d) ≡ false) → None ≡ position p xs
@@ -39,17 +27,11 @@ position_none p xs d fails =
 
 -- a slot that has the seat is on its chain
 is_there : (seat : Seat) (o : Option Seat) → is_seat seat o ≡ true → is_on (chain_of seat) o ≡ true
-is_there seat None has = absurd (true≢false (sym has))
-is_there seat (Some other) has =
-    let same = same_object-same seat.object other.object (and_parts (same_object seat.object other.object) (same_owner seat.owner other.owner) has).0 in
-    eq-eqb (chain_of other) (chain_of seat) (ap (λ object. object_number object % 4096) (sym same))
+is_there seat None has = grind arith
+is_there seat (Some other) has = grind (arith, nat_tests, same_object-same seat.object other.object)
 
 not_there : (seat : Seat) (o : Option Seat) → is_on (chain_of seat) o ≡ false → is_seat seat o ≡ false
-not_there seat o off =
-    elim (cases_Bool (is_seat seat o)) [
-      | inl has ↦ absurd (true≢false (sym (is_there seat o has) ∙ off))
-      | inr lacks ↦ lacks
-    ]
+not_there seat o off = grind (arith, nat_tests, is_there seat o)
 
 -- how far a walk along the chain of a seat came: nothing that it passed has the seat
 pub record IsPassed (seats : List (Option Seat)) (seat : Seat) (next : Option ℕ) : Type 0 where
@@ -77,22 +59,15 @@ passed_more {seats} {seat} slot next' p is lacks leads = record {
       elim (cases_order k slot) [
         | inl same ↦ ap (λ n. is_seat seat (get_or seats n None)) same ∙ lacks
         | inr (inl below) ↦ absurd (omega (arith, past, below))
-        | inr (inr above) ↦
-            elim (cases_lt k p.upto) [
-              | inl between ↦ not_there seat (get_or seats k None) ((passed_slot slot p is).after k above between)
-              | inr later ↦ p.passed k later under
-            ]
+        | inr (inr above) ↦ grind (arith, not_there seat (get_or seats k None), (passed_slot slot p is).after k above, p.passed k)
       ];
 }
 
 -- none comes next
 pub passed_all : {seats : List (Option Seat)} {seat : Seat} {next : Option ℕ} → IsPassed seats seat next → next ≡ None → None ≡ position (is_seat seat) seats
 passed_all {seats} {seat} p is =
-    position_none (is_seat seat) seats None (λ k within.
-    elim (cases_lt k p.upto) [
-      | inl between ↦ not_there seat (get_or seats k None) (last_none (stands seats (chain_of seat)) p.upto (sym p.next_is ∙ is) k between)
-      | inr later ↦ p.passed k later within
-    ])
+    let none = last_none (stands seats (chain_of seat)) p.upto (sym p.next_is ∙ is) in
+    position_none (is_seat seat) seats None (λ k within. grind (arith, not_there seat (get_or seats k None), none k, p.passed k))
 
 -- ---- the walk to what is above a slot
 
@@ -100,14 +75,16 @@ end_within : (test : ℕ → Bool) (slot all : ℕ) (above : Option ℕ) → IfS
 end_within test slot all None there = omega arith
 end_within test slot all (Some a) there = omega (arith, there.1)
 
-pub climbed : (test : ℕ → Bool) (slot all : ℕ) (above : Option ℕ) {next : Option ℕ} (place : ℕ) → IfSome above (λ (a : ℕ). (slot < a) × (a < all) × (test a ≡ true))
+pub climbed : (test : ℕ → Bool) (slot all : ℕ) (above : Option ℕ) {next : Option ℕ} (place : ℕ)
+    → IfSome above (λ (a : ℕ). (slot < a) × (a < all) × (test a ≡ true))
     → next ≡ last_below test (end_of above all) → next ≡ Some place → (place < all) × (test place ≡ true)
 climbed test slot all above place there leads is =
     let l = last_some test (end_of above all) place (sym leads ∙ is) in
     (omega (arith, l.below, end_within test slot all above there), l.passes)
 
 -- it ends at a slot that isn't above
-pub above_found : (test : ℕ → Bool) (slot all : ℕ) (above : Option ℕ) {next : Option ℕ} (place : ℕ) → IfSome above (λ (a : ℕ). (slot < a) × (a < all) × (test a ≡ true))
+pub above_found : (test : ℕ → Bool) (slot all : ℕ) (above : Option ℕ) {next : Option ℕ} (place : ℕ)
+    → IfSome above (λ (a : ℕ). (slot < a) × (a < all) × (test a ≡ true))
     → next ≡ last_below test (end_of above all) → next ≡ Some place → place ≤ slot → IsAbove test slot all above
 above_found test slot all above place there leads is under = record {
   there = there;

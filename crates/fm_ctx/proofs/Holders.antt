@@ -1,37 +1,26 @@
 -- The context of an owner that is linked to an object.
-use Rattle.fm_ctx.proofs.Words.{ℕ, zero, suc, Bool, true, false, cond, ltb, List, [], length, get_or, slice_get, position, All, count_by, Option}
-use Rattle.fm_ctx.proofs.Words.{Some, None, is_some, option_map, option_and_then, unwrap_or, refl, sym, ap, subst, arith, inl, inr, eq-eqb}
-use Rattle.fm_ctx.proofs.Words.{position_or_len, cases_Bool, and_parts, true≢false, none-some, same_Some, get_or_from_slice_get, CtxId}
-use Rattle.fm_ctx.proofs.Words.{slice_get-some, count_by-updated, Object, Owner, one, is_id, references, holds, without, same_owner, Context, Slot}
+use Rattle.fm_ctx.proofs.Words.{ℕ, zero, suc, Bool, true, false, List, [], length, get_or, slice_get, position, count_by, Option}
+use Rattle.fm_ctx.proofs.Words.{Some, None, is_some, option_map, unwrap_or, refl, sym, ap, subst, arith, eq-eqb}
+use Rattle.fm_ctx.proofs.Words.{position_or_len, true≢false, none-some, same_Some, get_or_from_slice_get, CtxId}
+use Rattle.fm_ctx.proofs.Words.{slice_get-some, count_by-updated, Object, Owner, one, is_id, references, without, Context, Slot}
 use Rattle.fm_ctx.proofs.Words.{context_at, link_at, changed_slot, change_context, has_link, links, id_at, holder, with_link}
-use Rattle.std.proofs.Common.{◌≡◌, ◌<◌, ◌≤◌, ◌∷◌, ◌∙◌, remove, ltb-false}
+use Rattle.fm_ctx.proofs.Words.{nat_tests, sum_by-cons}
+use Rattle.std.proofs.Common.{◌≡◌, ◌<◌, ◌≤◌, ◌∷◌, ◌∙◌, remove}
 use Rattle.std.proofs.lemmas.List.Quantifiers.{position-Some}
-use Rattle.std.proofs.lemmas.List.Sums.{fails_before_first, sum_by-le}
-use Rattle.fm_ctx.specs.Objects.{is_to}
 use Rattle.fm_ctx.proofs.Bags.{counted_if_held, without_none}
 
 -- where no place passes, none is counted
-pub none_passes : {X : Type 0} (p : X → Bool) (xs : List X) → position p xs ≡ None → count_by p xs ≡ 0
-none_passes {X} p xs none = split (ltb (position_or_len p xs) (length xs)) refl none
-  where
-    fails : length xs ≤ position_or_len p xs → count_by p xs ≡ 0
-    fails past =
-        let by : X → ℕ = λ x. one (p x) in
-        let each : All (λ x. by x ≤ 0) xs = λ k d within. let lacks : by (get_or xs k d) ≡ 0 = ap one (fails_before_first p xs k d (omega (arith, within, past))) in omega (arith, lacks) in
-        omega (arith, sum_by-le by 0 xs each)
+none_counted : {X : Type 0} (p : X → Bool) (xs : List X) → length xs ≤ position_or_len p xs → count_by p xs ≡ 0
+none_counted p [] past = refl
+none_counted p (x ∷ xs) past = grind (arith, nat_tests, sum_by-cons (λ y. one (p y)) x xs, none_counted p xs)
 
-    split : (b : Bool) → ltb (position_or_len p xs) (length xs) ≡ b → cond b (Some (position_or_len p xs)) None ≡ None → count_by p xs ≡ 0
-    split true is none = absurd (none-some (position_or_len p xs) (sym none))
-    split false is none = fails (ltb-false (position_or_len p xs) (length xs) is)
+pub none_passes : {X : Type 0} (p : X → Bool) (xs : List X) → position p xs ≡ None → count_by p xs ≡ 0
+none_passes p xs none = grind (arith, nat_tests, none_counted p xs)
 
 -- nobody is linked there
 pub holder_none : (slots : List Slot) (owner : Owner) (object : Object) → holder slots owner object ≡ None → count_by (has_link owner object) slots ≡ 0
 unfolding holder
-holder_none slots owner object none = none_passes (has_link owner object) slots (unmapped (position (has_link owner object) slots) none)
-  where
-    unmapped : (o : Option ℕ) → option_map (id_at slots) o ≡ None → o ≡ None
-    unmapped None is = refl
-    unmapped (Some k) is = absurd (none-some (id_at slots k) (sym is))
+holder_none slots owner object none = none_passes (has_link owner object) slots (grind arith)
 
 -- what is linked there
 pub record HeldBy (slots : List Slot) (owner : Owner) (object : Object) (c : CtxId) : Type 0 where
@@ -46,7 +35,8 @@ linked_context : (owner : Owner) (object : Object) (o : Option Context) → link
 linked_context owner object None has = absurd (true≢false (sym has))
 linked_context owner object (Some x) has = (x, refl)
 
-held_at : (slots : List Slot) (owner : Owner) (object : Object) (k : ℕ) → position (has_link owner object) slots ≡ Some k → HeldBy slots owner object (id_at slots k)
+held_at : (slots : List Slot) (owner : Owner) (object : Object) (k : ℕ) → position (has_link owner object) slots ≡ Some k
+    → HeldBy slots owner object (id_at slots k)
 held_at slots owner object k found =
     let within : k < length slots = (position-Some (has_link owner object) slots k (record { generation = 0; context = None }) found).0 in
     let s = slice_get-some slots k within in
@@ -78,33 +68,27 @@ holder_context slots owner object c h = rw (h.there, eq-eqb c.generation h.slot.
 pub holder_linked : (slots : List Slot) (owner : Owner) (object : Object) (c : CtxId) → holder slots owner object ≡ Some c → is_some (link_at slots c) ≡ true
 holder_linked slots owner object c is =
     let h = holder_some slots owner object c is in
-    let both = and_parts (is_to object h.context.link) (same_owner owner h.context.owner) h.links_there in
-    ap (λ o. is_some (option_and_then (λ (x : Context). x.link) o)) (holder_context slots owner object c h) ∙ there h.context.link both.0
-  where
-    there : (o : Option Object) → is_to object o ≡ true → is_some o ≡ true
-    there None has = has
-    there (Some other) has = refl
+    grind (arith, nat_tests, holder_context slots owner object c h, h.links_there)
 
 -- once its link is gone, nobody is linked there
-pub none_after_unlink : (slots : List Slot) (owner : Owner) (object : Object) (c : CtxId) → holder slots owner object ≡ Some c → count_by (has_link owner object) slots ≤ 1
+pub none_after_unlink : (slots : List Slot) (owner : Owner) (object : Object) (c : CtxId) → holder slots owner object ≡ Some c
+    → count_by (has_link owner object) slots ≤ 1
     → count_by (has_link owner object) (change_context (option_map (with_link None)) slots c) ≡ 0
 none_after_unlink slots owner object c is once =
     let h = holder_some slots owner object c is in
     let step = count_by-updated (has_link owner object) (changed_slot (option_map (with_link None)) c) slots c.slot h.slot h.there in
-    let before : one (has_link owner object h.slot) ≡ 1 = ap one (ap (links owner object) h.has ∙ h.links_there) in
-    let after : one (has_link owner object (changed_slot (option_map (with_link None)) c h.slot)) ≡ 0 = rw (eq-eqb c.generation h.slot.generation h.named, h.has) refl in
-    omega (arith, step, before, after, once)
+    grind (arith, nat_tests, step, h.has, h.links_there, h.named)
 
 -- ---- where a reference stands in a list
 
-without_at : (c : CtxId) (ids : List CtxId) (k : ℕ) (d : CtxId) → k < length ids → is_id c (get_or ids k d) ≡ true → ((j : ℕ) → j < k → is_id c (get_or ids j d) ≡ false)
+without_at : (c : CtxId) (ids : List CtxId) (k : ℕ) (d : CtxId) → k < length ids → is_id c (get_or ids k d) ≡ true
+    → ((j : ℕ) → j < k → is_id c (get_or ids j d) ≡ false)
     → remove ids k ≡ without c ids
 unfolding without
-without_at c [] k d within is before = absurd (omega (arith, within))
-without_at c (e ∷ ids) zero d within is before = rw is refl
+without_at c [] k d within is before = grind arith
+without_at c (e ∷ ids) zero d within is before = grind (arith, nat_tests)
 without_at c (e ∷ ids) (suc k) d within is before =
-    let other : is_id c e ≡ false = before 0 (omega arith) in
-    rw other (ap (λ rest. e ∷ rest) (without_at c ids k d (omega (arith, within)) is (λ j below. before (suc j) (omega (arith, below)))))
+    rw (before 0 (omega arith)) (ap (λ rest. e ∷ rest) (without_at c ids k d (omega (arith, within)) is (λ j below. before (suc j) (omega (arith, below)))))
 
 -- the one that was found goes
 pub without_found : (c : CtxId) (ids : List CtxId) (k : ℕ) → position (is_id c) ids ≡ Some k → remove ids k ≡ without c ids
@@ -115,9 +99,4 @@ without_found c ids k found =
 -- where none was found nothing goes
 pub without_absent : (c : CtxId) (ids : List CtxId) → position (is_id c) ids ≡ None → without c ids ≡ ids
 unfolding references
-without_absent c ids none =
-    let zero_is : references ids c ≡ 0 = none_passes (is_id c) ids none in
-    elim (cases_Bool (holds ids c)) [
-      | inl has ↦ absurd (omega (arith, zero_is, counted_if_held ids c has))
-      | inr lacks ↦ without_none c ids lacks
-    ]
+without_absent c ids none = grind (arith, nat_tests, none_passes (is_id c) ids none, counted_if_held ids c, without_none c ids)

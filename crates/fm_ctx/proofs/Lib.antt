@@ -16,7 +16,6 @@ pub mod Shown
 pub mod Sweeping
 pub mod Newborn
 pub mod Opening
-pub mod Replies
 pub mod Leaving
 pub mod Alike
 pub mod Holders

@@ -1,268 +1,172 @@
 -- Changes that keep the laws of contexts.
-use Rattle.fm_ctx.proofs.Words.{ℕ, Bool, true, false, cond, eqb, List, [], length, slice_get, All, count_by, Option, Some, None, is_some, option_map}
-use Rattle.fm_ctx.proofs.Words.{refl, sym, ap, ap₂, arith, inl, inr, ne_eqb, lt-ltb, length-set, cases_Bool, cases_eq, and_parts, true≢false, CtxId}
-use Rattle.fm_ctx.proofs.Words.{Object, Owner, one, is_id, references, holds, hand_of, without, places, same_object, same_owner, Context, Slot}
-use Rattle.fm_ctx.proofs.Words.{ContextTable, context_in, context_at, link_at, count_in, changed_slot, change_context, IsLawful, has_link, links}
-use Rattle.fm_ctx.proofs.Words.{grabbed, handed_on, released, with_link, linked, unlinked, unlinked_into, newly, with_body, rewritten}
-use Rattle.std.proofs.Common.{◌≡◌, ◌+◌, ◌<◌, ◌≤◌, ◌&&◌, ◌∷◌, ◌++◌, ◌∙◌, zero-add, add-zero}
+use Rattle.fm_ctx.proofs.Words.{ℕ, true, eqb, List, [], length, All, count_by, Option, Some, None, is_some, option_map, refl}
+use Rattle.fm_ctx.proofs.Words.{ap₂, arith, nat_tests, inl, inr, length-set, cases_Bool, and_parts, CtxId, Object, Owner, one, is_id, holds}
+use Rattle.fm_ctx.proofs.Words.{hand_of, without, places, same_object, same_owner, Context, Slot, ContextTable, context_at, link_at}
+use Rattle.fm_ctx.proofs.Words.{count_in, changed_slot, change_context, due_after, IsLawful, has_link, links, grabbed, handed_on, released, with_link}
+use Rattle.fm_ctx.proofs.Words.{IsFree, IfSome, linked, unlinked, unlinked_into, newly, with_body, rewritten}
+use Rattle.std.proofs.Common.{◌≡◌, ◌+◌, ◌<◌, ◌≤◌, ◌&&◌, ◌∷◌, ◌++◌, ◌∙◌}
 use Rattle.fm_types.proofs.Lists.{length-updated}
-use Rattle.fm_ctx.proofs.Bags.{is_id-same, IsSmall, small_push, small_without, places_push}
+use Rattle.fm_ctx.proofs.Bags.{is_id-same, IsSmall, small_push, small_without, places_push, held_push, held_without}
 use Rattle.fm_ctx.proofs.Objects.{same_object-same, same_owner-same}
-use Rattle.fm_ctx.proofs.Slots.{none_from, there_changed, count_changed, count_changed_one, slot_of_context}
-use Rattle.fm_ctx.proofs.Counts.{count_grabbed, count_handed_on, count_released, count_linked, count_unlinked, count_unlinked_into, count_rewritten, newly_above, fresh_after, due_after_fresh, fresh_each}
+use Rattle.fm_ctx.proofs.Slots.{there_changed, count_changed, count_changed_one, slot_of_context}
+use Rattle.fm_ctx.proofs.Counts.{count_grabbed, count_released, count_linked, count_unlinked, links_unlinked, links_kept, due_after_fresh, fresh_after, fresh_each}
 
--- a change that brings no context and takes none away: no count rises from zero, and what falls to zero is due
-pub record Moves (carried : CtxId → ℕ) (t : ContextTable) (carried' : CtxId → ℕ) (t' : ContextTable) : Type 0 where
-  pub there : (c : CtxId) → is_some (context_at t'.slots c) ≡ is_some (context_at t.slots c)
-  pub stays : (c : CtxId) → count_in carried t c ≡ 0 → count_in carried' t' c ≡ 0
-  pub settles : (c : CtxId) → places t'.due t'.cleaning c ≡ places t.due t.cleaning c + newly (count_in carried t c) (count_in carried' t' c)
-  pub once : (owner : Owner) (object : Object) → count_by (has_link owner object) t'.slots ≤ 1
-  pub workers : length t'.hands ≡ 48
-  pub cleaners : length t'.cleaning ≡ 48
-  pub small : All IsSmall t'.hands
-  pub few : length t'.slots ≤ 65536
+-- what the laws say of one id: of its context, its count and its places
+abbrev pub Rests : Option Context → ℕ → ℕ → Type 0
+Rests o n places_now = (o ≡ None → n ≡ 0) × (places_now ≡ one (is_some o && eqb n 0))
 
-waits_moved : (there : Bool) (n m : ℕ) → (there ≡ false → n ≡ 0) → (n ≡ 0 → m ≡ 0)
-    → one (there && eqb n 0) + newly n m ≡ one (there && eqb m 0)
-waits_moved false n m absent stays =
-    let none : m ≡ 0 = stays (absent refl) in
-    rw (none, absent refl) refl
-waits_moved true n m absent stays =
-    elim (cases_eq n 0) [
-      | inl zero_is ↦ rw (zero_is, stays zero_is) refl
-      | inr some ↦ rw (ne_eqb n 0 some, lt-ltb 0 n (omega (arith, some))) (zero-add (one (eqb m 0)))
-    ]
+-- of the slots and of the hands, whatever the counts
+abbrev pub SlotsFit : List Slot → Type 0
+SlotsFit slots = ((owner : Owner) (object : Object) → count_by (has_link owner object) slots ≤ 1) × (length slots ≤ 65536)
 
-pub lawful_moved : {carried : CtxId → ℕ} {t : ContextTable} {carried' : CtxId → ℕ} {t' : ContextTable} → IsLawful carried t → Moves carried t carried' t' → IsLawful carried' t'
-lawful_moved {carried} {t} {carried'} {t'} law moves = record {
-  alive = λ c none. moves.stays c (law.alive c (none_from (context_at t.slots c) (sym (moves.there c) ∙ ap is_some none)));
-  waits = λ c.
-      let absent : is_some (context_at t.slots c) ≡ false → count_in carried t c ≡ 0 = λ lacks. law.alive c (none_from (context_at t.slots c) lacks) in
-      let n = count_in carried t c in
-      let m = count_in carried' t' c in
-      moves.settles c ∙ ap (λ k. k + newly n m) (law.waits c)
-      ∙ waits_moved (is_some (context_at t.slots c)) n m absent (moves.stays c)
-      ∙ ap (λ b. one (b && eqb m 0)) (sym (moves.there c));
-  once = moves.once;
-  workers = moves.workers;
-  cleaners = moves.cleaners;
-  small = moves.small;
-  few = moves.few;
+abbrev pub HandsFit : List (List CtxId) → Type 0
+HandsFit hands = (length hands ≡ 48) × All IsSmall hands
+
+pub lawful_by : {carried carried' : CtxId → ℕ} {t t' : ContextTable} → IsLawful carried t → SlotsFit t'.slots → HandsFit t'.hands
+    → length t'.cleaning ≡ length t.cleaning
+    → ((d : CtxId) → Rests (context_at t.slots d) (count_in carried t d) (places t.due t.cleaning d)
+    → Rests (context_at t'.slots d) (count_in carried' t' d) (places t'.due t'.cleaning d))
+    → IsLawful carried' t'
+lawful_by law slots hands cleaners each = record {
+  alive = λ d. (each d (law.alive d, law.waits d)).0;
+  waits = λ d. (each d (law.alive d, law.waits d)).1;
+  once = slots.0;
+  workers = hands.0;
+  cleaners = cleaners ∙ law.cleaners;
+  small = hands.1;
+  few = slots.1;
 }
 
--- where nothing falls to zero, nothing more waits
-pub still : (places_now n m : ℕ) → (n ≡ 0 → m ≡ 0) → (m ≡ 0 → n ≡ 0) → places_now ≡ places_now + newly n m
-still places_now n m stays back =
-    elim (cases_eq m 0) [
-      | inl zero_is ↦ rw (zero_is, back zero_is) (sym (add-zero places_now))
-      | inr some ↦ rw (newly_above n m (omega (arith, some))) (sym (add-zero places_now))
-    ]
+-- the places where one reference to a context goes
+due_places : (carried : CtxId → ℕ) (t : ContextTable) (carried' : CtxId → ℕ) (t' : ContextTable) (c : CtxId)
+    → ((d : CtxId) → count_in carried' t' d + one (is_id d c) ≡ count_in carried t d) → (d : CtxId)
+    → places (due_after carried t c) t.cleaning d ≡ places t.due t.cleaning d + newly (count_in carried t d) (count_in carried' t' d)
+due_places carried t carried' t' c step d =
+    let fresh = fresh_after (count_in carried t c) c in
+    rw (due_after_fresh carried t c) (omega (arith, places_push t.due t.cleaning fresh d, fresh_each carried t carried' t' c step d))
 
--- the due list with what became due
-pub settled : (carried : CtxId → ℕ) (t : ContextTable) (carried' : CtxId → ℕ) (t' : ContextTable) (fresh : List CtxId) → t'.due ≡ t.due ++ fresh → t'.cleaning ≡ t.cleaning
-    → ((c : CtxId) → references fresh c ≡ newly (count_in carried t c) (count_in carried' t' c)) → (c : CtxId)
-    → places t'.due t'.cleaning c ≡ places t.due t.cleaning c + newly (count_in carried t c) (count_in carried' t' c)
-settled carried t carried' t' fresh due cleaning each c =
-    ap (λ (d : List CtxId). places d t'.cleaning c) due ∙ ap (λ (l : List (Option CtxId)). places (t.due ++ fresh) l c) cleaning
-    ∙ places_push t.due t.cleaning fresh c ∙ ap (λ k. places t.due t.cleaning c + k) (each c)
+-- what making a link requires, as equations
+pub record FreeLink (t : ContextTable) (c : CtxId) (object : Object) : Type 0 where
+  pub context : Context
+  pub there : context_at t.slots c ≡ Some context
+  pub bare : context.link ≡ None
+  pub none : count_by (has_link context.owner object) t.slots ≡ 0
 
--- ---- references
+module _ {carried : CtxId → ℕ} {t : ContextTable} where
+  -- ---- the lists
 
--- one more reference to a context that has one, of a reference or of a completion that comes back
-pub grabbed_moves : {carried : CtxId → ℕ} {t : ContextTable} (carried' : CtxId → ℕ) (w : ℕ) (c : CtxId) → IsLawful carried t → w < 48
-    → ((d : CtxId) → count_in carried t d ≡ 0 → count_in carried' (grabbed t w c) d ≡ 0) → ((d : CtxId) → count_in carried' (grabbed t w c) d ≡ 0 → count_in carried t d ≡ 0)
-    → length (hand_of t.hands w) < 16 → Moves carried t carried' (grabbed t w c)
-grabbed_moves {carried} {t} carried' w c law worker stays back room = record {
-  there = λ d. refl;
-  stays = stays;
-  settles = λ d. still (places t.due t.cleaning d) (count_in carried t d) (count_in carried' (grabbed t w c) d) (stays d) (back d);
-  once = law.once;
-  workers = length-set t.hands w (hand_of t.hands w ++ c ∷ []) ∙ law.workers;
-  cleaners = law.cleaners;
-  small = small_push t.hands w c law.small room;
-  few = law.few;
-}
+  pub hand_more : (w : ℕ) (c : CtxId) → IsLawful carried t → length (hand_of t.hands w) < 16 → HandsFit (grabbed t w c).hands
+  hand_more w c law room = (length-set t.hands w (hand_of t.hands w ++ c ∷ []) ∙ law.workers, small_push t.hands w c law.small room)
 
-pub within_hands : {carried : CtxId → ℕ} {t : ContextTable} (w : ℕ) → IsLawful carried t → w < 48 → w < length t.hands
-within_hands w law worker = omega (arith, law.workers, worker)
+  hand_fewer : (w : ℕ) (c : CtxId) → IsLawful carried t → w < length t.hands → holds (hand_of t.hands w) c ≡ true → HandsFit (handed_on t w c).hands
+  hand_fewer w c law within has =
+      (length-set t.hands w (without c (hand_of t.hands w)) ∙ law.workers, small_without t.hands w c law.small within has)
 
--- an id that has no count isn't one that has
-apart_from : (carried : CtxId → ℕ) (t : ContextTable) (c d : CtxId) → 0 < count_in carried t c → count_in carried t d ≡ 0 → one (is_id d c) ≡ 0
-apart_from carried t c d live none =
-    elim (cases_Bool (is_id d c)) [
-      | inl is ↦ absurd (omega (arith, live, none, ap (count_in carried t) (is_id-same d c is)))
-      | inr other ↦ ap one other
-    ]
+  few_changed : (f : Option Context → Option Context) (c : CtxId) → IsLawful carried t → length (change_context f t.slots c) ≤ 65536
+  few_changed f c law = omega (arith, length-updated (changed_slot f c) t.slots c.slot, law.few)
 
-pub reference_keeps : {carried : CtxId → ℕ} {t : ContextTable} (w : ℕ) (c : CtxId) → IsLawful carried t → w < 48 → 0 < count_in carried t c
-    → length (hand_of t.hands w) < 16 → IsLawful carried (grabbed t w c)
-reference_keeps {carried} {t} w c law worker live room =
-    let counts = count_grabbed carried t w c (within_hands w law worker) in
-    lawful_moved law (grabbed_moves carried w c law worker
-    (λ d none. omega (arith, counts d, none, apart_from carried t c d live none))
-    (λ d none. omega (arith, counts d, none)) room)
+  -- a change that makes no link
+  pub slot_weaker : (f : Option Context → Option Context) (c : CtxId) → IsLawful carried t
+      → ((owner : Owner) (object : Object) (o : Option Context) → links owner object (f o) ≡ true → links owner object o ≡ true)
+      → SlotsFit (change_context f t.slots c)
+  slot_weaker f c law weaker = (
+    λ owner object. let less = count_changed (has_link owner object) f t.slots c (λ s there. grind (arith, nat_tests, weaker owner object s.context)) in
+        omega (arith, law.once owner object, less),
+    few_changed f c law,
+  )
 
--- a completion takes a reference along
-pub carry_keeps : {carried : CtxId → ℕ} {t : ContextTable} (carried' : CtxId → ℕ) (w : ℕ) (c : CtxId) → IsLawful carried t → w < 48 → holds (hand_of t.hands w) c ≡ true
-    → ((d : CtxId) → carried' d ≡ carried d + one (is_id d c)) → IsLawful carried' (handed_on t w c)
-carry_keeps {carried} {t} carried' w c law worker has more =
-    let within = within_hands w law worker in
-    let same : (d : CtxId) → count_in carried' (handed_on t w c) d ≡ count_in carried t d = λ d. omega (arith, count_handed_on carried t w c within has d, more d) in
-    let moves : Moves carried t carried' (handed_on t w c) = record {
-      there = λ d. refl;
-      stays = λ d none. same d ∙ none;
-      settles = λ d. still (places t.due t.cleaning d) (count_in carried t d) (count_in carried' (handed_on t w c) d) (λ none. same d ∙ none) (λ none. sym (same d) ∙ none);
-      once = law.once;
-      workers = length-set t.hands w (without c (hand_of t.hands w)) ∙ law.workers;
-      cleaners = law.cleaners;
-      small = small_without t.hands w c law.small within has;
-      few = law.few;
-    } in
-    lawful_moved law moves
+  pub within_hands : (w : ℕ) → IsLawful carried t → w < 48 → w < length t.hands
+  within_hands w law worker = omega (arith, law.workers, worker)
 
--- and brings it back
-pub bring_keeps : {carried : CtxId → ℕ} {t : ContextTable} (carried' : CtxId → ℕ) (w : ℕ) (c : CtxId) → IsLawful carried t → w < 48
-    → ((d : CtxId) → carried d ≡ carried' d + one (is_id d c)) → length (hand_of t.hands w) < 16 → IsLawful carried' (grabbed t w c)
-bring_keeps {carried} {t} carried' w c law worker fewer room =
-    let same : (d : CtxId) → count_in carried' (grabbed t w c) d ≡ count_in carried t d = λ d. omega (arith, count_grabbed carried' t w c (within_hands w law worker) d, fewer d) in
-    lawful_moved law (grabbed_moves carried' w c law worker (λ d none. same d ∙ none) (λ d none. sym (same d) ∙ none) room)
+  -- ---- references
 
--- a reference goes
-pub release_keeps : {carried : CtxId → ℕ} {t : ContextTable} (w : ℕ) (c : CtxId) → IsLawful carried t → w < 48 → holds (hand_of t.hands w) c ≡ true
-    → IsLawful carried (released carried t w c)
-release_keeps {carried} {t} w c law worker has =
-    let within = within_hands w law worker in
-    let counts = count_released carried t w c within has in
-    let moves : Moves carried t carried (released carried t w c) = record {
-      there = λ d. refl;
-      stays = λ d none. omega (arith, counts d, none);
-      settles = settled carried t carried (released carried t w c) (fresh_after (count_in carried t c) c) (due_after_fresh carried t c) refl (fresh_each carried t carried (released carried t w c) c counts);
-      once = law.once;
-      workers = length-set t.hands w (without c (hand_of t.hands w)) ∙ law.workers;
-      cleaners = law.cleaners;
-      small = small_without t.hands w c law.small within has;
-      few = law.few;
-    } in
-    lawful_moved law moves
+  -- one more reference to a context that has one
+  pub reference_keeps : (w : ℕ) (c : CtxId) → IsLawful carried t → w < 48 → 0 < count_in carried t c
+      → length (hand_of t.hands w) < 16 → IsLawful carried (grabbed t w c)
+  reference_keeps w c law worker live room =
+      let counts = count_grabbed carried t w c (within_hands w law worker) in
+      lawful_by law (law.once, law.few) (hand_more w c law room) refl (λ d was. grind (arith, nat_tests, counts d, is_id-same d c))
 
--- ---- links
+  -- a completion takes a reference along
+  pub carry_keeps : (carried' : CtxId → ℕ) (w : ℕ) (c : CtxId) → IsLawful carried t → w < 48 → holds (hand_of t.hands w) c ≡ true
+      → ((d : CtxId) → carried' d ≡ carried d + one (is_id d c)) → IsLawful carried' (handed_on t w c)
+  carry_keeps carried' w c law worker has more =
+      let within = within_hands w law worker in
+      lawful_by law (law.once, law.few) (hand_fewer w c law within has) refl (λ d was. grind (arith, nat_tests, held_without t.hands w c within has d, more d))
 
-pub few_changed : {carried : CtxId → ℕ} {t : ContextTable} (f : Option Context → Option Context) (c : CtxId) → IsLawful carried t → length (change_context f t.slots c) ≤ 65536
-few_changed {carried} {t} f c law = omega (arith, length-updated (changed_slot f c) t.slots c.slot, law.few)
+  -- and brings it back
+  pub bring_keeps : (carried' : CtxId → ℕ) (w : ℕ) (c : CtxId) → IsLawful carried t → w < 48
+      → ((d : CtxId) → carried d ≡ carried' d + one (is_id d c)) → length (hand_of t.hands w) < 16 → IsLawful carried' (grabbed t w c)
+  bring_keeps carried' w c law worker fewer room =
+      let more = held_push t.hands w c (within_hands w law worker) in
+      lawful_by law (law.once, law.few) (hand_more w c law room) refl (λ d was. grind (arith, nat_tests, more d, fewer d))
 
--- a change that makes no link
-weaker_links : (g : Context → Context) (c : CtxId) (owner : Owner) (object : Object) → ((x : Context) → links owner object (Some (g x)) ≡ true → links owner object (Some x) ≡ true)
-    → (s : Slot) → has_link owner object (changed_slot (option_map g) c s) ≡ true → has_link owner object s ≡ true
-weaker_links g c owner object weaker s is = split (eqb c.generation s.generation) is
-  where
-    at_option : (o : Option Context) → links owner object (option_map g o) ≡ true → links owner object o ≡ true
-    at_option None has = has
-    at_option (Some x) has = weaker x has
+  -- a reference goes
+  pub release_keeps : (w : ℕ) (c : CtxId) → IsLawful carried t → w < 48 → holds (hand_of t.hands w) c ≡ true
+      → IsLawful carried (released carried t w c)
+  release_keeps w c law worker has =
+      let within = within_hands w law worker in
+      let counts = count_released carried t w c within has in
+      lawful_by law (law.once, law.few) (hand_fewer w c law within has) refl
+      (λ d was. grind (arith, nat_tests, counts d, due_places carried t carried (released carried t w c) c counts d))
 
-    split : (b : Bool) → has_link owner object (cond b (record s { context = option_map g s.context }) s) ≡ true → has_link owner object s ≡ true
-    split true has = at_option s.context has
-    split false has = has
+  -- ---- links
 
-pub once_changed : {carried : CtxId → ℕ} {t : ContextTable} (g : Context → Context) (c : CtxId) → IsLawful carried t
-    → ((owner : Owner) (object : Object) (x : Context) → links owner object (Some (g x)) ≡ true → links owner object (Some x) ≡ true)
-    → (owner : Owner) (object : Object) → count_by (has_link owner object) (change_context (option_map g) t.slots c) ≤ 1
-once_changed {carried} {t} g c law weaker owner object =
-    let less = count_changed (has_link owner object) (option_map g) t.slots c (slice_get t.slots c.slot) refl (λ s there is. weaker_links g c owner object (weaker owner object) s is) in
-    omega (arith, less, law.once owner object)
+  -- a link goes, and with it a reference
+  pub unlink_keeps : (c : CtxId) → IsLawful carried t → is_some (link_at t.slots c) ≡ true
+      → IsLawful carried (unlinked carried t c)
+  unlink_keeps c law has =
+      let counts = count_unlinked carried t c has in
+      lawful_by law (slot_weaker (option_map (with_link None)) c law (λ owner object o. grind (arith, nat_tests))) (law.workers, law.small) refl
+      (λ d was. grind (arith, nat_tests, counts d, there_changed (with_link None) t.slots c d, due_places carried t carried (unlinked carried t c) c counts d))
 
--- a link goes, and with it a reference
-pub unlink_keeps : {carried : CtxId → ℕ} {t : ContextTable} (c : CtxId) → IsLawful carried t → is_some (link_at t.slots c) ≡ true
-    → IsLawful carried (unlinked carried t c)
-unlink_keeps {carried} {t} c law has =
-    let counts = count_unlinked carried t c has in
-    let moves : Moves carried t carried (unlinked carried t c) = record {
-      there = there_changed (with_link None) t.slots c;
-      stays = λ d none. omega (arith, counts d, none);
-      settles = settled carried t carried (unlinked carried t c) (fresh_after (count_in carried t c) c) (due_after_fresh carried t c) refl (fresh_each carried t carried (unlinked carried t c) c counts);
-      once = once_changed (with_link None) c law (λ owner object x has. absurd (true≢false (sym has)));
-      workers = law.workers;
-      cleaners = law.cleaners;
-      small = law.small;
-      few = few_changed (option_map (with_link None)) c law;
-    } in
-    lawful_moved law moves
+  -- a link goes, and its reference goes to a hand
+  pub unlink_into_keeps : (w : ℕ) (c : CtxId) → IsLawful carried t → w < 48 → is_some (link_at t.slots c) ≡ true
+      → length (hand_of t.hands w) < 16 → IsLawful carried (unlinked_into t w c)
+  unlink_into_keeps w c law worker has room =
+      let more = held_push t.hands w c (within_hands w law worker) in
+      lawful_by law (slot_weaker (option_map (with_link None)) c law (λ owner object o. grind (arith, nat_tests))) (hand_more w c law room) refl
+      (λ d was. grind (arith, nat_tests, links_unlinked t.slots c has d, more d, there_changed (with_link None) t.slots c d))
 
--- a link goes, and its reference goes to a hand
-pub unlink_into_keeps : {carried : CtxId → ℕ} {t : ContextTable} (w : ℕ) (c : CtxId) → IsLawful carried t → w < 48 → is_some (link_at t.slots c) ≡ true
-    → length (hand_of t.hands w) < 16 → IsLawful carried (unlinked_into t w c)
-unlink_into_keeps {carried} {t} w c law worker has room =
-    let same = count_unlinked_into carried t w c (within_hands w law worker) has in
-    let moves : Moves carried t carried (unlinked_into t w c) = record {
-      there = there_changed (with_link None) t.slots c;
-      stays = λ d none. same d ∙ none;
-      settles = λ d. still (places t.due t.cleaning d) (count_in carried t d) (count_in carried (unlinked_into t w c) d) (λ none. same d ∙ none) (λ none. sym (same d) ∙ none);
-      once = once_changed (with_link None) c law (λ owner object x has. absurd (true≢false (sym has)));
-      workers = length-set t.hands w (hand_of t.hands w ++ c ∷ []) ∙ law.workers;
-      cleaners = law.cleaners;
-      small = small_push t.hands w c law.small room;
-      few = few_changed (option_map (with_link None)) c law;
-    } in
-    lawful_moved law moves
+  -- a body is written
+  pub body_keeps : (c : CtxId) (bytes : List ℕ) → IsLawful carried t → IsLawful carried (rewritten t c bytes)
+  body_keeps c bytes law =
+      lawful_by law (slot_weaker (option_map (with_body bytes)) c law (λ owner object o. grind (arith, nat_tests))) (law.workers, law.small) refl
+      (λ d was. grind (arith, nat_tests, links_kept (with_body bytes) t.slots c (λ x. refl) d, there_changed (with_body bytes) t.slots c d))
 
--- a body is written
-pub body_keeps : {carried : CtxId → ℕ} {t : ContextTable} (c : CtxId) (bytes : List ℕ) → IsLawful carried t → IsLawful carried (rewritten t c bytes)
-body_keeps {carried} {t} c bytes law =
-    let same = count_rewritten carried t c bytes in
-    let moves : Moves carried t carried (rewritten t c bytes) = record {
-      there = there_changed (with_body bytes) t.slots c;
-      stays = λ d none. same d ∙ none;
-      settles = λ d. still (places t.due t.cleaning d) (count_in carried t d) (count_in carried (rewritten t c bytes) d) (λ none. same d ∙ none) (λ none. sym (same d) ∙ none);
-      once = once_changed (with_body bytes) c law (λ owner object x has. has);
-      workers = law.workers;
-      cleaners = law.cleaners;
-      small = law.small;
-      few = few_changed (option_map (with_body bytes)) c law;
-    } in
-    lawful_moved law moves
+  pub free_link : (c : CtxId) (object : Object) → IsLawful carried t → 0 < count_in carried t c → IsFree t c object → FreeLink t c object
+  free_link c object law live free = at_option (context_at t.slots c) refl free
+    where
+      at_option : (o : Option Context) → context_at t.slots c ≡ o
+          → IfSome o (λ (x : Context). (x.link ≡ None) × (count_by (has_link x.owner object) t.slots ≡ 0)) → FreeLink t c object
+      at_option None there free = absurd (omega (arith, live, law.alive c there))
+      at_option (Some x) there free = record { context = x; there = there; bare = free.0; none = free.1 }
 
--- the slot of a context that gets a link has no other new one
-unlike_links : (c : CtxId) (x : Context) (object : Object) (owner : Owner) (other : Object) (s : Slot) → context_in c s ≡ Some x
-    → links owner other (Some (with_link (Some object) x)) ≡ false
-    → has_link owner other (changed_slot (option_map (with_link (Some object))) c s) ≡ true → has_link owner other s ≡ true
-unlike_links c x object owner other s there unlike has = split (eqb c.generation s.generation) there has
-  where
-    split : (b : Bool) → cond b s.context None ≡ Some x → has_link owner other (cond b (record s { context = option_map (with_link (Some object)) s.context }) s) ≡ true
-        → has_link owner other s ≡ true
-    split true is linked_there =
-        let now_links : links owner other (Some (with_link (Some object) x)) ≡ true = sym (ap (λ o. links owner other (option_map (with_link (Some object)) o)) is) ∙ linked_there in
-        absurd (true≢false (sym now_links ∙ unlike))
-    split false is linked_there = linked_there
+  -- of the owner's contexts none was linked to the object
+  once_linked : (c : CtxId) (object : Object) → IsLawful carried t → (free : FreeLink t c object) → (owner : Owner) (other : Object)
+      → count_by (has_link owner other) (change_context (option_map (with_link (Some object))) t.slots c) ≤ 1
+  once_linked c object law free owner other =
+      let x = free.context in
+      elim (cases_Bool (links owner other (Some (with_link (Some object) x)))) [
+        | inl is ↦
+            let parts = and_parts (same_object other object) (same_owner owner x.owner) is in
+            let here : count_by (has_link owner other) t.slots ≡ 0 =
+            ap₂ (λ (o : Owner) (b : Object). count_by (has_link o b) t.slots) (same_owner-same owner x.owner parts.1) (same_object-same other object parts.0)
+            ∙ free.none in
+            omega (arith, here, count_changed_one (has_link owner other) (option_map (with_link (Some object))) t.slots c)
+        | inr unlike ↦
+            omega (
+              arith,
+              law.once owner other,
+              count_changed (has_link owner other) (option_map (with_link (Some object))) t.slots c
+                  (λ s slot has. grind (arith, nat_tests, slot_of_context t.slots c x s free.there slot)),
+            )
+      ]
 
--- a link is made: of the owner's contexts none was linked to the object
-once_linked : {carried : CtxId → ℕ} {t : ContextTable} (c : CtxId) (x : Context) (object : Object) → IsLawful carried t → context_at t.slots c ≡ Some x
-    → count_by (has_link x.owner object) t.slots ≡ 0 → (owner : Owner) (other : Object)
-    → count_by (has_link owner other) (change_context (option_map (with_link (Some object))) t.slots c) ≤ 1
-once_linked {carried} {t} c x object law there free owner other =
-    elim (cases_Bool (links owner other (Some (with_link (Some object) x)))) [
-      | inl is ↦
-          let parts = and_parts (same_object other object) (same_owner owner x.owner) is in
-          let here : count_by (has_link owner other) t.slots ≡ 0 =
-          ap₂ (λ (o : Owner) (b : Object). count_by (has_link o b) t.slots) (same_owner-same owner x.owner parts.1) (same_object-same other object parts.0) ∙ free in
-          omega (arith, here, count_changed_one (has_link owner other) (option_map (with_link (Some object))) t.slots c (slice_get t.slots c.slot) refl)
-      | inr unlike ↦
-          let less = count_changed (has_link owner other) (option_map (with_link (Some object))) t.slots c (slice_get t.slots c.slot) refl
-          (λ s slot has. unlike_links c x object owner other s (slot_of_context t.slots c x s there slot) unlike has) in
-          omega (arith, less, law.once owner other)
-    ]
-
-pub link_keeps : {carried : CtxId → ℕ} {t : ContextTable} (c : CtxId) (x : Context) (object : Object) → IsLawful carried t → 0 < count_in carried t c
-    → context_at t.slots c ≡ Some x → x.link ≡ None → count_by (has_link x.owner object) t.slots ≡ 0 → IsLawful carried (linked t c object)
-link_keeps {carried} {t} c x object law live there bare free =
-    let counts = count_linked carried t c x object there bare in
-    let stays : (d : CtxId) → count_in carried t d ≡ 0 → count_in carried (linked t c object) d ≡ 0 = λ d none. omega (arith, counts d, none, apart_from carried t c d live none) in
-    let moves : Moves carried t carried (linked t c object) = record {
-      there = there_changed (with_link (Some object)) t.slots c;
-      stays = stays;
-      settles = λ d. still (places t.due t.cleaning d) (count_in carried t d) (count_in carried (linked t c object) d) (stays d) (λ none. omega (arith, counts d, none));
-      once = once_linked c x object law there free;
-      workers = law.workers;
-      cleaners = law.cleaners;
-      small = law.small;
-      few = few_changed (option_map (with_link (Some object))) c law;
-    } in
-    lawful_moved law moves
+  -- a link is made
+  pub link_keeps : (c : CtxId) (object : Object) → IsLawful carried t → 0 < count_in carried t c → IsFree t c object → IsLawful carried (linked t c object)
+  link_keeps c object law live is_free =
+      let free = free_link c object law live is_free in
+      let g = with_link (Some object) in
+      lawful_by law (once_linked c object law free, few_changed (option_map g) c law) (law.workers, law.small) refl
+      (λ d was. grind (arith, nat_tests, count_linked carried t c free.context object free.there free.bare d, there_changed g t.slots c d, is_id-same d c))

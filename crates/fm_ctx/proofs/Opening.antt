@@ -1,9 +1,10 @@
 -- Where nothing was allocated yet.
-use Rattle.fm_ctx.proofs.Words.{ℕ, zero, suc, List, [], replicate, Option, None, count_by, refl, sym, arith, sum_by-cons, CtxId, one, references}
-use Rattle.fm_ctx.proofs.Words.{held, places, context_at, count_in, carried_of, IsLawful, row_at, stored, IsSound}
-use Rattle.std.proofs.Common.{◌≡◌, ◌∙◌, lit≤}
+use Rattle.fm_ctx.proofs.Words.{ℕ, List, [], replicate, Option, None, refl, sym, arith, CtxId, one, references}
+use Rattle.fm_ctx.proofs.Words.{held, places, context_at, count_in, carried_of, IsLawful, row_at, IsSound}
+use Rattle.std.proofs.Common.{◌≡◌, lit≤}
 use Rattle.std.proofs.lemmas.List.{length-replicate}
 use Rattle.std.proofs.lemmas.List.Elements.{All-replicate}
+use Rattle.std.proofs.lemmas.List.Folds.{sum_by-replicate}
 use Rattle.fm_ctx.specs.Bags.{cleans}
 use Rattle.fm_ctx.specs.Table.{empty_table}
 use Rattle.fm_ctx.specs.Kept.{nothing_kept}
@@ -17,23 +18,16 @@ none_carried : (c : CtxId) → carried_of nothing_kept c ≡ 0
 unfolding carried_of context_at
 none_carried c = refl
 
-none_held : (n : ℕ) (c : CtxId) → held (replicate n []) c ≡ 0
+none_held : (c : CtxId) → held (replicate 48 []) c ≡ 0
 unfolding held
-none_held zero c = refl
-none_held (suc n) c = omega (arith, sum_by-cons (λ (hand : List CtxId). references hand c) [] (replicate n []), references_none c, none_held n c)
-
-none_cleaned : (n : ℕ) (c : CtxId) → count_by (cleans c) (replicate n None) ≡ 0
-none_cleaned zero c = refl
-none_cleaned (suc n) c =
-    let by : Option CtxId → ℕ = λ o. one (cleans c o) in
-    omega (arith, sum_by-cons by None (replicate n None), none_cleaned n c)
+none_held c = omega (arith, sum_by-replicate (λ (hand : List CtxId). references hand c) 48 [], references_none c)
 
 none_placed : (c : CtxId) → places [] (replicate 48 None) c ≡ 0
 unfolding places
-none_placed c = omega (arith, references_none c, none_cleaned 48 c)
+none_placed c = let by : Option CtxId → ℕ = λ o. one (cleans c o) in omega (arith, references_none c, sum_by-replicate by 48 None)
 
 none_counted : (c : CtxId) → count_in (carried_of nothing_kept) empty_table c ≡ 0
-none_counted c = rw (none_there c, none_carried c) (omega (arith, none_held 48 c))
+none_counted c = rw (none_there c, none_carried c) (omega (arith, none_held c))
 
 pub lawful_empty : IsLawful (carried_of nothing_kept) empty_table
 lawful_empty = record {
@@ -46,14 +40,11 @@ lawful_empty = record {
   few = lit≤ tt;
 }
 
-none_stored : (c : CtxId) → stored [] c ≡ 0
-unfolding row_at
-none_stored c = refl
-
 pub sound_empty : (capacity : ℕ) → IsSound [] nothing_kept capacity
+unfolding row_at
 sound_empty capacity = record {
   lawful = lawful_empty;
-  counted = λ c. none_stored c ∙ sym (none_counted c);
+  counted = λ c. sym (none_counted c);
   bounded = λ c. rw (none_carried c) (lit≤ tt);
   room = omega arith;
 }

@@ -5,7 +5,7 @@ pub use Rattle.fm_ctx.specs.Births.{IsNew, kept_allocated, new_slot, placed}
 unfoldable pub use Rattle.fm_ctx.specs.Births.{is_out_of_slots}
 pub use Rattle.fm_ctx.specs.Bodies.{body_at, rewritten, with_body}
 pub use Rattle.fm_ctx.specs.Cleanup.{cleaned, emptied}
-pub use Rattle.fm_ctx.specs.Counting.{count_reply_of, was_given}
+pub use Rattle.fm_ctx.specs.Counting.{was_given}
 pub use Rattle.fm_ctx.specs.Kept.{ContextsKept, carried_fewer, carried_more}
 unfoldable pub use Rattle.fm_ctx.specs.Kept.{carried_of}
 pub use Rattle.fm_ctx.specs.Laws.{IsLawful, has_link, links}
@@ -34,6 +34,7 @@ pub use Rattle.std.proofs.Common.{All, Bool, IfSome, List, None, Option, Some, [
 pub use Rattle.std.proofs.Common.{get_or, inl, inr, is_none, is_some, le-ltb, length, length-append, length-set, lt-ltb, ltb, map, ne_eqb}
 pub use Rattle.std.proofs.Common.{option_and_then, option_map, position, refl, replicate, set, slice_get, subst, suc, sym, true, unwrap_or, zero, ℕ}
 pub use Rattle.std.proofs.lemmas.Bool.{and_parts, cases_Bool, cases_eq, cases_lt, cases_order, true≢false}
+pub use Rattle.std.proofs.lemmas.Bool.Decides.{nat_tests}
 pub use Rattle.std.proofs.lemmas.List.{get_or-set_same, get_or_default, length-map}
 pub use Rattle.std.proofs.lemmas.List.Sums.{get_or-le-sum_by, sum_by-cons}
 pub use Rattle.std.proofs.lemmas.Option.{get_or_from_slice_get, none-some, same_Some, slice_get-map, slice_get_past, slice_get_within}

@@ -54,7 +54,14 @@ allocated t w c x =
 abbrev pub kept_allocated : ContextsKept → ℕ → CtxId → Context → ContextsKept
 kept_allocated kept w c x = record { table = allocated kept.table w c x; carried = carried_none kept.carried c }
 
+-- the answer is the id of the context that a worker got
+abbrev pub Allocates : ContextsKept → ContextsKept → ℕ → ContextKind → Owner → VolumeId → List ℕ → CtxId → Type 0
+Allocates old new w kind owner volume body c = IsNew old.table.slots c × (new ≡ kept_allocated old w c (new_context kind owner volume body))
+
 -- a body of 4,096 bytes at most, and a slot for the context
 abbrev pub allocate_refusal : ContextTable → ℕ → List ℕ → Option Status
 allocate_refusal t w body =
     first_of ((nat_lt 4096 (length body) || is_out_of_slots t.slots, status.TooMany) ∷ (is_hand_full t.hands w, status.HandFull) ∷ [])
+
+abbrev pub allocate_refused : ContextsKept → ℕ → List ℕ → Option Status
+allocate_refused kept w body = allocate_refusal kept.table w body

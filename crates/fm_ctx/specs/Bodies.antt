@@ -1,5 +1,5 @@
 -- The bodies of contexts.
-use Rattle.std.specs.Prelude.{ℕ, ◌+◌, ◌%◌, ◌^◌, ◌==◌, not, nat_lt, List, [], ◌∷◌, ◌++◌, length, take, drop, Option, option_map, unwrap_or}
+use Rattle.std.specs.Prelude.{◌≡◌, ℕ, ◌+◌, ◌%◌, ◌^◌, ◌==◌, not, nat_lt, List, [], ◌∷◌, ◌++◌, length, take, drop, Option, option_map, unwrap_or}
 use Rattle.std.specs.Int.{w64, from_be_bytes, to_be_bytes}
 use Rattle.fm_types.specs.declared.ids.CtxId.{CtxId}
 use Rattle.fm_types.specs.declared.status.Status.{Status}
@@ -7,6 +7,7 @@ use Rattle.fm_types.specs.declared.status.Status.TheVariants as status
 use Rattle.fm_types.specs.Refusals.{first_of}
 use Rattle.fm_ctx.specs.Bags.{hand_of, holds}
 use Rattle.fm_ctx.specs.Table.{Context, Slot, ContextTable, context_at, change_context}
+use Rattle.fm_ctx.specs.Kept.{ContextsKept}
 
 -- the bytes of the context that an id names
 abbrev pub body_at : List Slot → CtxId → List ℕ
@@ -20,6 +21,9 @@ rewritten t c bytes = record t { slots = change_context (option_map (with_body b
 
 abbrev pub read_refusal : ContextTable → ℕ → CtxId → Option Status
 read_refusal t w c = first_of ((not (holds (hand_of t.hands w) c), status.NotHeld) ∷ [])
+
+abbrev pub kept_rewritten : ContextsKept → CtxId → List ℕ → ContextsKept
+kept_rewritten kept c bytes = record kept { table = rewritten kept.table c bytes }
 
 -- a body keeps its length
 abbrev pub write_refusal : ContextTable → ℕ → CtxId → List ℕ → Option Status
@@ -46,3 +50,7 @@ bump_refusal t w c place =
 
 abbrev pub bumped : ContextTable → CtxId → ℕ → ℕ → ContextTable
 bumped t c place by = rewritten t c (with_number place (raised place by (body_at t.slots c)) (body_at t.slots c))
+
+-- the answer is the sum that now stands there
+abbrev pub Bumps : ContextsKept → ContextsKept → CtxId → ℕ → ℕ → ℕ → Type 0
+Bumps old new c place by sum = (sum ≡ raised place by (body_at old.table.slots c)) × (new ≡ record old { table = bumped old.table c place by })

@@ -12,6 +12,7 @@ use Rattle.fm_ctx.specs.declared.set_reply.SetReply.{SetReply}
 use Rattle.fm_ctx.specs.declared.set_reply.SetReply.TheVariants.{Linked, AlreadyDefined, HandFull}
 use Rattle.fm_ctx.specs.Bags.{hand_of, is_hand_full}
 use Rattle.fm_ctx.specs.Table.{Context, Slot, ContextTable, context_at, change_context}
+use Rattle.fm_ctx.specs.Kept.{ContextsKept, carried_of}
 use Rattle.fm_ctx.specs.Laws.{has_link}
 use Rattle.fm_ctx.specs.References.{due_after, grabbed}
 
@@ -83,6 +84,10 @@ set_after carried t w c object mode wants None = linked t c object
 set_after carried t w c object mode wants (Some old) =
     cond (wants && is_hand_full t.hands w) t (set_mode_after carried t w c object mode wants old)
 
+abbrev pub kept_set : ContextsKept → ℕ → CtxId → Owner → Object → SetMode → Bool → ContextsKept
+kept_set kept w c owner object mode wants =
+    record kept { table = set_after (carried_of kept) kept.table w c object mode wants (holder kept.table.slots owner object) }
+
 -- what set requires of its context: nothing links it, and it is of that owner
 abbrev pub IsUnlinkedOf : Owner → Option Context → Type 0
 IsUnlinkedOf owner None = ⊥
@@ -93,6 +98,13 @@ IsUnlinkedOf owner (Some x) = (x.link ≡ None) × (x.owner ≡ owner)
 abbrev pub get_refusal : ContextTable → ℕ → Option CtxId → Option Status
 get_refusal t w there =
     first_of ((is_none there, status.NoContext) ∷ (is_hand_full t.hands w, status.HandFull) ∷ [])
+
+abbrev pub get_refused : ContextsKept → ℕ → Owner → Object → Option Status
+get_refused kept w owner object = get_refusal kept.table w (holder kept.table.slots owner object)
+
+-- the answer is the id of the context that is linked there; the hand gets a reference to it
+abbrev pub Gets : ContextsKept → ContextsKept → ℕ → Owner → Object → CtxId → Type 0
+Gets old new w owner object c = (holder old.table.slots owner object ≡ Some c) × (new ≡ record old { table = grabbed old.table w c })
 
 -- what delete answers and does, by the context that is linked there
 abbrev pub delete_reply : Bool → Option CtxId → Option CtxId
@@ -106,3 +118,11 @@ delete_after carried t w wants (Some old) = unlinked_for carried t w wants old
 abbrev pub delete_refusal : ContextTable → ℕ → Bool → Option CtxId → Option Status
 delete_refusal t w wants there =
     first_of ((is_none there, status.NoContext) ∷ (wants && is_hand_full t.hands w, status.HandFull) ∷ [])
+
+abbrev pub Deletes : ContextsKept → ContextsKept → ℕ → Owner → Object → Bool → Option CtxId → Type 0
+Deletes old new w owner object wants reply =
+    let there = holder old.table.slots owner object in
+    (reply ≡ delete_reply wants there) × (new ≡ record old { table = delete_after (carried_of old) old.table w wants there })
+
+abbrev pub delete_refused : ContextsKept → ℕ → Owner → Object → Bool → Option Status
+delete_refused kept w owner object wants = delete_refusal kept.table w wants (holder kept.table.slots owner object)

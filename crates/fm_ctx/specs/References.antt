@@ -6,6 +6,7 @@ use Rattle.fm_types.specs.declared.status.Status.TheVariants as status
 use Rattle.fm_types.specs.Refusals.{first_of}
 use Rattle.fm_ctx.specs.Bags.{hand_of, holds, without, is_hand_full}
 use Rattle.fm_ctx.specs.Table.{ContextTable, count_in}
+use Rattle.fm_ctx.specs.Kept.{ContextsKept, carried_of, carried_more, carried_fewer}
 
 abbrev pub with_hand : ContextTable → ℕ → List CtxId → ContextTable
 with_hand t w hand = record t { hands = slice_set t.hands w hand }
@@ -36,3 +37,18 @@ reference_refusal t w c =
 
 abbrev pub release_refusal : ContextTable → ℕ → CtxId → Option Status
 release_refusal t w c = first_of ((not (holds (hand_of t.hands w) c), status.NotHeld) ∷ [])
+
+-- ---- the same, with what completions carry
+
+abbrev pub kept_grabbed : ContextsKept → ℕ → CtxId → ContextsKept
+kept_grabbed kept w c = record kept { table = grabbed kept.table w c }
+
+abbrev pub kept_released : ContextsKept → ℕ → CtxId → ContextsKept
+kept_released kept w c = record kept { table = released (carried_of kept) kept.table w c }
+
+-- a completion takes a reference along, or brings one back
+abbrev pub kept_carried : ContextsKept → ℕ → CtxId → ContextsKept
+kept_carried kept w c = record { table = handed_on kept.table w c; carried = carried_more kept.carried c }
+
+abbrev pub kept_brought : ContextsKept → ℕ → CtxId → ContextsKept
+kept_brought kept w c = record { table = grabbed kept.table w c; carried = carried_fewer kept.carried c }

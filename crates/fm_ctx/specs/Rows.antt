@@ -1,7 +1,8 @@
 -- How contexts are kept: a row for each, in the order of allocation, with its reference count. Every generation is 0.
-use Rattle.std.specs.Prelude.{◌≡◌, ℕ, ◌+◌, ◌-◌, ◌^◌, ◌≤◌, ◌==◌, Bool, true, cond, nat_lt, List, length, map, count_by, Option, Some, None, option_and_then, slice_get}
+use Rattle.std.specs.Prelude.{◌≡◌, ℕ, ◌+◌, ◌-◌, ◌^◌, ◌≤◌, ◌==◌, Bool, true, cond, nat_lt, List, length, map, count_by, slice_index_or, Option, Some, None, option_and_then, slice_get}
 use Rattle.std.specs.Global.{Vec}
 use Rattle.fm_types.specs.declared.ids.CtxId.{CtxId}
+use Rattle.fm_types.specs.Lists.{updated}
 use Rattle.fm_ctx.specs.declared.object.Object.{Object}
 use Rattle.fm_ctx.specs.declared.row.Row.{Row}
 use Rattle.fm_ctx.specs.declared.seat.Seat.{Seat}
@@ -86,6 +87,11 @@ cleaned_row r = record r { is_cleaned = true }
 -- some vector that holds those bytes stands for the body
 abbrev pub row_with : Vec ℕ → Row → Row
 row_with bytes r = record r { body = bytes }
+
+-- the body of one row is made another one
+abbrev pub IsRewritten : List Row → List Row → ℕ → (List ℕ → List ℕ) → Type 0
+IsRewritten old new slot change =
+    (body : Vec ℕ) × ((d : Row) → body.items ≡ change (slice_index_or old slot d).body.items) × (new ≡ updated (row_with body) old slot)
 
 -- ---- what is kept
 

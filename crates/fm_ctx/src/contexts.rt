@@ -12,11 +12,11 @@ ghost use Rattle.fm_types.specs.Lists.{updated};
 ghost use Rattle.fm_types.specs.declared.ids.CtxId.{CtxId};
 ghost use Rattle.fm_ctx.specs.Bags.{holds, hand_of};
 ghost use Rattle.fm_ctx.specs.Table.{link_at, count_in};
-ghost use Rattle.fm_ctx.specs.Kept.{nothing_kept, carried_of, carried_more, carried_fewer};
+ghost use Rattle.fm_ctx.specs.Kept.{nothing_kept, carried_of};
 ghost use Rattle.fm_ctx.specs.Laws.{IsLawful};
-ghost use Rattle.fm_ctx.specs.References.{grabbed, handed_on, released, reference_refusal, release_refusal};
+ghost use Rattle.fm_ctx.specs.References.{kept_grabbed, kept_released, kept_carried, kept_brought, reference_refusal, release_refusal};
 ghost use Rattle.fm_ctx.specs.Links.{IsFree, linked, unlinked, unlinked_into};
-ghost use Rattle.fm_ctx.specs.Births.{IsNew, allocate_refusal, kept_allocated, new_context};
+ghost use Rattle.fm_ctx.specs.Births.{Allocates, allocate_refused};
 ghost use Rattle.fm_ctx.specs.Settling.{Leaves};
 ghost use Rattle.fm_ctx.specs.Rows.{lowered};
 ghost use Rattle.fm_ctx.specs.declared.row.Row.{Row as KeptRow};
@@ -125,7 +125,8 @@ impl Contexts {
         body: Bytes,
     ) -> Result<CtxId, Status>
         requires { worker.0 < 48 }
-        ensures { AnswersOrMemory (allocate_refusal self.old.table worker.0 body) result self.old self.new (λ (id : CtxId). IsNew self.old.table.slots id × (self.new ≡ kept_allocated self.old worker.0 id (new_context kind owner volume body))) }
+        ensures { AnswersOrMemory (allocate_refused self.old worker.0 body) result self.old self.new
+            (Allocates self.old self.new worker.0 kind owner volume body) }
     {
         if body.len() > MAX_BODY || self.is_out_of_slots() {
             return Err(Status::TooMany);
@@ -164,7 +165,7 @@ impl Contexts {
     /// with nothing changed, in this order: `NotHeld` (25), `HandFull` (26). It takes no memory.
     pub fn reference(&mut self, worker: WorkerId, id: CtxId) -> Result<(), Status>
         requires { worker.0 < 48 }
-        ensures { Answers (reference_refusal self.old.table worker.0 id) result self.old self.new (λ _. self.new ≡ record self.old { table = grabbed self.old.table worker.0 id }) }
+        ensures { Answers (reference_refusal self.old.table worker.0 id) result self.old self.new (λ _. self.new ≡ kept_grabbed self.old worker.0 id) }
     {
         if !self.holds(worker, id) {
             return Err(Status::NotHeld);
@@ -181,7 +182,7 @@ impl Contexts {
     /// with nothing changed: `NotHeld` (25). It takes no memory.
     pub fn release(&mut self, worker: WorkerId, id: CtxId) -> Result<(), Status>
         requires { worker.0 < 48 }
-        ensures { Answers (release_refusal self.old.table worker.0 id) result self.old self.new (λ _. self.new ≡ record self.old { table = released (carried_of self.old) self.old.table worker.0 id }) }
+        ensures { Answers (release_refusal self.old.table worker.0 id) result self.old self.new (λ _. self.new ≡ kept_released self.old worker.0 id) }
     {
         if !self.holds(worker, id) {
             return Err(Status::NotHeld);
@@ -196,7 +197,7 @@ impl Contexts {
         requires within { worker.0 < 48 }
         requires few { carried_of self.old id < 2 ^ 32 }
         ensures found { result ≡ holds (hand_of self.old.table.hands worker.0) id }
-        ensures after { self.new ≡ (if result then record { table = handed_on self.old.table worker.0 id; carried = carried_more self.old.carried id } else self.old) }
+        ensures after { self.new ≡ (if result then kept_carried self.old worker.0 id else self.old) }
     {
         if !self.holds(worker, id) {
             return false;
@@ -212,7 +213,7 @@ impl Contexts {
         requires within { worker.0 < 48 }
         requires carried { 0 < carried_of self.old id }
         requires room { length (hand_of self.old.table.hands worker.0) < 16 }
-        ensures { self.new ≡ record { table = grabbed self.old.table worker.0 id; carried = carried_fewer self.old.carried id } }
+        ensures { self.new ≡ kept_brought self.old worker.0 id }
     {
         row::bring(&mut self.rows, id.slot as usize);
         hand::put(&mut self.hands, worker, id);
@@ -220,6 +221,7 @@ impl Contexts {
 
     /// A callback of the worker returns: the references that are left in its hand are released, and
     /// counted as leaks. It takes no memory.
+    #[tactic(auto, using(crate::proofs::Bags::first_held))]
     pub fn leave(&mut self, worker: WorkerId)
         requires { worker.0 < 48 }
         ensures table { Leaves (carried_of self.old) self.old.table self.new.table worker.0 }
@@ -245,7 +247,7 @@ impl Contexts {
         requires within { worker.0 < 48 }
         requires live { 0 < count_in (carried_of self.old) self.old.table id }
         requires room { length (hand_of self.old.table.hands worker.0) < 16 }
-        ensures { self.new ≡ record self.old { table = grabbed self.old.table worker.0 id } }
+        ensures { self.new ≡ kept_grabbed self.old worker.0 id }
     {
         row::raise(&mut self.rows, id.slot as usize);
         hand::put(&mut self.hands, worker, id);
@@ -255,7 +257,7 @@ impl Contexts {
     fn let_go(&mut self, worker: WorkerId, id: CtxId)
         requires within { worker.0 < 48 }
         requires held { holds (hand_of self.old.table.hands worker.0) id ≡ true }
-        ensures { self.new ≡ record self.old { table = released (carried_of self.old) self.old.table worker.0 id } }
+        ensures { self.new ≡ kept_released self.old worker.0 id }
     {
         hand::take(&mut self.hands, worker, id);
         drop_reference(&mut self.rows, &mut self.due, id);

@@ -6,7 +6,7 @@ ghost use Rattle.fm_types.specs.Lists.{updated};
 ghost use Rattle.fm_ctx.specs.Counting.{is_open, was_given};
 ghost use Rattle.fm_ctx.specs.Sweep.{passes, link_test};
 ghost use Rattle.fm_ctx.specs.Bodies.{raised as raised_number, with_number};
-ghost use Rattle.fm_ctx.specs.Rows.{slot_of, slots_of, row_at, raised, lowered, carried_away, brought_back, linked_row, unlinked_row, cleaned_row, row_with};
+ghost use Rattle.fm_ctx.specs.Rows.{slot_of, slots_of, row_at, raised, lowered, carried_away, brought_back, linked_row, unlinked_row, cleaned_row, row_with, IsRewritten};
 ghost use Rattle.fm_ctx.specs.declared.row.Row.{Row as KeptRow};
 
 use crate::object::Object;
@@ -79,6 +79,7 @@ pub fn cleaned(rows: &[Row]) -> usize
 }
 
 /// Whether a context was given that id.
+#[tactic(auto, using(crate::proofs::Rows::given_rows))]
 pub fn was_given(rows: &[Row], id: CtxId) -> bool
     ensures { result ≡ was_given (slots_of rows.now) id }
 {
@@ -181,7 +182,7 @@ pub fn bump(rows: &mut Vec<Row>, slot: usize, place: usize, by: u64) -> u64
     requires room { slot < length rows.old.items }
     requires within { (d : KeptRow) → place + 8 ≤ length (slice_index_or rows.old.items slot d).body.items }
     ensures sum { (d : KeptRow) → result ≡ raised_number place by (slice_index_or rows.old.items slot d).body.items }
-    ensures rest { (body : Vec ℕ) × ((d : KeptRow) → body.items ≡ with_number place result (slice_index_or rows.old.items slot d).body.items) × (rows.new.items ≡ updated (row_with body) rows.old.items slot) }
+    ensures rest { IsRewritten rows.old.items rows.new.items slot (with_number place result) }
 {
     let row = &mut rows[slot];
     bump_number(&mut row.body, place, by)

@@ -3,7 +3,7 @@
 ghost use Rattle.std.specs.Prelude.{◌≡◌, ◌<◌, ◌≤◌, ◌+◌, true, is_some, nat_lt, length};
 ghost use Rattle.fm_types.specs.Refusals.{Answers, AnswersOrMemory};
 ghost use Rattle.fm_ctx.specs.Table.{context_at};
-ghost use Rattle.fm_ctx.specs.Bodies.{body_at, rewritten, bumped, raised, read_refusal, write_refusal, bump_refusal};
+ghost use Rattle.fm_ctx.specs.Bodies.{Bumps, body_at, bumped, bump_refusal, kept_rewritten, raised, read_refusal, write_refusal};
 
 use crate::contexts::Contexts;
 use crate::row;
@@ -37,7 +37,7 @@ impl Contexts {
     /// no memory.
     pub fn write_body(&mut self, worker: WorkerId, id: CtxId, bytes: &[u8]) -> Result<(), Status>
         requires { worker.0 < 48 }
-        ensures { Answers (write_refusal self.old.table worker.0 id bytes.now) result self.old self.new (λ _. self.new ≡ record self.old { table = rewritten self.old.table id bytes.now }) }
+        ensures { Answers (write_refusal self.old.table worker.0 id bytes.now) result self.old self.new (λ _. self.new ≡ kept_rewritten self.old id bytes.now) }
     {
         if !self.holds(worker, id) {
             return Err(Status::NotHeld);
@@ -55,7 +55,7 @@ impl Contexts {
     /// memory.
     pub fn bump(&mut self, worker: WorkerId, id: CtxId, place: u64, by: u64) -> Result<u64, Status>
         requires { worker.0 < 48 }
-        ensures { Answers (bump_refusal self.old.table worker.0 id place) result self.old self.new (λ sum. (sum ≡ raised place by (body_at self.old.table.slots id)) × (self.new ≡ record self.old { table = bumped self.old.table id place by })) }
+        ensures { Answers (bump_refusal self.old.table worker.0 id place) result self.old self.new (Bumps self.old self.new id place by) }
     {
         if !self.holds(worker, id) {
             return Err(Status::NotHeld);
@@ -76,7 +76,7 @@ impl Contexts {
     fn put_body(&mut self, id: CtxId, bytes: &[u8])
         requires there { is_some (context_at self.old.table.slots id) ≡ true }
         requires length { length bytes.now ≡ length (body_at self.old.table.slots id) }
-        ensures { self.new ≡ record self.old { table = rewritten self.old.table id bytes.now } }
+        ensures { self.new ≡ kept_rewritten self.old id bytes.now }
     {
         row::write_body(&mut self.rows, id.slot as usize, bytes);
     }

@@ -1,15 +1,14 @@
 //! Setting contexts on objects, finding them there, and taking them away.
 
-ghost use Rattle.std.specs.Prelude.{◌≡◌, ◌<◌, true, Some, is_some, length};
+ghost use Rattle.std.specs.Prelude.{◌≡◌, ◌<◌, true, IfSome, Some, is_some, length};
 ghost use Rattle.fm_types.specs.Refusals.{Answers};
 ghost use Rattle.fm_types.specs.declared.ids.CtxId.{CtxId};
 ghost use Rattle.fm_ctx.specs.Bags.{holds, hand_of};
-ghost use Rattle.fm_ctx.specs.Table.{context_at, link_at};
+ghost use Rattle.fm_ctx.specs.Table.{context_at, count_in, link_at};
 ghost use Rattle.fm_ctx.specs.Kept.{carried_of};
-ghost use Rattle.fm_ctx.specs.References.{grabbed};
-ghost use Rattle.fm_ctx.specs.Links.{holder, unlinked_for, kept_after, set_reply, set_after, get_refusal, delete_refusal, delete_reply, delete_after, IsUnlinkedOf};
+ghost use Rattle.fm_ctx.specs.Links.{id_at, holder, unlinked_for, kept_after, kept_set, set_reply, get_refused, delete_refused, Deletes, Gets, IsUnlinkedOf};
 ghost use Rattle.fm_ctx.specs.Settling.{Sweeps, is_linked_to, is_linked_of};
-ghost use Rattle.fm_ctx.specs.Sweep.{link_test, swept_at};
+ghost use Rattle.fm_ctx.specs.Sweep.{context_of_slot, link_test, passes, swept_at};
 
 use crate::contexts::Contexts;
 use crate::object::Object;
@@ -23,7 +22,9 @@ impl Contexts {
     // The owner's context that is set on the object. The search passes the contexts that are set on
     // the object, and few of other objects.
     fn find(&self, owner: Owner, object: Object) -> Option<CtxId>
-        ensures { result ≡ holder self.now.table.slots owner object }
+        ensures found { result ≡ holder self.now.table.slots owner object }
+        ensures linked { IfSome result (λ id. is_some (link_at self.now.table.slots id) ≡ true) }
+        ensures live { IfSome result (λ id. 0 < count_in (carried_of self.now) self.now.table id) }
     {
         let Some(slot) = self.seats.find(Seat { owner, object }) else {
             return None;
@@ -52,7 +53,7 @@ impl Contexts {
         requires held { holds (hand_of self.old.table.hands worker.0) id ≡ true }
         requires bare { IsUnlinkedOf owner (context_at self.old.table.slots id) }
         ensures reply { result ≡ set_reply self.old.table worker.0 mode wants_old (holder self.old.table.slots owner object) }
-        ensures after { self.new ≡ record self.old { table = set_after (carried_of self.old) self.old.table worker.0 id object mode wants_old (holder self.old.table.slots owner object) } }
+        ensures after { self.new ≡ kept_set self.old worker.0 id owner object mode wants_old }
     {
         self.laws();
         let Some(old) = self.find(owner, object) else {
@@ -107,7 +108,7 @@ impl Contexts {
     /// with nothing changed, in this order: `NoContext` (24), `HandFull` (26). It takes no memory.
     pub fn get(&mut self, worker: WorkerId, owner: Owner, object: Object) -> Result<CtxId, Status>
         requires { worker.0 < 48 }
-        ensures { Answers (get_refusal self.old.table worker.0 (holder self.old.table.slots owner object)) result self.old self.new (λ id. (holder self.old.table.slots owner object ≡ Some id) × (self.new ≡ record self.old { table = grabbed self.old.table worker.0 id })) }
+        ensures { Answers (get_refused self.old worker.0 owner object) result self.old self.new (Gets self.old self.new worker.0 owner object) }
     {
         let Some(id) = self.find(owner, object) else {
             return Err(Status::NoContext);
@@ -131,7 +132,8 @@ impl Contexts {
         wants_old: bool,
     ) -> Result<Option<CtxId>, Status>
         requires { worker.0 < 48 }
-        ensures { Answers (delete_refusal self.old.table worker.0 wants_old (holder self.old.table.slots owner object)) result self.old self.new (λ old. (old ≡ delete_reply wants_old (holder self.old.table.slots owner object)) × (self.new ≡ record self.old { table = delete_after (carried_of self.old) self.old.table worker.0 wants_old (holder self.old.table.slots owner object) })) }
+        ensures { Answers (delete_refused self.old worker.0 owner object wants_old) result self.old self.new
+            (Deletes self.old self.new worker.0 owner object wants_old) }
     {
         let Some(old) = self.find(owner, object) else {
             return Err(Status::NoContext);
@@ -169,23 +171,27 @@ impl Contexts {
         }
     }
 
-    // How many slots there are.
-    fn slots(&self) -> usize
-        ensures { result ≡ length self.now.table.slots }
-    {
-        self.rows.len()
-    }
-
     // The context of a slot loses its link, if it is among those.
+    #[tactic(auto, using(crate::proofs::Sweeping::passes_linked))]
     fn sweep_slot(&mut self, slot: usize, links: Links)
         requires { slot < length self.old.table.slots }
         ensures { self.new ≡ record self.old { table = swept_at (carried_of self.old) self.old.table (link_test links) slot } }
     {
-        if self.rows[slot].is_among(links) {
+        if self.is_among(slot, links) {
             self.unlink(CtxId {
                 slot: slot as u32,
                 generation: 0,
             });
         }
+    }
+
+    // Whether the context of a slot is among those. An id of the slot has the generation 0.
+    fn is_among(&self, slot: usize, links: Links) -> bool
+        requires { slot < length self.now.table.slots }
+        ensures passes { result ≡ passes (link_test links) (context_of_slot self.now.table.slots slot) }
+        ensures id { id_at self.now.table.slots slot ≡ record { slot = slot; generation = 0 } }
+        ensures small { slot < 65536 }
+    {
+        self.rows[slot].is_among(links)
     }
 }

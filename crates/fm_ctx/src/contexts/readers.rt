@@ -1,9 +1,11 @@
 //! What can be read of the contexts.
 
-ghost use Rattle.std.specs.Prelude.{cond, ◌≡◌, ◌<◌, true, is_some, length};
+ghost use Rattle.std.specs.Prelude.{cond, ◌≡◌, ◌<◌, true, is_some, length, option_copied, option_map, unwrap_or};
 ghost use Rattle.fm_ctx.specs.Bags.{holds, hand_of, is_hand_full, cleaning_of};
 ghost use Rattle.fm_ctx.specs.Births.{is_out_of_slots};
-ghost use Rattle.fm_ctx.specs.Table.{context_at, link_at, owner_at, kind_at};
+ghost use Rattle.fm_ctx.specs.Table.{context_at, count_in, link_at, owner_at, kind_at};
+ghost use Rattle.fm_ctx.specs.Rows.{context_of, count_of_row};
+ghost use Rattle.fm_ctx.specs.declared.row.Row.{Row as KeptRow};
 ghost use Rattle.fm_ctx.specs.Kept.{carried_of};
 ghost use Rattle.fm_ctx.specs.declared.count.Count.TheVariants as Count;
 ghost use Rattle.fm_ctx.specs.Counting.{count_reply, was_given, born, cleaned_count, open_of};
@@ -12,6 +14,7 @@ use crate::contexts::Contexts;
 use crate::count::Count;
 use crate::object::Object;
 use crate::owner::Owner;
+use crate::row::Row;
 use crate::{hand, row};
 use fm_types::{ContextKind, CtxId, WorkerId};
 
@@ -43,18 +46,35 @@ impl Contexts {
         self.hands[worker.0 as usize].is_full()
     }
 
+    // How many slots there are.
+    pub(super) fn slots(&self) -> usize
+        ensures { result ≡ length self.now.table.slots }
+    {
+        self.rows.len()
+    }
+
     // Whether a new context finds no slot: as none is used again, whether all are used.
+    #[tactic(auto, using(crate::proofs::Newborn::out_of_slots))]
     pub(super) fn is_out_of_slots(&self) -> bool
         ensures { result ≡ is_out_of_slots self.now.table.slots }
     {
-        self.rows.len() >= MAX_SLOTS
+        self.slots() >= MAX_SLOTS
+    }
+
+    // The row of the context that an id names, if it isn't cleaned.
+    fn row(&self, id: CtxId) -> Option<&Row>
+        ensures context { option_map context_of (option_copied result) ≡ context_at self.now.table.slots id }
+        ensures carried { unwrap_or (option_map (λ (r : KeptRow). r.carried) (option_copied result)) 0 ≡ carried_of self.now id }
+        ensures count { count_of_row (option_copied result) ≡ count_in (carried_of self.now) self.now.table id }
+    {
+        row::named(&self.rows, id)
     }
 
     /// What the context is set on, if it is and isn't cleaned.
     pub fn link_of(&self, id: CtxId) -> Option<Object>
         ensures { result ≡ link_at self.now.table.slots id }
     {
-        let Some(row) = row::named(&self.rows, id) else {
+        let Some(row) = self.row(id) else {
             return None;
         };
         row.link
@@ -64,7 +84,7 @@ impl Contexts {
     pub fn owner_of(&self, id: CtxId) -> Option<Owner>
         ensures { result ≡ owner_at self.now.table.slots id }
     {
-        let Some(row) = row::named(&self.rows, id) else {
+        let Some(row) = self.row(id) else {
             return None;
         };
         Some(row.owner)
@@ -74,7 +94,7 @@ impl Contexts {
     pub fn kind_of(&self, id: CtxId) -> Option<ContextKind>
         ensures { result ≡ kind_at self.now.table.slots id }
     {
-        let Some(row) = row::named(&self.rows, id) else {
+        let Some(row) = self.row(id) else {
             return None;
         };
         Some(row.kind)
@@ -84,7 +104,7 @@ impl Contexts {
     pub fn carried(&self, id: CtxId) -> u64
         ensures { result ≡ carried_of self.now id }
     {
-        let Some(row) = row::named(&self.rows, id) else {
+        let Some(row) = self.row(id) else {
             return 0;
         };
         row.carried
@@ -131,7 +151,7 @@ impl Contexts {
     pub fn count(&self, id: CtxId) -> Count
         ensures { result ≡ count_reply (carried_of self.now) self.now.table id }
     {
-        let Some(row) = row::named(&self.rows, id) else {
+        let Some(row) = self.row(id) else {
             return self.count_of_none(id);
         };
         if row.count > 0 {

@@ -1,53 +1,40 @@
-use Rattle.std.proofs.Common.{◌≡◌, ◌≤◌, ◌+◌, ◌∙◌}
-use Rattle.fm_ctx.proofs.Words.{List, ℕ, length, refl, sym, ap, ap₂, subst, arith, ContextsKept, body_at, with_body, slots_of, row_with}
-use Rattle.fm_ctx.specs.Bodies.{bumped, raised, with_number}
+use Rattle.std.proofs.Common.{◌∙◌}
+use Rattle.fm_ctx.proofs.Words.{length, refl, ap, ap₂, arith, ContextsKept, body_at, rewritten, row_with}
+use Rattle.fm_ctx.specs.Bodies.{raised, with_number}
 use Rattle.fm_ctx.proofs.Rows.{row_named, within_rows, body_row}
-use Rattle.fm_ctx.proofs.Sound.{sound_as, sound_rewritten}
-use Rattle.fm_ctx.proofs.Shown.{shown, slots_of_context, carried_kept, emptied_to}
+use Rattle.fm_ctx.proofs.Sound.{sound_now, sound_as, sound_rewritten}
+use Rattle.fm_ctx.proofs.Shown.{shown, slots_with, carried_kept}
 use Rattle.fm_ctx.proofs.Seated.{seats_kept}
 use Rattle.fm_ctx.proofs.contexts.Contexts.add_at.Goals as goal
 
-pub bump-requires-clause-room : goal.bump-requires-clause-room
-bump-requires-clause-room c =
-    let rows = c.self.inside.rows.items in
-    within_rows rows c.args.id (row_named rows c.args.id c.self.view_is c.requires.there)
-
-pub bump-requires-clause-within : goal.bump-requires-clause-within
-bump-requires-clause-within c d =
-    let rows = c.self.inside.rows.items in
-    let within = subst (λ (k : ContextsKept). c.args.place + 8 ≤ length (body_at k.table.slots c.args.id)) (sym c.self.view_is) c.requires.within in
-    omega (arith, within, ap length (body_row rows c.args.id (row_named rows c.args.id c.self.view_is c.requires.there) d))
-
-pub invariant_of-self : goal.invariant_of-self
-invariant_of-self c =
+pub bump-requires : goal.bump-requires
+bump-requires c =
     let rows = c.self.inside.rows.items in
     let i = row_named rows c.args.id c.self.view_is c.requires.there in
-    let made = c.bump.ensures.rest in
-    let old = body_row rows c.args.id i i.row in
-    let sum = c.bump.ensures.sum i.row ∙ ap (raised c.args.place c.args.by) old in
-    let is = made.1 i.row ∙ ap₂ (with_number c.args.place) sum old in
-    let bytes = with_number c.args.place (raised c.args.place c.args.by (body_at (slots_of rows) c.args.id)) (body_at (slots_of rows) c.args.id) in
-    record {
-      sound = sound_as made.2
-          (shown c.bump.new.rows.items c.self.inside.leaks (slots_of_context (row_with made.0) (with_body bytes) rows c.args.id i made.2 refl (ap (λ (b : List ℕ). emptied_to b i.row) is)) (carried_kept (row_with made.0) rows c.args.id.slot made.2 (λ r. refl)) refl refl refl)
-          (sound_rewritten (row_with made.0) c.args.id i bytes c.self.invariant.sound refl refl);
-      seated = seats_kept (row_with made.0) rows c.args.id.slot c.self.invariant.seated made.2 (λ r. refl);
-    }
+    record { room = within_rows i; within = λ d. omega (arith, c.requires.within, ap length (body_row i c.self.view_is d)) }
 
 pub returns-clause-sum : goal.returns-clause-sum
 returns-clause-sum c =
-    let rows = c.self.inside.rows.items in
-    let i = row_named rows c.args.id c.self.view_is c.requires.there in
-    c.bump.ensures.sum i.row ∙ ap (raised c.args.place c.args.by) (body_row rows c.args.id i i.row ∙ ap (λ (k : ContextsKept). body_at k.table.slots c.args.id) c.self.view_is)
+    let i = row_named c.self.inside.rows.items c.args.id c.self.view_is c.requires.there in
+    c.bump.ensures.sum i.row ∙ ap (raised c.args.place c.args.by) (body_row i c.self.view_is i.row)
 
 pub returns-clause-after : goal.returns-clause-after
 returns-clause-after c =
     let rows = c.self.inside.rows.items in
     let i = row_named rows c.args.id c.self.view_is c.requires.there in
     let made = c.bump.ensures.rest in
-    let old = body_row rows c.args.id i i.row in
-    let sum = c.bump.ensures.sum i.row ∙ ap (raised c.args.place c.args.by) old in
-    let is = made.1 i.row ∙ ap₂ (with_number c.args.place) sum old in
-    let bytes = with_number c.args.place (raised c.args.place c.args.by (body_at (slots_of rows) c.args.id)) (body_at (slots_of rows) c.args.id) in
-    shown c.bump.new.rows.items c.self.inside.leaks (slots_of_context (row_with made.0) (with_body bytes) rows c.args.id i made.2 refl (ap (λ (b : List ℕ). emptied_to b i.row) is)) (carried_kept (row_with made.0) rows c.args.id.slot made.2 (λ r. refl)) refl refl refl
-    ∙ ap (λ (k : ContextsKept). record k { table = bumped k.table c.args.id c.args.place c.args.by }) c.self.view_is
+    let body = body_at c.args.self.now.table.slots c.args.id in
+    let bytes = with_number c.args.place (raised c.args.place c.args.by body) body in
+    let is = made.1 i.row ∙ ap₂ (with_number c.args.place) (returns-clause-sum c) (body_row i c.self.view_is i.row) in
+    shown _ c.self.inside.leaks made.2 (slots_with i made.0 bytes is) (carried_kept i (row_with made.0) refl) refl refl refl
+    ∙ ap (λ (k : ContextsKept). record k { table = rewritten k.table c.args.id bytes }) c.self.view_is
+
+pub invariant_of-self : goal.invariant_of-self
+invariant_of-self c =
+    let rows = c.self.inside.rows.items in
+    let i = row_named rows c.args.id c.self.view_is c.requires.there in
+    let made = c.bump.ensures.rest in
+    record {
+      sound = sound_as made.2 (returns-clause-after c) (sound_rewritten (sound_now c.self.invariant c.self.view_is) (row_with made.0) i _ refl refl);
+      seated = seats_kept i c.self.invariant.seated (row_with made.0) made.2 refl;
+    }

@@ -10,4 +10,4 @@ returns-clause-there c is =
     let hand = c.index.ensures ∙ get_or_default hands c.args.worker.0 c.index.result.now [] within in
     let has = sym (ap (λ (ids : List CtxId). holds ids c.args.id) hand) ∙ sym c.holds.ensures ∙ is in
     subst (λ (k : ContextsKept). is_some (context_at k.table.slots c.args.id) ≡ true) c.self.view_is
-    (context_there c.args.id c.self.invariant.sound.lawful (live_held c.args.worker.0 c.args.id c.self.invariant.sound c.requires has))
+    (context_there c.args.id c.self.invariant.sound.lawful (live_held c.self.invariant.sound c.args.worker.0 c.args.id c.requires has))

@@ -1,6 +1,6 @@
-use Rattle.std.proofs.Common.{◌≡◌, List, [], Option, None, replicate, deque_capacity, sym, ap, ◌∙◌, arith}
+use Rattle.std.proofs.Common.{◌≡◌, List, [], Option, None, replicate, deque_capacity, refl, sym, ap, ◌∙◌, arith}
 use Rattle.fm_types.specs.declared.ids.CtxId.{CtxId}
-use Rattle.fm_ctx.specs.Rows.{slots_of, carried_in, seats_of}
+use Rattle.fm_ctx.specs.Rows.{seats_of}
 use Rattle.fm_ctx.proofs.Sound.{sound_as}
 use Rattle.fm_ctx.proofs.Shown.{shown}
 use Rattle.fm_ctx.proofs.Opening.{sound_empty}
@@ -13,7 +13,7 @@ invariant_of-result c =
     let cleaning = c.loop-worker.invariant.cleaning ∙ ap (λ n. replicate {A = Option CtxId} n None) all in
     record {
       sound = sound_as c.new-2.ensures.items
-          (shown c.new-2.result.items 0 (ap slots_of c.new-2.ensures.items) (ap carried_in c.new-2.ensures.items) hands c.new-4.ensures.items cleaning)
+          (shown [] 0 c.new-2.ensures.items refl refl hands c.new-4.ensures.items cleaning)
           (sound_empty (deque_capacity c.new-4.result));
       seated = c.in_ok-new-2.ensures ∙ sym (ap seats_of c.new-2.ensures.items);
     }

@@ -1,65 +1,53 @@
 use Rattle.std.proofs.Common.{◌≡◌, ◌∙◌}
-use Rattle.fm_ctx.proofs.Words.{ℕ, List, Some, None, slice_get, refl, sym, ap, subst, arith, CtxId, Row, cleaning_of, ContextsKept, emptied, row_with}
-use Rattle.fm_ctx.proofs.Words.{kept_in}
+use Rattle.fm_ctx.proofs.Words.{ℕ, [], List, Some, slice_get, refl, sym, ap, ap₂, arith, CtxId, Row, ContextsKept, kept_in, row_with}
 use Rattle.std.specs.Global.{Vec}
-use Rattle.fm_ctx.specs.Cleanup.{due_reply, taken_of, after_take_due}
-use Rattle.fm_ctx.proofs.Lives.{due_there}
-use Rattle.fm_ctx.proofs.Rows.{row_read, within_rows, row_of_context}
-use Rattle.fm_ctx.proofs.Sound.{sound_as, sound_fits, sound_taken}
-use Rattle.fm_ctx.proofs.Shown.{shown, slots_of_context, carried_kept, due_told, told_with, emptied_to, read_updated, within_updated}
+use Rattle.fm_ctx.specs.Cleanup.{taken_of, after_take_due}
+use Rattle.fm_ctx.proofs.Rows.{row_read, within_rows}
+use Rattle.fm_ctx.proofs.Sound.{sound_now, due_row, sound_as, sound_fits, sound_taken}
+use Rattle.fm_ctx.proofs.Shown.{shown, slots_with, carried_kept, due_told, read_updated, within_updated}
 use Rattle.fm_ctx.proofs.Seated.{seats_kept}
 use Rattle.fm_ctx.proofs.contexts.Contexts.take_due.Goals as goal
 
 pub take_body-body-requires : goal.take_body-body-requires
-take_body-body-requires c =
-    let id = c.in_ok-id.id in
-    let rows = c.self.inside.rows.items in
-    let first : slice_get c.self.inside.due.items 0 ≡ Some id = ap (λ (due : List CtxId). slice_get due 0) c.in_ok-id.ensures.items in
-    within_rows rows id (row_of_context rows id (due_there id c.self.invariant.sound.lawful first))
+take_body-body-requires c = within_rows (due_row c.in_ok-id.id c.self.invariant.sound c.in_ok-id.ensures.items)
 
 pub index-row-requires : goal.index-row-requires
 index-row-requires c =
     let id = c.in_ok-id.id in
     let rows = c.self.inside.rows.items in
-    let first : slice_get c.self.inside.due.items 0 ≡ Some id = ap (λ (due : List CtxId). slice_get due 0) c.in_ok-id.ensures.items in
-    let i = row_of_context rows id (due_there id c.self.invariant.sound.lawful first) in
-    omega (arith, within_updated (row_with c.new.result) rows id.slot c.take_body-body.ensures.rest (within_rows rows id i), c.take_body-body.new.rows.ok.0)
-
-pub invariant_of-self-2 : goal.invariant_of-self-2
-invariant_of-self-2 c =
-    let id = c.in_ok-id.id in
-    let rows = c.self.inside.rows.items in
-    let first : slice_get c.self.inside.due.items 0 ≡ Some id = ap (λ (due : List CtxId). slice_get due 0) c.in_ok-id.ensures.items in
-    let i = row_of_context rows id (due_there id c.self.invariant.sound.lawful first) in
-    let idle = subst (λ (k : ContextsKept). cleaning_of k.table.cleaning c.args.worker.0 ≡ None) (sym c.self.view_is) c.requires.idle in
-    let empties = ap (λ (bytes : List ℕ). emptied_to bytes i.row) c.new.ensures.items in
-    record {
-      sound = sound_fits c.in_ok-id.ensures.capacity (sound_as c.take_body-body.ensures.rest
-          (shown c.take_body-body.new.rows.items c.self.inside.leaks (slots_of_context (row_with c.new.result) emptied rows id i c.take_body-body.ensures.rest refl empties) (carried_kept (row_with c.new.result) rows id.slot c.take_body-body.ensures.rest (λ r. refl)) refl c.in_ok-id.ensures.rest refl)
-          (sound_taken (row_with c.new.result) c.args.worker.0 id i c.self.invariant.sound c.requires.within first idle refl refl));
-      seated = seats_kept (row_with c.new.result) rows id.slot c.self.invariant.seated c.take_body-body.ensures.rest (λ r. refl);
-    }
+    let i = due_row id c.self.invariant.sound c.in_ok-id.ensures.items in
+    omega (arith, within_updated i (row_with c.new.result) c.take_body-body.ensures.rest, c.take_body-body.new.rows.ok.0)
 
 pub returns-clause-reply : goal.returns-clause-reply
 returns-clause-reply c =
     let id = c.in_ok-id.id in
     let rows = c.self.inside.rows.items in
-    let first : slice_get c.self.inside.due.items 0 ≡ Some id = ap (λ (due : List CtxId). slice_get due 0) c.in_ok-id.ensures.items in
-    let i = row_of_context rows id (due_there id c.self.invariant.sound.lawful first) in
-    let kept = kept_in rows c.self.inside.hands.items c.self.inside.due.items c.self.inside.cleaning.items c.self.inside.leaks in
-    let row = read_updated (row_with c.new.result) rows id i c.index-row.result.now c.take_body-body.ensures.rest c.index-row.ensures in
-    let body = c.from_vec.ensures ∙ ap (λ (v : Vec ℕ). v.items) (c.take_body-body.ensures.body i.row) ∙ ap (λ (r : Row). r.body.items) (row_read rows id i i.row) in
-    told_with id (ap (λ (r : Row). r.kind) row) (ap (λ (r : Row). r.owner) row) body
-    ∙ sym (due_told rows kept.table id i refl first) ∙ ap (λ (k : ContextsKept). due_reply k.table) c.self.view_is
+    let i = due_row id c.self.invariant.sound c.in_ok-id.ensures.items in
+    let row = read_updated i (row_with c.new.result) c.index-row.result.now c.take_body-body.ensures.rest c.index-row.ensures in
+    let body = c.from_vec.ensures ∙ ap (λ (v : Vec ℕ). v.items) (c.take_body-body.ensures.body i.row) ∙ ap (λ (r : Row). r.body.items) (row_read i i.row) in
+    ap₂ (λ (r : Row) (bytes : List ℕ). Some (record { id = id; kind = r.kind; owner = r.owner; body = bytes })) row body ∙ due_told i c.in_ok-id.ensures.items c.self.view_is
 
 pub returns-clause-after : goal.returns-clause-after
 returns-clause-after c =
     let id = c.in_ok-id.id in
+    let inside = c.self.inside in
+    let i = due_row id c.self.invariant.sound c.in_ok-id.ensures.items in
+    let kept = kept_in inside.rows.items inside.hands.items inside.due.items inside.cleaning.items inside.leaks in
+    let first : slice_get inside.due.items 0 ≡ Some id = ap (λ (due : List CtxId). slice_get due 0) c.in_ok-id.ensures.items in
+    shown _ inside.leaks c.take_body-body.ensures.rest (slots_with i c.new.result [] c.new.ensures.items) (carried_kept i (row_with c.new.result) refl)
+    refl c.in_ok-id.ensures.rest refl
+    ∙ sym (ap (λ o. record kept { table = taken_of kept.table c.args.worker.0 o }) first) ∙ ap (λ (k : ContextsKept). record k { table = after_take_due k.table c.args.worker.0 }) c.self.view_is
+
+pub invariant_of-self-2 : goal.invariant_of-self-2
+invariant_of-self-2 c =
+    let id = c.in_ok-id.id in
     let rows = c.self.inside.rows.items in
-    let first : slice_get c.self.inside.due.items 0 ≡ Some id = ap (λ (due : List CtxId). slice_get due 0) c.in_ok-id.ensures.items in
-    let i = row_of_context rows id (due_there id c.self.invariant.sound.lawful first) in
-    let kept = kept_in rows c.self.inside.hands.items c.self.inside.due.items c.self.inside.cleaning.items c.self.inside.leaks in
-    let empties = ap (λ (bytes : List ℕ). emptied_to bytes i.row) c.new.ensures.items in
-    shown c.take_body-body.new.rows.items c.self.inside.leaks (slots_of_context (row_with c.new.result) emptied rows id i c.take_body-body.ensures.rest refl empties) (carried_kept (row_with c.new.result) rows id.slot c.take_body-body.ensures.rest (λ r. refl)) refl c.in_ok-id.ensures.rest refl
-    ∙ sym (ap (λ o. record kept { table = taken_of kept.table c.args.worker.0 o }) first)
-    ∙ ap (λ (k : ContextsKept). record k { table = after_take_due k.table c.args.worker.0 }) c.self.view_is
+    let s = sound_now c.self.invariant c.self.view_is in
+    let i = due_row id c.self.invariant.sound c.in_ok-id.ensures.items in
+    let first : slice_get c.args.self.now.table.due 0 ≡ Some id =
+    ap (λ (k : ContextsKept). slice_get k.table.due 0) (sym c.self.view_is) ∙ ap (λ (due : List CtxId). slice_get due 0) c.in_ok-id.ensures.items in
+    record {
+      sound = sound_fits c.in_ok-id.ensures.capacity (sound_as c.take_body-body.ensures.rest (returns-clause-after c)
+          (sound_taken s (row_with c.new.result) c.args.worker.0 i c.requires.within first c.requires.idle refl refl));
+      seated = seats_kept i c.self.invariant.seated (row_with c.new.result) c.take_body-body.ensures.rest refl;
+    }

@@ -1,30 +1,18 @@
 -- The events on filters, volumes and instances, from what their parts did.
-use Rattle.std.proofs.Common.{◌≡◌, ℕ, Bool, true, List, Option, Some, Result, Ok, Err, ap, sym, ◌∙◌, subst}
-use Rattle.std.proofs.lemmas.Option.{none-some, same_Some}
-use Rattle.fm_types.specs.declared.ids.FilterId.{FilterId}
-use Rattle.fm_types.specs.declared.ids.VolumeId.{VolumeId}
-use Rattle.fm_types.specs.declared.ids.InstanceId.{InstanceId}
-use Rattle.fm_types.specs.declared.ids.WorkerId.{WorkerId}
-use Rattle.fm_types.specs.declared.status.Status.{Status}
+use Rattle.fm_core.proofs.Words.{Bool, true, Option, Some, Result, Ok, Err, ap, sym, subst, none-some, same_Some, FilterId, VolumeId}
+use Rattle.fm_core.proofs.Words.{InstanceId, WorkerId, Status, Instance, StackWorld, Worker, World, carries, worker_at, put, is_idle}
+use Rattle.fm_core.proofs.Words.{Unless, FlowTable, ContextsKept, carried_of, Leaves, leaves_alike, sweeps_alike, carried_equal, IsTied}
+use Rattle.fm_core.proofs.Words.{setup_of}
+use Rattle.std.proofs.Common.{◌≡◌, ℕ, List, ◌∙◌}
 use Rattle.fm_types.specs.declared.status.Status.TheVariants as status
-use Rattle.fm_stack.specs.declared.instance.Instance.{Instance}
 use Rattle.fm_stack.specs.Instances.{is_setup}
-use Rattle.fm_stack.specs.StackWorld.{StackWorld}
 use Rattle.fm_stack.specs.Events as stack
-use Rattle.fm_world.specs.declared.worker.Worker.{Worker}
 use Rattle.fm_world.specs.declared.worker.Worker.TheVariants as place
-use Rattle.fm_world.specs.World.{World, carries}
-use Rattle.fm_world.specs.Workers.{worker_at, put, is_idle, after_attach}
-use Rattle.fm_world.specs.Events.{Attaches, SetsUp, SetsUpAt, EmptiesUnless, Unless}
-use Rattle.fm_flow.specs.Table.{FlowTable}
+use Rattle.fm_world.specs.Workers.{after_attach}
+use Rattle.fm_world.specs.Events.{Attaches, SetsUp, SetsUpAt, EmptiesUnless}
 use Rattle.fm_ctx.specs.declared.owner.Owner.TheVariants as owner
-use Rattle.fm_ctx.specs.Kept.{ContextsKept, carried_of}
-use Rattle.fm_ctx.specs.Settling.{Leaves, is_linked_of}
-use Rattle.fm_ctx.proofs.Alike.{leaves_alike, sweeps_alike}
-use Rattle.fm_ctx.proofs.Carried.{carried_equal}
-use Rattle.fm_core.specs.Fields.{IsTied}
+use Rattle.fm_ctx.specs.Settling.{is_linked_of}
 use Rattle.fm_core.specs.Hands.{SweepsUnless}
-use Rattle.fm_core.specs.Places.{setup_of}
 use Rattle.fm_core.proofs.Losing.{sweeping_tied}
 
 pub attaches : {old now : World} (k : WorkerId) (f : FilterId) (v : VolumeId) (name altitude : List ℕ) (result : Result InstanceId Status) (t : StackWorld)

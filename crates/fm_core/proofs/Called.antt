@@ -1,31 +1,21 @@
 -- The events of callbacks on contexts, from what the layer of contexts did.
-use Rattle.std.proofs.Common.{◌≡◌, ℕ, Bool, true, not, List, length, Option, Some, None, Result, Ok, Err, is_some, option_map, slice_get, refl, ap, sym, ◌∙◌, subst}
-use Rattle.std.proofs.lemmas.Option.{none-some, same_Some}
-use Rattle.fm_types.specs.declared.context_kind.ContextKind.{ContextKind}
+use Rattle.fm_core.proofs.Words.{Bool, true, not, length, Option, Some, None, Result, Ok, Err, is_some, refl, ap, sym, subst, none-some}
+use Rattle.fm_core.proofs.Words.{same_Some, ContextKind, CtxId, WorkerId, Status, Answers, AnswersOrMemory, IsRefusalOrMemory, FlowTable}
+use Rattle.fm_core.proofs.Words.{Owner, new_context, allocate_refusal, ContextsKept, carried_of, grabbed, Context, ContextTable, context_at}
+use Rattle.fm_core.proofs.Words.{there_changed, World, carries, row_at, object_by, Callback, callback_of, with_contexts, before, Caller}
+use Rattle.fm_core.proofs.Words.{caller_of, owner_for, has_kind_at, is_closing_at, IsTied}
+use Rattle.std.proofs.Common.{◌≡◌, ℕ, List, option_map, slice_get, ◌∙◌}
 use Rattle.fm_types.specs.declared.context_kind.ContextKind.TheVariants as kind
-use Rattle.fm_types.specs.declared.ids.CtxId.{CtxId}
-use Rattle.fm_types.specs.declared.ids.WorkerId.{WorkerId}
-use Rattle.fm_types.specs.declared.status.Status.{Status}
 use Rattle.fm_types.specs.declared.status.Status.TheVariants as status
-use Rattle.fm_types.specs.Refusals.{Answers, AnswersOrMemory, IsRefusalOrMemory}
-use Rattle.fm_flow.specs.Table.{FlowTable}
-use Rattle.fm_ctx.specs.declared.owner.Owner.{Owner}
-use Rattle.fm_ctx.specs.Births.{IsNew, new_context, allocated, kept_allocated, allocate_refusal}
+use Rattle.fm_ctx.specs.Births.{IsNew, allocated, kept_allocated}
 use Rattle.fm_ctx.specs.Bodies.{body_at, rewritten, with_body, write_refusal, bump_refusal, bumped, raised}
-use Rattle.fm_ctx.specs.Kept.{ContextsKept, carried_of}
-use Rattle.fm_ctx.specs.References.{grabbed, released, reference_refusal, release_refusal}
-use Rattle.fm_ctx.specs.Table.{Context, ContextTable, context_at}
+use Rattle.fm_ctx.specs.References.{released, reference_refusal, release_refusal}
 use Rattle.fm_ctx.proofs.Alike.{released_alike}
 use Rattle.fm_ctx.proofs.Carried.{carried_allocated}
-use Rattle.fm_ctx.proofs.Slots.{there_changed}
-use Rattle.fm_world.specs.World.{World, carries}
-use Rattle.fm_world.specs.Owners.{row_at, has_kind, owner_by, object_by}
-use Rattle.fm_world.specs.ContextEvents.{Callback, callback_of, InCallback, InCallbackOf, with_contexts, before, context_by, allocate_refused, Allocates, References, Releases, WritesBody, Bumps}
+use Rattle.fm_world.specs.Owners.{has_kind, owner_by}
+use Rattle.fm_world.specs.ContextEvents.{InCallback, InCallbackOf, context_by, allocate_refused, Allocates, References, Releases, WritesBody, Bumps}
 use Rattle.fm_world.proofs.Callbacks.{callback_parts}
-use Rattle.fm_core.specs.declared.caller.Caller.{Caller}
-use Rattle.fm_core.specs.Callers.{caller_of, owner_for, has_kind_at, is_closing_at}
 use Rattle.fm_core.specs.Callers as caller
-use Rattle.fm_core.specs.Fields.{IsTied}
 use Rattle.fm_core.proofs.Holding.{tied_table}
 
 -- ---- whose callback it is

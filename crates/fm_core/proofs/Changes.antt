@@ -1,8 +1,7 @@
 -- Changes of one operation of the table.
-use Rattle.std.proofs.Common.{◌≡◌, Bool, cond, List, [], ◌∷◌, Some, refl, ap, sym, ◌∙◌, subst, inl, inr}
+use Rattle.fm_core.proofs.Words.{Bool, Some, refl, ap, sym, subst, inl, inr, cases_Bool, FlowRecord}
+use Rattle.std.proofs.Common.{◌≡◌, cond, List, [], ◌∷◌, ◌∙◌}
 use Rattle.std.specs.Prelude.{find}
-use Rattle.std.proofs.lemmas.Bool.{cases_Bool}
-use Rattle.fm_flow.specs.Record.{FlowRecord}
 use Rattle.fm_flow.specs.Table.{change_first}
 
 -- two changes that agree on the operation that is found, and one that leaves it as it is

@@ -1,43 +1,26 @@
 -- Cleaning contexts up and ending an instance, from what their parts did.
-use Rattle.std.proofs.Common.{◌≡◌, ℕ, ◌<◌, ◌≤◌, true, false, cond, not, List, [], ◌∷◌, Option, Some, None, Result, Ok, is_some, option_map, nat_lt, slice_get, refl, ap, sym, ◌∙◌, subst, arith}
-use Rattle.std.specs.Option.{option_and_then}
-use Rattle.std.proofs.lemmas.Bool.{false≢true, le-ltb}
-use Rattle.std.proofs.lemmas.Option.{none-some, same_Some}
-use Rattle.fm_types.specs.declared.ids.CtxId.{CtxId}
-use Rattle.fm_types.specs.declared.ids.FilterId.{FilterId}
-use Rattle.fm_types.specs.declared.ids.InstanceId.{InstanceId}
-use Rattle.fm_types.specs.declared.ids.WorkerId.{WorkerId}
-use Rattle.fm_types.specs.declared.status.Status.{Status}
+use Rattle.fm_core.proofs.Words.{true, false, not, Option, Some, None, Result, Ok, is_some, refl, ap, sym, subst, arith, option_and_then}
+use Rattle.fm_core.proofs.Words.{false≢true, none-some, same_Some, CtxId, FilterId, InstanceId, WorkerId, Status, first_of, FlowTable}
+use Rattle.fm_core.proofs.Words.{carried, Instance, StackWorld, Owner, ContextsKept, carried_of, IsLawful, Context, ContextTable}
+use Rattle.fm_core.proofs.Words.{context_at, there_changed, Worker, World, worker_at, put, is_idle, cleanup_in, Unless, totalled_for}
+use Rattle.fm_core.proofs.Words.{row_at, refused_in, IsTied}
+use Rattle.std.proofs.Common.{◌≡◌, ℕ, ◌<◌, ◌≤◌, cond, List, [], ◌∷◌, option_map, nat_lt, slice_get, ◌∙◌}
+use Rattle.std.proofs.lemmas.Bool.{le-ltb}
 use Rattle.fm_types.specs.declared.status.Status.TheVariants as status
-use Rattle.fm_types.specs.Refusals.{first_of}
-use Rattle.fm_flow.specs.Table.{FlowTable, carried}
-use Rattle.fm_stack.specs.declared.instance.Instance.{Instance}
 use Rattle.fm_stack.specs.declared.instance.Phase.{Phase}
 use Rattle.fm_stack.specs.declared.instance.Phase.TheVariants as phase
 use Rattle.fm_stack.specs.Instances.{is_emptying, is_detached}
 use Rattle.fm_stack.specs.Events.{is_emptying_at, finished}
-use Rattle.fm_stack.specs.StackWorld.{StackWorld}
 use Rattle.fm_ctx.specs.declared.due.Due.{Due}
-use Rattle.fm_ctx.specs.declared.owner.Owner.{Owner}
 use Rattle.fm_ctx.specs.declared.owner.Owner.TheVariants as owner
 use Rattle.fm_ctx.specs.Bags.{cleaning_of}
 use Rattle.fm_ctx.specs.Cleanup.{due_of, due_reply, emptied, taken_of, after_take_due, cleaned}
 use Rattle.fm_ctx.specs.Counting.{open_of}
-use Rattle.fm_ctx.specs.Kept.{ContextsKept, carried_of}
-use Rattle.fm_ctx.specs.Laws.{IsLawful}
-use Rattle.fm_ctx.specs.Table.{Context, ContextTable, context_at}
 use Rattle.fm_ctx.proofs.Carried.{carried_cleaned}
 use Rattle.fm_ctx.proofs.Lives.{count_cleaning}
-use Rattle.fm_ctx.proofs.Slots.{there_changed}
-use Rattle.fm_world.specs.declared.worker.Worker.{Worker}
 use Rattle.fm_world.specs.declared.worker.Worker.TheVariants as place
-use Rattle.fm_world.specs.World.{World}
-use Rattle.fm_world.specs.Workers.{worker_at, put, is_idle, cleanup_in}
-use Rattle.fm_world.specs.Events.{Unless}
-use Rattle.fm_world.specs.ContextEvents.{TakesDue, after_due, Cleans, CleansAt, totalled_for, filter_of, Finishes, is_gone_at, finish_refused}
-use Rattle.fm_world.specs.Owners.{row_at}
-use Rattle.fm_core.specs.Callers.{filter_at, refused_in}
-use Rattle.fm_core.specs.Fields.{IsTied}
+use Rattle.fm_world.specs.ContextEvents.{TakesDue, after_due, Cleans, CleansAt, filter_of, Finishes, is_gone_at, finish_refused}
+use Rattle.fm_core.specs.Callers.{filter_at}
 use Rattle.fm_core.proofs.Called.{table_tied}
 
 -- ---- take_due

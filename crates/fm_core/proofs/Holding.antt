@@ -1,40 +1,31 @@
 -- What the layer of contexts keeps of references that completions carry stays what the operations' completions say.
-use Rattle.std.proofs.Common.{◌≡◌, ℕ, ◌+◌, ◌*◌, ◌<◌, ◌≤◌, ◌^◌, Bool, true, false, cond, not, List, [], ◌∷◌, length, Option, Some, None, Ok, is_some, slice_get, refl, ap, sym, ◌∙◌, subst, inl, inr, arith}
-use Rattle.std.specs.Prelude.{All, slice_index}
-use Rattle.std.specs.Option.{option_and_then}
-use Rattle.std.proofs.lemmas.Bool.{false≢true, cases_Bool}
-use Rattle.std.proofs.lemmas.Option.{slice_get_within}
-use Rattle.std.proofs.lemmas.List.Elements.{All-head, All-tail}
-use Rattle.fm_types.specs.declared.ids.CtxId.{CtxId}
-use Rattle.fm_types.specs.declared.ids.WorkerId.{WorkerId}
-use Rattle.fm_ctx.specs.Bags.{one, is_id, holds, hand_of}
-use Rattle.fm_ctx.specs.Kept.{ContextsKept, carried_of}
-use Rattle.fm_ctx.specs.Laws.{IsLawful}
-use Rattle.fm_ctx.specs.References.{grabbed, handed_on}
-use Rattle.fm_ctx.specs.Settling.{Leaves}
-use Rattle.fm_ctx.specs.Table.{Slot, ContextTable, context_at, context_in, count_in}
-use Rattle.fm_ctx.proofs.Alike.{leaves_alike}
+use Rattle.fm_core.proofs.Words.{Bool, true, false, not, length, Option, Some, None, Ok, is_some, refl, ap, sym, subst, inl, inr, arith}
+use Rattle.fm_core.proofs.Words.{All, option_and_then, false≢true, cases_Bool, slice_get_within, All-head, All-tail, CtxId, WorkerId, holds}
+use Rattle.fm_core.proofs.Words.{hand_of, ContextsKept, IsLawful, grabbed, Leaves, Slot, ContextTable, leaves_alike, carried_there}
+use Rattle.fm_core.proofs.Words.{carried_equal, FlowAction, carried_by, handed, FlowRecord, FlowTable, carried, empty_world, received, sent}
+use Rattle.fm_core.proofs.Words.{StackWorld, IsTied, IsState, back_in, MayBring, kept_brought, MaySend, kept_sent, Ends}
+use Rattle.std.proofs.Common.{◌≡◌, ℕ, ◌+◌, ◌*◌, ◌<◌, ◌≤◌, ◌^◌, cond, List, [], ◌∷◌, slice_get, ◌∙◌}
+use Rattle.std.specs.Prelude.{slice_index}
+use Rattle.fm_ctx.specs.Bags.{one, is_id}
+use Rattle.fm_ctx.specs.Kept.{carried_of}
+use Rattle.fm_ctx.specs.References.{handed_on}
+use Rattle.fm_ctx.specs.Table.{context_at, context_in, count_in}
 use Rattle.fm_ctx.proofs.Bags.{is_id-refl}
-use Rattle.fm_ctx.proofs.Carried.{carried_there, carried_one_more, carried_one_fewer, carried_equal}
+use Rattle.fm_ctx.proofs.Carried.{carried_one_more, carried_one_fewer}
 use Rattle.fm_ctx.proofs.Counts.{count_held}
 use Rattle.fm_ctx.proofs.Slots.{none_from}
-use Rattle.fm_flow.specs.declared.action.FlowAction.{FlowAction}
 use Rattle.fm_flow.specs.declared.action.FlowAction.TheVariants as action
 use Rattle.fm_flow.specs.declared.entry.Ask.{Ask}
-use Rattle.fm_flow.specs.Counts.{same_context, carried_in, carried_among, carried_by, handed}
+use Rattle.fm_flow.specs.Counts.{same_context, carried_in, carried_among}
 use Rattle.fm_flow.specs.Entries.{owed}
-use Rattle.fm_flow.specs.Record.{FlowRecord}
 use Rattle.fm_flow.specs.Sound as flow
-use Rattle.fm_flow.specs.Table.{FlowTable, IsFlow, carried, total, under_way}
-use Rattle.fm_world.specs.World.{empty_world}
-use Rattle.fm_world.specs.Events.{brought, received, sent}
-use Rattle.fm_world.proofs.Counts.{count-cons}
+use Rattle.fm_flow.specs.Table.{IsFlow, total, under_way}
+use Rattle.fm_world.specs.Events.{brought}
+use Rattle.fm_types.proofs.Firsts.{count-cons}
 use Rattle.fm_world.proofs.Flowing.{done_owes}
-use Rattle.fm_stack.specs.StackWorld.{StackWorld}
 use Rattle.fm_ctx.specs.Kept.{nothing_kept}
 use Rattle.fm_world.proofs.Runs.{empty_sound, nothing_carried}
-use Rattle.fm_core.specs.Fields.{IsTied, IsState, world_of}
-use Rattle.fm_core.specs.Hands.{back_in, MayBring, kept_brought, MaySend, kept_sent, Ends}
+use Rattle.fm_core.specs.Fields.{world_of}
 use Rattle.fm_core.specs.FilesKept.{FilesKept}
 use Rattle.fm_world.specs.Files.{empty_files}
 

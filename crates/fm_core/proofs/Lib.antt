@@ -1,3 +1,4 @@
+mod Words
 pub mod Paths
 pub mod Changes
 pub mod Attached

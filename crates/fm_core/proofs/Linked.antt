@@ -1,36 +1,22 @@
 -- Setting, getting and deleting contexts, from what the layer of contexts did.
-use Rattle.std.proofs.Common.{◌≡◌, ℕ, ◌&&◌, ◌||◌, Bool, true, false, cond, not, List, [], ◌∷◌, Option, Some, None, Result, Err, is_some, is_none, option_map, slice_get, refl, ap, sym, ◌∙◌, subst}
-use Rattle.std.specs.Option.{option_and_then}
-use Rattle.std.proofs.lemmas.Option.{none-some, same_Some}
-use Rattle.fm_types.specs.declared.context_kind.ContextKind.{ContextKind}
-use Rattle.fm_types.specs.declared.ids.CtxId.{CtxId}
-use Rattle.fm_types.specs.declared.ids.WorkerId.{WorkerId}
-use Rattle.fm_types.specs.declared.status.Status.{Status}
+use Rattle.fm_core.proofs.Words.{Bool, true, false, not, Option, Some, None, Result, Err, is_some, refl, ap, sym, subst, option_and_then}
+use Rattle.fm_core.proofs.Words.{none-some, same_Some, ContextKind, CtxId, WorkerId, Status, first_of, Answers, FlowTable, Object, Owner}
+use Rattle.fm_core.proofs.Words.{holds, hand_of, ContextsKept, carried_of, holder, with_link, grabbed, Context, Slot, ContextTable}
+use Rattle.fm_core.proofs.Words.{context_at, there_changed, World, carries, is_there, object_by, Callback, callback_of, with_contexts}
+use Rattle.fm_core.proofs.Words.{before, Caller, caller_of, owner_for, has_kind_at, is_closing_at, IsTied}
+use Rattle.std.proofs.Common.{◌≡◌, ℕ, ◌&&◌, ◌||◌, cond, List, [], ◌∷◌, is_none, option_map, slice_get, ◌∙◌}
 use Rattle.fm_types.specs.declared.status.Status.TheVariants as status
-use Rattle.fm_types.specs.Refusals.{first_of, Answers}
-use Rattle.fm_flow.specs.Table.{FlowTable}
-use Rattle.fm_ctx.specs.declared.object.Object.{Object}
-use Rattle.fm_ctx.specs.declared.owner.Owner.{Owner}
 use Rattle.fm_ctx.specs.declared.set_reply.SetMode.{SetMode}
 use Rattle.fm_ctx.specs.declared.set_reply.SetMode.TheVariants.{Keep, Replace}
 use Rattle.fm_ctx.specs.declared.set_reply.SetReply.{SetReply}
-use Rattle.fm_ctx.specs.Bags.{holds, hand_of, is_hand_full}
-use Rattle.fm_ctx.specs.Kept.{ContextsKept, carried_of}
-use Rattle.fm_ctx.specs.Links.{holder, set_reply, set_after, set_mode_after, unlinked_for, linked, with_link, get_refusal, delete_reply, delete_after, delete_refusal}
-use Rattle.fm_ctx.specs.References.{grabbed}
-use Rattle.fm_ctx.specs.Table.{Context, Slot, ContextTable, context_at, link_at}
+use Rattle.fm_ctx.specs.Bags.{is_hand_full}
+use Rattle.fm_ctx.specs.Links.{set_reply, set_after, set_mode_after, unlinked_for, linked, get_refusal, delete_reply, delete_after, delete_refusal}
+use Rattle.fm_ctx.specs.Table.{link_at}
 use Rattle.fm_ctx.proofs.Alike.{set_alike, delete_alike}
 use Rattle.fm_ctx.proofs.Sets.{unlinked_slots}
-use Rattle.fm_ctx.proofs.Slots.{there_changed}
 use Rattle.fm_world.specs.declared.set_answer.SetAnswer.{SetAnswer}
-use Rattle.fm_world.specs.World.{World, carries}
-use Rattle.fm_world.specs.Links.{is_there}
-use Rattle.fm_world.specs.Owners.{object_by}
-use Rattle.fm_world.specs.ContextEvents.{Callback, callback_of, with_contexts, before, object_for, set_refused, set_answer, SetsOn, SetsUnless, SetsIn, Sets, there_at, object_refused, Gets, Deletes}
-use Rattle.fm_core.specs.declared.caller.Caller.{Caller}
-use Rattle.fm_core.specs.Callers.{caller_of, owner_for, has_kind_at, is_closing_at}
+use Rattle.fm_world.specs.ContextEvents.{object_for, set_refused, set_answer, SetsOn, SetsUnless, SetsIn, Sets, there_at, object_refused, Gets, Deletes}
 use Rattle.fm_core.specs.Callers as caller
-use Rattle.fm_core.specs.Fields.{IsTied}
 use Rattle.fm_core.specs.Setting.{is_past_at, object_of, set_refusal, find_refusal, IsSettable, IsFound}
 use Rattle.fm_core.proofs.Called.{called_in, owner_same, object_same, callback_row, in_callback, answers_up, answers_tied, table_tied}
 

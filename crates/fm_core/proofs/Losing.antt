@@ -1,41 +1,29 @@
 -- Links that go with what they name: what the code unlinks is all that is gone.
-use Rattle.std.proofs.Common.{◌≡◌, ℕ, Bool, true, false, cond, not, List, [], ◌∷◌, map, find, Option, Some, None, is_some, option_map, eqb-true, refl, ap, ap₂, sym, ◌∙◌, subst, inl, inr}
-use Rattle.std.specs.Prelude.{All, ◌==◌, ◌&&◌, ◌||◌}
-use Rattle.std.proofs.lemmas.Bool.{false≢true, true≢false, cases_Bool}
-use Rattle.std.proofs.lemmas.List.Elements.{All-nil, All-cons, All-head, All-tail, All-weaker}
+use Rattle.fm_core.proofs.Words.{Bool, true, false, not, Option, Some, None, is_some, refl, ap, sym, subst, inl, inr, All, false≢true}
+use Rattle.fm_core.proofs.Words.{cases_Bool, All-head, All-tail, CtxId, HandleId, StreamId, Operation, Status, PreState, is_success}
+use Rattle.fm_core.proofs.Words.{FlowTable, Object, ContextsKept, carried_of, with_link, Context, Slot, ContextTable, context_at}
+use Rattle.fm_core.proofs.Words.{sweeps_alike, carried_there, FileTable, is_stream, is_handle, with_mark, after_pre, is_there, is_on_gone}
+use Rattle.fm_core.proofs.Words.{LosesLinks, World, carries, is_created_on, IsTied, Sweeping, handle_lost, stream_lost, is_named, is_lost}
+use Rattle.fm_core.proofs.Words.{is_lost_of, IsSound, answered, decided, Target}
+use Rattle.std.proofs.Common.{◌≡◌, ℕ, cond, List, [], ◌∷◌, map, find, option_map, eqb-true, ap₂, ◌∙◌}
+use Rattle.std.specs.Prelude.{◌==◌, ◌&&◌, ◌||◌}
+use Rattle.std.proofs.lemmas.Bool.{true≢false}
+use Rattle.std.proofs.lemmas.List.Elements.{All-nil, All-cons, All-weaker}
 use Rattle.fm_types.specs.Lists.{without_first}
-use Rattle.fm_types.specs.declared.ids.CtxId.{CtxId}
-use Rattle.fm_types.specs.declared.ids.HandleId.{HandleId}
-use Rattle.fm_types.specs.declared.ids.StreamId.{StreamId}
-use Rattle.fm_types.specs.declared.operation.Operation.{Operation}
 use Rattle.fm_types.specs.declared.operation.Operation.TheVariants as kind
-use Rattle.fm_types.specs.declared.status.Status.{Status}
-use Rattle.fm_flow.specs.declared.entry.PreState.{PreState}
 use Rattle.fm_flow.specs.declared.entry.PreState.TheVariants as state
-use Rattle.fm_flow.specs.Answered.{is_success}
-use Rattle.fm_flow.specs.Table.{FlowTable}
-use Rattle.fm_ctx.specs.declared.object.Object.{Object}
 use Rattle.fm_ctx.specs.declared.object.Object.TheVariants as object
-use Rattle.fm_ctx.specs.Kept.{ContextsKept, carried_of}
-use Rattle.fm_ctx.specs.Links.{with_link}
 use Rattle.fm_ctx.specs.Objects.{is_to}
 use Rattle.fm_ctx.specs.Settling.{Sweeps, swept, swept_slot}
-use Rattle.fm_ctx.specs.Table.{Context, Slot, ContextTable, context_at}
-use Rattle.fm_ctx.proofs.Alike.{settles_alike, sweeps_alike}
-use Rattle.fm_ctx.proofs.Carried.{carried_there, carried_numbers}
+use Rattle.fm_ctx.proofs.Alike.{settles_alike}
+use Rattle.fm_ctx.proofs.Carried.{carried_numbers}
 use Rattle.fm_ctx.proofs.Objects.{same_object-same}
 use Rattle.fm_ctx.proofs.Leaving.{settles_none, settles_both, context_at-swept}
-use Rattle.fm_world.specs.Files.{FileTable, is_stream, is_handle, with_mark, marked, fresh_handle, opened, closed, torn_down, left, has_handle_on, after_base, after_pre}
-use Rattle.fm_world.specs.Links.{is_there, names_there, is_on_gone, LosesLinks}
-use Rattle.fm_world.specs.World.{World, carries}
-use Rattle.fm_world.specs.Events.{is_created_on}
-use Rattle.fm_world.proofs.Fitting.{AllPass}
+use Rattle.fm_world.specs.Files.{marked, fresh_handle, opened, closed, torn_down, left, has_handle_on, after_base}
+use Rattle.fm_world.specs.Links.{names_there}
+use Rattle.fm_world.proofs.Belonging.{AllPass}
 use Rattle.fm_world.proofs.Losing.{found_before, found_changed}
-use Rattle.fm_core.specs.Fields.{IsTied}
-use Rattle.fm_core.specs.Lost.{Sweeping, handle_lost, stream_lost, handle_lost_by, stream_lost_by, is_named, is_lost, is_lost_of, GoneAlone}
-use Rattle.fm_world.specs.Sound.{IsSound}
-use Rattle.fm_core.specs.Targets.{answered, decided}
-use Rattle.fm_core.specs.declared.target.Target.{Target}
+use Rattle.fm_core.specs.Lost.{handle_lost_by, stream_lost_by, GoneAlone}
 
 -- ---- sweeps
 

@@ -1,87 +1,61 @@
 -- The events on operations, from what their parts did.
-use Rattle.std.proofs.Common.{◌≡◌, ℕ, zero, suc, ◌+◌, ◌<◌, ◌==◌, ◌&&◌, arith, Bool, true, false, cond, List, [], ◌∷◌, Option, Some, None, Result, Ok, Err, refl, ap, sym, ◌∙◌, subst, inl, inr, nat_eq, length, ◌^◌}
-use Rattle.std.specs.Prelude.{option_map, unwrap_or, slice_get, is_ok, ◌||◌}
-use Rattle.std.proofs.lemmas.Bool.{eq-eqb, and_from, and_parts}
-use Rattle.std.proofs.lemmas.Option.{none-some, same_Some, slice_get_within}
-use Rattle.fm_types.specs.declared.ids.InstanceId.{InstanceId}
+use Rattle.fm_core.proofs.Words.{arith, Bool, true, false, Option, Some, None, Result, Ok, Err, refl, ap, sym, subst, inl, inr, length}
+use Rattle.fm_core.proofs.Words.{is_ok, and_parts, none-some, same_Some, slice_get_within, InstanceId, VolumeId, WorkerId, CtxId, Status}
+use Rattle.fm_core.proofs.Words.{BaseCall, Answer, Data, data_fits, first_of, AnswersOrMemory, IsRefusalOrMemory, FlowAction, PreState}
+use Rattle.fm_core.proofs.Words.{PreRunning, InBase, PostRunning, InDrain, FlowRecord, pre_returned_of, base_after, base_fits}
+use Rattle.fm_core.proofs.Words.{post_returned_of, drain_returned_of, Operation, FlowTable, operation_at, changed, is_full, carried, Worker}
+use Rattle.fm_core.proofs.Words.{World, carries, worker_at, put, is_idle, LosesLinks, base_step, Unless, received, sent, state_at}
+use Rattle.fm_core.proofs.Words.{is_created_on, volume_refusals, has_no_handle_left, moved_on, asked_refused, IsSound, idle_there, hand_of}
+use Rattle.fm_core.proofs.Words.{holds, ContextsKept, Leaves, ContextTable, IsLawful, leaves_alike, carried_by, handed, IsTied, IsState}
+use Rattle.fm_core.proofs.Words.{back_in, MayBring, MaySend, kept_brought, kept_sent, Ends, Sweeping, is_lost_of, pre_of, base_of, post_of}
+use Rattle.fm_core.proofs.Words.{drain_of, HandleId, StreamId, operation_of, is_success, FileHandle, FileStream, Begin, FileTable}
+use Rattle.fm_core.proofs.Words.{stream_for, created, after_pre, phase_refusal, answered, decided, Target, IsAsked}
+use Rattle.std.proofs.Common.{◌≡◌, ℕ, zero, suc, ◌+◌, ◌<◌, ◌==◌, ◌&&◌, cond, List, [], ◌∷◌, ◌∙◌, nat_eq, ◌^◌}
+use Rattle.std.specs.Prelude.{option_map, unwrap_or, slice_get, ◌||◌}
+use Rattle.std.proofs.lemmas.Bool.{eq-eqb, and_from}
 use Rattle.fm_types.specs.declared.ids.OpId.{OpId}
-use Rattle.fm_types.specs.declared.ids.VolumeId.{VolumeId}
-use Rattle.fm_types.specs.declared.ids.WorkerId.{WorkerId}
-use Rattle.fm_types.specs.declared.ids.CtxId.{CtxId}
-use Rattle.fm_types.specs.declared.status.Status.{Status}
 use Rattle.fm_types.specs.declared.status.Status.TheVariants as status
-use Rattle.fm_data.specs.declared.base_call.BaseCall.{BaseCall}
 use Rattle.fm_data.specs.declared.params.Params.{Params}
 use Rattle.fm_data.specs.declared.params.Params.TheVariants as params
-use Rattle.fm_data.specs.declared.answer.Answer.{Answer}
 use Rattle.fm_data.specs.declared.verdict.PreVerdict.{PreVerdict}
 use Rattle.fm_data.specs.declared.verdict.PostVerdict.{PostVerdict}
-use Rattle.fm_data.specs.Data.{Data, data_fits}
-use Rattle.fm_types.specs.Refusals.{first_of, AnswersOrMemory, IsRefusalOrMemory}
 use Rattle.fm_stack.specs.declared.volume.Volume.{Volume}
 use Rattle.fm_flow.specs.declared.action.Below.{Below}
 use Rattle.fm_flow.specs.declared.action.Below.TheVariants as below
-use Rattle.fm_flow.specs.declared.action.FlowAction.{FlowAction}
 use Rattle.fm_flow.specs.declared.action.FlowAction.TheVariants as action
-use Rattle.fm_flow.specs.declared.entry.PreState.{PreState}
 use Rattle.fm_flow.specs.declared.entry.PreState.TheVariants as pre
 use Rattle.fm_flow.specs.declared.stage.Stage.{Stage}
-use Rattle.fm_flow.specs.declared.stage.Stage.TheVariants.{PreRunning, InBase, PostRunning, InDrain}
 use Rattle.fm_flow.specs.declared.entry.Entry.{Entry}
-use Rattle.fm_flow.specs.Record.{FlowRecord}
-use Rattle.fm_flow.specs.Steps.{next_of, pre_returned_of, base_returned_of, base_after, base_fits, post_returned_of, drain_returned_of, MayLieBelow}
+use Rattle.fm_flow.specs.Steps.{next_of, base_returned_of, MayLieBelow}
 use Rattle.fm_flow.specs.Verdict.{verdict_counted}
-use Rattle.fm_types.specs.declared.operation.Operation.{Operation}
-use Rattle.fm_flow.specs.Table.{FlowTable, operation_at, changed, told, is_number, StandsAt, MayLieBelowOf, is_full, begun, begun_record, carried, collect_reply, collected_of}
+use Rattle.fm_flow.specs.Table.{told, is_number, StandsAt, MayLieBelowOf, begun, begun_record, collect_reply, collected_of}
 use Rattle.fm_world.specs.declared.step.Begin.TheVariants as begin
-use Rattle.fm_world.specs.declared.worker.Worker.{Worker}
 use Rattle.fm_world.specs.declared.worker.Worker.TheVariants as place
-use Rattle.fm_world.specs.World.{World, carries}
-use Rattle.fm_world.specs.Workers.{worker_at, put, is_idle, after_next}
-use Rattle.fm_world.specs.Links.{LosesLinks}
-use Rattle.fm_world.specs.Events.{LosesByKnown, flow_after_next, drains_next, pre_step, base_step, Begins, Nexts, NextsAt, FindsBelow, PreReturnsOver, base_returned, Unless, PreReturns, PreReturnsAt, BaseReturns, BaseReturnsAt, PostReturns, PostReturnsAt, Collects, drains_at, received, ReturnsFrom, sent, sent_in, of_hand, carries_after, state_at, state_given, has_post, returned, filed_record, filed_next, filed_base, filed_pre, is_created_on, volume_refusals, has_no_handle_left, moved_on, begin_refused, asked_refused, asked_begun, refused_at, refused_on, begun_at, begun_on, or_else}
+use Rattle.fm_world.specs.Workers.{after_next}
+use Rattle.fm_world.specs.Events.{LosesByKnown, flow_after_next, drains_next, pre_step, Begins, Nexts, NextsAt, FindsBelow, PreReturnsOver, base_returned, PreReturns, PreReturnsAt, BaseReturns, BaseReturnsAt, PostReturns, PostReturnsAt, Collects, drains_at, ReturnsFrom, sent_in, of_hand, carries_after, state_given, has_post, returned, filed_record, filed_next, filed_base, filed_pre, begin_refused, asked_begun, refused_at, refused_on, begun_at, begun_on, or_else}
 use Rattle.fm_world.specs.Headline.{Spot, AtPre, AtBase, AtPost, AtDrain, is_in_at, is_spot, spot_at}
-use Rattle.fm_world.specs.Sound.{IsSound, IsAmong}
+use Rattle.fm_world.specs.Sound.{IsAmong}
 use Rattle.fm_types.proofs.Firsts.{found_holds}
 use Rattle.fm_core.proofs.Changes.{change_agrees, change_same}
 use Rattle.fm_world.proofs.Ties.{tied_there, spot_pre, spot_base, spot_post, spot_drain}
-use Rattle.fm_world.proofs.Keeps.{idle_there}
 use Rattle.fm_world.proofs.Operations.{may_visit, told_there, unchanged_flow, full_from, none_else, asked_within}
-use Rattle.fm_ctx.specs.Bags.{hand_of, holds}
-use Rattle.fm_ctx.specs.Kept.{ContextsKept}
-use Rattle.fm_ctx.specs.Settling.{Leaves}
-use Rattle.fm_ctx.specs.Table.{ContextTable}
-use Rattle.fm_ctx.specs.Laws.{IsLawful}
 use Rattle.fm_ctx.proofs.Moves.{within_hands}
-use Rattle.fm_ctx.proofs.Alike.{leaves_alike}
 use Rattle.fm_world.proofs.Flowing.{total_push, next_balance, collect_balance, pre_balance, post_balance, drain_balance, sent_is_held, asked_sound}
 use Rattle.fm_world.proofs.Owning.{empty_hand}
 use Rattle.fm_flow.proofs.Balances.{base_returned_carries, total_changed}
-use Rattle.fm_flow.specs.Counts.{carried_by, handed}
 use Rattle.fm_core.proofs.Holding.{ends_leaves, tied_ends, next_table, brought_slots, sent_slots, may_bring, tied_brought, handed_balance, may_send, tied_sent}
-use Rattle.fm_core.specs.Fields.{IsTied, IsState}
-use Rattle.fm_core.specs.Hands.{back_in, MayBring, MaySend, kept_brought, kept_sent, Ends}
-use Rattle.fm_core.specs.Lost.{Sweeping, is_lost_of}
 use Rattle.fm_core.proofs.Losing.{loses, answer_gone, verdict_gone}
 use Rattle.fm_core.specs.Descent.{FindsAt, IsDownOrCall}
-use Rattle.fm_core.specs.Places.{pre_of, base_of, post_of, drain_of}
-use Rattle.fm_types.specs.declared.ids.HandleId.{HandleId}
-use Rattle.fm_types.specs.declared.ids.StreamId.{StreamId}
 use Rattle.fm_types.specs.declared.operation.CreateMode.{CreateMode}
-use Rattle.fm_data.specs.Params.{operation_of, is_within_limits}
-use Rattle.fm_flow.specs.Answered.{is_success}
+use Rattle.fm_data.specs.Params.{is_within_limits}
 use Rattle.fm_flow.specs.Creates.{is_create, is_unanswered}
-use Rattle.fm_world.specs.declared.file.FileHandle.{FileHandle}
-use Rattle.fm_world.specs.declared.file.FileStream.{FileStream}
 use Rattle.fm_world.specs.declared.step.FileRequest.{FileRequest}
-use Rattle.fm_world.specs.declared.step.Begin.{Begin}
-use Rattle.fm_world.specs.Files.{FileTable, stream_at, handle_at, stream_for, created, after_pre}
-use Rattle.fm_world.specs.Requests.{params_of, phase_refusal}
+use Rattle.fm_world.specs.Files.{stream_at, handle_at}
+use Rattle.fm_world.specs.Requests.{params_of}
 use Rattle.fm_world.proofs.Filing.{room_for, was_known}
 use Rattle.fm_world.proofs.Descents.{or_left}
-use Rattle.fm_core.specs.Targets.{target_in, answered, decided, known_in, HasRoom}
-use Rattle.fm_core.specs.declared.target.Target.{Target}
-use Rattle.fm_core.specs.Begun.{Asks, IsAsked}
+use Rattle.fm_core.specs.Targets.{target_in, known_in, HasRoom}
+use Rattle.fm_core.specs.Begun.{Asks}
 
 -- ---- next
 

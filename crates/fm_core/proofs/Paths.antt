@@ -1,11 +1,8 @@
 -- A stream that is found by its path is at that path.
-use Rattle.std.proofs.Common.{◌≡◌, ℕ, ◌==◌, cond, List, [], ◌∷◌, Some, sym, ap, ◌∙◌, inl, inr}
+use Rattle.fm_core.proofs.Words.{Some, sym, ap, inl, inr, cases_Bool, and_parts, none-some, same_Some, VolumeId, FileStream}
+use Rattle.std.proofs.Common.{◌≡◌, ℕ, ◌==◌, cond, List, [], ◌∷◌, ◌∙◌}
 use Rattle.std.specs.Prelude.{find}
 use Rattle.std.specs.Cmp.Lexicographic.{pointwise, bytes_decides}
-use Rattle.std.proofs.lemmas.Bool.{cases_Bool, and_parts}
-use Rattle.std.proofs.lemmas.Option.{none-some, same_Some}
-use Rattle.fm_types.specs.declared.ids.VolumeId.{VolumeId}
-use Rattle.fm_world.specs.declared.file.FileStream.{FileStream}
 use Rattle.fm_world.specs.Files.{is_at_path}
 
 pub found_path : (v : VolumeId) (path : List ℕ) (rows : List FileStream) (x : FileStream) → find (is_at_path v path) rows ≡ Some x → x.path ≡ path

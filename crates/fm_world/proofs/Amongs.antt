@@ -1,13 +1,13 @@
 -- What each step of an operation leaves of its place among the instances.
-use Rattle.std.proofs.Common.{◌≡◌, ℕ, ◌≤◌, ◌<◌, ◌||◌, Bool, true, false, List, [], ◌∷◌, ◌++◌, map, Option, Some, None, length, refl, ap, sym, ◌∙◌, subst, arith, count_by}
-use Rattle.fm_world.proofs.Words.{All, filter_map, cons_option, false≢true, same_Some, none-some, slice_get_within, append-nil, filter_map-append, All-nil}
-use Rattle.fm_world.proofs.Words.{All-head, All-tail, All-push, All-weaker, list_any-append, VolumeId, Status, Operation, StackWorld, is_candidate}
-use Rattle.fm_world.proofs.Words.{is_to_visit, IsHighest, Follows, IsStack, Stage, Descending, InBase, Ascending, PostRunning, PostHeld, Entry, Pre, Base}
-use Rattle.fm_world.proofs.Words.{Post, Drain, PreVisit, PreState, PostState, visit_of, visited, last_visited, post_of, posted, last_posted, is_base}
-use Rattle.fm_world.proofs.Words.{has_base, settle_pre, settle_post, settle_drain, post_leads, after, walk, way_of, if_down, PostVisit, IsDescent, HasRoom}
-use Rattle.fm_world.proofs.Words.{last_of, IsAmongAt, NoneLeft}
-use Rattle.std.specs.Prelude.{option_and_then}
-use Rattle.fm_world.proofs.Descents.{descent_begins, descent_visits, descent_reaches, descent_follows, none_follows, room_begins, room_visits, room_follows, last_of-cons, last_of-push}
+use Rattle.std.proofs.Common.{◌≡◌, ℕ, ◌≤◌, ◌<◌, ◌||◌, Bool, true, false, List, [], ◌∷◌, ◌++◌, map, Option, Some, None, length, refl, ap, sym, ◌∙◌, subst, arith, count_by, option_and_then}
+use Rattle.fm_world.proofs.Words.{All, filter_map, cons_option, false≢true, same_Some, none-some, slice_get_within, append-nil, filter_map-append}
+use Rattle.fm_world.proofs.Words.{All-nil, All-head, All-tail, All-push, All-weaker, list_any-append, VolumeId, Status, Operation, StackWorld}
+use Rattle.fm_world.proofs.Words.{is_candidate, is_to_visit, IsHighest, Follows, IsStack, Stage, Descending, InBase, Ascending, PostRunning, PostHeld}
+use Rattle.fm_world.proofs.Words.{Entry, Pre, Base, Post, Drain, PreVisit, PreState, PostState, visit_of, visited, last_visited, post_of, posted}
+use Rattle.fm_world.proofs.Words.{last_posted, is_base, has_base, settle_pre, settle_post, settle_drain, post_leads, after, walk, way_of, if_down}
+use Rattle.fm_world.proofs.Words.{PostVisit, IsDescent, HasRoom, last_of, IsAmongAt, NoneLeft, and_parts}
+use Rattle.fm_world.proofs.Descents.{descent_visits, descent_reaches, descent_follows, none_follows, room_visits, room_follows, last_of-cons, last_of-push}
+use Rattle.fm_world.proofs.Cases.{count-le}
 
 -- ---- an operation on its way down has no base entry
 
@@ -21,12 +21,9 @@ walk_on : (next : Option Stage) (es : List Entry) (t : Stage) → option_and_the
 walk_on None es t h = absurd (none-some t h)
 walk_on (Some s) es t h = (s, refl, h)
 
-post_up : (state : PostState) → is_up (post_leads state) ≡ true
-post_up PostState.Running = refl
-post_up _ = refl
-
 after_up : (s : Stage) (e : Entry) (t : Stage) → is_up s ≡ true → after s e ≡ Some t → is_up t ≡ true
-after_up Ascending (Post visit) t u h = ap is_up (sym (same_Some (post_leads visit.state) t h)) ∙ post_up visit.state
+after_up Ascending (Post visit) t u h =
+    ap is_up (sym (same_Some (post_leads visit.state) t h)) ∙ elim visit.state as (λ x. is_up (post_leads x) ≡ true) [ PostState.Running ↦ refl | _ ↦ refl ]
 after_up s (Drain visit) t u h = ap is_up (sym (same_Some s t h)) ∙ u
 after_up _ _ t u h = cc
 
@@ -40,12 +37,10 @@ base_leads_up _ t h = absurd (none-some t h)
 
 no_base_from : (s : Stage) (es : List Entry) (t : Stage) → walk s es ≡ Some t → is_up t ≡ false → has_base es ≡ false
 no_base_from s [] t h u = refl
-no_base_from s (Pre visit ∷ es) t h u = let k = walk_on (after s (Pre visit)) es t h in no_base_from k.0 es t k.2 u
 no_base_from s (Base status information ∷ es) t h u =
     let k = walk_on (after s (Base status information)) es t h in
     absurd (false≢true (sym u ∙ stays_up k.0 es t (base_leads_up s k.0 k.1) k.2))
-no_base_from s (Post visit ∷ es) t h u = let k = walk_on (after s (Post visit)) es t h in no_base_from k.0 es t k.2 u
-no_base_from s (Drain visit ∷ es) t h u = let k = walk_on (after s (Drain visit)) es t h in no_base_from k.0 es t k.2 u
+no_base_from s (e ∷ es) t h u = let k = walk_on (after s e) es t h in no_base_from k.0 es t k.2 u
 
 pub no_base : (s : Stage) (es : List Entry) → walk Descending es ≡ Some (way_of s) → is_up (way_of s) ≡ false → has_base es ≡ false
 no_base s es h u = no_base_from Descending es (way_of s) h u
@@ -130,10 +125,7 @@ among_base s v born operation entries before status information none left h =
     (visited_push entries (Base status information) ∙ append-nil (visited entries))
     (base_push entries (Base status information) ∙ or_true (has_base entries))
     (record { descent = descent_reaches s v born operation (visited entries) descent left; room = h.room; there = h.there })
-    (λ e. absurd (ascending_is_not e))
-  where
-    ascending_is_not : Ascending ≡ InBase → ⊥
-    ascending_is_not e = cc
+    (λ e. absurd (cc))
 
 -- each entry stays a visit of its instance, and the base's call or not
 abbrev pub KeepsKind : (Entry → Entry) → Type 0
@@ -180,12 +172,12 @@ among_follows s t v born operation entries stage f h =
 -- an operation begins
 pub among_begins : (s : StackWorld) (v : VolumeId) (operation : Operation)
     → count_by (is_to_visit s v s.births operation) s.instances ≤ 32 → IsAmongAt s v s.births operation [] Descending
-among_begins s v operation few = record {
-  descent = descent_begins s v operation;
-  room = room_begins s v operation few;
-  there = All-nil (λ i. i < length s.instances);
-  base = λ e. absurd (descending_is_not e);
-}
-  where
-    descending_is_not : Descending ≡ InBase → ⊥
-    descending_is_not e = cc
+among_begins s v operation few =
+    let fewer = count-le (is_to_visit s v s.births operation) (is_candidate s v None s.births operation) s.instances s.instances
+    (λ i row h k. (row, h, (and_parts (is_to_visit s v s.births operation row) true k).0)) in
+    record {
+      descent = record { falls = λ i j d p q. absurd (omega arith); passes_none = λ i row h t u. (refl, refl) };
+      room = record { past = omega arith; room = omega (arith, fewer, few) };
+      there = All-nil (λ i. i < length s.instances);
+      base = λ e. absurd (cc);
+    }

@@ -1,11 +1,14 @@
--- Who may hold what: what changes of contexts, instances and workers leave of it.
-use Rattle.std.proofs.Common.{◌||◌, ◌≡◌, ◌≢◌, ℕ, ◌<◌, Bool, true, false, cond, List, [], ◌∷◌, length, map, Option, Some, None, option_map, slice_get, refl, ap, sym, ◌∙◌, subst, inl, inr, ◌⊎◌}
-use Rattle.fm_world.proofs.Words.{All, slice_set, false≢true, cases_Bool, cases_eq, none-some, get_or-set_same, get_or-set_other, All-nil, All-cons, All-head}
-use Rattle.fm_world.proofs.Words.{All-tail, All-weaker, ContextKind, CtxId, InstanceId, WorkerId, slice_get-set_other, updated, updated-same, updated-other}
-use Rattle.fm_world.proofs.Words.{Instance, StackWorld, Owner, is_id, holds, without, hand_of, IsNew, placed, same_owner, swept, swept_slot, Context, Slot}
-use Rattle.fm_world.proofs.Words.{context_at, change_context, is_id-same, by_id, context_at-swept, context_at-here, context_at-other, context_at-placed_other}
-use Rattle.fm_world.proofs.Words.{new_absent, Ask, FlowRecord, owed, Worker, worker_at, row_at, owner_by, place_in, belongs, belongs_by, HoldsIn, CarriesIn}
-use Rattle.fm_world.proofs.Words.{AskCarries}
+-- Who may hold what, and what a context names is there: what changes of contexts, instances and workers leave of both.
+use Rattle.std.proofs.Common.{◌||◌, ◌≡◌, ℕ, Bool, true, false, cond, List, [], ◌∷◌, map, Option, Some, None, option_map, slice_get, refl, ap, sym, ◌∙◌, subst, inl, inr, get_or, ◌<◌, ◌≢◌, ◌≤◌, ◌++◌, length, is_some, arith, ◌==◌, option_and_then}
+use Rattle.fm_world.proofs.Words.{All, false≢true, cases_eq, none-some, All-nil, All-cons, All-head, All-tail, ContextKind, CtxId, InstanceId}
+use Rattle.fm_world.proofs.Words.{WorkerId, updated, updated-same, updated-other, Instance, StackWorld, Owner, is_id, holds, without, hand_of, IsNew}
+use Rattle.fm_world.proofs.Words.{placed, same_owner, swept, swept_slot, Context, Slot, context_at, change_context, is_id-same, by_id}
+use Rattle.fm_world.proofs.Words.{context_at-swept, context_at-here, context_at-other, context_at-placed_other, new_absent, FlowRecord, owed, Worker}
+use Rattle.fm_world.proofs.Words.{worker_at, row_at, owner_by, place_in, belongs, belongs_by, HoldsIn, CarriesIn, AskCarries, length, slice_set}
+use Rattle.fm_world.proofs.Words.{and_parts, and_from, lt-ltb, ltb-true, All-map, All-push, true≢false, eq-eqb, All-updated, All-set_others, Object}
+use Rattle.fm_world.proofs.Words.{new_slot, with_link, context_in, changed_slot, fits, owner_fits, link_fits, may_link, suits, holds_links_by}
+use Rattle.fm_world.proofs.Words.{is_left_by, keeps_links_by, is_volume}
+use Rattle.fm_world.proofs.Cases.{by_bool, or_written, by_option, some_of}
 
 -- ---- contexts keep their kind and owner
 
@@ -32,17 +35,13 @@ owners_after a b c f g d x h =
 
 pub owners_placed : (slots : List Slot) (c : CtxId) (x : Context) → IsNew slots c → OwnersStay slots (placed slots c x)
 owners_placed slots c x new d y h =
-    elim (cases_Bool (is_id d c)) [
-      | inl same ↦ absurd (none-some y (sym (new_absent slots c new) ∙ ap (context_at slots) (is_id-same d c same) ∙ h))
-      | inr other ↦ (y, context_at-placed_other slots c x d new other ∙ h, refl, refl)
-    ]
+    by_bool (λ b. is_id d c ≡ b → (z : Context) × (context_at (placed slots c x) d ≡ Some z) × (z.kind ≡ y.kind) × (z.owner ≡ y.owner)) (is_id d c)
+    (λ _ same. absurd (none-some y (sym (new_absent slots c new) ∙ ap (context_at slots) (is_id-same d c same) ∙ h)))
+    (λ _ other. (y, context_at-placed_other slots c x d new other ∙ h, refl, refl)) refl
 
 swept_stays : (test : Context → Bool) (x : Context) → ((swept test x).kind ≡ x.kind) × ((swept test x).owner ≡ x.owner)
-swept_stays test x = at_test (test x)
-  where
-    at_test : (b : Bool) → ((cond b (record x { link = None }) x).kind ≡ x.kind) × ((cond b (record x { link = None }) x).owner ≡ x.owner)
-    at_test true = (refl, refl)
-    at_test false = (refl, refl)
+swept_stays test x =
+    elim (test x) as (λ b. ((cond b (record x { link = None }) x).kind ≡ x.kind) × ((cond b (record x { link = None }) x).owner ≡ x.owner)) [ true ↦ (refl, refl) | false ↦ (refl, refl) ]
 
 pub owners_swept : (test : Context → Bool) (slots : List Slot) → OwnersStay slots (map (swept_slot test) slots)
 owners_swept test slots c x h =
@@ -79,104 +78,157 @@ abbrev pub BelongsStill : StackWorld → List Slot → StackWorld → List Slot 
 BelongsStill s old t new = (i : InstanceId) (c : CtxId) → belongs s old i c ≡ true → belongs t new i c ≡ true
 
 pub belongs_still : (s : StackWorld) (old : List Slot) (t : StackWorld) (new : List Slot) → FiltersStay s t → OwnersStay old new → BelongsStill s old t new
-belongs_still s old t new filters owners i c h = at_row (row_at s i) (context_at old c) refl refl h
-  where
-    at_row : (m : Option Instance) (o : Option Context) → row_at s i ≡ m → context_at old c ≡ o → belongs_by m i o ≡ true → belongs t new i c ≡ true
-    at_row (Some row) (Some x) there is h =
-        let after = filters i.0 row there in
-        let y = owners c x is in
-        let same : same_owner (owner_by after.0 i y.0.kind) y.0.owner ≡ same_owner (owner_by row i x.kind) x.owner =
-        ap (λ k. same_owner (owner_by after.0 i k) y.0.owner) y.2 ∙ ap (same_owner (owner_by after.0 i x.kind)) y.3
-        ∙ ap (λ o. same_owner o x.owner) (owner_follows row after.0 i x.kind after.2) in
-        ap (λ m. belongs_by m i (context_at new c)) after.1 ∙ ap (belongs_by (Some after.0) i) y.1 ∙ same ∙ h
-    at_row _ _ there is h = absurd (false≢true h)
+belongs_still s old t new filters owners i c h =
+    let row = some_of (λ m. belongs_by m i (context_at old c)) (row_at s i) refl h in
+    let held = sym (ap (λ m. belongs_by m i (context_at old c)) row.1) ∙ h in
+    let x = some_of (belongs_by (Some row.0) i) (context_at old c) refl held in
+    let after = filters i.0 row.0 row.1 in
+    let y = owners c x.0 x.1 in
+    ap (λ m. belongs_by m i (context_at new c)) after.1 ∙ ap (belongs_by (Some after.0) i) y.1 ∙ ap (λ k. same_owner (owner_by after.0 i k) y.0.owner) y.2
+    ∙ ap (same_owner (owner_by after.0 i x.0.kind)) y.3 ∙ ap (λ o. same_owner o x.0.owner) (owner_follows row.0 after.0 i x.0.kind after.2)
+    ∙ sym (ap (belongs_by (Some row.0) i) x.1) ∙ held
 
 -- ---- hands
-
-pub hand_same : (hands : List (List CtxId)) (w : ℕ) (hand : List CtxId) → w < length hands → hand_of (slice_set hands w hand) w ≡ hand
-hand_same hands w hand within = get_or-set_same hands w hand [] within
-
-pub hand_other : (hands : List (List CtxId)) (w k : ℕ) (hand : List CtxId) → k ≢ w → hand_of (slice_set hands w hand) k ≡ hand_of hands k
-hand_other hands w k hand apart = get_or-set_other hands w k hand [] apart
-
-holds_cons : (c d : CtxId) (ids : List CtxId) → holds (d ∷ ids) c ≡ true → (is_id c d ≡ true) ⊎ (holds ids c ≡ true)
-unfolding holds
-holds_cons c d ids h = elim (cases_Bool (is_id c d)) [ inl e ↦ inl e | inr e ↦ inr (sym (ap (λ b. b || holds ids c) e) ∙ h) ]
 
 -- a fact on each context of a hand holds of one that is there
 pub held_has : (P : CtxId → Type 0) (ids : List CtxId) (c : CtxId) → All P ids → holds ids c ≡ true → P c
 unfolding holds
 held_has P [] c all h = absurd (false≢true h)
 held_has P (d ∷ ids) c all h =
-    elim (holds_cons c d ids h) [
-      | inl e ↦ subst P (is_id-same c d e) (All-head P d ids all)
-      | inr e ↦ held_has P ids c (All-tail P d ids all) e
-    ]
+    by_bool (λ b. b || holds ids c ≡ true → P c) (is_id c d) (λ e _. subst P (is_id-same c d e) (All-head P d ids all))
+    (λ e later. held_has P ids c (All-tail P d ids all) later) h
 
 pub all_without : (P : CtxId → Type 0) (c : CtxId) (ids : List CtxId) → All P ids → All P (without c ids)
 unfolding without
 all_without P c [] all = All-nil P
 all_without P c (d ∷ ids) all =
-    elim (cases_Bool (is_id c d)) [
-      | inl e ↦ subst (λ b. All P (cond b ids (d ∷ without c ids))) (sym e) (All-tail P d ids all)
-      | inr e ↦ subst (λ b. All P (cond b ids (d ∷ without c ids))) (sym e) (All-cons P d (without c ids) (All-head P d ids all) (all_without P c ids (All-tail P d ids all)))
-    ]
-
-pub holds_still : (s : StackWorld) (old : List Slot) (t : StackWorld) (new : List Slot) (place : Option InstanceId) (c : CtxId)
-    → BelongsStill s old t new → HoldsIn s old place c → HoldsIn t new place c
-holds_still s old t new None c still h = h
-holds_still s old t new (Some i) c still h = still i c h
+    by_bool (λ b. All P (cond b ids (d ∷ without c ids))) (is_id c d) (λ e. All-tail P d ids all)
+    (λ e. All-cons P d (without c ids) (All-head P d ids all) (all_without P c ids (All-tail P d ids all)))
 
 -- the hands of all workers, by the places of these
 abbrev pub AllHold : StackWorld → List Slot → List Worker → List (List CtxId) → Type 0
 AllHold s slots workers hands = (k : WorkerId) → All (HoldsIn s slots (place_in (worker_at workers k))) (hand_of hands k.0)
+
+-- no worker goes elsewhere, and no hand changes
+pub all_hold_still : (s : StackWorld) (old : List Slot) (t : StackWorld) (new : List Slot) (workers : List Worker) (hands : List (List CtxId))
+    → BelongsStill s old t new → AllHold s old workers hands → AllHold t new workers hands
+all_hold_still s old t new workers hands still all k i d l =
+    let c = get_or (hand_of hands k.0) i d in
+    (elim (place_in (worker_at workers k)) as (λ p. HoldsIn s old p c → HoldsIn t new p c) [ None ↦ λ h. h | Some j ↦ still j c ]) (all k i d l)
 
 -- one worker goes elsewhere, with another hand; all others stay
 pub all_hold : (s : StackWorld) (old : List Slot) (t : StackWorld) (new : List Slot) (workers after : List Worker) (hands : List (List CtxId)) (w : ℕ) (hand : List CtxId)
     → w < length hands → BelongsStill s old t new → ((k : ℕ) → k ≢ w → slice_get after k ≡ slice_get workers k)
     → All (HoldsIn t new (place_in (slice_get after w))) hand → AllHold s old workers hands → AllHold t new after (slice_set hands w hand)
 all_hold s old t new workers after hands w hand within still others here all k =
-    elim (cases_eq k.0 w) [
-      | inl is ↦
-          subst (λ n. All (HoldsIn t new (place_in (slice_get after n))) (hand_of (slice_set hands w hand) n)) (sym is)
-          (subst (All (HoldsIn t new (place_in (slice_get after w)))) (sym (hand_same hands w hand within)) here)
-      | inr apart ↦
-          let before = All-weaker (HoldsIn s old (place_in (worker_at workers k))) (HoldsIn t new (place_in (worker_at workers k)))
-          (λ c h. holds_still s old t new (place_in (worker_at workers k)) c still h) (hand_of hands k.0) (all k) in
-          subst (λ m. All (HoldsIn t new (place_in m)) (hand_of (slice_set hands w hand) k.0)) (sym (others k.0 apart))
-          (subst (All (HoldsIn t new (place_in (worker_at workers k)))) (sym (hand_other hands w k.0 hand apart)) before)
-    ]
-
--- no worker goes elsewhere, and no hand changes
-pub all_hold_still : (s : StackWorld) (old : List Slot) (t : StackWorld) (new : List Slot) (workers : List Worker) (hands : List (List CtxId))
-    → BelongsStill s old t new → AllHold s old workers hands → AllHold t new workers hands
-all_hold_still s old t new workers hands still all k =
-    All-weaker (HoldsIn s old (place_in (worker_at workers k))) (HoldsIn t new (place_in (worker_at workers k)))
-    (λ c h. holds_still s old t new (place_in (worker_at workers k)) c still h) (hand_of hands k.0) (all k)
-
-pub nobody_moved : (workers : List Worker) (w : ℕ) (k : ℕ) → k ≢ w → slice_get workers k ≡ slice_get workers k
-nobody_moved workers w k apart = refl
-
-pub others_stay : (workers : List Worker) (w : ℕ) (a : Worker) (k : ℕ) → k ≢ w → slice_get (slice_set workers w a) k ≡ slice_get workers k
-others_stay workers w a k apart = slice_get-set_other workers w k a apart
+    or_written (λ j ids. All (HoldsIn t new (place_in (slice_get after j))) ids) hands w hand [] within here (λ j apart.
+    subst (λ m. All (HoldsIn t new (place_in m)) (hand_of hands j)) (sym (others j apart)) (all_hold_still s old t new workers hands still all (record { 0 = j }))) k.0
 
 -- ---- completions
-
-carries_still : (s : StackWorld) (old : List Slot) (t : StackWorld) (new : List Slot) (i : InstanceId) (o : Option CtxId)
-    → BelongsStill s old t new → CarriesIn s old i o → CarriesIn t new i o
-carries_still s old t new i None still h = tt
-carries_still s old t new i (Some c) still h = still i c h
 
 abbrev pub AllCarry : StackWorld → List Slot → List FlowRecord → Type 0
 AllCarry s slots operations = All (λ (r : FlowRecord). All (AskCarries s slots) (owed r.entries)) operations
 
-pub asks_still : (s : StackWorld) (old : List Slot) (t : StackWorld) (new : List Slot) (asks : List Ask) → BelongsStill s old t new
-    → All (AskCarries s old) asks → All (AskCarries t new) asks
-asks_still s old t new asks still h =
-    All-weaker (AskCarries s old) (AskCarries t new) (λ ask k. carries_still s old t new ask.instance ask.completion.context still k) asks h
-
 pub all_carry_still : (s : StackWorld) (old : List Slot) (t : StackWorld) (new : List Slot) (operations : List FlowRecord) → BelongsStill s old t new
     → AllCarry s old operations → AllCarry t new operations
-all_carry_still s old t new operations still h =
-    All-weaker (λ (r : FlowRecord). All (AskCarries s old) (owed r.entries)) (λ (r : FlowRecord). All (AskCarries t new) (owed r.entries))
-    (λ r k. asks_still s old t new (owed r.entries) still k) operations h
+all_carry_still s old t new operations still h k d l i a m =
+    let ask = get_or (owed (get_or operations k d).entries) i a in
+    (elim ask.completion.context as (λ c. CarriesIn s old ask.instance c → CarriesIn t new ask.instance c) [ None ↦ λ h. tt | Some c ↦ still ask.instance c ]) (h k d l i a m)
+
+-- a test of all contexts
+abbrev pub AllPass : (Option Context → Bool) → List Slot → Type 0
+AllPass p slots = All (λ (x : Slot). p x.context ≡ true) slots
+
+abbrev pub AllFit : StackWorld → List Slot → Type 0
+AllFit s slots = AllPass (fits s) slots
+
+-- ---- contexts change
+
+-- the context that an id names, where the slot has that generation
+there_in : (slots : List Slot) (c : CtxId) (x : Slot) → slice_get slots c.slot ≡ Some x → (c.generation == x.generation) ≡ true → context_at slots c ≡ x.context
+unfolding context_at
+there_in slots c x h same = ap (option_and_then (context_in c)) h ∙ ap (λ b. cond b x.context None) same
+
+pub passes_changed : (p : Option Context → Bool) (f : Option Context → Option Context) (slots : List Slot) (c : CtxId) → f None ≡ None
+    → ((x : Context) → context_at slots c ≡ Some x → p (Some x) ≡ true → p (f (Some x)) ≡ true)
+    → AllPass p slots → AllPass p (change_context f slots c)
+passes_changed p f slots c none keeps h =
+    All-updated (λ (x : Slot). p x.context ≡ true) (λ (x : Slot). p x.context ≡ true) (changed_slot f c) slots c.slot h (λ x there fit.
+    by_bool (λ b. p (cond b (record x { context = f x.context }) x).context ≡ true) (c.generation == x.generation)
+    (λ same. by_option (λ o. p (f o) ≡ true) x.context (λ is. ap p (none ∙ sym is) ∙ fit) (λ y is. keeps y (there_in slots c x there same ∙ is) (sym (ap p is) ∙ fit)))
+    (λ apart. fit)) (λ k x other there fit. fit)
+
+pub passes_placed : (p : Option Context → Bool) (slots : List Slot) (c : CtxId) (x : Context) → p (Some x) ≡ true → AllPass p slots → AllPass p (placed slots c x)
+passes_placed p slots c x fit h =
+    let P = λ (y : Slot). p y.context ≡ true in
+    elim (c.slot == length slots) as (λ b. AllPass p (cond b (slots ++ new_slot c x ∷ []) (slice_set slots c.slot (new_slot c x)))) [
+      | true ↦ All-push P slots (new_slot c x) h fit
+      | false ↦ All-set_others P P slots c.slot (new_slot c x) fit h (λ k y other there was. was)
+    ]
+
+pub fits_unlinked : (s : StackWorld) (x : Context) → fits s (Some x) ≡ true → fits s (Some (with_link None x)) ≡ true
+fits_unlinked s x h =
+    and_from (owner_fits s x.kind x.owner) true (and_parts (owner_fits s x.kind x.owner) (link_fits s x x.link) h).0 refl
+
+-- the link of a context that fits is put in place
+pub fits_linked : (s : StackWorld) (x : Context) (o : Object) → link_fits s x (Some o) ≡ true → fits s (Some x) ≡ true → fits s (Some (with_link (Some o) x)) ≡ true
+fits_linked s x o link h =
+    let own = (and_parts (owner_fits s x.kind x.owner) (link_fits s x x.link) h).0 in
+    and_from (owner_fits s x.kind x.owner) (link_fits s (with_link (Some o) x) (Some o)) own
+    ((elim o as (λ y. link_fits s x (Some y) ≡ true → link_fits s (with_link (Some y) x) (Some y) ≡ true) [ Object.Volume v ↦ λ k. k | _ ↦ λ k. k ]) link)
+
+pub passes_swept : (p q : Option Context → Bool) (test : Context → Bool) (slots : List Slot) → q None ≡ true
+    → ((x : Context) → p (Some x) ≡ true → q (Some (swept test x)) ≡ true) → AllPass p slots → AllPass q (map (swept_slot test) slots)
+passes_swept p q test slots none keeps h =
+    All-map (λ (x : Slot). q x.context ≡ true) (swept_slot test) slots (λ k d l.
+    by_option (λ o. p o ≡ true → q (option_map (swept test) o) ≡ true) (get_or slots k d).context (λ _ _. none) (λ x _. keeps x) (h k d l))
+
+-- ---- instances change
+
+pub owner_stays : (s t : StackWorld) (k : ContextKind) (o : Owner) → length s.filters ≤ length t.filters
+    → ((j : InstanceId) → o ≡ Owner.Instance j → is_left_by (row_at s j) ≡ true → is_left_by (row_at t j) ≡ true)
+    → owner_fits s k o ≡ true → owner_fits t k o ≡ true
+owner_stays s t ContextKind.Volume (Owner.Filter f) more left h =
+    let below : f.0 < length s.filters = ltb-true f.0 (length s.filters) h in
+    lt-ltb f.0 (length t.filters) (omega (arith, below, more))
+owner_stays s t ContextKind.Volume (Owner.Instance i) more left h = absurd (false≢true h)
+owner_stays s t _ (Owner.Instance i) more left h = left i refl h
+owner_stays s t _ (Owner.Filter f) more left h = absurd (false≢true h)
+
+-- no volume's contexts are unlinked
+abbrev pub VolumesStay : StackWorld → StackWorld → Type 0
+VolumesStay s t = (v : ℕ) → holds_links_by (slice_get s.volumes v) ≡ true → holds_links_by (slice_get t.volumes v) ≡ true
+
+pub link_stays : (s t : StackWorld) (x : Context) (l : Option Object) → VolumesStay s t
+    → (is_some l ≡ true → may_link s x.owner ≡ true → may_link t x.owner ≡ true) → link_fits s x l ≡ true → link_fits t x l ≡ true
+link_stays s t x None volumes may h = refl
+link_stays s t x (Some o) volumes may h =
+    let parts = and_parts (may_link s x.owner) (suits s x o) h in
+    and_from (may_link t x.owner) (suits t x o) (may refl parts.0)
+    ((elim o as (λ y. suits s x y ≡ true → suits t x y ≡ true) [
+      | Object.Volume v ↦ λ fit.
+          let held = and_parts (is_volume x.kind) (holds_links_by (slice_get s.volumes v.0)) fit in
+          and_from (is_volume x.kind) (holds_links_by (slice_get t.volumes v.0)) held.0 (volumes v.0 held.1)
+      | _ ↦ λ fit. fit
+    ]) parts.1)
+
+-- where one instance changes, others' contexts may be linked still
+pub others_link : (s t : StackWorld) (i : InstanceId) → ((j : InstanceId) → j.0 ≢ i.0 → row_at t j ≡ row_at s j) → (o : Owner) → same_owner (Owner.Instance i) o ≡ false
+    → may_link s o ≡ true → may_link t o ≡ true
+others_link s t i same (Owner.Filter f) other h = refl
+others_link s t i same (Owner.Instance j) other h = ap keeps_links_by (same j (λ e. true≢false (sym (eq-eqb i.0 j.0 (sym e)) ∙ other))) ∙ h
+
+-- instances go on: none is detached, and none is emptied
+pub record GoesOn (s t : StackWorld) : Type 0 where
+  pub filters : length s.filters ≤ length t.filters
+  pub volumes : VolumesStay s t
+  pub left : (j : InstanceId) → is_left_by (row_at s j) ≡ true → is_left_by (row_at t j) ≡ true
+  pub keeps : (j : InstanceId) → keeps_links_by (row_at s j) ≡ true → keeps_links_by (row_at t j) ≡ true
+
+pub fits_on : (s t : StackWorld) (slots : List Slot) → GoesOn s t → AllFit s slots → AllFit t slots
+fits_on s t slots on h = λ k d l.
+    by_option (λ o. fits s o ≡ true → fits t o ≡ true) (get_or slots k d).context (λ _ fit. refl) (λ x _ fit.
+    let parts = and_parts (owner_fits s x.kind x.owner) (link_fits s x x.link) fit in
+    and_from (owner_fits t x.kind x.owner) (link_fits t x x.link) (owner_stays s t x.kind x.owner on.filters (λ j is. on.left j) parts.0)
+    (link_stays s t x x.link on.volumes
+    (λ linked. elim x.owner as (λ o. may_link s o ≡ true → may_link t o ≡ true) [ Owner.Filter f ↦ λ may. refl | Owner.Instance j ↦ on.keeps j ]) parts.1)) (h k d l)

@@ -1,12 +1,53 @@
 -- A visit of the next instance, the call of the base, and every event of the stack keep an operation's descent.
-use Rattle.std.proofs.Common.{◌≡◌, ℕ, zero, suc, ◌+◌, ◌≤◌, ◌<◌, Bool, true, false, not, ◌&&◌, ◌||◌, ◌==◌, List, [], ◌∷◌, ◌++◌, reverse, Option, Some, None, length, get_or, refl, ap, sym, ◌∙◌, subst, arith, count_by, length-append, inl, inr}
-use Rattle.fm_world.proofs.Words.{slice_get, option_map, AllPairs, nat_lt, slice_get_within, slice_get-get_or, get_or_from_slice_get, reverse-append}
-use Rattle.fm_world.proofs.Words.{all_pairs_push, cases_order, and_parts, and_from, and_right, eqb-true, eq-eqb, ne_eqb, false≢true, or_parts, VolumeId}
-use Rattle.fm_world.proofs.Words.{Operation, Instance, Phase, StackWorld, is_lower, is_lower_at, is_lower_option, altitude_at, clashes, same_altitude}
-use Rattle.fm_world.proofs.Words.{same_name, is_live_on, is_attached, is_detached, is_to_visit, is_below_cursor, is_candidate, is_registered, IsHighest}
-use Rattle.fm_world.proofs.Words.{NonePasses, Follows, IsStack, IsDescent, HasRoom, last_of, is_among}
-use Rattle.fm_world.proofs.Counts.{count-some, count-le, count-lt}
-use Rattle.fm_world.proofs.Altitudes.{lower_irrefl, lower_or, same_sym, option_trans, option_irrefl, option_follows}
+use Rattle.std.proofs.Common.{◌≡◌, ℕ, zero, suc, ◌+◌, ◌≤◌, ◌<◌, Bool, true, false, not, ◌&&◌, ◌||◌, ◌==◌, List, [], ◌∷◌, ◌++◌, reverse, Option, Some, None, length, get_or, refl, ap, sym, ◌∙◌, subst, arith, count_by, length-append, inl, inr, Ordering}
+use Rattle.fm_world.proofs.Words.{slice_get, option_map, AllPairs, nat_lt, slice_get-get_or, reverse-append, all_pairs_push, cases_order, and_parts}
+use Rattle.fm_world.proofs.Words.{and_from, and_right, eqb-true, eq-eqb, ne_eqb, false≢true, or_parts, VolumeId, Operation, Instance, Phase}
+use Rattle.fm_world.proofs.Words.{StackWorld, is_lower, is_lower_at, is_lower_option, altitude_at, clashes, same_altitude, same_name, is_live_on}
+use Rattle.fm_world.proofs.Words.{is_attached, is_detached, is_to_visit, is_below_cursor, is_candidate, is_registered, IsHighest, NonePasses, Follows}
+use Rattle.fm_world.proofs.Words.{IsStack, IsDescent, HasRoom, last_of, is_among, pair_at}
+use Rattle.fm_world.proofs.Cases.{count-some, count-le, count-lt, by_bool, by_option}
+use Rattle.std.specs.declared.cmp.Ordering.TheVariants.{Less, Equal, Greater}
+use Rattle.std.specs.Ordering.{is_lt, is_eq, ordering_reverse}
+use Rattle.std.proofs.lemmas.Cmp.{tied_itself}
+use Rattle.fm_altitude.specs.Order.{altitude_cmp}
+use Rattle.fm_altitude.specs.Total.{altitude_total}
+
+less_from : (o : Ordering) → is_lt o ≡ true → o ≡ Less
+less_from Less h = refl
+less_from _ h = cc
+
+pub lower_irrefl : (a : List ℕ) → is_lower a a ≡ false
+lower_irrefl a = ap is_lt (tied_itself altitude_total a)
+
+turned : (o p : Ordering) → o ≡ ordering_reverse p → is_lt o ≡ false → is_eq p ≡ false → is_lt p ≡ true
+turned o Less e h k = refl
+turned o Equal e h k = cc
+turned o Greater e h k = let g : is_lt o ≡ true = ap is_lt e in cc
+
+-- of two altitudes that differ, the one that isn't lower is higher
+pub lower_or : (a b : List ℕ) → is_lower a b ≡ false → same_altitude b a ≡ false → is_lower b a ≡ true
+lower_or a b h k = turned (altitude_cmp a b) (altitude_cmp b a) (altitude_total.antisymm a b) h k
+
+eq_turned : (o : Ordering) → is_eq (ordering_reverse o) ≡ is_eq o
+eq_turned Less = refl
+eq_turned _ = refl
+
+pub same_sym : (a b : List ℕ) → same_altitude a b ≡ same_altitude b a
+same_sym a b = ap is_eq (altitude_total.antisymm a b) ∙ eq_turned (altitude_cmp b a)
+
+pub option_trans : (a b c : Option (List ℕ)) → is_lower_option a b ≡ true → is_lower_option b c ≡ true → is_lower_option a c ≡ true
+option_trans (Some a) (Some b) (Some c) h k = ap is_lt (altitude_total.trans a b c (less_from (altitude_cmp a b) h) (less_from (altitude_cmp b c) k))
+option_trans _ _ _ h k = cc
+
+pub option_irrefl : (a : Option (List ℕ)) → is_lower_option a a ≡ false
+option_irrefl (Some a) = lower_irrefl a
+option_irrefl None = refl
+
+-- what kept its altitude is as low as it was
+pub option_follows : (a b x y : Option (List ℕ)) → ((t : List ℕ) → a ≡ Some t → x ≡ Some t) → ((t : List ℕ) → b ≡ Some t → y ≡ Some t)
+    → is_lower_option a b ≡ true → is_lower_option x y ≡ true
+option_follows (Some a) (Some b) x y f g h = rw (f a refl, g b refl) h
+option_follows _ _ x y f g h = cc
 
 pub last_of-push : (is : List ℕ) (i : ℕ) → last_of (is ++ i ∷ []) ≡ Some i
 last_of-push is i = ap (λ (xs : List ℕ). slice_get xs 0) (reverse-append is (i ∷ []))
@@ -40,17 +81,8 @@ or_left a b h = (or_parts a b h).0
 pub or_right : (a b : Bool) → (a || b) ≡ false → b ≡ false
 or_right a b h = (or_parts a b h).1
 
--- a candidate is below the last visit
-below_last : (s : StackWorld) (cursor : Option ℕ) (row : Instance) → is_below_cursor s cursor row ≡ true
-    → (l : ℕ) → cursor ≡ Some l → is_lower_option (Some row.altitude) (altitude_at s l) ≡ true
-below_last s cursor row h l e = subst (λ (c : Option ℕ). is_below_cursor s c row ≡ true) e h
-
 altitude_there : (s : StackWorld) (i : ℕ) (row : Instance) → slice_get s.instances i ≡ Some row → altitude_at s i ≡ Some row.altitude
 altitude_there s i row h = ap (option_map (λ (r : Instance). r.altitude)) h
-
-attached_stays : (p : Phase) → is_attached p ≡ true → not (is_detached p) ≡ true
-attached_stays Phase.Detached h = cc
-attached_stays _ h = refl
 
 -- what an operation is to visit
 record IsThere (v : VolumeId) (row : Instance) : Type 0 where
@@ -62,7 +94,10 @@ to_visit_there : (s : StackWorld) (v : VolumeId) (born : ℕ) (operation : Opera
 to_visit_there s v born operation row h =
     let parts = and_parts (is_attached row.phase) ((row.volume.0 == v.0) && (nat_lt row.birth born && is_registered s.filters row.filter operation)) h in
     let more = and_parts (row.volume.0 == v.0) (nat_lt row.birth born && is_registered s.filters row.filter operation) parts.1 in
-    record { volume = eqb-true row.volume.0 v.0 more.0; stays = attached_stays row.phase parts.0 }
+    record {
+      volume = eqb-true row.volume.0 v.0 more.0;
+      stays = (elim row.phase as (λ p. is_attached p ≡ true → not (is_detached p) ≡ true) [ Phase.Detached ↦ λ h. absurd (false≢true h) | _ ↦ λ h. refl ]) parts.0;
+    }
 
 live_there : (v : VolumeId) (a b : Instance) → IsThere v a → IsThere v b → is_live_on a.volume b ≡ true
 live_there v a b g h = and_from (b.volume.0 == a.volume.0) (not (is_detached b.phase)) (eq-eqb b.volume.0 a.volume.0 (h.volume ∙ sym g.volume)) h.stays
@@ -72,25 +107,19 @@ clash_parts true true n m h a b = or_right n m h
 clash_parts true false n m h a b = cc
 clash_parts false y n m h a b = cc
 
-clash_at : (rows : List Instance) (i j : ℕ) (a b : Instance) → AllPairs (λ a b. clashes a b ≡ false) rows
-    → slice_get rows i ≡ Some a → slice_get rows j ≡ Some b → i < j → clashes a b ≡ false
-clash_at rows i j a b apart h k l =
-    subst (λ x. clashes x b ≡ false) (get_or_from_slice_get rows i a a h)
-    (subst (λ y. clashes (get_or rows i a) y ≡ false) (get_or_from_slice_get rows j b a k)
-    (apart i j a l (slice_get_within rows j b k)))
-
 -- two instances that are to be visited by one operation have distinct altitudes
 apart_altitudes : (s : StackWorld) (v : VolumeId) (i j : ℕ) (a b : Instance) → IsStack s
     → slice_get s.instances i ≡ Some a → slice_get s.instances j ≡ Some b → IsThere v a → IsThere v b
     → (i ≡ j → ⊥) → same_altitude b.altitude a.altitude ≡ false
 apart_altitudes s v i j a b stack h k g l differ =
+    let Apart = λ (x y : Instance). clashes x y ≡ false in
     elim (cases_order i j) [
       | inl e ↦ absurd (differ e)
       | inr (inl less) ↦ same_sym b.altitude a.altitude
           ∙ clash_parts (is_live_on a.volume a) (is_live_on a.volume b) (same_name a.name b.name) (same_altitude a.altitude b.altitude)
-          (clash_at s.instances i j a b stack.apart h k less) (live_there v a a g g) (live_there v a b g l)
+          (pair_at Apart s.instances i j a b stack.apart less h k) (live_there v a a g g) (live_there v a b g l)
       | inr (inr more) ↦ clash_parts (is_live_on b.volume b) (is_live_on b.volume a) (same_name b.name a.name) (same_altitude b.altitude a.altitude)
-          (clash_at s.instances j i b a stack.apart k h more) (live_there v b b l l) (live_there v b a l g)
+          (pair_at Apart s.instances j i b a stack.apart more k h) (live_there v b b l l) (live_there v b a l g)
     ]
 
 not_self : (s : StackWorld) (i j : ℕ) → j ≡ i → is_lower_at s i j ≡ true → ⊥
@@ -114,21 +143,13 @@ next_lower : (s : StackWorld) (v : VolumeId) (born : ℕ) (operation : Operation
     → (k : ℕ) (d : ℕ) → k < length visited → is_lower_at s i (get_or visited k d) ≡ true
 next_lower s v born operation visited i falls next =
     let parts = and_parts (is_to_visit s v born operation next.row) (is_below_cursor s (last_of visited) next.row) next.passes in
-    below_all s (altitude_at s i) visited falls
-    (λ l e. subst (λ a. is_lower_option a (altitude_at s l) ≡ true) (sym (altitude_there s i next.row next.there))
-    (below_last s (last_of visited) next.row parts.1 l e))
+    below_all s (altitude_at s i) visited falls (λ l e. subst (λ a. is_lower_option a (altitude_at s l) ≡ true) (sym (altitude_there s i next.row next.there))
+    (subst (λ c. is_below_cursor s c next.row ≡ true) e parts.1))
 
 pub next_unseen : (s : StackWorld) (v : VolumeId) (born : ℕ) (operation : Operation) (visited : List ℕ) (i : ℕ) (reached : Bool)
     → IsDescent s v born operation visited reached → IsHighest (is_candidate s v (last_of visited) born operation) s.instances i
     → is_among visited i ≡ false
 next_unseen s v born operation visited i reached d next = unseen_from s i visited (next_lower s v born operation visited i d.falls next)
-
--- before the first visit
-pub descent_begins : (s : StackWorld) (v : VolumeId) (operation : Operation) → IsDescent s v s.births operation [] false
-descent_begins s v operation = record {
-  falls = λ i j d p q. absurd (omega arith);
-  passes_none = λ i row h t u. (refl, refl);
-}
 
 among_push : (is : List ℕ) (i : ℕ) (j : ℕ) → is_among (is ++ i ∷ []) j ≡ false → (is_among is j ≡ false) × ((i ≡ j) → ⊥)
 among_push [] i j h = (refl, λ e. false≢true (sym (or_left (i == j) false h) ∙ eq-eqb i j e))
@@ -169,11 +190,9 @@ descent_reaches s v born operation visited d none = record {
 }
 
 altitude_stays : (s t : StackWorld) → Follows s t → (i : ℕ) (x : List ℕ) → altitude_at s i ≡ Some x → altitude_at t i ≡ Some x
-altitude_stays s t f i x h = by_row (slice_get s.instances i) refl h
-  where
-    by_row : (r : Option Instance) → slice_get s.instances i ≡ r → option_map (λ (row : Instance). row.altitude) r ≡ Some x → altitude_at t i ≡ Some x
-    by_row None e h = cc
-    by_row (Some row) e h = let after = f.altitudes i row e in altitude_there t i after.0 after.1 ∙ ap Some after.2 ∙ h
+altitude_stays s t f i x h =
+    by_option (λ r. option_map (λ (row : Instance). row.altitude) r ≡ Some x → altitude_at t i ≡ Some x) (slice_get s.instances i) (λ none h. (cc))
+    (λ row there h. let after = f.altitudes i row there in altitude_there t i after.0 after.1 ∙ ap Some after.2 ∙ h) h
 
 lower_stays : (s t : StackWorld) → Follows s t → (i j : ℕ) → is_lower_at s i j ≡ true → is_lower_at t i j ≡ true
 lower_stays s t f i j h =
@@ -212,24 +231,14 @@ descent_follows s t v born operation visited reached f past d = record {
 pub none_follows : (s t : StackWorld) (v : VolumeId) (born : ℕ) (operation : Operation) (cursor : Option ℕ)
     → Follows s t → born ≤ s.births → ((l : ℕ) → cursor ≡ Some l → l < length s.instances)
     → NonePasses (is_candidate s v cursor born operation) s.instances → NonePasses (is_candidate t v cursor born operation) t.instances
-none_follows s t v born operation cursor f past there none j row h = none_at (is_candidate t v cursor born operation row) refl
-  where
-    none_at : (b : Bool) → is_candidate t v cursor born operation row ≡ b → b ≡ false
-    none_at false e = refl
-    none_at true e =
-        let parts = and_parts (is_to_visit t v born operation row) (is_below_cursor t cursor row) e in
-        let before = f.visits v born operation j row past h parts.0 in
-        let was = below_was s t f cursor before.0 row (sym before.3) there parts.1 in
-        absurd (false≢true (sym (none j before.0 before.1) ∙ and_from (is_to_visit s v born operation before.0) (is_below_cursor s cursor before.0) before.2 was))
+none_follows s t v born operation cursor f past there none j row h =
+    by_bool (λ b. b ≡ false) (is_candidate t v cursor born operation row) (λ e.
+    let parts = and_parts (is_to_visit t v born operation row) (is_below_cursor t cursor row) e in
+    let before = f.visits v born operation j row past h parts.0 in
+    let was = below_was s t f cursor before.0 row (sym before.3) there parts.1 in
+    absurd (false≢true (sym (none j before.0 before.1) ∙ and_from (is_to_visit s v born operation before.0) (is_below_cursor s cursor before.0) before.2 was))) (λ e. refl)
 
 -- room for the visits that may come
-
-pub room_begins : (s : StackWorld) (v : VolumeId) (operation : Operation)
-    → count_by (is_to_visit s v s.births operation) s.instances ≤ 32 → HasRoom s v s.births operation []
-room_begins s v operation few =
-    let fewer = count-le (is_to_visit s v s.births operation) (is_candidate s v None s.births operation) s.instances s.instances
-    (λ i row h k. (row, h, (and_parts (is_to_visit s v s.births operation row) true k).0)) in
-    record { past = omega arith; room = omega (arith, fewer, few) }
 
 pub room_is : (s : StackWorld) (v : VolumeId) (born : ℕ) (operation : Operation) (visited : List ℕ) (i : ℕ)
     → HasRoom s v born operation visited → IsHighest (is_candidate s v (last_of visited) born operation) s.instances i → length visited < 32
@@ -250,17 +259,15 @@ room_visits s v born operation visited i r next =
     (λ row k.
     let parts = and_parts (is_to_visit s v born operation row) (is_below_cursor s (Some i) row) k in
     and_from (is_to_visit s v born operation row) (is_below_cursor s (last_of visited) row) parts.0
-    (lower_still s (last_of visited) next.row row passed.1 (subst (λ x. is_lower_option (Some row.altitude) x ≡ true) there parts.1))) in
+    ((elim (last_of visited) as (λ c. is_below_cursor s c next.row ≡ true → is_below_cursor s c row ≡ true) [
+      | None ↦ λ _. refl
+      | Some l ↦ option_trans (Some row.altitude) (Some next.row.altitude) (altitude_at s l) (subst (λ x. is_lower_option (Some row.altitude) x ≡ true) there parts.1)
+    ]) passed.1)) in
     record {
       past = r.past;
       room = subst (λ c. length (visited ++ i ∷ []) + count_by (is_candidate s v c born operation) s.instances ≤ 32) (sym (last_of-push visited i))
           (omega (arith, r.room, fewer, length-append visited (i ∷ [])));
     }
-  where
-    lower_still : (s : StackWorld) (cursor : Option ℕ) (a b : Instance) → is_below_cursor s cursor a ≡ true
-        → is_lower b.altitude a.altitude ≡ true → is_below_cursor s cursor b ≡ true
-    lower_still s None a b h k = refl
-    lower_still s (Some l) a b h k = option_trans (Some b.altitude) (Some a.altitude) (altitude_at s l) k h
 
 pub room_follows : (s t : StackWorld) (v : VolumeId) (born : ℕ) (operation : Operation) (visited : List ℕ)
     → Follows s t → ((l : ℕ) → last_of visited ≡ Some l → l < length s.instances)

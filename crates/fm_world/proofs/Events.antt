@@ -1,16 +1,16 @@
 -- What an event did is decided once: it was refused, and nothing changed, or it came to pass. Of both, P is asked: of the answer, and of the World after it.
-use Rattle.std.proofs.Common.{◌≡◌, ℕ, ◌==◌, List, Bool, true, false, Option, Some, None, Result, Ok, Err, refl, ap, sym, ◌∙◌, subst, cond}
+use Rattle.std.proofs.Common.{◌≡◌, ℕ, ◌==◌, List, Bool, true, false, Option, Some, None, Result, Ok, Err, refl, ap, sym, ◌∙◌, subst, cond, ◌&&◌}
 use Rattle.fm_world.proofs.Words.{false≢true, option_map, unwrap_or, CtxId, InstanceId, OpId, WorkerId, Status, Answers, AnswersOrMemory, change_none}
-use Rattle.fm_world.proofs.Words.{BaseCall, Answer, PreVerdict, PostVerdict, Data, data_fits, context_at, Object, SetMode, Context, ContextTable, set_after}
-use Rattle.fm_world.proofs.Words.{set_reply, set_mode_after, set_mode_reply, kept_after, wanted, unlinked_for, linked, grabbed, is_hand_full, Below}
-use Rattle.fm_world.proofs.Words.{FlowAction, Descending, FlowRecord, next_of, post_returned_of, drain_returned_of, base_fits, FlowTable, operation_at}
-use Rattle.fm_world.proofs.Words.{changed, told, Worker, World, worker_at, is_idle, after_next, Unless, SetsUp, SetsUpAt, FindsBelow, LiesBelow, Nexts}
-use Rattle.fm_world.proofs.Words.{NextsAt, NextsOver, LosesByKnown, PreReturns, PreReturnsAt, PreReturnsOver, BaseReturns, BaseReturnsAt, PostReturns}
-use Rattle.fm_world.proofs.Words.{PostReturnsAt, ReturnsFrom, pre_step, state_at, base_returned, drains_at, received, filed_next, flow_after_next, SetAnswer}
-use Rattle.fm_world.proofs.Words.{Callback, InCallback, InCallbackOf, callback_of, Sets, SetsIn, SetsUnless, SetsOn, set_refused, object_for, Cleans}
-use Rattle.fm_world.proofs.Words.{CleansAt, LosesLinks}
-use Rattle.std.specs.Prelude.{◌&&◌}
-use Rattle.fm_ctx.specs.declared.set_reply.SetReply.{SetReply}
+use Rattle.fm_world.proofs.Words.{BaseCall, Answer, PreVerdict, PostVerdict, Data, data_fits, context_at, Object, SetMode, Context, ContextTable}
+use Rattle.fm_world.proofs.Words.{set_after, set_reply, set_mode_after, set_mode_reply, kept_after, wanted, unlinked_for, linked, grabbed}
+use Rattle.fm_world.proofs.Words.{is_hand_full, Below, FlowAction, Descending, FlowRecord, next_of, post_returned_of, drain_returned_of, base_fits}
+use Rattle.fm_world.proofs.Words.{FlowTable, operation_at, changed, told, Worker, World, worker_at, is_idle, after_next, Unless, SetsUp, SetsUpAt}
+use Rattle.fm_world.proofs.Words.{FindsBelow, LiesBelow, Nexts, NextsAt, NextsOver, LosesByKnown, PreReturns, PreReturnsAt, BaseReturns}
+use Rattle.fm_world.proofs.Words.{BaseReturnsAt, PostReturns, PostReturnsAt, pre_step, state_at, base_returned, drains_at, received, filed_next}
+use Rattle.fm_world.proofs.Words.{flow_after_next, SetAnswer, Callback, InCallback, InCallbackOf, callback_of, Sets, SetsIn, SetsUnless, SetsOn}
+use Rattle.fm_world.proofs.Words.{set_refused, object_for, Cleans, CleansAt, LosesLinks, brought, Turned, returned, filed_pre, sent, sent_in}
+use Rattle.fm_world.proofs.Words.{carries_after, Leaves, SetReply}
+use Rattle.fm_world.proofs.Cases.{by_option}
 use Rattle.fm_ctx.specs.declared.set_reply.SetMode.TheVariants.{Keep, Replace}
 
 -- ---- refusals
@@ -57,11 +57,8 @@ idle_by P k result old new Event h refused event =
 
 pub called_by : {T : Type 0} (P : Result T Status → World → Type 0) (old : World) (k : WorkerId) (result : Result T Status) (new : World) (Event : Callback → Type 0)
     → InCallback old k result new Event → Refused P old → ((at : Callback) → callback_of old k ≡ Some at → Event at → P result new) → P result new
-called_by P old k result new Event h refused event = by_callback (callback_of old k) refl h
-  where
-    by_callback : (m : Option Callback) → callback_of old k ≡ m → InCallbackOf result old new Event m → P result new
-    by_callback None is h = refused_by P Status.WrongStep result old new h refused
-    by_callback (Some at) is h = event at is h
+called_by P old k result new Event h refused event =
+    by_option (λ m. InCallbackOf result old new Event m → P result new) (callback_of old k) (λ _ h. refused_by P Status.WrongStep result old new h refused) event h
 
 -- an event of a callback with its refusals, and one that takes memory
 pub asked_by : {T : Type 0} (P : Result T Status → World → Type 0) (old : World) (k : WorkerId) (result : Result T Status) (new : World)
@@ -81,7 +78,10 @@ pub set_by : (P : SetAnswer → World → Type 0) (old : World) (k : WorkerId) (
     → ((at : Callback) → callback_of old k ≡ Some at → set_refused old k c at ≡ None → (x : Context) (o : Object) → context_at old.contexts.slots c ≡ Some x
     → object_for at (Some x) ≡ Some o → SetsOn old k c mode wants result new (Some x) (Some o) → P result new) → P result new
 unfolding Sets
-set_by P old k c mode wants result new h refused event = by_callback (callback_of old k) refl h
+set_by P old k c mode wants result new h refused event =
+    by_option (λ m. SetsIn old k c mode wants result new m → P result new) (callback_of old k) (λ _ h. by_refusal Status.WrongStep h) (λ at is h.
+    by_option (λ m. SetsUnless old k c mode wants result new at m → P result new) (set_refused old k c at)
+    (λ free h. on at is free (context_at old.contexts.slots c) refl (object_for at (context_at old.contexts.slots c)) refl h) (λ why _ h. by_refusal why h) h) h
   where
     by_refusal : (why : Status) → (result ≡ SetAnswer.Refused why) × (new ≡ old) → P result new
     by_refusal why h = subst (λ r. P r new) (sym h.0) (subst (P (SetAnswer.Refused why)) (sym h.1) (refused why))
@@ -90,14 +90,6 @@ set_by P old k c mode wants result new h refused event = by_callback (callback_o
         → (o : Option Object) → object_for at m ≡ o → SetsOn old k c mode wants result new m o → P result new
     on at is free (Some x) there (Some o) of h = event at is free x o there of h
     on at is free _ there _ of h = absurd h
-
-    unless : (at : Callback) → callback_of old k ≡ Some at → (m : Option Status) → set_refused old k c at ≡ m → SetsUnless old k c mode wants result new at m → P result new
-    unless at is (Some why) refusal h = by_refusal why h
-    unless at is None free h = on at is free (context_at old.contexts.slots c) refl (object_for at (context_at old.contexts.slots c)) refl h
-
-    by_callback : (m : Option Callback) → callback_of old k ≡ m → SetsIn old k c mode wants result new m → P result new
-    by_callback None is h = by_refusal Status.WrongStep h
-    by_callback (Some at) is h = unless at is (set_refused old k c at) refl h
 
 -- what set makes of a table, and answers: the context is linked, or the hand is full, or Keep leaves the link that is there, or Replace takes it away
 pub set_each : (P : ContextTable → SetReply → Type 0) (carried : CtxId → ℕ) (t : ContextTable) (w : ℕ) (c : CtxId) (object : Object) (mode : SetMode) (wants : Bool)
@@ -129,15 +121,25 @@ setup_by P old k accept result new h refused event = by_place (worker_at old.wor
     by_place (Some (Worker.Setup i)) at h = event i at h
     by_place _ at h = refused_by P Status.WrongStep result old new h refused
 
+-- the World at the end of a preoperation, before links go
+abbrev pub pre_made : World → WorkerId → OpId → InstanceId → PreVerdict → Data → ContextTable → World
+pre_made old k o i given lent after = record (returned old k o (pre_step old k o i given lent)) {
+  contexts = after;
+  files = filed_pre old o (changed o (pre_step old k o i given lent) old.flow) (state_at old k o i given);
+}
+
 pub pre_by : (P : Result (Unit {0}) Status → World → Type 0) (old : World) (k : WorkerId) (given : PreVerdict) (lent : Data) (result : Result (Unit {0}) Status) (new : World)
     → PreReturns old k given lent result new → Refused P old
     → ((o : OpId) (i : InstanceId) → worker_at old.workers k ≡ Some (Worker.Pre o i) → told (λ r. data_fits r.operation r.path lent) false o old.flow ≡ true
-    → PreReturnsOver old k o (pre_step old k o i given lent) (state_at old k o i given) new → P (Ok tt) new) → P result new
+    → (after : ContextTable) → Leaves (carries_after old o (pre_step old k o i given lent)) (sent old.contexts k (sent_in (state_at old k o i given))) after k.0
+    → LosesLinks (pre_made old k o i given lent after) new → P (Ok tt) new) → P result new
 unfolding PreReturns
 pre_by P old k given lent result new h refused event = by_place (worker_at old.workers k) refl h
   where
     by_place : (m : Option Worker) → worker_at old.workers k ≡ m → PreReturnsAt old k given lent result new m → P result new
-    by_place (Some (Worker.Pre o i)) at h = unless_by P _ _ result old new _ h refused (λ fits e. subst (λ r. P r new) (sym e.0) (event o i at fits e.1))
+    by_place (Some (Worker.Pre o i)) at h =
+        unless_by P _ _ result old new _ h refused (λ fits e. subst (λ r. P r new) (sym e.0)
+        (event o i at fits e.1.0.contexts e.1.1.0 (subst (λ w. LosesLinks w new) e.1.1.1 e.1.2)))
     by_place _ at h = refused_by P Status.WrongStep result old new h refused
 
 pub base_by : (P : Result (Unit {0}) Status → World → Type 0) (old : World) (k : WorkerId) (call : BaseCall) (given : Answer) (result : Result (Unit {0}) Status) (new : World)
@@ -155,15 +157,21 @@ base_by P old k call given result new h refused event = by_place (worker_at old.
 pub post_by : (P : Result (Unit {0}) Status → World → Type 0) (old : World) (k : WorkerId) (given : PostVerdict) (lent : Option Data) (result : Result (Unit {0}) Status) (new : World)
     → PostReturns old k given lent result new → Refused P old
     → ((o : OpId) (i : InstanceId) (back : Data) → worker_at old.workers k ≡ Some (Worker.Post o i) → told (λ r. data_fits r.operation r.path back) false o old.flow ≡ true
-    → ReturnsFrom old k o (post_returned_of given back) old.contexts new → P (Ok tt) new)
-    → ((o : OpId) (i : InstanceId) → worker_at old.workers k ≡ Some (Worker.Drain o i) → ReturnsFrom old k o (drain_returned_of i) old.contexts new → P (Ok tt) new) → P result new
+    → (after : ContextTable) → Leaves (carries_after old o (post_returned_of given back)) old.contexts after k.0
+    → P (Ok tt) (record (returned old k o (post_returned_of given back)) { contexts = after }))
+    → ((o : OpId) (i : InstanceId) → worker_at old.workers k ≡ Some (Worker.Drain o i)
+    → (after : ContextTable) → Leaves (carries_after old o (drain_returned_of i)) old.contexts after k.0
+    → P (Ok tt) (record (returned old k o (drain_returned_of i)) { contexts = after })) → P result new
 unfolding PostReturns
 post_by P old k given lent result new h refused post drain = by_place lent (worker_at old.workers k) refl h
   where
+    made : (r : Result (Unit {0}) Status) (w : World) → r ≡ Ok tt → new ≡ w → P (Ok tt) w → P r new
+    made r w ok e p = subst (λ x. P x new) (sym ok) (subst (P (Ok tt)) (sym e) p)
+
     by_place : (lent : Option Data) (m : Option Worker) → worker_at old.workers k ≡ m → PostReturnsAt old k given lent result new m → P result new
     by_place (Some back) (Some (Worker.Post o i)) at h =
-        unless_by P _ _ result old new _ h refused (λ fits e. subst (λ r. P r new) (sym e.0) (post o i back at fits e.1))
-    by_place None (Some (Worker.Drain o i)) at h = subst (λ r. P r new) (sym h.0) (drain o i at h.1)
+        unless_by P _ _ result old new _ h refused (λ fits e. made result _ e.0 e.1.1 (post o i back at fits new.contexts e.1.0))
+    by_place None (Some (Worker.Drain o i)) at h = made result _ h.0 h.1.1 (drain o i at new.contexts h.1.0)
     by_place None (Some (Worker.Post o i)) at h = refused_by P Status.BadRequest result old new h refused
     by_place (Some back) (Some (Worker.Drain o i)) at h = refused_by P Status.BadRequest result old new h refused
     by_place _ _ at h = refused_by P Status.WrongStep result old new h refused
@@ -180,55 +188,65 @@ cleaned_by P old k number result new h refused event = by_place (worker_at old.w
 
 -- ---- next
 
+-- the context that comes back with a completion
+abbrev pub back_by : Result FlowAction Status → Option CtxId
+back_by (Ok (FlowAction.Post i lent completion)) = completion.context
+back_by (Ok (FlowAction.Drain i completion)) = completion.context
+back_by _ = None
+
+-- a table after `next` is as before, or has one more in the worker's hand
+pub received_by : (P : ContextTable → Type 0) (t : ContextTable) (k : WorkerId) (result : Result FlowAction Status) → P t → ((c : CtxId) → P (grabbed t k.0 c))
+    → P (received t k result)
+received_by P t k (Ok (FlowAction.Post i lent completion)) same more = elim completion.context as (λ m. P (brought t k m)) [ None ↦ same | Some c ↦ more c ]
+received_by P t k (Ok (FlowAction.Drain i completion)) same more = elim completion.context as (λ m. P (brought t k m)) [ None ↦ same | Some c ↦ more c ]
+received_by P t k _ same more = same
+
+-- what `next` makes of an operation, and of the World before links go
+abbrev pub turned_by : World → WorkerId → OpId → Below → FlowRecord → Turned
+turned_by old k o lies r = next_of k lies (drains_at old o) r
+
+abbrev pub nexted : World → WorkerId → OpId → Below → Result FlowAction Status → World
+nexted old k o lies reply = record old {
+  flow = flow_after_next old k o lies;
+  workers = after_next old.workers k o reply;
+  contexts = received old.contexts k reply;
+  files = filed_next old o (flow_after_next old k o lies) reply lies;
+}
+
 -- a `next` by an idle worker that found its operation
-pub record Turns (old : World) (k : WorkerId) (o : OpId) (result : Result FlowAction Status) (new : World) : Type 0 where
+pub record Turns (old : World) (k : WorkerId) (o : OpId) (new : World) : Type 0 where
   pub lies : Below
   pub row : FlowRecord
   pub idle : worker_at old.workers k ≡ Some Worker.Idle
   pub at : operation_at o old.flow ≡ Some row
   pub finds : row.stage ≡ Descending → LiesBelow old.stack row lies
-  pub reply : result ≡ (next_of k lies (drains_at old o) row).reply
-  pub mid : World
-  pub over : NextsOver old k o lies result mid
-  pub loses : LosesByKnown result lies mid new
+  pub loses : LosesByKnown (turned_by old k o lies row).reply lies (nexted old k o lies (turned_by old k o lies row).reply) new
 
 pub unchanged_flow : (t : FlowTable) (o : OpId) (f : FlowRecord → FlowRecord) → operation_at o t ≡ None → changed o f t ≡ t
 unchanged_flow t o f h = ap (λ (rs : List FlowRecord). record t { operations = rs }) (change_none (λ r. r.number.0 == o.0) f t.operations h)
 
 -- nothing changes where there is no such operation
-not_there : (old : World) (k : WorkerId) (o : OpId) (lies : Below) (result : Result FlowAction Status) → operation_at o old.flow ≡ None → result ≡ Err Status.WrongStep
-    → record old {
-      flow = flow_after_next old k o lies;
-      workers = after_next old.workers k o result;
-      contexts = received old.contexts k result;
-      files = filed_next old o (flow_after_next old k o lies) result lies;
-    } ≡ old
-not_there old k o lies result at reply =
-    ap (λ t. record old { flow = t; workers = after_next old.workers k o result; contexts = received old.contexts k result; files = filed_next old o t result lies })
-    (unchanged_flow old.flow o (λ (x : FlowRecord). (next_of k lies (drains_at old o) x).after) at)
-    ∙ ap (λ x. record old { workers = after_next old.workers k o x; contexts = received old.contexts k x; files = filed_next old o old.flow x lies }) reply
+not_there : (old : World) (k : WorkerId) (o : OpId) (lies : Below) → operation_at o old.flow ≡ None → nexted old k o lies (Err Status.WrongStep) ≡ old
+not_there old k o lies at = ap (λ t. record old { flow = t }) (unchanged_flow old.flow o (λ (x : FlowRecord). (next_of k lies (drains_at old o) x).after) at)
 
 pub next_by : (P : Result FlowAction Status → World → Type 0) (old : World) (k : WorkerId) (o : OpId) (result : Result FlowAction Status) (new : World)
-    → Nexts old k o result new → Refused P old → (Turns old k o result new → P result new) → P result new
+    → Nexts old k o result new → Refused P old → ((e : Turns old k o new) → P (turned_by old k o e.lies e.row).reply new) → P result new
 unfolding Nexts
 next_by P old k o result new h refused event =
     idle_by P k result old new (NextsAt old k o result new) h refused (λ idle e. by_operation idle e.0 e.1 e.2 e.3 e.4 (operation_at o old.flow) refl)
   where
     by_operation : worker_at old.workers k ≡ Some Worker.Idle → (lies : Below) → FindsBelow old.stack old.files old.flow (operation_at o old.flow) lies
         → (mid : World) → NextsOver old k o lies result mid → LosesByKnown result lies mid new → (m : Option FlowRecord) → operation_at o old.flow ≡ m → P result new
-    by_operation idle lies finds mid over loses (Some r) at = event (record {
-      lies = lies;
-      row = r;
-      idle = idle;
-      at = at;
-      finds = λ down. (subst (λ m. FindsBelow old.stack old.files old.flow m lies) at finds down).0;
-      reply = over.0 ∙ ap (λ m. unwrap_or (option_map (λ (x : FlowRecord). (next_of k lies (drains_at old o) x).reply) m) (Err Status.WrongStep)) at;
-      mid = mid;
-      over = over;
-      loses = loses;
-    })
-    by_operation idle lies finds mid over loses None at =
-        let reply : result ≡ Err Status.WrongStep =
-        over.0 ∙ ap (λ m. unwrap_or (option_map (λ (x : FlowRecord). (next_of k lies (drains_at old o) x).reply) m) (Err Status.WrongStep)) at in
-        let same : mid ≡ old = over.1 ∙ not_there old k o lies result at reply in
-        refused_by P Status.WrongStep result old new (reply, subst (λ x. LosesByKnown x lies mid new) reply loses ∙ same) refused
+    by_operation idle lies finds mid over loses m at =
+        let reply = over.0 ∙ ap (λ x. unwrap_or (option_map (λ (r : FlowRecord). (turned_by old k o lies r).reply) x) (Err Status.WrongStep)) at in
+        let lost = λ (r : Result FlowAction Status) (e : result ≡ r). subst (λ x. LosesByKnown x lies (nexted old k o lies x) new) e (subst (λ w. LosesByKnown result lies w new) over.1 loses) in
+        by_option (λ x. operation_at o old.flow ≡ x → result ≡ unwrap_or (option_map (λ (r : FlowRecord). (turned_by old k o lies r).reply) x) (Err Status.WrongStep) → P result new) m
+        (λ _ at reply. refused_by P Status.WrongStep result old new (reply, lost (Err Status.WrongStep) reply ∙ not_there old k o lies at) refused)
+        (λ r _ at reply. subst (λ x. P x new) (sym reply) (event (record {
+          lies = lies;
+          row = r;
+          idle = idle;
+          at = at;
+          finds = λ down. (subst (λ x. FindsBelow old.stack old.files old.flow x lies) at finds down).0;
+          loses = lost (turned_by old k o lies r).reply reply;
+        }))) at reply

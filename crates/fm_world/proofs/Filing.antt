@@ -1,15 +1,15 @@
 -- Streams and handles through the events: there is a number and room for the handle of each create under way.
-use Rattle.std.proofs.Common.{◌≡◌, ℕ, ◌+◌, ◌≤◌, ◌<◌, Bool, true, false, cond, List, [], ◌∷◌, ◌++◌, length, Option, Some, None, Ok, refl, ap, ◌∙◌, arith, length-append}
-use Rattle.fm_world.proofs.Words.{count_by, nat_le, leb-false, sum_by_push, false≢true, HandleId, OpId, StreamId, VolumeId, WorkerId, Operation, Status}
-use Rattle.fm_world.proofs.Words.{count_changed, count_without, found_counts, length_change, length_without, Params, operation_of, Below, FlowAction}
-use Rattle.fm_world.proofs.Words.{PreState, is_success, is_create, is_unanswered, is_creating, creates, FlowRecord, Turned, next_of, FlowTable, is_number}
-use Rattle.fm_world.proofs.Words.{operation_at, changed, begun, begun_record, collected_of, marked, with_base, bare_answer, HandlePhase, FileStream}
-use Rattle.fm_world.proofs.Words.{FileTable, is_handle, with_phase, opened, closed, torn_down, left, created, created_in, stream_of_path, has_handle_on}
-use Rattle.fm_world.proofs.Words.{after_base, after_pre, params_of, moved_on, IsFiled, gives_nothing}
+use Rattle.std.proofs.Common.{◌≡◌, ℕ, ◌+◌, ◌≤◌, ◌<◌, Bool, true, false, cond, List, [], ◌∷◌, ◌++◌, length, Option, Some, Ok, refl, ap, ◌∙◌, arith, length-append, ◌&&◌, ◌||◌, sym}
+use Rattle.fm_world.proofs.Words.{count_by, nat_le, leb-false, sum_by_push, false≢true, HandleId, OpId, StreamId, VolumeId, WorkerId, Operation}
+use Rattle.fm_world.proofs.Words.{Status, count_changed, count_without, found_counts, length_change, length_without, Params, operation_of, Below}
+use Rattle.fm_world.proofs.Words.{FlowAction, PreState, is_success, is_create, is_unanswered, is_creating, creates, FlowRecord, Turned, next_of}
+use Rattle.fm_world.proofs.Words.{FlowTable, is_number, operation_at, changed, begun, begun_record, collected_of, marked, with_base, bare_answer}
+use Rattle.fm_world.proofs.Words.{HandlePhase, FileTable, is_handle, with_phase, opened, closed, torn_down, left, created, created_in, stream_of_path}
+use Rattle.fm_world.proofs.Words.{has_handle_on, after_base, after_pre, params_of, moved_on, IsFiled, gives_nothing, and_from, and_parts}
 use Rattle.fm_world.specs.Files as files
-use Rattle.std.specs.Prelude.{◌&&◌, ◌||◌}
 use Rattle.fm_world.specs.declared.step.FileRequest.{FileRequest}
 use Rattle.fm_world.proofs.Turning.{each_turn, collected_by}
+use Rattle.fm_world.proofs.Cases.{by_option, one-le}
 
 -- no handle is given
 pub record Shrinks (f g : FileTable) : Type 0 where
@@ -24,15 +24,6 @@ left_shrinks s b f = elim (has_handle_on s f || b) as (λ c. Shrinks f (cond c f
   | true ↦ shrinks_same f
   | false ↦ record { next = refl; handles = omega arith }
 ]
-
-closed_shrinks : (h : HandleId) (s : StreamId) (b : Bool) (f : FileTable) → Shrinks f (left s b (closed h f))
-closed_shrinks h s b f =
-    let k = left_shrinks s b (closed h f) in
-    record { next = k.next; handles = omega (arith, k.handles, length_without (is_handle h) f.handles) }
-
-marked_shrinks : (s : StreamId) (b : Bool) (f : FileTable) → Shrinks f (cond b (files.marked s f) f)
-marked_shrinks s true f = record { next = refl; handles = omega arith }
-marked_shrinks s false f = shrinks_same f
 
 pub moved_shrinks : (operation : Operation) (h : HandleId) (n : ℕ) (f : FileTable) → Shrinks f (moved_on operation h n f)
 moved_shrinks Operation.Cleanup h n f = record { next = refl; handles = let k = length_change (is_handle h) (with_phase (HandlePhase.CleaningUp (record { 0 = n }))) f.handles in omega (arith, k) }
@@ -66,7 +57,7 @@ filed_open f t o s r step at was is h =
     record { numbers = omega (arith, counts, one, none, h.numbers); few = omega (arith, counts, one, none, h.few, more) }
 
 pub not_more_none : (r s : FlowRecord) → is_creating s ≡ false → NotMore r s
-not_more_none r s none = let k : ◌≡◌ {A = ℕ} (cond (is_creating s) 1 0) 0 = ap (λ b. cond b 1 0) none in omega (arith, k)
+not_more_none r s none = one-le (is_creating s) (is_creating r) (λ creating. absurd (false≢true (sym none ∙ creating)))
 
 -- the base's answer: the operation was unanswered before
 pub filed_answered : (f : FileTable) (t : FlowTable) (o : OpId) (r : FlowRecord) (step : FlowRecord → FlowRecord) (operation : Operation) (s : Option StreamId) (h : Option HandleId)
@@ -78,9 +69,12 @@ filed_answered f t o r step Operation.Create (Some s) h why b at same unanswered
       | false ↦ filed_step f (left s b f) t o r step at (not_more_none r (step r) none) (left_shrinks s b f) k
     ]
 filed_answered f t o r step Operation.SetDelete (Some s) h why b at same unanswered none k =
-    filed_step f (cond (is_success why) (files.marked s f) f) t o r step at (not_more_none r (step r) none) (marked_shrinks s (is_success why) f) k
+    filed_step f (cond (is_success why) (files.marked s f) f) t o r step at (not_more_none r (step r) none)
+    (elim (is_success why) as (λ c. Shrinks f (cond c (files.marked s f) f)) [ true ↦ record { next = refl; handles = omega arith } | false ↦ shrinks_same f ]) k
 filed_answered f t o r step Operation.Close (Some s) (Some h) why b at same unanswered none k =
-    filed_step f (left s b (closed h f)) t o r step at (not_more_none r (step r) none) (closed_shrinks h s b f) k
+    let gone = left_shrinks s b (closed h f) in
+    filed_step f (left s b (closed h f)) t o r step at (not_more_none r (step r) none)
+    (record { next = gone.next; handles = omega (arith, gone.handles, length_without (is_handle h) f.handles) }) k
 filed_answered f t o r step _ _ _ why b at same unanswered none k = filed_step f f t o r step at (not_more_none r (step r) none) (shrinks_same f) k
 
 -- an operation that has an answer is no create under way
@@ -89,14 +83,9 @@ answered_none r h = elim (is_create r.operation) as (λ b. b && is_unanswered r.
 
 -- the same kind of operation, that was unanswered
 pub not_more_same : (r s : FlowRecord) → s.operation ≡ r.operation → is_unanswered r.stage ≡ true → NotMore r s
-not_more_same r s same unanswered =
-    let was : is_creating r ≡ is_create r.operation && true = ap (λ b. is_create r.operation && b) unanswered in
-    let is : is_creating s ≡ is_create r.operation && is_unanswered s.stage = ap (λ x. is_create x && is_unanswered s.stage) same in
-    rw (was, is) (at_most (is_create r.operation) (is_unanswered s.stage))
-  where
-    at_most : (a b : Bool) → cond (a && b) 1 0 ≤ cond (a && true) 1 0
-    at_most true true = omega arith
-    at_most _ _ = omega arith
+not_more_same r s same unanswered = one-le (is_creating s) (is_creating r) (λ creating.
+    and_from (is_create r.operation) (is_unanswered r.stage)
+    (sym (ap is_create same) ∙ (and_parts (is_create s.operation) (is_unanswered s.stage) creating).0) unanswered)
 
 -- ---- next
 
@@ -132,11 +121,8 @@ filed_begins f g t v stream handle born name p none shrinks h =
     record { numbers = omega (arith, counts, zero', shrinks.next, h.numbers); few = omega (arith, counts, zero', shrinks.handles, h.few) }
 
 created_shrinks : (v : VolumeId) (path : List ℕ) (n : ℕ) (f : FileTable) → Shrinks f (created v path n f)
-created_shrinks v path n f = in_case (stream_of_path v path f)
-  where
-    in_case : (m : Option FileStream) → Shrinks f (created_in v path n f m)
-    in_case (Some x) = shrinks_same f
-    in_case None = record { next = refl; handles = omega arith }
+created_shrinks v path n f =
+    by_option (λ m. Shrinks f (created_in v path n f m)) (stream_of_path v path f) (λ _. record { next = refl; handles = omega arith }) (λ x _. shrinks_same f)
 
 -- a create begins where there is room for its handle
 pub filed_creates : (f : FileTable) (t : FlowTable) (v : VolumeId) (path : List ℕ) (stream : Option StreamId) (handle : Option HandleId) (born : ℕ) (name : Option (List ℕ)) (p : Params)

@@ -1,43 +1,46 @@
 -- The events on operations leave contexts as the World says.
-use Rattle.std.proofs.Common.{◌≡◌, ℕ, ◌<◌, ◌≤◌, ◌+◌, ◌==◌, Bool, true, false, cond, List, [], ◌∷◌, ◌++◌, length, Option, Some, None, Result, Ok, slice_get, option_to_list, find, refl, ap, sym, ◌∙◌, subst, inl, inr, arith}
-use Rattle.fm_world.proofs.Words.{All, slice_set, nat_le, false≢true, true≢false, cases_Bool, and_parts, ne_eqb, none-some, same_Some, slice_get_within}
-use Rattle.fm_world.proofs.Words.{set-set, All-nil, All-cons, All-push, CtxId, InstanceId, OpId, WorkerId, Operation, Status, found_holds, all_change}
-use Rattle.fm_world.proofs.Words.{all_without, HandleId, StreamId, VolumeId, CreateMode, BaseCall, Params, Answer, PreVerdict, PostVerdict, Data}
-use Rattle.fm_world.proofs.Words.{operation_of, is_within_limits, Phase, StackWorld, is_attached, is_to_visit, is_below_cursor, holds, hand_of, without}
-use Rattle.fm_world.proofs.Words.{IsLawful, grabbed, Leaves, Slot, ContextTable, lawful_alike, leave_keeps, carry_keeps, bring_keeps, Below, FlowAction, Ask}
-use Rattle.fm_world.proofs.Words.{PreState, Base, PreVisit, Stage, Descending, PreRunning, Ascending, PostRunning, carried_in, carried_among, carried_by}
-use Rattle.fm_world.proofs.Words.{flight, handed, taken_by, ask_in, last_visited, owed, FlowRecord, IsCourse, next_of, pre_returned_of, post_returned_of}
-use Rattle.fm_world.proofs.Words.{drain_returned_of, base_fits, post_state, done_at, post_leads, FlowTable, operation_at, changed, told, total, carried}
-use Rattle.fm_world.proofs.Words.{in_flight, begun, begun_record, is_number, collected_in, marked, is_full, verdict_counted, completed_as, owed_pre_settled}
-use Rattle.fm_world.proofs.Words.{owed_post_settled, owed_drain_settled, base_counted, creates, is_unanswered, is_create, collected_of, Begin, Worker, World}
-use Rattle.fm_world.proofs.Words.{carries, worker_at, put, after_next, cleanup_in, row_at, place_in, HoldsIn, CarriesIn, AskCarries, fits, is_flown}
-use Rattle.fm_world.proofs.Words.{is_flown_by, LosesByKnown, Begins, Nexts, NextsOver, LiesBelow, PreReturns, BaseReturns, PostReturns, ReturnsFrom, Collects}
-use Rattle.fm_world.proofs.Words.{brought, received, returned, drains_at, state_at, state_given, held_context, of_hand, sent, sent_in, carries_after}
-use Rattle.fm_world.proofs.Words.{has_post, begun_on, moved_on, has_no_handle_left, filed_next, filed_pre, filed_base, filed_record, is_created_on, base_step}
-use Rattle.fm_world.proofs.Words.{base_returned, asked_refused, asked_begun, IsSound, IsUnderWay, IsOwned, IsAmong, IsFileSound, names_there, pre_step}
-use Rattle.fm_world.proofs.Words.{FileHandle, FileStream, FileTable, handle_at, stream_for, created, after_pre, created_begun}
+use Rattle.std.proofs.Common.{◌≡◌, ℕ, ◌<◌, ◌≤◌, ◌+◌, ◌==◌, Bool, true, false, cond, List, [], ◌∷◌, ◌++◌, length, Option, Some, None, Result, Ok, slice_get, option_to_list, find, refl, ap, sym, ◌∙◌, subst, arith, ◌||◌, ◌-◌, ◌^◌}
+use Rattle.fm_world.proofs.Words.{All, slice_set, nat_le, false≢true, true≢false, and_parts, ne_eqb, none-some, same_Some, set-set, All-nil, All-cons}
+use Rattle.fm_world.proofs.Words.{All-push, CtxId, InstanceId, OpId, WorkerId, Operation, Status, found_holds, all_change, all_without, HandleId}
+use Rattle.fm_world.proofs.Words.{StreamId, VolumeId, CreateMode, BaseCall, Params, Answer, PreVerdict, PostVerdict, Data, operation_of}
+use Rattle.fm_world.proofs.Words.{is_within_limits, Phase, StackWorld, is_attached, is_to_visit, is_below_cursor, holds, hand_of, without, IsLawful}
+use Rattle.fm_world.proofs.Words.{grabbed, Leaves, Slot, ContextTable, lawful_alike, leave_keeps, carry_keeps, bring_keeps, Below, FlowAction, Ask}
+use Rattle.fm_world.proofs.Words.{PreState, Base, PreVisit, Stage, Descending, PreRunning, Ascending, PostRunning, carried_in, carried_among}
+use Rattle.fm_world.proofs.Words.{carried_by, flight, handed, taken_by, ask_in, last_visited, owed, FlowRecord, IsCourse, next_of, pre_returned_of}
+use Rattle.fm_world.proofs.Words.{post_returned_of, drain_returned_of, base_fits, post_state, done_at, post_leads, FlowTable, operation_at, changed}
+use Rattle.fm_world.proofs.Words.{total, carried, in_flight, begun, begun_record, is_number, collected_in, marked, is_full, verdict_counted}
+use Rattle.fm_world.proofs.Words.{completed_as, owed_pre_settled, owed_post_settled, owed_drain_settled, base_counted, creates, is_unanswered}
+use Rattle.fm_world.proofs.Words.{is_create, Begin, Worker, World, carries, worker_at, put, after_next, cleanup_in, row_at, place_in, HoldsIn}
+use Rattle.fm_world.proofs.Words.{CarriesIn, AskCarries, fits, is_flown, is_flown_by, Begins, Nexts, LiesBelow, PreReturns, BaseReturns, PostReturns}
+use Rattle.fm_world.proofs.Words.{Collects, brought, received, returned, drains_at, state_at, state_given, held_context, of_hand, sent, sent_in}
+use Rattle.fm_world.proofs.Words.{carries_after, has_post, begun_on, moved_on, has_no_handle_left, filed_next, filed_record, is_created_on, base_step}
+use Rattle.fm_world.proofs.Words.{base_returned, asked_refused, asked_begun, IsSound, IsUnderWay, IsOwned, IsAmong, IsFileSound, names_there}
+use Rattle.fm_world.proofs.Words.{FileHandle, FileStream, FileTable, handle_at, stream_for, created, after_pre, created_begun, are_on, pre_leads}
+use Rattle.fm_world.proofs.Words.{settle_pre, settle_post, settle_drain, drains_push, drains_pre_settled, drains_post_settled, drains_drain_settled}
+use Rattle.fm_world.proofs.Words.{AtPre, AtPost, spot_at, data_fits, way_of, drain_opens, one, option_map, none_running, IsFlow, without_first}
+use Rattle.fm_world.proofs.Words.{removed}
 use Rattle.fm_flow.specs.Sound as flow
-use Rattle.std.specs.Prelude.{◌||◌, ◌-◌, ◌^◌}
 use Rattle.fm_data.specs.declared.verdict.Completion.{Completion}
-use Rattle.fm_flow.specs.Table.{without_first}
-use Rattle.fm_flow.proofs.Balances.{next_carries, next_flies, next_enters, pre_returned_carries, pre_returned_flies, base_returned_carries}
-use Rattle.fm_flow.proofs.Balances.{base_returned_flies, post_returned_carries, post_returned_flies, drain_returned_carries, drain_returned_flies}
-use Rattle.fm_flow.proofs.Balances.{total_changed}
+use Rattle.fm_flow.proofs.Balances.{next_carries, next_flies, next_enters, pre_returned_carries, pre_returned_flies, base_returned_carries, base_returned_flies, post_returned_carries, post_returned_flies, drain_returned_carries, drain_returned_flies, total_changed}
 use Rattle.fm_flow.proofs.Owed.{owed_push_none}
 use Rattle.fm_flow.proofs.Owes.{WasOwed, MayAsk, next_owes}
-use Rattle.fm_world.proofs.Belonging.{owners_same, filters_same, AllCarry, held_has}
+use Rattle.std.specs.Cmp.Lexicographic.{bytes_decides}
+use Rattle.fm_world.proofs.Belonging.{owners_same, filters_same, AllCarry, held_has, AllPass, AllFit}
 use Rattle.fm_world.proofs.Callbacks.{same_hands}
-use Rattle.fm_world.proofs.Fitting.{AllPass, AllFit}
-use Rattle.fm_world.proofs.Keeps.{known_cases, loses_under_way, FiledIn}
-use Rattle.fm_world.proofs.Losing.{NamedIn, received_slots, loses_filed, loses_owned, loses_named, loses_sound, named_more, created_there, moved_there}
-use Rattle.fm_world.proofs.Events.{Turns, next_by, pre_by, base_by, post_by, memory_by}
-use Rattle.fm_world.proofs.Operations.{next_keeps, pre_keeps, base_keeps, post_keeps, drain_keeps, collect_keeps, inside_pre, inside_base, inside_post, inside_drain, may_visit, told_there, asked_begun_by, begun_by, lists_keeps, creates_keeps, asks_keeps}
-use Rattle.fm_world.proofs.Owning.{empty_hand, owned_moves}
+use Rattle.fm_world.proofs.Keeps.{known_cases, worker_below, FiledIn}
+use Rattle.fm_world.proofs.Losing.{loses_sound, named_more, created_there, moved_there}
+use Rattle.fm_world.proofs.Events.{Turns, next_by, pre_by, base_by, post_by, memory_by, turned_by, nexted, pre_made, received_by}
+use Rattle.fm_world.proofs.Operations.{next_keeps, inside_pre, inside_base, inside_post, inside_drain, may_visit, told_there, asked_begun_by, begun_by, operation_begins, names_none, return_keeps, counted_quiet, not_base_of, post_quiet, done_stage, told_without}
+use Rattle.fm_world.proofs.Owning.{empty_hand, owned_moves, cleaning_stays}
 use Rattle.fm_world.proofs.Filing.{was_known, filed_creates}
-use Rattle.fm_world.proofs.Filed.{SameFile, file_step, file_answered, file_pre, file_lists, file_begins, file_creates, file_collects, is_known, next_same_file, known_answered, base_answered, answered_same, fits_create}
+use Rattle.fm_world.proofs.Filed.{SameFile, file_step, file_answered, file_pre, file_lists, file_begins, file_creates, file_collects, next_same_file, known_answered, base_answered, answered_same, fits_create}
 use Rattle.fm_world.proofs.Descents.{or_left, or_right}
 use Rattle.fm_world.proofs.Turning.{collected_by}
-use Rattle.fm_world.proofs.Owning.{cleaning_stays}
+use Rattle.fm_world.proofs.Amongs.{is_up, no_base, among_base, among_settles, settle_pre_keeps, settle_post_keeps, settle_drain_keeps}
+use Rattle.fm_world.proofs.Ties.{counted_from, Matches, is_running, matches_pre, matches_base, matches_post, matches_drain, in_no_drain, in_a_drain, standing, told_same, quiet_is_none}
+use Rattle.fm_flow.proofs.Soundness.{sound_pre_returned, sound_base, sound_post_returned, sound_drain_returned}
+use Rattle.fm_world.proofs.Cases.{by_bool}
+use Rattle.fm_flow.proofs.Flows.{flow_collects}
 
 -- ---- one operation changes
 
@@ -83,17 +86,9 @@ flow_owned w t lawful carry quiet h = record {
   totals = h.totals;
 }
 
-worker_below : (w : World) (k : WorkerId) (a : Worker) → worker_at w.workers k ≡ Some a → IsUnderWay w → k.0 < 48
-worker_below w k a at s = subst (λ n. k.0 < n) s.hands (slice_get_within w.workers k.0 a at)
-
 -- what an operation is owed
 asks_of : (w : World) (o : OpId) (r : FlowRecord) → operation_at o w.flow ≡ Some r → IsOwned w → All (AskCarries w.stack w.contexts.slots) (owed r.entries)
 asks_of w o r at h = found_holds (λ (x : FlowRecord). All (AskCarries w.stack w.contexts.slots) (owed x.entries)) (is_number o) w.flow.operations r h.completions at
-
--- nothing is carried otherwise
-alike : (w : World) (o : OpId) (r : FlowRecord) (f : FlowRecord → FlowRecord) → operation_at o w.flow ≡ Some r → ((c : CtxId) → carried_by c (f r) ≡ carried_by c r)
-    → IsLawful (carries w) w.contexts → IsLawful (carries_after w o f) w.contexts
-alike w o r f at same h = lawful_alike (λ c. omega (arith, carried_changed w.flow o r f at c, same c)) h
 
 -- nothing comes to be in flight
 quieter : (w : World) (o : OpId) (r : FlowRecord) (f : FlowRecord → FlowRecord) → operation_at o w.flow ≡ Some r → ((i : ℕ) → flight i (f r) ≤ flight i r)
@@ -107,31 +102,30 @@ pub total_push : (f : FlowRecord → ℕ) (rs : List FlowRecord) (r : FlowRecord
 total_push f [] r none = omega (arith, none)
 total_push f (x ∷ rs) r none = omega (arith, total_push f rs r none)
 
--- streams and handles don't matter here
-files_owned : {w : World} (files : FileTable) → IsOwned w → IsOwned (record w { files = files })
-files_owned files h = record { lawful = h.lawful; cleaning = h.cleaning; holders = h.holders; completions = h.completions; fits = h.fits; quiet = h.quiet; totals = h.totals }
-
 -- a new operation is owed nothing and in flight nowhere
-operation_owned : (old : World) (v : VolumeId) (stream : Option StreamId) (handle : Option HandleId) (path : Option (List ℕ)) (p : Params) (files : FileTable) → IsOwned old
-    → IsOwned (record old { flow = begun v stream handle old.stack.births path p old.flow; files = files })
-operation_owned old v stream handle path p files k =
+operation_sound : (old : World) (v : VolumeId) (stream : Option StreamId) (handle : Option HandleId) (path : Option (List ℕ)) (p : Params) (files : FileTable)
+    → are_on path p ≡ true → is_within_limits p ≡ true → is_full old.flow ≡ false → IsFileSound files (begun v stream handle old.stack.births path p old.flow)
+    → AllPass (names_there files) old.contexts.slots → IsSound old → IsSound (record old { flow = begun v stream handle old.stack.births path p old.flow; files = files })
+operation_sound old v stream handle path p files on within free filed links s =
     let r = begun_record old.flow.next v stream handle old.stack.births path p in
-    files_owned files
-    (flow_owned old (begun v stream handle old.stack.births path p old.flow) (lawful_alike (λ c. sym (total_push (carried_by c) old.flow.operations r refl)) k.lawful)
-    (All-push (λ (x : FlowRecord). All (AskCarries old.stack old.contexts.slots) (owed x.entries)) old.flow.operations r k.completions
-    (All-nil (AskCarries old.stack old.contexts.slots)))
-    (λ i rests. total_push (flight i.0) old.flow.operations r refl ∙ k.quiet i rests) k)
+    record {
+      under_way = operation_begins old v stream handle path p on within free s.under_way;
+      owned = flow_owned old (begun v stream handle old.stack.births path p old.flow)
+          (lawful_alike (λ c. sym (total_push (carried_by c) old.flow.operations r refl)) s.owned.lawful)
+          (All-push (λ (x : FlowRecord). All (AskCarries old.stack old.contexts.slots) (owed x.entries)) old.flow.operations r s.owned.completions
+          (All-nil (AskCarries old.stack old.contexts.slots)))
+          (λ i rests. total_push (flight i.0) old.flow.operations r refl ∙ s.owned.quiet i rests) s.owned;
+      filed = filed;
+      links = links;
+    }
 
 asks_sound : (old : World) (h : HandleId) (p : Params) (x : FileHandle) (y : FileStream) → is_create (operation_of p) ≡ false → handle_at h old.files ≡ Some x
     → is_within_limits p ≡ true → is_full old.flow ≡ false → IsSound old → IsSound (begun_on old h p x (Some y))
 asks_sound old h p x y none at within free s =
     let files = moved_on (operation_of p) h old.flow.next old.files in
-    record {
-      under_way = asks_keeps old h p x y none within free s.under_way;
-      owned = operation_owned old y.volume (Some x.stream) (Some h) (Some y.path) p files s.owned;
-      filed = file_begins old.files old.flow y.volume h x old.stack.births (Some y.path) p at none s.filed;
-      links = named_more old.files files old.contexts.slots (moved_there (operation_of p) h old.flow.next old.files) s.links;
-    }
+    operation_sound old y.volume (Some x.stream) (Some h) (Some y.path) p files (names_none (Some y.path) p none) within free
+    (file_begins old.files old.flow y.volume h x old.stack.births (Some y.path) p at none s.filed)
+    (named_more old.files files old.contexts.slots (moved_there (operation_of p) h old.flow.next old.files) s.links) s
 
 creates_sound : (old : World) (v : VolumeId) (path : List ℕ) (mode : CreateMode) → is_full old.flow || has_no_handle_left old ≡ false → IsSound old
     → IsSound (created_begun old v path mode)
@@ -140,13 +134,10 @@ creates_sound old v path mode free s =
     let stream = Some (stream_for v path old.flow.next old.files) in
     let files = created v path old.flow.next old.files in
     let room = or_left (nat_le 4096 (length old.files.handles + creates old.flow)) (old.files.next == 2 ^ 64 - 1) (or_right (is_full old.flow) (has_no_handle_left old) free) in
-    record {
-      under_way = creates_keeps old v path mode free s.under_way;
-      owned = operation_owned old v stream None (Some path) p files s.owned;
-      filed = file_creates old.files old.flow v path old.stack.births (Some path) p refl
-          (filed_creates old.files old.flow v path stream None old.stack.births (Some path) p room s.filed.room) s.filed;
-      links = named_more old.files files old.contexts.slots (created_there v path old.flow.next old.files) s.links;
-    }
+    operation_sound old v stream None (Some path) p files ((bytes_decides path path).1 refl) refl (or_left (is_full old.flow) (has_no_handle_left old) free)
+    (file_creates old.files old.flow v path old.stack.births (Some path) p refl
+    (filed_creates old.files old.flow v path stream None old.stack.births (Some path) p room s.filed.room) s.filed)
+    (named_more old.files files old.contexts.slots (created_there v path old.flow.next old.files) s.links) s
 
 -- an operation on a handle begins
 pub asked_sound : (old : World) (h : HandleId) (p : Params) → asked_refused old h p ≡ None → is_create (operation_of p) ≡ false → IsSound old → IsSound (asked_begun old h p)
@@ -157,12 +148,7 @@ unfolding Begins
 begin_sound old what result new h s =
     memory_by (λ _ w. IsSound w) _ result old new _ h (λ why. s) (λ o free e. subst IsSound (sym e.1)
     (begun_by IsSound old what free
-    (λ v room. record {
-      under_way = lists_keeps old v room s.under_way;
-      owned = operation_owned old v None None None Params.List old.files s.owned;
-      filed = file_lists old.files old.flow v old.stack.births s.filed;
-      links = s.links;
-    })
+    (λ v room. operation_sound old v None None None Params.List old.files refl refl room (file_lists old.files old.flow v old.stack.births s.filed) s.links s)
     (λ v path mode room. creates_sound old v path mode room s)
     (λ h p x y none at within room. asks_sound old h p x y none at within room s)))
 
@@ -175,12 +161,8 @@ lies_attached s r lies i below' rests j called e =
     let next = (subst (LiesBelow s r) e below').0 in
     let passes = and_parts (is_to_visit s r.volume r.born r.operation next.row) (is_below_cursor s (last_visited r.entries) next.row) next.passes in
     let attached = and_parts (is_attached next.row.phase) _ passes.0 in
-    let flown : is_flown_by (row_at s j) ≡ true = ap is_flown_by next.there ∙ attached_flown next.row.phase attached.0 in
-    ne_eqb j.0 i.0 (λ x. true≢false (sym flown ∙ ap (λ n. is_flown_by (slice_get s.instances n)) x ∙ rests))
-  where
-    attached_flown : (p : Phase) → is_attached p ≡ true → is_flown p ≡ true
-    attached_flown Phase.Attached h = refl
-    attached_flown _ h = absurd (false≢true h)
+    let flies = (elim next.row.phase as (λ p. is_attached p ≡ true → is_flown p ≡ true) [ Phase.Attached ↦ λ h. refl | _ ↦ λ h. absurd (false≢true h) ]) attached.0 in
+    ne_eqb j.0 i.0 (λ x. true≢false (sym (ap is_flown_by next.there ∙ flies) ∙ ap (λ n. is_flown_by (slice_get s.instances n)) x ∙ rests))
 
 may_ask : (s : StackWorld) (slots : List Slot) (k : WorkerId) (lies : Below) (r : FlowRecord) → MayAsk (AskCarries s slots) k lies r
 may_ask s slots k (Below.Instance i false) r = tt
@@ -239,28 +221,24 @@ next_by_reply w o r f k (Ok (FlowAction.Drain i completion)) at idle worker bala
 next_by_reply w o r f k _ at idle worker balance was owes quiet h =
     flow_owned w (changed o f w.flow) (lawful_alike (λ c. omega (arith, balance c)) h.lawful) (carry_changed w.stack w.contexts.slots w.flow o r f at owes h.completions) quiet h
 
-next_owned : (old : World) (k : WorkerId) (o : OpId) (result : Result FlowAction Status) (new : World) (e : Turns old k o result new) → IsSound old → IsOwned e.mid
-next_owned old k o result new e s =
+next_owned : (old : World) (k : WorkerId) (o : OpId) (new : World) (e : Turns old k o new) → IsSound old → IsOwned (nexted old k o e.lies (turned_by old k o e.lies e.row).reply)
+next_owned old k o new e s =
     let r = e.row in
     let d = drains_at old o in
     let f = λ (x : FlowRecord). (next_of k e.lies d x).after in
-    let turned = next_of k e.lies d r in
     let sound = found_holds flow.IsSound (is_number o) old.flow.operations r s.under_way.flow.sound e.at in
     let among = found_holds (IsAmong old.stack) (is_number o) old.flow.operations r s.under_way.among e.at in
-    let owes = next_owes (AskCarries old.stack old.contexts.slots) k e.lies d r
-    (λ down. (may_visit old.stack r e.lies among (e.finds down), may_ask old.stack old.contexts.slots k e.lies r)) sound (asks_of old o r e.at s.owned) in
-    let quiet : (i : InstanceId) → is_flown_by (row_at old.stack i) ≡ false → in_flight i.0 (changed o f old.flow) ≡ 0 = λ i rests.
-    omega (
+    let below = λ (down : r.stage ≡ Descending). may_visit old.stack r e.lies among (e.finds down) in
+    let owes = next_owes (AskCarries old.stack old.contexts.slots) k e.lies d r (λ down. (below down, may_ask old.stack old.contexts.slots k e.lies r)) sound (asks_of old o r e.at s.owned) in
+    next_by_reply old o r f k (next_of k e.lies d r).reply e.at e.idle (worker_below old k Worker.Idle e.idle s.under_way) (next_balance old o k e.lies d r e.at e.finds s)
+    owes.hands owes.owes
+    (λ i rests. omega (
       arith,
       flight_changed old.flow o r f e.at i.0,
-      next_flies i.0 k e.lies d r (λ down. may_visit old.stack r e.lies among (e.finds down)) sound,
+      next_flies i.0 k e.lies d r below sound,
       next_enters i.0 k e.lies d r (λ down. lies_attached old.stack r e.lies i (e.finds down) rests),
       s.owned.quiet i rests,
-    ) in
-    let filed = filed_next old o (changed o f old.flow) result e.lies in
-    subst IsOwned (sym (e.over.1 ∙ ap (λ x. record old { flow = changed o f old.flow; workers = after_next old.workers k o x; contexts = received old.contexts k x; files = filed }) e.reply))
-    (files_owned filed (next_by_reply old o r f k turned.reply e.at e.idle (worker_below old k Worker.Idle e.idle s.under_way) (next_balance old o k e.lies d r e.at e.finds s)
-    owes.hands owes.owes quiet s.owned))
+    )) s.owned
 
 -- an answer that was known counts at once
 known_filed : (old : World) (k : WorkerId) (o : OpId) (r : FlowRecord) (lies : Below) (drains : Bool) (result : Result FlowAction Status) → operation_at o old.flow ≡ Some r
@@ -268,48 +246,34 @@ known_filed : (old : World) (k : WorkerId) (o : OpId) (r : FlowRecord) (lies : B
     → IsFileSound (filed_next old o (changed o (λ (x : FlowRecord). (next_of k lies drains x).after) old.flow) result lies) (changed o (λ (x : FlowRecord). (next_of k lies drains x).after) old.flow)
 known_filed old k o r lies drains result at reply s = by_result result lies reply
   where
-    still : (lies : Below) → (is_known lies ≡ true → Ok FlowAction.Moved ≡ (next_of k lies drains r).reply → ⊥)
-        → IsFileSound old.files (changed o (λ (x : FlowRecord). (next_of k lies drains x).after) old.flow)
-    still lies other = file_step old.files old.flow o r (λ (x : FlowRecord). (next_of k lies drains x).after) at (next_same_file k lies drains r other) s
+    step : Below → FlowRecord → FlowRecord
+    step lies x = (next_of k lies drains x).after
 
     by_result : (result : Result FlowAction Status) (lies : Below) → result ≡ (next_of k lies drains r).reply
-        → IsFileSound (filed_next old o (changed o (λ (x : FlowRecord). (next_of k lies drains x).after) old.flow) result lies) (changed o (λ (x : FlowRecord). (next_of k lies drains x).after) old.flow)
+        → IsFileSound (filed_next old o (changed o (step lies) old.flow) result lies) (changed o (step lies) old.flow)
     by_result (Ok FlowAction.Moved) (Below.Known why) reply =
-        let f = λ (x : FlowRecord). (next_of k (Below.Known why) drains x).after in
-        let t = changed o f old.flow in
+        let t = changed o (step (Below.Known why)) old.flow in
         let was = was_known k why drains r reply in
         subst (λ (files : FileTable). IsFileSound files t) (sym (told_there (filed_record old.files t why) old.files o old.flow r at))
-        (file_answered old.files old.flow o r f why at was.unanswered (known_answered old.files k why drains r was.none) s)
-    by_result (Ok FlowAction.Moved) lies reply = still lies (λ known moved. false≢true known)
-    by_result _ lies reply = still lies (λ known moved. (cc))
-
-next_filed : (old : World) (k : WorkerId) (o : OpId) (result : Result FlowAction Status) (new : World) (e : Turns old k o result new) → FiledIn old → FiledIn e.mid
-next_filed old k o result new e s = subst FiledIn (sym e.over.1) (known_filed old k o e.row e.lies (drains_at old o) result e.at e.reply s)
-
--- links go with what a known answer takes away; all else is there still
-next_named : (old : World) (k : WorkerId) (o : OpId) (lies : Below) (result : Result FlowAction Status) (mid new : World) → NextsOver old k o lies result mid
-    → LosesByKnown result lies mid new → NamedIn old → NamedIn new
-next_named old k o lies result mid new over h s = by_result result lies over h
-  where
-    still : (result : Result FlowAction Status) → AllPass (names_there old.files) (received old.contexts k result).slots
-    still result = subst (AllPass (names_there old.files)) (sym (received_slots old.contexts k result)) s
-
-    by_result : (result : Result FlowAction Status) (lies : Below) → NextsOver old k o lies result mid → LosesByKnown result lies mid new → NamedIn new
-    by_result (Ok FlowAction.Moved) (Below.Known why) over h = loses_named mid new h
-    by_result result lies over h = subst NamedIn (sym (h ∙ over.1)) (still result)
+        (file_answered old.files old.flow o r (step (Below.Known why)) why at was.unanswered (known_answered old.files k why drains r was.none) s)
+    by_result (Ok FlowAction.Moved) lies reply = file_step old.files old.flow o r (step lies) at (next_same_file k lies drains r (λ known moved. false≢true known)) s
+    by_result _ lies reply = file_step old.files old.flow o r (step lies) at (next_same_file k lies drains r (λ known moved. (cc))) s
 
 pub next_sound : (old : World) (k : WorkerId) (o : OpId) (result : Result FlowAction Status) (new : World) → Nexts old k o result new → IsSound old → IsSound new
 next_sound old k o result new h s =
     next_by (λ _ w. IsSound w) old k o result new h (λ why. s) (λ e.
-    let u = next_keeps old k o result new e s.under_way in
-    let owned = next_owned old k o result new e s in
-    let filed = next_filed old k o result new e s.filed in
-    record {
-      under_way = known_cases IsUnderWay result e.lies e.mid new e.loses (λ loses. loses_under_way e.mid new loses u) u;
-      owned = known_cases IsOwned result e.lies e.mid new e.loses (λ loses. loses_owned e.mid new loses owned) owned;
-      filed = known_cases FiledIn result e.lies e.mid new e.loses (λ loses. loses_filed e.mid new loses filed) filed;
-      links = next_named old k o e.lies result e.mid new e.over e.loses s.links;
-    })
+    let reply = (turned_by old k o e.lies e.row).reply in
+    let mid = nexted old k o e.lies reply in
+    let under_way = next_keeps old k o new e s.under_way in
+    let owned = next_owned old k o new e s in
+    let filed = known_filed old k o e.row e.lies (drains_at old o) reply e.at refl s.filed in
+    known_cases IsSound old o mid.flow reply e.lies mid new e.loses (λ loses. loses_sound mid new loses under_way owned filed) (λ kept. record {
+      under_way = under_way;
+      owned = owned;
+      filed = filed;
+      links = subst (λ f. AllPass (names_there f) mid.contexts.slots) (sym kept)
+          (received_by (λ t. AllPass (names_there old.files) t.slots) old.contexts k reply s.links (λ c. s.links));
+    }))
 
 -- ---- callbacks return
 
@@ -326,21 +290,16 @@ left_owned w o r f k a kept after at there worker na lawful slots cleaning hands
 held_is : (hand : List CtxId) (m : Option CtxId) (d : CtxId) → held_context hand m ≡ Some d → holds hand d ≡ true
 held_is hand None d h = absurd (none-some d h)
 held_is hand (Some e) d h =
-    elim (cases_Bool (holds hand e)) [
-      | inl has ↦ subst (λ x. holds hand x ≡ true) (same_Some e d (sym (ap (λ b. cond b (Some e) None) has) ∙ h)) has
-      | inr has ↦ absurd (none-some d (sym (ap (λ b. cond b (Some e) None) has) ∙ h))
-    ]
-
-completed_sends : (status : Status) (operation : Operation) → sent_in (completed_as status operation) ≡ None
-completed_sends status Operation.Cleanup = refl
-completed_sends status _ = refl
+    by_bool (λ b. cond b (Some e) None ≡ Some d → holds hand d ≡ true) (holds hand e) (λ has is. subst (λ x. holds hand x ≡ true) (same_Some e d is) has)
+    (λ lacks is. absurd (none-some d is)) h
 
 -- a completion's context was in the hand
 sent_held : (hand : List CtxId) (given : PreVerdict) (operation : Operation) (b : Bool) (d : CtxId) → sent_in (verdict_counted (of_hand hand given) operation b) ≡ Some d
     → holds hand d ≡ true
 sent_held hand (PreVerdict.WithCallback completion) operation true d h = held_is hand completion.context d h
 sent_held hand (PreVerdict.Synchronize completion) operation true d h = held_is hand completion.context d h
-sent_held hand (PreVerdict.Complete status) operation b d h = absurd (none-some d (sym (completed_sends status operation) ∙ h))
+sent_held hand (PreVerdict.Complete status) operation b d h =
+    absurd (none-some d (sym (elim operation as (λ x. sent_in (completed_as status x) ≡ None) [ Operation.Cleanup ↦ refl | _ ↦ refl ]) ∙ h))
 sent_held hand _ operation _ d h = absurd (none-some d h)
 
 taken_sent : (c : CtxId) (state : PreState) → taken_by c state ≡ carried_in c (record { number = 0; context = sent_in state })
@@ -365,9 +324,6 @@ sent_parts : (w : World) (o : OpId) (f : FlowRecord → FlowRecord) (k : WorkerI
 sent_parts w o f k None worker law balance has = (lawful_alike (λ c. omega (arith, balance c)) law, refl, refl, refl)
 sent_parts w o f k (Some d) worker law balance has =
     (carry_keeps (carries_after w o f) k.0 d law worker (has d refl) (λ c. balance c), refl, refl, set-set w.contexts.hands k.0 (without d (hand_of w.contexts.hands k.0)) [])
-
-same_instance : (i j : InstanceId) → i.0 ≡ j.0 → i ≡ j
-same_instance i j e = ap (λ n. record { 0 = n }) e
 
 -- what a preoperation sends along is carried from then on
 pub pre_balance : (w : World) (k : WorkerId) (o : OpId) (i : InstanceId) (state : PreState) (lent : Data) → worker_at w.workers k ≡ Some (Worker.Pre o i) → IsUnderWay w → (c : CtxId)
@@ -405,139 +361,117 @@ sent_owned w k o i (Some d) at has s =
     subst (λ p. HoldsIn w.stack w.contexts.slots p d) (ap place_in at)
     (held_has (HoldsIn w.stack w.contexts.slots (place_in (worker_at w.workers k))) (hand_of w.contexts.hands k.0) d (s.owned.holders k) (has d refl))
 
-pre_owned : (old : World) (k : WorkerId) (o : OpId) (i : InstanceId) (given : PreVerdict) (lent : Data) (after : ContextTable) → worker_at old.workers k ≡ Some (Worker.Pre o i)
-    → Leaves (carries_after old o (pre_step old k o i given lent)) (sent old.contexts k (sent_in (state_at old k o i given))) after k.0 → IsSound old
-    → IsOwned (record (returned old k o (pre_step old k o i given lent)) { contexts = after })
-pre_owned old k o i given lent after at leaves s =
+pub pre_sound : (old : World) (k : WorkerId) (given : PreVerdict) (lent : Data) (result : Result (Unit {0}) Status) (new : World)
+    → PreReturns old k given lent result new → IsSound old → IsSound new
+pre_sound old k given lent result new h s = pre_by (λ _ w. IsSound w) old k given lent result new h (λ why. s) (λ o i at fits after leaves loses.
     let x = inside_pre old k o i at s.under_way in
     let r = x.0.row in
     let state = state_at old k o i given in
     let f = pre_returned_of state lent in
+    let t = changed o f old.flow in
     let slots = old.contexts.slots in
-    let course = subst (λ x. IsCourse x r.entries) x.1 x.0.sound.course in
     let worker = worker_below old k (Worker.Pre o i) at s.under_way in
     let has = sent_is_held old k o i given at s.under_way in
     let parts = sent_parts old o f k (sent_in state) worker s.owned.lawful (pre_balance old k o i state lent at s.under_way) has in
-    let settled = owed_pre_settled PreRunning r.entries state refl course in
-    let visited : settled.0.instance ≡ i = same_instance settled.0.instance i (same_Some settled.0.instance.0 i.0 (sym settled.1 ∙ x.2)) in
-    let owes : All (AskCarries old.stack slots) (owed (f r).entries) =
-    subst (All (AskCarries old.stack slots)) (sym settled.2)
+    let settled = owed_pre_settled PreRunning r.entries state refl (subst (λ x. IsCourse x r.entries) x.1 x.0.sound.course) in
+    let visited : settled.0.instance ≡ i = ap (λ n. record { 0 = n }) (same_Some settled.0.instance.0 i.0 (sym settled.1 ∙ x.2)) in
+    let quiet : is_running (pre_leads state) ≡ false =
+    ap (λ x. is_running (pre_leads x)) (told_there (state_given old.stack (hand_of old.contexts.hands k.0) i given) PreState.Passed o old.flow r x.0.at)
+    ∙ counted_quiet (of_hand (hand_of old.contexts.hands k.0) given) r.operation (has_post old.stack (slice_get old.stack.instances i.0) r.operation) in
+    loses_sound (pre_made old k o i given lent after) new loses
+    (return_keeps old k (Worker.Pre o i) o r f (λ j. 0) at x.0.at (λ x. record { number = refl; collected = refl })
+    (subst (Matches o (Worker.Pre o i)) (sym (ap (λ a. spot_at a r.entries) x.1 ∙ ap (option_map AtPre) x.2)) (matches_pre o i)) quiet
+    (in_no_drain o (Worker.Pre o i) (λ p j. refl)) (λ j. omega (arith, drains_pre_settled j state r.entries)) (λ j. refl)
+    (sound_pre_returned state lent r x.1 (counted_from state quiet) (sym (told_there (λ (x : FlowRecord). data_fits x.operation x.path lent) false o old.flow r x.0.at) ∙ fits) x.0.sound)
+    (among_settles old.stack r.volume r.born r.operation r.entries r.stage (pre_leads state) (settle_pre state) (settle_pre_keeps state)
+    (not_base_of (pre_leads state) quiet) x.0.among) s.under_way)
+    (left_owned old o r f k (Worker.Pre o i) (sent old.contexts k (sent_in state)) after x.0.at at worker refl parts.0 parts.1 parts.2 parts.3 leaves
+    (subst (All (AskCarries old.stack slots)) (sym settled.2)
     (asked_carries old.stack slots settled.0 state (owed r.entries)
-    (subst (λ x. CarriesIn old.stack slots x (sent_in state)) (sym visited) (sent_owned old k o i (sent_in state) at has s)) (asks_of old o r x.0.at s.owned)) in
-    left_owned old o r f k (Worker.Pre o i) (sent old.contexts k (sent_in state)) after x.0.at at worker refl parts.0 parts.1 parts.2 parts.3 leaves owes
-    (λ j. omega (arith, pre_returned_flies j state lent r x.1 x.0.sound)) s.owned
-
-pre_filed : (old : World) (k : WorkerId) (o : OpId) (i : InstanceId) (given : PreVerdict) (lent : Data) → worker_at old.workers k ≡ Some (Worker.Pre o i) → IsSound old
-    → IsFileSound (filed_pre old o (changed o (pre_step old k o i given lent) old.flow) (state_at old k o i given)) (changed o (pre_step old k o i given lent) old.flow)
-pre_filed old k o i given lent at s =
-    let x = inside_pre old k o i at s.under_way in
-    let state = state_at old k o i given in
-    let t = changed o (pre_returned_of state lent) old.flow in
-    let read = λ (x : FlowRecord). after_pre state x.operation x.stream (is_created_on x.stream t) old.files in
-    subst (λ (files : FileTable). IsFileSound files t) (sym (told_there read old.files o old.flow x.0.row x.0.at))
-    (file_pre old.files old.flow o x.0.row state lent x.0.at x.1 s.filed)
-
-pub pre_sound : (old : World) (k : WorkerId) (given : PreVerdict) (lent : Data) (result : Result (Unit {0}) Status) (new : World)
-    → PreReturns old k given lent result new → IsSound old → IsSound new
-pre_sound old k given lent result new h s =
-    pre_by (λ _ w. IsSound w) old k given lent result new h (λ why. s) (λ o i at fits e.
-    let filed = filed_pre old o (changed o (pre_step old k o i given lent) old.flow) (state_at old k o i given) in
-    loses_sound e.0 new e.2 (subst IsUnderWay (sym e.1.1) (pre_keeps old k o i given lent e.0.contexts filed at fits s.under_way))
-    (subst IsOwned (sym e.1.1) (files_owned filed (pre_owned old k o i given lent e.0.contexts at e.1.0 s))) (subst FiledIn (sym e.1.1) (pre_filed old k o i given lent at s)))
+    (subst (λ x. CarriesIn old.stack slots x (sent_in state)) (sym visited) (sent_owned old k o i (sent_in state) at has s)) (asks_of old o r x.0.at s.owned)))
+    (λ j. omega (arith, pre_returned_flies j state lent r x.1 x.0.sound)) s.owned)
+    (subst (λ (files : FileTable). IsFileSound files t)
+    (sym (told_there (λ (x : FlowRecord). after_pre state x.operation x.stream (is_created_on x.stream t) old.files) old.files o old.flow r x.0.at))
+    (file_pre old.files old.flow o r state lent x.0.at x.1 s.filed)))
 
 -- ---- the base's call returns
 
-base_owned : (old : World) (k : WorkerId) (o : OpId) (call : BaseCall) (given : Answer) → worker_at old.workers k ≡ Some (Worker.Base o) → IsSound old
-    → IsOwned (base_returned old k o call given)
-base_owned old k o call given at s =
+pub base_sound : (old : World) (k : WorkerId) (call : BaseCall) (given : Answer) (result : Result (Unit {0}) Status) (new : World)
+    → BaseReturns old k call given result new → IsSound old → IsSound new
+base_sound old k call given result new h s = base_by (λ _ w. IsSound w) old k call given result new h (λ why. s) (λ o at fits loses.
     let x = inside_base old k o at s.under_way in
     let r = x.0.row in
     let handle : HandleId = record { 0 = old.files.next } in
     let f = base_step old call given in
+    let t = changed o f old.flow in
     let counts = base_counted call.params given handle in
     let slots = old.contexts.slots in
-    let none = empty_hand old k (Worker.Base o) at refl s.owned in
-    files_owned (filed_base old o (changed o f old.flow) given.status)
+    let fitting = sym (told_there (base_fits call given) false o old.flow r x.0.at) ∙ fits in
+    let no_base' = no_base r.stage r.entries x.0.sound.course.order (ap (λ x. is_up (way_of x)) x.1) in
+    loses_sound (base_returned old k o call given) new loses
+    (return_keeps old k (Worker.Base o) o r f (λ j. 0) at x.0.at (λ x. record { number = refl; collected = refl })
+    (subst (Matches o (Worker.Base o)) (sym (ap (λ a. spot_at a r.entries) x.1)) (matches_base o)) refl
+    (in_no_drain o (Worker.Base o) (λ p j. refl)) (λ j. omega (arith, drains_push j r.entries (Base counts.status counts.information))) (λ j. refl)
+    (sound_base call given handle r x.1 fitting x.0.sound)
+    (among_base old.stack r.volume r.born r.operation r.entries r.stage counts.status counts.information no_base' (x.0.among.base x.1) x.0.among) s.under_way)
     (step_owned old o r f k (Worker.Base o) Worker.Idle old.contexts (hand_of old.contexts.hands k.0) x.0.at at (worker_below old k (Worker.Base o) at s.under_way) refl refl
-    (alike old o r f x.0.at (λ c. base_returned_carries c call given handle r) s.owned.lawful) refl (same_hands old.contexts.hands k.0) refl
-    (subst (All (HoldsIn old.stack slots None)) (sym none) (All-nil (HoldsIn old.stack slots None)))
+    (lawful_alike (λ c. omega (arith, carried_changed old.flow o r f x.0.at c, base_returned_carries c call given handle r)) s.owned.lawful) refl (same_hands old.contexts.hands k.0) refl
+    (subst (All (HoldsIn old.stack slots None)) (sym (empty_hand old k (Worker.Base o) at refl s.owned)) (All-nil (HoldsIn old.stack slots None)))
     (subst (All (AskCarries old.stack slots)) (sym (owed_push_none r.entries (Base counts.status counts.information) refl (λ i. refl))) (asks_of old o r x.0.at s.owned))
     (quieter old o r f x.0.at (λ i. omega (arith, base_returned_flies i call given handle r)) s.owned.quiet) s.owned)
-
-base_filed : (old : World) (k : WorkerId) (o : OpId) (call : BaseCall) (given : Answer) → worker_at old.workers k ≡ Some (Worker.Base o)
-    → told (base_fits call given) false o old.flow ≡ true → IsSound old → FiledIn (base_returned old k o call given)
-base_filed old k o call given at fits s =
-    let x = inside_base old k o at s.under_way in
-    let r = x.0.row in
-    let f = base_step old call given in
-    let t = changed o f old.flow in
-    subst (λ (files : FileTable). IsFileSound files t) (sym (told_there (filed_record old.files t given.status) old.files o old.flow r x.0.at))
-    (file_answered old.files old.flow o r f given.status x.0.at (ap is_unanswered x.1)
-    (base_answered old.files call given r (fits_create call given r (sym (told_there (base_fits call given) false o old.flow r x.0.at) ∙ fits))) s.filed)
-
-pub base_sound : (old : World) (k : WorkerId) (call : BaseCall) (given : Answer) (result : Result (Unit {0}) Status) (new : World)
-    → BaseReturns old k call given result new → IsSound old → IsSound new
-base_sound old k call given result new h s =
-    base_by (λ _ w. IsSound w) old k call given result new h (λ why. s) (λ o at fits loses.
-    loses_sound (base_returned old k o call given) new loses
-    (base_keeps old k o call given old.contexts (filed_base old o (changed o (base_step old call given) old.flow) given.status) at fits s.under_way)
-    (base_owned old k o call given at s) (base_filed old k o call given at fits s))
+    (subst (λ (files : FileTable). IsFileSound files t) (sym (told_there (filed_record old.files t given.status) old.files o old.flow r x.0.at))
+    (file_answered old.files old.flow o r f given.status x.0.at (ap is_unanswered x.1) (base_answered old.files call given r (fits_create call given r fitting)) s.filed)))
 
 -- ---- postoperations and drains return
 
-post_owned : (old : World) (k : WorkerId) (o : OpId) (i : InstanceId) (given : PostVerdict) (lent : Data) (after : ContextTable) → worker_at old.workers k ≡ Some (Worker.Post o i)
-    → Leaves (carries_after old o (post_returned_of given lent)) old.contexts after k.0 → IsSound old
-    → IsOwned (record (returned old k o (post_returned_of given lent)) { contexts = after })
-post_owned old k o i given lent after at leaves s =
-    let x = inside_post old k o i at s.under_way in
-    let r = x.0.row in
-    let course = subst (λ x. IsCourse x r.entries) x.1 x.0.sound.course in
-    left_owned old o r (post_returned_of given lent) k (Worker.Post o i) old.contexts after x.0.at at (worker_below old k (Worker.Post o i) at s.under_way) refl
-    (lawful_alike (λ c. sym (post_balance old k o i given lent at s.under_way c)) s.owned.lawful) refl refl refl leaves
-    (subst (All (AskCarries old.stack old.contexts.slots)) (sym (owed_post_settled PostRunning r.entries (post_state given) refl course)) (asks_of old o r x.0.at s.owned))
-    (λ j. omega (arith, post_returned_flies j given lent r x.1 x.0.sound)) s.owned
-
-drain_owned : (old : World) (k : WorkerId) (o : OpId) (i : InstanceId) (after : ContextTable) → worker_at old.workers k ≡ Some (Worker.Drain o i)
-    → Leaves (carries_after old o (drain_returned_of i)) old.contexts after k.0 → IsSound old → IsOwned (record (returned old k o (drain_returned_of i)) { contexts = after })
-drain_owned old k o i after at leaves s =
-    let x = inside_drain old k o i at s.under_way in
-    let r = x.0.row in
-    left_owned old o r (drain_returned_of i) k (Worker.Drain o i) old.contexts after x.0.at at (worker_below old k (Worker.Drain o i) at s.under_way) refl
-    (lawful_alike (λ c. sym (drain_balance old k o i at s.under_way c)) s.owned.lawful) refl refl refl leaves
-    (subst (All (AskCarries old.stack old.contexts.slots)) (sym (owed_drain_settled i.0 r.entries)) (asks_of old o r x.0.at s.owned))
-    (λ j. omega (arith, drain_returned_flies j i r x.1 x.0.sound)) s.owned
-
-post_answered : (given : PostVerdict) → is_unanswered (post_leads (post_state given)) ≡ false
-post_answered PostVerdict.Finished = refl
-post_answered PostVerdict.MoreProcessing = refl
-
 -- a callback of an operation that has its answer returns: streams and handles stay, and what has a link has it still
-returned_sound : (old : World) (k : WorkerId) (o : OpId) (r : FlowRecord) (f : FlowRecord → FlowRecord) (new : World) → operation_at o old.flow ≡ Some r
-    → SameFile r (f r) → ReturnsFrom old k o f old.contexts new → IsUnderWay (record (returned old k o f) { contexts = new.contexts })
-    → IsOwned (record (returned old k o f) { contexts = new.contexts }) → IsSound old → IsSound new
-returned_sound old k o r f new at same e under_way owned s =
-    subst IsSound (sym e.1)
-    (record {
-      under_way = under_way;
-      owned = owned;
-      filed = file_step old.files old.flow o r f at same s.filed;
-      links = subst (AllPass (names_there old.files)) (sym e.0.slots) s.links;
-    })
+returned_sound : (old : World) (k : WorkerId) (a : Worker) (o : OpId) (r : FlowRecord) (f : FlowRecord → FlowRecord) (after : ContextTable) → operation_at o old.flow ≡ Some r
+    → worker_at old.workers k ≡ Some a → cleanup_in (Some a) ≡ None → SameFile r (f r) → Leaves (carries_after old o f) old.contexts after k.0
+    → ((c : CtxId) → carries_after old o f c ≡ carries old c) → owed (f r).entries ≡ owed r.entries → ((j : ℕ) → flight j (f r) ≤ flight j r)
+    → IsUnderWay (returned old k o f) → IsSound old → IsSound (record (returned old k o f) { contexts = after })
+returned_sound old k a o r f after at worker outside same leaves balance owes fewer under_way s = record {
+  under_way = under_way;
+  owned = left_owned old o r f k a old.contexts after at worker (worker_below old k a worker s.under_way) outside (lawful_alike (λ c. sym (balance c)) s.owned.lawful)
+      refl refl refl leaves (subst (All (AskCarries old.stack old.contexts.slots)) (sym owes) (asks_of old o r at s.owned)) fewer s.owned;
+  filed = file_step old.files old.flow o r f at same s.filed;
+  links = subst (AllPass (names_there old.files)) (sym leaves.slots) s.links;
+}
 
 pub post_sound : (old : World) (k : WorkerId) (given : PostVerdict) (lent : Option Data) (result : Result (Unit {0}) Status) (new : World)
     → PostReturns old k given lent result new → IsSound old → IsSound new
 post_sound old k given lent result new h s =
     post_by (λ _ w. IsSound w) old k given lent result new h (λ why. s)
-    (λ o i back at fits e.
+    (λ o i back at fits after leaves.
     let x = inside_post old k o i at s.under_way in
+    let r = x.0.row in
     let f = post_returned_of given back in
-    returned_sound old k o x.0.row f new x.0.at (answered_same x.0.row (f x.0.row) refl refl (ap is_unanswered x.1) (post_answered given)) e
-    (post_keeps old k o i given back new.contexts at fits s.under_way) (post_owned old k o i given back new.contexts at e.0 s) s)
-    (λ o i at e.
+    let state = post_state given in
+    returned_sound old k (Worker.Post o i) o r f after x.0.at at refl (answered_same r (f r) refl refl (ap is_unanswered x.1)
+    (elim given as (λ g. is_unanswered (post_leads (post_state g)) ≡ false) [ PostVerdict.Finished ↦ refl | PostVerdict.MoreProcessing ↦ refl ])) leaves
+    (post_balance old k o i given back at s.under_way)
+    (owed_post_settled PostRunning r.entries state refl (subst (λ x. IsCourse x r.entries) x.1 x.0.sound.course))
+    (λ j. omega (arith, post_returned_flies j given back r x.1 x.0.sound))
+    (return_keeps old k (Worker.Post o i) o r f (λ j. 0) at x.0.at (λ x. record { number = refl; collected = refl })
+    (subst (Matches o (Worker.Post o i)) (sym (ap (λ a. spot_at a r.entries) x.1 ∙ ap (option_map AtPost) x.2)) (matches_post o i)) (post_quiet given)
+    (in_no_drain o (Worker.Post o i) (λ p j. refl)) (λ j. omega (arith, drains_post_settled j state r.entries)) (λ j. refl)
+    (sound_post_returned given back r x.1 (sym (told_there (λ (x : FlowRecord). data_fits x.operation x.path back) false o old.flow r x.0.at) ∙ fits) x.0.sound)
+    (among_settles old.stack r.volume r.born r.operation r.entries r.stage (post_leads state) (settle_post state) (settle_post_keeps state)
+    (not_base_of (post_leads state) (post_quiet given)) x.0.among) s.under_way) s)
+    (λ o i at after leaves.
     let x = inside_drain old k o i at s.under_way in
+    let r = x.0.row in
     let f = drain_returned_of i in
-    returned_sound old k o x.0.row f new x.0.at (answered_same x.0.row (f x.0.row) refl refl (ap is_unanswered x.1) refl) e
-    (drain_keeps old k o i new.contexts at s.under_way) (drain_owned old k o i new.contexts at e.0 s) s)
+    let runs = subst (λ x. flow.HasItsDrain x r.entries) x.1 x.0.sound.course.drain in
+    let even : (j : ℕ) → drain_opens j (f r).entries + one (i.0 == j) ≡ drain_opens j r.entries = λ j.
+    let ends : cond (i.0 == j) (drain_opens i.0 r.entries) 0 ≡ one (i.0 == j) = ap (λ n. cond (i.0 == j) n 0) runs in
+    omega (arith, drains_drain_settled i.0 j r.entries, ends) in
+    returned_sound old k (Worker.Drain o i) o r f after x.0.at at refl (answered_same r (f r) refl refl (ap is_unanswered x.1) refl) leaves
+    (drain_balance old k o i at s.under_way) (owed_drain_settled i.0 r.entries) (λ j. omega (arith, drain_returned_flies j i r x.1 x.0.sound))
+    (return_keeps old k (Worker.Drain o i) o r f (λ j. one (i.0 == j)) at x.0.at (λ x. record { number = refl; collected = refl })
+    (subst (Matches o (Worker.Drain o i)) (sym (ap (λ a. spot_at a r.entries) x.1)) (matches_drain o i)) refl (in_a_drain o i) even (λ j. refl)
+    (sound_drain_returned i r x.1 x.0.sound)
+    (among_settles old.stack r.volume r.born r.operation r.entries r.stage Ascending (settle_drain i.0) (settle_drain_keeps i.0)
+    (not_base_of Ascending refl) x.0.among) s.under_way) s)
 
 -- ---- collect
 
@@ -545,12 +479,8 @@ total_without : (f : FlowRecord → ℕ) (test : FlowRecord → Bool) (rs : List
     → total f (without_first test rs) + f r ≡ total f rs
 total_without f test [] r is = absurd (none-some r is)
 total_without f test (x ∷ rs) r is =
-    elim (cases_Bool (test x)) [
-      | inl e ↦
-          let same : x ≡ r = same_Some x r (sym (ap (λ b. cond b (Some x) (find test rs)) e) ∙ is) in
-          rw e (omega (arith, ap f same))
-      | inr e ↦ rw e (omega (arith, total_without f test rs r (sym (ap (λ b. cond b (Some x) (find test rs)) e) ∙ is)))
-    ]
+    by_bool (λ b. cond b (Some x) (find test rs) ≡ Some r → total f (cond b rs (x ∷ without_first test rs)) + f r ≡ f x + total f rs) (test x)
+    (λ _ is. let same = ap f (same_Some x r is) in omega (arith, same)) (λ _ is. omega (arith, total_without f test rs r is)) is
 
 pub done_owes : (stage : Stage) (asks : List Ask) → done_at stage asks ≡ true → asks ≡ []
 done_owes Ascending [] h = refl
@@ -563,25 +493,47 @@ collect_balance t o m at c =
     let z : carried_by c r ≡ 0 = ap (carried_among c) (done_owes r.stage (owed r.entries) done) in
     omega (arith, total_without (carried_by c) (is_number o) t.operations r at, z))
 
-collect_owned : (old : World) (o : OpId) → IsOwned old → IsOwned (record old { flow = collected_of o old.flow })
-collect_owned old o h =
-    let m = operation_at o old.flow in
-    let owes = λ (x : FlowRecord). All (AskCarries old.stack old.contexts.slots) (owed x.entries) in
-    flow_owned old (collected_of o old.flow) (lawful_alike (collect_balance old.flow o m refl) h.lawful)
-    (collected_by (λ t. AllCarry old.stack old.contexts.slots t.operations) o old.flow m refl h.completions
-    (λ r at done. carry_changed old.stack old.contexts.slots old.flow o r marked at (asks_of old o r at h) h.completions)
-    (λ r at done d. all_without owes (is_number o) old.flow.operations h.completions))
-    (λ i rests.
-    let fewer = collected_by (λ t. in_flight i.0 t ≤ in_flight i.0 old.flow) o old.flow m refl (omega arith)
-    (λ r at done. let k = flight_changed old.flow o r marked at i.0 in omega (arith, k)) (λ r at done d. omega (arith, total_without (flight i.0) (is_number o) old.flow.operations r at)) in
-    omega (arith, fewer, h.quiet i rests)) h
-
 pub collect_sound : (old : World) (o : OpId) (result : Result Answer Status) (new : World) → Collects old o result new → IsSound old → IsSound new
 unfolding Collects
 collect_sound old o result new h s =
+    let operations = old.flow.operations in
+    let u = s.under_way in
+    let owes = λ (x : FlowRecord). All (AskCarries old.stack old.contexts.slots) (owed x.entries) in
+    let opens = λ (i : ℕ) (y : FlowRecord). drain_opens i y.entries in
+    subst IsSound (sym h.1)
+    (collected_by (λ t. IsFlow t → IsLawful (λ c. carried c t) old.contexts → IsFileSound old.files t → IsSound (record old { flow = t })) o old.flow (operation_at o old.flow) refl
+    (λ flow lawful filed. s)
+    (λ r at done flow lawful filed. record {
+      under_way = record {
+        stack = u.stack;
+        flow = flow;
+        among = all_change (IsAmong old.stack) (is_number o) marked operations (λ x k. found_holds (IsAmong old.stack) (is_number o) operations x u.among k) u.among;
+        hands = u.hands;
+        workers = λ p x. u.workers p x ∙ told_same (standing x) p old.flow o r marked at (λ y. refl) refl;
+        drains = λ p i. u.drains p i ∙ told_same (opens i) p old.flow o r marked at (λ y. refl) refl;
+        setups = u.setups;
+      };
+      owned = flow_owned old (changed o marked old.flow) lawful
+          (carry_changed old.stack old.contexts.slots old.flow o r marked at (asks_of old o r at s.owned) s.owned.completions)
+          (quieter old o r marked at (λ i. omega arith) s.owned.quiet) s.owned;
+      filed = filed;
+      links = s.links;
+    })
+    (λ r at done d flow lawful filed.
+    let quiet = quiet_is_none r.stage r.entries (done_stage r.stage (owed r.entries) done) in
     record {
-      under_way = collect_keeps old o result new h s.under_way;
-      owned = subst IsOwned (sym h.1) (collect_owned old o s.owned);
-      filed = subst FiledIn (sym h.1) (file_collects old.files o old.flow s.filed);
-      links = subst NamedIn (sym h.1) s.links;
-    }
+      under_way = record {
+        stack = u.stack;
+        flow = flow;
+        among = all_without (IsAmong old.stack) (is_number o) operations u.among;
+        hands = u.hands;
+        workers = λ p x. u.workers p x ∙ told_without (standing x) p old.flow o r u.flow.ascending at (ap one (quiet x));
+        drains = λ p i. u.drains p i ∙ told_without (opens i) p old.flow o r u.flow.ascending at (none_running i r.entries d);
+        setups = u.setups;
+      };
+      owned = flow_owned old (removed o old.flow) lawful (all_without owes (is_number o) operations s.owned.completions)
+          (λ i rests. omega (arith, total_without (flight i.0) (is_number o) operations r at, s.owned.quiet i rests)) s.owned;
+      filed = filed;
+      links = s.links;
+    })
+    (flow_collects old.flow o u.flow) (lawful_alike (collect_balance old.flow o (operation_at o old.flow) refl) s.owned.lawful) (file_collects old.files o old.flow s.filed))

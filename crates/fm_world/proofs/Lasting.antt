@@ -1,140 +1,113 @@
 -- Each event leaves slots as they are, or of a later generation: so an id that was given isn't given again, and what was cleaned stays cleaned.
-use Rattle.std.proofs.Common.{◌≡◌, ℕ, zero, suc, ◌<◌, ◌≤◌, ◌==◌, Bool, true, false, cond, List, [], ◌∷◌, ◌++◌, length, map, slice_get, Option, Some, None, Result, Ok, Err, option_map, refl, ap, sym, ◌∙◌, subst, inl, inr, ◌⊎◌, arith}
-use Rattle.fm_world.proofs.Words.{slice_set, cases_Bool, cases_eq, eqb-true, eq-eqb, ne_eqb, none-some, same_Some, slice_get-map, slice_get_within}
-use Rattle.fm_world.proofs.Words.{get_or-set_same, get_or-set_other, IfOk, slice_get-kept, slice_get-push, slice_get-set_same, slice_get-set_other}
-use Rattle.fm_world.proofs.Words.{updated-same, updated-other, ContextKind, CtxId, InstanceId, WorkerId, Status, Due, Object, SetMode, one, is_id}
-use Rattle.fm_world.proofs.Words.{cleaning_of, is_waiting, is_id-refl, first_placed, places_cleaned, context_at-here, IsNew, new_slot, placed, with_body}
-use Rattle.fm_world.proofs.Words.{emptied, due_of, taken_due, taken_of, cleaned, with_link, set_after, unlinked_for, delete_after, linked, holder, swept}
-use Rattle.fm_world.proofs.Words.{swept_slot, Context, Slot, ContextTable, context_in, context_at, changed_slot, change_context, FlowAction, Step, StepReply}
-use Rattle.fm_world.proofs.Words.{Worker, there_at, Allocates, Gets, Deletes, References, Releases, ReadsBody, WritesBody, Bumps, TakesDue, Cleans, Finishes}
-use Rattle.fm_world.proofs.Words.{Unless, brought, received, Registers, Mounts, Attaches, EmptiesUnless, Begins, Collects, sent, LosesLinks, Steps, Run}
-use Rattle.fm_world.proofs.Words.{World, carries, empty_world, IsSound, worker_at, is_idle, cleanup_in, sent_in, state_at}
-use Rattle.std.specs.Prelude.{option_and_then}
+use Rattle.std.proofs.Common.{◌≡◌, ℕ, zero, suc, ◌<◌, ◌≤◌, ◌==◌, Bool, true, false, cond, List, [], ◌∷◌, ◌++◌, length, map, slice_get, Option, Some, None, Result, Ok, Err, option_map, refl, ap, sym, ◌∙◌, subst, inl, inr, ◌⊎◌, arith, option_and_then}
+use Rattle.fm_world.proofs.Words.{nat_le, updated, by_id, context_at-other, context_at-swept, context_at-placed_other, is_id-same, slice_set}
+use Rattle.fm_world.proofs.Words.{cases_eq, eqb-true, eq-eqb, ne_eqb, none-some, same_Some, slice_get-map, slice_get_within, get_or-set_same}
+use Rattle.fm_world.proofs.Words.{get_or-set_other, IfOk, slice_get-kept, slice_get-push, slice_get-set_same, ContextKind, CtxId, InstanceId}
+use Rattle.fm_world.proofs.Words.{WorkerId, Status, Due, Object, SetMode, one, is_id, cleaning_of, is_waiting, is_id-refl, first_placed}
+use Rattle.fm_world.proofs.Words.{places_cleaned, context_at-here, IsNew, new_slot, placed, with_body, emptied, due_of, taken_due, taken_of, cleaned}
+use Rattle.fm_world.proofs.Words.{with_link, set_after, unlinked_for, delete_after, linked, holder, swept, swept_slot, Context, Slot, ContextTable}
+use Rattle.fm_world.proofs.Words.{context_in, context_at, changed_slot, change_context, Step, StepReply, Worker, there_at, Allocates, Gets, Deletes}
+use Rattle.fm_world.proofs.Words.{References, Releases, ReadsBody, WritesBody, Bumps, TakesDue, Finishes, Registers, Mounts, Attaches, EmptiesUnless}
+use Rattle.fm_world.proofs.Words.{Begins, Collects, sent, LosesLinks, Steps, Run, World, carries, empty_world, IsSound, cleanup_in, sent_in, state_at}
+use Rattle.fm_world.proofs.Words.{with_contexts}
 use Rattle.fm_world.specs.Lasting.{given_by, due_by, Comes, IsGone, ContextsLast}
-use Rattle.fm_world.proofs.Events.{memory_by, answers_by, asked_by, taken_by, idle_by, idle_there, setup_by, next_by, pre_by, base_by, post_by, cleaned_by, set_by, set_each}
+use Rattle.std.proofs.lemmas.Bool.{leb-true, le-leb}
+use Rattle.fm_world.proofs.Cases.{by_bool, by_option, some_of, at_written}
+use Rattle.fm_world.proofs.Events.{turned_by, nexted, pre_made, received_by, memory_by, answers_by, asked_by, taken_by, idle_by, setup_by, next_by, pre_by, base_by, post_by, cleaned_by, set_by, set_each}
 use Rattle.fm_world.proofs.Keeps.{known_cases}
 use Rattle.fm_world.proofs.Runs.{step_keeps, run_keeps, empty_sound}
 use Rattle.fm_world.proofs.Operations.{begun_by}
 
--- ---- slots
-
--- a slot later on: of the same generation, with no context where it had none; or of a later generation
-abbrev SlotLater : Slot → Slot → Type 0
-SlotLater s t = ((t.generation ≡ s.generation) × (s.context ≡ None → t.context ≡ None)) ⊎ (s.generation < t.generation)
-
-abbrev pub SlotsStay : List Slot → List Slot → Type 0
-SlotsStay old new = (k : ℕ) (s : Slot) → slice_get old k ≡ Some s → (t : Slot) × (slice_get new k ≡ Some t) × SlotLater s t
-
-slots_same : (old new : List Slot) → new ≡ old → SlotsStay old new
-slots_same old new e = λ k s there. (s, ap (λ (xs : List Slot). slice_get xs k) e ∙ there, inl (refl, λ none. none))
-
-later_after : (s t u : Slot) → SlotLater s t → SlotLater t u → SlotLater s u
-later_after s t u (inl a) (inl b) = inl (b.0 ∙ a.0, λ none. b.1 (a.1 none))
-later_after s t u (inl a) (inr b) = let same = a.0 in inr (omega (arith, same, b))
-later_after s t u (inr a) (inl b) = let same = b.0 in inr (omega (arith, same, a))
-later_after s t u (inr a) (inr b) = inr (omega (arith, a, b))
-
-slots_after : (old mid new : List Slot) → SlotsStay old mid → SlotsStay mid new → SlotsStay old new
-slots_after old mid new f g = λ k s there.
-    let a = f k s there in
-    let b = g k a.0 a.1 in
-    (b.0, b.1, later_after s a.0 b.0 a.2 b.2)
-
-changed_later : (f : Option Context → Option Context) (c : CtxId) (s : Slot) → f None ≡ None → SlotLater s (changed_slot f c s)
-changed_later f c s none =
-    elim (cases_Bool (c.generation == s.generation)) [
-      | inl e ↦ subst (λ b. SlotLater s (cond b (record s { context = f s.context }) s)) (sym e) (inl (refl, λ gone. ap f gone ∙ none))
-      | inr e ↦ subst (λ b. SlotLater s (cond b (record s { context = f s.context }) s)) (sym e) (inl (refl, λ gone. gone))
-    ]
-
-slots_changed : (f : Option Context → Option Context) (slots : List Slot) (c : CtxId) → f None ≡ None → SlotsStay slots (change_context f slots c)
-slots_changed f slots c none = λ k s there.
-    elim (cases_eq k c.slot) [
-      | inl is ↦
-          let here : slice_get slots c.slot ≡ Some s = ap (slice_get slots) (sym is) ∙ there in
-          (changed_slot f c s, ap (slice_get (change_context f slots c)) is ∙ updated-same (changed_slot f c) slots c.slot s here, changed_later f c s none)
-      | inr other ↦ (s, updated-other (changed_slot f c) slots c.slot k other ∙ there, inl (refl, λ gone. gone))
-    ]
-
-slots_swept : (test : Context → Bool) (slots : List Slot) → SlotsStay slots (map (swept_slot test) slots)
-slots_swept test slots = λ k s there.
-    (swept_slot test s, slice_get-map (swept_slot test) slots k ∙ ap (option_map (swept_slot test)) there, inl (refl, λ gone. ap (option_map (swept test)) gone))
-
-slots_placed : (slots : List Slot) (c : CtxId) (x : Context) → IsNew slots c → SlotsStay slots (placed slots c x)
-slots_placed slots c x (inl new) = λ k s there. (
-  s,
-  ap (λ b. slice_get (cond b (slots ++ new_slot c x ∷ []) (slice_set slots c.slot (new_slot c x))) k) (eq-eqb c.slot (length slots) new.0)
-      ∙ slice_get-kept slots (new_slot c x ∷ []) k s there,
-  inl (refl, λ gone. gone),
-)
-slots_placed slots c x (inr new) = λ k s there.
-    let within = slice_get_within slots c.slot new.0 new.1 in
-    let is : slice_get (placed slots c x) k ≡ slice_get (slice_set slots c.slot (new_slot c x)) k =
-    ap (λ b. slice_get (cond b (slots ++ new_slot c x ∷ []) (slice_set slots c.slot (new_slot c x))) k) (ne_eqb c.slot (length slots) (λ e. omega (arith, e, within))) in
-    elim (cases_eq k c.slot) [
-      | inl here ↦
-          let same : new.0 ≡ s = same_Some new.0 s (sym new.1 ∙ ap (slice_get slots) (sym here) ∙ there) in
-          let generation : new.0.generation ≡ s.generation = ap (λ (y : Slot). y.generation) same in
-          let next = new.3 in (
-            new_slot c x,
-            is ∙ ap (slice_get (slice_set slots c.slot (new_slot c x))) here ∙ slice_get-set_same slots c.slot (new_slot c x) within,
-            inr (omega (arith, generation, next)),
-          )
-      | inr other ↦ (s, is ∙ slice_get-set_other slots c.slot k (new_slot c x) other ∙ there, inl (refl, λ gone. gone))
-    ]
-
 -- ---- ids
 
 -- an id of a slot's last generation, or of an earlier one
+abbrev given_in : CtxId → Option Slot → Bool
+given_in c None = false
+given_in c (Some s) = nat_le c.generation s.generation
+
 abbrev pub WasGiven : List Slot → CtxId → Type 0
-WasGiven slots c = (s : Slot) × (slice_get slots c.slot ≡ Some s) × (c.generation ≤ s.generation)
-
-given_stays : (old new : List Slot) (c : CtxId) → SlotsStay old new → WasGiven old c → WasGiven new c
-given_stays old new c stay was =
-    let t = stay c.slot was.0 was.1 in
-    (t.0, t.1, later_generation was.0 t.0 t.2 was.2)
-  where
-    later_generation : (s t : Slot) → SlotLater s t → c.generation ≤ s.generation → c.generation ≤ t.generation
-    later_generation s t (inl a) below = let same = a.0 in omega (arith, same, below)
-    later_generation s t (inr a) below = omega (arith, a, below)
-
-gone_stays : (old new : List Slot) (c : CtxId) → SlotsStay old new → WasGiven old c → context_at old c ≡ None → context_at new c ≡ None
-unfolding context_at
-gone_stays old new c stay was gone =
-    let t = stay c.slot was.0 was.1 in
-    ap (option_and_then (context_in c)) t.1 ∙ in_slot was.0 t.0 t.2 was.2 (sym (ap (option_and_then (context_in c)) was.1) ∙ gone)
-  where
-    in_slot : (s t : Slot) → SlotLater s t → c.generation ≤ s.generation → context_in c s ≡ None → context_in c t ≡ None
-    in_slot s t (inl a) below none =
-        elim (cases_Bool (c.generation == s.generation)) [
-          | inl is ↦
-              let gone' : s.context ≡ None = sym (ap (λ b. cond b s.context None) is) ∙ none in
-              ap (λ n. cond (c.generation == n) t.context None) a.0 ∙ ap (λ b. cond b t.context None) is ∙ a.1 gone'
-          | inr other ↦ ap (λ n. cond (c.generation == n) t.context None) a.0 ∙ ap (λ b. cond b t.context None) other
-        ]
-    in_slot s t (inr a) below none = ap (λ b. cond b t.context None) (ne_eqb c.generation t.generation (λ e. omega (arith, e, a, below)))
+WasGiven slots c = given_in c (slice_get slots c.slot) ≡ true
 
 -- an id that was given isn't new
 given_not_new : (slots : List Slot) (c : CtxId) → WasGiven slots c → IsNew slots c → ⊥
-given_not_new slots c was (inl new) = let within = slice_get_within slots c.slot was.0 was.1 in let past = new.0 in omega (arith, within, past)
-given_not_new slots c was (inr new) =
-    let same : was.0.generation ≡ new.0.generation = ap (λ (y : Slot). y.generation) (same_Some was.0 new.0 (sym was.1 ∙ new.1)) in
-    omega (arith, same, new.3, was.2)
+given_not_new slots c was (inl new) =
+    let there = some_of (given_in c) (slice_get slots c.slot) refl was in
+    let within = slice_get_within slots c.slot there.0 there.1 in
+    let past = new.0 in
+    omega (arith, within, past)
+given_not_new slots c was (inr new) = let below = leb-true c.generation new.0.generation (sym (ap (given_in c) new.1) ∙ was) in omega (arith, new.3, below)
+
+-- ---- slots
+
+-- what was given is given still, and what was cleaned stays cleaned
+abbrev pub SlotsStay : List Slot → List Slot → Type 0
+SlotsStay old new = (c : CtxId) → WasGiven old c → WasGiven new c × (context_at old c ≡ None → context_at new c ≡ None)
+
+slots_after : (old mid new : List Slot) → SlotsStay old mid → SlotsStay mid new → SlotsStay old new
+slots_after old mid new f g = λ c was.
+    let a = f c was in
+    let b = g c a.0 in
+    (b.0, λ gone. b.1 (a.1 gone))
+
+slots_changed : (f : Option Context → Option Context) (slots : List Slot) (d : CtxId) → f None ≡ None → SlotsStay slots (change_context f slots d)
+slots_changed f slots d none c was = (
+  same_given slots d.slot c.slot ∙ was,
+  by_id (λ e. context_at slots e ≡ None → context_at (change_context f slots d) e ≡ None) d (λ gone. context_at-here f slots d none ∙ ap f gone ∙ none)
+      (λ e other gone. context_at-other f slots d e other ∙ gone) c,
+)
+  where
+    same_given : (xs : List Slot) (at j : ℕ) → given_in c (slice_get (updated (changed_slot f d) xs at) j) ≡ given_in c (slice_get xs j)
+    same_given (x ∷ xs) zero zero =
+        elim (d.generation == x.generation) as (λ b. nat_le c.generation (cond b (record x { context = f x.context }) x).generation ≡ nat_le c.generation x.generation) [
+          | true ↦ refl
+          | false ↦ refl
+        ]
+    same_given (x ∷ xs) (suc at) (suc j) = same_given xs at j
+    same_given _ _ _ = refl
+
+slots_swept : (test : Context → Bool) (slots : List Slot) → SlotsStay slots (map (swept_slot test) slots)
+slots_swept test slots c was = (
+  ap (given_in c) (slice_get-map (swept_slot test) slots c.slot)
+      ∙ elim (slice_get slots c.slot) as (λ m. given_in c (option_map (swept_slot test) m) ≡ given_in c m) [ None ↦ refl | Some s ↦ refl ] ∙ was,
+  λ gone. context_at-swept test slots c ∙ ap (option_map (swept test)) gone,
+)
+
+placed_given : (slots : List Slot) (d : CtxId) (x : Context) (c : CtxId) → IsNew slots d → WasGiven slots c → WasGiven (placed slots d x) c
+placed_given slots d x c (inl new) was =
+    let there = some_of (given_in c) (slice_get slots c.slot) refl was in
+    ap (λ b. given_in c (slice_get (cond b (slots ++ new_slot d x ∷ []) (slice_set slots d.slot (new_slot d x))) c.slot)) (eq-eqb d.slot (length slots) new.0)
+    ∙ ap (given_in c) (slice_get-kept slots (new_slot d x ∷ []) c.slot there.0 there.1) ∙ sym (ap (given_in c) there.1) ∙ was
+placed_given slots d x c (inr new) was =
+    let within = slice_get_within slots d.slot new.0 new.1 in
+    ap (λ b. given_in c (slice_get (cond b (slots ++ new_slot d x ∷ []) (slice_set slots d.slot (new_slot d x))) c.slot)) (ne_eqb d.slot (length slots) (λ e. omega (arith, e, within)))
+    ∙ at_written (λ j m. c.slot ≡ j → given_in c m ≡ true) slots d.slot (new_slot d x) within
+    (λ is. let below = leb-true c.generation new.0.generation (sym (ap (given_in c) new.1) ∙ ap (λ j. given_in c (slice_get slots j)) (sym is) ∙ was) in
+    le-leb c.generation d.generation (omega (arith, new.3, below)))
+    (λ j other is. ap (λ n. given_in c (slice_get slots n)) (sym is) ∙ was) c.slot refl
+
+slots_placed : (slots : List Slot) (d : CtxId) (x : Context) → IsNew slots d → SlotsStay slots (placed slots d x)
+slots_placed slots d x new c was = (
+  placed_given slots d x c new was,
+  λ gone. by_bool (λ b. is_id c d ≡ b → context_at (placed slots d x) c ≡ None) (is_id c d)
+      (λ e same. absurd (given_not_new slots c was (subst (IsNew slots) (is_id-same c d same) new)))
+      (λ e other. context_at-placed_other slots d x c new other ∙ gone) refl,
+)
 
 given_placed : (slots : List Slot) (c : CtxId) (x : Context) → IsNew slots c → WasGiven (placed slots c x) c
-given_placed slots c x (inl new) = (
-  new_slot c x,
-  ap (λ b. slice_get (cond b (slots ++ new_slot c x ∷ []) (slice_set slots c.slot (new_slot c x))) c.slot) (eq-eqb c.slot (length slots) new.0)
-      ∙ ap (slice_get (slots ++ new_slot c x ∷ [])) new.0 ∙ slice_get-push slots (new_slot c x),
-  omega arith,
-)
+given_placed slots c x (inl new) =
+    ap (λ b. given_in c (slice_get (cond b (slots ++ new_slot c x ∷ []) (slice_set slots c.slot (new_slot c x))) c.slot)) (eq-eqb c.slot (length slots) new.0)
+    ∙ ap (λ n. given_in c (slice_get (slots ++ new_slot c x ∷ []) n)) new.0 ∙ ap (given_in c) (slice_get-push slots (new_slot c x)) ∙ le-leb c.generation c.generation (omega arith)
 given_placed slots c x (inr new) =
-    let within = slice_get_within slots c.slot new.0 new.1 in (
-      new_slot c x,
-      ap (λ b. slice_get (cond b (slots ++ new_slot c x ∷ []) (slice_set slots c.slot (new_slot c x))) c.slot) (ne_eqb c.slot (length slots) (λ e. omega (arith, e, within)))
-          ∙ slice_get-set_same slots c.slot (new_slot c x) within,
-      omega arith,
-    )
+    let within = slice_get_within slots c.slot new.0 new.1 in
+    ap (λ b. given_in c (slice_get (cond b (slots ++ new_slot c x ∷ []) (slice_set slots c.slot (new_slot c x))) c.slot)) (ne_eqb c.slot (length slots) (λ e. omega (arith, e, within)))
+    ∙ ap (given_in c) (slice_get-set_same slots c.slot (new_slot c x) within) ∙ le-leb c.generation c.generation (omega arith)
+
+given_there : (slots : List Slot) (c : CtxId) (x : Context) → context_at slots c ≡ Some x → WasGiven slots c
+unfolding context_at
+given_there slots c x h = by_option (λ m. option_and_then (context_in c) m ≡ Some x → given_in c m ≡ true) (slice_get slots c.slot)
+    (λ none h. absurd (none-some x h)) (λ s there h.
+    by_bool (λ b. cond b s.context None ≡ Some x → nat_le c.generation s.generation ≡ true) (c.generation == s.generation)
+    (λ is h. let same = eqb-true c.generation s.generation is in le-leb c.generation s.generation (omega (arith, same))) (λ other h. absurd (none-some x h)) h) h
 
 -- ---- tables of contexts
 
@@ -143,10 +116,10 @@ abbrev TableStays : ContextTable → ContextTable → Type 0
 TableStays a b = SlotsStay a.slots b.slots × (b.cleaning ≡ a.cleaning)
 
 table_same : (a b : ContextTable) → b.slots ≡ a.slots → b.cleaning ≡ a.cleaning → TableStays a b
-table_same a b slots cleaning = (slots_same a.slots b.slots slots, cleaning)
+table_same a b slots cleaning = (subst (SlotsStay a.slots) (sym slots) (λ c was. (was, λ gone. gone)), cleaning)
 
-table_still : (a b : ContextTable) → b ≡ a → TableStays a b
-table_still a b e = table_same a b (ap (λ (t : ContextTable). t.slots) e) (ap (λ (t : ContextTable). t.cleaning) e)
+still : (t : ContextTable) → TableStays t t
+still t = table_same t t refl refl
 
 table_after : (a b c : ContextTable) → TableStays a b → TableStays b c → TableStays a c
 table_after a b c f g = (slots_after a.slots b.slots c.slots f.0 g.0, g.1 ∙ f.1)
@@ -170,7 +143,7 @@ abbrev contexts_in : World → ContextTable
 contexts_in w = w.contexts
 
 kept : (old new : World) → new.contexts ≡ old.contexts → Lasts old new
-kept old new e = lasts old new old.contexts e (table_still old.contexts old.contexts refl)
+kept old new e = lasts old new old.contexts e (still old.contexts)
 
 refused : (old : World) → Status → Lasts old old
 refused old why = kept old old refl
@@ -181,21 +154,8 @@ loses_lasts old mid new h stay =
     lasts old new new.contexts refl
     (table_after old.contexts mid.contexts new.contexts stay (subst (SlotsStay mid.contexts.slots) (sym h.0.slots) (slots_swept _ mid.contexts.slots), h.0.cleaning))
 
-brought_stays : (t : ContextTable) (k : WorkerId) (m : Option CtxId) → TableStays t (brought t k m)
-brought_stays t k None = table_still t t refl
-brought_stays t k (Some c) = table_same t (brought t k (Some c)) refl refl
-
-received_stays : (t : ContextTable) (k : WorkerId) (result : Result FlowAction Status) → TableStays t (received t k result)
-received_stays t k (Ok (FlowAction.Post i lent completion)) = brought_stays t k completion.context
-received_stays t k (Ok (FlowAction.Drain i completion)) = brought_stays t k completion.context
-received_stays t k _ = table_still t t refl
-
-sent_stays : (t : ContextTable) (k : WorkerId) (m : Option CtxId) → TableStays t (sent t k m)
-sent_stays t k None = table_still t t refl
-sent_stays t k (Some c) = table_same t (sent t k (Some c)) refl refl
-
 emptied_stays : (old : World) (i : InstanceId) (left after : ContextTable) (result : Result (Unit {0}) Status) → EmptiesUnless result i old left after → TableStays left after
-emptied_stays old i left after (Ok done) same = table_still left after same
+emptied_stays old i left after (Ok done) same = subst (TableStays left) (sym same) (still left)
 emptied_stays old i left after (Err why) sweeps = (subst (SlotsStay left.slots) (sym sweeps.slots) (slots_swept _ left.slots), sweeps.cleaning)
 
 unlinked_stays : (carried : CtxId → ℕ) (t : ContextTable) (w : ℕ) (wants : Bool) (c : CtxId) → TableStays t (unlinked_for carried t w wants c)
@@ -208,58 +168,37 @@ linked_stays t c object = (slots_changed (option_map (with_link (Some object))) 
 set_stays : (carried : CtxId → ℕ) (t : ContextTable) (w : ℕ) (c : CtxId) (object : Object) (mode : SetMode) (wants : Bool) (m : Option CtxId)
     → TableStays t (set_after carried t w c object mode wants m)
 set_stays carried t w c object mode wants m =
-    let same = table_still t t refl in
+    let same = still t in
     set_each (λ u _. TableStays t u) carried t w c object mode wants m (λ e. linked_stays t c object) same same (λ old e. same) (λ old e room.
     let u = unlinked_for carried t w wants old in
     table_after t u (linked u c object) (unlinked_stays carried t w wants old) (linked_stays u c object))
 
 deleted_stays : (carried : CtxId → ℕ) (t : ContextTable) (w : ℕ) (wants : Bool) (m : Option CtxId) → TableStays t (delete_after carried t w wants m)
-deleted_stays carried t w wants None = table_still t t refl
+deleted_stays carried t w wants None = still t
 deleted_stays carried t w wants (Some c) = unlinked_stays carried t w wants c
 
-taken_slots : (t : ContextTable) (w : ℕ) (m : Option CtxId) → SlotsStay t.slots (taken_of t w m).slots
-taken_slots t w None = slots_same t.slots t.slots refl
-taken_slots t w (Some c) = slots_changed (option_map emptied) t.slots c refl
-
-taken_on : (t : ContextTable) (w : ℕ) (m : Option CtxId) (k : ℕ) (c : CtxId) → cleaning_of t.cleaning w ≡ None → cleaning_of t.cleaning k ≡ Some c
-    → cleaning_of (taken_of t w m).cleaning k ≡ Some c
-taken_on t w None k c idle busy = busy
-taken_on t w (Some d) k c idle busy =
-    elim (cases_eq k w) [
-      | inl is ↦ absurd (none-some c (sym (ap (cleaning_of t.cleaning) is ∙ idle) ∙ busy))
-      | inr other ↦ get_or-set_other t.cleaning w k (Some d) None other ∙ busy
-    ]
-
-due_lasts : (old : World) (k : WorkerId) (result : Result (Option Due) Status) (new : World) → TakesDue old k result new → IsSound old → Lasts old new
-unfolding TakesDue
-due_lasts old k result new h s =
-    idle_by (λ _ w. Lasts old w) k result old new _ h (refused old) (λ at e. subst (Lasts old) (sym e.1) (
-      taken_slots old.contexts k.0 (slice_get old.contexts.due 0),
-      λ n c busy. inl (taken_on old.contexts k.0 (slice_get old.contexts.due 0) n c (s.owned.cleaning k.0 ∙ ap cleanup_in at) busy),
-    ))
+-- what a worker cleans up it cleans up still, where an idle one takes what is due
+taken_lasts : (old new : World) (w : ℕ) (m : Option CtxId) → new.contexts ≡ taken_of old.contexts w m → cleaning_of old.contexts.cleaning w ≡ None → Lasts old new
+taken_lasts old new w None made idle = lasts old new old.contexts made (still old.contexts)
+taken_lasts old new w (Some d) made idle = (
+  subst (λ (t : ContextTable). SlotsStay old.contexts.slots t.slots) (sym made) (slots_changed (option_map emptied) old.contexts.slots d refl),
+  λ k c busy. inl (ap (λ (t : ContextTable). cleaning_of t.cleaning k) made
+      ∙ get_or-set_other old.contexts.cleaning w k (Some d) None (λ is. none-some c (sym (ap (cleaning_of old.contexts.cleaning) is ∙ idle) ∙ busy)) ∙ busy),
+)
 
 cleaned_on : (old : World) (w : WorkerId) (d : CtxId) (new : World) → new.contexts ≡ cleaned old.contexts w.0 d → cleaning_of old.contexts.cleaning w.0 ≡ Some d → CleansOn old new
 cleaned_on old w d new made own = λ k c busy.
     elim (cases_eq k w.0) [
-      | inl is ↦
-          let same : d ≡ c = same_Some d c (sym own ∙ ap (cleaning_of old.contexts.cleaning) (sym is) ∙ busy) in
-          inr (ap (λ (t : ContextTable). context_at t.slots c) made
-          ∙ subst (λ x. context_at (cleaned old.contexts w.0 d).slots x ≡ None) same (context_at-here (λ (x : Option Context). None) old.contexts.slots d refl))
+      | inl is ↦ inr (ap (λ (t : ContextTable). context_at t.slots c) made
+          ∙ subst (λ x. context_at (cleaned old.contexts w.0 d).slots x ≡ None) (same_Some d c (sym own ∙ ap (cleaning_of old.contexts.cleaning) (sym is) ∙ busy))
+          (context_at-here (λ (x : Option Context). None) old.contexts.slots d refl))
       | inr other ↦ inl (ap (λ (t : ContextTable). cleaning_of t.cleaning k) made ∙ get_or-set_other old.contexts.cleaning w.0 k None None other ∙ busy)
     ]
-
-cleaned_lasts : (old : World) (k : WorkerId) (number : ℕ) (result : Result (Unit {0}) Status) (new : World) → Cleans old k number result new → IsSound old → Lasts old new
-cleaned_lasts old k number result new h s =
-    cleaned_by (λ _ w. Lasts old w) old k number result new h (refused old) (λ c at e.
-    let made = ap (λ (w : World). w.contexts) e.1 in (
-      subst (λ (t : ContextTable). SlotsStay old.contexts.slots t.slots) (sym made) (slots_changed (λ (x : Option Context). None) old.contexts.slots c refl),
-      cleaned_on old k c new made (s.owned.cleaning k.0 ∙ ap cleanup_in at),
-    ))
 
 -- every event
 
 step_lasts : (old : World) (x : Step) (r : StepReply) (new : World) → Steps old x r new → IsSound old → Lasts old new
-unfolding Registers Mounts Attaches Begins Collects Allocates Gets Deletes References Releases ReadsBody WritesBody Bumps Finishes
+unfolding Registers Mounts Attaches TakesDue Begins Collects Allocates Gets Deletes References Releases ReadsBody WritesBody Bumps Finishes
 step_lasts old (Step.Register name registration) (StepReply.Filter r) new h s = kept old new (ap contexts_in h.1)
 step_lasts old (Step.Mount name) (StepReply.Volume r) new h s = kept old new (ap contexts_in h.1)
 step_lasts old (Step.Attach k f v name altitude) (StepReply.Instance r) new h s =
@@ -272,19 +211,22 @@ step_lasts old (Step.Begin what) (StepReply.Operation r) new h s =
     kept old new (ap contexts_in e.1 ∙ begun_by (λ w. w.contexts ≡ old.contexts) old what free (λ v room. refl) (λ v path mode room. refl) (λ h p x y none at within room. refl)))
 step_lasts old (Step.Next k o) (StepReply.Action r) new h s =
     next_by (λ _ w. Lasts old w) old k o r new h (refused old) (λ e.
-    let stay = subst (TableStays old.contexts) (sym (ap contexts_in e.over.1)) (received_stays old.contexts k r) in
-    known_cases (Lasts old) r e.lies e.mid new e.loses (λ loses. loses_lasts old e.mid new loses stay) (lasts old e.mid e.mid.contexts refl stay))
+    let reply = (turned_by old k o e.lies e.row).reply in
+    let mid = nexted old k o e.lies reply in
+    let stay = received_by (TableStays old.contexts) old.contexts k reply (still old.contexts) (λ c. still old.contexts) in
+    known_cases (Lasts old) old o old.flow reply e.lies mid new e.loses (λ loses. loses_lasts old mid new loses stay) (λ kept. lasts old mid mid.contexts refl stay))
 step_lasts old (Step.PreReturned k given lent) (StepReply.Done r) new h s =
-    pre_by (λ _ w. Lasts old w) old k given lent r new h (refused old) (λ o i at fits e.
+    pre_by (λ _ w. Lasts old w) old k given lent r new h (refused old) (λ o i at fits after leaves loses.
     let along = sent_in (state_at old k o i given) in
     let held = sent old.contexts k along in
-    loses_lasts old e.0 new e.2 (table_after old.contexts held e.0.contexts (sent_stays old.contexts k along) (table_same held e.0.contexts e.1.0.slots e.1.0.cleaning)))
+    let sends = elim along as (λ m. TableStays old.contexts (sent old.contexts k m)) [ None ↦ still old.contexts | Some c ↦ still old.contexts ] in
+    loses_lasts old (pre_made old k o i given lent after) new loses (table_after old.contexts held after sends (table_same held after leaves.slots leaves.cleaning)))
 step_lasts old (Step.BaseReturned k call given) (StepReply.Done r) new h s =
-    base_by (λ _ w. Lasts old w) old k call given r new h (refused old) (λ o at fits loses. loses_lasts old _ new loses (table_still old.contexts old.contexts refl))
+    base_by (λ _ w. Lasts old w) old k call given r new h (refused old) (λ o at fits loses. loses_lasts old _ new loses (still old.contexts))
 step_lasts old (Step.PostReturned k given lent) (StepReply.Done r) new h s =
     post_by (λ _ w. Lasts old w) old k given lent r new h (refused old)
-    (λ o i back at fits e. lasts old new new.contexts refl (table_same old.contexts new.contexts e.0.slots e.0.cleaning))
-    (λ o i at e. lasts old new new.contexts refl (table_same old.contexts new.contexts e.0.slots e.0.cleaning))
+    (λ o i back at fits after leaves. lasts old (with_contexts old after) after refl (table_same old.contexts after leaves.slots leaves.cleaning))
+    (λ o i at after leaves. lasts old (with_contexts old after) after refl (table_same old.contexts after leaves.slots leaves.cleaning))
 step_lasts old (Step.Collect o) (StepReply.Answer r) new h s = kept old new (ap contexts_in h.1)
 step_lasts old (Step.Allocate k what body) (StepReply.Context r) new h s =
     taken_by (λ _ w. Lasts old w) old k r new _ _ h (refused old) (λ at is c free e. lasts old new _ (ap contexts_in e.1) (slots_placed old.contexts.slots c _ e.0, refl))
@@ -292,14 +234,14 @@ step_lasts old (Step.Set k c mode wants) (StepReply.Set r) new h s =
     set_by (λ _ w. Lasts old w) old k c mode wants r new h (refused old) (λ at is free x o there of e.
     lasts old new _ (ap contexts_in e.1) (set_stays (carries old) old.contexts k.0 c o mode wants (holder old.contexts.slots x.owner o)))
 step_lasts old (Step.Get k what) (StepReply.Context r) new h s =
-    asked_by (λ _ w. Lasts old w) old k r new _ _ h (refused old) (λ at is c free e. lasts old new _ (ap contexts_in e.1) (table_still old.contexts old.contexts refl))
+    asked_by (λ _ w. Lasts old w) old k r new _ _ h (refused old) (λ at is c free e. lasts old new _ (ap contexts_in e.1) (still old.contexts))
 step_lasts old (Step.Delete k what wants) (StepReply.Old r) new h s =
     asked_by (λ _ w. Lasts old w) old k r new _ _ h (refused old) (λ at is c free e.
     lasts old new _ (ap contexts_in e.1) (deleted_stays (carries old) old.contexts k.0 wants (there_at old what at)))
 step_lasts old (Step.Reference k c) (StepReply.Done r) new h s =
-    asked_by (λ _ w. Lasts old w) old k r new _ _ h (refused old) (λ at is v free e. lasts old new _ (ap contexts_in e) (table_still old.contexts old.contexts refl))
+    asked_by (λ _ w. Lasts old w) old k r new _ _ h (refused old) (λ at is v free e. lasts old new _ (ap contexts_in e) (still old.contexts))
 step_lasts old (Step.Release k c) (StepReply.Done r) new h s =
-    asked_by (λ _ w. Lasts old w) old k r new _ _ h (refused old) (λ at is v free e. lasts old new _ (ap contexts_in e) (table_still old.contexts old.contexts refl))
+    asked_by (λ _ w. Lasts old w) old k r new _ _ h (refused old) (λ at is v free e. lasts old new _ (ap contexts_in e) (still old.contexts))
 step_lasts old (Step.ReadBody k c) (StepReply.Body r) new h s =
     taken_by (λ _ w. Lasts old w) old k r new _ _ h (refused old) (λ at is body free e. kept old new (ap contexts_in e.1))
 step_lasts old (Step.WriteBody k c bytes) (StepReply.Done r) new h s =
@@ -308,8 +250,14 @@ step_lasts old (Step.WriteBody k c bytes) (StepReply.Done r) new h s =
 step_lasts old (Step.Bump k c at by) (StepReply.Number r) new h s =
     asked_by (λ _ w. Lasts old w) old k r new _ _ h (refused old) (λ x is n free e.
     lasts old new _ (ap contexts_in e.1) (slots_changed (option_map (with_body _)) old.contexts.slots c refl, refl))
-step_lasts old (Step.TakeDue k) (StepReply.Due r) new h s = due_lasts old k r new h s
-step_lasts old (Step.Cleaned k number) (StepReply.Done r) new h s = cleaned_lasts old k number r new h s
+step_lasts old (Step.TakeDue k) (StepReply.Due r) new h s =
+    idle_by (λ _ w. Lasts old w) k r old new _ h (refused old) (λ at e. taken_lasts old new k.0 _ (ap contexts_in e.1) (s.owned.cleaning k.0 ∙ ap cleanup_in at))
+step_lasts old (Step.Cleaned k number) (StepReply.Done r) new h s =
+    cleaned_by (λ _ w. Lasts old w) old k number r new h (refused old) (λ c at e.
+    let made = ap contexts_in e.1 in (
+      subst (λ (t : ContextTable). SlotsStay old.contexts.slots t.slots) (sym made) (slots_changed (λ (x : Option Context). None) old.contexts.slots c refl),
+      cleaned_on old k c new made (s.owned.cleaning k.0 ∙ ap cleanup_in at),
+    ))
 step_lasts old (Step.Finish i) (StepReply.Done r) new h s =
     answers_by (λ _ w. Lasts old w) _ r old new _ h (refused old) (λ v free e. kept old new (ap contexts_in e))
 step_lasts old _ _ new h s = absurd h
@@ -340,12 +288,9 @@ not_due old c s busy first =
     let both = places_cleaned old.contexts.due old.contexts.cleaning busy.0 c within busy.1 c in
     let due = first_placed old.contexts.due (slice_set old.contexts.cleaning busy.0 None) c first in
     let self : one (is_id c c) ≡ 1 = ap one (is_id-refl c) in
-    omega (arith, both, due, self, s.owned.lawful.waits c, at_most_one (is_waiting (carries old) old.contexts c))
+    let most = elim (is_waiting (carries old) old.contexts c) as (λ b. one b ≤ 1) [ true ↦ omega arith | false ↦ omega arith ] in
+    omega (arith, both, due, self, s.owned.lawful.waits c, most)
   where
-    at_most_one : (b : Bool) → one b ≤ 1
-    at_most_one true = omega arith
-    at_most_one false = omega arith
-
     cleaner_within : (xs : List (Option CtxId)) (k : ℕ) (c : CtxId) → cleaning_of xs k ≡ Some c → k < length xs
     cleaner_within [] k c h = absurd (none-some c h)
     cleaner_within (x ∷ xs) zero c h = omega arith
@@ -356,65 +301,39 @@ abbrev CameDue : World → CtxId → Type 0
 CameDue w c = WasGiven w.contexts.slots c × (IsGone w c ⊎ InCleanup w c)
 
 due_stays : (old new : World) (c : CtxId) → Lasts old new → CameDue old c → CameDue new c
-due_stays old new c last (was, inl gone) =
-    (given_stays old.contexts.slots new.contexts.slots c last.0 was, inl (gone_stays old.contexts.slots new.contexts.slots c last.0 was gone))
-due_stays old new c last (was, inr busy) = (
-  given_stays old.contexts.slots new.contexts.slots c last.0 was,
-  elim (last.1 busy.0 c busy.1) [ inl still ↦ inr (busy.0, still) | inr gone ↦ inl gone ],
-)
+due_stays old new c last (was, inl gone) = let k = last.0 c was in (k.0, inl (k.1 gone))
+due_stays old new c last (was, inr busy) = ((last.0 c was).0, elim (last.1 busy.0 c busy.1) [ inl still ↦ inr (busy.0, still) | inr gone ↦ inl gone ])
 
 -- a worker that is handed a context cleans it up from then on, and it was neither cleaned nor being cleaned up
 record IsHanded (old new : World) (c : CtxId) : Type 0 where
   came : CameDue new c
   fresh : CameDue old c → ⊥
 
-given_there : (slots : List Slot) (c : CtxId) (x : Context) → context_at slots c ≡ Some x → WasGiven slots c
-unfolding context_at
-given_there slots c x h = by_slot (slice_get slots c.slot) refl h
-  where
-    by_slot : (m : Option Slot) → slice_get slots c.slot ≡ m → option_and_then (context_in c) m ≡ Some x → WasGiven slots c
-    by_slot None there h = absurd (none-some x h)
-    by_slot (Some s) there h =
-        elim (cases_Bool (c.generation == s.generation)) [
-          | inl is ↦ let same = eqb-true c.generation s.generation is in (s, there, omega (arith, same))
-          | inr other ↦ absurd (none-some x (sym (ap (λ b. cond b s.context None) other) ∙ h))
-        ]
-
 reply_is : (slots : List Slot) (due : Due) (m : Option CtxId) → Some due ≡ option_and_then (λ (c : CtxId). option_map (due_of c) (context_at slots c)) m
     → (m ≡ Some due.id) × ((x : Context) × (context_at slots due.id ≡ Some x))
 reply_is slots due None h = cc
-reply_is slots due (Some c) h = there (context_at slots c) refl h
-  where
-    there : (o : Option Context) → context_at slots c ≡ o → Some due ≡ option_map (due_of c) o → (Some c ≡ Some due.id) × ((x : Context) × (context_at slots due.id ≡ Some x))
-    there None is h = cc
-    there (Some x) is h =
-        let same : due.id ≡ c = ap (λ (d : Due). d.id) (same_Some due (due_of c x) h) in
-        (ap (λ (d : CtxId). Some d) (sym same), (x, ap (context_at slots) same ∙ is))
-
-unless_ok : {T : Type 0} (refusal : Status) (b : Bool) (v : T) (old new : World) (Event : Type 0) → Unless refusal b (Ok v) old new Event → (b ≡ true) × Event
-unless_ok refusal true v old new Event h = (refl, h)
-unless_ok refusal false v old new Event h = cc
+reply_is slots due (Some c) h =
+    by_option (λ o. Some due ≡ option_map (due_of c) o → (Some c ≡ Some due.id) × ((x : Context) × (context_at slots due.id ≡ Some x))) (context_at slots c) (λ none h. (cc))
+    (λ x there h.
+    let same : due.id ≡ c = ap (λ (d : Due). d.id) (same_Some due (due_of c x) h) in
+    (ap (λ (d : CtxId). Some d) (sym same), (x, ap (context_at slots) same ∙ there))) h
 
 taken_handed : (old : World) (k : WorkerId) (due : Due) (new : World) → TakesDue old k (Ok (Some due)) new → IsSound old → IsHanded old new due.id
 unfolding TakesDue
 taken_handed old k due new h s =
-    let e = unless_ok Status.WrongStep (is_idle (worker_at old.workers k)) (Some due) old new _ h in
-    let reply = reply_is old.contexts.slots due (slice_get old.contexts.due 0) (ap reply_of e.1.0) in
+    idle_by (λ r w. r ≡ Ok (Some due) → IsHanded old w due.id) k (Ok (Some due)) old new _ h (λ why is. (cc)) (λ at e _.
+    let reply = reply_is old.contexts.slots due (slice_get old.contexts.due 0) (ap reply_of e.0) in
     let t = taken_due old.contexts k.0 due.id in
-    let made : new.contexts ≡ t = ap (λ (w : World). w.contexts) e.1.1 ∙ ap (taken_of old.contexts k.0) reply.0 in
+    let made : new.contexts ≡ t = ap contexts_in e.1 ∙ ap (taken_of old.contexts k.0) reply.0 in
     let was = given_there old.contexts.slots due.id reply.1.0 reply.1.1 in
-    let within : k.0 < length old.contexts.cleaning =
-    subst (λ n. k.0 < n) (s.under_way.hands ∙ sym s.owned.lawful.cleaners) (slice_get_within old.workers k.0 Worker.Idle (idle_there old.workers k e.0)) in
+    let within : k.0 < length old.contexts.cleaning = subst (λ n. k.0 < n) (s.under_way.hands ∙ sym s.owned.lawful.cleaners) (slice_get_within old.workers k.0 Worker.Idle at) in
     record {
       came = subst (λ (u : ContextTable). WasGiven u.slots due.id × ((context_at u.slots due.id ≡ None) ⊎ ((n : ℕ) × (cleaning_of u.cleaning n ≡ Some due.id)))) (sym made) (
-        given_stays old.contexts.slots t.slots due.id (slots_changed (option_map emptied) old.contexts.slots due.id refl) was,
+        (slots_changed (option_map emptied) old.contexts.slots due.id refl due.id was).0,
         inr (k.0, get_or-set_same old.contexts.cleaning k.0 (Some due.id) None within),
       );
-      fresh = λ came. elim came.1 [
-        | inl gone ↦ none-some reply.1.0 (sym gone ∙ reply.1.1)
-        | inr busy ↦ not_due old due.id s busy reply.0
-      ];
-    }
+      fresh = λ came. elim came.1 [ inl gone ↦ none-some reply.1.0 (sym gone ∙ reply.1.1) | inr busy ↦ not_due old due.id s busy reply.0 ];
+    }) refl
   where
     reply_of : Result (Option Due) Status → Option Due
     reply_of (Ok o) = o
@@ -426,51 +345,61 @@ step_due old _ _ new c h is s = absurd (none-some c is)
 
 -- ---- lists of events
 
-run_stays : (old : World) (steps : List Step) (replies : List StepReply) (new : World) → Run old steps replies new → IsSound old → SlotsStay old.contexts.slots new.contexts.slots
-run_stays old [] [] new h s = slots_same old.contexts.slots new.contexts.slots (ap (λ (w : World). w.contexts.slots) h)
-run_stays old (x ∷ steps) (r ∷ replies) new h s =
-    slots_after old.contexts.slots h.0.contexts.slots new.contexts.slots (step_lasts old x r h.0 h.1 s).0 (run_stays h.0 steps replies new h.2 (step_keeps old x r h.0 h.1 s))
-run_stays old _ _ new h s = absurd h
+-- what each event keeps
+abbrev Persists : (World → Type 0) → Type 0
+Persists P = (old new : World) → Lasts old new → P old → P new
 
-run_gives : (old : World) (steps : List Step) (replies : List StepReply) (new : World) (c : CtxId) → Run old steps replies new → IsSound old → Comes given_by steps replies c
-    → WasGiven new.contexts.slots c
-run_gives old (x ∷ steps) (r ∷ replies) new c h s (inl now) =
-    given_stays h.0.contexts.slots new.contexts.slots c (run_stays h.0 steps replies new h.2 (step_keeps old x r h.0 h.1 s)) (step_gives old x r h.0 c h.1 now).1
-run_gives old (x ∷ steps) (r ∷ replies) new c h s (inr later) = run_gives h.0 steps replies new c h.2 (step_keeps old x r h.0 h.1 s) later
-run_gives old _ _ new c h s comes = absurd comes
+run_holds : (P : World → Type 0) → Persists P → (old : World) (steps : List Step) (replies : List StepReply) (new : World) → Run old steps replies new → IsSound old → P old → P new
+run_holds P stays old [] [] new h s p = subst P (sym h) p
+run_holds P stays old (x ∷ steps) (r ∷ replies) new h s p =
+    run_holds P stays h.0 steps replies new h.2 (step_keeps old x r h.0 h.1 s) (stays old h.0 (step_lasts old x r h.0 h.1 s) p)
+run_holds P stays old _ _ new h s p = absurd h
 
-never_again : (old : World) (steps : List Step) (replies : List StepReply) (new : World) (c : CtxId) → Run old steps replies new → IsSound old → WasGiven old.contexts.slots c
-    → Comes given_by steps replies c → ⊥
-never_again old (x ∷ steps) (r ∷ replies) new c h s was (inl now) = given_not_new old.contexts.slots c was (step_gives old x r h.0 c h.1 now).0
-never_again old (x ∷ steps) (r ∷ replies) new c h s was (inr later) =
-    never_again h.0 steps replies new c h.2 (step_keeps old x r h.0 h.1 s) (given_stays old.contexts.slots h.0.contexts.slots c (step_lasts old x r h.0 h.1 s).0 was) later
-never_again old _ _ new c h s was comes = comes
+-- what an event makes so that says this of a context, and no event says it of a context of which it is so
+record Marks (by : Step → StepReply → Option CtxId) (P : World → CtxId → Type 0) : Type 0 where
+  stays : (c : CtxId) → Persists (λ w. P w c)
+  makes : (old : World) (x : Step) (r : StepReply) (new : World) (c : CtxId) → Steps old x r new → IsSound old → by x r ≡ Some c → P new c
+  fresh : (old : World) (x : Step) (r : StepReply) (new : World) (c : CtxId) → Steps old x r new → IsSound old → by x r ≡ Some c → P old c → ⊥
 
-run_due_stays : (old : World) (steps : List Step) (replies : List StepReply) (new : World) (c : CtxId) → Run old steps replies new → IsSound old → CameDue old c → CameDue new c
-run_due_stays old [] [] new c h s came = subst (λ (w : World). CameDue w c) (sym h) came
-run_due_stays old (x ∷ steps) (r ∷ replies) new c h s came =
-    run_due_stays h.0 steps replies new c h.2 (step_keeps old x r h.0 h.1 s) (due_stays old h.0 c (step_lasts old x r h.0 h.1 s) came)
-run_due_stays old _ _ new c h s came = absurd h
+run_marks : (by : Step → StepReply → Option CtxId) (P : World → CtxId → Type 0) → Marks by P → (old : World) (steps : List Step) (replies : List StepReply) (new : World) (c : CtxId)
+    → Run old steps replies new → IsSound old → Comes by steps replies c → P new c
+run_marks by P m old (x ∷ steps) (r ∷ replies) new c h s (inl now) =
+    run_holds (λ w. P w c) (m.stays c) h.0 steps replies new h.2 (step_keeps old x r h.0 h.1 s) (m.makes old x r h.0 c h.1 s now)
+run_marks by P m old (x ∷ steps) (r ∷ replies) new c h s (inr later) = run_marks by P m h.0 steps replies new c h.2 (step_keeps old x r h.0 h.1 s) later
+run_marks by P m old _ _ new c h s comes = absurd comes
 
-run_due : (old : World) (steps : List Step) (replies : List StepReply) (new : World) (c : CtxId) → Run old steps replies new → IsSound old → Comes due_by steps replies c → CameDue new c
-run_due old (x ∷ steps) (r ∷ replies) new c h s (inl now) =
-    run_due_stays h.0 steps replies new c h.2 (step_keeps old x r h.0 h.1 s) (step_due old x r h.0 c h.1 now s).came
-run_due old (x ∷ steps) (r ∷ replies) new c h s (inr later) = run_due h.0 steps replies new c h.2 (step_keeps old x r h.0 h.1 s) later
-run_due old _ _ new c h s comes = absurd comes
+never_again : (by : Step → StepReply → Option CtxId) (P : World → CtxId → Type 0) → Marks by P → (old : World) (steps : List Step) (replies : List StepReply) (new : World) (c : CtxId)
+    → Run old steps replies new → IsSound old → P old c → Comes by steps replies c → ⊥
+never_again by P m old (x ∷ steps) (r ∷ replies) new c h s p (inl now) = m.fresh old x r h.0 c h.1 s now p
+never_again by P m old (x ∷ steps) (r ∷ replies) new c h s p (inr later) =
+    never_again by P m h.0 steps replies new c h.2 (step_keeps old x r h.0 h.1 s) (m.stays c old h.0 (step_lasts old x r h.0 h.1 s) p) later
+never_again by P m old _ _ new c h s p comes = comes
 
-never_due : (old : World) (steps : List Step) (replies : List StepReply) (new : World) (c : CtxId) → Run old steps replies new → IsSound old → CameDue old c
-    → Comes due_by steps replies c → ⊥
-never_due old (x ∷ steps) (r ∷ replies) new c h s came (inl now) = (step_due old x r h.0 c h.1 now s).fresh came
-never_due old (x ∷ steps) (r ∷ replies) new c h s came (inr later) =
-    never_due h.0 steps replies new c h.2 (step_keeps old x r h.0 h.1 s) (due_stays old h.0 c (step_lasts old x r h.0 h.1 s) came) later
-never_due old _ _ new c h s came comes = comes
+abbrev GivenIn : World → CtxId → Type 0
+GivenIn w c = WasGiven w.contexts.slots c
+
+gives : Marks given_by GivenIn
+gives = record {
+  stays = λ c old new last was. (last.0 c was).0;
+  makes = λ old x r new c h s is. (step_gives old x r new c h is).1;
+  fresh = λ old x r new c h s is was. given_not_new old.contexts.slots c was (step_gives old x r new c h is).0;
+}
+
+dues : Marks due_by CameDue
+dues = record {
+  stays = λ c old new last came. due_stays old new c last came;
+  makes = λ old x r new c h s is. (step_due old x r new c h is s).came;
+  fresh = λ old x r new c h s is came. (step_due old x r new c h is s).fresh came;
+}
 
 pub contexts_last : ContextsLast
 contexts_last steps replies mid later answers new first then c =
     let sound = run_keeps empty_world steps replies mid first empty_sound in (
-      λ given. never_again mid later answers new c then sound (run_gives empty_world steps replies mid c first empty_sound given),
-      λ due. never_due mid later answers new c then sound (run_due empty_world steps replies mid c first empty_sound due),
+      λ given. never_again given_by GivenIn gives mid later answers new c then sound (run_marks given_by GivenIn gives empty_world steps replies mid c first empty_sound given),
+      λ due. never_again due_by CameDue dues mid later answers new c then sound (run_marks due_by CameDue dues empty_world steps replies mid c first empty_sound due),
       λ given gone.
-          let was = run_gives empty_world steps replies mid c first empty_sound given in
-          (gone_stays mid.contexts.slots new.contexts.slots c (run_stays mid later answers new then sound) was gone, never_due mid later answers new c then sound (was, inl gone)),
+          let was = run_marks given_by GivenIn gives empty_world steps replies mid c first empty_sound given in (
+            (run_holds (λ w. GivenIn w c × IsGone w c) (λ old new last p. let k = last.0 c p.0 in (k.0, k.1 p.1)) mid later answers new then sound (was, gone)).1,
+            never_again due_by CameDue dues mid later answers new c then sound (was, inl gone),
+          ),
     )

@@ -1,36 +1,29 @@
 -- Allocating, setting, getting and deleting contexts keep a World sound.
-use Rattle.std.proofs.Common.{◌≡◌, ℕ, ◌<◌, ◌&&◌, ◌||◌, slice_get, Bool, true, false, List, [], ◌∷◌, ◌++◌, length, nat_lt, Option, Some, None, Result, is_some, is_none, option_map, not, refl, ap, sym, ◌∙◌, subst}
-use Rattle.fm_world.proofs.Words.{false≢true, and_parts, and_from, leb-false, eq-eqb, lt-ltb, none-some, same_Some, ContextKind, CtxId, InstanceId, WorkerId}
-use Rattle.fm_world.proofs.Words.{Status, first_of, all_at, Instance, Volume, StackWorld, is_setup, is_attached, is_mounted, is_mounted_phase, Object, Owner}
-use Rattle.fm_world.proofs.Words.{SetMode, holds, hand_of, is_hand_full, allocated, allocate_refusal, is_out_of_slots, IsLawful, holder, set_after}
-use Rattle.fm_world.proofs.Words.{unlinked_for, linked, with_link, get_refusal, delete_after, delete_refusal, IsUnlinkedOf, same_owner, is_to, Context, Slot}
-use Rattle.fm_world.proofs.Words.{context_at, link_at, allocate_keeps, context_at-placed, none_from, SetAnswer, World, carries, is_there, names_there}
-use Rattle.fm_world.proofs.Words.{FileObject, row_at, has_kind, owner_by, object_by, is_closing, is_left_by, keeps_links_by, may_link, suits, holds_links}
-use Rattle.fm_world.proofs.Words.{holds_links_by, is_volume, is_instance, is_of_stream, is_of_handle, fits, owner_fits, link_fits, belongs, belongs_by}
-use Rattle.fm_world.proofs.Words.{Callback, with_contexts, before, context_by, Allocates, object_for, is_past, set_refused, Sets, there_at, object_refused}
-use Rattle.fm_world.proofs.Words.{Gets, Deletes, IsSound, IsOwned}
-use Rattle.std.specs.Option.{option_and_then}
+use Rattle.std.proofs.Common.{◌≡◌, ℕ, ◌<◌, ◌&&◌, ◌||◌, slice_get, Bool, true, false, List, [], ◌∷◌, ◌++◌, length, nat_lt, Option, Some, None, Result, is_some, is_none, option_map, not, refl, ap, sym, ◌∙◌, subst, option_and_then}
+use Rattle.fm_world.proofs.Words.{false≢true, and_parts, and_from, leb-false, eq-eqb, lt-ltb, none-some, same_Some, ContextKind, CtxId, InstanceId}
+use Rattle.fm_world.proofs.Words.{WorkerId, Status, all_at, Instance, Volume, StackWorld, is_setup, is_attached, is_mounted, is_mounted_phase, Object}
+use Rattle.fm_world.proofs.Words.{Owner, SetMode, holds, hand_of, is_hand_full, allocated, allocate_refusal, is_out_of_slots, IsLawful, holder}
+use Rattle.fm_world.proofs.Words.{unlinked_for, linked, with_link, get_refusal, delete_after, delete_refusal, IsUnlinkedOf, same_owner, is_to}
+use Rattle.fm_world.proofs.Words.{Context, Slot, context_at, link_at, allocate_keeps, context_at-placed, none_from, SetAnswer, World, carries}
+use Rattle.fm_world.proofs.Words.{is_there, names_there, FileObject, has_kind, owner_by, object_by, is_closing, may_link, suits, holds_links}
+use Rattle.fm_world.proofs.Words.{holds_links_by, is_volume, is_instance, is_of_stream, is_of_handle, fits, owner_fits, link_fits, belongs}
+use Rattle.fm_world.proofs.Words.{belongs_by, Callback, with_contexts, before, context_by, Allocates, object_for, is_past, set_refused, Sets}
+use Rattle.fm_world.proofs.Words.{there_at, object_refused, Gets, Deletes, IsSound, IsOwned, change_context, none_refuses}
 use Rattle.fm_stack.specs.declared.volume.VolumePhase.{VolumePhase}
 use Rattle.fm_ctx.proofs.Holders.{holder_some, holder_context, holder_linked}
 use Rattle.fm_ctx.proofs.Objects.{same_owner-same}
 use Rattle.fm_ctx.proofs.Sets.{room_if_wanted, set_keeps, get_keeps, delete_keeps, still_there}
-use Rattle.fm_world.proofs.Belonging.{owners_changed, owners_placed, belongs_still, filters_same}
+use Rattle.fm_world.proofs.Belonging.{owners_changed, owners_placed, belongs_still, filters_same, OwnersStay, AllPass, passes_changed, passes_placed, fits_unlinked, fits_linked, AllFit}
 use Rattle.fm_world.proofs.Events.{asked_by, taken_by, set_by, set_each}
-use Rattle.fm_world.proofs.Callbacks.{IsIn, is_in, contexts_owned, sound_with, in_hand, one_more, same_hand, same_hands, none_of, not_false, grabbed_sound}
+use Rattle.fm_world.proofs.Callbacks.{IsIn, is_in, contexts_owned, sound_with, in_hand, one_more, same_hand, same_hands, none_of, not_false, grabbed_sound, callback_left}
 use Rattle.fm_world.proofs.Descents.{or_left, or_right}
-use Rattle.fm_world.proofs.Fitting.{AllPass, passes_changed, passes_placed, fits_unlinked, fits_linked}
-use Rattle.fm_world.proofs.Flights.{callback_left}
+use Rattle.fm_world.proofs.Cases.{by_option}
 
 owner_refl : (o : Owner) → same_owner o o ≡ true
 owner_refl (Owner.Filter f) = eq-eqb f.0 f.0 refl
 owner_refl (Owner.Instance i) = eq-eqb i.0 i.0 refl
 
 -- ---- allocate
-
-owned_fits : (s : StackWorld) (row : Instance) (i : InstanceId) (k : ContextKind) → row.filter.0 < length s.filters → is_left_by (row_at s i) ≡ true
-    → owner_fits s k (owner_by row i k) ≡ true
-owned_fits s row i ContextKind.Volume below left = lt-ltb row.filter.0 (length s.filters) below
-owned_fits s row i _ below left = left
 
 pub allocate_sound : (old : World) (k : WorkerId) (what : ContextKind) (body : List ℕ) (result : Result CtxId Status) (new : World)
     → Allocates old k what body result new → IsSound old → IsSound new
@@ -41,7 +34,7 @@ allocate_sound old k what body result new h s =
     let full = is_hand_full old.contexts.hands k.0 in
     let many = is_out_of_slots old.contexts.slots in
     let listed = none_of (not (has_kind old.stack at.row what)) Status.NotRegistered (allocate_refusal old.contexts k.0 body) free in
-    let few = none_of ((nat_lt 4096 (length body)) || many) Status.TooMany (first_of ((full, Status.HandFull) ∷ [])) listed.1 in
+    let frees = none_refuses ((nat_lt 4096 (length body) || many, Status.TooMany) ∷ (full, Status.HandFull) ∷ []) listed.1 in
     let x = context_by at what body in
     let fresh = event.0 in
     let t = allocated old.contexts k.0 c x in
@@ -51,12 +44,15 @@ allocate_sound old k what body result new h s =
     ∙ owner_refl (owner_by at.row at.instance what) in
     let fit : fits old.stack (Some x) ≡ true =
     and_from (owner_fits old.stack what (owner_by at.row at.instance what)) true
-    (owned_fits old.stack at.row at.instance what i.placed.filter (callback_left old k at.instance at.row s i.place i.there).0) refl in
+    (elim what as (λ a. owner_fits old.stack a (owner_by at.row at.instance a) ≡ true) [
+      | ContextKind.Volume ↦ lt-ltb at.row.filter.0 (length old.stack.filters) i.placed.filter
+      | _ ↦ (callback_left old k at.instance at.row s i.place i.there).0
+    ]) refl in
     subst IsSound (sym event.1)
     (sound_with old t
     (contexts_owned old t k (hand_of old.contexts.hands k.0 ++ c ∷ [])
     (allocate_keeps k.0 c x s.owned.lawful i.worker fresh refl
-    (leb-false 16 (length (hand_of old.contexts.hands k.0)) (none_of full Status.HandFull None few.1).0))
+    (leb-false 16 (length (hand_of old.contexts.hands k.0)) frees.1.0))
     refl owners refl i.worker (one_more old t k at c i s.owned owners own)
     (passes_placed (fits old.stack) old.contexts.slots c x fit s.owned.fits) s.owned)
     (passes_placed (names_there old.files) old.contexts.slots c x refl s.links) s))
@@ -111,52 +107,43 @@ get_sound old k what result new h s =
     let object' = object_by at.row at.instance at.file what in
     let asked = asked_for old what at (before (not (is_there old.files object')) Status.DeletingObject (get_refusal old.contexts k.0 there)) free in
     let refusal = (none_of (not (is_there old.files object')) Status.DeletingObject (get_refusal old.contexts k.0 there) asked).1 in
-    let some = none_of (is_none there) Status.NoContext (first_of ((full, Status.HandFull) ∷ [])) refusal in
-    let room = none_of full Status.HandFull None some.1 in
+    let frees = none_refuses ((is_none there, Status.NoContext) ∷ (full, Status.HandFull) ∷ []) refusal in
     let found = found_there old what at object' c event.0 in
     subst IsSound (sym event.1)
     (grabbed_sound old k at c i s
-    (get_keeps k.0 c (owner_by at.row at.instance what) found.0 s.owned.lawful i.worker found.2 (leb-false 16 (length (hand_of old.contexts.hands k.0)) room.0))
+    (get_keeps k.0 c (owner_by at.row at.instance what) found.0 s.owned.lawful i.worker found.2 (leb-false 16 (length (hand_of old.contexts.hands k.0)) frees.1.0))
     (held_for old k at what found.0 c i s.owned found.2)))
 
 -- ---- delete
 
 -- a context that is set loses its link: its reference goes to the hand where it is wanted
-unlinked_owned : (w : World) (k : WorkerId) (at : Callback) (wants : Bool) (d : CtxId) → IsIn w k at → IsSound w
-    → IsLawful (carries w) (unlinked_for (carries w) w.contexts k.0 wants d) → belongs w.stack w.contexts.slots at.instance d ≡ true
-    → IsOwned (with_contexts w (unlinked_for (carries w) w.contexts k.0 wants d))
-unlinked_owned w k at true d i s lawful own =
-    let t = unlinked_for (carries w) w.contexts k.0 true d in
-    let owners = owners_changed (with_link None) w.contexts.slots d (λ x. (refl, refl)) in
-    contexts_owned w t k (hand_of w.contexts.hands k.0 ++ d ∷ []) lawful refl owners refl i.worker
-    (one_more w t k at d i s.owned owners (belongs_still w.stack w.contexts.slots w.stack t.slots (filters_same w.stack) owners at.instance d own))
-    (passes_changed (fits w.stack) (option_map (with_link None)) w.contexts.slots d refl (λ x there fit. fits_unlinked w.stack x fit) s.owned.fits) s.owned
-unlinked_owned w k at false d i s lawful own =
-    let t = unlinked_for (carries w) w.contexts k.0 false d in
-    let owners = owners_changed (with_link None) w.contexts.slots d (λ x. (refl, refl)) in
-    contexts_owned w t k (hand_of w.contexts.hands k.0) lawful refl owners (same_hands w.contexts.hands k.0) i.worker (same_hand w t k s.owned owners)
-    (passes_changed (fits w.stack) (option_map (with_link None)) w.contexts.slots d refl (λ x there fit. fits_unlinked w.stack x fit) s.owned.fits) s.owned
-
-unlinked_links : (w : World) (k : WorkerId) (wants : Bool) (d : CtxId) → AllPass (names_there w.files) w.contexts.slots
-    → AllPass (names_there w.files) (unlinked_for (carries w) w.contexts k.0 wants d).slots
-unlinked_links w k true d h = passes_changed (names_there w.files) (option_map (with_link None)) w.contexts.slots d refl (λ x there named. refl) h
-unlinked_links w k false d h = passes_changed (names_there w.files) (option_map (with_link None)) w.contexts.slots d refl (λ x there named. refl) h
-
 unlinked_sound : (w : World) (k : WorkerId) (at : Callback) (wants : Bool) (owner : Owner) (object : Object) (d : CtxId) → IsIn w k at → IsSound w
     → holder w.contexts.slots owner object ≡ Some d → belongs w.stack w.contexts.slots at.instance d ≡ true → (wants && is_hand_full w.contexts.hands k.0) ≡ false
     → IsSound (with_contexts w (unlinked_for (carries w) w.contexts k.0 wants d))
 unlinked_sound w k at wants owner object d i s is own room =
-    let lawful : IsLawful (carries w) (unlinked_for (carries w) w.contexts k.0 wants d) =
-    subst (λ m. IsLawful (carries w) (delete_after (carries w) w.contexts k.0 wants m)) is
-    (delete_keeps k.0 owner object wants s.owned.lawful i.worker (room_if_wanted wants w.contexts k.0 room)) in
-    sound_with w (unlinked_for (carries w) w.contexts k.0 wants d) (unlinked_owned w k at wants d i s lawful own) (unlinked_links w k wants d s.links) s
+    by_wants wants (subst (λ m. IsLawful (carries w) (delete_after (carries w) w.contexts k.0 wants m)) is
+    (delete_keeps k.0 owner object wants s.owned.lawful i.worker (room_if_wanted wants w.contexts k.0 room)))
+  where
+    slots : List Slot
+    slots = change_context (option_map (with_link None)) w.contexts.slots d
 
-delete_at : (w : World) (k : WorkerId) (at : Callback) (what : ContextKind) (wants : Bool) (there : Option CtxId) → there_at w what at ≡ there → IsIn w k at → IsSound w
-    → (wants && is_hand_full w.contexts.hands k.0) ≡ false → IsSound (with_contexts w (delete_after (carries w) w.contexts k.0 wants there))
-delete_at w k at what wants None is i s room = s
-delete_at w k at what wants (Some d) is i s room =
-    let o = found_there w what at (object_by at.row at.instance at.file what) d is in
-    unlinked_sound w k at wants (owner_by at.row at.instance what) o.0 d i s o.2 (held_for w k at what o.0 d i s.owned o.2) room
+    owners : OwnersStay w.contexts.slots slots
+    owners = owners_changed (with_link None) w.contexts.slots d (λ x. (refl, refl))
+
+    fit : AllFit w.stack slots
+    fit = passes_changed (fits w.stack) (option_map (with_link None)) w.contexts.slots d refl (λ x there fit. fits_unlinked w.stack x fit) s.owned.fits
+
+    links : AllPass (names_there w.files) slots
+    links = passes_changed (names_there w.files) (option_map (with_link None)) w.contexts.slots d refl (λ x there named. refl) s.links
+
+    by_wants : (b : Bool) → IsLawful (carries w) (unlinked_for (carries w) w.contexts k.0 b d) → IsSound (with_contexts w (unlinked_for (carries w) w.contexts k.0 b d))
+    by_wants true lawful =
+        let t = unlinked_for (carries w) w.contexts k.0 true d in
+        sound_with w t (contexts_owned w t k (hand_of w.contexts.hands k.0 ++ d ∷ []) lawful refl owners refl i.worker
+        (one_more w t k at d i s.owned owners (belongs_still w.stack w.contexts.slots w.stack slots (filters_same w.stack) owners at.instance d own)) fit s.owned) links s
+    by_wants false lawful =
+        let t = unlinked_for (carries w) w.contexts k.0 false d in
+        sound_with w t (contexts_owned w t k (hand_of w.contexts.hands k.0) lawful refl owners (same_hands w.contexts.hands k.0) i.worker (same_hand w t k s.owned owners) fit s.owned) links s
 
 pub delete_sound : (old : World) (k : WorkerId) (what : ContextKind) (wants : Bool) (result : Result (Option CtxId) Status) (new : World)
     → Deletes old k what wants result new → IsSound old → IsSound new
@@ -165,10 +152,12 @@ delete_sound old k what wants result new h s =
     asked_by (λ _ w. IsSound w) old k result new _ _ h (λ why. s) (λ at is c free event.
     let there = there_at old what at in
     let full = wants && is_hand_full old.contexts.hands k.0 in
-    let refusal = asked_for old what at (delete_refusal old.contexts k.0 wants there) free in
-    let some = none_of (is_none there) Status.NoContext (first_of ((full, Status.HandFull) ∷ [])) refusal in
-    let room = none_of full Status.HandFull None some.1 in
-    subst IsSound (sym event.1) (delete_at old k at what wants there refl (is_in old k at s is) s room.0))
+    let frees = none_refuses ((is_none there, Status.NoContext) ∷ (full, Status.HandFull) ∷ []) (asked_for old what at (delete_refusal old.contexts k.0 wants there) free) in
+    let i = is_in old k at s is in
+    subst IsSound (sym event.1)
+    (by_option (λ m. IsSound (with_contexts old (delete_after (carries old) old.contexts k.0 wants m))) there (λ none. s) (λ d found.
+    let o = found_there old what at (object_by at.row at.instance at.file what) d found in
+    unlinked_sound old k at wants (owner_by at.row at.instance what) o.0 d i s o.2 (held_for old k at what o.0 d i s.owned o.2) frees.1.0)))
 
 -- ---- set
 
@@ -194,20 +183,20 @@ record MaySet (w : World) (k : WorkerId) (at : Callback) (c : CtxId) (x : Contex
   pub link : link_fits w.stack x (Some o) ≡ true
   pub here : is_there w.files (Some o) ≡ true
 
--- what a callback allocates may be linked, where its instance isn't being emptied
-callback_links : (s : StackWorld) (row : Instance) (i : InstanceId) (a : ContextKind) → keeps_links_by (row_at s i) ≡ true → may_link s (owner_by row i a) ≡ true
-callback_links s row i ContextKind.Volume h = refl
-callback_links s row i _ h = h
+-- what is set is some file's stream or handle
+file_of_object : {A : Type 0} (f : A → Object) (m : Option A) (o : Object) → option_map f m ≡ Some o → (x : A) × (f x ≡ o)
+file_of_object f None o e = absurd (none-some o e)
+file_of_object f (Some x) o e = (x, same_Some (f x) o e)
 
 -- a volume in use holds its links
 mounted_holds : (m : Option Volume) → is_mounted m ≡ true → holds_links_by m ≡ true
 mounted_holds None h = absurd (false≢true h)
-mounted_holds (Some volume) h = at_phase volume.phase h
-  where
-    at_phase : (p : VolumePhase) → is_mounted_phase p ≡ true → holds_links p ≡ true
-    at_phase VolumePhase.Emptied h = absurd (false≢true h)
-    at_phase VolumePhase.Finished h = absurd (false≢true h)
-    at_phase _ h = refl
+mounted_holds (Some volume) h =
+    (elim volume.phase as (λ p. is_mounted_phase p ≡ true → holds_links p ≡ true) [
+      | VolumePhase.Emptied ↦ λ h. absurd (false≢true h)
+      | VolumePhase.Finished ↦ λ h. absurd (false≢true h)
+      | _ ↦ λ h. refl
+    ]) h
 
 object_suits : (w : World) (at : Callback) (x : Context) (a : ContextKind) (o : Object) → x.kind ≡ a → is_mounted (slice_get w.stack.volumes at.row.volume.0) ≡ true
     → same_owner (owner_by at.row at.instance a) x.owner ≡ true → object_by at.row at.instance at.file a ≡ Some o → suits w.stack x o ≡ true
@@ -217,45 +206,38 @@ object_suits w at x ContextKind.Volume o is mounted own e =
 object_suits w at x ContextKind.Instance o is mounted own e =
     subst (λ p. suits w.stack x p ≡ true) (same_Some (Object.Instance at.instance) o e)
     (and_from (is_instance x.kind) (same_owner (Owner.Instance at.instance) x.owner) (ap is_instance is) own)
-object_suits w at x ContextKind.Stream o is mounted own e = of_file at.file e
-  where
-    of_file : (file : Option FileObject) → option_map (λ (f : FileObject). Object.Stream f.stream) file ≡ Some o → suits w.stack x o ≡ true
-    of_file None e = absurd (none-some o e)
-    of_file (Some f) e = subst (λ p. suits w.stack x p ≡ true) (same_Some (Object.Stream f.stream) o e) (ap is_of_stream is)
-object_suits w at x ContextKind.Handle o is mounted own e = of_file at.file e
-  where
-    of_file : (file : Option FileObject) → option_map (λ (f : FileObject). Object.Handle f.handle) file ≡ Some o → suits w.stack x o ≡ true
-    of_file None e = absurd (none-some o e)
-    of_file (Some f) e = subst (λ p. suits w.stack x p ≡ true) (same_Some (Object.Handle f.handle) o e) (ap is_of_handle is)
+object_suits w at x ContextKind.Stream o is mounted own e =
+    subst (λ p. suits w.stack x p ≡ true) (file_of_object (λ (f : FileObject). Object.Stream f.stream) at.file o e).1 (ap is_of_stream is)
+object_suits w at x ContextKind.Handle o is mounted own e =
+    subst (λ p. suits w.stack x p ≡ true) (file_of_object (λ (f : FileObject). Object.Handle f.handle) at.file o e).1 (ap is_of_handle is)
 
 may_set : (w : World) (k : WorkerId) (at : Callback) (c : CtxId) (x : Context) (o : Object) → IsIn w k at → IsSound w → set_refused w k c at ≡ None
     → context_at w.contexts.slots c ≡ Some x → object_for at (Some x) ≡ Some o → MaySet w k at c x o
 may_set w k at c x o i s free there of =
     let object' = object_for at (context_at w.contexts.slots c) in
-    let held = none_of (not (holds (hand_of w.contexts.hands k.0) c)) Status.NotHeld
-    (first_of ((is_some (link_at w.contexts.slots c), Status.AlreadyLinked) ∷ (is_none object', Status.NoObject)
-    ∷ (is_past w at object', Status.DeletingObject) ∷ [])) free in
-    let linked' = none_of (is_some (link_at w.contexts.slots c)) Status.AlreadyLinked
-    (first_of ((is_none object', Status.NoObject) ∷ (is_past w at object', Status.DeletingObject) ∷ [])) held.1 in
-    let some = none_of (is_none object') Status.NoObject (first_of ((is_past w at object', Status.DeletingObject) ∷ [])) linked'.1 in
-    let open' = none_of (is_past w at object') Status.DeletingObject None some.1 in
-    let gone = or_right (is_closing w.stack at.row) (not (is_there w.files object')) open'.0 in
+    let hand = hand_of w.contexts.hands k.0 in
+    let frees = none_refuses ((not (holds hand c), Status.NotHeld) ∷ (is_some (link_at w.contexts.slots c), Status.AlreadyLinked) ∷ (is_none object', Status.NoObject)
+    ∷ (is_past w at object', Status.DeletingObject) ∷ []) free in
+    let past = frees.1.1.1.0 in
     let used = is_mounted (slice_get w.stack.volumes at.row.volume.0) in
-    let live = or_right (not (is_setup at.row.phase || is_attached at.row.phase)) (not used) (or_left (is_closing w.stack at.row) (not (is_there w.files object')) open'.0) in
-    let has = not_false (holds (hand_of w.contexts.hands k.0) c) held.0 in
-    let belong = in_hand w k at c i s.owned has in
+    let live = or_right (not (is_setup at.row.phase || is_attached at.row.phase)) (not used) (or_left (is_closing w.stack at.row) (not (is_there w.files object')) past) in
+    let has = not_false (holds hand c) frees.0 in
     let own : same_owner (owner_by at.row at.instance x.kind) x.owner ≡ true =
-    sym (ap (belongs_by (Some at.row) at.instance) there) ∙ sym (ap (λ m. belongs_by m at.instance (context_at w.contexts.slots c)) i.there) ∙ belong in
+    sym (ap (belongs_by (Some at.row) at.instance) there) ∙ sym (ap (λ m. belongs_by m at.instance (context_at w.contexts.slots c)) i.there) ∙ in_hand w k at c i s.owned has in
     record {
       has = has;
       there = there;
-      bare = none_from x.link (sym (ap (λ m. is_some (option_and_then (λ (y : Context). y.link) m)) there) ∙ linked'.0);
+      bare = none_from x.link (sym (ap (λ m. is_some (option_and_then (λ (y : Context). y.link) m)) there) ∙ frees.1.0);
       own = own;
       link = and_from (may_link w.stack x.owner) (suits w.stack x o)
           (subst (λ y. may_link w.stack y ≡ true) (same_owner-same (owner_by at.row at.instance x.kind) x.owner own)
-          (callback_links w.stack at.row at.instance x.kind (callback_left w k at.instance at.row s i.place i.there).1))
+          (elim x.kind as (λ a. may_link w.stack (owner_by at.row at.instance a) ≡ true) [
+            | ContextKind.Volume ↦ refl
+            | _ ↦ (callback_left w k at.instance at.row s i.place i.there).1
+          ]))
           (object_suits w at x x.kind o refl (not_false used live) own of);
-      here = ap (is_there w.files) (sym of ∙ ap (object_for at) (sym there)) ∙ not_false (is_there w.files object') gone;
+      here = ap (is_there w.files) (sym of ∙ ap (object_for at) (sym there))
+          ∙ not_false (is_there w.files object') (or_right (is_closing w.stack at.row) (not (is_there w.files object')) past);
     }
 
 -- what is set at the object for the owner of the context, the callback may hold too
@@ -265,18 +247,6 @@ other_belongs w k at c d x o i s may is =
     let same = same_owner-same (owner_by at.row at.instance x.kind) x.owner may.own in
     held_for w k at x.kind o d i s.owned (ap (λ own. holder w.contexts.slots own o) same ∙ is)
 
-set_at : (w : World) (k : WorkerId) (at : Callback) (c : CtxId) (x : Context) (o : Object) (mode : SetMode) (wants : Bool) (m : Option CtxId)
-    → IsIn w k at → IsSound w → MaySet w k at c x o → holder w.contexts.slots x.owner o ≡ m
-    → IsLawful (carries w) (set_after (carries w) w.contexts k.0 c o mode wants m) → IsSound (with_contexts w (set_after (carries w) w.contexts k.0 c o mode wants m))
-set_at w k at c x o mode wants m i s may is =
-    set_each (λ t _. IsLawful (carries w) t → IsSound (with_contexts w t)) (carries w) w.contexts k.0 c o mode wants m
-    (λ e law. linked_sound w k c x o law s i.worker may.there may.link may.here) (λ law. s) (λ law. s)
-    (λ d e law. grabbed_sound w k at d i s law (other_belongs w k at c d x o i s may (is ∙ e)))
-    (λ d e room law.
-    let unlinks = unlinked_sound w k at wants x.owner o d i s (is ∙ e) (other_belongs w k at c d x o i s may (is ∙ e)) room in
-    let still = still_there (carries w) w.contexts k.0 wants d c x (holder_linked w.contexts.slots x.owner o d (is ∙ e)) may.there may.bare in
-    linked_sound (with_contexts w (unlinked_for (carries w) w.contexts k.0 wants d)) k c x o law unlinks i.worker still may.link may.here)
-
 pub set_sound : (old : World) (k : WorkerId) (c : CtxId) (mode : SetMode) (wants : Bool) (result : SetAnswer) (new : World)
     → Sets old k c mode wants result new → IsSound old → IsSound new
 set_sound old k c mode wants result new h s =
@@ -284,5 +254,12 @@ set_sound old k c mode wants result new h s =
     let i = is_in old k at s is in
     let may = may_set old k at c x o i s free there of in
     let bare : IsUnlinkedOf x.owner (context_at old.contexts.slots c) = subst (IsUnlinkedOf x.owner) (sym there) (may.bare, refl) in
-    let before = holder old.contexts.slots x.owner o in
-    subst IsSound (sym e.1) (set_at old k at c x o mode wants before i s may refl (set_keeps k.0 c x.owner o mode wants s.owned.lawful i.worker may.has bare)))
+    let own = λ (d : CtxId) (is : holder old.contexts.slots x.owner o ≡ Some d). other_belongs old k at c d x o i s may is in
+    subst IsSound (sym e.1)
+    (set_each (λ t _. IsLawful (carries old) t → IsSound (with_contexts old t)) (carries old) old.contexts k.0 c o mode wants (holder old.contexts.slots x.owner o)
+    (λ e law. linked_sound old k c x o law s i.worker may.there may.link may.here) (λ law. s) (λ law. s) (λ d e law. grabbed_sound old k at d i s law (own d e))
+    (λ d e room law.
+    let unlinks = unlinked_sound old k at wants x.owner o d i s e (own d e) room in
+    let still = still_there (carries old) old.contexts k.0 wants d c x (holder_linked old.contexts.slots x.owner o d e) may.there may.bare in
+    linked_sound (with_contexts old (unlinked_for (carries old) old.contexts k.0 wants d)) k c x o law unlinks i.worker still may.link may.here)
+    (set_keeps k.0 c x.owner o mode wants s.owned.lawful i.worker may.has bare)))

@@ -1,13 +1,13 @@
 -- Links that go with what they name leave a World sound.
-use Rattle.std.proofs.Common.{◌≡◌, ℕ, Bool, true, false, cond, not, List, [], ◌∷◌, ◌++◌, map, find, Option, Some, None, Result, Ok, is_some, refl, ap, sym, ◌∙◌, subst, arith}
-use Rattle.fm_world.proofs.Words.{false≢true, All-weaker, All-nil, All-cons, change_first, CtxId, HandleId, VolumeId, WorkerId, Operation, Status, Object}
-use Rattle.fm_world.proofs.Words.{hand_of, with_link, swept, swept_slot, Context, Slot, ContextTable, sweep_keeps, FlowAction, FileStream, HandlePhase}
-use Rattle.fm_world.proofs.Words.{brought, received, moved_on, FileTable, is_stream, is_handle, stream_of_path, fresh_stream, created, created_in, with_phase}
-use Rattle.fm_world.proofs.Words.{phased, is_there, names_there, is_on_gone, LosesLinks, fits, IsOwned, IsSound, IsUnderWay, World}
-use Rattle.fm_world.proofs.Belonging.{owners_after, owners_same, owners_swept}
+use Rattle.std.proofs.Common.{◌≡◌, ℕ, Bool, true, false, cond, not, List, [], ◌∷◌, ◌++◌, map, find, Option, Some, None, is_some, refl, ap, sym, ◌∙◌, subst, arith, get_or}
+use Rattle.fm_world.proofs.Words.{false≢true, change_first, HandleId, VolumeId, WorkerId, Operation, Object, hand_of, with_link, swept, swept_slot}
+use Rattle.fm_world.proofs.Words.{Context, Slot, sweep_keeps, FileStream, HandlePhase, moved_on, FileTable, is_stream, is_handle, stream_of_path}
+use Rattle.fm_world.proofs.Words.{fresh_stream, created, created_in, with_phase, phased, is_there, names_there, is_on_gone, LosesLinks, fits, IsOwned}
+use Rattle.fm_world.proofs.Words.{IsSound, IsUnderWay, World}
+use Rattle.fm_world.proofs.Belonging.{owners_after, owners_same, owners_swept, AllPass, passes_swept, fits_unlinked}
 use Rattle.fm_world.proofs.Callbacks.{contexts_owned, same_hand, same_hands}
-use Rattle.fm_world.proofs.Fitting.{AllPass, passes_swept, fits_unlinked}
-use Rattle.fm_world.proofs.Keeps.{FiledIn, loses_under_way}
+use Rattle.fm_world.proofs.Keeps.{FiledIn}
+use Rattle.fm_world.proofs.Cases.{by_bool, by_option}
 
 -- each link of a World names what is there
 abbrev pub NamedIn : World → Type 0
@@ -15,17 +15,10 @@ NamedIn w = AllPass (names_there w.files) w.contexts.slots
 
 -- ---- what is gone has no links
 
-pub loses_filed : (old new : World) → LosesLinks old new → FiledIn old → FiledIn new
-loses_filed old new h s = subst FiledIn (sym h.1) s
-
 -- a test of contexts passes, if it passes those without a link
 pub passes_unlinked : (p : Option Context → Bool) (test : Context → Bool) (x : Context) → (p (Some x) ≡ true → p (Some (with_link None x)) ≡ true)
     → p (Some x) ≡ true → p (Some (swept test x)) ≡ true
-passes_unlinked p test x bare h = by_test (test x)
-  where
-    by_test : (b : Bool) → p (Some (cond b (with_link None x) x)) ≡ true
-    by_test true = bare h
-    by_test false = h
+passes_unlinked p test x bare h = elim (test x) as (λ b. p (Some (cond b (with_link None x) x)) ≡ true) [ true ↦ bare h | false ↦ h ]
 
 pub loses_owned : (old new : World) → LosesLinks old new → IsOwned old → IsOwned new
 loses_owned old new h s =
@@ -40,88 +33,51 @@ loses_owned old new h s =
 
 -- the links that are left name what is there
 left_there : (f : FileTable) (x : Context) → names_there f (Some (swept (is_on_gone f) x)) ≡ true
-left_there f x = by_link (is_there f x.link) refl
-  where
-    by_link : (b : Bool) → is_there f x.link ≡ b → names_there f (Some (cond (not b) (with_link None x) x)) ≡ true
-    by_link true is = is
-    by_link false is = refl
+left_there f x = by_bool (λ b. names_there f (Some (cond (not b) (with_link None x) x)) ≡ true) (is_there f x.link) (λ is. is) (λ is. refl)
 
 pub loses_named : (old new : World) → LosesLinks old new → NamedIn new
 loses_named old new h =
-    let slots = old.contexts.slots in
-    let all : AllPass (λ o. true) slots = All-any slots in
-    let left = passes_swept (λ o. true) (names_there old.files) (is_on_gone old.files) slots refl (λ x _. left_there old.files x) all in
+    let left = passes_swept (λ o. true) (names_there old.files) (is_on_gone old.files) old.contexts.slots refl (λ x _. left_there old.files x) (λ k d l. refl) in
     subst NamedIn (sym h.1) (subst (AllPass (names_there old.files)) (sym h.0.slots) left)
-  where
-    All-any : (slots : List Slot) → AllPass (λ o. true) slots
-    All-any [] = All-nil (λ (x : Slot). true ≡ true)
-    All-any (x ∷ slots) = All-cons (λ (x : Slot). true ≡ true) x slots refl (All-any slots)
 
 -- where all but the links held, all holds
 pub loses_sound : (old new : World) → LosesLinks old new → IsUnderWay old → IsOwned old → FiledIn old → IsSound new
 loses_sound old new h under_way owned filed = record {
-  under_way = loses_under_way old new h under_way;
+  under_way = subst IsUnderWay (sym h.1) under_way;
   owned = loses_owned old new h owned;
-  filed = loses_filed old new h filed;
+  filed = subst FiledIn (sym h.1) filed;
   links = loses_named old new h;
 }
-
-brought_slots : (t : ContextTable) (k : WorkerId) (m : Option CtxId) → (brought t k m).slots ≡ t.slots
-brought_slots t k None = refl
-brought_slots t k (Some c) = refl
-
-pub received_slots : (t : ContextTable) (k : WorkerId) (result : Result FlowAction Status) → (received t k result).slots ≡ t.slots
-received_slots t k (Ok (FlowAction.Post i lent completion)) = brought_slots t k completion.context
-received_slots t k (Ok (FlowAction.Drain i completion)) = brought_slots t k completion.context
-received_slots t k _ = refl
 
 -- ---- streams and handles come, and stay
 
 pub named_more : (f g : FileTable) (slots : List Slot) → ((l : Option Object) → is_there f l ≡ true → is_there g l ≡ true)
     → AllPass (names_there f) slots → AllPass (names_there g) slots
-named_more f g slots more h = All-weaker (λ (x : Slot). names_there f x.context ≡ true) (λ (x : Slot). names_there g x.context ≡ true) (λ x named. at_context x.context named) slots h
-  where
-    at_context : (o : Option Context) → names_there f o ≡ true → names_there g o ≡ true
-    at_context None named = refl
-    at_context (Some x) named = more x.link named
+named_more f g slots more h k d l =
+    by_option (λ o. names_there f o ≡ true → names_there g o ≡ true) (get_or slots k d).context (λ _ named. refl) (λ x _ named. more x.link named) (h k d l)
 
 pub found_before : {A : Type 0} (test : A → Bool) (xs ys : List A) → is_some (find test xs) ≡ true → is_some (find test (xs ++ ys)) ≡ true
 found_before test [] ys h = absurd (false≢true h)
-found_before test (x ∷ xs) ys h = by_test (test x) (found_before test xs ys) h
-  where
-    by_test : (b : Bool) → (is_some (find test xs) ≡ true → is_some (find test (xs ++ ys)) ≡ true) → is_some (cond b (Some x) (find test xs)) ≡ true
-        → is_some (cond b (Some x) (find test (xs ++ ys))) ≡ true
-    by_test true later h = refl
-    by_test false later h = later h
+found_before test (x ∷ xs) ys h =
+    by_bool (λ b. is_some (cond b (Some x) (find test xs)) ≡ true → is_some (cond b (Some x) (find test (xs ++ ys))) ≡ true) (test x) (λ _ h. refl)
+    (λ _ h. found_before test xs ys h) h
 
 pub created_there : (v : VolumeId) (path : List ℕ) (n : ℕ) (f : FileTable) (l : Option Object) → is_there f l ≡ true → is_there (created v path n f) l ≡ true
 created_there v path n f l h = by_stream (stream_of_path v path f) l h
   where
     by_stream : (m : Option FileStream) (l : Option Object) → is_there f l ≡ true → is_there (created_in v path n f m) l ≡ true
-    by_stream None None h = refl
-    by_stream None (Some (Object.Volume u)) h = refl
-    by_stream None (Some (Object.Instance i)) h = refl
     by_stream None (Some (Object.Stream s)) h = found_before (is_stream s) f.streams (fresh_stream v path n ∷ []) h
     by_stream _ _ h = h
 
 pub found_changed : {A : Type 0} (test other : A → Bool) (change : A → A) → ((x : A) → test (change x) ≡ test x) → (xs : List A)
     → is_some (find test xs) ≡ true → is_some (find test (change_first other change xs)) ≡ true
 found_changed test other change same [] h = absurd (false≢true h)
-found_changed test other change same (x ∷ xs) h = by_other (other x) (found_changed test other change same xs)
-  where
-    found_here : (b : Bool) → test x ≡ b → is_some (cond b (Some x) (find test xs)) ≡ true → is_some (find test (change x ∷ xs)) ≡ true
-    found_here true is h = ap (λ b. is_some (cond b (Some (change x)) (find test xs))) (same x ∙ is)
-    found_here false is h = ap (λ b. is_some (cond b (Some (change x)) (find test xs))) (same x ∙ is) ∙ h
-
-    found_later : (b : Bool) → (is_some (find test xs) ≡ true → is_some (find test (change_first other change xs)) ≡ true) → is_some (cond b (Some x) (find test xs)) ≡ true
-        → is_some (cond b (Some x) (find test (change_first other change xs))) ≡ true
-    found_later true later h = refl
-    found_later false later h = later h
-
-    by_other : (b : Bool) → (is_some (find test xs) ≡ true → is_some (find test (change_first other change xs)) ≡ true)
-        → is_some (find test (cond b (change x ∷ xs) (x ∷ change_first other change xs))) ≡ true
-    by_other true later = found_here (test x) refl h
-    by_other false later = found_later (test x) later h
+found_changed test other change same (x ∷ xs) h =
+    by_bool (λ b. is_some (find test (cond b (change x ∷ xs) (x ∷ change_first other change xs))) ≡ true) (other x)
+    (λ _. ap (λ b. is_some (cond b (Some (change x)) (find test xs))) (same x)
+    ∙ by_bool (λ b. is_some (cond b (Some x) (find test xs)) ≡ true → is_some (cond b (Some (change x)) (find test xs)) ≡ true) (test x) (λ _ h. refl) (λ _ h. h) h)
+    (λ _. by_bool (λ b. is_some (cond b (Some x) (find test xs)) ≡ true → is_some (cond b (Some x) (find test (change_first other change xs))) ≡ true) (test x)
+    (λ _ h. refl) (λ _ h. found_changed test other change same xs h) h)
 
 phased_there : (g : HandleId) (where' : HandlePhase) (f : FileTable) (l : Option Object) → is_there f l ≡ true → is_there (phased g where' f) l ≡ true
 phased_there g where' f (Some (Object.Stream s)) h = h

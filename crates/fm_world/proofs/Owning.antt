@@ -1,23 +1,22 @@
 -- The events on filters, volumes and instances leave contexts as the World says.
-use Rattle.std.proofs.Common.{◌&&◌, ◌≡◌, ◌≢◌, ℕ, ◌<◌, ◌≤◌, Bool, true, false, cond, not, List, [], ◌∷◌, ◌++◌, length, map, Option, Some, None, Result, Ok, Err, slice_get, refl, ap, sym, ◌∙◌, subst, inl, inr, ◌⊎◌, arith}
-use Rattle.fm_world.proofs.Words.{All, slice_set, false≢true, true≢false, cases_Bool, cases_eq, and_parts, and_from, same_Some, slice_get_within}
-use Rattle.fm_world.proofs.Words.{length-append, All-nil, All-head, CtxId, FilterId, InstanceId, VolumeId, WorkerId, Status, slice_get-kept}
-use Rattle.fm_world.proofs.Words.{slice_get-set_same, slice_get-set_other, updated-same, updated-other, Instance, Phase, Volume, StackWorld, is_setup}
-use Rattle.fm_world.proofs.Words.{is_detached, refuse_row, accept_row, IsStack, Follows, Owner, hand_of, cleaning_of, IsLawful, same_owner, Leaves}
-use Rattle.fm_world.proofs.Words.{is_linked_of, swept, swept_slot, Context, Slot, ContextTable, leave_keeps, sweep_keeps, within_hands, FlowTable, carried}
-use Rattle.fm_world.proofs.Words.{in_flight, Worker, World, carries, worker_at, put, after_attach, cleanup_in, row_at, place_in, fits, owner_fits, link_fits}
-use Rattle.fm_world.proofs.Words.{holds_links_by, is_left_by, keeps_links, keeps_links_by, is_flown, is_flown_by, HoldsIn, Registers, Mounts, Attaches}
-use Rattle.fm_world.proofs.Words.{SetsUp, EmptiesUnless, IsSound, IsOwned, names_there, FileTable, setup_row}
+use Rattle.std.proofs.Common.{◌&&◌, ◌≡◌, ℕ, ◌<◌, ◌≤◌, Bool, true, false, cond, not, List, [], ◌∷◌, ◌++◌, length, map, Option, Some, None, Result, Ok, Err, slice_get, refl, ap, sym, ◌∙◌, subst, inl, inr, ◌⊎◌, arith}
+use Rattle.fm_world.proofs.Words.{All, slice_set, false≢true, true≢false, and_parts, and_from, same_Some, slice_get_within, length-append, All-nil}
+use Rattle.fm_world.proofs.Words.{All-head, CtxId, FilterId, InstanceId, VolumeId, WorkerId, Status, slice_get-kept, slice_get-set_same}
+use Rattle.fm_world.proofs.Words.{slice_get-set_other, updated-other, Instance, Phase, Volume, StackWorld, is_setup, is_detached, refuse_row}
+use Rattle.fm_world.proofs.Words.{accept_row, IsStack, Follows, Owner, hand_of, cleaning_of, IsLawful, same_owner, Leaves, is_linked_of, swept}
+use Rattle.fm_world.proofs.Words.{swept_slot, Context, Slot, ContextTable, leave_keeps, sweep_keeps, FlowTable, carried, in_flight, Worker, World}
+use Rattle.fm_world.proofs.Words.{carries, worker_at, put, after_attach, cleanup_in, row_at, place_in, fits, owner_fits, link_fits, holds_links_by}
+use Rattle.fm_world.proofs.Words.{is_left_by, keeps_links, keeps_links_by, is_flown, is_flown_by, HoldsIn, Registers, Mounts, Attaches, SetsUp}
+use Rattle.fm_world.proofs.Words.{EmptiesUnless, IsSound, IsOwned, names_there, setup_row}
 use Rattle.fm_stack.specs.Events as stack
 use Rattle.fm_types.specs.declared.registration.Registration.{Registration}
 use Rattle.fm_stack.proofs.Registering.{registered_keeps, registered_follows, mounted_keeps, mounted_follows}
-use Rattle.fm_world.proofs.Belonging.{OwnersStay, owners_same, owners_swept, owners_after, FiltersStay, belongs_still, AllHold, all_hold, all_hold_still, others_stay, all_carry_still, filters_updated, AllCarry}
-use Rattle.fm_world.proofs.Callbacks.{same_hands}
-use Rattle.fm_world.proofs.Fitting.{AllFit, AllPass, VolumesStay, fits_on, passes_swept, owner_stays, link_stays}
+use Rattle.fm_world.proofs.Belonging.{OwnersStay, owners_same, owners_swept, owners_after, FiltersStay, belongs_still, all_hold_still, all_carry_still, filters_updated, AllCarry, AllFit, AllPass, VolumesStay, fits_on, passes_swept, owner_stays, link_stays, others_link}
+use Rattle.fm_world.proofs.Callbacks.{same_hands, owned_with}
+use Rattle.fm_world.proofs.Cases.{by_bool, some_of, at_written, at_updated}
+use Rattle.fm_world.proofs.Keeps.{worker_below, stack_changes, attach_keeps, setup_keeps, setup_place, FiledIn}
 use Rattle.fm_world.proofs.Losing.{NamedIn, passes_unlinked}
 use Rattle.fm_world.proofs.Events.{idle_by, setup_by}
-use Rattle.fm_world.proofs.Keeps.{stack_changes, attach_keeps, setup_keeps, setup_place, FiledIn}
-use Rattle.fm_world.proofs.Fitting.{others_link}
 
 -- ---- instances go on
 
@@ -30,21 +29,14 @@ RowsGoOn s t = (j : ℕ) (row : Instance) → slice_get s.instances j ≡ Some r
 rows_filters : (s t : StackWorld) → RowsGoOn s t → FiltersStay s t
 rows_filters s t on j row there = let after = on j row there in (after.0, after.1, after.2)
 
--- what a phase says that no such change takes away
-stays_true : (test : Phase → Bool) (a b : Phase) → test Phase.Attached ≡ true → (b ≡ a) ⊎ ((a ≡ Phase.Setup) × (b ≡ Phase.Attached)) → test a ≡ true → test b ≡ true
-stays_true test a b attached (inl same) h = ap test same ∙ h
-stays_true test a b attached (inr (was, is)) h = ap test is ∙ attached
-
 -- a test on the row of an instance
 row_test : (s t : StackWorld) (read : Option Instance → Bool) (test : Phase → Bool) → read None ≡ false → ((row : Instance) → read (Some row) ≡ test row.phase)
     → test Phase.Attached ≡ true → RowsGoOn s t → (j : InstanceId) → read (row_at s j) ≡ true → read (row_at t j) ≡ true
-row_test s t read test none some attached on j h = at_row (row_at s j) refl h
-  where
-    at_row : (m : Option Instance) → row_at s j ≡ m → read m ≡ true → read (row_at t j) ≡ true
-    at_row None there h = absurd (false≢true (sym none ∙ h))
-    at_row (Some row) there h =
-        let after = on j.0 row there in
-        ap read after.1 ∙ some after.0 ∙ stays_true test row.phase after.0.phase attached after.3 (sym (some row) ∙ h)
+row_test s t read test none some attached on j h =
+    let was = some_of read (row_at s j) none h in
+    let after = on j.0 was.0 was.1 in
+    ap read after.1 ∙ some after.0
+    ∙ elim after.3 [ inl same ↦ ap test same ∙ sym (some was.0) ∙ sym (ap read was.1) ∙ h | inr moved ↦ ap test moved.1 ∙ attached ]
 
 rows_left : (s t : StackWorld) → RowsGoOn s t → (j : InstanceId) → is_left_by (row_at s j) ≡ true → is_left_by (row_at t j) ≡ true
 rows_left s t on = row_test s t is_left_by (λ p. not (is_detached p)) refl (λ row. refl) refl on
@@ -54,10 +46,8 @@ rows_keep s t on = row_test s t keeps_links_by keeps_links refl (λ row. refl) r
 
 rows_flown : (s t : StackWorld) → RowsGoOn s t → (j : InstanceId) → is_flown_by (row_at t j) ≡ false → is_flown_by (row_at s j) ≡ false
 rows_flown s t on j h =
-    elim (cases_Bool (is_flown_by (row_at s j))) [
-      | inl e ↦ absurd (true≢false (sym (row_test s t is_flown_by is_flown refl (λ row. refl) refl on j e) ∙ h))
-      | inr e ↦ e
-    ]
+    by_bool (λ b. is_flown_by (row_at s j) ≡ b → b ≡ false) (is_flown_by (row_at s j))
+    (λ _ e. absurd (true≢false (sym (row_test s t is_flown_by is_flown refl (λ row. refl) refl on j e) ∙ h))) (λ _ _. refl) refl
 
 -- instances go on, and contexts and workers stay
 pub stack_owned : (w : World) (t : StackWorld) → RowsGoOn w.stack t → length w.stack.filters ≤ length t.filters → VolumesStay w.stack t
@@ -77,15 +67,10 @@ stack_owned w t on filters volumes h =
 
 -- ---- register and mount
 
-longer_push : {X : Type 0} (xs : List X) (x : X) → length xs ≤ length (xs ++ x ∷ [])
-longer_push xs x = omega (arith, length-append xs (x ∷ []))
-
 volumes_push : (xs : List Volume) (x : Volume) (v : ℕ) → holds_links_by (slice_get xs v) ≡ true → holds_links_by (slice_get (xs ++ x ∷ []) v) ≡ true
-volumes_push xs x v h = at_volume (slice_get xs v) refl h
-  where
-    at_volume : (m : Option Volume) → slice_get xs v ≡ m → holds_links_by m ≡ true → holds_links_by (slice_get (xs ++ x ∷ []) v) ≡ true
-    at_volume None there h = absurd (false≢true h)
-    at_volume (Some y) there h = ap holds_links_by (slice_get-kept xs (x ∷ []) v y there) ∙ h
+volumes_push xs x v h =
+    let there = some_of holds_links_by (slice_get xs v) refl h in
+    ap holds_links_by (slice_get-kept xs (x ∷ []) v there.0 there.1) ∙ sym (ap holds_links_by there.1) ∙ h
 
 -- filters or volumes come, and the instances stay
 stack_sound : (old new : World) (t : StackWorld) → new.stack ≡ t → new ≡ record old { stack = new.stack } → t.instances ≡ old.stack.instances → IsStack t → Follows old.stack t
@@ -104,7 +89,7 @@ unfolding Registers stack.Registers
 register_sound old name registration (Err why) new h s = subst IsSound (sym (h.1 ∙ ap (λ x. record old { stack = x }) h.0.1)) s
 register_sound old name registration (Ok f) new h s =
     stack_sound old new (stack.registered old.stack name registration) h.0.1.1 h.1 refl (registered_keeps old.stack name registration s.under_way.stack h.0.0)
-    (registered_follows old.stack name registration s.under_way.stack) (longer_push old.stack.filters (stack.new_filter name registration)) (λ v h. h) s
+    (registered_follows old.stack name registration s.under_way.stack) (omega (arith, length-append old.stack.filters (stack.new_filter name registration ∷ []))) (λ v h. h) s
 
 pub mount_sound : (old : World) (name : List ℕ) (result : Result VolumeId Status) (new : World) → Mounts old name result new → IsSound old → IsSound new
 unfolding Mounts stack.Mounts
@@ -129,12 +114,9 @@ pub cleaning_stays : (w : World) (cleaning : List (Option CtxId)) (k : WorkerId)
     → ((n : ℕ) → cleaning_of w.contexts.cleaning n ≡ cleanup_in (slice_get w.workers n))
     → (n : ℕ) → cleaning_of cleaning n ≡ cleanup_in (slice_get (put w.workers k b) n)
 cleaning_stays w cleaning k a b at same na nb h n =
-    ap (λ xs. cleaning_of xs n) same ∙ h n ∙
-    elim (cases_eq n k.0) [
-      | inl e ↦ subst (λ m. cleanup_in (slice_get w.workers m) ≡ cleanup_in (slice_get (put w.workers k b) m)) (sym e)
-          (ap cleanup_in at ∙ na ∙ sym nb ∙ ap cleanup_in (sym (slice_get-set_same w.workers k.0 b (slice_get_within w.workers k.0 a at))))
-      | inr apart ↦ ap cleanup_in (sym (slice_get-set_other w.workers k.0 n b apart))
-    ]
+    ap (λ xs. cleaning_of xs n) same
+    ∙ at_written (λ j m. cleaning_of w.contexts.cleaning j ≡ cleanup_in m) w.workers k.0 b (slice_get_within w.workers k.0 a at)
+    (h k.0 ∙ ap cleanup_in at ∙ na ∙ sym nb) (λ j apart. h j) n
 
 -- a worker goes elsewhere, with another hand; instances keep their filters, and contexts their owners
 pub owned_moves : (w : World) (t : StackWorld) (u : FlowTable) (c : ContextTable) (k : WorkerId) (a b : Worker) (hand : List CtxId) → worker_at w.workers k ≡ Some a → k.0 < 48
@@ -143,50 +125,35 @@ pub owned_moves : (w : World) (t : StackWorld) (u : FlowTable) (c : ContextTable
     → AllCarry t c.slots u.operations → AllFit t c.slots → ((j : InstanceId) → is_flown_by (row_at t j) ≡ false → in_flight j.0 u ≡ 0) → IsOwned w
     → IsOwned (record w { stack = t; flow = u; workers = put w.workers k b; contexts = c })
 owned_moves w t u c k a b hand at worker cleans filters owners lawful hands here carry fit quiet h =
-    let workers = put w.workers k b in
-    let is : slice_get workers k.0 ≡ Some b = slice_get-set_same w.workers k.0 b (slice_get_within w.workers k.0 a at) in
-    record {
-      lawful = lawful;
-      cleaning = cleans;
-      holders = subst (AllHold t c.slots workers) (sym hands)
-          (all_hold w.stack w.contexts.slots t c.slots w.workers workers w.contexts.hands k.0 hand (within_hands k.0 h.lawful worker)
-          (belongs_still w.stack w.contexts.slots t c.slots filters owners) (others_stay w.workers k.0 b)
-          (subst (λ m. All (HoldsIn t c.slots (place_in m)) hand) (sym is) here) h.holders);
-      completions = carry;
-      fits = fit;
-      quiet = quiet;
-      totals = h.totals;
-    }
+    let is : slice_get (put w.workers k b) k.0 ≡ Some b = slice_get-set_same w.workers k.0 b (slice_get_within w.workers k.0 a at) in
+    owned_with w t u (put w.workers k b) c k hand (belongs_still w.stack w.contexts.slots t c.slots filters owners) (λ j apart. slice_get-set_other w.workers k.0 j b apart) cleans lawful
+    hands worker (subst (λ m. All (HoldsIn t c.slots (place_in m)) hand) (sym is) here) carry fit quiet h
 
 -- ---- attach
 
-attach_owned : (old : World) (k : WorkerId) (f : FilterId) (v : VolumeId) (name altitude : List ℕ) (result : Result InstanceId Status) (new : World)
-    → worker_at old.workers k ≡ Some Worker.Idle → k.0 < 48 → stack.Attaches old.stack f v name altitude result new.stack
-    → new ≡ record old { stack = new.stack; workers = after_attach old.workers k result } → IsOwned old → IsOwned new
-unfolding stack.Attaches
-attach_owned old k f v name altitude (Err why) new at worker h e s =
-    subst IsOwned (sym (e ∙ ap (λ x. record old { stack = x }) h.1)) s
-attach_owned old k f v name altitude (Ok i) new at worker h e s =
-    let t = stack.attached old.stack f v name altitude in
-    let slots = old.contexts.slots in
-    let on : RowsGoOn old.stack t = λ j row there. (row, slice_get-kept old.stack.instances (stack.new_instance f v name altitude ∷ []) j row there, refl, inl refl) in
-    let none = empty_hand old k Worker.Idle at refl s in
-    let base = stack_owned old t on (omega arith) (λ v h. h) s in
-    subst IsOwned (sym (e ∙ ap (λ x. record old { stack = x; workers = put old.workers k (Worker.Setup i) }) h.1.1))
-    (owned_moves old t old.flow old.contexts k Worker.Idle (Worker.Setup i) [] at worker
-    (cleaning_stays old old.contexts.cleaning k Worker.Idle (Worker.Setup i) at refl refl refl s.cleaning) (rows_filters old.stack t on) (owners_same slots slots refl) s.lawful
-    (same_hands old.contexts.hands k.0 ∙ ap (slice_set old.contexts.hands k.0) none) (All-nil (HoldsIn t slots (Some i))) base.completions base.fits base.quiet s)
-
 pub attach_sound : (old : World) (k : WorkerId) (f : FilterId) (v : VolumeId) (name altitude : List ℕ) (result : Result InstanceId Status) (new : World)
     → Attaches old k f v name altitude result new → IsSound old → IsSound new
-unfolding Attaches
+unfolding Attaches stack.Attaches
 attach_sound old k f v name altitude result new h s =
-    idle_by (λ _ w. IsSound w) k result old new _ h (λ why. s) (λ at event. record {
-      under_way = attach_keeps old k f v name altitude result new at event.0 event.1 s.under_way;
-      owned = attach_owned old k f v name altitude result new at (subst (λ n. k.0 < n) s.under_way.hands (slice_get_within old.workers k.0 Worker.Idle at)) event.0 event.1 s.owned;
-      filed = subst FiledIn (sym event.1) s.filed;
-      links = subst NamedIn (sym event.1) s.links;
-    })
+    idle_by (λ _ w. IsSound w) k result old new _ h (λ why. s) (λ at event. by_result result at event.0 event.1)
+  where
+    by_result : (result : Result InstanceId Status) → worker_at old.workers k ≡ Some Worker.Idle → stack.Attaches old.stack f v name altitude result new.stack
+        → new ≡ record old { stack = new.stack; workers = after_attach old.workers k result } → IsSound new
+    by_result (Err why) at h e = subst IsSound (sym (e ∙ ap (λ x. record old { stack = x }) h.1)) s
+    by_result (Ok i) at h e =
+        let t = stack.attached old.stack f v name altitude in
+        let slots = old.contexts.slots in
+        let on : RowsGoOn old.stack t = λ j row there. (row, slice_get-kept old.stack.instances (stack.new_instance f v name altitude ∷ []) j row there, refl, inl refl) in
+        let base = stack_owned old t on (omega arith) (λ v h. h) s.owned in
+        subst IsSound (sym (e ∙ ap (λ x. record old { stack = x; workers = put old.workers k (Worker.Setup i) }) h.1.1)) (record {
+          under_way = attach_keeps old k f v name altitude i at h.0 h.1.0 s.under_way;
+          owned = owned_moves old t old.flow old.contexts k Worker.Idle (Worker.Setup i) [] at (worker_below old k Worker.Idle at s.under_way)
+              (cleaning_stays old old.contexts.cleaning k Worker.Idle (Worker.Setup i) at refl refl refl s.owned.cleaning) (rows_filters old.stack t on) (owners_same slots slots refl)
+              s.owned.lawful (same_hands old.contexts.hands k.0 ∙ ap (slice_set old.contexts.hands k.0) (empty_hand old k Worker.Idle at refl s.owned))
+              (All-nil (HoldsIn t slots (Some i))) base.completions base.fits base.quiet s.owned;
+          filed = s.filed;
+          links = s.links;
+        })
 
 -- ---- the end of a setup callback
 
@@ -196,16 +163,11 @@ setup_is _ h = absurd (false≢true h)
 
 accepted_on : (s : StackWorld) (i : InstanceId) (row : Instance) → slice_get s.instances i.0 ≡ Some row → is_setup row.phase ≡ true → RowsGoOn s (stack.accepted s i)
 accepted_on s i row there setup j x found =
-    elim (cases_eq j i.0) [
-      | inl e ↦
-          let at : slice_get s.instances i.0 ≡ Some x = subst (λ n. slice_get s.instances n ≡ Some x) e found in (
-            accept_row s.births x,
-            subst (λ n. slice_get (stack.accepted s i).instances n ≡ Some (accept_row s.births x)) (sym e) (updated-same (accept_row s.births) s.instances i.0 x at),
-            refl,
-            inr (setup_is x.phase (subst (λ (r : Instance). is_setup r.phase ≡ true) (same_Some row x (sym there ∙ at)) setup), refl),
-          )
-      | inr apart ↦ (x, updated-other (accept_row s.births) s.instances i.0 j apart ∙ found, refl, inl refl)
-    ]
+    at_updated (λ n m. slice_get s.instances n ≡ Some x → (after : Instance) × (m ≡ Some after) × (after.filter ≡ x.filter)
+    × ((after.phase ≡ x.phase) ⊎ ((x.phase ≡ Phase.Setup) × (after.phase ≡ Phase.Attached)))) (accept_row s.births) s.instances i.0 row there
+    (λ at. let same = same_Some row x (sym there ∙ at) in
+    (accept_row s.births row, refl, ap (λ (r : Instance). r.filter) same, inr (setup_is x.phase (subst (λ (r : Instance). is_setup r.phase ≡ true) same setup), refl)))
+    (λ n apart at. (x, at, refl, inl refl)) j found
 
 -- what the callback held is gone, and its worker is idle
 setup_returns : (old : World) (k : WorkerId) (i : InstanceId) (t : StackWorld) (c : ContextTable) → worker_at old.workers k ≡ Some (Worker.Setup i) → k.0 < 48
@@ -219,90 +181,66 @@ setup_returns old k i t c at worker filters owners h hands cleaning lawful fit f
     (all_carry_still old.stack old.contexts.slots t c.slots old.flow.operations (belongs_still old.stack old.contexts.slots t c.slots filters owners) h.completions) fit
     (λ j rests. h.quiet j (flown j rests)) h
 
-refused_row : (s : StackWorld) (i j : InstanceId) → j.0 ≢ i.0 → row_at (stack.refused s i) j ≡ row_at s j
-refused_row s i j apart = updated-other refuse_row s.instances i.0 j.0 apart
-
 refused_left : (s : StackWorld) (i j : InstanceId) (row : Instance) → slice_get s.instances i.0 ≡ Some row → is_left_by (row_at s j) ≡ true → is_left_by (row_at (stack.refused s i) j) ≡ true
-refused_left s i j row there h =
-    elim (cases_eq j.0 i.0) [
-      | inl e ↦ subst (λ n. is_left_by (slice_get (stack.refused s i).instances n) ≡ true) (sym e) (ap is_left_by (updated-same refuse_row s.instances i.0 row there))
-      | inr apart ↦ ap is_left_by (refused_row s i j apart) ∙ h
-    ]
-
-not_flown : (p : Phase) → p ≡ Phase.Setup → is_flown p ≡ false
-not_flown p e = ap is_flown e
+refused_left s i j row there =
+    at_updated (λ n m. is_left_by (slice_get s.instances n) ≡ true → is_left_by m ≡ true) refuse_row s.instances i.0 row there (λ h. refl) (λ n apart h. h) j.0
 
 refused_flown : (s : StackWorld) (i j : InstanceId) (row : Instance) → slice_get s.instances i.0 ≡ Some row → is_setup row.phase ≡ true
     → is_flown_by (row_at (stack.refused s i) j) ≡ false → is_flown_by (row_at s j) ≡ false
-refused_flown s i j row there setup h =
-    elim (cases_eq j.0 i.0) [
-      | inl e ↦ ap (λ n. is_flown_by (slice_get s.instances n)) e ∙ ap is_flown_by there ∙ not_flown row.phase (setup_is row.phase setup)
-      | inr apart ↦ sym (ap is_flown_by (refused_row s i j apart)) ∙ h
-    ]
+refused_flown s i j row there setup =
+    at_updated (λ n m. is_flown_by m ≡ false → is_flown_by (slice_get s.instances n) ≡ false) refuse_row s.instances i.0 row there
+    (λ h. ap is_flown_by there ∙ ap is_flown (setup_is row.phase setup)) (λ n apart h. h) j.0
 
 -- the instance's contexts lost their links, so none is to it
 refused_fits : (s : StackWorld) (i : InstanceId) (row : Instance) (x : Context) → slice_get s.instances i.0 ≡ Some row → fits s (Some x) ≡ true
     → fits (stack.refused s i) (Some (swept (is_linked_of (Owner.Instance i)) x)) ≡ true
-refused_fits s i row x there fit = by_test (is_linked_of (Owner.Instance i) x) refl
-  where
-    parts : (owner_fits s x.kind x.owner ≡ true) × (link_fits s x x.link ≡ true)
-    parts = and_parts (owner_fits s x.kind x.owner) (link_fits s x x.link) fit
-
-    owned : owner_fits (stack.refused s i) x.kind x.owner ≡ true
-    owned = owner_stays s (stack.refused s i) x.kind x.owner (omega arith) (λ j is left. refused_left s i j row there left) parts.0
-
-    by_test : (b : Bool) → is_linked_of (Owner.Instance i) x ≡ b → fits (stack.refused s i) (Some (cond b (record x { link = None }) x)) ≡ true
-    by_test true is = and_from (owner_fits (stack.refused s i) x.kind x.owner) true owned refl
-    by_test false is =
-        and_from (owner_fits (stack.refused s i) x.kind x.owner) (link_fits (stack.refused s i) x x.link) owned
-        (link_stays s (stack.refused s i) x x.link (λ v h. h)
-        (λ linked. others_link s (stack.refused s i) i (refused_row s i) x.owner (sym (ap (λ b. b && same_owner (Owner.Instance i) x.owner) linked) ∙ is)) parts.1)
+refused_fits s i row x there fit =
+    let t = stack.refused s i in
+    let parts = and_parts (owner_fits s x.kind x.owner) (link_fits s x x.link) fit in
+    let owned = owner_stays s t x.kind x.owner (omega arith) (λ j is left. refused_left s i j row there left) parts.0 in
+    by_bool (λ b. fits t (Some (cond b (record x { link = None }) x)) ≡ true) (is_linked_of (Owner.Instance i) x) (λ is. and_from (owner_fits t x.kind x.owner) true owned refl)
+    (λ is. and_from (owner_fits t x.kind x.owner) (link_fits t x x.link) owned
+    (link_stays s t x x.link (λ v h. h)
+    (λ linked. others_link s t i (λ j apart. updated-other refuse_row s.instances i.0 j.0 apart) x.owner (sym (ap (λ b. b && same_owner (Owner.Instance i) x.owner) linked) ∙ is))
+    parts.1))
 
 setup_owned : (old : World) (k : WorkerId) (i : InstanceId) (accept : Bool) (result : Result (Unit {0}) Status) (new : World) (left : ContextTable)
     → worker_at old.workers k ≡ Some (Worker.Setup i) → stack.SetsUp old.stack i accept result new.stack → Leaves (carries old) old.contexts left k.0
     → EmptiesUnless result i old left new.contexts → new ≡ record old { stack = new.stack; workers = put old.workers k Worker.Idle; contexts = new.contexts }
-    → IsSound old → IsOwned new
+    → IsSound old → IsOwned new × NamedIn new
 unfolding stack.SetsUp
 setup_owned old k i accept (Ok done) new left at h leaves empties e s =
     let row = setup_place old k i s.under_way at in
     let t = stack.accepted old.stack i in
+    let slots = old.contexts.slots in
     let on = accepted_on old.stack i row.0 row.1 row.2 in
-    let worker : k.0 < 48 = subst (λ n. k.0 < n) s.under_way.hands (slice_get_within old.workers k.0 (Worker.Setup i) at) in
-    let fit = fits_on old.stack t old.contexts.slots
-    (record { filters = omega arith; volumes = λ v h. h; left = rows_left old.stack t on; keeps = rows_keep old.stack t on }) s.owned.fits in
-    subst IsOwned (sym (e ∙ ap (λ x. record old { stack = x; workers = put old.workers k Worker.Idle; contexts = new.contexts }) h.1
-    ∙ ap (λ c. record old { stack = t; workers = put old.workers k Worker.Idle; contexts = c }) empties))
-    (setup_returns old k i t left at worker (rows_filters old.stack t on) (owners_same old.contexts.slots left.slots leaves.slots) s.owned leaves.hands leaves.cleaning
-    (leave_keeps k.0 s.owned.lawful leaves) (subst (AllFit t) (sym leaves.slots) fit) (rows_flown old.stack t on))
+    let made = e ∙ ap (λ x. record old { stack = x; workers = put old.workers k Worker.Idle; contexts = new.contexts }) h.1
+    ∙ ap (λ c. record old { stack = t; workers = put old.workers k Worker.Idle; contexts = c }) empties in
+    let fit = fits_on old.stack t slots
+    (record { filters = omega arith; volumes = λ v h. h; left = rows_left old.stack t on; keeps = rows_keep old.stack t on }) s.owned.fits in (
+      subst IsOwned (sym made) (setup_returns old k i t left at (worker_below old k (Worker.Setup i) at s.under_way) (rows_filters old.stack t on) (owners_same slots left.slots leaves.slots)
+          s.owned leaves.hands leaves.cleaning (leave_keeps k.0 s.owned.lawful leaves) (subst (AllFit t) (sym leaves.slots) fit) (rows_flown old.stack t on)),
+      subst NamedIn (sym made) (subst (AllPass (names_there old.files)) (sym leaves.slots) s.links),
+    )
 setup_owned old k i accept (Err why) new left at h leaves empties e s =
     let row = setup_place old k i s.under_way at in
     let t = stack.refused old.stack i in
     let test = is_linked_of (Owner.Instance i) in
-    let worker : k.0 < 48 = subst (λ n. k.0 < n) s.under_way.hands (slice_get_within old.workers k.0 (Worker.Setup i) at) in
-    let slots : new.contexts.slots ≡ map (swept_slot test) old.contexts.slots = empties.slots ∙ ap (map (swept_slot test)) leaves.slots in
-    let owners = owners_after old.contexts.slots (map (swept_slot test) old.contexts.slots) new.contexts.slots (owners_swept test old.contexts.slots)
-    (owners_same (map (swept_slot test) old.contexts.slots) new.contexts.slots slots) in
-    let fit = passes_swept (fits old.stack) (fits t) test old.contexts.slots refl (λ x fit. refused_fits old.stack i row.0 x row.1 fit) s.owned.fits in
-    subst IsOwned (sym (e ∙ ap (λ x. record old { stack = x; workers = put old.workers k Worker.Idle; contexts = new.contexts }) h.1))
-    (setup_returns old k i t new.contexts at worker (filters_updated old.stack t refuse_row i.0 refl (λ row. refl)) owners s.owned (empties.hands ∙ leaves.hands) (empties.cleaning ∙ leaves.cleaning)
-    (sweep_keeps test (leave_keeps k.0 s.owned.lawful leaves) empties) (subst (AllFit t) (sym slots) fit)
-    (λ j rests. refused_flown old.stack i j row.0 row.1 row.2 rests))
-
--- the contexts of a refused instance lose their links, and all others keep theirs
-emptied_named : (f : FileTable) (result : Result (Unit {0}) Status) (i : InstanceId) (w : World) (left t after : ContextTable) → left.slots ≡ t.slots → EmptiesUnless result i w left after
-    → AllPass (names_there f) t.slots → AllPass (names_there f) after.slots
-emptied_named f (Ok done) i w left t after same h named = subst (AllPass (names_there f)) (sym (ap (λ (x : ContextTable). x.slots) h ∙ same)) named
-emptied_named f (Err why) i w left t after same h named =
-    let test = is_linked_of (Owner.Instance i) in
-    subst (AllPass (names_there f)) (sym (h.slots ∙ ap (map (swept_slot test)) same))
-    (passes_swept (names_there f) (names_there f) test t.slots refl (λ x. passes_unlinked (names_there f) test x (λ was. refl)) named)
+    let old_slots = old.contexts.slots in
+    let made = e ∙ ap (λ x. record old { stack = x; workers = put old.workers k Worker.Idle; contexts = new.contexts }) h.1 in
+    let slots : new.contexts.slots ≡ map (swept_slot test) old_slots = empties.slots ∙ ap (map (swept_slot test)) leaves.slots in
+    let owners = owners_after old_slots (map (swept_slot test) old_slots) new.contexts.slots (owners_swept test old_slots) (owners_same (map (swept_slot test) old_slots) new.contexts.slots slots) in
+    let fit = passes_swept (fits old.stack) (fits t) test old_slots refl (λ x fit. refused_fits old.stack i row.0 x row.1 fit) s.owned.fits in
+    let named = passes_swept (names_there old.files) (names_there old.files) test old_slots refl (λ x. passes_unlinked (names_there old.files) test x (λ was. refl)) s.links in (
+      subst IsOwned (sym made) (setup_returns old k i t new.contexts at (worker_below old k (Worker.Setup i) at s.under_way)
+          (filters_updated old.stack t refuse_row i.0 refl (λ row. refl)) owners s.owned (empties.hands ∙ leaves.hands) (empties.cleaning ∙ leaves.cleaning)
+          (sweep_keeps test (leave_keeps k.0 s.owned.lawful leaves) empties) (subst (AllFit t) (sym slots) fit) (λ j rests. refused_flown old.stack i j row.0 row.1 row.2 rests)),
+      subst NamedIn (sym made) (subst (AllPass (names_there old.files)) (sym slots) named),
+    )
 
 pub setup_sound : (old : World) (k : WorkerId) (accept : Bool) (result : Result (Unit {0}) Status) (new : World)
     → SetsUp old k accept result new → IsSound old → IsSound new
 setup_sound old k accept result new h s =
-    setup_by (λ _ w. IsSound w) old k accept result new h (λ why. s) (λ i at e. record {
-      under_way = setup_keeps old k i accept result new at e.0 e.4 s.under_way;
-      owned = setup_owned old k i accept result new e.1 at e.0 e.2 e.3 e.4 s;
-      filed = subst FiledIn (sym e.4) s.filed;
-      links = subst NamedIn (sym e.4) (emptied_named old.files result i old e.1 old.contexts new.contexts e.2.slots e.3 s.links);
-    })
+    setup_by (λ _ w. IsSound w) old k accept result new h (λ why. s) (λ i at e.
+    let owned = setup_owned old k i accept result new e.1 at e.0 e.2 e.3 e.4 s in
+    record { under_way = setup_keeps old k i accept result new at e.0 e.4 s.under_way; owned = owned.0; filed = subst FiledIn (sym e.4) s.filed; links = owned.1 })

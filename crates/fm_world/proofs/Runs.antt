@@ -1,23 +1,131 @@
 -- The empty World is sound, each event keeps a World sound, and a sound World keeps the Headline.
-use Rattle.std.proofs.Common.{◌≡◌, ℕ, zero, suc, ◌<◌, ◌==◌, Bool, true, false, cond, not, List, [], ◌∷◌, ◌++◌, replicate, get_or, slice_get, Option, Some, None, refl, ap, sym, ◌∙◌, subst, inl, inr, ◌⊎◌, arith}
+use Rattle.std.proofs.Common.{◌≡◌, ℕ, zero, suc, ◌<◌, Bool, true, false, cond, not, List, [], ◌∷◌, ◌++◌, replicate, get_or, slice_get, Option, Some, None, refl, ap, sym, ◌∙◌, subst, arith, ◌==◌, is_some, option_map, option_and_then}
 use Rattle.fm_world.proofs.Words.{All, count_by, false≢true, true≢false, and_parts, ne_eqb, length-replicate, All-nil, All-head, All-tail, All-weaker}
-use Rattle.fm_world.proofs.Words.{ContextKind, CtxId, InstanceId, Instance, StackWorld, is_detached, IsStack, IsPlaced, Owner, is_open, open_of, same_owner}
-use Rattle.fm_world.proofs.Words.{Context, Slot, context_at, lawful_alike, owed, FlowRecord, IsFlow, empty_table, row_at, place_in, is_left_by, is_flown_by}
-use Rattle.fm_world.proofs.Words.{fits, owner_fits, link_fits, HoldsIn, AskCarries, cleanup_in, Step, StepReply, Worker, empty_files, names_there, World}
-use Rattle.fm_world.proofs.Words.{empty_world, empty_stack, Steps, Run, RunThrough, Headline, RulesKeepHeadline, is_in_at, is_in_drain, DescendsIn, IsAscent}
-use Rattle.fm_world.proofs.Words.{IsInOrder, IsSound, IsUnderWay, IsOwned, IsAmong, is_in_setup}
+use Rattle.fm_world.proofs.Words.{ContextKind, CtxId, InstanceId, Instance, StackWorld, is_detached, IsPlaced, Owner, is_open, open_of, same_owner}
+use Rattle.fm_world.proofs.Words.{Context, Slot, context_at, lawful_alike, owed, FlowRecord, row_at, place_in, is_left_by, is_flown_by, fits}
+use Rattle.fm_world.proofs.Words.{owner_fits, link_fits, HoldsIn, AskCarries, cleanup_in, Step, StepReply, Worker, empty_files, names_there, World}
+use Rattle.fm_world.proofs.Words.{empty_world, empty_stack, Steps, Run, RunThrough, Headline, RulesKeepHeadline, is_in_at, is_in_drain, DescendsIn}
+use Rattle.fm_world.proofs.Words.{IsAscent, IsInOrder, IsSound, IsAmong, is_in_setup, count-cons, eqb-true, eq-eqb, none-some, same_Some, sum_by-cons}
+use Rattle.fm_world.proofs.Words.{WorkerId, all_at, Phase, Object, one, is_id, references, holds, hand_of, held, context_in, owner_at, link_count}
+use Rattle.fm_world.proofs.Words.{is_id-same, none_if_not_held, Ask, carried_in, carried_among, carried_by, flight, times, instances, total}
+use Rattle.fm_world.proofs.Words.{reference_count, worker_at, owner_by, belongs, belongs_by, may_link, suits, keeps_links, keeps_links_by, is_flown}
+use Rattle.fm_world.proofs.Words.{CarriesIn}
 use Rattle.fm_flow.specs.Sound as flow
 use Rattle.fm_ctx.specs.Kept.{nothing_kept, carried_of}
 use Rattle.fm_ctx.proofs.Opening.{lawful_empty}
-use Rattle.fm_world.proofs.Counts.{count-cons}
-use Rattle.fm_world.proofs.Emptied.{emptied_counts, flown_passes}
 use Rattle.fm_world.proofs.Ties.{idle_is_in_none}
-use Rattle.fm_world.proofs.Callbacks.{reference_sound, release_sound, read_body_sound, write_body_sound, bump_sound}
-use Rattle.fm_world.proofs.Cleanups.{take_due_sound, cleaned_sound, finish_sound}
+use Rattle.fm_world.proofs.Callbacks.{reference_sound, release_sound, read_body_sound, write_body_sound, bump_sound, callback_left}
+use Rattle.fm_world.proofs.Cleanups.{take_due_sound, cleaned_sound, finish_sound, none_one}
 use Rattle.fm_world.proofs.Filed.{file_empty}
 use Rattle.fm_world.proofs.Flowing.{begin_sound, next_sound, pre_sound, base_sound, post_sound, collect_sound}
 use Rattle.fm_world.proofs.Linking.{allocate_sound, set_sound, get_sound, delete_sound}
 use Rattle.fm_world.proofs.Owning.{register_sound, mount_sound, attach_sound, setup_sound}
+use Rattle.fm_world.proofs.Belonging.{held_has, AllCarry, AllPass}
+use Rattle.fm_world.proofs.Cases.{by_bool, by_option, some_of}
+
+-- ---- whose it is
+
+-- what the callbacks of an instance may hold belongs to it, or to its filter
+same_instance : (m : Option Instance) (i j : InstanceId) (x : Context) → x.owner ≡ Owner.Instance i → belongs_by m j (Some x) ≡ true → j.0 ≡ i.0
+same_instance None i j x own h = absurd (false≢true h)
+same_instance (Some row) i j x own h =
+    (elim x.kind as (λ a. same_owner (owner_by row j a) (Owner.Instance i) ≡ true → j.0 ≡ i.0) [ ContextKind.Volume ↦ λ h. absurd (false≢true h) | _ ↦ λ h. eqb-true j.0 i.0 h ])
+    (sym (ap (same_owner (owner_by row j x.kind)) own) ∙ h)
+
+callback_of_owner : (s : StackWorld) (slots : List Slot) (c : CtxId) (i j : InstanceId) (x : Context) → context_at slots c ≡ Some x → x.owner ≡ Owner.Instance i
+    → belongs s slots j c ≡ true → j.0 ≡ i.0
+callback_of_owner s slots c i j x there own h = same_instance (row_at s j) i j x own (sym (ap (belongs_by (row_at s j) j) there) ∙ h)
+
+-- ---- linked
+
+passes_at : (p : Option Context → Bool) (slots : List Slot) (c : CtxId) (x : Context) → context_at slots c ≡ Some x → AllPass p slots → p (Some x) ≡ true
+unfolding context_at
+passes_at p slots c x there all =
+    by_option (λ m. option_and_then (context_in c) m ≡ Some x → p (Some x) ≡ true) (slice_get slots c.slot) (λ none h. absurd (none-some x h)) (λ y at h.
+    by_bool (λ b. cond b y.context None ≡ Some x → p (Some x) ≡ true) (c.generation == y.generation)
+    (λ _ is. sym (ap p is) ∙ all_at (λ (z : Slot). p z.context ≡ true) slots c.slot y all at) (λ _ is. absurd (none-some x is)) h) there
+
+unlinked : (s : StackWorld) (x : Context) (l : Option Object) → may_link s x.owner ≡ false → link_fits s x l ≡ true → one (is_some l) ≡ 0
+unlinked s x None gone fit = refl
+unlinked s x (Some o) gone fit = absurd (true≢false (sym (and_parts (may_link s x.owner) (suits s x o) fit).0 ∙ gone))
+
+not_linked : (s : StackWorld) (slots : List Slot) (c : CtxId) (i : InstanceId) (x : Context) → keeps_links_by (row_at s i) ≡ false → context_at slots c ≡ Some x → x.owner ≡ Owner.Instance i
+    → AllPass (fits s) slots → link_count (context_at slots c) ≡ 0
+not_linked s slots c i x gone there own all =
+    let fit = passes_at (fits s) slots c x there all in
+    ap link_count there ∙ unlinked s x x.link (ap (may_link s) own ∙ gone) (and_parts (owner_fits s x.kind x.owner) (link_fits s x x.link) fit).1
+
+-- ---- held
+
+held_none : (hands : List (List CtxId)) (c : CtxId) → ((n : ℕ) → references (hand_of hands n) c ≡ 0) → held hands c ≡ 0
+unfolding held
+held_none [] c none = refl
+held_none (hand ∷ hands) c none = omega (arith, sum_by-cons (λ (h : List CtxId). references h c) hand hands, none 0, held_none hands c (λ n. none (suc n)))
+
+-- a worker in a callback of the instance would be in one whose links are kept
+not_held : (w : World) (i : InstanceId) (c : CtxId) (x : Context) (k : WorkerId) → IsSound w → keeps_links_by (row_at w.stack i) ≡ false
+    → context_at w.contexts.slots c ≡ Some x → x.owner ≡ Owner.Instance i → HoldsIn w.stack w.contexts.slots (place_in (worker_at w.workers k)) c → ⊥
+not_held w i c x k s gone there own h =
+    by_option (λ m. HoldsIn w.stack w.contexts.slots m c → ⊥) (place_in (worker_at w.workers k)) (λ _ h. h) (λ j at h.
+    let row = some_of (λ m. belongs_by m j (context_at w.contexts.slots c)) (row_at w.stack j) refl h in
+    true≢false (sym (callback_left w k j row.0 s at row.1).1
+    ∙ ap (λ n. keeps_links_by (slice_get w.stack.instances n)) (callback_of_owner w.stack w.contexts.slots c i j x there own h) ∙ gone)) h
+
+none_held : (w : World) (i : InstanceId) (c : CtxId) (x : Context) → IsSound w → keeps_links_by (row_at w.stack i) ≡ false → context_at w.contexts.slots c ≡ Some x
+    → x.owner ≡ Owner.Instance i → held w.contexts.hands c ≡ 0
+none_held w i c x s gone there own = held_none w.contexts.hands c (λ n.
+    let k : WorkerId = record { 0 = n } in
+    let hand = hand_of w.contexts.hands n in
+    by_bool (λ b. holds hand c ≡ b → references hand c ≡ 0) (holds hand c)
+    (λ _ has. absurd (not_held w i c x k s gone there own (held_has (HoldsIn w.stack w.contexts.slots (place_in (worker_at w.workers k))) hand c (s.owned.holders k) has)))
+    (λ _ lacks. none_if_not_held hand c lacks) refl)
+
+-- ---- carried
+
+uncarried : (s : StackWorld) (slots : List Slot) (c : CtxId) (i : InstanceId) (x : Context) (asks : List Ask) → context_at slots c ≡ Some x → x.owner ≡ Owner.Instance i
+    → times i.0 (instances asks) ≡ 0 → All (AskCarries s slots) asks → carried_among c asks ≡ 0
+uncarried s slots c i x [] there own none all = refl
+uncarried s slots c i x (ask ∷ asks) there own none all =
+    let apart = none_one (ask.instance.0 == i.0) (omega (arith, none)) in
+    let other = λ (d : CtxId) (h : belongs s slots ask.instance d ≡ true). by_bool (λ b. is_id c d ≡ b → one b ≡ 0) (is_id c d)
+    (λ _ e. absurd (true≢false (sym (eq-eqb ask.instance.0 i.0 (callback_of_owner s slots c i ask.instance x there own
+    (subst (λ y. belongs s slots ask.instance y ≡ true) (is_id-same c d e) h))) ∙ apart))) (λ _ _. refl) refl in
+    let here : carried_in c ask.completion ≡ 0 =
+    (elim ask.completion.context as (λ o. CarriesIn s slots ask.instance o → carried_in c (record { number = 0; context = o }) ≡ 0) [ None ↦ λ h. refl | Some d ↦ other d ])
+    (All-head (AskCarries s slots) ask asks all) in
+    omega (arith, here, uncarried s slots c i x asks there own (omega (arith, none)) (All-tail (AskCarries s slots) ask asks all))
+
+none_carried : (s : StackWorld) (slots : List Slot) (c : CtxId) (i : InstanceId) (x : Context) (rs : List FlowRecord) → context_at slots c ≡ Some x → x.owner ≡ Owner.Instance i
+    → total (flight i.0) rs ≡ 0 → AllCarry s slots rs → total (carried_by c) rs ≡ 0
+none_carried s slots c i x [] there own none all = refl
+none_carried s slots c i x (r ∷ rs) there own none all =
+    let here = uncarried s slots c i x (owed r.entries) there own (omega (arith, none)) (All-head (λ (y : FlowRecord). All (AskCarries s slots) (owed y.entries)) r rs all) in
+    omega (arith, here, none_carried s slots c i x rs there own (omega (arith, none)) (All-tail (λ (y : FlowRecord). All (AskCarries s slots) (owed y.entries)) r rs all))
+
+-- ---- all three
+
+-- a test that phases in flight pass
+pub flown_passes : (test : Phase → Bool) → test Phase.Attached ≡ true → test Phase.Stopping ≡ true → (p : Phase) → test p ≡ false → is_flown p ≡ false
+flown_passes test attached stopping Phase.Attached h = absurd (true≢false (sym attached ∙ h))
+flown_passes test attached stopping Phase.Stopping h = absurd (true≢false (sym stopping ∙ h))
+flown_passes test attached stopping _ h = refl
+
+unlinked_rests : (m : Option Instance) → keeps_links_by m ≡ false → is_flown_by m ≡ false
+unlinked_rests None h = refl
+unlinked_rests (Some row) h = flown_passes keeps_links refl refl row.phase h
+
+pub emptied_counts : (w : World) (i : InstanceId) (c : CtxId) → IsSound w → keeps_links_by (row_at w.stack i) ≡ false
+    → owner_at w.contexts.slots c ≡ Some (Owner.Instance i) → reference_count w c ≡ 0
+emptied_counts w i c s gone owned =
+    by_option (λ o. option_map (λ (x : Context). x.owner) o ≡ Some (Owner.Instance i) → reference_count w c ≡ 0) (context_at w.contexts.slots c)
+    (λ none own. absurd (none-some (Owner.Instance i) own)) (λ x there own.
+    let mine = same_Some x.owner (Owner.Instance i) own in
+    omega (
+      arith,
+      not_linked w.stack w.contexts.slots c i x gone there mine s.owned.fits,
+      none_carried w.stack w.contexts.slots c i x w.flow.operations there mine (s.owned.quiet i (unlinked_rests (row_at w.stack i) gone)) s.owned.completions,
+      none_held w i c x s gone there mine,
+    )) owned
 
 count-replicate : {X : Type 0} (p : X → Bool) (n : ℕ) (x : X) → p x ≡ false → count_by p (replicate n x) ≡ 0
 count-replicate p zero x h = refl
@@ -25,44 +133,9 @@ count-replicate p (suc n) x h =
     let none : ◌≡◌ {A = ℕ} (cond (p x) 1 0) 0 = ap (λ b. cond b 1 0) h in
     omega (arith, count-cons p x (replicate n x), none, count-replicate p n x h)
 
-empty_stack_sound : IsStack empty_stack
-empty_stack_sound = record {
-  filters = omega arith;
-  volumes = omega arith;
-  instances = omega arith;
-  placed = All-nil (IsPlaced empty_stack);
-  apart = λ i j d p q. absurd (omega arith);
-  few = λ v. omega arith;
-  born = omega arith;
-}
-
-empty_flow_sound : IsFlow empty_table
-empty_flow_sound = record {
-  sound = All-nil flow.IsSound;
-  ascending = λ i j d p q. absurd (omega arith);
-  below = All-nil (λ (r : FlowRecord). r.number.0 < 0);
-  few = omega arith;
-}
-
-empty_under_way : IsUnderWay empty_world
-empty_under_way = record {
-  stack = empty_stack_sound;
-  flow = empty_flow_sound;
-  among = All-nil (IsAmong empty_stack);
-  hands = length-replicate 48 Worker.Idle;
-  workers = λ o spot. count-replicate (is_in_at o spot) 48 Worker.Idle (idle_is_in_none o spot);
-  drains = λ o i. count-replicate (is_in_drain o i) 48 Worker.Idle refl;
-  setups = λ i. count-replicate (is_in_setup i) 48 Worker.Idle refl;
-}
-
--- each worker of the empty World is idle, cleans up nothing and holds nothing
-idle_or_none : (n k : ℕ) → (slice_get (replicate n Worker.Idle) k ≡ Some Worker.Idle) ⊎ (slice_get (replicate n Worker.Idle) k ≡ None)
-idle_or_none zero k = inr refl
-idle_or_none (suc n) zero = inl refl
-idle_or_none (suc n) (suc k) = idle_or_none n k
-
-no_cleanup : (n : ℕ) → cleanup_in (slice_get (replicate 48 Worker.Idle) n) ≡ None
-no_cleanup n = elim (idle_or_none 48 n) [ inl e ↦ ap cleanup_in e | inr e ↦ ap cleanup_in e ]
+no_cleanup : (n k : ℕ) → cleanup_in (slice_get (replicate n Worker.Idle) k) ≡ None
+no_cleanup (suc n) (suc k) = no_cleanup n k
+no_cleanup _ _ = refl
 
 same_in : {X : Type 0} (n k : ℕ) (x : X) → get_or (replicate n x) k x ≡ x
 same_in (suc n) (suc k) x = same_in n k x
@@ -72,20 +145,43 @@ pub nothing_carried : (c : CtxId) → carried_of nothing_kept c ≡ 0
 unfolding carried_of context_at
 nothing_carried c = refl
 
-empty_owned : IsOwned empty_world
-empty_owned = record {
-  lawful = lawful_alike nothing_carried lawful_empty;
-  cleaning = λ n. same_in 48 n None ∙ sym (no_cleanup n);
-  holders = λ k. subst (All (HoldsIn empty_stack [] (place_in (slice_get (replicate 48 Worker.Idle) k.0)))) (sym (same_in 48 k.0 []))
-      (All-nil (HoldsIn empty_stack [] (place_in (slice_get (replicate 48 Worker.Idle) k.0))));
-  completions = All-nil (λ (r : FlowRecord). All (AskCarries empty_stack []) (owed r.entries));
-  fits = All-nil (λ (x : Slot). fits empty_stack x.context ≡ true);
-  quiet = λ i rests. refl;
-  totals = length-replicate {A = ℕ} 16 0;
-}
-
 pub empty_sound : IsSound empty_world
-empty_sound = record { under_way = empty_under_way; owned = empty_owned; filed = file_empty; links = All-nil (λ (x : Slot). names_there empty_files x.context ≡ true) }
+empty_sound = record {
+  under_way = record {
+    stack = record {
+      filters = omega arith;
+      volumes = omega arith;
+      instances = omega arith;
+      placed = All-nil (IsPlaced empty_stack);
+      apart = λ i j d p q. absurd (omega arith);
+      few = λ v. omega arith;
+      born = omega arith;
+    };
+    flow = record {
+      sound = All-nil flow.IsSound;
+      ascending = λ i j d p q. absurd (omega arith);
+      below = All-nil (λ (r : FlowRecord). r.number.0 < 0);
+      few = omega arith;
+    };
+    among = All-nil (IsAmong empty_stack);
+    hands = length-replicate 48 Worker.Idle;
+    workers = λ o spot. count-replicate (is_in_at o spot) 48 Worker.Idle (idle_is_in_none o spot);
+    drains = λ o i. count-replicate (is_in_drain o i) 48 Worker.Idle refl;
+    setups = λ i. count-replicate (is_in_setup i) 48 Worker.Idle refl;
+  };
+  owned = record {
+    lawful = lawful_alike nothing_carried lawful_empty;
+    cleaning = λ n. same_in 48 n None ∙ sym (no_cleanup 48 n);
+    holders = λ k. subst (All (HoldsIn empty_stack [] (place_in (slice_get (replicate 48 Worker.Idle) k.0)))) (sym (same_in 48 k.0 []))
+        (All-nil (HoldsIn empty_stack [] (place_in (slice_get (replicate 48 Worker.Idle) k.0))));
+    completions = All-nil (λ (r : FlowRecord). All (AskCarries empty_stack []) (owed r.entries));
+    fits = All-nil (λ (x : Slot). fits empty_stack x.context ≡ true);
+    quiet = λ i rests. refl;
+    totals = length-replicate {A = ℕ} 16 0;
+  };
+  filed = file_empty;
+  links = All-nil (λ (x : Slot). names_there empty_files x.context ≡ true);
+}
 
 -- ---- the Headline
 
@@ -94,15 +190,11 @@ not_owned : (s : StackWorld) (i : InstanceId) (o : Option Context) → is_left_b
 not_owned s i None gone fit = refl
 not_owned s i (Some x) gone fit = by_owner x.kind x.owner (and_parts (owner_fits s x.kind x.owner) (link_fits s x x.link) fit).0
   where
-    of_instance : (j : InstanceId) → is_left_by (row_at s j) ≡ true → (i.0 == j.0) ≡ false
-    of_instance j left = ne_eqb i.0 j.0 (λ e. true≢false (sym left ∙ ap (λ n. is_left_by (slice_get s.instances n)) (sym e) ∙ gone))
-
     by_owner : (k : ContextKind) (o : Owner) → owner_fits s k o ≡ true → same_owner (Owner.Instance i) o ≡ false
     by_owner k (Owner.Filter f) fit = refl
     by_owner ContextKind.Volume (Owner.Instance j) fit = absurd (false≢true fit)
-    by_owner ContextKind.Instance (Owner.Instance j) fit = of_instance j fit
-    by_owner ContextKind.Stream (Owner.Instance j) fit = of_instance j fit
-    by_owner ContextKind.Handle (Owner.Instance j) fit = of_instance j fit
+    by_owner _ (Owner.Instance j) fit =
+        ne_eqb i.0 j.0 (λ e. true≢false (sym fit ∙ ap (λ n. is_left_by (slice_get s.instances n)) (sym e) ∙ gone))
 
 none_counted : (o : Owner) (slots : List Slot) → All (λ (x : Slot). is_open o x.context ≡ false) slots → open_of slots o ≡ 0
 none_counted o [] h = refl

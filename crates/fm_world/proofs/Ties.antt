@@ -1,15 +1,14 @@
--- Workers and stages stay tied: a worker goes into an operation or leaves it as the operation's stage says.
-use Rattle.std.proofs.Common.{◌≡◌, ℕ, ◌+◌, ◌≤◌, ◌==◌, ◌&&◌, Bool, true, false, cond, List, Option, Some, None, refl, ap, sym, ◌∙◌, subst, inl, inr, arith, count_by}
-use Rattle.fm_world.proofs.Words.{option_map, unwrap_or, find, cases_eq, false≢true, eqb-true, eq-eqb, ne_eqb, slice_get_within, get_or_from_slice_get}
-use Rattle.fm_world.proofs.Words.{sum_by-set, and_right, OpId, WorkerId, InstanceId, find_changed, find_unchanged, PreState, pre_leads, is_counted, Stage}
-use Rattle.fm_world.proofs.Words.{PreRunning, InBase, PostRunning, InDrain, FlowRecord, FlowTable, is_number, operation_at, changed, told, Entry}
-use Rattle.fm_world.proofs.Words.{last_visited, last_posted, one_of_and, and_true, Worker, worker_at, put, Spot, AtPre, AtBase, AtPost, AtDrain, is_in_at}
-use Rattle.fm_world.proofs.Words.{spot_at, spot_of, is_spot, stands_at}
-use Rattle.fm_world.proofs.Counts.{count-some}
+-- Workers and operations stay tied: a worker goes into an operation or leaves it as the operation's stage and its drains say.
+use Rattle.std.proofs.Common.{◌≡◌, ℕ, ◌+◌, ◌≤◌, ◌==◌, ◌&&◌, Bool, true, false, cond, List, Option, Some, None, Result, Ok, refl, ap, sym, ◌∙◌, subst, inl, inr, arith, count_by}
+use Rattle.fm_world.proofs.Words.{option_map, unwrap_or, find, cases_eq, false≢true, eqb-true, eq-eqb, ne_eqb, slice_get_within}
+use Rattle.fm_world.proofs.Words.{get_or_from_slice_get, sum_by-set, and_right, set-get_or, OpId, WorkerId, InstanceId, Status, one, find_changed}
+use Rattle.fm_world.proofs.Words.{find_unchanged, PreState, pre_leads, is_counted, Stage, PreRunning, InBase, PostRunning, InDrain, FlowAction}
+use Rattle.fm_world.proofs.Words.{FlowRecord, FlowTable, is_number, operation_at, changed, told, Entry, last_visited, last_posted, drain_opens}
+use Rattle.fm_world.proofs.Words.{drains_given, one_of_and, same_either, and_true, Worker, worker_at, put, after_next, Spot, AtPre, AtBase, AtPost}
+use Rattle.fm_world.proofs.Words.{AtDrain, is_in_at, is_in_drain, is_in_setup, spot_at, spot_of, is_spot, stands_at, drains_running}
+use Rattle.fm_world.proofs.Cases.{by_option, count-some, one_true}
 
--- 1 or 0
-abbrev pub one : Bool → ℕ
-one test = cond test 1 0
+-- ---- counts
 
 -- a count after one worker went elsewhere
 pub count_moves : (p : Worker → Bool) (workers : List Worker) (k : WorkerId) (a b : Worker) → worker_at workers k ≡ Some a
@@ -26,13 +25,6 @@ count_stays p workers k a b h na nb =
     let from : one (p a) ≡ 0 = ap one na in
     let to : one (p b) ≡ 0 = ap one nb in
     omega (arith, count_moves p workers k a b h, from, to)
-
--- the worker's place says that it is inside operation o at that spot, and inside no other
-abbrev pub Matches : OpId → Worker → Option Spot → Type 0
-Matches o a spot = (p : OpId) (s : Spot) → is_in_at p s a ≡ ((o.0 == p.0) && is_spot s spot)
-
-abbrev standing : Spot → FlowRecord → ℕ
-standing s r = one (is_spot s (spot_of r))
 
 -- what is counted of an operation, after a change of one
 pub told_changed : (read : FlowRecord → ℕ) (p : OpId) (t : FlowTable) (o : OpId) (r : FlowRecord) (f : FlowRecord → FlowRecord) → operation_at o t ≡ Some r
@@ -57,32 +49,41 @@ told_changed read p t o r f h same =
           rw (after, ne_eqb o.0 p.0 e) (omega arith)
     ]
 
--- how an operation stands then
-pub stands_changed : (p : OpId) (s : Spot) (t : FlowTable) (o : OpId) (r : FlowRecord) (f : FlowRecord → FlowRecord) → operation_at o t ≡ Some r
-    → ((x : FlowRecord) → (f x).number.0 ≡ x.number.0)
-    → stands_at p s (changed o f t) + one ((o.0 == p.0) && is_spot s (spot_of r)) ≡ stands_at p s t + one ((o.0 == p.0) && is_spot s (spot_of (f r)))
-stands_changed p s t o r f h same =
-    omega (arith, told_changed (standing s) p t o r f h same, one_of_and (o.0 == p.0) (is_spot s (spot_of r)), one_of_and (o.0 == p.0) (is_spot s (spot_of (f r))))
+-- what a worker's place and an operation's record say of some way to be inside, before and after a step of both
+abbrev pub Balances : (OpId → Worker → Bool) → (FlowRecord → ℕ) → OpId → Worker → Worker → FlowRecord → FlowRecord → Type 0
+Balances inside read o a b r s = (p : OpId) → one (inside p b) + cond (o.0 == p.0) (read r) 0 ≡ one (inside p a) + cond (o.0 == p.0) (read s) 0
 
-abbrev pub AreTied : List Worker → FlowTable → Type 0
-AreTied workers t = (p : OpId) (s : Spot) → count_by (is_in_at p s) workers ≡ stands_at p s t
+-- the workers inside, and what is told of the operations, where one of each takes a step
+pub tied_moves : (inside : OpId → Worker → Bool) (read : FlowRecord → ℕ) (workers : List Worker) (t : FlowTable) (k : WorkerId) (a b : Worker) (o : OpId) (r : FlowRecord)
+    (f : FlowRecord → FlowRecord) → worker_at workers k ≡ Some a → operation_at o t ≡ Some r → ((x : FlowRecord) → (f x).number.0 ≡ x.number.0)
+    → Balances inside read o a b r (f r) → (p : OpId) → count_by (inside p) workers ≡ told read 0 p t → count_by (inside p) (put workers k b) ≡ told read 0 p (changed o f t)
+tied_moves inside read workers t k a b o r f worker at same balance p tied =
+    omega (arith, count_moves (inside p) workers k a b worker, told_changed read p t o r f at same, balance p, tied)
 
--- a worker goes from place a to place b, and the operation from its spot to that of f r
-pub tied_moves : (workers : List Worker) (t : FlowTable) (k : WorkerId) (a b : Worker) (o : OpId) (r : FlowRecord) (f : FlowRecord → FlowRecord)
-    → worker_at workers k ≡ Some a → operation_at o t ≡ Some r → ((x : FlowRecord) → (f x).number.0 ≡ x.number.0)
-    → Matches o a (spot_of r) → Matches o b (spot_of (f r)) → AreTied workers t → AreTied (put workers k b) (changed o f t)
-tied_moves workers t k a b o r f ha ho same ma mb tied p s =
-    let from : one (is_in_at p s a) ≡ one ((o.0 == p.0) && is_spot s (spot_of r)) = ap one (ma p s) in
-    let to : one (is_in_at p s b) ≡ one ((o.0 == p.0) && is_spot s (spot_of (f r))) = ap one (mb p s) in
-    omega (arith, count_moves (is_in_at p s) workers k a b ha, stands_changed p s t o r f ho same, from, to, tied p s)
+-- an operation takes a step that changes nothing of what is told
+pub told_same : (read : FlowRecord → ℕ) (p : OpId) (t : FlowTable) (o : OpId) (r : FlowRecord) (f : FlowRecord → FlowRecord) → operation_at o t ≡ Some r
+    → ((x : FlowRecord) → (f x).number.0 ≡ x.number.0) → read (f r) ≡ read r → told read 0 p t ≡ told read 0 p (changed o f t)
+told_same read p t o r f at same alike =
+    let shared : cond (o.0 == p.0) (read (f r)) 0 ≡ cond (o.0 == p.0) (read r) 0 = ap (λ n. cond (o.0 == p.0) n 0) alike in
+    omega (arith, told_changed read p t o r f at same, shared)
 
--- no worker moves, and the operation stands as before
-pub tied_stays : (workers : List Worker) (t : FlowTable) (o : OpId) (r : FlowRecord) (f : FlowRecord → FlowRecord)
-    → operation_at o t ≡ Some r → ((x : FlowRecord) → (f x).number.0 ≡ x.number.0)
-    → ((s : Spot) → is_spot s (spot_of (f r)) ≡ is_spot s (spot_of r)) → AreTied workers t → AreTied workers (changed o f t)
-tied_stays workers t o r f ho same stage tied p s =
-    let alike : one ((o.0 == p.0) && is_spot s (spot_of (f r))) ≡ one ((o.0 == p.0) && is_spot s (spot_of r)) = ap (λ b. one ((o.0 == p.0) && b)) (stage s) in
-    omega (arith, stands_changed p s t o r f ho same, alike, tied p s)
+-- ---- spots
+
+abbrev pub standing : Spot → FlowRecord → ℕ
+standing s r = one (is_spot s (spot_of r))
+
+-- the worker's place says that it is inside operation o at that spot, and inside no other
+abbrev pub Matches : OpId → Worker → Option Spot → Type 0
+Matches o a spot = (p : OpId) (s : Spot) → is_in_at p s a ≡ ((o.0 == p.0) && is_spot s spot)
+
+abbrev pub BalancesSpots : OpId → Worker → Worker → FlowRecord → FlowRecord → Type 0
+BalancesSpots o a b r s = (x : Spot) → Balances (λ p. is_in_at p x) (standing x) o a b r s
+
+pub spots_balance : (o : OpId) (a b : Worker) (r s : FlowRecord) → Matches o a (spot_of r) → Matches o b (spot_of s) → BalancesSpots o a b r s
+spots_balance o a b r s from to x p =
+    let was = ap one (from p x) ∙ one_of_and (o.0 == p.0) (is_spot x (spot_of r)) in
+    let is = ap one (to p x) ∙ one_of_and (o.0 == p.0) (is_spot x (spot_of s)) in
+    omega (arith, was, is)
 
 and_false : (b : Bool) → (b && false) ≡ false
 and_false b = and_right b false refl
@@ -135,55 +136,104 @@ pub matches_drain : (o : OpId) (i : InstanceId) → Matches o (Worker.Drain o i)
 matches_drain o i p (AtDrain j) = refl
 matches_drain o i p _ = sym (and_false (o.0 == p.0))
 
--- the other way: where a worker is inside an operation, it is there and at that spot
-one_of : (s : Spot) (m : Option FlowRecord) → 1 ≤ unwrap_or (option_map (standing s) m) 0 → (r : FlowRecord) × (m ≡ Some r) × (is_spot s (spot_of r) ≡ true)
-one_of s None h = absurd (omega arith)
-one_of s (Some r) h = (r, refl, true_of (is_spot s (spot_of r)) h)
+-- ---- drains
+
+abbrev pub BalancesDrains : OpId → Worker → Worker → FlowRecord → FlowRecord → Type 0
+BalancesDrains o a b r s = (i : ℕ) → Balances (λ p. is_in_drain p i) (λ x. drain_opens i x.entries) o a b r s
+
+-- the worker's place counts for so many drains of operation o, and for none of any other
+abbrev pub InDrains : OpId → Worker → (ℕ → ℕ) → Type 0
+InDrains o a n = (p : OpId) (i : ℕ) → one (is_in_drain p i a) ≡ cond (o.0 == p.0) (n i) 0
+
+pub in_no_drain : (o : OpId) (a : Worker) → ((p : OpId) (i : ℕ) → is_in_drain p i a ≡ false) → InDrains o a (λ i. 0)
+in_no_drain o a h p i = ap one (h p i) ∙ sym (same_either (o.0 == p.0) 0)
+
+pub in_a_drain : (o : OpId) (j : InstanceId) → InDrains o (Worker.Drain o j) (λ i. one (j.0 == i))
+in_a_drain o j p i = one_of_and (o.0 == p.0) (j.0 == i)
+
+pub drains_balance : (o : OpId) (a b : Worker) (r s : FlowRecord) (n m : ℕ → ℕ) → InDrains o a n → InDrains o b m
+    → ((i : ℕ) → drain_opens i s.entries + n i ≡ drain_opens i r.entries + m i) → BalancesDrains o a b r s
+drains_balance o a b r s n m from to even i p =
+    let shared = shares (o.0 == p.0) (drain_opens i s.entries) (drain_opens i r.entries) (n i) (m i) (even i) in
+    omega (arith, from p i, to p i, shared)
   where
-    true_of : (b : Bool) → 1 ≤ one b → b ≡ true
-    true_of true h = refl
-    true_of false h = absurd (omega arith)
+    shares : (c : Bool) (now was from to : ℕ) → now + from ≡ was + to → cond c now 0 + cond c from 0 ≡ cond c was 0 + cond c to 0
+    shares true now was from to even = even
+    shares false now was from to even = refl
+
+-- ---- what `next` gives an idle worker
+
+abbrev pub placed_by : OpId → Result FlowAction Status → Worker
+placed_by o (Ok (FlowAction.Pre i lent)) = Worker.Pre o i
+placed_by o (Ok (FlowAction.Base call)) = Worker.Base o
+placed_by o (Ok (FlowAction.Post i lent completion)) = Worker.Post o i
+placed_by o (Ok (FlowAction.Drain i completion)) = Worker.Drain o i
+placed_by o _ = Worker.Idle
+
+pub record Placed (o : OpId) (reply : Result FlowAction Status) : Type 0 where
+  pub drains : InDrains o (placed_by o reply) (λ i. drains_given i reply)
+  pub outside : (i : ℕ) → is_in_setup i (placed_by o reply) ≡ false
+  pub puts : (workers : List Worker) (k : WorkerId) → worker_at workers k ≡ Some Worker.Idle → after_next workers k o reply ≡ put workers k (placed_by o reply)
+
+pub placed : (o : OpId) (reply : Result FlowAction Status) → Placed o reply
+placed o (Ok (FlowAction.Drain i completion)) = record { drains = in_a_drain o i; outside = λ j. refl; puts = λ workers k idle. refl }
+placed o (Ok (FlowAction.Pre i lent)) = record { drains = in_no_drain o (Worker.Pre o i) (λ p j. refl); outside = λ j. refl; puts = λ workers k idle. refl }
+placed o (Ok (FlowAction.Base call)) = record { drains = in_no_drain o (Worker.Base o) (λ p j. refl); outside = λ j. refl; puts = λ workers k idle. refl }
+placed o (Ok (FlowAction.Post i lent completion)) = record { drains = in_no_drain o (Worker.Post o i) (λ p j. refl); outside = λ j. refl; puts = λ workers k idle. refl }
+placed o _ = record {
+  drains = in_no_drain o Worker.Idle (λ p j. refl);
+  outside = λ j. refl;
+  puts = λ workers k idle. sym (ap (put workers k) (sym (get_or_from_slice_get workers k.0 Worker.Idle Worker.Idle idle)) ∙ set-get_or workers k.0 Worker.Idle);
+}
+
+-- ---- the other way: where a worker is inside an operation, it is there, and its stage says so
+
+abbrev pub AreTied : List Worker → FlowTable → Type 0
+AreTied workers t = (p : OpId) (s : Spot) → count_by (is_in_at p s) workers ≡ stands_at p s t
+
+-- what is told of an operation that counts is told of one that is there
+told_of : (read : FlowRecord → ℕ) (o : OpId) (t : FlowTable) → 1 ≤ told read 0 o t → (r : FlowRecord) × (operation_at o t ≡ Some r) × (1 ≤ read r)
+told_of read o t h =
+    by_option (λ m. 1 ≤ unwrap_or (option_map read m) 0 → (r : FlowRecord) × (m ≡ Some r) × (1 ≤ read r)) (operation_at o t) (λ none h. absurd (omega arith))
+    (λ r at h. (r, refl, h)) h
 
 pub tied_there : (workers : List Worker) (t : FlowTable) (k : WorkerId) (a : Worker) (o : OpId) (s : Spot) → AreTied workers t
     → worker_at workers k ≡ Some a → is_in_at o s a ≡ true → (r : FlowRecord) × (operation_at o t ≡ Some r) × (is_spot s (spot_of r) ≡ true)
 tied_there workers t k a o s tied h inside =
-    let one : 1 ≤ stands_at o s t = omega (arith, count-some (is_in_at o s) workers k.0 a h inside, tied o s) in
-    one_of s (operation_at o t) one
+    let x = told_of (standing s) o t (omega (arith, count-some (is_in_at o s) workers k.0 a h inside, tied o s)) in
+    (x.0, x.1, one_true (is_spot s (spot_of x.0)) x.2)
 
--- what a spot says of the stage and the last visit
+-- where a worker is in a drain, it runs
+pub drained_there : (workers : List Worker) (t : FlowTable) (k : WorkerId) (a : Worker) (o : OpId) (i : ℕ)
+    → ((p : OpId) (j : ℕ) → count_by (is_in_drain p j) workers ≡ drains_running p j t)
+    → worker_at workers k ≡ Some a → is_in_drain o i a ≡ true → (r : FlowRecord) × (operation_at o t ≡ Some r) × (1 ≤ drain_opens i r.entries)
+drained_there workers t k a o i tied h inside =
+    told_of (λ (x : FlowRecord). drain_opens i x.entries) o t (omega (arith, count-some (is_in_drain o i) workers k.0 a h inside, tied o i))
 
-visit_at : (i : ℕ) (m : Option ℕ) → is_spot (AtPre i) (option_map AtPre m) ≡ true → m ≡ Some i
-visit_at i None h = absurd (false≢true h)
-visit_at i (Some j) h = ap Some (eqb-true j i h)
-
-post_at : (i : ℕ) (m : Option ℕ) → is_spot (AtPost i) (option_map AtPost m) ≡ true → m ≡ Some i
-post_at i None h = absurd (false≢true h)
-post_at i (Some j) h = ap Some (eqb-true j i h)
-
-mapped_other : (s : Spot) (f : ℕ → Spot) (m : Option ℕ) → ((j : ℕ) → is_spot s (Some (f j)) ≡ false) → is_spot s (option_map f m) ≡ false
-mapped_other s f None h = nowhere s
-mapped_other s f (Some j) h = h j
+mapped : (s : Spot) (f : ℕ → Spot) (m : Option ℕ) → is_spot s (option_map f m) ≡ true → (j : ℕ) × (m ≡ Some j) × (is_spot s (Some (f j)) ≡ true)
+mapped s f None h = absurd (false≢true (sym (nowhere s) ∙ h))
+mapped s f (Some j) h = (j, refl, h)
 
 pub spot_pre : (i : ℕ) (stage : Stage) (entries : List Entry) → is_spot (AtPre i) (spot_at stage entries) ≡ true → (stage ≡ PreRunning) × (last_visited entries ≡ Some i)
-spot_pre i PreRunning entries h = (refl, visit_at i (last_visited entries) h)
-spot_pre i PostRunning entries h = absurd (false≢true (sym (mapped_other (AtPre i) AtPost (last_posted entries) (λ j. refl)) ∙ h))
+spot_pre i PreRunning entries h = let x = mapped (AtPre i) AtPre (last_visited entries) h in (refl, x.1 ∙ ap Some (eqb-true x.0 i x.2))
+spot_pre i PostRunning entries h = absurd (false≢true (mapped (AtPre i) AtPost (last_posted entries) h).2)
 spot_pre i _ entries h = absurd (false≢true h)
 
 pub spot_base : (stage : Stage) (entries : List Entry) → is_spot AtBase (spot_at stage entries) ≡ true → stage ≡ InBase
 spot_base InBase entries h = refl
-spot_base PreRunning entries h = absurd (false≢true (sym (mapped_other AtBase AtPre (last_visited entries) (λ j. refl)) ∙ h))
-spot_base PostRunning entries h = absurd (false≢true (sym (mapped_other AtBase AtPost (last_posted entries) (λ j. refl)) ∙ h))
+spot_base PreRunning entries h = absurd (false≢true (mapped AtBase AtPre (last_visited entries) h).2)
+spot_base PostRunning entries h = absurd (false≢true (mapped AtBase AtPost (last_posted entries) h).2)
 spot_base _ entries h = absurd (false≢true h)
 
 pub spot_post : (i : ℕ) (stage : Stage) (entries : List Entry) → is_spot (AtPost i) (spot_at stage entries) ≡ true → (stage ≡ PostRunning) × (last_posted entries ≡ Some i)
-spot_post i PostRunning entries h = (refl, post_at i (last_posted entries) h)
-spot_post i PreRunning entries h = absurd (false≢true (sym (mapped_other (AtPost i) AtPre (last_visited entries) (λ j. refl)) ∙ h))
+spot_post i PostRunning entries h = let x = mapped (AtPost i) AtPost (last_posted entries) h in (refl, x.1 ∙ ap Some (eqb-true x.0 i x.2))
+spot_post i PreRunning entries h = absurd (false≢true (mapped (AtPost i) AtPre (last_visited entries) h).2)
 spot_post i _ entries h = absurd (false≢true h)
 
 pub spot_drain : (i : InstanceId) (stage : Stage) (entries : List Entry) → is_spot (AtDrain i.0) (spot_at stage entries) ≡ true → stage ≡ InDrain i
 spot_drain i (InDrain j) entries h = ap (λ n. InDrain (record { 0 = n })) (eqb-true j.0 i.0 h)
-spot_drain i PreRunning entries h = absurd (false≢true (sym (mapped_other (AtDrain i.0) AtPre (last_visited entries) (λ j. refl)) ∙ h))
-spot_drain i PostRunning entries h = absurd (false≢true (sym (mapped_other (AtDrain i.0) AtPost (last_posted entries) (λ j. refl)) ∙ h))
+spot_drain i PreRunning entries h = absurd (false≢true (mapped (AtDrain i.0) AtPre (last_visited entries) h).2)
+spot_drain i PostRunning entries h = absurd (false≢true (mapped (AtDrain i.0) AtPost (last_posted entries) h).2)
 spot_drain i _ entries h = absurd (false≢true h)
 
 -- a verdict that counts leaves the callback

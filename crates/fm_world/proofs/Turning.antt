@@ -1,9 +1,13 @@
--- What `next` makes of an operation, decided once.
-use Rattle.std.proofs.Common.{◌≡◌, Bool, true, false, cond, List, Option, Some, None, Result, Ok, Err, slice_get, refl, not}
-use Rattle.fm_world.proofs.Words.{take, list_any, and_parts, WorkerId, InstanceId, Status, OpId, Params, Turned, turn, next_of, next_at, descend, ascend}
-use Rattle.fm_world.proofs.Words.{call_pre, call_base, call_post, give_post, unwound_to, with_visit, bare_ask, with_base, with_drain, may_take, bare_answer}
-use Rattle.fm_world.proofs.Words.{Below, FlowAction, Ask, FlowRecord, Stage, Descending, Ascending, PreHeld, PostHeld, InDrain, owed, FlowTable, operation_at}
-use Rattle.fm_world.proofs.Words.{is_done, changed, marked, is_running_drain, removed, collected_in, is_collectable, gives_nothing}
+-- What `next` makes of an operation, decided once; and one that gives nothing to do changes nothing.
+use Rattle.std.proofs.Common.{◌≡◌, Bool, true, false, cond, List, Option, Some, None, Result, Ok, Err, slice_get, refl, not, [], ◌∷◌, find, ap, sym, ◌∙◌}
+use Rattle.fm_world.proofs.Words.{take, list_any, and_parts, WorkerId, InstanceId, Status, OpId, Params, Turned, turn, next_of, next_at, descend}
+use Rattle.fm_world.proofs.Words.{ascend, call_pre, call_base, call_post, give_post, unwound_to, with_visit, bare_ask, with_base, with_drain}
+use Rattle.fm_world.proofs.Words.{may_take, bare_answer, Below, FlowAction, Ask, FlowRecord, Stage, Descending, Ascending, PreHeld, PostHeld, InDrain}
+use Rattle.fm_world.proofs.Words.{owed, FlowTable, operation_at, is_done, changed, marked, is_running_drain, removed, collected_in, is_collectable}
+use Rattle.fm_world.proofs.Words.{gives_nothing, false≢true, none-some, same_Some, change_first, is_number, Nexts, LosesByKnown, drains_at}
+use Rattle.fm_world.proofs.Words.{flow_after_next, World}
+use Rattle.fm_world.proofs.Events.{turned_by, nexted, next_by}
+use Rattle.fm_world.proofs.Cases.{by_bool}
 
 -- P of each thing that it may answer and make of the operation
 pub record EachTurn (P : Turned → Type 0) (k : WorkerId) (lies : Below) (r : FlowRecord) : Type 0 where
@@ -76,3 +80,41 @@ collected_by P o t (Some r) at same marks goes = by_collectable (is_collectable 
     by_collectable : (a : Bool) → is_collectable r ≡ a → P (cond a (cond (list_any is_running_drain r.entries) (changed o marked t) (removed o t)) t)
     by_collectable false is = same
     by_collectable true is = by_drain (list_any is_running_drain r.entries) refl (and_parts (not r.collected) (is_done r) is).1
+
+-- ---- the operation
+
+next_rests : (k : WorkerId) (lies : Below) (drains : Bool) (r : FlowRecord) → gives_nothing (next_of k lies drains r).reply ≡ true → (next_of k lies drains r).after ≡ r
+next_rests k lies drains r = each_turn (λ t. gives_nothing t.reply ≡ true → t.after ≡ r) k lies drains r (record {
+  rests = λ reply nothing h. refl;
+  calls = λ i p e is h. absurd (false≢true h);
+  skips = λ i e is h. absurd (false≢true h);
+  asks = λ p e is h. absurd (false≢true h);
+  knows = λ why e is h. absurd (false≢true h);
+  drains = λ ask e h. absurd (false≢true h);
+  posts = λ ask m kept p e h. absurd (false≢true h);
+})
+
+-- ---- the World
+
+-- the first that passes stays as it is
+change_same : {A : Type 0} (test : A → Bool) (f : A → A) (rs : List A) (r : A) → find test rs ≡ Some r → f r ≡ r → change_first test f rs ≡ rs
+change_same test f [] r found same = absurd (none-some r found)
+change_same {A = A} test f (x ∷ rs) r found same =
+    by_bool (λ c. cond c (Some x) (find test rs) ≡ Some r → cond c (f x ∷ rs) (x ∷ change_first test f rs) ≡ x ∷ rs) (test x)
+    (λ _ here. let is = same_Some x r here in ap (λ (y : A). y ∷ rs) (ap f is ∙ same ∙ sym is))
+    (λ _ later. ap (λ (xs : List A). x ∷ xs) (change_same test f rs r later same)) found
+
+over_rests : (old : World) (k : WorkerId) (o : OpId) (lies : Below) (result : Result FlowAction Status) (new : World) → LosesByKnown result lies (nexted old k o lies result) new
+    → gives_nothing result ≡ true → flow_after_next old k o lies ≡ old.flow → new ≡ old
+over_rests old k o lies (Ok FlowAction.Held) new loses h same = loses ∙ ap (λ t. record old { flow = t }) same
+over_rests old k o lies (Ok FlowAction.Done) new loses h same = loses ∙ ap (λ t. record old { flow = t }) same
+over_rests old k o lies (Err why) new loses h same = loses ∙ ap (λ t. record old { flow = t }) same
+over_rests old k o lies _ new loses h same = absurd (false≢true h)
+
+pub next_changes_nothing : (old : World) (k : WorkerId) (o : OpId) (result : Result FlowAction Status) (new : World) → Nexts old k o result new → gives_nothing result ≡ true → new ≡ old
+next_changes_nothing old k o result new h =
+    next_by (λ r w. gives_nothing r ≡ true → w ≡ old) old k o result new h (λ why nothing. refl) (λ e nothing.
+    let d = drains_at old o in
+    let f = λ (x : FlowRecord). (next_of k e.lies d x).after in
+    over_rests old k o e.lies (turned_by old k o e.lies e.row).reply new e.loses nothing (ap (λ (rs : List FlowRecord). record old.flow { operations = rs })
+    (change_same (is_number o) f old.flow.operations e.row e.at (next_rests k e.lies d e.row nothing))))

@@ -2,7 +2,7 @@
 use Rattle.std.specs.Prelude.{◌≡◌, ℕ, ◌+◌, ◌<◌, ◌≤◌, Bool, true, false, cond, List, length, All, count_by, Option, Some, None, slice_get, ◌==◌}
 use Rattle.fm_world.specs.Words.{InstanceId, WorkerId, OpId, VolumeId, Operation, Instance, StackWorld, is_setup, NonePasses, is_candidate, cleaning_of}
 use Rattle.fm_world.specs.Words.{hand_of, IsLawful, Slot, Stage, InBase, Entry, FlowRecord, visited, last_visited, has_base, owed, creates, FlowTable, IsFlow}
-use Rattle.fm_world.specs.Words.{in_flight}
+use Rattle.fm_world.specs.Words.{in_flight, carried, ContextTable}
 use Rattle.fm_stack.specs.Stacks.{IsStack}
 use Rattle.fm_world.specs.declared.worker.Worker.{Worker}
 use Rattle.fm_world.specs.declared.worker.Worker.TheVariants as place
@@ -10,7 +10,7 @@ use Rattle.fm_world.specs.declared.file.FileStream.{FileStream}
 use Rattle.fm_world.specs.Files.{FileTable}
 use Rattle.fm_world.specs.FileLaws.{FilesHold}
 use Rattle.fm_world.specs.Links.{names_there}
-use Rattle.fm_world.specs.World.{World, carries}
+use Rattle.fm_world.specs.World.{World}
 use Rattle.fm_world.specs.Workers.{worker_at, cleanup_in}
 use Rattle.fm_world.specs.Owners.{row_at, place_in, HoldsIn, AskCarries, fits, is_flown_by}
 use Rattle.fm_world.specs.Descent.{IsDescent, HasRoom}
@@ -47,26 +47,34 @@ setup_row None = 0
 setup_row (Some row) = cond (is_setup row.phase) 1 0
 
 -- filters, volumes, instances, operations and workers together
-pub record IsUnderWay (w : World) : Type 0 where
-  pub stack : IsStack w.stack
-  pub flow : IsFlow w.flow
-  pub among : All (IsAmong w.stack) w.flow.operations
-  pub hands : length w.workers ≡ 48
-  pub workers : (o : OpId) (spot : Spot) → count_by (is_in_at o spot) w.workers ≡ stands_at o spot w.flow
-  pub drains : (o : OpId) (i : ℕ) → count_by (is_in_drain o i) w.workers ≡ drains_running o i w.flow
-  pub setups : (i : ℕ) → count_by (is_in_setup i) w.workers ≡ setup_row (slice_get w.stack.instances i)
+pub record AreUnderWay (s : StackWorld) (t : FlowTable) (ws : List Worker) : Type 0 where
+  pub stack : IsStack s
+  pub flow : IsFlow t
+  pub among : All (IsAmong s) t.operations
+  pub hands : length ws ≡ 48
+  pub workers : (o : OpId) (spot : Spot) → count_by (is_in_at o spot) ws ≡ stands_at o spot t
+  pub drains : (o : OpId) (i : ℕ) → count_by (is_in_drain o i) ws ≡ drains_running o i t
+  pub setups : (i : ℕ) → count_by (is_in_setup i) ws ≡ setup_row (slice_get s.instances i)
+
+-- contexts, streams and handles don't matter to it
+abbrev pub IsUnderWay : World → Type 0
+IsUnderWay w = AreUnderWay w.stack w.flow w.workers
 
 -- ---- contexts
 
-pub record IsOwned (w : World) : Type 0 where
-  pub lawful : IsLawful (carries w) w.contexts
+pub record AreOwned (s : StackWorld) (t : FlowTable) (ws : List Worker) (c : ContextTable) (sums : List ℕ) : Type 0 where
+  pub lawful : IsLawful (λ id. carried id t) c
   -- what the workers' places say of cleanups
-  pub cleaning : (k : ℕ) → cleaning_of w.contexts.cleaning k ≡ cleanup_in (slice_get w.workers k)
-  pub holders : (k : WorkerId) → All (HoldsIn w.stack w.contexts.slots (place_in (worker_at w.workers k))) (hand_of w.contexts.hands k.0)
-  pub completions : All (λ (r : FlowRecord). All (AskCarries w.stack w.contexts.slots) (owed r.entries)) w.flow.operations
-  pub fits : All (λ (s : Slot). fits w.stack s.context ≡ true) w.contexts.slots
-  pub quiet : (i : InstanceId) → is_flown_by (row_at w.stack i) ≡ false → in_flight i.0 w.flow ≡ 0
-  pub totals : length w.totals ≡ 16
+  pub cleaning : (k : ℕ) → cleaning_of c.cleaning k ≡ cleanup_in (slice_get ws k)
+  pub holders : (k : WorkerId) → All (HoldsIn s c.slots (place_in (worker_at ws k))) (hand_of c.hands k.0)
+  pub completions : All (λ (r : FlowRecord). All (AskCarries s c.slots) (owed r.entries)) t.operations
+  pub fits : All (λ (x : Slot). fits s x.context ≡ true) c.slots
+  pub quiet : (i : InstanceId) → is_flown_by (row_at s i) ≡ false → in_flight i.0 t ≡ 0
+  pub totals : length sums ≡ 16
+
+-- nor do streams and handles to this
+abbrev pub IsOwned : World → Type 0
+IsOwned w = AreOwned w.stack w.flow w.workers w.contexts w.totals
 
 -- ---- streams and handles
 

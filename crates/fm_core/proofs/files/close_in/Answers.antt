@@ -1,6 +1,5 @@
-use Rattle.std.proofs.Common.{position, ap, sym, ◌∙◌}
-use Rattle.fm_types.proofs.Firsts.{stands_there, absent, without_none}
-use Rattle.fm_world.specs.Files.{is_handle}
+use Rattle.fm_core.proofs.Words.{position, ap, sym, stands_there, absent, without_none, is_handle}
+use Rattle.std.proofs.Common.{◌∙◌}
 use Rattle.fm_core.proofs.files.close_in.Goals as goal
 
 pub returns-in-Some-clause-items : goal.returns-in-Some-clause-items

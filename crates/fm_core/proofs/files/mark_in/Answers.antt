@@ -1,8 +1,5 @@
-use Rattle.std.proofs.Common.{position, ap, sym, ◌∙◌}
-use Rattle.std.specs.Prelude.{slice_set}
-use Rattle.fm_types.proofs.Firsts.{stands_there, absent, change_none}
-use Rattle.fm_world.specs.declared.file.FileStream.{FileStream}
-use Rattle.fm_world.specs.Files.{is_stream, with_mark}
+use Rattle.fm_core.proofs.Words.{position, ap, sym, slice_set, stands_there, absent, change_none, FileStream, is_stream, with_mark}
+use Rattle.std.proofs.Common.{◌∙◌}
 use Rattle.fm_core.proofs.files.mark_in.Goals as goal
 
 pub returns-in-Some : goal.returns-in-Some

@@ -1,8 +1,6 @@
-use Rattle.std.proofs.Common.{position, ap, sym, ◌∙◌}
-use Rattle.std.specs.Prelude.{slice_set}
-use Rattle.fm_types.proofs.Firsts.{stands_there, absent, change_none}
-use Rattle.fm_world.specs.declared.file.FileHandle.{FileHandle}
-use Rattle.fm_world.specs.Files.{is_handle, with_phase}
+use Rattle.fm_core.proofs.Words.{position, ap, sym, slice_set, stands_there, absent, change_none, FileHandle, is_handle}
+use Rattle.std.proofs.Common.{◌∙◌}
+use Rattle.fm_world.specs.Files.{with_phase}
 use Rattle.fm_core.proofs.files.phase_in.Goals as goal
 
 pub returns-in-Some-clause-items : goal.returns-in-Some-clause-items

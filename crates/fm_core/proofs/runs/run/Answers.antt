@@ -1,8 +1,6 @@
-use Rattle.std.proofs.Common.{List, [], ◌∷◌, ◌++◌, sym, subst}
+use Rattle.fm_core.proofs.Words.{sym, subst, empty_world, RunThrough, Headline}
+use Rattle.std.proofs.Common.{List, [], ◌∷◌, ◌++◌}
 use Rattle.fm_world.specs.declared.step.StepReply.{StepReply}
-use Rattle.fm_world.specs.World.{empty_world}
-use Rattle.fm_world.specs.Steps.{RunThrough}
-use Rattle.fm_world.specs.Headline.{Headline}
 use Rattle.fm_world.proofs.Runs.{run_more}
 use Rattle.fm_core.proofs.runs.run.Goals as goal
 

@@ -1,6 +1,4 @@
-use Rattle.std.proofs.Common.{subst}
-use Rattle.fm_world.specs.Links.{is_on_gone}
-use Rattle.fm_core.specs.Lost.{Sweeping, handle_lost, stream_lost, is_named, is_lost, is_lost_of}
+use Rattle.fm_core.proofs.Words.{subst, is_on_gone, Sweeping, handle_lost, stream_lost, is_named, is_lost, is_lost_of}
 use Rattle.fm_core.proofs.Losing.{sweeping_as, sweeping_both, both_lost}
 use Rattle.fm_core.proofs.target.unlink_lost.Goals as goal
 

@@ -1,10 +1,8 @@
-use Rattle.std.proofs.Common.{sym, ◌∙◌, subst}
-use Rattle.fm_ctx.specs.Births.{new_context, allocate_refusal}
-use Rattle.fm_world.specs.Sound.{IsSound}
+use Rattle.fm_core.proofs.Words.{sym, subst, new_context, allocate_refusal, IsSound, the_view}
+use Rattle.std.proofs.Common.{◌∙◌}
 use Rattle.fm_world.proofs.Linking.{allocate_sound}
-use Rattle.fm_world.proofs.Holdings.{allocate_more}
+use Rattle.fm_world.proofs.Handing.{allocate_more}
 use Rattle.fm_core.proofs.Called.{allocate_tied, allocated_up}
-use Rattle.fm_core.specs.contracts.state.State.{the_view}
 use Rattle.fm_core.proofs.state.State.allocate.Goals as goal
 
 pub returns-clause-event : goal.returns-clause-event

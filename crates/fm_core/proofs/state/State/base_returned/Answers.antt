@@ -1,22 +1,11 @@
-use Rattle.std.proofs.Common.{◌≡◌, ℕ, Result, Some, refl, ap, sym, ◌∙◌, subst}
-use Rattle.std.proofs.lemmas.Option.{same_Some}
+use Rattle.fm_core.proofs.Words.{Result, Some, refl, ap, sym, subst, same_Some, Answer, BaseCall, InBase, FlowRecord, base_fits, base_after}
+use Rattle.fm_core.proofs.Words.{changed, worker_at, base_step, IsSound, IsTied, base_of, the_view}
+use Rattle.std.proofs.Common.{◌≡◌, ℕ, ◌∙◌}
 use Rattle.std.specs.Option.{option_copied}
-use Rattle.fm_data.specs.declared.answer.Answer.{Answer}
-use Rattle.fm_data.specs.declared.base_call.BaseCall.{BaseCall}
-use Rattle.fm_flow.specs.declared.stage.Stage.TheVariants.{InBase}
-use Rattle.fm_flow.specs.Record.{FlowRecord}
-use Rattle.fm_flow.specs.Steps.{base_fits, base_after}
-use Rattle.fm_flow.specs.Table.{changed}
 use Rattle.fm_world.specs.declared.worker.Worker.TheVariants as place
-use Rattle.fm_world.specs.Workers.{worker_at}
-use Rattle.fm_world.specs.Events.{base_step}
-use Rattle.fm_world.specs.Sound.{IsSound}
 use Rattle.fm_world.proofs.Flowing.{base_sound}
-use Rattle.fm_core.specs.Fields.{IsTied}
-use Rattle.fm_core.specs.Places.{base_of}
 use Rattle.fm_core.proofs.Losing.{sweeping_tied}
 use Rattle.fm_core.proofs.Operated.{Comes, comes, base_is, base_returns, base_room, base_strange, base_tied, in_base, placed, stands_from, there_from}
-use Rattle.fm_core.specs.contracts.state.State.{the_view}
 use Rattle.fm_core.proofs.state.State.base_returned.Goals.{In-Some, After-base_returned}
 use Rattle.fm_core.proofs.state.State.base_returned.Goals as goal
 

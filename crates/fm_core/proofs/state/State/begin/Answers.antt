@@ -1,6 +1,4 @@
-use Rattle.std.proofs.Common.{sym, subst}
-use Rattle.fm_world.specs.declared.step.Begin.{Begin}
-use Rattle.fm_world.specs.Events.{Begins}
+use Rattle.fm_core.proofs.Words.{sym, subst, Begin, Begins}
 use Rattle.fm_core.specs.Begun.{Asks}
 use Rattle.fm_world.proofs.Handing.{begin_hands}
 use Rattle.fm_core.proofs.Operated.{asks_begins}

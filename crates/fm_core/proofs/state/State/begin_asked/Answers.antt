@@ -1,13 +1,7 @@
-use Rattle.std.proofs.Common.{ℕ, List, Option, Some, ap, sym, ◌∙◌, subst}
-use Rattle.std.specs.Prelude.{cond, is_ok, option_map}
-use Rattle.fm_data.specs.Params.{operation_of}
-use Rattle.fm_world.specs.declared.file.FileStream.{FileStream}
-use Rattle.fm_world.specs.World.{World}
-use Rattle.fm_world.specs.Sound.{IsSound}
-use Rattle.fm_core.specs.Begun.{IsAsked}
-use Rattle.fm_world.specs.Events.{moved_on}
+use Rattle.fm_core.proofs.Words.{Option, Some, ap, sym, subst, is_ok, operation_of, FileStream, World, IsSound, IsAsked, moved_on, the_view}
+use Rattle.std.proofs.Common.{ℕ, List, ◌∙◌}
+use Rattle.std.specs.Prelude.{cond, option_map}
 use Rattle.fm_core.proofs.Operated.{Took, asks, asks_sound, begin_tied}
-use Rattle.fm_core.specs.contracts.state.State.{the_view}
 use Rattle.fm_core.proofs.state.State.begin_asked.Goals as goal
 
 pub returns : goal.returns

@@ -1,9 +1,6 @@
-use Rattle.std.proofs.Common.{◌≡◌, ℕ, None, sym, ◌∙◌, subst}
-use Rattle.fm_types.specs.Refusals.{first_of}
+use Rattle.fm_core.proofs.Words.{None, sym, subst, first_of, volume_refusals, IsSound, begin_sound}
+use Rattle.std.proofs.Common.{◌≡◌, ℕ, ◌∙◌}
 use Rattle.fm_data.specs.declared.params.Params.TheVariants as params
-use Rattle.fm_world.specs.Events.{volume_refusals}
-use Rattle.fm_world.specs.Sound.{IsSound}
-use Rattle.fm_world.proofs.Flowing.{begin_sound}
 use Rattle.fm_core.proofs.Operated.{Took, lists, begin_tied}
 use Rattle.fm_core.proofs.state.State.begin_list.Goals as goal
 

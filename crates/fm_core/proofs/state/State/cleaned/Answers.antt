@@ -1,11 +1,9 @@
-use Rattle.std.proofs.Common.{◌≡◌, Some, ap, ◌∙◌, subst}
+use Rattle.fm_core.proofs.Words.{Some, ap, subst, worker_at, cleanup_in, IsSound, the_view}
+use Rattle.std.proofs.Common.{◌≡◌, ◌∙◌}
 use Rattle.fm_world.specs.declared.worker.Worker.TheVariants.{Cleanup}
-use Rattle.fm_world.specs.Workers.{worker_at, cleanup_in}
-use Rattle.fm_world.specs.Sound.{IsSound}
 use Rattle.fm_world.proofs.Cleanups.{cleaned_sound}
 use Rattle.fm_core.proofs.Cleaned.{cleanup_is, cleans, clean_tied}
 use Rattle.fm_core.proofs.Operated.{placed, within_at}
-use Rattle.fm_core.specs.contracts.state.State.{the_view}
 use Rattle.fm_core.proofs.state.State.cleaned.Goals.{In-Some}
 use Rattle.fm_core.proofs.state.State.cleaned.Goals as goal
 

@@ -1,5 +1,4 @@
-use Rattle.std.proofs.Common.{subst}
-use Rattle.fm_world.specs.Sound.{IsSound}
+use Rattle.fm_core.proofs.Words.{subst, IsSound}
 use Rattle.fm_world.proofs.Flowing.{collect_sound}
 use Rattle.fm_core.proofs.Operated.{collects, collect_tied}
 use Rattle.fm_core.proofs.state.State.collect.Goals as goal

@@ -1,20 +1,13 @@
-use Rattle.std.proofs.Common.{◌≡◌, ℕ, List, Some, None, Err, ap, sym, ◌∙◌, subst}
-use Rattle.std.specs.Prelude.{◌||◌, cond, is_ok}
-use Rattle.fm_types.specs.Refusals.{first_of}
-use Rattle.fm_types.specs.declared.ids.StreamId.{StreamId}
+use Rattle.fm_core.proofs.Words.{Some, None, Err, ap, sym, subst, is_ok, first_of, StreamId, is_full, World, FileTable, created, stream_for}
+use Rattle.fm_core.proofs.Words.{Begins, volume_refusals, has_no_handle_left, IsSound, begin_sound, the_view}
+use Rattle.std.proofs.Common.{◌≡◌, ℕ, List, ◌∙◌}
+use Rattle.std.specs.Prelude.{◌||◌, cond}
 use Rattle.fm_types.specs.declared.status.Status.TheVariants.{NoMemory}
 use Rattle.fm_data.specs.declared.params.Params.TheVariants as params
-use Rattle.fm_flow.specs.Table.{is_full}
-use Rattle.fm_world.specs.World.{World}
-use Rattle.fm_world.specs.Files.{FileTable, created, stream_for}
 use Rattle.fm_core.specs.FilesKept.{paths_of}
 use Rattle.fm_core.specs.declared.files.CreatePaths.{CreatePaths}
-use Rattle.fm_world.specs.Events.{Begins, volume_refusals, has_no_handle_left}
 use Rattle.fm_world.specs.declared.step.Begin.TheVariants as begin
-use Rattle.fm_world.specs.Sound.{IsSound}
-use Rattle.fm_world.proofs.Flowing.{begin_sound}
 use Rattle.fm_core.proofs.Operated.{Took, creates, begin_tied, begin_wants}
-use Rattle.fm_core.specs.contracts.state.State.{the_view}
 use Rattle.fm_core.proofs.state.State.create_mounted.Goals as goal
 
 pub returns : goal.returns

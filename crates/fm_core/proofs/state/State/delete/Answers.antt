@@ -1,11 +1,8 @@
-use Rattle.std.proofs.Common.{sym, ◌∙◌, subst}
-use Rattle.fm_ctx.specs.Links.{holder}
-use Rattle.fm_world.specs.Sound.{IsSound}
+use Rattle.fm_core.proofs.Words.{sym, subst, holder, IsSound, the_view}
+use Rattle.std.proofs.Common.{◌∙◌}
 use Rattle.fm_world.proofs.Linking.{delete_sound}
 use Rattle.fm_world.proofs.Handing.{delete_hand}
-use Rattle.fm_world.proofs.Holdings.{delete_more}
 use Rattle.fm_core.proofs.Linked.{delete_refused, delete_tied, deleted}
-use Rattle.fm_core.specs.contracts.state.State.{the_view}
 use Rattle.fm_core.proofs.state.State.delete.Goals as goal
 
 pub returns-in-Err-clause-event : goal.returns-in-Err-clause-event
@@ -27,7 +24,7 @@ invariant_of-self c = record {
 }
 
 pub returns-clause-hand : goal.returns-clause-hand
-returns-clause-hand c = delete_hand _ _ _ _ _ _ (returns-clause-event c)
+returns-clause-hand c = (delete_hand _ _ _ _ _ _ (subst IsSound c.self.view_is c.self.invariant.sound) (returns-clause-event c)).0
 
 pub returns-clause-held : goal.returns-clause-held
-returns-clause-held c = delete_more _ _ _ _ _ _ (subst IsSound c.self.view_is c.self.invariant.sound) (returns-clause-event c)
+returns-clause-held c = (delete_hand _ _ _ _ _ _ (subst IsSound c.self.view_is c.self.invariant.sound) (returns-clause-event c)).1

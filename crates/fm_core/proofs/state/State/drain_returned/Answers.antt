@@ -1,12 +1,5 @@
-use Rattle.std.proofs.Common.{refl, sym, subst}
-use Rattle.fm_flow.specs.declared.stage.Stage.TheVariants.{InDrain}
-use Rattle.fm_flow.specs.Steps.{drain_returned_of}
-use Rattle.fm_flow.specs.Table.{changed}
+use Rattle.fm_core.proofs.Words.{refl, sym, subst, InDrain, drain_returned_of, changed, IsSound, post_sound, IsTied, drain_of}
 use Rattle.fm_world.specs.declared.worker.Worker.TheVariants as place
-use Rattle.fm_world.specs.Sound.{IsSound}
-use Rattle.fm_world.proofs.Flowing.{post_sound}
-use Rattle.fm_core.specs.Fields.{IsTied}
-use Rattle.fm_core.specs.Places.{drain_of}
 use Rattle.fm_core.proofs.Holding.{tied_ends}
 use Rattle.fm_core.proofs.Operated.{drain_is, drain_returns, drain_tied, in_drain, located, stands_from, within_at}
 use Rattle.fm_core.proofs.state.State.drain_returned.Goals as goal

@@ -1,7 +1,6 @@
-use Rattle.std.proofs.Common.{sym, ◌∙◌, ap, subst}
-use Rattle.fm_world.specs.Sound.{IsSound}
+use Rattle.fm_core.proofs.Words.{sym, ap, subst, IsSound, refused_in}
+use Rattle.std.proofs.Common.{◌∙◌}
 use Rattle.fm_world.proofs.Cleanups.{finish_sound}
-use Rattle.fm_core.specs.Callers.{refused_in}
 use Rattle.fm_core.proofs.Cleaned.{finishes}
 use Rattle.fm_core.proofs.state.State.finish.Goals as goal
 

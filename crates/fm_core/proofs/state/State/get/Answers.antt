@@ -1,10 +1,8 @@
-use Rattle.std.proofs.Common.{sym, ◌∙◌, subst}
-use Rattle.fm_ctx.specs.Links.{holder}
-use Rattle.fm_world.specs.Sound.{IsSound}
+use Rattle.fm_core.proofs.Words.{sym, subst, holder, IsSound, the_view}
+use Rattle.std.proofs.Common.{◌∙◌}
 use Rattle.fm_world.proofs.Linking.{get_sound}
-use Rattle.fm_world.proofs.Holdings.{get_more}
+use Rattle.fm_world.proofs.Handing.{get_more}
 use Rattle.fm_core.proofs.Linked.{get_refused, get_tied, gotten}
-use Rattle.fm_core.specs.contracts.state.State.{the_view}
 use Rattle.fm_core.proofs.state.State.get.Goals as goal
 
 pub returns-in-Err-clause-event : goal.returns-in-Err-clause-event

@@ -1,7 +1,6 @@
-use Rattle.std.proofs.Common.{refl}
+use Rattle.fm_core.proofs.Words.{refl, the_view}
 use Rattle.fm_world.specs.Events.{Mounts}
 use Rattle.fm_world.proofs.Owning.{mount_sound}
-use Rattle.fm_core.specs.contracts.state.State.{the_view}
 use Rattle.fm_core.proofs.state.State.mount.Goals as goal
 
 pub invariant_of-self : goal.invariant_of-self

@@ -1,18 +1,12 @@
-use Rattle.std.proofs.Common.{◌≡◌, true, Result, None, refl, ap, sym, ◌∙◌, subst}
+use Rattle.fm_core.proofs.Words.{true, Result, None, refl, ap, sym, subst, FlowAction, operation_at, Status, World, worker_at, is_idle}
+use Rattle.fm_core.proofs.Words.{IsSound, the_view}
+use Rattle.std.proofs.Common.{◌≡◌, ◌∙◌}
 use Rattle.std.specs.Option.{option_copied}
-use Rattle.fm_flow.specs.declared.action.FlowAction.{FlowAction}
-use Rattle.fm_flow.specs.Table.{operation_at}
-use Rattle.fm_types.specs.declared.status.Status.{Status}
-use Rattle.fm_world.specs.World.{World}
-use Rattle.fm_world.specs.Workers.{worker_at, is_idle}
-use Rattle.fm_world.specs.Sound.{IsSound}
 use Rattle.fm_world.proofs.Flowing.{next_sound}
 use Rattle.fm_world.proofs.Handing.{next_hand}
-use Rattle.fm_world.proofs.Holdings.{next_more}
-use Rattle.fm_world.proofs.Resting.{next_changes_nothing}
+use Rattle.fm_world.proofs.Turning.{next_changes_nothing}
 use Rattle.fm_core.proofs.Losing.{sweeping_tied}
 use Rattle.fm_core.proofs.Operated.{Goes, goes, next_answers, next_brings, next_errs, next_leads, next_requires, next_room, next_stays, next_tied, next_unknown}
-use Rattle.fm_core.specs.contracts.state.State.{the_view}
 use Rattle.fm_core.proofs.state.State.next.Goals.{After-next}
 use Rattle.fm_core.proofs.state.State.next.Goals as goal
 
@@ -78,10 +72,10 @@ pub returns-in_default-known_in-clause-nothing : goal.returns-in_default-known_i
 returns-in_default-known_in-clause-nothing c = next_changes_nothing _ _ _ _ _ (returns-in_default-known_in-clause-event c)
 
 pub returns-in_default-known_in-clause-hand : goal.returns-in_default-known_in-clause-hand
-returns-in_default-known_in-clause-hand c = next_hand _ _ _ _ _ (returns-in_default-known_in-clause-event c)
+returns-in_default-known_in-clause-hand c = (next_hand _ _ _ _ _ (subst IsSound c.self.view_is c.self.invariant.sound) (returns-in_default-known_in-clause-event c)).0
 
 pub returns-in_default-known_in-clause-held : goal.returns-in_default-known_in-clause-held
-returns-in_default-known_in-clause-held c = next_more _ _ _ _ _ (subst IsSound c.self.view_is c.self.invariant.sound) (returns-in_default-known_in-clause-event c)
+returns-in_default-known_in-clause-held c = (next_hand _ _ _ _ _ (subst IsSound c.self.view_is c.self.invariant.sound) (returns-in_default-known_in-clause-event c)).1
 
 pub note_answer-requires : goal.note_answer-requires
 note_answer-requires c =

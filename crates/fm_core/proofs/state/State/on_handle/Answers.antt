@@ -1,9 +1,6 @@
-use Rattle.std.proofs.Common.{◌≡◌, Some, ap, sym, ◌∙◌, subst}
-use Rattle.fm_world.specs.Events.{asked_refused}
-use Rattle.fm_world.specs.Requests.{phase_refusal}
-use Rattle.fm_world.specs.World.{World}
+use Rattle.fm_core.proofs.Words.{Some, ap, sym, subst, asked_refused, phase_refusal, World, the_view}
+use Rattle.std.proofs.Common.{◌≡◌, ◌∙◌}
 use Rattle.fm_core.proofs.Operated.{asked_phase}
-use Rattle.fm_core.specs.contracts.state.State.{the_view}
 use Rattle.fm_core.proofs.state.State.on_handle.Goals as goal
 
 pub returns-in-Some-phase_refusal : goal.returns-in-Some-phase_refusal

@@ -1,18 +1,9 @@
-use Rattle.std.proofs.Common.{◌≡◌, Result, Some, refl, ap, sym, subst}
-use Rattle.fm_data.specs.Data.{Data, data_fits}
-use Rattle.fm_flow.specs.declared.stage.Stage.TheVariants.{PostRunning}
-use Rattle.fm_flow.specs.Record.{FlowRecord}
-use Rattle.fm_flow.specs.Steps.{post_returned_of}
-use Rattle.fm_flow.specs.Table.{changed}
+use Rattle.fm_core.proofs.Words.{Result, Some, refl, ap, sym, subst, Data, data_fits, PostRunning, FlowRecord, post_returned_of, changed}
+use Rattle.fm_core.proofs.Words.{worker_at, IsSound, post_sound, IsTied, post_of, the_view}
+use Rattle.std.proofs.Common.{◌≡◌}
 use Rattle.fm_world.specs.declared.worker.Worker.TheVariants as place
-use Rattle.fm_world.specs.Workers.{worker_at}
-use Rattle.fm_world.specs.Sound.{IsSound}
-use Rattle.fm_world.proofs.Flowing.{post_sound}
-use Rattle.fm_core.specs.Fields.{IsTied}
-use Rattle.fm_core.specs.Places.{post_of}
 use Rattle.fm_core.proofs.Holding.{tied_ends}
 use Rattle.fm_core.proofs.Operated.{Comes, comes, in_post, located, post_is, post_returns, post_strange, post_tied, stands_from, within_at}
-use Rattle.fm_core.specs.contracts.state.State.{the_view}
 use Rattle.fm_core.proofs.state.State.post_data_returned.Goals.{After-post_returned}
 use Rattle.fm_core.proofs.state.State.post_data_returned.Goals as goal
 

@@ -1,5 +1,5 @@
 use Rattle.fm_world.proofs.Handing.{post_hand}
-use Rattle.fm_world.proofs.Holdings.{post_none}
+use Rattle.fm_world.proofs.Handing.{post_none}
 use Rattle.fm_core.proofs.state.State.post_returned.Goals as goal
 
 pub returns-in-Some-clause-hand : goal.returns-in-Some-clause-hand

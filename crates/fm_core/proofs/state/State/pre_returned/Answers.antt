@@ -1,23 +1,13 @@
-use Rattle.std.proofs.Common.{◌≡◌, Result, Some, refl, ap, sym, ◌∙◌, subst}
+use Rattle.fm_core.proofs.Words.{Result, Some, refl, ap, sym, subst, Data, data_fits, PreRunning, FlowRecord, pre_returned_of, changed}
+use Rattle.fm_core.proofs.Words.{worker_at, state_at, IsSound, IsTied, pre_of, the_view}
+use Rattle.std.proofs.Common.{◌≡◌, ◌∙◌}
 use Rattle.std.specs.Option.{option_copied}
-use Rattle.fm_data.specs.Data.{Data, data_fits}
-use Rattle.fm_flow.specs.declared.stage.Stage.TheVariants.{PreRunning}
-use Rattle.fm_flow.specs.Record.{FlowRecord}
-use Rattle.fm_flow.specs.Steps.{pre_returned_of}
-use Rattle.fm_flow.specs.Table.{changed}
 use Rattle.fm_world.specs.declared.worker.Worker.TheVariants as place
-use Rattle.fm_world.specs.Workers.{worker_at}
-use Rattle.fm_world.specs.Events.{state_at}
-use Rattle.fm_world.specs.Sound.{IsSound}
 use Rattle.fm_world.proofs.Flowing.{pre_sound}
 use Rattle.fm_world.proofs.Handing.{pre_hand}
-use Rattle.fm_world.proofs.Holdings.{pre_none}
-use Rattle.fm_core.specs.Fields.{IsTied}
-use Rattle.fm_core.specs.Places.{pre_of}
 use Rattle.fm_core.proofs.Holding.{tied_ends}
 use Rattle.fm_core.proofs.Losing.{sweeping_tied}
 use Rattle.fm_core.proofs.Operated.{Comes, comes, in_pre, placed, pre_is, pre_returns, pre_sends, pre_state, pre_strange, pre_tied, stands_from, there_from, within_at}
-use Rattle.fm_core.specs.contracts.state.State.{the_view}
 use Rattle.fm_core.proofs.state.State.pre_returned.Goals.{In-Some, After-pre_returned}
 use Rattle.fm_core.proofs.state.State.pre_returned.Goals as goal
 
@@ -113,7 +103,7 @@ invariant_of-self-2 c =
     }
 
 pub returns-clause-hand : goal.returns-clause-hand
-returns-clause-hand c = pre_hand _ _ _ _ _ _ (returns-clause-event c)
+returns-clause-hand c = (pre_hand _ _ _ _ _ _ (returns-clause-event c)).0
 
 pub returns-clause-held : goal.returns-clause-held
-returns-clause-held c = pre_none _ _ _ _ _ _ (returns-clause-event c)
+returns-clause-held c = (pre_hand _ _ _ _ _ _ (returns-clause-event c)).1

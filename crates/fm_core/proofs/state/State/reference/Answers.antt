@@ -1,9 +1,8 @@
-use Rattle.std.proofs.Common.{sym, ◌∙◌, subst}
-use Rattle.fm_world.specs.Sound.{IsSound}
+use Rattle.fm_core.proofs.Words.{sym, subst, IsSound, the_view}
+use Rattle.std.proofs.Common.{◌∙◌}
 use Rattle.fm_world.proofs.Callbacks.{reference_sound}
-use Rattle.fm_world.proofs.Holdings.{reference_more}
+use Rattle.fm_world.proofs.Handing.{reference_more}
 use Rattle.fm_core.proofs.Called.{referenced, reference_tied}
-use Rattle.fm_core.specs.contracts.state.State.{the_view}
 use Rattle.fm_core.proofs.state.State.reference.Goals as goal
 
 pub returns-clause-event : goal.returns-clause-event

@@ -1,9 +1,8 @@
-use Rattle.std.proofs.Common.{sym, ◌∙◌, subst}
-use Rattle.fm_world.specs.Sound.{IsSound}
+use Rattle.fm_core.proofs.Words.{sym, subst, IsSound, the_view}
+use Rattle.std.proofs.Common.{◌∙◌}
 use Rattle.fm_world.proofs.Callbacks.{release_sound}
-use Rattle.fm_world.proofs.Holdings.{release_fewer}
+use Rattle.fm_world.proofs.Handing.{release_fewer}
 use Rattle.fm_core.proofs.Called.{released_up, release_tied}
-use Rattle.fm_core.specs.contracts.state.State.{the_view}
 use Rattle.fm_core.proofs.state.State.release.Goals as goal
 
 pub returns-clause-event : goal.returns-clause-event

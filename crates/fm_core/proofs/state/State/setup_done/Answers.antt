@@ -1,15 +1,12 @@
-use Rattle.std.proofs.Common.{◌≡◌, Some, refl, subst}
+use Rattle.fm_core.proofs.Words.{Some, refl, subst, worker_at, IsSound, setup_of, the_view}
+use Rattle.std.proofs.Common.{◌≡◌}
 use Rattle.std.specs.Prelude.{slice_get}
 use Rattle.fm_world.specs.declared.worker.Worker.TheVariants as place
-use Rattle.fm_world.specs.Workers.{worker_at}
-use Rattle.fm_world.specs.Sound.{IsSound}
 use Rattle.fm_world.proofs.Keeps.{setup_place}
 use Rattle.fm_world.proofs.Owning.{setup_sound}
-use Rattle.fm_world.proofs.Holdings.{setup_left}
-use Rattle.fm_core.specs.Places.{setup_of}
+use Rattle.fm_world.proofs.Handing.{setup_left}
 use Rattle.fm_core.proofs.Attached.{sets_up, setup_tied, setup_is, setup_at}
 use Rattle.fm_core.proofs.Operated.{placed, within_at}
-use Rattle.fm_core.specs.contracts.state.State.{the_view}
 use Rattle.fm_core.proofs.state.State.setup_done.Goals.{In-Some}
 use Rattle.fm_core.proofs.state.State.setup_done.Goals as goal
 

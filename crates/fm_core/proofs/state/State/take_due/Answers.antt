@@ -1,13 +1,9 @@
-use Rattle.std.proofs.Common.{◌≡◌, true, sym, ◌∙◌, subst}
+use Rattle.fm_core.proofs.Words.{true, sym, subst, World, is_idle, worker_at, IsSound, idle_there, the_view}
+use Rattle.std.proofs.Common.{◌≡◌, ◌∙◌}
 use Rattle.fm_ctx.proofs.Lives.{due_there}
-use Rattle.fm_world.specs.World.{World}
-use Rattle.fm_world.specs.Workers.{is_idle, worker_at}
-use Rattle.fm_world.specs.Sound.{IsSound}
-use Rattle.fm_world.proofs.Keeps.{idle_there}
 use Rattle.fm_world.proofs.Cleanups.{take_due_sound}
 use Rattle.fm_core.proofs.Cleaned.{due_taken, due_tied}
 use Rattle.fm_core.proofs.Operated.{within_at}
-use Rattle.fm_core.specs.contracts.state.State.{the_view}
 use Rattle.fm_core.proofs.state.State.take_due.Goals as goal
 
 pub take_due-due-requires-clause-within : goal.take_due-due-requires-clause-within

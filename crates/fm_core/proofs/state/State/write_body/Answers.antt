@@ -1,8 +1,7 @@
-use Rattle.std.proofs.Common.{sym, ◌∙◌, subst}
-use Rattle.fm_world.specs.Sound.{IsSound}
+use Rattle.fm_core.proofs.Words.{sym, subst, IsSound, the_view}
+use Rattle.std.proofs.Common.{◌∙◌}
 use Rattle.fm_world.proofs.Callbacks.{write_body_sound}
 use Rattle.fm_core.proofs.Called.{body_written, write_tied}
-use Rattle.fm_core.specs.contracts.state.State.{the_view}
 use Rattle.fm_core.proofs.state.State.write_body.Goals as goal
 
 pub returns-clause-event : goal.returns-clause-event

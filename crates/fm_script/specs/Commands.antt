@@ -21,6 +21,7 @@ use Rattle.fm_script.specs.ContextCommands.{context_read}
 use Rattle.fm_script.specs.declared.file_command.FileCommand.{FileCommand}
 use Rattle.fm_script.specs.FileCommands.{create_mode_read, file_read}
 use Rattle.fm_script.specs.Numbers.{number_read, id_read}
+use Rattle.fm_script.specs.Reading.{◌>>=◌, with_3}
 
 -- the letters of ids: c, f, i, o, v, w
 abbrev pub context_id : List ℕ → Option ℕ
@@ -50,24 +51,14 @@ abbrev pub one_id : ℕ → List (List ℕ) → Result ℕ Status
 one_id letter (word ∷ []) = id_or_bad (id_read letter word)
 one_id letter _ = Err BadRequest
 
--- a command of one id
-abbrev pub made : (ℕ → Command) → Result ℕ Status → Result Command Status
-made make (Ok n) = Ok (make n)
-made make (Err status) = Err status
+-- a command of what was read
+abbrev pub made : {A : Type 0} → (A → Command) → Result A Status → Result Command Status
+made make read = read >>= λ a. Ok (make a)
 
--- a worker and an operation, and a command of these
-abbrev pub step_of : Result ℕ Status → Result ℕ Status → Result (ℕ × ℕ) Status
-step_of (Ok worker) (Ok operation) = Ok (worker, operation)
-step_of (Ok worker) (Err status) = Err status
-step_of (Err status) operation = Err status
-
+-- a worker and an operation
 abbrev pub step_read : List (List ℕ) → Result (ℕ × ℕ) Status
-step_read (worker ∷ operation ∷ []) = step_of (id_or_bad (worker_id worker)) (id_or_bad (operation_id operation))
+step_read (worker ∷ operation ∷ []) = id_or_bad (worker_id worker) >>= λ k. id_or_bad (operation_id operation) >>= λ o. Ok (k, o)
 step_read _ = Err BadRequest
-
-abbrev pub made_step : (ℕ → ℕ → Command) → Result (ℕ × ℕ) Status → Result Command Status
-made_step make (Ok (worker, operation)) = Ok (make worker operation)
-made_step make (Err status) = Err status
 
 -- the one case where the test holds, else the other
 abbrev pub Either : Bool → Type 0 → Type 0 → Type 0
@@ -115,26 +106,19 @@ Attaches (f ∷ v ∷ name ∷ altitude ∷ []) result = AttachesAs (filter_id f
 Attaches _ result = result ≡ Err BadRequest
 
 -- the same with a worker before them, which enters the setup callback
-abbrev pub ids_of : Option ℕ → Option ℕ → Option ℕ → Option (ℕ × ℕ × ℕ)
-ids_of (Some w) (Some f) (Some v) = Some (w, f, v)
-ids_of _ _ _ = None
-
 abbrev pub SetsUpAs : Option (ℕ × ℕ × ℕ) → List ℕ → List ℕ → Result Command Status → Type 0
 SetsUpAs (Some (w, f, v)) name altitude result =
     MatchResult result (λ read. IsName name × IsAltitude altitude × (read ≡ command.Setup w f v name (canonical altitude))) (IsRefusedPlace name altitude)
 SetsUpAs None name altitude result = result ≡ Err BadRequest
 
 abbrev pub SetsUp : List (List ℕ) → Result Command Status → Type 0
-SetsUp (w ∷ f ∷ v ∷ name ∷ altitude ∷ []) result = SetsUpAs (ids_of (worker_id w) (filter_id f) (volume_id v)) name altitude result
+SetsUp (w ∷ f ∷ v ∷ name ∷ altitude ∷ []) result = SetsUpAs (with_3 (λ w f v. (w, f, v)) (worker_id w) (filter_id f) (volume_id v)) name altitude result
 SetsUp _ result = result ≡ Err BadRequest
 
-abbrev pub set_done_of : Result ℕ Status → List ℕ → Result Command Status
-set_done_of (Ok w) word =
-    cond (bytes_eq word (codes "yes")) (Ok (command.SetDone w true)) (cond (bytes_eq word (codes "no")) (Ok (command.SetDone w false)) (Err BadRequest))
-set_done_of (Err status) word = Err status
-
 abbrev pub set_done_read : List (List ℕ) → Result Command Status
-set_done_read (worker ∷ word ∷ []) = set_done_of (id_or_bad (worker_id worker)) word
+set_done_read (worker ∷ word ∷ []) =
+    id_or_bad (worker_id worker) >>= λ w. cond (bytes_eq word (codes "yes")) (Ok (command.SetDone w true))
+    (cond (bytes_eq word (codes "no")) (Ok (command.SetDone w false)) (Err BadRequest))
 set_done_read _ = Err BadRequest
 
 -- ---- create
@@ -173,24 +157,14 @@ ReadsVerdict (word ∷ status ∷ []) result =
     Either (bytes_eq word (codes "complete")) (ReadsComplete status result) (result ≡ Err BadRequest)
 ReadsVerdict _ result = result ≡ Err BadRequest
 
-abbrev pub with_verdict : Result PreVerdict Status → (PreVerdict → Command) → Result Command Status
-with_verdict (Ok v) make = Ok (make v)
-with_verdict (Err status) make = Err status
-
 -- a command of an id and a verdict
 abbrev pub Answers : Option ℕ → List (List ℕ) → (ℕ → PreVerdict → Command) → Result Command Status → Type 0
 Answers None words make result = result ≡ Err BadRequest
-Answers (Some n) words make result = (read : Result PreVerdict Status) × ReadsVerdict words read × (result ≡ with_verdict read (make n))
+Answers (Some n) words make result = (read : Result PreVerdict Status) × ReadsVerdict words read × (result ≡ made (make n) read)
 
 abbrev pub AnswersFor : (List ℕ → Option ℕ) → List (List ℕ) → (ℕ → PreVerdict → Command) → Result Command Status → Type 0
 AnswersFor id (word ∷ words) make result = Answers (id word) words make result
 AnswersFor id [] make result = result ≡ Err BadRequest
-
--- a command of two ids
-abbrev pub made_pair : (ℕ → ℕ → Command) → Result ℕ Status → Result ℕ Status → Result Command Status
-made_pair make (Ok m) (Ok n) = Ok (make m n)
-made_pair make (Ok m) (Err status) = Err status
-made_pair make (Err status) second = Err status
 
 -- with a context that goes along, or without
 abbrev pub sends_context : List (List ℕ) → Bool
@@ -198,7 +172,7 @@ sends_context (worker ∷ word ∷ context ∷ []) = bytes_eq word (codes "with"
 sends_context _ = false
 
 abbrev pub pre_with_read : List (List ℕ) → Result Command Status
-pre_with_read (worker ∷ word ∷ context ∷ []) = made_pair command.PreWith (id_or_bad (worker_id worker)) (id_or_bad (context_id context))
+pre_with_read (worker ∷ word ∷ context ∷ []) = id_or_bad (worker_id worker) >>= λ k. id_or_bad (context_id context) >>= λ c. Ok (command.PreWith k c)
 pre_with_read _ = Err BadRequest
 
 abbrev pub AnswersPre : List (List ℕ) → Result Command Status → Type 0
@@ -222,12 +196,12 @@ ReadsAs keyword.Load words result = Loads words result
 ReadsAs keyword.Mount words result = Mounts words result
 ReadsAs keyword.Attach words result = Attaches words result
 ReadsAs keyword.List words result = result ≡ made command.List (one_id 118 words)
-ReadsAs keyword.Next words result = result ≡ made_step command.Next (step_read words)
+ReadsAs keyword.Next words result = result ≡ made (λ both. command.Next both.0 both.1) (step_read words)
 ReadsAs keyword.Pre words result = AnswersPre words result
 ReadsAs keyword.Plan words result = AnswersFor instance_id words command.Plan result
 ReadsAs keyword.Base words result = result ≡ made command.Base (one_id 119 words)
 ReadsAs keyword.Post words result = result ≡ post_read words
-ReadsAs keyword.Go words result = result ≡ made_step command.Go (step_read words)
+ReadsAs keyword.Go words result = result ≡ made (λ both. command.Go both.0 both.1) (step_read words)
 ReadsAs keyword.Collect words result = result ≡ made command.Collect (one_id 111 words)
 ReadsAs keyword.Phase words result = result ≡ made command.Phase (one_id 105 words)
 ReadsAs keyword.Setup words result = SetsUp words result

@@ -9,6 +9,7 @@ use Rattle.fm_script.specs.declared.keyword.Keyword.TheVariants as keyword
 use Rattle.fm_script.specs.declared.context_command.ContextCommand.{ContextCommand}
 use Rattle.fm_script.specs.declared.context_command.ContextCommand.TheVariants as command
 use Rattle.fm_script.specs.Numbers.{number_read, id_read}
+use Rattle.fm_script.specs.Reading.{with_1, with_2, with_3, with_4}
 
 -- ---- words
 
@@ -31,65 +32,37 @@ abbrev pub only_id : ℕ → List (List ℕ) → Option ℕ
 only_id letter (word ∷ []) = id_read letter word
 only_id letter _ = None
 
-abbrev pub pair_of : Option ℕ → Option ℕ → Option (ℕ × ℕ)
-pair_of (Some w) (Some c) = Some (w, c)
-pair_of _ _ = None
-
 -- the letters of workers and contexts: w and c
 abbrev pub worker_and_context : List (List ℕ) → Option (ℕ × ℕ)
-worker_and_context (worker ∷ context ∷ []) = pair_of (id_read 119 worker) (id_read 99 context)
+worker_and_context (worker ∷ context ∷ []) = with_2 (λ w c. (w, c)) (id_read 119 worker) (id_read 99 context)
 worker_and_context _ = None
 
 -- ---- commands
 
-abbrev pub of_worker : (ℕ → ContextCommand) → Option ℕ → Option ContextCommand
-of_worker make (Some n) = Some (make n)
-of_worker make None = None
-
-abbrev pub of_pair : (ℕ → ℕ → ContextCommand) → Option (ℕ × ℕ) → Option ContextCommand
-of_pair make (Some (w, c)) = Some (make w c)
-of_pair make None = None
-
-abbrev pub of_kind : (ℕ → ContextKind → ContextCommand) → Option ℕ → Option ContextKind → Option ContextCommand
-of_kind make (Some w) (Some k) = Some (make w k)
-of_kind make _ _ = None
-
 -- the bytes are the last word
 abbrev pub allocate_read : List (List ℕ) → Option ContextCommand
-allocate_read (worker ∷ kind' ∷ bytes ∷ []) = of_kind command.Allocate (id_read 119 worker) (kind_read kind')
+allocate_read (worker ∷ kind' ∷ bytes ∷ []) = with_2 command.Allocate (id_read 119 worker) (kind_read kind')
 allocate_read _ = None
 
-abbrev pub set_of : Option ℕ → Option ℕ → Option SetMode → Option Bool → Option ContextCommand
-set_of (Some w) (Some c) (Some m) (Some old) = Some (command.Set w c m old)
-set_of _ _ _ _ = None
-
 abbrev pub set_read : List (List ℕ) → Option ContextCommand
-set_read (worker ∷ context ∷ mode' ∷ rest) = set_of (id_read 119 worker) (id_read 99 context) (mode_read mode') (old_read rest)
+set_read (worker ∷ context ∷ mode' ∷ rest) = with_4 command.Set (id_read 119 worker) (id_read 99 context) (mode_read mode') (old_read rest)
 set_read _ = None
 
 abbrev pub get_read : List (List ℕ) → Option ContextCommand
-get_read (worker ∷ kind' ∷ []) = of_kind command.Get (id_read 119 worker) (kind_read kind')
+get_read (worker ∷ kind' ∷ []) = with_2 command.Get (id_read 119 worker) (kind_read kind')
 get_read _ = None
 
-abbrev pub delete_of : Option ℕ → Option ContextKind → Option Bool → Option ContextCommand
-delete_of (Some w) (Some k) (Some old) = Some (command.Delete w k old)
-delete_of _ _ _ = None
-
 abbrev pub delete_read : List (List ℕ) → Option ContextCommand
-delete_read (worker ∷ kind' ∷ rest) = delete_of (id_read 119 worker) (kind_read kind') (old_read rest)
+delete_read (worker ∷ kind' ∷ rest) = with_3 command.Delete (id_read 119 worker) (kind_read kind') (old_read rest)
 delete_read _ = None
 
 -- the bytes are the last word
 abbrev pub write_body_read : List (List ℕ) → Option ContextCommand
-write_body_read (worker ∷ context ∷ bytes ∷ []) = of_pair command.WriteBody (pair_of (id_read 119 worker) (id_read 99 context))
+write_body_read (worker ∷ context ∷ bytes ∷ []) = with_2 command.WriteBody (id_read 119 worker) (id_read 99 context)
 write_body_read _ = None
 
-abbrev pub bump_of : Option ℕ → Option ℕ → Option ℕ → Option ℕ → Option ContextCommand
-bump_of (Some w) (Some c) (Some place) (Some by) = Some (command.Bump w c place by)
-bump_of _ _ _ _ = None
-
 abbrev pub bump_read : List (List ℕ) → Option ContextCommand
-bump_read (worker ∷ context ∷ place ∷ by ∷ []) = bump_of (id_read 119 worker) (id_read 99 context) (number_read place) (number_read by)
+bump_read (worker ∷ context ∷ place ∷ by ∷ []) = with_4 command.Bump (id_read 119 worker) (id_read 99 context) (number_read place) (number_read by)
 bump_read _ = None
 
 abbrev pub leaks_read : List (List ℕ) → Option ContextCommand
@@ -102,13 +75,13 @@ context_read keyword.Alloc words = allocate_read words
 context_read keyword.Set words = set_read words
 context_read keyword.Get words = get_read words
 context_read keyword.Del words = delete_read words
-context_read keyword.Ref words = of_pair command.Reference (worker_and_context words)
-context_read keyword.Rel words = of_pair command.Release (worker_and_context words)
-context_read keyword.Body words = of_pair command.ReadBody (worker_and_context words)
+context_read keyword.Ref words = with_1 (λ both. command.Reference both.0 both.1) (worker_and_context words)
+context_read keyword.Rel words = with_1 (λ both. command.Release both.0 both.1) (worker_and_context words)
+context_read keyword.Body words = with_1 (λ both. command.ReadBody both.0 both.1) (worker_and_context words)
 context_read keyword.WBody words = write_body_read words
 context_read keyword.Bump words = bump_read words
-context_read keyword.Due words = of_worker command.TakeDue (only_id 119 words)
-context_read keyword.Cleaned words = of_worker command.Cleaned (only_id 119 words)
-context_read keyword.Count words = of_worker command.Count (only_id 99 words)
+context_read keyword.Due words = with_1 command.TakeDue (only_id 119 words)
+context_read keyword.Cleaned words = with_1 command.Cleaned (only_id 119 words)
+context_read keyword.Count words = with_1 command.Count (only_id 99 words)
 context_read keyword.Leaks words = leaks_read words
 context_read _ words = None

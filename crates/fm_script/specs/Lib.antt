@@ -10,6 +10,7 @@ pub mod Ends
 pub mod Ids
 pub mod Tasks
 pub mod Sayings
+pub mod Reading
 pub mod Runs
 pub mod Lines
 pub mod Events

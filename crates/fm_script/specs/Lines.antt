@@ -5,7 +5,8 @@ use Rattle.fm_types.specs.declared.status.Status.TheVariants.{BadRequest, NoMemo
 use Rattle.fm_script.specs.Commands.{Reads, Either}
 use Rattle.fm_script.specs.Hexadecimal.{hex_of, IsNoHexadecimal}
 use Rattle.fm_script.specs.Runs.{PerformsRead}
-use Rattle.fm_script.specs.Tasks.{◌>>=◌, task_of}
+use Rattle.fm_script.specs.Reading.{◌>>=◌}
+use Rattle.fm_script.specs.Tasks.{task_of}
 use Rattle.fm_script.specs.Words.{words_of}
 use Rattle.fm_script.specs.declared.command.Command.{Command}
 use Rattle.fm_script.specs.declared.command.Command.TheVariants as command

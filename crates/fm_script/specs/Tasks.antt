@@ -21,13 +21,8 @@ use Rattle.fm_script.specs.declared.file_command.FileCommand.{FileCommand}
 use Rattle.fm_script.specs.declared.file_command.FileCommand.TheVariants as file
 use Rattle.fm_script.specs.declared.task.Task.{Task}
 use Rattle.fm_script.specs.declared.task.Task.TheVariants as task
+use Rattle.fm_script.specs.Reading.{◌>>=◌}
 use Rattle.fm_script.specs.Ids.{filter_in, volume_in, instance_in, handle_in, operation_in, context_in, worker_in}
-
--- what comes next, unless there was a refusal
-infixl 10 ◌>>=◌
-abbrev pub ◌>>=◌ : {A B : Type 0} → Result A Status → (A → Result B Status) → Result B Status
-(Ok x) >>= next = next x
-(Err status) >>= next = Err status
 
 -- all operations, all kinds of contexts: each has its bit
 abbrev pub registration_of : Callbacks → Registration

@@ -3,7 +3,8 @@
 ghost use Rattle.std.specs.Prelude.{◌≡◌, map};
 ghost use Rattle.fm_script.specs.Numbers.{id_read};
 ghost use Rattle.fm_script.specs.declared.command.Command.TheVariants as CommandOf;
-ghost use Rattle.fm_script.specs.Commands.{Reads, ReadsAs, Loads, Mounts, Attaches, AnswersFor, ReadsVerdict, ReadsComplete, callbacks_read, step_read, post_read, bare_verdict, one_id, id_or_bad, worker_id, instance_id, AnswersPre, sends_context, pre_with_read, SetsUp, ids_of, filter_id, volume_id, set_done_read, context_or_file, Creates};
+ghost use Rattle.fm_script.specs.Reading.{with_3};
+ghost use Rattle.fm_script.specs.Commands.{Reads, ReadsAs, Loads, Mounts, Attaches, AnswersFor, ReadsVerdict, ReadsComplete, callbacks_read, step_read, post_read, bare_verdict, one_id, id_or_bad, worker_id, instance_id, AnswersPre, sends_context, pre_with_read, SetsUp, filter_id, volume_id, set_done_read, context_or_file, Creates};
 ghost use Rattle.fm_script.specs.ContextCommands.{context_read};
 ghost use Rattle.fm_script.specs.FileCommands.{file_read};
 
@@ -128,8 +129,8 @@ pub enum Command {
 }
 
 impl Command {
-    /// Reads the command that the words of a line spell. It is 32 (BadRequest) where the command is unknown, where it has another number of
-    /// words, and where a word can't be read; after that 3 (BadName), 2 (BadAltitude) or 15 (BadPath) where a name, an altitude or a path is refused by its reader.
+    /// Reads the command that the words of a line spell. It is 32 (BadRequest) where the command is unknown, where it has another number of words, and
+    /// where a word can't be read; after that 3 (BadName), 2 (BadAltitude) or 15 (BadPath) where a name, an altitude or a path is refused by its reader.
     pub fn read(words: &[&[u8]]) -> Result<Command, Status>
         ensures { Reads (map (λ word. word.now) words.now) result }
     {
@@ -274,7 +275,7 @@ fn read_setup(words: &[&[u8]]) -> Result<Command, Status>
 
 // A worker, a filter and a volume.
 fn place_ids(worker: &[u8], filter: &[u8], volume: &[u8]) -> Option<(u64, u64, u64)>
-    ensures { result ≡ ids_of (worker_id worker.now) (filter_id filter.now) (volume_id volume.now) }
+    ensures { result ≡ with_3 (λ w f v. (w, f, v)) (worker_id worker.now) (filter_id filter.now) (volume_id volume.now) }
 {
     let worker = read_id(b'w', worker)?;
     let filter = read_id(b'f', filter)?;

@@ -24,11 +24,8 @@ impl Read for Pieces<'_> {
         if self.is_interrupted {
             return Err(io::Error::from(io::ErrorKind::Interrupted));
         }
-        let count = self.most.min(self.rest.len()).min(buf.len());
-        let (front, behind) = self.rest.split_at(count);
-        buf[..count].copy_from_slice(front);
-        self.rest = behind;
-        Ok(count)
+        let most = self.most.min(buf.len());
+        self.rest.read(&mut buf[..most])
     }
 }
 

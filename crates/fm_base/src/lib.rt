@@ -15,6 +15,3 @@ mod pages;
 pub use crate::base::Base;
 pub use crate::fail_nth::FailNth;
 pub use crate::memory_base::MemoryBase;
-
-#[cfg(test)]
-mod tests;

@@ -8,8 +8,6 @@ mod kept;
 pub mod laws;
 mod queue;
 mod tally;
-#[cfg(test)]
-mod tests;
 
 pub use crate::job::Job;
 pub use crate::queue::{JobPass, JobQueue};

@@ -42,144 +42,152 @@ fn reply(alloc: Global, status: Status, information: u64, bytes: &[u8]) -> Resul
     }))
 }
 
-fn load() -> Result<Body, Status> {
-    Ok(Body::Control(Control::Load {
-        name: Name::read(b"shift")?,
-    }))
+fn read(len: u32) -> Body {
+    Body::Operation(Request::Read {
+        handle: HANDLE,
+        offset: 0x0003_0000,
+        len,
+    })
 }
 
-fn attach() -> Result<Body, Status> {
-    Ok(Body::Control(Control::Attach {
+fn set_size() -> Body {
+    Body::Operation(Request::SetSize {
+        handle: HANDLE,
+        size: 0x0100_0000_0002,
+    })
+}
+
+fn load() -> Result<Control, Status> {
+    Ok(Control::Load {
+        name: Name::read(b"shift")?,
+    })
+}
+
+fn attach() -> Result<Control, Status> {
+    Ok(Control::Attach {
         filter: FilterId(2),
         volume: VolumeId(1),
         name: Name::read(b"i0")?,
         altitude: Altitude::read(b"0100.50")?,
-    }))
+    })
+}
+
+// Creates by each mode.
+const CREATES: [[u8; 14]; 3] = [
+    [0, 0, 0, 10, 1, 1, 2, 3, 4, 3, 0, b'a', b'/', b'b'],
+    [0, 0, 0, 10, 1, 1, 2, 3, 4, 3, 1, b'a', b'/', b'b'],
+    [0, 0, 0, 10, 1, 1, 2, 3, 4, 3, 2, b'a', b'/', b'b'],
+];
+
+// A read of as many bytes as may be.
+const READ: [u8; 29] = [
+    0, 0, 0, 25, 2, 1, 2, 3, 4, 0, 0, 0, 0, 0, 0, 5, 6, 0, 0, 0, 0, 0, 3, 0, 0, 0, 0, 0x80, 0,
+];
+
+const WRITE: [u8; 28] = [
+    0, 0, 0, 24, 3, 1, 2, 3, 4, 0, 0, 0, 0, 0, 0, 5, 6, 0, 0, 0, 1, 0, 0, 0, 0, 0x61, 0x62, 0xff,
+];
+
+const QUERY_SIZE: [u8; 17] = [0, 0, 0, 13, 4, 1, 2, 3, 4, 0, 0, 0, 0, 0, 0, 5, 6];
+
+const SET_SIZE: [u8; 25] = [
+    0, 0, 0, 21, 5, 1, 2, 3, 4, 0, 0, 0, 0, 0, 0, 5, 6, 0, 0, 1, 0, 0, 0, 0, 2,
+];
+
+const FLUSH: [u8; 17] = [0, 0, 0, 13, 6, 1, 2, 3, 4, 0, 0, 0, 0, 0, 0, 5, 6];
+
+const SET_DELETE: [u8; 17] = [0, 0, 0, 13, 8, 1, 2, 3, 4, 0, 0, 0, 0, 0, 0, 5, 6];
+
+const CLOSE: [u8; 17] = [0, 0, 0, 13, 9, 1, 2, 3, 4, 0, 0, 0, 0, 0, 0, 5, 6];
+
+// What a frame asks.
+fn asked(request: Request) -> Body {
+    Body::Operation(request)
 }
 
 // What frames of operations say, beside their bytes.
 fn operation(alloc: Global, at: u8) -> Result<Option<(Body, &'static [u8])>, Status> {
     let row: (Body, &[u8]) = match at {
-        0 => (
-            create(CreateMode::Existing)?,
-            &[0, 0, 0, 10, 1, 1, 2, 3, 4, 3, 0, b'a', b'/', b'b'],
-        ),
-        1 => (
-            create(CreateMode::New)?,
-            &[0, 0, 0, 10, 1, 1, 2, 3, 4, 3, 1, b'a', b'/', b'b'],
-        ),
-        2 => (
-            create(CreateMode::Always)?,
-            &[0, 0, 0, 10, 1, 1, 2, 3, 4, 3, 2, b'a', b'/', b'b'],
-        ),
-        3 => (
-            Body::Operation(Request::Read {
-                handle: HANDLE,
-                offset: 0x0003_0000,
-                len: 32_768,
-            }),
-            &[
-                0, 0, 0, 25, 2, 1, 2, 3, 4, 0, 0, 0, 0, 0, 0, 5, 6, 0, 0, 0, 0, 0, 3, 0, 0, 0, 0,
-                0x80, 0,
-            ],
-        ),
-        4 => (
-            write(alloc, &[0x61, 0x62, 0xff])?,
-            &[
-                0, 0, 0, 24, 3, 1, 2, 3, 4, 0, 0, 0, 0, 0, 0, 5, 6, 0, 0, 0, 1, 0, 0, 0, 0, 0x61,
-                0x62, 0xff,
-            ],
-        ),
-        5 => (
-            Body::Operation(Request::QuerySize { handle: HANDLE }),
-            &[0, 0, 0, 13, 4, 1, 2, 3, 4, 0, 0, 0, 0, 0, 0, 5, 6],
-        ),
-        6 => (
-            Body::Operation(Request::SetSize {
-                handle: HANDLE,
-                size: 0x0100_0000_0002,
-            }),
-            &[
-                0, 0, 0, 21, 5, 1, 2, 3, 4, 0, 0, 0, 0, 0, 0, 5, 6, 0, 0, 1, 0, 0, 0, 0, 2,
-            ],
-        ),
-        7 => (
-            Body::Operation(Request::Flush { handle: HANDLE }),
-            &[0, 0, 0, 13, 6, 1, 2, 3, 4, 0, 0, 0, 0, 0, 0, 5, 6],
-        ),
+        0 => (create(CreateMode::Existing)?, &CREATES[0]),
+        1 => (create(CreateMode::New)?, &CREATES[1]),
+        2 => (create(CreateMode::Always)?, &CREATES[2]),
+        3 => (read(32_768), &READ),
+        4 => (write(alloc, &[0x61, 0x62, 0xff])?, &WRITE),
+        5 => (asked(Request::QuerySize { handle: HANDLE }), &QUERY_SIZE),
+        6 => (set_size(), &SET_SIZE),
+        7 => (asked(Request::Flush { handle: HANDLE }), &FLUSH),
         8 => (
-            Body::Operation(Request::List {
+            asked(Request::List {
                 volume: VolumeId(7),
             }),
             &LIST,
         ),
-        9 => (
-            Body::Operation(Request::SetDelete { handle: HANDLE }),
-            &[0, 0, 0, 13, 8, 1, 2, 3, 4, 0, 0, 0, 0, 0, 0, 5, 6],
-        ),
-        10 => (
-            Body::Operation(Request::Close { handle: HANDLE }),
-            &[0, 0, 0, 13, 9, 1, 2, 3, 4, 0, 0, 0, 0, 0, 0, 5, 6],
-        ),
+        9 => (asked(Request::SetDelete { handle: HANDLE }), &SET_DELETE),
+        10 => (asked(Request::Close { handle: HANDLE }), &CLOSE),
         _ => return Ok(None),
     };
     Ok(Some(row))
 }
 
-// What other frames say, beside their bytes.
-fn other(alloc: Global, at: u8) -> Result<Option<(Body, &'static [u8])>, Status> {
-    let row: (Body, &[u8]) = match at {
-        0 => (
-            load()?,
-            &[0, 0, 0, 10, 16, 1, 2, 3, 4, b's', b'h', b'i', b'f', b't'],
-        ),
-        1 => (
-            attach()?,
-            &[
-                0, 0, 0, 15, 17, 1, 2, 3, 4, 2, 1, 2, b'i', b'0', b'1', b'0', b'0', b'.', b'5',
-            ],
-        ),
+const LOAD: [u8; 14] = [0, 0, 0, 10, 16, 1, 2, 3, 4, b's', b'h', b'i', b'f', b't'];
+
+const ATTACH: [u8; 19] = [
+    0, 0, 0, 15, 17, 1, 2, 3, 4, 2, 1, 2, b'i', b'0', b'1', b'0', b'0', b'.', b'5',
+];
+
+// Replies: bare, with bytes, refused, and busy with 258 things.
+const REPLY: [u8; 18] = [0, 0, 0, 14, 128, 1, 2, 3, 4, 0, 0, 0, 0, 0, 0, 0, 0, 0];
+
+const BYTES: [u8; 21] = [
+    0, 0, 0, 17, 128, 1, 2, 3, 4, 0, 0, 0, 0, 0, 0, 0, 0, 3, 0x61, 0x62, 0xff,
+];
+
+const REFUSAL: [u8; 18] = [0, 0, 0, 14, 128, 1, 2, 3, 4, 32, 0, 0, 0, 0, 0, 0, 0, 0];
+
+const BUSY: [u8; 18] = [0, 0, 0, 14, 128, 1, 2, 3, 4, 34, 0, 0, 0, 0, 0, 0, 1, 2];
+
+const HELD: [u8; 17] = [0, 0, 0, 13, 129, 1, 2, 3, 4, 0, 0, 0, 0, 0, 0, 5, 6];
+
+// A frame that manages filters, beside its bytes.
+fn control(at: u8) -> Result<Option<(Body, &'static [u8])>, Status> {
+    let (what, bytes): (Control, &[u8]) = match at {
+        0 => (load()?, &LOAD),
+        1 => (attach()?, &ATTACH),
         2 => (
-            Body::Control(Control::Detach {
+            Control::Detach {
                 instance: InstanceId(0x0102),
-            }),
+            },
             &[0, 0, 0, 7, 18, 1, 2, 3, 4, 1, 2],
         ),
         3 => (
-            Body::Control(Control::Unload {
+            Control::Unload {
                 filter: FilterId(3),
-            }),
+            },
             &[0, 0, 0, 6, 19, 1, 2, 3, 4, 3],
         ),
         4 => (
-            Body::Control(Control::Dismount {
+            Control::Dismount {
                 volume: VolumeId(7),
-            }),
+            },
             &[0, 0, 0, 6, 20, 1, 2, 3, 4, 7],
         ),
-        5 => (Body::Control(Control::Stop), &[0, 0, 0, 5, 21, 1, 2, 3, 4]),
-        6 => (
-            reply(alloc, Status::Success, 0, &[])?,
-            &[0, 0, 0, 14, 128, 1, 2, 3, 4, 0, 0, 0, 0, 0, 0, 0, 0, 0],
-        ),
-        7 => (
+        5 => (Control::Stop, &[0, 0, 0, 5, 21, 1, 2, 3, 4]),
+        _ => return Ok(None),
+    };
+    Ok(Some((Body::Control(what), bytes)))
+}
+
+// What frames of replies say, beside their bytes.
+fn answer(alloc: Global, at: u8) -> Result<Option<(Body, &'static [u8])>, Status> {
+    let row: (Body, &[u8]) = match at {
+        0 => (reply(alloc, Status::Success, 0, &[])?, &REPLY),
+        1 => (
             reply(alloc, Status::Success, 3, &[0x61, 0x62, 0xff])?,
-            &[
-                0, 0, 0, 17, 128, 1, 2, 3, 4, 0, 0, 0, 0, 0, 0, 0, 0, 3, 0x61, 0x62, 0xff,
-            ],
+            &BYTES,
         ),
-        8 => (
-            reply(alloc, Status::BadRequest, 0, &[])?,
-            &[0, 0, 0, 14, 128, 1, 2, 3, 4, 32, 0, 0, 0, 0, 0, 0, 0, 0],
-        ),
-        9 => (
-            reply(alloc, Status::Busy(0x0102), 0x0102, &[])?,
-            &[0, 0, 0, 14, 128, 1, 2, 3, 4, 34, 0, 0, 0, 0, 0, 0, 1, 2],
-        ),
-        10 => (
-            Body::Reply(Reply::Held(OpId(0x0506))),
-            &[0, 0, 0, 13, 129, 1, 2, 3, 4, 0, 0, 0, 0, 0, 0, 5, 6],
-        ),
+        2 => (reply(alloc, Status::BadRequest, 0, &[])?, &REFUSAL),
+        3 => (reply(alloc, Status::Busy(0x0102), 0x0102, &[])?, &BUSY),
+        4 => (Body::Reply(Reply::Held(OpId(0x0506))), &HELD),
         _ => return Ok(None),
     };
     Ok(Some(row))
@@ -218,8 +226,11 @@ fn frame_bytes(rt: HostRuntime) -> Result<(), Fail> {
         if let Some((body, bytes)) = operation(alloc, at)? {
             assert!(rt; is_spelled(alloc, body, bytes)?, "operation {at}");
         }
-        if let Some((body, bytes)) = other(alloc, at)? {
-            assert!(rt; is_spelled(alloc, body, bytes)?, "other {at}");
+        if let Some((body, bytes)) = control(at)? {
+            assert!(rt; is_spelled(alloc, body, bytes)?, "control {at}");
+        }
+        if let Some((body, bytes)) = answer(alloc, at)? {
+            assert!(rt; is_spelled(alloc, body, bytes)?, "answer {at}");
         }
     }
     Ok(())
@@ -406,14 +417,7 @@ fn limit(alloc: Global, at: u8) -> Result<Option<(Body, Result<usize, Status>)>,
             reply(alloc, Status::Success, 0, zeros(alloc, 32_987)?.as_slice())?,
             Err(Status::BadRequest),
         ),
-        4 => (
-            Body::Operation(Request::Read {
-                handle: HANDLE,
-                offset: 0,
-                len: 32_769,
-            }),
-            Err(Status::BadRequest),
-        ),
+        4 => (read(32_769), Err(Status::BadRequest)),
         5 => (reply(alloc, Status::Busy(2), 2, &[])?, Ok(18)),
         6 => (
             reply(alloc, Status::Busy(2), 3, &[])?,

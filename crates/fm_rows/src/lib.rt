@@ -1,8 +1,10 @@
 //! What no stored script can say: texts and frames by hand, lists of events with what each is told, an operation through instances that change what is
-//! written, limits, readers and writers that fail, and refused memory. There is nothing here but tests, so that what they call is proved once, in its own
-//! crate. Stored scripts stand in the crate `examples`.
+//! written, limits, readers and writers that fail, and refused memory; and the tests of bases, of the job queue and of the volume gate. There is nothing
+//! here but tests, so that what they call is proved once, in its own crate. Stored scripts stand in the crate `examples`.
 #![tactic(auto)]
 
+#[cfg(test)]
+mod base_tests;
 #[cfg(test)]
 mod context_tests;
 #[cfg(test)]
@@ -16,7 +18,11 @@ mod memory_tests;
 #[cfg(test)]
 mod operation_tests;
 #[cfg(test)]
+mod queue_tests;
+#[cfg(test)]
 mod run_tests;
+#[cfg(test)]
+mod rundown_tests;
 #[cfg(test)]
 mod script_tests;
 #[cfg(test)]

@@ -52,11 +52,8 @@ impl Read for Pieces<'_> {
         if self.rest.is_empty() && self.has_fault {
             return Err(io::Error::from(io::ErrorKind::BrokenPipe));
         }
-        let count = self.step.min(self.rest.len()).min(buf.len());
-        let (front, behind) = self.rest.split_at(count);
-        buf[..count].copy_from_slice(front);
-        self.rest = behind;
-        Ok(count)
+        let most = self.step.min(buf.len());
+        self.rest.read(&mut buf[..most])
     }
 }
 
@@ -156,11 +153,8 @@ impl Read for Asking<'_> {
         if self.flushes.get() < self.reads {
             return Err(io::Error::from(io::ErrorKind::TimedOut));
         }
-        let count = 1.min(self.rest.len()).min(buf.len());
-        let (front, behind) = self.rest.split_at(count);
-        buf[..count].copy_from_slice(front);
-        self.rest = behind;
-        Ok(count)
+        let most = 1.min(buf.len());
+        self.rest.read(&mut buf[..most])
     }
 }
 

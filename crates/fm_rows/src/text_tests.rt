@@ -30,21 +30,17 @@ fn is_altitude(text: &[u8], spelled: Option<&[u8]>) -> bool {
     }
 }
 
-// Texts that are names, and that aren't.
-const NAMES: [(&[u8], bool); 5] = [
-    (b"a-1", true),
-    (b"a b", false),
-    (b"", false),
-    (&[b'a'; 32], true),
-    (&[b'a'; 33], false),
+// Texts, and whether each is the text of the name that it is read as, or the refusal.
+const NAMES: [(&[u8], Result<bool, Status>); 5] = [
+    (b"a-1", Ok(true)),
+    (b"a b", Err(Status::BadName)),
+    (b"", Err(Status::BadName)),
+    (&[b'a'; 32], Ok(true)),
+    (&[b'a'; 33], Err(Status::BadName)),
 ];
 
-// Whether the text is read as the name that it is, or refused.
-fn is_name(text: &[u8], accepted: bool) -> bool {
-    match Name::read(text) {
-        Ok(name) => accepted && name.text() == text,
-        Err(status) => status == Status::BadName && !accepted,
-    }
+fn keeps_name(text: &[u8]) -> Result<bool, Status> {
+    Ok(Name::read(text)?.text() == text)
 }
 
 #[test]
@@ -58,34 +54,30 @@ fn altitude_and_name_grammar(rt: HostRuntime) {
         is_altitude(&fraction, Some(&fraction)),
         "a point and 63 digits"
     );
-    for (text, accepted) in NAMES {
-        assert!(rt; is_name(text, accepted), "{text:?}");
+    for (text, kept) in NAMES {
+        assert_eq!(rt; keeps_name(text), kept, "{text:?}");
     }
 }
 
-// Texts that are paths, and that aren't.
-const PATHS: [(&[u8], bool); 7] = [
-    (b"a/b c/..d", true),
-    (b"a/../b", false),
-    (b"/a", false),
-    (b"a//b", false),
-    (b"", false),
-    (&[b'a'; 255], true),
-    (&[b'a'; 256], false),
+// The same of paths.
+const PATHS: [(&[u8], Result<bool, Status>); 7] = [
+    (b"a/b c/..d", Ok(true)),
+    (b"a/../b", Err(Status::BadPath)),
+    (b"/a", Err(Status::BadPath)),
+    (b"a//b", Err(Status::BadPath)),
+    (b"", Err(Status::BadPath)),
+    (&[b'a'; 255], Ok(true)),
+    (&[b'a'; 256], Err(Status::BadPath)),
 ];
 
-// Whether the text is read as the path that it is, or refused.
-fn is_path(text: &[u8], accepted: bool) -> bool {
-    match RelPath::read(text) {
-        Ok(path) => accepted && path.text() == text,
-        Err(status) => status == Status::BadPath && !accepted,
-    }
+fn keeps_path(text: &[u8]) -> Result<bool, Status> {
+    Ok(RelPath::read(text)?.text() == text)
 }
 
 #[test]
 fn path_grammar(rt: HostRuntime) {
-    for (text, accepted) in PATHS {
-        assert!(rt; is_path(text, accepted), "{text:?}");
+    for (text, kept) in PATHS {
+        assert_eq!(rt; keeps_path(text), kept, "{text:?}");
     }
 }
 

@@ -11,8 +11,6 @@ mod passes;
 mod rule;
 mod seat;
 mod steps;
-#[cfg(test)]
-mod tests;
 mod view;
 
 pub use crate::gate::RundownGate;

@@ -3,7 +3,7 @@
 ghost use Rattle.std.specs.Prelude.{All, IfSome};
 ghost use Rattle.fm_rundown.specs.Seats.{IsSeatOf};
 
-use crate::{GateSeat, Look, RundownGate};
+use fm_rundown::{GateSeat, Look, RundownGate};
 use fm_types::{Status, VolumeId};
 use std::process::Abort;
 use std::sync::Wait;

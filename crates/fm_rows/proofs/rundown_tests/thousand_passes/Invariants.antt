@@ -1,5 +1,5 @@
 use Rattle.fm_rundown.specs.Seats.{IsSeatOf}
-use Rattle.fm_rundown.proofs.tests.thousand_passes.Given as goal
+use Rattle.fm_rows.proofs.rundown_tests.thousand_passes.Given as goal
 
 abbrev pub invariant-enters : goal.invariant-enters
 invariant-enters g l = IsSeatOf l.gate l.seat

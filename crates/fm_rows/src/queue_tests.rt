@@ -3,8 +3,8 @@
 ghost use Rattle.std.specs.Prelude.{◌≡◌, ◌+◌, All, IfOk, IfSome, IfNone, sum_by};
 ghost use Rattle.fm_queue.specs.Passes.{parts_of, IsPassOf};
 
-use crate::laws::jobs_are_kept;
-use crate::{Job, JobPass, JobQueue};
+use fm_queue::laws::jobs_are_kept;
+use fm_queue::{Job, JobPass, JobQueue};
 use fm_types::{OpId, Status};
 use std::alloc::{AllocError, Global};
 use std::ops::Range;

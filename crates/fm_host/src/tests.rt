@@ -2,8 +2,8 @@
 
 use super::*;
 use crate::slow_host::{Names, SlowHost};
-use fm_base::{Base, FailNth, laws};
-use fm_types::{CreateMode, RelPath, Status};
+use fm_base::{Base, FailNth};
+use fm_types::{Bytes, CreateMode, RelPath, Status};
 use std::test::Fail;
 use std::{env, fs};
 
@@ -16,87 +16,174 @@ fn new_folder(rt: &HostRuntime, test: &str) -> Result<String, Fail> {
     Ok(folder)
 }
 
+// A call of a base.
+#[derive(Clone, Copy)]
+enum Call {
+    Create(&'static [u8], CreateMode),
+    Read(&'static [u8], u64, u32),
+    Write(&'static [u8], u64, &'static [u8]),
+    Size(&'static [u8]),
+    SetSize(&'static [u8], u64),
+    Flush(&'static [u8]),
+    Unlink(&'static [u8]),
+    List,
+}
+
+// What a call is told.
+#[derive(Clone, Copy)]
+enum Answer {
+    Done,
+    Number(u64),
+    Bytes(&'static [u8]),
+    No(Status),
+}
+
+// Whether a call that tells nothing else was told so.
+fn is_done(told: Result<(), Status>, answer: Answer) -> bool {
+    match told {
+        Ok(()) => matches!(answer, Answer::Done),
+        Err(status) => is_refusal(status, answer),
+    }
+}
+
+fn is_refusal(status: Status, answer: Answer) -> bool {
+    matches!(answer, Answer::No(wanted) if wanted == status)
+}
+
+fn are_bytes(told: Result<Bytes, Status>, answer: Answer) -> bool {
+    match told {
+        Ok(bytes) => matches!(answer, Answer::Bytes(wanted) if wanted == bytes.as_slice()),
+        Err(status) => is_refusal(status, answer),
+    }
+}
+
+fn is_number(told: Result<u64, Status>, answer: Answer) -> bool {
+    match told {
+        Ok(number) => matches!(answer, Answer::Number(wanted) if wanted == number),
+        Err(status) => is_refusal(status, answer),
+    }
+}
+
+// Makes the call, if it stays within 200 bytes; whether it is told that answer.
+fn is_told<B: Base>(base: &mut B, call: Call, answer: Answer) -> Result<bool, Status> {
+    Ok(match call {
+        Call::Create(path, mode) => is_done(base.create(&RelPath::read(path)?, mode), answer),
+        Call::Read(path, offset, len) => {
+            are_bytes(base.read(&RelPath::read(path)?, offset, len), answer)
+        }
+        Call::Write(path, offset, bytes) if offset < 100 && bytes.len() < 100 => {
+            is_done(base.write(&RelPath::read(path)?, offset, bytes), answer)
+        }
+        Call::Size(path) => is_number(base.size(&RelPath::read(path)?), answer),
+        Call::SetSize(path, size) if size < 100 => {
+            is_done(base.set_size(&RelPath::read(path)?, size), answer)
+        }
+        Call::Flush(path) => is_done(base.flush(&RelPath::read(path)?), answer),
+        Call::Unlink(path) => is_done(base.unlink(&RelPath::read(path)?), answer),
+        Call::List => are_bytes(base.list(), answer),
+        Call::Write(..) | Call::SetSize(..) => false,
+    })
+}
+
+// How many of the calls, from the first on, are told their answers.
+fn told<B: Base>(base: &mut B, rows: &[(Call, Answer)]) -> Result<usize, Status> {
+    let mut count = 0usize;
+    for (call, answer) in rows {
+        if !is_told(base, *call, *answer)? {
+            return Ok(count);
+        }
+        count = count.saturating_add(1);
+    }
+    Ok(count)
+}
+
+const ROW: [(Call, Answer); 8] = [
+    (Call::Create(b"a", CreateMode::New), Answer::Done),
+    (
+        Call::Create(b"a", CreateMode::New),
+        Answer::No(Status::AlreadyExists),
+    ),
+    (
+        Call::Create(b"b", CreateMode::Existing),
+        Answer::No(Status::FileNotFound),
+    ),
+    (Call::Write(b"a", 2, &[0x41]), Answer::Done),
+    (Call::Read(b"a", 0, 9), Answer::Bytes(&[0, 0, 0x41])),
+    (Call::List, Answer::Bytes(&[0x61, 0x0a])),
+    (Call::Unlink(b"a"), Answer::Done),
+    (Call::Size(b"a"), Answer::No(Status::FileNotFound)),
+];
+
 #[test]
 fn host_folder(rt: HostRuntime) -> Result<(), Fail> {
     let folder = new_folder(&rt, "row")?;
     let mut base = HostBase::new(&rt, folder.as_str())?;
-    let a = RelPath::read(b"a")?;
-    assert_eq!(rt; base.create(&a, CreateMode::New), Ok(()));
-    assert_eq!(rt;
-        base.create(&a, CreateMode::New),
-        Err(Status::AlreadyExists)
-    );
-    assert_eq!(rt;
-        base.create(&RelPath::read(b"b")?, CreateMode::Existing),
-        Err(Status::FileNotFound)
-    );
-    assert_eq!(rt; base.write(&a, 2, &[0x41]), Ok(()));
-    assert_eq!(rt; base.read(&a, 0, 9)?.as_slice(), [0, 0, 0x41].as_slice());
-    assert_eq!(rt; base.list()?.as_slice(), [0x61, 0x0a].as_slice());
-    assert_eq!(rt; base.unlink(&a), Ok(()));
-    assert_eq!(rt; base.size(&a), Err(Status::FileNotFound));
+    assert_eq!(rt; told(&mut base, &ROW)?, ROW.len());
     assert_eq!(rt; base.failures(), 0);
     fs::remove_dir(&rt, folder.as_str())?;
     Ok(())
 }
+
+// A create keeps the bytes of a file that is there; `a` is no folder, and there is no folder `c`.
+const FILES: [(Call, Answer); 17] = [
+    (Call::Create(b"a", CreateMode::Always), Answer::Done),
+    (Call::Write(b"a", 0, b"abc"), Answer::Done),
+    (Call::Read(b"a", 0, 3), Answer::Bytes(b"abc")),
+    (Call::Create(b"a", CreateMode::Always), Answer::Done),
+    (Call::Write(b"a", 9, b""), Answer::Done),
+    (Call::Size(b"a"), Answer::Number(3)),
+    (Call::Read(b"a", 3, 1), Answer::No(Status::EndOfFile)),
+    (Call::Read(b"a", u64::MAX, 1), Answer::No(Status::EndOfFile)),
+    (Call::Read(b"a", u64::MAX, 0), Answer::Bytes(b"")),
+    (Call::SetSize(b"a", 1), Answer::Done),
+    (Call::SetSize(b"a", 2), Answer::Done),
+    (Call::Flush(b"a"), Answer::Done),
+    (Call::Read(b"a", 0, 9), Answer::Bytes(b"a\0")),
+    (
+        Call::Create(b"a/b", CreateMode::New),
+        Answer::No(Status::FileNotFound),
+    ),
+    (
+        Call::Create(b"c/b", CreateMode::New),
+        Answer::No(Status::FileNotFound),
+    ),
+    (Call::Unlink(b"a"), Answer::Done),
+    (Call::List, Answer::Bytes(b"")),
+];
 
 #[test]
 fn files_of_a_folder(rt: HostRuntime) -> Result<(), Fail> {
     let folder = new_folder(&rt, "files")?;
     let mut base = HostBase::new(&rt, folder.as_str())?;
-    let a = RelPath::read(b"a")?;
-    assert_eq!(rt; base.create(&a, CreateMode::Always), Ok(()));
-    let read = laws::write_and_read(&mut base, &a, 0, b"abc")?;
-    assert_eq!(rt; read.as_slice(), b"abc".as_slice());
-    assert_eq!(rt;
-        base.create(&a, CreateMode::Always),
-        Ok(()),
-        "it keeps its bytes"
-    );
-    assert_eq!(rt; base.write(&a, 9, b""), Ok(()));
-    assert_eq!(rt; base.size(&a), Ok(3));
-    assert_eq!(rt; base.read(&a, 3, 1).err(), Some(Status::EndOfFile));
-    assert_eq!(rt; base.read(&a, u64::MAX, 1).err(), Some(Status::EndOfFile));
-    assert_eq!(rt; base.read(&a, u64::MAX, 0)?.len(), 0);
-    assert_eq!(rt; base.set_size(&a, 1), Ok(()));
-    assert_eq!(rt; base.set_size(&a, 2), Ok(()));
-    assert_eq!(rt; base.flush(&a), Ok(()));
-    assert_eq!(rt; base.read(&a, 0, 9)?.as_slice(), b"a\0".as_slice());
-    assert_eq!(rt;
-        base.create(&RelPath::read(b"a/b")?, CreateMode::New),
-        Err(Status::FileNotFound),
-        "a is no folder"
-    );
-    assert_eq!(rt;
-        base.create(&RelPath::read(b"c/b")?, CreateMode::New),
-        Err(Status::FileNotFound),
-        "no folder c"
-    );
+    assert_eq!(rt; told(&mut base, &FILES)?, FILES.len());
     assert_eq!(rt; base.failures(), 0);
-    base.unlink(&a)?;
     fs::remove_dir(&rt, folder.as_str())?;
     Ok(())
 }
+
+const ABSENT: [(Call, Answer); 7] = [
+    (Call::Read(b"a", 0, 0), Answer::No(Status::FileNotFound)),
+    (Call::Write(b"a", 0, b""), Answer::No(Status::FileNotFound)),
+    (Call::Write(b"a", 0, b"x"), Answer::No(Status::FileNotFound)),
+    (Call::SetSize(b"a", 0), Answer::No(Status::FileNotFound)),
+    (Call::Flush(b"a"), Answer::No(Status::FileNotFound)),
+    (Call::Unlink(b"a"), Answer::No(Status::FileNotFound)),
+    (Call::List, Answer::Bytes(b"")),
+];
+
+// Of a folder that is gone.
+const GONE: [(Call, Answer); 1] = [(Call::List, Answer::No(Status::FileNotFound))];
 
 #[test]
 fn absent_files_and_folders(rt: HostRuntime) -> Result<(), Fail> {
     let folder = new_folder(&rt, "absent")?;
     let mut base = HostBase::new(&rt, folder.as_str())?;
-    let a = RelPath::read(b"a")?;
-    assert_eq!(rt; base.read(&a, 0, 0).err(), Some(Status::FileNotFound));
-    assert_eq!(rt; base.write(&a, 0, b""), Err(Status::FileNotFound));
-    assert_eq!(rt; base.write(&a, 0, b"x"), Err(Status::FileNotFound));
-    assert_eq!(rt; base.set_size(&a, 0), Err(Status::FileNotFound));
-    assert_eq!(rt; base.flush(&a), Err(Status::FileNotFound));
-    assert_eq!(rt; base.unlink(&a), Err(Status::FileNotFound));
-    assert_eq!(rt; base.list()?.len(), 0);
+    assert_eq!(rt; told(&mut base, &ABSENT)?, ABSENT.len());
     fs::remove_dir(&rt, folder.as_str())?;
-    assert_eq!(rt; base.list().err(), Some(Status::FileNotFound));
+    assert_eq!(rt; told(&mut base, &GONE)?, GONE.len());
     assert_eq!(rt; base.failures(), 0);
-    assert_eq!(rt;
-        HostBase::new(&rt, folder.as_str()).err(),
-        Some(Status::FileNotFound)
-    );
+    let again = HostBase::new(&rt, folder.as_str()).err();
+    assert_eq!(rt; again, Some(Status::FileNotFound));
     Ok(())
 }
 
@@ -133,43 +220,40 @@ fn folders_are_no_files(rt: HostRuntime) -> Result<(), Fail> {
     Ok(())
 }
 
+const SLOW: [(Call, Answer); 3] = [
+    (Call::Read(b"file", 2, 3), Answer::Bytes(b"cde")),
+    (Call::Read(b"file", 0, 99), Answer::Bytes(b"abcdefgh")),
+    (Call::Read(b"file", 8, 1), Answer::No(Status::EndOfFile)),
+];
+
 #[test]
 fn byte_by_byte(rt: HostRuntime) -> Result<(), Fail> {
     let mut base = HostBase::new(&SlowHost::new(rt.alloc()), "root")?;
-    let file = RelPath::read(b"file")?;
-    assert_eq!(rt; base.read(&file, 2, 3)?.as_slice(), b"cde".as_slice());
-    assert_eq!(rt; base.read(&file, 0, 99)?.as_slice(), b"abcdefgh".as_slice());
-    assert_eq!(rt; base.read(&file, 8, 1).err(), Some(Status::EndOfFile));
+    assert_eq!(rt; told(&mut base, &SLOW)?, SLOW.len());
     assert_eq!(rt; base.failures(), 0);
     Ok(())
 }
+
+// With place 4 failing: two faults of the host, and that it wants memory is one too; this program's own want of memory is none.
+const FAILING: [(Call, Answer); 6] = [
+    (Call::Read(b"file", 0, 8), Answer::No(Status::DeviceFault)),
+    (Call::Read(b"file", 0, 4), Answer::Bytes(b"abcd")),
+    (Call::Write(b"file", 0, b"1234"), Answer::Done),
+    (
+        Call::Write(b"file", 2, b"123"),
+        Answer::No(Status::DeviceFault),
+    ),
+    (Call::Size(b"memory"), Answer::No(Status::NoMemory)),
+    (Call::Size(b"crowded"), Answer::No(Status::DeviceFault)),
+];
 
 #[test]
 fn fails_in_mid_stream(rt: HostRuntime) -> Result<(), Fail> {
     let mut host = SlowHost::new(rt.alloc());
     host.fails_at = 4;
     let mut base = HostBase::new(&host, "root")?;
-    let file = RelPath::read(b"file")?;
-    assert_eq!(rt; base.read(&file, 0, 8).err(), Some(Status::DeviceFault));
-    assert_eq!(rt; base.failures(), 1);
-    assert_eq!(rt; base.read(&file, 0, 4)?.as_slice(), b"abcd".as_slice());
-    assert_eq!(rt; base.write(&file, 0, b"1234"), Ok(()), "places 0 to 3");
-    assert_eq!(rt;
-        base.write(&file, 2, b"123"),
-        Err(Status::DeviceFault),
-        "places 2 to 4"
-    );
-    assert_eq!(rt; base.failures(), 2);
-    assert_eq!(rt;
-        base.size(&RelPath::read(b"memory")?),
-        Err(Status::NoMemory)
-    );
-    assert_eq!(rt; base.failures(), 2, "want of memory is no fault");
-    assert_eq!(rt;
-        base.size(&RelPath::read(b"crowded")?),
-        Err(Status::DeviceFault)
-    );
-    assert_eq!(rt; base.failures(), 3, "the host's own is one");
+    assert_eq!(rt; told(&mut base, &FAILING)?, FAILING.len());
+    assert_eq!(rt; base.failures(), 3);
     Ok(())
 }
 

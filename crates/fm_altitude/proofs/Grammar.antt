@@ -1,5 +1,5 @@
 -- A text that is an altitude has digits before its point and behind it, and what is spelled of digits is an altitude.
-use Rattle.std.proofs.Common.{◌≡◌, ◌+◌, ◌≤◌, ◌<◌, ◌==◌, ℕ, Bool, false, cond, List, [], ◌∷◌, ◌++◌, length, take, drop, refl, sym, ap, ◌∙◌, inl, inr, arith, lit≤, length-append, subst}
+use Rattle.std.proofs.Common.{◌≡◌, ◌+◌, ◌≤◌, ◌<◌, ◌==◌, ℕ, Bool, false, cond, List, [], ◌∷◌, ◌++◌, length, take, drop, refl, sym, ap, ◌∙◌, inl, inr, arith, lit≤, length-take, subst}
 use Rattle.std.proofs.lemmas.Bool.{cases_Bool}
 use Rattle.std.proofs.lemmas.Bool.Decides.{nat_tests}
 use Rattle.std.proofs.lemmas.List.{take_all, take_at, drop_at, drop_all}
@@ -14,11 +14,8 @@ use Rattle.fm_altitude.specs.Spelling.{AreDigits-fraction_of, AreDigits-whole_of
 abbrev is_point : ℕ → Bool
 is_point b = b == 46
 
-count_points-cons : (b : ℕ) (bs : List ℕ) → count_by is_point (b ∷ bs) ≡ cond (is_point b) 1 0 + count_by is_point bs
-count_points-cons b bs = sum_by-cons (λ x. cond (is_point x) 1 0) b bs
-
-count_digits-cons : (b : ℕ) (bs : List ℕ) → count_by is_ascii_digit (b ∷ bs) ≡ cond (is_ascii_digit b) 1 0 + count_by is_ascii_digit bs
-count_digits-cons b bs = sum_by-cons (λ x. cond (is_ascii_digit x) 1 0) b bs
+count-cons : (p : ℕ → Bool) (b : ℕ) (bs : List ℕ) → count_by p (b ∷ bs) ≡ cond (p b) 1 0 + count_by p bs
+count-cons p b bs = sum_by-cons (λ x. cond (p x) 1 0) b bs
 
 digit_by_elimination : (b : ℕ) → IsAltitudeByte b → (b == 46) ≡ false → IsAsciiDigit b
 digit_by_elimination b byte other = grind (arith, nat_tests)
@@ -28,13 +25,8 @@ digit_by_elimination b byte other = grind (arith, nat_tests)
 digits_without_point : (text : List ℕ) → AllByRecursion IsAltitudeByte text → count_by is_point text ≡ 0 → AreDigits text
 digits_without_point [] h none = tt
 digits_without_point (b ∷ bs) h none =
-    let counted : cond (is_point b) 1 0 + count_by is_point bs ≡ 0 = sym (count_points-cons b bs) ∙ none in
-    elim (cases_Bool (b == 46)) [
-      | inl is ↦ let broken : 1 + count_by is_point bs ≡ 0 = rw is at counted in absurd (omega arith)
-      | inr is ↦
-          let rest : 0 + count_by is_point bs ≡ 0 = rw is at counted in
-          (digit_by_elimination b h.0 is, digits_without_point bs h.1 (omega arith))
-    ]
+    let counted = count-cons is_point b bs in
+    (digit_by_elimination b h.0 (grind (arith, nat_tests)), digits_without_point bs h.1 (omega arith))
 
 before_are_digits : (text : List ℕ) → AllByRecursion IsAltitudeByte text → AreDigits (before_point text)
 before_are_digits [] h = tt
@@ -46,23 +38,21 @@ before_are_digits (b ∷ bs) h = elim (cases_Bool (b == 46)) [
 after_are_digits : (text : List ℕ) → AllByRecursion IsAltitudeByte text → count_by is_point text ≤ 1 → AreDigits (after_point text)
 after_are_digits [] h few = tt
 after_are_digits (b ∷ bs) h few =
-    let counted : cond (is_point b) 1 0 + count_by is_point bs ≤ 1 = rw (sym (count_points-cons b bs)) few in
+    let counted = count-cons is_point b bs in
     elim (cases_Bool (b == 46)) [
-      | inl is ↦ let rest : 1 + count_by is_point bs ≤ 1 = rw is at counted in rw is (digits_without_point bs h.1 (omega arith))
-      | inr is ↦ let rest : 0 + count_by is_point bs ≤ 1 = rw is at counted in rw is (after_are_digits bs h.1 (omega arith))
+      | inl is ↦ rw is (digits_without_point bs h.1 (grind (arith, nat_tests)))
+      | inr is ↦ rw is (after_are_digits bs h.1 (omega arith))
     ]
 
 pub whole_of-read : (text : List ℕ) → IsAltitude text → trim_front (before_point text) ≡ whole_of text
 unfolding whole_of
 whole_of-read text h =
-    let bytes : AllByRecursion IsAltitudeByte text = recursion_from_All IsAltitudeByte text h.characters in
-    ap trim_front (sym (digits-same (before_point text) (before_are_digits text bytes)))
+    ap trim_front (sym (digits-same (before_point text) (before_are_digits text (recursion_from_All IsAltitudeByte text h.characters))))
 
 pub fraction_of-read : (text : List ℕ) → IsAltitude text → trim_back (after_point text) ≡ fraction_of text
 unfolding fraction_of
 fraction_of-read text h =
-    let bytes : AllByRecursion IsAltitudeByte text = recursion_from_All IsAltitudeByte text h.characters in
-    ap trim_back (sym (digits-same (after_point text) (after_are_digits text bytes h.points)))
+    ap trim_back (sym (digits-same (after_point text) (after_are_digits text (recursion_from_All IsAltitudeByte text h.characters) h.points)))
 
 -- ---- what is spelled is an altitude
 
@@ -74,16 +64,16 @@ bytes_of_join : (w f : List ℕ) → AreDigits w → AreDigits f → AllByRecurs
 bytes_of_join [] f low high = (inr refl, bytes_of_digits f high)
 bytes_of_join (d ∷ w) f low high = (inl low.0, bytes_of_join w f low.1 high)
 
-no_point : (d : ℕ) → IsAsciiDigit d → is_point d ≡ false
-no_point d h = grind (arith, nat_tests)
+-- of digits, those are none, all of these
+counts_of_digits : (ds : List ℕ) → AreDigits ds → (count_by is_point ds ≡ 0) × (count_by is_ascii_digit ds ≡ length ds)
+counts_of_digits [] h = (refl, refl)
+counts_of_digits (d ∷ ds) h =
+    let no_point : is_point d ≡ false = grind (arith, nat_tests) in
+    let rest = counts_of_digits ds h.1 in
+    (count-cons is_point d ds ∙ rw (no_point, rest.0) refl, count-cons is_ascii_digit d ds ∙ rw (test_from_digit d h.0, rest.1) (omega arith))
 
-points_of_digits : (ds : List ℕ) → AreDigits ds → count_by is_point ds ≡ 0
-points_of_digits [] h = refl
-points_of_digits (d ∷ ds) h = count_points-cons d ds ∙ rw (no_point d h.0, points_of_digits ds h.1) refl
-
-count_of_digits : (ds : List ℕ) → AreDigits ds → count_by is_ascii_digit ds ≡ length ds
-count_of_digits [] h = refl
-count_of_digits (d ∷ ds) h = count_digits-cons d ds ∙ rw (test_from_digit d h.0, count_of_digits ds h.1) (omega arith)
+counts_of_join : (p : ℕ → Bool) (w f : List ℕ) → count_by p (w ++ 46 ∷ f) ≡ count_by p w + (cond (p 46) 1 0 + count_by p f)
+counts_of_join p w f = sum_by-append (λ x. cond (p x) 1 0) w (46 ∷ f) ∙ ap (λ n. count_by p w + n) (count-cons p 46 f)
 
 pub IsAltitude-spelled : (w f : List ℕ) → AreDigits w → AreDigits f → length (spelled w f) ≤ 64 → IsAltitude (spelled w f)
 IsAltitude-spelled [] [] low high few = record {
@@ -95,22 +85,14 @@ IsAltitude-spelled [] [] low high few = record {
 IsAltitude-spelled (d ∷ w) [] low high few = record {
   few = few;
   characters = All-from_recursion IsAltitudeByte (d ∷ w) (bytes_of_digits (d ∷ w) low);
-  points = omega (arith, points_of_digits (d ∷ w) low);
-  some_digit = omega (arith, count_of_digits (d ∷ w) low);
+  points = omega (arith, counts_of_digits (d ∷ w) low);
+  some_digit = omega (arith, counts_of_digits (d ∷ w) low);
 }
 IsAltitude-spelled w (e ∷ f) low high few = record {
   few = few;
   characters = All-from_recursion IsAltitudeByte (w ++ 46 ∷ e ∷ f) (bytes_of_join w (e ∷ f) low high);
-  points =
-      let all : count_by is_point (w ++ 46 ∷ e ∷ f) ≡ count_by is_point w + count_by is_point (46 ∷ e ∷ f) =
-      sum_by-append (λ x. cond (is_point x) 1 0) w (46 ∷ e ∷ f) in
-      let point : count_by is_point (46 ∷ e ∷ f) ≡ 1 + count_by is_point (e ∷ f) = count_points-cons 46 (e ∷ f) in
-      omega (arith, all, point, points_of_digits w low, points_of_digits (e ∷ f) high);
-  some_digit =
-      let all : count_by is_ascii_digit (w ++ 46 ∷ e ∷ f) ≡ count_by is_ascii_digit w + count_by is_ascii_digit (46 ∷ e ∷ f) =
-      sum_by-append (λ x. cond (is_ascii_digit x) 1 0) w (46 ∷ e ∷ f) in
-      let point : count_by is_ascii_digit (46 ∷ e ∷ f) ≡ 0 + count_by is_ascii_digit (e ∷ f) = count_digits-cons 46 (e ∷ f) in
-      omega (arith, all, point, count_of_digits (e ∷ f) high);
+  points = omega (arith, counts_of_join is_point w (e ∷ f), counts_of_digits w low, counts_of_digits (e ∷ f) high);
+  some_digit = omega (arith, counts_of_join is_ascii_digit w (e ∷ f), counts_of_digits (e ∷ f) high);
 }
 
 some_character : (text : List ℕ) → 0 < count_by is_ascii_digit text → 0 < length text
@@ -128,11 +110,6 @@ IsAltitude-canonical text h =
 
 -- ---- where the parts of a canonical text stand
 
-spelled_whole_within : (w f : List ℕ) → length w ≤ length (spelled w f)
-spelled_whole_within [] [] = lit≤ tt
-spelled_whole_within (d ∷ w) [] = omega arith
-spelled_whole_within w (e ∷ f) = omega (arith, length-append w (46 ∷ e ∷ f))
-
 take_spelled : (w f : List ℕ) → take (length w) (spelled w f) ≡ w
 take_spelled [] [] = refl
 take_spelled (d ∷ w) [] = take_all (length (d ∷ w)) (d ∷ w) (omega arith)
@@ -143,23 +120,18 @@ drop_spelled [] [] = refl
 drop_spelled (d ∷ w) [] = rw (drop_all (length (d ∷ w)) (d ∷ w) (omega arith)) refl
 drop_spelled w (e ∷ f) = rw (drop_at w (46 ∷ e ∷ f) (length w) refl) refl
 
-pub whole_within : (text : List ℕ) → canonical text ≡ text → length (whole_of text) ≤ length text
-unfolding canonical
-whole_within text own =
-    let P : List ℕ → Type 0 = λ spelling. length (whole_of text) ≤ length spelling in
-    subst P own (spelled_whole_within (whole_of text) (fraction_of text))
-
 pub take_whole : (text : List ℕ) → canonical text ≡ text → take (length (whole_of text)) text ≡ whole_of text
 unfolding canonical
 take_whole text own =
-    let P : List ℕ → Type 0 = λ spelling. take (length (whole_of text)) spelling ≡ whole_of text in
-    subst P own (take_spelled (whole_of text) (fraction_of text))
+    subst (λ (spelling : List ℕ). take (length (whole_of text)) spelling ≡ whole_of text) own (take_spelled (whole_of text) (fraction_of text))
+
+pub whole_within : (text : List ℕ) → canonical text ≡ text → length (whole_of text) ≤ length text
+whole_within text own = omega (arith, length-take (length (whole_of text)) text, ap length (take_whole text own))
 
 pub behind_whole : (text : List ℕ) → canonical text ≡ text → drop 1 (drop (length (whole_of text)) text) ≡ fraction_of text
 unfolding canonical
 behind_whole text own =
-    let P : List ℕ → Type 0 = λ spelling. drop 1 (drop (length (whole_of text)) spelling) ≡ fraction_of text in
-    subst P own (drop_spelled (whole_of text) (fraction_of text))
+    subst (λ (spelling : List ℕ). drop 1 (drop (length (whole_of text)) spelling) ≡ fraction_of text) own (drop_spelled (whole_of text) (fraction_of text))
 
 pub none_behind : (behind fraction : List ℕ) → length behind < 1 → drop 1 behind ≡ fraction → behind ≡ fraction
 none_behind [] fraction empty same = same

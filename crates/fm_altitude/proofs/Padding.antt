@@ -8,13 +8,9 @@ put_behind : (size : ℕ) (text part : List ℕ) →
     take (length text) (padded size text) ++ part ++ drop (length text + length part) (padded size text) ≡ padded size (text ++ part)
 put_behind size text part =
     let zeros : List ℕ = replicate (size - length text) 0 in
-    let front : take (length text) (text ++ zeros) ≡ text = take_at text zeros (length text) refl in
-    let behind : drop (length text + length part) (text ++ zeros) ≡ drop (length part) zeros =
-    drop-append-add text zeros (length part) in
-    let fewer : drop (length part) zeros ≡ replicate (size - length text - length part) 0 =
-    drop-replicate {X = ℕ} (length part) (size - length text) 0 in
+    let fewer = drop-replicate {X = ℕ} (length part) (size - length text) 0 in
     let count : size - length text - length part ≡ size - length (text ++ part) = omega (arith, length-append text part) in
-    rw (front, behind, fewer, count) refl
+    rw (take_at text zeros (length text) refl, drop-append-add text zeros (length part), fewer, count) refl
 
 pub put_three : (size : ℕ) (first second third start middle end : List ℕ) →
     start ≡ first ++ drop (0 + length first) (replicate size 0) →
@@ -24,5 +20,4 @@ pub put_three : (size : ℕ) (first second third start middle end : List ℕ) �
 put_three size first second third start middle end a b c =
     let one : start ≡ padded size first = a ∙ rw (drop-replicate {X = ℕ} (0 + length first) size 0, zero-add (length first)) refl in
     let two : middle ≡ padded size (first ++ second) = b ∙ rw one (put_behind size first second) in
-    let both : length first + length second ≡ length (first ++ second) = sym (length-append first second) in
-    c ∙ rw (two, both) (put_behind size (first ++ second) third)
+    c ∙ rw (two, sym (length-append first second)) (put_behind size (first ++ second) third)

@@ -3,6 +3,7 @@
 ghost use Rattle.fm_altitude.specs.Laws.{CanonicalSpelling, OneSpelling};
 
 /// Equal altitudes have one canonical text.
+#[tactic(auto, using(crate::specs::Laws::one_spelling))]
 pub fn one_spelling()
     ensures { OneSpelling }
 {}

@@ -1,11 +1,11 @@
 -- The folder of a map's entries, against the look-ups and the changes of the map.
 use Rattle.fm_base.proofs.Words.{nat_cmp, eq_by_cmp_equiv, slice_cmp, nat_list_cmp_total, lookup, set_value, is_at, get, insert, remove}
 use Rattle.fm_base.proofs.Words.{find, get-from_entries, get-insert, get-remove, same_map, slice_cmp-IsAntisymmetric}
-use Rattle.fm_base.proofs.Words.{nat_cmp-IsAntisymmetric, Status, NoMemory, DeviceFault, FileNotFound, AlreadyExists, Folder, create_at}
+use Rattle.fm_base.proofs.Words.{nat_cmp-IsAntisymmetric, Status, NoMemory, DeviceFault, FileNotFound, AlreadyExists, Folder}
 use Rattle.fm_base.proofs.Words.{created, change_at, changed, unlink_at, unlinked, tell_at, told, Makes, Entries, folder_of}
 use Rattle.std.specs.Prelude.{◌≡◌, ◌≢◌, ◌⊎◌, ℕ, true, false, cond, is_some, List, [], ◌∷◌, Option, Some, None, Result, Ok, Err, IsOk, OnOk}
 use Rattle.std.specs.Prelude.{OnErr, IfErr, refl}
-use Rattle.std.proofs.Common.{sym, ap, ◌∙◌, inl, inr}
+use Rattle.std.proofs.Common.{sym, ap, ◌∙◌, arith}
 use Rattle.std.proofs.lemmas.Map.Steps.{set_value_same}
 use Rattle.fm_types.specs.declared.operation.CreateMode.{CreateMode}
 use Rattle.fm_types.specs.declared.operation.CreateMode.TheVariants.{Existing, New, Always}
@@ -36,10 +36,6 @@ one_gone es fs path h = same_map nat_list_cmp_total (slice_cmp-IsAntisymmetric n
     ∙ sym (get-remove nat_list_cmp_total (folder_of es) path q ∙ ap (cond (is_at (slice_cmp nat_cmp q) path) None) (get_file es q)))
 
 -- what the calls make and tell, where the entries have that at the path
-pub created_at : (mode : CreateMode) (path : List ℕ) (es : Entries) (found : Option (List ℕ)) → file_at es path ≡ found
-    → created mode path (folder_of es) ≡ create_at mode path (folder_of es) found
-created_at mode path es found h = ap (create_at mode path (folder_of es)) (get_file es path ∙ h)
-
 pub changed_at : (change : List ℕ → List ℕ) (path : List ℕ) (es : Entries) (found : Option (List ℕ)) → file_at es path ≡ found
     → changed change path (folder_of es) ≡ change_at change path (folder_of es) found
 changed_at change path es found h = ap (change_at change path (folder_of es)) (get_file es path ∙ h)
@@ -60,28 +56,18 @@ kept_entries es fs path file w wrote found same = wrote
 
 -- a create by its mode, where the test of the path said that the file is there, and where it said that it isn't
 pub taken : (path : List ℕ) (es : Entries) → true ≡ is_some (file_at es path) → created New path (folder_of es) ≡ Err AlreadyExists
-taken path es h = created_at New path es _ refl
-    ∙ (elim (file_at es path) as (λ o. true ≡ is_some o → create_at New path (folder_of es) o ≡ Err AlreadyExists) [ None ↦ λ e. cc | Some file ↦ λ e. refl ]) h
+taken path es h = grind (arith, get_file es path)
 
 pub opened : (mode : CreateMode) (path : List ℕ) (es : Entries) → (mode ≡ Existing) ⊎ (mode ≡ Always) → true ≡ is_some (file_at es path)
     → created mode path (folder_of es) ≡ Ok (folder_of es)
-opened mode path es is h = created_at mode path es _ refl
-    ∙ (elim (file_at es path) as (λ o. true ≡ is_some o → create_at mode path (folder_of es) o ≡ Ok (folder_of es)) [
-      | None ↦ λ e. cc
-      | Some file ↦ λ e. elim is [ inl m ↦ rw m refl | inr m ↦ rw m refl ]
-    ]) h
+opened mode path es is h = grind (arith, get_file es path)
 
 pub missing : (path : List ℕ) (es : Entries) → false ≡ is_some (file_at es path) → created Existing path (folder_of es) ≡ Err FileNotFound
-missing path es h = created_at Existing path es _ refl
-    ∙ (elim (file_at es path) as (λ o. false ≡ is_some o → create_at Existing path (folder_of es) o ≡ Err FileNotFound) [ None ↦ λ e. refl | Some file ↦ λ e. cc ]) h
+missing path es h = grind (arith, get_file es path)
 
 pub fresh : (mode : CreateMode) (path : List ℕ) (es : Entries) → (mode ≡ New) ⊎ (mode ≡ Always) → false ≡ is_some (file_at es path)
     → created mode path (folder_of es) ≡ Ok (insert (folder_of es) path [])
-fresh mode path es is h = created_at mode path es _ refl
-    ∙ (elim (file_at es path) as (λ o. false ≡ is_some o → create_at mode path (folder_of es) o ≡ Ok (insert (folder_of es) path [])) [
-      | None ↦ λ e. elim is [ inl m ↦ rw m refl | inr m ↦ rw m refl ]
-      | Some file ↦ λ e. cc
-    ]) h
+fresh mode path es is h = grind (arith, get_file es path)
 
 -- what makes all that is wanted, or is refused for want of memory alone and changes nothing, answers as it is to
 pub makes_or_memory : (path : List ℕ) (wanted : Folder → Result Folder Status) (made old new : Folder) (result : Result (Unit {0}) Status)

@@ -34,14 +34,6 @@ read_run size offset len pages zero =
     get_or-take len (drop offset (contents size pages)) k 0 (omega arith) ∙ get_or-drop offset (contents size pages) k 0
     ∙ get_or-contents size pages zero (offset + k)))
 
--- pages with the same bytes hold the same file
-pub same_contents : (size : ℕ) (old new : Pages) → IsZeroFrom size old → SameBytes old new → contents size new ≡ contents size old
-same_contents size old new zero same = sym (contents_is size new _ (length-contents size old) (λ k below. get_or-contents size old zero k
-    ∙ sym (same (k / 4096) (k % 4096))))
-
-pub same_zeros : (size : ℕ) (old new : Pages) → IsZeroFrom size old → SameBytes old new → IsZeroFrom size new
-same_zeros size old new zero same = record { past = λ q place small past. same q place ∙ zero.past q place small past }
-
 -- a write over pages that were made long enough
 module _ (size offset byte : ℕ) (bytes : List ℕ) (old grown new : Pages) (zero : IsZeroFrom size old) (same : SameBytes old grown)
     (over : Overwrites offset (byte ∷ bytes) grown new) where
@@ -51,8 +43,7 @@ module _ (size offset byte : ℕ) (bytes : List ℕ) (old grown new : Pages) (ze
   outside : (k : ℕ) → (k < offset) ⊎ (offset + length (byte ∷ bytes) ≤ k) → byte_at new k ≡ byte_at old k
   outside k apart =
       let whole : 4096 * (k / 4096) + k % 4096 ≡ k = omega arith in
-      let there : (4096 * (k / 4096) + k % 4096 < offset) ⊎ (offset + length (byte ∷ bytes) ≤ 4096 * (k / 4096) + k % 4096) = rw whole apart in
-      over.outside (k / 4096) (k % 4096) (omega arith) there ∙ same (k / 4096) (k % 4096)
+      over.outside (k / 4096) (k % 4096) (omega arith) (rw whole apart) ∙ same (k / 4096) (k % 4096)
 
   byte_written : (k : ℕ) → get_or (written offset (byte ∷ bytes) (contents size old)) k 0 ≡ byte_at new k
   byte_written k = elim (cases_lt k offset) [
@@ -60,8 +51,7 @@ module _ (size offset byte : ℕ) (bytes : List ℕ) (old grown new : Pages) (ze
     | inr from ↦ elim (cases_lt k end) [
       | inl inside ↦
           let small : k - offset < length (byte ∷ bytes) = omega arith in
-          let is : k ≡ offset + (k - offset) = omega arith in
-          get_or-written_inside offset byte bytes (contents size old) (k - offset) k small is
+          get_or-written_inside offset byte bytes (contents size old) (k - offset) k small (omega arith)
           ∙ sym (over.inside (k / 4096) (k % 4096) (k - offset) (omega arith) small (omega arith))
       | inr past ↦ kept (inr past)
     ]
@@ -73,26 +63,14 @@ module _ (size offset byte : ℕ) (bytes : List ℕ) (old grown new : Pages) (ze
   written_contents = sym (contents_is (max size end) new _ (omega
       (arith, length-written offset byte bytes (contents size old), length-contents size old)) (λ k below. byte_written k))
 
-  pub written_zeros : IsZeroFrom (max size end) new
-  written_zeros = record {
-    past = λ q place small past. over.outside q place small (inr (omega arith)) ∙ same q place
-        ∙ zero.past q place small (omega arith);
-  }
-
 -- a cut, and a growth
 pub cut_contents : (size cut : ℕ) (old new : Pages) → IsZeroFrom size old → Cuts cut old new → contents cut new ≡ resized cut (contents size old)
 cut_contents size cut old new zero cuts = sym (contents_is cut new _ (length-resized cut _) (λ k below.
     get_or-resized cut _ k below ∙ get_or-contents size old zero k ∙ sym (cuts.below (k / 4096) (k % 4096) (omega arith) (omega arith))))
 
-pub cut_zeros : (cut : ℕ) (old new : Pages) → Cuts cut old new → IsZeroFrom cut new
-cut_zeros cut old new cuts = record { past = cuts.past }
-
 pub grown_contents : (size grown : ℕ) (pages : Pages) → IsZeroFrom size pages → contents grown pages ≡ resized grown (contents size pages)
 grown_contents size grown pages zero = sym (contents_is grown pages _ (length-resized grown _) (λ k below. get_or-resized grown _ k below
     ∙ get_or-contents size pages zero k))
-
-pub grown_zeros : (size grown : ℕ) (pages : Pages) → size ≤ grown → IsZeroFrom size pages → IsZeroFrom grown pages
-grown_zeros size grown pages more zero = record { past = λ q place small past. zero.past q place small (omega arith) }
 
 pub written_file : (size offset : ℕ) (bytes : List ℕ) (old grown new : Pages) → false ≡ (length bytes == 0) → IsZeroFrom size old
     → SameBytes old grown → Overwrites offset bytes grown new

@@ -27,8 +27,7 @@ chunk_long done count bytes fits = omega (arith, length-take (done + count - don
 pub chunk_is : (done count : ℕ) (bytes : List ℕ) (k : ℕ) → k < count
     → get_or (take (done + count - done) (drop done bytes)) k 0 ≡ get_or bytes (done + k) 0
 chunk_is done count bytes k below =
-    let within : k < done + count - done = omega arith in
-    get_or-take (done + count - done) (drop done bytes) k 0 within ∙ get_or-drop done bytes k 0
+    get_or-take (done + count - done) (drop done bytes) k 0 (omega arith) ∙ get_or-drop done bytes k 0
 
 -- and that page is long enough for it
 pub chunk_fits : (offset done count : ℕ) (bytes : List ℕ) (initial now : Pages)
@@ -40,9 +39,7 @@ chunk_fits offset done count bytes initial now room long left is =
     let small : (offset + done) % 4096 + (count - 1) < 4096 = omega arith in
     let last : (offset + done) % 4096 + (count - 1) < length (page_of initial ((offset + done) / 4096)) =
     room ((offset + done) / 4096) ((offset + done) % 4096 + (count - 1)) small (omega arith) (omega arith) in
-    let same = long ((offset + done) / 4096) in
-    let counted = chunk_long done count bytes fits in
-    omega arith
+    omega (arith, long ((offset + done) / 4096), chunk_long done count bytes fits)
 
 -- one turn of a write
 module _ (offset done count : ℕ) (bytes chunk : List ℕ) (initial old new : Pages)
@@ -79,36 +76,31 @@ module _ (offset done count : ℕ) (bytes chunk : List ℕ) (initial old new : P
     beside (inl below) same = inl (omega arith)
     beside (inr past) same = inr (omega arith)
 
-  taken : length (take done bytes) ≡ done
-  taken = omega (arith, length-take done bytes, within)
-
-  taken_more : length (take (done + count) bytes) ≡ done + count
-  taken_more = omega (arith, length-take (done + count) bytes, within)
+  taken : (n : ℕ) → n ≤ done + count → length (take n bytes) ≡ n
+  taken n few = omega (arith, length-take n bytes, within)
 
   inside_more : Overwrites offset (take done bytes) initial old → (q place k : ℕ) → place < 4096 → k < done + count
       → offset + k ≡ 4096 * q + place → byte_in (page_of new q) place ≡ get_or bytes k 0
   inside_more so_far q place k small below there = elim (cases_lt k done) [
-    | inl before ↦ kept_there q place small (inl (omega arith)) ∙ so_far.inside q place k small (omega (arith, taken)) there
+    | inl before ↦ kept_there q place small (inl (omega arith)) ∙ so_far.inside q place k small (omega (arith, taken done)) there
         ∙ get_or-take done bytes k 0 before
     | inr now ↦
         let same : q ≡ number = omega arith in
-        let put : place ≡ from + (k - done) = omega arith in
-        let counted : done + (k - done) ≡ k = omega arith in
-        ap (λ n. byte_in (page_of new n) place) same ∙ written_here place (k - done) put (omega arith) ∙ ap (λ j. get_or bytes j 0) counted
+        ap (λ n. byte_in (page_of new n) place) same ∙ written_here place (k - done) (omega arith) (omega arith) ∙ ap (λ j. get_or bytes j 0) (omega arith)
   ]
 
   outside_more : Overwrites offset (take done bytes) initial old → (q place : ℕ) → place < 4096
       → (4096 * q + place < offset) ⊎ (offset + (done + count) ≤ 4096 * q + place) → byte_in (page_of new q) place ≡ byte_in (page_of initial q) place
   outside_more so_far q place small (inl below) = kept_there q place small (inl (omega arith)) ∙ so_far.outside q place small (inl below)
   outside_more so_far q place small (inr past) = kept_there q place small (inr (omega arith))
-      ∙ so_far.outside q place small (inr (omega (arith, taken)))
+      ∙ so_far.outside q place small (inr (omega (arith, taken done)))
 
   pub over_more : Overwrites offset (take done bytes) initial old → Overwrites offset (take (done + count) bytes) initial new
   over_more so_far = record {
     inside = λ q place k small below there.
-        let counted : k < done + count = omega (arith, taken_more) in
+        let counted : k < done + count = omega (arith, taken (done + count)) in
         inside_more so_far q place k small counted there ∙ sym (get_or-take (done + count) bytes k 0 counted);
-    outside = λ q place small apart. outside_more so_far q place small (rw taken_more at apart);
+    outside = λ q place small apart. outside_more so_far q place small (rw (taken (done + count) (omega arith)) at apart);
   }
 
 -- a part of one page is the file's from there on

@@ -2,19 +2,14 @@
 use Rattle.fm_base.proofs.Words.{lt-leb, cond-false, length-take, length-replicate, eq_by_cmp_equiv, nat_list_cmp_total, get, insert}
 use Rattle.fm_base.proofs.Words.{get-insert, resized, written, Status, NoMemory, DeviceFault, FileNotFound, Folder, change_at, changed}
 use Rattle.fm_base.proofs.Words.{tell_at, told, bytes_from, Makes, MakesKnown, Tells, TellsKnown}
-use Rattle.std.specs.Prelude.{◌≡◌, ℕ, ◌+◌, ◌-◌, Bool, true, false, cond, List, [], ◌∷◌, ◌++◌, length, take, drop, replicate, Option, Some}
+use Rattle.std.specs.Prelude.{◌≡◌, ℕ, ◌+◌, false, cond, List, [], ◌∷◌, ◌++◌, length, take, drop, Option, Some}
 use Rattle.std.specs.Prelude.{None, ◌<◌, ◌&&◌, nat_le, nat_lt, Result, Ok, Err, refl}
 use Rattle.std.proofs.Common.{sym, ap, subst, ◌∙◌, arith, length-append, append_assoc}
+use Rattle.std.proofs.lemmas.Bool.Decides.{nat_tests}
 use Rattle.std.proofs.Math.Seq.{take-append_seam, drop-append_seam}
 
 pub length-resized : (n : ℕ) (bytes : List ℕ) → length (resized n bytes) ≡ n
-length-resized n bytes = omega (
-  arith,
-  length-append (take n bytes) (replicate (n - length bytes) 0),
-  length-take n bytes,
-  length-replicate
-      {A = ℕ} (n - length bytes) 0,
-)
+length-resized n bytes = simp (length-append, length-take, length-replicate) (omega arith)
 
 -- what was written lies where it was written
 pub written_back : (offset : ℕ) (bytes old : List ℕ) → take (length bytes) (drop offset (written offset bytes old)) ≡ bytes
@@ -27,22 +22,11 @@ written_back offset (byte ∷ bytes) old =
     ∙ ap (drop (length front)) (append_assoc front (byte ∷ bytes) back) ∙ drop-append_seam front ((byte ∷ bytes) ++ back) in
     ap (take (length (byte ∷ bytes))) behind ∙ take-append_seam (byte ∷ bytes) back
 
-no_bytes : (test : Bool) → (test && false) ≡ false
-no_bytes true = refl
-no_bytes false = refl
-
 -- a read of as many bytes isn't refused, and tells them
 past_end : (offset : ℕ) (bytes old : List ℕ) → (nat_le (length (written offset bytes old)) offset && nat_lt 0 (length bytes)) ≡ false
-past_end offset [] old = no_bytes _
+past_end offset [] old = grind (arith, nat_tests)
 past_end offset (byte ∷ bytes) old =
-    let long : offset < length (written offset (byte ∷ bytes) old) =
-    omega (
-      arith,
-      length-append (resized offset old ++ byte ∷ bytes) (drop (offset + length (byte ∷ bytes)) old),
-      length-append
-          (resized offset old) (byte ∷ bytes),
-      length-resized offset old,
-    ) in
+    let long : offset < length (written offset (byte ∷ bytes) old) = simp (length-append, length-take, length-replicate) (omega arith) in
     rw (lt-leb (length (written offset (byte ∷ bytes) old)) offset long) refl
 
 told_back : (offset : ℕ) (bytes old : List ℕ) → bytes_from offset (length bytes) (written offset bytes old) ≡ Ok bytes

@@ -1,9 +1,7 @@
 -- Two ways of telling what completions carry that agree on each id say the same of the table.
 use Rattle.std.proofs.Common.{◌≡◌}
-use Rattle.fm_ctx.proofs.Words.{ℕ, Bool, Option, ap, subst, CtxId, Object, Context, ContextTable, IsLawful, released, Settles, Sweeps}
-use Rattle.fm_ctx.specs.declared.set_reply.SetMode.{SetMode}
-use Rattle.fm_ctx.specs.Links.{set_after, delete_after}
-use Rattle.fm_ctx.specs.Settling.{Leaves}
+use Rattle.fm_ctx.proofs.Words.{ℕ, Bool, Option, ap, subst, CtxId, Object, Context, ContextTable, IsLawful, released, Settles, Sweeps, SetMode}
+use Rattle.fm_ctx.proofs.Words.{set_after, delete_after, Leaves}
 
 pub alike : {carried carried' : CtxId → ℕ} → ((c : CtxId) → carried c ≡ carried' c) → carried ≡ carried'
 alike same = λ i c. same c i

@@ -1,11 +1,10 @@
 -- Lists of references: what they hold after one more, and after one fewer.
-use Rattle.fm_ctx.proofs.Words.{ℕ, true, false, cond, List, [], length, get_or, set, slice_get, Option, Some, None, All, refl, subst}
-use Rattle.fm_ctx.proofs.Words.{arith, nat_tests, inl, inr, length-append, cases_Bool, none-some, sum_by-cons, get_or-le-sum_by, CtxId}
-use Rattle.fm_ctx.proofs.Words.{one, is_id, references, holds, without, hand_of, held, places}
+use Rattle.fm_ctx.proofs.Words.{ℕ, true, false, cond, List, [], length, get_or, set, slice_get, Option, Some, None, All, refl, subst, arith}
+use Rattle.fm_ctx.proofs.Words.{nat_tests, inl, inr, length-append, cases_Bool, none-some, sum_by-cons, get_or-le-sum_by, CtxId, one, is_id}
+use Rattle.fm_ctx.proofs.Words.{references, holds, without, hand_of, held, places, All-set, sum_by-set, count_by-le-length, cleans}
 use Rattle.std.proofs.Common.{◌≡◌, ◌+◌, ◌<◌, ◌≤◌, ◌∷◌, ◌++◌, drop}
-use Rattle.std.proofs.lemmas.List.Elements.{All-set, All-weaker}
-use Rattle.std.proofs.lemmas.List.Sums.{sum_by-append, sum_by-set, sum_by-le, count_by-le-length}
-use Rattle.fm_ctx.specs.Bags.{cleans}
+use Rattle.std.proofs.lemmas.List.Elements.{All-weaker}
+use Rattle.std.proofs.lemmas.List.Sums.{sum_by-append, sum_by-le}
 
 -- ---- ids
 

@@ -1,27 +1,19 @@
 -- What completions carry, after each change of what is kept.
-use Rattle.fm_ctx.proofs.Words.{ℕ, true, cond, List, length, None, is_some, unwrap_or}
-use Rattle.fm_ctx.proofs.Words.{refl, sym, ap, ap₂, arith}
-use Rattle.fm_ctx.proofs.Words.{get_or_from_slice_get, slice_get_within, CtxId, updated, updated-same, updated-other}
-use Rattle.fm_ctx.proofs.Words.{one, is_id, Context, Slot, ContextTable, context_at, ContextsKept}
-use Rattle.fm_ctx.proofs.Words.{carried_of, carried_more, carried_fewer, IsNew, kept_allocated, cleaned}
-use Rattle.std.proofs.Common.{◌≡◌, ◌+◌, ◌-◌, ◌<◌, ◌≤◌, ◌∙◌, ◌≢◌, slice_index}
+use Rattle.fm_ctx.proofs.Words.{ℕ, true, cond, List, length, None, is_some, unwrap_or, refl, sym, ap, ap₂, arith, get_or_from_slice_get}
+use Rattle.fm_ctx.proofs.Words.{slice_get_within, CtxId, updated, updated-same, updated-other, one, is_id, Context, Slot, ContextTable, context_at}
+use Rattle.fm_ctx.proofs.Words.{ContextsKept, carried_of, carried_more, carried_fewer, IsNew, kept_allocated, cleaned, nat_tests}
+use Rattle.std.proofs.Common.{◌≡◌, ◌+◌, ◌-◌, ◌<◌, ◌∙◌, ◌≢◌, slice_index}
 use Rattle.std.proofs.lemmas.Option.{slice_get-get_or, unwrap_or-slice_get}
-use Rattle.fm_ctx.specs.Kept.{carried_none}
 use Rattle.fm_ctx.proofs.Bags.{is_id-same}
 use Rattle.std.proofs.lemmas.Grind.{common_steps}
-use Rattle.fm_ctx.proofs.Words.{nat_tests}
 use Rattle.fm_ctx.proofs.Slots.{new_absent, new_slot_absent, context_at-placed, context_at-placed_other, context_at-here, context_at-other}
-
-carried_as : (kept : ContextsKept) (t : ContextTable) (c : CtxId) → is_some (context_at t.slots c) ≡ is_some (context_at kept.table.slots c)
-    → carried_of kept c ≡ carried_of (record kept { table = t }) c
-unfolding carried_of
-carried_as kept t c there = ap (λ b. cond b (slice_index kept.carried c.slot) 0) (sym there)
 
 -- a change that leaves the contexts there leaves what is carried
 pub carried_there : (kept : ContextsKept) (t : ContextTable)
     → ((c : CtxId) → is_some (context_at t.slots c) ≡ is_some (context_at kept.table.slots c)) → (c : CtxId)
     → carried_of kept c ≡ carried_of (record kept { table = t }) c
-carried_there kept t there c = carried_as kept t c (there c)
+unfolding carried_of
+carried_there kept t there c = ap (λ b. cond b (slice_index kept.carried c.slot) 0) (sym (there c))
 
 -- two ids of one slot can't both name its context
 same_slot : (slots : List Slot) (c d : CtxId) → is_some (context_at slots c) ≡ true → is_some (context_at slots d) ≡ true → d.slot ≡ c.slot → is_id d c ≡ true
@@ -65,12 +57,6 @@ pub carried_one_fewer : (kept : ContextsKept) (t : ContextTable) (c : CtxId)
 carried_one_fewer kept t c there some within d =
     grind (arith, nat_tests, carried_changed (λ n. n - 1) kept t c there (carried_present kept c some) within d, is_id-same d c)
 
-index_none : (carried : List ℕ) (c : CtxId) → c.slot ≤ length carried → slice_index (carried_none carried c) c.slot ≡ 0
-index_none carried c within = grind (arith, common_steps)
-
-index_other : (carried : List ℕ) (c : CtxId) (j : ℕ) → j ≢ c.slot → slice_index (carried_none carried c) j ≡ slice_index carried j
-index_other carried c j apart = grind (arith, common_steps)
-
 -- of a new context nothing is carried, of all others as much as before
 pub carried_allocated : (kept : ContextsKept) (w : ℕ) (c : CtxId) (x : Context) → IsNew kept.table.slots c
     → length kept.carried ≡ length kept.table.slots → (d : CtxId)
@@ -84,8 +70,7 @@ carried_allocated kept w c x new matched d =
       context_at-placed kept.table.slots c x new,
       context_at-placed_other kept.table.slots c x d new,
       new_slot_absent kept.table.slots c d new,
-      index_none kept.carried c,
-      index_other kept.carried c d.slot,
+      common_steps,
       is_id-same d c,
       slice_get_within,
     )

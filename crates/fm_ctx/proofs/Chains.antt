@@ -62,145 +62,131 @@ pub record Reseats (nexts nexts' : List (Option ℕ)) (seats : List (Option Seat
   pub apart : (other : ℕ) → other ≢ chain → is_on other o ≡ stands seats other slot
   pub next : (other : ℕ) → is_on other o ≡ true → get_or nexts' slot None ≡ last_below (stands seats other) slot
 
--- the tests before and after agree at the other slots
-agree_at : {nexts nexts' : List (Option ℕ)} {seats : List (Option Seat)} {chain slot : ℕ} {o : Option Seat} → Reseats nexts nexts' seats chain slot o
-    → (other k : ℕ) → k ≢ slot → stands seats other k ≡ stands (set seats slot o) other k
-agree_at {nexts} {nexts'} {seats} {chain} {slot} {o} r other k apart = ap (is_on other) (sym (get_or-set_other seats slot k o None apart))
+module _ {nexts nexts' : List (Option ℕ)} {seats : List (Option Seat)} {chain slot : ℕ} {o : Option Seat} (r : Reseats nexts nexts' seats chain slot o) where
+  -- the tests before and after agree at the other slots
+  agree_at : (other k : ℕ) → k ≢ slot → stands seats other k ≡ stands (set seats slot o) other k
+  agree_at other k apart = ap (is_on other) (sym (get_or-set_other seats slot k o None apart))
 
--- and on other chains everywhere
-agree_on : {nexts nexts' : List (Option ℕ)} {seats : List (Option Seat)} {chain slot : ℕ} {o : Option Seat} → Reseats nexts nexts' seats chain slot o
-    → (other : ℕ) → other ≢ chain → (k : ℕ) → stands seats other k ≡ stands (set seats slot o) other k
-agree_on {nexts} {nexts'} {seats} {chain} {slot} {o} r other apart k =
-    elim (cases_eq k slot) [
-      | inl is ↦ grind (arith, r.apart other apart, get_or-set_same seats slot o None r.within)
-      | inr off ↦ agree_at r other k off
-    ]
+  -- and on other chains everywhere
+  agree_on : (other : ℕ) → other ≢ chain → (k : ℕ) → stands seats other k ≡ stands (set seats slot o) other k
+  agree_on other apart k =
+      elim (cases_eq k slot) [
+        | inl is ↦ grind (arith, r.apart other apart, get_or-set_same seats slot o None r.within)
+        | inr off ↦ agree_at other k off
+      ]
 
--- what a slot below, or of another chain, leads to
-next_kept : {firsts nexts nexts' : List (Option ℕ)} {seats : List (Option Seat)} {chain slot : ℕ} {o : Option Seat}
-    → IsChained firsts nexts seats → Reseats nexts nexts' seats chain slot o
-    → (other k : ℕ) → k ≢ slot → stands seats other k ≡ true → ((j : ℕ) → j < k → stands seats other j ≡ stands (set seats slot o) other j)
-    → get_or nexts' k None ≡ last_below (stands (set seats slot o) other) k
-next_kept {firsts} {nexts} {nexts'} {seats} {chain} {slot} {o} c r other k apart has same =
-    r.others k apart ∙ c.next other k has ∙ last_agrees (stands seats other) (stands (set seats slot o) other) k same
+  -- what the slot itself leads to
+  next_here : (other : ℕ) → stands (set seats slot o) other slot ≡ true → get_or nexts' slot None ≡ last_below (stands (set seats slot o) other) slot
+  next_here other has =
+      r.next other (ap (is_on other) (sym (get_or-set_same seats slot o None r.within)) ∙ has)
+      ∙ last_agrees (stands seats other) (stands (set seats slot o) other) slot (λ j below. agree_at other j (λ is. omega (arith, below, is)))
 
--- what the slot itself leads to
-next_here : {nexts nexts' : List (Option ℕ)} {seats : List (Option Seat)} {chain slot : ℕ} {o : Option Seat} → Reseats nexts nexts' seats chain slot o
-    → (other : ℕ) → stands (set seats slot o) other slot ≡ true → get_or nexts' slot None ≡ last_below (stands (set seats slot o) other) slot
-next_here {nexts} {nexts'} {seats} {chain} {slot} {o} r other has =
-    r.next other (ap (is_on other) (sym (get_or-set_same seats slot o None r.within)) ∙ has)
-    ∙ last_agrees (stands seats other) (stands (set seats slot o) other) slot (λ j below. agree_at r other j (λ is. omega (arith, below, is)))
+  -- the slot that is led to is the last one below the end of what lies between
+  led_to : (end : ℕ) → slot < end → ((k : ℕ) → slot < k → k < end → stands seats chain k ≡ false)
+      → last_below (stands (set seats slot o) chain) (suc slot) ≡ last_below (stands (set seats slot o) chain) end
+  led_to end above none =
+      sym (last_skips (stands (set seats slot o) chain) (suc slot) end (omega (arith, above))
+      (λ k past under. sym (agree_at chain k (λ is. omega (arith, past, is))) ∙ none k (omega (arith, past)) under))
 
--- the slot that is led to is the last one below the end of what lies between
-led_to : {nexts nexts' : List (Option ℕ)} {seats : List (Option Seat)} {chain slot : ℕ} {o : Option Seat} → Reseats nexts nexts' seats chain slot o
-    → (end : ℕ) → slot < end → ((k : ℕ) → slot < k → k < end → stands seats chain k ≡ false)
-    → last_below (stands (set seats slot o) chain) (suc slot) ≡ last_below (stands (set seats slot o) chain) end
-led_to {nexts} {nexts'} {seats} {chain} {slot} {o} r end above none =
-    sym (last_skips (stands (set seats slot o) chain) (suc slot) end (omega (arith, above))
-    (λ k past under. sym (agree_at r chain k (λ is. omega (arith, past, is))) ∙ none k (omega (arith, past)) under))
+module _ {firsts nexts nexts' : List (Option ℕ)} {seats : List (Option Seat)} {chain slot : ℕ} {o : Option Seat}
+    (c : IsChained firsts nexts seats) (r : Reseats nexts nexts' seats chain slot o) where
+  -- what a slot below, or of another chain, leads to
+  next_kept : (other k : ℕ) → k ≢ slot → stands seats other k ≡ true → ((j : ℕ) → j < k → stands seats other j ≡ stands (set seats slot o) other j)
+      → get_or nexts' k None ≡ last_below (stands (set seats slot o) other) k
+  next_kept other k apart has same = r.others k apart ∙ c.next other k has ∙ last_agrees (stands seats other) (stands (set seats slot o) other) k same
 
--- what a chain leads to, where none or a higher slot of it leads to the slot
-first_kept : {firsts nexts nexts' : List (Option ℕ)} {seats : List (Option Seat)} {chain slot : ℕ} {o : Option Seat}
-    → IsChained firsts nexts seats → Reseats nexts nexts' seats chain slot o
-    → (other : ℕ) → other < 4096 → last_below (stands seats other) (length seats) ≡ last_below (stands (set seats slot o) other) (length seats)
-    → get_or firsts other None ≡ last_below (stands (set seats slot o) other) (length (set seats slot o))
-first_kept {firsts} {nexts} {nexts'} {seats} {chain} {slot} {o} c r other small same =
-    c.first other small ∙ same ∙ ap (last_below (stands (set seats slot o) other)) (sym (length-set seats slot o))
+  -- what a chain leads to, where none or a higher slot of it leads to the slot
+  first_kept : (other : ℕ) → other < 4096 → last_below (stands seats other) (length seats) ≡ last_below (stands (set seats slot o) other) (length seats)
+      → get_or firsts other None ≡ last_below (stands (set seats slot o) other) (length (set seats slot o))
+  first_kept other small same = c.first other small ∙ same ∙ ap (last_below (stands (set seats slot o) other)) (sym (length-set seats slot o))
 
--- no slot of the chain is above
-chained_first : {firsts nexts nexts' : List (Option ℕ)} {seats : List (Option Seat)} {chain slot : ℕ} {o : Option Seat} (led : Option ℕ)
-    → IsChained firsts nexts seats → chain < 4096
-    → Reseats nexts nexts' seats chain slot o → ((k : ℕ) → slot < k → k < length seats → stands seats chain k ≡ false)
-    → led ≡ last_below (stands (set seats slot o) chain) (suc slot) → IsChained (set firsts chain led) nexts' (set seats slot o)
-chained_first {firsts} {nexts} {nexts'} {seats} {chain} {slot} {o} led c within r none is = record {
-  chains = length-set firsts chain led ∙ c.chains;
-  matched = r.as_long ∙ c.matched ∙ sym (length-set seats slot o);
-  first = at_first;
-  next = at_next;
-}
-  where
-    at_first : (other : ℕ) → other < 4096 → get_or (set firsts chain led) other None ≡ last_below (stands (set seats slot o) other) (length (set seats slot o))
-    at_first other small =
+  -- of another chain
+  first_apart : (other : ℕ) → other < 4096 → other ≢ chain → get_or firsts other None ≡ last_below (stands (set seats slot o) other) (length (set seats slot o))
+  first_apart other small apart =
+      first_kept other small (last_agrees (stands seats other) (stands (set seats slot o) other) (length seats) (λ k below. agree_on r other apart k))
+
+  -- no slot of the chain is above
+  chained_first : (led : Option ℕ) → chain < 4096 → ((k : ℕ) → slot < k → k < length seats → stands seats chain k ≡ false)
+      → led ≡ last_below (stands (set seats slot o) chain) (suc slot) → IsChained (set firsts chain led) nexts' (set seats slot o)
+  chained_first led within none is = record {
+    chains = length-set firsts chain led ∙ c.chains;
+    matched = r.as_long ∙ c.matched ∙ sym (length-set seats slot o);
+    first = λ other small.
         elim (cases_eq other chain) [
           | inl same ↦ grind (arith, get_or-set_same firsts chain led None, led_to r (length seats) r.within none, length-set seats slot o, c.chains)
-          | inr apart ↦
-              get_or-set_other firsts chain other led None apart
-              ∙ first_kept c r other small (last_agrees (stands seats other) (stands (set seats slot o) other) (length seats) (λ k below. agree_on r other apart k))
-        ]
+          | inr apart ↦ get_or-set_other firsts chain other led None apart ∙ first_apart other small apart
+        ];
+    next = at_next;
+  }
+    where
+      below_slot : (k : ℕ) → k ≢ slot → stands seats chain k ≡ true → k < length seats → k < slot
+      below_slot k off has under =
+          elim (cases_order k slot) [ inl same ↦ absurd (off same) | inr (inl below) ↦ below | inr (inr above) ↦ grind (arith, none k above) ]
 
-    below_slot : (k : ℕ) → k ≢ slot → stands seats chain k ≡ true → k < length seats → k < slot
-    below_slot k off has under =
-        elim (cases_order k slot) [ inl same ↦ absurd (off same) | inr (inl below) ↦ below | inr (inr above) ↦ grind (arith, none k above) ]
+      at_next : (other k : ℕ) → stands (set seats slot o) other k ≡ true → get_or nexts' k None ≡ last_below (stands (set seats slot o) other) k
+      at_next other k has =
+          elim (cases_eq k slot) [
+            | inl same ↦ grind (arith, next_here r other)
+            | inr off ↦
+                let had : stands seats other k ≡ true = agree_at r other k off ∙ has in
+                next_kept other k off had (λ j under. elim (cases_eq other chain) [
+                  | inl same ↦ grind (arith, agree_at r other j, below_slot k off, stands_within seats other k had)
+                  | inr apart ↦ agree_on r other apart j
+                ])
+          ]
 
-    at_next : (other k : ℕ) → stands (set seats slot o) other k ≡ true → get_or nexts' k None ≡ last_below (stands (set seats slot o) other) k
-    at_next other k has =
-        elim (cases_eq k slot) [
-          | inl same ↦ grind (arith, next_here r other)
-          | inr off ↦
-              let had : stands seats other k ≡ true = agree_at r other k off ∙ has in
-              next_kept c r other k off had (λ j under. elim (cases_eq other chain) [
-                | inl same ↦ grind (arith, agree_at r other j, below_slot k off, stands_within seats other k had)
-                | inr apart ↦ agree_on r other apart j
-              ])
-        ]
+  -- the next higher slot of the chain leads to it
+  chained_after : (led : Option ℕ) (a : ℕ) → slot < a → a < length seats → stands seats chain a ≡ true
+      → ((k : ℕ) → slot < k → k < a → stands seats chain k ≡ false)
+      → led ≡ last_below (stands (set seats slot o) chain) (suc slot) → IsChained firsts (set nexts' a led) (set seats slot o)
+  chained_after led a above within passes none is = record {
+    chains = c.chains;
+    matched = length-set nexts' a led ∙ r.as_long ∙ c.matched ∙ sym (length-set seats slot o);
+    first = λ other small.
+        elim (cases_eq other chain) [
+          | inl same ↦ first_kept other small (grind (arith, higher (length seats) within))
+          | inr apart ↦ first_apart other small apart
+        ];
+    next = at_next;
+  }
+    where
+      higher : (n : ℕ) → a < n → last_below (stands seats chain) n ≡ last_below (stands (set seats slot o) chain) n
+      higher n under =
+          last_above (stands seats chain) (stands (set seats slot o) chain) slot a n above under passes (λ k past. agree_at r chain k (λ at. omega (arith, at, past)))
 
--- the next higher slot of the chain leads to it
-chained_after : {firsts nexts nexts' : List (Option ℕ)} {seats : List (Option Seat)} {chain slot : ℕ} {o : Option Seat} (led : Option ℕ) (a : ℕ) → IsChained firsts nexts seats
-    → Reseats nexts nexts' seats chain slot o → slot < a → a < length seats → stands seats chain a ≡ true
-    → ((k : ℕ) → slot < k → k < a → stands seats chain k ≡ false)
-    → led ≡ last_below (stands (set seats slot o) chain) (suc slot) → IsChained firsts (set nexts' a led) (set seats slot o)
-chained_after {firsts} {nexts} {nexts'} {seats} {chain} {slot} {o} led a c r above within passes none is = record {
-  chains = c.chains;
-  matched = length-set nexts' a led ∙ r.as_long ∙ c.matched ∙ sym (length-set seats slot o);
-  first = at_first;
-  next = at_next;
-}
-  where
-    higher : (n : ℕ) → a < n → last_below (stands seats chain) n ≡ last_below (stands (set seats slot o) chain) n
-    higher n under =
-        last_above (stands seats chain) (stands (set seats slot o) chain) slot a n above under passes (λ k past. agree_at r chain k (λ at. omega (arith, at, past)))
+      on_chain : (k : ℕ) → k ≢ slot → stands seats chain k ≡ true → get_or (set nexts' a led) k None ≡ last_below (stands (set seats slot o) chain) k
+      on_chain k off had =
+          elim (cases_order k a) [
+            | inl same ↦ grind (arith, get_or-set_same nexts' a led None, within, r.as_long, c.matched, led_to r a above none)
+            | inr (inl under) ↦
+                let below : k < slot =
+                elim (cases_order k slot) [ inl same ↦ absurd (off same) | inr (inl lower) ↦ lower | inr (inr past) ↦ grind (arith, none k past under) ] in
+                get_or-set_other nexts' a k led None (λ at. omega (arith, at, under))
+                ∙ next_kept chain k off had (λ j lower. agree_at r chain j (λ at. omega (arith, at, lower, below)))
+            | inr (inr past) ↦
+                get_or-set_other nexts' a k led None (λ at. omega (arith, at, past)) ∙ r.others k off ∙ c.next chain k had ∙ higher k past
+          ]
 
-    at_first : (other : ℕ) → other < 4096 → get_or firsts other None ≡ last_below (stands (set seats slot o) other) (length (set seats slot o))
-    at_first other small =
-        first_kept c r other small (elim (cases_eq other chain) [
-          | inl same ↦ grind (arith, higher (length seats) within)
-          | inr apart ↦ last_agrees (stands seats other) (stands (set seats slot o) other) (length seats) (λ k below. agree_on r other apart k)
-        ])
+      at_next : (other k : ℕ) → stands (set seats slot o) other k ≡ true → get_or (set nexts' a led) k None ≡ last_below (stands (set seats slot o) other) k
+      at_next other k has =
+          elim (cases_eq k slot) [
+            | inl same ↦ get_or-set_other nexts' a k led None (λ at. omega (arith, at, same, above)) ∙ grind (arith, next_here r other)
+            | inr off ↦
+                let had : stands seats other k ≡ true = agree_at r other k off ∙ has in
+                elim (cases_eq other chain) [
+                  | inl same ↦ grind (arith, on_chain k off)
+                  | inr apart ↦
+                      get_or-set_other nexts' a k led None (λ at. apart (one_chain other chain (get_or seats a None) (ap (stands seats other) (sym at) ∙ had) passes))
+                      ∙ next_kept other k off had (λ j under. agree_on r other apart j)
+                ]
+          ]
 
-    on_chain : (k : ℕ) → k ≢ slot → stands seats chain k ≡ true → get_or (set nexts' a led) k None ≡ last_below (stands (set seats slot o) chain) k
-    on_chain k off had =
-        elim (cases_order k a) [
-          | inl same ↦ grind (arith, get_or-set_same nexts' a led None, within, r.as_long, c.matched, led_to r a above none)
-          | inr (inl under) ↦
-              let below : k < slot =
-              elim (cases_order k slot) [ inl same ↦ absurd (off same) | inr (inl lower) ↦ lower | inr (inr past) ↦ grind (arith, none k past under) ] in
-              get_or-set_other nexts' a k led None (λ at. omega (arith, at, under))
-              ∙ next_kept c r chain k off had (λ j lower. agree_at r chain j (λ at. omega (arith, at, lower, below)))
-          | inr (inr past) ↦
-              get_or-set_other nexts' a k led None (λ at. omega (arith, at, past)) ∙ r.others k off ∙ c.next chain k had ∙ higher k past
-        ]
-
-    at_next : (other k : ℕ) → stands (set seats slot o) other k ≡ true → get_or (set nexts' a led) k None ≡ last_below (stands (set seats slot o) other) k
-    at_next other k has =
-        elim (cases_eq k slot) [
-          | inl same ↦ get_or-set_other nexts' a k led None (λ at. omega (arith, at, same, above)) ∙ grind (arith, next_here r other)
-          | inr off ↦
-              let had : stands seats other k ≡ true = agree_at r other k off ∙ has in
-              elim (cases_eq other chain) [
-                | inl same ↦ grind (arith, on_chain k off)
-                | inr apart ↦
-                    get_or-set_other nexts' a k led None (λ at. apart (one_chain other chain (get_or seats a None) (ap (stands seats other) (sym at) ∙ had) passes))
-                    ∙ next_kept c r other k off had (λ j under. agree_on r other apart j)
-              ]
-        ]
-
--- whatever leads to the slot
-pub chained_led : {firsts nexts nexts' : List (Option ℕ)} {seats : List (Option Seat)} {chain slot : ℕ} {o : Option Seat} (led above : Option ℕ) → IsChained firsts nexts seats → chain < 4096
-    → Reseats nexts nexts' seats chain slot o → IsAbove (stands seats chain) slot (length seats) above
-    → led ≡ last_below (stands (set seats slot o) chain) (suc slot)
-    → IsChained (firsts_led firsts chain above led) (nexts_led nexts' above led) (set seats slot o)
-chained_led led None c within r above is = chained_first led c within r above.between is
-chained_led led (Some a) c within r above is = chained_after led a c r above.there.0 above.there.1 above.there.2 above.between is
+  -- whatever leads to the slot
+  chained_led : (led above : Option ℕ) → chain < 4096 → IsAbove (stands seats chain) slot (length seats) above
+      → led ≡ last_below (stands (set seats slot o) chain) (suc slot)
+      → IsChained (firsts_led firsts chain above led) (nexts_led nexts' above led) (set seats slot o)
+  chained_led led None within above is = chained_first led within above.between is
+  chained_led led (Some a) within above is = chained_after led a above.there.0 above.there.1 above.there.2 above.between is
 
 -- equal lists
 pub chained_as : {firsts nexts nexts' : List (Option ℕ)} {seats seats' : List (Option Seat)} → nexts' ≡ nexts → seats' ≡ seats
@@ -241,7 +227,7 @@ chained_put {firsts} {nexts} {seats} chain slot seat above next c small is withi
           ∙ ap (λ n. last_below (stands seats n) slot) (is ∙ eqb-true (chain_of seat) other on);
     } in
     let on : stands (set seats slot (Some seat)) chain slot ≡ true = ap (is_on chain) (get_or-set_same seats slot (Some seat) None within) ∙ eq-eqb (chain_of seat) chain (sym is) in
-    chained_led (Some slot) above c small reseats at (last_passes (stands (set seats slot (Some seat)) chain) slot on)
+    chained_led c reseats (Some slot) above small at (last_passes (stands (set seats slot (Some seat)) chain) slot on)
 
 -- a slot loses its seat
 pub chained_taken : {firsts nexts : List (Option ℕ)} {seats : List (Option Seat)} (chain slot : ℕ) (seat : Seat) (above next : Option ℕ)
@@ -259,7 +245,7 @@ chained_taken {firsts} {nexts} {seats} chain slot seat above next c small is had
       next = λ other never. absurd (true≢false (sym never));
     } in
     let off : stands (set seats slot None) chain slot ≡ false = ap (is_on chain) (get_or-set_same seats slot None None within) in
-    chained_led next above c small reseats at
+    chained_led c reseats next above small at
     (led_by chain slot next c on read
     ∙ last_agrees (stands seats chain) (stands (set seats slot None) chain) slot (λ k below. agree_at reseats chain k (λ same. omega (arith, same, below)))
     ∙ last_fails (stands (set seats slot None) chain) slot off)

@@ -1,12 +1,9 @@
 -- A seat is found along its chain.
 use Rattle.fm_ctx.proofs.Words.{ℕ, zero, suc, Bool, true, false, List, [], length, get_or, position, count_by, Option, Some, None, refl, sym, ap}
-use Rattle.fm_ctx.proofs.Words.{arith, inl, inr, lt-ltb, le-ltb, IfSome, position_or_len, cases_order}
-use Rattle.fm_ctx.proofs.Words.{sum_by-cons, get_or-le-sum_by, Seat, one, chain_of, is_seat, stands, last_below}
-use Rattle.fm_ctx.proofs.Words.{end_of}
-use Rattle.fm_ctx.proofs.Words.{nat_tests}
+use Rattle.fm_ctx.proofs.Words.{arith, inl, inr, lt-ltb, le-ltb, IfSome, position_or_len, cases_order, sum_by-cons, get_or-le-sum_by, Seat, one}
+use Rattle.fm_ctx.proofs.Words.{chain_of, is_seat, stands, last_below, end_of, nat_tests, is_on, IsAbove}
 use Rattle.std.proofs.Common.{◌≡◌, ◌<◌, ◌≤◌, ◌∷◌, ◌∙◌}
 use Rattle.std.proofs.lemmas.List.Sums.{position_or_len_is}
-use Rattle.fm_ctx.specs.Seats.{is_on, IsAbove}
 use Rattle.fm_ctx.proofs.Objects.{same_object-same}
 use Rattle.fm_ctx.proofs.Lasts.{IsLast, last_some, last_none}
 
@@ -25,13 +22,10 @@ pub position_none : {X : Type 0} (p : X → Bool) (xs : List X) (d : X) → ((k 
 position_none p xs d fails =
     rw (position_or_len_is p xs (length xs) d (omega arith) fails (λ within. absurd (omega (arith, within))), le-ltb (length xs) (length xs) (omega arith)) refl
 
--- a slot that has the seat is on its chain
-is_there : (seat : Seat) (o : Option Seat) → is_seat seat o ≡ true → is_on (chain_of seat) o ≡ true
-is_there seat None has = grind arith
-is_there seat (Some other) has = grind (arith, nat_tests, same_object-same seat.object other.object)
-
+-- a slot that isn't on the chain of a seat hasn't the seat
 not_there : (seat : Seat) (o : Option Seat) → is_on (chain_of seat) o ≡ false → is_seat seat o ≡ false
-not_there seat o off = grind (arith, nat_tests, is_there seat o)
+not_there seat None off = refl
+not_there seat (Some other) off = grind (arith, nat_tests, same_object-same seat.object other.object)
 
 -- how far a walk along the chain of a seat came: nothing that it passed has the seat
 pub record IsPassed (seats : List (Option Seat)) (seat : Seat) (next : Option ℕ) : Type 0 where
@@ -75,26 +69,20 @@ end_within : (test : ℕ → Bool) (slot all : ℕ) (above : Option ℕ) → IfS
 end_within test slot all None there = omega arith
 end_within test slot all (Some a) there = omega (arith, there.1)
 
-pub climbed : (test : ℕ → Bool) (slot all : ℕ) (above : Option ℕ) {next : Option ℕ} (place : ℕ)
-    → IfSome above (λ (a : ℕ). (slot < a) × (a < all) × (test a ≡ true))
-    → next ≡ last_below test (end_of above all) → next ≡ Some place → (place < all) × (test place ≡ true)
-climbed test slot all above place there leads is =
-    let l = last_some test (end_of above all) place (sym leads ∙ is) in
-    (omega (arith, l.below, end_within test slot all above there), l.passes)
+module _ (test : ℕ → Bool) (slot all : ℕ) (above : Option ℕ) (there : IfSome above (λ (a : ℕ). (slot < a) × (a < all) × (test a ≡ true)))
+    {next : Option ℕ} (leads : next ≡ last_below test (end_of above all)) where
+  pub climbed : (place : ℕ) → next ≡ Some place → (place < all) × (test place ≡ true)
+  climbed place is =
+      let l = last_some test (end_of above all) place (sym leads ∙ is) in
+      (omega (arith, l.below, end_within test slot all above there), l.passes)
 
--- it ends at a slot that isn't above
-pub above_found : (test : ℕ → Bool) (slot all : ℕ) (above : Option ℕ) {next : Option ℕ} (place : ℕ)
-    → IfSome above (λ (a : ℕ). (slot < a) × (a < all) × (test a ≡ true))
-    → next ≡ last_below test (end_of above all) → next ≡ Some place → place ≤ slot → IsAbove test slot all above
-above_found test slot all above place there leads is under = record {
-  there = there;
-  between = λ k past before. (last_some test (end_of above all) place (sym leads ∙ is)).after k (omega (arith, past, under)) before;
-}
+  -- it ends at a slot that isn't above
+  pub above_found : (place : ℕ) → next ≡ Some place → place ≤ slot → IsAbove test slot all above
+  above_found place is under = record {
+    there = there;
+    between = λ k past before. (last_some test (end_of above all) place (sym leads ∙ is)).after k (omega (arith, past, under)) before;
+  }
 
--- or at the chain's end
-pub above_last : (test : ℕ → Bool) (slot all : ℕ) (above : Option ℕ) {next : Option ℕ} → IfSome above (λ (a : ℕ). (slot < a) × (a < all) × (test a ≡ true))
-    → next ≡ last_below test (end_of above all) → next ≡ None → IsAbove test slot all above
-above_last test slot all above there leads is = record {
-  there = there;
-  between = λ k past before. last_none test (end_of above all) (sym leads ∙ is) k before;
-}
+  -- or at the chain's end
+  pub above_last : next ≡ None → IsAbove test slot all above
+  above_last is = record { there = there; between = λ k past before. last_none test (end_of above all) (sym leads ∙ is) k before }

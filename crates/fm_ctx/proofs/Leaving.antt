@@ -1,9 +1,8 @@
 -- Leaving a callback and unlinking many contexts: such changes compose, and keep the laws.
-use Rattle.fm_ctx.proofs.Words.{ℕ, Bool, true, List, [], length, set, map, slice_get, count_by, None, is_some}
-use Rattle.fm_ctx.proofs.Words.{option_map, refl, sym, ap, ap₂, subst, arith, length-set, none-some}
-use Rattle.fm_ctx.proofs.Words.{slice_get-map, length-map, get_or-set_same, sum_by-cons, CtxId, Object, Owner, one, is_id, holds, hand_of, without}
-use Rattle.fm_ctx.proofs.Words.{Context, Slot, ContextTable, context_at, count_in, IsLawful, has_link, Settles, Sweeps}
-use Rattle.fm_ctx.proofs.Words.{due_after, released, places, nat_tests}
+use Rattle.fm_ctx.proofs.Words.{ℕ, Bool, true, List, [], length, set, map, slice_get, count_by, None, is_some, option_map, refl, sym, ap, ap₂, subst}
+use Rattle.fm_ctx.proofs.Words.{arith, length-set, none-some, slice_get-map, length-map, get_or-set_same, sum_by-cons, CtxId, one}
+use Rattle.fm_ctx.proofs.Words.{is_id, holds, hand_of, without, Context, Slot, ContextTable, context_at, count_in, IsLawful, has_link, Settles}
+use Rattle.fm_ctx.proofs.Words.{Sweeps, due_after, released, places, nat_tests, ContextsKept, carried_of}
 use Rattle.std.proofs.Common.{◌≡◌, ◌+◌, ◌<◌, ◌≤◌, ◌∷◌, ◌++◌, ◌∙◌, append_assoc, append-nil, lit≤}
 use Rattle.std.proofs.lemmas.List.{set-set, set-get_or}
 use Rattle.std.proofs.lemmas.List.Elements.{All-set}
@@ -14,7 +13,6 @@ use Rattle.fm_ctx.proofs.Counts.{count_released, fresh_after, due_after_fresh, f
 use Rattle.fm_ctx.proofs.Moves.{SlotsFit, HandsFit, lawful_by}
 use Rattle.fm_ctx.proofs.Alike.{settles_alike}
 use Rattle.fm_ctx.proofs.Carried.{carried_equal}
-use Rattle.fm_ctx.proofs.Words.{ContextsKept, carried_of}
 
 -- ---- settling
 
@@ -63,24 +61,17 @@ pub context_at-swept : (test : Context → Bool) (slots : List Slot) (c : CtxId)
 unfolding context_at
 context_at-swept test slots c = grind (arith, nat_tests, slice_get-map (swept_slot test) slots c.slot)
 
-there_swept : (test : Context → Bool) (slots : List Slot) (c : CtxId) → is_some (context_at (map (swept_slot test) slots) c) ≡ is_some (context_at slots c)
-there_swept test slots c = grind (arith, context_at-swept test slots c)
-
 count_map_weaker : {X : Type 0} (p : X → Bool) (f : X → X) (xs : List X) → ((x : X) → p (f x) ≡ true → p x ≡ true) → count_by p (map f xs) ≤ count_by p xs
 count_map_weaker p f [] weaker = lit≤ tt
 count_map_weaker {X} p f (x ∷ xs) weaker =
     let by : X → ℕ = λ y. one (p y) in
     omega (arith, sum_by-cons by (f x) (map f xs), sum_by-cons by x xs, one_weaker (p (f x)) (p x) (weaker x), count_map_weaker p f xs weaker)
 
-swept_links : (test : Context → Bool) (owner : Owner) (object : Object) (s : Slot) → has_link owner object (swept_slot test s) ≡ true
-    → has_link owner object s ≡ true
-swept_links test owner object s has = grind (arith, nat_tests)
-
 pub sweep_keeps : {carried : CtxId → ℕ} {t t' : ContextTable} (test : Context → Bool) → IsLawful carried t → Sweeps carried test t t' → IsLawful carried t'
 sweep_keeps {carried} {t} {t'} test law sweeps =
-    settled_keeps law sweeps.settles sweeps.cleaning (λ c. ap (λ (slots : List Slot). is_some (context_at slots c)) sweeps.slots ∙ there_swept test t.slots c)
+    settled_keeps law sweeps.settles sweeps.cleaning (λ c. ap (λ (slots : List Slot). is_some (context_at slots c)) sweeps.slots ∙ grind (arith, context_at-swept test t.slots c))
     (subst SlotsFit (sym sweeps.slots) (
-      λ owner object. omega (arith, law.once owner object, count_map_weaker (has_link owner object) (swept_slot test) t.slots (swept_links test owner object)),
+      λ owner object. omega (arith, law.once owner object, count_map_weaker (has_link owner object) (swept_slot test) t.slots (λ s has. grind (arith, nat_tests))),
       omega (arith, length-map t.slots (swept_slot test), law.few),
     ))
     (subst HandsFit (sym sweeps.hands) (law.workers, law.small))
@@ -99,22 +90,16 @@ settles_by_one carried t t' c due counts = record {
 -- ---- one reference of the hand after another
 
 pub record LeavesSome (old new : ContextsKept) (w : ℕ) : Type 0 where
-  pub slots : new.table.slots ≡ old.table.slots
   pub hands : set new.table.hands w [] ≡ set old.table.hands w []
-  pub cleaning : new.table.cleaning ≡ old.table.cleaning
-  pub leaks : new.table.leaks ≡ old.table.leaks
   pub workers : length new.table.hands ≡ 48
-  pub carried : new.carried ≡ old.carried
+  pub rest : new ≡ record old { table = record old.table { hands = new.table.hands; due = new.table.due } }
   pub settles : Settles (carried_of old) old.table (carried_of old) new.table
 
 pub leave_none : (kept : ContextsKept) (w : ℕ) → length kept.table.hands ≡ 48 → LeavesSome kept kept w
 leave_none kept w workers = record {
-  slots = refl;
   hands = refl;
-  cleaning = refl;
-  leaks = refl;
   workers = workers;
-  carried = refl;
+  rest = refl;
   settles = settles_none (carried_of kept) kept.table (carried_of kept) kept.table refl (λ c. refl);
 }
 
@@ -123,15 +108,13 @@ pub leave_more : {old kept : ContextsKept} {w : ℕ} (c : CtxId) → LeavesSome 
 leave_more {old} {kept} {w} c so_far worker has =
     let t = kept.table in
     let within : w < length t.hands = omega (arith, so_far.workers, worker) in
-    let same = carried_equal kept old so_far.slots so_far.carried in
-    let step = settles_by_one (carried_of kept) t (released (carried_of kept) t w c) c refl (count_released (carried_of kept) t w c within has) in
+    let after = released (carried_of kept) t w c in
+    let same = carried_equal kept old (ap (λ (k : ContextsKept). k.table.slots) so_far.rest) (ap (λ (k : ContextsKept). k.carried) so_far.rest) in
+    let step = settles_by_one (carried_of kept) t after c refl (count_released (carried_of kept) t w c within has) in
     record {
-      slots = so_far.slots;
       hands = set-set t.hands w (without c (hand_of t.hands w)) [] ∙ so_far.hands;
-      cleaning = so_far.cleaning;
-      leaks = so_far.leaks;
       workers = length-set t.hands w (without c (hand_of t.hands w)) ∙ so_far.workers;
-      carried = so_far.carried;
+      rest = ap (λ (k : ContextsKept). record k { table = record k.table { hands = after.hands; due = after.due } }) so_far.rest;
       settles = settles_both so_far.settles (settles_alike same same step);
     }
 
@@ -144,9 +127,9 @@ pub leave_all : {old kept : ContextsKept} {w : ℕ} (n : ℕ) → LeavesSome old
     → n ≡ more_leaks old.table.leaks (length (hand_of old.table.hands w))
     → Leaves (carried_of old) old.table (record kept.table { leaks = n }) w
 leave_all {old} {kept} {w} n s empty counted = record {
-  slots = s.slots;
+  slots = ap (λ (k : ContextsKept). k.table.slots) s.rest;
   hands = sym (set-get_or kept.table.hands w []) ∙ ap (λ (hand : List CtxId). set kept.table.hands w hand) empty ∙ s.hands;
-  cleaning = s.cleaning;
+  cleaning = ap (λ (k : ContextsKept). k.table.cleaning) s.rest;
   leaks = counted;
   settles = record { fresh = s.settles.fresh; due = s.settles.due; each = s.settles.each; falls = s.settles.falls };
 }

@@ -13,6 +13,7 @@ pub mod Lives
 pub mod Rows
 pub mod Sound
 pub mod Shown
+pub mod Changing
 pub mod Sweeping
 pub mod Newborn
 pub mod Opening

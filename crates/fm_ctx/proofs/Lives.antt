@@ -1,10 +1,9 @@
 -- New contexts, and contexts that are cleaned up, keep the laws.
 use Rattle.std.proofs.Common.{◌≡◌, ◌+◌, ◌<◌, ◌≤◌}
-use Rattle.fm_ctx.proofs.Words.{ℕ, true, length, count_by, slice_get, Option, Some, None, is_some, option_map, refl, arith}
-use Rattle.fm_ctx.proofs.Words.{nat_tests, length-set, CtxId, Object, Owner, one, is_id, hand_of, places, cleaning_of, Context}
-use Rattle.fm_ctx.proofs.Words.{ContextTable, context_at, count_in, IsLawful, has_link, IsNew, placed, emptied, cleaned}
+use Rattle.fm_ctx.proofs.Words.{ℕ, true, length, count_by, slice_get, Option, Some, None, is_some, option_map, refl, arith, nat_tests, length-set}
+use Rattle.fm_ctx.proofs.Words.{CtxId, Object, Owner, one, is_id, hand_of, places, cleaning_of, Context, ContextTable, context_at, count_in, IsLawful}
+use Rattle.fm_ctx.proofs.Words.{has_link, IsNew, placed, emptied, cleaned, taken_due}
 use Rattle.fm_ctx.specs.Births.{allocated}
-use Rattle.fm_ctx.specs.Cleanup.{taken_due}
 use Rattle.fm_ctx.proofs.Bags.{is_id-same, held_push, first_placed, places_taken, places_cleaned}
 use Rattle.fm_ctx.proofs.Slots.{new_absent, context_at-placed, context_at-placed_other, count_placed, few_placed, context_at-here, context_at-other, there_changed}
 use Rattle.fm_ctx.proofs.Counts.{links_kept}

@@ -1,11 +1,10 @@
 -- Changes that keep the laws of contexts.
-use Rattle.fm_ctx.proofs.Words.{ℕ, true, eqb, List, [], length, All, count_by, Option, Some, None, is_some, option_map, refl}
-use Rattle.fm_ctx.proofs.Words.{ap₂, arith, nat_tests, inl, inr, length-set, cases_Bool, and_parts, CtxId, Object, Owner, one, is_id, holds}
-use Rattle.fm_ctx.proofs.Words.{hand_of, without, places, same_object, same_owner, Context, Slot, ContextTable, context_at, link_at}
-use Rattle.fm_ctx.proofs.Words.{count_in, changed_slot, change_context, due_after, IsLawful, has_link, links, grabbed, handed_on, released, with_link}
-use Rattle.fm_ctx.proofs.Words.{IsFree, IfSome, linked, unlinked, unlinked_into, newly, with_body, rewritten}
+use Rattle.fm_ctx.proofs.Words.{ℕ, true, eqb, List, [], length, All, count_by, Option, Some, None, is_some, option_map, refl, ap₂, arith, nat_tests}
+use Rattle.fm_ctx.proofs.Words.{inl, inr, length-set, cases_Bool, and_parts, CtxId, Object, Owner, one, is_id, holds, hand_of, without, places}
+use Rattle.fm_ctx.proofs.Words.{same_object, same_owner, Context, Slot, ContextTable, context_at, link_at, count_in, changed_slot, change_context}
+use Rattle.fm_ctx.proofs.Words.{due_after, IsLawful, has_link, links, grabbed, handed_on, released, with_link, IsFree, IfSome, linked, unlinked}
+use Rattle.fm_ctx.proofs.Words.{unlinked_into, newly, with_body, rewritten, length-updated}
 use Rattle.std.proofs.Common.{◌≡◌, ◌+◌, ◌<◌, ◌≤◌, ◌&&◌, ◌∷◌, ◌++◌, ◌∙◌}
-use Rattle.fm_types.proofs.Lists.{length-updated}
 use Rattle.fm_ctx.proofs.Bags.{is_id-same, IsSmall, small_push, small_without, places_push, held_push, held_without}
 use Rattle.fm_ctx.proofs.Objects.{same_object-same, same_owner-same}
 use Rattle.fm_ctx.proofs.Slots.{there_changed, count_changed, count_changed_one, slot_of_context}

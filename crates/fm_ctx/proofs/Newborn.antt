@@ -1,20 +1,14 @@
 -- A new row stands for a new context.
-use Rattle.fm_ctx.proofs.Words.{ℕ, false, List, [], length, None, refl, sym, ap}
-use Rattle.fm_ctx.proofs.Words.{arith, inl, inr, length-append, cases_order, slice_get_past, length-map, CtxId}
-use Rattle.fm_ctx.proofs.Words.{slice_get-push, slice_get-append_left, Row, one, is_id, hand_of, Slot, ContextsKept, carried_of, is_out_of_slots}
-use Rattle.fm_ctx.proofs.Words.{IsNew, placed, kept_allocated, context_of, slot_of, slots_of, carried_in, row_at, stored}
-use Rattle.fm_ctx.proofs.Words.{is_referenced, IsSound}
+use Rattle.fm_ctx.proofs.Words.{ℕ, false, List, [], length, None, refl, sym, ap, arith, inl, inr, length-append, cases_order, slice_get_past}
+use Rattle.fm_ctx.proofs.Words.{length-map, CtxId, slice_get-push, slice_get-append_left, Row, one, is_id, hand_of, Slot, ContextsKept, carried_of}
+use Rattle.fm_ctx.proofs.Words.{is_out_of_slots, IsNew, placed, kept_allocated, context_of, slot_of, slots_of, carried_in, row_at, stored}
+use Rattle.fm_ctx.proofs.Words.{is_referenced, IsSound, kept_in, Option, nat_tests, map_push, count_by-le-length, carried_none}
 use Rattle.std.proofs.Common.{◌≡◌, ◌+◌, ◌<◌, ◌≤◌, ◌∷◌, ◌++◌, ◌∙◌, nat_le, leb-false}
-use Rattle.std.proofs.lemmas.Bool.Decides.{nat_tests}
-use Rattle.std.proofs.lemmas.List.{map_push}
-use Rattle.std.proofs.lemmas.List.Sums.{count_by-le-length}
-use Rattle.fm_ctx.specs.Kept.{carried_none}
 use Rattle.fm_ctx.specs.Births.{last_generation, has_free_slot}
 use Rattle.fm_ctx.proofs.Moves.{within_hands}
 use Rattle.fm_ctx.proofs.Lives.{allocate_keeps, count_allocated}
 use Rattle.fm_ctx.proofs.Carried.{carried_allocated}
 use Rattle.fm_ctx.proofs.Alike.{lawful_alike}
-use Rattle.fm_ctx.proofs.Words.{kept_in, Option, nat_tests}
 
 -- a row that was just made: one reference, nothing carried, no link
 pub record IsFresh (r : Row) : Type 0 where

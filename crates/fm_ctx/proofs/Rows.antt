@@ -1,18 +1,14 @@
 -- Rows stand for slots: which row an id names, and what changes of a row make of the slots.
 use Rattle.fm_ctx.proofs.Words.{ℕ, zero, suc, Bool, true, false, cond, eqb, ltb, List, [], length, map, get_or, slice_get, count_by, Option, Some}
-use Rattle.fm_ctx.proofs.Words.{None, is_some, is_none, option_map, refl, sym, ap, ap₂, subst, arith, inl, inr}
-use Rattle.fm_ctx.proofs.Words.{unwrap_or, position, position_or_len, length-map, sum_by-cons, cases_lt}
-use Rattle.fm_ctx.proofs.Words.{true≢false, same_Some, slice_get-map, slice_get_within, slice_get_past, get_or_from_slice_get, CtxId}
-use Rattle.fm_ctx.proofs.Words.{updated, updated-same, updated-other, count_by-updated, slice_get-some, Row, one, is_id, Context, Slot}
-use Rattle.fm_ctx.proofs.Words.{context_at, carried_of, Object, Owner, links, has_link, id_at, holder}
-use Rattle.fm_ctx.proofs.Words.{was_given, body_at, context_of, slot_of, slots_of, carried_in, row_in, row_at, count_of_row, stored, is_referenced}
-use Rattle.fm_ctx.proofs.Words.{kept_in}
+use Rattle.fm_ctx.proofs.Words.{None, is_some, is_none, option_map, refl, sym, ap, ap₂, subst, arith, inl, inr, unwrap_or, position, position_or_len}
+use Rattle.fm_ctx.proofs.Words.{length-map, sum_by-cons, cases_lt, true≢false, same_Some, slice_get-map, slice_get_within, slice_get_past}
+use Rattle.fm_ctx.proofs.Words.{get_or_from_slice_get, CtxId, updated, updated-same, updated-other, count_by-updated, slice_get-some, Row, one, is_id}
+use Rattle.fm_ctx.proofs.Words.{Context, Slot, context_at, carried_of, Object, Owner, links, has_link, id_at, holder, was_given, body_at, context_of}
+use Rattle.fm_ctx.proofs.Words.{slot_of, slots_of, carried_in, row_in, row_at, count_of_row, stored, is_referenced, kept_in, nat_tests}
+use Rattle.fm_ctx.proofs.Words.{unwrap_or-slice_get, ContextsKept, born}
 use Rattle.std.proofs.Common.{◌≡◌, ◌+◌, ◌<◌, ◌&&◌, ◌∷◌, ◌∙◌, not}
-use Rattle.std.proofs.lemmas.Option.{unwrap_or-slice_get}
-use Rattle.fm_ctx.specs.Kept.{ContextsKept}
-use Rattle.fm_ctx.specs.Counting.{born, cleaned_count}
+use Rattle.fm_ctx.specs.Counting.{cleaned_count}
 use Rattle.fm_ctx.proofs.Bags.{is_id-same}
-use Rattle.fm_ctx.proofs.Words.{nat_tests}
 
 -- ---- maps over an update
 

@@ -1,13 +1,10 @@
 -- The seats of rows, and what changes of a row make of them.
 use Rattle.std.proofs.Common.{◌≡◌, ◌<◌, ◌≤◌, ◌∷◌, ◌++◌, ◌∙◌}
-use Rattle.fm_ctx.proofs.Words.{ℕ, zero, suc, List, [], length, set, get_or, position, count_by, Option, Some}
-use Rattle.fm_ctx.proofs.Words.{None, is_some, option_map, refl, sym, ap, arith, length-map, sum_by-cons, slice_get-map}
-use Rattle.fm_ctx.proofs.Words.{get_or_from_slice_get, CtxId, updated, Object, Owner, Row, Seat, one, links, has_link, holder, Slot, context_at}
-use Rattle.fm_ctx.proofs.Words.{link_count, is_seat, slot_of, slots_of, linked_row, unlinked_row}
-use Rattle.std.proofs.lemmas.List.{map_push}
-use Rattle.fm_ctx.specs.Rows.{seat_in, seats_of}
+use Rattle.fm_ctx.proofs.Words.{ℕ, zero, suc, List, [], length, set, get_or, position, count_by, Option, Some, None, is_some, option_map, refl, sym}
+use Rattle.fm_ctx.proofs.Words.{ap, arith, length-map, sum_by-cons, slice_get-map, get_or_from_slice_get, CtxId, updated, Object, Owner, Row, Seat}
+use Rattle.fm_ctx.proofs.Words.{one, links, has_link, holder, Slot, context_at, link_count, is_seat, slot_of, slots_of, linked_row, unlinked_row}
+use Rattle.fm_ctx.proofs.Words.{nat_tests, ContextsKept, kept_in, Context, map_push, seat_in, seats_of}
 use Rattle.fm_ctx.proofs.Rows.{InRow, within_rows, row_read, context_in_row, map_changed, map_kept, position-map, first_id, holder-rows}
-use Rattle.fm_ctx.proofs.Words.{nat_tests, ContextsKept, kept_in, Context}
 
 -- ---- who is linked, by seats
 

@@ -1,14 +1,11 @@
 -- What is kept, as the fields show it after each change of one row.
 use Rattle.std.proofs.Common.{◌≡◌, ◌<◌, ◌∷◌, ◌++◌, ◌∙◌}
-use Rattle.fm_ctx.proofs.Words.{ℕ, zero, suc, cond, eqb, List, [], length, get_or, slice_get, Option, Some, option_map, refl, sym, ap}
-use Rattle.fm_ctx.proofs.Words.{arith, length-map, CtxId, updated, get_or_from_slice_get, updated-same, Row, Context, Slot}
-use Rattle.fm_ctx.proofs.Words.{ContextsKept, change_context, due_after, slot_of, slots_of, carried_in, carried_of, kept_in}
-use Rattle.fm_ctx.proofs.Words.{context_of, row_with, with_body, IsSound}
-use Rattle.std.specs.Global.{Vec}
-use Rattle.fm_types.proofs.Lists.{length-updated}
+use Rattle.fm_ctx.proofs.Words.{ℕ, zero, suc, cond, eqb, List, [], length, get_or, slice_get, Option, Some, option_map, refl, sym, ap, arith}
+use Rattle.fm_ctx.proofs.Words.{length-map, CtxId, updated, get_or_from_slice_get, updated-same, Row, Context, Slot, ContextsKept, change_context}
+use Rattle.fm_ctx.proofs.Words.{due_after, slot_of, slots_of, carried_in, carried_of, kept_in, context_of, row_with, with_body, IsSound, changed_slot}
+use Rattle.fm_ctx.proofs.Words.{nat_tests, Vec, length-updated}
 use Rattle.fm_ctx.specs.Cleanup.{due_of, due_reply}
 use Rattle.fm_ctx.proofs.Rows.{InRow, within_rows, context_in_row, map_changed, map_kept}
-use Rattle.fm_ctx.proofs.Words.{changed_slot, nat_tests}
 use Rattle.fm_ctx.proofs.Sound.{read_count}
 
 -- equal fields show equal values

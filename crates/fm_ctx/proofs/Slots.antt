@@ -1,11 +1,10 @@
 -- Contexts by their ids, after changes of slots.
-use Rattle.fm_ctx.proofs.Words.{ℕ, Bool, true, false, List, [], length, slice_get, count_by, Option, Some, None, is_some, option_map}
-use Rattle.fm_ctx.proofs.Words.{refl, arith, nat_tests, length-append, length-set, CtxId, slice_get-append_left}
-use Rattle.fm_ctx.proofs.Words.{slice_get-push, count_by-updated, updated-same, updated-other, slice_get_within, slice_get_past, one, is_id, Context}
-use Rattle.fm_ctx.proofs.Words.{Slot, context_in, context_at, changed_slot, change_context, IsNew, new_slot, placed}
+use Rattle.fm_ctx.proofs.Words.{ℕ, Bool, true, false, List, [], length, slice_get, count_by, Option, Some, None, is_some, option_map, refl, arith}
+use Rattle.fm_ctx.proofs.Words.{nat_tests, length-append, length-set, CtxId, slice_get-append_left, slice_get-push, count_by-updated, updated-same}
+use Rattle.fm_ctx.proofs.Words.{updated-other, slice_get_within, slice_get_past, one, is_id, Context, Slot, context_in, context_at, changed_slot}
+use Rattle.fm_ctx.proofs.Words.{change_context, IsNew, new_slot, placed, sum_by-set}
 use Rattle.std.proofs.Common.{◌≡◌, ◌≤◌, ◌+◌, ◌∷◌, ◌≢◌}
 use Rattle.std.proofs.lemmas.List.{set_past}
-use Rattle.std.proofs.lemmas.List.Sums.{sum_by-set}
 use Rattle.fm_types.proofs.Lists.{updated_none, slice_get-set_same, slice_get-set_other, count_by-push}
 use Rattle.fm_ctx.proofs.Bags.{is_id-same}
 

@@ -1,14 +1,12 @@
 -- The rows stand for the contexts after each change of one row.
-use Rattle.fm_ctx.proofs.Words.{ℕ, true, cond, List, [], length, get_or, slice_get, Option, Some, None, is_some}
-use Rattle.fm_ctx.proofs.Words.{refl, sym, ap, subst, arith, nat_tests, length-append, get_or-le-sum_by, CtxId, updated}
-use Rattle.fm_ctx.proofs.Words.{Object, Row, one, is_id, holds, hand_of, cleaning_of, Context, ContextTable, context_at, link_at, link_count, count_in}
-use Rattle.fm_ctx.proofs.Words.{ContextsKept, carried_of, carried_more, carried_fewer, IsLawful, grabbed, handed_on, released, with_link}
-use Rattle.fm_ctx.proofs.Words.{linked, unlinked, unlinked_into, IsFree, emptied, cleaned, with_body, rewritten, kept_in, row_in, row_at, count_of_row}
-use Rattle.fm_ctx.proofs.Words.{stored, is_referenced, IsSound, raised, lowered, carried_away, brought_back, linked_row, unlinked_row, cleaned_row}
+use Rattle.fm_ctx.proofs.Words.{ℕ, true, cond, List, [], length, get_or, slice_get, Option, Some, None, is_some, refl, sym, ap, subst, arith}
+use Rattle.fm_ctx.proofs.Words.{nat_tests, length-append, get_or-le-sum_by, CtxId, updated, Object, Row, one, is_id, holds, hand_of, cleaning_of}
+use Rattle.fm_ctx.proofs.Words.{ContextTable, context_at, link_at, count_in, ContextsKept, carried_of, carried_more}
+use Rattle.fm_ctx.proofs.Words.{carried_fewer, IsLawful, grabbed, handed_on, released, with_link, linked, unlinked, unlinked_into, IsFree, emptied}
+use Rattle.fm_ctx.proofs.Words.{cleaned, with_body, rewritten, kept_in, row_in, row_at, count_of_row, stored, is_referenced, IsSound, raised, lowered}
+use Rattle.fm_ctx.proofs.Words.{carried_away, brought_back, linked_row, unlinked_row, cleaned_row, taken_due, taken_of, after_take_due, IsIndexed}
+use Rattle.fm_ctx.proofs.Words.{Seat}
 use Rattle.std.proofs.Common.{◌≡◌, ◌+◌, ◌-◌, ◌^◌, ◌<◌, ◌≤◌, ◌∷◌, ◌∙◌, length-drop}
-use Rattle.fm_ctx.specs.Cleanup.{taken_due, taken_of, after_take_due}
-use Rattle.fm_ctx.specs.Rows.{IsIndexed}
-use Rattle.fm_ctx.specs.declared.seat.Seat.{Seat}
 use Rattle.fm_ctx.proofs.Bags.{is_id-same, held_few, held_push, held_without}
 use Rattle.fm_ctx.proofs.Slots.{there_changed}
 use Rattle.fm_ctx.proofs.Counts.{count_grabbed, count_released, count_held, count_linked_one, count_linked, count_unlinked, links_unlinked, links_kept}
@@ -29,8 +27,13 @@ sound_now {rows} {kept} {now} {capacity} indexed same = subst (λ k. IsSound row
 pub context_there : {carried : CtxId → ℕ} {t : ContextTable} (c : CtxId) → IsLawful carried t → 0 < count_in carried t c → is_some (context_at t.slots c) ≡ true
 context_there c law live = grind (arith, law.alive c)
 
-link_few : (o : Option Context) → link_count o ≤ 1
-link_few o = grind (arith, nat_tests)
+-- the equation of what is kept, put in
+pub sound_as : {rows rows' : List Row} {kept kept' : ContextsKept} {capacity capacity' : ℕ} → rows ≡ rows' → kept ≡ kept' → capacity ≡ capacity'
+    → IsSound rows' kept' capacity' → IsSound rows kept capacity
+sound_as same_rows same_kept same_room = subst (λ (s : List Row × ContextsKept × ℕ). IsSound s.0 s.1 s.2) (λ i. (sym same_rows i, sym same_kept i, sym same_room i))
+
+abbrev pub dropped_row : Row → Row
+dropped_row r = lowered (unlinked_row r)
 
 module _ {rows : List Row} {kept : ContextsKept} {capacity : ℕ} (s : IsSound rows kept capacity) where
   -- and has a row
@@ -61,16 +64,15 @@ module _ {rows : List Row} {kept : ContextsKept} {capacity : ℕ} (s : IsSound r
   -- no count comes near to the end of its type
   pub row_fits : {c : CtxId} (i : InRow rows c) (d : Row) → (get_or rows c.slot d).count < 2 ^ 64 - 1
   row_fits {c} i d =
-      omega (arith, read_count i d, link_few (context_at kept.table.slots c), s.bounded c, held_few kept.table.hands c s.lawful.workers s.lawful.small)
+      grind (arith, nat_tests, read_count i d, s.bounded c, held_few kept.table.hands c s.lawful.workers s.lawful.small)
 
   -- what loses its last reference has a place among the due
   pub due_fits : {c : CtxId} (i : InRow rows c) → 0 < (get_or rows c.slot i.row).count → length kept.table.due < capacity
   due_fits {c} i some =
       grind (arith, nat_tests, s.room, row_read i i.row, get_or-le-sum_by (λ (r : Row). one (is_referenced r)) rows c.slot i.row (within_rows i))
 
--- ---- a change of one row
+  -- ---- a change of one row
 
-module _ {rows : List Row} {kept : ContextsKept} {capacity : ℕ} (s : IsSound rows kept capacity) where
   sound_by : (g : Row → Row) {c : CtxId} (i : InRow rows c) (kept' : ContextsKept) → IsLawful (carried_of kept') kept'.table
       → ((d : CtxId) → cond (is_id d c) (count_of_row (row_in c (g i.row))) (stored rows d) ≡ count_in (carried_of kept') kept'.table d)
       → ((d : CtxId) → carried_of kept' d ≤ 2 ^ 32) → length kept'.table.due + one (is_referenced (g i.row)) ≤ length kept.table.due + one (is_referenced i.row)
@@ -84,33 +86,23 @@ module _ {rows : List Row} {kept : ContextsKept} {capacity : ℕ} (s : IsSound r
 
   -- one that leaves what is carried
   sound_step : (g : Row → Row) {c : CtxId} (i : InRow rows c) (t' : ContextTable)
-      → ((d : CtxId) → is_some (context_at t'.slots d) ≡ is_some (context_at kept.table.slots d))
-      → IsLawful (carried_of kept) t' → ((d : CtxId) → cond (is_id d c) (count_of_row (row_in c (g i.row))) (stored rows d) ≡ count_in (carried_of kept) t' d)
+      → ((d : CtxId) → is_some (context_at t'.slots d) ≡ is_some (context_at kept.table.slots d)) → IsLawful (carried_of kept) t'
+      → ((d : CtxId) → cond (is_id d c) (count_of_row (row_in c (g i.row))) (stored rows d) ≡ count_in (carried_of kept) t' d)
       → length t'.due + one (is_referenced (g i.row)) ≤ length kept.table.due + one (is_referenced i.row)
       → IsSound (updated g rows c.slot) (record kept { table = t' }) capacity
   sound_step g i t' there law counted room =
       let same = carried_there kept t' there in
       sound_by g i (record kept { table = t' }) (lawful_alike same law) (λ d. omega (arith, counted d, same d)) (λ d. omega (arith, s.bounded d, same d)) room
 
--- the equation of what is kept, put in
-pub sound_as : {rows rows' : List Row} {kept kept' : ContextsKept} {capacity : ℕ} → rows ≡ rows' → kept ≡ kept'
-    → IsSound rows' kept' capacity → IsSound rows kept capacity
-sound_as {rows} {rows'} {kept} {kept'} {capacity} same_rows same_kept s =
-    subst (λ rs. IsSound rs kept capacity) (sym same_rows) (subst (λ k. IsSound rows' k capacity) (sym same_kept) s)
+  -- ---- events
 
--- ---- events
-
-abbrev pub dropped_row : Row → Row
-dropped_row r = lowered (unlinked_row r)
-
-module _ {rows : List Row} {kept : ContextsKept} {capacity : ℕ} (s : IsSound rows kept capacity) where
   -- one more reference
   pub sound_grabbed : (w : ℕ) (c : CtxId) → w < 48 → 0 < count_in (carried_of kept) kept.table c → length (hand_of kept.table.hands w) < 16
       → IsSound (updated raised rows c.slot) (record kept { table = grabbed kept.table w c }) capacity
   sound_grabbed w c worker live room =
-      let i = present s c live in
-      let count = row_count s i in
-      sound_step s raised i (grabbed kept.table w c) (λ d. refl) (reference_keeps w c s.lawful worker live room)
+      let i = present c live in
+      let count = row_count i in
+      sound_step raised i (grabbed kept.table w c) (λ d. refl) (reference_keeps w c s.lawful worker live room)
       (λ d. grind (arith, nat_tests, s.counted d, count_grabbed (carried_of kept) kept.table w c (within_hands w s.lawful worker) d, is_id-same d c))
       (grind (arith, nat_tests))
 
@@ -119,10 +111,10 @@ module _ {rows : List Row} {kept : ContextsKept} {capacity : ℕ} (s : IsSound r
       → IsSound (updated lowered rows c.slot) (record kept { table = released (carried_of kept) kept.table w c }) capacity
   sound_released w c worker has =
       let within = within_hands w s.lawful worker in
-      let live = live_held s w c worker has in
-      let i = present s c live in
-      let count = row_count s i in
-      sound_step s lowered i (released (carried_of kept) kept.table w c) (λ d. refl) (release_keeps w c s.lawful worker has)
+      let live = live_held w c worker has in
+      let i = present c live in
+      let count = row_count i in
+      sound_step lowered i (released (carried_of kept) kept.table w c) (λ d. refl) (release_keeps w c s.lawful worker has)
       (λ d. grind (arith, nat_tests, s.counted d, count_released (carried_of kept) kept.table w c within has d, is_id-same d c))
       (grind (arith, nat_tests, length-append kept.table.due (c ∷ [])))
 
@@ -131,23 +123,23 @@ module _ {rows : List Row} {kept : ContextsKept} {capacity : ℕ} (s : IsSound r
       → IsSound (updated carried_away rows c.slot) (record { table = handed_on kept.table w c; carried = carried_more kept.carried c }) capacity
   sound_carried w c worker has in_list few =
       let within = within_hands w s.lawful worker in
-      let live = live_held s w c worker has in
-      let i = present s c live in
-      let count = row_count s i in
+      let live = live_held w c worker has in
+      let i = present c live in
+      let count = row_count i in
       let kept' : ContextsKept = record { table = handed_on kept.table w c; carried = carried_more kept.carried c } in
       let more = carried_one_more kept (handed_on kept.table w c) c (λ d. refl) (context_there c s.lawful live) in_list in
-      sound_by s carried_away i kept' (carry_keeps (carried_of kept') w c s.lawful worker has more)
+      sound_by carried_away i kept' (carry_keeps (carried_of kept') w c s.lawful worker has more)
       (λ d. grind (arith, nat_tests, s.counted d, held_without kept.table.hands w c within has d, more d, is_id-same d c))
       (λ d. grind (arith, nat_tests, more d, s.bounded d, is_id-same d c)) (omega arith)
 
   pub sound_brought : (w : ℕ) (c : CtxId) → w < 48 → 0 < carried_of kept c → c.slot < length kept.carried → length (hand_of kept.table.hands w) < 16
       → IsSound (updated brought_back rows c.slot) (record { table = grabbed kept.table w c; carried = carried_fewer kept.carried c }) capacity
   sound_brought w c worker some in_list room =
-      let i = present s c (omega (arith, some)) in
-      let count = row_count s i in
+      let i = present c (omega (arith, some)) in
+      let count = row_count i in
       let kept' : ContextsKept = record { table = grabbed kept.table w c; carried = carried_fewer kept.carried c } in
       let fewer = carried_one_fewer kept (grabbed kept.table w c) c (λ d. refl) some in_list in
-      sound_by s brought_back i kept' (bring_keeps (carried_of kept') w c s.lawful worker fewer room)
+      sound_by brought_back i kept' (bring_keeps (carried_of kept') w c s.lawful worker fewer room)
       (λ d. grind (arith, nat_tests, s.counted d, held_push kept.table.hands w c (within_hands w s.lawful worker) d, fewer d, is_id-same d c))
       (λ d. omega (arith, s.bounded d, fewer d)) (omega arith)
 
@@ -155,31 +147,31 @@ module _ {rows : List Row} {kept : ContextsKept} {capacity : ℕ} (s : IsSound r
   pub sound_linked : (c : CtxId) (object : Object) → 0 < count_in (carried_of kept) kept.table c → IsFree kept.table c object
       → IsSound (updated (linked_row object) rows c.slot) (record kept { table = linked kept.table c object }) capacity
   sound_linked c object live is_free =
-      let i = present s c live in
-      let count = row_count s i in
+      let i = present c live in
+      let count = row_count i in
       let free = free_link c object s.lawful live is_free in
       let counts = count_linked (carried_of kept) kept.table c free.context object free.there free.bare in
-      sound_step s (linked_row object) i (linked kept.table c object) (there_changed (with_link (Some object)) kept.table.slots c)
+      sound_step (linked_row object) i (linked kept.table c object) (there_changed (with_link (Some object)) kept.table.slots c)
       (link_keeps c object s.lawful live is_free)
       (λ d. grind (arith, nat_tests, s.counted d, counts d, is_id-same d c)) (grind (arith, nat_tests))
 
   pub sound_unlinked : (c : CtxId) → is_some (link_at kept.table.slots c) ≡ true
       → IsSound (updated dropped_row rows c.slot) (record kept { table = unlinked (carried_of kept) kept.table c }) capacity
   sound_unlinked c has =
-      let live = live_linked s c has in
-      let i = present s c live in
-      let count = row_count s i in
-      sound_step s dropped_row i (unlinked (carried_of kept) kept.table c) (there_changed (with_link None) kept.table.slots c) (unlink_keeps c s.lawful has)
+      let live = live_linked c has in
+      let i = present c live in
+      let count = row_count i in
+      sound_step dropped_row i (unlinked (carried_of kept) kept.table c) (there_changed (with_link None) kept.table.slots c) (unlink_keeps c s.lawful has)
       (λ d. grind (arith, nat_tests, s.counted d, count_unlinked (carried_of kept) kept.table c has d, is_id-same d c))
       (grind (arith, nat_tests, length-append kept.table.due (c ∷ [])))
 
   pub sound_unlinked_into : (w : ℕ) (c : CtxId) → w < 48 → is_some (link_at kept.table.slots c) ≡ true → length (hand_of kept.table.hands w) < 16
       → IsSound (updated unlinked_row rows c.slot) (record kept { table = unlinked_into kept.table w c }) capacity
   sound_unlinked_into w c worker has room =
-      let i = present s c (live_linked s c has) in
-      let count = row_count s i in
+      let i = present c (live_linked c has) in
+      let count = row_count i in
       let more = held_push kept.table.hands w c (within_hands w s.lawful worker) in
-      sound_step s unlinked_row i (unlinked_into kept.table w c) (there_changed (with_link None) kept.table.slots c)
+      sound_step unlinked_row i (unlinked_into kept.table w c) (there_changed (with_link None) kept.table.slots c)
       (unlink_into_keeps w c s.lawful worker has room)
       (λ d. grind (arith, nat_tests, s.counted d, links_unlinked kept.table.slots c has d, more d, is_id-same d c)) (omega arith)
 
@@ -188,8 +180,8 @@ module _ {rows : List Row} {kept : ContextsKept} {capacity : ℕ} (s : IsSound r
       → (g i.row).count ≡ i.row.count
       → IsSound (updated g rows c.slot) (record kept { table = rewritten kept.table c bytes }) capacity
   sound_rewritten g {c} i bytes keeps same =
-      let count = row_count s i in
-      sound_step s g i (rewritten kept.table c bytes) (there_changed (with_body bytes) kept.table.slots c) (body_keeps c bytes s.lawful)
+      let count = row_count i in
+      sound_step g i (rewritten kept.table c bytes) (there_changed (with_body bytes) kept.table.slots c) (body_keeps c bytes s.lawful)
       (λ d. grind (arith, nat_tests, s.counted d, links_kept (with_body bytes) kept.table.slots c (λ x. refl) d, is_id-same d c)) (grind (arith, nat_tests))
 
   -- a worker cleans up
@@ -198,9 +190,9 @@ module _ {rows : List Row} {kept : ContextsKept} {capacity : ℕ} (s : IsSound r
       → (g i.row).is_cleaned ≡ i.row.is_cleaned → (g i.row).count ≡ i.row.count
       → IsSound (updated g rows c.slot) (record kept { table = after_take_due kept.table w }) capacity
   sound_taken g w {c} i worker first idle keeps same =
-      let count = row_count s i in
+      let count = row_count i in
       subst (λ o. IsSound (updated g rows c.slot) (record kept { table = taken_of kept.table w o }) capacity) (sym first)
-      (sound_step s g i (taken_due kept.table w c) (there_changed emptied kept.table.slots c) (take_due_keeps w c s.lawful worker first idle)
+      (sound_step g i (taken_due kept.table w c) (there_changed emptied kept.table.slots c) (take_due_keeps w c s.lawful worker first idle)
       (λ d. grind (arith, nat_tests, s.counted d, links_kept emptied kept.table.slots c (λ x. refl) d, is_id-same d c))
       (grind (arith, nat_tests, length-drop 1 kept.table.due)))
 
@@ -209,7 +201,7 @@ module _ {rows : List Row} {kept : ContextsKept} {capacity : ℕ} (s : IsSound r
   sound_cleaned w {c} i worker busy =
       let none = (count_cleaning w c s.lawful worker busy).1 in
       let same = carried_cleaned kept w c (omega (arith, none)) in
-      sound_by s cleaned_row i (record kept { table = cleaned kept.table w c }) (lawful_alike same (cleaned_keeps w c s.lawful worker busy))
+      sound_by cleaned_row i (record kept { table = cleaned kept.table w c }) (lawful_alike same (cleaned_keeps w c s.lawful worker busy))
       (λ d. grind (arith, nat_tests, s.counted d, count_cleaned w c s.lawful worker busy d, same d, is_id-same d c))
       (λ d. omega (arith, s.bounded d, same d)) (omega arith)
 
@@ -225,15 +217,7 @@ module _ {rows : List Row} {kept : ContextsKept} {capacity : ℕ} (s : IsSound r
         room = s.room;
       }
 
--- the list of what is due keeps its room
-pub sound_fits : {rows : List Row} {kept : ContextsKept} {capacity capacity' : ℕ} → capacity' ≡ capacity → IsSound rows kept capacity
-    → IsSound rows kept capacity'
-sound_fits {rows} {kept} same s = subst (λ n. IsSound rows kept n) (sym same) s
-
 -- the row of the context that is due longest
 pub due_row : {rows : List Row} {hands : List (List CtxId)} {due rest : List CtxId} {cleaning : List (Option CtxId)} {leaks capacity : ℕ} (c : CtxId)
     → IsSound rows (kept_in rows hands due cleaning leaks) capacity → due ≡ c ∷ rest → InRow rows c
 due_row {rows} c s first = row_of_context rows c (due_there c s.lawful (ap (λ (ids : List CtxId). slice_get ids 0) first))
-
-pub live_carried : (kept : ContextsKept) (c : CtxId) → 0 < carried_of kept c → 0 < count_in (carried_of kept) kept.table c
-live_carried kept c some = omega (arith, some)

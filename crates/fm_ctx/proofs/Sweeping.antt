@@ -1,18 +1,16 @@
 -- Sweeps: links go, slot by slot.
-use Rattle.fm_ctx.proofs.Words.{ℕ, zero, suc, Bool, true, false, cond, List, [], length, map, None, is_some, option_map, refl}
-use Rattle.fm_ctx.proofs.Words.{sym, ap, arith, nat_tests, CtxId, updated, Slot, Context, ContextTable, context_at, link_at, changed_slot, with_link}
-use Rattle.fm_ctx.proofs.Words.{unlinked, id_at, Settles, Sweeps, link_test}
+use Rattle.fm_ctx.proofs.Words.{ℕ, zero, suc, Bool, true, false, cond, List, [], length, map, None, is_some, option_map, refl, sym, ap, arith}
+use Rattle.fm_ctx.proofs.Words.{nat_tests, CtxId, updated, Slot, Context, ContextTable, context_at, link_at, changed_slot, with_link, unlinked, id_at}
+use Rattle.fm_ctx.proofs.Words.{Settles, Sweeps, link_test, ContextsKept, carried_of, swept_slot, passes, context_of_slot}
 use Rattle.std.proofs.Common.{◌≡◌, ◌+◌, ◌∷◌, ◌∙◌, add-one}
 use Rattle.fm_ctx.specs.declared.row.Links.{Links}
 use Rattle.fm_ctx.specs.declared.row.Links.TheVariants.{To, Of}
-use Rattle.fm_ctx.specs.Settling.{swept_slot}
-use Rattle.fm_ctx.specs.Sweep.{passes, context_of_slot, swept_at}
+use Rattle.fm_ctx.specs.Sweep.{swept_at}
 use Rattle.fm_ctx.proofs.Slots.{there_changed}
 use Rattle.fm_ctx.proofs.Counts.{count_unlinked}
 use Rattle.fm_ctx.proofs.Leaving.{settles_none, settles_both, settles_by_one}
 use Rattle.fm_ctx.proofs.Alike.{settles_alike}
 use Rattle.fm_ctx.proofs.Carried.{carried_there, carried_numbers}
-use Rattle.fm_ctx.proofs.Words.{ContextsKept, carried_of}
 use Rattle.fm_ctx.proofs.Rows.{updated_alike, updated_nothing}
 
 -- what is among those has a link
@@ -48,20 +46,14 @@ length-swept test (suc k) (s ∷ slots) = ap suc (length-swept test k slots)
 pub record SweptUpto (test : Context → Bool) (old new : ContextsKept) (k : ℕ) : Type 0 where
   pub slots : new.table.slots ≡ swept_upto test k old.table.slots
   pub there : (c : CtxId) → is_some (context_at new.table.slots c) ≡ is_some (context_at old.table.slots c)
-  pub hands : new.table.hands ≡ old.table.hands
-  pub cleaning : new.table.cleaning ≡ old.table.cleaning
-  pub leaks : new.table.leaks ≡ old.table.leaks
-  pub carried : new.carried ≡ old.carried
+  pub rest : new ≡ record old { table = record old.table { slots = new.table.slots; due = new.table.due } }
   pub settles : Settles (carried_of old) old.table (carried_of old) new.table
 
 pub sweep_none : (test : Context → Bool) (kept : ContextsKept) → SweptUpto test kept kept 0
 sweep_none test kept = record {
   slots = refl;
   there = λ c. refl;
-  hands = refl;
-  cleaning = refl;
-  leaks = refl;
-  carried = refl;
+  rest = refl;
   settles = settles_none (carried_of kept) kept.table (carried_of kept) kept.table refl (λ c. refl);
 }
 
@@ -85,24 +77,19 @@ sweep_more {old} {kept} {k} links so_far = split (passes test (context_of_slot t
     split false is = record {
       slots = sym (updated_alike (swept_slot test) (λ s. s) t.slots k (λ s there. grind (arith, nat_tests)) ∙ updated_nothing t.slots k) ∙ next;
       there = so_far.there;
-      hands = so_far.hands;
-      cleaning = so_far.cleaning;
-      leaks = so_far.leaks;
-      carried = so_far.carried;
+      rest = so_far.rest;
       settles = so_far.settles;
     }
     split true is =
         let c = id_at t.slots k in
-        let same = λ (d : CtxId). sym (carried_there old t so_far.there d ∙ carried_numbers old kept so_far.carried d) in
+        let same = λ (d : CtxId). sym (carried_there old t so_far.there d ∙ carried_numbers old kept (ap (λ (k : ContextsKept). k.carried) so_far.rest) d) in
         let counts = count_unlinked (carried_of kept) t c (passes_linked links t.slots k is) in
-        let step = settles_by_one (carried_of kept) t (unlinked (carried_of kept) t c) c refl counts in
+        let after = unlinked (carried_of kept) t c in
+        let step = settles_by_one (carried_of kept) t after c refl counts in
         record {
           slots = updated_alike (changed_slot (option_map (with_link None)) c) (swept_slot test) t.slots k (λ s there. grind (arith, nat_tests)) ∙ next;
           there = λ d. there_changed (with_link None) t.slots c d ∙ so_far.there d;
-          hands = so_far.hands;
-          cleaning = so_far.cleaning;
-          leaks = so_far.leaks;
-          carried = so_far.carried;
+          rest = ap (λ (k : ContextsKept). record k { table = record k.table { slots = after.slots; due = after.due } }) so_far.rest;
           settles = settles_both so_far.settles (settles_alike same same step);
         }
 
@@ -110,8 +97,8 @@ pub sweep_all : {test : Context → Bool} {old new : ContextsKept} {k : ℕ} →
     → Sweeps (carried_of old) test old.table new.table
 sweep_all {test} {old} {new} {k} s all = record {
   slots = s.slots ∙ ap (λ n. swept_upto test n old.table.slots) all ∙ swept_end test old.table.slots;
-  hands = s.hands;
-  cleaning = s.cleaning;
-  leaks = s.leaks;
+  hands = ap (λ (k : ContextsKept). k.table.hands) s.rest;
+  cleaning = ap (λ (k : ContextsKept). k.table.cleaning) s.rest;
+  leaks = ap (λ (k : ContextsKept). k.table.leaks) s.rest;
   settles = s.settles;
 }

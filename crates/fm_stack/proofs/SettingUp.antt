@@ -2,7 +2,7 @@
 use Rattle.fm_stack.proofs.Words.{and_parts, ltb-true, InstanceId, VolumeId, Operation, Instance, Phase, StackWorld, accept_row, accepted}
 use Rattle.fm_stack.proofs.Words.{is_setup_at, refuse_row, refused, Follows, is_detached, is_setup, is_registered, is_to_visit, IsStack}
 use Rattle.std.proofs.Common.{◌≡◌, ◌∙◌, ◌+◌, ◌<◌, ◌≤◌, ◌&&◌, ◌==◌, ℕ, true, false, nat_lt, slice_get, Option, None, Some, refl, ap, arith}
-use Rattle.std.proofs.Common.{inr}
+use Rattle.std.proofs.Common.{inr, subst}
 use Rattle.fm_stack.specs.declared.instance.Phase.TheVariants as phase
 use Rattle.fm_stack.proofs.Alike.{IsAlike, one, row_changes, row_follows}
 
@@ -47,3 +47,16 @@ refused_follows s i sound row there in_setup = row_follows s refuse_row i.0 s.bi
 pub setup_row : (o : Option Instance) → is_setup_at o ≡ true → (row : Instance) × (o ≡ Some row) × (is_setup row.phase ≡ true)
 setup_row None in_setup = cc
 setup_row (Some row) in_setup = (row, refl, in_setup)
+
+-- both, of a stack under its other name
+pub accepts : {kept now : StackWorld} (i : InstanceId) → IsStack kept → kept ≡ now → is_setup_at (slice_get now.instances i.0) ≡ true
+    → IsStack (accepted kept i) × Follows now (accepted kept i)
+accepts {kept} i sound same in_setup =
+    let found = setup_row (slice_get kept.instances i.0) (ap (λ (w : StackWorld). is_setup_at (slice_get w.instances i.0)) same ∙ in_setup) in
+    (accepted_keeps kept i sound found.0 found.1 found.2, subst (λ w. Follows w (accepted kept i)) same (accepted_follows kept i sound found.0 found.1 found.2))
+
+pub refuses : {kept now : StackWorld} (i : InstanceId) → IsStack kept → kept ≡ now → is_setup_at (slice_get now.instances i.0) ≡ true
+    → IsStack (refused kept i) × Follows now (refused kept i)
+refuses {kept} i sound same in_setup =
+    let found = setup_row (slice_get kept.instances i.0) (ap (λ (w : StackWorld). is_setup_at (slice_get w.instances i.0)) same ∙ in_setup) in
+    (refused_keeps kept i sound found.0 found.1 found.2, subst (λ w. Follows w (refused kept i)) same (refused_follows kept i sound found.0 found.1 found.2))

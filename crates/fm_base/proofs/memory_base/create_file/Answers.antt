@@ -1,5 +1,4 @@
-use Rattle.fm_base.proofs.Words.{created}
-use Rattle.std.proofs.Common.{refl}
+use Rattle.fm_base.proofs.Words.{created, refl}
 use Rattle.fm_base.proofs.Files.{taken, opened, missing, fresh, makes_or_memory}
 use Rattle.fm_base.proofs.memory_base.create_file.Goals as goal
 

@@ -1,5 +1,4 @@
-use Rattle.fm_base.proofs.Words.{presence_of}
-use Rattle.std.proofs.Common.{sym}
+use Rattle.fm_base.proofs.Words.{presence_of, sym}
 use Rattle.fm_base.proofs.Files.{told_at}
 use Rattle.fm_base.proofs.memory_base.look_for_file.Goals as goal
 

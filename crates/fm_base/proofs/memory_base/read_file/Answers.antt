@@ -1,5 +1,4 @@
-use Rattle.fm_base.proofs.Words.{bytes_from}
-use Rattle.std.proofs.Common.{sym}
+use Rattle.fm_base.proofs.Words.{bytes_from, sym}
 use Rattle.fm_base.proofs.Files.{told_at}
 use Rattle.fm_base.proofs.memory_base.read_file.Goals as goal
 

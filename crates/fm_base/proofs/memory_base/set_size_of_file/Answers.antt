@@ -1,6 +1,5 @@
-use Rattle.fm_base.proofs.Words.{get_by, insert, nat_cmp, slice_cmp, resized, folder_of}
-use Rattle.std.proofs.Common.{sym, refl, ap, ◌∙◌}
-use Rattle.std.specs.Prelude.{IsSome, Ok}
+use Rattle.fm_base.proofs.Words.{get_by, insert, nat_cmp, slice_cmp, resized, folder_of, sym, refl, ap, IsSome, Ok}
+use Rattle.std.proofs.Common.{◌∙◌}
 use Rattle.fm_base.proofs.Files.{changed_at, one_made}
 use Rattle.fm_base.proofs.memory_base.set_size_of_file.Goals as goal
 

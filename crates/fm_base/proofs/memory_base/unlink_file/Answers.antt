@@ -1,6 +1,5 @@
-use Rattle.fm_base.proofs.Words.{folder_of}
-use Rattle.std.proofs.Common.{sym, ap, ◌∙◌}
-use Rattle.std.specs.Prelude.{Ok}
+use Rattle.fm_base.proofs.Words.{folder_of, sym, ap, Ok}
+use Rattle.std.proofs.Common.{◌∙◌}
 use Rattle.fm_base.proofs.Files.{unlinked_at, one_gone}
 use Rattle.fm_base.proofs.memory_base.unlink_file.Goals as goal
 

@@ -1,6 +1,5 @@
-use Rattle.fm_base.proofs.Words.{get_by, insert, nat_cmp, slice_cmp, written, folder_of}
-use Rattle.std.proofs.Common.{sym, refl, ap, ◌∙◌}
-use Rattle.std.specs.Prelude.{IsSome, Ok}
+use Rattle.fm_base.proofs.Words.{get_by, insert, nat_cmp, slice_cmp, written, folder_of, sym, refl, ap, IsSome, Ok}
+use Rattle.std.proofs.Common.{◌∙◌}
 use Rattle.std.proofs.lemmas.Result.{err_from_is_err_and}
 use Rattle.fm_base.proofs.Files.{changed_at, one_made, kept_entries}
 use Rattle.fm_base.proofs.memory_base.write_file.Goals as goal

@@ -1,6 +1,5 @@
 use Rattle.std.proofs.Common.{◌∙◌}
-use Rattle.fm_ctx.proofs.Words.{refl, ap, get_or_default, set_is_updated, Row, row_with}
-use Rattle.fm_ctx.specs.Bodies.{with_number}
+use Rattle.fm_ctx.proofs.Words.{refl, ap, get_or_default, set_is_updated, Row, row_with, with_number}
 use Rattle.fm_ctx.proofs.row.bump.Goals as goal
 
 pub returns-clause-rest : goal.returns-clause-rest

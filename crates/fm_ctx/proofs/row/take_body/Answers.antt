@@ -1,5 +1,4 @@
-use Rattle.fm_ctx.proofs.Words.{ap, ℕ, set_is_updated, row_with}
-use Rattle.std.specs.Global.{Vec}
+use Rattle.fm_ctx.proofs.Words.{ap, ℕ, set_is_updated, row_with, Vec}
 use Rattle.fm_ctx.proofs.row.take_body.Goals as goal
 
 pub returns-clause-rest : goal.returns-clause-rest

@@ -9,7 +9,4 @@ returns-clause-eq c =
     (texts_decide c.args.self.now c.args.other.now c.text.ensures.canonical c.text-2.ensures.canonical)
 
 pub returns-clause-value : goal.returns-clause-value
-returns-clause-value c =
-    true_where_equal c.eq.result (altitude_cmp c.args.self.now c.args.other.now)
-    (c.eq.ensures ∙ rw (c.text.ensures.text, c.text-2.ensures.text)
-    (texts_decide c.args.self.now c.args.other.now c.text.ensures.canonical c.text-2.ensures.canonical))
+returns-clause-value c = true_where_equal c.eq.result (altitude_cmp c.args.self.now c.args.other.now) (returns-clause-eq c)

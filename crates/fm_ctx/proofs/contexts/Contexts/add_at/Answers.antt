@@ -1,16 +1,12 @@
 use Rattle.std.proofs.Common.{◌∙◌}
 use Rattle.fm_ctx.proofs.Words.{length, refl, ap, ap₂, arith, ContextsKept, body_at, rewritten, row_with}
 use Rattle.fm_ctx.specs.Bodies.{raised, with_number}
-use Rattle.fm_ctx.proofs.Rows.{row_named, within_rows, body_row}
-use Rattle.fm_ctx.proofs.Sound.{sound_now, sound_as, sound_rewritten}
-use Rattle.fm_ctx.proofs.Shown.{shown, slots_with, carried_kept}
-use Rattle.fm_ctx.proofs.Seated.{seats_kept}
+use Rattle.fm_ctx.proofs.Changing.{row_named, within_rows, body_row, sound_now, sound_rewritten, shown, slots_with, carried_kept, indexed_kept}
 use Rattle.fm_ctx.proofs.contexts.Contexts.add_at.Goals as goal
 
 pub bump-requires : goal.bump-requires
 bump-requires c =
-    let rows = c.self.inside.rows.items in
-    let i = row_named rows c.args.id c.self.view_is c.requires.there in
+    let i = row_named c.self.inside.rows.items c.args.id c.self.view_is c.requires.there in
     record { room = within_rows i; within = λ d. omega (arith, c.requires.within, ap length (body_row i c.self.view_is d)) }
 
 pub returns-clause-sum : goal.returns-clause-sum
@@ -20,8 +16,7 @@ returns-clause-sum c =
 
 pub returns-clause-after : goal.returns-clause-after
 returns-clause-after c =
-    let rows = c.self.inside.rows.items in
-    let i = row_named rows c.args.id c.self.view_is c.requires.there in
+    let i = row_named c.self.inside.rows.items c.args.id c.self.view_is c.requires.there in
     let made = c.bump.ensures.rest in
     let body = body_at c.args.self.now.table.slots c.args.id in
     let bytes = with_number c.args.place (raised c.args.place c.args.by body) body in
@@ -31,10 +26,7 @@ returns-clause-after c =
 
 pub invariant_of-self : goal.invariant_of-self
 invariant_of-self c =
-    let rows = c.self.inside.rows.items in
-    let i = row_named rows c.args.id c.self.view_is c.requires.there in
+    let i = row_named c.self.inside.rows.items c.args.id c.self.view_is c.requires.there in
     let made = c.bump.ensures.rest in
-    record {
-      sound = sound_as made.2 (returns-clause-after c) (sound_rewritten (sound_now c.self.invariant c.self.view_is) (row_with made.0) i _ refl refl);
-      seated = seats_kept i c.self.invariant.seated (row_with made.0) made.2 refl;
-    }
+    indexed_kept c.self.invariant i (row_with made.0) made.2 (returns-clause-after c) refl
+    (sound_rewritten (sound_now c.self.invariant c.self.view_is) (row_with made.0) i _ refl refl) refl

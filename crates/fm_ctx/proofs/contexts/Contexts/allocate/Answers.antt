@@ -1,9 +1,8 @@
-use Rattle.fm_ctx.proofs.Words.{ℕ, [], List, None, false, length, refl, sym, ap, arith, length-map, CtxId, Row, hand_of}
-use Rattle.fm_ctx.proofs.Words.{kept_allocated, ContextsKept, context_of, slot_of, kept_in}
+use Rattle.fm_ctx.proofs.Words.{ℕ, [], List, None, false, length, refl, sym, ap, arith, length-map, CtxId, Row, hand_of, kept_allocated, ContextsKept}
+use Rattle.fm_ctx.proofs.Words.{context_of, slot_of, kept_in, nat_tests}
 use Rattle.std.proofs.Common.{◌≡◌, ◌<◌, ◌≤◌, ◌+◌, ◌++◌, ◌∷◌, ◌∙◌, rules, deque_capacity}
 use Rattle.fm_ctx.specs.Births.{new_context}
 use Rattle.fm_ctx.proofs.Sound.{sound_now, sound_as}
-use Rattle.fm_ctx.proofs.Words.{nat_tests}
 use Rattle.fm_ctx.proofs.Shown.{shown}
 use Rattle.fm_ctx.proofs.Newborn.{IsFresh, is_new, sound_allocated, slots_pushed, carried_pushed}
 use Rattle.fm_ctx.proofs.Seated.{seats_pushed}
@@ -40,7 +39,7 @@ invariant_of-self-2 c =
     let due_room : length c.args.self.now.table.due + (length rows + 1) ≤ deque_capacity c.reserve.new.self =
     omega (arith, c.in-Ok.ensures.ok, c.len-2.ensures, c.self.inside.rows.ok.0, c.reserve.new.self.ok.0, ap length c.in-Ok.ensures.items, waiting) in
     record {
-      sound = sound_as (pushed c) (shows c) (sound_allocated (deque_capacity c.reserve.new.self) c.args.worker.0 (row_of c) (id_of c) (sound_now c.self.invariant c.self.view_is)
+      sound = sound_as (pushed c) (shows c) refl (sound_allocated (deque_capacity c.reserve.new.self) c.args.worker.0 (row_of c) (id_of c) (sound_now c.self.invariant c.self.view_is)
           c.self.view_is c.requires (past c) refl (fresh c) (sym c.if-is_out_of_slots.ensures) room due_room);
       seated = seats_pushed rows (row_of c) c.self.invariant.seated (pushed c) c.in-Ok-add.ensures.ok refl;
     }

@@ -1,6 +1,5 @@
 use Rattle.std.proofs.Common.{◌∙◌}
-use Rattle.fm_ctx.proofs.Words.{sym, ap, ContextsKept}
-use Rattle.fm_ctx.specs.Counting.{born}
+use Rattle.fm_ctx.proofs.Words.{sym, ap, ContextsKept, born}
 use Rattle.fm_ctx.proofs.Rows.{born_rows}
 use Rattle.fm_ctx.proofs.contexts.Contexts.born.Goals as goal
 

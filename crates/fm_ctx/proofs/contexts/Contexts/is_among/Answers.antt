@@ -1,8 +1,7 @@
 use Rattle.std.proofs.Common.{◌∙◌}
-use Rattle.fm_ctx.proofs.Words.{length, sym, ap, arith, refl, length-map, option_map, option_and_then, slice_get-map, Slot, ContextsKept, slot_of, id_at}
-use Rattle.fm_ctx.proofs.Words.{link_test}
+use Rattle.fm_ctx.proofs.Words.{length, sym, ap, arith, refl, length-map, option_map, option_and_then, slice_get-map, Slot, ContextsKept, slot_of}
+use Rattle.fm_ctx.proofs.Words.{id_at, link_test, passes, context_of_slot}
 use Rattle.std.proofs.lemmas.Option.{slice_get_read}
-use Rattle.fm_ctx.specs.Sweep.{passes, context_of_slot}
 use Rattle.fm_ctx.proofs.Rows.{id_at-rows}
 use Rattle.fm_ctx.proofs.contexts.Contexts.is_among.Goals as goal
 

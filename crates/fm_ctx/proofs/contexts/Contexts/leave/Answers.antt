@@ -30,5 +30,5 @@ pub returns-clause-table : goal.returns-clause-table
 returns-clause-table c =
     let so_far = subst (λ (k : ContextsKept). LeavesSome c.args.self.now k c.args.worker.0) (sym c.self.view_is) c.loop-id.invariant in
     let empty = ap (λ (k : ContextsKept). hand_of k.table.hands c.args.worker.0) c.self.view_is ∙ no_first (hand_of c.loop-id.self.table.hands c.args.worker.0) c.in_default.ensures in
-    let counted = c.saturating_add-self-inside.ensures ∙ ap₂ (λ n k. min (n + k) (2 ^ 64 - 1)) so_far.leaks c.hand_len-left.ensures in
+    let counted = c.saturating_add-self-inside.ensures ∙ ap₂ (λ n k. min (n + k) (2 ^ 64 - 1)) (ap (λ (k : ContextsKept). k.table.leaks) so_far.rest) c.hand_len-left.ensures in
     leave_all c.saturating_add-self-inside.result so_far empty counted

@@ -1,6 +1,5 @@
-use Rattle.std.proofs.Common.{◌≡◌, List, [], Option, None, replicate, deque_capacity, refl, sym, ap, ◌∙◌, arith}
-use Rattle.fm_types.specs.declared.ids.CtxId.{CtxId}
-use Rattle.fm_ctx.specs.Rows.{seats_of}
+use Rattle.std.proofs.Common.{◌≡◌, ◌∙◌}
+use Rattle.fm_ctx.proofs.Words.{List, [], Option, None, replicate, deque_capacity, refl, sym, ap, arith, CtxId, seats_of}
 use Rattle.fm_ctx.proofs.Sound.{sound_as}
 use Rattle.fm_ctx.proofs.Shown.{shown}
 use Rattle.fm_ctx.proofs.Opening.{sound_empty}
@@ -13,7 +12,7 @@ invariant_of-result c =
     let cleaning = c.loop-worker.invariant.cleaning ∙ ap (λ n. replicate {A = Option CtxId} n None) all in
     record {
       sound = sound_as c.new-2.ensures.items
-          (shown [] 0 c.new-2.ensures.items refl refl hands c.new-4.ensures.items cleaning)
+          (shown [] 0 c.new-2.ensures.items refl refl hands c.new-4.ensures.items cleaning) refl
           (sound_empty (deque_capacity c.new-4.result));
       seated = c.in_ok-new-2.ensures ∙ sym (ap seats_of c.new-2.ensures.items);
     }

@@ -1,11 +1,7 @@
 use Rattle.std.proofs.Common.{◌≡◌, ◌∙◌}
-use Rattle.fm_ctx.proofs.Words.{ℕ, [], List, Some, slice_get, refl, sym, ap, ap₂, arith, CtxId, Row, ContextsKept, kept_in, row_with}
-use Rattle.std.specs.Global.{Vec}
-use Rattle.fm_ctx.specs.Cleanup.{taken_of, after_take_due}
-use Rattle.fm_ctx.proofs.Rows.{row_read, within_rows}
-use Rattle.fm_ctx.proofs.Sound.{sound_now, due_row, sound_as, sound_fits, sound_taken}
-use Rattle.fm_ctx.proofs.Shown.{shown, slots_with, carried_kept, due_told, read_updated, within_updated}
-use Rattle.fm_ctx.proofs.Seated.{seats_kept}
+use Rattle.fm_ctx.proofs.Words.{ℕ, [], List, Some, slice_get, refl, sym, ap, ap₂, arith, CtxId, Row, ContextsKept, kept_in, row_with, Vec, taken_of}
+use Rattle.fm_ctx.proofs.Words.{after_take_due}
+use Rattle.fm_ctx.proofs.Changing.{row_read, within_rows, sound_now, due_row, sound_taken, shown, slots_with, carried_kept, due_told, read_updated, within_updated, indexed_kept}
 use Rattle.fm_ctx.proofs.contexts.Contexts.take_due.Goals as goal
 
 pub take_body-body-requires : goal.take_body-body-requires
@@ -13,19 +9,15 @@ take_body-body-requires c = within_rows (due_row c.in_ok-id.id c.self.invariant.
 
 pub index-row-requires : goal.index-row-requires
 index-row-requires c =
-    let id = c.in_ok-id.id in
-    let rows = c.self.inside.rows.items in
-    let i = due_row id c.self.invariant.sound c.in_ok-id.ensures.items in
+    let i = due_row c.in_ok-id.id c.self.invariant.sound c.in_ok-id.ensures.items in
     omega (arith, within_updated i (row_with c.new.result) c.take_body-body.ensures.rest, c.take_body-body.new.rows.ok.0)
 
 pub returns-clause-reply : goal.returns-clause-reply
 returns-clause-reply c =
-    let id = c.in_ok-id.id in
-    let rows = c.self.inside.rows.items in
-    let i = due_row id c.self.invariant.sound c.in_ok-id.ensures.items in
+    let i = due_row c.in_ok-id.id c.self.invariant.sound c.in_ok-id.ensures.items in
     let row = read_updated i (row_with c.new.result) c.index-row.result.now c.take_body-body.ensures.rest c.index-row.ensures in
     let body = c.from_vec.ensures ∙ ap (λ (v : Vec ℕ). v.items) (c.take_body-body.ensures.body i.row) ∙ ap (λ (r : Row). r.body.items) (row_read i i.row) in
-    ap₂ (λ (r : Row) (bytes : List ℕ). Some (record { id = id; kind = r.kind; owner = r.owner; body = bytes })) row body ∙ due_told i c.in_ok-id.ensures.items c.self.view_is
+    ap₂ (λ (r : Row) (bytes : List ℕ). Some (record { id = c.in_ok-id.id; kind = r.kind; owner = r.owner; body = bytes })) row body ∙ due_told i c.in_ok-id.ensures.items c.self.view_is
 
 pub returns-clause-after : goal.returns-clause-after
 returns-clause-after c =
@@ -40,14 +32,9 @@ returns-clause-after c =
 
 pub invariant_of-self-2 : goal.invariant_of-self-2
 invariant_of-self-2 c =
-    let id = c.in_ok-id.id in
-    let rows = c.self.inside.rows.items in
     let s = sound_now c.self.invariant c.self.view_is in
-    let i = due_row id c.self.invariant.sound c.in_ok-id.ensures.items in
-    let first : slice_get c.args.self.now.table.due 0 ≡ Some id =
+    let i = due_row c.in_ok-id.id c.self.invariant.sound c.in_ok-id.ensures.items in
+    let first : slice_get c.args.self.now.table.due 0 ≡ Some c.in_ok-id.id =
     ap (λ (k : ContextsKept). slice_get k.table.due 0) (sym c.self.view_is) ∙ ap (λ (due : List CtxId). slice_get due 0) c.in_ok-id.ensures.items in
-    record {
-      sound = sound_fits c.in_ok-id.ensures.capacity (sound_as c.take_body-body.ensures.rest (returns-clause-after c)
-          (sound_taken s (row_with c.new.result) c.args.worker.0 i c.requires.within first c.requires.idle refl refl));
-      seated = seats_kept i c.self.invariant.seated (row_with c.new.result) c.take_body-body.ensures.rest refl;
-    }
+    indexed_kept c.self.invariant i (row_with c.new.result) c.take_body-body.ensures.rest (returns-clause-after c) c.in_ok-id.ensures.capacity
+    (sound_taken s (row_with c.new.result) c.args.worker.0 i c.requires.within first c.requires.idle refl refl) refl

@@ -1,6 +1,6 @@
-use Rattle.fm_ctx.proofs.Words.{List, Option, None, length, sym, ap, subst, arith, Seat, chain_of, is_seat, stands, IsChained}
+use Rattle.fm_ctx.proofs.Words.{List, Option, None, length, refl, sym, ap, arith, Seat, chain_of, is_seat, stands}
 use Rattle.fm_ctx.proofs.Lasts.{last_falls}
-use Rattle.fm_ctx.proofs.Chains.{led_by}
+use Rattle.fm_ctx.proofs.Chains.{chained_as, led_by}
 use Rattle.fm_ctx.proofs.Finding.{position_at, passed_slot, passed_within, passed_more, passed_all}
 use Rattle.fm_ctx.proofs.seats.Seats.find.Goals as goal
 
@@ -17,18 +17,16 @@ index-next-requires-in-Some c =
 
 pub loop-next-smaller : goal.loop-next-smaller
 loop-next-smaller c =
-    let chained = subst (λ (s : List (Option Seat)). IsChained c.self.inside.firsts.items c.self.inside.nexts.items s) c.self.view_is c.self.invariant in
     let chain = chain_of c.args.seat in
     let has = (passed_slot c.in-Some.slot c.loop-next.invariant c.in-Some.is).passes in
     let next = c.index-next-in-Some.result.now in
-    last_falls (stands c.args.self.now chain) c.in-Some.slot next c.loop-next.next c.in-Some.is (led_by chain c.in-Some.slot next chained has c.index-next-in-Some.ensures)
+    last_falls (stands c.args.self.now chain) c.in-Some.slot next c.loop-next.next c.in-Some.is (led_by chain c.in-Some.slot next (chained_as refl (sym c.self.view_is) c.self.invariant) has c.index-next-in-Some.ensures)
 
 pub loop-next-preserved : goal.loop-next-preserved
 loop-next-preserved c =
-    let chained = subst (λ (s : List (Option Seat)). IsChained c.self.inside.firsts.items c.self.inside.nexts.items s) c.self.view_is c.self.invariant in
     let has = (passed_slot c.in-Some.slot c.loop-next.invariant c.in-Some.is).passes in
     let next = c.index-next-in-Some.result.now in
-    passed_more c.in-Some.slot next c.loop-next.invariant c.in-Some.is (sym c.if-has.ensures) (led_by (chain_of c.args.seat) c.in-Some.slot next chained has c.index-next-in-Some.ensures)
+    passed_more c.in-Some.slot next c.loop-next.invariant c.in-Some.is (sym c.if-has.ensures) (led_by (chain_of c.args.seat) c.in-Some.slot next (chained_as refl (sym c.self.view_is) c.self.invariant) has c.index-next-in-Some.ensures)
 
 pub returns : goal.returns
 returns c = passed_all c.loop-next.invariant c.in_default.is

@@ -9,5 +9,4 @@ invariant_of-self c =
     rw c.finish_at.ensures (finished_keeps _ c.args.instance c.self.invariant found.0 found.1 found.2)
 
 pub returns-clause-follows : goal.returns-clause-follows
-returns-clause-follows c =
-    rw (← c.self.view_is, c.finish_at.ensures) (finished_follows _ c.args.instance)
+returns-clause-follows c = rw (← c.self.view_is, c.finish_at.ensures) (finished_follows _ c.args.instance)

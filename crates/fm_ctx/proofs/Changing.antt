@@ -1,0 +1,45 @@
+-- The calls that change one row: the words of their answers, which row it is, and the rows with their seats after it.
+use Rattle.std.proofs.Common.{◌≡◌, ◌<◌, ◌-◌, ◌^◌}
+use Rattle.fm_ctx.proofs.Words.{ℕ, true, List, length, get_or, Option, is_some, arith, CtxId, Row, Seat, holds, hand_of, set, updated, ContextsKept, carried_of}
+use Rattle.fm_ctx.proofs.Words.{count_in, link_at, IsSound, IsIndexed, seat_in}
+pub use Rattle.fm_ctx.proofs.Rows.{InRow, within_rows, row_carried, row_named, row_read, body_row}
+pub use Rattle.fm_ctx.proofs.Sound.{sound_now, present, live_held, live_linked, row_count, row_fits, row_positive, due_fits, due_row, sound_as, dropped_row}
+pub use Rattle.fm_ctx.proofs.Sound.{sound_grabbed, sound_released, sound_carried, sound_brought, sound_linked, sound_unlinked, sound_unlinked_into}
+pub use Rattle.fm_ctx.proofs.Sound.{sound_rewritten, sound_taken, sound_cleaned}
+pub use Rattle.fm_ctx.proofs.Shown.{shown, slots_kept, slots_changed, slots_by, slots_with, carried_kept, carried_by, due_by, due_told}
+pub use Rattle.fm_ctx.proofs.Shown.{within_carried, within_updated, read_updated, updated_twice}
+pub use Rattle.fm_ctx.proofs.Seated.{seats_kept, seats_set, seat_within, seat_free, unseated, unlinked_seat, linked_seat}
+
+-- ---- the row
+
+module _ {rows : List Row} {kept now : ContextsKept} {capacity : ℕ} {seats : List (Option Seat)} (indexed : IsIndexed rows kept capacity seats) (same : kept ≡ now) where
+  -- of a context with references
+  pub row_live : (c : CtxId) → 0 < count_in (carried_of now) now.table c → InRow rows c
+  row_live c live = present (sound_now indexed same) c live
+
+  -- it can have one more
+  pub row_raises : (c : CtxId) → 0 < count_in (carried_of now) now.table c → (c.slot < length rows) × ((d : Row) → (get_or rows c.slot d).count < 2 ^ 64 - 1)
+  row_raises c live = (within_rows (row_live c live), row_fits (sound_now indexed same) (row_live c live))
+
+  -- of one that a worker holds, or that is linked, or that completions carry
+  pub row_held : (w : ℕ) (c : CtxId) → w < 48 → holds (hand_of now.table.hands w) c ≡ true → InRow rows c
+  row_held w c worker has = row_live c (live_held (sound_now indexed same) w c worker has)
+
+  pub row_linked : (c : CtxId) → is_some (link_at now.table.slots c) ≡ true → InRow rows c
+  row_linked c has = row_live c (live_linked (sound_now indexed same) c has)
+
+  pub row_carrying : (c : CtxId) → 0 < carried_of now c → InRow rows c
+  row_carrying c some = row_live c (omega (arith, some))
+
+-- ---- after it was changed
+
+module _ {rows rows' : List Row} {kept kept' now : ContextsKept} {capacity capacity' : ℕ} {seats : List (Option Seat)} {c : CtxId} (was : IsIndexed rows kept capacity seats) (i : InRow rows c) where
+  -- its seat stays
+  pub indexed_kept : (g : Row → Row) → rows' ≡ updated g rows c.slot → kept' ≡ now → capacity' ≡ capacity → IsSound (updated g rows c.slot) now capacity
+      → seat_in (g i.row) ≡ seat_in i.row → IsIndexed rows' kept' capacity' seats
+  indexed_kept g is shows fits sound same = record { sound = sound_as is shows fits sound; seated = seats_kept i was.seated g is same }
+
+  -- or it gets another one
+  pub indexed_set : {seats' : List (Option Seat)} (g : Row → Row) (o : Option Seat) → rows' ≡ updated g rows c.slot → kept' ≡ now → capacity' ≡ capacity
+      → IsSound (updated g rows c.slot) now capacity → seats' ≡ set seats c.slot o → seat_in (g i.row) ≡ o → IsIndexed rows' kept' capacity' seats'
+  indexed_set g o is shows fits sound put new = record { sound = sound_as is shows fits sound; seated = seats_set i was.seated g o is put new }

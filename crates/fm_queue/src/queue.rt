@@ -11,7 +11,7 @@ use crate::kept::{Cut, Kept, Put, Take, Whole};
 use crate::tally::Tally;
 use crossbeam_channel::{Pass, TrySendError, bounded_with};
 use fm_types::Status;
-use std::alloc::Global;
+use std::alloc::{AllocError, Global};
 use std::sync::Wait;
 
 /// The right to put and take, for one thread at a time, of the queue that it was made with. It has no bytes. In contracts it knows what was put
@@ -42,19 +42,47 @@ impl JobQueue {
         if capacity == 0 || passes == 0 {
             return Err(Status::BadRequest);
         }
-        let (sender, receiver, mut first) = bounded_with::<Job, Tally, Kept, Global>(
-            alloc, capacity,
-        )?;
+        let (queue, first) = JobQueue::with_one_pass(alloc, capacity)?;
+        let all = queue.every_pass(alloc, first, passes)?;
+        Ok((queue, all))
+    }
+
+    // A queue and its first pass, which has every part.
+    fn with_one_pass(alloc: Global, capacity: usize) -> Result<(JobQueue, JobPass), AllocError>
+        requires { 0 < capacity }
+        ensures capacity { IfOk result (λ made. capacity_of made.0 ≡ capacity) }
+        ensures own { IfOk result (λ made. IsPassOf made.0 made.1) }
+        ensures idle { IfOk result (λ made. tally_of made.1 ≡ empty_tally every_part) }
+    {
+        let (sender, receiver, first) = bounded_with::<Job, Tally, Kept, Global>(alloc, capacity)?;
         let queue = JobQueue {
             ends: Ends { sender, receiver },
         };
+        Ok((queue, first))
+    }
+
+    // So many passes, the one with every part cut into them, which comes last.
+    fn every_pass(
+        &self,
+        alloc: Global,
+        first: JobPass,
+        passes: usize,
+    ) -> Result<Vec<JobPass>, AllocError>
+        requires own { IsPassOf self.now first }
+        requires idle { tally_of first ≡ empty_tally every_part }
+        requires some { 0 < passes }
+        ensures passes { IfOk result (λ all. length all.items ≡ passes) }
+        ensures own { IfOk result (λ all. All (λ pass. IsPassOf self.now pass) all.items) }
+        ensures idle { IfOk result (λ all. All (λ pass. tally_of pass ≡ empty_tally (parts_of pass)) all.items) }
+        ensures parts { IfOk result (λ all. sum_by parts_of all.items ≡ every_part) }
+    {
+        let mut first = first;
         let mut all = Vec::with_capacity(alloc, passes)?;
         for _ in 1..passes {
-            let pass = queue.cut(&mut first);
-            all.push(pass)?;
+            all.push(self.cut(&mut first))?;
         }
         all.push(first)?;
-        Ok((queue, all))
+        Ok(all)
     }
 
     // A pass with one of the other's parts.

@@ -30,14 +30,31 @@ impl RundownGate {
         if volumes == 0 || seats == 0 || MAX_VOLUMES < volumes || MAX_SEATS < seats {
             return Err(Status::BadRequest);
         }
-        let (gate, mut first) = RundownGate::with_one_seat(alloc, volumes, seats)?;
-        let mut all = Vec::with_capacity(alloc, seats)?;
-        for _ in 1..seats {
-            let seat = gate.make_seat(&mut first);
-            all.push(seat)?;
+        let (gate, first) = RundownGate::with_one_seat(alloc, volumes, seats)?;
+        let all = gate.every_seat(alloc, first)?;
+        Ok((gate, all))
+    }
+
+    // Every seat, the first one last.
+    fn every_seat(
+        &self,
+        alloc: Global,
+        first: Seat<(), SeatView>,
+    ) -> Result<Vec<GateSeat>, AllocError>
+        requires own { IsAt self.now.table.shared.table_id first }
+        requires fresh { first.me.0 ≡ fresh_seat (seats_of self.now - 1) }
+        requires some { 0 < seats_of self.now }
+        ensures number { IfOk result (λ all. length all.items ≡ seats_of self.now) }
+        ensures own { IfOk result (λ all. All (λ seat. IsSeatOf self.now seat) all.items) }
+        ensures fresh { IfOk result (λ all. All (λ seat. view_of seat ≡ fresh_seat 0) all.items) }
+    {
+        let mut first = first;
+        let mut all = Vec::with_capacity(alloc, self.seats)?;
+        for _ in 1..self.seats {
+            all.push(self.make_seat(&mut first))?;
         }
         all.push(GateSeat::fresh(first))?;
-        Ok((gate, all))
+        Ok(all)
     }
 
     // A gate and its first seat, with the others still to be made.

@@ -1,6 +1,6 @@
 //! The names of the files directly in a folder of the host.
 
-ghost use Rattle.std.specs.Prelude.{◌≡◌, ◌≤◌, IfOk, IfSome};
+ghost use Rattle.std.specs.Prelude.{◌≡◌, ◌+◌, ◌≤◌, IfOk, OnOk, IfSome};
 ghost use Rattle.std.specs.List.{sum_by};
 ghost use Rattle.fm_base.specs.Folders.{lines_of};
 ghost use Rattle.fm_host.specs.Names.{line_length, IsListing};
@@ -23,6 +23,33 @@ fn name_of<R: Files + AllocGlobal + Clone + Drop>(
     listed_name(entry.file_name().as_bytes(), is_folder)
 }
 
+// Keeps the name, if there is room for its line; whether there is.
+fn keep_name(names: &mut Vec<RelPath>, room: &mut usize, name: RelPath) -> Result<bool, AllocError>
+    ensures { OnOk result (room.new + sum_by line_length names.new.items ≡ room.old + sum_by line_length names.old.items) }
+{
+    let line = name.text().len() + 1;
+    if line > *room {
+        return Ok(false);
+    }
+    names.push(name)?;
+    *room -= line;
+    Ok(true)
+}
+
+// The same of the name under which the entry is listed, if it is.
+fn keep_entry<R: Files + AllocGlobal + Clone + Drop>(
+    names: &mut Vec<RelPath>,
+    room: &mut usize,
+    entry: io::Result<DirEntry<R>>,
+) -> io::Result<bool>
+    ensures { OnOk result (room.new + sum_by line_length names.new.items ≡ room.old + sum_by line_length names.old.items) }
+{
+    match name_of(&entry?)? {
+        Some(name) => Ok(keep_name(names, room, name)?),
+        None => Ok(true),
+    }
+}
+
 // The names in the order in which the host gives them; None where their lines have too many bytes.
 fn names_in<R: Files + AllocGlobal + Clone + Drop>(
     rt: &R,
@@ -33,13 +60,8 @@ fn names_in<R: Files + AllocGlobal + Clone + Drop>(
     let mut names = Vec::new(rt.alloc());
     let mut room = MAX_LISTING;
     for entry in fs::read_dir(rt, folder)? {
-        if let Some(name) = name_of(&entry?)? {
-            let line = name.text().len() + 1;
-            if line > room {
-                return Ok(None);
-            }
-            room -= line;
-            names.push(name)?;
+        if !keep_entry(&mut names, &mut room, entry)? {
+            return Ok(None);
         }
     }
     Ok(Some(names))

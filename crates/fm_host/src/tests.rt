@@ -4,16 +4,16 @@ use super::*;
 use crate::slow_host::{Names, SlowHost};
 use fm_base::{Base, FailNth};
 use fm_types::{Bytes, CreateMode, RelPath, Status};
+use std::alloc::Global;
+use std::rt::Files;
 use std::test::Fail;
 use std::{env, fs};
 
-// A new folder of the host for one test.
-fn new_folder(rt: &HostRuntime, test: &str) -> Result<String, Fail> {
+// The path of a folder of the host for one test.
+fn folder_for(rt: &HostRuntime, test: &str) -> Result<String, Fail> {
     let place = env::temp_dir(rt)?;
     let number = std::process::id(rt.process());
-    let folder = format!(in rt.alloc(); "{}/kazdrin-{test}-{number}", place.as_path().display())?;
-    fs::create_dir(rt, folder.as_str())?;
-    Ok(folder)
+    Ok(format!(in rt.alloc(); "{}/kazdrin-{test}-{number}", place.as_path().display())?)
 }
 
 // A call of a base.
@@ -35,6 +35,8 @@ enum Answer {
     Done,
     Number(u64),
     Bytes(&'static [u8]),
+    /// So many bytes.
+    Long(usize),
     No(Status),
 }
 
@@ -52,7 +54,11 @@ fn is_refusal(status: Status, answer: Answer) -> bool {
 
 fn are_bytes(told: Result<Bytes, Status>, answer: Answer) -> bool {
     match told {
-        Ok(bytes) => matches!(answer, Answer::Bytes(wanted) if wanted == bytes.as_slice()),
+        Ok(bytes) => match answer {
+            Answer::Bytes(wanted) => wanted == bytes.as_slice(),
+            Answer::Long(wanted) => wanted == bytes.len(),
+            _ => false,
+        },
         Err(status) => is_refusal(status, answer),
     }
 }
@@ -85,16 +91,38 @@ fn is_told<B: Base>(base: &mut B, call: Call, answer: Answer) -> Result<bool, St
     })
 }
 
-// How many of the calls, from the first on, are told their answers.
-fn told<B: Base>(base: &mut B, rows: &[(Call, Answer)]) -> Result<usize, Status> {
-    let mut count = 0usize;
+// How many of the calls are left, from the first on that isn't told its answer: none where all are told theirs.
+fn left<B: Base>(base: &mut B, rows: &[(Call, Answer)]) -> Result<usize, Status> {
+    let mut left = rows.len();
     for (call, answer) in rows {
         if !is_told(base, *call, *answer)? {
-            return Ok(count);
+            return Ok(left);
         }
-        count = count.saturating_add(1);
+        left = left.saturating_sub(1);
     }
-    Ok(count)
+    Ok(left)
+}
+
+// How many calls are left, and how many faults of the host the base has counted.
+type Told = (usize, u64);
+
+// What a base over that folder is told.
+fn told_in<R: Files + AllocGlobal + Clone + Drop>(
+    rt: &R,
+    folder: &str,
+    rows: &[(Call, Answer)],
+) -> Result<Told, Status> {
+    let mut base = HostBase::new(rt, folder)?;
+    let left = left(&mut base, rows)?;
+    Ok((left, base.failures()))
+}
+
+// The same of a new folder, which is empty at the end.
+fn told_in_new(rt: &HostRuntime, folder: &str, rows: &[(Call, Answer)]) -> Result<Told, Fail> {
+    fs::create_dir(rt, folder)?;
+    let told = told_in(rt, folder, rows)?;
+    fs::remove_dir(rt, folder)?;
+    Ok(told)
 }
 
 const ROW: [(Call, Answer); 8] = [
@@ -116,11 +144,8 @@ const ROW: [(Call, Answer); 8] = [
 
 #[test]
 fn host_folder(rt: HostRuntime) -> Result<(), Fail> {
-    let folder = new_folder(&rt, "row")?;
-    let mut base = HostBase::new(&rt, folder.as_str())?;
-    assert_eq!(rt; told(&mut base, &ROW)?, ROW.len());
-    assert_eq!(rt; base.failures(), 0);
-    fs::remove_dir(&rt, folder.as_str())?;
+    let folder = folder_for(&rt, "row")?;
+    assert_eq!(rt; told_in_new(&rt, folder.as_str(), &ROW)?, (0, 0));
     Ok(())
 }
 
@@ -153,11 +178,8 @@ const FILES: [(Call, Answer); 17] = [
 
 #[test]
 fn files_of_a_folder(rt: HostRuntime) -> Result<(), Fail> {
-    let folder = new_folder(&rt, "files")?;
-    let mut base = HostBase::new(&rt, folder.as_str())?;
-    assert_eq!(rt; told(&mut base, &FILES)?, FILES.len());
-    assert_eq!(rt; base.failures(), 0);
-    fs::remove_dir(&rt, folder.as_str())?;
+    let folder = folder_for(&rt, "files")?;
+    assert_eq!(rt; told_in_new(&rt, folder.as_str(), &FILES)?, (0, 0));
     Ok(())
 }
 
@@ -174,49 +196,84 @@ const ABSENT: [(Call, Answer); 7] = [
 // Of a folder that is gone.
 const GONE: [(Call, Answer); 1] = [(Call::List, Answer::No(Status::FileNotFound))];
 
+// What a base is told before and after its folder goes.
+fn told_without_folder(rt: &HostRuntime, folder: &str) -> Result<(usize, Told), Fail> {
+    let mut base = HostBase::new(rt, folder)?;
+    let there = left(&mut base, &ABSENT)?;
+    fs::remove_dir(rt, folder)?;
+    let gone = left(&mut base, &GONE)?;
+    Ok((there, (gone, base.failures())))
+}
+
+// What is said where there is no such folder.
+fn refusal(rt: &HostRuntime, folder: &str) -> Option<Status> {
+    HostBase::new(rt, folder).err()
+}
+
 #[test]
 fn absent_files_and_folders(rt: HostRuntime) -> Result<(), Fail> {
-    let folder = new_folder(&rt, "absent")?;
-    let mut base = HostBase::new(&rt, folder.as_str())?;
-    assert_eq!(rt; told(&mut base, &ABSENT)?, ABSENT.len());
-    fs::remove_dir(&rt, folder.as_str())?;
-    assert_eq!(rt; told(&mut base, &GONE)?, GONE.len());
-    assert_eq!(rt; base.failures(), 0);
-    let again = HostBase::new(&rt, folder.as_str()).err();
-    assert_eq!(rt; again, Some(Status::FileNotFound));
+    let folder = folder_for(&rt, "absent")?;
+    fs::create_dir(&rt, folder.as_str())?;
+    let told = told_without_folder(&rt, folder.as_str())?;
+    assert_eq!(rt; told, (0, (0, 0)));
+    assert_eq!(rt; refusal(&rt, folder.as_str()), Some(Status::FileNotFound));
     Ok(())
+}
+
+// In a folder with a folder `inner`, which isn't listed, and is no file.
+const FOLDERS: [(Call, Answer); 6] = [
+    (Call::Create(b"inner/x", CreateMode::New), Answer::Done),
+    (Call::Create(b"y", CreateMode::New), Answer::Done),
+    (Call::Create(b".hidden", CreateMode::New), Answer::Done),
+    (Call::List, Answer::Bytes(b".hidden\ny\n")),
+    (Call::Size(b"inner"), Answer::No(Status::DeviceFault)),
+    (
+        Call::Create(b"inner", CreateMode::Always),
+        Answer::No(Status::DeviceFault),
+    ),
+];
+
+const EMPTIED: [(Call, Answer); 3] = [
+    (Call::Unlink(b"inner/x"), Answer::Done),
+    (Call::Unlink(b"y"), Answer::Done),
+    (Call::Unlink(b".hidden"), Answer::Done),
+];
+
+// What is said where a base is wanted over `y`, which is no folder.
+fn refusal_of_file(rt: &HostRuntime, folder: &str) -> Result<Option<Status>, Fail> {
+    let file = format!(in rt.alloc(); "{folder}/y")?;
+    Ok(refusal(rt, file.as_str()))
+}
+
+// What is told while the files are there, what is said of a file, and what is told as the files go.
+fn told_among_folders(
+    rt: &HostRuntime,
+    folder: &str,
+) -> Result<(Told, Option<Status>, Told), Fail> {
+    let first = told_in(rt, folder, &FOLDERS)?;
+    let refused = refusal_of_file(rt, folder)?;
+    let last = told_in(rt, folder, &EMPTIED)?;
+    Ok((first, refused, last))
+}
+
+// The same in a new folder with its inner one.
+fn told_in_folders(rt: &HostRuntime, folder: &str) -> Result<(Told, Option<Status>, Told), Fail> {
+    let inner = format!(in rt.alloc(); "{folder}/inner")?;
+    fs::create_dir(rt, folder)?;
+    fs::create_dir(rt, inner.as_str())?;
+    let told = told_among_folders(rt, folder)?;
+    fs::remove_dir(rt, inner.as_str())?;
+    fs::remove_dir(rt, folder)?;
+    Ok(told)
 }
 
 #[test]
 fn folders_are_no_files(rt: HostRuntime) -> Result<(), Fail> {
-    let folder = new_folder(&rt, "folders")?;
-    let inner = format!(in rt.alloc(); "{folder}/inner")?;
-    fs::create_dir(&rt, inner.as_str())?;
-    let mut base = HostBase::new(&rt, folder.as_str())?;
-    base.create(&RelPath::read(b"inner/x")?, CreateMode::New)?;
-    base.create(&RelPath::read(b"y")?, CreateMode::New)?;
-    base.create(&RelPath::read(b".hidden")?, CreateMode::New)?;
-    assert_eq!(rt; base.list()?.as_slice(), b".hidden\ny\n".as_slice());
-    assert_eq!(rt;
-        base.size(&RelPath::read(b"inner")?),
-        Err(Status::DeviceFault)
-    );
-    assert_eq!(rt;
-        base.create(&RelPath::read(b"inner")?, CreateMode::Always),
-        Err(Status::DeviceFault)
-    );
-    assert_eq!(rt; base.failures(), 2);
-    let file = format!(in rt.alloc(); "{folder}/y")?;
-    assert_eq!(rt;
-        HostBase::new(&rt, file.as_str()).err(),
-        Some(Status::FileNotFound),
-        "y is no folder"
-    );
-    base.unlink(&RelPath::read(b"inner/x")?)?;
-    base.unlink(&RelPath::read(b"y")?)?;
-    base.unlink(&RelPath::read(b".hidden")?)?;
-    fs::remove_dir(&rt, inner.as_str())?;
-    fs::remove_dir(&rt, folder.as_str())?;
+    let folder = folder_for(&rt, "folders")?;
+    let (first, refused, last) = told_in_folders(&rt, folder.as_str())?;
+    assert_eq!(rt; first, (0, 2));
+    assert_eq!(rt; refused, Some(Status::FileNotFound), "y is no folder");
+    assert_eq!(rt; last, (0, 0));
     Ok(())
 }
 
@@ -227,11 +284,9 @@ const SLOW: [(Call, Answer); 3] = [
 ];
 
 #[test]
-fn byte_by_byte(rt: HostRuntime) -> Result<(), Fail> {
-    let mut base = HostBase::new(&SlowHost::new(rt.alloc()), "root")?;
-    assert_eq!(rt; told(&mut base, &SLOW)?, SLOW.len());
-    assert_eq!(rt; base.failures(), 0);
-    Ok(())
+fn byte_by_byte(rt: HostRuntime) {
+    let host = SlowHost::new(rt.alloc());
+    assert_eq!(rt; told_in(&host, "root", &SLOW), Ok((0, 0)));
 }
 
 // With place 4 failing: two faults of the host, and that it wants memory is one too; this program's own want of memory is none.
@@ -248,67 +303,65 @@ const FAILING: [(Call, Answer); 6] = [
 ];
 
 #[test]
-fn fails_in_mid_stream(rt: HostRuntime) -> Result<(), Fail> {
+fn fails_in_mid_stream(rt: HostRuntime) {
     let mut host = SlowHost::new(rt.alloc());
     host.fails_at = 4;
-    let mut base = HostBase::new(&host, "root")?;
-    assert_eq!(rt; told(&mut base, &FAILING)?, FAILING.len());
-    assert_eq!(rt; base.failures(), 3);
-    Ok(())
+    assert_eq!(rt; told_in(&host, "root", &FAILING), Ok((0, 3)));
+}
+
+// The names of a host, what a list of them is told, and the faults that are counted then; a name that isn't UTF-8 is one.
+const LISTS: [(Names, Answer, u64); 4] = [
+    (Names::Mixed, Answer::Bytes(b".b\na\na c\nb\n"), 0),
+    (Names::NotText, Answer::No(Status::DeviceFault), 1),
+    (Names::Long(128), Answer::Long(32_768), 0),
+    (Names::Long(129), Answer::No(Status::TooMany), 0),
+];
+
+fn told_of_names(alloc: Global, names: Names, answer: Answer) -> Result<Told, Status> {
+    let mut host = SlowHost::new(alloc);
+    host.names = names;
+    told_in(&host, "root", &[(Call::List, answer)])
 }
 
 #[test]
-fn names_of_a_host(rt: HostRuntime) -> Result<(), Fail> {
-    let mut host = SlowHost::new(rt.alloc());
-    host.names = Names::Mixed;
-    let mut base = HostBase::new(&host, "root")?;
-    assert_eq!(rt; base.list()?.as_slice(), b".b\na\na c\nb\n".as_slice());
-    host.names = Names::NotText;
-    let mut base = HostBase::new(&host, "root")?;
-    assert_eq!(rt;
-        base.list().err(),
-        Some(Status::DeviceFault),
-        "a name that isn't UTF-8"
-    );
-    assert_eq!(rt; base.failures(), 1);
-    host.names = Names::Long(128);
-    let mut base = HostBase::new(&host, "root")?;
-    assert_eq!(rt; base.list()?.len(), 32_768);
-    host.names = Names::Long(129);
-    let mut base = HostBase::new(&host, "root")?;
-    assert_eq!(rt; base.list().err(), Some(Status::TooMany));
-    assert_eq!(rt; base.failures(), 0);
-    Ok(())
+fn names_of_a_host(rt: HostRuntime) {
+    for (names, answer, failures) in LISTS {
+        assert_eq!(rt; told_of_names(rt.alloc(), names, answer), Ok((0, failures)));
+    }
 }
 
+// Nothing is synced before the flush.
+const SYNCED: [(Call, Answer); 2] = [
+    (Call::Write(b"file", 0, b"x"), Answer::Done),
+    (Call::Flush(b"file"), Answer::No(Status::DeviceFault)),
+];
+
 #[test]
-fn synced_by_flush(rt: HostRuntime) -> Result<(), Fail> {
+fn synced_by_flush(rt: HostRuntime) {
     let mut host = SlowHost::new(rt.alloc());
     host.fails_to_sync = true;
-    let mut base = HostBase::new(&host, "root")?;
-    let file = RelPath::read(b"file")?;
-    assert_eq!(rt; base.write(&file, 0, b"x"), Ok(()), "nothing is synced");
-    assert_eq!(rt; base.flush(&file), Err(Status::DeviceFault));
-    assert_eq!(rt; base.failures(), 1);
-    Ok(())
+    assert_eq!(rt; told_in(&host, "root", &SYNCED), Ok((0, 1)));
+}
+
+// A fault of the host, the call that fails, and one more.
+const SECOND: [(Call, Answer); 3] = [
+    (Call::Size(b"folder"), Answer::No(Status::DeviceFault)),
+    (Call::Size(b"file"), Answer::No(Status::DeviceFault)),
+    (Call::Size(b"file"), Answer::Number(8)),
+];
+
+fn told_with_a_failure<B: Base + Drop>(base: B, rows: &[(Call, Answer)]) -> Result<Told, Status> {
+    let mut base = FailNth::new(base, 2);
+    let left = left(&mut base, rows)?;
+    Ok((left, base.failures()))
+}
+
+// The same of a base over the slow host.
+fn told_of_slow(alloc: Global) -> Result<Told, Status> {
+    told_with_a_failure(HostBase::new(&SlowHost::new(alloc), "root")?, &SECOND)
 }
 
 #[test]
-fn second_call_fails(rt: HostRuntime) -> Result<(), Fail> {
-    let base = HostBase::new(&SlowHost::new(rt.alloc()), "root")?;
-    let mut base = FailNth::new(base, 2);
-    let folder = RelPath::read(b"folder")?;
-    assert_eq!(rt;
-        base.size(&folder),
-        Err(Status::DeviceFault),
-        "a fault of the host"
-    );
-    assert_eq!(rt;
-        base.size(&RelPath::read(b"file")?),
-        Err(Status::DeviceFault),
-        "the call that fails"
-    );
-    assert_eq!(rt; base.size(&RelPath::read(b"file")?), Ok(8));
-    assert_eq!(rt; base.failures(), 2);
-    Ok(())
+fn second_call_fails(rt: HostRuntime) {
+    assert_eq!(rt; told_of_slow(rt.alloc()), Ok((0, 2)));
 }

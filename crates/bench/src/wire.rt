@@ -1,6 +1,6 @@
 //! Frames: encodes writes of 4,096 bytes, and decodes a stream of such frames that comes in pieces of 65,536 bytes, for so many times 256 frames.
 
-use fm_data::Request;
+use fm_data::{FileRequest, Request};
 use fm_types::{Bytes, HandleId, Status};
 use fm_wire::{Body, Decoder, Frame, encode};
 use std::alloc::Global;
@@ -21,10 +21,9 @@ fn write_frame(alloc: Global) -> Result<Frame, Status> {
     bytes.set_len(WRITTEN)?;
     Ok(Frame {
         number: 1,
-        body: Body::Operation(Request::Write {
+        body: Body::Operation(Request::OnHandle {
             handle: HandleId(0),
-            offset: 0,
-            bytes,
+            request: FileRequest::Write { offset: 0, bytes },
         }),
     })
 }

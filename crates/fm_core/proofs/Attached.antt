@@ -1,8 +1,8 @@
 -- The events on filters, volumes and instances, from what their parts did.
-use Rattle.fm_core.proofs.Words.{Bool, true, Option, Some, Result, Ok, Err, ap, sym, subst, none-some, same_Some, FilterId, VolumeId}
+use Rattle.fm_core.proofs.Words.{Bool, true, Option, Some, Result, Ok, Err, ap, sym, subst, FilterId, VolumeId}
 use Rattle.fm_core.proofs.Words.{InstanceId, WorkerId, Status, Instance, StackWorld, Worker, World, carries, worker_at, put, is_idle}
 use Rattle.fm_core.proofs.Words.{Unless, FlowTable, ContextsKept, carried_of, Leaves, leaves_alike, sweeps_alike, carried_equal, IsTied}
-use Rattle.fm_core.proofs.Words.{setup_of}
+use Rattle.fm_core.proofs.Words.{setup_of, arith}
 use Rattle.std.proofs.Common.{◌≡◌, ℕ, List, ◌∙◌}
 use Rattle.fm_types.specs.declared.status.Status.TheVariants as status
 use Rattle.fm_stack.specs.Instances.{is_setup}
@@ -64,8 +64,7 @@ setup_tied kept left after i w result f leaves carried empties tied = swept_tied
 
 -- a place that is the setup callback of an instance, or isn't
 pub setup_is : (m : Option Worker) (i : InstanceId) → setup_of m ≡ Some i → m ≡ Some (place.Setup i)
-setup_is (Some (place.Setup j)) i h = ap (λ x. Some (place.Setup x)) (same_Some j i h)
-setup_is m i h = absurd (none-some i h)
+setup_is m i h = grind (arith, h)
 
 pub setup_at : (row : Option Instance) → (x : Instance) × (row ≡ Some x) × (is_setup x.phase ≡ true) → stack.is_setup_at row ≡ true
 setup_at row h = ap stack.is_setup_at h.1 ∙ h.2

@@ -3,7 +3,7 @@ use Rattle.fm_core.proofs.Words.{Bool, true, not, length, Option, Some, None, Re
 use Rattle.fm_core.proofs.Words.{same_Some, ContextKind, CtxId, WorkerId, Status, Answers, AnswersOrMemory, IsRefusalOrMemory, FlowTable}
 use Rattle.fm_core.proofs.Words.{Owner, new_context, allocate_refusal, ContextsKept, carried_of, grabbed, Context, ContextTable, context_at}
 use Rattle.fm_core.proofs.Words.{there_changed, World, carries, row_at, object_by, Callback, callback_of, with_contexts, before, Caller}
-use Rattle.fm_core.proofs.Words.{caller_of, owner_for, has_kind_at, is_closing_at, IsTied}
+use Rattle.fm_core.proofs.Words.{caller_of, owner_for, has_kind_at, IsTied, IsState, IsSound}
 use Rattle.std.proofs.Common.{◌≡◌, ℕ, List, option_map, slice_get, ◌∙◌}
 use Rattle.fm_types.specs.declared.context_kind.ContextKind.TheVariants as kind
 use Rattle.fm_types.specs.declared.status.Status.TheVariants as status
@@ -14,7 +14,7 @@ use Rattle.fm_ctx.proofs.Alike.{released_alike}
 use Rattle.fm_ctx.proofs.Carried.{carried_allocated}
 use Rattle.fm_world.specs.Owners.{has_kind, owner_by}
 use Rattle.fm_world.specs.ContextEvents.{InCallback, InCallbackOf, context_by, allocate_refused, Allocates, References, Releases, WritesBody, Bumps}
-use Rattle.fm_world.proofs.Callbacks.{callback_parts}
+use Rattle.fm_world.proofs.Callbacks.{callback_parts, reference_does, release_does, write_body_does, bump_does}
 use Rattle.fm_core.specs.Callers as caller
 use Rattle.fm_core.proofs.Holding.{tied_table}
 
@@ -84,10 +84,13 @@ referenced w k c result kept after x same is h =
     (in_callback (with_contexts w kept.table) k result (with_contexts w after.table) _ at.0 at.1
     (answers_up w kept after (reference_refusal kept.table k.0 c) result _ _ (λ v e. ap (λ (x : ContextsKept). with_contexts w x.table) e) h))
 
-pub reference_tied : (kept after : ContextsKept) (f : FlowTable) (k : WorkerId) (c : CtxId) (result : Result (Unit {0}) Status)
-    → Answers (reference_refusal kept.table k.0 c) result kept after (λ _. after ≡ record kept { table = grabbed kept.table k.0 c }) → IsTied kept f → IsTied after f
-reference_tied kept after f k c result h tied =
-    answers_tied kept after f (reference_refusal kept.table k.0 c) result _ (λ v e. table_tied kept after (grabbed kept.table k.0 c) f (λ d. refl) e tied) h tied
+pub reference_keeps : (w : World) {now : World} (k : WorkerId) (c : CtxId) (result : Result (Unit {0}) Status) (kept after : ContextsKept) → with_contexts w kept.table ≡ now
+    → IsState (with_contexts w kept.table) kept → References now k c result (with_contexts w after.table)
+    → Answers (reference_refusal kept.table k.0 c) result kept after (λ _. after ≡ record kept { table = grabbed kept.table k.0 c }) → IsState (with_contexts w after.table) after
+reference_keeps w k c result kept after same s event h = record {
+  sound = (reference_does _ _ _ _ _ event).0.sound (subst IsSound same s.sound);
+  tied = answers_tied kept after w.flow (reference_refusal kept.table k.0 c) result _ (λ v e. table_tied kept after (grabbed kept.table k.0 c) w.flow (λ d. refl) e s.tied) h s.tied;
+}
 
 pub released_up : (w : World) {now : World} (k : WorkerId) (c : CtxId) (result : Result (Unit {0}) Status) (kept after : ContextsKept) (x : Caller)
     → with_contexts w kept.table ≡ now
@@ -103,12 +106,13 @@ released_up w k c result kept after x same is tied h =
     (answers_up w kept after (release_refusal kept.table k.0 c) result _ _
     (λ v e. ap (λ (x : ContextsKept). with_contexts w x.table) e ∙ ap (with_contexts w) (released_alike (carried_of kept) (carries w) kept.table k.0 c (tied c))) h))
 
-pub release_tied : (kept after : ContextsKept) (f : FlowTable) (k : WorkerId) (c : CtxId) (result : Result (Unit {0}) Status)
-    → Answers (release_refusal kept.table k.0 c) result kept after (λ _. after ≡ record kept { table = released (carried_of kept) kept.table k.0 c })
-    → IsTied kept f → IsTied after f
-release_tied kept after f k c result h tied =
-    answers_tied kept after f (release_refusal kept.table k.0 c) result _ (λ v e. table_tied kept after (released (carried_of kept) kept.table k.0 c) f
-    (λ d. refl) e tied) h tied
+pub release_keeps : (w : World) {now : World} (k : WorkerId) (c : CtxId) (result : Result (Unit {0}) Status) (kept after : ContextsKept) → with_contexts w kept.table ≡ now
+    → IsState (with_contexts w kept.table) kept → Releases now k c result (with_contexts w after.table)
+    → Answers (release_refusal kept.table k.0 c) result kept after (λ _. after ≡ record kept { table = released (carried_of kept) kept.table k.0 c }) → IsState (with_contexts w after.table) after
+release_keeps w k c result kept after same s event h = record {
+  sound = (release_does _ _ _ _ _ event).0.sound (subst IsSound same s.sound);
+  tied = answers_tied kept after w.flow (release_refusal kept.table k.0 c) result _ (λ v e. table_tied kept after (released (carried_of kept) kept.table k.0 c) w.flow (λ d. refl) e s.tied) h s.tied;
+}
 
 -- ---- bodies
 
@@ -127,12 +131,13 @@ body_written w k c bytes result kept after x same is h =
     (in_callback (with_contexts w kept.table) k result (with_contexts w after.table) _ at.0 at.1
     (answers_up w kept after (write_refusal kept.table k.0 c bytes) result _ _ (λ v e. ap (λ (x : ContextsKept). with_contexts w x.table) e) h))
 
-pub write_tied : (kept after : ContextsKept) (f : FlowTable) (k : WorkerId) (c : CtxId) (bytes : List ℕ) (result : Result (Unit {0}) Status)
-    → Answers (write_refusal kept.table k.0 c bytes) result kept after (λ _. after ≡ record kept { table = rewritten kept.table c bytes }) → IsTied kept f
-    → IsTied after f
-write_tied kept after f k c bytes result h tied =
-    answers_tied kept after f (write_refusal kept.table k.0 c bytes) result _ (λ v e. table_tied kept after (rewritten kept.table c bytes) f
-    (rewritten_there kept.table c bytes) e tied) h tied
+pub write_keeps : (w : World) {now : World} (k : WorkerId) (c : CtxId) (bytes : List ℕ) (result : Result (Unit {0}) Status) (kept after : ContextsKept) → with_contexts w kept.table ≡ now
+    → IsState (with_contexts w kept.table) kept → WritesBody now k c bytes result (with_contexts w after.table)
+    → Answers (write_refusal kept.table k.0 c bytes) result kept after (λ _. after ≡ record kept { table = rewritten kept.table c bytes }) → IsState (with_contexts w after.table) after
+write_keeps w k c bytes result kept after same s event h = record {
+  sound = (write_body_does _ _ _ _ _ _ event).sound (subst IsSound same s.sound);
+  tied = answers_tied kept after w.flow (write_refusal kept.table k.0 c bytes) result _ (λ v e. table_tied kept after (rewritten kept.table c bytes) w.flow (rewritten_there kept.table c bytes) e s.tied) h s.tied;
+}
 
 pub body_bumped : (w : World) {now : World} (k : WorkerId) (c : CtxId) (place by : ℕ) (result : Result ℕ Status) (kept after : ContextsKept) (x : Caller)
     → with_contexts w kept.table ≡ now
@@ -146,12 +151,13 @@ body_bumped w k c place by result kept after x same is h =
     (in_callback (with_contexts w kept.table) k result (with_contexts w after.table) _ at.0 at.1
     (answers_up w kept after (bump_refusal kept.table k.0 c place) result _ _ (λ v e. (e.0, ap (λ (x : ContextsKept). with_contexts w x.table) e.1)) h))
 
-pub bump_tied : (kept after : ContextsKept) (f : FlowTable) (k : WorkerId) (c : CtxId) (place by : ℕ) (result : Result ℕ Status)
-    → Answers (bump_refusal kept.table k.0 c place) result kept after (λ n. (n ≡ raised place by (body_at kept.table.slots c)) × (after ≡ record kept { table = bumped kept.table c place by }))
-    → IsTied kept f → IsTied after f
-bump_tied kept after f k c place by result h tied =
-    answers_tied kept after f (bump_refusal kept.table k.0 c place) result _ (λ v e. table_tied kept after (bumped kept.table c place by) f
-    (rewritten_there kept.table c _) e.1 tied) h tied
+pub bump_keeps : (w : World) {now : World} (k : WorkerId) (c : CtxId) (place by : ℕ) (result : Result ℕ Status) (kept after : ContextsKept) → with_contexts w kept.table ≡ now
+    → IsState (with_contexts w kept.table) kept → Bumps now k c place by result (with_contexts w after.table)
+    → Answers (bump_refusal kept.table k.0 c place) result kept after (λ n. (n ≡ raised place by (body_at kept.table.slots c)) × (after ≡ record kept { table = bumped kept.table c place by })) → IsState (with_contexts w after.table) after
+bump_keeps w k c place by result kept after same s event h = record {
+  sound = (bump_does _ _ _ _ _ _ _ event).sound (subst IsSound same s.sound);
+  tied = answers_tied kept after w.flow (bump_refusal kept.table k.0 c place) result _ (λ v e. table_tied kept after (bumped kept.table c place by) w.flow (rewritten_there kept.table c _) e.1 s.tied) h s.tied;
+}
 
 -- ---- allocate
 

@@ -1,6 +1,6 @@
 -- Cleaning contexts up and ending an instance, from what their parts did.
 use Rattle.fm_core.proofs.Words.{true, false, not, Option, Some, None, Result, Ok, is_some, refl, ap, sym, subst, arith, option_and_then}
-use Rattle.fm_core.proofs.Words.{false≢true, none-some, same_Some, CtxId, FilterId, InstanceId, WorkerId, Status, first_of, FlowTable}
+use Rattle.fm_core.proofs.Words.{CtxId, FilterId, InstanceId, WorkerId, Status, first_of, FlowTable}
 use Rattle.fm_core.proofs.Words.{carried, Instance, StackWorld, Owner, ContextsKept, carried_of, IsLawful, Context, ContextTable}
 use Rattle.fm_core.proofs.Words.{context_at, there_changed, Worker, World, worker_at, put, is_idle, cleanup_in, Unless, totalled_for}
 use Rattle.fm_core.proofs.Words.{row_at, refused_in, IsTied}
@@ -8,8 +8,6 @@ use Rattle.std.proofs.Common.{◌≡◌, ℕ, ◌<◌, ◌≤◌, cond, List, []
 use Rattle.std.proofs.lemmas.Bool.{le-ltb}
 use Rattle.fm_types.specs.declared.status.Status.TheVariants as status
 use Rattle.fm_stack.specs.declared.instance.Phase.{Phase}
-use Rattle.fm_stack.specs.declared.instance.Phase.TheVariants as phase
-use Rattle.fm_stack.specs.Instances.{is_emptying, is_detached}
 use Rattle.fm_stack.specs.Events.{is_emptying_at, finished}
 use Rattle.fm_ctx.specs.declared.due.Due.{Due}
 use Rattle.fm_ctx.specs.declared.owner.Owner.TheVariants as owner
@@ -29,11 +27,7 @@ use Rattle.fm_core.proofs.Called.{table_tied}
 due_told : (t : ContextTable) (m : Option CtxId) → slice_get t.due 0 ≡ m → ((c : CtxId) → slice_get t.due 0 ≡ Some c → is_some (context_at t.slots c) ≡ true)
     → option_map (λ (d : Due). d.id) (option_and_then (λ c. option_map (due_of c) (context_at t.slots c)) m) ≡ m
 due_told t None is there = refl
-due_told t (Some c) is there = at_context (context_at t.slots c) (there c is)
-  where
-    at_context : (o : Option Context) → is_some o ≡ true → option_map (λ (d : Due). d.id) (option_map (due_of c) o) ≡ Some c
-    at_context None h = absurd (false≢true h)
-    at_context (Some x) h = refl
+due_told t (Some c) is there = grind (arith, there c is)
 
 pub due_taken : (w : World) {now : World} (k : WorkerId) (kept after : ContextsKept) (ws : List Worker) (result : Option Due)
     → record w { contexts = kept.table } ≡ now → is_idle (worker_at now.workers k) ≡ true
@@ -67,12 +61,10 @@ due_tied kept after f k e tied = table_tied kept after (after_take_due kept.tabl
 -- ---- cleaned
 
 pub cleanup_is : (m : Option Worker) (c : CtxId) → cleanup_in m ≡ Some c → m ≡ Some (place.Cleanup c)
-cleanup_is (Some (place.Cleanup d)) c h = ap (λ x. Some (place.Cleanup x)) (same_Some d c h)
-cleanup_is m c h = absurd (none-some c h)
+cleanup_is m c h = grind (arith, h)
 
 filter_same : (s : StackWorld) (m : Option Context) → filter_at s (option_map (λ (x : Context). x.owner) m) ≡ filter_of s m
-filter_same s None = refl
-filter_same s (Some x) = refl
+filter_same s m = grind arith
 
 pub cleans : (w : World) {now : World} (k : WorkerId) (number : ℕ) (c : CtxId) (kept after : ContextsKept) (own : Option Owner) (f : Option FilterId)
     (ws : List Worker) (ts : List ℕ)
@@ -108,13 +100,7 @@ phase_in m = option_map (λ (row : Instance). row.phase) m
 
 -- what may end
 pub may_end : (m : Option Instance) → refused_in (phase_in m) ≡ None → (is_gone_at m ≡ false) × (is_emptying_at m ≡ true)
-may_end None h = absurd (none-some status.NoInstance (sym h))
-may_end (Some row) h = at_phase row.phase h
-  where
-    at_phase : (p : Phase) → refused_in (Some p) ≡ None → (is_detached p ≡ false) × (is_emptying p ≡ true)
-    at_phase phase.Emptying h = (refl, refl)
-    at_phase phase.Detached h = absurd (none-some status.NoInstance (sym h))
-    at_phase p h = absurd (none-some status.WrongStep (sym h))
+may_end m h = (grind (arith, h), grind (arith, h))
 
 -- what is tested last, of an instance that may end
 finish_last : (w : World) (i : InstanceId) (n : ℕ) → refused_in (phase_in (row_at w.stack i)) ≡ None → n ≡ open_of w.contexts.slots (owner.Instance i)

@@ -1,6 +1,6 @@
 -- What the layer of contexts keeps of references that completions carry stays what the operations' completions say.
-use Rattle.fm_core.proofs.Words.{Bool, true, false, not, length, Option, Some, None, Ok, is_some, refl, ap, sym, subst, inl, inr, arith}
-use Rattle.fm_core.proofs.Words.{All, option_and_then, false≢true, cases_Bool, slice_get_within, All-head, All-tail, CtxId, WorkerId, holds}
+use Rattle.fm_core.proofs.Words.{true, not, length, Option, Some, None, Ok, is_some, refl, ap, sym, subst, inl, inr, arith}
+use Rattle.fm_core.proofs.Words.{nat_tests, All, option_and_then, false≢true, cases_Bool, slice_get_within, All-head, All-tail, CtxId, WorkerId, holds}
 use Rattle.fm_core.proofs.Words.{hand_of, ContextsKept, IsLawful, grabbed, Leaves, Slot, ContextTable, leaves_alike, carried_there}
 use Rattle.fm_core.proofs.Words.{carried_equal, FlowAction, carried_by, handed, FlowRecord, FlowTable, carried, empty_world, received, sent}
 use Rattle.fm_core.proofs.Words.{StackWorld, IsTied, IsState, back_in, MayBring, kept_brought, MaySend, kept_sent, Ends}
@@ -14,15 +14,13 @@ use Rattle.fm_ctx.proofs.Bags.{is_id-refl}
 use Rattle.fm_ctx.proofs.Carried.{carried_one_more, carried_one_fewer}
 use Rattle.fm_ctx.proofs.Counts.{count_held}
 use Rattle.fm_ctx.proofs.Slots.{none_from}
-use Rattle.fm_flow.specs.declared.action.FlowAction.TheVariants as action
 use Rattle.fm_flow.specs.declared.entry.Ask.{Ask}
-use Rattle.fm_flow.specs.Counts.{same_context, carried_in, carried_among}
+use Rattle.fm_flow.specs.Counts.{carried_in, carried_among}
 use Rattle.fm_flow.specs.Entries.{owed}
 use Rattle.fm_flow.specs.Sound as flow
 use Rattle.fm_flow.specs.Table.{IsFlow, total, under_way}
-use Rattle.fm_world.specs.Events.{brought}
 use Rattle.fm_types.proofs.Firsts.{count-cons}
-use Rattle.fm_world.proofs.Flowing.{done_owes}
+use Rattle.fm_world.proofs.Requests.{done_owes}
 use Rattle.fm_ctx.specs.Kept.{nothing_kept}
 use Rattle.fm_world.proofs.Runs.{empty_sound, nothing_carried}
 use Rattle.fm_core.specs.Fields.{world_of}
@@ -55,8 +53,7 @@ tied_table kept t f there tied c = sym (carried_there kept t there c) ∙ tied c
 -- ---- a completion takes a context along
 
 pub sent_table : (kept : ContextsKept) (k : WorkerId) (m : Option CtxId) → (kept_sent kept k.0 m).table ≡ sent kept.table k m
-sent_table kept k None = refl
-sent_table kept k (Some c) = refl
+sent_table kept k m = grind arith
 
 pub tied_sent : (kept : ContextsKept) (k : WorkerId) (m : Option CtxId) (f g : FlowTable) → IsLawful (λ c. carried c f) kept.table
     → length kept.carried ≡ length kept.table.slots
@@ -80,30 +77,17 @@ ends_leaves kept new k m f ends tied =
 
 -- ---- a completion comes back
 
-brought_context : (kept : ContextsKept) (k : WorkerId) (m : Option CtxId) → (kept_brought kept k.0 m).table ≡ brought kept.table k m
-brought_context kept k None = refl
-brought_context kept k (Some c) = refl
-
 brought_table : (kept : ContextsKept) (k : WorkerId) (a : FlowAction) → (kept_brought kept k.0 (back_in a)).table ≡ received kept.table k (Ok a)
-brought_table kept k (action.Post i lent completion) = brought_context kept k completion.context
-brought_table kept k (action.Drain i completion) = brought_context kept k completion.context
-brought_table kept k a = refl
+brought_table kept k a = grind arith
 
 pub next_table : (kept after : ContextsKept) (k : WorkerId) (a : FlowAction) → after ≡ kept_brought kept k.0 (back_in a) → after.table ≡ received kept.table k (Ok a)
 next_table kept after k a e = ap (λ (x : ContextsKept). x.table) e ∙ brought_table kept k a
 
 pub brought_slots : (kept : ContextsKept) (w : ℕ) (m : Option CtxId) → (kept_brought kept w m).table.slots ≡ kept.table.slots
-brought_slots kept w None = refl
-brought_slots kept w (Some c) = refl
+brought_slots kept w m = grind arith
 
 pub sent_slots : (kept : ContextsKept) (w : ℕ) (m : Option CtxId) → (kept_sent kept w m).table.slots ≡ kept.table.slots
-sent_slots kept w None = refl
-sent_slots kept w (Some c) = refl
-
-handed_back : (a : FlowAction) (c : CtxId) → handed c (Ok a) ≡ carried_in c (record { number = 0; context = back_in a })
-handed_back (action.Post i lent completion) c = refl
-handed_back (action.Drain i completion) c = refl
-handed_back a c = refl
+sent_slots kept w m = grind arith
 
 self_one : (c : CtxId) → one (is_id c c) ≡ 1
 self_one c = ap one (is_id-refl c)
@@ -134,38 +118,26 @@ tied_brought kept k (Some d) f g matched balance tied c =
 -- by what `next` answers
 pub handed_balance : (f g : FlowTable) (a : FlowAction) → ((c : CtxId) → carried c f ≡ carried c g + handed c (Ok a))
     → (c : CtxId) → carried c f ≡ carried c g + carried_in c (record { number = 0; context = back_in a })
-handed_balance f g a balance c = let k = handed_back a c in omega (arith, balance c, k)
+handed_balance f g a balance c = grind (arith, balance c)
 
 -- ---- few references are carried: 65 at most by an operation that wasn't collected, none by one that was
 
 among_few : (c : CtxId) (asks : List Ask) → carried_among c asks ≤ length asks
 among_few c [] = omega arith
-among_few c (ask ∷ asks) =
-    let here = one_few (same_context c ask.completion.context) in
-    omega (arith, here, among_few c asks)
-  where
-    one_few : (b : Bool) → one b ≤ 1
-    one_few true = omega arith
-    one_few false = omega arith
+among_few c (ask ∷ asks) = grind (arith, nat_tests, among_few c asks)
 
 by_few : (c : CtxId) (r : FlowRecord) → flow.IsSound r → carried_by c r ≤ cond (not r.collected) 65 0
-by_few c r s = at_mark r.collected refl
-  where
-    at_mark : (b : Bool) → r.collected ≡ b → carried_by c r ≤ cond (not b) 65 0
-    at_mark true e = let none = ap (carried_among c) (done_owes r.stage (owed r.entries) (s.collected e)) in omega (arith, none)
-    at_mark false e = let k = among_few c (owed r.entries) in omega (arith, k, s.course.room)
+by_few c r s = elim (cases_Bool r.collected) [
+  | inl e ↦ let none = ap (carried_among c) (done_owes r.stage (owed r.entries) (s.collected e)) in rw e (omega (arith, none))
+  | inr e ↦ rw e (omega (arith, among_few c (owed r.entries), s.course.room))
+]
 
 total_few : (c : CtxId) (rs : List FlowRecord) → All flow.IsSound rs → total (carried_by c) rs ≤ 65 * under_way rs
 total_few c [] h = omega arith
 total_few c (r ∷ rs) h =
-    let here = by_few c r (All-head flow.IsSound r rs h) in
     let counts = count-cons (λ (x : FlowRecord). not x.collected) r rs in
-    let both = at_mark r.collected in
-    omega (arith, here, counts, both, total_few c rs (All-tail flow.IsSound r rs h))
-  where
-    at_mark : (b : Bool) → cond (not b) 65 0 ≡ 65 * one (not b)
-    at_mark true = refl
-    at_mark false = refl
+    let mark : cond (not r.collected) 65 0 ≡ 65 * one (not r.collected) = grind (arith, nat_tests) in
+    omega (arith, by_few c r (All-head flow.IsSound r rs h), counts, mark, total_few c rs (All-tail flow.IsSound r rs h))
 
 pub carried_few : (t : FlowTable) (c : CtxId) → IsFlow t → carried c t < 2 ^ 32
 carried_few t c s = omega (arith, total_few c t.operations s.sound, s.few)

@@ -1,6 +1,6 @@
 -- Setting, getting and deleting contexts, from what the layer of contexts did.
 use Rattle.fm_core.proofs.Words.{Bool, true, false, not, Option, Some, None, Result, Err, is_some, refl, ap, sym, subst, option_and_then}
-use Rattle.fm_core.proofs.Words.{none-some, same_Some, ContextKind, CtxId, WorkerId, Status, first_of, Answers, FlowTable, Object, Owner}
+use Rattle.fm_core.proofs.Words.{arith, none-some, same_Some, ContextKind, CtxId, WorkerId, Status, first_of, Answers, FlowTable, Object, Owner}
 use Rattle.fm_core.proofs.Words.{holds, hand_of, ContextsKept, carried_of, holder, with_link, grabbed, Context, Slot, ContextTable}
 use Rattle.fm_core.proofs.Words.{context_at, there_changed, World, carries, is_there, object_by, Callback, callback_of, with_contexts}
 use Rattle.fm_core.proofs.Words.{before, Caller, caller_of, owner_for, has_kind_at, is_closing_at, IsTied}
@@ -21,17 +21,6 @@ use Rattle.fm_core.specs.Setting.{is_past_at, object_of, set_refusal, find_refus
 use Rattle.fm_core.proofs.Called.{called_in, owner_same, object_same, callback_row, in_callback, answers_up, answers_tied, table_tied}
 
 -- ---- get and delete
-
-kept_refusal : (a b : Bool) (x y : Status) (r : Option Status) (why : Status) → cond a (Some x) (cond b (Some y) None) ≡ Some why
-    → cond a (Some x) (cond b (Some y) r) ≡ Some why
-kept_refusal true b x y r why h = h
-kept_refusal false true x y r why h = h
-kept_refusal false false x y r why h = absurd (none-some why h)
-
-no_refusal : (a b : Bool) (x y : Status) (r : Option Status) → cond a (Some x) (cond b (Some y) None) ≡ None → cond a (Some x) (cond b (Some y) r) ≡ r
-no_refusal true b x y r h = absurd (none-some x (sym h))
-no_refusal false true x y r h = absurd (none-some y (sym h))
-no_refusal false false x y r h = refl
 
 -- the same tests
 find_same : (w : World) (k : WorkerId) (at : Callback) (what : ContextKind) (others : Option Status) → callback_of w k ≡ Some at
@@ -55,18 +44,12 @@ pub refused_as : (w : World) (k : WorkerId) (at : Callback) (x : Caller) (what :
     → callback_of w k ≡ Some at → caller_of at ≡ x
     → find_refusal w x what ≡ Some why → object_refused w what at others ≡ Some why
 refused_as w k at x what others why is e h =
-    sym (find_same w k at what others is)
-    ∙ kept_refusal (not (has_kind_at w.stack (slice_get w.stack.instances at.instance.0) what)) (is_none (object_by at.row at.instance at.file what))
-    status.NotRegistered status.NoObject others why
-    (find_of w k at x what (Some why) e h)
+    sym (find_same w k at what others is) ∙ grind (arith, find_of w k at x what (Some why) e h)
 
 pub found_free : (w : World) (k : WorkerId) (at : Callback) (x : Caller) (what : ContextKind) (others : Option Status) → callback_of w k ≡ Some at → caller_of at ≡ x
     → find_refusal w x what ≡ None → object_refused w what at others ≡ others
 found_free w k at x what others is e h =
-    sym (find_same w k at what others is)
-    ∙ no_refusal (not (has_kind_at w.stack (slice_get w.stack.instances at.instance.0) what)) (is_none (object_by at.row at.instance at.file what))
-    status.NotRegistered status.NoObject others
-    (find_of w k at x what None e h)
+    sym (find_same w k at what others is) ∙ grind (arith, find_of w k at x what None e h)
 
 found_there : (w : World) (at : Callback) (x : Caller) (what : ContextKind) (o : Owner × Object) → caller_of at ≡ x → IsFound w x what o
     → there_at w what at ≡ holder w.contexts.slots o.0 o.1
@@ -229,12 +212,8 @@ set_there : (by : CtxId → ℕ) (t : ContextTable) (w : ℕ) (c : CtxId) (o : O
 set_there by t w c o mode wants None d = linked_there t c o d
 set_there by t w c o mode wants (Some e) d = by_room (wants && is_hand_full t.hands w)
   where
-    by_kept : (b : Bool) → is_some (context_at (cond b (grabbed t w e) t).slots d) ≡ is_some (context_at t.slots d)
-    by_kept true = refl
-    by_kept false = refl
-
     by_mode : (a : SetMode) → is_some (context_at (set_mode_after by t w c o a wants e).slots d) ≡ is_some (context_at t.slots d)
-    by_mode Keep = by_kept wants
+    by_mode Keep = elim wants as (λ b. is_some (context_at (cond b (grabbed t w e) t).slots d) ≡ is_some (context_at t.slots d)) [ true ↦ refl | false ↦ refl ]
     by_mode Replace = linked_there (unlinked_for by t w wants e) c o d ∙ unlinked_there by t w wants e d
 
     by_room : (b : Bool) → is_some (context_at (cond b t (set_mode_after by t w c o mode wants e)).slots d) ≡ is_some (context_at t.slots d)

@@ -8,18 +8,17 @@ use Rattle.fm_core.proofs.Words.{World, carries, worker_at, put, is_idle, LosesL
 use Rattle.fm_core.proofs.Words.{is_created_on, volume_refusals, has_no_handle_left, moved_on, asked_refused, IsSound, idle_there, hand_of}
 use Rattle.fm_core.proofs.Words.{holds, ContextsKept, Leaves, ContextTable, IsLawful, leaves_alike, carried_by, handed, IsTied, IsState}
 use Rattle.fm_core.proofs.Words.{back_in, MayBring, MaySend, kept_brought, kept_sent, Ends, Sweeping, is_lost_of, pre_of, base_of, post_of}
-use Rattle.fm_core.proofs.Words.{drain_of, HandleId, StreamId, operation_of, is_success, FileHandle, FileStream, Begin, FileTable}
+use Rattle.fm_core.proofs.Words.{drain_of, HandleId, StreamId, operation_of, is_success, FileHandle, FileStream, Request, FileTable}
 use Rattle.fm_core.proofs.Words.{stream_for, created, after_pre, phase_refusal, answered, decided, Target, IsAsked}
-use Rattle.std.proofs.Common.{◌≡◌, ℕ, zero, suc, ◌+◌, ◌<◌, ◌==◌, ◌&&◌, cond, List, [], ◌∷◌, ◌∙◌, nat_eq, ◌^◌}
+use Rattle.std.proofs.Common.{◌≡◌, ℕ, ◌+◌, ◌<◌, ◌==◌, ◌&&◌, cond, List, [], ◌∷◌, ◌∙◌, nat_eq, ◌^◌}
 use Rattle.std.specs.Prelude.{option_map, unwrap_or, slice_get, ◌||◌}
-use Rattle.std.proofs.lemmas.Bool.{eq-eqb, and_from}
+use Rattle.std.proofs.lemmas.Bool.{eq-eqb, and_from, or_parts}
 use Rattle.fm_types.specs.declared.ids.OpId.{OpId}
 use Rattle.fm_types.specs.declared.status.Status.TheVariants as status
 use Rattle.fm_data.specs.declared.params.Params.{Params}
 use Rattle.fm_data.specs.declared.params.Params.TheVariants as params
 use Rattle.fm_data.specs.declared.verdict.PreVerdict.{PreVerdict}
 use Rattle.fm_data.specs.declared.verdict.PostVerdict.{PostVerdict}
-use Rattle.fm_stack.specs.declared.volume.Volume.{Volume}
 use Rattle.fm_flow.specs.declared.action.Below.{Below}
 use Rattle.fm_flow.specs.declared.action.Below.TheVariants as below
 use Rattle.fm_flow.specs.declared.action.FlowAction.TheVariants as action
@@ -29,7 +28,7 @@ use Rattle.fm_flow.specs.declared.entry.Entry.{Entry}
 use Rattle.fm_flow.specs.Steps.{next_of, base_returned_of, MayLieBelow}
 use Rattle.fm_flow.specs.Verdict.{verdict_counted}
 use Rattle.fm_flow.specs.Table.{told, is_number, StandsAt, MayLieBelowOf, begun, begun_record, collect_reply, collected_of}
-use Rattle.fm_world.specs.declared.step.Begin.TheVariants as begin
+use Rattle.fm_data.specs.declared.request.Request.TheVariants as request
 use Rattle.fm_world.specs.declared.worker.Worker.TheVariants as place
 use Rattle.fm_world.specs.Workers.{after_next}
 use Rattle.fm_world.specs.Events.{LosesByKnown, flow_after_next, drains_next, pre_step, Begins, Nexts, NextsAt, FindsBelow, PreReturnsOver, base_returned, PreReturns, PreReturnsAt, BaseReturns, BaseReturnsAt, PostReturns, PostReturnsAt, Collects, drains_at, ReturnsFrom, sent_in, of_hand, carries_after, state_given, has_post, returned, filed_record, filed_next, filed_base, filed_pre, begin_refused, asked_begun, refused_at, refused_on, begun_at, begun_on, or_else}
@@ -38,22 +37,24 @@ use Rattle.fm_world.specs.Sound.{IsAmong}
 use Rattle.fm_types.proofs.Firsts.{found_holds}
 use Rattle.fm_core.proofs.Changes.{change_agrees, change_same}
 use Rattle.fm_world.proofs.Ties.{tied_there, spot_pre, spot_base, spot_post, spot_drain}
-use Rattle.fm_world.proofs.Operations.{may_visit, told_there, unchanged_flow, full_from, none_else, asked_within}
+use Rattle.fm_world.proofs.Operations.{told_there}
+use Rattle.fm_world.proofs.Turns.{may_visit, unchanged_flow, next_balance, was_known}
+use Rattle.fm_world.proofs.Requests.{full_from, none_else, asked_within, total_push, collect_balance, asked_sound}
+use Rattle.fm_world.proofs.Returns.{pre_balance, post_balance, drain_balance, sent_is_held}
 use Rattle.fm_ctx.proofs.Moves.{within_hands}
-use Rattle.fm_world.proofs.Flowing.{total_push, next_balance, collect_balance, pre_balance, post_balance, drain_balance, sent_is_held, asked_sound}
 use Rattle.fm_world.proofs.Owning.{empty_hand}
-use Rattle.fm_flow.proofs.Balances.{base_returned_carries, total_changed}
+use Rattle.fm_flow.proofs.Returns.{base_returned_carries}
+use Rattle.fm_flow.proofs.Flows.{total_changed}
 use Rattle.fm_core.proofs.Holding.{ends_leaves, tied_ends, next_table, brought_slots, sent_slots, may_bring, tied_brought, handed_balance, may_send, tied_sent}
 use Rattle.fm_core.proofs.Losing.{loses, answer_gone, verdict_gone}
 use Rattle.fm_core.specs.Descent.{FindsAt, IsDownOrCall}
 use Rattle.fm_types.specs.declared.operation.CreateMode.{CreateMode}
 use Rattle.fm_data.specs.Params.{is_within_limits}
 use Rattle.fm_flow.specs.Creates.{is_create, is_unanswered}
-use Rattle.fm_world.specs.declared.step.FileRequest.{FileRequest}
+use Rattle.fm_data.specs.declared.request.FileRequest.{FileRequest}
 use Rattle.fm_world.specs.Files.{stream_at, handle_at}
-use Rattle.fm_world.specs.Requests.{params_of}
-use Rattle.fm_world.proofs.Filing.{room_for, was_known}
-use Rattle.fm_world.proofs.Descents.{or_left}
+use Rattle.fm_data.specs.Requests.{params_of}
+use Rattle.fm_world.proofs.Filing.{room_for}
 use Rattle.fm_core.specs.Targets.{target_in, known_in, HasRoom}
 use Rattle.fm_core.specs.Begun.{Asks}
 
@@ -258,20 +259,16 @@ collect_tied kept o f g e tied = subst (IsTied kept) (sym e) (λ c. tied c ∙ c
 -- ---- where the worker is
 
 pub pre_is : (m : Option Worker) (p : OpId × InstanceId) → pre_of m ≡ Some p → m ≡ Some (place.Pre p.0 p.1)
-pre_is (Some (place.Pre o i)) p h = ap (λ x. Some (place.Pre x.0 x.1)) (same_Some (o, i) p h)
-pre_is m p h = absurd (none-some p h)
+pre_is m p h = grind (arith, h)
 
-pub base_is : (m : Option Worker) (o : OpId) → base_of m ≡ Some o → m ≡ Some (place.Base o)
-base_is (Some (place.Base o)) p h = ap (λ x. Some (place.Base x)) (same_Some o p h)
-base_is m p h = absurd (none-some p h)
+pub base_is : (m : Option Worker) (p : OpId) → base_of m ≡ Some p → m ≡ Some (place.Base p)
+base_is m p h = grind (arith, h)
 
 pub post_is : (m : Option Worker) (p : OpId × InstanceId) → post_of m ≡ Some p → m ≡ Some (place.Post p.0 p.1)
-post_is (Some (place.Post o i)) p h = ap (λ x. Some (place.Post x.0 x.1)) (same_Some (o, i) p h)
-post_is m p h = absurd (none-some p h)
+post_is m p h = grind (arith, h)
 
 pub drain_is : (m : Option Worker) (p : OpId × InstanceId) → drain_of m ≡ Some p → m ≡ Some (place.Drain p.0 p.1)
-drain_is (Some (place.Drain o i)) p h = ap (λ x. Some (place.Drain x.0 x.1)) (same_Some (o, i) p h)
-drain_is m p h = absurd (none-some p h)
+drain_is m p h = grind (arith, h)
 
 -- as the code reads it
 pub located : {A : Type 0} {old now : World} (read : Option Worker → Option A) (to : A → Worker) (k : WorkerId) (a : A)
@@ -342,10 +339,11 @@ Comes t o fits step lent (Ok done) f = (told fits false o t ≡ true) × (f ≡ 
 Comes t o fits step lent (Err back) f = (told fits false o t ≡ false) × (f ≡ t) × (back ≡ lent)
 
 pub comes : {T : Type 0} (t : FlowTable) (o : OpId) (r : FlowRecord) (fits : FlowRecord → Bool) (step : FlowRecord → FlowRecord) (lent : T)
-    (answer : Result (Unit {0}) T) (f : FlowTable)
+    (answer a : Result (Unit {0}) T) (f : FlowTable)
     → operation_at o t ≡ Some r → answer ≡ told (λ x. cond (fits x) (Ok tt) (Err lent)) (Err lent) o t → f ≡ changed o (λ x. cond (fits x) (step x) x) t
-    → Comes t o fits step lent answer f
-comes t o r fits step lent answer f at reply after = by_fit answer (fits r) refl (reply ∙ told_there (λ x. cond (fits x) (Ok tt) (Err lent)) (Err lent) o t r at)
+    → answer ≡ a → Comes t o fits step lent a f
+comes t o r fits step lent answer a f at reply after is =
+    by_fit a (fits r) refl (sym is ∙ reply ∙ told_there (λ x. cond (fits x) (Ok tt) (Err lent)) (Err lent) o t r at)
   where
     here : told fits false o t ≡ fits r
     here = told_there fits false o t r at
@@ -353,8 +351,7 @@ comes t o r fits step lent answer f at reply after = by_fit answer (fits r) refl
     by_fit : (a : Result (Unit {0}) _) (b : Bool) → fits r ≡ b → a ≡ cond (fits r) (Ok tt) (Err lent) → Comes t o fits step lent a f
     by_fit (Ok done) true e is = (here ∙ e, after ∙ guarded t o r fits step true at e)
     by_fit (Err back) false e is = (here ∙ e, after ∙ guarded t o r fits step false at e, let is' = is ∙ ap (λ b. cond b (Ok tt) (Err lent)) e in cc)
-    by_fit (Ok done) false e is = let is' = is ∙ ap (λ b. cond b (Ok tt) (Err lent)) e in cc
-    by_fit (Err back) true e is = let is' = is ∙ ap (λ b. cond b (Ok tt) (Err lent)) e in cc
+    by_fit a b e is = absurd (grind (arith, e, is))
 
 -- what is strange is refused, and nothing changes
 strange_refused : (old : World) (f : FlowTable) (fits : Bool) (Event : Type 0) → fits ≡ false → f ≡ old.flow
@@ -583,20 +580,20 @@ pub creates : {old now : World} (v : VolumeId) (path : List ℕ) (mode : CreateM
     → old ≡ now → first_of (volume_refusals now v (is_full now.flow || has_no_handle_left now)) ≡ None
     → Took old.flow v (Some (stream_for v path old.flow.next old.files)) None old.stack.births (Some path) (params.Create path mode) result t
     → f ≡ cond (is_ok result) (created v path old.flow.next old.files) old.files
-    → Begins now (begin.Create v path mode) result (record old { flow = t; files = f })
+    → Begins now (request.Create v path mode) result (record old { flow = t; files = f })
 unfolding Begins
 creates {old} v path mode result t f same free_now h files =
     let free = subst (λ (w : World). first_of (volume_refusals w v (is_full w.flow || has_no_handle_left w)) ≡ None) (sym same) free_now in
-    subst (λ (w : World). Begins w (begin.Create v path mode) result (record old { flow = t; files = f })) same
+    subst (λ (w : World). Begins w (request.Create v path mode) result (record old { flow = t; files = f })) same
     (begun_as old (first_of (volume_refusals old v (is_full old.flow || has_no_handle_left old))) v (Some (stream_for v path old.flow.next old.files)) None
     (Some path)
-    (params.Create path mode) result t f (created v path old.flow.next old.files) free (or_left (is_full old.flow) (has_no_handle_left old)
-    (full_from _ _ (is_full old.flow || has_no_handle_left old) free)) h files)
+    (params.Create path mode) result t f (created v path old.flow.next old.files) free (or_parts (is_full old.flow) (has_no_handle_left old)
+    (full_from _ _ (is_full old.flow || has_no_handle_left old) free)).0 h files)
 
 pub lists : {old now : World} (v : VolumeId) (result : Result OpId Status) (t : FlowTable) → old ≡ now → first_of (volume_refusals now v (is_full old.flow)) ≡ None
-    → Took old.flow v None None old.stack.births None params.List result t → Begins now (begin.List v) result (record old { flow = t })
+    → Took old.flow v None None old.stack.births None params.List result t → Begins now (request.List v) result (record old { flow = t })
 unfolding Begins
-lists {old} v result t same free_now h = subst (λ (w : World). Begins w (begin.List v) result (record old { flow = t })) same (by_result result h)
+lists {old} v result t same free_now h = subst (λ (w : World). Begins w (request.List v) result (record old { flow = t })) same (by_result result h)
   where
     free : first_of (volume_refusals old v (is_full old.flow)) ≡ None
     free = subst (λ (w : World). first_of (volume_refusals w v (is_full old.flow)) ≡ None) (sym same) free_now
@@ -610,7 +607,7 @@ lists {old} v result t same free_now h = subst (λ (w : World). Begins w (begin.
         let memory : why ≡ status.NoMemory = subst (λ b. IsRefusalOrMemory (cond b (Some status.TooMany) None) why) (full_from _ _ (is_full old.flow) free) h.0 in
         (subst (λ r. IsRefusalOrMemory r why) (sym free) memory, ap (λ x. record old { flow = x }) h.1)
 
-pub begin_wants : (old : World) (what : Begin) → begin_refused old what ≡ None → Begins old what (Err status.NoMemory) old
+pub begin_wants : (old : World) (what : Request) → begin_refused old what ≡ None → Begins old what (Err status.NoMemory) old
 unfolding Begins
 begin_wants old what h = (subst (λ r. IsRefusalOrMemory r status.NoMemory) (sym h) refl, refl)
 
@@ -643,7 +640,7 @@ asks_sound old h p (Ok o) new e none s = subst IsSound (sym e.1.1) (asked_sound 
 
 -- which the event is of, for a request
 pub asks_begins : (old : World) (h : HandleId) (asked : FileRequest) (result : Result OpId Status) (new : World) → Asks old h (params_of asked) result new
-    → Begins old (begin.OnHandle h asked) result new
+    → Begins old (request.OnHandle h asked) result new
 unfolding Asks Begins
 asks_begins old h asked result new e = e
 

@@ -48,8 +48,9 @@ pub use Rattle.fm_types.specs.declared.ids.VolumeId.{VolumeId}
 pub use Rattle.fm_types.specs.declared.ids.WorkerId.{WorkerId}
 pub use Rattle.fm_types.specs.declared.operation.Operation.{Operation}
 pub use Rattle.fm_types.specs.declared.status.Status.{Status}
-pub use Rattle.fm_world.proofs.Flowing.{begin_sound, post_sound}
-pub use Rattle.fm_world.proofs.Keeps.{idle_there}
+pub use Rattle.fm_world.proofs.Events.{idle_there}
+pub use Rattle.fm_world.proofs.Requests.{begin_does}
+pub use Rattle.fm_world.proofs.Returns.{post_does}
 pub use Rattle.fm_world.specs.ContextEvents.{Callback, before, callback_of, totalled_for, with_contexts}
 pub use Rattle.fm_world.specs.Events.{Begins, Unless, asked_refused, base_step, has_no_handle_left, is_created_on, moved_on, received, sent}
 pub use Rattle.fm_world.specs.Events.{state_at, volume_refusals}
@@ -64,11 +65,12 @@ pub use Rattle.fm_world.specs.Workers.{cleanup_in, is_idle, put, worker_at}
 pub use Rattle.fm_world.specs.World.{World, carries, empty_world}
 pub use Rattle.fm_world.specs.declared.file.FileHandle.{FileHandle}
 pub use Rattle.fm_world.specs.declared.file.FileStream.{FileStream}
-pub use Rattle.fm_world.specs.declared.step.Begin.{Begin}
+pub use Rattle.fm_data.specs.declared.request.Request.{Request}
 pub use Rattle.fm_world.specs.declared.worker.Worker.{Worker}
 pub use Rattle.std.proofs.Common.{Bool, Err, None, Ok, Option, Result, Some, ap, arith, false, inl, inr, is_some, length, not, position}
 pub use Rattle.std.proofs.Common.{refl, subst, sym, true}
 pub use Rattle.std.proofs.lemmas.Bool.{and_parts, cases_Bool, false≢true}
+pub use Rattle.std.proofs.lemmas.Bool.Decides.{nat_tests}
 pub use Rattle.std.proofs.lemmas.List.Elements.{All-head, All-tail}
 pub use Rattle.std.proofs.lemmas.Option.{none-some, same_Some, slice_get_within}
 pub use Rattle.std.specs.Option.{option_and_then}

@@ -27,6 +27,4 @@ pub use fm_flow::{
     Ask, DrainVisit, Entry, FlowAction as Action, PostState, PostVisit, PreState, PreVisit, Stage,
 };
 pub use fm_stack::{FilterPhase, Phase, VolumePhase};
-pub use fm_world::{
-    Begin, FileHandle, FileRequest, HandlePhase, Refused, SetAnswer, Step, StepReply, Worker,
-};
+pub use fm_world::{FileHandle, HandlePhase, Refused, SetAnswer, Step, StepReply, Worker};

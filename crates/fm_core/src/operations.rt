@@ -155,7 +155,7 @@ impl State {
     /// The postoperation callback that the worker is in returns, with its verdict and its data; or the drain, which has no data and whose verdict counts as
     /// Finished. What is in the worker's hand is released and counts as leaked. Refused, nothing changed and the data handed back: 30 where the worker is
     /// in neither, 32 where the data is strange, where a postoperation has none or a drain has some.
-    #[tactic(auto, using(fm_world::proofs::Handing::post_hand, fm_world::proofs::Handing::post_none), unfolding(fm_world::specs::Events::PostReturns))]
+    #[tactic(auto, using(fm_world::proofs::Returns::post_does), unfolding(fm_world::specs::Events::PostReturns))]
     pub fn post_returned(
         &mut self,
         worker: WorkerId,

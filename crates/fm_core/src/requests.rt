@@ -14,13 +14,13 @@ ghost use Rattle.fm_core.specs.Begun.{Asks, IsAsked, refusal_by};
 
 use crate::files::{Files, MAX_HANDLES};
 use crate::state::State;
-use fm_data::Params;
+use fm_data::{Params, Request};
 use fm_flow::Flow;
 use fm_stack::VolumePhase;
 use fm_types::{
     CreateMode, HandleId, OpId, Operation, RelPath, Role, SharedPath, Status, VolumeId,
 };
-use fm_world::{Begin, FileHandle, HandlePhase};
+use fm_world::{FileHandle, HandlePhase};
 
 /// Whether a volume in that phase is in use.
 fn is_mounted(phase: VolumePhase) -> bool
@@ -109,15 +109,15 @@ impl State {
     /// open, is past its cleanup (for all but a close) or has begun its close; 30 for a second cleanup, and for a close before the cleanup is done;
     /// 33 where the volume is dismounting; 29 at 256 operations that weren't collected, at 4,096 handles with those that creates under way may give,
     /// and where numbers run out; 1.
-    #[tactic(auto, using(fm_world::proofs::Handing::begin_hands))]
-    pub fn begin(&mut self, what: Begin) -> Result<OpId, Status>
+    #[tactic(auto, using(fm_world::proofs::Requests::begin_does))]
+    pub fn begin(&mut self, what: Request) -> Result<OpId, Status>
         ensures event { Begins self.old what result self.new }
         ensures hand { KeepsHands self.old self.new }
     {
         match what {
-            Begin::List { volume } => self.begin_list(volume),
-            Begin::Create { volume, path, mode } => self.begin_create(volume, path, mode),
-            Begin::OnHandle { handle, request } => self.begin_on(handle, request.into_params()),
+            Request::List { volume } => self.begin_list(volume),
+            Request::Create { volume, path, mode } => self.begin_create(volume, path, mode),
+            Request::OnHandle { handle, request } => self.begin_on(handle, request.into_params()),
         }
     }
 
@@ -131,7 +131,7 @@ impl State {
     /// Begins a listing.
     #[tactic(auto, unfolding(fm_world::specs::Events::Begins))]
     fn begin_list(&mut self, volume: VolumeId) -> Result<OpId, Status>
-        ensures { Begins self.old (Begin.List volume) result self.new }
+        ensures { Begins self.old (Request.List volume) result self.new }
     {
         if let Some(refusal) = self.volume_refusal(volume, self.flow.is_full()) {
             return Err(refusal);
@@ -162,7 +162,7 @@ impl State {
         path: RelPath,
         mode: CreateMode,
     ) -> Result<OpId, Status>
-        ensures { Begins self.old (Begin.Create volume path mode) result self.new }
+        ensures { Begins self.old (Request.Create volume path mode) result self.new }
     {
         if let Some(refusal) = self.volume_refusal(volume, self.takes_no_create()) {
             return Err(refusal);
@@ -178,7 +178,7 @@ impl State {
         mode: CreateMode,
     ) -> Result<OpId, Status>
         requires { first_of (volume_refusals self.old volume (is_full self.old.flow || has_no_handle_left self.old)) ≡ None }
-        ensures { Begins self.old (Begin.Create volume path mode) result self.new }
+        ensures { Begins self.old (Request.Create volume path mode) result self.new }
     {
         let Ok(paths) = self.files.prepare(volume, path) else {
             return Err(Status::NoMemory);

@@ -1,2 +1,3 @@
 pub mod Params
+pub mod Requests
 pub mod Data

@@ -13,5 +13,5 @@ pub use crate::answer::Answer;
 pub use crate::base_call::BaseCall;
 pub use crate::callback_data::{CallbackData, Parts};
 pub use crate::params::{MAX_END, MAX_TRANSFER, Params};
-pub use crate::request::{Reply, Request};
+pub use crate::request::{FileRequest, Reply, Request};
 pub use crate::verdict::{Completion, PostVerdict, PreVerdict};

@@ -1,16 +1,12 @@
 mod Words
-pub mod Lists
 pub mod Owed
 pub mod Walks
 pub mod Course
 pub mod Settled
 pub mod Counting
 pub mod Soundness
-pub mod Turns
+pub mod Next
+pub mod Returns
 pub mod Flows
-pub mod Paths
-pub mod Places
-pub mod Balances
-pub mod Drains
-pub mod Owes
+pub mod Requests
 mod Seeing

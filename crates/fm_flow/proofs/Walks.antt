@@ -1,14 +1,11 @@
 -- What the order of entries says: where the callback stands that runs or holds, and what may follow it.
-use Rattle.fm_flow.proofs.Words.{ℕ, Bool, true, false, List, [], cond, map, Option, Some, None, option_map, option_to_list, slice_get}
-use Rattle.fm_flow.proofs.Words.{reverse, take, get_or, length, append-nil, inl, inr, refl, sym, ap, ap₂, reverse-append, InstanceId, Stage}
-use Rattle.fm_flow.proofs.Words.{Descending, PreRunning, PreHeld, InBase, Ascending, PostRunning, PostHeld, InDrain, PreState, PostState}
-use Rattle.fm_flow.proofs.Words.{PreVisit, PostVisit, Entry, Pre, Post, Drain, visit_of, last_visited, visited, asked, posted, is_pre_open}
-use Rattle.fm_flow.proofs.Words.{settle_pre, settle_post, pre_leads, post_leads, walk, way_of, false≢true, take_more, is_post_open, after}
+use Rattle.fm_flow.proofs.Words.{ℕ, Bool, true, false, List, [], map, Option, Some, None, option_map, option_to_list, slice_get, reverse}
+use Rattle.fm_flow.proofs.Words.{take, get_or, length, append-nil, inl, inr, refl, sym, ap, ap₂, arith, common_steps, cases_Bool, InstanceId}
+use Rattle.fm_flow.proofs.Words.{Stage, Descending, PreRunning, PreHeld, Ascending, PostRunning, PostHeld, PreState, PostState, PreVisit}
+use Rattle.fm_flow.proofs.Words.{PostVisit, Entry, Pre, Post, Drain, visit_of, last_visited, visited, asked, posted, is_pre_open, settle_pre}
+use Rattle.fm_flow.proofs.Words.{settle_post, walk, take_more, is_post_open, after}
 use Rattle.std.proofs.Common.{◌≡◌, ◌∷◌, ◌++◌, ◌+◌, ◌<◌, ◌∙◌, ◌||◌, ◌⊎◌, option_and_then}
 use Rattle.std.specs.Option.{option_or}
-use Rattle.fm_flow.specs.declared.entry.PreState.TheVariants as pre
-use Rattle.fm_flow.specs.declared.entry.PostState.TheVariants as post
-use Rattle.fm_flow.proofs.Lists.{either, or_true}
 use Rattle.fm_flow.proofs.Owed.{filter_map-push}
 
 pub walk-append : (s : Stage) (es fs : List Entry) → walk s (es ++ fs) ≡ option_and_then (λ t. walk t fs) (walk s es)
@@ -17,6 +14,10 @@ walk-append s (e ∷ es) fs = elim (after s e) as (λ o. option_and_then (λ t. 
 
 pub walk_push : (s : Stage) (es : List Entry) (e : Entry) (t u : Stage) → walk s es ≡ Some t → after t e ≡ Some u → walk s (es ++ e ∷ []) ≡ Some u
 walk_push s es e t u w a = walk-append s es (e ∷ []) ∙ rw (w, a) refl
+
+-- the first entry leads somewhere, and the others on from there
+walk_parts : (s : Stage) (e : Entry) (es : List Entry) (t : Stage) → walk s (e ∷ es) ≡ Some t → (u : Stage) × (after s e ≡ Some u) × (walk u es ≡ Some t)
+walk_parts s e es t w = elim (after s e) as (λ o. option_and_then (λ u. walk u es) o ≡ Some t → (u : Stage) × (o ≡ Some u) × (walk u es ≡ Some t)) [ None ↦ λ v. cc | Some u ↦ λ v. (u, refl, v) ] w
 
 -- ---- kinds of stages
 
@@ -39,47 +40,25 @@ abbrev pub is_down : Stage → Bool
 is_down Descending = true
 is_down s = is_pre s
 
-pub callback_of_pre : (s : Stage) → is_pre s ≡ true → is_callback s ≡ true
-callback_of_pre s p = rw p refl
-
-pub callback_of_post : (s : Stage) → is_post s ≡ true → is_callback s ≡ true
-callback_of_post s p = rw p (or_true (is_pre s))
-
-pub way_of_callback : (s : Stage) → is_callback s ≡ true → way_of s ≡ s
-way_of_callback InBase p = cc
-way_of_callback (InDrain i) p = cc
-way_of_callback s p = refl
-
-pub way_of_pre_leads : (state : PreState) → way_of (pre_leads state) ≡ pre_leads state
-way_of_pre_leads pre.Running = refl
-way_of_pre_leads state = refl
-
-pub way_of_post_leads : (state : PostState) → way_of (post_leads state) ≡ post_leads state
-way_of_post_leads post.Running = refl
-way_of_post_leads state = refl
-
 -- ---- nothing goes back down
 
-up_leads : (state : PostState) → is_down (post_leads state) ≡ false
-up_leads post.Running = refl
-up_leads state = refl
-
 up_after : (s : Stage) (e : Entry) (u : Stage) → is_down s ≡ false → after s e ≡ Some u → is_down u ≡ false
-up_after Ascending (Post visit) u up k = let e : post_leads visit.state ≡ u = cc in rw (← e) (up_leads visit.state)
-up_after s (Drain visit) u up k = cc
-up_after Descending e u up k = cc
-up_after s e u up k = cc
+up_after s e u up k = grind arith
 
 up_stays : (s : Stage) (es : List Entry) (t : Stage) → is_down s ≡ false → walk s es ≡ Some t → is_down t ≡ false
 up_stays s [] t up w = cc
-up_stays s (e ∷ es) t up w = elim (after s e) as (λ o. after s e ≡ o → option_and_then (λ u. walk u es) o ≡ Some t → is_down t ≡ false) [ None ↦ λ k v. cc | Some u ↦ λ k v. up_stays u es t (up_after s e u up k) v ] refl w
+up_stays s (e ∷ es) t up w = let k = walk_parts s e es t w in up_stays k.0 es t (up_after s e k.0 up k.1) k.2
+
+posts_up : (s : Stage) (e : Entry) (es : List Entry) (u : Stage) → after s e ≡ Some u → posted es ≡ [] → (posted (e ∷ es) ≡ []) ⊎ (is_down u ≡ false)
+posts_up s (Post visit) es u k none = inr (grind arith)
+posts_up s e es u k none = inl none
 
 -- on the way down there is no postoperation
 pub no_posts : (s : Stage) (es : List Entry) (t : Stage) → walk s es ≡ Some t → is_down t ≡ true → posted es ≡ []
 no_posts s [] t w d = refl
-no_posts Ascending (Post visit ∷ es) t w d = let up = up_stays Ascending (Post visit ∷ es) t refl w in cc
-no_posts s (Post visit ∷ es) t w d = cc
-no_posts s (e ∷ es) t w d = elim (after s e) as (λ o. option_and_then (λ u. walk u es) o ≡ Some t → posted es ≡ []) [ None ↦ λ v. cc | Some u ↦ λ v. no_posts u es t v d ] w
+no_posts s (e ∷ es) t w d =
+    let k = walk_parts s e es t w in
+    elim (posts_up s e es k.0 k.1 (no_posts k.0 es t k.2 d)) [ inl none ↦ none | inr up ↦ let h = up_stays k.0 es t up k.2 in cc ]
 
 -- ---- what a callback's return leaves alone
 
@@ -94,12 +73,10 @@ abbrev pub Settling : (Entry → Entry) → Type 0
 Settling f = (e : Entry) → is_open e ≡ false → f e ≡ e
 
 pub settling_pre : (state : PreState) → Settling (settle_pre state)
-settling_pre state (Pre visit) closed = ap (λ b. Pre (record visit { state = cond b state visit.state })) closed
-settling_pre state e closed = refl
+settling_pre state e closed = grind arith
 
 pub settling_post : (state : PostState) → Settling (settle_post state)
-settling_post state (Post visit) closed = ap (λ b. Post (record visit { state = cond b state visit.state })) closed
-settling_post state e closed = refl
+settling_post state e closed = grind arith
 
 -- only drains follow a callback that runs or holds
 pub record Quiet (es : List Entry) : Type 0 where
@@ -114,8 +91,7 @@ drains_follow s [] t w k = record { asks = refl; visits = refl; posts = refl; wa
 drains_follow s (Drain visit ∷ es) t w k =
     let q = drains_follow s es t w k in
     record { asks = q.asks; visits = q.visits; posts = q.posts; walks = q.walks; stays = λ f g. ap₂ (λ e fs. e ∷ fs) (g (Drain visit) refl) (q.stays f g) }
-drains_follow Descending (e ∷ es) t w k = cc
-drains_follow s (e ∷ es) t w k = cc
+drains_follow s (e ∷ es) t w k = absurd (grind arith)
 
 -- ---- the callback that runs or holds
 
@@ -132,45 +108,33 @@ pub record Open (s : Stage) (es : List Entry) (t : Stage) : Type 0 where
   pub stays : (f : Entry → Entry) → Settling f → map f front ≡ front
   pub quiet : Quiet back
 
-pre_opens : (state : PreState) → is_pre_open state ≡ is_callback (pre_leads state)
-pre_opens pre.Running = refl
-pre_opens state = refl
-
-post_opens : (state : PostState) → is_post_open state ≡ is_callback (post_leads state)
-post_opens post.Running = refl
-post_opens state = refl
-
 -- an entry is open where it leads to a callback
 opens_after : (s : Stage) (e : Entry) (u : Stage) → after s e ≡ Some u → is_callback s ≡ false → is_open e ≡ is_callback u
-opens_after Descending (Pre visit) u k calm = let e : pre_leads visit.state ≡ u = cc in pre_opens visit.state ∙ ap is_callback e
-opens_after Ascending (Post visit) u k calm = let e : post_leads visit.state ≡ u = cc in post_opens visit.state ∙ ap is_callback e
-opens_after s (Drain visit) u k calm = cc
-opens_after s e u k calm = cc
+opens_after s e u k calm = grind arith
 
 open_walk : (s : Stage) (es : List Entry) (t : Stage) → walk s es ≡ Some t → is_callback t ≡ true → is_callback s ≡ false → Open s es t
 open_walk s [] t w p q = cc
-open_walk s (e ∷ es) t w p q = elim (after s e) as (λ o. after s e ≡ o → option_and_then (λ u. walk u es) o ≡ Some t → Open s (e ∷ es) t) [
-  | None ↦ λ k v. cc
-  | Some u ↦ λ k v. elim (either (is_callback u)) [
-    | inl now ↦
-        let quiet = drains_follow u es t v now in
-        record { front = []; entry = e; back = es; from = s; split = refl; way = refl; calm = q; leads = k ∙ sym (quiet.walks u) ∙ v; stays = λ f g. refl; quiet = quiet }
-    | inr later ↦
-        let o = open_walk u es t v p later in
-        record {
-          front = e ∷ o.front;
-          entry = o.entry;
-          back = o.back;
-          from = o.from;
-          split = ap (λ fs. e ∷ fs) o.split;
-          way = rw k o.way;
-          calm = o.calm;
-          leads = o.leads;
-          stays = λ f g. ap₂ (λ x fs. x ∷ fs) (g e (opens_after s e u k q ∙ later)) (o.stays f g);
-          quiet = o.quiet;
-        }
-  ]
-] refl w
+open_walk s (e ∷ es) t w p q =
+    let k = walk_parts s e es t w in
+    elim (cases_Bool (is_callback k.0)) [
+      | inl now ↦
+          let quiet = drains_follow k.0 es t k.2 now in
+          record { front = []; entry = e; back = es; from = s; split = refl; way = refl; calm = q; leads = k.1 ∙ sym (quiet.walks k.0) ∙ k.2; stays = λ f g. refl; quiet = quiet }
+      | inr later ↦
+          let o = open_walk k.0 es t k.2 p later in
+          record {
+            front = e ∷ o.front;
+            entry = o.entry;
+            back = o.back;
+            from = o.from;
+            split = ap (λ fs. e ∷ fs) o.split;
+            way = rw k.1 o.way;
+            calm = o.calm;
+            leads = o.leads;
+            stays = λ f g. ap₂ (λ x fs. x ∷ fs) (g e (opens_after s e k.0 k.1 q ∙ later)) (o.stays f g);
+            quiet = o.quiet;
+          }
+    ]
 
 -- the same where the entry's kind is known
 pub record OpenAs {V : Type 0} (kind : V → Entry) (from : Stage) (es : List Entry) : Type 0 where
@@ -199,48 +163,35 @@ opened {es = es} o visit is at p = record {
 -- a preoperation leads there on the way down, or a postoperation on the way up
 entered : (s : Stage) (e : Entry) (t : Stage) → after s e ≡ Some t → is_callback t ≡ true → is_callback s ≡ false
     → ((visit : PreVisit) × (e ≡ Pre visit) × (s ≡ Descending) × (is_post t ≡ false)) ⊎ ((visit : PostVisit) × (e ≡ Post visit) × (s ≡ Ascending) × (is_pre t ≡ false))
-entered Descending (Pre visit) t k p q = let e : pre_leads visit.state ≡ t = cc in inl (visit, refl, refl, ap is_post (sym e) ∙ no_post visit.state)
-  where
-    no_post : (state : PreState) → is_post (pre_leads state) ≡ false
-    no_post pre.Running = refl
-    no_post state = refl
-entered Ascending (Post visit) t k p q = let e : post_leads visit.state ≡ t = cc in inr (visit, refl, refl, ap is_pre (sym e) ∙ no_pre visit.state)
-  where
-    no_pre : (state : PostState) → is_pre (post_leads state) ≡ false
-    no_pre post.Running = refl
-    no_pre state = refl
-entered s (Drain visit) t k p q = let e : s ≡ t = cc in absurd (false≢true (sym q ∙ ap is_callback e ∙ p))
-entered s e t k p q = cc
+entered Descending (Pre visit) t k p q = inl (visit, refl, refl, grind arith)
+entered Ascending (Post visit) t k p q = inr (visit, refl, refl, grind arith)
+entered s e t k p q = absurd (grind arith)
 
 abbrev pub OpenPre : List Entry → Type 0
 OpenPre es = OpenAs Pre Descending es
 
 pub open_pre : (es : List Entry) (t : Stage) → walk Descending es ≡ Some t → is_pre t ≡ true → OpenPre es
 open_pre es t w p =
-    let called = callback_of_pre t p in let o = open_walk Descending es t w called refl in
-    elim (entered o.from o.entry t o.leads called o.calm) [ inl e ↦ opened o e.0 e.1 e.2 called | inr e ↦ absurd (false≢true (sym e.3 ∙ p)) ]
+    let called : is_callback t ≡ true = grind arith in let o = open_walk Descending es t w called refl in
+    elim (entered o.from o.entry t o.leads called o.calm) [ inl e ↦ opened o e.0 e.1 e.2 called | inr e ↦ let h = e.3 in cc ]
 
 abbrev pub OpenPost : List Entry → Type 0
 OpenPost es = OpenAs Post Ascending es
 
 pub open_post : (es : List Entry) (t : Stage) → walk Descending es ≡ Some t → is_post t ≡ true → OpenPost es
 open_post es t w p =
-    let called = callback_of_post t p in let o = open_walk Descending es t w called refl in
-    elim (entered o.from o.entry t o.leads called o.calm) [ inl e ↦ absurd (false≢true (sym e.3 ∙ p)) | inr e ↦ opened o e.0 e.1 e.2 called ]
+    let called : is_callback t ≡ true = grind arith in let o = open_walk Descending es t w called refl in
+    elim (entered o.from o.entry t o.leads called o.calm) [ inl e ↦ let h = e.3 in cc | inr e ↦ opened o e.0 e.1 e.2 called ]
 
 -- ---- the instance that was visited last, entry by entry
 
 last_with : (xs : List ℕ) (o : Option ℕ) → slice_get (reverse (xs ++ option_to_list o)) 0 ≡ option_or o (slice_get (reverse xs) 0)
-last_with xs None = ap (λ ys. slice_get (reverse ys) 0) (append-nil xs)
-last_with xs (Some x) = ap (λ ys. slice_get ys 0) (reverse-append xs (x ∷ []))
-
-map_or : (found before : Option InstanceId) → option_map (λ i. i.0) (option_or found before) ≡ option_or (option_map (λ i. i.0) found) (option_map (λ i. i.0) before)
-map_or None before = refl
-map_or (Some i) before = refl
+last_with xs o = grind (arith, append-nil xs, common_steps)
 
 pub last_visited_more : (es : List Entry) (i : ℕ) (d : Entry) (found before after' : Option InstanceId) → i < length es → option_map (λ j. j.0) found ≡ visit_of (get_or es i d)
     → option_map (λ j. j.0) before ≡ last_visited (take i es) → after' ≡ option_or found before → option_map (λ j. j.0) after' ≡ last_visited (take (i + 1) es)
 last_visited_more es i d found before after' below here so_far is =
-    ap (option_map (λ j. j.0)) is ∙ map_or found before ∙ ap₂ option_or here so_far
-    ∙ sym (last_with (visited (take i es)) (visit_of (get_or es i d)))
-    ∙ sym (ap (λ xs. slice_get (reverse xs) 0) (ap visited (take_more es i d below) ∙ filter_map-push visit_of (take i es) (get_or es i d) (visit_of (get_or es i d)) refl))
+    let a = last_with (visited (take i es)) (visit_of (get_or es i d)) in
+    let b = filter_map-push visit_of (take i es) (get_or es i d) in
+    let m : option_map (λ j. j.0) (option_or found before) ≡ option_or (option_map (λ j. j.0) found) (option_map (λ j. j.0) before) = grind arith in
+    rw (is, m, here, so_far, take_more es i d below, b, a) refl

@@ -4,7 +4,7 @@ pub use Rattle.fm_data.specs.declared.answer.Answer.{Answer}
 pub use Rattle.fm_data.specs.declared.base_call.BaseCall.{BaseCall}
 pub use Rattle.fm_data.specs.declared.params.Params.{Params}
 pub use Rattle.fm_data.specs.declared.verdict.PostVerdict.{PostVerdict}
-pub use Rattle.fm_flow.specs.Answered.{bare_answer, base_counted, handle_given, is_success, success_of}
+pub use Rattle.fm_flow.specs.Answered.{bare_answer, base_counted, handle_given}
 pub use Rattle.fm_flow.specs.Counts.{drain_opens, is_running_drain, opens}
 pub use Rattle.fm_flow.specs.Entries.{answers, ask_in, ask_of, asked, drains, instances, is_answered, is_drained, is_post_open, is_pre_open}
 pub use Rattle.fm_flow.specs.Entries.{last_posted, last_visited, one, owed, post_of, posted, settle_drain, settle_post, settle_pre, times}
@@ -15,14 +15,13 @@ pub use Rattle.fm_flow.specs.Steps.{MayLieBelow, Turned, answer_after, ascend, b
 pub use Rattle.fm_flow.specs.Steps.{base_returned_of, call_base, call_post, call_pre, data_reply, descend, done_at, drain_returned_of}
 pub use Rattle.fm_flow.specs.Steps.{give_post, is_done, kept_of, left_answer, lent_answer, may_take, next_at, next_of, post_after}
 pub use Rattle.fm_flow.specs.Steps.{post_entry, post_leads, post_returned_of, post_state, pre_after, pre_entry, pre_leads, pre_returned_of}
-pub use Rattle.fm_flow.specs.Steps.{returned_answer, stands, turn, unwound, unwound_to, with_base, with_drain, with_entry, with_visit}
+pub use Rattle.fm_flow.specs.Steps.{returned_answer, turn, unwound, unwound_to, with_base, with_drain, with_entry, with_visit}
 pub use Rattle.fm_flow.specs.Table.{FlowTable, IsFlow, MayLieBelowOf, StandsAt, begun, begun_record, change_first, changed, collect_reply}
 pub use Rattle.fm_flow.specs.Table.{collected_in, collected_of, is_collectable, is_full, is_number, marked, operation_at, removed, told}
 pub use Rattle.fm_flow.specs.Table.{total, under_way, without_first}
 pub use Rattle.fm_flow.specs.declared.action.Below.{Below}
 pub use Rattle.fm_flow.specs.declared.action.FlowAction.{FlowAction}
 pub use Rattle.fm_flow.specs.declared.entry.Ask.{Ask}
-pub use Rattle.fm_flow.specs.declared.entry.DrainVisit.{DrainVisit}
 pub use Rattle.fm_flow.specs.declared.entry.Entry.{Entry}
 pub use Rattle.fm_flow.specs.declared.entry.Entry.TheVariants.{Base, Drain, Post, Pre}
 pub use Rattle.fm_flow.specs.declared.entry.PostState.{PostState}
@@ -41,9 +40,10 @@ pub use Rattle.fm_types.specs.declared.status.Status.{Status}
 pub use Rattle.fm_types.specs.declared.status.Status.TheVariants.{WrongStep}
 pub use Rattle.std.proofs.Common.{Bool, Err, List, None, Ok, Option, Some, [], ap, append-nil, ap₂, arith, cond, drop, false, filter, find}
 pub use Rattle.std.proofs.Common.{get_or, inl, inr, length, map, not, option_map, option_to_list, refl, reverse, slice_get, subst, sym}
-pub use Rattle.std.proofs.Common.{take, true, zero-add, ℕ}
-pub use Rattle.std.proofs.lemmas.Bool.{and_from, and_parts, cases_Bool, eq-eqb, false≢true, leb-false}
+pub use Rattle.std.proofs.Common.{take, true, ℕ}
+pub use Rattle.std.proofs.lemmas.Bool.{and_from, and_parts, cases_Bool, eq-eqb, false≢true}
 pub use Rattle.std.proofs.lemmas.Bool.Decides.{nat_tests}
+pub use Rattle.std.proofs.lemmas.Grind.{common_steps}
 pub use Rattle.std.proofs.lemmas.List.{get_or_default, length-append, length-map, length-take, map-append, reverse-append, take_more}
 pub use Rattle.std.proofs.lemmas.List.Elements.{All-append, All-cons, All-head, All-nil, All-push, All-tail, All-take, All-weaker}
 pub use Rattle.std.proofs.lemmas.List.Elements.{filter-append, filter_agree, filter_map-append}

@@ -1,6 +1,6 @@
 //! All operations that were begun and not yet collected.
 
-ghost use Rattle.std.specs.Prelude.{◌≡◌, ◌<◌, ◌^◌, ◌∷◌, [], ℕ, true, length, Option, Some, None, Ok, Err, IsTrue, option_copied, position, find, count_by, not};
+ghost use Rattle.std.specs.Prelude.{◌≡◌, ◌<◌, ◌^◌, ◌∷◌, [], ℕ, true, length, Option, Some, None, Ok, Err, IsTrue, option_copied, is_some, position, find, count_by, not};
 ghost use Rattle.std.specs.List.{list_any};
 ghost use Rattle.fm_types.specs.Refusals.{AnswersOrMemory, first_of};
 ghost use Rattle.fm_data.specs.Params.{is_within_limits, are_on};
@@ -45,6 +45,17 @@ fn place_of(operations: &[OperationRecord], number: OpId) -> Option<usize>
     operations
         .iter()
         .position(|operation| operation.number().0 == number.0)
+}
+
+// the place of one that is there
+fn standing(operations: &[OperationRecord], number: OpId) -> usize
+    requires { is_some (find (is_number number) operations.now) ≡ true }
+    ensures { position (is_number number) operations.now ≡ Some result }
+{
+    let Some(place) = place_of(operations, number) else {
+        unreachable!();
+    };
+    place
 }
 
 fn record_of(operations: &[OperationRecord], number: OpId) -> Option<&OperationRecord>
@@ -231,11 +242,8 @@ impl Flow {
         ensures reply { result ≡ told (data_reply lent) (Err lent) number self.old }
         ensures after { self.new ≡ changed number (pre_after state lent) self.old }
     {
-        let Some(place) = place_of(&self.operations, number) else {
-            unreachable!();
-        };
-        let operation = &mut self.operations[place];
-        operation.pre_returned(state, lent)
+        let place = standing(&self.operations, number);
+        self.operations[place].pre_returned(state, lent)
     }
 
     /// The base answers an operation, and gives its call back. `handle` is the number that
@@ -254,11 +262,8 @@ impl Flow {
         ensures reply { result ≡ told (base_reply call answer) (Err (call, answer)) number self.old }
         ensures after { self.new ≡ changed number (base_after call answer handle) self.old }
     {
-        let Some(place) = place_of(&self.operations, number) else {
-            unreachable!();
-        };
-        let operation = &mut self.operations[place];
-        operation.base_returned(call, answer, handle)
+        let place = standing(&self.operations, number);
+        self.operations[place].base_returned(call, answer, handle)
     }
 
     /// A postoperation callback of an operation returns. The operation has to be in such a callback.
@@ -275,11 +280,8 @@ impl Flow {
         ensures reply { result ≡ told (data_reply lent) (Err lent) number self.old }
         ensures after { self.new ≡ changed number (post_after verdict lent) self.old }
     {
-        let Some(place) = place_of(&self.operations, number) else {
-            unreachable!();
-        };
-        let operation = &mut self.operations[place];
-        operation.post_returned(verdict, lent)
+        let place = standing(&self.operations, number);
+        self.operations[place].post_returned(verdict, lent)
     }
 
     /// The drain that has an operation is over. All other operations stay. It takes no memory.
@@ -287,11 +289,8 @@ impl Flow {
         requires { StandsAt (Stage.InDrain instance) (operation_at number self.old) }
         ensures { self.new ≡ changed number (drain_returned_of instance) self.old }
     {
-        let Some(place) = place_of(&self.operations, number) else {
-            unreachable!();
-        };
-        let operation = &mut self.operations[place];
-        operation.drain_returned(instance);
+        let place = standing(&self.operations, number);
+        self.operations[place].drain_returned(instance);
     }
 
     /// Hands out the answer of a done operation (the request is completed), once. Its record goes, or

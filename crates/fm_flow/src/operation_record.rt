@@ -1,6 +1,6 @@
 //! One operation.
 
-ghost use Rattle.std.specs.Prelude.{◌≡◌, ℕ, ◌<◌, ◌≤◌, true, false, length, IsTrue, IfOk, Ok, Err, Some, None, option_map, slice_get, if◌then◌else◌};
+ghost use Rattle.std.specs.Prelude.{◌≡◌, ℕ, ◌<◌, ◌≤◌, true, false, length, IsTrue, IfOk, IfErr, Ok, Err, Some, None, option_map, slice_get, if◌then◌else◌};
 ghost use Rattle.std.specs.List.{list_any};
 ghost use Rattle.fm_data.specs.Params.{is_within_limits, are_on, fit, call_fits};
 ghost use Rattle.fm_data.specs.Data.{data_fits};
@@ -375,9 +375,10 @@ impl OperationRecord {
         requires { self.old.stage ≡ Stage.Ascending }
         ensures { self.new ≡ unwound place self.old }
     {
-        if let Some(params) = lent::unwind(&mut self.kept, place as usize) {
-            self.params = Some(params);
-        }
+        let Some(params) = lent::unwind(&mut self.kept, place as usize) else {
+            return;
+        };
+        self.params = Some(params);
     }
 
     fn give_post(&mut self, worker: WorkerId, ask: Ask) -> FlowAction
@@ -404,6 +405,18 @@ impl OperationRecord {
         )
     }
 
+    // data that is of this operation; else it is handed back
+    fn own(&self, lent: CallbackData) -> Result<CallbackData, CallbackData>
+        ensures own { IfOk result (λ own. (own ≡ lent) × (data_fits self.now.operation self.now.path lent ≡ true)) }
+        ensures back { IfErr result (λ back. (back ≡ lent) × (data_fits self.now.operation self.now.path lent ≡ false)) }
+    {
+        if lent.fits(self.operation, &self.path) {
+            Ok(lent)
+        } else {
+            Err(lent)
+        }
+    }
+
     /// A preoperation callback returns its data with the verdict that counts. Data that isn't of this
     /// operation is handed back, and nothing changes.
     pub(crate) fn pre_returned(
@@ -416,9 +429,7 @@ impl OperationRecord {
         ensures reply { result ≡ data_reply lent self.old }
         ensures after { self.new ≡ pre_after state lent self.old }
     {
-        if !lent.fits(self.operation, &self.path) {
-            return Err(lent);
-        }
+        let lent = self.own(lent)?;
         self.take_pre(state, lent);
         Ok(())
     }
@@ -452,13 +463,18 @@ impl OperationRecord {
         ensures reply { result ≡ base_reply call answer self.old }
         ensures after { self.new ≡ base_after call answer handle self.old }
     {
-        if !call.fits(self.operation, self.volume, &self.path)
-            || answer.bytes.len() as u64 > MAX_TRANSFER
-        {
+        if !self.takes(&call, &answer) {
             return Err((call, answer));
         }
         self.take_base(call, answer, handle);
         Ok(())
+    }
+
+    fn takes(&self, call: &BaseCall, answer: &Answer) -> bool
+        ensures { result ≡ base_fits call.now answer.now self.now }
+    {
+        call.fits(self.operation, self.volume, &self.path)
+            && answer.bytes.len() as u64 <= MAX_TRANSFER
     }
 
     fn take_base(&mut self, call: BaseCall, answer: Answer, handle: HandleId)
@@ -486,9 +502,7 @@ impl OperationRecord {
         ensures reply { result ≡ data_reply lent self.old }
         ensures after { self.new ≡ post_after verdict lent self.old }
     {
-        if !lent.fits(self.operation, &self.path) {
-            return Err(lent);
-        }
+        let lent = self.own(lent)?;
         self.take_post(verdict, lent);
         Ok(())
     }

@@ -3,12 +3,14 @@
 
 use fm_altitude::Altitude;
 use fm_ctx::SetMode;
-use fm_data::{Answer, BaseCall, CallbackData, Params, PostVerdict, PreVerdict};
+use fm_data::{
+    Answer, BaseCall, CallbackData, FileRequest, Params, PostVerdict, PreVerdict, Request,
+};
 use fm_types::{
     Bytes, ContextKind, ContextMask, CreateMode, CtxId, FilterId, HandleId, Name, OpId, OpMask,
     Operation, Registration, RelPath, SharedPath, Status, VolumeId, WorkerId,
 };
-use fm_world::{Begin, FileRequest, Step};
+use fm_world::Step;
 use std::alloc::Global;
 
 /// The worker of each event that names none.
@@ -74,16 +76,16 @@ fn attach() -> Result<Step, Status> {
     })
 }
 
-fn on_handle(request: FileRequest) -> Begin {
-    Begin::OnHandle {
+fn on_handle(request: FileRequest) -> Request {
+    Request::OnHandle {
         handle: HandleId(0),
         request,
     }
 }
 
-fn begin(operation: Operation) -> Result<Begin, Status> {
+fn begin(operation: Operation) -> Result<Request, Status> {
     Ok(match operation {
-        Operation::Create => Begin::Create {
+        Operation::Create => Request::Create {
             volume: VOLUME,
             path: path()?,
             mode: CreateMode::Always,
@@ -91,7 +93,7 @@ fn begin(operation: Operation) -> Result<Begin, Status> {
         Operation::Read => on_handle(FileRequest::Read { offset: 0, len: 9 }),
         Operation::Cleanup => on_handle(FileRequest::Cleanup),
         Operation::Close => on_handle(FileRequest::Close),
-        _ => Begin::List { volume: VOLUME },
+        _ => Request::List { volume: VOLUME },
     })
 }
 

@@ -1,14 +1,13 @@
 //! Frames with their bytes, written by hand from the table.
 
 use fm_altitude::Altitude;
-use fm_data::{Reply, Request};
+use fm_data::{FileRequest, Reply, Request};
 use fm_types::{
     Bytes, CreateMode, FilterId, HandleId, InstanceId, Name, OpId, RelPath, Status, VolumeId,
 };
 use fm_wire::{Body, Control, Decoder, Frame, encode};
 use std::alloc::Global;
 use std::process::Abort;
-use std::test::Fail;
 
 // The number of each frame here.
 const NUMBER: u32 = 0x0102_0304;
@@ -18,58 +17,62 @@ const HANDLE: HandleId = HandleId(0x0506);
 // A list of volume 7.
 const LIST: [u8; 10] = [0, 0, 0, 6, 7, 1, 2, 3, 4, 7];
 
-fn create(mode: CreateMode) -> Result<Body, Status> {
-    Ok(Body::Operation(Request::Create {
-        volume: VolumeId(3),
-        path: RelPath::read(b"a/b")?,
-        mode,
-    }))
-}
-
-fn write(alloc: Global, bytes: &[u8]) -> Result<Body, Status> {
-    Ok(Body::Operation(Request::Write {
+fn on_handle(request: FileRequest) -> Body {
+    Body::Operation(Request::OnHandle {
         handle: HANDLE,
-        offset: 1 << 32,
-        bytes: Bytes::copy_of(alloc, bytes)?,
-    }))
+        request,
+    })
 }
 
-fn reply(alloc: Global, status: Status, information: u64, bytes: &[u8]) -> Result<Body, Status> {
-    Ok(Body::Reply(Reply::Done {
+fn create(rt: &impl Abort, mode: CreateMode) -> Body {
+    Body::Operation(Request::Create {
+        volume: VolumeId(3),
+        path: RelPath::read(b"a/b").expect(rt, "a path"),
+        mode,
+    })
+}
+
+fn write(rt: &impl Abort, alloc: Global, bytes: &[u8]) -> Body {
+    on_handle(FileRequest::Write {
+        offset: 1 << 32,
+        bytes: Bytes::copy_of(alloc, bytes).expect(rt, "memory"),
+    })
+}
+
+fn reply(rt: &impl Abort, alloc: Global, status: Status, information: u64, bytes: &[u8]) -> Body {
+    Body::Reply(Reply::Done {
         status,
         information,
-        bytes: Bytes::copy_of(alloc, bytes)?,
-    }))
+        bytes: Bytes::copy_of(alloc, bytes).expect(rt, "memory"),
+    })
 }
 
 fn read(len: u32) -> Body {
-    Body::Operation(Request::Read {
-        handle: HANDLE,
+    on_handle(FileRequest::Read {
         offset: 0x0003_0000,
         len,
     })
 }
 
 fn set_size() -> Body {
-    Body::Operation(Request::SetSize {
-        handle: HANDLE,
+    on_handle(FileRequest::SetSize {
         size: 0x0100_0000_0002,
     })
 }
 
-fn load() -> Result<Control, Status> {
-    Ok(Control::Load {
-        name: Name::read(b"shift")?,
-    })
+fn load(rt: &impl Abort) -> Control {
+    Control::Load {
+        name: Name::read(b"shift").expect(rt, "a name"),
+    }
 }
 
-fn attach() -> Result<Control, Status> {
-    Ok(Control::Attach {
+fn attach(rt: &impl Abort) -> Control {
+    Control::Attach {
         filter: FilterId(2),
         volume: VolumeId(1),
-        name: Name::read(b"i0")?,
-        altitude: Altitude::read(b"0100.50")?,
-    })
+        name: Name::read(b"i0").expect(rt, "a name"),
+        altitude: Altitude::read(b"0100.50").expect(rt, "an altitude"),
+    }
 }
 
 // Creates by each mode.
@@ -100,33 +103,28 @@ const SET_DELETE: [u8; 17] = [0, 0, 0, 13, 8, 1, 2, 3, 4, 0, 0, 0, 0, 0, 0, 5, 6
 
 const CLOSE: [u8; 17] = [0, 0, 0, 13, 9, 1, 2, 3, 4, 0, 0, 0, 0, 0, 0, 5, 6];
 
-// What a frame asks.
-fn asked(request: Request) -> Body {
-    Body::Operation(request)
-}
-
 // What frames of operations say, beside their bytes.
-fn operation(alloc: Global, at: u8) -> Result<Option<(Body, &'static [u8])>, Status> {
+fn operation(rt: &impl Abort, alloc: Global, at: u8) -> Option<(Body, &'static [u8])> {
     let row: (Body, &[u8]) = match at {
-        0 => (create(CreateMode::Existing)?, &CREATES[0]),
-        1 => (create(CreateMode::New)?, &CREATES[1]),
-        2 => (create(CreateMode::Always)?, &CREATES[2]),
+        0 => (create(rt, CreateMode::Existing), &CREATES[0]),
+        1 => (create(rt, CreateMode::New), &CREATES[1]),
+        2 => (create(rt, CreateMode::Always), &CREATES[2]),
         3 => (read(32_768), &READ),
-        4 => (write(alloc, &[0x61, 0x62, 0xff])?, &WRITE),
-        5 => (asked(Request::QuerySize { handle: HANDLE }), &QUERY_SIZE),
+        4 => (write(rt, alloc, &[0x61, 0x62, 0xff]), &WRITE),
+        5 => (on_handle(FileRequest::QuerySize), &QUERY_SIZE),
         6 => (set_size(), &SET_SIZE),
-        7 => (asked(Request::Flush { handle: HANDLE }), &FLUSH),
+        7 => (on_handle(FileRequest::Flush), &FLUSH),
         8 => (
-            asked(Request::List {
+            Body::Operation(Request::List {
                 volume: VolumeId(7),
             }),
             &LIST,
         ),
-        9 => (asked(Request::SetDelete { handle: HANDLE }), &SET_DELETE),
-        10 => (asked(Request::Close { handle: HANDLE }), &CLOSE),
-        _ => return Ok(None),
+        9 => (on_handle(FileRequest::SetDelete), &SET_DELETE),
+        10 => (on_handle(FileRequest::Close), &CLOSE),
+        _ => return None,
     };
-    Ok(Some(row))
+    Some(row)
 }
 
 const LOAD: [u8; 14] = [0, 0, 0, 10, 16, 1, 2, 3, 4, b's', b'h', b'i', b'f', b't'];
@@ -149,10 +147,10 @@ const BUSY: [u8; 18] = [0, 0, 0, 14, 128, 1, 2, 3, 4, 34, 0, 0, 0, 0, 0, 0, 1, 2
 const HELD: [u8; 17] = [0, 0, 0, 13, 129, 1, 2, 3, 4, 0, 0, 0, 0, 0, 0, 5, 6];
 
 // A frame that manages filters, beside its bytes.
-fn control(at: u8) -> Result<Option<(Body, &'static [u8])>, Status> {
+fn control(rt: &impl Abort, at: u8) -> Option<(Body, &'static [u8])> {
     let (what, bytes): (Control, &[u8]) = match at {
-        0 => (load()?, &LOAD),
-        1 => (attach()?, &ATTACH),
+        0 => (load(rt), &LOAD),
+        1 => (attach(rt), &ATTACH),
         2 => (
             Control::Detach {
                 instance: InstanceId(0x0102),
@@ -172,68 +170,68 @@ fn control(at: u8) -> Result<Option<(Body, &'static [u8])>, Status> {
             &[0, 0, 0, 6, 20, 1, 2, 3, 4, 7],
         ),
         5 => (Control::Stop, &[0, 0, 0, 5, 21, 1, 2, 3, 4]),
-        _ => return Ok(None),
+        _ => return None,
     };
-    Ok(Some((Body::Control(what), bytes)))
+    Some((Body::Control(what), bytes))
 }
 
 // What frames of replies say, beside their bytes.
-fn answer(alloc: Global, at: u8) -> Result<Option<(Body, &'static [u8])>, Status> {
+fn answer(rt: &impl Abort, alloc: Global, at: u8) -> Option<(Body, &'static [u8])> {
     let row: (Body, &[u8]) = match at {
-        0 => (reply(alloc, Status::Success, 0, &[])?, &REPLY),
+        0 => (reply(rt, alloc, Status::Success, 0, &[]), &REPLY),
         1 => (
-            reply(alloc, Status::Success, 3, &[0x61, 0x62, 0xff])?,
+            reply(rt, alloc, Status::Success, 3, &[0x61, 0x62, 0xff]),
             &BYTES,
         ),
-        2 => (reply(alloc, Status::BadRequest, 0, &[])?, &REFUSAL),
-        3 => (reply(alloc, Status::Busy(0x0102), 0x0102, &[])?, &BUSY),
+        2 => (reply(rt, alloc, Status::BadRequest, 0, &[]), &REFUSAL),
+        3 => (reply(rt, alloc, Status::Busy(0x0102), 0x0102, &[]), &BUSY),
         4 => (Body::Reply(Reply::Held(OpId(0x0506))), &HELD),
-        _ => return Ok(None),
+        _ => return None,
     };
-    Ok(Some(row))
+    Some(row)
 }
 
 // Whether the bytes, fed one by one, are one frame that has them as its spelling.
-fn is_read(alloc: Global, bytes: &[u8]) -> Result<bool, Status> {
+fn is_read(rt: &impl Abort, alloc: Global, bytes: &[u8]) -> bool {
     let mut decoder = Decoder::new(alloc);
     let mut count = 0u32;
     for byte in bytes {
-        for frame in &decoder.feed(&[*byte])? {
-            if encode(alloc, frame)?.as_slice() == bytes {
+        for frame in &decoder.feed(&[*byte]).expect(rt, "frames") {
+            if encode(alloc, frame).expect(rt, "a spelling").as_slice() == bytes {
                 count = count.saturating_add(1);
             }
         }
     }
-    Ok(count == 1)
+    count == 1
 }
 
 // The body has that one spelling.
-fn is_spelled(alloc: Global, body: Body, bytes: &[u8]) -> Result<bool, Status> {
+fn is_spelled(rt: &impl Abort, alloc: Global, body: Body, bytes: &[u8]) -> bool {
     let text = encode(
         alloc,
         &Frame {
             number: NUMBER,
             body,
         },
-    )?;
-    Ok(text.as_slice() == bytes && is_read(alloc, bytes)?)
+    )
+    .expect(rt, "a spelling");
+    text.as_slice() == bytes && is_read(rt, alloc, bytes)
 }
 
 #[test]
-fn frame_bytes(rt: HostRuntime) -> Result<(), Fail> {
+fn frame_bytes(rt: HostRuntime) {
     let alloc = rt.alloc();
     for at in 0..11 {
-        if let Some((body, bytes)) = operation(alloc, at)? {
-            assert!(rt; is_spelled(alloc, body, bytes)?, "operation {at}");
+        if let Some((body, bytes)) = operation(&rt, alloc, at) {
+            assert!(rt; is_spelled(&rt, alloc, body, bytes), "operation {at}");
         }
-        if let Some((body, bytes)) = control(at)? {
-            assert!(rt; is_spelled(alloc, body, bytes)?, "control {at}");
+        if let Some((body, bytes)) = control(&rt, at) {
+            assert!(rt; is_spelled(&rt, alloc, body, bytes), "control {at}");
         }
-        if let Some((body, bytes)) = answer(alloc, at)? {
-            assert!(rt; is_spelled(alloc, body, bytes)?, "answer {at}");
+        if let Some((body, bytes)) = answer(&rt, alloc, at) {
+            assert!(rt; is_spelled(&rt, alloc, body, bytes), "answer {at}");
         }
     }
-    Ok(())
 }
 
 // Bytes of frames that say nothing, with the number and the status that are told.
@@ -307,16 +305,15 @@ fn refusals(
 }
 
 #[test]
-fn serve_faults(rt: HostRuntime) -> Result<(), Fail> {
+fn serve_faults(rt: HostRuntime) {
     let mut decoder = Decoder::new(rt.alloc());
     for (bytes, number, status) in REFUSED {
         assert_eq!(rt;
-            refusals(&mut decoder, bytes, number, status)?,
-            1,
+            refusals(&mut decoder, bytes, number, status),
+            Ok(1),
             "frame {number}"
         );
     }
-    Ok(())
 }
 
 // Lengths that no frame has, whole and in pieces.
@@ -339,18 +336,18 @@ fn faults(alloc: Global, pieces: &[&[u8]]) -> [Option<Status>; 3] {
 }
 
 #[test]
-fn frame_faults(rt: HostRuntime) -> Result<(), Fail> {
+fn frame_faults(rt: HostRuntime) {
     let alloc = rt.alloc();
     for pieces in FAULTS {
         assert_eq!(rt; faults(alloc, pieces), [Some(Status::BadRequest); 3]);
     }
     let mut stream = Vec::new(alloc);
     for piece in [LIST.as_slice(), &LIST, &[0, 0, 0, 0, 1]] {
-        stream.extend_from_slice(piece)?;
+        stream.extend_from_slice(piece).expect(&rt, "memory");
     }
     let mut decoder = Decoder::new(alloc);
     assert_eq!(rt;
-        decoder.feed(stream.as_slice())?.len(),
+        decoder.feed(stream.as_slice()).expect(&rt, "frames").len(),
         2,
         "the frames in front of the fault"
     );
@@ -359,15 +356,16 @@ fn frame_faults(rt: HostRuntime) -> Result<(), Fail> {
         Some(Status::BadRequest),
         "an empty piece"
     );
-    Ok(())
 }
 
 // What comes of a body of that length under an unknown code, behind its length.
-fn told_of(alloc: Global, len: u32) -> Result<usize, Status> {
+fn told_of(rt: &impl Abort, alloc: Global, len: u32) -> Result<usize, Status> {
     let mut bytes = Vec::new(alloc);
-    bytes.extend_from_slice(&len.to_be_bytes())?;
-    bytes.push(0x63)?;
-    bytes.resize(len as usize + 4, 0)?;
+    bytes
+        .extend_from_slice(&len.to_be_bytes())
+        .expect(rt, "memory");
+    bytes.push(0x63).expect(rt, "memory");
+    bytes.resize(len as usize + 4, 0).expect(rt, "memory");
     refusals(
         &mut Decoder::new(alloc),
         bytes.as_slice(),
@@ -385,15 +383,22 @@ fn longest_frame(rt: HostRuntime) {
         (33_000, Ok(1)),
         (33_001, Err(Status::BadRequest)),
     ] {
-        assert_eq!(rt; told_of(alloc, len), told, "{len} bytes");
+        assert_eq!(rt; told_of(&rt, alloc, len), told, "{len} bytes");
     }
 }
 
 // So many zeros.
-fn zeros(alloc: Global, len: usize) -> Result<Vec<u8>, Status> {
-    let mut bytes = Vec::new(alloc);
-    bytes.resize(len, 0)?;
-    Ok(bytes)
+fn zeros(rt: &impl Abort, alloc: Global, len: usize) -> Vec<u8> {
+    Vec::from_elem(alloc, 0, len).expect(rt, "memory")
+}
+
+fn write_of(rt: &impl Abort, alloc: Global, len: usize) -> Body {
+    write(rt, alloc, zeros(rt, alloc, len).as_slice())
+}
+
+fn reply_of(rt: &impl Abort, alloc: Global, len: usize) -> Body {
+    let bytes = zeros(rt, alloc, len);
+    reply(rt, alloc, Status::Success, 0, bytes.as_slice())
 }
 
 // The spelling's length, or the refusal.
@@ -402,43 +407,34 @@ fn spelled_len(alloc: Global, body: Body) -> Result<usize, Status> {
 }
 
 // A body, and the length of its spelling, if it has one.
-fn limit(alloc: Global, at: u8) -> Result<Option<(Body, Result<usize, Status>)>, Status> {
+fn limit(rt: &impl Abort, alloc: Global, at: u8) -> Option<(Body, Result<usize, Status>)> {
     let row = match at {
-        0 => (write(alloc, zeros(alloc, 32_768)?.as_slice())?, Ok(32_793)),
-        1 => (
-            write(alloc, zeros(alloc, 32_769)?.as_slice())?,
-            Err(Status::BadRequest),
-        ),
-        2 => (
-            reply(alloc, Status::Success, 0, zeros(alloc, 32_986)?.as_slice())?,
-            Ok(33_004),
-        ),
-        3 => (
-            reply(alloc, Status::Success, 0, zeros(alloc, 32_987)?.as_slice())?,
-            Err(Status::BadRequest),
-        ),
+        0 => (write_of(rt, alloc, 32_768), Ok(32_793)),
+        1 => (write_of(rt, alloc, 32_769), Err(Status::BadRequest)),
+        2 => (reply_of(rt, alloc, 32_986), Ok(33_004)),
+        3 => (reply_of(rt, alloc, 32_987), Err(Status::BadRequest)),
         4 => (read(32_769), Err(Status::BadRequest)),
-        5 => (reply(alloc, Status::Busy(2), 2, &[])?, Ok(18)),
+        5 => (reply(rt, alloc, Status::Busy(2), 2, &[]), Ok(18)),
         6 => (
-            reply(alloc, Status::Busy(2), 3, &[])?,
+            reply(rt, alloc, Status::Busy(2), 3, &[]),
             Err(Status::BadRequest),
         ),
-        7 => (reply(alloc, Status::EndOfFile, 3, &[])?, Ok(18)),
+        7 => (reply(rt, alloc, Status::EndOfFile, 3, &[]), Ok(18)),
         8 => (Body::Refused(Status::BadPath), Err(Status::BadRequest)),
-        _ => return Ok(None),
+        9 => (on_handle(FileRequest::Cleanup), Err(Status::BadRequest)),
+        _ => return None,
     };
-    Ok(Some(row))
+    Some(row)
 }
 
 #[test]
-fn frames_without_a_spelling(rt: HostRuntime) -> Result<(), Fail> {
+fn frames_without_a_spelling(rt: HostRuntime) {
     let alloc = rt.alloc();
     for at in 0..9 {
-        if let Some((body, len)) = limit(alloc, at)? {
+        if let Some((body, len)) = limit(&rt, alloc, at) {
             assert_eq!(rt; spelled_len(alloc, body), len, "body {at}");
         }
     }
-    Ok(())
 }
 
 // Feeds a piece, once more where memory is refused. One refusal in a row is met.
@@ -459,7 +455,7 @@ fn encoded(alloc: Global, frame: &Frame) -> Result<Bytes, Status> {
 
 // Says the same whichever one allocation of it is refused.
 #[test]
-fn refused_memory(rt: HostRuntime) -> Result<(), Fail> {
+fn refused_memory(rt: HostRuntime) {
     let alloc = rt.alloc();
     let write = [
         0, 0, 0, 24, 3, 0, 0, 0, 2, 0, 0, 0, 0, 0, 0, 0, 5, 0, 0, 0, 0, 0, 0, 0, 1, 0x61, 0x62,
@@ -468,11 +464,11 @@ fn refused_memory(rt: HostRuntime) -> Result<(), Fail> {
     let mut decoder = Decoder::new(alloc);
     let mut count = 0u32;
     for piece in [&write[..3], &write[3..20], &write[20..], &write] {
-        for frame in &fed(&mut decoder, piece)? {
-            assert_eq!(rt; encoded(alloc, frame)?.as_slice(), write.as_slice());
+        for frame in &fed(&mut decoder, piece).expect(&rt, "frames") {
+            let bytes = encoded(alloc, frame).expect(&rt, "a spelling");
+            assert_eq!(rt; bytes.as_slice(), write.as_slice());
             count = count.saturating_add(1);
         }
     }
     assert_eq!(rt; count, 2);
-    Ok(())
 }

@@ -4,7 +4,6 @@ use fm_script::{ScriptEnd, script};
 use std::alloc::Global;
 use std::io::Write;
 use std::process::Abort;
-use std::test::Fail;
 
 // A script and what it is to print.
 #[derive(Drop)]
@@ -32,19 +31,18 @@ impl Row {
     }
 
     // A script of these lines.
-    fn of(alloc: Global, lines: Lines) -> Result<Row, Fail> {
+    fn of(rt: &impl Abort, alloc: Global, lines: Lines) -> Row {
         let mut row = Row::new(alloc);
-        row.add(lines)?;
-        Ok(row)
+        row.add(rt, lines);
+        row
     }
 
     // Lines behind those that are there.
-    fn add(&mut self, lines: Lines) -> Result<(), Fail> {
+    fn add(&mut self, rt: &impl Abort, lines: Lines) {
         for (input, output) in lines {
-            writeln!(self.input, "{input}")?;
-            writeln!(self.output, "{output}")?;
+            writeln!(self.input, "{input}").expect(rt, "memory");
+            writeln!(self.output, "{output}").expect(rt, "memory");
         }
-        Ok(())
     }
 
     // Runs the script.
@@ -57,12 +55,11 @@ impl Row {
 }
 
 // All handles that there may be, but for the first.
-fn creates(row: &mut Row) -> Result<(), Fail> {
+fn creates(rt: &impl Abort, row: &mut Row) {
     for number in 1..4096u32 {
-        writeln!(row.input, "create v0 f always\ngo w0 o{number}")?;
-        writeln!(row.output, "ok o{number}\nbase 0\nreply 0 {number} -")?;
+        writeln!(row.input, "create v0 f always\ngo w0 o{number}").expect(rt, "memory");
+        writeln!(row.output, "ok o{number}\nbase 0\nreply 0 {number} -").expect(rt, "memory");
     }
-    Ok(())
 }
 
 const ONE_MORE_HANDLE: Lines = &[
@@ -77,12 +74,11 @@ const ONE_MORE_HANDLE: Lines = &[
 ];
 
 #[test]
-fn most_handles(rt: HostRuntime) -> Result<(), Fail> {
-    let mut row = Row::of(rt.alloc(), FILE)?;
-    creates(&mut row)?;
-    row.add(ONE_MORE_HANDLE)?;
+fn most_handles(rt: HostRuntime) {
+    let mut row = Row::of(&rt, rt.alloc(), FILE);
+    creates(&rt, &mut row);
+    row.add(&rt, ONE_MORE_HANDLE);
     row.run(&rt, rt.alloc());
-    Ok(())
 }
 
 const LONG_READ: Lines = &[
@@ -93,21 +89,19 @@ const LONG_READ: Lines = &[
 ];
 
 // The read's way, and its reply.
-fn zeros(row: &mut Row) -> Result<(), Fail> {
-    writeln!(row.input, "go w0 o2")?;
-    write!(row.output, "base 0\nreply 0 32768 ")?;
+fn zeros(rt: &impl Abort, row: &mut Row) {
+    writeln!(row.input, "go w0 o2").expect(rt, "memory");
+    write!(row.output, "base 0\nreply 0 32768 ").expect(rt, "memory");
     for _ in 0..32_768 {
-        write!(row.output, "00")?;
+        write!(row.output, "00").expect(rt, "memory");
     }
-    writeln!(row.output, "")?;
-    Ok(())
+    writeln!(row.output, "").expect(rt, "memory");
 }
 
 #[test]
-fn longest_read(rt: HostRuntime) -> Result<(), Fail> {
-    let mut row = Row::of(rt.alloc(), FILE)?;
-    row.add(LONG_READ)?;
-    zeros(&mut row)?;
+fn longest_read(rt: HostRuntime) {
+    let mut row = Row::of(&rt, rt.alloc(), FILE);
+    row.add(&rt, LONG_READ);
+    zeros(&rt, &mut row);
     row.run(&rt, rt.alloc());
-    Ok(())
 }

@@ -8,7 +8,6 @@ use fm_stack::Phase;
 use fm_types::{ContextKind, InstanceId, OpId, Operation, Status};
 use std::alloc::Global;
 use std::process::Abort;
-use std::test::Fail;
 
 // The events of a short life: each that takes memory is among them, and allocating often enough for the rows to grow.
 const EVENTS: [Event; 16] = [
@@ -51,40 +50,33 @@ fn stages(state: &State) -> (Option<Phase>, Option<bool>, Count) {
     )
 }
 
-fn opened(alloc: Global) -> Result<State, Status> {
+fn opened(rt: &impl Abort, alloc: Global) -> State {
     match State::new(alloc) {
-        Ok(state) => Ok(state),
-        Err(_) => State::new(alloc),
+        Ok(state) => state,
+        Err(_) => State::new(alloc).expect(rt, "a state"),
     }
 }
 
 // What the event is told.
-fn ask(alloc: Global, state: &mut State, event: Event) -> Result<Told, Status> {
-    let step = step_of(alloc, event)?;
-    Ok(told_by(&state.step(step)))
+fn ask(rt: &impl Abort, alloc: Global, state: &mut State, event: Event) -> Told {
+    let step = step_of(alloc, event).expect(rt, "a step");
+    told_by(&state.step(step))
 }
 
 // An event that is refused memory changes nothing that can be seen, and succeeds when it is asked again.
-fn ask_twice(
-    rt: &impl Abort,
-    alloc: Global,
-    state: &mut State,
-    event: Event,
-) -> Result<(), Status> {
+fn ask_twice(rt: &impl Abort, alloc: Global, state: &mut State, event: Event) {
     let want = Told::Refused(Status::NoMemory);
     let before = (numbers(state), stages(state));
-    if ask(alloc, state, event)? == want {
+    if ask(rt, alloc, state, event) == want {
         assert_eq!(rt; (numbers(state), stages(state)), before);
-        assert_ne!(rt; ask(alloc, state, event)?, want);
+        assert_ne!(rt; ask(rt, alloc, state, event), want);
     }
-    Ok(())
 }
 
-fn ask_all(rt: &impl Abort, alloc: Global, state: &mut State) -> Result<(), Status> {
+fn ask_all(rt: &impl Abort, alloc: Global, state: &mut State) {
     for event in EVENTS {
-        ask_twice(rt, alloc, state, event)?;
+        ask_twice(rt, alloc, state, event);
     }
-    Ok(())
 }
 
 // What can be read at the end.
@@ -96,9 +88,8 @@ fn compare(rt: &impl Abort, state: &State) {
 
 // For `rt try --test --fail-alloc N`: whichever allocation is refused, once, the end is the same.
 #[test]
-fn each_refusal_of_memory(rt: HostRuntime) -> Result<(), Fail> {
-    let mut state = opened(rt.alloc())?;
-    ask_all(&rt, rt.alloc(), &mut state)?;
+fn each_refusal_of_memory(rt: HostRuntime) {
+    let mut state = opened(&rt, rt.alloc());
+    ask_all(&rt, rt.alloc(), &mut state);
     compare(&rt, &state);
-    Ok(())
 }

@@ -3,15 +3,17 @@
 
 use fm_altitude::Altitude;
 use fm_base::{Base, MemoryBase};
-use fm_core::{Action, Begin, FileRequest, State};
-use fm_data::{Answer, BaseCall, CallbackData, Completion, Params, PostVerdict, PreVerdict};
+use fm_core::{Action, State};
+use fm_data::{
+    Answer, BaseCall, CallbackData, Completion, FileRequest, Params, PostVerdict, PreVerdict,
+    Request,
+};
 use fm_types::{
     Bytes, ContextMask, CreateMode, FilterId, HandleId, InstanceId, Name, OpId, OpMask, Operation,
     Registration, RelPath, Status, VolumeId, WorkerId,
 };
-use std::alloc::{AllocError, Global};
+use std::alloc::Global;
 use std::process::Abort;
-use std::test::Fail;
 
 const WORKER: WorkerId = WorkerId(0);
 
@@ -77,7 +79,7 @@ struct Seen {
     bytes: Vec<u8>,
 }
 
-fn look(alloc: Global, params: &Params) -> Result<Seen, Status> {
+fn look(rt: &impl Abort, alloc: Global, params: &Params) -> Seen {
     let operation = params.operation();
     let (offset, len) = match params {
         Params::Read { offset, len } => (*offset, u64::from(*len)),
@@ -86,113 +88,115 @@ fn look(alloc: Global, params: &Params) -> Result<Seen, Status> {
         _ => (0, 0),
     };
     let bytes = match params {
-        Params::Write { bytes, .. } => bytes.as_slice().to_vec(alloc)?,
+        Params::Write { bytes, .. } => bytes.as_slice().to_vec(alloc).expect(rt, "memory"),
         _ => Vec::new(alloc),
     };
-    Ok(Seen {
+    Seen {
         operation,
         offset,
         len,
         bytes,
-    })
+    }
 }
 
 // On the way down an instance changes the bytes of a write.
-fn hide(alloc: Global, data: &mut CallbackData, instance: InstanceId) -> Result<(), Status> {
+fn hide(rt: &impl Abort, alloc: Global, data: &mut CallbackData, instance: InstanceId) {
     let Params::Write { offset, bytes } = data.params() else {
-        return Ok(());
+        return;
     };
     let offset = *offset;
     let mut changed = Vec::new(alloc);
     for byte in bytes.as_slice() {
-        changed.push(hidden(*byte, instance))?;
+        changed.push(hidden(*byte, instance)).expect(rt, "memory");
     }
     data.change(Params::Write {
         offset,
         bytes: Bytes::from_vec(changed),
     })
+    .expect(rt, "a change");
 }
 
 // On the way up an instance changes the bytes of a read back.
-fn show(data: &mut CallbackData, instance: InstanceId) -> Result<(), Status> {
+fn show(rt: &impl Abort, data: &mut CallbackData, instance: InstanceId) {
     for place in 0..data.out_bytes().len() {
-        let Some(byte) = data.out_bytes().get(place).copied() else {
-            return Err(Status::BadRequest);
-        };
-        data.map_out(place, shown(byte, instance))?;
+        let byte = data.out_bytes().get(place).copied().expect(rt, "a byte");
+        data.map_out(place, shown(byte, instance))
+            .expect(rt, "a change");
     }
-    Ok(())
 }
 
 // On the way up an instance changes the parameters of a read too, which no other instance is to see.
-fn disturb(data: &mut CallbackData) -> Result<(), Status> {
+fn disturb(rt: &impl Abort, data: &mut CallbackData) {
     let Params::Read { offset, .. } = data.params() else {
-        return Ok(());
+        return;
     };
     let offset = *offset;
     data.change(Params::Read { offset, len: 0 })
+        .expect(rt, "a change");
 }
 
 // The device's answer to a call.
 fn call_base(
+    rt: &impl Abort,
     alloc: Global,
     base: &mut MemoryBase,
     path: &RelPath,
     call: &Params,
-) -> Result<Answer, Status> {
-    if !call.is_within_limits() {
-        return Err(Status::BadRequest);
-    }
+) -> Answer {
+    assert!(rt; call.is_within_limits());
     let mut information = 0;
     let mut out = Bytes::new(alloc);
     match call {
-        Params::Create { mode, .. } => base.create(path, *mode)?,
-        Params::Read { offset, len } => out = base.read(path, *offset, *len)?,
-        Params::Write { offset, bytes } => base.write(path, *offset, bytes.as_slice())?,
-        Params::QuerySize => information = base.size(path)?,
-        Params::SetSize { size } => base.set_size(path, *size)?,
-        Params::Flush => base.flush(path)?,
-        _ => return Err(Status::BadRequest),
+        Params::Create { mode, .. } => base.create(path, *mode).expect(rt, "a create"),
+        Params::Read { offset, len } => out = base.read(path, *offset, *len).expect(rt, "a read"),
+        Params::Write { offset, bytes } => base
+            .write(path, *offset, bytes.as_slice())
+            .expect(rt, "a write"),
+        Params::QuerySize => information = base.size(path).expect(rt, "a size"),
+        Params::SetSize { size } => base.set_size(path, *size).expect(rt, "a new size"),
+        Params::Flush => base.flush(path).expect(rt, "a flush"),
+        _ => panic!(rt; "the base is called for nothing else here"),
     }
-    Ok(Answer {
+    Answer {
         status: Status::Success,
         information,
         bytes: out,
-    })
+    }
 }
 
 // The bytes of the write of that step: three or more, no two neighbours of which are alike.
-fn bytes_for(alloc: Global, step: u8) -> Result<Bytes, AllocError> {
+fn bytes_for(rt: &impl Abort, alloc: Global, step: u8) -> Bytes {
     let mut bytes = Vec::new(alloc);
     for at in 0..3 + u32::from(step) * 29 % 500 {
         let byte = (at % 251) as u8;
-        bytes.push(byte.wrapping_mul(7).wrapping_add(step))?;
+        bytes
+            .push(byte.wrapping_mul(7).wrapping_add(step))
+            .expect(rt, "memory");
     }
-    Ok(Bytes::from_vec(bytes))
+    Bytes::from_vec(bytes)
 }
 
 // So many bytes, the neighbours of which differ.
-fn long_bytes(alloc: Global, len: u32) -> Result<Bytes, AllocError> {
+fn long_bytes(rt: &impl Abort, alloc: Global, len: u32) -> Bytes {
     let mut bytes = Vec::new(alloc);
     for at in 0..len {
-        bytes.push((at % 251) as u8)?;
+        bytes.push((at % 251) as u8).expect(rt, "memory");
     }
-    Ok(Bytes::from_vec(bytes))
+    Bytes::from_vec(bytes)
 }
 
 // Notes what the client wrote: over what was there, and on behind its end.
-fn note(written: &mut Vec<u8>, offset: usize, bytes: &[u8]) -> Result<(), AllocError> {
+fn note(rt: &impl Abort, written: &mut Vec<u8>, offset: usize, bytes: &[u8]) {
     for (at, byte) in bytes.iter().enumerate() {
         match written.get_mut(offset.saturating_add(at)) {
             Some(place) => *place = *byte,
-            None => written.push(*byte)?,
+            None => written.push(*byte).expect(rt, "memory"),
         }
     }
-    Ok(())
 }
 
 // A filter that is called for all operations, and a volume.
-fn open(state: &mut State) -> Result<FilterId, Status> {
+fn open(rt: &impl Abort, state: &mut State) -> FilterId {
     let registration = Registration {
         pre: OpMask::ALL,
         post: OpMask::ALL,
@@ -200,24 +204,27 @@ fn open(state: &mut State) -> Result<FilterId, Status> {
         query: false,
         unload: false,
     };
-    state.mount(Name::read(b"v")?)?;
-    state.register(Name::read(b"f")?, registration)
+    let volume = Name::read(b"v").expect(rt, "a name");
+    let filter = Name::read(b"f").expect(rt, "a name");
+    state.mount(volume).expect(rt, "a volume");
+    state.register(filter, registration).expect(rt, "a filter")
 }
 
-fn attach(state: &mut State, filter: FilterId, name: &[u8], altitude: &[u8]) -> Result<(), Status> {
-    let name = Name::read(name)?;
-    let altitude = Altitude::read(altitude)?;
-    state.attach(WORKER, filter, VOLUME, name, altitude)?;
-    state.setup_done(WORKER, true)
+fn attach(rt: &impl Abort, state: &mut State, filter: FilterId, name: &[u8], altitude: &[u8]) {
+    let name = Name::read(name).expect(rt, "a name");
+    let altitude = Altitude::read(altitude).expect(rt, "an altitude");
+    state
+        .attach(WORKER, filter, VOLUME, name, altitude)
+        .expect(rt, "an instance");
+    state.setup_done(WORKER, true).expect(rt, "its setup");
 }
 
 // The filter's instances on the volume.
-fn set_up(state: &mut State) -> Result<(), Status> {
-    let filter = open(state)?;
+fn set_up(rt: &impl Abort, state: &mut State) {
+    let filter = open(rt, state);
     for (name, altitude) in INSTANCES {
-        attach(state, filter, name, altitude)?;
+        attach(rt, state, filter, name, altitude);
     }
-    Ok(())
 }
 
 // A manager with its device, what each callback of the operation under way has seen, and what the client wrote.
@@ -232,48 +239,43 @@ struct Run {
 }
 
 impl Run {
-    fn new(alloc: Global) -> Result<Run, Status> {
-        let mut state = State::new(alloc)?;
-        set_up(&mut state)?;
-        Ok(Run {
+    fn new(rt: &impl Abort, alloc: Global) -> Run {
+        let mut state = State::new(alloc).expect(rt, "a state");
+        set_up(rt, &mut state);
+        Run {
             alloc,
             state,
             base: MemoryBase::new(alloc),
             way: Vec::new(alloc),
             seen: Vec::new(alloc),
             written: Vec::new(alloc),
-        })
+        }
     }
 
     // A preoperation notes what it sees, and asks for its postoperation with a number that no other has.
     fn pre(
         &mut self,
+        rt: &impl Abort,
         operation: OpId,
         instance: InstanceId,
         mut data: CallbackData,
-    ) -> Result<(), Status> {
-        let seen = look(self.alloc, data.params())?;
-        self.way.push(instance.0)?;
-        self.seen.push((instance, seen))?;
-        hide(self.alloc, &mut data, instance)?;
+    ) {
+        let seen = look(rt, self.alloc, data.params());
+        self.way.push(instance.0).expect(rt, "memory");
+        self.seen.push((instance, seen)).expect(rt, "memory");
+        hide(rt, self.alloc, &mut data, instance);
         let verdict = PreVerdict::WithCallback(completion_of(operation, instance));
-        match self.state.pre_returned(WORKER, verdict, data) {
-            Ok(()) => Ok(()),
-            Err(refused) => Err(refused.status),
-        }
+        let taken = self.state.pre_returned(WORKER, verdict, data);
+        assert!(rt; taken.is_ok());
     }
 
     // The device makes the call.
-    fn base(&mut self, call: BaseCall) -> Result<(), Status> {
-        let Some(path) = &call.path else {
-            return Err(Status::NoObject);
-        };
-        let answer = call_base(self.alloc, &mut self.base, path.path(), &call.params)?;
-        self.way.push(DEVICE)?;
-        match self.state.base_returned(WORKER, call, answer) {
-            Ok(()) => Ok(()),
-            Err(refused) => Err(refused.status),
-        }
+    fn base(&mut self, rt: &impl Abort, call: BaseCall) {
+        let path = call.path.as_ref().expect(rt, "a path").path();
+        let answer = call_base(rt, self.alloc, &mut self.base, path, &call.params);
+        self.way.push(DEVICE).expect(rt, "memory");
+        let taken = self.state.base_returned(WORKER, call, answer);
+        assert!(rt; taken.is_ok());
     }
 
     // A postoperation sees the parameters that its own preoperation received, and not those that it put in their place.
@@ -284,8 +286,8 @@ impl Run {
         instance: InstanceId,
         mut data: CallbackData,
         completion: Completion,
-    ) -> Result<(), Status> {
-        let seen = look(self.alloc, data.params())?;
+    ) {
+        let seen = look(rt, self.alloc, data.params());
         assert_eq!(rt;
             self.seen.pop(),
             Some((instance, seen)),
@@ -294,30 +296,27 @@ impl Run {
         );
         assert_eq!(rt; completion, completion_of(operation, instance));
         assert!(rt; !data.is_dirty());
-        self.way.push(instance.0)?;
-        show(&mut data, instance)?;
-        disturb(&mut data)?;
-        match self
+        self.way.push(instance.0).expect(rt, "memory");
+        show(rt, &mut data, instance);
+        disturb(rt, &mut data);
+        let taken = self
             .state
-            .post_returned(WORKER, PostVerdict::Finished, Some(data))
-        {
-            Ok(()) => Ok(()),
-            Err(refused) => Err(refused.status),
-        }
+            .post_returned(WORKER, PostVerdict::Finished, Some(data));
+        assert!(rt; taken.is_ok());
     }
 
     // Takes an operation to its end.
-    fn run(&mut self, rt: &impl Abort, what: Begin) -> Result<Answer, Status> {
-        let operation = self.state.begin(what)?;
+    fn run(&mut self, rt: &impl Abort, what: Request) -> Answer {
+        let operation = self.state.begin(what).expect(rt, "an operation");
         self.way.clear();
         for _ in 0..WAY.len() {
-            match self.state.next(WORKER, operation)? {
-                Action::Pre(instance, data) => self.pre(operation, instance, data)?,
-                Action::Base(call) => self.base(call)?,
+            match self.state.next(WORKER, operation).expect(rt, "an action") {
+                Action::Pre(instance, data) => self.pre(rt, operation, instance, data),
+                Action::Base(call) => self.base(rt, call),
                 Action::Post(instance, data, completion) => self.post(
                     rt, operation, instance, data, completion,
-                )?,
-                _ => return Err(Status::WrongStep),
+                ),
+                _ => panic!(rt; "operation {} is called for nothing else", operation.0),
             }
         }
         assert_eq!(rt;
@@ -327,46 +326,45 @@ impl Run {
             operation.0
         );
         assert!(rt; matches!(self.state.next(WORKER, operation), Ok(Action::Done)));
-        let answer = self.state.collect(operation)?;
+        let answer = self.state.collect(operation).expect(rt, "an answer");
         assert_eq!(rt; answer.status, Status::Success, "operation {}", operation.0);
-        Ok(answer)
+        answer
     }
 
     // Opens the file.
-    fn create(&mut self, rt: &impl Abort) -> Result<Answer, Status> {
+    fn create(&mut self, rt: &impl Abort) -> Answer {
         self.run(
             rt,
-            Begin::Create {
+            Request::Create {
                 volume: VOLUME,
-                path: RelPath::read(PATH)?,
+                path: RelPath::read(PATH).expect(rt, "a path"),
                 mode: CreateMode::New,
             },
         )
     }
 
     // Runs an operation on the file's only handle.
-    fn ask(&mut self, rt: &impl Abort, request: FileRequest) -> Result<Answer, Status> {
+    fn ask(&mut self, rt: &impl Abort, request: FileRequest) -> Answer {
         self.run(
             rt,
-            Begin::OnHandle {
+            Request::OnHandle {
                 handle: HandleId(0),
                 request,
             },
         )
     }
 
-    fn write(&mut self, rt: &impl Abort, step: u8, offset: usize) -> Result<(), Status> {
-        let bytes = bytes_for(self.alloc, step)?;
+    fn write(&mut self, rt: &impl Abort, step: u8, offset: usize) {
+        let bytes = bytes_for(rt, self.alloc, step);
         let len = bytes.len() as u64;
-        note(&mut self.written, offset, bytes.as_slice())?;
+        note(rt, &mut self.written, offset, bytes.as_slice());
         let offset = offset as u64;
-        let answer = self.ask(rt, FileRequest::Write { offset, bytes })?;
+        let answer = self.ask(rt, FileRequest::Write { offset, bytes });
         assert_eq!(rt; answer.information, len, "step {step}");
-        Ok(())
     }
 
     // What is read is what the client wrote.
-    fn read(&mut self, rt: &impl Abort, step: u8, offset: usize) -> Result<(), Status> {
+    fn read(&mut self, rt: &impl Abort, step: u8, offset: usize) {
         let len = 1 + u32::from(step) * 3;
         let answer = self.ask(
             rt,
@@ -374,33 +372,30 @@ impl Run {
                 offset: offset as u64,
                 len,
             },
-        )?;
+        );
         let end = offset.saturating_add(len as usize).min(self.written.len());
         let bytes = answer.bytes.as_slice();
         assert_eq!(rt; Some(bytes), self.written.get(offset..end), "step {step}");
         assert_eq!(rt; answer.information, bytes.len() as u64, "step {step}");
-        Ok(())
     }
 
-    fn query_size(&mut self, rt: &impl Abort, step: u8) -> Result<(), Status> {
-        let answer = self.ask(rt, FileRequest::QuerySize)?;
+    fn query_size(&mut self, rt: &impl Abort, step: u8) {
+        let answer = self.ask(rt, FileRequest::QuerySize);
         assert_eq!(rt;
             answer.information,
             self.written.len() as u64,
             "step {step}"
         );
-        Ok(())
     }
 
     // Cuts off a few bytes.
-    fn cut(&mut self, rt: &impl Abort, step: u8) -> Result<(), Status> {
+    fn cut(&mut self, rt: &impl Abort, step: u8) {
         let len = self.written.len().saturating_sub(usize::from(step) % 40);
         self.written.truncate(len);
-        self.ask(rt, FileRequest::SetSize { size: len as u64 })?;
-        Ok(())
+        self.ask(rt, FileRequest::SetSize { size: len as u64 });
     }
 
-    fn step(&mut self, rt: &impl Abort, step: u8) -> Result<(), Status> {
+    fn step(&mut self, rt: &impl Abort, step: u8) {
         let end = self.written.len();
         let middle = usize::from(step) * 37 % end.max(1);
         match step % 8 {
@@ -410,68 +405,66 @@ impl Run {
             4 => self.query_size(rt, step),
             7 => self.cut(rt, step),
             _ => {
-                self.ask(rt, FileRequest::Flush)?;
-                Ok(())
+                self.ask(rt, FileRequest::Flush);
             }
         }
     }
 
     // What lies in the file is what eight instances make of what the client wrote.
-    fn compare(&mut self, rt: &impl Abort) -> Result<(), Status> {
-        let path = RelPath::read(PATH)?;
+    fn compare(&mut self, rt: &impl Abort) {
+        let path = RelPath::read(PATH).expect(rt, "a path");
         let mut expected = Vec::new(self.alloc);
         for byte in &self.written {
-            expected.push(stored(*byte))?;
+            expected.push(stored(*byte)).expect(rt, "memory");
         }
-        let bytes = self.base.read(&path, 0, 32_768)?;
+        let bytes = self.base.read(&path, 0, 32_768).expect(rt, "a read");
         assert_eq!(rt; bytes.as_slice(), expected.as_slice());
-        assert_eq!(rt; self.base.size(&path)?, expected.len() as u64);
-        Ok(())
+        let size = self.base.size(&path).expect(rt, "a size");
+        assert_eq!(rt; size, expected.len() as u64);
     }
 
     // A create, and all operations behind it.
-    fn all(&mut self, rt: &impl Abort) -> Result<(), Status> {
-        let opened = self.create(rt)?;
+    fn all(&mut self, rt: &impl Abort) {
+        let opened = self.create(rt);
         assert_eq!(rt; opened.information, 0);
         for step in 1..OPERATIONS {
-            self.step(rt, step)?;
+            self.step(rt, step);
         }
-        self.compare(rt)
+        self.compare(rt);
     }
 
     // A create, the longest write, and a read of all of it.
-    fn longest(&mut self, rt: &impl Abort) -> Result<(), Status> {
-        self.create(rt)?;
-        let bytes = long_bytes(self.alloc, 32_768)?;
-        note(&mut self.written, 0, bytes.as_slice())?;
-        let written = self.ask(rt, FileRequest::Write { offset: 0, bytes })?;
+    fn longest(&mut self, rt: &impl Abort) {
+        self.create(rt);
+        let bytes = long_bytes(rt, self.alloc, 32_768);
+        note(rt, &mut self.written, 0, bytes.as_slice());
+        let written = self.ask(rt, FileRequest::Write { offset: 0, bytes });
         assert_eq!(rt; written.information, 32_768);
         let len = 32_768;
-        let read = self.ask(rt, FileRequest::Read { offset: 0, len })?;
+        let read = self.ask(rt, FileRequest::Read { offset: 0, len });
         assert_eq!(rt; read.bytes.as_slice(), self.written.as_slice());
-        self.compare(rt)
+        self.compare(rt);
     }
 
     // A write of one byte more.
-    fn too_long(&mut self, rt: &impl Abort) -> Result<(), Status> {
-        let bytes = long_bytes(self.alloc, 32_769)?;
-        let refused = self.ask(rt, FileRequest::Write { offset: 0, bytes }).err();
-        assert_eq!(rt; refused, Some(Status::BadRequest));
-        Ok(())
+    fn too_long(&mut self, rt: &impl Abort) {
+        let bytes = long_bytes(rt, self.alloc, 32_769);
+        let refused = self.state.begin(Request::OnHandle {
+            handle: HandleId(0),
+            request: FileRequest::Write { offset: 0, bytes },
+        });
+        assert_eq!(rt; refused.err(), Some(Status::BadRequest));
     }
 }
 
 #[test]
-fn two_hundred_operations(rt: HostRuntime) -> Result<(), Fail> {
-    let mut run = Run::new(rt.alloc())?;
-    run.all(&rt)?;
-    Ok(())
+fn two_hundred_operations(rt: HostRuntime) {
+    Run::new(&rt, rt.alloc()).all(&rt);
 }
 
 #[test]
-fn longest_write(rt: HostRuntime) -> Result<(), Fail> {
-    let mut run = Run::new(rt.alloc())?;
-    run.longest(&rt)?;
-    run.too_long(&rt)?;
-    Ok(())
+fn longest_write(rt: HostRuntime) {
+    let mut run = Run::new(&rt, rt.alloc());
+    run.longest(&rt);
+    run.too_long(&rt);
 }

@@ -1,16 +1,15 @@
 //! The queue's rows, and four threads at one queue.
 
-ghost use Rattle.std.specs.Prelude.{◌≡◌, ◌+◌, All, IfOk, IfSome, IfNone, sum_by};
+ghost use Rattle.std.specs.Prelude.{◌≡◌, ◌+◌, All, IfSome, IfNone, sum_by};
 ghost use Rattle.fm_queue.specs.Passes.{parts_of, IsPassOf};
 
 use fm_queue::laws::jobs_are_kept;
 use fm_queue::{Job, JobPass, JobQueue};
 use fm_types::{OpId, Status};
-use std::alloc::{AllocError, Global};
+use std::alloc::Global;
 use std::ops::Range;
 use std::process::Abort;
 use std::sync::Wait;
-use std::test::Fail;
 use std::thread;
 use std::thread::Threads;
 
@@ -31,8 +30,8 @@ fn next_pass(queue: &JobQueue, passes: &mut Vec<JobPass>) -> Option<JobPass>
 }
 
 #[test]
-fn queue_of_two(rt: HostRuntime) -> Result<(), Fail> {
-    let (queue, mut passes) = JobQueue::new(rt.alloc(), 2, 1)?;
+fn queue_of_two(rt: HostRuntime) {
+    let (queue, mut passes) = JobQueue::new(rt.alloc(), 2, 1).expect(&rt, "a queue");
     let mut pass = next_pass(&queue, &mut passes).expect(&rt, "a pass");
     assert_eq!(rt; queue.put(&rt, &mut pass, run(0)), Ok(()));
     assert_eq!(rt; queue.put(&rt, &mut pass, run(1)), Ok(()));
@@ -46,7 +45,6 @@ fn queue_of_two(rt: HostRuntime) -> Result<(), Fail> {
     assert_eq!(rt; queue.take(&rt, &mut pass), Job::Stop);
     assert!(rt; next_pass(&queue, &mut passes).is_none());
     jobs_are_kept(&queue, &mut pass);
-    Ok(())
 }
 
 #[test]
@@ -91,21 +89,16 @@ fn put_all<R: Wait>(rt: &R, queue: &JobQueue, mut pass: JobPass, numbers: Range<
 }
 
 // Takes jobs until Stop, and gives the operations in the order in which they came.
-fn take_all<R: Wait>(
-    rt: &R,
-    alloc: Global,
-    queue: &JobQueue,
-    mut pass: JobPass,
-) -> Result<Taken, AllocError>
+fn take_all<R: Abort + Wait>(rt: &R, alloc: Global, queue: &JobQueue, mut pass: JobPass) -> Taken
     requires { IsPassOf queue.now pass }
-    ensures own { IfOk result (λ taken. IsPassOf queue.now taken.pass) }
-    ensures parts { IfOk result (λ taken. parts_of taken.pass ≡ parts_of pass) }
+    ensures own { IsPassOf queue.now result.pass }
+    ensures parts { parts_of result.pass ≡ parts_of pass }
 {
     let mut numbers = Vec::new(alloc);
     for _ in rt.forever() {
         match queue.take(rt, &mut pass) {
-            Job::Run(operation) => numbers.push(operation.0)?,
-            Job::Stop => return Ok(Taken { pass, numbers }),
+            Job::Run(operation) => numbers.push(operation.0).expect(rt, "memory"),
+            Job::Stop => return Taken { pass, numbers },
         }
     }
     unreachable!()
@@ -145,47 +138,39 @@ fn put_both<R: Threads + Wait + Sync>(
 }
 
 // Two threads that take until Stop.
-fn take_both<R: Threads + Wait + Sync>(
+fn take_both<R: Abort + Threads + Wait + Sync>(
     rt: &R,
     alloc: Global,
     queue: &JobQueue,
     one: JobPass,
     other: JobPass,
-) -> Result<(Taken, Taken), AllocError>
+) -> (Taken, Taken)
     requires { IsPassOf queue.now one × IsPassOf queue.now other }
-    ensures own { IfOk result (λ both. IsPassOf queue.now both.0.pass × IsPassOf queue.now both.1.pass) }
-    ensures parts { IfOk result (λ both. parts_of both.0.pass + parts_of both.1.pass ≡ parts_of one + parts_of other) }
+    ensures own { IsPassOf queue.now result.0.pass × IsPassOf queue.now result.1.pass }
+    ensures parts { parts_of result.0.pass + parts_of result.1.pass ≡ parts_of one + parts_of other }
 {
-    let (one, other) = thread::join(
+    thread::join(
         rt,
         move ||
             requires { IsPassOf queue.now one }
-            ensures { IfOk result (λ taken. IsPassOf queue.entry.now taken.pass × (parts_of taken.pass ≡ parts_of one)) }
+            ensures { IsPassOf queue.entry.now result.pass × (parts_of result.pass ≡ parts_of one) }
         { take_all(rt, alloc, queue, one) },
         move ||
             requires { IsPassOf queue.now other }
-            ensures { IfOk result (λ taken. IsPassOf queue.entry.now taken.pass × (parts_of taken.pass ≡ parts_of other)) }
+            ensures { IsPassOf queue.entry.now result.pass × (parts_of result.pass ≡ parts_of other) }
         { take_all(rt, alloc, queue, other) },
-    );
-    Ok((one?, other?))
+    )
 }
 
 // Two threads put and two take. Gives what each took.
-fn exchange<R: Threads + Wait + Sync>(
-    rt: &R,
-    alloc: Global,
-) -> Result<(Vec<u64>, Vec<u64>), Status> {
-    let (queue, mut passes) = JobQueue::new(alloc, 64, 4)?;
+fn exchange<R: Abort + Threads + Wait + Sync>(rt: &R, alloc: Global) -> (Vec<u64>, Vec<u64>) {
+    let (queue, mut passes) = JobQueue::new(alloc, 64, 4).expect(rt, "a queue");
     let queue = &queue;
-    let (Some(a), Some(b), Some(c), Some(d)) = (
-        next_pass(queue, &mut passes),
-        next_pass(queue, &mut passes),
-        next_pass(queue, &mut passes),
-        next_pass(queue, &mut passes),
-    ) else {
-        return Err(Status::TooMany);
-    };
-    let (mut whole, taken) = thread::join(
+    let a = next_pass(queue, &mut passes).expect(rt, "four passes");
+    let b = next_pass(queue, &mut passes).expect(rt, "four passes");
+    let c = next_pass(queue, &mut passes).expect(rt, "four passes");
+    let d = next_pass(queue, &mut passes).expect(rt, "four passes");
+    let (mut whole, (one, other)) = thread::join(
         rt,
         move ||
             requires { IsPassOf queue.now a × IsPassOf queue.now b }
@@ -193,35 +178,32 @@ fn exchange<R: Threads + Wait + Sync>(
         { put_both(rt, queue, a, b) },
         move ||
             requires { IsPassOf queue.now c × IsPassOf queue.now d }
-            ensures { IfOk result (λ both. IsPassOf queue.entry.now both.0.pass × IsPassOf queue.entry.now both.1.pass) × IfOk result (λ both. parts_of both.0.pass + parts_of both.1.pass ≡ parts_of c + parts_of d) }
+            ensures { IsPassOf queue.entry.now result.0.pass × IsPassOf queue.entry.now result.1.pass × (parts_of result.0.pass + parts_of result.1.pass ≡ parts_of c + parts_of d) }
         { take_both(rt, alloc, queue, c, d) },
     );
-    let (one, other) = taken?;
     queue.absorb(&mut whole, one.pass);
     queue.absorb(&mut whole, other.pass);
-    if next_pass(queue, &mut passes).is_some() {
-        return Err(Status::TooMany);
-    }
+    assert!(rt; next_pass(queue, &mut passes).is_none());
     jobs_are_kept(queue, &mut whole);
-    Ok((one.numbers, other.numbers))
+    (one.numbers, other.numbers)
 }
 
 // How often each operation below 15,000 was taken.
-fn times(alloc: Global, taken: &[u64], more: &[u64]) -> Result<Vec<u32>, AllocError> {
-    let mut times = Vec::from_elem(alloc, 0u32, 15_000)?;
+fn times(rt: &impl Abort, alloc: Global, taken: &[u64], more: &[u64]) -> Vec<u32> {
+    let mut times = Vec::from_elem(alloc, 0u32, 15_000).expect(rt, "memory");
     for number in taken.iter().chain(more) {
         if let Some(count) = times.get_mut(*number as usize) {
             *count = count.saturating_add(1);
         }
     }
-    Ok(times)
+    times
 }
 
 #[test]
-fn four_threads(rt: HostRuntime) -> Result<(), Fail> {
-    let (taken, more) = exchange(&rt, rt.alloc())?;
+fn four_threads(rt: HostRuntime) {
+    let (taken, more) = exchange(&rt, rt.alloc());
     assert_eq!(rt; taken.len() + more.len(), 20_000);
-    let times = times(rt.alloc(), &taken, &more)?;
+    let times = times(&rt, rt.alloc(), &taken, &more);
     for (number, count) in times.iter().enumerate() {
         let wanted = if (5_000..10_000).contains(&number) {
             2
@@ -230,5 +212,4 @@ fn four_threads(rt: HostRuntime) -> Result<(), Fail> {
         };
         assert_eq!(rt; *count, wanted, "of operation {number}");
     }
-    Ok(())
 }

@@ -10,7 +10,6 @@ use fm_types::{ContextKind, FilterId, OpId, Operation, Status, WorkerId};
 use fm_world::{Step, StepReply};
 use std::alloc::Global;
 use std::process::Abort;
-use std::test::Fail;
 
 // An event, and what it is told.
 type Row = (Event, Told);
@@ -229,20 +228,21 @@ const LISTS: [List; 4] = [
 ];
 
 // The rows of a list in parts.
-fn rows_of(alloc: Global, parts: &[&[Row]]) -> Result<Vec<Row>, Status> {
+fn rows_of(rt: &impl Abort, alloc: Global, parts: &[&[Row]]) -> Vec<Row> {
     let mut rows = Vec::new(alloc);
     for part in parts {
-        rows.extend_from_slice(part)?;
+        rows.extend_from_slice(part).expect(rt, "memory");
     }
-    Ok(rows)
+    rows
 }
 
-fn steps_of(alloc: Global, rows: &[Row]) -> Result<Vec<Step>, Status> {
+fn steps_of(rt: &impl Abort, alloc: Global, rows: &[Row]) -> Vec<Step> {
     let mut steps = Vec::new(alloc);
     for (event, _) in rows {
-        steps.push(step_of(alloc, *event)?)?;
+        let step = step_of(alloc, *event).expect(rt, "a step");
+        steps.push(step).expect(rt, "memory");
     }
-    Ok(steps)
+    steps
 }
 
 // What each event was told.
@@ -263,20 +263,18 @@ fn end_of(state: &State) -> (usize, u64, u64, Count) {
 }
 
 // Runs a list.
-fn check(rt: &impl Abort, alloc: Global, list: List) -> Result<(), Status> {
+fn check(rt: &impl Abort, alloc: Global, list: List) {
     let (name, parts, end) = list;
-    let rows = rows_of(alloc, parts)?;
-    let steps = steps_of(alloc, &rows)?;
-    let (state, replies) = run(alloc, steps)?;
+    let rows = rows_of(rt, alloc, parts);
+    let steps = steps_of(rt, alloc, &rows);
+    let (state, replies) = run(alloc, steps).expect(rt, "a run");
     compare(rt, name, &rows, &replies);
     assert_eq!(rt; end_of(&state), end, "{name}");
-    Ok(())
 }
 
 #[test]
-fn lists(rt: HostRuntime) -> Result<(), Fail> {
+fn lists(rt: HostRuntime) {
     for list in LISTS {
-        check(&rt, rt.alloc(), list)?;
+        check(&rt, rt.alloc(), list);
     }
-    Ok(())
 }

@@ -8,7 +8,6 @@ use fm_types::{Status, VolumeId};
 use std::process::Abort;
 use std::sync::Wait;
 use std::sync::atomic::{AtomicU64, Ordering};
-use std::test::Fail;
 use std::thread;
 use std::thread::Threads;
 
@@ -25,19 +24,18 @@ fn next_seat(gate: &RundownGate, seats: &mut Vec<GateSeat>) -> Option<GateSeat>
 }
 
 // A seat goes back to the list.
-fn put_back(gate: &RundownGate, seats: &mut Vec<GateSeat>, seat: GateSeat) -> Result<(), Status>
+fn put_back(rt: &impl Abort, gate: &RundownGate, seats: &mut Vec<GateSeat>, seat: GateSeat)
     requires all { All (λ seat. IsSeatOf gate.now seat) seats.old.items }
     requires own { IsSeatOf gate.now seat }
     ensures { All (λ seat. IsSeatOf gate.now seat) seats.new.items }
 {
     let _ = gate;
-    seats.push(seat)?;
-    Ok(())
+    seats.push(seat).expect(rt, "memory");
 }
 
 #[test]
-fn gate_steps(rt: HostRuntime) -> Result<(), Fail> {
-    let (gate, mut seats) = RundownGate::new(rt.alloc(), 1, 2)?;
+fn gate_steps(rt: HostRuntime) {
+    let (gate, mut seats) = RundownGate::new(rt.alloc(), 1, 2).expect(&rt, "a gate");
     let mut second = next_seat(&gate, &mut seats).expect(&rt, "two seats");
     let mut first = next_seat(&gate, &mut seats).expect(&rt, "two seats");
     assert_eq!(rt; gate.look(&mut first, VOLUME), Ok(Look::Open));
@@ -48,14 +46,13 @@ fn gate_steps(rt: HostRuntime) -> Result<(), Fail> {
     assert_eq!(rt; gate.leave(&mut first, VOLUME), Ok(()));
     assert_eq!(rt; gate.look(&mut first, VOLUME), Ok(Look::Drained));
     assert_eq!(rt; gate.leave(&mut first, VOLUME), Err(Status::NotHeld));
-    put_back(&gate, &mut seats, first)?;
-    put_back(&gate, &mut seats, second)?;
+    put_back(&rt, &gate, &mut seats, first);
+    put_back(&rt, &gate, &mut seats, second);
     assert!(rt; gate.end(seats).is_ok());
-    Ok(())
 }
 
 #[test]
-fn numbers_of_a_gate(rt: HostRuntime) -> Result<(), Fail> {
+fn numbers_of_a_gate(rt: HostRuntime) {
     for (volumes, seats) in [(0, 1), (1, 0), (9, 1), (1, 65_537)] {
         let refused = RundownGate::new(rt.alloc(), volumes, seats).err();
         assert_eq!(rt;
@@ -64,7 +61,7 @@ fn numbers_of_a_gate(rt: HostRuntime) -> Result<(), Fail> {
             "{volumes} volumes, {seats} seats"
         );
     }
-    let (gate, mut seats) = RundownGate::new(rt.alloc(), 8, 65_536)?;
+    let (gate, mut seats) = RundownGate::new(rt.alloc(), 8, 65_536).expect(&rt, "a gate");
     assert_eq!(rt; seats.len(), 65_536);
     let mut seat = next_seat(&gate, &mut seats).expect(&rt, "a seat");
     assert_eq!(rt; gate.enter(&mut seat, VolumeId(7)), Ok(()));
@@ -72,12 +69,11 @@ fn numbers_of_a_gate(rt: HostRuntime) -> Result<(), Fail> {
     assert_eq!(rt; gate.leave(&mut seat, VolumeId(8)), Err(Status::NoVolume));
     assert_eq!(rt; gate.close(&mut seat, VolumeId(8)), Err(Status::NoVolume));
     assert_eq!(rt; gate.look(&mut seat, VolumeId(8)), Err(Status::NoVolume));
-    Ok(())
 }
 
 #[test]
-fn thousand_passes(rt: HostRuntime) -> Result<(), Fail> {
-    let (gate, mut seats) = RundownGate::new(rt.alloc(), 2, 1)?;
+fn thousand_passes(rt: HostRuntime) {
+    let (gate, mut seats) = RundownGate::new(rt.alloc(), 2, 1).expect(&rt, "a gate");
     let mut seat = next_seat(&gate, &mut seats).expect(&rt, "a seat");
     'enters: for _ in 0..1_000 {
         assert_eq!(rt; gate.enter(&mut seat, VOLUME), Ok(()));
@@ -94,28 +90,26 @@ fn thousand_passes(rt: HostRuntime) -> Result<(), Fail> {
     assert_eq!(rt; gate.look(&mut seat, VOLUME), Ok(Look::Drained));
     assert_eq!(rt; gate.look(&mut seat, VolumeId(1)), Ok(Look::Open));
     assert_eq!(rt; seat.passes(), 1);
-    Ok(())
 }
 
 #[test]
-fn end_too_soon(rt: HostRuntime) -> Result<(), Fail> {
-    let (gate, mut seats) = RundownGate::new(rt.alloc(), 1, 2)?;
+fn end_too_soon(rt: HostRuntime) {
+    let (gate, mut seats) = RundownGate::new(rt.alloc(), 1, 2).expect(&rt, "a gate");
     let mut seat = next_seat(&gate, &mut seats).expect(&rt, "two seats");
     assert_eq!(rt; gate.enter(&mut seat, VOLUME), Ok(()));
     let Err((gate, mut seats, missing)) = gate.end(seats) else {
-        return Err(Fail::from("one seat of two ended the gate"));
+        panic!(rt; "one seat of two ended the gate");
     };
     assert_eq!(rt; (missing, seats.len()), (Status::BadRequest, 1));
-    put_back(&gate, &mut seats, seat)?;
+    put_back(&rt, &gate, &mut seats, seat);
     let Err((gate, mut seats, held)) = gate.end(seats) else {
-        return Err(Fail::from("the gate ended under a pass"));
+        panic!(rt; "the gate ended under a pass");
     };
     assert_eq!(rt; (held, seats.len()), (Status::Busy(1), 2));
     let mut seat = next_seat(&gate, &mut seats).expect(&rt, "two seats");
     assert_eq!(rt; gate.leave(&mut seat, VOLUME), Ok(()));
-    put_back(&gate, &mut seats, seat)?;
+    put_back(&rt, &gate, &mut seats, seat);
     assert!(rt; gate.end(seats).is_ok());
-    Ok(())
 }
 
 // What the threads of a test share: how many are between `enter` and `leave`, and how often one was.
@@ -256,36 +250,36 @@ fn next_two(gate: &RundownGate, seats: &mut Vec<GateSeat>) -> Option<Two>
 
 // What a seat is answered to `enter` and `look`, before it goes back to the list.
 fn answers_at_end(
+    rt: &impl Abort,
     gate: &RundownGate,
     seats: &mut Vec<GateSeat>,
     mut seat: GateSeat,
-) -> Result<(Result<(), Status>, Result<Look, Status>), Status>
+) -> (Result<(), Status>, Result<Look, Status>)
     requires all { All (λ seat. IsSeatOf gate.now seat) seats.old.items }
     requires own { IsSeatOf gate.now seat }
     ensures { All (λ seat. IsSeatOf gate.now seat) seats.new.items }
 {
     let entered = gate.enter(&mut seat, VOLUME);
     let seen = gate.look(&mut seat, VOLUME);
-    put_back(gate, seats, seat)?;
-    Ok((entered, seen))
+    put_back(rt, gate, seats, seat);
+    (entered, seen)
 }
 
 #[test]
-fn four_threads_and_a_close(rt: HostRuntime) -> Result<(), Fail> {
-    let (gate, mut seats) = RundownGate::new(rt.alloc(), 1, 5)?;
+fn four_threads_and_a_close(rt: HostRuntime) {
+    let (gate, mut seats) = RundownGate::new(rt.alloc(), 1, 5).expect(&rt, "a gate");
     let closer = next_seat(&gate, &mut seats).expect(&rt, "five seats");
     let first = next_two(&gate, &mut seats).expect(&rt, "five seats");
     let second = next_two(&gate, &mut seats).expect(&rt, "five seats");
     let (inside, closer, first, second) = rundown(&rt, &gate, closer, first, second);
     assert_eq!(rt; inside, 0);
     let drained = (Err(Status::Dismounting), Ok(Look::Drained));
-    assert_eq!(rt; answers_at_end(&gate, &mut seats, closer)?, drained);
+    assert_eq!(rt; answers_at_end(&rt, &gate, &mut seats, closer), drained);
     let Two(one, other) = first;
-    assert_eq!(rt; answers_at_end(&gate, &mut seats, one)?, drained);
-    assert_eq!(rt; answers_at_end(&gate, &mut seats, other)?, drained);
+    assert_eq!(rt; answers_at_end(&rt, &gate, &mut seats, one), drained);
+    assert_eq!(rt; answers_at_end(&rt, &gate, &mut seats, other), drained);
     let Two(one, other) = second;
-    assert_eq!(rt; answers_at_end(&gate, &mut seats, one)?, drained);
-    assert_eq!(rt; answers_at_end(&gate, &mut seats, other)?, drained);
+    assert_eq!(rt; answers_at_end(&rt, &gate, &mut seats, one), drained);
+    assert_eq!(rt; answers_at_end(&rt, &gate, &mut seats, other), drained);
     assert!(rt; gate.end(seats).is_ok());
-    Ok(())
 }

@@ -6,7 +6,6 @@ use std::cell::Cell;
 use std::io;
 use std::io::{Read, Write};
 use std::process::Abort;
-use std::test::Fail;
 
 // A writer over memory.
 #[derive(Drop)]
@@ -71,7 +70,7 @@ fn compare(rt: &impl Abort, alloc: Global, input: &[u8], output: &[u8], step: us
 }
 
 #[test]
-fn long_lines(rt: HostRuntime) -> Result<(), Fail> {
+fn long_lines(rt: HostRuntime) {
     let alloc = rt.alloc();
     let mut input = Vec::new(alloc);
     for (byte, len) in [
@@ -82,24 +81,23 @@ fn long_lines(rt: HostRuntime) -> Result<(), Fail> {
         (b'x', 4096),
     ] {
         for _ in 0..len {
-            input.push(byte)?;
+            input.push(byte).expect(&rt, "memory");
         }
-        input.push(b'\n')?;
+        input.push(b'\n').expect(&rt, "memory");
     }
-    input.extend_from_slice(b"load f")?;
+    input.extend_from_slice(b"load f").expect(&rt, "memory");
     let output = b"no 32\nno 32\nno 32\nno 32\nok f0\n";
     for step in [1000, 16384] {
         compare(&rt, alloc, input.as_slice(), output, step);
     }
-    Ok(())
 }
 
 #[test]
-fn most_lines(rt: HostRuntime) -> Result<(), Fail> {
+fn most_lines(rt: HostRuntime) {
     let alloc = rt.alloc();
-    let mut input = b"load f\n".to_vec(alloc)?;
+    let mut input = b"load f\n".to_vec(alloc).expect(&rt, "memory");
     for _ in 0..99_999 {
-        input.push(b'\n')?;
+        input.push(b'\n').expect(&rt, "memory");
     }
     let mut bytes = Vec::new(alloc);
     let reader = input.as_slice();
@@ -107,7 +105,7 @@ fn most_lines(rt: HostRuntime) -> Result<(), Fail> {
         script(alloc, reader, Kept { bytes: &mut bytes }),
         ScriptEnd::Ended
     );
-    input.push(b'#')?;
+    input.push(b'#').expect(&rt, "memory");
     bytes.clear();
     let reader = input.as_slice();
     assert_eq!(rt;
@@ -115,11 +113,10 @@ fn most_lines(rt: HostRuntime) -> Result<(), Fail> {
         ScriptEnd::ReadFault
     );
     assert_eq!(rt; bytes.as_slice(), b"ok f0\n".as_slice());
-    Ok(())
 }
 
 #[test]
-fn faults(rt: HostRuntime) -> Result<(), Fail> {
+fn faults(rt: HostRuntime) {
     let alloc = rt.alloc();
     let mut bytes = Vec::new(alloc);
     let reader = Pieces {
@@ -136,7 +133,6 @@ fn faults(rt: HostRuntime) -> Result<(), Fail> {
     assert_eq!(rt; script(alloc, reader, Broken), ScriptEnd::WriteFault);
     let reader = b"# nothing".as_slice();
     assert_eq!(rt; script(alloc, reader, Broken), ScriptEnd::Ended);
-    Ok(())
 }
 
 // A reader that fails where what was printed before wasn't flushed.
@@ -174,7 +170,7 @@ impl Write for Flushed<'_> {
 }
 
 #[test]
-fn flushed_before_each_read(rt: HostRuntime) -> Result<(), Fail> {
+fn flushed_before_each_read(rt: HostRuntime) {
     let flushes = Cell::new(0);
     let reader = Asking {
         rest: b"load f\nmount v\n",
@@ -185,5 +181,4 @@ fn flushed_before_each_read(rt: HostRuntime) -> Result<(), Fail> {
         script(rt.alloc(), reader, Flushed(&flushes)),
         ScriptEnd::Ended
     );
-    Ok(())
 }

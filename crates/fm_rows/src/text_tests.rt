@@ -4,7 +4,6 @@ use fm_altitude::Altitude;
 use fm_types::{Name, RelPath, Status};
 use std::cmp::Ordering;
 use std::process::Abort;
-use std::test::Fail;
 
 // 64 digits, and with a point before 63 of them.
 const DIGITS: [u8; 64] = [b'1'; 64];
@@ -89,14 +88,14 @@ const VALUES: [(&[u8], &[u8], Ordering); 4] = [
     (b"328010", b"40500", Ordering::Greater),
 ];
 
-fn compared(first: &[u8], second: &[u8]) -> Result<Ordering, Status> {
-    Ok(Altitude::read(first)?.cmp(&Altitude::read(second)?))
+fn altitude(rt: &impl Abort, text: &[u8]) -> Altitude {
+    Altitude::read(text).expect(rt, "an altitude")
 }
 
 #[test]
-fn altitude_values(rt: HostRuntime) -> Result<(), Fail> {
+fn altitude_values(rt: HostRuntime) {
     for (first, second, order) in VALUES {
-        assert_eq!(rt; compared(first, second)?, order, "{first:?}");
+        let told = altitude(&rt, first).cmp(&altitude(&rt, second));
+        assert_eq!(rt; told, order, "{first:?}");
     }
-    Ok(())
 }

@@ -1,135 +1,202 @@
--- Which command the words of a line spell, and by which status a line is refused that spells none.
-use Rattle.std.specs.Prelude.{◌≡◌, ℕ, ◌<◌, ◌≤◌, Bool, true, false, List, [], ◌∷◌, Option, Some, None, Result, Ok, Err, MatchResult, codes, bytes_eq, cond}
-use Rattle.fm_types.specs.declared.status.Status.{Status}
+-- What the words of a line stand for, and by which status a line is refused that stands for nothing.
+use Rattle.std.specs.Prelude.{◌≡◌, ℕ, ◌<◌, ◌≤◌, Bool, true, false, List, [], ◌∷◌, Option, Some, None, Result, Ok, Err, MatchResult, codes, bytes_eq, cond, find}
+use Rattle.fm_types.specs.declared.ids.CtxId.{CtxId}
+use Rattle.fm_types.specs.declared.ids.OpId.{OpId}
+use Rattle.fm_types.specs.declared.ids.WorkerId.{WorkerId}
 use Rattle.fm_types.specs.declared.operation.CreateMode.{CreateMode}
+use Rattle.fm_types.specs.declared.operation.CreateMode.TheVariants as create
+use Rattle.fm_types.specs.declared.registration.Registration.{Registration}
+use Rattle.fm_types.specs.declared.status.Status.{Status}
 use Rattle.fm_types.specs.declared.status.Status.TheVariants.{BadAltitude, BadName, BadPath, BadRequest}
 use Rattle.fm_types.specs.Paths.{IsPath}
 use Rattle.fm_types.specs.Names.{IsName}
 use Rattle.fm_types.specs.Statuses.{number_of}
 use Rattle.fm_altitude.specs.Grammar.{IsAltitude, canonical}
-use Rattle.fm_script.specs.declared.command.Callbacks.{Callbacks}
-use Rattle.fm_script.specs.declared.command.Callbacks.TheVariants.{Both, PreOnly, PostOnly, Bare}
+use Rattle.fm_data.specs.declared.request.Request.TheVariants as request
 use Rattle.fm_data.specs.declared.verdict.PreVerdict.{PreVerdict}
 use Rattle.fm_data.specs.declared.verdict.PreVerdict.TheVariants as verdict
-use Rattle.fm_script.specs.declared.command.Command.{Command}
-use Rattle.fm_script.specs.declared.command.Command.TheVariants as command
+use Rattle.fm_world.specs.World.{World}
+use Rattle.fm_world.specs.declared.step.Step.TheVariants as step
 use Rattle.fm_script.specs.declared.keyword.Keyword.{Keyword}
 use Rattle.fm_script.specs.declared.keyword.Keyword.TheVariants as keyword
-use Rattle.fm_script.specs.Keywords.{keyword_read}
-use Rattle.fm_script.specs.declared.context_command.ContextCommand.{ContextCommand}
-use Rattle.fm_script.specs.ContextCommands.{context_read}
-use Rattle.fm_script.specs.declared.file_command.FileCommand.{FileCommand}
-use Rattle.fm_script.specs.FileCommands.{create_mode_read, file_read}
-use Rattle.fm_script.specs.Numbers.{number_read, id_read}
-use Rattle.fm_script.specs.Reading.{◌>>=◌, with_3}
-
--- the letters of ids: c, f, i, o, v, w
-abbrev pub context_id : List ℕ → Option ℕ
-context_id word = id_read 99 word
-
-abbrev pub filter_id : List ℕ → Option ℕ
-filter_id word = id_read 102 word
-
-abbrev pub instance_id : List ℕ → Option ℕ
-instance_id word = id_read 105 word
-
-abbrev pub operation_id : List ℕ → Option ℕ
-operation_id word = id_read 111 word
-
-abbrev pub volume_id : List ℕ → Option ℕ
-volume_id word = id_read 118 word
-
-abbrev pub worker_id : List ℕ → Option ℕ
-worker_id word = id_read 119 word
-
--- the id that is the only word, and the ids that are the only two words
-abbrev pub id_or_bad : Option ℕ → Result ℕ Status
-id_or_bad None = Err BadRequest
-id_or_bad (Some n) = Ok n
-
-abbrev pub one_id : ℕ → List (List ℕ) → Result ℕ Status
-one_id letter (word ∷ []) = id_or_bad (id_read letter word)
-one_id letter _ = Err BadRequest
-
--- a command of what was read
-abbrev pub made : {A : Type 0} → (A → Command) → Result A Status → Result Command Status
-made make read = read >>= λ a. Ok (make a)
-
--- a worker and an operation
-abbrev pub step_read : List (List ℕ) → Result (ℕ × ℕ) Status
-step_read (worker ∷ operation ∷ []) = id_or_bad (worker_id worker) >>= λ k. id_or_bad (operation_id operation) >>= λ o. Ok (k, o)
-step_read _ = Err BadRequest
+use Rattle.fm_script.specs.declared.task.Task.{Task}
+use Rattle.fm_script.specs.declared.task.Task.TheVariants as task
+use Rattle.fm_script.specs.Numbers.{number_read}
+use Rattle.fm_script.specs.Reading.{◌>>=◌}
+use Rattle.fm_script.specs.Ids.{filter_in, volume_in, instance_in, operation_in, context_in, worker_in}
+use Rattle.fm_script.specs.Tasks.{context_id, filter_id, instance_id, operation_id, volume_id, worker_id, one_id, only_worker, event}
+use Rattle.fm_script.specs.ContextCommands.{context_read, allocate_read, write_body_read}
+use Rattle.fm_script.specs.FileCommands.{file_read, write_read}
 
 -- the one case where the test holds, else the other
 abbrev pub Either : Bool → Type 0 → Type 0 → Type 0
 Either true A B = A
 Either false A B = B
 
--- a command with a name, if it is one
-abbrev pub IsNamed : List ℕ → Command → Result Command Status → Type 0
-IsNamed name c result = MatchResult result (λ read. IsName name × (read ≡ c)) (λ status. (IsName name → ⊥) × (status ≡ BadName))
+-- ---- the words that lines begin with
 
--- ---- load, mount, attach
+abbrev pub spelling : Keyword → List ℕ
+spelling keyword.Load = codes "load"
+spelling keyword.Mount = codes "mount"
+spelling keyword.Attach = codes "attach"
+spelling keyword.List = codes "list"
+spelling keyword.Next = codes "next"
+spelling keyword.Pre = codes "pre"
+spelling keyword.Plan = codes "plan"
+spelling keyword.Base = codes "base"
+spelling keyword.Post = codes "post"
+spelling keyword.Go = codes "go"
+spelling keyword.Collect = codes "collect"
+spelling keyword.Phase = codes "phase"
+spelling keyword.Setup = codes "setup"
+spelling keyword.SetDone = codes "setdone"
+spelling keyword.Finish = codes "finish"
+spelling keyword.Create = codes "create"
+spelling keyword.Alloc = codes "alloc"
+spelling keyword.Set = codes "set"
+spelling keyword.Get = codes "get"
+spelling keyword.Del = codes "del"
+spelling keyword.Ref = codes "ref"
+spelling keyword.Rel = codes "rel"
+spelling keyword.Body = codes "body"
+spelling keyword.WBody = codes "wbody"
+spelling keyword.Bump = codes "bump"
+spelling keyword.Due = codes "due"
+spelling keyword.Cleaned = codes "cleaned"
+spelling keyword.Count = codes "count"
+spelling keyword.Leaks = codes "leaks"
+spelling keyword.Read = codes "read"
+spelling keyword.Write = codes "write"
+spelling keyword.Size = codes "size"
+spelling keyword.SetSize = codes "setsize"
+spelling keyword.Flush = codes "flush"
+spelling keyword.Delete = codes "delete"
+spelling keyword.Cleanup = codes "cleanup"
+spelling keyword.Close = codes "close"
+spelling keyword.Fail = codes "fail"
+spelling keyword.Failures = codes "failures"
 
-abbrev pub callbacks_read : List ℕ → Result Callbacks Status
-callbacks_read option =
-    cond (bytes_eq option (codes "only-pre")) (Ok PreOnly) (cond (bytes_eq option (codes "only-post")) (Ok PostOnly)
-    (cond (bytes_eq option (codes "bare")) (Ok Bare) (Err BadRequest)))
+abbrev pub all_keywords : List Keyword
+all_keywords =
+    keyword.Load ∷ keyword.Mount ∷ keyword.Attach ∷ keyword.List ∷ keyword.Next ∷ keyword.Pre ∷ keyword.Plan ∷ keyword.Base ∷ keyword.Post ∷
+    keyword.Go ∷ keyword.Collect ∷ keyword.Phase ∷ keyword.Setup ∷ keyword.SetDone ∷ keyword.Finish ∷ keyword.Create ∷ keyword.Alloc ∷
+    keyword.Set ∷ keyword.Get ∷ keyword.Del ∷ keyword.Ref ∷ keyword.Rel ∷ keyword.Body ∷ keyword.WBody ∷ keyword.Bump ∷ keyword.Due ∷
+    keyword.Cleaned ∷ keyword.Count ∷ keyword.Leaks ∷ keyword.Read ∷ keyword.Write ∷ keyword.Size ∷ keyword.SetSize ∷ keyword.Flush ∷
+    keyword.Delete ∷ keyword.Cleanup ∷ keyword.Close ∷ keyword.Fail ∷ keyword.Failures ∷ []
 
--- with an option that leaves these callbacks
-abbrev pub LoadsWith : List ℕ → Result Callbacks Status → Result Command Status → Type 0
-LoadsWith name (Ok callbacks) result = IsNamed name (command.Load name callbacks) result
+-- the keyword that a word is
+unfoldable pub keyword_read : List ℕ → Option Keyword
+keyword_read word = find (λ k. bytes_eq (spelling k) word) all_keywords
+
+-- ---- names
+
+-- a task with a name, if it is one
+abbrev pub IsNamed : List ℕ → Task → Result Task Status → Type 0
+IsNamed name t result = MatchResult result (λ read. IsName name × (read ≡ t)) (λ status. (IsName name → ⊥) × (status ≡ BadName))
+
+-- ---- load, mount
+
+-- all operations, all kinds of contexts: each has its bit
+abbrev pub with_masks : ℕ → ℕ → Registration
+with_masks pre post = record { pre = record { 0 = pre }; post = record { 0 = post }; contexts = record { 0 = 15 }; query = true; unload = true }
+
+abbrev pub bare : Registration
+bare = record { pre = record { 0 = 1023 }; post = record { 0 = 1023 }; contexts = record { 0 = 0 }; query = false; unload = false }
+
+abbrev pub option_read : List ℕ → Result Registration Status
+option_read option =
+    cond (bytes_eq option (codes "only-pre")) (Ok (with_masks 1023 0)) (cond (bytes_eq option (codes "only-post")) (Ok (with_masks 0 1023))
+    (cond (bytes_eq option (codes "bare")) (Ok bare) (Err BadRequest)))
+
+abbrev pub registration_read : List (List ℕ) → Result Registration Status
+registration_read [] = Ok (with_masks 1023 1023)
+registration_read (option ∷ []) = option_read option
+registration_read _ = Err BadRequest
+
+abbrev pub LoadsWith : List ℕ → Result Registration Status → Result Task Status → Type 0
+LoadsWith name (Ok registration) result = IsNamed name (task.Event (step.Register name registration)) result
 LoadsWith name (Err status) result = result ≡ Err status
 
-abbrev pub Loads : List (List ℕ) → Result Command Status → Type 0
-Loads (name ∷ []) result = LoadsWith name (Ok Both) result
-Loads (name ∷ option ∷ []) result = LoadsWith name (callbacks_read option) result
+abbrev pub Loads : List (List ℕ) → Result Task Status → Type 0
+Loads (name ∷ options) result = LoadsWith name (registration_read options) result
 Loads _ result = result ≡ Err BadRequest
 
-abbrev pub Mounts : List (List ℕ) → Result Command Status → Type 0
-Mounts (name ∷ []) result = IsNamed name (command.Mount name) result
+abbrev pub Mounts : List (List ℕ) → Result Task Status → Type 0
+Mounts (name ∷ []) result = IsNamed name (task.Event (step.Mount name)) result
 Mounts _ result = result ≡ Err BadRequest
 
--- of a name and an altitude, the name is read first
+-- ---- attach, setup
+
+-- a name and an altitude: the name is read first, and the altitude known by its canonical text
 abbrev pub IsRefusedPlace : List ℕ → List ℕ → Status → Type 0
 IsRefusedPlace name altitude BadName = IsName name → ⊥
 IsRefusedPlace name altitude BadAltitude = IsName name × (IsAltitude altitude → ⊥)
 IsRefusedPlace name altitude _ = ⊥
 
-abbrev pub AttachesAs : Option ℕ → Option ℕ → List ℕ → List ℕ → Result Command Status → Type 0
-AttachesAs (Some f) (Some v) name altitude result =
-    MatchResult result (λ read. IsName name × IsAltitude altitude × (read ≡ command.Attach f v name (canonical altitude))) (IsRefusedPlace name altitude)
-AttachesAs _ _ name altitude result = result ≡ Err BadRequest
+abbrev pub ReadsPlace : List ℕ → List ℕ → Result (List ℕ × List ℕ) Status → Type 0
+ReadsPlace name altitude read =
+    MatchResult read (λ place. IsName name × IsAltitude altitude × (place ≡ (name, canonical altitude))) (IsRefusedPlace name altitude)
 
-abbrev pub Attaches : List (List ℕ) → Result Command Status → Type 0
-Attaches (f ∷ v ∷ name ∷ altitude ∷ []) result = AttachesAs (filter_id f) (volume_id v) name altitude result
-Attaches _ result = result ≡ Err BadRequest
+-- numbers that were read, before a place is
+abbrev pub Placed : {T : Type 0} → Result T Status → List ℕ → List ℕ → (T → List ℕ × List ℕ → Result Task Status) → Result Task Status → Type 0
+Placed (Ok ids) name altitude next result =
+    (read : Result (List ℕ × List ℕ) Status) × ReadsPlace name altitude read × (result ≡ (read >>= λ place. next ids place))
+Placed (Err status) name altitude next result = result ≡ Err status
+
+unfoldable pub place_ids : List ℕ → List ℕ → Result (ℕ × ℕ) Status
+place_ids filter volume = filter_id filter >>= λ f. volume_id volume >>= λ v. Ok (f, v)
+
+unfoldable pub setup_ids : List ℕ → List ℕ → List ℕ → Result (ℕ × ℕ × ℕ) Status
+setup_ids worker filter volume = worker_id worker >>= λ k. place_ids filter volume >>= λ ids. Ok (k, ids.0, ids.1)
+
+unfoldable pub attach_at : World → ℕ → ℕ → List ℕ → List ℕ → Result Task Status
+attach_at w f v name altitude = filter_in w f >>= λ own. volume_in w v >>= λ at. Ok (task.Attach own at name altitude)
+
+-- in the setup callback of a worker
+unfoldable pub setup_at : World → ℕ × ℕ × ℕ → List ℕ → List ℕ → Result Task Status
+setup_at w ids name altitude =
+    filter_in w ids.1 >>= λ own. volume_in w ids.2 >>= λ at. worker_in ids.0 >>= λ by. event (step.Attach by own at name altitude)
+
+abbrev pub Attaches : World → List (List ℕ) → Result Task Status → Type 0
+Attaches w (f ∷ v ∷ name ∷ altitude ∷ []) result =
+    Placed (place_ids f v) name altitude (λ ids place. attach_at w ids.0 ids.1 place.0 place.1) result
+Attaches w _ result = result ≡ Err BadRequest
 
 -- the same with a worker before them, which enters the setup callback
-abbrev pub SetsUpAs : Option (ℕ × ℕ × ℕ) → List ℕ → List ℕ → Result Command Status → Type 0
-SetsUpAs (Some (w, f, v)) name altitude result =
-    MatchResult result (λ read. IsName name × IsAltitude altitude × (read ≡ command.Setup w f v name (canonical altitude))) (IsRefusedPlace name altitude)
-SetsUpAs None name altitude result = result ≡ Err BadRequest
+abbrev pub SetsUp : World → List (List ℕ) → Result Task Status → Type 0
+SetsUp w (k ∷ f ∷ v ∷ name ∷ altitude ∷ []) result =
+    Placed (setup_ids k f v) name altitude (λ ids place. setup_at w ids place.0 place.1) result
+SetsUp w _ result = result ≡ Err BadRequest
 
-abbrev pub SetsUp : List (List ℕ) → Result Command Status → Type 0
-SetsUp (w ∷ f ∷ v ∷ name ∷ altitude ∷ []) result = SetsUpAs (with_3 (λ w f v. (w, f, v)) (worker_id w) (filter_id f) (volume_id v)) name altitude result
-SetsUp _ result = result ≡ Err BadRequest
+abbrev pub yes_or_no : List ℕ → Result Bool Status
+yes_or_no word = cond (bytes_eq word (codes "yes")) (Ok true) (cond (bytes_eq word (codes "no")) (Ok false) (Err BadRequest))
 
-abbrev pub set_done_read : List (List ℕ) → Result Command Status
-set_done_read (worker ∷ word ∷ []) =
-    id_or_bad (worker_id worker) >>= λ w. cond (bytes_eq word (codes "yes")) (Ok (command.SetDone w true))
-    (cond (bytes_eq word (codes "no")) (Ok (command.SetDone w false)) (Err BadRequest))
+abbrev pub set_done_read : List (List ℕ) → Result Task Status
+set_done_read (worker ∷ word ∷ []) = worker_id worker >>= λ k. yes_or_no word >>= λ accept. worker_in k >>= λ by. event (step.SetupDone by accept)
 set_done_read _ = Err BadRequest
 
 -- ---- create
 
-abbrev pub CreatesAs : Option ℕ → Option CreateMode → List ℕ → Result Command Status → Type 0
-CreatesAs (Some v) (Some m) path result = MatchResult result (λ read. IsPath path × (read ≡ command.Create v path m)) (λ status. (IsPath path → ⊥) × (status ≡ BadPath))
-CreatesAs _ _ path result = result ≡ Err BadRequest
+abbrev pub create_mode_read : List ℕ → Result CreateMode Status
+create_mode_read word =
+    cond (bytes_eq word (codes "existing")) (Ok create.Existing)
+    (cond (bytes_eq word (codes "new")) (Ok create.New) (cond (bytes_eq word (codes "always")) (Ok create.Always) (Err BadRequest)))
 
-abbrev pub Creates : List (List ℕ) → Result Command Status → Type 0
-Creates (v ∷ path ∷ mode ∷ []) result = CreatesAs (volume_id v) (create_mode_read mode) path result
-Creates _ result = result ≡ Err BadRequest
+abbrev pub ReadsPath : List ℕ → Result (List ℕ) Status → Type 0
+ReadsPath path read = MatchResult read (λ r. IsPath path × (r ≡ path)) (λ status. (IsPath path → ⊥) × (status ≡ BadPath))
+
+abbrev pub create_ids : List ℕ → List ℕ → Result (ℕ × CreateMode) Status
+create_ids volume mode = volume_id volume >>= λ v. create_mode_read mode >>= λ m. Ok (v, m)
+
+abbrev pub CreatesAs : World → Result (ℕ × CreateMode) Status → List ℕ → Result Task Status → Type 0
+CreatesAs w (Ok ids) path result =
+    (read : Result (List ℕ) Status) × ReadsPath path read
+    × (result ≡ (read >>= λ p. volume_in w ids.0 >>= λ at. event (step.Begin (request.Create at p ids.1))))
+CreatesAs w (Err status) path result = result ≡ Err status
+
+abbrev pub Creates : World → List (List ℕ) → Result Task Status → Type 0
+Creates w (v ∷ path ∷ mode ∷ []) result = CreatesAs w (create_ids v mode) path result
+Creates w _ result = result ≡ Err BadRequest
 
 -- ---- what a preoperation answers
 
@@ -157,64 +224,101 @@ ReadsVerdict (word ∷ status ∷ []) result =
     Either (bytes_eq word (codes "complete")) (ReadsComplete status result) (result ≡ Err BadRequest)
 ReadsVerdict _ result = result ≡ Err BadRequest
 
--- a command of an id and a verdict
-abbrev pub Answers : Option ℕ → List (List ℕ) → (ℕ → PreVerdict → Command) → Result Command Status → Type 0
-Answers None words make result = result ≡ Err BadRequest
-Answers (Some n) words make result = (read : Result PreVerdict Status) × ReadsVerdict words read × (result ≡ made (make n) read)
-
-abbrev pub AnswersFor : (List ℕ → Option ℕ) → List (List ℕ) → (ℕ → PreVerdict → Command) → Result Command Status → Type 0
-AnswersFor id (word ∷ words) make result = Answers (id word) words make result
-AnswersFor id [] make result = result ≡ Err BadRequest
+-- an id, and a verdict behind it
+abbrev pub AnswersAs : Result ℕ Status → List (List ℕ) → (ℕ → PreVerdict → Result Task Status) → Result Task Status → Type 0
+AnswersAs (Err status) words next result = result ≡ Err status
+AnswersAs (Ok n) words next result = (read : Result PreVerdict Status) × ReadsVerdict words read × (result ≡ (read >>= λ answer. next n answer))
 
 -- with a context that goes along, or without
 abbrev pub sends_context : List (List ℕ) → Bool
 sends_context (worker ∷ word ∷ context ∷ []) = bytes_eq word (codes "with")
 sends_context _ = false
 
-abbrev pub pre_with_read : List (List ℕ) → Result Command Status
-pre_with_read (worker ∷ word ∷ context ∷ []) = id_or_bad (worker_id worker) >>= λ k. id_or_bad (context_id context) >>= λ c. Ok (command.PreWith k c)
-pre_with_read _ = Err BadRequest
+abbrev pub carrying : CtxId → PreVerdict
+carrying c = verdict.WithCallback (record { number = 0; context = Some c })
 
-abbrev pub AnswersPre : List (List ℕ) → Result Command Status → Type 0
-AnswersPre words result = Either (sends_context words) (result ≡ pre_with_read words) (AnswersFor worker_id words command.Pre result)
+abbrev pub pre_with_read : List CtxId → List (List ℕ) → Result Task Status
+pre_with_read contexts (worker ∷ word ∷ context ∷ []) =
+    worker_id worker >>= λ k. context_id context >>= λ c. context_in contexts c >>= λ own. worker_in k >>= λ by. Ok (task.Pre by (carrying own))
+pre_with_read contexts _ = Err BadRequest
+
+abbrev pub AnswersBare : List (List ℕ) → Result Task Status → Type 0
+AnswersBare (worker ∷ words) result = AnswersAs (worker_id worker) words (λ k answer. worker_in k >>= λ by. Ok (task.Pre by answer)) result
+AnswersBare _ result = result ≡ Err BadRequest
+
+abbrev pub AnswersPre : List CtxId → List (List ℕ) → Result Task Status → Type 0
+AnswersPre contexts words result = Either (sends_context words) (result ≡ pre_with_read contexts words) (AnswersBare words result)
+
+abbrev pub Plans : World → List (List ℕ) → Result Task Status → Type 0
+Plans w (instance ∷ words) result = AnswersAs (instance_id instance) words (λ i answer. instance_in w i >>= λ own. Ok (task.Plan own answer)) result
+Plans w _ result = result ≡ Err BadRequest
 
 -- ---- the other commands
 
-abbrev pub post_read : List (List ℕ) → Result Command Status
-post_read (worker ∷ word ∷ []) = cond (bytes_eq word (codes "done")) (made command.Post (id_or_bad (worker_id worker))) (Err BadRequest)
+abbrev pub post_read : List (List ℕ) → Result Task Status
+post_read (worker ∷ word ∷ []) = cond (bytes_eq word (codes "done")) (worker_id worker >>= λ k. worker_in k >>= λ by. Ok (task.Post by)) (Err BadRequest)
 post_read _ = Err BadRequest
 
--- a command on contexts, or else on files
-abbrev pub context_or_file : Option ContextCommand → Option FileCommand → Result Command Status
-context_or_file (Some c) other = Ok (command.Context c)
-context_or_file None (Some c) = Ok (command.File c)
-context_or_file None None = Err BadRequest
+-- a worker and an operation
+abbrev pub turn_read : World → List (List ℕ) → Result (WorkerId × OpId) Status
+turn_read w (worker ∷ operation ∷ []) =
+    worker_id worker >>= λ k. operation_id operation >>= λ o. operation_in w o >>= λ own. worker_in k >>= λ by. Ok (by, own)
+turn_read w _ = Err BadRequest
 
--- what the words behind a keyword are read as
-abbrev pub ReadsAs : Keyword → List (List ℕ) → Result Command Status → Type 0
-ReadsAs keyword.Load words result = Loads words result
-ReadsAs keyword.Mount words result = Mounts words result
-ReadsAs keyword.Attach words result = Attaches words result
-ReadsAs keyword.List words result = result ≡ made command.List (one_id 118 words)
-ReadsAs keyword.Next words result = result ≡ made (λ both. command.Next both.0 both.1) (step_read words)
-ReadsAs keyword.Pre words result = AnswersPre words result
-ReadsAs keyword.Plan words result = AnswersFor instance_id words command.Plan result
-ReadsAs keyword.Base words result = result ≡ made command.Base (one_id 119 words)
-ReadsAs keyword.Post words result = result ≡ post_read words
-ReadsAs keyword.Go words result = result ≡ made (λ both. command.Go both.0 both.1) (step_read words)
-ReadsAs keyword.Collect words result = result ≡ made command.Collect (one_id 111 words)
-ReadsAs keyword.Phase words result = result ≡ made command.Phase (one_id 105 words)
-ReadsAs keyword.Setup words result = SetsUp words result
-ReadsAs keyword.SetDone words result = result ≡ set_done_read words
-ReadsAs keyword.Finish words result = result ≡ made command.Finish (one_id 105 words)
-ReadsAs keyword.Create words result = Creates words result
-ReadsAs other words result = result ≡ context_or_file (context_read other words) (file_read other words)
+abbrev pub collect_read : World → List (List ℕ) → Result Task Status
+collect_read w words = one_id 111 words >>= λ o. operation_in w o >>= λ own. event (step.Collect own)
 
-abbrev pub ReadsBehind : Option Keyword → List (List ℕ) → Result Command Status → Type 0
-ReadsBehind None words result = result ≡ Err BadRequest
-ReadsBehind (Some k) words result = ReadsAs k words result
+abbrev pub phase_read : World → List (List ℕ) → Result Task Status
+phase_read w words = one_id 105 words >>= λ i. instance_in w i >>= λ own. Ok (task.Phase own)
 
--- what the words of a line are read as
-abbrev pub Reads : List (List ℕ) → Result Command Status → Type 0
-Reads [] result = result ≡ Err BadRequest
-Reads (word ∷ words) result = ReadsBehind (keyword_read word) words result
+abbrev pub finish_read : World → List (List ℕ) → Result Task Status
+finish_read w words = one_id 105 words >>= λ i. instance_in w i >>= λ own. event (step.Finish own)
+
+abbrev pub list_read : World → List (List ℕ) → Result Task Status
+list_read w words = one_id 118 words >>= λ v. volume_in w v >>= λ at. event (step.Begin (request.List at))
+
+abbrev pub is_of_contexts : Keyword → Bool
+is_of_contexts keyword.Set = true
+is_of_contexts keyword.Get = true
+is_of_contexts keyword.Del = true
+is_of_contexts keyword.Ref = true
+is_of_contexts keyword.Rel = true
+is_of_contexts keyword.Body = true
+is_of_contexts keyword.Bump = true
+is_of_contexts keyword.Due = true
+is_of_contexts keyword.Cleaned = true
+is_of_contexts keyword.Count = true
+is_of_contexts keyword.Leaks = true
+is_of_contexts _ = false
+
+-- the words behind a keyword
+abbrev pub ReadsAs : World → List CtxId → Keyword → List (List ℕ) → Result Task Status → Type 0
+ReadsAs w contexts keyword.Load words result = Loads words result
+ReadsAs w contexts keyword.Mount words result = Mounts words result
+ReadsAs w contexts keyword.Attach words result = Attaches w words result
+ReadsAs w contexts keyword.Setup words result = SetsUp w words result
+ReadsAs w contexts keyword.SetDone words result = result ≡ set_done_read words
+ReadsAs w contexts keyword.Finish words result = result ≡ finish_read w words
+ReadsAs w contexts keyword.Create words result = Creates w words result
+ReadsAs w contexts keyword.List words result = result ≡ list_read w words
+ReadsAs w contexts keyword.Next words result = result ≡ (turn_read w words >>= λ turn. Ok (task.Next turn.0 turn.1))
+ReadsAs w contexts keyword.Go words result = result ≡ (turn_read w words >>= λ turn. Ok (task.Go turn.0 turn.1))
+ReadsAs w contexts keyword.Pre words result = AnswersPre contexts words result
+ReadsAs w contexts keyword.Base words result = result ≡ (only_worker words >>= λ by. Ok (task.Base by))
+ReadsAs w contexts keyword.Post words result = result ≡ post_read words
+ReadsAs w contexts keyword.Plan words result = Plans w words result
+ReadsAs w contexts keyword.Collect words result = result ≡ collect_read w words
+ReadsAs w contexts keyword.Phase words result = result ≡ phase_read w words
+ReadsAs w contexts other words result = result ≡ cond (is_of_contexts other) (context_read contexts other words) (file_read w other words)
+
+-- the commands whose third and last word behind the keyword is bytes
+abbrev pub takes_bytes : Keyword → Bool
+takes_bytes keyword.Alloc = true
+takes_bytes keyword.WBody = true
+takes_bytes keyword.Write = true
+takes_bytes _ = false
+
+abbrev pub with_bytes_read : World → List CtxId → Keyword → List (List ℕ) → List ℕ → Result Task Status
+with_bytes_read w contexts keyword.Alloc words bytes = allocate_read words bytes
+with_bytes_read w contexts keyword.WBody words bytes = write_body_read contexts words bytes
+with_bytes_read w contexts _ words bytes = write_read w words bytes

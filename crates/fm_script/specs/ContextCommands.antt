@@ -1,87 +1,106 @@
--- Which command on contexts the words of a line spell.
-use Rattle.std.specs.Prelude.{ℕ, Bool, true, false, List, [], ◌∷◌, Option, Some, None, codes, bytes_eq, cond}
+-- What the commands on contexts stand for.
+use Rattle.std.specs.Prelude.{ℕ, Bool, true, false, List, [], ◌∷◌, Result, Ok, Err, codes, bytes_eq, cond}
+use Rattle.fm_types.specs.declared.ids.CtxId.{CtxId}
+use Rattle.fm_types.specs.declared.ids.WorkerId.{WorkerId}
 use Rattle.fm_types.specs.declared.context_kind.ContextKind.{ContextKind}
 use Rattle.fm_types.specs.declared.context_kind.ContextKind.TheVariants as kind
+use Rattle.fm_types.specs.declared.status.Status.{Status}
+use Rattle.fm_types.specs.declared.status.Status.TheVariants.{BadRequest}
 use Rattle.fm_ctx.specs.declared.set_reply.SetMode.{SetMode}
 use Rattle.fm_ctx.specs.declared.set_reply.SetMode.TheVariants as mode
+use Rattle.fm_world.specs.declared.step.Step.TheVariants as step
 use Rattle.fm_script.specs.declared.keyword.Keyword.{Keyword}
 use Rattle.fm_script.specs.declared.keyword.Keyword.TheVariants as keyword
-use Rattle.fm_script.specs.declared.context_command.ContextCommand.{ContextCommand}
-use Rattle.fm_script.specs.declared.context_command.ContextCommand.TheVariants as command
-use Rattle.fm_script.specs.Numbers.{number_read, id_read}
-use Rattle.fm_script.specs.Reading.{with_1, with_2, with_3, with_4}
+use Rattle.fm_script.specs.declared.task.Task.{Task}
+use Rattle.fm_script.specs.declared.task.Task.TheVariants as task
+use Rattle.fm_script.specs.Reading.{◌>>=◌}
+use Rattle.fm_script.specs.Ids.{context_in, worker_in}
+use Rattle.fm_script.specs.Tasks.{context_id, worker_id, one_id, only_worker, held_in, numbers_read, event}
 
 -- ---- words
 
-abbrev pub kind_read : List ℕ → Option ContextKind
+abbrev pub kind_read : List ℕ → Result ContextKind Status
 kind_read word =
-    cond (bytes_eq word (codes "volume")) (Some kind.Volume)
-    (cond (bytes_eq word (codes "instance")) (Some kind.Instance)
-    (cond (bytes_eq word (codes "stream")) (Some kind.Stream) (cond (bytes_eq word (codes "handle")) (Some kind.Handle) None)))
+    cond (bytes_eq word (codes "volume")) (Ok kind.Volume)
+    (cond (bytes_eq word (codes "instance")) (Ok kind.Instance)
+    (cond (bytes_eq word (codes "stream")) (Ok kind.Stream) (cond (bytes_eq word (codes "handle")) (Ok kind.Handle) (Err BadRequest))))
 
-abbrev pub mode_read : List ℕ → Option SetMode
-mode_read word = cond (bytes_eq word (codes "keep")) (Some mode.Keep) (cond (bytes_eq word (codes "replace")) (Some mode.Replace) None)
+abbrev pub mode_read : List ℕ → Result SetMode Status
+mode_read word = cond (bytes_eq word (codes "keep")) (Ok mode.Keep) (cond (bytes_eq word (codes "replace")) (Ok mode.Replace) (Err BadRequest))
 
 -- `old`, or nothing
-abbrev pub old_read : List (List ℕ) → Option Bool
-old_read [] = Some false
-old_read (word ∷ []) = cond (bytes_eq word (codes "old")) (Some true) None
-old_read _ = None
+abbrev pub old_read : List (List ℕ) → Result Bool Status
+old_read [] = Ok false
+old_read (word ∷ []) = cond (bytes_eq word (codes "old")) (Ok true) (Err BadRequest)
+old_read _ = Err BadRequest
 
-abbrev pub only_id : ℕ → List (List ℕ) → Option ℕ
-only_id letter (word ∷ []) = id_read letter word
-only_id letter _ = None
+-- the numbers of a worker and a context
+unfoldable pub held_ids : List ℕ → List ℕ → Result (ℕ × ℕ) Status
+held_ids worker context = worker_id worker >>= λ k. context_id context >>= λ c. Ok (k, c)
 
--- the letters of workers and contexts: w and c
-abbrev pub worker_and_context : List (List ℕ) → Option (ℕ × ℕ)
-worker_and_context (worker ∷ context ∷ []) = with_2 (λ w c. (w, c)) (id_read 119 worker) (id_read 99 context)
-worker_and_context _ = None
+-- a worker and a context, as the only words
+abbrev pub held_read : List CtxId → List (List ℕ) → Result (WorkerId × CtxId) Status
+held_read contexts (worker ∷ context ∷ []) = held_ids worker context >>= λ ids. held_in contexts ids.0 ids.1
+held_read contexts _ = Err BadRequest
+
+-- a worker and a kind, as the only words
+abbrev pub kind_of_read : List (List ℕ) → Result (WorkerId × ContextKind) Status
+kind_of_read (worker ∷ kind' ∷ []) = worker_id worker >>= λ k. kind_read kind' >>= λ of. worker_in k >>= λ w. Ok (w, of)
+kind_of_read _ = Err BadRequest
 
 -- ---- commands
 
--- the bytes are the last word
-abbrev pub allocate_read : List (List ℕ) → Option ContextCommand
-allocate_read (worker ∷ kind' ∷ bytes ∷ []) = with_2 command.Allocate (id_read 119 worker) (kind_read kind')
-allocate_read _ = None
+-- how a context is set
+abbrev pub manner_read : List ℕ → List (List ℕ) → Result (SetMode × Bool) Status
+manner_read word rest = mode_read word >>= λ m. old_read rest >>= λ old. Ok (m, old)
 
-abbrev pub set_read : List (List ℕ) → Option ContextCommand
-set_read (worker ∷ context ∷ mode' ∷ rest) = with_4 command.Set (id_read 119 worker) (id_read 99 context) (mode_read mode') (old_read rest)
-set_read _ = None
+unfoldable pub set_as : List CtxId → List ℕ → List ℕ → List ℕ → List (List ℕ) → Result Task Status
+set_as contexts worker context mode' rest =
+    held_ids worker context >>= λ ids. manner_read mode' rest >>= λ how. held_in contexts ids.0 ids.1 >>= λ both. event (step.Set both.0 both.1 how.0 how.1)
 
-abbrev pub get_read : List (List ℕ) → Option ContextCommand
-get_read (worker ∷ kind' ∷ []) = with_2 command.Get (id_read 119 worker) (kind_read kind')
-get_read _ = None
+abbrev pub set_read : List CtxId → List (List ℕ) → Result Task Status
+set_read contexts (worker ∷ context ∷ mode' ∷ rest) = set_as contexts worker context mode' rest
+set_read contexts _ = Err BadRequest
 
-abbrev pub delete_read : List (List ℕ) → Option ContextCommand
-delete_read (worker ∷ kind' ∷ rest) = with_3 command.Delete (id_read 119 worker) (kind_read kind') (old_read rest)
-delete_read _ = None
+unfoldable pub delete_as : List ℕ → List ℕ → List (List ℕ) → Result Task Status
+delete_as worker kind' rest = worker_id worker >>= λ k. kind_read kind' >>= λ of. old_read rest >>= λ old. worker_in k >>= λ w. event (step.Delete w of old)
 
--- the bytes are the last word
-abbrev pub write_body_read : List (List ℕ) → Option ContextCommand
-write_body_read (worker ∷ context ∷ bytes ∷ []) = with_2 command.WriteBody (id_read 119 worker) (id_read 99 context)
-write_body_read _ = None
+abbrev pub delete_read : List (List ℕ) → Result Task Status
+delete_read (worker ∷ kind' ∷ rest) = delete_as worker kind' rest
+delete_read _ = Err BadRequest
 
-abbrev pub bump_read : List (List ℕ) → Option ContextCommand
-bump_read (worker ∷ context ∷ place ∷ by ∷ []) = with_4 command.Bump (id_read 119 worker) (id_read 99 context) (number_read place) (number_read by)
-bump_read _ = None
+unfoldable pub bump_at : List CtxId → ℕ × ℕ → ℕ × ℕ → Result Task Status
+bump_at contexts ids n = held_in contexts ids.0 ids.1 >>= λ both. event (step.Bump both.0 both.1 n.0 n.1)
 
-abbrev pub leaks_read : List (List ℕ) → Option ContextCommand
-leaks_read [] = Some command.Leaks
-leaks_read _ = None
+unfoldable pub bump_as : List CtxId → List ℕ → List ℕ → List ℕ → List ℕ → Result Task Status
+bump_as contexts worker context place by = held_ids worker context >>= λ ids. numbers_read place by >>= λ n. bump_at contexts ids n
 
--- what the words behind a keyword are read as
-abbrev pub context_read : Keyword → List (List ℕ) → Option ContextCommand
-context_read keyword.Alloc words = allocate_read words
-context_read keyword.Set words = set_read words
-context_read keyword.Get words = get_read words
-context_read keyword.Del words = delete_read words
-context_read keyword.Ref words = with_1 (λ both. command.Reference both.0 both.1) (worker_and_context words)
-context_read keyword.Rel words = with_1 (λ both. command.Release both.0 both.1) (worker_and_context words)
-context_read keyword.Body words = with_1 (λ both. command.ReadBody both.0 both.1) (worker_and_context words)
-context_read keyword.WBody words = write_body_read words
-context_read keyword.Bump words = bump_read words
-context_read keyword.Due words = with_1 command.TakeDue (only_id 119 words)
-context_read keyword.Cleaned words = with_1 command.Cleaned (only_id 119 words)
-context_read keyword.Count words = with_1 command.Count (only_id 99 words)
-context_read keyword.Leaks words = leaks_read words
-context_read _ words = None
+abbrev pub bump_read : List CtxId → List (List ℕ) → Result Task Status
+bump_read contexts (worker ∷ context ∷ place ∷ by ∷ []) = bump_as contexts worker context place by
+bump_read contexts _ = Err BadRequest
+
+abbrev pub leaks_read : List (List ℕ) → Result Task Status
+leaks_read [] = Ok task.Leaks
+leaks_read _ = Err BadRequest
+
+-- the words behind a keyword
+abbrev pub context_read : List CtxId → Keyword → List (List ℕ) → Result Task Status
+context_read contexts keyword.Set words = set_read contexts words
+context_read contexts keyword.Get words = kind_of_read words >>= λ both. event (step.Get both.0 both.1)
+context_read contexts keyword.Del words = delete_read words
+context_read contexts keyword.Ref words = held_read contexts words >>= λ both. event (step.Reference both.0 both.1)
+context_read contexts keyword.Rel words = held_read contexts words >>= λ both. event (step.Release both.0 both.1)
+context_read contexts keyword.Body words = held_read contexts words >>= λ both. event (step.ReadBody both.0 both.1)
+context_read contexts keyword.Bump words = bump_read contexts words
+context_read contexts keyword.Due words = only_worker words >>= λ w. event (step.TakeDue w)
+context_read contexts keyword.Cleaned words = only_worker words >>= λ w. event (step.Cleaned w 0)
+context_read contexts keyword.Count words = one_id 99 words >>= λ c. context_in contexts c >>= λ own. Ok (task.Count own)
+context_read contexts keyword.Leaks words = leaks_read words
+context_read contexts _ words = Err BadRequest
+
+-- the same with the bytes that one more word spells
+abbrev pub allocate_read : List (List ℕ) → List ℕ → Result Task Status
+allocate_read words bytes = kind_of_read words >>= λ both. event (step.Allocate both.0 both.1 bytes)
+
+abbrev pub write_body_read : List CtxId → List (List ℕ) → List ℕ → Result Task Status
+write_body_read contexts words bytes = held_read contexts words >>= λ both. event (step.WriteBody both.0 both.1 bytes)

@@ -1,59 +1,69 @@
--- The commands on files: how a line spells them, and what their words are read as.
-use Rattle.std.specs.Prelude.{ℕ, cond, List, [], ◌∷◌, Option, Some, None, codes, bytes_eq}
-use Rattle.fm_types.specs.declared.operation.CreateMode.{CreateMode}
-use Rattle.fm_types.specs.declared.operation.CreateMode.TheVariants as create
-use Rattle.fm_script.specs.Numbers.{number_read, id_read}
-use Rattle.fm_script.specs.Reading.{with_1, with_2, with_3}
+-- What the commands on files and on the device stand for.
+use Rattle.std.specs.Prelude.{ℕ, min, ◌^◌, ◌-◌, List, [], ◌∷◌, Result, Ok, Err}
+use Rattle.fm_types.specs.declared.ids.HandleId.{HandleId}
+use Rattle.fm_types.specs.declared.status.Status.{Status}
+use Rattle.fm_types.specs.declared.status.Status.TheVariants.{BadRequest}
+use Rattle.fm_data.specs.declared.request.FileRequest.{FileRequest}
+use Rattle.fm_data.specs.declared.request.FileRequest.TheVariants as file
+use Rattle.fm_data.specs.declared.request.Request.TheVariants as request
+use Rattle.fm_world.specs.World.{World}
+use Rattle.fm_world.specs.declared.step.Step.TheVariants as step
 use Rattle.fm_script.specs.declared.keyword.Keyword.{Keyword}
 use Rattle.fm_script.specs.declared.keyword.Keyword.TheVariants as keyword
-use Rattle.fm_script.specs.declared.file_command.FileCommand.{FileCommand}
-use Rattle.fm_script.specs.declared.file_command.FileCommand.TheVariants as command
+use Rattle.fm_script.specs.declared.task.Task.{Task}
+use Rattle.fm_script.specs.declared.task.Task.TheVariants as task
+use Rattle.fm_script.specs.Numbers.{number_read}
+use Rattle.fm_script.specs.Reading.{◌>>=◌}
+use Rattle.fm_script.specs.Ids.{handle_in}
+use Rattle.fm_script.specs.Tasks.{or_bad, handle_id, numbers_read, event}
 
--- ---- words
+-- a request on a handle begins
+abbrev pub asked : World → ℕ → FileRequest → Result Task Status
+asked w h what = handle_in w h >>= λ own. event (step.Begin (request.OnHandle own what))
 
--- the letter of handles: h
-abbrev pub only_handle : List (List ℕ) → Option ℕ
-only_handle (word ∷ []) = id_read 104 word
-only_handle _ = None
+-- the same of the handle that is the only word
+abbrev pub only_asked : World → List (List ℕ) → FileRequest → Result Task Status
+only_asked w (handle ∷ []) what = handle_id handle >>= λ h. asked w h what
+only_asked w _ what = Err BadRequest
 
-abbrev pub handle_and_number : List (List ℕ) → Option (ℕ × ℕ)
-handle_and_number (handle ∷ number ∷ []) = with_2 (λ h n. (h, n)) (id_read 104 handle) (number_read number)
-handle_and_number _ = None
+-- a length past all bounds stands for one that is past the limit
+abbrev pub length_asked : ℕ → ℕ
+length_asked len = min len (2 ^ 32 - 1)
 
-abbrev pub create_mode_read : List ℕ → Option CreateMode
-create_mode_read word =
-    cond (bytes_eq word (codes "existing")) (Some create.Existing)
-    (cond (bytes_eq word (codes "new")) (Some create.New) (cond (bytes_eq word (codes "always")) (Some create.Always) None))
+abbrev pub read_read : World → List (List ℕ) → Result Task Status
+read_read w (handle ∷ offset ∷ len ∷ []) =
+    handle_id handle >>= λ h. numbers_read offset len >>= λ n. asked w h (file.Read n.0 (length_asked n.1))
+read_read w _ = Err BadRequest
 
--- ---- commands
+-- a handle and a number, as the only words
+abbrev pub handle_and_number : World → List (List ℕ) → Result (HandleId × ℕ) Status
+handle_and_number w (handle ∷ word ∷ []) = handle_id handle >>= λ h. or_bad (number_read word) >>= λ n. handle_in w h >>= λ own. Ok (own, n)
+handle_and_number w _ = Err BadRequest
 
-abbrev pub read_read : List (List ℕ) → Option FileCommand
-read_read (handle ∷ offset ∷ len ∷ []) = with_3 command.Read (id_read 104 handle) (number_read offset) (number_read len)
-read_read _ = None
+abbrev pub set_size_read : World → List (List ℕ) → Result Task Status
+set_size_read w words = handle_and_number w words >>= λ both. event (step.Begin (request.OnHandle both.0 (file.SetSize both.1)))
 
--- the bytes are the last word
-abbrev pub write_read : List (List ℕ) → Option FileCommand
-write_read (handle ∷ offset ∷ bytes ∷ []) = with_2 command.Write (id_read 104 handle) (number_read offset)
-write_read _ = None
+-- with the bytes that one more word spells
+abbrev pub write_read : World → List (List ℕ) → List ℕ → Result Task Status
+write_read w words bytes = handle_and_number w words >>= λ both. event (step.Begin (request.OnHandle both.0 (file.Write both.1 bytes)))
 
-abbrev pub fail_read : List (List ℕ) → Option FileCommand
-fail_read (number ∷ []) = with_1 command.Fail (number_read number)
-fail_read _ = None
+abbrev pub fail_read : List (List ℕ) → Result Task Status
+fail_read (number ∷ []) = or_bad (number_read number) >>= λ n. Ok (task.Fail n)
+fail_read _ = Err BadRequest
 
-abbrev pub failures_read : List (List ℕ) → Option FileCommand
-failures_read [] = Some command.Failures
-failures_read _ = None
+abbrev pub failures_read : List (List ℕ) → Result Task Status
+failures_read [] = Ok task.Failures
+failures_read _ = Err BadRequest
 
--- what the words behind a keyword are read as
-abbrev pub file_read : Keyword → List (List ℕ) → Option FileCommand
-file_read keyword.Read words = read_read words
-file_read keyword.Write words = write_read words
-file_read keyword.Size words = with_1 command.QuerySize (only_handle words)
-file_read keyword.SetSize words = with_1 (λ both. command.SetSize both.0 both.1) (handle_and_number words)
-file_read keyword.Flush words = with_1 command.Flush (only_handle words)
-file_read keyword.Delete words = with_1 command.SetDelete (only_handle words)
-file_read keyword.Cleanup words = with_1 command.Cleanup (only_handle words)
-file_read keyword.Close words = with_1 command.Close (only_handle words)
-file_read keyword.Fail words = fail_read words
-file_read keyword.Failures words = failures_read words
-file_read _ words = None
+-- the words behind a keyword
+abbrev pub file_read : World → Keyword → List (List ℕ) → Result Task Status
+file_read w keyword.Read words = read_read w words
+file_read w keyword.Size words = only_asked w words file.QuerySize
+file_read w keyword.SetSize words = set_size_read w words
+file_read w keyword.Flush words = only_asked w words file.Flush
+file_read w keyword.Delete words = only_asked w words file.SetDelete
+file_read w keyword.Cleanup words = only_asked w words file.Cleanup
+file_read w keyword.Close words = only_asked w words file.Close
+file_read w keyword.Fail words = fail_read words
+file_read w keyword.Failures words = failures_read words
+file_read w _ words = Err BadRequest

@@ -1,33 +1,25 @@
-//! The commands of the script language, and how the words of a line spell them.
+//! The commands of the script language: what the words of a line stand for. First all words are read, 32 (BadRequest) where there is another number of
+//! them or one can't be read, and 3 (BadName), 2 (BadAltitude) or 15 (BadPath) where a name, an altitude or a path is refused by its reader; then an id
+//! that wasn't given is refused: 6, 7, 8, 14, 30 and 25 in this order, and 30 for a worker last.
 
 ghost use Rattle.std.specs.Prelude.{◌≡◌, map};
-ghost use Rattle.fm_script.specs.Numbers.{id_read};
-ghost use Rattle.fm_script.specs.declared.command.Command.TheVariants as CommandOf;
-ghost use Rattle.fm_script.specs.Reading.{with_3};
-ghost use Rattle.fm_script.specs.Commands.{Reads, ReadsAs, Loads, Mounts, Attaches, AnswersFor, ReadsVerdict, ReadsComplete, callbacks_read, step_read, post_read, bare_verdict, one_id, id_or_bad, worker_id, instance_id, AnswersPre, sends_context, pre_with_read, SetsUp, filter_id, volume_id, set_done_read, context_or_file, Creates};
-ghost use Rattle.fm_script.specs.ContextCommands.{context_read};
-ghost use Rattle.fm_script.specs.FileCommands.{file_read};
+ghost use Rattle.fm_script.specs.Commands.{Attaches, AnswersBare, AnswersPre, Creates, Loads, Mounts, Plans, ReadsAs, ReadsComplete, ReadsPlace, ReadsVerdict, SetsUp, attach_at, bare_verdict, collect_read, create_ids, create_mode_read, finish_read, is_of_contexts, list_read, option_read, phase_read, place_ids, post_read, pre_with_read, registration_read, sends_context, set_done_read, setup_at, setup_ids, takes_bytes, turn_read, with_bytes_read, yes_or_no};
+ghost use Rattle.fm_script.specs.Numbers.{id_read, number_read};
+ghost use Rattle.fm_script.specs.Tasks.{numbers_read, one_id, only_worker, or_bad};
 
-use crate::context_command::ContextCommand;
-use crate::file_command::{FileCommand, read_create_mode};
+use crate::context_command::{read_allocate, read_context_command, read_write_body};
+use crate::file_command::{read_file_command, read_write};
+use crate::ids::{context_in, filter_in, instance_in, operation_in, volume_in, worker_in};
 use crate::keyword::Keyword;
-use crate::number::{read_id, read_status};
+use crate::number::{read_id, read_number, read_status};
+use crate::task::Task;
 use fm_altitude::Altitude;
-use fm_data::{Completion, PreVerdict};
-use fm_types::{CreateMode, Name, RelPath, Status};
-
-/// Which callbacks a filter that a script loads has for each operation.
-#[derive(Clone, Copy)]
-pub enum Callbacks {
-    /// Preoperation and postoperation callbacks.
-    Both,
-    /// Preoperation callbacks alone.
-    PreOnly,
-    /// Postoperation callbacks alone.
-    PostOnly,
-    /// Both callbacks, but no kinds of contexts and no routines.
-    Bare,
-}
+use fm_core::{State, Step};
+use fm_data::{Completion, PreVerdict, Request};
+use fm_types::{
+    Bytes, ContextMask, CreateMode, CtxId, Name, OpId, OpMask, Registration, RelPath, Status,
+    WorkerId,
+};
 
 /// The verdict `with`: a script's completions carry the number 0, and no context that the line doesn't name.
 pub const WITH: PreVerdict = PreVerdict::WithCallback(Completion {
@@ -35,217 +27,178 @@ pub const WITH: PreVerdict = PreVerdict::WithCallback(Completion {
     context: None,
 });
 
-/// A command that was read. Its ids are numbers as they stood in the line: whether they are there is asked when the command is run.
-#[derive(Clone, Copy)]
-pub enum Command {
-    /// `load NAME`, then perhaps `only-pre`, `only-post` or `bare`: a filter registers.
-    Load {
-        name: Name,
-        callbacks: Callbacks,
-    },
-    /// `mount NAME`: a volume is mounted.
-    Mount {
-        name: Name,
-    },
-    /// `attach F V NAME ALT`: an instance is attached, and accepts its setup.
-    Attach {
-        filter: u64,
-        volume: u64,
-        name: Name,
-        altitude: Altitude,
-    },
-    /// `setup W F V NAME ALT`: a worker attaches an instance, and is in its setup callback.
-    Setup {
-        worker: u64,
-        filter: u64,
-        volume: u64,
-        name: Name,
-        altitude: Altitude,
-    },
-    /// `setdone W yes` or `no`: the worker's setup callback returns.
-    SetDone {
-        worker: u64,
-        accept: bool,
-    },
-    /// `create V PATH existing` or `new`, `always`: an operation begins.
-    Create {
-        volume: u64,
-        path: RelPath,
-        mode: CreateMode,
-    },
-    /// `list V`: an operation begins.
-    List {
-        volume: u64,
-    },
-    /// `next W O`: a worker takes the operation's next step.
-    Next {
-        worker: u64,
-        operation: u64,
-    },
-    /// `pre W with`, `none` or `complete S`: the worker's preoperation callback returns.
-    Pre {
-        worker: u64,
-        verdict: PreVerdict,
-    },
-    /// `pre W with C`: the same, and a context goes along with the completion.
-    PreWith {
-        worker: u64,
-        context: u64,
-    },
-    /// `plan I with`, `none` or `complete S`: what `go` will answer for the instance's preoperation callbacks.
-    Plan {
-        instance: u64,
-        verdict: PreVerdict,
-    },
-    /// `base W`: the worker's base call returns.
-    Base {
-        worker: u64,
-    },
-    /// `post W done`: the worker's postoperation callback returns.
-    Post {
-        worker: u64,
-    },
-    /// `go W O`: a worker takes the operation's steps until it is held or done.
-    Go {
-        worker: u64,
-        operation: u64,
-    },
-    /// `collect O`: the operation's reply is handed out.
-    Collect {
-        operation: u64,
-    },
-    /// `phase I`: the instance's phase.
-    Phase {
-        instance: u64,
-    },
-    /// `finish I`: an instance without contexts ends.
-    Finish {
-        instance: u64,
-    },
-    /// A command on contexts.
-    Context(ContextCommand),
-    /// A command on a handle, or on the device.
-    File(FileCommand),
-}
-
-impl Command {
-    /// Reads the command that the words of a line spell. It is 32 (BadRequest) where the command is unknown, where it has another number of words, and
-    /// where a word can't be read; after that 3 (BadName), 2 (BadAltitude) or 15 (BadPath) where a name, an altitude or a path is refused by its reader.
-    pub fn read(words: &[&[u8]]) -> Result<Command, Status>
-        ensures { Reads (map (λ word. word.now) words.now) result }
-    {
-        let Some((first, words)) = words.split_first() else {
-            return Err(Status::BadRequest);
-        };
-        match Keyword::read(first) {
-            Some(keyword) => read_as(keyword, words),
-            None => Err(Status::BadRequest),
-        }
-    }
-}
-
-// Reads a command on contexts or on files.
-fn read_other(keyword: Keyword, words: &[&[u8]]) -> Result<Command, Status>
-    ensures { result ≡ context_or_file (context_read keyword (map (λ word. word.now) words.now)) (file_read keyword (map (λ word. word.now) words.now)) }
+/// Whether the command's last word is bytes.
+pub fn takes_bytes(keyword: Keyword) -> bool
+    ensures { result ≡ takes_bytes keyword }
 {
-    if let Some(command) = ContextCommand::read(keyword, words) {
-        return Ok(Command::Context(command));
-    }
-    match FileCommand::read(keyword, words) {
-        Some(command) => Ok(Command::File(command)),
-        None => Err(Status::BadRequest),
+    matches!(keyword, Keyword::Alloc | Keyword::WBody | Keyword::Write)
+}
+
+/// What the words behind the keyword of a command that takes bytes stand for, with those bytes.
+pub fn read_with_bytes(
+    state: &State,
+    contexts: &[CtxId],
+    keyword: Keyword,
+    words: &[&[u8]],
+    bytes: Bytes,
+) -> Result<Task, Status>
+    ensures { result ≡ with_bytes_read state.now contexts.now keyword (map (λ word. word.now) words.now) bytes }
+{
+    match keyword {
+        Keyword::Alloc => read_allocate(words, bytes),
+        Keyword::WBody => read_write_body(contexts, words, bytes),
+        _ => read_write(state, words, bytes),
     }
 }
 
-// Reads the words behind a keyword.
-fn read_as(keyword: Keyword, words: &[&[u8]]) -> Result<Command, Status>
-    ensures { ReadsAs keyword (map (λ word. word.now) words.now) result }
+/// What the words behind the keyword of any other command stand for.
+pub fn read_command(
+    state: &State,
+    contexts: &[CtxId],
+    keyword: Keyword,
+    words: &[&[u8]],
+) -> Result<Task, Status>
+    ensures { ReadsAs state.now contexts.now keyword (map (λ word. word.now) words.now) result }
 {
     match keyword {
         Keyword::Load => read_load(words),
         Keyword::Mount => read_mount(words),
-        Keyword::Attach => read_attach(words),
-        Keyword::List => Ok(Command::List {
-            volume: one_id(b'v', words)?,
-        }),
+        Keyword::Attach => read_attach(state, words),
+        Keyword::Setup => read_setup(state, words),
+        Keyword::SetDone => read_set_done(words),
+        Keyword::Finish => read_finish(state, words),
+        Keyword::Create => read_create(state, words),
+        Keyword::List => read_list(state, words),
         Keyword::Next => {
-            let (worker, operation) = read_step(words)?;
-            Ok(Command::Next { worker, operation })
+            let (worker, operation) = read_turn(state, words)?;
+            Ok(Task::Next { worker, operation })
         }
-        Keyword::Pre => read_pre(words),
-        Keyword::Plan => read_plan(words),
-        Keyword::Base => Ok(Command::Base {
-            worker: one_id(b'w', words)?,
+        Keyword::Go => {
+            let (worker, operation) = read_turn(state, words)?;
+            Ok(Task::Go { worker, operation })
+        }
+        Keyword::Pre => read_pre(contexts, words),
+        Keyword::Base => Ok(Task::Base {
+            worker: only_worker(words)?,
         }),
         Keyword::Post => read_post(words),
-        Keyword::Go => {
-            let (worker, operation) = read_step(words)?;
-            Ok(Command::Go { worker, operation })
-        }
-        Keyword::Collect => Ok(Command::Collect {
-            operation: one_id(b'o', words)?,
-        }),
-        Keyword::Phase => Ok(Command::Phase {
-            instance: one_id(b'i', words)?,
-        }),
-        Keyword::Setup => read_setup(words),
-        Keyword::SetDone => read_set_done(words),
-        Keyword::Finish => Ok(Command::Finish {
-            instance: one_id(b'i', words)?,
-        }),
-        Keyword::Create => read_create(words),
-        other => read_other(other, words),
+        Keyword::Plan => read_plan(state, words),
+        Keyword::Collect => read_collect(state, words),
+        Keyword::Phase => read_phase(state, words),
+        other if is_of_contexts(other) => read_context_command(contexts, other, words),
+        other => read_file_command(state, other, words),
     }
 }
 
-fn read_load(words: &[&[u8]]) -> Result<Command, Status>
+// Whether the command is on contexts.
+fn is_of_contexts(keyword: Keyword) -> bool
+    ensures { result ≡ is_of_contexts keyword }
+{
+    matches!(
+        keyword,
+        Keyword::Set
+            | Keyword::Get
+            | Keyword::Del
+            | Keyword::Ref
+            | Keyword::Rel
+            | Keyword::Body
+            | Keyword::Bump
+            | Keyword::Due
+            | Keyword::Cleaned
+            | Keyword::Count
+            | Keyword::Leaks,
+    )
+}
+
+fn read_load(words: &[&[u8]]) -> Result<Task, Status>
     ensures { Loads (map (λ word. word.now) words.now) result }
 {
-    let (name, callbacks) = match words {
-        [name] => (*name, Callbacks::Both),
-        [name, option] => (*name, read_callbacks(option)?),
-        _ => return Err(Status::BadRequest),
+    let Some((name, options)) = words.split_first() else {
+        return Err(Status::BadRequest);
     };
+    let registration = read_registration(options)?;
     let name = Name::read(name)?;
-    Ok(Command::Load { name, callbacks })
+    Ok(Task::Event(Step::Register { name, registration }))
 }
 
-// The callbacks that an option leaves, or 32.
-fn read_callbacks(option: &[u8]) -> Result<Callbacks, Status>
-    ensures { result ≡ callbacks_read option.now }
+// What a filter registers for: all, but for what an option leaves out.
+fn read_registration(options: &[&[u8]]) -> Result<Registration, Status>
+    ensures { result ≡ registration_read (map (λ word. word.now) options.now) }
 {
-    if option == b"only-pre".as_slice() {
-        Ok(Callbacks::PreOnly)
-    } else if option == b"only-post".as_slice() {
-        Ok(Callbacks::PostOnly)
-    } else if option == b"bare".as_slice() {
-        Ok(Callbacks::Bare)
-    } else {
-        Err(Status::BadRequest)
+    match options {
+        [] => Ok(Registration {
+            pre: OpMask::ALL,
+            post: OpMask::ALL,
+            contexts: ContextMask::ALL,
+            query: true,
+            unload: true,
+        }),
+        [option] => read_option(option),
+        _ => Err(Status::BadRequest),
     }
 }
 
-fn read_mount(words: &[&[u8]]) -> Result<Command, Status>
+fn read_option(option: &[u8]) -> Result<Registration, Status>
+    ensures { result ≡ option_read option.now }
+{
+    let is_bare = option == b"bare".as_slice();
+    let (pre, post) = if option == b"only-pre".as_slice() {
+        (OpMask::ALL, OpMask::NONE)
+    } else if option == b"only-post".as_slice() {
+        (OpMask::NONE, OpMask::ALL)
+    } else if is_bare {
+        (OpMask::ALL, OpMask::ALL)
+    } else {
+        return Err(Status::BadRequest);
+    };
+    let contexts = if is_bare {
+        ContextMask::NONE
+    } else {
+        ContextMask::ALL
+    };
+    Ok(Registration {
+        pre,
+        post,
+        contexts,
+        query: !is_bare,
+        unload: !is_bare,
+    })
+}
+
+fn read_mount(words: &[&[u8]]) -> Result<Task, Status>
     ensures { Mounts (map (λ word. word.now) words.now) result }
 {
     let [name] = words else {
         return Err(Status::BadRequest);
     };
     let name = Name::read(name)?;
-    Ok(Command::Mount { name })
+    Ok(Task::Event(Step::Mount { name }))
 }
 
-fn read_attach(words: &[&[u8]]) -> Result<Command, Status>
-    ensures { Attaches (map (λ word. word.now) words.now) result }
+fn read_attach(state: &State, words: &[&[u8]]) -> Result<Task, Status>
+    ensures { Attaches state.now (map (λ word. word.now) words.now) result }
 {
     let [filter, volume, name, altitude] = words else {
         return Err(Status::BadRequest);
     };
-    let filter = id(b'f', filter)?;
-    let volume = id(b'v', volume)?;
-    let name = Name::read(name)?;
-    let altitude = Altitude::read(altitude)?;
-    Ok(Command::Attach {
+    let (filter, volume) = place_ids(filter, volume)?;
+    let (name, altitude) = read_place(name, altitude)?;
+    attach_at(state, filter, volume, name, altitude)
+}
+
+#[tactic(auto, unfolding(crate::specs::Commands::attach_at))]
+fn attach_at(
+    state: &State,
+    filter: u64,
+    volume: u64,
+    name: Name,
+    altitude: Altitude,
+) -> Result<Task, Status>
+    ensures { result ≡ attach_at state.now filter volume name altitude }
+{
+    let filter = filter_in(state, filter)?;
+    let volume = volume_in(state, volume)?;
+    Ok(Task::Attach {
         filter,
         volume,
         name,
@@ -253,87 +206,158 @@ fn read_attach(words: &[&[u8]]) -> Result<Command, Status>
     })
 }
 
-fn read_setup(words: &[&[u8]]) -> Result<Command, Status>
-    ensures { SetsUp (map (λ word. word.now) words.now) result }
+fn read_setup(state: &State, words: &[&[u8]]) -> Result<Task, Status>
+    ensures { SetsUp state.now (map (λ word. word.now) words.now) result }
 {
     let [worker, filter, volume, name, altitude] = words else {
         return Err(Status::BadRequest);
     };
-    let Some((worker, filter, volume)) = place_ids(worker, filter, volume) else {
-        return Err(Status::BadRequest);
-    };
-    let name = Name::read(name)?;
-    let altitude = Altitude::read(altitude)?;
-    Ok(Command::Setup {
+    let ids = setup_ids(worker, filter, volume)?;
+    let (name, altitude) = read_place(name, altitude)?;
+    setup_at(state, ids, name, altitude)
+}
+
+#[tactic(auto, unfolding(crate::specs::Commands::setup_at))]
+fn setup_at(
+    state: &State,
+    ids: (u64, u64, u64),
+    name: Name,
+    altitude: Altitude,
+) -> Result<Task, Status>
+    ensures { result ≡ setup_at state.now ids name altitude }
+{
+    let (worker, filter, volume) = ids;
+    let filter = filter_in(state, filter)?;
+    let volume = volume_in(state, volume)?;
+    let worker = worker_in(worker)?;
+    Ok(Task::Event(Step::Attach {
         worker,
         filter,
         volume,
         name,
         altitude,
-    })
+    }))
 }
 
-// A worker, a filter and a volume.
-fn place_ids(worker: &[u8], filter: &[u8], volume: &[u8]) -> Option<(u64, u64, u64)>
-    ensures { result ≡ with_3 (λ w f v. (w, f, v)) (worker_id worker.now) (filter_id filter.now) (volume_id volume.now) }
+// The numbers of a filter and a volume.
+#[tactic(auto, unfolding(crate::specs::Commands::place_ids))]
+fn place_ids(filter: &[u8], volume: &[u8]) -> Result<(u64, u64), Status>
+    ensures { result ≡ place_ids filter.now volume.now }
 {
-    let worker = read_id(b'w', worker)?;
-    let filter = read_id(b'f', filter)?;
-    let volume = read_id(b'v', volume)?;
-    Some((worker, filter, volume))
+    Ok((id(b'f', filter)?, id(b'v', volume)?))
 }
 
-fn read_set_done(words: &[&[u8]]) -> Result<Command, Status>
+// The same behind that of a worker.
+#[tactic(auto, unfolding(crate::specs::Commands::setup_ids))]
+fn setup_ids(worker: &[u8], filter: &[u8], volume: &[u8]) -> Result<(u64, u64, u64), Status>
+    ensures { result ≡ setup_ids worker.now filter.now volume.now }
+{
+    let worker = id(b'w', worker)?;
+    let (filter, volume) = place_ids(filter, volume)?;
+    Ok((worker, filter, volume))
+}
+
+// An instance's name and altitude.
+fn read_place(name: &[u8], altitude: &[u8]) -> Result<(Name, Altitude), Status>
+    ensures { ReadsPlace name.now altitude.now result }
+{
+    let name = Name::read(name)?;
+    let altitude = Altitude::read(altitude)?;
+    Ok((name, altitude))
+}
+
+fn read_set_done(words: &[&[u8]]) -> Result<Task, Status>
     ensures { result ≡ set_done_read (map (λ word. word.now) words.now) }
 {
     let [worker, answer] = words else {
         return Err(Status::BadRequest);
     };
     let worker = id(b'w', worker)?;
-    if *answer == b"yes".as_slice() {
-        Ok(Command::SetDone {
-            worker,
-            accept: true,
-        })
-    } else if *answer == b"no".as_slice() {
-        Ok(Command::SetDone {
-            worker,
-            accept: false,
-        })
+    let accept = yes_or_no(answer)?;
+    let worker = worker_in(worker)?;
+    Ok(Task::Event(Step::SetupDone { worker, accept }))
+}
+
+fn yes_or_no(word: &[u8]) -> Result<bool, Status>
+    ensures { result ≡ yes_or_no word.now }
+{
+    if word == b"yes".as_slice() {
+        Ok(true)
+    } else if word == b"no".as_slice() {
+        Ok(false)
     } else {
         Err(Status::BadRequest)
     }
 }
 
-fn read_create(words: &[&[u8]]) -> Result<Command, Status>
-    ensures { Creates (map (λ word. word.now) words.now) result }
+fn read_finish(state: &State, words: &[&[u8]]) -> Result<Task, Status>
+    ensures { result ≡ finish_read state.now (map (λ word. word.now) words.now) }
+{
+    let instance = one_id(b'i', words)?;
+    let instance = instance_in(state, instance)?;
+    Ok(Task::Event(Step::Finish { instance }))
+}
+
+fn read_create(state: &State, words: &[&[u8]]) -> Result<Task, Status>
+    ensures { Creates state.now (map (λ word. word.now) words.now) result }
 {
     let [volume, path, mode] = words else {
         return Err(Status::BadRequest);
     };
-    let volume = id(b'v', volume)?;
-    let Some(mode) = read_create_mode(mode) else {
-        return Err(Status::BadRequest);
-    };
+    let (volume, mode) = create_ids(volume, mode)?;
     let path = RelPath::read(path)?;
-    Ok(Command::Create { volume, path, mode })
+    let volume = volume_in(state, volume)?;
+    Ok(Task::Event(Step::Begin(Request::Create { volume, path, mode })))
 }
 
-// The words of a step: a worker and an operation.
-fn read_step(words: &[&[u8]]) -> Result<(u64, u64), Status>
-    ensures { result ≡ step_read (map (λ word. word.now) words.now) }
+// The number of a volume, and a mode.
+fn create_ids(volume: &[u8], mode: &[u8]) -> Result<(u64, CreateMode), Status>
+    ensures { result ≡ create_ids volume.now mode.now }
+{
+    Ok((id(b'v', volume)?, read_create_mode(mode)?))
+}
+
+// What a create does with a file that is there: `existing`, `new` or `always`.
+fn read_create_mode(word: &[u8]) -> Result<CreateMode, Status>
+    ensures { result ≡ create_mode_read word.now }
+{
+    if word == b"existing".as_slice() {
+        Ok(CreateMode::Existing)
+    } else if word == b"new".as_slice() {
+        Ok(CreateMode::New)
+    } else if word == b"always".as_slice() {
+        Ok(CreateMode::Always)
+    } else {
+        Err(Status::BadRequest)
+    }
+}
+
+fn read_list(state: &State, words: &[&[u8]]) -> Result<Task, Status>
+    ensures { result ≡ list_read state.now (map (λ word. word.now) words.now) }
+{
+    let volume = one_id(b'v', words)?;
+    let volume = volume_in(state, volume)?;
+    Ok(Task::Event(Step::Begin(Request::List { volume })))
+}
+
+// A worker and an operation.
+fn read_turn(state: &State, words: &[&[u8]]) -> Result<(WorkerId, OpId), Status>
+    ensures { result ≡ turn_read state.now (map (λ word. word.now) words.now) }
 {
     let [worker, operation] = words else {
         return Err(Status::BadRequest);
     };
-    Ok((id(b'w', worker)?, id(b'o', operation)?))
+    let worker = id(b'w', worker)?;
+    let operation = id(b'o', operation)?;
+    let operation = operation_in(state, operation)?;
+    Ok((worker_in(worker)?, operation))
 }
 
-fn read_pre(words: &[&[u8]]) -> Result<Command, Status>
-    ensures { AnswersPre (map (λ word. word.now) words.now) result }
+fn read_pre(contexts: &[CtxId], words: &[&[u8]]) -> Result<Task, Status>
+    ensures { AnswersPre contexts.now (map (λ word. word.now) words.now) result }
 {
     if sends_context(words) {
-        read_pre_with(words)
+        read_pre_with(contexts, words)
     } else {
         read_pre_bare(words)
     }
@@ -349,49 +373,72 @@ fn sends_context(words: &[&[u8]]) -> bool
     }
 }
 
-fn read_pre_with(words: &[&[u8]]) -> Result<Command, Status>
-    ensures { result ≡ pre_with_read (map (λ word. word.now) words.now) }
+fn read_pre_with(contexts: &[CtxId], words: &[&[u8]]) -> Result<Task, Status>
+    ensures { result ≡ pre_with_read contexts.now (map (λ word. word.now) words.now) }
 {
     let [worker, _, context] = words else {
         return Err(Status::BadRequest);
     };
     let worker = id(b'w', worker)?;
     let context = id(b'c', context)?;
-    Ok(Command::PreWith { worker, context })
+    let context = Some(context_in(contexts, context)?);
+    let worker = worker_in(worker)?;
+    let verdict = PreVerdict::WithCallback(Completion { number: 0, context });
+    Ok(Task::Pre { worker, verdict })
 }
 
 // An answer without a context.
-fn read_pre_bare(words: &[&[u8]]) -> Result<Command, Status>
-    ensures { AnswersFor worker_id (map (λ word. word.now) words.now) CommandOf.Pre result }
+fn read_pre_bare(words: &[&[u8]]) -> Result<Task, Status>
+    ensures { AnswersBare (map (λ word. word.now) words.now) result }
 {
     let Some((worker, verdict)) = words.split_first() else {
         return Err(Status::BadRequest);
     };
     let worker = id(b'w', worker)?;
     let verdict = read_verdict(verdict)?;
-    Ok(Command::Pre { worker, verdict })
+    let worker = worker_in(worker)?;
+    Ok(Task::Pre { worker, verdict })
 }
 
-fn read_plan(words: &[&[u8]]) -> Result<Command, Status>
-    ensures { AnswersFor instance_id (map (λ word. word.now) words.now) CommandOf.Plan result }
+fn read_plan(state: &State, words: &[&[u8]]) -> Result<Task, Status>
+    ensures { Plans state.now (map (λ word. word.now) words.now) result }
 {
     let Some((instance, verdict)) = words.split_first() else {
         return Err(Status::BadRequest);
     };
     let instance = id(b'i', instance)?;
     let verdict = read_verdict(verdict)?;
-    Ok(Command::Plan { instance, verdict })
+    let instance = instance_in(state, instance)?;
+    Ok(Task::Plan { instance, verdict })
 }
 
-fn read_post(words: &[&[u8]]) -> Result<Command, Status>
+fn read_post(words: &[&[u8]]) -> Result<Task, Status>
     ensures { result ≡ post_read (map (λ word. word.now) words.now) }
 {
     match words {
-        [worker, verdict] if *verdict == b"done".as_slice() => Ok(Command::Post {
-            worker: id(b'w', worker)?,
-        }),
+        [worker, verdict] if *verdict == b"done".as_slice() => {
+            let worker = id(b'w', worker)?;
+            Ok(Task::Post {
+                worker: worker_in(worker)?,
+            })
+        }
         _ => Err(Status::BadRequest),
     }
+}
+
+fn read_collect(state: &State, words: &[&[u8]]) -> Result<Task, Status>
+    ensures { result ≡ collect_read state.now (map (λ word. word.now) words.now) }
+{
+    let operation = one_id(b'o', words)?;
+    let operation = operation_in(state, operation)?;
+    Ok(Task::Event(Step::Collect { operation }))
+}
+
+fn read_phase(state: &State, words: &[&[u8]]) -> Result<Task, Status>
+    ensures { result ≡ phase_read state.now (map (λ word. word.now) words.now) }
+{
+    let instance = one_id(b'i', words)?;
+    Ok(Task::Phase(instance_in(state, instance)?))
 }
 
 fn read_verdict(words: &[&[u8]]) -> Result<PreVerdict, Status>
@@ -427,8 +474,16 @@ fn read_complete(word: &[u8]) -> Result<PreVerdict, Status>
     }
 }
 
-// The id that is the only word.
-fn one_id(letter: u8, words: &[&[u8]]) -> Result<u64, Status>
+/// The worker that is the only word.
+pub(crate) fn only_worker(words: &[&[u8]]) -> Result<WorkerId, Status>
+    ensures { result ≡ only_worker (map (λ word. word.now) words.now) }
+{
+    let worker = one_id(b'w', words)?;
+    worker_in(worker)
+}
+
+/// The id that is the only word.
+pub(crate) fn one_id(letter: u8, words: &[&[u8]]) -> Result<u64, Status>
     ensures { result ≡ one_id letter (map (λ word. word.now) words.now) }
 {
     let [word] = words else {
@@ -437,9 +492,24 @@ fn one_id(letter: u8, words: &[&[u8]]) -> Result<u64, Status>
     id(letter, word)
 }
 
-// The number of an id, or 32 where the word is no id of that letter.
-fn id(letter: u8, word: &[u8]) -> Result<u64, Status>
-    ensures { result ≡ id_or_bad (id_read letter word.now) }
+/// The number of an id, or 32 where the word is no id of that letter.
+pub(crate) fn id(letter: u8, word: &[u8]) -> Result<u64, Status>
+    ensures { result ≡ or_bad (id_read letter word.now) }
 {
     read_id(letter, word).ok_or(Status::BadRequest)
+}
+
+/// Two numbers.
+#[tactic(auto, unfolding(crate::specs::Tasks::numbers_read))]
+pub(crate) fn numbers(one: &[u8], other: &[u8]) -> Result<(u64, u64), Status>
+    ensures { result ≡ numbers_read one.now other.now }
+{
+    Ok((number(one)?, number(other)?))
+}
+
+/// The number that a word is, or 32.
+pub(crate) fn number(word: &[u8]) -> Result<u64, Status>
+    ensures { result ≡ or_bad (number_read word.now) }
+{
+    read_number(word).ok_or(Status::BadRequest)
 }

@@ -1,259 +1,273 @@
-//! The commands on contexts, and how the words of a line spell them.
+//! The commands on contexts. A context is meant by its number in the order of allocation.
 
 ghost use Rattle.std.specs.Prelude.{◌≡◌, map};
-ghost use Rattle.fm_script.specs.ContextCommands.{allocate_read, bump_read, context_read, delete_read, get_read, kind_read, mode_read, old_read, only_id, set_read, worker_and_context, write_body_read};
+ghost use Rattle.fm_script.specs.ContextCommands.{allocate_read, bump_as, bump_at, bump_read, context_read, delete_as, delete_read, held_ids, held_read, kind_of_read, kind_read, leaks_read, manner_read, mode_read, old_read, set_as, set_read, write_body_read};
+ghost use Rattle.fm_script.specs.Tasks.{held_in};
 
+use crate::command::{id, numbers, one_id, only_worker};
+use crate::ids::{context_in, worker_in};
 use crate::keyword::Keyword;
-use crate::number::{read_id, read_number};
-use fm_core::SetMode;
-use fm_types::ContextKind;
+use crate::task::Task;
+use fm_core::{SetMode, Step};
+use fm_types::{Bytes, ContextKind, CtxId, Status, WorkerId};
 
-/// A command on contexts that was read. A context is meant by its number in the order of allocation. Bytes stay in the line, whose last word they are:
-/// they are read when the command is run, since that takes memory.
-#[derive(Clone, Copy)]
-pub enum ContextCommand {
-    /// `alloc W KIND HEX`: a context is allocated, with those bytes as its body.
-    Allocate {
-        worker: u64,
-        kind: ContextKind,
-    },
-    /// `set W C keep` or `replace`, then perhaps `old`: a context is set.
-    Set {
-        worker: u64,
-        context: u64,
-        mode: SetMode,
-        wants_old: bool,
-    },
-    /// `get W KIND`: the context that is set is got.
-    Get {
-        worker: u64,
-        kind: ContextKind,
-    },
-    /// `del W KIND`, then perhaps `old`: the context that is set is taken off.
-    Delete {
-        worker: u64,
-        kind: ContextKind,
-        wants_old: bool,
-    },
-    /// `ref W C`: a reference more.
-    Reference {
-        worker: u64,
-        context: u64,
-    },
-    /// `rel W C`: a reference less.
-    Release {
-        worker: u64,
-        context: u64,
-    },
-    /// `body W C`: the body is read.
-    ReadBody {
-        worker: u64,
-        context: u64,
-    },
-    /// `wbody W C HEX`: the body is written.
-    WriteBody {
-        worker: u64,
-        context: u64,
-    },
-    /// `bump W C PLACE BY`: a number in the body grows.
-    Bump {
-        worker: u64,
-        context: u64,
-        place: u64,
-        by: u64,
-    },
-    /// `due W`: a worker takes the context that is due.
-    TakeDue {
-        worker: u64,
-    },
-    /// `cleaned W`: the worker's cleanup callback returns.
-    Cleaned {
-        worker: u64,
-    },
-    /// `count C`: how far the context's life has come.
-    Count {
-        context: u64,
-    },
-    /// `leaks`: how many references callbacks left behind.
-    Leaks,
-}
-
-impl ContextCommand {
-    /// Reads the words behind a keyword; none where it is none of these commands, where there is another number of words, or one that can't be read.
-    pub fn read(keyword: Keyword, words: &[&[u8]]) -> Option<ContextCommand>
-        ensures { result ≡ context_read keyword (map (λ word. word.now) words.now) }
-    {
-        match keyword {
-            Keyword::Alloc => read_allocate(words),
-            Keyword::Set => read_set(words),
-            Keyword::Get => read_get(words),
-            Keyword::Del => read_delete(words),
-            Keyword::Ref => {
-                let (worker, context) = worker_and_context(words)?;
-                Some(ContextCommand::Reference { worker, context })
-            }
-            Keyword::Rel => {
-                let (worker, context) = worker_and_context(words)?;
-                Some(ContextCommand::Release { worker, context })
-            }
-            Keyword::Body => {
-                let (worker, context) = worker_and_context(words)?;
-                Some(ContextCommand::ReadBody { worker, context })
-            }
-            Keyword::WBody => read_write_body(words),
-            Keyword::Bump => read_bump(words),
-            Keyword::Due => Some(ContextCommand::TakeDue {
-                worker: one_id(b'w', words)?,
-            }),
-            Keyword::Cleaned => Some(ContextCommand::Cleaned {
-                worker: one_id(b'w', words)?,
-            }),
-            Keyword::Count => Some(ContextCommand::Count {
-                context: one_id(b'c', words)?,
-            }),
-            Keyword::Leaks => match words {
-                [] => Some(ContextCommand::Leaks),
-                _ => None,
-            },
-            _ => None,
+/// What the words behind the keyword of a command on contexts stand for.
+pub(crate) fn read_context_command(
+    contexts: &[CtxId],
+    keyword: Keyword,
+    words: &[&[u8]],
+) -> Result<Task, Status>
+    ensures { result ≡ context_read contexts.now keyword (map (λ word. word.now) words.now) }
+{
+    match keyword {
+        Keyword::Set => read_set(contexts, words),
+        Keyword::Get => {
+            let (worker, kind) = read_kind_of(words)?;
+            Ok(Task::Event(Step::Get { worker, kind }))
         }
+        Keyword::Del => read_delete(words),
+        Keyword::Ref => {
+            let (worker, context) = read_held(contexts, words)?;
+            Ok(Task::Event(Step::Reference { worker, context }))
+        }
+        Keyword::Rel => {
+            let (worker, context) = read_held(contexts, words)?;
+            Ok(Task::Event(Step::Release { worker, context }))
+        }
+        Keyword::Body => {
+            let (worker, context) = read_held(contexts, words)?;
+            Ok(Task::Event(Step::ReadBody { worker, context }))
+        }
+        Keyword::Bump => read_bump(contexts, words),
+        Keyword::Due => Ok(Task::Event(Step::TakeDue {
+            worker: only_worker(words)?,
+        })),
+        Keyword::Cleaned => Ok(Task::Event(Step::Cleaned {
+            worker: only_worker(words)?,
+            number: 0,
+        })),
+        Keyword::Count => {
+            let context = one_id(b'c', words)?;
+            Ok(Task::Count(context_in(contexts, context)?))
+        }
+        Keyword::Leaks => read_leaks(words),
+        _ => Err(Status::BadRequest),
     }
 }
 
-// The id that is the only word.
-fn one_id(letter: u8, words: &[&[u8]]) -> Option<u64>
-    ensures { result ≡ only_id letter (map (λ word. word.now) words.now) }
+// A context and the worker that says it holds it.
+fn held_by(contexts: &[CtxId], worker: u64, context: u64) -> Result<(WorkerId, CtxId), Status>
+    ensures { result ≡ held_in contexts.now worker context }
 {
-    let [word] = words else {
-        return None;
-    };
-    read_id(letter, word)
+    let context = context_in(contexts, context)?;
+    let worker = worker_in(worker)?;
+    Ok((worker, context))
 }
 
-// A worker and a context, as the only words.
-fn worker_and_context(words: &[&[u8]]) -> Option<(u64, u64)>
-    ensures { result ≡ worker_and_context (map (λ word. word.now) words.now) }
+// The same, as the only words.
+fn read_held(contexts: &[CtxId], words: &[&[u8]]) -> Result<(WorkerId, CtxId), Status>
+    ensures { result ≡ held_read contexts.now (map (λ word. word.now) words.now) }
 {
     let [worker, context] = words else {
-        return None;
+        return Err(Status::BadRequest);
     };
-    Some((read_id(b'w', worker)?, read_id(b'c', context)?))
+    let (worker, context) = held_ids(worker, context)?;
+    held_by(contexts, worker, context)
 }
 
-fn read_allocate(words: &[&[u8]]) -> Option<ContextCommand>
-    ensures { result ≡ allocate_read (map (λ word. word.now) words.now) }
+// The numbers of a worker and a context.
+#[tactic(auto, unfolding(crate::specs::ContextCommands::held_ids))]
+fn held_ids(worker: &[u8], context: &[u8]) -> Result<(u64, u64), Status>
+    ensures { result ≡ held_ids worker.now context.now }
 {
-    let [worker, kind, _] = words else {
-        return None;
-    };
-    Some(ContextCommand::Allocate {
-        worker: read_id(b'w', worker)?,
-        kind: read_kind(kind)?,
-    })
+    Ok((id(b'w', worker)?, id(b'c', context)?))
 }
 
-fn read_set(words: &[&[u8]]) -> Option<ContextCommand>
-    ensures { result ≡ set_read (map (λ word. word.now) words.now) }
-{
-    let [worker, context, mode, rest @ ..] = words else {
-        return None;
-    };
-    Some(ContextCommand::Set {
-        worker: read_id(b'w', worker)?,
-        context: read_id(b'c', context)?,
-        mode: read_mode(mode)?,
-        wants_old: read_old(rest)?,
-    })
-}
-
-fn read_get(words: &[&[u8]]) -> Option<ContextCommand>
-    ensures { result ≡ get_read (map (λ word. word.now) words.now) }
+// A worker and a kind of contexts, as the only words.
+fn read_kind_of(words: &[&[u8]]) -> Result<(WorkerId, ContextKind), Status>
+    ensures { result ≡ kind_of_read (map (λ word. word.now) words.now) }
 {
     let [worker, kind] = words else {
-        return None;
+        return Err(Status::BadRequest);
     };
-    Some(ContextCommand::Get {
-        worker: read_id(b'w', worker)?,
-        kind: read_kind(kind)?,
-    })
+    let worker = id(b'w', worker)?;
+    let kind = read_kind(kind)?;
+    Ok((worker_in(worker)?, kind))
 }
 
-fn read_delete(words: &[&[u8]]) -> Option<ContextCommand>
+/// `alloc W KIND HEX`: a context is allocated, with those bytes as its body.
+pub(crate) fn read_allocate(words: &[&[u8]], bytes: Bytes) -> Result<Task, Status>
+    ensures { result ≡ allocate_read (map (λ word. word.now) words.now) bytes }
+{
+    let (worker, kind) = read_kind_of(words)?;
+    Ok(Task::Event(Step::Allocate {
+        worker,
+        kind,
+        body: bytes,
+    }))
+}
+
+/// `wbody W C HEX`: the body is written.
+pub(crate) fn read_write_body(
+    contexts: &[CtxId],
+    words: &[&[u8]],
+    bytes: Bytes,
+) -> Result<Task, Status>
+    ensures { result ≡ write_body_read contexts.now (map (λ word. word.now) words.now) bytes }
+{
+    let (worker, context) = read_held(contexts, words)?;
+    Ok(Task::Event(Step::WriteBody {
+        worker,
+        context,
+        bytes,
+    }))
+}
+
+fn read_set(contexts: &[CtxId], words: &[&[u8]]) -> Result<Task, Status>
+    ensures { result ≡ set_read contexts.now (map (λ word. word.now) words.now) }
+{
+    match words {
+        [worker, context, mode, rest @ ..] => set_as(contexts, worker, context, mode, rest),
+        _ => Err(Status::BadRequest),
+    }
+}
+
+#[tactic(auto, unfolding(crate::specs::ContextCommands::set_as))]
+fn set_as(
+    contexts: &[CtxId],
+    worker: &[u8],
+    context: &[u8],
+    mode: &[u8],
+    rest: &[&[u8]],
+) -> Result<Task, Status>
+    ensures { result ≡ set_as contexts.now worker.now context.now mode.now (map (λ word. word.now) rest.now) }
+{
+    let (worker, context) = held_ids(worker, context)?;
+    let (mode, wants_old) = read_manner(mode, rest)?;
+    let (worker, context) = held_by(contexts, worker, context)?;
+    Ok(Task::Event(Step::Set {
+        worker,
+        context,
+        mode,
+        wants_old,
+    }))
+}
+
+// How a context is set: the mode, and whether the old one is wanted.
+fn read_manner(mode: &[u8], rest: &[&[u8]]) -> Result<(SetMode, bool), Status>
+    ensures { result ≡ manner_read mode.now (map (λ word. word.now) rest.now) }
+{
+    Ok((read_mode(mode)?, read_old(rest)?))
+}
+
+fn read_delete(words: &[&[u8]]) -> Result<Task, Status>
     ensures { result ≡ delete_read (map (λ word. word.now) words.now) }
 {
-    let [worker, kind, rest @ ..] = words else {
-        return None;
-    };
-    Some(ContextCommand::Delete {
-        worker: read_id(b'w', worker)?,
-        kind: read_kind(kind)?,
-        wants_old: read_old(rest)?,
-    })
+    match words {
+        [worker, kind, rest @ ..] => delete_as(worker, kind, rest),
+        _ => Err(Status::BadRequest),
+    }
 }
 
-fn read_write_body(words: &[&[u8]]) -> Option<ContextCommand>
-    ensures { result ≡ write_body_read (map (λ word. word.now) words.now) }
+#[tactic(auto, unfolding(crate::specs::ContextCommands::delete_as))]
+fn delete_as(worker: &[u8], kind: &[u8], rest: &[&[u8]]) -> Result<Task, Status>
+    ensures { result ≡ delete_as worker.now kind.now (map (λ word. word.now) rest.now) }
 {
-    let [worker, context, _] = words else {
-        return None;
-    };
-    Some(ContextCommand::WriteBody {
-        worker: read_id(b'w', worker)?,
-        context: read_id(b'c', context)?,
-    })
+    let worker = id(b'w', worker)?;
+    let kind = read_kind(kind)?;
+    let wants_old = read_old(rest)?;
+    let worker = worker_in(worker)?;
+    Ok(Task::Event(Step::Delete {
+        worker,
+        kind,
+        wants_old,
+    }))
 }
 
-fn read_bump(words: &[&[u8]]) -> Option<ContextCommand>
-    ensures { result ≡ bump_read (map (λ word. word.now) words.now) }
+fn read_bump(contexts: &[CtxId], words: &[&[u8]]) -> Result<Task, Status>
+    ensures { result ≡ bump_read contexts.now (map (λ word. word.now) words.now) }
 {
-    let [worker, context, place, by] = words else {
-        return None;
-    };
-    Some(ContextCommand::Bump {
-        worker: read_id(b'w', worker)?,
-        context: read_id(b'c', context)?,
-        place: read_number(place)?,
-        by: read_number(by)?,
-    })
+    match words {
+        [worker, context, place, by] => bump_as(contexts, worker, context, place, by),
+        _ => Err(Status::BadRequest),
+    }
+}
+
+#[tactic(auto, unfolding(crate::specs::ContextCommands::bump_as))]
+fn bump_as(
+    contexts: &[CtxId],
+    worker: &[u8],
+    context: &[u8],
+    place: &[u8],
+    by: &[u8],
+) -> Result<Task, Status>
+    ensures { result ≡ bump_as contexts.now worker.now context.now place.now by.now }
+{
+    let ids = held_ids(worker, context)?;
+    let numbers = numbers(place, by)?;
+    bump_at(contexts, ids, numbers)
+}
+
+#[tactic(auto, unfolding(crate::specs::ContextCommands::bump_at))]
+fn bump_at(contexts: &[CtxId], ids: (u64, u64), numbers: (u64, u64)) -> Result<Task, Status>
+    ensures { result ≡ bump_at contexts.now ids numbers }
+{
+    let (worker, context) = held_by(contexts, ids.0, ids.1)?;
+    let (place, by) = numbers;
+    Ok(Task::Event(Step::Bump {
+        worker,
+        context,
+        place,
+        by,
+    }))
+}
+
+fn read_leaks(words: &[&[u8]]) -> Result<Task, Status>
+    ensures { result ≡ leaks_read (map (λ word. word.now) words.now) }
+{
+    match words {
+        [] => Ok(Task::Leaks),
+        _ => Err(Status::BadRequest),
+    }
 }
 
 // A kind of contexts, by its name.
-fn read_kind(word: &[u8]) -> Option<ContextKind>
+fn read_kind(word: &[u8]) -> Result<ContextKind, Status>
     ensures { result ≡ kind_read word.now }
 {
     if word == b"volume".as_slice() {
-        Some(ContextKind::Volume)
+        Ok(ContextKind::Volume)
     } else if word == b"instance".as_slice() {
-        Some(ContextKind::Instance)
+        Ok(ContextKind::Instance)
     } else if word == b"stream".as_slice() {
-        Some(ContextKind::Stream)
+        Ok(ContextKind::Stream)
     } else if word == b"handle".as_slice() {
-        Some(ContextKind::Handle)
+        Ok(ContextKind::Handle)
     } else {
-        None
+        Err(Status::BadRequest)
     }
 }
 
 // What to do where a context is set already.
-fn read_mode(word: &[u8]) -> Option<SetMode>
+fn read_mode(word: &[u8]) -> Result<SetMode, Status>
     ensures { result ≡ mode_read word.now }
 {
     if word == b"keep".as_slice() {
-        Some(SetMode::Keep)
+        Ok(SetMode::Keep)
     } else if word == b"replace".as_slice() {
-        Some(SetMode::Replace)
+        Ok(SetMode::Replace)
     } else {
-        None
+        Err(Status::BadRequest)
     }
 }
 
 // Whether the old context is wanted: `old`, or nothing.
-fn read_old(words: &[&[u8]]) -> Option<bool>
+fn read_old(words: &[&[u8]]) -> Result<bool, Status>
     ensures { result ≡ old_read (map (λ word. word.now) words.now) }
 {
     match words {
-        [] => Some(false),
-        [word] if *word == b"old".as_slice() => Some(true),
-        _ => None,
+        [] => Ok(false),
+        [word] if *word == b"old".as_slice() => Ok(true),
+        _ => Err(Status::BadRequest),
     }
 }

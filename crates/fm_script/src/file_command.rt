@@ -1,136 +1,119 @@
-//! The commands on files, and how the words of a line spell them.
+//! The commands on files and on the device.
 
 ghost use Rattle.std.specs.Prelude.{◌≡◌, map};
-ghost use Rattle.fm_script.specs.FileCommands.{create_mode_read, failures_read, file_read, handle_and_number, only_handle, read_read, write_read};
+ghost use Rattle.fm_script.specs.FileCommands.{asked, fail_read, failures_read, file_read, handle_and_number, length_asked, only_asked, read_read, set_size_read, write_read};
 
+use crate::command::{id, number, numbers};
+use crate::ids::handle_in;
 use crate::keyword::Keyword;
-use crate::number::{read_id, read_number};
-use fm_types::CreateMode;
+use crate::task::Task;
+use fm_core::{State, Step};
+use fm_data::{FileRequest, Request};
+use fm_types::{Bytes, HandleId, Status};
 
-/// A command on a handle or on the device that was read. The bytes of a write stay in the line, whose last word they are: they are read when the
-/// command is run, since that takes memory.
-#[derive(Clone, Copy)]
-pub enum FileCommand {
-    /// `read H OFFSET LEN`: a read begins.
-    Read { handle: u64, offset: u64, len: u64 },
-    /// `write H OFFSET HEX`: a write begins.
-    Write { handle: u64, offset: u64 },
-    /// `size H`: the size is asked for.
-    QuerySize { handle: u64 },
-    /// `setsize H N`: the file is cut or filled up.
-    SetSize { handle: u64, size: u64 },
-    /// `flush H`.
-    Flush { handle: u64 },
-    /// `delete H`: the file is marked for deletion.
-    SetDelete { handle: u64 },
-    /// `cleanup H`.
-    Cleanup { handle: u64 },
-    /// `close H`.
-    Close { handle: u64 },
-    /// `fail N`: the script's device call of that number fails.
-    Fail { number: u64 },
-    /// `failures`: how many device calls failed.
-    Failures,
-}
-
-impl FileCommand {
-    /// Reads the words behind a keyword; none where it is none of these commands, where there is another number of words, or one that can't be read.
-    pub fn read(keyword: Keyword, words: &[&[u8]]) -> Option<FileCommand>
-        ensures { result ≡ file_read keyword (map (λ word. word.now) words.now) }
-    {
-        match keyword {
-            Keyword::Read => read_read(words),
-            Keyword::Write => read_write(words),
-            Keyword::Size => Some(FileCommand::QuerySize {
-                handle: only_handle(words)?,
-            }),
-            Keyword::SetSize => {
-                let (handle, size) = handle_and_number(words)?;
-                Some(FileCommand::SetSize { handle, size })
-            }
-            Keyword::Flush => Some(FileCommand::Flush {
-                handle: only_handle(words)?,
-            }),
-            Keyword::Delete => Some(FileCommand::SetDelete {
-                handle: only_handle(words)?,
-            }),
-            Keyword::Cleanup => Some(FileCommand::Cleanup {
-                handle: only_handle(words)?,
-            }),
-            Keyword::Close => Some(FileCommand::Close {
-                handle: only_handle(words)?,
-            }),
-            Keyword::Fail => match words {
-                [number] => Some(FileCommand::Fail {
-                    number: read_number(number)?,
-                }),
-                _ => None,
-            },
-            Keyword::Failures => match words {
-                [] => Some(FileCommand::Failures),
-                _ => None,
-            },
-            _ => None,
-        }
+/// What the words behind the keyword of a command on a handle or on the device stand for.
+pub(crate) fn read_file_command(
+    state: &State,
+    keyword: Keyword,
+    words: &[&[u8]],
+) -> Result<Task, Status>
+    ensures { result ≡ file_read state.now keyword (map (λ word. word.now) words.now) }
+{
+    match keyword {
+        Keyword::Read => read_read(state, words),
+        Keyword::Size => only_asked(state, words, FileRequest::QuerySize),
+        Keyword::SetSize => read_set_size(state, words),
+        Keyword::Flush => only_asked(state, words, FileRequest::Flush),
+        Keyword::Delete => only_asked(state, words, FileRequest::SetDelete),
+        Keyword::Cleanup => only_asked(state, words, FileRequest::Cleanup),
+        Keyword::Close => only_asked(state, words, FileRequest::Close),
+        Keyword::Fail => read_fail(words),
+        Keyword::Failures => read_failures(words),
+        _ => Err(Status::BadRequest),
     }
 }
 
-// The handle that is the only word.
-fn only_handle(words: &[&[u8]]) -> Option<u64>
-    ensures { result ≡ only_handle (map (λ word. word.now) words.now) }
+fn read_read(state: &State, words: &[&[u8]]) -> Result<Task, Status>
+    ensures { result ≡ read_read state.now (map (λ word. word.now) words.now) }
 {
-    let [word] = words else {
-        return None;
+    let [handle, offset, len] = words else {
+        return Err(Status::BadRequest);
     };
-    read_id(b'h', word)
+    let handle = id(b'h', handle)?;
+    let (offset, len) = numbers(offset, len)?;
+    let len = length_asked(len);
+    asked(state, handle, FileRequest::Read { offset, len })
 }
 
 // A handle and a number, as the only words.
-fn handle_and_number(words: &[&[u8]]) -> Option<(u64, u64)>
-    ensures { result ≡ handle_and_number (map (λ word. word.now) words.now) }
+fn handle_and_number(state: &State, words: &[&[u8]]) -> Result<(HandleId, u64), Status>
+    ensures { result ≡ handle_and_number state.now (map (λ word. word.now) words.now) }
 {
-    let [handle, number] = words else {
-        return None;
+    let [handle, word] = words else {
+        return Err(Status::BadRequest);
     };
-    Some((read_id(b'h', handle)?, read_number(number)?))
+    let handle = id(b'h', handle)?;
+    let number = number(word)?;
+    Ok((handle_in(state, handle)?, number))
 }
 
-fn read_read(words: &[&[u8]]) -> Option<FileCommand>
-    ensures { result ≡ read_read (map (λ word. word.now) words.now) }
+fn read_set_size(state: &State, words: &[&[u8]]) -> Result<Task, Status>
+    ensures { result ≡ set_size_read state.now (map (λ word. word.now) words.now) }
 {
-    let [handle, offset, len] = words else {
-        return None;
-    };
-    Some(FileCommand::Read {
-        handle: read_id(b'h', handle)?,
-        offset: read_number(offset)?,
-        len: read_number(len)?,
-    })
+    let (handle, size) = handle_and_number(state, words)?;
+    let request = FileRequest::SetSize { size };
+    Ok(Task::Event(Step::Begin(Request::OnHandle { handle, request })))
 }
 
-fn read_write(words: &[&[u8]]) -> Option<FileCommand>
-    ensures { result ≡ write_read (map (λ word. word.now) words.now) }
+/// `write H OFFSET HEX`: a write of those bytes begins.
+pub(crate) fn read_write(state: &State, words: &[&[u8]], bytes: Bytes) -> Result<Task, Status>
+    ensures { result ≡ write_read state.now (map (λ word. word.now) words.now) bytes }
 {
-    let [handle, offset, _] = words else {
-        return None;
-    };
-    Some(FileCommand::Write {
-        handle: read_id(b'h', handle)?,
-        offset: read_number(offset)?,
-    })
+    let (handle, offset) = handle_and_number(state, words)?;
+    let request = FileRequest::Write { offset, bytes };
+    Ok(Task::Event(Step::Begin(Request::OnHandle { handle, request })))
 }
 
-/// What a create does with a file that is there: `existing`, `new` or `always`.
-pub(crate) fn read_create_mode(word: &[u8]) -> Option<CreateMode>
-    ensures { result ≡ create_mode_read word.now }
+fn read_fail(words: &[&[u8]]) -> Result<Task, Status>
+    ensures { result ≡ fail_read (map (λ word. word.now) words.now) }
 {
-    if word == b"existing".as_slice() {
-        Some(CreateMode::Existing)
-    } else if word == b"new".as_slice() {
-        Some(CreateMode::New)
-    } else if word == b"always".as_slice() {
-        Some(CreateMode::Always)
-    } else {
-        None
+    let [word] = words else {
+        return Err(Status::BadRequest);
+    };
+    Ok(Task::Fail(number(word)?))
+}
+
+fn read_failures(words: &[&[u8]]) -> Result<Task, Status>
+    ensures { result ≡ failures_read (map (λ word. word.now) words.now) }
+{
+    match words {
+        [] => Ok(Task::Failures),
+        _ => Err(Status::BadRequest),
     }
+}
+
+// A request on the handle that is the only word begins.
+fn only_asked(state: &State, words: &[&[u8]], request: FileRequest) -> Result<Task, Status>
+    ensures { result ≡ only_asked state.now (map (λ word. word.now) words.now) request }
+{
+    let [handle] = words else {
+        return Err(Status::BadRequest);
+    };
+    let handle = id(b'h', handle)?;
+    asked(state, handle, request)
+}
+
+// A request on a handle begins.
+fn asked(state: &State, handle: u64, request: FileRequest) -> Result<Task, Status>
+    ensures { result ≡ asked state.now handle request }
+{
+    let handle = handle_in(state, handle)?;
+    Ok(Task::Event(Step::Begin(Request::OnHandle { handle, request })))
+}
+
+// A length past all bounds stands for one that is past the limit, so that the event refuses it.
+fn length_asked(len: u64) -> u32
+    ensures { result ≡ length_asked len }
+{
+    u32::try_from(len).unwrap_or(u32::MAX)
 }

@@ -1,7 +1,7 @@
 //! The words that commands begin with.
 
 ghost use Rattle.std.specs.Prelude.{◌≡◌};
-ghost use Rattle.fm_script.specs.Keywords.{keyword_read, spelling};
+ghost use Rattle.fm_script.specs.Commands.{keyword_read, spelling};
 
 /// What the first word of a line asks for.
 #[derive(Clone, Copy, Debug, PartialEq, Eq)]
@@ -91,7 +91,7 @@ const ALL: [Keyword; 39] = [
 
 impl Keyword {
     /// The keyword that a word is, if it is one.
-    #[tactic(auto, unfolding(crate::specs::Keywords::keyword_read))]
+    #[tactic(auto, unfolding(crate::specs::Commands::keyword_read))]
     pub fn read(word: &[u8]) -> Option<Keyword>
         ensures { result ≡ keyword_read word.now }
     {

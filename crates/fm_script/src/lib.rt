@@ -21,10 +21,7 @@ mod script_end;
 mod task;
 mod words;
 
-pub use crate::command::{Callbacks, Command};
-pub use crate::context_command::ContextCommand;
 pub use crate::devices::Devices;
-pub use crate::file_command::FileCommand;
 pub use crate::hexadecimal::{read_hex, write_hex};
 pub use crate::interpreter::Interpreter;
 pub use crate::number::{read_id, read_number, read_status};

@@ -1,22 +1,21 @@
 //! Runs a script line by line, and prints what each line answers.
 
 ghost use Rattle.std.specs.Prelude.{◌≡◌, map};
-ghost use Rattle.fm_script.specs.Lines.{Brings, OrMemory, ReadsTask, RunsLine, is_silent, takes_bytes};
+ghost use Rattle.fm_script.specs.Lines.{OrMemory, ReadsBehind, ReadsBytes, ReadsTask, RunsLine, Spells, is_silent};
 ghost use Rattle.fm_script.specs.Runs.{Goes, PerformsOr};
 ghost use Rattle.fm_script.specs.Words.{words_of};
 ghost use Rattle.fm_script.specs.declared.task.Task.TheVariants as TaskOf;
 
-use crate::command::Command;
-use crate::context_command::ContextCommand;
-use crate::file_command::FileCommand;
+use crate::command::{read_command, read_with_bytes, takes_bytes};
 use crate::hexadecimal::read_hex;
 use crate::interpreter::Interpreter;
+use crate::keyword::Keyword;
 use crate::output::Output;
 use crate::said::{
     Said, Word, phase_word, said_attached, said_count, said_done, said_given, said_of,
 };
 use crate::script_end::ScriptEnd;
-use crate::task::{Task, task_of};
+use crate::task::Task;
 use crate::words::split_words;
 use fm_core::Step;
 use fm_data::PreVerdict;
@@ -82,20 +81,44 @@ impl<W: Write + Drop> Runner<W> {
     fn read_words(&self, words: &[&[u8]]) -> Result<Task, Status>
         ensures { OrMemory result (ReadsTask (map (λ word. word.now) words.now) self.now.interpreter result) }
     {
-        let command = Command::read(words)?;
-        let bytes = self.bytes_of(&command, words)?;
-        let state = self.interpreter.state();
-        task_of(state, self.interpreter.contexts(), bytes, command)
+        let Some((first, words)) = words.split_first() else {
+            return Err(Status::BadRequest);
+        };
+        match Keyword::read(first) {
+            Some(keyword) => self.read_behind(keyword, words),
+            None => Err(Status::BadRequest),
+        }
     }
 
-    // The bytes that a command's fourth word spells, where it takes some.
-    fn bytes_of(&self, command: &Command, words: &[&[u8]]) -> Result<Bytes, Status>
-        ensures { OrMemory result (Brings (takes_bytes command.now) (map (λ word. word.now) words.now) result) }
+    // The same by the keyword and what stands behind it.
+    fn read_behind(&self, keyword: Keyword, words: &[&[u8]]) -> Result<Task, Status>
+        ensures { OrMemory result (ReadsBehind (Some keyword) (map (λ word. word.now) words.now) self.now.interpreter result) }
     {
-        if !takes_bytes(command) {
-            return Ok(Bytes::new(self.alloc));
+        if takes_bytes(keyword) {
+            self.read_bytes(keyword, words)
+        } else {
+            let state = self.interpreter.state();
+            read_command(state, self.interpreter.contexts(), keyword, words)
         }
-        let word = words.get(3).ok_or(Status::BadRequest)?;
+    }
+
+    // The same of a command that takes bytes, which its last word spells.
+    fn read_bytes(&self, keyword: Keyword, words: &[&[u8]]) -> Result<Task, Status>
+        ensures { OrMemory result (ReadsBytes keyword (map (λ word. word.now) words.now) self.now.interpreter result) }
+    {
+        let [one, other, word] = words else {
+            return Err(Status::BadRequest);
+        };
+        let bytes = self.bytes_of(word)?;
+        let state = self.interpreter.state();
+        let contexts = self.interpreter.contexts();
+        read_with_bytes(state, contexts, keyword, &[*one, *other], bytes)
+    }
+
+    // The bytes that a word spells.
+    fn bytes_of(&self, word: &[u8]) -> Result<Bytes, Status>
+        ensures { OrMemory result (Spells word.now result) }
+    {
         let bytes = read_hex(self.alloc, word)?.ok_or(Status::BadRequest)?;
         Ok(Bytes::from_vec(bytes))
     }
@@ -220,15 +243,4 @@ fn is_silent(line: &[u8]) -> bool
         [] => true,
         [first, ..] => *first == b'#',
     }
-}
-
-// Whether the command's fourth word is bytes.
-fn takes_bytes(command: &Command) -> bool
-    ensures { result ≡ takes_bytes command.now }
-{
-    matches!(
-        command,
-        Command::Context(ContextCommand::Allocate { .. } | ContextCommand::WriteBody { .. })
-            | Command::File(FileCommand::Write { .. }),
-    )
 }

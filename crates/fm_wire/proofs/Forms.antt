@@ -1,8 +1,10 @@
 -- Which field texts no form has.
 use Rattle.fm_wire.proofs.Words.{ℕ, cond, List, length, refl, sym, arith, inl, inr, length-append, number_of, Status, CreateMode, Existing}
-use Rattle.fm_wire.proofs.Words.{Request, bytes_of_u32, bytes_of_u64, mode_number, request_code, request_fields, control_code}
+use Rattle.fm_wire.proofs.Words.{Request, bytes_of_u32, bytes_of_u64, mode_number, file_code, request_code, request_fields, control_code}
 use Rattle.fm_wire.proofs.Words.{control_fields, reply_code, reply_fields}
 use Rattle.std.proofs.Common.{◌≡◌, ◌≢◌, ◌+◌, ◌<◌, ◌≤◌, ◌⊎◌, ◌==◌, ◌∷◌, ◌++◌, ◌∙◌}
+use Rattle.fm_data.specs.declared.request.FileRequest.{FileRequest}
+use Rattle.fm_data.specs.declared.request.FileRequest.TheVariants as file
 use Rattle.fm_data.specs.declared.request.Request.TheVariants as request
 use Rattle.fm_data.specs.declared.request.Reply.{Reply}
 use Rattle.fm_data.specs.declared.request.Reply.TheVariants as reply
@@ -14,9 +16,14 @@ use Rattle.fm_wire.proofs.Bytes.{length-u16, length-u32, length-u64}
 
 -- ---- whose codes are which
 
-pub request_codes : (r : Request) → (1 ≤ request_code r) × (request_code r ≤ 9)
-request_codes (request.Create volume path mode) = (omega arith, omega arith)
-request_codes r = (omega arith, omega arith)
+pub file_apart : (r : FileRequest) → (file_code r ≢ 1) × (file_code r ≢ 7)
+file_apart file.Cleanup = (λ e. omega arith, λ e. omega arith)
+file_apart r = (λ e. omega arith, λ e. omega arith)
+
+pub request_codes : (r : Request) → request_code r ≤ 9
+request_codes (request.Create volume path mode) = omega arith
+request_codes (request.OnHandle handle file.Cleanup) = omega arith
+request_codes r = omega arith
 
 pub control_codes : (c : Control) → (16 ≤ control_code c) × (control_code c ≤ 21)
 control_codes (control.Load name) = (omega arith, omega arith)
@@ -49,20 +56,18 @@ formless_reply code fields low none (body.Refused status) s = s.limits
 abbrev pub request_size : ℕ → ℕ
 request_size code = cond (code == 2) 20 (cond (code == 5) 16 (cond (code == 7) 1 8))
 
-request_has_size : (r : Request) → request_code r ≢ 1 → request_code r ≢ 3 → length (request_fields r) ≡ request_size (request_code r)
-request_has_size (request.Create volume path mode) a b = absurd (a refl)
-request_has_size (request.Read handle offset len) a b = simp (length-append, length-u64, length-u32)
-request_has_size (request.Write handle offset bytes) a b = absurd (b refl)
-request_has_size (request.SetSize handle size) a b = simp (length-append, length-u64)
-request_has_size (request.QuerySize handle) a b = length-u64 handle.0
-request_has_size (request.Flush handle) a b = length-u64 handle.0
-request_has_size (request.List volume) a b = refl
-request_has_size (request.SetDelete handle) a b = length-u64 handle.0
-request_has_size (request.Close handle) a b = length-u64 handle.0
+request_has_size : (r : Request) → request_code r ≢ 1 → request_code r ≢ 3 → KeepsRequestLimits r → length (request_fields r) ≡ request_size (request_code r)
+request_has_size (request.Create volume path mode) a b limits = absurd (a refl)
+request_has_size (request.List volume) a b limits = refl
+request_has_size (request.OnHandle handle (file.Read offset len)) a b limits = simp (length-append, length-u64, length-u32)
+request_has_size (request.OnHandle handle (file.Write offset bytes)) a b limits = absurd (b refl)
+request_has_size (request.OnHandle handle (file.SetSize size)) a b limits = simp (length-append, length-u64)
+request_has_size (request.OnHandle handle file.Cleanup) a b limits = absurd limits
+request_has_size (request.OnHandle handle asked) a b limits = simp (length-append, length-u64)
 
 pub request_of_wrong_size : (code : ℕ) (fields : List ℕ) → code ≤ 9 → code ≢ 1 → code ≢ 3 → length fields ≢ request_size code → IsFormless code fields
 request_of_wrong_size code fields small a b bad =
-    formless_request code fields small (λ r c f fits limits. bad (rw (← c, ← f) (request_has_size r (λ e. a (sym c ∙ e)) (λ e. b (sym c ∙ e)))))
+    formless_request code fields small (λ r c f fits limits. bad (rw (← c, ← f) (request_has_size r (λ e. a (sym c ∙ e)) (λ e. b (sym c ∙ e)) limits)))
 
 abbrev pub control_size : ℕ → ℕ
 control_size code = cond (code == 18) 2 (cond (code == 21) 0 1)
@@ -103,17 +108,18 @@ mode_small mode = omega arith
 pub no_create : (fields : List ℕ) → ((volume mode : ℕ) (path : List ℕ) → fields ≡ volume ∷ mode ∷ path → mode ≤ 2 → ⊥) → IsFormless 1 fields
 no_create fields none = formless_request 1 fields (omega arith) (elim [
   | request.Create volume path mode ↦ λ c f fits limits. none volume.0 (mode_number mode) path (sym f) (mode_small mode)
+  | request.OnHandle handle asked ↦ λ c f fits limits. (file_apart asked).0 c
   | r ↦ λ c f fits limits. absurd (omega arith)
 ])
 
 pub no_read : (fields : List ℕ) → ((handle offset len : ℕ) → fields ≡ bytes_of_u64 handle ++ (bytes_of_u64 offset ++ bytes_of_u32 len) → len ≤ 32768 → ⊥) → IsFormless 2 fields
 no_read fields none = formless_request 2 fields (omega arith) (elim [
-  | request.Read handle offset len ↦ λ c f fits limits. none handle.0 offset len (sym f) limits
+  | request.OnHandle handle (file.Read offset len) ↦ λ c f fits limits. none handle.0 offset len (sym f) limits
   | r ↦ λ c f fits limits. absurd (omega arith)
 ])
 
 write_size : (fields : List ℕ) (r : Request) → request_code r ≡ 3 → request_fields r ≡ fields → KeepsRequestLimits r → (16 ≤ length fields) × (length fields ≤ 16 + 32768)
-write_size fields (request.Write handle offset bytes) c f limits =
+write_size fields (request.OnHandle handle (file.Write offset bytes)) c f limits =
     let len : length fields ≡ 16 + length bytes = rw (← f) (simp (length-append, length-u64) (omega arith)) in
     (omega arith, omega arith)
 write_size fields _ c f limits = absurd (omega arith)

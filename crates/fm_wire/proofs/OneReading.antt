@@ -1,7 +1,7 @@
 -- Bytes are read in one way.
 use Rattle.fm_wire.proofs.Words.{ℕ, cond, List, [], length, get_or, refl, sym, ap, arith, append-nil, number_of, Status}
 use Rattle.fm_wire.proofs.Words.{CreateMode, Existing, New, Always, Request, Body, bytes_of_u16, bytes_of_u32, bytes_of_u64, mode_number}
-use Rattle.fm_wire.proofs.Words.{request_code, request_fields, control_code, control_fields, reply_code, reply_fields, code_of, fields_of}
+use Rattle.fm_wire.proofs.Words.{file_code, file_fields, request_code, request_fields, control_code, control_fields, reply_code, reply_fields, code_of, fields_of}
 use Rattle.std.proofs.Common.{◌≡◌, ◌^◌, ◌<◌, ◌==◌, ◌∷◌, ◌++◌, ◌∙◌}
 use Rattle.fm_types.specs.declared.ids.HandleId.{HandleId}
 use Rattle.fm_types.specs.declared.ids.VolumeId.{VolumeId}
@@ -12,15 +12,17 @@ use Rattle.fm_types.specs.declared.status.Status.TheVariants.{DoNotDetach, Delet
 use Rattle.fm_types.specs.declared.status.Status.TheVariants.{DeviceFault, FileNotFound, AlreadyExists, NotRegistered, AlreadyDefined}
 use Rattle.fm_types.specs.declared.status.Status.TheVariants.{AlreadyLinked, NoContext, NotHeld, HandFull, NoObject, NotPended, TooMany}
 use Rattle.fm_types.specs.declared.status.Status.TheVariants.{WrongStep, EndOfFile, BadRequest, Dismounting, Busy}
+use Rattle.fm_data.specs.declared.request.FileRequest.{FileRequest}
+use Rattle.fm_data.specs.declared.request.FileRequest.TheVariants as file
 use Rattle.fm_data.specs.declared.request.Request.TheVariants as request
 use Rattle.fm_data.specs.declared.request.Reply.{Reply}
 use Rattle.fm_data.specs.declared.request.Reply.TheVariants as reply
 use Rattle.fm_wire.specs.declared.frame.Control.{Control}
 use Rattle.fm_wire.specs.declared.frame.Control.TheVariants as control
 use Rattle.fm_wire.specs.declared.frame.Body.TheVariants as body
-use Rattle.fm_wire.specs.Grammar.{Fits, FitsRequest, FitsControl, FitsReply, KeepsLimits, KeepsReplyLimits, HasCount, Says}
+use Rattle.fm_wire.specs.Grammar.{Fits, FitsFile, FitsRequest, FitsControl, FitsReply, KeepsLimits, KeepsReplyLimits, HasCount, Says}
 use Rattle.fm_wire.proofs.Parts.{same_parts, same_u16, same_u32, same_u64}
-use Rattle.fm_wire.proofs.Forms.{request_codes, control_codes, reply_codes}
+use Rattle.fm_wire.proofs.Forms.{file_apart, request_codes, control_codes, reply_codes}
 
 -- ---- one value for each spelling
 
@@ -43,9 +45,6 @@ alone_u32 m n ms ns e = (same_u32 m n [] [] ms ns (append-nil (bytes_of_u32 m) �
 alone_u64 : (m n : ℕ) → m < 2 ^ 64 → n < 2 ^ 64 → bytes_of_u64 m ≡ bytes_of_u64 n → m ≡ n
 alone_u64 m n ms ns e = (same_u64 m n [] [] ms ns (append-nil (bytes_of_u64 m) ∙ e ∙ sym (append-nil (bytes_of_u64 n)))).0
 
-handle_alone : (a b : HandleId) → a.0 < 2 ^ 64 → b.0 < 2 ^ 64 → bytes_of_u64 a.0 ≡ bytes_of_u64 b.0 → a ≡ b
-handle_alone a b ms ns e = handle_is a b (alone_u64 a.0 b.0 ms ns e)
-
 mode_of : ℕ → CreateMode
 mode_of number = cond (number == 0) Existing (cond (number == 1) New Always)
 
@@ -57,29 +56,33 @@ mode_again mode = refl
 one_mode : (a b : CreateMode) → mode_number a ≡ mode_number b → a ≡ b
 one_mode a b e = sym (mode_again a) ∙ ap (λ (n : ℕ). mode_of n) e ∙ mode_again b
 
+one_file : (r s : FileRequest) → file_code r ≡ file_code s → file_fields r ≡ file_fields s → FitsFile r → FitsFile s → r ≡ s
+one_file (file.Read offset len) (file.Read o l) c f x y =
+    let first = same_u64 offset o (bytes_of_u32 len) (bytes_of_u32 l) x.0 y.0 f in
+    rw (first.0, alone_u32 len l x.1 y.1 first.1) refl
+one_file (file.Write offset bytes) (file.Write o b) c f x y = let first = same_u64 offset o bytes b x y f in rw (first.0, first.1) refl
+one_file (file.SetSize size) (file.SetSize s) c f x y = rw (alone_u64 size s x y f) refl
+one_file file.QuerySize file.QuerySize c f x y = refl
+one_file file.Flush file.Flush c f x y = refl
+one_file file.SetDelete file.SetDelete c f x y = refl
+one_file file.Cleanup file.Cleanup c f x y = refl
+one_file file.Close file.Close c f x y = refl
+one_file _ _ c f x y = absurd (omega arith)
+
 one_request : (r s : Request) → request_code r ≡ request_code s → request_fields r ≡ request_fields s → FitsRequest r → FitsRequest s → r ≡ s
 one_request (request.Create volume path mode) (request.Create w q n) c f x y =
     let v : volume ≡ w = volume_is volume w cc in
     let m : mode ≡ n = one_mode mode n cc in
     let p : path ≡ q = cc in
     rw (v, m, p) refl
-one_request (request.Read handle offset len) (request.Read h o l) c f x y =
-    let first = same_u64 handle.0 h.0 (bytes_of_u64 offset ++ bytes_of_u32 len) (bytes_of_u64 o ++ bytes_of_u32 l) x.0 y.0 f in
-    let second = same_u64 offset o (bytes_of_u32 len) (bytes_of_u32 l) x.1 y.1 first.1 in
-    let third = alone_u32 len l x.2 y.2 second.1 in
-    rw (handle_is handle h first.0, second.0, third) refl
-one_request (request.Write handle offset bytes) (request.Write h o b) c f x y =
-    let first = same_u64 handle.0 h.0 (bytes_of_u64 offset ++ bytes) (bytes_of_u64 o ++ b) x.0 y.0 f in
-    let second = same_u64 offset o bytes b x.1 y.1 first.1 in
-    rw (handle_is handle h first.0, second.0, second.1) refl
-one_request (request.QuerySize handle) (request.QuerySize h) c f x y = rw (handle_alone handle h x y f) refl
-one_request (request.SetSize handle size) (request.SetSize h s) c f x y =
-    let first = same_u64 handle.0 h.0 (bytes_of_u64 size) (bytes_of_u64 s) x.0 y.0 f in
-    rw (handle_is handle h first.0, alone_u64 size s x.1 y.1 first.1) refl
-one_request (request.Flush handle) (request.Flush h) c f x y = rw (handle_alone handle h x y f) refl
 one_request (request.List volume) (request.List w) c f x y = rw (volume_is volume w cc) refl
-one_request (request.SetDelete handle) (request.SetDelete h) c f x y = rw (handle_alone handle h x y f) refl
-one_request (request.Close handle) (request.Close h) c f x y = rw (handle_alone handle h x y f) refl
+one_request (request.OnHandle handle r) (request.OnHandle h s) c f x y =
+    let first = same_u64 handle.0 h.0 (file_fields r) (file_fields s) x.0 y.0 f in
+    rw (handle_is handle h first.0, one_file r s c first.1 x.1 y.1) refl
+one_request (request.OnHandle handle r) (request.Create w q n) c f x y = absurd ((file_apart r).0 c)
+one_request (request.OnHandle handle r) (request.List w) c f x y = absurd ((file_apart r).1 c)
+one_request (request.Create w q n) (request.OnHandle handle r) c f x y = absurd ((file_apart r).0 (sym c))
+one_request (request.List w) (request.OnHandle handle r) c f x y = absurd ((file_apart r).1 (sym c))
 one_request _ _ c f x y = absurd (omega arith)
 
 one_control : (r s : Control) → control_code r ≡ control_code s → control_fields r ≡ control_fields s → FitsControl r → FitsControl s → r ≡ s

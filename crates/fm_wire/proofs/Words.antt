@@ -4,7 +4,7 @@ pub use Rattle.fm_types.specs.Statuses.{information_of, number_of}
 pub use Rattle.fm_types.specs.declared.operation.CreateMode.{CreateMode}
 pub use Rattle.fm_types.specs.declared.operation.CreateMode.TheVariants.{Always, Existing, New}
 pub use Rattle.fm_types.specs.declared.status.Status.{Status}
-pub use Rattle.fm_wire.specs.Spelling.{body_of, bytes_of_u16, bytes_of_u32, bytes_of_u64, code_of, control_code, control_fields, fields_of}
+pub use Rattle.fm_wire.specs.Spelling.{body_of, bytes_of_u16, bytes_of_u32, bytes_of_u64, code_of, control_code, control_fields, fields_of, file_code, file_fields}
 pub use Rattle.fm_wire.specs.Spelling.{framed, mode_number, reply_code, reply_fields, request_code, request_fields, spelling_of}
 pub use Rattle.fm_wire.specs.Stream.{Begins, IsFault, IsPartial, Splits}
 pub use Rattle.fm_wire.specs.declared.frame.Body.{Body}

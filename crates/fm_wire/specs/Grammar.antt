@@ -6,6 +6,8 @@ use Rattle.fm_types.specs.Statuses.{number_of, information_of}
 use Rattle.fm_types.specs.declared.status.Status.{Status}
 use Rattle.fm_types.specs.declared.status.Status.TheVariants.{BadAltitude, BadName, BadPath, BadRequest}
 use Rattle.fm_altitude.specs.Grammar.{IsAltitude, canonical}
+use Rattle.fm_data.specs.declared.request.FileRequest.{FileRequest}
+use Rattle.fm_data.specs.declared.request.FileRequest.TheVariants as file
 use Rattle.fm_data.specs.declared.request.Request.{Request}
 use Rattle.fm_data.specs.declared.request.Request.TheVariants as request
 use Rattle.fm_data.specs.declared.request.Reply.{Reply}
@@ -19,16 +21,16 @@ use Rattle.fm_wire.specs.Spelling.{bytes_of_u32, code_of, fields_of, body_of, fr
 
 -- ---- forms: each number fits its field, and no more bytes are read or written than operations may
 
+abbrev pub FitsFile : FileRequest → Type 0
+FitsFile (file.Read offset len) = (offset < 2 ^ 64) × (len < 2 ^ 32)
+FitsFile (file.Write offset bytes) = offset < 2 ^ 64
+FitsFile (file.SetSize size) = size < 2 ^ 64
+FitsFile _ = Unit {0}
+
 abbrev pub FitsRequest : Request → Type 0
 FitsRequest (request.Create volume path mode) = volume.0 < 256
-FitsRequest (request.Read handle offset len) = (handle.0 < 2 ^ 64) × (offset < 2 ^ 64) × (len < 2 ^ 32)
-FitsRequest (request.Write handle offset bytes) = (handle.0 < 2 ^ 64) × (offset < 2 ^ 64)
-FitsRequest (request.QuerySize handle) = handle.0 < 2 ^ 64
-FitsRequest (request.SetSize handle size) = (handle.0 < 2 ^ 64) × (size < 2 ^ 64)
-FitsRequest (request.Flush handle) = handle.0 < 2 ^ 64
 FitsRequest (request.List volume) = volume.0 < 256
-FitsRequest (request.SetDelete handle) = handle.0 < 2 ^ 64
-FitsRequest (request.Close handle) = handle.0 < 2 ^ 64
+FitsRequest (request.OnHandle handle asked) = (handle.0 < 2 ^ 64) × FitsFile asked
 
 abbrev pub FitsControl : Control → Type 0
 FitsControl (control.Load name) = Unit {0}
@@ -49,9 +51,15 @@ Fits (body.Control c) = FitsControl c
 Fits (body.Reply r) = FitsReply r
 Fits (body.Refused status) = Unit {0}
 
+-- a cleanup may not be said: a close brings it
+abbrev pub KeepsFileLimits : FileRequest → Type 0
+KeepsFileLimits (file.Read offset len) = len ≤ 32768
+KeepsFileLimits (file.Write offset bytes) = length bytes ≤ 32768
+KeepsFileLimits file.Cleanup = ⊥
+KeepsFileLimits _ = Unit {0}
+
 abbrev pub KeepsRequestLimits : Request → Type 0
-KeepsRequestLimits (request.Read handle offset len) = len ≤ 32768
-KeepsRequestLimits (request.Write handle offset bytes) = length bytes ≤ 32768
+KeepsRequestLimits (request.OnHandle handle asked) = KeepsFileLimits asked
 KeepsRequestLimits _ = Unit {0}
 
 -- the information beside Busy is Busy's count

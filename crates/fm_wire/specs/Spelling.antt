@@ -4,6 +4,8 @@ use Rattle.std.specs.Int.{w16, w32, w64, to_be_bytes}
 use Rattle.fm_types.specs.Statuses.{number_of}
 use Rattle.fm_types.specs.declared.operation.CreateMode.{CreateMode}
 use Rattle.fm_types.specs.declared.operation.CreateMode.TheVariants.{Existing, New, Always}
+use Rattle.fm_data.specs.declared.request.FileRequest.{FileRequest}
+use Rattle.fm_data.specs.declared.request.FileRequest.TheVariants as file
 use Rattle.fm_data.specs.declared.request.Request.{Request}
 use Rattle.fm_data.specs.declared.request.Request.TheVariants as request
 use Rattle.fm_data.specs.declared.request.Reply.{Reply}
@@ -29,27 +31,32 @@ mode_number Existing = 0
 mode_number New = 1
 mode_number Always = 2
 
+-- what is asked of a handle: its code, which a cleanup has none of, and the fields behind the handle
+abbrev pub file_code : FileRequest → ℕ
+file_code (file.Read offset len) = 2
+file_code (file.Write offset bytes) = 3
+file_code file.QuerySize = 4
+file_code (file.SetSize size) = 5
+file_code file.Flush = 6
+file_code file.SetDelete = 8
+file_code file.Close = 9
+file_code file.Cleanup = 0
+
+abbrev pub file_fields : FileRequest → List ℕ
+file_fields (file.Read offset len) = bytes_of_u64 offset ++ bytes_of_u32 len
+file_fields (file.Write offset bytes) = bytes_of_u64 offset ++ bytes
+file_fields (file.SetSize size) = bytes_of_u64 size
+file_fields _ = []
+
 abbrev pub request_code : Request → ℕ
 request_code (request.Create volume path mode) = 1
-request_code (request.Read handle offset len) = 2
-request_code (request.Write handle offset bytes) = 3
-request_code (request.QuerySize handle) = 4
-request_code (request.SetSize handle size) = 5
-request_code (request.Flush handle) = 6
 request_code (request.List volume) = 7
-request_code (request.SetDelete handle) = 8
-request_code (request.Close handle) = 9
+request_code (request.OnHandle handle asked) = file_code asked
 
 abbrev pub request_fields : Request → List ℕ
 request_fields (request.Create volume path mode) = volume.0 ∷ mode_number mode ∷ path
-request_fields (request.Read handle offset len) = bytes_of_u64 handle.0 ++ (bytes_of_u64 offset ++ bytes_of_u32 len)
-request_fields (request.Write handle offset bytes) = bytes_of_u64 handle.0 ++ (bytes_of_u64 offset ++ bytes)
-request_fields (request.QuerySize handle) = bytes_of_u64 handle.0
-request_fields (request.SetSize handle size) = bytes_of_u64 handle.0 ++ bytes_of_u64 size
-request_fields (request.Flush handle) = bytes_of_u64 handle.0
 request_fields (request.List volume) = volume.0 ∷ []
-request_fields (request.SetDelete handle) = bytes_of_u64 handle.0
-request_fields (request.Close handle) = bytes_of_u64 handle.0
+request_fields (request.OnHandle handle asked) = bytes_of_u64 handle.0 ++ file_fields asked
 
 abbrev pub control_code : Control → ℕ
 control_code (control.Load name) = 16

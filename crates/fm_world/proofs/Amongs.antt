@@ -1,13 +1,12 @@
 -- What each step of an operation leaves of its place among the instances.
-use Rattle.std.proofs.Common.{◌≡◌, ℕ, ◌≤◌, ◌<◌, ◌||◌, Bool, true, false, List, [], ◌∷◌, ◌++◌, map, Option, Some, None, length, refl, ap, sym, ◌∙◌, subst, arith, count_by, option_and_then}
-use Rattle.fm_world.proofs.Words.{All, filter_map, cons_option, false≢true, same_Some, none-some, slice_get_within, append-nil, filter_map-append}
-use Rattle.fm_world.proofs.Words.{All-nil, All-head, All-tail, All-push, All-weaker, list_any-append, VolumeId, Status, Operation, StackWorld}
-use Rattle.fm_world.proofs.Words.{is_candidate, is_to_visit, IsHighest, Follows, IsStack, Stage, Descending, InBase, Ascending, PostRunning, PostHeld}
-use Rattle.fm_world.proofs.Words.{Entry, Pre, Base, Post, Drain, PreVisit, PreState, PostState, visit_of, visited, last_visited, post_of, posted}
-use Rattle.fm_world.proofs.Words.{last_posted, is_base, has_base, settle_pre, settle_post, settle_drain, post_leads, after, walk, way_of, if_down}
-use Rattle.fm_world.proofs.Words.{PostVisit, IsDescent, HasRoom, last_of, IsAmongAt, NoneLeft, and_parts}
-use Rattle.fm_world.proofs.Descents.{descent_visits, descent_reaches, descent_follows, none_follows, room_visits, room_follows, last_of-cons, last_of-push}
-use Rattle.fm_world.proofs.Cases.{count-le}
+use Rattle.std.proofs.Common.{Bool, List, None, Option, Some, [], ap, arith, count_by, false, length, map, option_and_then, refl, subst, sym, true, ℕ, ◌++◌, ◌<◌, ◌||◌, ◌∙◌, ◌∷◌, ◌≡◌, ◌≤◌}
+use Rattle.fm_world.proofs.Words.{All, All-head, All-push, All-tail, All-weaker, Ascending, Base, Descending, Entry, Follows, HasRoom, InBase}
+use Rattle.fm_world.proofs.Words.{IsAmongAt, IsDescent, IsHighest, IsStack, NoneLeft, Operation, Post, PostHeld, PostRunning, PostState}
+use Rattle.fm_world.proofs.Words.{PostVisit, Pre, PreState, PreVisit, StackWorld, Stage, Status, VolumeId, after, append-nil, cons_option}
+use Rattle.fm_world.proofs.Words.{filter_map, filter_map-append, has_base, if_down, is_base, is_candidate, is_to_visit, last_of, last_posted}
+use Rattle.fm_world.proofs.Words.{last_visited, list_any-append, none-some, post_of, posted, same_Some, settle_drain, settle_post, settle_pre}
+use Rattle.fm_world.proofs.Words.{slice_get_within, visit_of, visited, walk, way_of}
+use Rattle.fm_world.proofs.Descents.{descent_follows, descent_reaches, descent_visits, last_of-cons, last_of-push, none_follows, room_follows, room_visits}
 
 -- ---- an operation on its way down has no base entry
 
@@ -18,28 +17,21 @@ is_up PostHeld = true
 is_up _ = false
 
 walk_on : (next : Option Stage) (es : List Entry) (t : Stage) → option_and_then (λ s. walk s es) next ≡ Some t → (s : Stage) × (next ≡ Some s) × (walk s es ≡ Some t)
-walk_on None es t h = absurd (none-some t h)
-walk_on (Some s) es t h = (s, refl, h)
+walk_on next es t h = grind arith
 
 after_up : (s : Stage) (e : Entry) (t : Stage) → is_up s ≡ true → after s e ≡ Some t → is_up t ≡ true
-after_up Ascending (Post visit) t u h =
-    ap is_up (sym (same_Some (post_leads visit.state) t h)) ∙ elim visit.state as (λ x. is_up (post_leads x) ≡ true) [ PostState.Running ↦ refl | _ ↦ refl ]
-after_up s (Drain visit) t u h = ap is_up (sym (same_Some s t h)) ∙ u
-after_up _ _ t u h = cc
+after_up s e t u h = grind arith
 
 stays_up : (s : Stage) (es : List Entry) (t : Stage) → is_up s ≡ true → walk s es ≡ Some t → is_up t ≡ true
 stays_up s [] t u h = ap is_up (sym (same_Some s t h)) ∙ u
 stays_up s (e ∷ es) t u h = let k = walk_on (after s e) es t h in stays_up k.0 es t (after_up s e k.0 u k.1) k.2
 
 base_leads_up : (s t : Stage) → if_down s Ascending ≡ Some t → is_up t ≡ true
-base_leads_up Descending t h = ap is_up (sym (same_Some Ascending t h))
-base_leads_up _ t h = absurd (none-some t h)
+base_leads_up s t h = grind arith
 
 no_base_from : (s : Stage) (es : List Entry) (t : Stage) → walk s es ≡ Some t → is_up t ≡ false → has_base es ≡ false
 no_base_from s [] t h u = refl
-no_base_from s (Base status information ∷ es) t h u =
-    let k = walk_on (after s (Base status information)) es t h in
-    absurd (false≢true (sym u ∙ stays_up k.0 es t (base_leads_up s k.0 k.1) k.2))
+no_base_from s (Base status information ∷ es) t h u = grind (arith, walk_on, stays_up, base_leads_up)
 no_base_from s (e ∷ es) t h u = let k = walk_on (after s e) es t h in no_base_from k.0 es t k.2 u
 
 pub no_base : (s : Stage) (es : List Entry) → walk Descending es ≡ Some (way_of s) → is_up (way_of s) ≡ false → has_base es ≡ false
@@ -60,12 +52,10 @@ base_push : (es : List Entry) (e : Entry) → has_base (es ++ e ∷ []) ≡ (has
 base_push es e = list_any-append is_base es (e ∷ [])
 
 or_false : (a : Bool) → (a || (false || false)) ≡ a
-or_false true = refl
-or_false false = refl
+or_false a = grind arith
 
 or_true : (a : Bool) → (a || (true || false)) ≡ true
-or_true true = refl
-or_true false = refl
+or_true a = grind arith
 
 last_holds : (P : ℕ → Type 0) (is : List ℕ) (l : ℕ) → All P is → last_of is ≡ Some l → P l
 last_holds P [] l all h = absurd (none-some l h)
@@ -81,9 +71,7 @@ record Stands (s : StackWorld) (v : VolumeId) (born : ℕ) (operation : Operatio
 among_from : (s : StackWorld) (v : VolumeId) (born : ℕ) (operation : Operation) (entries : List Entry) (stage : Stage) (visits : List ℕ) (reached : Bool)
     → visited entries ≡ visits → has_base entries ≡ reached → Stands s v born operation visits reached
     → (stage ≡ InBase → NoneLeft s v (last_visited entries) born operation) → IsAmongAt s v born operation entries stage
-among_from s v born operation entries stage visits reached ve be h base =
-    let k = subst (λ b. Stands s v born operation (visited entries) b) (sym be) (subst (λ x. Stands s v born operation x reached) (sym ve) h) in
-    record { descent = k.descent; room = k.room; there = k.there; base = base }
+among_from s v born operation entries stage visits reached ve be h base = grind arith
 
 stands_of : {s : StackWorld} {v : VolumeId} {born : ℕ} {operation : Operation} (entries : List Entry) (stage : Stage)
     → IsAmongAt s v born operation entries stage → Stands s v born operation (visited entries) (has_base entries)
@@ -134,9 +122,7 @@ KeepsKind f = (e : Entry) → (visit_of (f e) ≡ visit_of e) × (is_base (f e) 
 -- the entries are settled
 map_keeps : (f : Entry → Entry) (es : List Entry) → KeepsKind f → (visited (map f es) ≡ visited es) × (has_base (map f es) ≡ has_base es)
 map_keeps f [] same = (refl, refl)
-map_keeps f (e ∷ es) same =
-    let rest = map_keeps f es same in
-    (rw ((same e).0) (ap (λ xs. cons_option (visit_of e) xs) rest.0), rw ((same e).1) (ap (λ b. is_base e || b) rest.1))
+map_keeps f (e ∷ es) same = grind (arith, (map_keeps f es))
 
 pub among_settles : (s : StackWorld) (v : VolumeId) (born : ℕ) (operation : Operation) (entries : List Entry) (before stage : Stage) (f : Entry → Entry)
     → KeepsKind f → (stage ≡ InBase → ⊥) → IsAmongAt s v born operation entries before → IsAmongAt s v born operation (map f entries) stage
@@ -145,16 +131,13 @@ among_settles s v born operation entries before stage f keeps other h =
     among_from s v born operation (map f entries) stage (visited entries) (has_base entries) same.0 same.1 (stands_of entries before h) (λ k. absurd (other k))
 
 pub settle_pre_keeps : (state : PreState) → KeepsKind (settle_pre state)
-settle_pre_keeps state (Pre visit) = (refl, refl)
-settle_pre_keeps state _ = (refl, refl)
+settle_pre_keeps state = grind arith
 
 pub settle_post_keeps : (state : PostState) → KeepsKind (settle_post state)
-settle_post_keeps state (Pre visit) = (refl, refl)
-settle_post_keeps state _ = (refl, refl)
+settle_post_keeps state = grind arith
 
 pub settle_drain_keeps : (i : ℕ) → KeepsKind (settle_drain i)
-settle_drain_keeps i (Pre visit) = (refl, refl)
-settle_drain_keeps i _ = (refl, refl)
+settle_drain_keeps i = grind arith
 
 -- every event of the stack leaves each operation in place
 pub among_follows : (s t : StackWorld) (v : VolumeId) (born : ℕ) (operation : Operation) (entries : List Entry) (stage : Stage)
@@ -172,12 +155,4 @@ among_follows s t v born operation entries stage f h =
 -- an operation begins
 pub among_begins : (s : StackWorld) (v : VolumeId) (operation : Operation)
     → count_by (is_to_visit s v s.births operation) s.instances ≤ 32 → IsAmongAt s v s.births operation [] Descending
-among_begins s v operation few =
-    let fewer = count-le (is_to_visit s v s.births operation) (is_candidate s v None s.births operation) s.instances s.instances
-    (λ i row h k. (row, h, (and_parts (is_to_visit s v s.births operation row) true k).0)) in
-    record {
-      descent = record { falls = λ i j d p q. absurd (omega arith); passes_none = λ i row h t u. (refl, refl) };
-      room = record { past = omega arith; room = omega (arith, fewer, few) };
-      there = All-nil (λ i. i < length s.instances);
-      base = λ e. absurd (cc);
-    }
+among_begins s v operation few = grind arith

@@ -1,14 +1,14 @@
 -- Who may hold what, and what a context names is there: what changes of contexts, instances and workers leave of both.
-use Rattle.std.proofs.Common.{◌||◌, ◌≡◌, ℕ, Bool, true, false, cond, List, [], ◌∷◌, map, Option, Some, None, option_map, slice_get, refl, ap, sym, ◌∙◌, subst, inl, inr, get_or, ◌<◌, ◌≢◌, ◌≤◌, ◌++◌, length, is_some, arith, ◌==◌, option_and_then}
-use Rattle.fm_world.proofs.Words.{All, false≢true, cases_eq, none-some, All-nil, All-cons, All-head, All-tail, ContextKind, CtxId, InstanceId}
-use Rattle.fm_world.proofs.Words.{WorkerId, updated, updated-same, updated-other, Instance, StackWorld, Owner, is_id, holds, without, hand_of, IsNew}
-use Rattle.fm_world.proofs.Words.{placed, same_owner, swept, swept_slot, Context, Slot, context_at, change_context, is_id-same, by_id}
-use Rattle.fm_world.proofs.Words.{context_at-swept, context_at-here, context_at-other, context_at-placed_other, new_absent, FlowRecord, owed, Worker}
-use Rattle.fm_world.proofs.Words.{worker_at, row_at, owner_by, place_in, belongs, belongs_by, HoldsIn, CarriesIn, AskCarries, length, slice_set}
-use Rattle.fm_world.proofs.Words.{and_parts, and_from, lt-ltb, ltb-true, All-map, All-push, true≢false, eq-eqb, All-updated, All-set_others, Object}
-use Rattle.fm_world.proofs.Words.{new_slot, with_link, context_in, changed_slot, fits, owner_fits, link_fits, may_link, suits, holds_links_by}
-use Rattle.fm_world.proofs.Words.{is_left_by, keeps_links_by, is_volume}
-use Rattle.fm_world.proofs.Cases.{by_bool, or_written, by_option, some_of}
+use Rattle.std.proofs.Common.{Bool, List, None, Option, Some, [], ap, arith, cond, false, get_or, inl, inr, is_some, length, map, option_and_then, option_map, refl, slice_get, subst, sym, true, ℕ, ◌<◌, ◌==◌, ◌||◌, ◌∙◌, ◌∷◌, ◌≡◌, ◌≢◌, ◌≤◌}
+use Rattle.fm_world.proofs.Words.{All, All-cons, All-head, All-map, All-nil, All-tail, All-updated, AskCarries, Context, ContextKind, CtxId}
+use Rattle.fm_world.proofs.Words.{FlowRecord, HoldsIn, Instance, InstanceId, IsNew, Object, Owner, Slot, StackWorld, Worker, WorkerId, belongs}
+use Rattle.fm_world.proofs.Words.{by_id, cases_eq, change_context, changed_slot, context_at, context_at-here, context_at-other}
+use Rattle.fm_world.proofs.Words.{context_at-placed_other, context_at-swept, context_in, false≢true, fits, hand_of, holds, holds_links_by, is_id}
+use Rattle.fm_world.proofs.Words.{is_id-same, is_left_by, keeps_links_by, length, link_fits, may_link, new_absent, none-some, owed, owner_fits}
+use Rattle.fm_world.proofs.Words.{place_in, placed, row_at, same_owner, slice_set, swept, swept_slot, updated, updated-other, updated-same}
+use Rattle.fm_world.proofs.Words.{with_link, without, worker_at}
+use Rattle.std.proofs.lemmas.Grind.{common_steps}
+use Rattle.fm_world.proofs.Cases.{by_bool, by_option}
 
 -- ---- contexts keep their kind and owner
 
@@ -28,10 +28,7 @@ owners_changed g slots c keeps d x h =
     (λ e other x h. (x, context_at-other (option_map g) slots c e other ∙ h, refl, refl)) d x h
 
 pub owners_after : (a b c : List Slot) → OwnersStay a b → OwnersStay b c → OwnersStay a c
-owners_after a b c f g d x h =
-    let y = f d x h in
-    let z = g d y.0 y.1 in
-    (z.0, z.1, z.2 ∙ y.2, z.3 ∙ y.3)
+owners_after a b c h3 h4 = grind arith
 
 pub owners_placed : (slots : List Slot) (c : CtxId) (x : Context) → IsNew slots c → OwnersStay slots (placed slots c x)
 owners_placed slots c x new d y h =
@@ -40,8 +37,7 @@ owners_placed slots c x new d y h =
     (λ _ other. (y, context_at-placed_other slots c x d new other ∙ h, refl, refl)) refl
 
 swept_stays : (test : Context → Bool) (x : Context) → ((swept test x).kind ≡ x.kind) × ((swept test x).owner ≡ x.owner)
-swept_stays test x =
-    elim (test x) as (λ b. ((cond b (record x { link = None }) x).kind ≡ x.kind) × ((cond b (record x { link = None }) x).owner ≡ x.owner)) [ true ↦ (refl, refl) | false ↦ (refl, refl) ]
+swept_stays test x = grind arith
 
 pub owners_swept : (test : Context → Bool) (slots : List Slot) → OwnersStay slots (map (swept_slot test) slots)
 owners_swept test slots c x h =
@@ -69,24 +65,12 @@ filters_updated s t change i is keeps j row there =
       | inr apart ↦ (row, ap (λ (rows : List Instance). slice_get rows j) is ∙ updated-other change s.instances i j apart ∙ there, refl)
     ]
 
-owner_follows : (a b : Instance) (i : InstanceId) (k : ContextKind) → b.filter ≡ a.filter → owner_by b i k ≡ owner_by a i k
-owner_follows a b i ContextKind.Volume e = ap Owner.Filter e
-owner_follows a b i _ e = refl
-
 -- what a callback may hold, it may hold still
 abbrev pub BelongsStill : StackWorld → List Slot → StackWorld → List Slot → Type 0
 BelongsStill s old t new = (i : InstanceId) (c : CtxId) → belongs s old i c ≡ true → belongs t new i c ≡ true
 
 pub belongs_still : (s : StackWorld) (old : List Slot) (t : StackWorld) (new : List Slot) → FiltersStay s t → OwnersStay old new → BelongsStill s old t new
-belongs_still s old t new filters owners i c h =
-    let row = some_of (λ m. belongs_by m i (context_at old c)) (row_at s i) refl h in
-    let held = sym (ap (λ m. belongs_by m i (context_at old c)) row.1) ∙ h in
-    let x = some_of (belongs_by (Some row.0) i) (context_at old c) refl held in
-    let after = filters i.0 row.0 row.1 in
-    let y = owners c x.0 x.1 in
-    ap (λ m. belongs_by m i (context_at new c)) after.1 ∙ ap (belongs_by (Some after.0) i) y.1 ∙ ap (λ k. same_owner (owner_by after.0 i k) y.0.owner) y.2
-    ∙ ap (same_owner (owner_by after.0 i x.0.kind)) y.3 ∙ ap (λ o. same_owner o x.0.owner) (owner_follows row.0 after.0 i x.0.kind after.2)
-    ∙ sym (ap (belongs_by (Some row.0) i) x.1) ∙ held
+belongs_still s old t new h4 h5 = grind arith
 
 -- ---- hands
 
@@ -112,17 +96,13 @@ AllHold s slots workers hands = (k : WorkerId) → All (HoldsIn s slots (place_i
 -- no worker goes elsewhere, and no hand changes
 pub all_hold_still : (s : StackWorld) (old : List Slot) (t : StackWorld) (new : List Slot) (workers : List Worker) (hands : List (List CtxId))
     → BelongsStill s old t new → AllHold s old workers hands → AllHold t new workers hands
-all_hold_still s old t new workers hands still all k i d l =
-    let c = get_or (hand_of hands k.0) i d in
-    (elim (place_in (worker_at workers k)) as (λ p. HoldsIn s old p c → HoldsIn t new p c) [ None ↦ λ h. h | Some j ↦ still j c ]) (all k i d l)
+all_hold_still s old t new workers hands h6 h7 = grind arith
 
 -- one worker goes elsewhere, with another hand; all others stay
 pub all_hold : (s : StackWorld) (old : List Slot) (t : StackWorld) (new : List Slot) (workers after : List Worker) (hands : List (List CtxId)) (w : ℕ) (hand : List CtxId)
     → w < length hands → BelongsStill s old t new → ((k : ℕ) → k ≢ w → slice_get after k ≡ slice_get workers k)
     → All (HoldsIn t new (place_in (slice_get after w))) hand → AllHold s old workers hands → AllHold t new after (slice_set hands w hand)
-all_hold s old t new workers after hands w hand within still others here all k =
-    or_written (λ j ids. All (HoldsIn t new (place_in (slice_get after j))) ids) hands w hand [] within here (λ j apart.
-    subst (λ m. All (HoldsIn t new (place_in m)) (hand_of hands j)) (sym (others j apart)) (all_hold_still s old t new workers hands still all (record { 0 = j }))) k.0
+all_hold s old t new workers after hands w hand h9 h10 h11 h12 h13 = grind (arith, common_steps)
 
 -- ---- completions
 
@@ -131,9 +111,7 @@ AllCarry s slots operations = All (λ (r : FlowRecord). All (AskCarries s slots)
 
 pub all_carry_still : (s : StackWorld) (old : List Slot) (t : StackWorld) (new : List Slot) (operations : List FlowRecord) → BelongsStill s old t new
     → AllCarry s old operations → AllCarry t new operations
-all_carry_still s old t new operations still h k d l i a m =
-    let ask = get_or (owed (get_or operations k d).entries) i a in
-    (elim ask.completion.context as (λ c. CarriesIn s old ask.instance c → CarriesIn t new ask.instance c) [ None ↦ λ h. tt | Some c ↦ still ask.instance c ]) (h k d l i a m)
+all_carry_still s old t new operations h5 h6 = grind arith
 
 -- a test of all contexts
 abbrev pub AllPass : (Option Context → Bool) → List Slot → Type 0
@@ -159,23 +137,14 @@ passes_changed p f slots c none keeps h =
     (λ apart. fit)) (λ k x other there fit. fit)
 
 pub passes_placed : (p : Option Context → Bool) (slots : List Slot) (c : CtxId) (x : Context) → p (Some x) ≡ true → AllPass p slots → AllPass p (placed slots c x)
-passes_placed p slots c x fit h =
-    let P = λ (y : Slot). p y.context ≡ true in
-    elim (c.slot == length slots) as (λ b. AllPass p (cond b (slots ++ new_slot c x ∷ []) (slice_set slots c.slot (new_slot c x)))) [
-      | true ↦ All-push P slots (new_slot c x) h fit
-      | false ↦ All-set_others P P slots c.slot (new_slot c x) fit h (λ k y other there was. was)
-    ]
+passes_placed p slots c x fit h = grind (arith, common_steps)
 
 pub fits_unlinked : (s : StackWorld) (x : Context) → fits s (Some x) ≡ true → fits s (Some (with_link None x)) ≡ true
-fits_unlinked s x h =
-    and_from (owner_fits s x.kind x.owner) true (and_parts (owner_fits s x.kind x.owner) (link_fits s x x.link) h).0 refl
+fits_unlinked s x h = grind arith
 
 -- the link of a context that fits is put in place
 pub fits_linked : (s : StackWorld) (x : Context) (o : Object) → link_fits s x (Some o) ≡ true → fits s (Some x) ≡ true → fits s (Some (with_link (Some o) x)) ≡ true
-fits_linked s x o link h =
-    let own = (and_parts (owner_fits s x.kind x.owner) (link_fits s x x.link) h).0 in
-    and_from (owner_fits s x.kind x.owner) (link_fits s (with_link (Some o) x) (Some o)) own
-    ((elim o as (λ y. link_fits s x (Some y) ≡ true → link_fits s (with_link (Some y) x) (Some y) ≡ true) [ Object.Volume v ↦ λ k. k | _ ↦ λ k. k ]) link)
+fits_linked s x o link h = grind arith
 
 pub passes_swept : (p q : Option Context → Bool) (test : Context → Bool) (slots : List Slot) → q None ≡ true
     → ((x : Context) → p (Some x) ≡ true → q (Some (swept test x)) ≡ true) → AllPass p slots → AllPass q (map (swept_slot test) slots)
@@ -188,12 +157,7 @@ passes_swept p q test slots none keeps h =
 pub owner_stays : (s t : StackWorld) (k : ContextKind) (o : Owner) → length s.filters ≤ length t.filters
     → ((j : InstanceId) → o ≡ Owner.Instance j → is_left_by (row_at s j) ≡ true → is_left_by (row_at t j) ≡ true)
     → owner_fits s k o ≡ true → owner_fits t k o ≡ true
-owner_stays s t ContextKind.Volume (Owner.Filter f) more left h =
-    let below : f.0 < length s.filters = ltb-true f.0 (length s.filters) h in
-    lt-ltb f.0 (length t.filters) (omega (arith, below, more))
-owner_stays s t ContextKind.Volume (Owner.Instance i) more left h = absurd (false≢true h)
-owner_stays s t _ (Owner.Instance i) more left h = left i refl h
-owner_stays s t _ (Owner.Filter f) more left h = absurd (false≢true h)
+owner_stays s t k o more left h = grind arith
 
 -- no volume's contexts are unlinked
 abbrev pub VolumesStay : StackWorld → StackWorld → Type 0
@@ -201,22 +165,12 @@ VolumesStay s t = (v : ℕ) → holds_links_by (slice_get s.volumes v) ≡ true 
 
 pub link_stays : (s t : StackWorld) (x : Context) (l : Option Object) → VolumesStay s t
     → (is_some l ≡ true → may_link s x.owner ≡ true → may_link t x.owner ≡ true) → link_fits s x l ≡ true → link_fits t x l ≡ true
-link_stays s t x None volumes may h = refl
-link_stays s t x (Some o) volumes may h =
-    let parts = and_parts (may_link s x.owner) (suits s x o) h in
-    and_from (may_link t x.owner) (suits t x o) (may refl parts.0)
-    ((elim o as (λ y. suits s x y ≡ true → suits t x y ≡ true) [
-      | Object.Volume v ↦ λ fit.
-          let held = and_parts (is_volume x.kind) (holds_links_by (slice_get s.volumes v.0)) fit in
-          and_from (is_volume x.kind) (holds_links_by (slice_get t.volumes v.0)) held.0 (volumes v.0 held.1)
-      | _ ↦ λ fit. fit
-    ]) parts.1)
+link_stays s t x l volumes may h = grind arith
 
 -- where one instance changes, others' contexts may be linked still
 pub others_link : (s t : StackWorld) (i : InstanceId) → ((j : InstanceId) → j.0 ≢ i.0 → row_at t j ≡ row_at s j) → (o : Owner) → same_owner (Owner.Instance i) o ≡ false
     → may_link s o ≡ true → may_link t o ≡ true
-others_link s t i same (Owner.Filter f) other h = refl
-others_link s t i same (Owner.Instance j) other h = ap keeps_links_by (same j (λ e. true≢false (sym (eq-eqb i.0 j.0 (sym e)) ∙ other))) ∙ h
+others_link s t i same o other h = grind arith
 
 -- instances go on: none is detached, and none is emptied
 pub record GoesOn (s t : StackWorld) : Type 0 where
@@ -226,9 +180,4 @@ pub record GoesOn (s t : StackWorld) : Type 0 where
   pub keeps : (j : InstanceId) → keeps_links_by (row_at s j) ≡ true → keeps_links_by (row_at t j) ≡ true
 
 pub fits_on : (s t : StackWorld) (slots : List Slot) → GoesOn s t → AllFit s slots → AllFit t slots
-fits_on s t slots on h = λ k d l.
-    by_option (λ o. fits s o ≡ true → fits t o ≡ true) (get_or slots k d).context (λ _ fit. refl) (λ x _ fit.
-    let parts = and_parts (owner_fits s x.kind x.owner) (link_fits s x x.link) fit in
-    and_from (owner_fits t x.kind x.owner) (link_fits t x x.link) (owner_stays s t x.kind x.owner on.filters (λ j is. on.left j) parts.0)
-    (link_stays s t x x.link on.volumes
-    (λ linked. elim x.owner as (λ o. may_link s o ≡ true → may_link t o ≡ true) [ Owner.Filter f ↦ λ may. refl | Owner.Instance j ↦ on.keeps j ]) parts.1)) (h k d l)
+fits_on s t slots on h = grind arith

@@ -1,31 +1,32 @@
--- Cleaning contexts up, and the end of an instance, keep a World sound.
-use Rattle.std.proofs.Common.{◌≡◌, ◌≢◌, ℕ, zero, suc, ◌<◌, ◌≤◌, ◌+◌, Bool, true, false, not, List, [], ◌∷◌, length, Option, Some, None, Result, Ok, Err, option_map, slice_get, refl, ap, sym, ◌∙◌, subst, arith, nat_lt, get_or, ◌%◌, ◌^◌}
-use Rattle.fm_world.proofs.Words.{All, slice_set, false≢true, true≢false, and_parts, and_from, eq-eqb, ltb-true, ltb-false, slice_get_within}
-use Rattle.fm_world.proofs.Words.{get_or-set_same, get_or-set_other, All-nil, All-cons, CtxId, FilterId, InstanceId, WorkerId, Status, length-updated}
-use Rattle.fm_world.proofs.Words.{updated-other, Instance, Phase, StackWorld, is_setup, is_emptying, is_emptying_at, finish_row, finished, Due, Owner}
-use Rattle.fm_world.proofs.Words.{one, is_id, references, hand_of, cleaning_of, held, emptied, taken_due, taken_of, cleaned, is_open, open_of}
-use Rattle.fm_world.proofs.Words.{same_owner, Context, Slot, context_at, change_context, is_id-refl, is_id-same, references_none, hand_counted}
-use Rattle.fm_world.proofs.Words.{take_due_keeps, cleaned_keeps, count_cleaning, context_at-other, Ask, carried_in, carried_among, carried_by, owed}
-use Rattle.fm_world.proofs.Words.{FlowRecord, total, Worker, World, worker_at, put, cleanup_in, row_at, place_in, fits, owner_fits, link_fits}
-use Rattle.fm_world.proofs.Words.{is_left_by, is_flown_by, belongs, belongs_by, HoldsIn, CarriesIn, AskCarries, after_due, TakesDue, totalled_for}
-use Rattle.fm_world.proofs.Words.{filter_of, Cleans, is_gone_at, Finishes, IsSound, IsUnderWay, IsOwned, is_in_setup, setup_row, names_there}
-use Rattle.fm_world.proofs.Words.{is_flown, references_cons, none_refuses}
-use Rattle.fm_stack.proofs.Finishing.{finished_keeps, finished_follows, emptying_row}
-use Rattle.fm_world.proofs.Belonging.{owners_changed, owners_same, belongs_still, filters_same, all_hold_still, all_carry_still, filters_updated, passes_changed, owner_stays, link_stays, others_link}
+-- What the events of cleanups, and the end of an instance, do.
+use Rattle.std.proofs.Common.{Bool, Err, List, None, Ok, Option, Result, Some, [], ap, arith, false, get_or, inl, length, nat_lt, not, option_map, refl, slice_get, subst, sym, true, ℕ, ◌<◌, ◌∙◌, ◌∷◌, ◌≡◌}
+use Rattle.fm_world.proofs.Words.{All, All-cons, All-nil, Ask, AskCarries, CarriesIn, Cleans, CleansAt, Context, ContextTable, CtxId, Due}
+use Rattle.fm_world.proofs.Words.{FilterId, Finishes, FlowRecord, HoldsIn, InstanceId, IsOwned, IsSound, IsUnderWay, Owner, Phase, Slot}
+use Rattle.fm_world.proofs.Words.{StackWorld, Status, TakesDue, Worker, WorkerId, World, after_due, and_from, and_parts, belongs, carried_among}
+use Rattle.fm_world.proofs.Words.{carried_by, carried_in, cases_eq, change_context, cleaned, cleaned_keeps, cleaning_of, cleanup_in, context_at}
+use Rattle.fm_world.proofs.Words.{context_at-here, context_at-other, count_cleaning, emptied, eq-eqb, filter_of, finish_row, finished, fits}
+use Rattle.fm_world.proofs.Words.{get_or-set_other, get_or-set_same, hand_counted, hand_of, held, is_emptying, is_emptying_at, is_flown}
+use Rattle.fm_world.proofs.Words.{is_flown_by, is_gone_at, is_id, is_in_setup, is_open, is_setup, length-updated, ltb-false, ltb-true}
+use Rattle.fm_world.proofs.Words.{names_there, none-some, none_refuses, one, open_of, owed, place_in, put, references, references_cons}
+use Rattle.fm_world.proofs.Words.{references_none, row_at, setup_row, slice_get_within, slice_set, take_due_keeps, taken_due, taken_of, total}
+use Rattle.fm_world.proofs.Words.{totalled_for, updated-other, worker_at}
+use Rattle.fm_stack.proofs.Finishing.{emptying_row, finished_follows, finished_keeps}
+use Rattle.std.proofs.lemmas.Grind.{common_steps}
+use Rattle.fm_world.proofs.Belonging.{all_carry_still, all_hold_still, belongs_still, filters_same, filters_updated, link_stays, others_link, owner_stays, owners_changed, owners_same, passes_changed}
 use Rattle.fm_world.proofs.Callbacks.{not_false, same_hands}
-use Rattle.fm_world.proofs.Cases.{none_pass, at_updated, by_bool, at_written}
-use Rattle.fm_world.proofs.Events.{idle_by, cleaned_by}
-use Rattle.fm_world.proofs.Keeps.{Outside, outside_idle, outside_cleanup, follows_same, stack_changes, worker_moves, worker_below}
+use Rattle.fm_world.proofs.Cases.{at_updated, at_written, none_pass}
+use Rattle.fm_world.proofs.Events.{idle_by}
+use Rattle.fm_world.proofs.Keeps.{Outside, follows_same, outside_cleanup, outside_idle, stack_changes, worker_below, worker_moves}
+use Rattle.fm_world.proofs.Owning.{empty_hand, owned_moves}
+use Rattle.fm_world.proofs.Staying.{CleansOn, Does, Lasts, SlotsStay, contexts_in, lasts, makes, nothing, slots_changed, still, unchanged}
 use Rattle.fm_world.proofs.Ties.{count_stays}
-use Rattle.fm_world.proofs.Owning.{owned_moves, empty_hand}
 
 -- ---- a worker goes into a cleanup, or comes out of it
 
 -- a worker goes between idleness and a cleanup
 goes_keeps : (w : World) (k : WorkerId) (a b : Worker) → worker_at w.workers k ≡ Some a → Outside a → Outside b → ((i : ℕ) → is_in_setup i a ≡ false)
     → ((i : ℕ) → is_in_setup i b ≡ false) → IsUnderWay w → IsUnderWay (record w { workers = put w.workers k b })
-goes_keeps w k a b at from to na nb h =
-    worker_moves w w.stack k a b at from to h.stack (follows_same w.stack) (λ i. count_stays (is_in_setup i) w.workers k a b at (na i) (nb i) ∙ h.setups i) h
+goes_keeps w k a b h4 h5 h6 h7 h8 h9 = grind (arith, worker_moves, follows_same, count_stays)
 
 -- the tie of cleanups and places, where one worker goes elsewhere
 cleaning_moves : (w : World) (k : WorkerId) (o : Option CtxId) (b : Worker) → k.0 < length w.workers → k.0 < length w.contexts.cleaning → o ≡ cleanup_in (Some b)
@@ -58,28 +59,35 @@ take_due_at old k (Some c) at first s =
       links = passes_changed (names_there old.files) (option_map emptied) slots c refl (λ x there named. named) s.links;
     }
 
-pub take_due_sound : (old : World) (k : WorkerId) (result : Result (Option Due) Status) (new : World) → TakesDue old k result new → IsSound old → IsSound new
+-- what a worker cleans up it cleans up still, where an idle one takes what is due
+taken_lasts : (old new : World) (w : ℕ) (m : Option CtxId) → new.contexts ≡ taken_of old.contexts w m → cleaning_of old.contexts.cleaning w ≡ None → Lasts old new
+taken_lasts old new w None made idle = lasts old new old.contexts made (still old.contexts)
+taken_lasts old new w (Some d) made idle = (
+  subst (λ (t : ContextTable). SlotsStay old.contexts.slots t.slots) (sym made) (slots_changed (option_map emptied) old.contexts.slots d refl),
+  λ k c busy. inl (ap (λ (t : ContextTable). cleaning_of t.cleaning k) made
+      ∙ get_or-set_other old.contexts.cleaning w k (Some d) None (λ is. none-some c (sym (ap (cleaning_of old.contexts.cleaning) is ∙ idle) ∙ busy)) ∙ busy),
+)
+
+pub take_due_does : (old : World) (k : WorkerId) (result : Result (Option Due) Status) (new : World) → TakesDue old k result new → Does old new
 unfolding TakesDue
-take_due_sound old k result new h s =
-    idle_by (λ _ w. IsSound w) k result old new _ h (λ why. s) (λ at event. subst IsSound (sym event.1) (take_due_at old k (slice_get old.contexts.due 0) at refl s))
+take_due_does old k result new h =
+    idle_by (λ _ w. Does old w) k result old new _ h (λ why. nothing old) (λ at e. record {
+      sound = λ s. subst IsSound (sym e.1) (take_due_at old k (slice_get old.contexts.due 0) at refl s);
+      lasts = λ s. taken_lasts old new k.0 _ (ap contexts_in e.1) (s.owned.cleaning k.0 ∙ ap cleanup_in at);
+    })
 
 -- ---- cleaned
 
 pub none_one : (b : Bool) → one b ≡ 0 → b ≡ false
-none_one true h = absurd (omega (arith, h))
-none_one false h = refl
+none_one b h = grind arith
 
 -- a list without a reference to a context
 none_in : (c : CtxId) (ids : List CtxId) → references ids c ≡ 0 → All (λ d. is_id c d ≡ false) ids
 none_in c [] h = All-nil (λ d. is_id c d ≡ false)
-none_in c (d ∷ ids) h =
-    let split = references_cons c d ids in
-    All-cons (λ d. is_id c d ≡ false) d ids (none_one (is_id c d) (omega (arith, split, h))) (none_in c ids (omega (arith, split, h)))
+none_in c (d ∷ ids) h = grind (arith, All-nil, references_cons, All-cons, none_one, (none_in c ids))
 
 turned : (c d : CtxId) → is_id c d ≡ false → is_id d c ≡ false
-turned c d h =
-    by_bool (λ b. is_id d c ≡ b → b ≡ false) (is_id d c)
-    (λ _ e. absurd (true≢false (sym (subst (λ x. is_id c x ≡ true) (is_id-same d c e) (is_id-refl c)) ∙ h))) (λ _ _. refl) refl
+turned c d h = grind arith
 
 none_among : (c : CtxId) (asks : List Ask) → carried_among c asks ≡ 0 → All (λ (ask : Ask). carried_in c ask.completion ≡ 0) asks
 none_among c [] h = All-nil (λ (ask : Ask). carried_in c ask.completion ≡ 0)
@@ -87,16 +95,14 @@ none_among c (ask ∷ asks) h = All-cons (λ (ask : Ask). carried_in c ask.compl
 
 none_carry : (c : CtxId) (rs : List FlowRecord) → total (carried_by c) rs ≡ 0 → All (λ (r : FlowRecord). All (λ (ask : Ask). carried_in c ask.completion ≡ 0) (owed r.entries)) rs
 none_carry c [] h = All-nil (λ (r : FlowRecord). All (λ (ask : Ask). carried_in c ask.completion ≡ 0) (owed r.entries))
-none_carry c (r ∷ rs) h =
-    All-cons (λ (r : FlowRecord). All (λ (ask : Ask). carried_in c ask.completion ≡ 0) (owed r.entries)) r rs (none_among c (owed r.entries) (omega (arith, h))) (none_carry c rs (omega (arith, h)))
+none_carry c (r ∷ rs) h = grind (arith, All-nil, All-cons, none_among, (none_carry c rs))
 
 -- the id names nothing any more; all others do
 abbrev gone_slots : List Slot → CtxId → List Slot
 gone_slots slots c = change_context (λ (x : Option Context). None) slots c
 
 belongs_other : (s : StackWorld) (slots : List Slot) (c d : CtxId) (i : InstanceId) → is_id c d ≡ false → belongs s slots i d ≡ true → belongs s (gone_slots slots c) i d ≡ true
-belongs_other s slots c d i apart h =
-    ap (belongs_by (row_at s i) i) (context_at-other (λ (x : Option Context). None) slots c d (turned c d apart)) ∙ h
+belongs_other s slots c d i apart h = grind (arith, context_at-other, turned)
 
 ask_other : (s : StackWorld) (slots : List Slot) (c : CtxId) (ask : Ask) → AskCarries s slots ask → carried_in c ask.completion ≡ 0 → AskCarries s (gone_slots slots c) ask
 ask_other s slots c ask =
@@ -107,19 +113,10 @@ ask_other s slots c ask =
 
 -- no hand has a reference to a context that has none
 none_in_hand : (hands : List (List CtxId)) (c : CtxId) (n : ℕ) → held hands c ≡ 0 → references (hand_of hands n) c ≡ 0
-none_in_hand hands c n none =
-    by_bool (λ b. nat_lt n (length hands) ≡ b → references (hand_of hands n) c ≡ 0) (nat_lt n (length hands))
-    (λ _ e. omega (arith, hand_counted hands n c (ltb-true n (length hands) e), none))
-    (λ _ e. ap (λ hand. references hand c) (past hands n (ltb-false n (length hands) e)) ∙ references_none c) refl
-  where
-    past : (hands : List (List CtxId)) (n : ℕ) → length hands ≤ n → hand_of hands n ≡ []
-    past [] n h = refl
-    past (x ∷ hands) zero h = absurd (omega (arith, h))
-    past (x ∷ hands) (suc n) h = past hands n (omega (arith, h))
+none_in_hand hands c n h3 = grind (arith, common_steps, hand_counted, ltb-true, ltb-false, references_none)
 
 totals_kept : (o : Option FilterId) (number : ℕ) (totals : List ℕ) → length totals ≡ 16 → length (totalled_for o number totals) ≡ 16
-totals_kept None number totals h = h
-totals_kept (Some f) number totals h = length-updated (λ n. (n + number) % 2 ^ 64) totals f.0 ∙ h
+totals_kept o number totals h = grind (arith, length-updated)
 
 cleaned_owned : (w : World) (k : WorkerId) (c : CtxId) (number : ℕ) → worker_at w.workers k ≡ Some (Worker.Cleanup c) → IsSound w
     → IsOwned (record w {
@@ -155,37 +152,42 @@ cleaned_owned w k c number at s =
       totals = totals_kept (filter_of w.stack (context_at w.contexts.slots c)) number w.totals h.totals;
     }
 
-pub cleaned_sound : (old : World) (k : WorkerId) (number : ℕ) (result : Result (Unit {0}) Status) (new : World) → Cleans old k number result new → IsSound old → IsSound new
-cleaned_sound old k number result new h s =
-    cleaned_by (λ _ w. IsSound w) old k number result new h (λ why. s) (λ c at e. subst IsSound (sym e.1)
-    (record {
-      under_way = goes_keeps old k (Worker.Cleanup c) Worker.Idle at (outside_cleanup c) outside_idle (λ i. refl) (λ i. refl) s.under_way;
-      owned = cleaned_owned old k c number at s;
-      filed = s.filed;
-      links = passes_changed (names_there old.files) (λ (x : Option Context). None) old.contexts.slots c refl (λ x there named. refl) s.links;
-    }))
+cleaned_on : (old : World) (w : WorkerId) (d : CtxId) (new : World) → new.contexts ≡ cleaned old.contexts w.0 d → cleaning_of old.contexts.cleaning w.0 ≡ Some d → CleansOn old new
+cleaned_on old w d new made own = grind (arith, cases_eq, context_at-here, get_or-set_other)
+
+pub cleaned_does : (old : World) (k : WorkerId) (number : ℕ) (result : Result (Unit {0}) Status) (new : World) → Cleans old k number result new → Does old new
+unfolding Cleans
+cleaned_does old k number result new h = by_place (worker_at old.workers k) refl h
+  where
+    by_place : (m : Option Worker) → worker_at old.workers k ≡ m → CleansAt old k number result new m → Does old new
+    by_place (Some (Worker.Cleanup c)) at e = record {
+      sound = λ s. subst IsSound (sym e.1) (record {
+        under_way = goes_keeps old k (Worker.Cleanup c) Worker.Idle at (outside_cleanup c) outside_idle (λ i. refl) (λ i. refl) s.under_way;
+        owned = cleaned_owned old k c number at s;
+        filed = s.filed;
+        links = passes_changed (names_there old.files) (λ (x : Option Context). None) old.contexts.slots c refl (λ x there named. refl) s.links;
+      });
+      lasts = λ s.
+          let made = ap contexts_in e.1 in (
+            subst (λ (t : ContextTable). SlotsStay old.contexts.slots t.slots) (sym made) (slots_changed (λ (x : Option Context). None) old.contexts.slots c refl),
+            cleaned_on old k c new made (s.owned.cleaning k.0 ∙ ap cleanup_in at),
+          );
+    }
+    by_place _ at h = unchanged old new h.1
 
 -- ---- the end of an instance
 
 emptying_is : (p : Phase) → is_emptying p ≡ true → p ≡ Phase.Emptying
-emptying_is Phase.Emptying h = refl
-emptying_is _ h = absurd (false≢true h)
+emptying_is p h = grind arith
 
 finish_fits : (s : StackWorld) (i : InstanceId) (o : Option Context) → fits s o ≡ true → is_open (Owner.Instance i) o ≡ false → fits (finished s i) o ≡ true
-finish_fits s i None fit closed = refl
-finish_fits s i (Some x) fit closed =
-    let t = finished s i in
-    let parts = and_parts (owner_fits s x.kind x.owner) (link_fits s x x.link) fit in
-    let same : (j : InstanceId) → j.0 ≢ i.0 → row_at t j ≡ row_at s j = λ j apart. updated-other finish_row s.instances i.0 j.0 apart in
-    and_from (owner_fits t x.kind x.owner) (link_fits t x x.link)
-    (owner_stays s t x.kind x.owner (omega arith) (λ j is left.
-    ap is_left_by (same j (λ e. true≢false (sym (ap (λ own. same_owner (Owner.Instance i) own) is ∙ eq-eqb i.0 j.0 (sym e)) ∙ closed))) ∙ left) parts.0)
-    (link_stays s t x x.link (λ v h. h) (λ linked. others_link s t i same x.owner closed) parts.1)
+finish_fits s i o fit closed = grind (arith, and_parts, updated-other, and_from, owner_stays, eq-eqb, link_stays, others_link)
 
-pub finish_sound : (old : World) (i : InstanceId) (result : Result (Unit {0}) Status) (new : World) → Finishes old i result new → IsSound old → IsSound new
+pub finish_does : (old : World) (i : InstanceId) (result : Result (Unit {0}) Status) (new : World) → Finishes old i result new → Does old new
 unfolding Finishes
-finish_sound old i (Err why) new h s = subst IsSound (sym h.1) s
-finish_sound old i (Ok done) new h s =
+finish_does old i (Err why) new h = unchanged old new h.1
+finish_does old i (Ok done) new h =
+    makes old (record old { stack = finished old.stack i }) new h.1 (still old.contexts) (λ s.
     let open' = open_of old.contexts.slots (Owner.Instance i) in
     let at = row_at old.stack i in
     let frees = none_refuses ((is_gone_at at, Status.NoInstance) ∷ (not (is_emptying_at at), Status.WrongStep) ∷ (nat_lt 0 open', Status.Busy open') ∷ []) h.0 in
@@ -196,9 +198,8 @@ finish_sound old i (Ok done) new h s =
     let slots = old.contexts.slots in
     let k = s.owned in
     let closed : open' ≡ 0 = omega (arith, ltb-false 0 open' frees.1.1.0) in
-    let still = belongs_still old.stack slots t slots (filters_updated old.stack t finish_row i.0 refl (λ row. refl)) (owners_same slots slots refl) in
-    subst IsSound (sym h.1)
-    (record {
+    let belongs = belongs_still old.stack slots t slots (filters_updated old.stack t finish_row i.0 refl (λ row. refl)) (owners_same slots slots refl) in
+    record {
       under_way = stack_changes old t (finished_keeps old.stack i s.under_way.stack row.0 row.1 row.2) (finished_follows old.stack i)
           (at_updated (λ n m. setup_row (slice_get rows n) ≡ setup_row m) finish_row rows i.0 row.0 row.1 (ap setup_row row.1 ∙ ap (λ p. one (is_setup p)) emptying) (λ n apart. refl)) s.under_way;
       filed = s.filed;
@@ -206,8 +207,8 @@ finish_sound old i (Ok done) new h s =
       owned = record {
         lawful = k.lawful;
         cleaning = k.cleaning;
-        holders = all_hold_still old.stack slots t slots old.workers old.contexts.hands still k.holders;
-        completions = all_carry_still old.stack slots t slots old.flow.operations still k.completions;
+        holders = all_hold_still old.stack slots t slots old.workers old.contexts.hands belongs k.holders;
+        completions = all_carry_still old.stack slots t slots old.flow.operations belongs k.completions;
         fits = λ n d l. finish_fits old.stack i (get_or slots n d).context (k.fits n d l) (none_pass (λ (x : Slot). is_open (Owner.Instance i) x.context) slots closed n d l);
         quiet = λ j rests. k.quiet j (at_updated (λ n m. is_flown_by m ≡ false → is_flown_by (slice_get rows n) ≡ false) finish_row rows i.0 row.0 row.1
             (λ _. ap is_flown_by row.1 ∙ ap is_flown emptying) (λ n apart h. h) j.0 rests);

@@ -1,53 +1,43 @@
 -- A visit of the next instance, the call of the base, and every event of the stack keep an operation's descent.
-use Rattle.std.proofs.Common.{◌≡◌, ℕ, zero, suc, ◌+◌, ◌≤◌, ◌<◌, Bool, true, false, not, ◌&&◌, ◌||◌, ◌==◌, List, [], ◌∷◌, ◌++◌, reverse, Option, Some, None, length, get_or, refl, ap, sym, ◌∙◌, subst, arith, count_by, length-append, inl, inr, Ordering}
-use Rattle.fm_world.proofs.Words.{slice_get, option_map, AllPairs, nat_lt, slice_get-get_or, reverse-append, all_pairs_push, cases_order, and_parts}
-use Rattle.fm_world.proofs.Words.{and_from, and_right, eqb-true, eq-eqb, ne_eqb, false≢true, or_parts, VolumeId, Operation, Instance, Phase}
-use Rattle.fm_world.proofs.Words.{StackWorld, is_lower, is_lower_at, is_lower_option, altitude_at, clashes, same_altitude, same_name, is_live_on}
-use Rattle.fm_world.proofs.Words.{is_attached, is_detached, is_to_visit, is_below_cursor, is_candidate, is_registered, IsHighest, NonePasses, Follows}
-use Rattle.fm_world.proofs.Words.{IsStack, IsDescent, HasRoom, last_of, is_among, pair_at}
-use Rattle.fm_world.proofs.Cases.{count-some, count-le, count-lt, by_bool, by_option}
-use Rattle.std.specs.declared.cmp.Ordering.TheVariants.{Less, Equal, Greater}
-use Rattle.std.specs.Ordering.{is_lt, is_eq, ordering_reverse}
-use Rattle.std.proofs.lemmas.Cmp.{tied_itself}
+use Rattle.std.proofs.Common.{Bool, List, None, Option, Ordering, Some, [], ap, arith, false, get_or, inl, inr, length, not, refl, subst, suc, sym, true, zero, ℕ, ◌&&◌, ◌++◌, ◌<◌, ◌==◌, ◌||◌, ◌∙◌, ◌∷◌, ◌≡◌, ◌≤◌}
+use Rattle.fm_world.proofs.Words.{AllPairs, Follows, HasRoom, Instance, IsDescent, IsHighest, IsStack, NonePasses, Operation, StackWorld}
+use Rattle.fm_world.proofs.Words.{VolumeId, all_pairs_push, altitude_at, and_from, and_parts, and_right, cases_order, clashes, eq-eqb}
+use Rattle.fm_world.proofs.Words.{false≢true, is_among, is_below_cursor, is_candidate, is_detached, is_live_on, is_lower, is_lower_at}
+use Rattle.fm_world.proofs.Words.{is_lower_option, is_to_visit, last_of, ne_eqb, option_map, or_parts, pair_at, reverse-append, same_altitude}
+use Rattle.fm_world.proofs.Words.{same_name, slice_get, slice_get-get_or}
 use Rattle.fm_altitude.specs.Order.{altitude_cmp}
 use Rattle.fm_altitude.specs.Total.{altitude_total}
+use Rattle.std.proofs.lemmas.Cmp.{tied_itself}
+use Rattle.std.proofs.lemmas.Grind.{common_steps}
+use Rattle.std.specs.Ordering.{is_eq, is_lt, ordering_reverse}
+use Rattle.std.specs.declared.cmp.Ordering.TheVariants.{Less}
+use Rattle.fm_world.proofs.Cases.{by_bool, count-le, count-lt, count-some}
 
 less_from : (o : Ordering) → is_lt o ≡ true → o ≡ Less
-less_from Less h = refl
-less_from _ h = cc
+less_from o h = grind arith
 
-pub lower_irrefl : (a : List ℕ) → is_lower a a ≡ false
+lower_irrefl : (a : List ℕ) → is_lower a a ≡ false
 lower_irrefl a = ap is_lt (tied_itself altitude_total a)
 
 turned : (o p : Ordering) → o ≡ ordering_reverse p → is_lt o ≡ false → is_eq p ≡ false → is_lt p ≡ true
-turned o Less e h k = refl
-turned o Equal e h k = cc
-turned o Greater e h k = let g : is_lt o ≡ true = ap is_lt e in cc
+turned o p e h k = grind arith
 
 -- of two altitudes that differ, the one that isn't lower is higher
-pub lower_or : (a b : List ℕ) → is_lower a b ≡ false → same_altitude b a ≡ false → is_lower b a ≡ true
+lower_or : (a b : List ℕ) → is_lower a b ≡ false → same_altitude b a ≡ false → is_lower b a ≡ true
 lower_or a b h k = turned (altitude_cmp a b) (altitude_cmp b a) (altitude_total.antisymm a b) h k
 
 eq_turned : (o : Ordering) → is_eq (ordering_reverse o) ≡ is_eq o
-eq_turned Less = refl
-eq_turned _ = refl
+eq_turned o = grind arith
 
-pub same_sym : (a b : List ℕ) → same_altitude a b ≡ same_altitude b a
+same_sym : (a b : List ℕ) → same_altitude a b ≡ same_altitude b a
 same_sym a b = ap is_eq (altitude_total.antisymm a b) ∙ eq_turned (altitude_cmp b a)
 
-pub option_trans : (a b c : Option (List ℕ)) → is_lower_option a b ≡ true → is_lower_option b c ≡ true → is_lower_option a c ≡ true
+option_trans : (a b c : Option (List ℕ)) → is_lower_option a b ≡ true → is_lower_option b c ≡ true → is_lower_option a c ≡ true
 option_trans (Some a) (Some b) (Some c) h k = ap is_lt (altitude_total.trans a b c (less_from (altitude_cmp a b) h) (less_from (altitude_cmp b c) k))
 option_trans _ _ _ h k = cc
 
-pub option_irrefl : (a : Option (List ℕ)) → is_lower_option a a ≡ false
-option_irrefl (Some a) = lower_irrefl a
-option_irrefl None = refl
-
--- what kept its altitude is as low as it was
-pub option_follows : (a b x y : Option (List ℕ)) → ((t : List ℕ) → a ≡ Some t → x ≡ Some t) → ((t : List ℕ) → b ≡ Some t → y ≡ Some t)
-    → is_lower_option a b ≡ true → is_lower_option x y ≡ true
-option_follows (Some a) (Some b) x y f g h = rw (f a refl, g b refl) h
-option_follows _ _ x y f g h = cc
+option_irrefl : (a : Option (List ℕ)) → is_lower_option a a ≡ false
+option_irrefl a = grind (arith, lower_irrefl)
 
 pub last_of-push : (is : List ℕ) (i : ℕ) → last_of (is ++ i ∷ []) ≡ Some i
 last_of-push is i = ap (λ (xs : List ℕ). slice_get xs 0) (reverse-append is (i ∷ []))
@@ -58,9 +48,7 @@ first_stays (z ∷ xs) x y = refl
 
 -- more before the last one
 pub last_of-cons : (i j : ℕ) (is : List ℕ) → last_of (i ∷ j ∷ is) ≡ last_of (j ∷ is)
-last_of-cons i j is =
-    let first = λ (xs : List ℕ). slice_get xs 0 in
-    ap first (reverse-append (i ∷ j ∷ []) is) ∙ first_stays (reverse is) j i ∙ ap first (sym (reverse-append (j ∷ []) is))
+last_of-cons i j is = grind (arith, common_steps, reverse-append, first_stays)
 
 -- what is lower than the last visit is lower than all of them
 below_all : (s : StackWorld) (a : Option (List ℕ)) (is : List ℕ) → AllPairs (λ i j. is_lower_at s j i ≡ true) is
@@ -75,12 +63,6 @@ below_all s a (i ∷ j ∷ is) falls low zero d h =
     (falls 0 1 d (omega arith) (omega arith))
 below_all s a _ falls low _ d h = absurd (omega arith)
 
-pub or_left : (a b : Bool) → (a || b) ≡ false → a ≡ false
-or_left a b h = (or_parts a b h).0
-
-pub or_right : (a b : Bool) → (a || b) ≡ false → b ≡ false
-or_right a b h = (or_parts a b h).1
-
 altitude_there : (s : StackWorld) (i : ℕ) (row : Instance) → slice_get s.instances i ≡ Some row → altitude_at s i ≡ Some row.altitude
 altitude_there s i row h = ap (option_map (λ (r : Instance). r.altitude)) h
 
@@ -91,21 +73,13 @@ record IsThere (v : VolumeId) (row : Instance) : Type 0 where
 
 to_visit_there : (s : StackWorld) (v : VolumeId) (born : ℕ) (operation : Operation) (row : Instance)
     → is_to_visit s v born operation row ≡ true → IsThere v row
-to_visit_there s v born operation row h =
-    let parts = and_parts (is_attached row.phase) ((row.volume.0 == v.0) && (nat_lt row.birth born && is_registered s.filters row.filter operation)) h in
-    let more = and_parts (row.volume.0 == v.0) (nat_lt row.birth born && is_registered s.filters row.filter operation) parts.1 in
-    record {
-      volume = eqb-true row.volume.0 v.0 more.0;
-      stays = (elim row.phase as (λ p. is_attached p ≡ true → not (is_detached p) ≡ true) [ Phase.Detached ↦ λ h. absurd (false≢true h) | _ ↦ λ h. refl ]) parts.0;
-    }
+to_visit_there s v born operation row h = grind arith
 
 live_there : (v : VolumeId) (a b : Instance) → IsThere v a → IsThere v b → is_live_on a.volume b ≡ true
 live_there v a b g h = and_from (b.volume.0 == a.volume.0) (not (is_detached b.phase)) (eq-eqb b.volume.0 a.volume.0 (h.volume ∙ sym g.volume)) h.stays
 
 clash_parts : (x y n m : Bool) → (x && (y && (n || m))) ≡ false → x ≡ true → y ≡ true → m ≡ false
-clash_parts true true n m h a b = or_right n m h
-clash_parts true false n m h a b = cc
-clash_parts false y n m h a b = cc
+clash_parts x y n m h a b = grind arith
 
 -- two instances that are to be visited by one operation have distinct altitudes
 apart_altitudes : (s : StackWorld) (v : VolumeId) (i j : ℕ) (a b : Instance) → IsStack s
@@ -123,9 +97,7 @@ apart_altitudes s v i j a b stack h k g l differ =
     ]
 
 not_self : (s : StackWorld) (i j : ℕ) → j ≡ i → is_lower_at s i j ≡ true → ⊥
-not_self s i j e h =
-    let g : altitude_at s j ≡ altitude_at s i = ap (λ n. option_map (λ (r : Instance). r.altitude) (slice_get s.instances n)) e in
-    false≢true (sym (option_irrefl (altitude_at s i)) ∙ subst (λ x. is_lower_option (altitude_at s i) x ≡ true) g h)
+not_self s i j e h = grind (arith, option_irrefl)
 
 -- an instance below all that were visited wasn't visited itself
 unseen_from : (s : StackWorld) (i : ℕ) (is : List ℕ)
@@ -141,10 +113,7 @@ next_lower : (s : StackWorld) (v : VolumeId) (born : ℕ) (operation : Operation
     → AllPairs (λ i j. is_lower_at s j i ≡ true) visited
     → IsHighest (is_candidate s v (last_of visited) born operation) s.instances i
     → (k : ℕ) (d : ℕ) → k < length visited → is_lower_at s i (get_or visited k d) ≡ true
-next_lower s v born operation visited i falls next =
-    let parts = and_parts (is_to_visit s v born operation next.row) (is_below_cursor s (last_of visited) next.row) next.passes in
-    below_all s (altitude_at s i) visited falls (λ l e. subst (λ a. is_lower_option a (altitude_at s l) ≡ true) (sym (altitude_there s i next.row next.there))
-    (subst (λ c. is_below_cursor s c next.row ≡ true) e parts.1))
+next_lower s v born operation visited i h6 h7 k d h10 = grind (arith, and_parts, below_all, altitude_there)
 
 pub next_unseen : (s : StackWorld) (v : VolumeId) (born : ℕ) (operation : Operation) (visited : List ℕ) (i : ℕ) (reached : Bool)
     → IsDescent s v born operation visited reached → IsHighest (is_candidate s v (last_of visited) born operation) s.instances i
@@ -152,10 +121,8 @@ pub next_unseen : (s : StackWorld) (v : VolumeId) (born : ℕ) (operation : Oper
 next_unseen s v born operation visited i reached d next = unseen_from s i visited (next_lower s v born operation visited i d.falls next)
 
 among_push : (is : List ℕ) (i : ℕ) (j : ℕ) → is_among (is ++ i ∷ []) j ≡ false → (is_among is j ≡ false) × ((i ≡ j) → ⊥)
-among_push [] i j h = (refl, λ e. false≢true (sym (or_left (i == j) false h) ∙ eq-eqb i j e))
-among_push (k ∷ is) i j h =
-    let rest = among_push is i j (or_right (k == j) (is_among (is ++ i ∷ []) j) h) in
-    (rw (or_left (k == j) (is_among (is ++ i ∷ []) j) h, rest.0) refl, rest.1)
+among_push [] i j h = (refl, λ e. false≢true (sym (or_parts (i == j) false h).0 ∙ eq-eqb i j e))
+among_push (k ∷ is) i j h = grind (arith, (among_push is i j))
 
 -- a visit of the next instance
 pub descent_visits : (s : StackWorld) (v : VolumeId) (born : ℕ) (operation : Operation) (visited : List ℕ) (i : ℕ) → IsStack s
@@ -170,11 +137,7 @@ descent_visits s v born operation visited i stack d next = record {
       let passes = and_parts (is_to_visit s v born operation next.row) (is_below_cursor s (last_of visited) next.row) next.passes in
       let differ = apart_altitudes s v i j next.row row stack next.there h
       (to_visit_there s v born operation next.row passes.0) (to_visit_there s v born operation row t) unseen.1 in
-      let lower : is_lower row.altitude next.row.altitude ≡ true = lower_or next.row.altitude row.altitude not_higher differ in (
-        subst (λ c. is_below_cursor s c row ≡ true) (sym (last_of-push visited i))
-            (subst (λ a. is_lower_option (Some row.altitude) a ≡ true) (sym (altitude_there s i next.row next.there)) lower),
-        refl,
-      );
+      let lower : is_lower row.altitude next.row.altitude ≡ true = lower_or next.row.altitude row.altitude not_higher differ in grind (arith, common_steps);
 }
 
 -- where nothing is left to visit, the base may be called
@@ -190,19 +153,14 @@ descent_reaches s v born operation visited d none = record {
 }
 
 altitude_stays : (s t : StackWorld) → Follows s t → (i : ℕ) (x : List ℕ) → altitude_at s i ≡ Some x → altitude_at t i ≡ Some x
-altitude_stays s t f i x h =
-    by_option (λ r. option_map (λ (row : Instance). row.altitude) r ≡ Some x → altitude_at t i ≡ Some x) (slice_get s.instances i) (λ none h. (cc))
-    (λ row there h. let after = f.altitudes i row there in altitude_there t i after.0 after.1 ∙ ap Some after.2 ∙ h) h
+altitude_stays s t f i x h = grind arith
 
 lower_stays : (s t : StackWorld) → Follows s t → (i j : ℕ) → is_lower_at s i j ≡ true → is_lower_at t i j ≡ true
-lower_stays s t f i j h =
-    option_follows (altitude_at s i) (altitude_at s j) (altitude_at t i) (altitude_at t j) (altitude_stays s t f i) (altitude_stays s t f j) h
+lower_stays s t f i j h = grind arith
 
 below_stays : (s t : StackWorld) → Follows s t → (cursor : Option ℕ) (a b : Instance) → b.altitude ≡ a.altitude
     → is_below_cursor s cursor a ≡ true → is_below_cursor t cursor b ≡ true
-below_stays s t f None a b e h = refl
-below_stays s t f (Some l) a b e h =
-    option_follows (Some a.altitude) (altitude_at s l) (Some b.altitude) (altitude_at t l) (λ x k. ap Some e ∙ k) (altitude_stays s t f l) h
+below_stays s t f cursor a b e h = grind arith
 
 -- the other way: what is below the cursor now was below it before, where the cursor is an instance that was there
 below_was : (s t : StackWorld) → Follows s t → (cursor : Option ℕ) (a b : Instance) → b.altitude ≡ a.altitude
@@ -211,10 +169,7 @@ below_was s t f None a b e there h = refl
 below_was s t f (Some l) a b e there h =
     let row = get_or s.instances l a in
     let at : slice_get s.instances l ≡ Some row = slice_get-get_or s.instances l a (there l refl) in
-    let was = altitude_there s l row at in
-    subst (λ x. is_lower_option (Some a.altitude) x ≡ true) (sym was)
-    (subst (λ x. is_lower_option (Some x) (Some row.altitude) ≡ true) e
-    (subst (λ x. is_lower_option (Some b.altitude) x ≡ true) (altitude_stays s t f l row.altitude was) h))
+    grind (arith, altitude_there, altitude_stays)
 
 -- every event of the stack keeps every descent
 pub descent_follows : (s t : StackWorld) (v : VolumeId) (born : ℕ) (operation : Operation) (visited : List ℕ) (reached : Bool)
@@ -242,8 +197,7 @@ none_follows s t v born operation cursor f past there none j row h =
 
 pub room_is : (s : StackWorld) (v : VolumeId) (born : ℕ) (operation : Operation) (visited : List ℕ) (i : ℕ)
     → HasRoom s v born operation visited → IsHighest (is_candidate s v (last_of visited) born operation) s.instances i → length visited < 32
-room_is s v born operation visited i r next =
-    omega (arith, r.room, count-some (is_candidate s v (last_of visited) born operation) s.instances i next.row next.there next.passes)
+room_is s v born operation visited i r next = grind (arith, count-some)
 
 pub room_visits : (s : StackWorld) (v : VolumeId) (born : ℕ) (operation : Operation) (visited : List ℕ) (i : ℕ)
     → HasRoom s v born operation visited → IsHighest (is_candidate s v (last_of visited) born operation) s.instances i
@@ -263,11 +217,7 @@ room_visits s v born operation visited i r next =
       | None ↦ λ _. refl
       | Some l ↦ option_trans (Some row.altitude) (Some next.row.altitude) (altitude_at s l) (subst (λ x. is_lower_option (Some row.altitude) x ≡ true) there parts.1)
     ]) passed.1)) in
-    record {
-      past = r.past;
-      room = subst (λ c. length (visited ++ i ∷ []) + count_by (is_candidate s v c born operation) s.instances ≤ 32) (sym (last_of-push visited i))
-          (omega (arith, r.room, fewer, length-append visited (i ∷ [])));
-    }
+    grind (arith, common_steps)
 
 pub room_follows : (s t : StackWorld) (v : VolumeId) (born : ℕ) (operation : Operation) (visited : List ℕ)
     → Follows s t → ((l : ℕ) → last_of visited ≡ Some l → l < length s.instances)
@@ -277,10 +227,5 @@ room_follows s t v born operation visited f there r =
     let fewer = count-le (is_candidate s v cursor born operation) (is_candidate t v cursor born operation) s.instances t.instances
     (λ i row h k.
     let parts = and_parts (is_to_visit t v born operation row) (is_below_cursor t cursor row) k in
-    let before = f.visits v born operation i row r.past h parts.0 in (
-      before.0,
-      before.1,
-      and_from (is_to_visit s v born operation before.0) (is_below_cursor s cursor before.0) before.2
-          (below_was s t f cursor before.0 row (sym before.3) there parts.1),
-    )) in
+    let before = f.visits v born operation i row r.past h parts.0 in grind (arith, and_from, below_was)) in
     record { past = omega (arith, r.past, f.births); room = omega (arith, r.room, fewer) }

@@ -1,27 +1,19 @@
 -- The events on filters, volumes and instances keep what is under way.
-use Rattle.std.proofs.Common.{◌≡◌, ℕ, zero, suc, ◌+◌, ◌≤◌, ◌<◌, ◌==◌, Bool, true, false, List, [], ◌∷◌, ◌++◌, Some, None, Result, Ok, Err, length, refl, ap, sym, ◌∙◌, subst, arith, count_by, length-set}
-use Rattle.fm_world.proofs.Words.{slice_get, eq-eqb, ne_eqb, slice_get_within, FilterId, VolumeId, InstanceId, WorkerId, OpId, Status, CtxId, updated}
-use Rattle.fm_world.proofs.Words.{Instance, StackWorld, is_setup, accept_row, refuse_row, Follows, IsStack, one, Below, FlowAction, Worker}
-use Rattle.fm_world.proofs.Words.{LosesLinks, World, worker_at, put, LosesByKnown, filed_next, FlowTable, Spot, AtPre, is_in_at, is_in_drain}
-use Rattle.fm_world.proofs.Words.{IsUnderWay, is_in_setup, setup_row, IsFileSound, first_of}
-use Rattle.fm_stack.specs.Events as stack
-use Rattle.std.proofs.lemmas.Bool.Decides.{nat_tests}
-use Rattle.fm_stack.proofs.Attaching.{attached_keeps, attached_follows}
-use Rattle.fm_stack.proofs.SettingUp.{accepted_keeps, accepted_follows, refused_keeps, refused_follows}
-use Rattle.fm_world.proofs.Cases.{at_updated, count-some, one_true, by_option}
-pub use Rattle.fm_world.proofs.Events.{idle_there}
-use Rattle.fm_world.proofs.Ties.{count_moves, count_stays}
+use Rattle.std.proofs.Common.{Bool, Err, List, None, Ok, Result, Some, [], ap, arith, count_by, false, length, length-set, refl, subst, suc, sym, true, zero, ℕ, ◌++◌, ◌+◌, ◌<◌, ◌==◌, ◌∙◌, ◌∷◌, ◌≡◌, ◌≤◌}
+use Rattle.fm_world.proofs.Words.{AtPre, CtxId, FilterId, Follows, Instance, InstanceId, IsFileSound, IsStack, IsUnderWay, OpId, Spot}
+use Rattle.fm_world.proofs.Words.{StackWorld, Status, VolumeId, Worker, WorkerId, World, accept_row, eq-eqb, first_of, is_in_at, is_in_drain}
+use Rattle.fm_world.proofs.Words.{is_in_setup, is_setup, ne_eqb, one, put, refuse_row, setup_row, slice_get, slice_get_within, updated}
+use Rattle.fm_world.proofs.Words.{worker_at}
+use Rattle.fm_stack.proofs.Attaching.{attached_follows, attached_keeps}
+use Rattle.fm_stack.proofs.SettingUp.{accepted_follows, accepted_keeps, refused_follows, refused_keeps}
 use Rattle.fm_world.proofs.Amongs.{among_follows}
+use Rattle.fm_world.proofs.Cases.{at_updated, by_option, count-some, one_true}
+use Rattle.fm_world.proofs.Ties.{count_moves, count_stays}
+use Rattle.fm_stack.specs.Events as stack
 
 -- streams, handles and the creates under way
 abbrev pub FiledIn : World → Type 0
 FiledIn w = IsFileSound w.files w.flow
-
--- where links go by a known answer; and where nothing goes, and streams and handles stay
-pub known_cases : (P : World → Type 0) (old : World) (o : OpId) (t : FlowTable) (result : Result FlowAction Status) (lies : Below) (mid new : World)
-    → LosesByKnown result lies mid new → (LosesLinks mid new → P new) → (filed_next old o t result lies ≡ old.files → P mid) → P new
-known_cases P old o t (Ok FlowAction.Moved) (Below.Known why) mid new h lost same = lost h
-known_cases P old o t _ _ mid new h lost same = subst P (sym h) (same refl)
 
 pub worker_below : (w : World) (k : WorkerId) (a : Worker) → worker_at w.workers k ≡ Some a → IsUnderWay w → k.0 < 48
 worker_below w k a at s = subst (λ n. k.0 < n) s.hands (slice_get_within w.workers k.0 a at)
@@ -42,12 +34,7 @@ outside_setup : (i : InstanceId) → Outside (Worker.Setup i)
 outside_setup i = record { spots = λ p s. elim s as (λ x. is_in_at p x (Worker.Setup i) ≡ false) [ AtPre j ↦ refl | _ ↦ refl ]; drains = λ p n. refl }
 
 pub follows_same : (s : StackWorld) → Follows s s
-follows_same s = record {
-  births = omega arith;
-  longer = omega arith;
-  altitudes = λ i row there. (row, there, refl);
-  visits = λ v born operation i row past there visits. (row, there, visits, refl);
-}
+follows_same s = grind arith
 
 -- filters, volumes and instances change
 pub stack_changes : (w : World) (t : StackWorld) → IsStack t → Follows w.stack t → ((i : ℕ) → setup_row (slice_get w.stack.instances i) ≡ setup_row (slice_get t.instances i))
@@ -79,13 +66,13 @@ worker_moves w t k a b at from to stack follows setups h = record {
 -- ---- attach
 
 same_suc : (a b : ℕ) → (suc a == suc b) ≡ (a == b)
-same_suc a b = grind (arith, nat_tests)
+same_suc a b = grind arith
 
 setup_push : (rows : List Instance) (row : Instance) (j : ℕ) → is_setup row.phase ≡ true
     → setup_row (slice_get (rows ++ row ∷ []) j) ≡ setup_row (slice_get rows j) + one (length rows == j)
 setup_push [] row zero h = rw h refl
 setup_push (x ∷ rows) row (suc j) h = setup_push rows row j h ∙ ap (λ b. setup_row (slice_get rows j) + one b) (sym (same_suc (length rows) j))
-setup_push _ row _ h = grind (arith, nat_tests)
+setup_push _ row _ h = grind arith
 
 pub attach_keeps : (old : World) (k : WorkerId) (f : FilterId) (v : VolumeId) (name altitude : List ℕ) (i : InstanceId) → worker_at old.workers k ≡ Some Worker.Idle
     → first_of (stack.attach_refusals old.stack f v name altitude) ≡ None → i.0 ≡ length old.stack.instances → IsUnderWay old

@@ -17,6 +17,8 @@ pub mod Streams
 pub mod Filed
 pub mod Losing
 pub mod Flowing
-pub mod Handing
 pub mod Events
-pub mod Turning
+pub mod Requests
+pub mod Turns
+pub mod Returns
+pub mod Staying

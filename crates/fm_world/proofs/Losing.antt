@@ -1,13 +1,12 @@
 -- Links that go with what they name leave a World sound.
-use Rattle.std.proofs.Common.{◌≡◌, ℕ, Bool, true, false, cond, not, List, [], ◌∷◌, ◌++◌, map, find, Option, Some, None, is_some, refl, ap, sym, ◌∙◌, subst, arith, get_or}
-use Rattle.fm_world.proofs.Words.{false≢true, change_first, HandleId, VolumeId, WorkerId, Operation, Object, hand_of, with_link, swept, swept_slot}
-use Rattle.fm_world.proofs.Words.{Context, Slot, sweep_keeps, FileStream, HandlePhase, moved_on, FileTable, is_stream, is_handle, stream_of_path}
-use Rattle.fm_world.proofs.Words.{fresh_stream, created, created_in, with_phase, phased, is_there, names_there, is_on_gone, LosesLinks, fits, IsOwned}
-use Rattle.fm_world.proofs.Words.{IsSound, IsUnderWay, World}
-use Rattle.fm_world.proofs.Belonging.{owners_after, owners_same, owners_swept, AllPass, passes_swept, fits_unlinked}
+use Rattle.std.proofs.Common.{Bool, List, None, Option, Some, [], ap, arith, cond, false, find, is_some, map, not, refl, subst, sym, true, ℕ, ◌++◌, ◌∙◌, ◌∷◌, ◌≡◌}
+use Rattle.fm_world.proofs.Words.{Context, FileTable, HandleId, HandlePhase, IsOwned, IsSound, IsUnderWay, LosesLinks, Object, Operation, Slot}
+use Rattle.fm_world.proofs.Words.{VolumeId, WorkerId, World, change_first, created, false≢true, fits, hand_of, is_on_gone, is_there, moved_on}
+use Rattle.fm_world.proofs.Words.{names_there, phased, sweep_keeps, swept, swept_slot, with_link}
+use Rattle.fm_world.proofs.Belonging.{AllPass, fits_unlinked, owners_after, owners_same, owners_swept, passes_swept}
 use Rattle.fm_world.proofs.Callbacks.{contexts_owned, same_hand, same_hands}
+use Rattle.fm_world.proofs.Cases.{by_bool}
 use Rattle.fm_world.proofs.Keeps.{FiledIn}
-use Rattle.fm_world.proofs.Cases.{by_bool, by_option}
 
 -- each link of a World names what is there
 abbrev pub NamedIn : World → Type 0
@@ -20,7 +19,7 @@ pub passes_unlinked : (p : Option Context → Bool) (test : Context → Bool) (x
     → p (Some x) ≡ true → p (Some (swept test x)) ≡ true
 passes_unlinked p test x bare h = elim (test x) as (λ b. p (Some (cond b (with_link None x) x)) ≡ true) [ true ↦ bare h | false ↦ h ]
 
-pub loses_owned : (old new : World) → LosesLinks old new → IsOwned old → IsOwned new
+loses_owned : (old new : World) → LosesLinks old new → IsOwned old → IsOwned new
 loses_owned old new h s =
     let test = is_on_gone old.files in
     let slots = old.contexts.slots in
@@ -35,7 +34,7 @@ loses_owned old new h s =
 left_there : (f : FileTable) (x : Context) → names_there f (Some (swept (is_on_gone f) x)) ≡ true
 left_there f x = by_bool (λ b. names_there f (Some (cond (not b) (with_link None x) x)) ≡ true) (is_there f x.link) (λ is. is) (λ is. refl)
 
-pub loses_named : (old new : World) → LosesLinks old new → NamedIn new
+loses_named : (old new : World) → LosesLinks old new → NamedIn new
 loses_named old new h =
     let left = passes_swept (λ o. true) (names_there old.files) (is_on_gone old.files) old.contexts.slots refl (λ x _. left_there old.files x) (λ k d l. refl) in
     subst NamedIn (sym h.1) (subst (AllPass (names_there old.files)) (sym h.0.slots) left)
@@ -53,21 +52,14 @@ loses_sound old new h under_way owned filed = record {
 
 pub named_more : (f g : FileTable) (slots : List Slot) → ((l : Option Object) → is_there f l ≡ true → is_there g l ≡ true)
     → AllPass (names_there f) slots → AllPass (names_there g) slots
-named_more f g slots more h k d l =
-    by_option (λ o. names_there f o ≡ true → names_there g o ≡ true) (get_or slots k d).context (λ _ named. refl) (λ x _ named. more x.link named) (h k d l)
+named_more f g slots h3 h4 = grind arith
 
 pub found_before : {A : Type 0} (test : A → Bool) (xs ys : List A) → is_some (find test xs) ≡ true → is_some (find test (xs ++ ys)) ≡ true
 found_before test [] ys h = absurd (false≢true h)
-found_before test (x ∷ xs) ys h =
-    by_bool (λ b. is_some (cond b (Some x) (find test xs)) ≡ true → is_some (cond b (Some x) (find test (xs ++ ys))) ≡ true) (test x) (λ _ h. refl)
-    (λ _ h. found_before test xs ys h) h
+found_before test (x ∷ xs) ys h = grind (arith, (found_before test xs ys))
 
 pub created_there : (v : VolumeId) (path : List ℕ) (n : ℕ) (f : FileTable) (l : Option Object) → is_there f l ≡ true → is_there (created v path n f) l ≡ true
-created_there v path n f l h = by_stream (stream_of_path v path f) l h
-  where
-    by_stream : (m : Option FileStream) (l : Option Object) → is_there f l ≡ true → is_there (created_in v path n f m) l ≡ true
-    by_stream None (Some (Object.Stream s)) h = found_before (is_stream s) f.streams (fresh_stream v path n ∷ []) h
-    by_stream _ _ h = h
+created_there v path n f l h = grind (arith, found_before)
 
 pub found_changed : {A : Type 0} (test other : A → Bool) (change : A → A) → ((x : A) → test (change x) ≡ test x) → (xs : List A)
     → is_some (find test xs) ≡ true → is_some (find test (change_first other change xs)) ≡ true
@@ -80,11 +72,7 @@ found_changed test other change same (x ∷ xs) h =
     (λ _ h. refl) (λ _ h. found_changed test other change same xs h) h)
 
 phased_there : (g : HandleId) (where' : HandlePhase) (f : FileTable) (l : Option Object) → is_there f l ≡ true → is_there (phased g where' f) l ≡ true
-phased_there g where' f (Some (Object.Stream s)) h = h
-phased_there g where' f (Some (Object.Handle n)) h = found_changed (is_handle n) (is_handle g) (with_phase where') (λ x. refl) f.handles h
-phased_there g where' f _ h = refl
+phased_there g where' f l h = grind (arith, found_changed)
 
 pub moved_there : (operation : Operation) (g : HandleId) (n : ℕ) (f : FileTable) (l : Option Object) → is_there f l ≡ true → is_there (moved_on operation g n f) l ≡ true
-moved_there Operation.Cleanup g n f l h = phased_there g (HandlePhase.CleaningUp (record { 0 = n })) f l h
-moved_there Operation.Close g n f l h = phased_there g HandlePhase.Closing f l h
-moved_there _ g n f l h = h
+moved_there operation g n f l h = grind (arith, phased_there)

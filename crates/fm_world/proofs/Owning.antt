@@ -1,22 +1,24 @@
--- The events on filters, volumes and instances leave contexts as the World says.
-use Rattle.std.proofs.Common.{◌&&◌, ◌≡◌, ℕ, ◌<◌, ◌≤◌, Bool, true, false, cond, not, List, [], ◌∷◌, ◌++◌, length, map, Option, Some, None, Result, Ok, Err, slice_get, refl, ap, sym, ◌∙◌, subst, inl, inr, ◌⊎◌, arith}
-use Rattle.fm_world.proofs.Words.{All, slice_set, false≢true, true≢false, and_parts, and_from, same_Some, slice_get_within, length-append, All-nil}
-use Rattle.fm_world.proofs.Words.{All-head, CtxId, FilterId, InstanceId, VolumeId, WorkerId, Status, slice_get-kept, slice_get-set_same}
-use Rattle.fm_world.proofs.Words.{slice_get-set_other, updated-other, Instance, Phase, Volume, StackWorld, is_setup, is_detached, refuse_row}
-use Rattle.fm_world.proofs.Words.{accept_row, IsStack, Follows, Owner, hand_of, cleaning_of, IsLawful, same_owner, Leaves, is_linked_of, swept}
-use Rattle.fm_world.proofs.Words.{swept_slot, Context, Slot, ContextTable, leave_keeps, sweep_keeps, FlowTable, carried, in_flight, Worker, World}
-use Rattle.fm_world.proofs.Words.{carries, worker_at, put, after_attach, cleanup_in, row_at, place_in, fits, owner_fits, link_fits, holds_links_by}
-use Rattle.fm_world.proofs.Words.{is_left_by, keeps_links, keeps_links_by, is_flown, is_flown_by, HoldsIn, Registers, Mounts, Attaches, SetsUp}
-use Rattle.fm_world.proofs.Words.{EmptiesUnless, IsSound, IsOwned, names_there, setup_row}
-use Rattle.fm_stack.specs.Events as stack
+-- What the events on filters, volumes and instances do.
+use Rattle.std.proofs.Common.{Bool, Err, List, None, Ok, Option, Result, Some, [], ap, arith, false, inl, inr, length, map, not, refl, slice_get, subst, sym, true, ℕ, ◌++◌, ◌<◌, ◌∙◌, ◌∷◌, ◌≡◌, ◌≤◌, ◌⊎◌}
+use Rattle.fm_world.proofs.Words.{All, All-head, All-nil, Attaches, Context, ContextTable, CtxId, EmptiesUnless, FilterId, FlowTable, Follows}
+use Rattle.fm_world.proofs.Words.{HoldsIn, Instance, InstanceId, IsLawful, IsOwned, IsSound, IsStack, Leaves, Mounts, Owner, Phase, Registers}
+use Rattle.fm_world.proofs.Words.{SetsUp, SetsUpAt, Slot, StackWorld, Status, Volume, VolumeId, Worker, WorkerId, World, accept_row}
+use Rattle.fm_world.proofs.Words.{after_attach, and_from, and_parts, carried, carries, cleaning_of, cleanup_in, fits, hand_len, hand_of}
+use Rattle.fm_world.proofs.Words.{holds_links_by, in_flight, is_detached, is_flown, is_flown_by, is_left_by, is_linked_of, is_setup, keeps_links}
+use Rattle.fm_world.proofs.Words.{keeps_links_by, leave_keeps, left_by_setup, length-append, names_there, place_in, put, refuse_row, row_at}
+use Rattle.fm_world.proofs.Words.{same_Some, slice_get-kept, slice_get-set_other, slice_get-set_same, slice_get_within, slice_set, sweep_keeps}
+use Rattle.fm_world.proofs.Words.{swept, swept_slot, updated-other, worker_at}
+use Rattle.fm_stack.proofs.Registering.{mounted_follows, mounted_keeps, registered_follows, registered_keeps}
 use Rattle.fm_types.specs.declared.registration.Registration.{Registration}
-use Rattle.fm_stack.proofs.Registering.{registered_keeps, registered_follows, mounted_keeps, mounted_follows}
-use Rattle.fm_world.proofs.Belonging.{OwnersStay, owners_same, owners_swept, owners_after, FiltersStay, belongs_still, all_hold_still, all_carry_still, filters_updated, AllCarry, AllFit, AllPass, VolumesStay, fits_on, passes_swept, owner_stays, link_stays, others_link}
-use Rattle.fm_world.proofs.Callbacks.{same_hands, owned_with}
-use Rattle.fm_world.proofs.Cases.{by_bool, some_of, at_written, at_updated}
-use Rattle.fm_world.proofs.Keeps.{worker_below, stack_changes, attach_keeps, setup_keeps, setup_place, FiledIn}
+use Rattle.fm_world.proofs.Belonging.{AllCarry, AllFit, AllPass, FiltersStay, OwnersStay, VolumesStay, all_carry_still, all_hold_still, belongs_still}
+use Rattle.fm_world.proofs.Belonging.{filters_updated, fits_on, link_stays, others_link, owner_stays, owners_after, owners_same, owners_swept, passes_swept}
+use Rattle.fm_world.proofs.Callbacks.{owned_with, same_hands}
+use Rattle.fm_world.proofs.Cases.{at_updated, at_written, some_of}
+use Rattle.fm_world.proofs.Events.{idle_by}
+use Rattle.fm_world.proofs.Keeps.{FiledIn, attach_keeps, setup_keeps, setup_place, stack_changes, worker_below}
 use Rattle.fm_world.proofs.Losing.{NamedIn, passes_unlinked}
-use Rattle.fm_world.proofs.Events.{idle_by, setup_by}
+use Rattle.fm_world.proofs.Staying.{Does, SlotsStay, TableStays, hand_emptied, lasts, makes, nothing, slots_swept, still, table_after, table_same, unchanged}
+use Rattle.fm_stack.specs.Events as stack
 
 -- ---- instances go on
 
@@ -32,11 +34,7 @@ rows_filters s t on j row there = let after = on j row there in (after.0, after.
 -- a test on the row of an instance
 row_test : (s t : StackWorld) (read : Option Instance → Bool) (test : Phase → Bool) → read None ≡ false → ((row : Instance) → read (Some row) ≡ test row.phase)
     → test Phase.Attached ≡ true → RowsGoOn s t → (j : InstanceId) → read (row_at s j) ≡ true → read (row_at t j) ≡ true
-row_test s t read test none some attached on j h =
-    let was = some_of read (row_at s j) none h in
-    let after = on j.0 was.0 was.1 in
-    ap read after.1 ∙ some after.0
-    ∙ elim after.3 [ inl same ↦ ap test same ∙ sym (some was.0) ∙ sym (ap read was.1) ∙ h | inr moved ↦ ap test moved.1 ∙ attached ]
+row_test s t read test h4 h5 h6 h7 j h9 = grind arith
 
 rows_left : (s t : StackWorld) → RowsGoOn s t → (j : InstanceId) → is_left_by (row_at s j) ≡ true → is_left_by (row_at t j) ≡ true
 rows_left s t on = row_test s t is_left_by (λ p. not (is_detached p)) refl (λ row. refl) refl on
@@ -45,12 +43,10 @@ rows_keep : (s t : StackWorld) → RowsGoOn s t → (j : InstanceId) → keeps_l
 rows_keep s t on = row_test s t keeps_links_by keeps_links refl (λ row. refl) refl on
 
 rows_flown : (s t : StackWorld) → RowsGoOn s t → (j : InstanceId) → is_flown_by (row_at t j) ≡ false → is_flown_by (row_at s j) ≡ false
-rows_flown s t on j h =
-    by_bool (λ b. is_flown_by (row_at s j) ≡ b → b ≡ false) (is_flown_by (row_at s j))
-    (λ _ e. absurd (true≢false (sym (row_test s t is_flown_by is_flown refl (λ row. refl) refl on j e) ∙ h))) (λ _ _. refl) refl
+rows_flown s t on j h = grind arith
 
 -- instances go on, and contexts and workers stay
-pub stack_owned : (w : World) (t : StackWorld) → RowsGoOn w.stack t → length w.stack.filters ≤ length t.filters → VolumesStay w.stack t
+stack_owned : (w : World) (t : StackWorld) → RowsGoOn w.stack t → length w.stack.filters ≤ length t.filters → VolumesStay w.stack t
     → IsOwned w → IsOwned (record w { stack = t })
 stack_owned w t on filters volumes h =
     let slots = w.contexts.slots in
@@ -68,40 +64,36 @@ stack_owned w t on filters volumes h =
 -- ---- register and mount
 
 volumes_push : (xs : List Volume) (x : Volume) (v : ℕ) → holds_links_by (slice_get xs v) ≡ true → holds_links_by (slice_get (xs ++ x ∷ []) v) ≡ true
-volumes_push xs x v h =
-    let there = some_of holds_links_by (slice_get xs v) refl h in
-    ap holds_links_by (slice_get-kept xs (x ∷ []) v there.0 there.1) ∙ sym (ap holds_links_by there.1) ∙ h
+volumes_push xs x v h = grind (arith, some_of, slice_get-kept)
 
 -- filters or volumes come, and the instances stay
-stack_sound : (old new : World) (t : StackWorld) → new.stack ≡ t → new ≡ record old { stack = new.stack } → t.instances ≡ old.stack.instances → IsStack t → Follows old.stack t
-    → length old.stack.filters ≤ length t.filters → VolumesStay old.stack t → IsSound old → IsSound new
-stack_sound old new t is e same stack follows filters volumes s =
-    subst IsSound (sym (e ∙ ap (λ x. record old { stack = x }) is)) (record {
-      under_way = stack_changes old t stack follows (λ i. ap (λ (rows : List Instance). setup_row (slice_get rows i)) (sym same)) s.under_way;
-      owned = stack_owned old t (λ j row there. (row, ap (λ (rows : List Instance). slice_get rows j) same ∙ there, refl, inl refl)) filters volumes s.owned;
-      filed = s.filed;
-      links = s.links;
-    })
+stack_does : (old new : World) (t : StackWorld) → new.stack ≡ t → new ≡ record old { stack = new.stack } → t.instances ≡ old.stack.instances
+    → (IsStack old.stack → IsStack t × Follows old.stack t) → length old.stack.filters ≤ length t.filters → VolumesStay old.stack t → Does old new
+stack_does old new t is e same keeps filters volumes =
+    makes old (record old { stack = t }) new (e ∙ ap (λ x. record old { stack = x }) is) (still old.contexts) (λ s.
+    let stack = keeps s.under_way.stack in
+    grind (arith, stack_changes, stack_owned))
 
-pub register_sound : (old : World) (name : List ℕ) (registration : Registration) (result : Result FilterId Status) (new : World)
-    → Registers old name registration result new → IsSound old → IsSound new
+pub register_does : (old : World) (name : List ℕ) (registration : Registration) (result : Result FilterId Status) (new : World)
+    → Registers old name registration result new → Does old new
 unfolding Registers stack.Registers
-register_sound old name registration (Err why) new h s = subst IsSound (sym (h.1 ∙ ap (λ x. record old { stack = x }) h.0.1)) s
-register_sound old name registration (Ok f) new h s =
-    stack_sound old new (stack.registered old.stack name registration) h.0.1.1 h.1 refl (registered_keeps old.stack name registration s.under_way.stack h.0.0)
-    (registered_follows old.stack name registration s.under_way.stack) (omega (arith, length-append old.stack.filters (stack.new_filter name registration ∷ []))) (λ v h. h) s
+register_does old name registration (Err why) new h = unchanged old new (h.1 ∙ ap (λ x. record old { stack = x }) h.0.1)
+register_does old name registration (Ok f) new h =
+    stack_does old new (stack.registered old.stack name registration) h.0.1.1 h.1 refl
+    (λ s. (registered_keeps old.stack name registration s h.0.0, registered_follows old.stack name registration s))
+    (omega (arith, length-append old.stack.filters (stack.new_filter name registration ∷ []))) (λ v h. h)
 
-pub mount_sound : (old : World) (name : List ℕ) (result : Result VolumeId Status) (new : World) → Mounts old name result new → IsSound old → IsSound new
+pub mount_does : (old : World) (name : List ℕ) (result : Result VolumeId Status) (new : World) → Mounts old name result new → Does old new
 unfolding Mounts stack.Mounts
-mount_sound old name (Err why) new h s = subst IsSound (sym (h.1 ∙ ap (λ x. record old { stack = x }) h.0.1)) s
-mount_sound old name (Ok v) new h s =
-    stack_sound old new (stack.mounted old.stack name) h.0.1.1 h.1 refl (mounted_keeps old.stack name s.under_way.stack h.0.0)
-    (mounted_follows old.stack name s.under_way.stack) (omega arith) (volumes_push old.stack.volumes (stack.new_volume name)) s
+mount_does old name (Err why) new h = unchanged old new (h.1 ∙ ap (λ x. record old { stack = x }) h.0.1)
+mount_does old name (Ok v) new h =
+    stack_does old new (stack.mounted old.stack name) h.0.1.1 h.1 refl (λ s. (mounted_keeps old.stack name s h.0.0, mounted_follows old.stack name s))
+    (omega arith) (volumes_push old.stack.volumes (stack.new_volume name))
 
 -- ---- workers go into callbacks and come back
 
 -- a worker outside of callbacks holds nothing
-pub holds_nothing : (s : StackWorld) (slots : List Slot) (m : Option InstanceId) (ids : List CtxId) → m ≡ None → All (HoldsIn s slots m) ids → ids ≡ []
+holds_nothing : (s : StackWorld) (slots : List Slot) (m : Option InstanceId) (ids : List CtxId) → m ≡ None → All (HoldsIn s slots m) ids → ids ≡ []
 holds_nothing s slots m [] e h = refl
 holds_nothing s slots m (c ∷ ids) e h = absurd (subst (λ p. HoldsIn s slots p c) e (All-head (HoldsIn s slots m) c ids h))
 
@@ -131,21 +123,23 @@ owned_moves w t u c k a b hand at worker cleans filters owners lawful hands here
 
 -- ---- attach
 
-pub attach_sound : (old : World) (k : WorkerId) (f : FilterId) (v : VolumeId) (name altitude : List ℕ) (result : Result InstanceId Status) (new : World)
-    → Attaches old k f v name altitude result new → IsSound old → IsSound new
+pub attach_does : (old : World) (k : WorkerId) (f : FilterId) (v : VolumeId) (name altitude : List ℕ) (result : Result InstanceId Status) (new : World)
+    → Attaches old k f v name altitude result new → Does old new
 unfolding Attaches stack.Attaches
-attach_sound old k f v name altitude result new h s =
-    idle_by (λ _ w. IsSound w) k result old new _ h (λ why. s) (λ at event. by_result result at event.0 event.1)
+attach_does old k f v name altitude result new h =
+    idle_by (λ _ w. Does old w) k result old new _ h (λ why. nothing old) (λ at event. by_result result at event.0 event.1)
   where
     by_result : (result : Result InstanceId Status) → worker_at old.workers k ≡ Some Worker.Idle → stack.Attaches old.stack f v name altitude result new.stack
-        → new ≡ record old { stack = new.stack; workers = after_attach old.workers k result } → IsSound new
-    by_result (Err why) at h e = subst IsSound (sym (e ∙ ap (λ x. record old { stack = x }) h.1)) s
+        → new ≡ record old { stack = new.stack; workers = after_attach old.workers k result } → Does old new
+    by_result (Err why) at h e = unchanged old new (e ∙ ap (λ x. record old { stack = x }) h.1)
     by_result (Ok i) at h e =
         let t = stack.attached old.stack f v name altitude in
         let slots = old.contexts.slots in
         let on : RowsGoOn old.stack t = λ j row there. (row, slice_get-kept old.stack.instances (stack.new_instance f v name altitude ∷ []) j row there, refl, inl refl) in
+        makes old (record old { stack = t; workers = put old.workers k (Worker.Setup i) }) new
+        (e ∙ ap (λ x. record old { stack = x; workers = put old.workers k (Worker.Setup i) }) h.1.1) (still old.contexts) (λ s.
         let base = stack_owned old t on (omega arith) (λ v h. h) s.owned in
-        subst IsSound (sym (e ∙ ap (λ x. record old { stack = x; workers = put old.workers k (Worker.Setup i) }) h.1.1)) (record {
+        record {
           under_way = attach_keeps old k f v name altitude i at h.0 h.1.0 s.under_way;
           owned = owned_moves old t old.flow old.contexts k Worker.Idle (Worker.Setup i) [] at (worker_below old k Worker.Idle at s.under_way)
               (cleaning_stays old old.contexts.cleaning k Worker.Idle (Worker.Setup i) at refl refl refl s.owned.cleaning) (rows_filters old.stack t on) (owners_same slots slots refl)
@@ -158,8 +152,7 @@ attach_sound old k f v name altitude result new h s =
 -- ---- the end of a setup callback
 
 setup_is : (p : Phase) → is_setup p ≡ true → p ≡ Phase.Setup
-setup_is Phase.Setup h = refl
-setup_is _ h = absurd (false≢true h)
+setup_is p h = grind arith
 
 accepted_on : (s : StackWorld) (i : InstanceId) (row : Instance) → slice_get s.instances i.0 ≡ Some row → is_setup row.phase ≡ true → RowsGoOn s (stack.accepted s i)
 accepted_on s i row there setup j x found =
@@ -194,15 +187,7 @@ refused_flown s i j row there setup =
 -- the instance's contexts lost their links, so none is to it
 refused_fits : (s : StackWorld) (i : InstanceId) (row : Instance) (x : Context) → slice_get s.instances i.0 ≡ Some row → fits s (Some x) ≡ true
     → fits (stack.refused s i) (Some (swept (is_linked_of (Owner.Instance i)) x)) ≡ true
-refused_fits s i row x there fit =
-    let t = stack.refused s i in
-    let parts = and_parts (owner_fits s x.kind x.owner) (link_fits s x x.link) fit in
-    let owned = owner_stays s t x.kind x.owner (omega arith) (λ j is left. refused_left s i j row there left) parts.0 in
-    by_bool (λ b. fits t (Some (cond b (record x { link = None }) x)) ≡ true) (is_linked_of (Owner.Instance i) x) (λ is. and_from (owner_fits t x.kind x.owner) true owned refl)
-    (λ is. and_from (owner_fits t x.kind x.owner) (link_fits t x x.link) owned
-    (link_stays s t x x.link (λ v h. h)
-    (λ linked. others_link s t i (λ j apart. updated-other refuse_row s.instances i.0 j.0 apart) x.owner (sym (ap (λ b. b && same_owner (Owner.Instance i) x.owner) linked) ∙ is))
-    parts.1))
+refused_fits s i row x h4 h5 = grind (arith, and_parts, owner_stays, refused_left, and_from, link_stays, others_link, updated-other)
 
 setup_owned : (old : World) (k : WorkerId) (i : InstanceId) (accept : Bool) (result : Result (Unit {0}) Status) (new : World) (left : ContextTable)
     → worker_at old.workers k ≡ Some (Worker.Setup i) → stack.SetsUp old.stack i accept result new.stack → Leaves (carries old) old.contexts left k.0
@@ -238,9 +223,26 @@ setup_owned old k i accept (Err why) new left at h leaves empties e s =
       subst NamedIn (sym made) (subst (AllPass (names_there old.files)) (sym slots) named),
     )
 
-pub setup_sound : (old : World) (k : WorkerId) (accept : Bool) (result : Result (Unit {0}) Status) (new : World)
-    → SetsUp old k accept result new → IsSound old → IsSound new
-setup_sound old k accept result new h s =
-    setup_by (λ _ w. IsSound w) old k accept result new h (λ why. s) (λ i at e.
-    let owned = setup_owned old k i accept result new e.1 at e.0 e.2 e.3 e.4 s in
-    record { under_way = setup_keeps old k i accept result new at e.0 e.4 s.under_way; owned = owned.0; filed = subst FiledIn (sym e.4) s.filed; links = owned.1 })
+emptied : (old : World) (i : InstanceId) (left after : ContextTable) (result : Result (Unit {0}) Status) → EmptiesUnless result i old left after
+    → TableStays left after × (after.hands ≡ left.hands)
+emptied old i left after (Ok done) same = (subst (TableStays left) (sym same) (still left), ap (λ (t : ContextTable). t.hands) same)
+emptied old i left after (Err why) sweeps = ((subst (SlotsStay left.slots) (sym sweeps.slots) (slots_swept _ left.slots), sweeps.cleaning), sweeps.hands)
+
+pub setup_does : (old : World) (k : WorkerId) (accept : Bool) (result : Result (Unit {0}) Status) (new : World) → SetsUp old k accept result new
+    → Does old new × (hand_len k.0 new ≡ left_by_setup (worker_at old.workers k) (hand_len k.0 old))
+unfolding SetsUp
+setup_does old k accept result new h = by_place (worker_at old.workers k) refl h
+  where
+    by_place : (m : Option Worker) → worker_at old.workers k ≡ m → SetsUpAt old k accept result new m
+        → Does old new × (hand_len k.0 new ≡ left_by_setup m (hand_len k.0 old))
+    by_place (Some (Worker.Setup i)) at e =
+        let ends = emptied old i e.1 new.contexts result e.3 in (
+          record {
+            sound = λ s.
+                let owned = setup_owned old k i accept result new e.1 at e.0 e.2 e.3 e.4 s in
+                record { under_way = setup_keeps old k i accept result new at e.0 e.4 s.under_way; owned = owned.0; filed = subst FiledIn (sym e.4) s.filed; links = owned.1 };
+            lasts = λ s. lasts old new new.contexts refl (table_after old.contexts e.1 new.contexts (table_same old.contexts e.1 e.2.slots e.2.cleaning) ends.0);
+          },
+          (hand_emptied k.0 old new (ends.1 ∙ e.2.hands)).1,
+        )
+    by_place _ at h = (unchanged old new h.1, ap (hand_len k.0) h.1)

@@ -1,36 +1,34 @@
 -- The empty World is sound, each event keeps a World sound, and a sound World keeps the Headline.
-use Rattle.std.proofs.Common.{◌≡◌, ℕ, zero, suc, ◌<◌, Bool, true, false, cond, not, List, [], ◌∷◌, ◌++◌, replicate, get_or, slice_get, Option, Some, None, refl, ap, sym, ◌∙◌, subst, arith, ◌==◌, is_some, option_map, option_and_then}
-use Rattle.fm_world.proofs.Words.{All, count_by, false≢true, true≢false, and_parts, ne_eqb, length-replicate, All-nil, All-head, All-tail, All-weaker}
-use Rattle.fm_world.proofs.Words.{ContextKind, CtxId, InstanceId, Instance, StackWorld, is_detached, IsPlaced, Owner, is_open, open_of, same_owner}
-use Rattle.fm_world.proofs.Words.{Context, Slot, context_at, lawful_alike, owed, FlowRecord, row_at, place_in, is_left_by, is_flown_by, fits}
-use Rattle.fm_world.proofs.Words.{owner_fits, link_fits, HoldsIn, AskCarries, cleanup_in, Step, StepReply, Worker, empty_files, names_there, World}
-use Rattle.fm_world.proofs.Words.{empty_world, empty_stack, Steps, Run, RunThrough, Headline, RulesKeepHeadline, is_in_at, is_in_drain, DescendsIn}
-use Rattle.fm_world.proofs.Words.{IsAscent, IsInOrder, IsSound, IsAmong, is_in_setup, count-cons, eqb-true, eq-eqb, none-some, same_Some, sum_by-cons}
-use Rattle.fm_world.proofs.Words.{WorkerId, all_at, Phase, Object, one, is_id, references, holds, hand_of, held, context_in, owner_at, link_count}
-use Rattle.fm_world.proofs.Words.{is_id-same, none_if_not_held, Ask, carried_in, carried_among, carried_by, flight, times, instances, total}
-use Rattle.fm_world.proofs.Words.{reference_count, worker_at, owner_by, belongs, belongs_by, may_link, suits, keeps_links, keeps_links_by, is_flown}
-use Rattle.fm_world.proofs.Words.{CarriesIn}
-use Rattle.fm_flow.specs.Sound as flow
-use Rattle.fm_ctx.specs.Kept.{nothing_kept, carried_of}
+use Rattle.std.proofs.Common.{Bool, List, None, Option, Some, [], ap, arith, cond, false, get_or, is_some, option_and_then, option_map, refl, replicate, slice_get, subst, suc, sym, true, ℕ, ◌++◌, ◌==◌, ◌∙◌, ◌∷◌, ◌≡◌}
+use Rattle.fm_world.proofs.Words.{All, All-head, All-nil, All-tail, All-weaker, Ask, AskCarries, CarriesIn, Context, CtxId, DescendsIn}
+use Rattle.fm_world.proofs.Words.{FlowRecord, Headline, HoldsIn, Instance, InstanceId, IsAmong, IsAscent, IsInOrder, IsSound, Object, Owner}
+use Rattle.fm_world.proofs.Words.{RulesKeepHeadline, Run, RunThrough, Slot, StackWorld, Step, StepReply, Steps, Worker, WorkerId, World, all_at}
+use Rattle.fm_world.proofs.Words.{and_parts, belongs, belongs_by, carried_among, carried_by, carried_in, cleanup_in, context_at, context_in}
+use Rattle.fm_world.proofs.Words.{count-cons, empty_files, empty_stack, empty_world, eq-eqb, fits, flight, hand_of, held, holds, instances}
+use Rattle.fm_world.proofs.Words.{is_flown_by, is_id, is_id-same, is_left_by, is_open, keeps_links_by, lawful_alike, length-replicate}
+use Rattle.fm_world.proofs.Words.{link_count, link_fits, may_link, names_there, none-some, none_if_not_held, one, open_of, owed, owner_at}
+use Rattle.fm_world.proofs.Words.{owner_fits, place_in, reference_count, references, row_at, same_Some, sum_by-cons, times, total, true≢false}
+use Rattle.fm_world.proofs.Words.{worker_at}
 use Rattle.fm_ctx.proofs.Opening.{lawful_empty}
-use Rattle.fm_world.proofs.Ties.{idle_is_in_none}
-use Rattle.fm_world.proofs.Callbacks.{reference_sound, release_sound, read_body_sound, write_body_sound, bump_sound, callback_left}
-use Rattle.fm_world.proofs.Cleanups.{take_due_sound, cleaned_sound, finish_sound, none_one}
-use Rattle.fm_world.proofs.Filed.{file_empty}
-use Rattle.fm_world.proofs.Flowing.{begin_sound, next_sound, pre_sound, base_sound, post_sound, collect_sound}
-use Rattle.fm_world.proofs.Linking.{allocate_sound, set_sound, get_sound, delete_sound}
-use Rattle.fm_world.proofs.Owning.{register_sound, mount_sound, attach_sound, setup_sound}
-use Rattle.fm_world.proofs.Belonging.{held_has, AllCarry, AllPass}
+use Rattle.fm_ctx.specs.Kept.{carried_of, nothing_kept}
+use Rattle.fm_world.proofs.Belonging.{AllCarry, AllPass, held_has}
+use Rattle.fm_world.proofs.Callbacks.{bump_does, callback_left, read_body_does, reference_does, release_does, write_body_does}
 use Rattle.fm_world.proofs.Cases.{by_bool, by_option, some_of}
+use Rattle.fm_world.proofs.Cleanups.{cleaned_does, finish_does, none_one, take_due_does}
+use Rattle.fm_world.proofs.Filed.{file_empty}
+use Rattle.fm_world.proofs.Linking.{allocate_does, delete_does, get_does, set_does}
+use Rattle.fm_world.proofs.Owning.{attach_does, mount_does, register_does, setup_does}
+use Rattle.fm_world.proofs.Requests.{begin_does, collect_does}
+use Rattle.fm_world.proofs.Returns.{base_does, post_does, pre_does}
+use Rattle.fm_world.proofs.Staying.{Does}
+use Rattle.fm_world.proofs.Turns.{next_does}
+use Rattle.fm_flow.specs.Sound as flow
 
 -- ---- whose it is
 
 -- what the callbacks of an instance may hold belongs to it, or to its filter
 same_instance : (m : Option Instance) (i j : InstanceId) (x : Context) → x.owner ≡ Owner.Instance i → belongs_by m j (Some x) ≡ true → j.0 ≡ i.0
-same_instance None i j x own h = absurd (false≢true h)
-same_instance (Some row) i j x own h =
-    (elim x.kind as (λ a. same_owner (owner_by row j a) (Owner.Instance i) ≡ true → j.0 ≡ i.0) [ ContextKind.Volume ↦ λ h. absurd (false≢true h) | _ ↦ λ h. eqb-true j.0 i.0 h ])
-    (sym (ap (same_owner (owner_by row j x.kind)) own) ∙ h)
+same_instance m i j x h4 h5 = grind arith
 
 callback_of_owner : (s : StackWorld) (slots : List Slot) (c : CtxId) (i j : InstanceId) (x : Context) → context_at slots c ≡ Some x → x.owner ≡ Owner.Instance i
     → belongs s slots j c ≡ true → j.0 ≡ i.0
@@ -46,8 +44,7 @@ passes_at p slots c x there all =
     (λ _ is. sym (ap p is) ∙ all_at (λ (z : Slot). p z.context ≡ true) slots c.slot y all at) (λ _ is. absurd (none-some x is)) h) there
 
 unlinked : (s : StackWorld) (x : Context) (l : Option Object) → may_link s x.owner ≡ false → link_fits s x l ≡ true → one (is_some l) ≡ 0
-unlinked s x None gone fit = refl
-unlinked s x (Some o) gone fit = absurd (true≢false (sym (and_parts (may_link s x.owner) (suits s x o) fit).0 ∙ gone))
+unlinked s x l gone fit = grind arith
 
 not_linked : (s : StackWorld) (slots : List Slot) (c : CtxId) (i : InstanceId) (x : Context) → keeps_links_by (row_at s i) ≡ false → context_at slots c ≡ Some x → x.owner ≡ Owner.Instance i
     → AllPass (fits s) slots → link_count (context_at slots c) ≡ 0
@@ -65,11 +62,7 @@ held_none (hand ∷ hands) c none = omega (arith, sum_by-cons (λ (h : List CtxI
 -- a worker in a callback of the instance would be in one whose links are kept
 not_held : (w : World) (i : InstanceId) (c : CtxId) (x : Context) (k : WorkerId) → IsSound w → keeps_links_by (row_at w.stack i) ≡ false
     → context_at w.contexts.slots c ≡ Some x → x.owner ≡ Owner.Instance i → HoldsIn w.stack w.contexts.slots (place_in (worker_at w.workers k)) c → ⊥
-not_held w i c x k s gone there own h =
-    by_option (λ m. HoldsIn w.stack w.contexts.slots m c → ⊥) (place_in (worker_at w.workers k)) (λ _ h. h) (λ j at h.
-    let row = some_of (λ m. belongs_by m j (context_at w.contexts.slots c)) (row_at w.stack j) refl h in
-    true≢false (sym (callback_left w k j row.0 s at row.1).1
-    ∙ ap (λ n. keeps_links_by (slice_get w.stack.instances n)) (callback_of_owner w.stack w.contexts.slots c i j x there own h) ∙ gone)) h
+not_held w i c x k h5 h6 h7 h8 h9 = grind (arith, some_of, callback_left, callback_of_owner)
 
 none_held : (w : World) (i : InstanceId) (c : CtxId) (x : Context) → IsSound w → keeps_links_by (row_at w.stack i) ≡ false → context_at w.contexts.slots c ≡ Some x
     → x.owner ≡ Owner.Instance i → held w.contexts.hands c ≡ 0
@@ -104,17 +97,10 @@ none_carried s slots c i x (r ∷ rs) there own none all =
 
 -- ---- all three
 
--- a test that phases in flight pass
-pub flown_passes : (test : Phase → Bool) → test Phase.Attached ≡ true → test Phase.Stopping ≡ true → (p : Phase) → test p ≡ false → is_flown p ≡ false
-flown_passes test attached stopping Phase.Attached h = absurd (true≢false (sym attached ∙ h))
-flown_passes test attached stopping Phase.Stopping h = absurd (true≢false (sym stopping ∙ h))
-flown_passes test attached stopping _ h = refl
-
 unlinked_rests : (m : Option Instance) → keeps_links_by m ≡ false → is_flown_by m ≡ false
-unlinked_rests None h = refl
-unlinked_rests (Some row) h = flown_passes keeps_links refl refl row.phase h
+unlinked_rests m h = grind arith
 
-pub emptied_counts : (w : World) (i : InstanceId) (c : CtxId) → IsSound w → keeps_links_by (row_at w.stack i) ≡ false
+emptied_counts : (w : World) (i : InstanceId) (c : CtxId) → IsSound w → keeps_links_by (row_at w.stack i) ≡ false
     → owner_at w.contexts.slots c ≡ Some (Owner.Instance i) → reference_count w c ≡ 0
 emptied_counts w i c s gone owned =
     by_option (λ o. option_map (λ (x : Context). x.owner) o ≡ Some (Owner.Instance i) → reference_count w c ≡ 0) (context_at w.contexts.slots c)
@@ -126,12 +112,6 @@ emptied_counts w i c s gone owned =
       none_carried w.stack w.contexts.slots c i x w.flow.operations there mine (s.owned.quiet i (unlinked_rests (row_at w.stack i) gone)) s.owned.completions,
       none_held w i c x s gone there mine,
     )) owned
-
-count-replicate : {X : Type 0} (p : X → Bool) (n : ℕ) (x : X) → p x ≡ false → count_by p (replicate n x) ≡ 0
-count-replicate p zero x h = refl
-count-replicate p (suc n) x h =
-    let none : ◌≡◌ {A = ℕ} (cond (p x) 1 0) 0 = ap (λ b. cond b 1 0) h in
-    omega (arith, count-cons p x (replicate n x), none, count-replicate p n x h)
 
 no_cleanup : (n k : ℕ) → cleanup_in (slice_get (replicate n Worker.Idle) k) ≡ None
 no_cleanup (suc n) (suc k) = no_cleanup n k
@@ -147,28 +127,7 @@ nothing_carried c = refl
 
 pub empty_sound : IsSound empty_world
 empty_sound = record {
-  under_way = record {
-    stack = record {
-      filters = omega arith;
-      volumes = omega arith;
-      instances = omega arith;
-      placed = All-nil (IsPlaced empty_stack);
-      apart = λ i j d p q. absurd (omega arith);
-      few = λ v. omega arith;
-      born = omega arith;
-    };
-    flow = record {
-      sound = All-nil flow.IsSound;
-      ascending = λ i j d p q. absurd (omega arith);
-      below = All-nil (λ (r : FlowRecord). r.number.0 < 0);
-      few = omega arith;
-    };
-    among = All-nil (IsAmong empty_stack);
-    hands = length-replicate 48 Worker.Idle;
-    workers = λ o spot. count-replicate (is_in_at o spot) 48 Worker.Idle (idle_is_in_none o spot);
-    drains = λ o i. count-replicate (is_in_drain o i) 48 Worker.Idle refl;
-    setups = λ i. count-replicate (is_in_setup i) 48 Worker.Idle refl;
-  };
+  under_way = grind arith;
   owned = record {
     lawful = lawful_alike nothing_carried lawful_empty;
     cleaning = λ n. same_in 48 n None ∙ sym (no_cleanup 48 n);
@@ -187,14 +146,7 @@ empty_sound = record {
 
 -- a detached instance owns no context, since the owner of each is there
 not_owned : (s : StackWorld) (i : InstanceId) (o : Option Context) → is_left_by (row_at s i) ≡ false → fits s o ≡ true → is_open (Owner.Instance i) o ≡ false
-not_owned s i None gone fit = refl
-not_owned s i (Some x) gone fit = by_owner x.kind x.owner (and_parts (owner_fits s x.kind x.owner) (link_fits s x x.link) fit).0
-  where
-    by_owner : (k : ContextKind) (o : Owner) → owner_fits s k o ≡ true → same_owner (Owner.Instance i) o ≡ false
-    by_owner k (Owner.Filter f) fit = refl
-    by_owner ContextKind.Volume (Owner.Instance j) fit = absurd (false≢true fit)
-    by_owner _ (Owner.Instance j) fit =
-        ne_eqb i.0 j.0 (λ e. true≢false (sym fit ∙ ap (λ n. is_left_by (slice_get s.instances n)) (sym e) ∙ gone))
+not_owned s i o h3 h4 = grind arith
 
 none_counted : (o : Owner) (slots : List Slot) → All (λ (x : Slot). is_open o x.context ≡ false) slots → open_of slots o ≡ 0
 none_counted o [] h = refl
@@ -203,8 +155,7 @@ none_counted o (x ∷ slots) h =
     omega (arith, count-cons (λ (y : Slot). is_open o y.context) x slots, none, none_counted o slots (All-tail (λ (y : Slot). is_open o y.context ≡ false) x slots h))
 
 flown_is_left : (m : Option Instance) → is_left_by m ≡ false → is_flown_by m ≡ false
-flown_is_left None h = refl
-flown_is_left (Some row) h = flown_passes (λ p. not (is_detached p)) refl refl row.phase h
+flown_is_left m h = grind arith
 
 pub headline_from : (w : World) → IsSound w → Headline w
 headline_from w s =
@@ -235,30 +186,34 @@ headline_from w s =
       );
     }
 
+-- what each event does
+pub step_does : (old : World) (s : Step) (r : StepReply) (new : World) → Steps old s r new → Does old new
+step_does old (Step.Register name registration) (StepReply.Filter r) new h = register_does old name registration r new h
+step_does old (Step.Mount name) (StepReply.Volume r) new h = mount_does old name r new h
+step_does old (Step.Attach k f v name altitude) (StepReply.Instance r) new h = attach_does old k f v name altitude r new h
+step_does old (Step.SetupDone k accept) (StepReply.Done r) new h = (setup_does old k accept r new h).0
+step_does old (Step.Begin what) (StepReply.Operation r) new h = (begin_does old what r new h).0
+step_does old (Step.Next k o) (StepReply.Action r) new h = (next_does old k o r new h).0
+step_does old (Step.PreReturned k verdict lent) (StepReply.Done r) new h = (pre_does old k verdict lent r new h).0
+step_does old (Step.BaseReturned k call given) (StepReply.Done r) new h = base_does old k call given r new h
+step_does old (Step.PostReturned k verdict lent) (StepReply.Done r) new h = (post_does old k verdict lent r new h).0
+step_does old (Step.Collect o) (StepReply.Answer r) new h = collect_does old o r new h
+step_does old (Step.Allocate k what body) (StepReply.Context r) new h = (allocate_does old k what body r new h).0
+step_does old (Step.Set k c mode wants) (StepReply.Set r) new h = (set_does old k c mode wants r new h).0
+step_does old (Step.Get k what) (StepReply.Context r) new h = (get_does old k what r new h).0
+step_does old (Step.Delete k what wants) (StepReply.Old r) new h = (delete_does old k what wants r new h).0
+step_does old (Step.Reference k c) (StepReply.Done r) new h = (reference_does old k c r new h).0
+step_does old (Step.Release k c) (StepReply.Done r) new h = (release_does old k c r new h).0
+step_does old (Step.ReadBody k c) (StepReply.Body r) new h = read_body_does old k c r new h
+step_does old (Step.WriteBody k c bytes) (StepReply.Done r) new h = write_body_does old k c bytes r new h
+step_does old (Step.Bump k c at by) (StepReply.Number r) new h = bump_does old k c at by r new h
+step_does old (Step.TakeDue k) (StepReply.Due r) new h = take_due_does old k r new h
+step_does old (Step.Cleaned k number) (StepReply.Done r) new h = cleaned_does old k number r new h
+step_does old (Step.Finish i) (StepReply.Done r) new h = finish_does old i r new h
+step_does old _ _ new h = absurd h
+
 pub step_keeps : (old : World) (s : Step) (r : StepReply) (new : World) → Steps old s r new → IsSound old → IsSound new
-step_keeps old (Step.Register name registration) (StepReply.Filter r) new h s = register_sound old name registration r new h s
-step_keeps old (Step.Mount name) (StepReply.Volume r) new h s = mount_sound old name r new h s
-step_keeps old (Step.Attach k f v name altitude) (StepReply.Instance r) new h s = attach_sound old k f v name altitude r new h s
-step_keeps old (Step.SetupDone k accept) (StepReply.Done r) new h s = setup_sound old k accept r new h s
-step_keeps old (Step.Begin what) (StepReply.Operation r) new h s = begin_sound old what r new h s
-step_keeps old (Step.Next k o) (StepReply.Action r) new h s = next_sound old k o r new h s
-step_keeps old (Step.PreReturned k verdict lent) (StepReply.Done r) new h s = pre_sound old k verdict lent r new h s
-step_keeps old (Step.BaseReturned k call given) (StepReply.Done r) new h s = base_sound old k call given r new h s
-step_keeps old (Step.PostReturned k verdict lent) (StepReply.Done r) new h s = post_sound old k verdict lent r new h s
-step_keeps old (Step.Collect o) (StepReply.Answer r) new h s = collect_sound old o r new h s
-step_keeps old (Step.Allocate k what body) (StepReply.Context r) new h s = allocate_sound old k what body r new h s
-step_keeps old (Step.Set k c mode wants) (StepReply.Set r) new h s = set_sound old k c mode wants r new h s
-step_keeps old (Step.Get k what) (StepReply.Context r) new h s = get_sound old k what r new h s
-step_keeps old (Step.Delete k what wants) (StepReply.Old r) new h s = delete_sound old k what wants r new h s
-step_keeps old (Step.Reference k c) (StepReply.Done r) new h s = reference_sound old k c r new h s
-step_keeps old (Step.Release k c) (StepReply.Done r) new h s = release_sound old k c r new h s
-step_keeps old (Step.ReadBody k c) (StepReply.Body r) new h s = read_body_sound old k c r new h s
-step_keeps old (Step.WriteBody k c bytes) (StepReply.Done r) new h s = write_body_sound old k c bytes r new h s
-step_keeps old (Step.Bump k c at by) (StepReply.Number r) new h s = bump_sound old k c at by r new h s
-step_keeps old (Step.TakeDue k) (StepReply.Due r) new h s = take_due_sound old k r new h s
-step_keeps old (Step.Cleaned k number) (StepReply.Done r) new h s = cleaned_sound old k number r new h s
-step_keeps old (Step.Finish i) (StepReply.Done r) new h s = finish_sound old i r new h s
-step_keeps old _ _ new h s = absurd h
+step_keeps old x r new h s = (step_does old x r new h).sound s
 
 pub run_keeps : (old : World) (steps : List Step) (replies : List StepReply) (new : World) → Run old steps replies new → IsSound old → IsSound new
 run_keeps old [] [] new h s = subst IsSound (sym h) s

@@ -28,13 +28,14 @@ use Rattle.fm_flow.specs.declared.action.Below.TheVariants as below
 use Rattle.fm_flow.specs.declared.action.FlowAction.TheVariants as action
 use Rattle.fm_flow.specs.declared.entry.PreState.TheVariants as state
 use Rattle.fm_ctx.specs.declared.owner.Owner.TheVariants as owner
-use Rattle.fm_world.specs.declared.step.Begin.{Begin}
-use Rattle.fm_world.specs.declared.step.Begin.TheVariants as begin
+use Rattle.fm_data.specs.declared.request.Request.{Request}
+use Rattle.fm_data.specs.declared.request.Request.TheVariants as request
 use Rattle.fm_world.specs.declared.worker.Worker.{Worker}
 use Rattle.fm_world.specs.declared.worker.Worker.TheVariants as place
 use Rattle.fm_world.specs.Links.{LosesLinks}
 use Rattle.fm_world.specs.World.{World, carries}
-use Rattle.fm_world.specs.Requests.{params_of, phase_refusal}
+use Rattle.fm_data.specs.Requests.{params_of}
+use Rattle.fm_world.specs.Requests.{phase_refusal}
 use Rattle.fm_world.specs.Files.{FileTable, stream_at, handle_at, stream_for, created, phased, has_other_handle, is_marked, after_base, after_pre}
 use Rattle.fm_world.specs.declared.file.FileHandle.{FileHandle}
 use Rattle.fm_world.specs.declared.file.FileStream.{FileStream}
@@ -109,10 +110,10 @@ refused_at w p (Some x) = refused_on w p x (stream_at x.stream w.files)
 abbrev pub asked_refused : World → HandleId → Params → Option Status
 asked_refused w h p = cond (is_within_limits p) (refused_at w p (handle_at h w.files)) (Some status.BadRequest)
 
-abbrev pub begin_refused : World → Begin → Option Status
-begin_refused w (begin.List v) = first_of (volume_refusals w v (is_full w.flow))
-begin_refused w (begin.Create v path mode) = first_of (volume_refusals w v (is_full w.flow || has_no_handle_left w))
-begin_refused w (begin.OnHandle h asked) = asked_refused w h (params_of asked)
+abbrev pub begin_refused : World → Request → Option Status
+begin_refused w (request.List v) = first_of (volume_refusals w v (is_full w.flow))
+begin_refused w (request.Create v path mode) = first_of (volume_refusals w v (is_full w.flow || has_no_handle_left w))
+begin_refused w (request.OnHandle h asked) = asked_refused w h (params_of asked)
 
 -- a cleanup and a close move the handle's end on
 abbrev pub moved_on : Operation → HandleId → ℕ → FileTable → FileTable
@@ -140,12 +141,12 @@ created_begun w v path mode = record w {
   files = created v path w.flow.next w.files;
 }
 
-abbrev pub after_begin : World → Begin → World
-after_begin w (begin.List v) = record w { flow = begun v None None w.stack.births None params.List w.flow }
-after_begin w (begin.Create v path mode) = created_begun w v path mode
-after_begin w (begin.OnHandle h asked) = asked_begun w h (params_of asked)
+abbrev pub after_begin : World → Request → World
+after_begin w (request.List v) = record w { flow = begun v None None w.stack.births None params.List w.flow }
+after_begin w (request.Create v path mode) = created_begun w v path mode
+after_begin w (request.OnHandle h asked) = asked_begun w h (params_of asked)
 
-unfoldable pub Begins : World → Begin → Result OpId Status → World → Type 0
+unfoldable pub Begins : World → Request → Result OpId Status → World → Type 0
 Begins old what result new =
     AnswersOrMemory (begin_refused old what) result old new
     (λ (o : OpId). (o.0 ≡ old.flow.next) × (new ≡ after_begin old what))

@@ -15,5 +15,5 @@ mod worker;
 pub use crate::file::{FileHandle, FileObject, FileStream, HandlePhase};
 pub use crate::refused::Refused;
 pub use crate::set_answer::SetAnswer;
-pub use crate::step::{Begin, FileRequest, Step, StepReply};
+pub use crate::step::{Step, StepReply};
 pub use crate::worker::Worker;

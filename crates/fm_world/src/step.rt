@@ -1,76 +1,14 @@
 //! The events as values, with the answers that they get.
 
-ghost use Rattle.std.specs.Prelude.{◌≡◌};
-ghost use Rattle.fm_world.specs.Requests.{params_of};
-
 use crate::set_answer::SetAnswer;
 use fm_altitude::Altitude;
 use fm_ctx::{Due, SetMode};
-use fm_data::{Answer, BaseCall, CallbackData, Params, PostVerdict, PreVerdict};
+use fm_data::{Answer, BaseCall, CallbackData, PostVerdict, PreVerdict, Request};
 use fm_flow::FlowAction;
 use fm_types::{
-    Bytes, ContextKind, CreateMode, CtxId, FilterId, HandleId, InstanceId, Name, OpId,
-    Registration, RelPath, Status, VolumeId, WorkerId,
+    Bytes, ContextKind, CtxId, FilterId, InstanceId, Name, OpId, Registration, Status, VolumeId,
+    WorkerId,
 };
-
-/// What a client asks of a handle.
-#[derive(Drop)]
-pub enum FileRequest {
-    /// Reads at most `len` bytes from `offset` on (`IRP_MJ_READ`).
-    Read { offset: u64, len: u32 },
-    /// Writes the bytes at `offset` (`IRP_MJ_WRITE`).
-    Write { offset: u64, bytes: Bytes },
-    /// Asks for the size (`IRP_MJ_QUERY_INFORMATION`).
-    QuerySize,
-    /// Cuts the file to that size, or fills it up with zeros (`IRP_MJ_SET_INFORMATION`).
-    SetSize { size: u64 },
-    /// Writes out what is buffered (`IRP_MJ_FLUSH_BUFFERS`).
-    Flush,
-    /// Marks the file for deletion (`FileDispositionInformation`).
-    SetDelete,
-    /// The client let go of the handle (`IRP_MJ_CLEANUP`).
-    Cleanup,
-    /// The handle ends (`IRP_MJ_CLOSE`).
-    Close,
-}
-
-impl FileRequest {
-    /// The parameters of the operation that is asked for.
-    pub fn into_params(self) -> Params
-        ensures { result ≡ params_of self }
-    {
-        match self {
-            FileRequest::Read { offset, len } => Params::Read { offset, len },
-            FileRequest::Write { offset, bytes } => Params::Write { offset, bytes },
-            FileRequest::QuerySize => Params::QuerySize,
-            FileRequest::SetSize { size } => Params::SetSize { size },
-            FileRequest::Flush => Params::Flush,
-            FileRequest::SetDelete => Params::SetDelete,
-            FileRequest::Cleanup => Params::Cleanup,
-            FileRequest::Close => Params::Close,
-        }
-    }
-}
-
-/// What a client asks to begin.
-#[derive(Drop)]
-pub enum Begin {
-    /// Opens or makes a file (`IRP_MJ_CREATE`).
-    Create {
-        volume: VolumeId,
-        path: RelPath,
-        mode: CreateMode,
-    },
-    /// Lists the files of a volume (`IRP_MJ_DIRECTORY_CONTROL`).
-    List {
-        volume: VolumeId,
-    },
-    /// An operation on a handle.
-    OnHandle {
-        handle: HandleId,
-        request: FileRequest,
-    },
-}
 
 /// One event, with what it is handed.
 #[derive(Drop)]
@@ -98,7 +36,7 @@ pub enum Step {
         accept: bool,
     },
     /// An operation begins.
-    Begin(Begin),
+    Begin(Request),
     /// The worker asks for the next callback or call of an operation.
     Next {
         worker: WorkerId,

@@ -1,28 +1,48 @@
 //! The spelling of requests for operations.
 
-ghost use Rattle.std.specs.Prelude.{◌≡◌, ◌++◌, ◌↔◌, IsTrue, OnOk, length};
+ghost use Rattle.std.specs.Prelude.{◌≡◌, ◌≤◌, ◌+◌, ◌^◌, ◌++◌, ◌↔◌, IsTrue, OnOk, length};
 ghost use Rattle.fm_wire.specs.Spelling as spelling;
-ghost use Rattle.fm_wire.specs.Grammar.{FitsRequest, HasRequestTexts, KeepsRequestLimits};
+ghost use Rattle.fm_wire.specs.Grammar.{FitsFile, FitsRequest, HasRequestTexts, KeepsFileLimits, KeepsRequestLimits};
 
 use crate::encoding::numbers::{put_u32, put_u64};
-use fm_data::{MAX_TRANSFER, Request};
+use fm_data::{FileRequest, MAX_TRANSFER, Request};
 use fm_types::CreateMode;
 use std::alloc::AllocError;
 
-/// Whether no more bytes are read or written than an operation may.
+// Whether it may be said: no more bytes are read or written than an operation may, and it is no cleanup, which a close brings.
+fn keeps_file_limits(request: &FileRequest) -> bool
+    ensures { IsTrue result ↔ KeepsFileLimits request.now }
+{
+    match request {
+        FileRequest::Read { len, .. } => *len as u64 <= MAX_TRANSFER,
+        FileRequest::Write { bytes, .. } => bytes.len() as u64 <= MAX_TRANSFER,
+        FileRequest::Cleanup => false,
+        _ => true,
+    }
+}
+
+/// Whether a frame may say it.
 pub(crate) fn keeps_request_limits(request: &Request) -> bool
     ensures { IsTrue result ↔ KeepsRequestLimits request.now }
 {
     match request {
-        Request::Read { len, .. } => *len as u64 <= MAX_TRANSFER,
-        Request::Write { bytes, .. } => bytes.len() as u64 <= MAX_TRANSFER,
-        Request::Create { .. }
-        | Request::QuerySize { .. }
-        | Request::SetSize { .. }
-        | Request::Flush { .. }
-        | Request::List { .. }
-        | Request::SetDelete { .. }
-        | Request::Close { .. } => true,
+        Request::OnHandle { request, .. } => keeps_file_limits(request),
+        Request::Create { .. } | Request::List { .. } => true,
+    }
+}
+
+fn file_code(request: &FileRequest) -> u8
+    ensures { result ≡ spelling.file_code request.now }
+{
+    match request {
+        FileRequest::Read { .. } => 2,
+        FileRequest::Write { .. } => 3,
+        FileRequest::QuerySize => 4,
+        FileRequest::SetSize { .. } => 5,
+        FileRequest::Flush => 6,
+        FileRequest::SetDelete => 8,
+        FileRequest::Close => 9,
+        FileRequest::Cleanup => 0,
     }
 }
 
@@ -32,32 +52,34 @@ pub(crate) fn request_code(request: &Request) -> u8
 {
     match request {
         Request::Create { .. } => 1,
-        Request::Read { .. } => 2,
-        Request::Write { .. } => 3,
-        Request::QuerySize { .. } => 4,
-        Request::SetSize { .. } => 5,
-        Request::Flush { .. } => 6,
         Request::List { .. } => 7,
-        Request::SetDelete { .. } => 8,
-        Request::Close { .. } => 9,
+        Request::OnHandle { request, .. } => file_code(request),
+    }
+}
+
+// How many bytes the fields behind a handle take.
+#[tactic(auto, unfolding(crate::specs::Spelling::bytes_of_u32, crate::specs::Spelling::bytes_of_u64))]
+fn file_len(request: &FileRequest) -> usize
+    ensures len { result ≡ length (spelling.file_fields request.now) }
+    ensures fits { result ≤ 2 ^ 63 + 8 }
+{
+    match request {
+        FileRequest::Read { .. } => 12,
+        FileRequest::Write { bytes, .. } => 8 + bytes.as_slice().len(),
+        FileRequest::SetSize { .. } => 8,
+        _ => 0,
     }
 }
 
 /// How many bytes a request's fields take.
-#[tactic(auto, unfolding(crate::specs::Spelling::bytes_of_u32, crate::specs::Spelling::bytes_of_u64))]
+#[tactic(auto, unfolding(crate::specs::Spelling::bytes_of_u64))]
 pub(crate) fn request_len(request: &Request) -> usize
     ensures { result ≡ length (spelling.request_fields request.now) }
 {
     match request {
         Request::Create { path, .. } => 2 + path.text().len(),
-        Request::Read { .. } => 20,
-        Request::Write { bytes, .. } => 16 + bytes.as_slice().len(),
-        Request::SetSize { .. } => 16,
         Request::List { .. } => 1,
-        Request::QuerySize { .. }
-        | Request::Flush { .. }
-        | Request::SetDelete { .. }
-        | Request::Close { .. } => 8,
+        Request::OnHandle { request, .. } => 8 + file_len(request),
     }
 }
 
@@ -68,6 +90,25 @@ fn mode_number(mode: CreateMode) -> u8
         CreateMode::Existing => 0,
         CreateMode::New => 1,
         CreateMode::Always => 2,
+    }
+}
+
+// Appends the fields behind a handle.
+fn put_file(out: &mut Vec<u8>, request: &FileRequest) -> Result<(), AllocError>
+    ensures ok { OnOk result (out.new.items ≡ out.old.items ++ spelling.file_fields request.now) }
+    ensures fits { OnOk result (FitsFile request.now) }
+{
+    match request {
+        FileRequest::Read { offset, len } => {
+            put_u64(out, *offset)?;
+            put_u32(out, *len)
+        }
+        FileRequest::Write { offset, bytes } => {
+            put_u64(out, *offset)?;
+            out.extend_from_slice(bytes.as_slice())
+        }
+        FileRequest::SetSize { size } => put_u64(out, *size),
+        _ => Ok(()),
     }
 }
 
@@ -83,32 +124,10 @@ pub(crate) fn put_request(out: &mut Vec<u8>, request: &Request) -> Result<(), Al
             out.push(mode_number(*mode))?;
             out.extend_from_slice(path.text())
         }
-        Request::Read {
-            handle,
-            offset,
-            len,
-        } => {
-            put_u64(out, handle.0)?;
-            put_u64(out, *offset)?;
-            put_u32(out, *len)
-        }
-        Request::Write {
-            handle,
-            offset,
-            bytes,
-        } => {
-            put_u64(out, handle.0)?;
-            put_u64(out, *offset)?;
-            out.extend_from_slice(bytes.as_slice())
-        }
-        Request::SetSize { handle, size } => {
-            put_u64(out, handle.0)?;
-            put_u64(out, *size)
-        }
         Request::List { volume } => Ok(out.push(volume.0)?),
-        Request::QuerySize { handle }
-        | Request::Flush { handle }
-        | Request::SetDelete { handle }
-        | Request::Close { handle } => put_u64(out, handle.0),
+        Request::OnHandle { handle, request } => {
+            put_u64(out, handle.0)?;
+            put_file(out, request)
+        }
     }
 }

@@ -6,7 +6,7 @@ ghost use Rattle.fm_wire.specs.Grammar.{Reading};
 
 use crate::frame::Body;
 use crate::numbers::{split_u8, split_u32, split_u64};
-use fm_data::{MAX_TRANSFER, Request};
+use fm_data::{FileRequest, MAX_TRANSFER, Request};
 use fm_types::{Bytes, CreateMode, HandleId, RelPath, Status, VolumeId};
 use std::alloc::Global;
 
@@ -58,10 +58,10 @@ pub(crate) fn read_read(fields: &[u8]) -> Result<Body, Status>
     if len as u64 > MAX_TRANSFER {
         return Err(Status::BadRequest);
     }
-    Ok(Body::Operation(Request::Read {
+    let request = FileRequest::Read { offset, len };
+    Ok(Body::Operation(Request::OnHandle {
         handle: HandleId(handle),
-        offset,
-        len,
+        request,
     }))
 }
 
@@ -75,10 +75,13 @@ pub(crate) fn read_write(alloc: Global, fields: &[u8]) -> Result<Body, Status>
     }
     let (handle, rest) = split_u64(fields);
     let (offset, bytes) = split_u64(rest);
-    Ok(Body::Operation(Request::Write {
-        handle: HandleId(handle),
+    let request = FileRequest::Write {
         offset,
         bytes: Bytes::copy_of(alloc, bytes)?,
+    };
+    Ok(Body::Operation(Request::OnHandle {
+        handle: HandleId(handle),
+        request,
     }))
 }
 
@@ -91,8 +94,9 @@ pub(crate) fn read_set_size(fields: &[u8]) -> Result<Body, Status>
     }
     let (handle, rest) = split_u64(fields);
     let (size, _) = split_u64(rest);
-    Ok(Body::Operation(Request::SetSize {
+    let request = FileRequest::SetSize { size };
+    Ok(Body::Operation(Request::OnHandle {
         handle: HandleId(handle),
-        size,
+        request,
     }))
 }

@@ -6,8 +6,15 @@ ghost use Rattle.fm_wire.specs.Grammar.{Reading, Says, HasTexts, canonical_body}
 
 use crate::frame::{Body, Control};
 use crate::numbers::{read_byte, read_u64};
-use fm_data::{Reply, Request};
+use fm_data::{FileRequest, Reply, Request};
 use fm_types::{FilterId, HandleId, OpId, Status, VolumeId};
+
+fn on_handle(number: u64, request: FileRequest) -> Body
+    ensures { result ≡ Body.Operation (Request.OnHandle (record { 0 = number }) request) }
+{
+    let handle = HandleId(number);
+    Body::Operation(Request::OnHandle { handle, request })
+}
 
 fn on_number(code: u8, number: u64) -> Body
     requires { (code ≡ 4) ⊎ (code ≡ 6) ⊎ (code ≡ 8) ⊎ (code ≡ 9) ⊎ (code ≡ 129) }
@@ -15,12 +22,11 @@ fn on_number(code: u8, number: u64) -> Body
     ensures texts { HasTexts result }
     ensures canonical { canonical_body result ≡ result }
 {
-    let handle = HandleId(number);
     match code {
-        4 => Body::Operation(Request::QuerySize { handle }),
-        6 => Body::Operation(Request::Flush { handle }),
-        8 => Body::Operation(Request::SetDelete { handle }),
-        9 => Body::Operation(Request::Close { handle }),
+        4 => on_handle(number, FileRequest::QuerySize),
+        6 => on_handle(number, FileRequest::Flush),
+        8 => on_handle(number, FileRequest::SetDelete),
+        9 => on_handle(number, FileRequest::Close),
         _ => Body::Reply(Reply::Held(OpId(number))),
     }
 }

@@ -1,6 +1,6 @@
 use Rattle.fm_flow.proofs.Words.{ap, find, not, reverse, ask_of, asked, is_answered}
 use Rattle.std.proofs.Common.{◌∙◌}
-use Rattle.fm_flow.proofs.Lists.{find_is_first, filter_map-reverse}
+use Rattle.fm_flow.proofs.Owed.{find_is_first, filter_map-reverse}
 use Rattle.fm_flow.proofs.entries.next_owed.Goals as goal
 
 pub returns : goal.returns

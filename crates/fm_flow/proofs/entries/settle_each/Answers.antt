@@ -1,5 +1,5 @@
 use Rattle.fm_flow.specs.Entries.{settle}
-use Rattle.fm_flow.proofs.Lists.{settled_more}
+use Rattle.fm_flow.proofs.Owed.{settled_more}
 use Rattle.fm_flow.proofs.entries.settle_each.Goals as goal
 
 pub loop-entry-preserved : goal.loop-entry-preserved

@@ -1,5 +1,5 @@
 use Rattle.fm_flow.specs.Creates.{is_creating}
-use Rattle.fm_flow.proofs.Places.{IsCounted}
+use Rattle.fm_flow.proofs.Flows.{IsCounted}
 use Rattle.fm_flow.proofs.flow.count_creates.Given as goal
 
 abbrev pub invariant-loop-operation : goal.invariant-loop-operation

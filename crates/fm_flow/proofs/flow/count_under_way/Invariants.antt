@@ -1,5 +1,5 @@
 use Rattle.fm_flow.proofs.Words.{not}
-use Rattle.fm_flow.proofs.Places.{IsCounted}
+use Rattle.fm_flow.proofs.Flows.{IsCounted}
 use Rattle.fm_flow.proofs.flow.count_under_way.Given as goal
 
 abbrev pub invariant-loop-operation : goal.invariant-loop-operation

@@ -1,7 +1,6 @@
 use Rattle.fm_core.proofs.Words.{sym, subst, new_context, allocate_refusal, IsSound, the_view}
 use Rattle.std.proofs.Common.{◌∙◌}
-use Rattle.fm_world.proofs.Linking.{allocate_sound}
-use Rattle.fm_world.proofs.Handing.{allocate_more}
+use Rattle.fm_world.proofs.Linking.{allocate_does}
 use Rattle.fm_core.proofs.Called.{allocate_tied, allocated_up}
 use Rattle.fm_core.proofs.state.State.allocate.Goals as goal
 
@@ -13,11 +12,11 @@ returns-clause-event c =
 
 pub invariant_of-self : goal.invariant_of-self
 invariant_of-self c = record {
-  sound = allocate_sound _ _ _ _ _ _ (returns-clause-event c) (subst IsSound c.self.view_is c.self.invariant.sound);
+  sound = (allocate_does _ _ _ _ _ _ (returns-clause-event c)).0.sound (subst IsSound c.self.view_is c.self.invariant.sound);
   tied = allocate_tied c.self.inside.contexts c.allocate.new.self c.self.inside.flow c.args.worker (allocate_refusal c.self.inside.contexts.table
       c.args.worker.0 c.args.body)
       (new_context c.args.kind c.owner.result c.in-Some.caller.volume c.args.body) c.allocate.result c.laws.ensures.matched c.allocate.ensures c.self.invariant.tied;
 }
 
 pub returns-clause-held : goal.returns-clause-held
-returns-clause-held c = allocate_more _ _ _ _ _ _ (subst IsSound c.self.view_is c.self.invariant.sound) (returns-clause-event c)
+returns-clause-held c = (allocate_does _ _ _ _ _ _ (returns-clause-event c)).1 (subst IsSound c.self.view_is c.self.invariant.sound)

@@ -1,6 +1,6 @@
 use Rattle.std.proofs.Common.{sym, ◌∙◌, subst}
 use Rattle.fm_world.specs.Sound.{IsSound}
-use Rattle.fm_world.proofs.Owning.{attach_sound}
+use Rattle.fm_world.proofs.Owning.{attach_does}
 use Rattle.fm_core.proofs.Attached.{attaches}
 use Rattle.fm_core.proofs.state.State.attach.Goals as goal
 
@@ -12,4 +12,4 @@ returns-clause-event c =
 
 pub invariant_of-self : goal.invariant_of-self
 invariant_of-self c =
-    record { sound = attach_sound _ _ _ _ _ _ _ _ (returns-clause-event c) (subst IsSound c.self.view_is c.self.invariant.sound); tied = c.self.invariant.tied }
+    record { sound = (attach_does _ _ _ _ _ _ _ _ (returns-clause-event c)).sound (subst IsSound c.self.view_is c.self.invariant.sound); tied = c.self.invariant.tied }

@@ -3,7 +3,7 @@ use Rattle.fm_core.proofs.Words.{changed, worker_at, base_step, IsSound, IsTied,
 use Rattle.std.proofs.Common.{◌≡◌, ℕ, ◌∙◌}
 use Rattle.std.specs.Option.{option_copied}
 use Rattle.fm_world.specs.declared.worker.Worker.TheVariants as place
-use Rattle.fm_world.proofs.Flowing.{base_sound}
+use Rattle.fm_world.proofs.Returns.{base_does}
 use Rattle.fm_core.proofs.Losing.{sweeping_tied}
 use Rattle.fm_core.proofs.Operated.{Comes, comes, base_is, base_returns, base_room, base_strange, base_tied, in_base, placed, stands_from, there_from}
 use Rattle.fm_core.proofs.state.State.base_returned.Goals.{In-Some, After-base_returned}
@@ -30,15 +30,11 @@ came : (c : After-base_returned) (answer : Result (Unit {0}) (BaseCall × Answer
     (base_step (the_view c.self.inside) c.args.call c.args.given) (c.args.call, c.args.given) answer
     c.base_returned.new.self
 came c answer is =
-    subst (λ a. Comes {T = BaseCall × Answer} c.self.inside.flow c.in-Some.operation (base_fits c.args.call c.args.given)
-    (base_step (the_view c.self.inside) c.args.call c.args.given) (c.args.call, c.args.given) a
-    c.base_returned.new.self) is
-    (comes c.self.inside.flow c.in-Some.operation c.in-Some-record.record.now (base_fits c.args.call c.args.given)
-    (base_step (the_view c.self.inside) c.args.call c.args.given) (c.args.call, c.args.given)
-    c.base_returned.result c.base_returned.new.self (sym c.record.ensures ∙ ap option_copied c.in-Some-record.is) c.base_returned.ensures.reply
+    comes c.self.inside.flow c.in-Some.operation c.in-Some-record.record.now (base_fits c.args.call c.args.given)
+    (base_step (the_view c.self.inside) c.args.call c.args.given) (c.args.call, c.args.given) c.base_returned.result answer c.base_returned.new.self
+    (sym c.record.ensures ∙ ap option_copied c.in-Some-record.is) c.base_returned.ensures.reply
     (subst (λ (n : ℕ). c.base_returned.new.self ≡ changed c.in-Some.operation (base_after c.args.call c.args.given (record { 0 = n })) c.self.inside.flow)
-    c.next_number.ensures.result
-    c.base_returned.ensures.after))
+    c.next_number.ensures.result c.base_returned.ensures.after) is
 
 pub returns-in-Err-clause-event : goal.returns-in-Err-clause-event
 returns-in-Err-clause-event c =
@@ -52,7 +48,7 @@ returns-in-Err-clause-back c = (came (goal.at.returns-in-Err-clause-back c).Afte
 
 pub invariant_of-self : goal.invariant_of-self
 invariant_of-self c = record {
-  sound = base_sound _ _ _ _ _ _ (returns-in-Err-clause-event c) (subst IsSound c.self.view_is c.self.invariant.sound);
+  sound = (base_does _ _ _ _ _ _ (returns-in-Err-clause-event c)).sound (subst IsSound c.self.view_is c.self.invariant.sound);
   tied = subst (IsTied c.self.inside.contexts) (sym (came (goal.at.invariant_of-self c).After-base_returned _ c.in-Err.is).1) c.self.invariant.tied;
 }
 
@@ -76,7 +72,7 @@ returns-clause-event c =
 
 pub invariant_of-self-2 : goal.invariant_of-self-2
 invariant_of-self-2 c = record {
-  sound = base_sound _ _ _ _ _ _ (returns-clause-event c) (subst IsSound c.self.view_is c.self.invariant.sound);
+  sound = (base_does _ _ _ _ _ _ (returns-clause-event c)).sound (subst IsSound c.self.view_is c.self.invariant.sound);
   tied = sweeping_tied _ c.self.inside.contexts c.note_answer.new.contexts c.base_returned.new.self c.note_answer.ensures.links
       (base_tied c.self.inside.contexts c.in-Some.operation c.args.call c.args.given _ c.self.inside.flow c.base_returned.new.self c.base_returned.ensures.after
       c.self.invariant.tied);

@@ -1,14 +1,14 @@
-use Rattle.fm_core.proofs.Words.{sym, subst, Begin, Begins}
+use Rattle.fm_core.proofs.Words.{sym, subst, Request, Begins}
 use Rattle.fm_core.specs.Begun.{Asks}
-use Rattle.fm_world.proofs.Handing.{begin_hands}
 use Rattle.fm_core.proofs.Operated.{asks_begins}
 use Rattle.fm_core.proofs.state.State.begin.Goals as goal
+use Rattle.fm_world.proofs.Requests.{begin_does}
 
 pub returns-in-OnHandle-clause-event : goal.returns-in-OnHandle-clause-event
 returns-in-OnHandle-clause-event c =
-    subst (λ (b : Begin). Begins c.args.self.now b c.begin_on.result c.begin_on.new.self) (sym c.in-OnHandle.is)
+    subst (λ (b : Request). Begins c.args.self.now b c.begin_on.result c.begin_on.new.self) (sym c.in-OnHandle.is)
     (asks_begins c.args.self.now c.in-OnHandle.handle c.in-OnHandle.request c.begin_on.result c.begin_on.new.self
     (subst (λ p. Asks c.args.self.now c.in-OnHandle.handle p c.begin_on.result c.begin_on.new.self) c.into_params.ensures c.begin_on.ensures))
 
 pub returns-in-OnHandle-clause-hand : goal.returns-in-OnHandle-clause-hand
-returns-in-OnHandle-clause-hand c = begin_hands _ _ _ _ (returns-in-OnHandle-clause-event c)
+returns-in-OnHandle-clause-hand c = (begin_does _ _ _ _ (returns-in-OnHandle-clause-event c)).1

@@ -1,4 +1,4 @@
-use Rattle.fm_core.proofs.Words.{None, sym, subst, first_of, volume_refusals, IsSound, begin_sound}
+use Rattle.fm_core.proofs.Words.{None, sym, subst, first_of, volume_refusals, IsSound, begin_does}
 use Rattle.std.proofs.Common.{◌≡◌, ℕ, ◌∙◌}
 use Rattle.fm_data.specs.declared.params.Params.TheVariants as params
 use Rattle.fm_core.proofs.Operated.{Took, lists, begin_tied}
@@ -12,7 +12,7 @@ returns c =
 
 pub invariant_of-self : goal.invariant_of-self
 invariant_of-self c = record {
-  sound = begin_sound _ _ _ _ (returns c) (subst IsSound c.self.view_is c.self.invariant.sound);
+  sound = (begin_does _ _ _ _ (returns c)).0.sound (subst IsSound c.self.view_is c.self.invariant.sound);
   tied = begin_tied c.self.inside.contexts c.args.volume None None None params.List c.begin.result c.self.inside.flow c.begin.new.self c.births.result
       c.begin.ensures c.self.invariant.tied;
 }

@@ -1,7 +1,7 @@
 use Rattle.fm_core.proofs.Words.{Some, ap, subst, worker_at, cleanup_in, IsSound, the_view}
 use Rattle.std.proofs.Common.{◌≡◌, ◌∙◌}
 use Rattle.fm_world.specs.declared.worker.Worker.TheVariants.{Cleanup}
-use Rattle.fm_world.proofs.Cleanups.{cleaned_sound}
+use Rattle.fm_world.proofs.Cleanups.{cleaned_does}
 use Rattle.fm_core.proofs.Cleaned.{cleanup_is, cleans, clean_tied}
 use Rattle.fm_core.proofs.Operated.{placed, within_at}
 use Rattle.fm_core.proofs.state.State.cleaned.Goals.{In-Some}
@@ -23,7 +23,7 @@ pub invariant_of-self : goal.invariant_of-self
 invariant_of-self c =
     let here = at (goal.at.invariant_of-self c).In-Some in
     let sound = c.self.invariant.sound in record {
-      sound = cleaned_sound _ _ _ _ _ (returns-clause-event c) (subst IsSound c.self.view_is sound);
+      sound = (cleaned_does _ _ _ _ _ (returns-clause-event c)).sound (subst IsSound c.self.view_is sound);
       tied = clean_tied c.self.inside.contexts c.cleaned.new.self c.self.inside.flow c.args.worker c.in-Some.context sound.owned.lawful
           (within_at c.args.worker _ c.self.invariant here)
           (sound.owned.cleaning c.args.worker.0 ∙ ap cleanup_in here) c.cleaned.ensures c.self.invariant.tied;

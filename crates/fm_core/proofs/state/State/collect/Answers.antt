@@ -1,5 +1,5 @@
 use Rattle.fm_core.proofs.Words.{subst, IsSound}
-use Rattle.fm_world.proofs.Flowing.{collect_sound}
+use Rattle.fm_world.proofs.Requests.{collect_does}
 use Rattle.fm_core.proofs.Operated.{collects, collect_tied}
 use Rattle.fm_core.proofs.state.State.collect.Goals as goal
 
@@ -8,6 +8,6 @@ returns-clause-event c = collects c.args.operation c.collect.result c.collect.ne
 
 pub invariant_of-self : goal.invariant_of-self
 invariant_of-self c = record {
-  sound = collect_sound _ _ _ _ (returns-clause-event c) (subst IsSound c.self.view_is c.self.invariant.sound);
+  sound = (collect_does _ _ _ _ (returns-clause-event c)).sound (subst IsSound c.self.view_is c.self.invariant.sound);
   tied = collect_tied c.self.inside.contexts c.args.operation c.self.inside.flow c.collect.new.self c.collect.ensures.after c.self.invariant.tied;
 }

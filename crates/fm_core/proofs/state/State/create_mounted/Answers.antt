@@ -1,12 +1,12 @@
 use Rattle.fm_core.proofs.Words.{Some, None, Err, ap, sym, subst, is_ok, first_of, StreamId, is_full, World, FileTable, created, stream_for}
-use Rattle.fm_core.proofs.Words.{Begins, volume_refusals, has_no_handle_left, IsSound, begin_sound, the_view}
+use Rattle.fm_core.proofs.Words.{Begins, volume_refusals, has_no_handle_left, IsSound, begin_does, the_view}
 use Rattle.std.proofs.Common.{◌≡◌, ℕ, List, ◌∙◌}
 use Rattle.std.specs.Prelude.{◌||◌, cond}
 use Rattle.fm_types.specs.declared.status.Status.TheVariants.{NoMemory}
 use Rattle.fm_data.specs.declared.params.Params.TheVariants as params
 use Rattle.fm_core.specs.FilesKept.{paths_of}
 use Rattle.fm_core.specs.declared.files.CreatePaths.{CreatePaths}
-use Rattle.fm_world.specs.declared.step.Begin.TheVariants as begin
+use Rattle.fm_data.specs.declared.request.Request.TheVariants as request
 use Rattle.fm_core.proofs.Operated.{Took, creates, begin_tied, begin_wants}
 use Rattle.fm_core.proofs.state.State.create_mounted.Goals as goal
 
@@ -37,7 +37,7 @@ returns c =
 
 pub invariant_of-self-2 : goal.invariant_of-self-2
 invariant_of-self-2 c = record {
-  sound = begin_sound _ _ _ _ (returns c) (subst IsSound c.self.view_is c.self.invariant.sound);
+  sound = (begin_does _ _ _ _ (returns c)).0.sound (subst IsSound c.self.view_is c.self.invariant.sound);
   tied = begin_tied c.self.inside.contexts c.args.volume (Some c.stream_for-stream.result) None (Some c.in-Ok.paths.operation)
       (params.Create c.in-Ok.paths.params c.args.mode) c.begin-begun.result c.self.inside.flow c.begin-begun.new.self c.births-born.result c.begin-begun.ensures
       c.self.invariant.tied;
@@ -46,9 +46,9 @@ invariant_of-self-2 c = record {
 pub returns-in_default : goal.returns-in_default
 returns-in_default c =
     let old = the_view c.self.inside in
-    subst (λ (w : World). Begins w (begin.Create c.args.volume c.args.path c.args.mode) (Err NoMemory) (record old { files = c.prepare.new.self.table }))
+    subst (λ (w : World). Begins w (request.Create c.args.volume c.args.path c.args.mode) (Err NoMemory) (record old { files = c.prepare.new.self.table }))
     c.self.view_is
-    (subst (λ (f : FileTable). Begins old (begin.Create c.args.volume c.args.path c.args.mode) (Err NoMemory) (record old { files = f }))
+    (subst (λ (f : FileTable). Begins old (request.Create c.args.volume c.args.path c.args.mode) (Err NoMemory) (record old { files = f }))
     (sym c.prepare.ensures.table)
-    (begin_wants old (begin.Create c.args.volume c.args.path c.args.mode)
+    (begin_wants old (request.Create c.args.volume c.args.path c.args.mode)
     (subst (λ (w : World). first_of (volume_refusals w c.args.volume (is_full w.flow || has_no_handle_left w)) ≡ None) (sym c.self.view_is) c.requires)))

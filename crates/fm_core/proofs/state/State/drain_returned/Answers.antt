@@ -1,4 +1,4 @@
-use Rattle.fm_core.proofs.Words.{refl, sym, subst, InDrain, drain_returned_of, changed, IsSound, post_sound, IsTied, drain_of}
+use Rattle.fm_core.proofs.Words.{refl, sym, subst, InDrain, drain_returned_of, changed, IsSound, post_does, IsTied, drain_of}
 use Rattle.fm_world.specs.declared.worker.Worker.TheVariants as place
 use Rattle.fm_core.proofs.Holding.{tied_ends}
 use Rattle.fm_core.proofs.Operated.{drain_is, drain_returns, drain_tied, in_drain, located, stands_from, within_at}
@@ -24,7 +24,7 @@ returns c =
 
 pub invariant_of-self : goal.invariant_of-self
 invariant_of-self c = record {
-  sound = post_sound _ _ _ _ _ _ (returns c) (subst IsSound c.self.view_is c.self.invariant.sound);
+  sound = (post_does _ _ _ _ _ _ (returns c)).0.sound (subst IsSound c.self.view_is c.self.invariant.sound);
   tied = subst (IsTied c.end_callback.new.contexts) (sym c.drain_returned.ensures)
       (tied_ends c.self.inside.contexts c.end_callback.new.contexts c.args.worker.0 (changed c.args.operation (drain_returned_of c.args.instance)
       c.self.inside.flow) c.end_callback.ensures

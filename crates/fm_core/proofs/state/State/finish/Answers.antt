@@ -1,6 +1,6 @@
 use Rattle.fm_core.proofs.Words.{sym, ap, subst, IsSound, refused_in}
 use Rattle.std.proofs.Common.{◌∙◌}
-use Rattle.fm_world.proofs.Cleanups.{finish_sound}
+use Rattle.fm_world.proofs.Cleanups.{finish_does}
 use Rattle.fm_core.proofs.Cleaned.{finishes}
 use Rattle.fm_core.proofs.state.State.finish.Goals as goal
 
@@ -12,4 +12,4 @@ returns-clause-event c =
 
 pub invariant_of-self : goal.invariant_of-self
 invariant_of-self c =
-    record { sound = finish_sound _ _ _ _ (returns-clause-event c) (subst IsSound c.self.view_is c.self.invariant.sound); tied = c.self.invariant.tied }
+    record { sound = (finish_does _ _ _ _ (returns-clause-event c)).sound (subst IsSound c.self.view_is c.self.invariant.sound); tied = c.self.invariant.tied }

@@ -1,7 +1,6 @@
 use Rattle.fm_core.proofs.Words.{sym, subst, holder, IsSound, the_view}
 use Rattle.std.proofs.Common.{◌∙◌}
-use Rattle.fm_world.proofs.Linking.{get_sound}
-use Rattle.fm_world.proofs.Handing.{get_more}
+use Rattle.fm_world.proofs.Linking.{get_does}
 use Rattle.fm_core.proofs.Linked.{get_refused, get_tied, gotten}
 use Rattle.fm_core.proofs.state.State.get.Goals as goal
 
@@ -17,10 +16,10 @@ returns-clause-event c =
 
 pub invariant_of-self : goal.invariant_of-self
 invariant_of-self c = record {
-  sound = get_sound _ _ _ _ _ (returns-clause-event c) (subst IsSound c.self.view_is c.self.invariant.sound);
+  sound = (get_does _ _ _ _ _ (returns-clause-event c)).0.sound (subst IsSound c.self.view_is c.self.invariant.sound);
   tied = get_tied c.self.inside.contexts c.get.new.self c.self.inside.flow c.args.worker (holder c.self.inside.contexts.table.slots c.in-Ok.found.0
       c.in-Ok.found.1) c.get.result c.get.ensures c.self.invariant.tied;
 }
 
 pub returns-clause-held : goal.returns-clause-held
-returns-clause-held c = get_more _ _ _ _ _ (subst IsSound c.self.view_is c.self.invariant.sound) (returns-clause-event c)
+returns-clause-held c = (get_does _ _ _ _ _ (returns-clause-event c)).1 (subst IsSound c.self.view_is c.self.invariant.sound)

@@ -2,9 +2,7 @@ use Rattle.fm_core.proofs.Words.{true, Result, None, refl, ap, sym, subst, FlowA
 use Rattle.fm_core.proofs.Words.{IsSound, the_view}
 use Rattle.std.proofs.Common.{◌≡◌, ◌∙◌}
 use Rattle.std.specs.Option.{option_copied}
-use Rattle.fm_world.proofs.Flowing.{next_sound}
-use Rattle.fm_world.proofs.Handing.{next_hand}
-use Rattle.fm_world.proofs.Turning.{next_changes_nothing}
+use Rattle.fm_world.proofs.Turns.{next_does}
 use Rattle.fm_core.proofs.Losing.{sweeping_tied}
 use Rattle.fm_core.proofs.Operated.{Goes, goes, next_answers, next_brings, next_errs, next_leads, next_requires, next_room, next_stays, next_tied, next_unknown}
 use Rattle.fm_core.proofs.state.State.next.Goals.{After-next}
@@ -39,13 +37,13 @@ returns-in-Err-clause-event c =
 
 pub invariant_of-self : goal.invariant_of-self
 invariant_of-self c = record {
-  sound = next_sound _ _ _ _ _ (returns-in-Err-clause-event c) (subst IsSound c.self.view_is c.self.invariant.sound);
+  sound = (next_does _ _ _ _ _ (returns-in-Err-clause-event c)).0.sound (subst IsSound c.self.view_is c.self.invariant.sound);
   tied = next_stays c.args.worker c.args.operation c.in-Some.record.now c.lies_below-below.result c.in-Err.status c.next.new.self c.self.invariant
       (went (goal.at.invariant_of-self c).After-next _ c.in-Err.is);
 }
 
 pub returns-in-Err-clause-nothing : goal.returns-in-Err-clause-nothing
-returns-in-Err-clause-nothing c = next_changes_nothing _ _ _ _ _ (returns-in-Err-clause-event c)
+returns-in-Err-clause-nothing c = (next_does _ _ _ _ _ (returns-in-Err-clause-event c)).2
 
 pub bring_back-requires : goal.bring_back-requires
 bring_back-requires c =
@@ -62,20 +60,20 @@ returns-in_default-known_in-clause-event c =
 
 pub invariant_of-self-in_default-known_in : goal.invariant_of-self-in_default-known_in
 invariant_of-self-in_default-known_in c = record {
-  sound = next_sound _ _ _ _ _ (returns-in_default-known_in-clause-event c) (subst IsSound c.self.view_is c.self.invariant.sound);
+  sound = (next_does _ _ _ _ _ (returns-in_default-known_in-clause-event c)).0.sound (subst IsSound c.self.view_is c.self.invariant.sound);
   tied = next_tied c.args.worker c.args.operation c.in-Some.record.now c.lies_below-below.result c.in-Ok.action c.next.new.self c.bring_back.new.contexts
       c.self.invariant
       (went (goal.at.invariant_of-self-in_default-known_in c).After-next _ c.in-Ok.is) c.laws.ensures.matched c.bring_back.ensures;
 }
 
 pub returns-in_default-known_in-clause-nothing : goal.returns-in_default-known_in-clause-nothing
-returns-in_default-known_in-clause-nothing c = next_changes_nothing _ _ _ _ _ (returns-in_default-known_in-clause-event c)
+returns-in_default-known_in-clause-nothing c = (next_does _ _ _ _ _ (returns-in_default-known_in-clause-event c)).2
 
 pub returns-in_default-known_in-clause-hand : goal.returns-in_default-known_in-clause-hand
-returns-in_default-known_in-clause-hand c = (next_hand _ _ _ _ _ (subst IsSound c.self.view_is c.self.invariant.sound) (returns-in_default-known_in-clause-event c)).0
+returns-in_default-known_in-clause-hand c = ((next_does _ _ _ _ _ (returns-in_default-known_in-clause-event c)).1 (subst IsSound c.self.view_is c.self.invariant.sound)).0
 
 pub returns-in_default-known_in-clause-held : goal.returns-in_default-known_in-clause-held
-returns-in_default-known_in-clause-held c = (next_hand _ _ _ _ _ (subst IsSound c.self.view_is c.self.invariant.sound) (returns-in_default-known_in-clause-event c)).1
+returns-in_default-known_in-clause-held c = ((next_does _ _ _ _ _ (returns-in_default-known_in-clause-event c)).1 (subst IsSound c.self.view_is c.self.invariant.sound)).1
 
 pub note_answer-requires : goal.note_answer-requires
 note_answer-requires c =
@@ -99,7 +97,7 @@ returns-clause-event c =
 
 pub invariant_of-self-2 : goal.invariant_of-self-2
 invariant_of-self-2 c = record {
-  sound = next_sound _ _ _ _ _ (returns-clause-event c) (subst IsSound c.self.view_is c.self.invariant.sound);
+  sound = (next_does _ _ _ _ _ (returns-clause-event c)).0.sound (subst IsSound c.self.view_is c.self.invariant.sound);
   tied = sweeping_tied _ c.bring_back.new.contexts c.note_answer.new.contexts c.next.new.self c.note_answer.ensures.links
       (next_tied c.args.worker c.args.operation c.in-Some.record.now c.lies_below-below.result c.in-Ok.action c.next.new.self c.bring_back.new.contexts
       c.self.invariant

@@ -1,5 +1,5 @@
-use Rattle.fm_core.proofs.Words.{Result, Some, refl, ap, sym, subst, Data, data_fits, PostRunning, FlowRecord, post_returned_of, changed}
-use Rattle.fm_core.proofs.Words.{worker_at, IsSound, post_sound, IsTied, post_of, the_view}
+use Rattle.fm_core.proofs.Words.{Result, Some, refl, sym, subst, Data, data_fits, PostRunning, FlowRecord, post_returned_of, changed}
+use Rattle.fm_core.proofs.Words.{worker_at, IsSound, post_does, IsTied, post_of, the_view}
 use Rattle.std.proofs.Common.{◌≡◌}
 use Rattle.fm_world.specs.declared.worker.Worker.TheVariants as place
 use Rattle.fm_core.proofs.Holding.{tied_ends}
@@ -21,10 +21,8 @@ came : (c : After-post_returned) (answer : Result (Unit {0}) Data) → c.post_re
     (post_returned_of c.args.verdict c.args.lent) c.args.lent answer c.post_returned.new.self
 came c answer is =
     let there = in_post (the_view c.self.inside) c.args.worker c.args.operation c.args.instance c.self.invariant.sound (at c) in
-    subst (λ a. Comes c.self.inside.flow c.args.operation (λ (r : FlowRecord). data_fits r.operation r.path c.args.lent)
-    (post_returned_of c.args.verdict c.args.lent) c.args.lent a c.post_returned.new.self) is
-    (comes c.self.inside.flow c.args.operation there.0 _ _ c.args.lent c.post_returned.result c.post_returned.new.self there.1 c.post_returned.ensures.reply
-    c.post_returned.ensures.after)
+    comes c.self.inside.flow c.args.operation there.0 _ _ c.args.lent c.post_returned.result answer c.post_returned.new.self there.1
+    c.post_returned.ensures.reply c.post_returned.ensures.after is
 
 pub returns-in-Err-clause-event : goal.returns-in-Err-clause-event
 returns-in-Err-clause-event c =
@@ -33,12 +31,9 @@ returns-in-Err-clause-event c =
     c.post_returned.new.self c.self.view_is (at here)
     (came here _ c.in-Err.is)
 
-pub returns-in-Err-clause-back : goal.returns-in-Err-clause-back
-returns-in-Err-clause-back c = ap Some (came (goal.at.returns-in-Err-clause-back c).After-post_returned _ c.in-Err.is).2
-
 pub invariant_of-self : goal.invariant_of-self
 invariant_of-self c = record {
-  sound = post_sound _ _ _ _ _ _ (returns-in-Err-clause-event c) (subst IsSound c.self.view_is c.self.invariant.sound);
+  sound = (post_does _ _ _ _ _ _ (returns-in-Err-clause-event c)).0.sound (subst IsSound c.self.view_is c.self.invariant.sound);
   tied = subst (IsTied c.self.inside.contexts) (sym (came (goal.at.invariant_of-self c).After-post_returned _ c.in-Err.is).1) c.self.invariant.tied;
 }
 
@@ -56,7 +51,7 @@ pub invariant_of-self-2 : goal.invariant_of-self-2
 invariant_of-self-2 c =
     let here = (goal.at.invariant_of-self-2 c).After-post_returned in
     record {
-      sound = post_sound _ _ _ _ _ _ (returns-clause-event c) (subst IsSound c.self.view_is c.self.invariant.sound);
+      sound = (post_does _ _ _ _ _ _ (returns-clause-event c)).0.sound (subst IsSound c.self.view_is c.self.invariant.sound);
       tied = subst (IsTied c.end_callback.new.contexts) (sym (came here _ c.in_default.is).1)
           (tied_ends c.self.inside.contexts c.end_callback.new.contexts c.args.worker.0 (changed c.args.operation (post_returned_of c.args.verdict c.args.lent)
           c.self.inside.flow) c.end_callback.ensures

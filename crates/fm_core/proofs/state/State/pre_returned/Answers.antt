@@ -3,8 +3,7 @@ use Rattle.fm_core.proofs.Words.{worker_at, state_at, IsSound, IsTied, pre_of, t
 use Rattle.std.proofs.Common.{◌≡◌, ◌∙◌}
 use Rattle.std.specs.Option.{option_copied}
 use Rattle.fm_world.specs.declared.worker.Worker.TheVariants as place
-use Rattle.fm_world.proofs.Flowing.{pre_sound}
-use Rattle.fm_world.proofs.Handing.{pre_hand}
+use Rattle.fm_world.proofs.Returns.{pre_does}
 use Rattle.fm_core.proofs.Holding.{tied_ends}
 use Rattle.fm_core.proofs.Losing.{sweeping_tied}
 use Rattle.fm_core.proofs.Operated.{Comes, comes, in_pre, placed, pre_is, pre_returns, pre_sends, pre_state, pre_strange, pre_tied, stands_from, there_from, within_at}
@@ -35,11 +34,8 @@ came : (c : After-pre_returned) (answer : Result (Unit {0}) Data) → c.pre_retu
     → Comes c.self.inside.flow c.in-Some.operation (λ (r : FlowRecord). data_fits r.operation r.path c.args.lent)
     (pre_returned_of c.counted-state.result c.args.lent) c.args.lent answer c.pre_returned.new.self
 came c answer is =
-    subst (λ a. Comes c.self.inside.flow c.in-Some.operation (λ (r : FlowRecord). data_fits r.operation r.path c.args.lent)
-    (pre_returned_of c.counted-state.result c.args.lent) c.args.lent a c.pre_returned.new.self) is
-    (comes c.self.inside.flow c.in-Some.operation c.in-Some-record.record.now _ _ c.args.lent c.pre_returned.result c.pre_returned.new.self
-    (sym c.record.ensures ∙ ap option_copied c.in-Some-record.is)
-    c.pre_returned.ensures.reply c.pre_returned.ensures.after)
+    comes c.self.inside.flow c.in-Some.operation c.in-Some-record.record.now _ _ c.args.lent c.pre_returned.result answer c.pre_returned.new.self
+    (sym c.record.ensures ∙ ap option_copied c.in-Some-record.is) c.pre_returned.ensures.reply c.pre_returned.ensures.after is
 
 pub returns-in-Err-clause-event : goal.returns-in-Err-clause-event
 returns-in-Err-clause-event c =
@@ -47,12 +43,9 @@ returns-in-Err-clause-event c =
     (pre_returned_of c.counted-state.result c.args.lent) c.pre_returned.new.self c.self.view_is
     (at (goal.at.returns-in-Err-clause-event c).In-Some) (came (goal.at.returns-in-Err-clause-event c).After-pre_returned _ c.in-Err.is)
 
-pub returns-in-Err-clause-back : goal.returns-in-Err-clause-back
-returns-in-Err-clause-back c = (came (goal.at.returns-in-Err-clause-back c).After-pre_returned _ c.in-Err.is).2
-
 pub invariant_of-self : goal.invariant_of-self
 invariant_of-self c = record {
-  sound = pre_sound _ _ _ _ _ _ (returns-in-Err-clause-event c) (subst IsSound c.self.view_is c.self.invariant.sound);
+  sound = (pre_does _ _ _ _ _ _ (returns-in-Err-clause-event c)).0.sound (subst IsSound c.self.view_is c.self.invariant.sound);
   tied = subst (IsTied c.self.inside.contexts) (sym (came (goal.at.invariant_of-self c).After-pre_returned _ c.in-Err.is).1) c.self.invariant.tied;
 }
 
@@ -95,7 +88,7 @@ invariant_of-self-2 c =
     (at here.In-Some) (state here.After-pre_returned)
     c.sent_in.ensures refl c.laws.ensures.matched in
     record {
-      sound = pre_sound _ _ _ _ _ _ (returns-clause-event c) (subst IsSound c.self.view_is c.self.invariant.sound);
+      sound = (pre_does _ _ _ _ _ _ (returns-clause-event c)).0.sound (subst IsSound c.self.view_is c.self.invariant.sound);
       tied = sweeping_tied _ c.end_callback.new.contexts c.note_verdict.new.contexts c.pre_returned.new.self c.note_verdict.ensures.links
           (subst (IsTied c.end_callback.new.contexts) (sym (came here.After-pre_returned _ c.in_default-pre_returned.is).1)
           (tied_ends _ c.end_callback.new.contexts c.args.worker.0 (changed c.in-Some.operation (pre_returned_of c.counted-state.result c.args.lent)
@@ -103,7 +96,7 @@ invariant_of-self-2 c =
     }
 
 pub returns-clause-hand : goal.returns-clause-hand
-returns-clause-hand c = (pre_hand _ _ _ _ _ _ (returns-clause-event c)).0
+returns-clause-hand c = (pre_does _ _ _ _ _ _ (returns-clause-event c)).1.0
 
 pub returns-clause-held : goal.returns-clause-held
-returns-clause-held c = (pre_hand _ _ _ _ _ _ (returns-clause-event c)).1
+returns-clause-held c = (pre_does _ _ _ _ _ _ (returns-clause-event c)).1.1

@@ -1,8 +1,7 @@
 use Rattle.fm_core.proofs.Words.{sym, subst, IsSound, the_view}
 use Rattle.std.proofs.Common.{◌∙◌}
-use Rattle.fm_world.proofs.Callbacks.{release_sound}
-use Rattle.fm_world.proofs.Handing.{release_fewer}
-use Rattle.fm_core.proofs.Called.{released_up, release_tied}
+use Rattle.fm_world.proofs.Callbacks.{release_does}
+use Rattle.fm_core.proofs.Called.{released_up, release_keeps}
 use Rattle.fm_core.proofs.state.State.release.Goals as goal
 
 pub returns-clause-event : goal.returns-clause-event
@@ -11,11 +10,8 @@ returns-clause-event c =
     c.self.view_is (sym c.caller.ensures.callback ∙ c.in-Some.is) c.self.invariant.tied c.release.ensures
 
 pub invariant_of-self : goal.invariant_of-self
-invariant_of-self c = record {
-  sound = release_sound _ _ _ _ _ (returns-clause-event c) (subst IsSound c.self.view_is c.self.invariant.sound);
-  tied = release_tied c.self.inside.contexts c.release.new.self c.self.inside.flow c.args.worker c.args.context c.release.result c.release.ensures
-      c.self.invariant.tied;
-}
+invariant_of-self c =
+    release_keeps (the_view c.self.inside) c.args.worker c.args.context _ _ _ c.self.view_is c.self.invariant (returns-clause-event c) c.release.ensures
 
 pub returns-clause-held : goal.returns-clause-held
-returns-clause-held c = release_fewer _ _ _ _ _ (subst IsSound c.self.view_is c.self.invariant.sound) (returns-clause-event c)
+returns-clause-held c = (release_does _ _ _ _ _ (returns-clause-event c)).1 (subst IsSound c.self.view_is c.self.invariant.sound)

@@ -1,7 +1,6 @@
 use Rattle.fm_core.proofs.Words.{sym, subst, holder, IsSound, the_view}
 use Rattle.std.proofs.Common.{◌∙◌}
-use Rattle.fm_world.proofs.Linking.{set_sound}
-use Rattle.fm_world.proofs.Handing.{set_hand}
+use Rattle.fm_world.proofs.Linking.{set_does}
 use Rattle.fm_core.proofs.Linked.{set_tied, set_up}
 use Rattle.fm_core.proofs.state.State.set.Goals as goal
 
@@ -13,13 +12,13 @@ returns-clause-event c =
 
 pub invariant_of-self : goal.invariant_of-self
 invariant_of-self c = record {
-  sound = set_sound _ _ _ _ _ _ _ (returns-clause-event c) (subst IsSound c.self.view_is c.self.invariant.sound);
+  sound = (set_does _ _ _ _ _ _ _ (returns-clause-event c)).0.sound (subst IsSound c.self.view_is c.self.invariant.sound);
   tied = set_tied c.self.inside.contexts c.set-reply.new.self c.self.inside.flow c.args.worker c.args.context c.in-Ok.found.1 c.args.mode c.args.wants_old
       (holder c.self.inside.contexts.table.slots c.in-Ok.found.0 c.in-Ok.found.1) c.set-reply.ensures.after c.self.invariant.tied;
 }
 
 pub returns-clause-hand : goal.returns-clause-hand
-returns-clause-hand c = (set_hand _ _ _ _ _ _ _ (subst IsSound c.self.view_is c.self.invariant.sound) (returns-clause-event c)).0
+returns-clause-hand c = ((set_does _ _ _ _ _ _ _ (returns-clause-event c)).1 (subst IsSound c.self.view_is c.self.invariant.sound)).0
 
 pub returns-clause-held : goal.returns-clause-held
-returns-clause-held c = (set_hand _ _ _ _ _ _ _ (subst IsSound c.self.view_is c.self.invariant.sound) (returns-clause-event c)).1
+returns-clause-held c = ((set_does _ _ _ _ _ _ _ (returns-clause-event c)).1 (subst IsSound c.self.view_is c.self.invariant.sound)).1

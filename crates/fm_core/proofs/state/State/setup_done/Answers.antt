@@ -3,8 +3,7 @@ use Rattle.std.proofs.Common.{◌≡◌}
 use Rattle.std.specs.Prelude.{slice_get}
 use Rattle.fm_world.specs.declared.worker.Worker.TheVariants as place
 use Rattle.fm_world.proofs.Keeps.{setup_place}
-use Rattle.fm_world.proofs.Owning.{setup_sound}
-use Rattle.fm_world.proofs.Handing.{setup_left}
+use Rattle.fm_world.proofs.Owning.{setup_does}
 use Rattle.fm_core.proofs.Attached.{sets_up, setup_tied, setup_is, setup_at}
 use Rattle.fm_core.proofs.Operated.{placed, within_at}
 use Rattle.fm_core.proofs.state.State.setup_done.Goals.{In-Some}
@@ -32,11 +31,11 @@ returns-clause-event c =
 
 pub invariant_of-self : goal.invariant_of-self
 invariant_of-self c = record {
-  sound = setup_sound _ _ _ _ _ (returns-clause-event c) (subst IsSound c.self.view_is c.self.invariant.sound);
+  sound = (setup_does _ _ _ _ _ (returns-clause-event c)).0.sound (subst IsSound c.self.view_is c.self.invariant.sound);
   tied = setup_tied c.self.inside.contexts c.leave.new.self c.unlink_unless.new.contexts c.in-Some.instance c.args.worker.0 c.setup_done-result.result
       c.self.inside.flow
       c.leave.ensures.table c.leave.ensures.carried c.unlink_unless.ensures c.self.invariant.tied;
 }
 
 pub returns-clause-held : goal.returns-clause-held
-returns-clause-held c = setup_left _ _ _ _ _ (returns-clause-event c)
+returns-clause-held c = (setup_does _ _ _ _ _ (returns-clause-event c)).1

@@ -1,7 +1,7 @@
 use Rattle.fm_core.proofs.Words.{true, sym, subst, World, is_idle, worker_at, IsSound, idle_there, the_view}
 use Rattle.std.proofs.Common.{◌≡◌, ◌∙◌}
 use Rattle.fm_ctx.proofs.Lives.{due_there}
-use Rattle.fm_world.proofs.Cleanups.{take_due_sound}
+use Rattle.fm_world.proofs.Cleanups.{take_due_does}
 use Rattle.fm_core.proofs.Cleaned.{due_taken, due_tied}
 use Rattle.fm_core.proofs.Operated.{within_at}
 use Rattle.fm_core.proofs.state.State.take_due.Goals as goal
@@ -19,6 +19,6 @@ returns-clause-event c =
 
 pub invariant_of-self : goal.invariant_of-self
 invariant_of-self c = record {
-  sound = take_due_sound _ _ _ _ (returns-clause-event c) (subst IsSound c.self.view_is c.self.invariant.sound);
+  sound = (take_due_does _ _ _ _ (returns-clause-event c)).sound (subst IsSound c.self.view_is c.self.invariant.sound);
   tied = due_tied c.self.inside.contexts c.take_due-due.new.self c.self.inside.flow c.args.worker c.take_due-due.ensures.after c.self.invariant.tied;
 }

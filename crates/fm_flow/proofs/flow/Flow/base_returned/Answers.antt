@@ -1,25 +1,26 @@
-use Rattle.fm_flow.proofs.Words.{Err, StandsAt, InBase, base_reply, base_after}
-use Rattle.fm_flow.proofs.Places.{missing, found, told_some, changed_some, said_there, flow_set, absent_stands}
-use Rattle.fm_flow.proofs.Flows.{base_stays, sound_base_after}
+use Rattle.fm_flow.proofs.Words.{refl, sym, Err, FlowRecord, StandsAt, InBase, base_fits, base_reply, base_after, base_returned_of}
+use Rattle.fm_flow.proofs.Flows.{found, told_some, changed_some, said_there, flow_took, stands_some}
+use Rattle.fm_flow.proofs.Soundness.{stays_so}
+use Rattle.fm_flow.proofs.Returns.{sound_base}
 use Rattle.fm_flow.proofs.flow.Flow.base_returned.Goals as goal
 
-pub unreachable-requires : goal.unreachable-requires
-unreachable-requires c = absent_stands InBase c.args.number c.self.view_is (missing c.args.number c.place_of.ensures c.deref.ensures.value c.in_default.is) c.requires
+pub standing-place-requires : goal.standing-place-requires
+standing-place-requires c = stands_some InBase c.args.number c.self.view_is c.deref.ensures.value c.requires
 
 pub base_returned-requires : goal.base_returned-requires
-base_returned-requires c =
-    said_there (StandsAt InBase) (found c.args.number c.self.view_is c.place_of.ensures c.deref.ensures.value c.in-Some.is c.index_mut-operation.ensures.value) c.requires
+base_returned-requires c = said_there (found c.args.number c.self.view_is (sym c.standing-place.ensures) c.deref.ensures.value refl c.index_mut.ensures.value) (StandsAt InBase) c.requires
 
 pub invariant_of-self : goal.invariant_of-self
 invariant_of-self c =
-    let there = found c.args.number c.self.view_is c.place_of.ensures c.deref.ensures.value c.in-Some.is c.index_mut-operation.ensures.value in
-    flow_set (base_after c.args.call c.args.answer c.args.handle) there c.base_returned.ensures.after c.self.invariant (base_stays c.args.call c.args.answer c.args.handle) (sound_base_after c.args.call c.args.answer c.args.handle c.index_mut-operation.result.now (said_there (StandsAt InBase) there c.requires))
+    let there = found c.args.number c.self.view_is (sym c.standing-place.ensures) c.deref.ensures.value refl c.index_mut.ensures.value in
+    flow_took (λ (r : FlowRecord). base_fits c.args.call c.args.answer r) (base_returned_of c.args.call c.args.answer c.args.handle)
+    there c.base_returned.ensures.after c.self.invariant (λ r. stays_so refl refl)
+    (sound_base c.args.call c.args.answer c.args.handle c.index_mut.result.now (said_there there (StandsAt InBase) c.requires))
 
-pub returns-clause-reply : goal.returns-clause-reply
-returns-clause-reply c =
-    let there = found c.args.number c.self.view_is c.place_of.ensures c.deref.ensures.value c.in-Some.is c.index_mut-operation.ensures.value in
-    told_some (base_reply c.args.call c.args.answer) (Err (c.args.call, c.args.answer)) there c.base_returned.ensures.reply
-
-pub returns-clause-after : goal.returns-clause-after
-returns-clause-after c =
-    changed_some (base_after c.args.call c.args.answer c.args.handle) (found c.args.number c.self.view_is c.place_of.ensures c.deref.ensures.value c.in-Some.is c.index_mut-operation.ensures.value) c.base_returned.ensures.after
+pub returns : goal.returns
+returns c =
+    let there = found c.args.number c.self.view_is (sym c.standing-place.ensures) c.deref.ensures.value refl c.index_mut.ensures.value in
+    record {
+      reply = told_some there (base_reply c.args.call c.args.answer) (Err (c.args.call, c.args.answer)) c.base_returned.ensures.reply;
+      after = changed_some there (base_after c.args.call c.args.answer c.args.handle) c.base_returned.ensures.after;
+    }

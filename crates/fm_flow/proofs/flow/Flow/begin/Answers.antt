@@ -1,6 +1,6 @@
 use Rattle.fm_flow.proofs.Words.{sym, ap, is_full}
 use Rattle.std.proofs.Common.{◌∙◌}
-use Rattle.fm_flow.proofs.Flows.{flow_begins}
+use Rattle.fm_flow.proofs.Requests.{flow_begins}
 use Rattle.fm_flow.proofs.flow.Flow.begin.Goals as goal
 
 pub invariant_of-self-2 : goal.invariant_of-self-2

@@ -1,24 +1,23 @@
-use Rattle.fm_flow.proofs.Words.{Err, StandsAt, PostRunning, data_reply, post_after}
-use Rattle.fm_flow.proofs.Places.{missing, found, told_some, changed_some, said_there, flow_set, absent_stands}
-use Rattle.fm_flow.proofs.Flows.{post_after_stays, sound_post_after}
+use Rattle.fm_flow.proofs.Words.{refl, sym, Err, FlowRecord, StandsAt, PostRunning, data_fits, data_reply, post_after, post_returned_of}
+use Rattle.fm_flow.proofs.Flows.{found, told_some, changed_some, said_there, flow_took, stands_some}
+use Rattle.fm_flow.proofs.Soundness.{stays_so}
+use Rattle.fm_flow.proofs.Returns.{sound_post_returned}
 use Rattle.fm_flow.proofs.flow.Flow.post_returned.Goals as goal
 
-pub unreachable-requires : goal.unreachable-requires
-unreachable-requires c = absent_stands PostRunning c.args.number c.self.view_is (missing c.args.number c.place_of.ensures c.deref.ensures.value c.in_default.is) c.requires
+pub standing-place-requires : goal.standing-place-requires
+standing-place-requires c = stands_some PostRunning c.args.number c.self.view_is c.deref.ensures.value c.requires
 
 pub post_returned-requires : goal.post_returned-requires
-post_returned-requires c =
-    said_there (StandsAt PostRunning) (found c.args.number c.self.view_is c.place_of.ensures c.deref.ensures.value c.in-Some.is c.index_mut-operation.ensures.value) c.requires
+post_returned-requires c = said_there (found c.args.number c.self.view_is (sym c.standing-place.ensures) c.deref.ensures.value refl c.index_mut.ensures.value) (StandsAt PostRunning) c.requires
 
 pub invariant_of-self : goal.invariant_of-self
 invariant_of-self c =
-    let there = found c.args.number c.self.view_is c.place_of.ensures c.deref.ensures.value c.in-Some.is c.index_mut-operation.ensures.value in
-    flow_set (post_after c.args.verdict c.args.lent) there c.post_returned.ensures.after c.self.invariant (post_after_stays c.args.verdict c.args.lent) (sound_post_after c.args.verdict c.args.lent c.index_mut-operation.result.now (said_there (StandsAt PostRunning) there c.requires))
+    let there = found c.args.number c.self.view_is (sym c.standing-place.ensures) c.deref.ensures.value refl c.index_mut.ensures.value in
+    flow_took (λ (r : FlowRecord). data_fits r.operation r.path c.args.lent) (post_returned_of c.args.verdict c.args.lent)
+    there c.post_returned.ensures.after c.self.invariant (λ r. stays_so refl refl)
+    (sound_post_returned c.args.verdict c.args.lent c.index_mut.result.now (said_there there (StandsAt PostRunning) c.requires))
 
-pub returns-clause-reply : goal.returns-clause-reply
-returns-clause-reply c =
-    told_some (data_reply c.args.lent) (Err c.args.lent) (found c.args.number c.self.view_is c.place_of.ensures c.deref.ensures.value c.in-Some.is c.index_mut-operation.ensures.value) c.post_returned.ensures.reply
-
-pub returns-clause-after : goal.returns-clause-after
-returns-clause-after c =
-    changed_some (post_after c.args.verdict c.args.lent) (found c.args.number c.self.view_is c.place_of.ensures c.deref.ensures.value c.in-Some.is c.index_mut-operation.ensures.value) c.post_returned.ensures.after
+pub returns : goal.returns
+returns c =
+    let there = found c.args.number c.self.view_is (sym c.standing-place.ensures) c.deref.ensures.value refl c.index_mut.ensures.value in
+    record { reply = told_some there (data_reply c.args.lent) (Err c.args.lent) c.post_returned.ensures.reply; after = changed_some there (post_after c.args.verdict c.args.lent) c.post_returned.ensures.after }

@@ -1,6 +1,6 @@
 use Rattle.fm_flow.proofs.Words.{ap, arith, FlowRecord}
 use Rattle.std.proofs.Common.{◌∙◌}
-use Rattle.fm_flow.proofs.Soundness.{sound_known}
+use Rattle.fm_flow.proofs.Next.{sound_known}
 use Rattle.fm_flow.proofs.operation_record.OperationRecord.answer_known.Goals as goal
 
 pub invariant_of-self : goal.invariant_of-self

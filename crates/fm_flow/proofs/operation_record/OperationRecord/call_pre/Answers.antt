@@ -1,6 +1,6 @@
 use Rattle.fm_flow.proofs.Words.{length, ap, subst, arith, times, visited, FlowRecord, HasPath}
 use Rattle.std.proofs.Common.{◌≡◌, ◌<◌, ◌∙◌, rules}
-use Rattle.fm_flow.proofs.Soundness.{sound_call_pre}
+use Rattle.fm_flow.proofs.Next.{sound_call_pre}
 use Rattle.fm_flow.proofs.operation_record.OperationRecord.call_pre.Goals as goal
 
 pub invariant_of-self : goal.invariant_of-self

@@ -1,6 +1,6 @@
 use Rattle.fm_flow.proofs.Words.{ap, arith, FlowRecord}
 use Rattle.std.proofs.Common.{◌∙◌}
-use Rattle.fm_flow.proofs.Soundness.{sound_drain_returned}
+use Rattle.fm_flow.proofs.Returns.{sound_drain_returned}
 use Rattle.fm_flow.proofs.operation_record.OperationRecord.drain_returned.Goals as goal
 
 pub invariant_of-self : goal.invariant_of-self

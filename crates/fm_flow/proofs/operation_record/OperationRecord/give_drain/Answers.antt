@@ -1,6 +1,6 @@
 use Rattle.fm_flow.proofs.Words.{ap, arith, owed, FlowRecord, slice_get}
 use Rattle.std.proofs.Common.{◌∙◌}
-use Rattle.fm_flow.proofs.Soundness.{sound_drain, head_of}
+use Rattle.fm_flow.proofs.Next.{sound_drain, head_of}
 use Rattle.fm_flow.proofs.operation_record.OperationRecord.give_drain.Goals as goal
 
 pub invariant_of-self : goal.invariant_of-self

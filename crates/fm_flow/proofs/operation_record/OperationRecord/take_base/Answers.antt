@@ -1,6 +1,6 @@
 use Rattle.fm_flow.proofs.Words.{ap, arith, FlowRecord, base_fits}
 use Rattle.std.proofs.Common.{◌∙◌}
-use Rattle.fm_flow.proofs.Soundness.{sound_base}
+use Rattle.fm_flow.proofs.Returns.{sound_base}
 use Rattle.fm_flow.proofs.operation_record.OperationRecord.take_base.Goals as goal
 
 pub invariant_of-self : goal.invariant_of-self

@@ -1,11 +1,14 @@
 use Rattle.fm_flow.proofs.Words.{ap, arith, FlowRecord, data_fits, post_state}
 use Rattle.std.proofs.Common.{◌∙◌}
-use Rattle.fm_flow.proofs.Paths.{path_up}
-use Rattle.fm_flow.proofs.Soundness.{sound_post_returned}
+use Rattle.fm_flow.proofs.Returns.{path_up}
+use Rattle.fm_flow.proofs.Returns.{sound_post_returned}
 use Rattle.fm_flow.proofs.operation_record.OperationRecord.take_post.Goals as goal
 
 pub invariant_of-self : goal.invariant_of-self
 invariant_of-self c =
     let stage = ap (λ (r : FlowRecord). r.stage) c.self.view_is ∙ c.requires.stage in
-    let fits = ap (λ (r : FlowRecord). data_fits r.operation r.path c.args.lent) c.self.view_is ∙ c.requires.fits in
-    (rw (c.settle_post.ensures.items, c.post_leads-self-inside.ensures, c.post_state-state.ensures, c.take_answer.ensures, c.into_parts-received.ensures.received, c.into_parts-received.ensures.answer) (sound_post_returned c.args.verdict c.args.lent _ stage fits c.self.invariant.0), (omega arith, (omega arith, rw (c.post_leads-self-inside.ensures, c.post_state-state.ensures) (path_up (post_state c.args.verdict) c.self.inside.path c.self.inside.lent_path))))
+    let fits = ap (λ (r : FlowRecord). data_fits r.operation r.path c.args.lent) c.self.view_is ∙ c.requires.fits in (
+      rw (c.settle_post.ensures.items, c.post_leads-self-inside.ensures, c.post_state-state.ensures, c.take_answer.ensures, c.into_parts-received.ensures.received, c.into_parts-received.ensures.answer)
+          (sound_post_returned c.args.verdict c.args.lent _ stage fits c.self.invariant.0),
+      (omega arith, (omega arith, rw (c.post_leads-self-inside.ensures, c.post_state-state.ensures) (path_up (post_state c.args.verdict) c.self.inside.path c.self.inside.lent_path))),
+    )

@@ -1,6 +1,6 @@
 use Rattle.fm_flow.proofs.Words.{length, ap, arith, times, visited, FlowRecord}
 use Rattle.std.proofs.Common.{◌≡◌, ◌<◌, ◌∙◌, rules}
-use Rattle.fm_flow.proofs.Soundness.{sound_bare}
+use Rattle.fm_flow.proofs.Next.{sound_bare}
 use Rattle.fm_flow.proofs.operation_record.OperationRecord.visit_bare.Goals as goal
 
 pub invariant_of-self : goal.invariant_of-self

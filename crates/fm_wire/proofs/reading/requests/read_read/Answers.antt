@@ -1,4 +1,5 @@
 use Rattle.fm_wire.proofs.Words.{refl, arith, inl, Operation}
+use Rattle.fm_data.specs.declared.request.FileRequest.TheVariants as file
 use Rattle.fm_data.specs.declared.request.Request.TheVariants as request
 use Rattle.fm_wire.proofs.Parts.{joined_three, same_length}
 use Rattle.fm_wire.proofs.Forms.{request_of_wrong_size, no_read}
@@ -24,4 +25,4 @@ returns c =
     let handle = c.split_u64-handle.ensures in
     let offset = c.split_u64-offset.ensures in
     let len = c.split_u32-len.ensures in
-    (Operation (request.Read (record { 0 = c.split_u64-handle.result.0 }) c.split_u64-offset.result.0 c.split_u32-len.result.0), record { code_is = refl; fields_are = joined_three _ _ _ _ _ _ c.split_u32-len.result.1.now handle.spelled offset.spelled len.spelled (omega arith); fits = (handle.small, offset.small, len.small); limits = c.if-len-gt-MAX_TRANSFER.false }, tt, refl)
+    (Operation (request.OnHandle (record { 0 = c.split_u64-handle.result.0 }) (file.Read c.split_u64-offset.result.0 c.split_u32-len.result.0)), record { code_is = refl; fields_are = joined_three _ _ _ _ _ _ c.split_u32-len.result.1.now handle.spelled offset.spelled len.spelled (omega arith); fits = (handle.small, (offset.small, len.small)); limits = c.if-len-gt-MAX_TRANSFER.false }, tt, refl)

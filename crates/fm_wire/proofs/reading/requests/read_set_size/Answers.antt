@@ -1,4 +1,5 @@
 use Rattle.fm_wire.proofs.Words.{refl, arith, inl, Operation}
+use Rattle.fm_data.specs.declared.request.FileRequest.TheVariants as file
 use Rattle.fm_data.specs.declared.request.Request.TheVariants as request
 use Rattle.fm_wire.proofs.Parts.{joined_two}
 use Rattle.fm_wire.proofs.Forms.{request_of_wrong_size}
@@ -11,4 +12,4 @@ pub returns : goal.returns
 returns c =
     let handle = c.split_u64-handle.ensures in
     let size = c.split_u64-size.ensures in
-    (Operation (request.SetSize (record { 0 = c.split_u64-handle.result.0 }) c.split_u64-size.result.0), record { code_is = refl; fields_are = joined_two _ _ _ _ c.split_u64-size.result.1.now handle.spelled size.spelled (omega arith); fits = (handle.small, size.small); limits = tt }, tt, refl)
+    (Operation (request.OnHandle (record { 0 = c.split_u64-handle.result.0 }) (file.SetSize c.split_u64-size.result.0)), record { code_is = refl; fields_are = joined_two _ _ _ _ c.split_u64-size.result.1.now handle.spelled size.spelled (omega arith); fits = (handle.small, size.small); limits = tt }, tt, refl)

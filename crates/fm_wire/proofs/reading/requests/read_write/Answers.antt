@@ -1,4 +1,5 @@
 use Rattle.fm_wire.proofs.Words.{refl, sym, arith, inl, inr, Operation}
+use Rattle.fm_data.specs.declared.request.FileRequest.TheVariants as file
 use Rattle.fm_data.specs.declared.request.Request.TheVariants as request
 use Rattle.fm_wire.proofs.Forms.{no_write}
 use Rattle.fm_wire.proofs.reading.requests.read_write.Goals.{then-fields-lt16-via-then-fields-lt16}
@@ -18,4 +19,4 @@ returns-clause-ok c =
     let offset = c.split_u64-offset.ensures in
     let copied = c.in_ok-copy_of.ensures in
     let long = c.if-fields.false in
-    (Operation (request.Write (record { 0 = c.split_u64-handle.result.0 }) c.split_u64-offset.result.0 c.in_ok-copy_of.field-0), record { code_is = refl; fields_are = rw (copied, ← offset.spelled) (sym handle.spelled); fits = (handle.small, offset.small); limits = rw copied (omega arith) }, tt, refl)
+    (Operation (request.OnHandle (record { 0 = c.split_u64-handle.result.0 }) (file.Write c.split_u64-offset.result.0 c.in_ok-copy_of.field-0)), record { code_is = refl; fields_are = rw (copied, ← offset.spelled) (sym handle.spelled); fits = (handle.small, offset.small); limits = rw copied (omega arith) }, tt, refl)

@@ -1,0 +1,318 @@
+-- What the ends of callbacks and of base calls of operations do.
+use Rattle.std.proofs.Common.{Bool, Err, List, None, Ok, Option, Result, Some, [], ap, arith, cond, false, option_to_list, refl, slice_get, subst, sym, true, ℕ, ◌++◌, ◌+◌, ◌<◌, ◌==◌, ◌∙◌, ◌≡◌, ◌≤◌}
+use Rattle.fm_world.proofs.Words.{All, All-nil, Answer, Ascending, Ask, AskCarries, AtPost, AtPre, Base, BaseCall, BaseReturns, BaseReturnsAt}
+use Rattle.fm_world.proofs.Words.{CarriesIn, ContextTable, CtxId, Data, FileTable, FlowRecord, FlowTable, HandleId, HoldsIn, HoldsNone}
+use Rattle.fm_world.proofs.Words.{InstanceId, IsCourse, IsFileSound, IsLawful, IsSound, IsUnderWay, Leaves, LosesLinks, OnlyHandOf, OpId}
+use Rattle.fm_world.proofs.Words.{Operation, PostReturns, PostReturnsAt, PostRunning, PostVerdict, PreReturns, PreReturnsAt, PreRunning}
+use Rattle.fm_world.proofs.Words.{PreState, PreVerdict, PreVisit, Slot, StackWorld, Status, StreamId, Worker, WorkerId, World, after_pre}
+use Rattle.fm_world.proofs.Words.{and_from, ask_in, base_counted, base_fits, base_returned, base_returned_of, base_step, carried_in, carries}
+use Rattle.fm_world.proofs.Words.{carries_after, carry_keeps, changed, cleanup_in, data_fits, drain_opens, drain_returned_of}
+use Rattle.fm_world.proofs.Words.{drains_drain_settled, drains_post_settled, drains_pre_settled, drains_push, filed_pre, filed_record, fits}
+use Rattle.fm_world.proofs.Words.{flight, hand_of, has_post, holds, is_counted, is_create, is_created_on, is_number, is_unanswered, lawful_alike}
+use Rattle.fm_world.proofs.Words.{names_there, of_hand, one, operation_at, operation_of, option_map, owed, owed_drain_settled, owed_post_settled}
+use Rattle.fm_world.proofs.Words.{owed_pre_settled, place_in, post_leads, post_returned_of, post_state, pre_leads, pre_returned_of, pre_step}
+use Rattle.fm_world.proofs.Words.{returned, same_Some, sent, sent_in, set-set, settle_drain, settle_post, settle_pre, slice_set, spot_at}
+use Rattle.fm_world.proofs.Words.{state_at, state_given, taken_by, told, verdict_counted, way_of, worker_at}
+use Rattle.fm_flow.proofs.Returns.{base_returned_carries, base_returned_flies, drain_returned_carries, drain_returned_flies, post_returned_carries, post_returned_flies, pre_returned_carries, pre_returned_flies}
+use Rattle.fm_flow.proofs.Owed.{owed_push_none}
+use Rattle.fm_flow.proofs.Returns.{sound_base, sound_drain_returned, sound_post_returned, sound_pre_returned}
+use Rattle.fm_world.specs.Events.{ReturnsFrom}
+use Rattle.std.proofs.lemmas.Grind.{common_steps}
+use Rattle.fm_world.proofs.Amongs.{among_base, among_settles, is_up, no_base, settle_drain_keeps, settle_post_keeps, settle_pre_keeps}
+use Rattle.fm_world.proofs.Belonging.{AllPass, held_has}
+use Rattle.fm_world.proofs.Callbacks.{same_hands}
+use Rattle.fm_world.proofs.Events.{refused_by, unless_by}
+use Rattle.fm_world.proofs.Filed.{IsAnswered, SameFile, answered_same, create_on_none, file_answered, file_step, sound_from, stands_ended, stands_in, stands_same}
+use Rattle.fm_world.proofs.Filing.{Shrinks, answered_none, filed_step, not_more_same}
+use Rattle.fm_world.proofs.Flowing.{asks_of, carried_changed, left_owned, quieter, step_owned}
+use Rattle.fm_world.proofs.Keeps.{worker_below}
+use Rattle.fm_world.proofs.Losing.{loses_sound}
+use Rattle.fm_world.proofs.Operations.{inside_base, inside_drain, inside_post, inside_pre, not_base_of, return_keeps, told_there}
+use Rattle.fm_world.proofs.Owning.{empty_hand}
+use Rattle.fm_world.proofs.Staying.{Does, hand_emptied, loses_lasts, nothing, still, table_same, unchanged}
+use Rattle.fm_world.proofs.Streams.{Stands, none_out}
+use Rattle.fm_world.proofs.Ties.{Matches, in_a_drain, in_no_drain, is_running, matches_base, matches_drain, matches_post, matches_pre}
+use Rattle.fm_flow.specs.Sound as flow
+
+-- ---- a preoperation: the verdict that counts
+
+-- a verdict that counts leaves the callback
+counted_from : (state : PreState) → is_running (pre_leads state) ≡ false → is_counted state ≡ true
+counted_from state h = grind arith
+
+counted_quiet : (given : PreVerdict) (operation : Operation) (has_post : Bool) → is_running (pre_leads (verdict_counted given operation has_post)) ≡ false
+counted_quiet given operation has_post = grind arith
+
+taken_sent : (c : CtxId) (state : PreState) → taken_by c state ≡ carried_in c (record { number = 0; context = sent_in state })
+taken_sent c state = grind arith
+
+-- what the verdict asks for carries what it sends
+asked_carries : (s : StackWorld) (slots : List Slot) (visit : PreVisit) (state : PreState) (asks : List Ask) → CarriesIn s slots visit.instance (sent_in state)
+    → All (AskCarries s slots) asks → All (AskCarries s slots) (option_to_list (ask_in visit state) ++ asks)
+asked_carries s slots visit state asks h5 h6 = grind arith
+
+-- the table after a context was sent along
+sent_rests : (t : ContextTable) (k : WorkerId) (m : Option CtxId)
+    → ((sent t k m).slots ≡ t.slots) × ((sent t k m).cleaning ≡ t.cleaning) × (slice_set (sent t k m).hands k.0 [] ≡ slice_set t.hands k.0 [])
+sent_rests t k m = grind (arith, set-set)
+
+sent_lawful : (w : World) (o : OpId) (f : FlowRecord → FlowRecord) (k : WorkerId) (m : Option CtxId) → k.0 < 48 → IsLawful (carries w) w.contexts
+    → ((c : CtxId) → carries_after w o f c ≡ carries w c + carried_in c (record { number = 0; context = m }))
+    → ((d : CtxId) → m ≡ Some d → holds (hand_of w.contexts.hands k.0) d ≡ true) → IsLawful (carries_after w o f) (sent w.contexts k m)
+sent_lawful w o f k None worker law balance has = lawful_alike (λ c. omega (arith, balance c)) law
+sent_lawful w o f k (Some d) worker law balance has = carry_keeps (carries_after w o f) k.0 d law worker (has d refl) (λ c. balance c)
+
+-- what a preoperation sends along is carried from then on
+pub pre_balance : (w : World) (k : WorkerId) (o : OpId) (i : InstanceId) (state : PreState) (lent : Data) → worker_at w.workers k ≡ Some (Worker.Pre o i) → IsUnderWay w → (c : CtxId)
+    → carries_after w o (pre_returned_of state lent) c ≡ carries w c + carried_in c (record { number = 0; context = sent_in state })
+pre_balance w k o i state lent at s c =
+    let x = inside_pre w k o i at s in
+    omega (arith, carried_changed w.flow o x.0.row (pre_returned_of state lent) x.0.at c, pre_returned_carries c state lent x.0.row x.1 x.0.sound, taken_sent c state)
+
+-- and it was in the hand
+pub sent_is_held : (w : World) (k : WorkerId) (o : OpId) (i : InstanceId) (given : PreVerdict) → worker_at w.workers k ≡ Some (Worker.Pre o i) → IsUnderWay w
+    → (d : CtxId) → sent_in (state_at w k o i given) ≡ Some d → holds (hand_of w.contexts.hands k.0) d ≡ true
+sent_is_held w k o i given at s d e = grind arith
+
+-- a context that a preoperation sends along may be carried
+sent_owned : (w : World) (k : WorkerId) (o : OpId) (i : InstanceId) (m : Option CtxId) → worker_at w.workers k ≡ Some (Worker.Pre o i)
+    → ((d : CtxId) → m ≡ Some d → holds (hand_of w.contexts.hands k.0) d ≡ true) → IsSound w → CarriesIn w.stack w.contexts.slots i m
+sent_owned w k o i None at has s = tt
+sent_owned w k o i (Some d) at has s =
+    subst (λ p. HoldsIn w.stack w.contexts.slots p d) (ap place_in at)
+    (held_has (HoldsIn w.stack w.contexts.slots (place_in (worker_at w.workers k))) (hand_of w.contexts.hands k.0) d (s.owned.holders k) (has d refl))
+
+-- ---- its streams and handles
+
+pre_shrinks : (given : PreState) (operation : Operation) (s : Option StreamId) (b : Bool) (f : FileTable) → Shrinks f (after_pre given operation s b f)
+pre_shrinks given operation s b f = grind arith
+
+pre_same : (given : PreState) (lent : Data) (r : FlowRecord) → r.stage ≡ PreRunning → is_unanswered (pre_leads given) ≡ true → SameFile r (pre_returned_of given lent r)
+pre_same given lent r stage unanswered = grind arith
+
+-- what is no create stays none
+pre_other : (given : PreState) (lent : Data) (r : FlowRecord) → is_create r.operation ≡ false → SameFile r (pre_returned_of given lent r)
+pre_other given lent r h3 = grind arith
+
+stands_pre : (f : FileTable) (t : FlowTable) (o : OpId) (r : FlowRecord) (given : PreState) (lent : Data) (operation : Operation) (s : Option StreamId) (b : Bool)
+    → operation_at o t ≡ Some r → r.operation ≡ operation → r.stream ≡ s → r.stage ≡ PreRunning → is_created_on s (changed o (pre_returned_of given lent) t) ≡ b
+    → Stands none_out f t.operations t.next → Stands none_out (after_pre given operation s b f) (changed o (pre_returned_of given lent) t).operations t.next
+stands_pre f t o r (PreState.Completed why) lent Operation.Create (Some s) b at same stream stage is h =
+    let step = pre_returned_of (PreState.Completed why) lent in
+    stands_ended f t.operations t.next (is_number o) step r s b at stream refl refl (answered_none (step r) refl) is h
+stands_pre f t o r (PreState.Completed why) lent Operation.Create None b at same stream stage is h =
+    absurd (create_on_none f t.operations t.next (is_number o) r at stream (and_from (is_create r.operation) (is_unanswered r.stage) (ap is_create same) (ap is_unanswered stage)) h)
+stands_pre f t o r (PreState.Completed why) lent _ s b at same stream stage is h =
+    stands_same f t.operations t.next (is_number o) (pre_returned_of (PreState.Completed why) lent) r at (pre_other (PreState.Completed why) lent r (ap is_create same)) h
+stands_pre f t o r given lent _ _ b at same stream stage is h =
+    stands_same f t.operations t.next (is_number o) (pre_returned_of given lent) r at (pre_same given lent r stage refl) h
+
+file_pre : (f : FileTable) (t : FlowTable) (o : OpId) (r : FlowRecord) (given : PreState) (lent : Data) → operation_at o t ≡ Some r → r.stage ≡ PreRunning → IsFileSound f t
+    → IsFileSound (after_pre given r.operation r.stream (is_created_on r.stream (changed o (pre_returned_of given lent) t)) f) (changed o (pre_returned_of given lent) t)
+file_pre f t o r given lent at stage h =
+    let step = pre_returned_of given lent in
+    let b = is_created_on r.stream (changed o step t) in
+    let g = after_pre given r.operation r.stream b f in
+    sound_from g (changed o step t)
+    (filed_step f g t o r step at (not_more_same r (step r) refl (ap is_unanswered stage)) (pre_shrinks given r.operation r.stream b f) h.room)
+    (stands_pre f t o r given lent r.operation r.stream b at refl refl stage refl (stands_in f t h))
+
+-- ---- the event
+
+-- the World at the end of a preoperation, before links go
+abbrev pub pre_made : World → WorkerId → OpId → InstanceId → PreVerdict → Data → ContextTable → World
+pre_made old k o i given lent after = record (returned old k o (pre_step old k o i given lent)) {
+  contexts = after;
+  files = filed_pre old o (changed o (pre_step old k o i given lent) old.flow) (state_at old k o i given);
+}
+
+-- what such an event does: its worker's hand is empty then
+abbrev Ends : World → WorkerId → Result (Unit {0}) Status → World → Type 0
+Ends old k result new = Does old new × (OnlyHandOf k.0 old new × HoldsNone k.0 result old new)
+
+none_ends : (old : World) (k : WorkerId) (why : Status) → Ends old k (Err why) old
+none_ends old k why = (nothing old, (refl, refl))
+
+pre_sound : (old : World) (k : WorkerId) (o : OpId) (i : InstanceId) (given : PreVerdict) (lent : Data) (after : ContextTable) (new : World)
+    → worker_at old.workers k ≡ Some (Worker.Pre o i) → told (λ r. data_fits r.operation r.path lent) false o old.flow ≡ true
+    → Leaves (carries_after old o (pre_step old k o i given lent)) (sent old.contexts k (sent_in (state_at old k o i given))) after k.0
+    → LosesLinks (pre_made old k o i given lent after) new → IsSound old → IsSound new
+pre_sound old k o i given lent after new at fits leaves loses s =
+    let x = inside_pre old k o i at s.under_way in
+    let r = x.0.row in
+    let state = state_at old k o i given in
+    let f = pre_returned_of state lent in
+    let t = changed o f old.flow in
+    let slots = old.contexts.slots in
+    let worker = worker_below old k (Worker.Pre o i) at s.under_way in
+    let has = sent_is_held old k o i given at s.under_way in
+    let law = sent_lawful old o f k (sent_in state) worker s.owned.lawful (pre_balance old k o i state lent at s.under_way) has in
+    let rests = sent_rests old.contexts k (sent_in state) in
+    let settled = owed_pre_settled PreRunning r.entries state refl (subst (λ x. IsCourse x r.entries) x.1 x.0.sound.course) in
+    let visited : settled.0.instance ≡ i = ap (λ n. record { 0 = n }) (same_Some settled.0.instance.0 i.0 (sym settled.1 ∙ x.2)) in
+    let quiet : is_running (pre_leads state) ≡ false =
+    ap (λ x. is_running (pre_leads x)) (told_there (state_given old.stack (hand_of old.contexts.hands k.0) i given) PreState.Passed o old.flow r x.0.at)
+    ∙ counted_quiet (of_hand (hand_of old.contexts.hands k.0) given) r.operation (has_post old.stack (slice_get old.stack.instances i.0) r.operation) in
+    loses_sound (pre_made old k o i given lent after) new loses
+    (return_keeps old k (Worker.Pre o i) o r f (λ j. 0) at x.0.at (λ x. record { number = refl; collected = refl })
+    (subst (Matches o (Worker.Pre o i)) (sym (ap (λ a. spot_at a r.entries) x.1 ∙ ap (option_map AtPre) x.2)) (matches_pre o i)) quiet
+    (in_no_drain o (Worker.Pre o i) (λ p j. refl)) (λ j. omega (arith, drains_pre_settled j state r.entries)) (λ j. refl)
+    (sound_pre_returned state lent r x.1 (counted_from state quiet) (sym (told_there (λ (x : FlowRecord). data_fits x.operation x.path lent) false o old.flow r x.0.at) ∙ fits) x.0.sound)
+    (among_settles old.stack r.volume r.born r.operation r.entries r.stage (pre_leads state) (settle_pre state) (settle_pre_keeps state)
+    (not_base_of (pre_leads state) quiet) x.0.among) s.under_way)
+    (left_owned old o r f k (Worker.Pre o i) (sent old.contexts k (sent_in state)) after x.0.at at worker refl law rests.0 rests.1 rests.2 leaves
+    (subst (All (AskCarries old.stack slots)) (sym settled.2)
+    (asked_carries old.stack slots settled.0 state (owed r.entries)
+    (subst (λ x. CarriesIn old.stack slots x (sent_in state)) (sym visited) (sent_owned old k o i (sent_in state) at has s)) (asks_of old o r x.0.at s.owned)))
+    (λ j. omega (arith, pre_returned_flies j state lent r x.1 x.0.sound)) s.owned)
+    (subst (λ (files : FileTable). IsFileSound files t)
+    (sym (told_there (λ (x : FlowRecord). after_pre state x.operation x.stream (is_created_on x.stream t) old.files) old.files o old.flow r x.0.at))
+    (file_pre old.files old.flow o r state lent x.0.at x.1 s.filed))
+
+pub pre_does : (old : World) (k : WorkerId) (given : PreVerdict) (lent : Data) (result : Result (Unit {0}) Status) (new : World) → PreReturns old k given lent result new
+    → Does old new × (OnlyHandOf k.0 old new × HoldsNone k.0 result old new)
+unfolding PreReturns
+pre_does old k given lent result new h = by_place (worker_at old.workers k) refl h
+  where
+    ends : (o : OpId) (i : InstanceId) (after : ContextTable) → worker_at old.workers k ≡ Some (Worker.Pre o i)
+        → told (λ r. data_fits r.operation r.path lent) false o old.flow ≡ true
+        → Leaves (carries_after old o (pre_step old k o i given lent)) (sent old.contexts k (sent_in (state_at old k o i given))) after k.0
+        → LosesLinks (pre_made old k o i given lent after) new → Ends old k (Ok tt) new
+    ends o i after at fitting leaves loses =
+        let rests = sent_rests old.contexts k (sent_in (state_at old k o i given)) in
+        let stay = table_same old.contexts after (leaves.slots ∙ rests.0) (leaves.cleaning ∙ rests.1) in (
+          record {
+            sound = λ s. pre_sound old k o i given lent after new at fitting leaves loses s;
+            lasts = λ s. loses_lasts old (pre_made old k o i given lent after) new loses stay;
+          },
+          hand_emptied k.0 old new (loses.0.hands ∙ leaves.hands ∙ rests.2),
+        )
+
+    by_place : (m : Option Worker) → worker_at old.workers k ≡ m → PreReturnsAt old k given lent result new m → Ends old k result new
+    by_place (Some (Worker.Pre o i)) at h =
+        unless_by (λ r w. Ends old k r w) _ _ result old new _ h (none_ends old k) (λ fits e. subst (λ r. Ends old k r new) (sym e.0)
+        (ends o i e.1.0.contexts at fits e.1.1.0 (subst (λ w. LosesLinks w new) e.1.1.1 e.1.2)))
+    by_place _ at h = refused_by (λ r w. Ends old k r w) Status.WrongStep result old new h (none_ends old k)
+
+-- ---- the base's call
+
+-- a call that fits an operation is a create's where that is one
+fits_create : (call : BaseCall) (given : Answer) (r : FlowRecord) → base_fits call given r ≡ true → is_create (operation_of call.params) ≡ is_create r.operation
+fits_create call given r h3 = grind arith
+
+-- what the base's answer leaves of an operation
+base_answered : (f : FileTable) (call : BaseCall) (given : Answer) (r : FlowRecord) → is_create (operation_of call.params) ≡ is_create r.operation
+    → IsAnswered f given.status r (base_returned_of call given (record { 0 = f.next }) r)
+base_answered f call given r same = grind arith
+
+base_sound : (old : World) (k : WorkerId) (o : OpId) (call : BaseCall) (given : Answer) (new : World) → worker_at old.workers k ≡ Some (Worker.Base o)
+    → told (base_fits call given) false o old.flow ≡ true → LosesLinks (base_returned old k o call given) new → IsSound old → IsSound new
+base_sound old k o call given new at fits loses s =
+    let x = inside_base old k o at s.under_way in
+    let r = x.0.row in
+    let handle : HandleId = record { 0 = old.files.next } in
+    let f = base_step old call given in
+    let t = changed o f old.flow in
+    let counts = base_counted call.params given handle in
+    let slots = old.contexts.slots in
+    let fitting = sym (told_there (base_fits call given) false o old.flow r x.0.at) ∙ fits in
+    let no_base' = no_base r.stage r.entries x.0.sound.course.order (ap (λ x. is_up (way_of x)) x.1) in
+    loses_sound (base_returned old k o call given) new loses
+    (return_keeps old k (Worker.Base o) o r f (λ j. 0) at x.0.at (λ x. record { number = refl; collected = refl })
+    (subst (Matches o (Worker.Base o)) (sym (ap (λ a. spot_at a r.entries) x.1)) (matches_base o)) refl
+    (in_no_drain o (Worker.Base o) (λ p j. refl)) (λ j. omega (arith, drains_push j r.entries (Base counts.status counts.information))) (λ j. refl)
+    (sound_base call given handle r x.1 fitting x.0.sound)
+    (among_base old.stack r.volume r.born r.operation r.entries r.stage counts.status counts.information no_base' (x.0.among.base x.1) x.0.among) s.under_way)
+    (step_owned old o r f k (Worker.Base o) Worker.Idle old.contexts (hand_of old.contexts.hands k.0) x.0.at at (worker_below old k (Worker.Base o) at s.under_way) refl refl
+    (lawful_alike (λ c. omega (arith, carried_changed old.flow o r f x.0.at c, base_returned_carries c call given handle r)) s.owned.lawful) refl (same_hands old.contexts.hands k.0) refl
+    (subst (All (HoldsIn old.stack slots None)) (sym (empty_hand old k (Worker.Base o) at refl s.owned)) (All-nil (HoldsIn old.stack slots None)))
+    (subst (All (AskCarries old.stack slots)) (sym (owed_push_none r.entries (Base counts.status counts.information) refl (λ i. refl))) (asks_of old o r x.0.at s.owned))
+    (quieter old o r f x.0.at (λ i. omega (arith, base_returned_flies i call given handle r)) s.owned.quiet) s.owned)
+    (subst (λ (files : FileTable). IsFileSound files t) (sym (told_there (filed_record old.files t given.status) old.files o old.flow r x.0.at))
+    (file_answered old.files old.flow o r f given.status x.0.at (ap is_unanswered x.1) (base_answered old.files call given r (fits_create call given r fitting)) s.filed))
+
+pub base_does : (old : World) (k : WorkerId) (call : BaseCall) (given : Answer) (result : Result (Unit {0}) Status) (new : World) → BaseReturns old k call given result new → Does old new
+unfolding BaseReturns
+base_does old k call given result new h = by_place (worker_at old.workers k) refl h
+  where
+    by_place : (m : Option Worker) → worker_at old.workers k ≡ m → BaseReturnsAt old k call given result new m → Does old new
+    by_place (Some (Worker.Base o)) at h = unless_by (λ _ w. Does old w) _ _ result old new _ h (λ why. nothing old) (λ fits e. record {
+      sound = λ s. base_sound old k o call given new at fits e.1 s;
+      lasts = λ s. loses_lasts old (base_returned old k o call given) new e.1 (still old.contexts);
+    })
+    by_place _ at h = unchanged old new h.1
+
+-- ---- postoperations and drains
+
+post_quiet : (given : PostVerdict) → is_running (post_leads (post_state given)) ≡ false
+post_quiet given = grind arith
+
+pub post_balance : (w : World) (k : WorkerId) (o : OpId) (i : InstanceId) (given : PostVerdict) (lent : Data) → worker_at w.workers k ≡ Some (Worker.Post o i) → IsUnderWay w
+    → (c : CtxId) → carries_after w o (post_returned_of given lent) c ≡ carries w c
+post_balance w k o i given lent at s c =
+    let x = inside_post w k o i at s in
+    omega (arith, carried_changed w.flow o x.0.row (post_returned_of given lent) x.0.at c, post_returned_carries c given lent x.0.row x.1 x.0.sound)
+
+pub drain_balance : (w : World) (k : WorkerId) (o : OpId) (i : InstanceId) → worker_at w.workers k ≡ Some (Worker.Drain o i) → IsUnderWay w
+    → (c : CtxId) → carries_after w o (drain_returned_of i) c ≡ carries w c
+drain_balance w k o i at s c =
+    let x = (inside_drain w k o i at s).0 in
+    omega (arith, carried_changed w.flow o x.row (drain_returned_of i) x.at c, drain_returned_carries c i x.row)
+
+-- a callback of an operation that has its answer returns: streams and handles stay, and what has a link has it still
+returned_sound : (old : World) (k : WorkerId) (a : Worker) (o : OpId) (r : FlowRecord) (f : FlowRecord → FlowRecord) (after : ContextTable) → operation_at o old.flow ≡ Some r
+    → worker_at old.workers k ≡ Some a → cleanup_in (Some a) ≡ None → SameFile r (f r) → Leaves (carries_after old o f) old.contexts after k.0
+    → ((c : CtxId) → carries_after old o f c ≡ carries old c) → owed (f r).entries ≡ owed r.entries → ((j : ℕ) → flight j (f r) ≤ flight j r)
+    → IsUnderWay (returned old k o f) → IsSound old → IsSound (record (returned old k o f) { contexts = after })
+returned_sound old k a o r f after at worker outside same leaves balance owes fewer under_way s = record {
+  under_way = under_way;
+  owned = left_owned old o r f k a old.contexts after at worker (worker_below old k a worker s.under_way) outside (lawful_alike (λ c. sym (balance c)) s.owned.lawful)
+      refl refl refl leaves (subst (All (AskCarries old.stack old.contexts.slots)) (sym owes) (asks_of old o r at s.owned)) fewer s.owned;
+  filed = file_step old.files old.flow o r f at same s.filed;
+  links = subst (AllPass (names_there old.files)) (sym leaves.slots) s.links;
+}
+
+pub post_does : (old : World) (k : WorkerId) (given : PostVerdict) (lent : Option Data) (result : Result (Unit {0}) Status) (new : World) → PostReturns old k given lent result new
+    → Does old new × (OnlyHandOf k.0 old new × HoldsNone k.0 result old new)
+unfolding PostReturns
+post_does old k given lent result new h = by_place lent (worker_at old.workers k) refl h
+  where
+    ends : (o : OpId) (f : FlowRecord → FlowRecord) → (result ≡ Ok tt) × ReturnsFrom old k o f old.contexts new
+        → (IsSound old → IsSound (record (returned old k o f) { contexts = new.contexts })) → Ends old k result new
+    ends o f e sound = subst (λ r. Ends old k r new) (sym e.0) (grind (arith, common_steps))
+
+    by_place : (lent : Option Data) (m : Option Worker) → worker_at old.workers k ≡ m → PostReturnsAt old k given lent result new m → Ends old k result new
+    by_place (Some back) (Some (Worker.Post o i)) at h = unless_by (λ r w. Ends old k r w) _ _ result old new _ h (none_ends old k) (λ fits e. ends o (post_returned_of given back) e (λ s.
+        let x = inside_post old k o i at s.under_way in
+        let r = x.0.row in
+        let f = post_returned_of given back in
+        let state = post_state given in
+        returned_sound old k (Worker.Post o i) o r f new.contexts x.0.at at refl (answered_same r (f r) refl refl (ap is_unanswered x.1)
+        (elim given as (λ g. is_unanswered (post_leads (post_state g)) ≡ false) [ PostVerdict.Finished ↦ refl | PostVerdict.MoreProcessing ↦ refl ])) e.1.0
+        (post_balance old k o i given back at s.under_way)
+        (owed_post_settled PostRunning r.entries state refl (subst (λ x. IsCourse x r.entries) x.1 x.0.sound.course))
+        (λ j. omega (arith, post_returned_flies j given back r x.1 x.0.sound))
+        (return_keeps old k (Worker.Post o i) o r f (λ j. 0) at x.0.at (λ x. record { number = refl; collected = refl })
+        (subst (Matches o (Worker.Post o i)) (sym (ap (λ a. spot_at a r.entries) x.1 ∙ ap (option_map AtPost) x.2)) (matches_post o i)) (post_quiet given)
+        (in_no_drain o (Worker.Post o i) (λ p j. refl)) (λ j. omega (arith, drains_post_settled j state r.entries)) (λ j. refl)
+        (sound_post_returned given back r x.1 (sym (told_there (λ (x : FlowRecord). data_fits x.operation x.path back) false o old.flow r x.0.at) ∙ fits) x.0.sound)
+        (among_settles old.stack r.volume r.born r.operation r.entries r.stage (post_leads state) (settle_post state) (settle_post_keeps state)
+        (not_base_of (post_leads state) (post_quiet given)) x.0.among) s.under_way) s))
+    by_place None (Some (Worker.Drain o i)) at e = ends o (drain_returned_of i) e (λ s.
+        let x = inside_drain old k o i at s.under_way in
+        let r = x.0.row in
+        let f = drain_returned_of i in
+        let runs = subst (λ x. flow.HasItsDrain x r.entries) x.1 x.0.sound.course.drain in
+        let even : (j : ℕ) → drain_opens j (f r).entries + one (i.0 == j) ≡ drain_opens j r.entries = λ j.
+        let ends : cond (i.0 == j) (drain_opens i.0 r.entries) 0 ≡ one (i.0 == j) = ap (λ n. cond (i.0 == j) n 0) runs in
+        omega (arith, drains_drain_settled i.0 j r.entries, ends) in
+        returned_sound old k (Worker.Drain o i) o r f new.contexts x.0.at at refl (answered_same r (f r) refl refl (ap is_unanswered x.1) refl) e.1.0
+        (drain_balance old k o i at s.under_way) (owed_drain_settled i.0 r.entries) (λ j. omega (arith, drain_returned_flies j i r x.1 x.0.sound))
+        (return_keeps old k (Worker.Drain o i) o r f (λ j. one (i.0 == j)) at x.0.at (λ x. record { number = refl; collected = refl })
+        (subst (Matches o (Worker.Drain o i)) (sym (ap (λ a. spot_at a r.entries) x.1)) (matches_drain o i)) refl (in_a_drain o i) even (λ j. refl)
+        (sound_drain_returned i r x.1 x.0.sound)
+        (among_settles old.stack r.volume r.born r.operation r.entries r.stage Ascending (settle_drain i.0) (settle_drain_keeps i.0)
+        (not_base_of Ascending refl) x.0.among) s.under_way) s)
+    by_place None (Some (Worker.Post o i)) at h = refused_by (λ r w. Ends old k r w) Status.BadRequest result old new h (none_ends old k)
+    by_place (Some back) (Some (Worker.Drain o i)) at h = refused_by (λ r w. Ends old k r w) Status.BadRequest result old new h (none_ends old k)
+    by_place _ _ at h = refused_by (λ r w. Ends old k r w) Status.WrongStep result old new h (none_ends old k)

@@ -5,6 +5,7 @@ use Rattle.fm_types.specs.declared.status.Status.{Status}
 use Rattle.fm_types.specs.declared.status.Status.TheVariants.{Success}
 use Rattle.fm_data.specs.declared.params.Params.{Params}
 use Rattle.fm_data.specs.declared.answer.Answer.{Answer}
+use Rattle.fm_data.specs.declared.callback_data.Parts.{Parts}
 use Rattle.fm_data.specs.Params.{is_within_limits, fit, may_replace}
 
 -- what a callback received, what was put in its place, and the answer so far
@@ -14,6 +15,11 @@ pub record Data : Type 0 where
   pub status : Status
   pub information : ℕ
   pub out : List ℕ
+
+-- what a callback's data consists of, as its callers see it
+abbrev pub data_of : Parts → Data
+data_of parts =
+    record { received = parts.received; changed = parts.changed; status = parts.answer.status; information = parts.answer.information; out = parts.answer.bytes }
 
 -- the parameters that count: the changed ones, or else those that were received
 abbrev pub current_of : Data → Params

@@ -1,32 +1,32 @@
 //! Callback data: what a filter's callback is given, may read and may change, and hands back.
 
-ghost use Rattle.std.specs.Prelude.{◌≡◌, ℕ, ◌<◌, ◌≤◌, ◌↔◌, Option, Some, None, List, length, IsOk, OnOk, OnErr, IsTrue, IsSome, slice_set};
+ghost use Rattle.std.specs.Prelude.{◌≡◌, ℕ, ◌<◌, ◌≤◌, ◌↔◌, Option, Some, None, List, [], length, IsOk, IfOk, OnOk, OnErr, IsTrue, IsSome, slice_set};
 ghost use Rattle.fm_data.specs.Params.{is_within_limits, fit, may_replace};
 ghost use Rattle.fm_data.specs.Data.{IsData, current_of, fresh_data, answered_data, change_passes, data_fits};
 
 use crate::answer::Answer;
 use crate::params::{MAX_TRANSFER, Params};
 use fm_types::{Bytes, Operation, SharedPath, Status};
-use std::alloc::Global;
+use std::alloc::{AllocError, Global};
 use std::marker::Model;
+use std::mem;
 
 /// What one callback is given (`FLT_CALLBACK_DATA`): the operation's parameters, which a change
-/// leaves as they were received, and the answer so far. No call on it takes memory.
+/// leaves as they were received, and the answer so far. It is lent and given back as one pointer.
+/// Only `new` takes memory.
 #[derive(Drop)]
 pub struct CallbackData {
-    received: Params,
-    changed: Option<Params>,
-    answer: Answer,
+    parts: Box<Parts>,
 }
 
 impl Model for CallbackData {
-    ghost use Rattle.fm_data.specs.Data.{Data, IsData};
+    ghost use Rattle.fm_data.specs.Data.{Data, IsData, data_of};
 
     ghost Value = { Data };
 
-    ghost view = { λ d. record { received = d.received; changed = d.changed; status = d.answer.status; information = d.answer.information; out = d.answer.bytes } };
+    ghost view = { λ d. data_of d.parts.value };
 
-    ghost invariant = { λ d. IsData (record { received = d.received; changed = d.changed; status = d.answer.status; information = d.answer.information; out = d.answer.bytes }) };
+    ghost invariant = { λ d. IsData (data_of d.parts.value) };
 }
 
 /// What callback data consists of, each part a value of its own.
@@ -40,46 +40,66 @@ pub struct Parts {
     pub answer: Answer,
 }
 
-impl CallbackData {
-    /// The data for a preoperation callback: these parameters, and nothing answered yet. The
-    /// parameters have to be within the limits.
-    pub fn new(alloc: Global, params: Params) -> Self
-        requires { IsTrue (is_within_limits params) }
-        ensures { result ≡ fresh_data params }
-    {
-        let answer = Answer {
+// Those parameters, and nothing answered.
+fn fresh(alloc: Global, params: Params) -> Parts
+    ensures received { result.received ≡ params }
+    ensures changed { result.changed ≡ None }
+    ensures answer { result.answer ≡ record { status = Status.Success; information = 0; bytes = [] } }
+{
+    Parts {
+        received: params,
+        changed: None,
+        answer: Answer {
             status: Status::Success,
             information: 0,
             bytes: Bytes::new(alloc),
-        };
-        CallbackData {
-            received: params,
-            changed: None,
-            answer,
-        }
+        },
+    }
+}
+
+impl CallbackData {
+    /// The data for a preoperation callback: these parameters, and nothing answered yet
+    /// (`FltAllocateCallbackData`). The parameters have to be within the limits. The error says that
+    /// memory was refused.
+    pub fn new(alloc: Global, params: Params) -> Result<Self, AllocError>
+        requires { IsTrue (is_within_limits params) }
+        ensures { IfOk result (λ fresh. fresh ≡ fresh_data params) }
+    {
+        let parts = Box::new(alloc, fresh(alloc, params))?;
+        Ok(CallbackData { parts })
     }
 
-    /// The data for a postoperation callback: these parameters and the answer so far, of at most
-    /// 32,768 bytes.
-    pub fn answered(params: Params, answer: Answer) -> Self
+    /// The same with data that was used (`FltReuseCallbackData`); what it held is dropped.
+    pub fn reuse(mut self, alloc: Global, params: Params) -> Self
+        requires { IsTrue (is_within_limits params) }
+        ensures { result ≡ fresh_data params }
+    {
+        *self.parts = fresh(alloc, params);
+        self
+    }
+
+    /// The data for a postoperation callback, with data that was used: these parameters and the answer
+    /// so far, of at most 32,768 bytes.
+    pub fn reuse_answered(mut self, params: Params, answer: Answer) -> Self
         requires limits { IsTrue (is_within_limits params) }
         requires size { length answer.bytes ≤ 32768 }
         ensures { result ≡ answered_data params answer }
     {
-        CallbackData {
+        *self.parts = Parts {
             received: params,
             changed: None,
             answer,
-        }
+        };
+        self
     }
 
     /// The parameters as they are now: the changed ones, or else those received.
     pub fn params(&self) -> &Params
         ensures { result.now ≡ current_of self.now }
     {
-        match &self.changed {
+        match &self.parts.changed {
             Some(params) => params,
-            None => &self.received,
+            None => &self.parts.received,
         }
     }
 
@@ -87,14 +107,14 @@ impl CallbackData {
     pub fn received(&self) -> &Params
         ensures { result.now ≡ self.now.received }
     {
-        &self.received
+        &self.parts.received
     }
 
     /// Whether the parameters were changed (`FltIsCallbackDataDirty`).
     pub fn is_dirty(&self) -> bool
         ensures { IsTrue result ↔ IsSome self.now.changed }
     {
-        self.changed.is_some()
+        self.parts.changed.is_some()
     }
 
     /// Puts other parameters in place of those received, which are kept, and marks the data dirty
@@ -106,10 +126,10 @@ impl CallbackData {
         ensures refused { OnErr result (result ≡ Err Status.BadRequest) }
         ensures err { OnErr result (self.new ≡ self.old) }
     {
-        if !params.may_replace(&self.received) {
+        if !params.may_replace(&self.parts.received) {
             return Err(Status::BadRequest);
         }
-        self.changed = Some(params);
+        self.parts.changed = Some(params);
         Ok(())
     }
 
@@ -117,29 +137,29 @@ impl CallbackData {
     pub fn status(&self) -> Status
         ensures { result ≡ self.now.status }
     {
-        self.answer.status
+        self.parts.answer.status
     }
 
     /// The number of the answer so far (`IoStatus.Information`).
     pub fn information(&self) -> u64
         ensures { result ≡ self.now.information }
     {
-        self.answer.information
+        self.parts.answer.information
     }
 
     /// The bytes of the answer so far.
     pub fn out_bytes(&self) -> &[u8]
         ensures { result.now ≡ self.now.out }
     {
-        self.answer.bytes.as_slice()
+        self.parts.answer.bytes.as_slice()
     }
 
     /// Puts that status and number in the answer; its bytes stay.
     pub fn set_status(&mut self, status: Status, information: u64)
         ensures { self.new ≡ record self.old { status = status; information = information } }
     {
-        self.answer.status = status;
-        self.answer.information = information;
+        self.parts.answer.status = status;
+        self.parts.answer.information = information;
     }
 
     /// Puts those bytes in the answer; its status and number stay. Refused with 32, nothing changed,
@@ -153,7 +173,7 @@ impl CallbackData {
         if bytes.len() as u64 > MAX_TRANSFER {
             return Err(Status::BadRequest);
         }
-        self.answer.bytes = bytes;
+        self.parts.answer.bytes = bytes;
         Ok(())
     }
 
@@ -164,10 +184,10 @@ impl CallbackData {
         ensures refused { OnErr result (result ≡ Err Status.BadRequest) }
         ensures err { OnErr result (self.new ≡ self.old) }
     {
-        if place >= self.answer.bytes.len() {
+        if place >= self.parts.answer.bytes.len() {
             return Err(Status::BadRequest);
         }
-        self.answer.bytes.set(place, byte);
+        self.parts.answer.bytes.set(place, byte);
         Ok(())
     }
 
@@ -176,42 +196,34 @@ impl CallbackData {
     pub fn fits(&self, operation: Operation, path: &Option<SharedPath>) -> bool
         ensures { result ≡ data_fits operation path.now self.now }
     {
-        self.received.fit(operation, path)
+        self.parts.received.fit(operation, path)
             && self.has_fitting_change(operation, path)
-            && self.answer.bytes.len() as u64 <= MAX_TRANSFER
+            && self.parts.answer.bytes.len() as u64 <= MAX_TRANSFER
     }
 
     fn has_fitting_change(&self, operation: Operation, path: &Option<SharedPath>) -> bool
         ensures { result ≡ change_passes (fit operation path.now) self.now.changed }
     {
-        match &self.changed {
+        match &self.parts.changed {
             Some(params) => params.fit(operation, path),
             None => true,
         }
     }
 
-    /// Takes the data apart, as the filter manager does with what a callback returned.
-    pub fn into_parts(self) -> Parts
-        ensures received { result.received ≡ self.received }
-        ensures changed { result.changed ≡ self.changed }
-        ensures answer { result.answer ≡ record { status = self.status; information = self.information; bytes = self.out } }
+    /// Takes out what the data consists of, as the filter manager does with what a callback returned.
+    /// What is left is good for `reuse` alone.
+    pub fn take_parts(&mut self, alloc: Global) -> Parts
+        ensures received { result.received ≡ self.old.received }
+        ensures changed { result.changed ≡ self.old.changed }
+        ensures answer { result.answer ≡ record { status = self.old.status; information = self.old.information; bytes = self.old.out } }
     {
-        let CallbackData {
-            received,
-            changed,
-            answer,
-        } = self;
-        Parts {
-            received,
-            changed,
-            answer,
-        }
+        mem::replace(&mut *self.parts, fresh(alloc, Params::Flush))
     }
 
     /// The laws of all callback data, for callers that rest on them. It does nothing.
     pub fn laws(&self)
         ensures { IsData self.now }
     {
-        let _ = &self.received;
+        let _ = &self.parts;
     }
 }

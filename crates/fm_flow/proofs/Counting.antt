@@ -62,7 +62,7 @@ opens_settled : {V : Type 0} {kind : V → Entry} {from : Stage} {es fs : List E
 opens_settled {kind = kind} i e o is =
     omega (arith, ap (opens i) o.split ∙ opens-append i o.front (kind o.visit ∷ o.back), ap (opens i) is ∙ opens-append i o.front (e ∷ o.back))
 
-owed_asked : (s : Stage) (es : List Entry) (state : PreState) (p : is_pre s ≡ true) (c : IsCourse s es)
+pub owed_asked : (s : Stage) (es : List Entry) (state : PreState) (p : is_pre s ≡ true) (c : IsCourse s es)
     → owed (map (settle_pre state) es) ≡ option_to_list (ask_in (with_state (the_open_pre s es c p).visit state) state) ++ owed es
 owed_asked s es state p c =
     let o = the_open_pre s es c p in owed_settled es (map (settle_pre state) es) (ask_in (with_state o.visit state) state) (settles_pre es state o) (fresh_of_open s es state c p)

@@ -1,11 +1,12 @@
 -- The table of operations: one is found by its number, and the laws of the table are kept where it changes.
-use Rattle.fm_flow.proofs.Words.{ℕ, Bool, true, false, cond, not, List, [], length, get_or, take, find, Option, Some, None, option_map, refl}
-use Rattle.fm_flow.proofs.Words.{ap, sym, subst, arith, same_Some, none-some, count_by, IsFlow, FlowTable, FlowRecord, is_number, operation_at}
-use Rattle.fm_flow.proofs.Words.{changed, change_first, told, total, under_way, Stage, StandsAt, IsSound}
+use Rattle.fm_flow.proofs.Words.{ℕ, Bool, true, false, cond, not, List, [], length, get_or, find, Option, Some, None, option_map, refl}
+use Rattle.fm_flow.proofs.Words.{ap, sym, subst, arith, same_Some, none-some, IsFlow, FlowTable, FlowRecord, is_number, operation_at}
+use Rattle.fm_flow.proofs.Words.{changed, change_first, told, total, under_way, Stage, StandsAt, IsSound, IsTallied, is_creating, one}
 use Rattle.std.proofs.Common.{◌≡◌, ◌+◌, ◌<◌, ◌≤◌, ◌∷◌, ◌∙◌, set, is_some, position, unwrap_or, zero, suc}
 use Rattle.fm_types.specs.declared.ids.OpId.{OpId}
 use Rattle.fm_types.proofs.Firsts.{StandsThere, stands_there, absent, change_none, found_holds, all_change, length_change, count_changed}
 use Rattle.fm_flow.proofs.Soundness.{Stays, stays_so}
+use Rattle.fm_flow.proofs.Tallied.{count_set, count_removed, creates_few}
 
 -- what holds either way
 pub either_way : {A : Type 0} {x y : A} (P : A → Type 0) (b : Bool) → (b ≡ true → P x) → (b ≡ false → P y) → P (cond b x y)
@@ -69,16 +70,20 @@ stands_some {t} stage o same read h = ap (λ (rs : List FlowRecord). is_some (fi
     by_found None h = absurd h
     by_found (Some r) h = refl
 
+-- what is read through a handle stands where the handle does
+pub through : (rs : List FlowRecord) (k : ℕ) {d e : FlowRecord} → d ≡ e → e ≡ get_or rs k e → d ≡ get_or rs k d
+through rs k same at = subst (λ (r : FlowRecord). r ≡ get_or rs k r) (sym same) at
+
 -- the table under its two names, and the operation read at the place of that number
 pub record Found (o : OpId) (t u : FlowTable) (k : ℕ) (d : FlowRecord) : Type 0 where
   pub same : t ≡ u
   pub there : StandsThere (is_number o) t.operations k d
   pub at : d ≡ get_or t.operations k d
 
-pub found : {t u : FlowTable} {xs : List FlowRecord} {place : Option ℕ} {k : ℕ} {d : FlowRecord} (o : OpId) → t ≡ u → place ≡ position (is_number o) xs → xs ≡ t.operations → place ≡ Some k
-    → d ≡ get_or t.operations k d → Found o t u k d
-found {t} {u} {xs} {place} {k} {d} o same is read some at =
-    record { same = same; there = stands_there (is_number o) t.operations k d (ap (position (is_number o)) (sym read) ∙ sym is ∙ some); at = at }
+pub found : {t u : FlowTable} {xs : List FlowRecord} {place : Option ℕ} {k : ℕ} {d e : FlowRecord} (o : OpId) → t ≡ u → place ≡ position (is_number o) xs → xs ≡ t.operations → place ≡ Some k
+    → d ≡ e → e ≡ get_or t.operations k e → Found o t u k d
+found {t} {u} {xs} {place} {k} {d} o same is read some here at =
+    record { same = same; there = stands_there (is_number o) t.operations k d (ap (position (is_number o)) (sym read) ∙ sym is ∙ some); at = through t.operations k here at }
 
 module _ {o : OpId} {t u : FlowTable} {k : ℕ} {d : FlowRecord} (h : Found o t u k d) where
   pub itself : Found o t t k d
@@ -99,24 +104,44 @@ module _ {o : OpId} {t u : FlowTable} {k : ℕ} {d : FlowRecord} (h : Found o t 
   pub said_there : (P : Option FlowRecord → Type 0) → P (operation_at o u) → P (Some d)
   said_there P said = subst P (ap (operation_at o) (sym h.same) ∙ operation_is) said
 
--- the laws of all operations after a step of one
-pub flow_set : {o : OpId} {t u : FlowTable} {k : ℕ} {d s : FlowRecord} (f : FlowRecord → FlowRecord) → Found o t u k d → s ≡ f d → IsFlow t → ((r : FlowRecord) → Stays r (f r))
-    → (IsSound d → IsSound (f d)) → IsFlow (record t { operations = set t.operations k s })
-flow_set {o} {t} {d = d} f h is law same sound =
+-- ---- what a step keeps
+
+-- the laws of all operations, and what is tallied of them
+abbrev pub IsKept : ℕ → ℕ → FlowTable → Type 0
+IsKept flying creating t = IsFlow t × IsTallied flying creating t.operations
+
+-- where no create comes or goes
+pub uncounted : (creating : ℕ) (d s : FlowRecord) → is_creating s ≡ is_creating d → creating + one (is_creating d) ≡ creating + one (is_creating s)
+uncounted creating d s same = ap (λ b. creating + one b) (sym same)
+
+module _ {o : OpId} {t u : FlowTable} {k flying creating : ℕ} {d : FlowRecord} (h : Found o t u k d) (kept : IsKept flying creating t) where
+  -- creates that are under way are counted, and are few
+  pub may_recount : {a : Bool} → a ≡ is_creating d → record { some : a ≡ true → 0 < creating; few : creating ≤ 256 }
+  may_recount was = record {
+    some = λ is. omega (arith, count_removed is_creating t.operations k d h.there.inside h.at, ap one (sym was ∙ is), kept.1.creates);
+    few = omega (arith, kept.1.creates, creates_few t.operations kept.0.sound, kept.0.few);
+  }
+
+  -- a step of one
+  pub kept_set : {s : FlowRecord} {n : ℕ} (f : FlowRecord → FlowRecord) → s ≡ f d → ((r : FlowRecord) → Stays r (f r)) → (IsSound d → IsSound (f d))
+      → n + one (is_creating d) ≡ creating + one (is_creating s) → IsKept flying n (record t { operations = set t.operations k s })
+  kept_set {s} {n} f is same sound counts = (
     subst IsFlow (sym (changed_some (itself h) f is))
-    (flow_changes t o f law (λ r. (same r).number) (λ r. (same r).collected)
-    (λ r one.
-    let e : r ≡ d = same_Some r d (sym one ∙ operation_is h) in
-    subst (λ (q : FlowRecord). IsSound (f q)) (sym e) (sound (subst IsSound e (found_holds IsSound (is_number o) t.operations r law.sound one)))))
+        (flow_changes t o f kept.0 (λ r. (same r).number) (λ r. (same r).collected)
+        (λ r one'.
+        let e : r ≡ d = same_Some r d (sym one' ∙ operation_is h) in
+        subst (λ (q : FlowRecord). IsSound (f q)) (sym e) (sound (subst IsSound e (found_holds IsSound (is_number o) t.operations r kept.0.sound one'))))),
+    record {
+      under_way =
+          let stays = ap (λ (r : FlowRecord). one (not r.collected)) is ∙ ap (λ b. one (not b)) (same d).collected in
+          omega (arith, count_set (λ (r : FlowRecord). not r.collected) t.operations k d s h.there.inside h.at, stays, kept.1.under_way);
+      creates = omega (arith, count_set is_creating t.operations k d s h.there.inside h.at, counts, kept.1.creates);
+    },
+  )
 
--- after one that takes what fits
-pub flow_took : {o : OpId} {t u : FlowTable} {k : ℕ} {d s : FlowRecord} (fits : FlowRecord → Bool) (step : FlowRecord → FlowRecord) → Found o t u k d → s ≡ cond (fits d) (step d) d → IsFlow t
-    → ((r : FlowRecord) → Stays r (step r)) → (fits d ≡ true → IsSound d → IsSound (step d)) → IsFlow (record t { operations = set t.operations k s })
-flow_took {d = d} fits step h is law same sound =
-    flow_set (λ r. cond (fits r) (step r) r) h is law (λ r. either_way (Stays r) (fits r) (λ e. same r) (λ e. stays_so refl refl)) (λ s. either_way IsSound (fits d) (λ e. sound e s) (λ e. s))
-
--- ---- how many pass a test
-
-pub record IsCounted (p : FlowRecord → Bool) (rs : List FlowRecord) (i count : ℕ) : Type 0 where
-  pub counted : count ≡ count_by p (take i rs)
-  pub small : count ≤ i
+  -- one that takes what fits
+  pub kept_took : {s : FlowRecord} {n : ℕ} (fits : FlowRecord → Bool) (step : FlowRecord → FlowRecord) → s ≡ cond (fits d) (step d) d → ((r : FlowRecord) → Stays r (step r))
+      → (fits d ≡ true → IsSound d → IsSound (step d)) → n + one (is_creating d) ≡ creating + one (is_creating s) → IsKept flying n (record t { operations = set t.operations k s })
+  kept_took fits step is same sound counts =
+      kept_set (λ r. cond (fits r) (step r) r) is (λ r. either_way (Stays r) (fits r) (λ e. same r) (λ e. stays_so refl refl))
+      (λ s. either_way IsSound (fits d) (λ e. sound e s) (λ e. s)) counts

@@ -4,9 +4,11 @@ pub mod Walks
 pub mod Course
 pub mod Settled
 pub mod Counting
+pub mod Noted
 pub mod Soundness
 pub mod Next
 pub mod Returns
+pub mod Tallied
 pub mod Flows
 pub mod Requests
 mod Seeing

@@ -1,10 +1,9 @@
 -- Lists of numbers in which each is counted, filters of lists, and what one more entry makes of the postoperations owed.
-use Rattle.fm_flow.proofs.Words.{ℕ, Bool, false, not, List, [], length, map, reverse, filter, find, take, drop, get_or, slice_get}
-use Rattle.fm_flow.proofs.Words.{get_or_default, Option, Some, None, option_to_list, refl, sym, ap, arith, append-nil, nat_tests, Ask, Entry}
+use Rattle.fm_flow.proofs.Words.{ℕ, Bool, false, not, List, [], length, reverse, filter}
+use Rattle.fm_flow.proofs.Words.{Option, Some, None, option_to_list, refl, sym, ap, arith, append-nil, nat_tests, Ask, Entry}
 use Rattle.fm_flow.proofs.Words.{filter_map-append, one, times, instances, ask_of, answers, is_drained, is_answered, asked, owed, without}
-use Rattle.fm_flow.proofs.Words.{answer_count, list_any, filter_agree, drains, cons_option, common_steps}
-use Rattle.std.proofs.Common.{◌≡◌, ◌+◌, ◌<◌, ◌≤◌, ◌==◌, ◌&&◌, ◌∷◌, ◌++◌, ◌∙◌, filter_map, set}
-use Rattle.std.proofs.lemmas.List.Edits.{map_over_more}
+use Rattle.fm_flow.proofs.Words.{answer_count, list_any, filter_agree, drains, common_steps}
+use Rattle.std.proofs.Common.{◌≡◌, ◌+◌, ◌≤◌, ◌==◌, ◌&&◌, ◌∷◌, ◌++◌, ◌∙◌, filter_map}
 use Rattle.std.proofs.lemmas.List.Folds.{list_any-append}
 
 -- ---- numbers and filters
@@ -48,23 +47,6 @@ without_head ask asks few = grind (arith, nat_tests, without_none ask.instance.0
 filter_both : {X : Type 0} (p q : X → Bool) (xs : List X) → filter p (filter q xs) ≡ filter (λ x. p x && q x) xs
 filter_both p q [] = refl
 filter_both p q (x ∷ xs) = grind (arith, filter_both p q xs)
-
--- the first that passes is the first of those that pass
-pub find_is_first : {X : Type 0} (p : X → Bool) (xs : List X) → find p xs ≡ slice_get (filter p xs) 0
-find_is_first p [] = refl
-find_is_first p (x ∷ xs) = grind (arith, find_is_first p xs)
-
-cons_reverse : {Y : Type 0} (ys : List Y) (o : Option Y) → reverse (cons_option o ys) ≡ reverse ys ++ option_to_list o
-cons_reverse ys o = grind (arith, append-nil (reverse ys), common_steps)
-
-pub filter_map-reverse : {X Y : Type 0} (f : X → Option Y) (xs : List X) → filter_map f (reverse xs) ≡ reverse (filter_map f xs)
-filter_map-reverse f [] = refl
-filter_map-reverse f (x ∷ xs) = grind (arith, filter_map-append, filter_map-reverse f xs, cons_reverse, common_steps)
-
--- a loop that writes f of each element over it
-pub settled_more : {X : Type 0} (f : X → X) (xs ys : List X) (i : ℕ) (d y : X) → i < length xs → length ys ≡ length xs → ys ≡ map f (take i xs) ++ drop i xs → y ≡ f (get_or ys i d)
-    → set ys i y ≡ map f (take (i + 1) xs) ++ drop (i + 1) xs
-settled_more f xs ys i d y below len before is = grind (arith, map_over_more f xs ys i (get_or ys i d) below before, get_or_default ys i d (get_or ys i d))
 
 -- ---- one more entry, list by list
 

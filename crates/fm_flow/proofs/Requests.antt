@@ -4,8 +4,9 @@ use Rattle.fm_flow.proofs.Words.{arith, nat_tests, find, list_any, same_Some, Ok
 use Rattle.fm_flow.proofs.Words.{is_running_drain, marked, All, AllPairs, false≢true, eq-eqb, and_parts, and_from, All-push}
 use Rattle.fm_flow.proofs.Words.{All-weaker, is_done, FlowTable, IsFlow, without_first, is_number, operation_at, changed, removed, told}
 use Rattle.fm_flow.proofs.Words.{begun, begun_record, under_way, is_full, collected_of, collected_in, collect_reply, is_collectable, count_by-push}
-use Rattle.fm_flow.proofs.Words.{get_or_default, []}
-use Rattle.std.proofs.Common.{◌≡◌, ◌+◌, ◌<◌, ◌∷◌, ◌∙◌, zero, suc, set, remove}
+use Rattle.fm_flow.proofs.Words.{get_or_default, [], IsTallied, is_creating, one}
+use Rattle.fm_flow.proofs.Tallied.{count_set, count_removed, done_uncreating}
+use Rattle.std.proofs.Common.{◌≡◌, ◌+◌, ◌-◌, ◌<◌, ◌≤◌, ◌∷◌, ◌++◌, ◌∙◌, zero, suc, set, remove}
 use Rattle.std.proofs.lemmas.List.Quantifiers.{all_pairs_push}
 use Rattle.fm_types.specs.declared.ids.OpId.{OpId}
 use Rattle.fm_types.specs.declared.ids.VolumeId.{VolumeId}
@@ -45,6 +46,14 @@ flow_begins v stream handle born path p t on within h full =
           (omega arith);
       few = omega (arith, count_by-push (λ (r : FlowRecord). not r.collected) t.operations fresh, room);
     }
+
+-- it is tallied
+pub tally_begun : {flying creating n : ℕ} {a : Bool} (rs : List FlowRecord) (r : FlowRecord) → IsTallied flying creating rs → r.collected ≡ false → n + 0 ≡ creating + one a → a ≡ is_creating r
+    → IsTallied (flying + 1) n (rs ++ r ∷ [])
+tally_begun rs r tally open' is was = record {
+  under_way = omega (arith, count_by-push (λ (s : FlowRecord). not s.collected) rs r, ap (λ b. one (not b)) open', tally.under_way);
+  creates = omega (arith, count_by-push is_creating rs r, is, ap one was, tally.creates);
+}
 
 -- ---- collect
 
@@ -127,3 +136,29 @@ module _ {o : OpId} {t u : FlowTable} {k : ℕ} {d : FlowRecord} (h : Found o t 
       → record t { operations = xs } ≡ collected_of o u
   collect_removed ready at drains is =
       ap (λ (rs : List FlowRecord). record t { operations = rs }) (is ∙ h.there.goes) ∙ sym (collected_as true false ready at drains)
+
+  -- it is tallied until its answer is handed out
+  pub may_fall : {flying creating : ℕ} → is_collectable d ≡ true → IsTallied flying creating t.operations → 1 ≤ flying
+  may_fall ready tally =
+      omega (arith, count_removed (λ (r : FlowRecord). not r.collected) t.operations k d h.there.inside h.at, ap one (and_parts (not d.collected) (is_done d) ready).0, tally.under_way)
+
+  pub tally_marked : {q s : FlowRecord} {flying creating : ℕ} → is_collectable d ≡ true → q ≡ get_or t.operations k q → s ≡ marked q → IsTallied flying creating t.operations
+      → IsTallied (flying - 1) creating (set t.operations k s)
+  tally_marked {s = s} ready read is tally =
+      let same : s ≡ marked d = is ∙ ap marked (same_place read) in record {
+        under_way = omega (
+          arith,
+          count_set (λ (r : FlowRecord). not r.collected) t.operations k d s h.there.inside h.at,
+          ap (λ (r : FlowRecord). one (not r.collected)) same,
+          ap one (and_parts (not d.collected) (is_done d) ready).0,
+          tally.under_way,
+        );
+        creates = omega (arith, count_set is_creating t.operations k d s h.there.inside h.at, ap (λ (r : FlowRecord). one (is_creating r)) same, tally.creates);
+      }
+
+  pub tally_removed : {xs : List FlowRecord} {flying creating : ℕ} → is_collectable d ≡ true → xs ≡ remove t.operations k → IsTallied flying creating t.operations → IsTallied (flying - 1) creating xs
+  tally_removed ready is tally =
+      let parts = and_parts (not d.collected) (is_done d) ready in rw is (record {
+        under_way = omega (arith, count_removed (λ (r : FlowRecord). not r.collected) t.operations k d h.there.inside h.at, ap one parts.0, tally.under_way);
+        creates = omega (arith, count_removed is_creating t.operations k d h.there.inside h.at, ap one (done_uncreating d parts.1), tally.creates);
+      })

@@ -3,15 +3,19 @@ use Rattle.fm_flow.proofs.Words.{ℕ, true, false, cond, not, List, [], length, 
 use Rattle.fm_flow.proofs.Words.{length-append, InstanceId, HandleId, BaseCall, Params, Answer, PostVerdict, Data, data_fits, PreRunning, InBase}
 use Rattle.fm_flow.proofs.Words.{Ascending, PostRunning, InDrain, PreState, PostState, Base, one, times, last_visited, owed, instances}
 use Rattle.fm_flow.proofs.Words.{settle_pre, settle_post, settle_drain, last_posted, FlowRecord, pre_leads, post_leads, pre_returned_of, base_fits}
-use Rattle.fm_flow.proofs.Words.{base_returned_of, post_state, post_returned_of, drain_returned_of, IsSound, HasPath, All, nat_le, unwrap_or}
+use Rattle.fm_flow.proofs.Words.{base_returned_of, post_state, post_returned_of, drain_returned_of, IsSound, HasPath, is_called, All, nat_le, unwrap_or}
 use Rattle.fm_flow.proofs.Words.{All-append, All-nil, All-push, change_passes, current_of, base_counted}
 use Rattle.fm_flow.proofs.Words.{handle_given, returned_answer, kept_of, answer_after, lends, keeps_more, and_parts, CtxId}
-use Rattle.std.proofs.Common.{◌≡◌, ◌+◌, ◌≤◌, ◌==◌, ◌&&◌, ◌++◌}
+use Rattle.std.proofs.Common.{◌≡◌, ◌+◌, ◌≤◌, ◌==◌, ◌&&◌, ◌++◌, ◌∙◌}
 use Rattle.fm_types.specs.declared.operation.Operation.{Operation}
 use Rattle.fm_data.specs.Params.{same_path, fit, call_fits}
 use Rattle.fm_flow.specs.declared.entry.PreState.TheVariants as pre
 use Rattle.fm_flow.specs.declared.entry.PostState.TheVariants as post
+use Rattle.fm_data.specs.declared.verdict.PostVerdict.TheVariants as verdict
 use Rattle.fm_flow.specs.Verdict.{is_counted}
+use Rattle.fm_flow.specs.Creates.{is_create, is_unanswered}
+use Rattle.fm_flow.proofs.Words.{Bool, is_creating, post_after}
+use Rattle.fm_flow.proofs.Flows.{either_way}
 use Rattle.fm_flow.specs.Counts.{carried_among, carried_by, taken_by, flight, leaves_by, leaves_at, post_leaves_by}
 use Rattle.fm_flow.proofs.Owed.{owed_push_none}
 use Rattle.fm_flow.proofs.Course.{course_base}
@@ -61,6 +65,11 @@ pre_returned_carries c state d r st h = carried_pre_settled PreRunning r.entries
 
 pub pre_returned_flies : (j : ℕ) (state : PreState) (d : Data) (r : FlowRecord) → r.stage ≡ PreRunning → IsSound r → flight j r ≡ flight j (pre_returned_of state d r) + leaves_at j (last_visited r.entries) (leaves_by state)
 pre_returned_flies j state d r st h = flight_pre_settled PreRunning r.entries state j refl (at_stage r PreRunning st h).0
+
+-- a verdict that counts leaves the data with no callback
+pub free_down : (state : PreState) → is_counted state ≡ true → true ≡ not (is_called (pre_leads state))
+free_down pre.Running counts = sym counts
+free_down state counts = refl
 
 -- the path for the base's call is at hand until the call
 pub path_down : (state : PreState) (path given : Option (List ℕ)) → given ≡ path → HasPath (pre_leads state) path given
@@ -118,6 +127,10 @@ pub path_up : (state : PostState) (path given : Option (List ℕ)) → HasPath (
 path_up post.Running path given = tt
 path_up state path given = tt
 
+pub free_up : (v : PostVerdict) → true ≡ not (is_called (post_leads (post_state v)))
+free_up verdict.Finished = refl
+free_up verdict.MoreProcessing = refl
+
 -- ---- a drain is over
 
 pub sound_drain_returned : (i : InstanceId) (r : FlowRecord) → r.stage ≡ InDrain i → IsSound r → IsSound (drain_returned_of i r)
@@ -133,3 +146,18 @@ pub drain_returned_flies : (j : ℕ) (i : InstanceId) (r : FlowRecord) → r.sta
 drain_returned_flies j i r st h =
     let e = ap (λ n. cond (i.0 == j) n 0) (at_stage r (InDrain i) st h).0.drain in
     omega (arith, opens_drain_settled i.0 j r.entries, e, ap (λ xs. times j (instances xs)) (owed_drain_settled i.0 r.entries))
+
+-- ---- neither answers a create
+
+and_false : (b : Bool) → (b && false) ≡ false
+and_false b = grind arith
+
+pub post_uncreated : (v : PostVerdict) (d : Data) (r s : FlowRecord) → r.stage ≡ PostRunning → s ≡ post_after v d r → is_creating s ≡ is_creating r
+post_uncreated v d r s st is =
+    let here : is_creating r ≡ false = rw st (and_false (is_create r.operation)) in
+    let up : is_unanswered (post_leads (post_state v)) ≡ false = grind arith in
+    ap is_creating is
+    ∙ either_way (λ x. is_creating x ≡ is_creating r) (data_fits r.operation r.path d) (λ e. ap (λ b. is_create r.operation && b) up ∙ and_false (is_create r.operation) ∙ sym here) (λ e. refl)
+
+pub drain_uncreated : (i : InstanceId) (r s : FlowRecord) → r.stage ≡ InDrain i → s ≡ drain_returned_of i r → is_creating s ≡ is_creating r
+drain_uncreated i r s st is = ap is_creating is ∙ ap (λ stage. is_create r.operation && is_unanswered stage) (sym st)

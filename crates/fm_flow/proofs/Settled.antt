@@ -72,7 +72,7 @@ walk_settled e u o is leads way =
     ap (walk Descending) is ∙ walk-append Descending o.front (e ∷ o.back) ∙ ap (option_and_then (λ v. walk v (e ∷ o.back))) o.way
     ∙ ap (option_and_then (λ v. walk v o.back)) leads ∙ o.quiet.walks u ∙ ap Some (sym way)
 
-walks_to : (s : Stage) (es : List Entry) → IsCourse s es → way_of s ≡ s → walk Descending es ≡ Some s
+pub walks_to : (s : Stage) (es : List Entry) → IsCourse s es → way_of s ≡ s → walk Descending es ≡ Some s
 walks_to s es c way = c.order ∙ ap Some way
 
 -- ---- a preoperation

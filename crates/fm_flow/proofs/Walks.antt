@@ -1,12 +1,11 @@
 -- What the order of entries says: where the callback stands that runs or holds, and what may follow it.
-use Rattle.fm_flow.proofs.Words.{ℕ, Bool, true, false, List, [], map, Option, Some, None, option_map, option_to_list, slice_get, reverse}
-use Rattle.fm_flow.proofs.Words.{take, get_or, length, append-nil, inl, inr, refl, sym, ap, ap₂, arith, common_steps, cases_Bool, InstanceId}
+use Rattle.fm_flow.proofs.Words.{ℕ, Bool, true, false, List, [], map, Option, Some, None, option_to_list, slice_get, reverse}
+use Rattle.fm_flow.proofs.Words.{append-nil, inl, inr, refl, sym, ap, ap₂, arith, common_steps, cases_Bool}
 use Rattle.fm_flow.proofs.Words.{Stage, Descending, PreRunning, PreHeld, Ascending, PostRunning, PostHeld, PreState, PostState, PreVisit}
-use Rattle.fm_flow.proofs.Words.{PostVisit, Entry, Pre, Post, Drain, visit_of, last_visited, visited, asked, posted, is_pre_open, settle_pre}
-use Rattle.fm_flow.proofs.Words.{settle_post, walk, take_more, is_post_open, after}
-use Rattle.std.proofs.Common.{◌≡◌, ◌∷◌, ◌++◌, ◌+◌, ◌<◌, ◌∙◌, ◌||◌, ◌⊎◌, option_and_then}
+use Rattle.fm_flow.proofs.Words.{PostVisit, Entry, Pre, Post, Drain, visited, asked, posted, settle_pre}
+use Rattle.fm_flow.proofs.Words.{settle_post, walk, is_open, after}
+use Rattle.std.proofs.Common.{◌≡◌, ◌∷◌, ◌++◌, ◌∙◌, ◌||◌, ◌⊎◌, option_and_then}
 use Rattle.std.specs.Option.{option_or}
-use Rattle.fm_flow.proofs.Owed.{filter_map-push}
 
 pub walk-append : (s : Stage) (es fs : List Entry) → walk s (es ++ fs) ≡ option_and_then (λ t. walk t fs) (walk s es)
 walk-append s [] fs = refl
@@ -16,7 +15,7 @@ pub walk_push : (s : Stage) (es : List Entry) (e : Entry) (t u : Stage) → walk
 walk_push s es e t u w a = walk-append s es (e ∷ []) ∙ rw (w, a) refl
 
 -- the first entry leads somewhere, and the others on from there
-walk_parts : (s : Stage) (e : Entry) (es : List Entry) (t : Stage) → walk s (e ∷ es) ≡ Some t → (u : Stage) × (after s e ≡ Some u) × (walk u es ≡ Some t)
+pub walk_parts : (s : Stage) (e : Entry) (es : List Entry) (t : Stage) → walk s (e ∷ es) ≡ Some t → (u : Stage) × (after s e ≡ Some u) × (walk u es ≡ Some t)
 walk_parts s e es t w = elim (after s e) as (λ o. option_and_then (λ u. walk u es) o ≡ Some t → (u : Stage) × (o ≡ Some u) × (walk u es ≡ Some t)) [ None ↦ λ v. cc | Some u ↦ λ v. (u, refl, v) ] w
 
 -- ---- kinds of stages
@@ -61,12 +60,6 @@ no_posts s (e ∷ es) t w d =
     elim (posts_up s e es k.0 k.1 (no_posts k.0 es t k.2 d)) [ inl none ↦ none | inr up ↦ let h = up_stays k.0 es t up k.2 in cc ]
 
 -- ---- what a callback's return leaves alone
-
--- a callback runs or holds the operation at the entry
-abbrev pub is_open : Entry → Bool
-is_open (Pre visit) = is_pre_open visit.state
-is_open (Post visit) = is_post_open visit.state
-is_open _ = false
 
 -- a change of open entries alone
 abbrev pub Settling : (Entry → Entry) → Type 0
@@ -185,13 +178,5 @@ open_post es t w p =
 
 -- ---- the instance that was visited last, entry by entry
 
-last_with : (xs : List ℕ) (o : Option ℕ) → slice_get (reverse (xs ++ option_to_list o)) 0 ≡ option_or o (slice_get (reverse xs) 0)
+pub last_with : (xs : List ℕ) (o : Option ℕ) → slice_get (reverse (xs ++ option_to_list o)) 0 ≡ option_or o (slice_get (reverse xs) 0)
 last_with xs o = grind (arith, append-nil xs, common_steps)
-
-pub last_visited_more : (es : List Entry) (i : ℕ) (d : Entry) (found before after' : Option InstanceId) → i < length es → option_map (λ j. j.0) found ≡ visit_of (get_or es i d)
-    → option_map (λ j. j.0) before ≡ last_visited (take i es) → after' ≡ option_or found before → option_map (λ j. j.0) after' ≡ last_visited (take (i + 1) es)
-last_visited_more es i d found before after' below here so_far is =
-    let a = last_with (visited (take i es)) (visit_of (get_or es i d)) in
-    let b = filter_map-push visit_of (take i es) (get_or es i d) in
-    let m : option_map (λ j. j.0) (option_or found before) ≡ option_or (option_map (λ j. j.0) found) (option_map (λ j. j.0) before) = grind arith in
-    rw (is, m, here, so_far, take_more es i d below, b, a) refl

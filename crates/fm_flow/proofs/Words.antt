@@ -5,12 +5,13 @@ pub use Rattle.fm_data.specs.declared.base_call.BaseCall.{BaseCall}
 pub use Rattle.fm_data.specs.declared.params.Params.{Params}
 pub use Rattle.fm_data.specs.declared.verdict.PostVerdict.{PostVerdict}
 pub use Rattle.fm_flow.specs.Answered.{bare_answer, base_counted, handle_given}
-pub use Rattle.fm_flow.specs.Counts.{drain_opens, is_running_drain, opens}
-pub use Rattle.fm_flow.specs.Entries.{answers, ask_in, ask_of, asked, drains, instances, is_answered, is_drained, is_post_open, is_pre_open}
-pub use Rattle.fm_flow.specs.Entries.{last_posted, last_visited, one, owed, post_of, posted, settle_drain, settle_post, settle_pre, times}
+pub use Rattle.fm_flow.specs.Counts.{drain_opens, is_due, is_running_drain, is_running_drain_of, opens}
+pub use Rattle.fm_flow.specs.Entries.{answers, ask_at, ask_in, ask_of, asked, asks, drains, instances, is_answered, is_drained, is_open, is_post_open, is_pre_open}
+pub use Rattle.fm_flow.specs.Entries.{last_posted, last_visited, one, owed, post_of, posted, settle, settle_drain, settle_post, settle_pre, times}
 pub use Rattle.fm_flow.specs.Entries.{undrained, visit_of, visited, without}
+pub use Rattle.fm_flow.specs.Noted.{IsNoted}
 pub use Rattle.fm_flow.specs.Record.{FlowRecord}
-pub use Rattle.fm_flow.specs.Sound.{HasItsDrain, HasPath, IsCourse, IsSound, after, answer_count, keeps_more, lends, slack, walk, way_of}
+pub use Rattle.fm_flow.specs.Sound.{HasItsDrain, HasPath, IsCourse, IsSound, after, answer_count, is_called, keeps_more, lends, slack, walk, way_of}
 pub use Rattle.fm_flow.specs.Steps.{MayLieBelow, Turned, answer_after, ascend, bare_ask, base_after, base_fits, base_reply}
 pub use Rattle.fm_flow.specs.Steps.{base_returned_of, call_base, call_post, call_pre, data_reply, descend, done_at, drain_returned_of}
 pub use Rattle.fm_flow.specs.Steps.{give_post, is_done, kept_of, left_answer, lent_answer, may_take, next_at, next_of, post_after}
@@ -19,6 +20,8 @@ pub use Rattle.fm_flow.specs.Steps.{returned_answer, turn, unwound, unwound_to, 
 pub use Rattle.fm_flow.specs.Table.{FlowTable, IsFlow, MayLieBelowOf, StandsAt, begun, begun_record, change_first, changed, collect_reply}
 pub use Rattle.fm_flow.specs.Table.{collected_in, collected_of, is_collectable, is_full, is_number, marked, operation_at, removed, told}
 pub use Rattle.fm_flow.specs.Table.{total, under_way, without_first}
+pub use Rattle.fm_flow.specs.Creates.{is_creating}
+pub use Rattle.fm_flow.specs.Tallied.{IsAscending, IsTallied}
 pub use Rattle.fm_flow.specs.declared.action.Below.{Below}
 pub use Rattle.fm_flow.specs.declared.action.FlowAction.{FlowAction}
 pub use Rattle.fm_flow.specs.declared.entry.Ask.{Ask}

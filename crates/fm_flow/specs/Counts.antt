@@ -3,6 +3,8 @@ use Rattle.std.specs.Prelude.{ℕ, ◌+◌, ◌==◌, Bool, false, cond, ◌&&�
 use Rattle.fm_types.specs.declared.ids.CtxId.{CtxId}
 use Rattle.fm_types.specs.declared.status.Status.{Status}
 use Rattle.fm_data.specs.declared.verdict.Completion.{Completion}
+use Rattle.fm_flow.specs.declared.entries.Ending.{Ending}
+use Rattle.fm_flow.specs.declared.entries.Ending.TheVariants as ending
 use Rattle.fm_flow.specs.declared.entry.PreState.{PreState}
 use Rattle.fm_flow.specs.declared.entry.PreState.TheVariants as pre
 use Rattle.fm_flow.specs.declared.entry.PostState.{PostState}
@@ -14,7 +16,7 @@ use Rattle.fm_flow.specs.declared.action.Below.{Below}
 use Rattle.fm_flow.specs.declared.action.Below.TheVariants as below
 use Rattle.fm_flow.specs.declared.action.FlowAction.{FlowAction}
 use Rattle.fm_flow.specs.declared.action.FlowAction.TheVariants as action
-use Rattle.fm_flow.specs.Entries.{one, times, owed, instances, is_pre_open, is_post_open}
+use Rattle.fm_flow.specs.Entries.{one, times, owed, instances, is_pre_open, is_post_open, is_open}
 use Rattle.fm_flow.specs.Record.{FlowRecord}
 
 -- whether that is the context
@@ -106,3 +108,13 @@ drain_opens i (e ∷ es) = drain_opens_at i e + drain_opens i es
 abbrev pub is_running_drain : Entry → Bool
 is_running_drain (Drain visit) = visit.is_running
 is_running_drain _ = false
+
+-- whether a drain of that instance does
+abbrev pub is_running_drain_of : ℕ → Entry → Bool
+is_running_drain_of i (Drain visit) = (visit.instance.0 == i) && visit.is_running
+is_running_drain_of i _ = false
+
+-- whether the entry is the one that is over
+abbrev pub is_due : Ending → Entry → Bool
+is_due (ending.Drain instance) = is_running_drain_of instance.0
+is_due _ = is_open

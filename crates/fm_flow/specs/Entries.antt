@@ -1,5 +1,5 @@
 -- What an operation's entries say: whom it visited, who asked for a postoperation, and who is still owed one.
-use Rattle.std.specs.Prelude.{ℕ, ◌+◌, ◌==◌, Bool, true, false, cond, not, ◌&&◌, List, [], ◌∷◌, map, reverse, filter, filter_map, Option, Some, None, slice_get}
+use Rattle.std.specs.Prelude.{ℕ, ◌+◌, ◌==◌, Bool, true, false, cond, not, ◌&&◌, List, [], ◌∷◌, map, reverse, filter, filter_map, Option, Some, None, slice_get, option_and_then}
 use Rattle.std.specs.List.{list_any}
 use Rattle.fm_flow.specs.declared.entries.Ending.{Ending}
 use Rattle.fm_flow.specs.declared.entries.Ending.TheVariants as ending
@@ -31,6 +31,16 @@ ask_in visit _ = None
 abbrev pub ask_of : Entry → Option Ask
 ask_of (Pre visit) = ask_in visit visit.state
 ask_of _ = None
+
+-- what the entry at a place asks for
+abbrev pub ask_at : List Entry → ℕ → Option Ask
+ask_at entries place = option_and_then ask_of (slice_get entries place)
+
+-- whether a verdict asks
+abbrev pub asks : PreState → Bool
+asks (pre.Asked completion) = true
+asks (pre.Synchronized completion) = true
+asks _ = false
 
 -- the instance that an entry visits on the way down, on the way up, drains
 abbrev pub visit_of : Entry → Option ℕ
@@ -113,6 +123,12 @@ abbrev pub is_post_open : PostState → Bool
 is_post_open post.Running = true
 is_post_open post.Held = true
 is_post_open post.Finished = false
+
+-- a callback runs or holds the operation at the entry
+abbrev pub is_open : Entry → Bool
+is_open (Pre visit) = is_pre_open visit.state
+is_open (Post visit) = is_post_open visit.state
+is_open _ = false
 
 -- the entry with its preoperation settled, if it ran or held; its postoperation; its drain
 abbrev pub settle_pre : PreState → Entry → Entry

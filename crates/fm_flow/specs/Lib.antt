@@ -3,9 +3,11 @@ pub mod Record
 pub mod Answered
 pub mod Steps
 pub mod Sound
+pub mod Noted
 pub mod Counts
 pub mod Flights
 pub mod Table
 pub mod Creates
+pub mod Tallied
 pub mod Verdict
 pub mod Seen

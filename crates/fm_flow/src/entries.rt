@@ -1,11 +1,12 @@
-//! The entries of an operation: who asked, who is owed, and callbacks that are settled.
+//! The entries of an operation: who asked, and callbacks that are settled.
 
-ghost use Rattle.std.specs.Prelude.{◌≡◌, ◌==◌, not, map, reverse, filter_map, find, vec_capacity, slice_get, option_map};
+ghost use Rattle.std.specs.Prelude.{◌≡◌, ◌<◌, [], ◌∷◌, ◌++◌, length, drop, true, map, count_by, vec_capacity, slice_get, Some, option_map};
 ghost use Rattle.std.specs.List.{list_any};
-ghost use Rattle.fm_flow.specs.Entries.{ask_of, visit_of, answers, is_answered, owed, last_visited, settle_pre, settle_post, settle_drain, settle};
-ghost use Rattle.fm_flow.specs.Counts.{is_running_drain};
+ghost use Rattle.fm_flow.specs.Entries.{ask_of, asks, ask_at, is_open, settle_pre, settle_post, settle_drain, settle};
+ghost use Rattle.fm_flow.specs.Counts.{is_running_drain, is_running_drain_of, is_due};
 
 use crate::entry::{Ask, DrainVisit, Entry, PostState, PostVisit, PreState, PreVisit};
+use crate::owed_stack::OwedStack;
 use fm_data::Completion;
 use fm_types::InstanceId;
 
@@ -34,46 +35,29 @@ fn ask(entry: Entry) -> Option<Ask>
     }
 }
 
-fn visit(entry: Entry) -> Option<InstanceId>
-    ensures { option_map (λ i. i.0) result ≡ visit_of entry }
+/// The postoperation that the preoperation at that place asked for.
+pub(crate) fn ask_at(entries: &[Entry], place: usize) -> Option<Ask>
+    ensures { result ≡ ask_at entries.now place }
 {
-    match entry {
-        Entry::Pre(visit) => Some(visit.instance),
-        _ => None,
-    }
+    ask(*entries.get(place)?)
 }
 
-fn does_answer(entry: Entry, instance: InstanceId) -> bool
-    ensures { result ≡ answers instance.0 entry }
+/// One more entry, which answers what is owed next.
+pub(crate) fn answer(entries: &mut Vec<Entry>, owed: &mut OwedStack, entry: Entry)
+    requires { length entries.old.items < vec_capacity entries.old }
+    ensures items { entries.new.items ≡ entries.old.items ++ entry ∷ [] }
+    ensures capacity { vec_capacity entries.new ≡ vec_capacity entries.old }
+    ensures owed { owed.new ≡ drop 1 owed.old }
 {
-    match entry {
-        Entry::Post(visit) => visit.instance.0 == instance.0,
-        Entry::Drain(visit) => visit.instance.0 == instance.0,
-        _ => false,
-    }
+    entries.push_reserved(entry);
+    owed.pop();
 }
 
-fn is_answered(entries: &[Entry], instance: InstanceId) -> bool
-    ensures { result ≡ is_answered entries.now instance.0 }
+/// Whether a preoperation with that verdict asks for its postoperation.
+pub(crate) fn asks(state: PreState) -> bool
+    ensures { result ≡ asks state }
 {
-    entries.iter().any(|entry| does_answer(*entry, instance))
-}
-
-fn last_unanswered(entries: &[Entry]) -> Option<Ask>
-    ensures { result ≡ find (λ ask. not (is_answered entries.now ask.instance.0)) (filter_map ask_of (reverse entries.now)) }
-{
-    entries
-        .iter()
-        .rev()
-        .filter_map(|entry| ask(*entry))
-        .find(|ask| !is_answered(entries, ask.instance))
-}
-
-/// The postoperation that is owed next: the last that was asked for and has no answer.
-pub(crate) fn next_owed(entries: &[Entry]) -> Option<Ask>
-    ensures { result ≡ slice_get (owed entries.now) 0 }
-{
-    last_unanswered(entries)
+    matches!(state, PreState::Asked(_) | PreState::Synchronized(_))
 }
 
 fn settled_pre(entry: Entry, state: PreState) -> Entry
@@ -133,36 +117,14 @@ fn settled(entry: Entry, ending: Ending) -> Entry
     }
 }
 
-fn settle_each(entries: &mut [Entry], ending: Ending)
-    ensures { entries.new ≡ map (settle ending) entries.old }
+fn is_open(entry: Entry) -> bool
+    ensures { result ≡ is_open entry }
 {
-    for entry in entries.iter_mut() {
-        *entry = settled(*entry, ending);
+    match entry {
+        Entry::Pre(visit) => matches!(visit.state, PreState::Running | PreState::Held),
+        Entry::Post(visit) => matches!(visit.state, PostState::Running | PostState::Held),
+        _ => false,
     }
-}
-
-/// The preoperation that runs or holds gets its verdict.
-pub(crate) fn settle_pre(entries: &mut Vec<Entry>, state: PreState)
-    ensures items { entries.new.items ≡ map (settle_pre state) entries.old.items }
-    ensures capacity { vec_capacity entries.new ≡ vec_capacity entries.old }
-{
-    settle_each(entries, Ending::Pre(state));
-}
-
-/// The postoperation that runs or holds gets its verdict.
-pub(crate) fn settle_post(entries: &mut Vec<Entry>, state: PostState)
-    ensures items { entries.new.items ≡ map (settle_post state) entries.old.items }
-    ensures capacity { vec_capacity entries.new ≡ vec_capacity entries.old }
-{
-    settle_each(entries, Ending::Post(state));
-}
-
-/// The drains of that instance are over.
-pub(crate) fn settle_drain(entries: &mut Vec<Entry>, instance: InstanceId)
-    ensures items { entries.new.items ≡ map (settle_drain instance.0) entries.old.items }
-    ensures capacity { vec_capacity entries.new ≡ vec_capacity entries.old }
-{
-    settle_each(entries, Ending::Drain(instance));
 }
 
 fn is_running_drain(entry: Entry) -> bool
@@ -174,20 +136,83 @@ fn is_running_drain(entry: Entry) -> bool
     }
 }
 
+fn is_running_drain_of(entry: Entry, instance: InstanceId) -> bool
+    ensures { result ≡ is_running_drain_of instance.0 entry }
+{
+    match entry {
+        Entry::Drain(visit) => visit.instance.0 == instance.0 && visit.is_running,
+        _ => false,
+    }
+}
+
+fn is_due(entry: Entry, ending: Ending) -> bool
+    ensures { result ≡ is_due ending entry }
+{
+    match ending {
+        Ending::Drain(instance) => is_running_drain_of(entry, instance),
+        _ => is_open(entry),
+    }
+}
+
+// Where the one stands that is over: nearly always at the end.
+fn due_place(entries: &[Entry], ending: Ending) -> usize
+    requires { count_by (is_due ending) entries.now ≡ 1 }
+    ensures { option_map (is_due ending) (slice_get entries.now result) ≡ Some true }
+{
+    let mut place = entries.len();
+    while place > 0 {
+        place -= 1;
+        if is_due(entries[place], ending) {
+            return place;
+        }
+    }
+    unreachable!()
+}
+
+// That one is settled, and no other changes.
+fn settle_due(entries: &mut Vec<Entry>, ending: Ending) -> usize
+    requires { count_by (is_due ending) entries.old.items ≡ 1 }
+    ensures place { option_map (is_due ending) (slice_get entries.old.items result) ≡ Some true }
+    ensures items { entries.new.items ≡ map (settle ending) entries.old.items }
+    ensures capacity { vec_capacity entries.new ≡ vec_capacity entries.old }
+{
+    let place = due_place(entries, ending);
+    let entry = entries[place];
+    entries[place] = settled(entry, ending);
+    place
+}
+
+/// The preoperation that runs or holds gets its verdict. Gives its place.
+pub(crate) fn settle_pre(entries: &mut Vec<Entry>, state: PreState) -> usize
+    requires { count_by is_open entries.old.items ≡ 1 }
+    ensures place { option_map is_open (slice_get entries.old.items result) ≡ Some true }
+    ensures items { entries.new.items ≡ map (settle_pre state) entries.old.items }
+    ensures capacity { vec_capacity entries.new ≡ vec_capacity entries.old }
+{
+    settle_due(entries, Ending::Pre(state))
+}
+
+/// The postoperation that runs or holds gets its verdict.
+pub(crate) fn settle_post(entries: &mut Vec<Entry>, state: PostState)
+    requires { count_by is_open entries.old.items ≡ 1 }
+    ensures items { entries.new.items ≡ map (settle_post state) entries.old.items }
+    ensures capacity { vec_capacity entries.new ≡ vec_capacity entries.old }
+{
+    settle_due(entries, Ending::Post(state));
+}
+
+/// The drain of that instance is over.
+pub(crate) fn settle_drain(entries: &mut Vec<Entry>, instance: InstanceId)
+    requires { count_by (is_running_drain_of instance.0) entries.old.items ≡ 1 }
+    ensures items { entries.new.items ≡ map (settle_drain instance.0) entries.old.items }
+    ensures capacity { vec_capacity entries.new ≡ vec_capacity entries.old }
+{
+    settle_due(entries, Ending::Drain(instance));
+}
+
 /// Whether a drain runs.
 pub(crate) fn has_running_drain(entries: &[Entry]) -> bool
     ensures { result ≡ list_any is_running_drain entries.now }
 {
     entries.iter().any(|entry| is_running_drain(*entry))
-}
-
-/// The instance that was visited last on the way down.
-pub(crate) fn last_visited(entries: &[Entry]) -> Option<InstanceId>
-    ensures { option_map (λ i. i.0) result ≡ last_visited entries.now }
-{
-    let mut last = None;
-    for entry in entries {
-        last = visit(*entry).or(last);
-    }
-    last
 }

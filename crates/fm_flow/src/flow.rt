@@ -1,15 +1,17 @@
 //! All operations that were begun and not yet collected.
 
-ghost use Rattle.std.specs.Prelude.{◌≡◌, ◌<◌, ◌^◌, ◌∷◌, [], ℕ, true, length, Option, Some, None, Ok, Err, IsTrue, option_copied, is_some, position, find, count_by, not};
+ghost use Rattle.std.specs.Prelude.{◌≡◌, ◌+◌, ◌<◌, ◌≤◌, ◌^◌, ◌&&◌, ◌∷◌, [], ℕ, true, length, Option, Some, None, Ok, Err, IsTrue, option_copied, is_some, position, find, if◌then◌else◌};
 ghost use Rattle.std.specs.List.{list_any};
 ghost use Rattle.fm_types.specs.Refusals.{AnswersOrMemory, first_of};
 ghost use Rattle.fm_data.specs.Params.{is_within_limits, are_on};
 ghost use Rattle.fm_flow.specs.Verdict.{is_counted};
 ghost use Rattle.fm_flow.specs.Steps.{next_of, data_reply, pre_after, base_reply, base_after, post_after, drain_returned_of};
 ghost use Rattle.fm_flow.specs.Creates.{is_creating, is_on_stream, has_create_on, creates, is_over};
-ghost use Rattle.fm_flow.specs.Table.{IsFlow, MayLieBelowOf, StandsAt, empty_table, is_number, operation_at, changed, told, is_full, is_collectable, under_way, begun, collect_reply, collected_of};
+ghost use Rattle.fm_flow.specs.Tallied.{IsAscending};
+ghost use Rattle.fm_flow.specs.Table.{IsFlow, MayLieBelowOf, StandsAt, empty_table, is_number, operation_at, changed, told, is_full, is_collectable, begun, collect_reply, collected_of};
 
 use crate::action::{Below, FlowAction};
+use crate::boxed_record::BoxedRecord;
 use crate::entry::PreState;
 use crate::operation_record::OperationRecord;
 use crate::stage::Stage;
@@ -25,31 +27,50 @@ const MAX_OPERATIONS: usize = 256;
 #[derive(Drop)]
 pub struct Flow {
     alloc: Global,
-    operations: Vec<OperationRecord>,
+    operations: Vec<BoxedRecord>,
+    // beside the operations: how many weren't collected, and how many are creates that nobody answered
+    under_way: usize,
+    creates: usize,
     next: u64,
 }
 
 impl Model for Flow {
     ghost use Rattle.fm_flow.specs.Table.{FlowTable, IsFlow};
+    ghost use Rattle.fm_flow.specs.Tallied.{IsTallied};
 
     ghost Value = { FlowTable };
 
     ghost view = { λ f. record { operations = f.operations.items; next = f.next } };
 
-    ghost invariant = { λ f. IsFlow (record { operations = f.operations.items; next = f.next }) };
+    ghost invariant = { λ f. IsFlow (record { operations = f.operations.items; next = f.next }) × IsTallied f.under_way f.creates f.operations.items };
 }
 
-fn place_of(operations: &[OperationRecord], number: OpId) -> Option<usize>
+// By halves: the numbers ascend.
+fn search(operations: &[BoxedRecord], number: OpId) -> Option<usize>
+    requires { IsAscending operations.now }
     ensures { result ≡ position (is_number number) operations.now }
 {
     operations
-        .iter()
-        .position(|operation| operation.number().0 == number.0)
+        .binary_search_by_key(&number.0, |operation| operation.as_ref().number().0)
+        .ok()
+}
+
+// Mostly it is the last one.
+fn place_of(operations: &[BoxedRecord], number: OpId) -> Option<usize>
+    requires { IsAscending operations.now }
+    ensures { result ≡ position (is_number number) operations.now }
+{
+    let count = operations.len();
+    if count > 0 && operations[count - 1].as_ref().number().0 == number.0 {
+        return Some(count - 1);
+    }
+    search(operations, number)
 }
 
 // the place of one that is there
-fn standing(operations: &[OperationRecord], number: OpId) -> usize
-    requires { is_some (find (is_number number) operations.now) ≡ true }
+fn standing(operations: &[BoxedRecord], number: OpId) -> usize
+    requires there { is_some (find (is_number number) operations.now) ≡ true }
+    requires ascending { IsAscending operations.now }
     ensures { position (is_number number) operations.now ≡ Some result }
 {
     let Some(place) = place_of(operations, number) else {
@@ -58,36 +79,26 @@ fn standing(operations: &[OperationRecord], number: OpId) -> usize
     place
 }
 
-fn record_of(operations: &[OperationRecord], number: OpId) -> Option<&OperationRecord>
+#[tactic(auto, using(crate::proofs::Tallied::place_inside))]
+fn record_of(operations: &[BoxedRecord], number: OpId) -> Option<&OperationRecord>
+    requires { IsAscending operations.now }
     ensures { option_copied result ≡ find (is_number number) operations.now }
 {
-    operations
-        .iter()
-        .find(|operation| operation.number().0 == number.0)
+    let place = place_of(operations, number)?;
+    Some(operations[place].as_ref())
 }
 
-fn count_under_way(operations: &[OperationRecord]) -> usize
-    ensures { result ≡ under_way operations.now }
+// How many pass a test, where one of them may have come to pass it or to fail it.
+fn recounted(count: usize, did_pass: bool, passes: bool) -> usize
+    requires some { did_pass ≡ true → 0 < count }
+    requires few { count ≤ 256 }
+    ensures { result + (if did_pass then 1 else 0) ≡ count + (if passes then 1 else 0) }
 {
-    let mut count = 0;
-    for operation in operations {
-        if !operation.is_collected() {
-            count += 1;
-        }
+    match (did_pass, passes) {
+        (true, false) => count - 1,
+        (false, true) => count + 1,
+        _ => count,
     }
-    count
-}
-
-fn count_creates(operations: &[OperationRecord]) -> usize
-    ensures { result ≡ count_by is_creating operations.now }
-{
-    let mut count = 0;
-    for operation in operations {
-        if operation.is_creating() {
-            count += 1;
-        }
-    }
-    count
 }
 
 fn is_on_stream(stream: StreamId, other: Option<StreamId>) -> bool
@@ -97,6 +108,20 @@ fn is_on_stream(stream: StreamId, other: Option<StreamId>) -> bool
         Some(other) => other.0 == stream.0,
         None => false,
     }
+}
+
+fn is_create_on(operation: &OperationRecord, stream: StreamId) -> bool
+    ensures { result ≡ (is_creating operation.now && is_on_stream stream operation.now.stream) }
+{
+    operation.is_creating() && is_on_stream(stream, operation.stream())
+}
+
+fn is_created(operations: &[BoxedRecord], stream: StreamId) -> bool
+    ensures { result ≡ list_any (λ r. is_creating r && is_on_stream stream r.stream) operations.now }
+{
+    operations
+        .iter()
+        .any(|operation| is_create_on(operation.as_ref(), stream))
 }
 
 fn is_collectable(operation: &OperationRecord) -> bool
@@ -113,6 +138,8 @@ impl Flow {
         Flow {
             alloc,
             operations: Vec::new(alloc),
+            under_way: 0,
+            creates: 0,
             next: 0,
         }
     }
@@ -144,15 +171,14 @@ impl Flow {
     pub fn creates(&self) -> usize
         ensures { result ≡ creates self.now }
     {
-        count_creates(&self.operations)
+        self.creates
     }
 
     /// Whether a create of that stream is under way.
     pub fn has_create_on(&self, stream: StreamId) -> bool
         ensures { result ≡ has_create_on stream self.now }
     {
-        self.operations.iter().any(|operation| operation.is_creating()
-            && is_on_stream(stream, operation.stream()))
+        self.creates > 0 && is_created(&self.operations, stream)
     }
 
     /// Whether an operation that was begun is done; it is, where its answer was handed out.
@@ -185,8 +211,11 @@ impl Flow {
         let Some(place) = place_of(&self.operations, number) else {
             return Err(Status::WrongStep);
         };
-        let operation = &mut self.operations[place];
-        operation.next(worker, below, is_stopping)
+        let operation = self.operations[place].as_mut();
+        let was_creating = operation.is_creating();
+        let reply = operation.next(worker, below, is_stopping);
+        self.creates = recounted(self.creates, was_creating, operation.is_creating());
+        reply
     }
 
     /// Begins an operation, with all the memory that it will need (`FLT_CALLBACK_DATA` is made for a
@@ -194,6 +223,7 @@ impl Flow {
     /// parameters have to be within the limits. Refused with 29 at 256 operations whose
     /// answer wasn't handed out, and where the numbers run out; with 1 where memory is refused.
     /// A refusal changes nothing.
+    #[tactic(auto, using(crate::proofs::Tallied::creates_few))]
     pub fn begin(
         &mut self,
         volume: VolumeId,
@@ -214,7 +244,11 @@ impl Flow {
         let record = OperationRecord::begin(
             self.alloc, number, volume, stream, handle, born, path, params,
         )?;
+        let is_creating = record.is_creating();
+        let record = BoxedRecord::new(self.alloc, record)?;
         self.operations.push(record)?;
+        self.under_way += 1;
+        self.creates = recounted(self.creates, false, is_creating);
         self.next += 1;
         Ok(number)
     }
@@ -224,7 +258,7 @@ impl Flow {
     pub fn is_full(&self) -> bool
         ensures { result ≡ is_full self.now }
     {
-        count_under_way(&self.operations) >= MAX_OPERATIONS || self.next == u64::MAX
+        self.under_way >= MAX_OPERATIONS || self.next == u64::MAX
     }
 
     /// A preoperation callback of an operation returns, with the verdict that counts (`counted`). The
@@ -243,7 +277,11 @@ impl Flow {
         ensures after { self.new ≡ changed number (pre_after state lent) self.old }
     {
         let place = standing(&self.operations, number);
-        self.operations[place].pre_returned(state, lent)
+        let operation = self.operations[place].as_mut();
+        let was_creating = operation.is_creating();
+        let reply = operation.pre_returned(state, lent);
+        self.creates = recounted(self.creates, was_creating, operation.is_creating());
+        reply
     }
 
     /// The base answers an operation, and gives its call back. `handle` is the number that
@@ -263,7 +301,11 @@ impl Flow {
         ensures after { self.new ≡ changed number (base_after call answer handle) self.old }
     {
         let place = standing(&self.operations, number);
-        self.operations[place].base_returned(call, answer, handle)
+        let operation = self.operations[place].as_mut();
+        let was_creating = operation.is_creating();
+        let reply = operation.base_returned(call, answer, handle);
+        self.creates = recounted(self.creates, was_creating, operation.is_creating());
+        reply
     }
 
     /// A postoperation callback of an operation returns. The operation has to be in such a callback.
@@ -281,7 +323,7 @@ impl Flow {
         ensures after { self.new ≡ changed number (post_after verdict lent) self.old }
     {
         let place = standing(&self.operations, number);
-        self.operations[place].post_returned(verdict, lent)
+        self.operations[place].as_mut().post_returned(verdict, lent)
     }
 
     /// The drain that has an operation is over. All other operations stay. It takes no memory.
@@ -290,7 +332,7 @@ impl Flow {
         ensures { self.new ≡ changed number (drain_returned_of instance) self.old }
     {
         let place = standing(&self.operations, number);
-        self.operations[place].drain_returned(instance);
+        self.operations[place].as_mut().drain_returned(instance);
     }
 
     /// Hands out the answer of a done operation (the request is completed), once. Its record goes, or
@@ -303,13 +345,14 @@ impl Flow {
         let Some(place) = place_of(&self.operations, number) else {
             return Err(Status::WrongStep);
         };
-        if !is_collectable(&self.operations[place]) {
+        if !is_collectable(self.operations[place].as_ref()) {
             return Err(Status::WrongStep);
         }
-        if self.operations[place].has_running_drain() {
-            let operation = &mut self.operations[place];
+        self.under_way -= 1;
+        if self.operations[place].as_ref().has_running_drain() {
+            let operation = self.operations[place].as_mut();
             return Ok(operation.hand_out());
         }
-        Ok(self.operations.remove(place).into_answer())
+        Ok(self.operations.remove(place).into_record().into_answer())
     }
 }

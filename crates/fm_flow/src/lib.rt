@@ -5,12 +5,14 @@
 
 mod action;
 mod answered;
+mod boxed_record;
 mod entries;
 mod entry;
 mod flow;
 pub mod laws;
 mod lent;
 mod operation_record;
+mod owed_stack;
 mod stage;
 mod verdict;
 

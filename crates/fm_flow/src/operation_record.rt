@@ -1,6 +1,6 @@
 //! One operation.
 
-ghost use Rattle.std.specs.Prelude.{◌≡◌, ℕ, ◌<◌, ◌≤◌, true, false, length, IsTrue, IfOk, IfErr, Ok, Err, Some, None, option_map, slice_get, if◌then◌else◌};
+ghost use Rattle.std.specs.Prelude.{◌≡◌, ℕ, ◌<◌, ◌≤◌, true, false, length, IsTrue, IfOk, Ok, Err, Some, None, option_map, slice_get, if◌then◌else◌};
 ghost use Rattle.std.specs.List.{list_any};
 ghost use Rattle.fm_data.specs.Params.{is_within_limits, are_on, fit, call_fits};
 ghost use Rattle.fm_data.specs.Data.{data_fits};
@@ -16,6 +16,7 @@ ghost use Rattle.fm_flow.specs.Table.{begun_record, marked, is_collectable};
 use crate::action::{Below, FlowAction};
 use crate::answered::{bare_answer, base_counted, handle_given};
 use crate::entry::{Ask, DrainVisit, Entry, PostState, PostVisit, PreState, PreVisit};
+use crate::owed_stack::OwedStack;
 use crate::stage::Stage;
 use crate::{entries, lent};
 use fm_data::{
@@ -45,29 +46,35 @@ pub struct OperationRecord {
     handle: Option<HandleId>,
     born: u64,
     path: Option<SharedPath>,
-    // the same path, for the base's call, so that `next` takes no memory
+    // the same path, for the base's call, and the data, while no callback has it: so that `next` takes
+    // no memory
     lent_path: Option<SharedPath>,
+    spare: Option<CallbackData>,
     params: Option<Params>,
     answer: Answer,
     stage: Stage,
     entries: Vec<Entry>,
+    // beside the entries: whose postoperations are owed, and who was visited last
+    owed: OwedStack,
+    last: Option<InstanceId>,
     kept: Vec<Params>,
     is_collected: bool,
 }
 
 impl Model for OperationRecord {
-    ghost use Rattle.std.specs.Prelude.{◌≤◌, vec_capacity};
+    ghost use Rattle.std.specs.Prelude.{◌≡◌, ◌≤◌, is_some, not, vec_capacity};
     ghost use Rattle.fm_flow.specs.Record.{FlowRecord};
 
     ghost Value = { FlowRecord };
 
     ghost use Rattle.fm_flow.specs.Answered.{bare_answer};
     ghost use Rattle.fm_flow.specs.Creates.{is_creating, is_unanswered};
-    ghost use Rattle.fm_flow.specs.Sound.{IsSound, HasPath};
+    ghost use Rattle.fm_flow.specs.Sound.{IsSound, HasPath, is_called};
+    ghost use Rattle.fm_flow.specs.Noted.{IsNoted};
 
     ghost view = { λ o. record { number = o.number; operation = o.operation; volume = o.volume; stream = o.stream; handle = o.handle; born = o.born; path = o.path; params = o.params; answer = o.answer; stage = o.stage; entries = o.entries.items; kept = o.kept.items; collected = o.is_collected } };
 
-    ghost invariant = { λ o. IsSound (record { number = o.number; operation = o.operation; volume = o.volume; stream = o.stream; handle = o.handle; born = o.born; path = o.path; params = o.params; answer = o.answer; stage = o.stage; entries = o.entries.items; kept = o.kept.items; collected = o.is_collected }) × ((65 ≤ vec_capacity o.entries) × ((32 ≤ vec_capacity o.kept) × HasPath o.stage o.path o.lent_path)) };
+    ghost invariant = { λ o. IsSound (record { number = o.number; operation = o.operation; volume = o.volume; stream = o.stream; handle = o.handle; born = o.born; path = o.path; params = o.params; answer = o.answer; stage = o.stage; entries = o.entries.items; kept = o.kept.items; collected = o.is_collected }) × ((65 ≤ vec_capacity o.entries) × ((32 ≤ vec_capacity o.kept) × (HasPath o.stage o.path o.lent_path × ((is_some o.spare ≡ not (is_called o.stage)) × IsNoted o.owed o.last o.entries.items)))) };
 }
 
 impl OperationRecord {
@@ -87,6 +94,7 @@ impl OperationRecord {
         ensures { IfOk result (λ r. r ≡ begun_record number.0 volume stream handle born path params) }
     {
         let lent_path = shared(&path)?;
+        let spare = CallbackData::new(alloc, Params::Flush)?;
         let entries = Vec::with_capacity(alloc, MAX_ENTRIES)?;
         let kept = Vec::with_capacity(alloc, MAX_VISITS)?;
         Ok(OperationRecord {
@@ -99,10 +107,13 @@ impl OperationRecord {
             born,
             path,
             lent_path,
+            spare: Some(spare),
             params: Some(params),
             answer: bare_answer(alloc, Status::Success),
             stage: Stage::Descending,
             entries,
+            owed: OwedStack::new(alloc),
+            last: None,
             kept,
             is_collected: false,
         })
@@ -175,14 +186,14 @@ impl OperationRecord {
     pub fn last_visited(&self) -> Option<InstanceId>
         ensures { option_map (λ i. i.0) result ≡ last_visited self.now.entries }
     {
-        entries::last_visited(&self.entries)
+        self.last
     }
 
     /// The postoperation that it is owed next.
     pub fn next_owed(&self) -> Option<Ask>
         ensures { result ≡ slice_get (owed self.now.entries) 0 }
     {
-        entries::next_owed(&self.entries)
+        entries::ask_at(&self.entries, self.owed.top()?)
     }
 
     /// Whether it is done: nothing is left but to hand out its answer.
@@ -273,6 +284,9 @@ impl OperationRecord {
         let Some(params) = self.params.take() else {
             unreachable!();
         };
+        let Some(data) = self.spare.take() else {
+            unreachable!();
+        };
         let place = self.kept.len() as u8;
         let state = PreState::Running;
         self.entries.push_reserved(Entry::Pre(PreVisit {
@@ -281,8 +295,9 @@ impl OperationRecord {
             state,
             place,
         }));
+        self.last = Some(instance);
         self.stage = Stage::PreRunning;
-        FlowAction::Pre(instance, CallbackData::new(self.alloc, params))
+        FlowAction::Pre(instance, data.reuse(self.alloc, params))
     }
 
     // an instance whose filter has no preoperation callback asks for its postoperation
@@ -297,12 +312,14 @@ impl OperationRecord {
             number: 0,
             context: None,
         });
+        self.owed.note(true, self.entries.len());
         self.entries.push_reserved(Entry::Pre(PreVisit {
             instance,
             worker,
             state,
             place,
         }));
+        self.last = Some(instance);
     }
 
     fn call_base(&mut self) -> FlowAction
@@ -353,10 +370,11 @@ impl OperationRecord {
         requires next { slice_get (owed self.old.entries) 0 ≡ Some ask }
         ensures { self.new ≡ with_drain ask.instance (Stage.InDrain ask.instance) self.old }
     {
-        self.entries.push_reserved(Entry::Drain(DrainVisit {
+        let drain = Entry::Drain(DrainVisit {
             instance: ask.instance,
             is_running: true,
-        }));
+        });
+        entries::answer(&mut self.entries, &mut self.owed, drain);
         self.stage = Stage::InDrain(ask.instance);
     }
 
@@ -390,31 +408,22 @@ impl OperationRecord {
         let Some(params) = self.params.take() else {
             unreachable!();
         };
+        let Some(data) = self.spare.take() else {
+            unreachable!();
+        };
         let answer = lent::lend_answer(self.alloc, self.operation, &mut self.answer);
-        let state = PostState::Running;
-        self.entries.push_reserved(Entry::Post(PostVisit {
+        let post = Entry::Post(PostVisit {
             instance: ask.instance,
             worker,
-            state,
-        }));
+            state: PostState::Running,
+        });
+        entries::answer(&mut self.entries, &mut self.owed, post);
         self.stage = Stage::PostRunning;
         FlowAction::Post(
             ask.instance,
-            CallbackData::answered(params, answer),
+            data.reuse_answered(params, answer),
             ask.completion,
         )
-    }
-
-    // data that is of this operation; else it is handed back
-    fn own(&self, lent: CallbackData) -> Result<CallbackData, CallbackData>
-        ensures own { IfOk result (λ own. (own ≡ lent) × (data_fits self.now.operation self.now.path lent ≡ true)) }
-        ensures back { IfErr result (λ back. (back ≡ lent) × (data_fits self.now.operation self.now.path lent ≡ false)) }
-    {
-        if lent.fits(self.operation, &self.path) {
-            Ok(lent)
-        } else {
-            Err(lent)
-        }
     }
 
     /// A preoperation callback returns its data with the verdict that counts. Data that isn't of this
@@ -429,12 +438,14 @@ impl OperationRecord {
         ensures reply { result ≡ data_reply lent self.old }
         ensures after { self.new ≡ pre_after state lent self.old }
     {
-        let lent = self.own(lent)?;
+        if !lent.fits(self.operation, &self.path) {
+            return Err(lent);
+        }
         self.take_pre(state, lent);
         Ok(())
     }
 
-    fn take_pre(&mut self, state: PreState, lent: CallbackData)
+    fn take_pre(&mut self, state: PreState, mut lent: CallbackData)
         requires stage { self.old.stage ≡ Stage.PreRunning }
         requires counted { is_counted state ≡ true }
         requires fits { data_fits self.old.operation self.old.path lent ≡ true }
@@ -444,10 +455,12 @@ impl OperationRecord {
             received,
             changed,
             answer: _,
-        } = lent.into_parts();
+        } = lent.take_parts(self.alloc);
+        self.spare = Some(lent);
         self.params = Some(lent::keep(&mut self.kept, received, changed));
         lent::complete(self.alloc, state, &mut self.answer);
-        entries::settle_pre(&mut self.entries, state);
+        let place = entries::settle_pre(&mut self.entries, state);
+        self.owed.note(entries::asks(state), place);
         self.stage = pre_leads(state);
     }
 
@@ -502,12 +515,14 @@ impl OperationRecord {
         ensures reply { result ≡ data_reply lent self.old }
         ensures after { self.new ≡ post_after verdict lent self.old }
     {
-        let lent = self.own(lent)?;
+        if !lent.fits(self.operation, &self.path) {
+            return Err(lent);
+        }
         self.take_post(verdict, lent);
         Ok(())
     }
 
-    fn take_post(&mut self, verdict: PostVerdict, lent: CallbackData)
+    fn take_post(&mut self, verdict: PostVerdict, mut lent: CallbackData)
         requires stage { self.old.stage ≡ Stage.PostRunning }
         requires fits { data_fits self.old.operation self.old.path lent ≡ true }
         ensures { self.new ≡ post_returned_of verdict lent self.old }
@@ -516,7 +531,8 @@ impl OperationRecord {
             received,
             changed: _,
             answer,
-        } = lent.into_parts();
+        } = lent.take_parts(self.alloc);
+        self.spare = Some(lent);
         self.params = Some(received);
         lent::take_answer(self.operation, &mut self.answer, answer);
         let state = post_state(verdict);

@@ -117,7 +117,7 @@ fn data(alloc: Global, operation: Operation) -> Result<CallbackData, Status> {
     if !params.is_within_limits() {
         return Err(Status::BadRequest);
     }
-    Ok(CallbackData::new(alloc, params))
+    Ok(CallbackData::new(alloc, params)?)
 }
 
 fn call(alloc: Global, operation: Operation) -> Result<BaseCall, Status> {

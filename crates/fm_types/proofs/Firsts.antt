@@ -149,6 +149,10 @@ absent p rs is =
     let far : length rs ≤ position_or_len p rs = grind (arith, nat_tests, past) in
     none_passes p rs far
 
+-- what is read at the first place that passes is what is found
+pub found_read : {A : Type 0} (p : A → Bool) (rs : List A) (k : ℕ) (x : A) → position p rs ≡ Some k → x ≡ get_or rs k x → Some x ≡ find p rs
+found_read p rs k x is read = ap Some read ∙ sym (stands_there p rs k x is).found
+
 -- ---- how many pass another test
 
 pub count-cons : {A : Type 0} (p : A → Bool) (x : A) (xs : List A) → count_by p (x ∷ xs) ≡ cond (p x) 1 0 + count_by p xs

@@ -3,3 +3,4 @@ mod Writes
 pub mod Lists
 pub mod Firsts
 pub mod Refusals
+pub mod Rising

@@ -1,7 +1,8 @@
-use Rattle.fm_flow.proofs.Words.{sym, Err, WrongStep, collect_reply}
+use Rattle.fm_flow.proofs.Words.{sym, ap, FlowRecord, Err, WrongStep, collect_reply}
 use Rattle.std.proofs.Common.{◌∙◌}
-use Rattle.fm_flow.proofs.Flows.{missing, told_none, found, itself}
+use Rattle.fm_flow.proofs.Flows.{missing, told_none, through, found, itself}
 use Rattle.fm_flow.proofs.Requests.{collected_none, collect_refused, collect_told, collect_marked, collect_removed, flow_collected}
+use Rattle.fm_flow.proofs.Requests.{may_fall, tally_marked, tally_removed}
 use Rattle.fm_flow.proofs.flow.Flow.collect.Goals as goal
 
 pub returns-in_default : goal.returns-in_default
@@ -11,37 +12,52 @@ returns-in_default c =
 
 pub returns-then-not-is_collectable : goal.returns-then-not-is_collectable
 returns-then-not-is_collectable c =
-    let refused = collect_refused (found c.args.number c.self.view_is c.place_of.ensures c.deref.ensures.value c.in-Some.is c.index.ensures) (sym c.is_collectable.ensures ∙ c.if-not-is_collectable.true) in
+    let there = found c.args.number c.self.view_is c.place_of.ensures c.deref.ensures.value c.in-Some.is c.as_ref.ensures c.index.ensures in
+    let refused = collect_refused there (sym c.is_collectable.ensures ∙ c.if-not-is_collectable.true) in
     record { reply = refused.0; after = refused.1 }
+
+pub overflow_sub-self : goal.overflow_sub-self
+overflow_sub-self c =
+    let there = found c.args.number c.self.view_is c.place_of.ensures c.deref.ensures.value c.in-Some.is c.as_ref.ensures c.index.ensures in
+    may_fall (itself there) (sym c.is_collectable.ensures ∙ c.if-not-is_collectable.false) c.self.invariant.1
 
 -- a drain runs
 pub invariant_of-self : goal.invariant_of-self
 invariant_of-self c =
-    let there = itself (found c.args.number c.self.view_is c.place_of.ensures c.deref.ensures.value c.in-Some.is c.index.ensures) in
+    let there = itself (found c.args.number c.self.view_is c.place_of.ensures c.deref.ensures.value c.in-Some.is c.as_ref.ensures c.index.ensures) in
     let ready = sym c.is_collectable.ensures ∙ c.if-not-is_collectable.false in
-    flow_collected c.args.number (collect_marked there ready c.index-2.ensures (sym c.has_running_drain.ensures ∙ c.if-has_running_drain.true) c.index_mut-operation.ensures.value c.hand_out.ensures.after) c.self.invariant
+    let asked = through c.self.inside.operations.items c.in-Some.place c.as_ref-2.ensures c.index-2.ensures in
+    let marks = through c.self.inside.operations.items c.in-Some.place c.as_mut-operation.ensures.value c.index_mut.ensures.value in
+    let runs = sym c.has_running_drain.ensures ∙ c.if-has_running_drain.true in (
+      flow_collected c.args.number (collect_marked there ready asked runs marks c.hand_out.ensures.after) c.self.invariant.0,
+      tally_marked there ready marks c.hand_out.ensures.after c.self.invariant.1,
+    )
 
 pub returns-then-has_running_drain : goal.returns-then-has_running_drain
 returns-then-has_running_drain c =
-    let there = found c.args.number c.self.view_is c.place_of.ensures c.deref.ensures.value c.in-Some.is c.index.ensures in
+    let there = found c.args.number c.self.view_is c.place_of.ensures c.deref.ensures.value c.in-Some.is c.as_ref.ensures c.index.ensures in
     let ready = sym c.is_collectable.ensures ∙ c.if-not-is_collectable.false in
-    record {
-      reply = collect_told there ready c.index_mut-operation.ensures.value c.hand_out.ensures.answer;
-      after = collect_marked there ready c.index-2.ensures (sym c.has_running_drain.ensures ∙ c.if-has_running_drain.true) c.index_mut-operation.ensures.value c.hand_out.ensures.after;
-    }
+    let asked = through c.self.inside.operations.items c.in-Some.place c.as_ref-2.ensures c.index-2.ensures in
+    let marks = through c.self.inside.operations.items c.in-Some.place c.as_mut-operation.ensures.value c.index_mut.ensures.value in
+    let runs = sym c.has_running_drain.ensures ∙ c.if-has_running_drain.true in
+    record { reply = collect_told there ready marks c.hand_out.ensures.answer; after = collect_marked there ready asked runs marks c.hand_out.ensures.after }
 
 -- none runs
 pub invariant_of-self-2 : goal.invariant_of-self-2
 invariant_of-self-2 c =
-    let there = itself (found c.args.number c.self.view_is c.place_of.ensures c.deref.ensures.value c.in-Some.is c.index.ensures) in
+    let there = itself (found c.args.number c.self.view_is c.place_of.ensures c.deref.ensures.value c.in-Some.is c.as_ref.ensures c.index.ensures) in
     let ready = sym c.is_collectable.ensures ∙ c.if-not-is_collectable.false in
-    flow_collected c.args.number (collect_removed there ready c.index-2.ensures (sym c.has_running_drain.ensures ∙ c.if-has_running_drain.false) c.remove.ensures.items) c.self.invariant
+    let asked = through c.self.inside.operations.items c.in-Some.place c.as_ref-2.ensures c.index-2.ensures in
+    let rests = sym c.has_running_drain.ensures ∙ c.if-has_running_drain.false in (
+      flow_collected c.args.number (collect_removed there ready asked rests c.remove.ensures.items) c.self.invariant.0,
+      tally_removed there ready c.remove.ensures.items c.self.invariant.1,
+    )
 
 pub returns : goal.returns
 returns c =
-    let there = found c.args.number c.self.view_is c.place_of.ensures c.deref.ensures.value c.in-Some.is c.index.ensures in
+    let there = found c.args.number c.self.view_is c.place_of.ensures c.deref.ensures.value c.in-Some.is c.as_ref.ensures c.index.ensures in
     let ready = sym c.is_collectable.ensures ∙ c.if-not-is_collectable.false in
-    record {
-      reply = collect_told there ready c.remove.ensures.value c.into_answer.ensures;
-      after = collect_removed there ready c.index-2.ensures (sym c.has_running_drain.ensures ∙ c.if-has_running_drain.false) c.remove.ensures.items;
-    }
+    let asked = through c.self.inside.operations.items c.in-Some.place c.as_ref-2.ensures c.index-2.ensures in
+    let rests = sym c.has_running_drain.ensures ∙ c.if-has_running_drain.false in
+    let answer = c.into_answer.ensures ∙ ap (λ (r : FlowRecord). r.answer) c.into_record.ensures in
+    record { reply = collect_told there ready c.remove.ensures.value answer; after = collect_removed there ready asked rests c.remove.ensures.items }

@@ -1,6 +1,8 @@
-use Rattle.fm_flow.proofs.Words.{length, ap, arith, times, visited, FlowRecord}
+use Rattle.fm_flow.proofs.Words.{length, ap, arith, times, visited, Descending, FlowRecord}
 use Rattle.std.proofs.Common.{◌≡◌, ◌<◌, ◌∙◌, rules}
 use Rattle.fm_flow.proofs.Next.{sound_bare}
+use Rattle.fm_flow.proofs.Noted.{noted_bare, owed_few}
+use Rattle.fm_flow.proofs.Soundness.{at_stage}
 use Rattle.fm_flow.proofs.operation_record.OperationRecord.visit_bare.Goals as goal
 
 pub invariant_of-self : goal.invariant_of-self
@@ -10,4 +12,28 @@ invariant_of-self c =
     let visits = ap (λ (r : FlowRecord). length (visited r.entries)) c.self.view_is in
     let few : length (visited c.self.inside.entries.items) < 32 = omega (arith, visits, c.requires.few) in
     let place : c.len-place.result ≡ length c.self.inside.kept.items = search rules in
-    (rw (c.push_reserved.ensures.items, place, stage) (sound_bare c.args.worker c.args.instance _ stage fresh few c.self.invariant.0), (omega arith, (omega arith, c.self.invariant.1.1.1)))
+    let end : c.len.result ≡ length c.self.inside.entries.items = search rules in
+    let course = (at_stage _ Descending stage c.self.invariant.0).0 in (
+      rw (c.push_reserved.ensures.items, place, stage) (sound_bare c.args.worker c.args.instance _ stage fresh few c.self.invariant.0),
+      (
+        omega arith,
+        (
+          omega arith,
+          (
+            c.self.invariant.1.1.1.0,
+            (
+              c.self.invariant.1.1.1.1.0,
+              rw (c.push_reserved.ensures.items, c.note.ensures, end) (noted_bare _ c.self.invariant.1.1.1.1.1 c.args.worker c.args.instance _ course fresh),
+            ),
+          ),
+        ),
+      ),
+    )
+
+pub note-requires : goal.note-requires
+note-requires c =
+    let stage = ap (λ (r : FlowRecord). r.stage) c.self.view_is ∙ c.requires.stage in
+    let visits = ap (λ (r : FlowRecord). length (visited r.entries)) c.self.view_is in
+    let course = (at_stage _ Descending stage c.self.invariant.0).0 in
+    let end : c.len.result ≡ length c.self.inside.entries.items = search rules in
+    record { room = omega (arith, owed_few Descending _ course c.self.invariant.1.1.1.1.1, visits, c.requires.few); small = omega (arith, end, course.room) }

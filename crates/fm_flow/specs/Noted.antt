@@ -1,0 +1,10 @@
+-- What an operation keeps beside its entries, so that nobody has to walk them.
+use Rattle.std.specs.Prelude.{◌≡◌, ℕ, List, map, Option, Some, option_map}
+use Rattle.fm_types.specs.declared.ids.InstanceId.{InstanceId}
+use Rattle.fm_flow.specs.declared.entry.Entry.{Entry}
+use Rattle.fm_flow.specs.Entries.{ask_at, owed, last_visited}
+
+-- the places of the entries that ask for what is owed, in the order in which it comes, and the instance that was visited last
+pub record IsNoted (places : List ℕ) (latest : Option InstanceId) (entries : List Entry) : Type 0 where
+  pub asks : map (ask_at entries) places ≡ map Some (owed entries)
+  pub last : option_map (λ i. i.0) latest ≡ last_visited entries

@@ -107,3 +107,12 @@ row_follows s change i births keeps grown passed = record {
     | inr made ↦ absurd (passed v born operation made.1.0 early (subst (λ (x : Instance). is_to_visit s v born operation x ≡ true) made.1.2 visited))
   ];
 }
+
+-- nor where nothing changes
+pub follows_itself : (s : StackWorld) → Follows s s
+follows_itself s = record {
+  births = omega arith;
+  longer = omega arith;
+  altitudes = λ i row there. (row, there, refl);
+  visits = λ v born operation i row early there visited. (row, there, visited, refl);
+}

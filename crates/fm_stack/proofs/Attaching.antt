@@ -1,25 +1,12 @@
 -- Attaching an instance keeps what holds of the stack, and changes nothing for operations under way.
-use Rattle.fm_stack.proofs.Words.{leb-false, or_parts, cases_eq, cases_Bool, eq-eqb, ne_eqb, length_push, VolumeId, first_of, none_refuses}
+use Rattle.fm_stack.proofs.Words.{leb-false, or_parts, cases_eq, eq-eqb, ne_eqb, length_push, VolumeId, first_of, none_refuses}
 use Rattle.fm_stack.proofs.Words.{all_at, all_from_slice_get, all_pairs_pushed, count_by-push, slice_get-kept, slice_get-push_cases}
 use Rattle.fm_stack.proofs.Words.{Instance, StackWorld, attach_refusals, attached, has_altitude_on, has_name_on, new_instance, Follows}
 use Rattle.fm_stack.proofs.Words.{clashes, is_detached, is_live_on, is_setup, same_altitude, same_name, is_to_visit, IsPlaced, IsStack}
 use Rattle.std.proofs.Common.{◌≡◌, ℕ, ◌<◌, ◌≤◌, Bool, true, false, not, cond, ◌&&◌, ◌||◌, ◌==◌, nat_le, eqb, List, [], ◌∷◌, ◌++◌, length}
-use Rattle.std.proofs.Common.{slice_get, get_or, Some, None, count_by, refl, sym, ap, subst, ◌∙◌, arith, inl, inr}
-use Rattle.std.specs.List.{list_any}
-use Rattle.std.proofs.lemmas.List.Folds.{list_any_at}
-use Rattle.std.proofs.lemmas.Option.{get_or_from_slice_get, slice_get_within}
+use Rattle.std.proofs.Common.{None, count_by, refl, sym, ap, subst, arith, inl, inr}
+use Rattle.fm_stack.proofs.Places.{none_passes}
 use Rattle.fm_types.specs.declared.ids.FilterId.{FilterId}
-
--- a test that no row passes fails at each row
-none_passes : (p : Instance → Bool) (rows : List Instance) (k : ℕ) (row : Instance) → list_any p rows ≡ false → slice_get rows k ≡ Some row → p row ≡ false
-none_passes p rows k row none there =
-    elim (cases_Bool (p row)) [
-      | inl passes ↦
-          let at : p (get_or rows k row) ≡ true = ap p (get_or_from_slice_get rows k row row there) ∙ passes in
-          let some : list_any p rows ≡ true = list_any_at p rows k row (slice_get_within rows k row there) at in
-          let wrong : true ≡ false = sym some ∙ none in cc
-      | inr fails ↦ fails
-    ]
 
 -- both tests of attach fail at a row of that volume that is live, so that neither name nor altitude is the same
 apart_on_volume : (live name altitude : Bool) → ((true && live) && name) ≡ false → ((true && live) && altitude) ≡ false

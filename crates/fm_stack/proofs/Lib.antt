@@ -5,4 +5,8 @@ pub mod Attaching
 pub mod SettingUp
 pub mod Visits
 pub mod Heights
+mod Places
+mod Orders
+mod Keeping
+mod Kept
 pub mod Finishing

@@ -1,18 +1,18 @@
 -- The end of a setup callback keeps what holds of the stack. An instance that becomes attached is born behind all operations under way.
 use Rattle.fm_stack.proofs.Words.{and_parts, ltb-true, InstanceId, VolumeId, Operation, Instance, Phase, StackWorld, accept_row, accepted}
 use Rattle.fm_stack.proofs.Words.{is_setup_at, refuse_row, refused, Follows, is_detached, is_setup, is_registered, is_to_visit, IsStack}
-use Rattle.std.proofs.Common.{◌≡◌, ◌∙◌, ◌+◌, ◌<◌, ◌≤◌, ◌&&◌, ◌==◌, ℕ, true, false, nat_lt, slice_get, Option, None, Some, refl, ap, arith}
-use Rattle.std.proofs.Common.{inr, subst}
+use Rattle.std.proofs.Common.{◌≡◌, ◌∙◌, ◌+◌, ◌<◌, ◌≤◌, ◌&&◌, ◌==◌, ℕ, true, false, nat_lt, slice_get, Option, None, Some, refl, sym, ap, arith}
+use Rattle.std.proofs.Common.{inr}
 use Rattle.fm_stack.specs.declared.instance.Phase.TheVariants as phase
 use Rattle.fm_stack.proofs.Alike.{IsAlike, one, row_changes, row_follows}
 
+pub setup_is_live : (p : Phase) → is_setup p ≡ true → is_detached p ≡ false
+setup_is_live phase.Setup in_setup = refl
+setup_is_live p in_setup = cc
+
 -- an instance in Setup is there, whatever comes next but its end
 alike : (x y : Instance) → is_setup x.phase ≡ true → is_detached y.phase ≡ false → y ≡ record x { phase = y.phase; birth = y.birth } → IsAlike x y
-alike x y in_setup live same = rw same (record { filter = refl; volume = refl; name = refl; altitude = refl; live = inr (live ∙ setup_is_live x.phase in_setup) })
-  where
-    setup_is_live : (p : Phase) → is_setup p ≡ true → false ≡ is_detached p
-    setup_is_live phase.Setup h = refl
-    setup_is_live p h = cc
+alike x y in_setup live same = rw same (record { filter = refl; volume = refl; name = refl; altitude = refl; live = inr (live ∙ sym (setup_is_live x.phase in_setup)) })
 
 pub accepted_keeps : (s : StackWorld) (i : InstanceId) → IsStack s → (row : Instance) → slice_get s.instances i.0 ≡ Some row
     → is_setup row.phase ≡ true → IsStack (accepted s i)
@@ -47,16 +47,3 @@ refused_follows s i sound row there in_setup = row_follows s refuse_row i.0 s.bi
 pub setup_row : (o : Option Instance) → is_setup_at o ≡ true → (row : Instance) × (o ≡ Some row) × (is_setup row.phase ≡ true)
 setup_row None in_setup = cc
 setup_row (Some row) in_setup = (row, refl, in_setup)
-
--- both, of a stack under its other name
-pub accepts : {kept now : StackWorld} (i : InstanceId) → IsStack kept → kept ≡ now → is_setup_at (slice_get now.instances i.0) ≡ true
-    → IsStack (accepted kept i) × Follows now (accepted kept i)
-accepts {kept} i sound same in_setup =
-    let found = setup_row (slice_get kept.instances i.0) (ap (λ (w : StackWorld). is_setup_at (slice_get w.instances i.0)) same ∙ in_setup) in
-    (accepted_keeps kept i sound found.0 found.1 found.2, subst (λ w. Follows w (accepted kept i)) same (accepted_follows kept i sound found.0 found.1 found.2))
-
-pub refuses : {kept now : StackWorld} (i : InstanceId) → IsStack kept → kept ≡ now → is_setup_at (slice_get now.instances i.0) ≡ true
-    → IsStack (refused kept i) × Follows now (refused kept i)
-refuses {kept} i sound same in_setup =
-    let found = setup_row (slice_get kept.instances i.0) (ap (λ (w : StackWorld). is_setup_at (slice_get w.instances i.0)) same ∙ in_setup) in
-    (refused_keeps kept i sound found.0 found.1 found.2, subst (λ w. Follows w (refused kept i)) same (refused_follows kept i sound found.0 found.1 found.2))

@@ -10,7 +10,7 @@ attached_is_live phase.Detached attached = attached
 attached_is_live p attached = refl
 
 -- what is to be visited is live on the volume
-visited_is_live : (s : StackWorld) (v : VolumeId) (born : ℕ) (operation : Operation) (row : Instance)
+pub visited_is_live : (s : StackWorld) (v : VolumeId) (born : ℕ) (operation : Operation) (row : Instance)
     → is_to_visit s v born operation row ≡ true → is_live_on v row ≡ true
 visited_is_live s v born operation row visited =
     let rest = nat_lt row.birth born && is_registered s.filters row.filter operation in

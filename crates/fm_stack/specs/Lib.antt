@@ -4,4 +4,4 @@ pub mod Next
 pub mod Events
 pub mod Follows
 pub mod Stacks
-pub mod Search
+pub mod Orders

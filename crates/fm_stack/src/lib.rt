@@ -6,6 +6,7 @@
 
 pub mod filter;
 pub mod instance;
+mod order;
 pub mod stack;
 pub mod volume;
 

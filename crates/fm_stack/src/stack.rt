@@ -1,7 +1,7 @@
 //! The table of filters, volumes and instances, and the events that change it.
 
-ghost use Rattle.std.specs.Prelude.{◌≡◌, ◌<◌, ◌+◌, ◌||◌, nat_le, count_by, length, true, slice_get, Some};
-ghost use Rattle.std.specs.List.{list_any};
+ghost use Rattle.std.specs.Prelude.{List, ◌≡◌, ◌<◌, ◌≤◌, ◌+◌, ◌||◌, nat_le, count_by, length, true, slice_get, Some, None};
+ghost use Rattle.std.specs.List.{list_any, insert, remove};
 ghost use Rattle.std.specs.Option.{option_map};
 ghost use Rattle.fm_types.specs.Refusals.{first_of};
 ghost use Rattle.fm_types.specs.Lists.{updated};
@@ -9,16 +9,18 @@ ghost use Rattle.fm_stack.specs.StackWorld.{empty_stack};
 ghost use Rattle.fm_stack.specs.Stacks.{IsStack};
 ghost use Rattle.fm_stack.specs.Follows.{Follows};
 ghost use Rattle.fm_stack.specs.Events.{Registers, Mounts, Attaches, SetsUp, is_named, has_name_on, has_altitude_on, register_refusals, mount_refusals, attach_refusals, setup_refusals, is_wanted, is_setup_at, accepted, refused, accept_row, refuse_row, finish_row, finished, is_emptying_at};
-ghost use Rattle.fm_stack.specs.Instances.{is_live_on, registration_of, same_name};
+ghost use Rattle.fm_stack.specs.Instances.{is_live_on, registration_in, registration_of, same_name};
 ghost use Rattle.fm_types.specs.declared.ids.InstanceId.{InstanceId};
 ghost use Rattle.fm_stack.specs.declared.filter.Filter.{Filter};
 ghost use Rattle.fm_stack.specs.declared.volume.Volume.{Volume};
 ghost use Rattle.fm_stack.specs.declared.instance.Instance.{Instance};
-ghost use Rattle.fm_stack.specs.Next.{is_to_visit, is_below_cursor, is_candidate, is_registered, IsNextInstance};
-ghost use Rattle.fm_stack.specs.Search.{IsBestSoFar};
+ghost use Rattle.fm_stack.specs.declared.order.Seat.{Seat as KeptSeat};
+ghost use Rattle.fm_stack.specs.Next.{IsNextInstance};
+ghost use Rattle.fm_stack.specs.Orders.{IsOrder};
 
 use crate::filter::{Filter, FilterPhase};
 use crate::instance::{Instance, Phase};
+use crate::order::{self, MAX_LIVE, Order, Seat};
 use crate::volume::{Volume, VolumePhase};
 use fm_altitude::Altitude;
 use fm_types::{FilterId, InstanceId, Name, Operation, Registration, Status, VolumeId};
@@ -34,15 +36,15 @@ pub const MAX_VOLUMES: usize = 8;
 /// How many instances may be attached in one run.
 pub const MAX_INSTANCES: usize = 4096;
 
-/// How many instances of a volume may be there that aren't detached.
-pub const MAX_LIVE: usize = 32;
-
 /// All filters, volumes and instances of one run, by the numbers of their ids. Contracts see a
-/// `StackWorld`.
+/// `StackWorld`. Beside it the stack keeps the order of each volume, so that no search meets an
+/// instance that is detached or on another volume.
 #[derive(Drop)]
 pub struct Stack {
+    alloc: Global,
     filters: Vec<Filter>,
     volumes: Vec<Volume>,
+    orders: Vec<Order>,
     instances: Vec<Instance>,
     births: u64,
 }
@@ -52,11 +54,11 @@ impl Model for Stack {
 
     ghost Value = { StackWorld };
 
-    ghost use Rattle.fm_stack.specs.Stacks.{IsStack};
+    ghost use Rattle.fm_stack.specs.Orders.{IsKept};
 
     ghost view = { λ s. record { filters = s.filters.items; volumes = s.volumes.items; instances = s.instances.items; births = s.births } };
 
-    ghost invariant = { λ s. IsStack (record { filters = s.filters.items; volumes = s.volumes.items; instances = s.instances.items; births = s.births }) };
+    ghost invariant = { λ s. IsKept (record { filters = s.filters.items; volumes = s.volumes.items; instances = s.instances.items; births = s.births }) s.orders.items };
 }
 
 // Ends the setup of one row by attaching it.
@@ -83,14 +85,34 @@ fn finish_at(rows: &mut Vec<Instance>, at: usize)
     rows[at].finish();
 }
 
+// One more seat in one order.
+fn insert_at(orders: &mut Vec<Order>, at: usize, place: usize, seat: Seat)
+    requires there { at < length orders.old.items }
+    requires fits { (seats : List KeptSeat) → slice_get orders.old.items at ≡ Some seats → (place ≤ length seats) × (length seats < 32) }
+    ensures { orders.new.items ≡ updated (λ (seats : List KeptSeat). insert seats place seat) orders.old.items at }
+{
+    orders[at].insert(place, seat);
+}
+
+// One seat fewer in one order.
+fn remove_at(orders: &mut Vec<Order>, at: usize, place: usize)
+    requires there { at < length orders.old.items }
+    requires within { (seats : List KeptSeat) → slice_get orders.old.items at ≡ Some seats → place < length seats }
+    ensures { orders.new.items ≡ updated (λ (seats : List KeptSeat). remove seats place) orders.old.items at }
+{
+    orders[at].remove(place);
+}
+
 impl Stack {
     /// A stack of nothing; takes no memory.
     pub fn new(alloc: Global) -> Stack
         ensures { result ≡ empty_stack }
     {
         Stack {
+            alloc,
             filters: Vec::new(alloc),
             volumes: Vec::new(alloc),
+            orders: Vec::new(alloc),
             instances: Vec::new(alloc),
             births: 0,
         }
@@ -157,6 +179,20 @@ impl Stack {
         let row = self.instances.get(instance.0 as usize)?;
         let filter = self.filters.get(row.filter.0 as usize)?;
         Some(filter.registration)
+    }
+
+    fn registration_in(&self, filter: FilterId) -> Option<Registration>
+        ensures { result ≡ registration_in self.now.filters filter }
+    {
+        let row = self.filters.get(filter.0 as usize)?;
+        Some(row.registration)
+    }
+
+    // The instances on a volume that aren't detached, the highest first.
+    fn seats(&self, volume: VolumeId) -> &[Seat]
+        ensures { IsOrder self.now.filters self.now.instances volume result.now }
+    {
+        order::seats_at(&self.orders, volume)
     }
 
     /// How far the life of a volume has come, if there is one of that id.
@@ -248,39 +284,37 @@ impl Stack {
         if let Some(status) = self.mount_refusal(&name) {
             return Err(status);
         }
+        let Ok(order) = Order::new(self.alloc) else {
+            return Err(Status::NoMemory);
+        };
+        let Ok(()) = self.orders.reserve(1) else {
+            return Err(Status::NoMemory);
+        };
         let id = VolumeId(self.volumes.len() as u8);
         let phase = VolumePhase::Mounted;
         let Ok(()) = self.volumes.push(Volume { name, phase }) else {
             return Err(Status::NoMemory);
         };
+        self.orders.push_reserved(order);
         Ok(id)
     }
 
     fn is_full(&self, volume: VolumeId) -> bool
         ensures { result ≡ (nat_le 32 (count_by (is_live_on volume) self.now.instances) || nat_le 4096 (length self.now.instances)) }
     {
-        let live = self
-            .instances
-            .iter()
-            .filter(|row| row.is_live_on(volume))
-            .count();
-        live >= MAX_LIVE || self.instances.len() >= MAX_INSTANCES
+        self.seats(volume).len() >= MAX_LIVE || self.instances.len() >= MAX_INSTANCES
     }
 
     fn has_name_on(&self, volume: VolumeId, name: &Name) -> bool
         ensures { result ≡ list_any (has_name_on volume name.now) self.now.instances }
     {
-        self.instances
-            .iter()
-            .any(|row| row.has_name_on(volume, name))
+        order::has_name_on(&self.instances, self.seats(volume), volume, name)
     }
 
     fn has_altitude_on(&self, volume: VolumeId, altitude: &Altitude) -> bool
         ensures { result ≡ list_any (has_altitude_on volume altitude.now) self.now.instances }
     {
-        self.instances
-            .iter()
-            .any(|row| row.has_altitude_on(volume, altitude))
+        order::has_altitude_on(&self.instances, self.seats(volume), volume, altitude)
     }
 
     fn attach_refusal(
@@ -336,14 +370,24 @@ impl Stack {
         if let Some(status) = self.attach_refusal(filter, volume, &name, &altitude) {
             return Err(status);
         }
-        let id = InstanceId(self.instances.len() as u16);
+        let Some(registration) = self.registration_in(filter) else {
+            unreachable!();
+        };
+        let seats = order::seats_at(&self.orders, volume);
+        let place = order::place_under(&self.instances, seats, &altitude);
+        let instance = InstanceId(self.instances.len() as u16);
         let Ok(()) = self
             .instances
             .push(Instance::new(filter, volume, name, altitude))
         else {
             return Err(Status::NoMemory);
         };
-        Ok(id)
+        let seat = Seat {
+            instance,
+            registration,
+        };
+        insert_at(&mut self.orders, volume.0 as usize, place, seat);
+        Ok(instance)
     }
 
     fn is_wanted(&self, instance: InstanceId) -> bool
@@ -416,92 +460,18 @@ impl Stack {
         ensures event { self.new ≡ finished self.old instance }
         ensures follows { Follows self.old self.new }
     {
+        let volume = self.instances[instance.0 as usize].volume;
+        let seats = order::seats_at(&self.orders, volume);
+        let Some(place) = order::place_of(seats, instance) else {
+            unreachable!();
+        };
         finish_at(&mut self.instances, instance.0 as usize);
+        remove_at(&mut self.orders, volume.0 as usize, place);
     }
 }
 
 // The next instance of an operation.
 impl Stack {
-    fn is_registered(&self, filter: FilterId, operation: Operation) -> bool
-        ensures { result ≡ is_registered self.now.filters filter operation }
-    {
-        let Some(filter) = self.filters.get(filter.0 as usize) else {
-            return false;
-        };
-        filter.registration.pre.has(operation) || filter.registration.post.has(operation)
-    }
-
-    fn is_to_visit(&self, row: &Instance, volume: VolumeId, born: u64, operation: Operation) -> bool
-        ensures { result ≡ is_to_visit self.now volume born operation row.now }
-    {
-        matches!(row.phase, Phase::Attached)
-            && row.volume.0 == volume.0
-            && row.birth < born
-            && self.is_registered(row.filter, operation)
-    }
-
-    fn is_below_cursor(&self, row: &Instance, cursor: Option<InstanceId>) -> bool
-        ensures { result ≡ is_below_cursor self.now (option_map (λ (i : InstanceId). i.0) cursor) row.now }
-    {
-        let Some(last) = cursor else {
-            return true;
-        };
-        let Some(last) = self.instances.get(last.0 as usize) else {
-            return false;
-        };
-        row.is_lower(last)
-    }
-
-    fn is_candidate(
-        &self,
-        row: &Instance,
-        volume: VolumeId,
-        cursor: Option<InstanceId>,
-        born: u64,
-        operation: Operation,
-    ) -> bool
-        ensures { result ≡ is_candidate self.now volume (option_map (λ (i : InstanceId). i.0) cursor) born operation row.now }
-    {
-        self.is_to_visit(row, volume, born, operation) && self.is_below_cursor(row, cursor)
-    }
-
-    fn row(&self, at: usize) -> &Instance
-        requires { at < length self.now.instances }
-        ensures there { slice_get self.now.instances at ≡ Some result.now }
-        ensures small { at < 4096 }
-    {
-        &self.instances[at]
-    }
-
-    // What is best among the rows up to the one at `at`, given what is best among those before it.
-    fn best_with(
-        &self,
-        best: Option<InstanceId>,
-        at: usize,
-        volume: VolumeId,
-        cursor: Option<InstanceId>,
-        born: u64,
-        operation: Operation,
-    ) -> Option<InstanceId>
-        requires there { at < length self.now.instances }
-        requires known { IsBestSoFar (is_candidate self.now volume (option_map (λ (i : InstanceId). i.0) cursor) born operation) self.now.instances at best }
-        ensures { IsBestSoFar (is_candidate self.now volume (option_map (λ (i : InstanceId). i.0) cursor) born operation) self.now.instances (at + 1) result }
-    {
-        let row = self.row(at);
-        if !self.is_candidate(row, volume, cursor, born, operation) {
-            return best;
-        }
-        let Some(id) = best else {
-            return Some(InstanceId(at as u16));
-        };
-        let highest = self.row(id.0 as usize);
-        if highest.is_lower(row) {
-            Some(InstanceId(at as u16))
-        } else {
-            best
-        }
-    }
-
     /// The next instance that an operation visits: of the attached instances on the volume that were
     /// born before it (below `born`), whose filter registered a callback before or after the operation,
     /// and that stand lower than the one visited last (`cursor`; none: all), the highest. None where
@@ -515,10 +485,8 @@ impl Stack {
     ) -> Option<InstanceId>
         ensures { IsNextInstance self.now volume (option_map (λ (i : InstanceId). i.0) cursor) born operation result }
     {
-        let mut best = None;
-        for at in 0..self.instances() {
-            best = self.best_with(best, at, volume, cursor, born, operation);
-        }
-        best
+        let seats = self.seats(volume);
+        let place = order::place_behind(&self.instances, seats, cursor);
+        order::next_visited(&self.instances, &seats[place..], born, operation)
     }
 }

@@ -1,8 +1,12 @@
-use Rattle.std.proofs.Common.{◌≤◌, length, arith}
-use Rattle.fm_stack.proofs.Heights.{best_of_all}
+use Rattle.fm_stack.proofs.Words.{StackWorld}
+use Rattle.std.proofs.Common.{◌≡◌, ap}
+use Rattle.std.proofs.lemmas.List.{take_rest}
+use Rattle.fm_stack.proofs.Orders.{next_is}
 use Rattle.fm_stack.proofs.stack.Stack.next_below.Goals as goal
 
 pub returns : goal.returns
 returns c =
-    let all : length c.args.self.now.instances ≤ c.loop-at.at = omega (arith, c.loop-at-test.false, c.instances-at-end.ensures) in
-    best_of_all _ c.args.self.now.instances c.loop-at.at c.loop-at.best all c.loop-at.invariant
+    let rows : c.self.inside.instances.items ≡ c.args.self.now.instances = ap (λ (w : StackWorld). w.instances) c.self.view_is in
+    rw (c.next_visited.ensures, take_rest c.seats-seats.result.now c.place_behind-place.result, c.deref-2.ensures.value)
+    (rw (c.place_behind-place.ensures.place, c.deref.ensures.value, rows)
+    (next_is c.args.self.now c.args.volume c.args.cursor c.args.born c.args.operation c.seats-seats.result.now c.seats-seats.ensures))

@@ -2,7 +2,8 @@
 use Rattle.fm_ctx.proofs.Words.{ℕ, true, false, cond, List, [], length, get_or, set, slice_get, Option, Some, None, All, refl, subst, arith}
 use Rattle.fm_ctx.proofs.Words.{nat_tests, inl, inr, length-append, cases_Bool, none-some, sum_by-cons, get_or-le-sum_by, CtxId, one, is_id}
 use Rattle.fm_ctx.proofs.Words.{references, holds, without, hand_of, held, places, All-set, sum_by-set, count_by-le-length, cleans}
-use Rattle.std.proofs.Common.{◌≡◌, ◌+◌, ◌<◌, ◌≤◌, ◌∷◌, ◌++◌, drop}
+use Rattle.std.proofs.Common.{◌≡◌, ◌+◌, ◌<◌, ◌≤◌, ◌∷◌, ◌++◌, Bool, count_by, drop, nat_lt, not}
+use Rattle.std.specs.List.{list_any}
 use Rattle.std.proofs.lemmas.List.Elements.{All-weaker}
 use Rattle.std.proofs.lemmas.List.Sums.{sum_by-append, sum_by-le}
 
@@ -39,17 +40,20 @@ unfolding holds without
 references_without c [] has d = grind arith
 references_without c (e ∷ ids) has d = grind (arith, nat_tests, references_cons, is_id-same, references_without c ids)
 
+-- what passes is counted
+counted_if_any : {X : Type 0} (p : X → Bool) (xs : List X) → list_any p xs ≡ nat_lt 0 (count_by p xs)
+counted_if_any p [] = refl
+counted_if_any p (x ∷ xs) = grind (arith, nat_tests, sum_by-cons (λ y. one (p y)) x xs, counted_if_any p xs)
+
 -- what a list holds is counted
 pub counted_if_held : (ids : List CtxId) (c : CtxId) → holds ids c ≡ true → 0 < references ids c
-unfolding holds
-counted_if_held [] c has = grind arith
-counted_if_held (d ∷ ids) c has = grind (arith, nat_tests, references_cons, counted_if_held ids c)
+unfolding holds references
+counted_if_held ids c has = grind (arith, nat_tests, counted_if_any (is_id c) ids)
 
 -- and what isn't is not
 pub none_if_not_held : (ids : List CtxId) (c : CtxId) → holds ids c ≡ false → references ids c ≡ 0
-unfolding holds
-none_if_not_held [] c none = references_none c
-none_if_not_held (d ∷ ids) c none = grind (arith, nat_tests, references_cons, none_if_not_held ids c)
+unfolding holds references
+none_if_not_held ids c none = grind (arith, nat_tests, counted_if_any (is_id c) ids)
 
 -- one reference fewer makes a list shorter
 pub length-without : (c : CtxId) (ids : List CtxId) → holds ids c ≡ true → length (without c ids) + 1 ≡ length ids
@@ -141,3 +145,8 @@ pub first_placed : (due : List CtxId) (cleaning : List (Option CtxId)) (c : CtxI
 unfolding places
 first_placed [] cleaning c first = absurd (none-some c first)
 first_placed (e ∷ due) cleaning c first = grind (arith, nat_tests, references_cons, is_id-refl)
+
+-- what stands in one place is due, or is being cleaned up
+pub due_or_cleaned : (due : List CtxId) (cleaning : List (Option CtxId)) (c : CtxId) → places due cleaning c ≡ 1 → holds due c ≡ not (list_any (cleans c) cleaning)
+unfolding places holds references
+due_or_cleaned due cleaning c once = grind (arith, nat_tests, counted_if_any (is_id c) due, counted_if_any (cleans c) cleaning)

@@ -51,7 +51,7 @@ one_chain : (a b : ℕ) (o : Option Seat) → is_on a o ≡ true → is_on b o �
 one_chain a b o on_a on_b = grind (arith, nat_tests)
 
 -- and a slot that has one is among the slots
-stands_within : (seats : List (Option Seat)) (chain k : ℕ) → stands seats chain k ≡ true → k < length seats
+pub stands_within : (seats : List (Option Seat)) (chain k : ℕ) → stands seats chain k ≡ true → k < length seats
 stands_within seats chain k has = grind (arith, nat_tests, get_or_past seats k None)
 
 -- one slot has another seat, and on other chains than this one nothing changes

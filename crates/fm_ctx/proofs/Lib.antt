@@ -17,6 +17,7 @@ pub mod Changing
 pub mod Sweeping
 pub mod Newborn
 pub mod Opening
+pub mod Accounts
 pub mod Leaving
 pub mod Alike
 pub mod Holders

@@ -1,13 +1,15 @@
 -- Rows stand for slots: which row an id names, and what changes of a row make of the slots.
-use Rattle.fm_ctx.proofs.Words.{ℕ, zero, suc, Bool, true, false, cond, eqb, ltb, List, [], length, map, get_or, slice_get, count_by, Option, Some}
-use Rattle.fm_ctx.proofs.Words.{None, is_some, is_none, option_map, refl, sym, ap, ap₂, subst, arith, inl, inr, unwrap_or, position, position_or_len}
-use Rattle.fm_ctx.proofs.Words.{length-map, sum_by-cons, cases_lt, true≢false, same_Some, slice_get-map, slice_get_within, slice_get_past}
-use Rattle.fm_ctx.proofs.Words.{get_or_from_slice_get, CtxId, updated, updated-same, updated-other, count_by-updated, slice_get-some, Row, one, is_id}
+use Rattle.fm_ctx.proofs.Words.{ℕ, zero, suc, Bool, true, false, cond, ltb, List, [], length, map, get_or, slice_get, count_by, Option, Some}
+use Rattle.fm_ctx.proofs.Words.{None, is_some, is_none, option_map, refl, sym, ap, ap₂, subst, arith, unwrap_or, position, position_or_len}
+use Rattle.fm_ctx.proofs.Words.{length-map, sum_by-cons, true≢false, same_Some, slice_get-map, slice_get_within}
+use Rattle.fm_ctx.proofs.Words.{get_or_from_slice_get, CtxId, updated, updated-same, updated-other, count_by-updated, Row, one, is_id}
 use Rattle.fm_ctx.proofs.Words.{Context, Slot, context_at, carried_of, Object, Owner, links, has_link, id_at, holder, was_given, body_at, context_of}
 use Rattle.fm_ctx.proofs.Words.{slot_of, slots_of, carried_in, row_in, row_at, count_of_row, stored, is_referenced, kept_in, nat_tests}
-use Rattle.fm_ctx.proofs.Words.{unwrap_or-slice_get, ContextsKept, born}
-use Rattle.std.proofs.Common.{◌≡◌, ◌+◌, ◌<◌, ◌&&◌, ◌∷◌, ◌∙◌, not}
-use Rattle.fm_ctx.specs.Counting.{cleaned_count}
+use Rattle.fm_ctx.proofs.Words.{unwrap_or-slice_get, ContextsKept, born, life_of, lives_of}
+use Rattle.std.proofs.Common.{◌≡◌, ◌+◌, ◌<◌, ◌∷◌, ◌∙◌, not, sum_by}
+use Rattle.std.proofs.lemmas.Option.{slice_get_read}
+use Rattle.fm_ctx.specs.Counting.{cleaned_count, is_open, open_of, was_given_by}
+use Rattle.fm_ctx.specs.Generations.{Life, is_living}
 use Rattle.fm_ctx.proofs.Bags.{is_id-same}
 
 -- ---- maps over an update
@@ -24,7 +26,7 @@ updated_nothing (y ∷ xs) zero = refl
 updated_nothing (y ∷ xs) (suc k) = ap (λ ys. y ∷ ys) (updated_nothing xs k)
 
 -- what the map sees of it
-map_updated : {X Y : Type 0} (v : X → Y) (g : X → X) (f : Y → Y) (xs : List X) (k : ℕ) → ((x : X) → slice_get xs k ≡ Some x → v (g x) ≡ f (v x))
+pub map_updated : {X Y : Type 0} (v : X → Y) (g : X → X) (f : Y → Y) (xs : List X) (k : ℕ) → ((x : X) → slice_get xs k ≡ Some x → v (g x) ≡ f (v x))
     → map v (updated g xs k) ≡ updated f (map v xs) k
 map_updated v g f [] k same = refl
 map_updated v g f (x ∷ xs) zero same = ap (λ y. y ∷ map v xs) (same x refl)
@@ -35,12 +37,12 @@ map_updated v g f (x ∷ xs) (suc k) same = ap (λ ys. v x ∷ ys) (map_updated 
 pub record InRow (rows : List Row) (c : CtxId) : Type 0 where
   pub row : Row
   pub there : slice_get rows c.slot ≡ Some row
-  pub first : c.generation ≡ 0
+  pub named : c.generation ≡ row.generation
   pub open_yet : row.is_cleaned ≡ false
 
 pub in_row : (rows : List Row) (c : CtxId) (r : Row) → row_at rows c ≡ Some r → InRow rows c
 unfolding row_at
-in_row rows c r is = record { row = r; there = grind (arith, nat_tests); first = grind (arith, nat_tests); open_yet = grind (arith, nat_tests) }
+in_row rows c r is = record { row = r; there = grind (arith, nat_tests); named = grind (arith, nat_tests); open_yet = grind (arith, nat_tests) }
 
 -- the row stands for the context
 pub context_at-rows : (rows : List Row) (c : CtxId) → context_at (slots_of rows) c ≡ option_map context_of (row_at rows c)
@@ -58,7 +60,7 @@ carried_row rows hands due cleaning leaks c =
 module _ {rows : List Row} {c : CtxId} (i : InRow rows c) where
   pub row_there : row_at rows c ≡ Some i.row
   unfolding row_at
-  row_there = grind (arith, nat_tests)
+  row_there = grind (arith, nat_tests, i.named, i.there, i.open_yet)
 
   pub within_rows : c.slot < length rows
   within_rows = slice_get_within rows c.slot i.row i.there
@@ -87,10 +89,10 @@ module _ {rows : List Row} {c : CtxId} (i : InRow rows c) where
   -- ---- it is changed
 
   -- the stored counts, from what becomes of that row
-  pub stored_changed : (g : Row → Row) (d : CtxId) → stored (updated g rows c.slot) d ≡ cond (is_id d c) (count_of_row (row_in c (g i.row))) (stored rows d)
+  pub stored_changed : (g : Row → Row) (d : CtxId) → (g i.row).generation ≡ i.row.generation → stored (updated g rows c.slot) d ≡ cond (is_id d c) (count_of_row (row_in c (g i.row))) (stored rows d)
   unfolding row_at
-  stored_changed g d =
-      grind (arith, nat_tests, i.first, i.there, updated-same g rows c.slot i.row i.there, updated-other g rows c.slot d.slot, is_id-same d c)
+  stored_changed g d same =
+      grind (arith, nat_tests, i.named, same, i.there, updated-same g rows c.slot i.row i.there, updated-other g rows c.slot d.slot, is_id-same d c)
 
   -- how many have references
   pub referenced_changed : (g : Row → Row)
@@ -121,14 +123,9 @@ pub row_named : {hands : List (List CtxId)} {due : List CtxId} {cleaning : List 
     → kept_in rows hands due cleaning leaks ≡ now → is_some (context_at now.table.slots c) ≡ true → InRow rows c
 row_named rows c same has = row_of_context rows c (subst (λ (k : ContextsKept). is_some (context_at k.table.slots c) ≡ true) (sym same) has)
 
--- an id was given where it is the first of a row that is there
-pub given_rows : (rows : List Row) (c : CtxId) → (eqb c.generation 0 && ltb c.slot (length rows)) ≡ was_given (slots_of rows) c
-given_rows rows c =
-    let there = slice_get-map slot_of rows c.slot in
-    elim (cases_lt c.slot (length rows)) [
-      | inl within ↦ let r = slice_get-some rows c.slot within in grind (arith, nat_tests, there, r.1)
-      | inr past ↦ grind (arith, nat_tests, there, slice_get_past rows c.slot past)
-    ]
+-- an id was given where its row has had that generation
+pub given_rows : (rows : List Row) (c : CtxId) → was_given (slots_of rows) c ≡ was_given_by c (option_map slot_of (slice_get rows c.slot))
+given_rows rows c = ap (was_given_by c) (slice_get-map slot_of rows c.slot)
 
 -- ---- the holder
 
@@ -139,28 +136,32 @@ position_mapped p f (x ∷ xs) = ap (λ n. cond (not (p (f x))) (1 + n) 0) (posi
 pub position-map : {X Y : Type 0} (p : Y → Bool) (f : X → Y) (xs : List X) → position p (map f xs) ≡ position (λ x. p (f x)) xs
 position-map p f xs = ap₂ (λ k n. cond (ltb k n) (Some k) None) (position_mapped p f xs) (length-map xs f)
 
--- the id of a row
-abbrev pub first_id : ℕ → CtxId
-first_id k = record { slot = k; generation = 0 }
-
-pub id_at-rows : (rows : List Row) (k : ℕ) → id_at (slots_of rows) k ≡ first_id k
-id_at-rows rows k = grind (arith, slice_get-map slot_of rows k)
-
 pub holder-rows : (rows : List Row) (owner : Owner) (object : Object)
-    → holder (slots_of rows) owner object ≡ option_map first_id (position (λ (r : Row). links owner object (slot_of r).context) rows)
+    → holder (slots_of rows) owner object ≡ option_map (id_at (slots_of rows)) (position (λ (r : Row). links owner object (slot_of r).context) rows)
 unfolding holder
-holder-rows rows owner object =
-    ap (option_map (id_at (slots_of rows))) (position-map (has_link owner object) slot_of rows)
-    ∙ ap (λ f. option_map f (position (λ (r : Row). links owner object (slot_of r).context) rows)) (λ i k. id_at-rows rows k i)
+holder-rows rows owner object = ap (option_map (id_at (slots_of rows))) (position-map (has_link owner object) slot_of rows)
+
+-- the id that a slot was given last
+pub id_of_row : (rows : List Row) (k : ℕ) (r : Row) → k < length rows → r ≡ get_or rows k r → record { slot = k; generation = r.generation } ≡ id_at (slots_of rows) k
+id_of_row rows k r within is =
+    let there = slice_get-map slot_of rows k ∙ ap (option_map slot_of) (slice_get_read rows (length rows) k r refl within is) in
+    ap (λ (g : ℕ). record { slot = k; generation = g }) (sym (ap (λ (o : Option Slot). unwrap_or (option_map (λ (s : Slot). s.generation) o) 0) there))
 
 -- ---- what readers are told
 
-pub born_rows : (rows : List Row) → born (slots_of rows) ≡ length rows
+pub born_rows : (rows : List Row) → sum_by (λ (l : Life). l.generation + 1) (lives_of rows) ≡ born (slots_of rows)
 born_rows [] = refl
-born_rows (r ∷ rows) = omega (arith, sum_by-cons (λ (s : Slot). s.generation + 1) (slot_of r) (slots_of rows), born_rows rows)
+born_rows (r ∷ rows) =
+    omega (arith, sum_by-cons (λ (s : Slot). s.generation + 1) (slot_of r) (slots_of rows), sum_by-cons (λ (l : Life). l.generation + 1) (life_of r) (lives_of rows), born_rows rows)
 
-pub cleaned_rows : (rows : List Row) → cleaned_count (slots_of rows) ≡ count_by (λ (r : Row). r.is_cleaned) rows
+pub cleaned_rows : (rows : List Row) → cleaned_count (slots_of rows) + count_by is_living (lives_of rows) ≡ born (slots_of rows)
 cleaned_rows [] = refl
 cleaned_rows (r ∷ rows) =
-    let slots = sum_by-cons (λ (s : Slot). s.generation + one (is_none s.context)) (slot_of r) (slots_of rows) in
-    grind (arith, nat_tests, sum_by-cons (λ (q : Row). one q.is_cleaned) r rows, cleaned_rows rows)
+    let cleaned = sum_by-cons (λ (s : Slot). s.generation + one (is_none s.context)) (slot_of r) (slots_of rows) in
+    let all = sum_by-cons (λ (s : Slot). s.generation + 1) (slot_of r) (slots_of rows) in
+    grind (arith, nat_tests, cleaned, all, sum_by-cons (λ (l : Life). one (is_living l)) (life_of r) (lives_of rows), cleaned_rows rows)
+
+pub open_rows : (rows : List Row) (owner : Owner) → count_by (λ (r : Row). is_open owner (slot_of r).context) rows ≡ open_of (slots_of rows) owner
+open_rows [] owner = refl
+open_rows (r ∷ rows) owner =
+    omega (arith, sum_by-cons (λ (s : Slot). one (is_open owner s.context)) (slot_of r) (slots_of rows), sum_by-cons (λ (q : Row). one (is_open owner (slot_of q).context)) r rows, open_rows rows owner)

@@ -1,10 +1,10 @@
 -- The seats of rows, and what changes of a row make of them.
-use Rattle.std.proofs.Common.{◌≡◌, ◌<◌, ◌≤◌, ◌∷◌, ◌++◌, ◌∙◌}
+use Rattle.std.proofs.Common.{◌≡◌, ◌<◌, ◌≤◌, ◌∷◌, ◌∙◌}
 use Rattle.fm_ctx.proofs.Words.{ℕ, zero, suc, List, [], length, set, get_or, position, count_by, Option, Some, None, is_some, option_map, refl, sym}
 use Rattle.fm_ctx.proofs.Words.{ap, arith, length-map, sum_by-cons, slice_get-map, get_or_from_slice_get, CtxId, updated, Object, Owner, Row, Seat}
 use Rattle.fm_ctx.proofs.Words.{one, links, has_link, holder, Slot, context_at, link_count, is_seat, slot_of, slots_of, linked_row, unlinked_row}
-use Rattle.fm_ctx.proofs.Words.{nat_tests, ContextsKept, kept_in, Context, map_push, seat_in, seats_of}
-use Rattle.fm_ctx.proofs.Rows.{InRow, within_rows, row_read, context_in_row, map_changed, map_kept, position-map, first_id, holder-rows}
+use Rattle.fm_ctx.proofs.Words.{id_at, nat_tests, ContextsKept, kept_in, Context, seat_in, seats_of}
+use Rattle.fm_ctx.proofs.Rows.{InRow, within_rows, row_read, context_in_row, map_changed, map_kept, position-map, holder-rows}
 
 -- ---- who is linked, by seats
 
@@ -32,11 +32,11 @@ seat_once owner object rows seated once = omega (arith, ap (count_by (is_seat (s
 -- who has the seat is linked there
 pub holder_seat : {seats : List (Option Seat)} (owner : Owner) (object : Object) (rows : List Row) (o : Option ℕ) → seats ≡ seats_of rows
     → o ≡ position (is_seat (seat_of owner object)) seats
-    → option_map first_id o ≡ holder (slots_of rows) owner object
+    → option_map (id_at (slots_of rows)) o ≡ holder (slots_of rows) owner object
 holder_seat {seats} owner object rows o seated is =
     let test = is_seat (seat_of owner object) in
     let alike : position (λ (r : Row). links owner object (slot_of r).context) rows ≡ position (λ (r : Row). test (seat_in r)) rows = λ i. position (λ (r : Row). seat_links owner object r i) rows in
-    ap (option_map first_id) (is ∙ ap (position test) seated ∙ position-map test seat_in rows ∙ sym alike) ∙ sym (holder-rows rows owner object)
+    ap (option_map (id_at (slots_of rows))) (is ∙ ap (position test) seated ∙ position-map test seat_in rows ∙ sym alike) ∙ sym (holder-rows rows owner object)
 
 -- a context with no link has no seat
 pub unseated : {rows : List Row} {c : CtxId} (i : InRow rows c) → link_count (context_at (slots_of rows) c) ≡ 0 → seat_in i.row ≡ None
@@ -44,7 +44,7 @@ unseated i none = grind (arith, nat_tests, context_in_row i, i.open_yet)
 
 -- ---- one row
 
-set_constant : {X : Type 0} (xs : List X) (k : ℕ) (x : X) → set xs k x ≡ updated (λ y. x) xs k
+pub set_constant : {X : Type 0} (xs : List X) (k : ℕ) (x : X) → set xs k x ≡ updated (λ y. x) xs k
 set_constant [] k x = refl
 set_constant (y ∷ xs) zero x = refl
 set_constant (y ∷ xs) (suc k) x = ap (λ ys. y ∷ ys) (set_constant xs k x)
@@ -73,13 +73,6 @@ module _ {rows : List Row} {seats : List (Option Seat)} {c : CtxId} (i : InRow r
       ap (λ (s : List (Option Seat)). get_or s c.slot None) seated
       ∙ get_or_from_slice_get (seats_of rows) c.slot (seat_in i.row) None (slice_get-map seat_in rows c.slot ∙ ap (option_map seat_in) i.there)
       ∙ unseated i none
-
--- a row that is pushed with no seat
-pub seats_pushed : {rows' : List Row} {seats seats' : List (Option Seat)} (rows : List Row) (r : Row) → seats ≡ seats_of rows
-    → rows' ≡ rows ++ r ∷ [] → seats' ≡ seats ++ None ∷ []
-    → seat_in r ≡ None → seats' ≡ seats_of rows'
-seats_pushed rows r seated is more none =
-    more ∙ ap (λ (s : List (Option Seat)). s ++ None ∷ []) seated ∙ ap (λ (o : Option Seat). seats_of rows ++ o ∷ []) (sym none) ∙ sym (ap seats_of is ∙ map_push seat_in rows r)
 
 pub unlinked_seat : (r : Row) → seat_in (unlinked_row r) ≡ None
 unlinked_seat r = grind (arith, nat_tests)

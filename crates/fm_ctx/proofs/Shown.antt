@@ -3,7 +3,8 @@ use Rattle.std.proofs.Common.{◌≡◌, ◌<◌, ◌∷◌, ◌++◌, ◌∙◌
 use Rattle.fm_ctx.proofs.Words.{ℕ, zero, suc, cond, eqb, List, [], length, get_or, slice_get, Option, Some, option_map, refl, sym, ap, arith}
 use Rattle.fm_ctx.proofs.Words.{length-map, CtxId, updated, get_or_from_slice_get, updated-same, Row, Context, Slot, ContextsKept, change_context}
 use Rattle.fm_ctx.proofs.Words.{due_after, slot_of, slots_of, carried_in, carried_of, kept_in, context_of, row_with, with_body, IsSound, changed_slot}
-use Rattle.fm_ctx.proofs.Words.{nat_tests, Vec, length-updated}
+use Rattle.fm_ctx.proofs.Words.{nat_tests, Vec, length-updated, life_of}
+use Rattle.fm_ctx.specs.Generations.{Life}
 use Rattle.fm_ctx.specs.Cleanup.{due_of, due_reply}
 use Rattle.fm_ctx.proofs.Rows.{InRow, within_rows, context_in_row, map_changed, map_kept}
 use Rattle.fm_ctx.proofs.Sound.{read_count}
@@ -32,13 +33,14 @@ module _ {rows : List Row} {c : CtxId} (i : InRow rows c) where
   pub carried_by : (g : Row → Row) (f : ℕ → ℕ) → (g i.row).carried ≡ f i.row.carried → carried_in (updated g rows c.slot) ≡ updated f (carried_in rows) c.slot
   carried_by g f same = map_changed i (λ (r : Row). r.carried) g f same
 
-  pub slots_changed : (g : Row → Row) (f : Option Context → Option Context) → (slot_of (g i.row)).context ≡ f (Some (context_of i.row))
+  pub slots_changed : (g : Row → Row) (f : Option Context → Option Context) → (g i.row).generation ≡ i.row.generation → (slot_of (g i.row)).context ≡ f (Some (context_of i.row))
       → slots_of (updated g rows c.slot) ≡ change_context f (slots_of rows) c
-  slots_changed g f shows = map_changed i slot_of g (changed_slot f c) (grind (arith, nat_tests, i.first, i.open_yet))
+  slots_changed g f named shows = map_changed i slot_of g (changed_slot f c) (grind (arith, nat_tests, i.named, named, shows, i.open_yet))
 
-  pub slots_by : (g : Row → Row) (h : Context → Context) → (g i.row).is_cleaned ≡ i.row.is_cleaned → context_of (g i.row) ≡ h (context_of i.row)
+  pub slots_by : (g : Row → Row) (h : Context → Context) → life_of (g i.row) ≡ life_of i.row → context_of (g i.row) ≡ h (context_of i.row)
       → slots_of (updated g rows c.slot) ≡ change_context (option_map h) (slots_of rows) c
-  slots_by g h keeps changes = slots_changed g (option_map h) (rw (keeps ∙ i.open_yet) (ap (λ (x : Context). Some x) changes))
+  slots_by g h keeps changes =
+      slots_changed g (option_map h) (ap (λ (l : Life). l.generation) keeps) (rw (ap (λ (l : Life). l.is_cleaned) keeps ∙ i.open_yet) (ap (λ (x : Context). Some x) changes))
 
   -- a body that holds other bytes
   pub slots_with : (body : Vec ℕ) (bytes : List ℕ) → body.items ≡ bytes

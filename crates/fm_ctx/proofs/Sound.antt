@@ -5,7 +5,8 @@ use Rattle.fm_ctx.proofs.Words.{ContextTable, context_at, link_at, count_in, Con
 use Rattle.fm_ctx.proofs.Words.{carried_fewer, IsLawful, grabbed, handed_on, released, with_link, linked, unlinked, unlinked_into, IsFree, emptied}
 use Rattle.fm_ctx.proofs.Words.{cleaned, with_body, rewritten, kept_in, row_in, row_at, count_of_row, stored, is_referenced, IsSound, raised, lowered}
 use Rattle.fm_ctx.proofs.Words.{carried_away, brought_back, linked_row, unlinked_row, cleaned_row, taken_due, taken_of, after_take_due, IsIndexed}
-use Rattle.fm_ctx.proofs.Words.{Seat}
+use Rattle.fm_ctx.proofs.Words.{Seat, life_of, GenerationsKept}
+use Rattle.fm_ctx.specs.Generations.{Life}
 use Rattle.std.proofs.Common.{◌≡◌, ◌+◌, ◌-◌, ◌^◌, ◌<◌, ◌≤◌, ◌∷◌, ◌∙◌, length-drop}
 use Rattle.fm_ctx.proofs.Bags.{is_id-same, held_few, held_push, held_without}
 use Rattle.fm_ctx.proofs.Slots.{there_changed}
@@ -17,8 +18,8 @@ use Rattle.fm_ctx.proofs.Alike.{lawful_alike}
 use Rattle.fm_ctx.proofs.Rows.{InRow, in_row, row_of_context, row_there, row_read, within_rows, stored_changed, referenced_changed}
 
 -- what is kept, by the name that callers have for it
-pub sound_now : {rows : List Row} {kept now : ContextsKept} {capacity : ℕ} {seats : List (Option Seat)}
-    → IsIndexed rows kept capacity seats → kept ≡ now → IsSound rows now capacity
+pub sound_now : {rows : List Row} {kept now : ContextsKept} {capacity : ℕ} {seats : List (Option Seat)} {generations : GenerationsKept}
+    → IsIndexed rows kept capacity seats generations → kept ≡ now → IsSound rows now capacity
 sound_now {rows} {kept} {now} {capacity} indexed same = subst (λ k. IsSound rows k capacity) same indexed.sound
 
 -- ---- what is known of a row
@@ -73,26 +74,26 @@ module _ {rows : List Row} {kept : ContextsKept} {capacity : ℕ} (s : IsSound r
 
   -- ---- a change of one row
 
-  sound_by : (g : Row → Row) {c : CtxId} (i : InRow rows c) (kept' : ContextsKept) → IsLawful (carried_of kept') kept'.table
+  sound_by : (g : Row → Row) {c : CtxId} (i : InRow rows c) (kept' : ContextsKept) → (g i.row).generation ≡ i.row.generation → IsLawful (carried_of kept') kept'.table
       → ((d : CtxId) → cond (is_id d c) (count_of_row (row_in c (g i.row))) (stored rows d) ≡ count_in (carried_of kept') kept'.table d)
       → ((d : CtxId) → carried_of kept' d ≤ 2 ^ 32) → length kept'.table.due + one (is_referenced (g i.row)) ≤ length kept.table.due + one (is_referenced i.row)
       → IsSound (updated g rows c.slot) kept' capacity
-  sound_by g i kept' law counted bounded room = record {
+  sound_by g i kept' named law counted bounded room = record {
     lawful = law;
-    counted = λ d. stored_changed i g d ∙ counted d;
+    counted = λ d. stored_changed i g d named ∙ counted d;
     bounded = bounded;
     room = omega (arith, s.room, room, referenced_changed i g);
   }
 
   -- one that leaves what is carried
-  sound_step : (g : Row → Row) {c : CtxId} (i : InRow rows c) (t' : ContextTable)
+  sound_step : (g : Row → Row) {c : CtxId} (i : InRow rows c) (t' : ContextTable) → (g i.row).generation ≡ i.row.generation
       → ((d : CtxId) → is_some (context_at t'.slots d) ≡ is_some (context_at kept.table.slots d)) → IsLawful (carried_of kept) t'
       → ((d : CtxId) → cond (is_id d c) (count_of_row (row_in c (g i.row))) (stored rows d) ≡ count_in (carried_of kept) t' d)
       → length t'.due + one (is_referenced (g i.row)) ≤ length kept.table.due + one (is_referenced i.row)
       → IsSound (updated g rows c.slot) (record kept { table = t' }) capacity
-  sound_step g i t' there law counted room =
+  sound_step g i t' named there law counted room =
       let same = carried_there kept t' there in
-      sound_by g i (record kept { table = t' }) (lawful_alike same law) (λ d. omega (arith, counted d, same d)) (λ d. omega (arith, s.bounded d, same d)) room
+      sound_by g i (record kept { table = t' }) named (lawful_alike same law) (λ d. omega (arith, counted d, same d)) (λ d. omega (arith, s.bounded d, same d)) room
 
   -- ---- events
 
@@ -102,7 +103,7 @@ module _ {rows : List Row} {kept : ContextsKept} {capacity : ℕ} (s : IsSound r
   sound_grabbed w c worker live room =
       let i = present c live in
       let count = row_count i in
-      sound_step raised i (grabbed kept.table w c) (λ d. refl) (reference_keeps w c s.lawful worker live room)
+      sound_step raised i (grabbed kept.table w c) refl (λ d. refl) (reference_keeps w c s.lawful worker live room)
       (λ d. grind (arith, nat_tests, s.counted d, count_grabbed (carried_of kept) kept.table w c (within_hands w s.lawful worker) d, is_id-same d c))
       (grind (arith, nat_tests))
 
@@ -114,7 +115,7 @@ module _ {rows : List Row} {kept : ContextsKept} {capacity : ℕ} (s : IsSound r
       let live = live_held w c worker has in
       let i = present c live in
       let count = row_count i in
-      sound_step lowered i (released (carried_of kept) kept.table w c) (λ d. refl) (release_keeps w c s.lawful worker has)
+      sound_step lowered i (released (carried_of kept) kept.table w c) refl (λ d. refl) (release_keeps w c s.lawful worker has)
       (λ d. grind (arith, nat_tests, s.counted d, count_released (carried_of kept) kept.table w c within has d, is_id-same d c))
       (grind (arith, nat_tests, length-append kept.table.due (c ∷ [])))
 
@@ -128,7 +129,7 @@ module _ {rows : List Row} {kept : ContextsKept} {capacity : ℕ} (s : IsSound r
       let count = row_count i in
       let kept' : ContextsKept = record { table = handed_on kept.table w c; carried = carried_more kept.carried c } in
       let more = carried_one_more kept (handed_on kept.table w c) c (λ d. refl) (context_there c s.lawful live) in_list in
-      sound_by carried_away i kept' (carry_keeps (carried_of kept') w c s.lawful worker has more)
+      sound_by carried_away i kept' refl (carry_keeps (carried_of kept') w c s.lawful worker has more)
       (λ d. grind (arith, nat_tests, s.counted d, held_without kept.table.hands w c within has d, more d, is_id-same d c))
       (λ d. grind (arith, nat_tests, more d, s.bounded d, is_id-same d c)) (omega arith)
 
@@ -139,7 +140,7 @@ module _ {rows : List Row} {kept : ContextsKept} {capacity : ℕ} (s : IsSound r
       let count = row_count i in
       let kept' : ContextsKept = record { table = grabbed kept.table w c; carried = carried_fewer kept.carried c } in
       let fewer = carried_one_fewer kept (grabbed kept.table w c) c (λ d. refl) some in_list in
-      sound_by brought_back i kept' (bring_keeps (carried_of kept') w c s.lawful worker fewer room)
+      sound_by brought_back i kept' refl (bring_keeps (carried_of kept') w c s.lawful worker fewer room)
       (λ d. grind (arith, nat_tests, s.counted d, held_push kept.table.hands w c (within_hands w s.lawful worker) d, fewer d, is_id-same d c))
       (λ d. omega (arith, s.bounded d, fewer d)) (omega arith)
 
@@ -151,7 +152,7 @@ module _ {rows : List Row} {kept : ContextsKept} {capacity : ℕ} (s : IsSound r
       let count = row_count i in
       let free = free_link c object s.lawful live is_free in
       let counts = count_linked (carried_of kept) kept.table c free.context object free.there free.bare in
-      sound_step (linked_row object) i (linked kept.table c object) (there_changed (with_link (Some object)) kept.table.slots c)
+      sound_step (linked_row object) i (linked kept.table c object) refl (there_changed (with_link (Some object)) kept.table.slots c)
       (link_keeps c object s.lawful live is_free)
       (λ d. grind (arith, nat_tests, s.counted d, counts d, is_id-same d c)) (grind (arith, nat_tests))
 
@@ -161,7 +162,7 @@ module _ {rows : List Row} {kept : ContextsKept} {capacity : ℕ} (s : IsSound r
       let live = live_linked c has in
       let i = present c live in
       let count = row_count i in
-      sound_step dropped_row i (unlinked (carried_of kept) kept.table c) (there_changed (with_link None) kept.table.slots c) (unlink_keeps c s.lawful has)
+      sound_step dropped_row i (unlinked (carried_of kept) kept.table c) refl (there_changed (with_link None) kept.table.slots c) (unlink_keeps c s.lawful has)
       (λ d. grind (arith, nat_tests, s.counted d, count_unlinked (carried_of kept) kept.table c has d, is_id-same d c))
       (grind (arith, nat_tests, length-append kept.table.due (c ∷ [])))
 
@@ -171,28 +172,30 @@ module _ {rows : List Row} {kept : ContextsKept} {capacity : ℕ} (s : IsSound r
       let i = present c (live_linked c has) in
       let count = row_count i in
       let more = held_push kept.table.hands w c (within_hands w s.lawful worker) in
-      sound_step unlinked_row i (unlinked_into kept.table w c) (there_changed (with_link None) kept.table.slots c)
+      sound_step unlinked_row i (unlinked_into kept.table w c) refl (there_changed (with_link None) kept.table.slots c)
       (unlink_into_keeps w c s.lawful worker has room)
       (λ d. grind (arith, nat_tests, s.counted d, links_unlinked kept.table.slots c has d, more d, is_id-same d c)) (omega arith)
 
   -- the body changes
-  pub sound_rewritten : (g : Row → Row) {c : CtxId} (i : InRow rows c) (bytes : List ℕ) → (g i.row).is_cleaned ≡ i.row.is_cleaned
+  pub sound_rewritten : (g : Row → Row) {c : CtxId} (i : InRow rows c) (bytes : List ℕ) → life_of (g i.row) ≡ life_of i.row
       → (g i.row).count ≡ i.row.count
       → IsSound (updated g rows c.slot) (record kept { table = rewritten kept.table c bytes }) capacity
   sound_rewritten g {c} i bytes keeps same =
       let count = row_count i in
-      sound_step g i (rewritten kept.table c bytes) (there_changed (with_body bytes) kept.table.slots c) (body_keeps c bytes s.lawful)
+      let open_yet = ap (λ (l : Life). l.is_cleaned) keeps in
+      sound_step g i (rewritten kept.table c bytes) (ap (λ (l : Life). l.generation) keeps) (there_changed (with_body bytes) kept.table.slots c) (body_keeps c bytes s.lawful)
       (λ d. grind (arith, nat_tests, s.counted d, links_kept (with_body bytes) kept.table.slots c (λ x. refl) d, is_id-same d c)) (grind (arith, nat_tests))
 
   -- a worker cleans up
   pub sound_taken : (g : Row → Row) (w : ℕ) {c : CtxId} (i : InRow rows c) → w < 48 → slice_get kept.table.due 0 ≡ Some c
       → cleaning_of kept.table.cleaning w ≡ None
-      → (g i.row).is_cleaned ≡ i.row.is_cleaned → (g i.row).count ≡ i.row.count
+      → life_of (g i.row) ≡ life_of i.row → (g i.row).count ≡ i.row.count
       → IsSound (updated g rows c.slot) (record kept { table = after_take_due kept.table w }) capacity
   sound_taken g w {c} i worker first idle keeps same =
       let count = row_count i in
+      let open_yet = ap (λ (l : Life). l.is_cleaned) keeps in
       subst (λ o. IsSound (updated g rows c.slot) (record kept { table = taken_of kept.table w o }) capacity) (sym first)
-      (sound_step g i (taken_due kept.table w c) (there_changed emptied kept.table.slots c) (take_due_keeps w c s.lawful worker first idle)
+      (sound_step g i (taken_due kept.table w c) (ap (λ (l : Life). l.generation) keeps) (there_changed emptied kept.table.slots c) (take_due_keeps w c s.lawful worker first idle)
       (λ d. grind (arith, nat_tests, s.counted d, links_kept emptied kept.table.slots c (λ x. refl) d, is_id-same d c))
       (grind (arith, nat_tests, length-drop 1 kept.table.due)))
 
@@ -201,7 +204,7 @@ module _ {rows : List Row} {kept : ContextsKept} {capacity : ℕ} (s : IsSound r
   sound_cleaned w {c} i worker busy =
       let none = (count_cleaning w c s.lawful worker busy).1 in
       let same = carried_cleaned kept w c (omega (arith, none)) in
-      sound_by cleaned_row i (record kept { table = cleaned kept.table w c }) (lawful_alike same (cleaned_keeps w c s.lawful worker busy))
+      sound_by cleaned_row i (record kept { table = cleaned kept.table w c }) refl (lawful_alike same (cleaned_keeps w c s.lawful worker busy))
       (λ d. grind (arith, nat_tests, s.counted d, count_cleaned w c s.lawful worker busy d, same d, is_id-same d c))
       (λ d. omega (arith, s.bounded d, same d)) (omega arith)
 

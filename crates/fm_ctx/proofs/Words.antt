@@ -6,6 +6,7 @@ unfoldable pub use Rattle.fm_ctx.specs.Births.{is_out_of_slots}
 pub use Rattle.fm_ctx.specs.Bodies.{body_at, rewritten, with_body, with_number}
 pub use Rattle.fm_ctx.specs.Cleanup.{after_take_due, cleaned, emptied, taken_due, taken_of}
 pub use Rattle.fm_ctx.specs.Counting.{born, was_given}
+pub use Rattle.fm_ctx.specs.Generations.{GenerationsKept}
 pub use Rattle.fm_ctx.specs.Kept.{ContextsKept, carried_fewer, carried_more, carried_none}
 unfoldable pub use Rattle.fm_ctx.specs.Kept.{carried_of}
 pub use Rattle.fm_ctx.specs.Laws.{IsLawful, has_link, links}
@@ -13,6 +14,7 @@ pub use Rattle.fm_ctx.specs.Links.{IsFree, delete_after, id_at, linked, set_afte
 unfoldable pub use Rattle.fm_ctx.specs.Links.{holder}
 pub use Rattle.fm_ctx.specs.Objects.{same_object, same_owner}
 pub use Rattle.fm_ctx.specs.References.{due_after, grabbed, handed_on, released}
+pub use Rattle.fm_ctx.specs.Rows.{IsFresh, IsPut, life_of, lives_of, put_row}
 pub use Rattle.fm_ctx.specs.Rows.{IsIndexed, IsSound, brought_back, carried_away, carried_in, cleaned_row, context_of, count_of_row, is_referenced}
 pub use Rattle.fm_ctx.specs.Rows.{kept_in, linked_row, lowered, raised, row_in, row_with, seat_in, seats_of, slot_of, slots_of, stored, unlinked_row}
 unfoldable pub use Rattle.fm_ctx.specs.Rows.{row_at}

@@ -1,5 +1,5 @@
 -- New contexts: which slot one gets, and when there is no room.
-use Rattle.std.specs.Prelude.{◌≡◌, ◌⊎◌, ℕ, ◌+◌, ◌<◌, ◌==◌, ◌&&◌, ◌||◌, Bool, true, not, cond, nat_lt, nat_le, List, [], ◌∷◌, ◌++◌, length, slice_get, slice_set, Option, Some, None, is_none}
+use Rattle.std.specs.Prelude.{◌≡◌, ◌⊎◌, ℕ, ◌+◌, ◌-◌, ◌^◌, ◌<◌, ◌==◌, ◌&&◌, ◌||◌, Bool, true, not, cond, nat_lt, nat_le, List, [], ◌∷◌, ◌++◌, length, slice_get, slice_set, Option, Some, None, is_none}
 use Rattle.std.specs.List.{list_any}
 use Rattle.fm_types.specs.declared.ids.CtxId.{CtxId}
 use Rattle.fm_types.specs.declared.ids.VolumeId.{VolumeId}
@@ -12,9 +12,9 @@ use Rattle.fm_ctx.specs.Bags.{hand_of, is_hand_full}
 use Rattle.fm_ctx.specs.Table.{Context, Slot, ContextTable}
 use Rattle.fm_ctx.specs.Kept.{ContextsKept, carried_none}
 
--- the last generation that a slot is given: with 0 each slot is used once
+-- the last generation that a slot is given; then it isn't used again
 unfoldable pub last_generation : ℕ
-last_generation = 0
+last_generation = 2 ^ 32 - 1
 
 -- a slot that may be used again: its context is cleaned, and a next generation is left to it
 abbrev pub is_free : Slot → Bool

@@ -7,6 +7,7 @@ pub mod Laws
 pub mod References
 pub mod Links
 pub mod Births
+pub mod Generations
 pub mod Cleanup
 pub mod Settling
 pub mod Sweep

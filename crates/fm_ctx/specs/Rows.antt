@@ -1,5 +1,5 @@
--- How contexts are kept: a row for each, in the order of allocation, with its reference count. Every generation is 0.
-use Rattle.std.specs.Prelude.{◌≡◌, ℕ, ◌+◌, ◌-◌, ◌^◌, ◌≤◌, ◌==◌, Bool, true, cond, nat_lt, List, length, map, count_by, slice_index_or, Option, Some, None, option_and_then, slice_get}
+-- How contexts are kept: a row for each slot, with the reference count of its context.
+use Rattle.std.specs.Prelude.{◌≡◌, ℕ, ◌+◌, ◌-◌, ◌^◌, ◌≤◌, ◌==◌, Bool, true, false, cond, nat_lt, List, [], ◌∷◌, ◌++◌, length, map, count_by, slice_index_or, Option, Some, None, option_and_then, slice_get, slice_set}
 use Rattle.std.specs.Global.{Vec}
 use Rattle.fm_types.specs.declared.ids.CtxId.{CtxId}
 use Rattle.fm_types.specs.Lists.{updated}
@@ -7,6 +7,8 @@ use Rattle.fm_ctx.specs.declared.object.Object.{Object}
 use Rattle.fm_ctx.specs.declared.row.Row.{Row}
 use Rattle.fm_ctx.specs.declared.seat.Seat.{Seat}
 use Rattle.fm_ctx.specs.Table.{Context, Slot, ContextTable, count_in}
+use Rattle.fm_ctx.specs.Births.{IsNew}
+use Rattle.fm_ctx.specs.Generations.{Life, GenerationsKept, IsAccount}
 use Rattle.fm_ctx.specs.Kept.{ContextsKept, carried_of}
 use Rattle.fm_ctx.specs.Laws.{IsLawful}
 use Rattle.fm_ctx.specs.Seats.{seat_by}
@@ -15,7 +17,7 @@ abbrev pub context_of : Row → Context
 context_of r = record { kind = r.kind; owner = r.owner; volume = r.volume; body = r.body.items; link = r.link }
 
 abbrev pub slot_of : Row → Slot
-slot_of r = record { generation = 0; context = cond r.is_cleaned None (Some (context_of r)) }
+slot_of r = record { generation = r.generation; context = cond r.is_cleaned None (Some (context_of r)) }
 
 abbrev pub slots_of : List Row → List Slot
 slots_of rows = map slot_of rows
@@ -25,7 +27,7 @@ carried_in rows = map (λ (r : Row). r.carried) rows
 
 -- a row, where the id names its context
 abbrev pub row_in : CtxId → Row → Option Row
-row_in c r = cond (c.generation == 0) (cond r.is_cleaned None (Some r)) None
+row_in c r = cond (c.generation == r.generation) (cond r.is_cleaned None (Some r)) None
 
 unfoldable pub row_at : List Row → CtxId → Option Row
 row_at rows c = option_and_then (row_in c) (slice_get rows c.slot)
@@ -55,10 +57,37 @@ seat_in r = cond r.is_cleaned None (seat_by r.owner r.link)
 abbrev pub seats_of : List Row → List (Option Seat)
 seats_of rows = map seat_in rows
 
--- and each linked context is found by its seat
-pub record IsIndexed (rows : List Row) (kept : ContextsKept) (capacity : ℕ) (seats : List (Option Seat)) : Type 0 where
+-- the life that the slot of a row has
+abbrev pub life_of : Row → Life
+life_of r = record { generation = r.generation; is_cleaned = r.is_cleaned }
+
+abbrev pub lives_of : List Row → List Life
+lives_of rows = map life_of rows
+
+-- and each linked context is found by its seat, and each slot that is free
+pub record IsIndexed (rows : List Row) (kept : ContextsKept) (capacity : ℕ) (seats : List (Option Seat)) (generations : GenerationsKept) : Type 0 where
   pub sound : IsSound rows kept capacity
   pub seated : seats ≡ seats_of rows
+  pub account : IsAccount (lives_of rows) generations
+
+-- ---- a new row
+
+-- a row that was just made: one reference, nothing carried, no link
+pub record IsFresh (r : Row) : Type 0 where
+  pub count : r.count ≡ 1
+  pub carried : r.carried ≡ 0
+  pub link : r.link ≡ None
+  pub open_yet : r.is_cleaned ≡ false
+
+-- the rows with a row put into the slot of an id
+abbrev pub put_row : List Row → CtxId → Row → List Row
+put_row rows c r =
+    let named : Row = record r { generation = c.generation } in
+    cond (c.slot == length rows) (rows ++ named ∷ []) (slice_set rows c.slot named)
+
+-- a row gets the slot of a new id
+abbrev pub IsPut : List Row → List Row → Row → CtxId → Type 0
+IsPut old new r c = IsNew (slots_of old) c × (new ≡ put_row old c r)
 
 -- ---- changes of one row
 

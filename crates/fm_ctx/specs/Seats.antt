@@ -27,8 +27,11 @@ seat_by owner link = option_map (λ (object : Object). record { owner = owner; o
 -- ---- chains
 
 -- seats of one object stand on one chain
+abbrev pub chain_to : Object → ℕ
+chain_to object = object_number object % 4096
+
 abbrev pub chain_of : Seat → ℕ
-chain_of seat = object_number seat.object % 4096
+chain_of seat = chain_to seat.object
 
 abbrev pub is_on : ℕ → Option Seat → Bool
 is_on chain None = false

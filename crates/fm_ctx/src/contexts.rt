@@ -5,7 +5,7 @@ mod cleanup;
 mod links;
 mod readers;
 
-ghost use Rattle.std.specs.Prelude.{◌≡◌, ◌+◌, ◌<◌, ◌^◌, ◌==◌, ◌++◌, ◌∷◌, [], if◌then◌else◌, IfOk, true, None, is_some, length, slice_get, slice_index_or};
+ghost use Rattle.std.specs.Prelude.{◌≡◌, ◌+◌, ◌<◌, ◌≤◌, ◌^◌, ◌==◌, ◌++◌, ◌∷◌, [], if◌then◌else◌, IfOk, OnErr, false, true, None, is_some, length, slice_get, slice_index_or};
 ghost use Rattle.std.specs.VecDeque.{deque_capacity};
 ghost use Rattle.fm_types.specs.Refusals.{Answers, AnswersOrMemory};
 ghost use Rattle.fm_types.specs.Lists.{updated};
@@ -16,11 +16,13 @@ ghost use Rattle.fm_ctx.specs.Kept.{nothing_kept, carried_of};
 ghost use Rattle.fm_ctx.specs.Laws.{IsLawful};
 ghost use Rattle.fm_ctx.specs.References.{kept_grabbed, kept_released, kept_carried, kept_brought, reference_refusal, release_refusal};
 ghost use Rattle.fm_ctx.specs.Links.{IsFree, linked, unlinked, unlinked_into};
-ghost use Rattle.fm_ctx.specs.Births.{Allocates, allocate_refused};
+ghost use Rattle.fm_ctx.specs.Births.{Allocates, allocate_refused, is_out_of_slots};
+ghost use Rattle.fm_ctx.specs.Generations.{IsAccount};
 ghost use Rattle.fm_ctx.specs.Settling.{Leaves};
-ghost use Rattle.fm_ctx.specs.Rows.{lowered};
+ghost use Rattle.fm_ctx.specs.Rows.{lowered, IsFresh, IsPut, lives_of, seats_of, slots_of};
 ghost use Rattle.fm_ctx.specs.declared.row.Row.{Row as KeptRow};
 
+use crate::generations::Generations;
 use crate::hand::Hand;
 use crate::object::Object;
 use crate::owner::Owner;
@@ -45,6 +47,7 @@ const MAX_BODY: usize = 4096;
 pub struct Contexts {
     alloc: Global,
     rows: Vec<Row>,
+    generations: Generations,
     seats: Seats,
     hands: Vec<Hand>,
     due: VecDeque<CtxId>,
@@ -62,7 +65,7 @@ impl Model for Contexts {
 
     ghost view = { λ c. kept_in c.rows.items c.hands.items c.due.items c.cleaning.items c.leaks };
 
-    ghost invariant = { λ c. IsIndexed c.rows.items (kept_in c.rows.items c.hands.items c.due.items c.cleaning.items c.leaks) (deque_capacity c.due) c.seats };
+    ghost invariant = { λ c. IsIndexed c.rows.items (kept_in c.rows.items c.hands.items c.due.items c.cleaning.items c.leaks) (deque_capacity c.due) c.seats c.generations };
 }
 
 // The context has one reference fewer; with the last one it is due.
@@ -79,6 +82,43 @@ fn drop_reference(rows: &mut Vec<Row>, due: &mut VecDeque<CtxId>, id: CtxId)
     }
 }
 
+// The row gets a slot that was free, with its next generation, or a new slot. The error says that
+// memory was refused, and no row is changed.
+fn place(
+    rows: &mut Vec<Row>,
+    generations: &mut Generations,
+    seats: &mut Seats,
+    mut row: Row,
+) -> Result<CtxId, AllocError>
+    requires few { length rows.old.items ≤ 65536 }
+    requires account { IsAccount (lives_of rows.old.items) generations.old }
+    requires seated { seats.old ≡ seats_of rows.old.items }
+    requires room { is_out_of_slots (slots_of rows.old.items) ≡ false }
+    requires fresh { IsFresh row }
+    requires first { row.generation ≡ 0 }
+    ensures ok { IfOk result (IsPut rows.old.items rows.new.items row) }
+    ensures err { OnErr result (rows.new.items ≡ rows.old.items) }
+    ensures account { IsAccount (lives_of rows.new.items) generations.new }
+    ensures seated { seats.new ≡ seats_of rows.new.items }
+{
+    generations.reserve(rows.len() + 1)?;
+    if let Some(id) = generations.take_free() {
+        row.generation = id.generation;
+        rows[id.slot as usize] = row;
+        generations.begin();
+        return Ok(id);
+    }
+    rows.reserve(1)?;
+    seats.add()?;
+    let id = CtxId {
+        slot: rows.len() as u32,
+        generation: 0,
+    };
+    rows.push_reserved(row);
+    generations.begin();
+    Ok(id)
+}
+
 impl Contexts {
     /// No contexts, and 48 empty hands; the error says that memory was refused.
     pub fn new(alloc: Global) -> Result<Contexts, AllocError>
@@ -93,6 +133,7 @@ impl Contexts {
         Ok(Contexts {
             alloc,
             rows: Vec::new(alloc),
+            generations: Generations::new(alloc),
             seats: Seats::new(alloc)?,
             hands,
             due: VecDeque::new(alloc),
@@ -115,7 +156,8 @@ impl Contexts {
     /// Allocates a context (`FltAllocateContext`): it isn't linked, and its one reference is in the
     /// worker's hand. Makes the room that its cleanup will need. Refused, with nothing changed, in this
     /// order: `TooMany` (29) where the body has more than 4,096 bytes, or where there are 65,536 slots
-    /// and none is free (so far each is used once), `HandFull` (26), `NoMemory` (1).
+    /// and none is free, `HandFull` (26), `NoMemory` (1). A slot is free again once its context is
+    /// cleaned, unless it had its last generation.
     pub fn allocate(
         &mut self,
         worker: WorkerId,
@@ -137,17 +179,8 @@ impl Contexts {
         let Ok(()) = self.due.reserve(self.rows.len() + 1) else {
             return Err(Status::NoMemory);
         };
-        let Ok(()) = self.rows.reserve(1) else {
-            return Err(Status::NoMemory);
-        };
-        let Ok(()) = self.seats.add() else {
-            return Err(Status::NoMemory);
-        };
-        let id = CtxId {
-            slot: self.rows.len() as u32,
+        let row = Row {
             generation: 0,
-        };
-        self.rows.push_reserved(Row {
             kind,
             owner,
             volume,
@@ -156,7 +189,10 @@ impl Contexts {
             count: 1,
             carried: 0,
             is_cleaned: false,
-        });
+        };
+        let Ok(id) = place(&mut self.rows, &mut self.generations, &mut self.seats, row) else {
+            return Err(Status::NoMemory);
+        };
         hand::put(&mut self.hands, worker, id);
         Ok(id)
     }

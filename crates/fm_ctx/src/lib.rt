@@ -8,6 +8,7 @@
 mod contexts;
 mod count;
 mod due;
+mod generations;
 mod hand;
 mod object;
 mod owner;
@@ -19,6 +20,7 @@ mod set_reply;
 pub use crate::contexts::Contexts;
 pub use crate::count::Count;
 pub use crate::due::Due;
+pub use crate::generations::next_generation;
 pub use crate::object::Object;
 pub use crate::owner::Owner;
 pub use crate::set_reply::{SetMode, SetReply};

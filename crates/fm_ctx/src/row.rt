@@ -1,10 +1,10 @@
-//! How a context is kept: its row, which stays where it is when the context is cleaned up.
+//! How a context is kept: its row, which stays where it is when the context is cleaned up, until its
+//! slot is given to another one.
 
 ghost use Rattle.std.specs.Prelude.{◌≡◌, ◌==◌, ℕ, ◌+◌, ◌-◌, ◌^◌, ◌<◌, ◌≤◌, length, slice_index_or, Some, option_copied, count_by};
 ghost use Rattle.std.specs.Global.{Vec};
 ghost use Rattle.fm_types.specs.Lists.{updated};
 ghost use Rattle.fm_ctx.specs.Counting.{is_open, was_given};
-ghost use Rattle.fm_ctx.specs.Sweep.{passes, link_test};
 ghost use Rattle.fm_ctx.specs.Bodies.{raised as raised_number, with_number};
 ghost use Rattle.fm_ctx.specs.Rows.{slot_of, slots_of, row_at, raised, lowered, carried_away, brought_back, linked_row, unlinked_row, cleaned_row, row_with, IsRewritten};
 ghost use Rattle.fm_ctx.specs.declared.row.Row.{Row as KeptRow};
@@ -14,16 +14,10 @@ use crate::owner::Owner;
 use fm_types::{ContextKind, CtxId, VolumeId};
 use std::mem;
 
-/// The links to an object, or the links of an owner's contexts.
-#[derive(Clone, Copy)]
-pub enum Links {
-    To(Object),
-    Of(Owner),
-}
-
-/// One context that was allocated.
+/// The context that a slot was given last.
 #[derive(Drop)]
 pub struct Row {
+    pub generation: u32,
     pub kind: ContextKind,
     pub owner: Owner,
     pub volume: VolumeId,
@@ -41,22 +35,6 @@ impl Row {
     {
         !self.is_cleaned && owner.is(self.owner)
     }
-
-    /// Whether it is a context with such a link.
-    pub fn is_among(&self, links: Links) -> bool
-        ensures { result ≡ passes (link_test links) (slot_of self.now).context }
-    {
-        if self.is_cleaned {
-            return false;
-        }
-        let Some(other) = self.link else {
-            return false;
-        };
-        match links {
-            Links::To(object) => object.is(other),
-            Links::Of(owner) => owner.is(self.owner),
-        }
-    }
 }
 
 /// The row of the context that an id names, if it isn't cleaned.
@@ -65,17 +43,17 @@ pub fn named(rows: &[Row], id: CtxId) -> Option<&Row>
     ensures { option_copied result ≡ row_at rows.now id }
 {
     let row = rows.get(id.slot as usize)?;
-    if id.generation != 0 || row.is_cleaned {
+    if id.generation != row.generation || row.is_cleaned {
         return None;
     }
     Some(row)
 }
 
-/// How many of the contexts are cleaned.
-pub fn cleaned(rows: &[Row]) -> usize
-    ensures { result ≡ count_by (λ (r : KeptRow). r.is_cleaned) rows.now }
+/// How many contexts of an owner aren't cleaned.
+pub fn open_of(rows: &[Row], owner: Owner) -> usize
+    ensures { result ≡ count_by (λ (r : KeptRow). is_open owner (slot_of r).context) rows.now }
 {
-    rows.iter().filter(|row| row.is_cleaned).count()
+    rows.iter().filter(|row| row.is_open_of(owner)).count()
 }
 
 /// Whether a context was given that id.
@@ -83,7 +61,10 @@ pub fn cleaned(rows: &[Row]) -> usize
 pub fn was_given(rows: &[Row], id: CtxId) -> bool
     ensures { result ≡ was_given (slots_of rows.now) id }
 {
-    id.generation == 0 && (id.slot as usize) < rows.len()
+    let Some(row) = rows.get(id.slot as usize) else {
+        return false;
+    };
+    id.generation <= row.generation
 }
 
 /// One more reference to the context of a row.

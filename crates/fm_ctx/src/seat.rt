@@ -1,13 +1,21 @@
 //! Where linked contexts stand.
 
 ghost use Rattle.std.specs.Prelude.{◌≡◌, ◌<◌};
-ghost use Rattle.fm_ctx.specs.Seats.{object_number, same_seat, chain_of};
+ghost use Rattle.fm_ctx.specs.Sweep.{seat_test};
+ghost use Rattle.fm_ctx.specs.Seats.{object_number, same_seat, chain_of, chain_to as number_of_chain};
 
 use crate::object::Object;
 use crate::owner::Owner;
 
 /// How many chains there are to find seats by.
 pub const CHAINS: usize = 4096;
+
+/// The links to an object, or the links of an owner's contexts.
+#[derive(Clone, Copy)]
+pub enum Links {
+    To(Object),
+    Of(Owner),
+}
 
 /// An owner's place on an object; at most one context is linked there.
 #[derive(Clone, Copy)]
@@ -24,14 +32,32 @@ impl Seat {
         self.object.is(other.object) && self.owner.is(other.owner)
     }
 
-    /// On which chain it is. Seats of one object are on one chain, so that a search passes few of
-    /// other objects.
+    /// Whether it is on that object, or of that owner.
+    pub fn is_among(self, links: Links) -> bool
+        ensures { result ≡ seat_test links self }
+    {
+        match links {
+            Links::To(object) => object.is(self.object),
+            Links::Of(owner) => owner.is(self.owner),
+        }
+    }
+
+    /// On which chain it is.
     pub fn chain(self) -> usize
         ensures chain { result ≡ chain_of self }
         ensures within { result < 4096 }
     {
-        (number_of(self.object) % CHAINS as u64) as usize
+        chain_to(self.object)
     }
+}
+
+/// On which chain the seats of an object are: all on one, so that a search passes few of other
+/// objects.
+pub fn chain_to(object: Object) -> usize
+    ensures chain { result ≡ number_of_chain object }
+    ensures within { result < 4096 }
+{
+    (number_of(object) % CHAINS as u64) as usize
 }
 
 fn number_of(object: Object) -> u64

@@ -1,9 +1,10 @@
 //! The seats of all linked contexts, by slot and in chains.
 
 ghost use Rattle.std.specs.Prelude.{◌≡◌, ◌+◌, ◌<◌, ◌≤◌, ◌++◌, ◌∷◌, [], true, None, Some, length, slice_index_or, slice_set, position, count_by, IfSome, IfOk, OnOk, OnErr};
+ghost use Rattle.fm_ctx.specs.Sweep.{seat_passes};
 ghost use Rattle.fm_ctx.specs.Seats.{is_seat, stands, last_below, end_of, IsAbove, firsts_led, nexts_led};
 
-use crate::seat::{CHAINS, Seat};
+use crate::seat::{CHAINS, Links, Seat};
 use std::alloc::{AllocError, Global};
 use std::marker::Model;
 
@@ -90,6 +91,17 @@ impl Seats {
         None
     }
 
+    /// Whether a slot has a seat on that object, or of that owner.
+    pub fn is_among(&self, slot: usize, links: Links) -> bool
+        requires { slot < length self.now }
+        ensures { result ≡ seat_passes links (slice_index_or self.now slot None) }
+    {
+        let Some(seat) = self.seats[slot] else {
+            return false;
+        };
+        seat.is_among(links)
+    }
+
     fn has(&self, slot: u32, seat: Seat) -> bool
         requires { slot < length self.now }
         ensures { result ≡ is_seat seat (slice_index_or self.now slot None) }
@@ -117,8 +129,8 @@ impl Seats {
         above
     }
 
-    // What a slot of a chain leads to, or the chain itself.
-    fn after(&self, chain: usize, above: Option<u32>) -> Option<u32>
+    /// What a slot of a chain leads to, or the chain itself.
+    pub fn after(&self, chain: usize, above: Option<u32>) -> Option<u32>
         requires chain { chain < 4096 }
         requires above { IfSome above (λ a. (a < length self.now) × (stands self.now chain a ≡ true)) }
         ensures { result ≡ last_below (stands self.now chain) (end_of above (length self.now)) }

@@ -1,5 +1,7 @@
-//! The limits of bodies and numbers, and memory that is refused.
+//! The limits of bodies and numbers, slots that are used again, and memory that is refused.
 
+use crate::events::{CONTEXT, Event, WORKER, step_of};
+use fm_core::State;
 use fm_ctx::{Contexts, Count, Owner};
 use fm_types::{Bytes, ContextKind, CtxId, InstanceId, Status, VolumeId, WorkerId};
 use std::alloc::Global;
@@ -37,29 +39,74 @@ fn bodies_of_4096_bytes(rt: HostRuntime) {
     assert_eq!(rt; told, (4096, 258, 257));
 }
 
-// All contexts that there may be, none of which is held.
-fn fill(rt: &impl Abort, alloc: Global, contexts: &mut Contexts) {
-    for _context in 0..65536 {
-        let id = allocate(alloc, contexts, 0).expect(rt, "a context");
-        contexts.release(WorkerId(0), id).expect(rt, "its release");
+// Worker 0 is in the setup callback of an instance.
+fn set_up(rt: &impl Abort, alloc: Global, state: &mut State) {
+    for event in [Event::Register, Event::Mount, Event::Attach] {
+        let step = step_of(alloc, event).expect(rt, "a step");
+        state.step(step);
     }
 }
 
+// A context of that instance, with no body.
+fn bare(alloc: Global, state: &mut State) -> Result<CtxId, Status> {
+    state.allocate(WORKER, ContextKind::Instance, Bytes::new(alloc))
+}
+
+// All contexts that there may be, none of which is held.
+fn fill(rt: &impl Abort, alloc: Global, state: &mut State) {
+    for _context in 0..65536 {
+        let id = bare(alloc, state).expect(rt, "a context");
+        state.release(WORKER, id).expect(rt, "its release");
+    }
+}
+
+// Worker 1 cleans up the context that is due longest.
+fn clean_up(rt: &impl Abort, state: &mut State) {
+    let due = state.take_due(WorkerId(1)).expect(rt, "a worker");
+    assert_eq!(rt; due.is_some(), true);
+    state.cleaned(WorkerId(1), 0).expect(rt, "its cleanup");
+}
+
 #[test]
-fn contexts_run_out(rt: HostRuntime) {
+fn slots_run_out(rt: HostRuntime) {
+    let mut state = State::new(rt.alloc()).expect(&rt, "a state");
+    set_up(&rt, rt.alloc(), &mut state);
+    fill(&rt, rt.alloc(), &mut state);
+    assert_eq!(rt; bare(rt.alloc(), &mut state), Err(Status::TooMany));
+    clean_up(&rt, &mut state);
+    let id = bare(rt.alloc(), &mut state).expect(&rt, "a context");
+    assert_eq!(rt; (id.slot, id.generation), (CONTEXT.slot, 1));
+    assert_eq!(rt; state.release(WORKER, CONTEXT), Err(Status::NotHeld));
+}
+
+// A context that comes and goes: it is due, is cleaned up, and is no more. Gives its id.
+fn pass(rt: &impl Abort, alloc: Global, contexts: &mut Contexts) -> CtxId {
+    let id = allocate(alloc, contexts, 0).expect(rt, "a context");
+    contexts.release(WorkerId(0), id).expect(rt, "its release");
+    assert_eq!(rt; contexts.count(id), Count::Due);
+    let None = contexts.cleaning_of(WorkerId(0)) else {
+        panic!(rt; "the worker cleans up none");
+    };
+    contexts.take_due(WorkerId(0)).expect(rt, "it is due");
+    assert_eq!(rt; contexts.count(id), Count::Cleaning);
+    let Some(due) = contexts.cleaning_of(WorkerId(0)) else {
+        panic!(rt; "the worker cleans it up");
+    };
+    contexts.cleaned(WorkerId(0), due);
+    id
+}
+
+#[test]
+fn slots_are_used_again(rt: HostRuntime) {
     let mut contexts = Contexts::new(rt.alloc()).expect(&rt, "a table");
-    fill(&rt, rt.alloc(), &mut contexts);
+    let first = pass(&rt, rt.alloc(), &mut contexts);
+    for number in 1..70000 {
+        let id = pass(&rt, rt.alloc(), &mut contexts);
+        assert_eq!(rt; (id.slot, id.generation), (first.slot, number));
+    }
     assert_eq!(rt;
-        allocate(rt.alloc(), &mut contexts, 0),
-        Err(Status::TooMany)
-    );
-    assert_eq!(rt;
-        (
-            contexts.born(),
-            contexts.cleaned_count(),
-            contexts.open_of(OWNER)
-        ),
-        (65536, 0, 65536)
+        (contexts.count(first), contexts.born()),
+        (Count::Cleaned, 70000)
     );
 }
 

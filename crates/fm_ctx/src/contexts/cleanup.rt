@@ -38,6 +38,7 @@ impl Contexts {
         ensures { self.new ≡ record self.old { table = cleaned self.old.table worker.0 id } }
     {
         row::clean(&mut self.rows, id.slot as usize);
+        self.generations.end(id);
         self.cleaning[worker.0 as usize] = None;
     }
 }

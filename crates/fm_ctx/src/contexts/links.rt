@@ -8,13 +8,13 @@ ghost use Rattle.fm_ctx.specs.Table.{context_at, count_in, link_at};
 ghost use Rattle.fm_ctx.specs.Kept.{carried_of};
 ghost use Rattle.fm_ctx.specs.Links.{id_at, holder, unlinked_for, kept_after, kept_set, set_reply, get_refused, delete_refused, Deletes, Gets, IsUnlinkedOf};
 ghost use Rattle.fm_ctx.specs.Settling.{Sweeps, is_linked_to, is_linked_of};
-ghost use Rattle.fm_ctx.specs.Sweep.{context_of_slot, link_test, passes, swept_at};
+ghost use Rattle.fm_ctx.specs.Seats.{end_of, last_below};
+ghost use Rattle.fm_ctx.specs.Sweep.{context_of_slot, link_test, links_on, passes, swept_at};
 
 use crate::contexts::Contexts;
 use crate::object::Object;
 use crate::owner::Owner;
-use crate::row::Links;
-use crate::seat::Seat;
+use crate::seat::{Links, Seat, chain_to};
 use crate::set_reply::{SetMode, SetReply};
 use fm_types::{CtxId, Status, WorkerId};
 
@@ -29,10 +29,19 @@ impl Contexts {
         let Some(slot) = self.seats.find(Seat { owner, object }) else {
             return None;
         };
-        Some(CtxId {
-            slot,
-            generation: 0,
-        })
+        Some(self.id_at(slot as usize))
+    }
+
+    // The id that a slot was given last.
+    fn id_at(&self, slot: usize) -> CtxId
+        requires { slot < length self.now.table.slots }
+        ensures { result ≡ id_at self.now.table.slots slot }
+    {
+        let generation = self.rows[slot].generation;
+        CtxId {
+            slot: slot as u32,
+            generation,
+        }
     }
 
     /// Sets a context that the worker holds on an object (`FltSetInstanceContext`,
@@ -145,12 +154,28 @@ impl Contexts {
         Ok(if wants_old { Some(old) } else { None })
     }
 
-    /// An object is torn down: every context that is set on it loses its link. It takes no memory.
+    /// An object is torn down: every context that is set on it loses its link. Passes the contexts that
+    /// are set on the object, and few of other objects. It takes no memory.
     pub fn unlink_object(&mut self, object: Object)
         ensures table { Sweeps (carried_of self.old) (is_linked_to object) self.old.table self.new.table }
         ensures carried { self.new.carried ≡ self.old.carried }
     {
-        self.sweep(Links::To(object));
+        let chain = chain_to(object);
+        let mut next = self.next_on(chain, None);
+        while let Some(slot) = next {
+            // The slot leaves the chain with its link.
+            next = self.next_on(chain, Some(slot));
+            self.sweep_slot(slot as usize, Links::To(object));
+        }
+    }
+
+    // The highest slot of a chain below another one of it, or of all.
+    fn next_on(&self, chain: usize, above: Option<u32>) -> Option<u32>
+        requires chain { chain < 4096 }
+        requires above { IfSome above (λ a. links_on self.now.table.slots chain a ≡ true) }
+        ensures { result ≡ last_below (links_on self.now.table.slots chain) (end_of above (length self.now.table.slots)) }
+    {
+        self.seats.after(chain, above)
     }
 
     /// An owner goes: every context of it loses its link (`FltDeleteContext` on each). It takes no
@@ -159,15 +184,8 @@ impl Contexts {
         ensures table { Sweeps (carried_of self.old) (is_linked_of owner) self.old.table self.new.table }
         ensures carried { self.new.carried ≡ self.old.carried }
     {
-        self.sweep(Links::Of(owner));
-    }
-
-    fn sweep(&mut self, links: Links)
-        ensures table { Sweeps (carried_of self.old) (link_test links) self.old.table self.new.table }
-        ensures carried { self.new.carried ≡ self.old.carried }
-    {
         for slot in 0..self.slots() {
-            self.sweep_slot(slot, links);
+            self.sweep_slot(slot, Links::Of(owner));
         }
     }
 
@@ -178,20 +196,15 @@ impl Contexts {
         ensures { self.new ≡ record self.old { table = swept_at (carried_of self.old) self.old.table (link_test links) slot } }
     {
         if self.is_among(slot, links) {
-            self.unlink(CtxId {
-                slot: slot as u32,
-                generation: 0,
-            });
+            self.unlink(self.id_at(slot));
         }
     }
 
-    // Whether the context of a slot is among those. An id of the slot has the generation 0.
+    // Whether the context of a slot is among those.
     fn is_among(&self, slot: usize, links: Links) -> bool
         requires { slot < length self.now.table.slots }
-        ensures passes { result ≡ passes (link_test links) (context_of_slot self.now.table.slots slot) }
-        ensures id { id_at self.now.table.slots slot ≡ record { slot = slot; generation = 0 } }
-        ensures small { slot < 65536 }
+        ensures { result ≡ passes (link_test links) (context_of_slot self.now.table.slots slot) }
     {
-        self.rows[slot].is_among(links)
+        self.seats.is_among(slot, links)
     }
 }

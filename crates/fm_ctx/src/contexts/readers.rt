@@ -1,7 +1,8 @@
 //! What can be read of the contexts.
 
-ghost use Rattle.std.specs.Prelude.{cond, ◌≡◌, ◌<◌, true, is_some, length, option_copied, option_map, unwrap_or};
-ghost use Rattle.fm_ctx.specs.Bags.{holds, hand_of, is_hand_full, cleaning_of};
+ghost use Rattle.std.specs.Prelude.{cond, not, ◌≡◌, ◌<◌, true, is_some, length, option_copied, option_map, unwrap_or};
+ghost use Rattle.std.specs.List.{list_any};
+ghost use Rattle.fm_ctx.specs.Bags.{holds, hand_of, is_hand_full, cleaning_of, cleans};
 ghost use Rattle.fm_ctx.specs.Births.{is_out_of_slots};
 ghost use Rattle.fm_ctx.specs.Table.{context_at, count_in, link_at, owner_at, kind_at};
 ghost use Rattle.fm_ctx.specs.Rows.{context_of, count_of_row};
@@ -20,6 +21,23 @@ use fm_types::{ContextKind, CtxId, WorkerId};
 
 /// How many slots there are at most.
 const MAX_SLOTS: usize = 65536;
+
+// Whether it is that context which a worker cleans up.
+fn cleans(id: CtxId, cleaning: Option<CtxId>) -> bool
+    ensures { result ≡ cleans id cleaning }
+{
+    let Some(other) = cleaning else {
+        return false;
+    };
+    hand::is_same(id, other)
+}
+
+// Whether some worker cleans that context up.
+fn is_any(cleaning: &[Option<CtxId>], id: CtxId) -> bool
+    ensures { result ≡ list_any (cleans id) cleaning.now }
+{
+    cleaning.iter().any(|other| cleans(id, *other))
+}
 
 impl Contexts {
     /// Whether the worker holds a reference to that context; what is held isn't cleaned.
@@ -53,12 +71,11 @@ impl Contexts {
         self.rows.len()
     }
 
-    // Whether a new context finds no slot: as none is used again, whether all are used.
-    #[tactic(auto, using(crate::proofs::Newborn::out_of_slots))]
+    // Whether a new context finds no slot: all are there, and none is free.
     pub(super) fn is_out_of_slots(&self) -> bool
         ensures { result ≡ is_out_of_slots self.now.table.slots }
     {
-        self.slots() >= MAX_SLOTS
+        self.rows.len() >= MAX_SLOTS && self.generations.has_none_free()
     }
 
     // The row of the context that an id names, if it isn't cleaned.
@@ -129,21 +146,21 @@ impl Contexts {
     pub fn born(&self) -> u64
         ensures { result ≡ born self.now.table.slots }
     {
-        self.rows.len() as u64
+        self.generations.born()
     }
 
     /// How many of them are cleaned.
     pub fn cleaned_count(&self) -> u64
         ensures { result ≡ cleaned_count self.now.table.slots }
     {
-        row::cleaned(&self.rows) as u64
+        self.generations.cleaned()
     }
 
     /// How many contexts of an owner aren't cleaned.
     pub fn open_of(&self, owner: Owner) -> u64
         ensures { result ≡ open_of self.now.table.slots owner }
     {
-        self.rows.iter().filter(|row| row.is_open_of(owner)).count() as u64
+        row::open_of(&self.rows, owner) as u64
     }
 
     /// How far the life of a context has come. A live one has as many references as its link, the
@@ -157,10 +174,10 @@ impl Contexts {
         if row.count > 0 {
             return Count::Live(row.count);
         }
-        if self.is_due(id) {
-            return Count::Due;
+        if self.is_cleaning(id) {
+            return Count::Cleaning;
         }
-        Count::Cleaning
+        Count::Due
     }
 
     // What is known of an id that names no context: it was one that is cleaned, or none.
@@ -174,10 +191,12 @@ impl Contexts {
         }
     }
 
-    #[tactic(auto, unfolding(crate::specs::Bags::holds))]
-    fn is_due(&self, id: CtxId) -> bool
-        ensures { result ≡ holds self.now.table.due id }
+    // Of a context without references, whether a worker cleans it up; else it is due.
+    fn is_cleaning(&self, id: CtxId) -> bool
+        requires there { is_some (context_at self.now.table.slots id) ≡ true }
+        requires idle { count_in (carried_of self.now) self.now.table id ≡ 0 }
+        ensures { holds self.now.table.due id ≡ not result }
     {
-        self.due.iter().any(|other| hand::is_same(id, *other))
+        is_any(&self.cleaning, id)
     }
 }

@@ -29,4 +29,4 @@ invariant_of-self c =
     let i = row_named c.self.inside.rows.items c.args.id c.self.view_is c.requires.there in
     let made = c.bump.ensures.rest in
     indexed_kept c.self.invariant i (row_with made.0) made.2 (returns-clause-after c) refl
-    (sound_rewritten (sound_now c.self.invariant c.self.view_is) (row_with made.0) i _ refl refl) refl
+    (sound_rewritten (sound_now c.self.invariant c.self.view_is) (row_with made.0) i _ refl refl) refl refl

@@ -1,9 +1,7 @@
 use Rattle.std.proofs.Common.{◌∙◌}
-use Rattle.fm_ctx.proofs.Words.{sym, ap, ContextsKept, born}
+use Rattle.fm_ctx.proofs.Words.{ap, ContextsKept, born}
 use Rattle.fm_ctx.proofs.Rows.{born_rows}
 use Rattle.fm_ctx.proofs.contexts.Contexts.born.Goals as goal
 
 pub returns : goal.returns
-returns c =
-    c.len.ensures ∙ c.self.inside.rows.ok.0 ∙ sym (born_rows c.self.inside.rows.items)
-    ∙ ap (λ (k : ContextsKept). born k.table.slots) c.self.view_is
+returns c = c.born.ensures ∙ c.self.invariant.account.born ∙ born_rows c.self.inside.rows.items ∙ ap (λ (k : ContextsKept). born k.table.slots) c.self.view_is

@@ -19,4 +19,4 @@ invariant_of-self c =
     let i = row_carrying c.self.invariant c.self.view_is c.args.id c.requires.carried in
     let s = sound_now c.self.invariant c.self.view_is in
     indexed_kept c.self.invariant i brought_back c.bring.ensures (returns c) refl
-    (sound_brought s c.args.worker.0 c.args.id c.requires.within c.requires.carried (within_carried i c.self.view_is) c.requires.room) refl
+    (sound_brought s c.args.worker.0 c.args.id c.requires.within c.requires.carried (within_carried i c.self.view_is) c.requires.room) refl refl

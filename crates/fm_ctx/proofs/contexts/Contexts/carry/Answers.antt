@@ -20,4 +20,4 @@ invariant_of-self c =
     let i = row_held c.self.invariant c.self.view_is c.args.worker.0 c.args.id c.requires.within has in
     let s = sound_now c.self.invariant c.self.view_is in
     indexed_kept c.self.invariant i carried_away c.carry.ensures (returns-clause-after c) refl
-    (sound_carried s c.args.worker.0 c.args.id c.requires.within has (within_carried i c.self.view_is) c.requires.few) refl
+    (sound_carried s c.args.worker.0 c.args.id c.requires.within has (within_carried i c.self.view_is) c.requires.few) refl refl

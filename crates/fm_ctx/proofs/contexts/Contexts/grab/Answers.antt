@@ -16,4 +16,4 @@ pub invariant_of-self : goal.invariant_of-self
 invariant_of-self c =
     let s = sound_now c.self.invariant c.self.view_is in
     indexed_kept c.self.invariant (row_live c.self.invariant c.self.view_is c.args.id c.requires.live) raised c.raise.ensures (returns c) refl
-    (sound_grabbed s c.args.worker.0 c.args.id c.requires.within c.requires.live c.requires.room) refl
+    (sound_grabbed s c.args.worker.0 c.args.id c.requires.within c.requires.live c.requires.room) refl refl

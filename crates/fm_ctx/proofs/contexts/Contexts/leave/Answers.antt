@@ -24,6 +24,7 @@ pub invariant_of-self : goal.invariant_of-self
 invariant_of-self c = record {
   sound = sound_leaks c.self.invariant.sound c.saturating_add-self-inside.result;
   seated = c.self.invariant.seated;
+  account = c.self.invariant.account;
 }
 
 pub returns-clause-table : goal.returns-clause-table

@@ -21,4 +21,4 @@ pub invariant_of-self : goal.invariant_of-self
 invariant_of-self c =
     let i = row_held c.self.invariant c.self.view_is c.args.worker.0 c.args.id c.requires.within c.requires.held in
     indexed_kept c.self.invariant i lowered c.drop_reference.ensures.rows (returns c) c.drop_reference.ensures.capacity
-    (sound_released (sound_now c.self.invariant c.self.view_is) c.args.worker.0 c.args.id c.requires.within c.requires.held) refl
+    (sound_released (sound_now c.self.invariant c.self.view_is) c.args.worker.0 c.args.id c.requires.within c.requires.held) refl refl

@@ -27,5 +27,5 @@ pub invariant_of-self : goal.invariant_of-self
 invariant_of-self c =
     let i = row_live c.self.invariant c.self.view_is c.args.id c.requires.live in
     indexed_set c.self.invariant i (linked_row c.args.object) _ c.link.ensures (returns c) refl
-    (sound_linked (sound_now c.self.invariant c.self.view_is) c.args.id c.args.object c.requires.live c.requires.free) c.put.ensures
+    (sound_linked (sound_now c.self.invariant c.self.view_is) c.args.id c.args.object c.requires.live c.requires.free) c.put.ensures refl
     (linked_seat i c.args.object c.index.result.now c.index.ensures)

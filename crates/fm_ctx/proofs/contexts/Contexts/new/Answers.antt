@@ -1,7 +1,9 @@
 use Rattle.std.proofs.Common.{◌≡◌, ◌∙◌}
-use Rattle.fm_ctx.proofs.Words.{List, [], Option, None, replicate, deque_capacity, refl, sym, ap, arith, CtxId, seats_of}
+use Rattle.fm_ctx.proofs.Words.{List, [], Option, None, replicate, deque_capacity, refl, sym, ap, arith, CtxId, Row, seats_of, lives_of, subst}
+use Rattle.fm_ctx.specs.Generations.{IsAccount}
 use Rattle.fm_ctx.proofs.Sound.{sound_as}
 use Rattle.fm_ctx.proofs.Shown.{shown}
+use Rattle.fm_ctx.proofs.Accounts.{account_none}
 use Rattle.fm_ctx.proofs.Opening.{sound_empty}
 use Rattle.fm_ctx.proofs.contexts.Contexts.new.Goals as goal
 
@@ -12,7 +14,9 @@ invariant_of-result c =
     let cleaning = c.loop-worker.invariant.cleaning ∙ ap (λ n. replicate {A = Option CtxId} n None) all in
     record {
       sound = sound_as c.new-2.ensures.items
-          (shown [] 0 c.new-2.ensures.items refl refl hands c.new-4.ensures.items cleaning) refl
-          (sound_empty (deque_capacity c.new-4.result));
+          (shown [] 0 c.new-2.ensures.items refl refl hands c.new-5.ensures.items cleaning) refl
+          (sound_empty (deque_capacity c.new-5.result));
       seated = c.in_ok-new-2.ensures ∙ sym (ap seats_of c.new-2.ensures.items);
+      account = subst (λ (rows : List Row). IsAccount (lives_of rows) c.new-3.result) (sym c.new-2.ensures.items)
+          (account_none c.new-3.ensures.free c.new-3.ensures.born c.new-3.ensures.living);
     }

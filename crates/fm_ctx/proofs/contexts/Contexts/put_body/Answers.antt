@@ -20,4 +20,4 @@ invariant_of-self c =
     let i = row_named c.self.inside.rows.items c.args.id c.self.view_is c.requires.there in
     let made = c.write_body.ensures in
     indexed_kept c.self.invariant i (row_with made.0) made.2 (returns c) refl
-    (sound_rewritten (sound_now c.self.invariant c.self.view_is) (row_with made.0) i c.args.bytes.now refl refl) refl
+    (sound_rewritten (sound_now c.self.invariant c.self.view_is) (row_with made.0) i c.args.bytes.now refl refl) refl refl

@@ -37,4 +37,4 @@ invariant_of-self-2 c =
     let first : slice_get c.args.self.now.table.due 0 ≡ Some c.in_ok-id.id =
     ap (λ (k : ContextsKept). slice_get k.table.due 0) (sym c.self.view_is) ∙ ap (λ (due : List CtxId). slice_get due 0) c.in_ok-id.ensures.items in
     indexed_kept c.self.invariant i (row_with c.new.result) c.take_body-body.ensures.rest (returns-clause-after c) c.in_ok-id.ensures.capacity
-    (sound_taken s (row_with c.new.result) c.args.worker.0 i c.requires.within first c.requires.idle refl refl) refl
+    (sound_taken s (row_with c.new.result) c.args.worker.0 i c.requires.within first c.requires.idle refl refl) refl refl

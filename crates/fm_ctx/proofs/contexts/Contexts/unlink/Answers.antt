@@ -30,4 +30,4 @@ invariant_of-self c =
     let i = row_linked c.self.invariant c.self.view_is c.args.id c.requires in
     let is = updated_twice unlinked_row lowered c.self.inside.rows.items c.args.id.slot c.drop_reference.ensures.rows c.unlink.ensures in
     indexed_set c.self.invariant i dropped_row None is (returns c) c.drop_reference.ensures.capacity
-    (sound_unlinked (sound_now c.self.invariant c.self.view_is) c.args.id c.requires) c.take.ensures (unlinked_seat i.row)
+    (sound_unlinked (sound_now c.self.invariant c.self.view_is) c.args.id c.requires) c.take.ensures refl (unlinked_seat i.row)

@@ -20,4 +20,4 @@ invariant_of-self c =
     let s = sound_now c.self.invariant c.self.view_is in
     let i = row_linked c.self.invariant c.self.view_is c.args.id c.requires.linked in
     indexed_set c.self.invariant i unlinked_row None c.unlink.ensures (returns c) refl
-    (sound_unlinked_into s c.args.worker.0 c.args.id c.requires.within c.requires.linked c.requires.room) c.take.ensures (unlinked_seat i.row)
+    (sound_unlinked_into s c.args.worker.0 c.args.id c.requires.within c.requires.linked c.requires.room) c.take.ensures refl (unlinked_seat i.row)

@@ -1,6 +1,7 @@
 mod Words
 pub mod Paths
 pub mod Changes
+pub mod Counted
 pub mod Attached
 pub mod Operated
 pub mod Holding
@@ -8,3 +9,4 @@ pub mod Called
 pub mod Linked
 pub mod Cleaned
 pub mod Losing
+pub mod Rising

@@ -1,9 +1,10 @@
 -- A stream that is found by its path is at that path.
-use Rattle.fm_core.proofs.Words.{Some, sym, ap, inl, inr, cases_Bool, and_parts, none-some, same_Some, VolumeId, FileStream}
-use Rattle.std.proofs.Common.{◌≡◌, ℕ, ◌==◌, cond, List, [], ◌∷◌, ◌∙◌}
-use Rattle.std.specs.Prelude.{find}
+use Rattle.fm_core.proofs.Words.{None, Option, Some, refl, sym, ap, inl, inr, cases_Bool, and_parts, none-some, same_Some, VolumeId, FileStream}
+use Rattle.std.proofs.Common.{Bor, ◌≡◌, ℕ, ◌==◌, cond, List, [], ◌∷◌, ◌∙◌}
+use Rattle.std.specs.Prelude.{IfSome, find, option_copied, option_map}
 use Rattle.std.specs.Cmp.Lexicographic.{pointwise, bytes_decides}
-use Rattle.fm_world.specs.Files.{is_at_path}
+use Rattle.fm_world.specs.Files.{is_at_path, number_or}
+use Rattle.fm_core.specs.FilesKept.{stream_or}
 
 pub found_path : (v : VolumeId) (path : List ℕ) (rows : List FileStream) (x : FileStream) → find (is_at_path v path) rows ≡ Some x → x.path ≡ path
 found_path v path [] x found = absurd (none-some x found)
@@ -13,3 +14,13 @@ found_path v path (y ∷ rows) x found = elim (cases_Bool (is_at_path v path y))
       ap (λ (z : FileStream). z.path) (sym same) ∙ (bytes_decides y.path path).0 (and_parts (y.volume.0 == v.0) (pointwise ◌==◌ y.path path) passes).1
   | inr fails ↦ found_path v path rows x (sym (ap (λ b. cond b (Some y) (find (is_at_path v path) rows)) fails) ∙ found)
 ]
+
+-- the number of the stream that was found, or of the one that comes along
+pub found_number : (n : ℕ) (found : Option FileStream) → stream_or n (option_map (λ (x : FileStream). x.number) found) ≡ number_or n found
+found_number n None = refl
+found_number n (Some x) = refl
+
+pub found_there : (v : VolumeId) (path : List ℕ) (rows : List FileStream) (found : Option (Bor FileStream)) → option_copied found ≡ find (is_at_path v path) rows
+    → IfSome found (λ row. row.now.path ≡ path)
+found_there v path rows None is = _
+found_there v path rows (Some row) is = found_path v path rows row.now (sym is)

@@ -1,11 +1,11 @@
 //! Streams and handles.
 
-ghost use Rattle.std.specs.Prelude.{◌≡◌, ℕ, ◌<◌, ◌≤◌, ◌+◌, ◌-◌, ◌^◌, true, cond, Some, IfOk, OnOk, length, option_copied, option_map, find, position, vec_capacity};
+ghost use Rattle.std.specs.Prelude.{◌≡◌, ℕ, ◌<◌, ◌≤◌, ◌+◌, ◌-◌, ◌^◌, true, false, cond, Some, IfOk, OnOk, All, AllPairs, length, count_by, option_copied, option_map, find, position, slice_index_or, IfSome, vec_capacity};
 ghost use Rattle.fm_types.specs.Lists.{change_first, without_first};
-ghost use Rattle.fm_world.specs.Files.{empty_files, is_handle, is_stream, is_at_path, with_phase, with_mark, stream_at, stream_of_path, handle_at, has_handle_on, has_other_handle, is_marked, stream_for, created, phased, marked, opened, closed, torn_down, left, after_base};
+ghost use Rattle.fm_world.specs.Files.{empty_files, is_handle, is_stream, is_on, is_at_path, with_phase, with_mark, stream_at, stream_of_path, handle_at, has_handle_on, has_other_handle, is_marked, created, phased, marked, opened, closed, torn_down, left, after_base};
 ghost use Rattle.fm_types.specs.declared.operation.Operation.TheVariants as kind;
 ghost use Rattle.fm_flow.specs.Answered.{is_success};
-ghost use Rattle.fm_core.specs.FilesKept.{paths_of};
+ghost use Rattle.fm_core.specs.FilesKept.{paths_of, found_at, stream_or, IsBefore, IsOlder, AreCounted, changed_at, without_at, is_own};
 ghost use Rattle.fm_core.specs.Targets.{opens};
 
 use crate::target::Target;
@@ -18,12 +18,25 @@ use std::marker::Model;
 pub(crate) const MAX_HANDLES: usize = 4096;
 
 /// A path with an owner for each that a create has: the stream, where the create brings one along, the
-/// operation, and its parameters.
+/// operation, and its parameters; and the stream that the path has already.
 #[derive(Drop)]
 pub(crate) struct CreatePaths {
     pub stream: SharedPath,
     pub operation: SharedPath,
     pub params: SharedPath,
+    pub found: Option<StreamId>,
+}
+
+impl CreatePaths {
+    /// The stream of the path, which a create of that number brings along where there is none.
+    pub(crate) fn stream_for(&self, number: u64) -> StreamId
+        ensures { result ≡ stream_or number self.now.found }
+    {
+        match self.found {
+            Some(stream) => stream,
+            None => StreamId(number),
+        }
+    }
 }
 
 /// The streams in the order of their creates, and the open handles in the order of their numbers.
@@ -31,19 +44,21 @@ pub(crate) struct CreatePaths {
 pub(crate) struct Files {
     alloc: Global,
     streams: Vec<FileStream>,
+    /// How many handles are open on the stream of each place.
+    opens: Vec<u32>,
     handles: Vec<FileHandle>,
     next: u64,
 }
 
 impl Model for Files {
-    ghost use Rattle.std.specs.Prelude.{◌≤◌, vec_capacity};
-    ghost use Rattle.fm_core.specs.FilesKept.{FilesKept};
+    ghost use Rattle.std.specs.Prelude.{◌≤◌, min, vec_capacity};
+    ghost use Rattle.fm_core.specs.FilesKept.{FilesKept, AreRising, AreCounted};
 
     ghost Value = { FilesKept };
 
-    ghost view = { λ f. record { table = record { streams = f.streams.items; handles = f.handles.items; next = f.next }; room = vec_capacity f.streams } };
+    ghost view = { λ f. record { table = record { streams = f.streams.items; handles = f.handles.items; next = f.next }; room = min (vec_capacity f.streams) (vec_capacity f.opens) } };
 
-    ghost invariant = { λ f. 4096 ≤ vec_capacity f.handles };
+    ghost invariant = { λ f. (4096 ≤ vec_capacity f.handles) × AreRising (record { streams = f.streams.items; handles = f.handles.items; next = f.next }) × AreCounted f.streams.items f.handles.items f.opens.items };
 }
 
 impl Files {
@@ -54,6 +69,7 @@ impl Files {
         Ok(Files {
             alloc,
             streams: Vec::new(alloc),
+            opens: Vec::new(alloc),
             handles: Vec::with_capacity(alloc, MAX_HANDLES)?,
             next: 0,
         })
@@ -109,27 +125,20 @@ impl Files {
     }
 
     /// Whether a handle is open on the stream.
+    #[tactic(auto, using(crate::proofs::Counted::any_counted))]
     pub(crate) fn has_handle_on(&self, stream: StreamId) -> bool
         ensures { result ≡ has_handle_on stream self.now.table }
     {
-        self.handles.iter().any(|row| row.stream.0 == stream.0)
+        opens_on(&self.streams, &self.opens, &self.handles, stream) > 0
     }
 
     /// Whether a handle but that one is open on the stream.
+    #[tactic(auto, using(crate::proofs::Counted::others_counted))]
     pub(crate) fn has_other_handle(&self, stream: StreamId, handle: HandleId) -> bool
         ensures { result ≡ has_other_handle stream handle self.now.table }
     {
-        self.handles.iter().any(|row| row.stream.0 == stream.0 && !(row.number.0 == handle.0))
-    }
-
-    /// The stream of a path, which a create of that number brings along where there is none.
-    pub(crate) fn stream_for(&self, volume: VolumeId, path: &RelPath, number: u64) -> StreamId
-        ensures { result ≡ stream_for volume path.now number self.now.table }
-    {
-        match stream_of_path(&self.streams, volume, path) {
-            Some(row) => row.number,
-            None => StreamId(number),
-        }
+        let own = own_on(self.handle(handle), stream);
+        opens_on(&self.streams, &self.opens, &self.handles, stream) > own
     }
 
     /// The path of a stream that wasn't torn down, with one more owner; the error says that no more can
@@ -152,40 +161,45 @@ impl Files {
     ) -> Result<CreatePaths, AllocError>
         ensures table { self.new.table ≡ self.old.table }
         ensures room { OnOk result (length self.new.table.streams < self.new.room) }
-        ensures paths { IfOk result (λ paths. paths ≡ paths_of path) }
+        ensures paths { IfOk result (λ paths. paths ≡ paths_of path (found_at volume path self.old.table)) }
     {
         self.streams.try_reserve(1)?;
-        let stream = self.shared(volume, path)?;
+        self.opens.try_reserve(1)?;
+        let row = stream_of_path(&self.streams, volume, &path);
+        let found = number_of(row);
+        let stream = shared(self.alloc, row, path)?;
         let operation = stream.share()?;
         let params = stream.share()?;
         Ok(CreatePaths {
             stream,
             operation,
             params,
+            found,
         })
     }
 
-    fn shared(&self, volume: VolumeId, path: RelPath) -> Result<SharedPath, AllocError>
-        ensures { IfOk result (λ shared. shared ≡ path) }
-    {
-        match stream_of_path(&self.streams, volume, &path) {
-            Some(row) => row.path.share(),
-            None => SharedPath::new(self.alloc, path),
-        }
-    }
-
     /// A create of that number begins on a path: where it has no stream yet, it brings one along.
-    pub(crate) fn create(&mut self, volume: VolumeId, path: SharedPath, number: u64)
-        requires { length self.old.table.streams < self.old.room }
+    pub(crate) fn create(
+        &mut self,
+        volume: VolumeId,
+        path: SharedPath,
+        found: Option<StreamId>,
+        number: u64,
+    )
+        requires found { found ≡ found_at volume path self.old.table }
+        requires room { length self.old.table.streams < self.old.room }
+        requires fresh { All (λ (x : FileStream). x.number.0 < number) self.old.table.streams }
+        requires unused { has_handle_on (record { 0 = number }) self.old.table ≡ false }
         ensures { self.new.table ≡ created volume path number self.old.table }
     {
-        if stream_of_path(&self.streams, volume, path.path()).is_none() {
+        if found.is_none() {
             self.streams.push_reserved(FileStream {
                 number: StreamId(number),
                 volume,
                 path,
                 is_marked: false,
             });
+            self.opens.push_reserved(0);
         }
     }
 
@@ -209,6 +223,7 @@ impl Files {
         requires number { self.old.table.next < 2 ^ 64 - 1 }
         ensures { self.new.table ≡ opened stream self.old.table }
     {
+        add_open(&self.streams, &mut self.opens, stream);
         self.handles.push_reserved(FileHandle {
             number: HandleId(self.next),
             stream,
@@ -221,7 +236,9 @@ impl Files {
     fn close(&mut self, handle: HandleId)
         ensures { self.new.table ≡ closed handle self.old.table }
     {
-        close_in(&mut self.handles, handle);
+        if let Some(row) = close_in(&mut self.handles, handle) {
+            take_open(&self.streams, &mut self.opens, row.stream);
+        }
     }
 
     /// A stream without a handle, and without a create under way, is torn down.
@@ -229,7 +246,7 @@ impl Files {
         ensures { self.new.table ≡ left stream is_created self.old.table }
     {
         if !(self.has_handle_on(stream) || is_created) {
-            tear_in(&mut self.streams, stream);
+            tear_in(&mut self.streams, &mut self.opens, stream);
         }
     }
 
@@ -287,28 +304,70 @@ fn is_success(status: Status) -> bool
     matches!(status, Status::Success)
 }
 
-fn handle_in(handles: &[FileHandle], handle: HandleId) -> Option<&FileHandle>
-    ensures { option_copied result ≡ find (is_handle handle) handles.now }
-{
-    handles.iter().find(|row| row.number.0 == handle.0)
-}
-
-fn index_of_handle(handles: &[FileHandle], handle: HandleId) -> Option<usize>
+// By halves: the numbers rise.
+fn search_handle(handles: &[FileHandle], handle: HandleId) -> Option<usize>
+    requires { AllPairs IsOlder handles.now }
     ensures { result ≡ position (is_handle handle) handles.now }
 {
-    handles.iter().position(|row| row.number.0 == handle.0)
+    handles
+        .binary_search_by_key(&handle.0, |row| row.number.0)
+        .ok()
 }
 
-fn index_of_stream(streams: &[FileStream], stream: StreamId) -> Option<usize>
+// Mostly it is the last one.
+fn index_of_handle(handles: &[FileHandle], handle: HandleId) -> Option<usize>
+    requires { AllPairs IsOlder handles.now }
+    ensures { result ≡ position (is_handle handle) handles.now }
+{
+    let count = handles.len();
+    if count > 0 && handles[count - 1].number.0 == handle.0 {
+        return Some(count - 1);
+    }
+    search_handle(handles, handle)
+}
+
+#[tactic(auto, using(fm_types::proofs::Firsts::absent))]
+fn handle_in(handles: &[FileHandle], handle: HandleId) -> Option<&FileHandle>
+    requires { AllPairs IsOlder handles.now }
+    ensures { option_copied result ≡ find (is_handle handle) handles.now }
+{
+    match index_of_handle(handles, handle) {
+        Some(at) => Some(&handles[at]),
+        None => None,
+    }
+}
+
+// By halves: the numbers rise.
+fn search_stream(streams: &[FileStream], stream: StreamId) -> Option<usize>
+    requires { AllPairs IsBefore streams.now }
     ensures { result ≡ position (is_stream stream) streams.now }
 {
-    streams.iter().position(|row| row.number.0 == stream.0)
+    streams
+        .binary_search_by_key(&stream.0, |row| row.number.0)
+        .ok()
 }
 
+// Mostly it is the last one.
+fn index_of_stream(streams: &[FileStream], stream: StreamId) -> Option<usize>
+    requires { AllPairs IsBefore streams.now }
+    ensures { result ≡ position (is_stream stream) streams.now }
+{
+    let count = streams.len();
+    if count > 0 && streams[count - 1].number.0 == stream.0 {
+        return Some(count - 1);
+    }
+    search_stream(streams, stream)
+}
+
+#[tactic(auto, using(fm_types::proofs::Firsts::absent))]
 fn stream_in(streams: &[FileStream], stream: StreamId) -> Option<&FileStream>
+    requires { AllPairs IsBefore streams.now }
     ensures { option_copied result ≡ find (is_stream stream) streams.now }
 {
-    streams.iter().find(|row| row.number.0 == stream.0)
+    match index_of_stream(streams, stream) {
+        Some(at) => Some(&streams[at]),
+        None => None,
+    }
 }
 
 fn stream_of_path<'a>(
@@ -323,7 +382,28 @@ fn stream_of_path<'a>(
         .find(|row| row.volume.0 == volume.0 && row.path.path() == path)
 }
 
+fn number_of(row: Option<&FileStream>) -> Option<StreamId>
+    ensures { result ≡ option_map (λ (row : FileStream). row.number) (option_copied row.entry) }
+{
+    match row {
+        Some(row) => Some(row.number),
+        None => None,
+    }
+}
+
+/// A path, which is shared with its stream where it has one.
+fn shared(alloc: Global, row: Option<&FileStream>, path: RelPath) -> Result<SharedPath, AllocError>
+    requires { IfSome row (λ row. row.now.path ≡ path) }
+    ensures { IfOk result (λ shared. shared ≡ path) }
+{
+    match row {
+        Some(row) => row.path.share(),
+        None => SharedPath::new(alloc, path),
+    }
+}
+
 fn phase_in(handles: &mut Vec<FileHandle>, handle: HandleId, phase: HandlePhase)
+    requires { AllPairs IsOlder handles.old.items }
     ensures items { handles.new.items ≡ change_first (is_handle handle) (with_phase phase) handles.old.items }
     ensures capacity { vec_capacity handles.new ≡ vec_capacity handles.old }
 {
@@ -333,6 +413,7 @@ fn phase_in(handles: &mut Vec<FileHandle>, handle: HandleId, phase: HandlePhase)
 }
 
 fn mark_in(streams: &mut Vec<FileStream>, stream: StreamId)
+    requires { AllPairs IsBefore streams.old.items }
     ensures { streams.new.items ≡ change_first (is_stream stream) with_mark streams.old.items }
 {
     if let Some(at) = index_of_stream(streams, stream) {
@@ -340,19 +421,82 @@ fn mark_in(streams: &mut Vec<FileStream>, stream: StreamId)
     }
 }
 
-fn close_in(handles: &mut Vec<FileHandle>, handle: HandleId)
+fn close_in(handles: &mut Vec<FileHandle>, handle: HandleId) -> Option<FileHandle>
+    requires { AllPairs IsOlder handles.old.items }
+    ensures found { result ≡ find (is_handle handle) handles.old.items }
     ensures items { handles.new.items ≡ without_first (is_handle handle) handles.old.items }
     ensures capacity { vec_capacity handles.new ≡ vec_capacity handles.old }
 {
-    if let Some(at) = index_of_handle(handles, handle) {
-        handles.remove(at);
+    match index_of_handle(handles, handle) {
+        Some(at) => Some(handles.remove(at)),
+        None => None,
     }
 }
 
-fn tear_in(streams: &mut Vec<FileStream>, stream: StreamId)
-    ensures { streams.new.items ≡ without_first (is_stream stream) streams.old.items }
+fn tear_in(streams: &mut Vec<FileStream>, opens: &mut Vec<u32>, stream: StreamId)
+    requires rising { AllPairs IsBefore streams.old.items }
+    requires places { length opens.old.items ≡ length streams.old.items }
+    ensures streams { streams.new.items ≡ without_first (is_stream stream) streams.old.items }
+    ensures opens { opens.new.items ≡ without_at (position (is_stream stream) streams.old.items) opens.old.items }
 {
     if let Some(at) = index_of_stream(streams, stream) {
         streams.remove(at);
+        opens.remove(at);
+    }
+}
+
+/// How many of the handles on a stream are that one.
+fn own_on(handle: Option<FileHandle>, stream: StreamId) -> usize
+    ensures { result ≡ cond (is_own stream handle) 1 0 }
+{
+    match handle {
+        Some(row) if row.stream.0 == stream.0 => 1,
+        Some(_) | None => 0,
+    }
+}
+
+/// How many handles are open on a stream.
+fn opens_on(
+    streams: &[FileStream],
+    opens: &[u32],
+    handles: &[FileHandle],
+    stream: StreamId,
+) -> usize
+    requires rising { AllPairs IsBefore streams.now }
+    requires counted { AreCounted streams.now handles.now opens.now }
+    ensures { result ≡ count_by (is_on stream) handles.now }
+{
+    match index_of_stream(streams, stream) {
+        Some(at) => opens[at] as usize,
+        None => handles
+            .iter()
+            .filter(|row| row.stream.0 == stream.0)
+            .count(),
+    }
+}
+
+/// One more handle is open on a stream.
+fn add_open(streams: &[FileStream], opens: &mut Vec<u32>, stream: StreamId)
+    requires rising { AllPairs IsBefore streams.now }
+    requires places { length opens.old.items ≡ length streams.now }
+    requires few { All (λ n. n < 4096) opens.old.items }
+    ensures items { opens.new.items ≡ changed_at (λ n. n + 1) (position (is_stream stream) streams.now) opens.old.items }
+    ensures capacity { vec_capacity opens.new ≡ vec_capacity opens.old }
+{
+    if let Some(at) = index_of_stream(streams, stream) {
+        opens[at] += 1;
+    }
+}
+
+/// One handle less is open on a stream.
+fn take_open(streams: &[FileStream], opens: &mut Vec<u32>, stream: StreamId)
+    requires rising { AllPairs IsBefore streams.now }
+    requires places { length opens.old.items ≡ length streams.now }
+    requires some { IfSome (position (is_stream stream) streams.now) (λ k. 1 ≤ slice_index_or opens.old.items k 0) }
+    ensures items { opens.new.items ≡ changed_at (λ n. n - 1) (position (is_stream stream) streams.now) opens.old.items }
+    ensures capacity { vec_capacity opens.new ≡ vec_capacity opens.old }
+{
+    if let Some(at) = index_of_stream(streams, stream) {
+        opens[at] -= 1;
     }
 }

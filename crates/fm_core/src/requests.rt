@@ -1,15 +1,17 @@
 //! Requests: how operations begin.
 
-ghost use Rattle.std.specs.Prelude.{◌≡◌, ◌<◌, ◌||◌, ◌∷◌, false, cond, Some, None, MatchResult, OnErr, length};
+ghost use Rattle.std.specs.Prelude.{◌≡◌, ◌<◌, All, ◌||◌, ◌∷◌, false, cond, Some, None, MatchResult, OnErr, length};
 ghost use Rattle.fm_types.specs.Refusals.{first_of};
 ghost use Rattle.fm_stack.specs.Events.{is_mounted_phase};
 ghost use Rattle.fm_data.specs.Params.{operation_of};
 ghost use Rattle.fm_flow.specs.Creates.{is_create};
 ghost use Rattle.fm_flow.specs.Table.{is_full};
 ghost use Rattle.fm_world.specs.Requests.{phase_refusal};
-ghost use Rattle.fm_world.specs.Files.{created};
+ghost use Rattle.fm_world.specs.Files.{created, has_handle_on};
+ghost use Rattle.fm_world.specs.declared.file.FileStream.{FileStream};
 ghost use Rattle.fm_world.specs.Events.{Begins, has_no_handle_left, moved_on, asked_refused, volume_refusals};
 ghost use Rattle.fm_world.specs.Hands.{KeepsHands};
+ghost use Rattle.fm_core.specs.FilesKept.{found_at};
 ghost use Rattle.fm_core.specs.Begun.{Asks, IsAsked, refusal_by};
 
 use crate::files::{Files, MAX_HANDLES};
@@ -18,7 +20,7 @@ use fm_data::{Params, Request};
 use fm_flow::Flow;
 use fm_stack::VolumePhase;
 use fm_types::{
-    CreateMode, HandleId, OpId, Operation, RelPath, Role, SharedPath, Status, VolumeId,
+    CreateMode, HandleId, OpId, Operation, RelPath, Role, SharedPath, Status, StreamId, VolumeId,
 };
 use fm_world::{FileHandle, HandlePhase};
 
@@ -69,12 +71,22 @@ fn phase_refusal(flow: &Flow, operation: Operation, phase: HandlePhase) -> Optio
 }
 
 /// A create that began is on its path's stream.
-fn note_create(files: &mut Files, has_begun: bool, volume: VolumeId, path: SharedPath, number: u64)
-    requires { length files.old.table.streams < files.old.room }
+fn note_create(
+    files: &mut Files,
+    has_begun: bool,
+    volume: VolumeId,
+    path: SharedPath,
+    found: Option<StreamId>,
+    number: u64,
+)
+    requires found { found ≡ found_at volume path files.old.table }
+    requires room { length files.old.table.streams < files.old.room }
+    requires fresh { All (λ (x : FileStream). x.number.0 < number) files.old.table.streams }
+    requires unused { has_handle_on (record { 0 = number }) files.old.table ≡ false }
     ensures { files.new.table ≡ cond has_begun (created volume path number files.old.table) files.old.table }
 {
     if has_begun {
-        files.create(volume, path, number);
+        files.create(volume, path, found, number);
     }
 }
 
@@ -184,7 +196,7 @@ impl State {
             return Err(Status::NoMemory);
         };
         let number = self.flow.next_number();
-        let stream = self.files.stream_for(volume, paths.stream.path(), number);
+        let stream = paths.stream_for(number);
         let born = self.stack.births();
         let params = Params::Create {
             path: paths.params,
@@ -194,7 +206,14 @@ impl State {
         let begun = self
             .flow
             .begin(volume, Some(stream), None, born, path, params);
-        note_create(&mut self.files, begun.is_ok(), volume, paths.stream, number);
+        note_create(
+            &mut self.files,
+            begun.is_ok(),
+            volume,
+            paths.stream,
+            paths.found,
+            number,
+        );
         begun
     }
 

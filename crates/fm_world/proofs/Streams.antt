@@ -40,7 +40,7 @@ none_found : {A : Type 0} (test : A → Bool) (rs : List A) → find test rs ≡
 none_found test [] h = All-nil (λ x. test x ≡ false)
 none_found test (x ∷ rs) h = grind (arith, (none_found test rs))
 
-all_kept : {A : Type 0} (P : A → Type 0) (test : A → Bool) (f : A → A) (rs : List A) → ((x : A) → P x → P (f x)) → All P rs → All P (change_first test f rs)
+pub all_kept : {A : Type 0} (P : A → Type 0) (test : A → Bool) (f : A → A) (rs : List A) → ((x : A) → P x → P (f x)) → All P rs → All P (change_first test f rs)
 all_kept P test f rs keeps h = all_change P test f rs (λ r found. keeps r (found_holds P test rs r h found)) h
 
 pairs_head : {A : Type 0} (R : A → A → Type 0) (x : A) (xs : List A) → AllPairs R (x ∷ xs) → All (R x) xs
@@ -49,7 +49,7 @@ pairs_head R x xs h = λ k d within. h 0 (suc k) d (omega arith) (omega (arith, 
 pairs_tail : {A : Type 0} (R : A → A → Type 0) (x : A) (xs : List A) → AllPairs R (x ∷ xs) → AllPairs R xs
 pairs_tail R x xs h = λ i j d below within. h (suc i) (suc j) d (omega (arith, below)) (omega (arith, within))
 
-pairs_change : {A : Type 0} (R : A → A → Type 0) (test : A → Bool) (f : A → A) (rs : List A) → ((x y : A) → R x y → R (f x) y) → ((x y : A) → R x y → R x (f y))
+pub pairs_change : {A : Type 0} (R : A → A → Type 0) (test : A → Bool) (f : A → A) (rs : List A) → ((x y : A) → R x y → R (f x) y) → ((x y : A) → R x y → R x (f y))
     → AllPairs R rs → AllPairs R (change_first test f rs)
 pairs_change R test f [] front back h = h
 pairs_change R test f (x ∷ rs) front back h =
@@ -59,7 +59,7 @@ pairs_change R test f (x ∷ rs) front back h =
     (λ e. AllPairs-cons R (f x) rs (λ k d l. front x (get_or rs k d) (head k d l)) tail)
     (λ e. AllPairs-cons R x (change_first test f rs) (all_kept (R x) test f rs (back x) head) (pairs_change R test f rs front back tail))
 
-pairs_without : {A : Type 0} (R : A → A → Type 0) (test : A → Bool) (rs : List A) → AllPairs R rs → AllPairs R (without_first test rs)
+pub pairs_without : {A : Type 0} (R : A → A → Type 0) (test : A → Bool) (rs : List A) → AllPairs R rs → AllPairs R (without_first test rs)
 pairs_without R test [] h = h
 pairs_without R test (x ∷ rs) h =
     let tail = pairs_tail R x rs h in

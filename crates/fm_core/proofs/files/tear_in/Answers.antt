@@ -2,12 +2,12 @@ use Rattle.fm_core.proofs.Words.{position, ap, sym, stands_there, absent, withou
 use Rattle.std.proofs.Common.{◌∙◌}
 use Rattle.fm_core.proofs.files.tear_in.Goals as goal
 
-pub returns-in-Some : goal.returns-in-Some
-returns-in-Some c =
+pub returns-in-Some-clause-streams : goal.returns-in-Some-clause-streams
+returns-in-Some-clause-streams c =
     c.remove.ensures.items ∙ (stands_there (is_stream c.args.stream) c.args.streams.now.items c.in-Some.at c.remove.result
     (ap (position (is_stream c.args.stream)) (sym c.deref.ensures.value) ∙ sym c.index_of_stream.ensures ∙ c.in-Some.is)).goes
 
-pub returns-in_default : goal.returns-in_default
-returns-in_default c =
+pub returns-in_default-clause-streams : goal.returns-in_default-clause-streams
+returns-in_default-clause-streams c =
     sym (without_none (is_stream c.args.stream) c.args.streams.now.items (absent (is_stream c.args.stream) c.args.streams.now.items
     (ap (position (is_stream c.args.stream)) (sym c.deref.ensures.value) ∙ sym c.index_of_stream.ensures ∙ c.in_default.is)))

@@ -1,19 +1,22 @@
-use Rattle.fm_core.proofs.Words.{Some, None, Err, ap, sym, subst, is_ok, first_of, StreamId, is_full, World, FileTable, created, stream_for}
+use Rattle.fm_core.proofs.Words.{Some, None, Err, ap, sym, subst, false, is_ok, first_of, StreamId, is_full, World, FileTable, created, stream_for}
 use Rattle.fm_core.proofs.Words.{Begins, volume_refusals, has_no_handle_left, IsSound, begin_does, the_view}
 use Rattle.std.proofs.Common.{◌≡◌, ℕ, List, ◌∙◌}
 use Rattle.std.specs.Prelude.{◌||◌, cond}
 use Rattle.fm_types.specs.declared.status.Status.TheVariants.{NoMemory}
 use Rattle.fm_data.specs.declared.params.Params.TheVariants as params
-use Rattle.fm_core.specs.FilesKept.{paths_of}
+use Rattle.fm_core.specs.FilesKept.{found_at, paths_of, stream_or}
+use Rattle.fm_core.proofs.Paths.{found_number}
 use Rattle.fm_core.specs.declared.files.CreatePaths.{CreatePaths}
 use Rattle.fm_data.specs.declared.request.Request.TheVariants as request
+use Rattle.fm_core.proofs.Counted.{unused_number}
+use Rattle.fm_world.specs.Files.{has_handle_on, stream_of_path}
 use Rattle.fm_core.proofs.Operated.{Took, creates, begin_tied, begin_wants}
 use Rattle.fm_core.proofs.state.State.create_mounted.Goals as goal
 
 pub returns : goal.returns
 returns c =
     let old = the_view c.self.inside in
-    let given : c.in-Ok.paths ≡ paths_of c.args.path = c.in-Ok.ensures.paths in
+    let given : c.in-Ok.paths ≡ paths_of c.args.path (found_at c.args.volume c.args.path old.files) = c.in-Ok.ensures.paths in
     let event = subst (λ (b : ℕ). Took old.flow c.args.volume (Some c.stream_for-stream.result) None b (Some c.args.path)
     (params.Create c.args.path c.args.mode) c.begin-begun.result c.begin-begun.new.self)
     c.births-born.ensures
@@ -21,9 +24,8 @@ returns c =
     (params.Create q.params c.args.mode) c.begin-begun.result c.begin-begun.new.self)
     given c.begin-begun.ensures) in
     let stream : c.stream_for-stream.result ≡ stream_for c.args.volume c.args.path old.flow.next old.files = c.stream_for-stream.ensures
-    ∙ ap (λ (q : List ℕ). stream_for c.args.volume q c.next_number-number.result c.prepare.new.self.table)
-    (c.path.ensures ∙ ap (λ (q : CreatePaths). q.stream) given)
-    ∙ ap (λ (f : FileTable). stream_for c.args.volume c.args.path c.next_number-number.result f) c.prepare.ensures.table
+    ∙ ap (λ (q : CreatePaths). stream_or c.next_number-number.result q.found) given
+    ∙ found_number c.next_number-number.result (stream_of_path c.args.volume c.args.path old.files)
     ∙ ap (λ (n : ℕ). stream_for c.args.volume c.args.path n old.files) c.next_number-number.ensures.result in
     let begins = subst (λ (s : StreamId). Took old.flow c.args.volume (Some s) None old.stack.births (Some c.args.path) (params.Create c.args.path c.args.mode)
     c.begin-begun.result c.begin-begun.new.self) stream event in
@@ -52,3 +54,16 @@ returns-in_default c =
     (sym c.prepare.ensures.table)
     (begin_wants old (request.Create c.args.volume c.args.path c.args.mode)
     (subst (λ (w : World). first_of (volume_refusals w c.args.volume (is_full w.flow || has_no_handle_left w)) ≡ None) (sym c.self.view_is) c.requires)))
+
+pub note_create-requires-clause-unused : goal.note_create-requires-clause-unused
+note_create-requires-clause-unused c =
+    subst (λ (n : ℕ). has_handle_on (record { 0 = n }) c.prepare.new.self.table ≡ false) (sym c.next_number-number.ensures.result)
+    (subst (λ (f : FileTable). has_handle_on (record { 0 = c.self.inside.flow.next }) f ≡ false) (sym c.prepare.ensures.table)
+    (unused_number c.self.inside.flow.next c.self.inside.files.table c.self.invariant.sound.filed.born c.self.invariant.sound.filed.hold.handles_on))
+
+pub note_create-requires-clause-found : goal.note_create-requires-clause-found
+note_create-requires-clause-found c =
+    let given : c.in-Ok.paths ≡ paths_of c.args.path (found_at c.args.volume c.args.path c.self.inside.files.table) = c.in-Ok.ensures.paths in
+    subst (λ (f : FileTable). c.in-Ok.paths.found ≡ found_at c.args.volume c.in-Ok.paths.stream f) (sym c.prepare.ensures.table)
+    (ap (λ (q : CreatePaths). q.found) given
+    ∙ ap (λ (p : List ℕ). found_at c.args.volume p c.self.inside.files.table) (sym (ap (λ (q : CreatePaths). q.stream) given)))

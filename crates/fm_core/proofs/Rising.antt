@@ -1,0 +1,67 @@
+-- Streams and handles stay in the order of their numbers.
+use Rattle.fm_core.proofs.Words.{subst, sym, All, FileHandle, FileStream, HandleId, StreamId, is_handle, is_stream, with_mark}
+use Rattle.std.proofs.Common.{◌≡◌, ℕ, ◌+◌, ◌<◌, List, [], ◌∷◌, ◌++◌, AllPairs, arith}
+use Rattle.std.proofs.lemmas.List.Elements.{All-push}
+use Rattle.std.proofs.lemmas.List.Quantifiers.{all_pairs_push}
+use Rattle.fm_world.specs.declared.file.HandlePhase.{HandlePhase}
+use Rattle.fm_types.specs.Lists.{change_first, without_first}
+use Rattle.fm_types.proofs.Firsts.{all_without}
+use Rattle.fm_world.specs.Files.{with_phase}
+use Rattle.fm_world.proofs.Streams.{all_kept, pairs_change, pairs_without}
+use Rattle.fm_core.specs.FilesKept.{AreRising, IsBefore, IsOlder}
+
+pub created_rising : (x : FileStream) (xs ys : List FileStream) (hs : List FileHandle) (n : ℕ) → ys ≡ xs ++ x ∷ []
+    → All (λ (y : FileStream). y.number.0 < x.number.0) xs
+    → AreRising (record { streams = xs; handles = hs; next = n }) → AreRising (record { streams = ys; handles = hs; next = n })
+created_rising x xs ys hs n is fresh rises =
+    record {
+      streams = subst (AllPairs IsBefore) (sym is) (all_pairs_push IsBefore xs x rises.streams fresh);
+      handles = rises.handles;
+      given = rises.given;
+    }
+
+pub opened_rising : (h : FileHandle) (xs : List FileStream) (hs gs : List FileHandle) (n : ℕ) → gs ≡ hs ++ h ∷ [] → h.number.0 ≡ n
+    → AreRising (record { streams = xs; handles = hs; next = n }) → AreRising (record { streams = xs; handles = gs; next = n + 1 })
+opened_rising h xs hs gs n is last rises =
+    record {
+      streams = rises.streams;
+      handles = subst (AllPairs IsOlder) (sym is) (all_pairs_push IsOlder hs h rises.handles (λ k d within. omega (arith, last, rises.given k d within)));
+      given = subst (All (λ (x : FileHandle). x.number.0 < n + 1)) (sym is) (All-push (λ (x : FileHandle). x.number.0 < n + 1) hs h
+          (λ k d within. omega (arith, rises.given k d within)) (omega (arith, last)));
+    }
+
+pub marked_rising : (s : StreamId) (xs ys : List FileStream) (hs : List FileHandle) (n : ℕ) → ys ≡ change_first (is_stream s) with_mark xs
+    → AreRising (record { streams = xs; handles = hs; next = n }) → AreRising (record { streams = ys; handles = hs; next = n })
+marked_rising s xs ys hs n is rises =
+    record {
+      streams = subst (AllPairs IsBefore) (sym is) (pairs_change IsBefore (is_stream s) with_mark xs (λ x y h. h) (λ x y h. h) rises.streams);
+      handles = rises.handles;
+      given = rises.given;
+    }
+
+pub torn_rising : (s : StreamId) (xs ys : List FileStream) (hs : List FileHandle) (n : ℕ) → ys ≡ without_first (is_stream s) xs
+    → AreRising (record { streams = xs; handles = hs; next = n }) → AreRising (record { streams = ys; handles = hs; next = n })
+torn_rising s xs ys hs n is rises =
+    record {
+      streams = subst (AllPairs IsBefore) (sym is) (pairs_without IsBefore (is_stream s) xs rises.streams);
+      handles = rises.handles;
+      given = rises.given;
+    }
+
+pub phased_rising : (h : HandleId) (to : HandlePhase) (xs : List FileStream) (hs gs : List FileHandle) (n : ℕ) → gs ≡ change_first (is_handle h) (with_phase to) hs
+    → AreRising (record { streams = xs; handles = hs; next = n }) → AreRising (record { streams = xs; handles = gs; next = n })
+phased_rising h to xs hs gs n is rises =
+    record {
+      streams = rises.streams;
+      handles = subst (AllPairs IsOlder) (sym is) (pairs_change IsOlder (is_handle h) (with_phase to) hs (λ x y k. k) (λ x y k. k) rises.handles);
+      given = subst (All (λ (x : FileHandle). x.number.0 < n)) (sym is) (all_kept (λ (x : FileHandle). x.number.0 < n) (is_handle h) (with_phase to) hs (λ x k. k) rises.given);
+    }
+
+pub closed_rising : (h : HandleId) (xs : List FileStream) (hs gs : List FileHandle) (n : ℕ) → gs ≡ without_first (is_handle h) hs
+    → AreRising (record { streams = xs; handles = hs; next = n }) → AreRising (record { streams = xs; handles = gs; next = n })
+closed_rising h xs hs gs n is rises =
+    record {
+      streams = rises.streams;
+      handles = subst (AllPairs IsOlder) (sym is) (pairs_without IsOlder (is_handle h) hs rises.handles);
+      given = subst (All (λ (x : FileHandle). x.number.0 < n)) (sym is) (all_without (λ (x : FileHandle). x.number.0 < n) (is_handle h) hs rises.given);
+    }

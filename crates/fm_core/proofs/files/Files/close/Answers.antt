@@ -1,0 +1,39 @@
+use Rattle.fm_core.proofs.Words.{ap, subst, sym, is_handle, is_stream, position, without_none}
+use Rattle.std.proofs.Common.{◌≤◌, ◌-◌, ◌∙◌, List}
+use Rattle.std.specs.Prelude.{IfSome, slice_index_or}
+use Rattle.fm_world.specs.declared.file.FileHandle.{FileHandle}
+use Rattle.fm_world.specs.declared.file.FileStream.{FileStream}
+use Rattle.fm_core.specs.FilesKept.{AreCounted, changed_at}
+use Rattle.fm_core.proofs.Counted.{closed_counted, closing_counts}
+use Rattle.fm_core.proofs.Rising.{closed_rising}
+use Rattle.fm_core.proofs.files.Files.close.Goals as goal
+
+pub take_open-requires-clause-some : goal.take_open-requires-clause-some
+take_open-requires-clause-some c =
+    subst (λ (xs : List FileStream). IfSome (position (is_stream c.in-Some.row.stream) xs) (λ k. 1 ≤ slice_index_or c.self.inside.opens.items k 0))
+    (sym c.deref.ensures.value)
+    (closing_counts c.args.handle c.in-Some.row c.self.inside.streams.items c.self.inside.handles.items c.self.inside.opens.items
+    (sym c.close_in.ensures.found ∙ c.in-Some.is) c.self.invariant.2)
+
+pub invariant_of-self : goal.invariant_of-self
+invariant_of-self c = (
+  subst (λ n. 4096 ≤ n) (sym c.close_in.ensures.capacity) c.self.invariant.0,
+  closed_rising c.args.handle c.self.inside.streams.items c.self.inside.handles.items c.close_in.new.handles.items c.self.inside.next
+      c.close_in.ensures.items c.self.invariant.1,
+  closed_counted c.args.handle c.in-Some.row c.self.inside.streams.items c.self.inside.handles.items c.close_in.new.handles.items
+      c.self.inside.opens.items c.take_open.new.opens.items c.self.invariant.1.streams (sym c.close_in.ensures.found ∙ c.in-Some.is)
+      c.close_in.ensures.items
+      (c.take_open.ensures.items ∙ ap (λ (xs : List FileStream). changed_at (λ n. n - 1) (position (is_stream c.in-Some.row.stream) xs) c.self.inside.opens.items)
+      c.deref.ensures.value)
+      c.self.invariant.2,
+)
+
+pub invariant_of-self-in_default : goal.invariant_of-self-in_default
+invariant_of-self-in_default c = (
+  subst (λ n. 4096 ≤ n) (sym c.close_in.ensures.capacity) c.self.invariant.0,
+  closed_rising c.args.handle c.self.inside.streams.items c.self.inside.handles.items c.close_in.new.handles.items c.self.inside.next
+      c.close_in.ensures.items c.self.invariant.1,
+  subst (λ (hs : List FileHandle). AreCounted c.self.inside.streams.items hs c.self.inside.opens.items)
+      (sym (c.close_in.ensures.items ∙ without_none (is_handle c.args.handle) c.self.inside.handles.items (sym c.close_in.ensures.found ∙ c.in_default.is)))
+      c.self.invariant.2,
+)

@@ -1,0 +1,5 @@
+use Rattle.fm_core.proofs.Paths.{found_there}
+use Rattle.fm_core.proofs.files.Files.prepare.Goals as goal
+
+pub shared-requires : goal.shared-requires
+shared-requires c = found_there c.args.volume c.args.path _ c.stream_of_path-row.result c.stream_of_path-row.ensures

@@ -1,0 +1,8 @@
+use Rattle.fm_core.proofs.Words.{sym, is_stream}
+use Rattle.std.proofs.Common.{◌∙◌}
+use Rattle.fm_types.proofs.Firsts.{found_read}
+use Rattle.fm_core.proofs.files.stream_in.Goals as goal
+
+pub returns-in-Some : goal.returns-in-Some
+returns-in-Some c =
+    found_read (is_stream c.args.stream) c.args.streams.now c.in-Some.at c.index-streams-at.result (sym c.index_of_stream.ensures ∙ c.in-Some.is) c.index-streams-at.is

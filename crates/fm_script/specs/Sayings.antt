@@ -1,5 +1,5 @@
 -- What a script prints: which line for which answer, and the bytes of each line.
-use Rattle.std.specs.Prelude.{ℕ, ◌==◌, ◌&&◌, ◌++◌, Bool, List, [], ◌∷◌, Option, Some, None, position, codes, decimal, Result, Ok, Err}
+use Rattle.std.specs.Prelude.{ℕ, ◌==◌, ◌&&◌, ◌++◌, Bool, List, [], ◌∷◌, Option, Some, None, ◌+◌, ◌-◌, length, option_map, reverse, position, codes, decimal, Result, Ok, Err}
 use Rattle.fm_types.specs.declared.ids.CtxId.{CtxId}
 use Rattle.fm_types.specs.declared.status.Status.{Status}
 use Rattle.fm_types.specs.declared.status.Status.TheVariants.{Busy, NotHeld, AlreadyDefined}
@@ -35,9 +35,13 @@ abbrev pub said_at : (ℕ → Said) → Option ℕ → Said
 said_at make (Some n) = make n
 said_at make None = Refused NotHeld
 
+-- the number of a context in the order of allocation: of the last of that id, and no id is given twice
+abbrev pub number_in : CtxId → List CtxId → Option ℕ
+number_in c contexts = option_map (λ newer. length contexts - (newer + 1)) (position (is_context c) (reverse contexts))
+
 -- a context, by its number in the order of allocation
 abbrev pub said_context : (ℕ → Said) → List CtxId → CtxId → Said
-said_context make contexts c = said_at make (position (is_context c) contexts)
+said_context make contexts c = said_at make (number_in c contexts)
 
 abbrev pub said_given : Result Given Status → Said
 said_given (Ok (given.Pre i)) = Id word.Pre 105 i.0

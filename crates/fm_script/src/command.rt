@@ -110,6 +110,7 @@ fn is_of_contexts(keyword: Keyword) -> bool
     )
 }
 
+// `load NAME`, with `only-pre`, `only-post` or `bare` behind it or nothing.
 fn read_load(words: &[&[u8]]) -> Result<Task, Status>
     ensures { Loads (map (λ word. word.now) words.now) result }
 {
@@ -138,6 +139,7 @@ fn read_registration(options: &[&[u8]]) -> Result<Registration, Status>
     }
 }
 
+// `only-pre`, `only-post` or `bare`.
 fn read_option(option: &[u8]) -> Result<Registration, Status>
     ensures { result ≡ option_read option.now }
 {
@@ -165,6 +167,7 @@ fn read_option(option: &[u8]) -> Result<Registration, Status>
     })
 }
 
+// `mount NAME`.
 fn read_mount(words: &[&[u8]]) -> Result<Task, Status>
     ensures { Mounts (map (λ word. word.now) words.now) result }
 {
@@ -175,6 +178,7 @@ fn read_mount(words: &[&[u8]]) -> Result<Task, Status>
     Ok(Task::Event(Step::Mount { name }))
 }
 
+// `attach F V NAME ALTITUDE`.
 fn read_attach(state: &State, words: &[&[u8]]) -> Result<Task, Status>
     ensures { Attaches state.now (map (λ word. word.now) words.now) result }
 {
@@ -206,6 +210,7 @@ fn attach_at(
     })
 }
 
+// `setup W F V NAME ALTITUDE`.
 fn read_setup(state: &State, words: &[&[u8]]) -> Result<Task, Status>
     ensures { SetsUp state.now (map (λ word. word.now) words.now) result }
 {
@@ -266,6 +271,7 @@ fn read_place(name: &[u8], altitude: &[u8]) -> Result<(Name, Altitude), Status>
     Ok((name, altitude))
 }
 
+// `setdone W yes`, or `no`.
 fn read_set_done(words: &[&[u8]]) -> Result<Task, Status>
     ensures { result ≡ set_done_read (map (λ word. word.now) words.now) }
 {
@@ -290,6 +296,7 @@ fn yes_or_no(word: &[u8]) -> Result<bool, Status>
     }
 }
 
+// `finish I`.
 fn read_finish(state: &State, words: &[&[u8]]) -> Result<Task, Status>
     ensures { result ≡ finish_read state.now (map (λ word. word.now) words.now) }
 {
@@ -298,6 +305,7 @@ fn read_finish(state: &State, words: &[&[u8]]) -> Result<Task, Status>
     Ok(Task::Event(Step::Finish { instance }))
 }
 
+// `create V PATH MODE`.
 fn read_create(state: &State, words: &[&[u8]]) -> Result<Task, Status>
     ensures { Creates state.now (map (λ word. word.now) words.now) result }
 {
@@ -332,6 +340,7 @@ fn read_create_mode(word: &[u8]) -> Result<CreateMode, Status>
     }
 }
 
+// `list V`.
 fn read_list(state: &State, words: &[&[u8]]) -> Result<Task, Status>
     ensures { result ≡ list_read state.now (map (λ word. word.now) words.now) }
 {
@@ -340,7 +349,7 @@ fn read_list(state: &State, words: &[&[u8]]) -> Result<Task, Status>
     Ok(Task::Event(Step::Begin(Request::List { volume })))
 }
 
-// A worker and an operation.
+// A worker and an operation, as behind `next` and `go`.
 fn read_turn(state: &State, words: &[&[u8]]) -> Result<(WorkerId, OpId), Status>
     ensures { result ≡ turn_read state.now (map (λ word. word.now) words.now) }
 {
@@ -353,6 +362,7 @@ fn read_turn(state: &State, words: &[&[u8]]) -> Result<(WorkerId, OpId), Status>
     Ok((worker_in(worker)?, operation))
 }
 
+// `pre W VERDICT`.
 fn read_pre(contexts: &[CtxId], words: &[&[u8]]) -> Result<Task, Status>
     ensures { AnswersPre contexts.now (map (λ word. word.now) words.now) result }
 {
@@ -373,6 +383,7 @@ fn sends_context(words: &[&[u8]]) -> bool
     }
 }
 
+// `pre W with C`.
 fn read_pre_with(contexts: &[CtxId], words: &[&[u8]]) -> Result<Task, Status>
     ensures { result ≡ pre_with_read contexts.now (map (λ word. word.now) words.now) }
 {
@@ -387,7 +398,7 @@ fn read_pre_with(contexts: &[CtxId], words: &[&[u8]]) -> Result<Task, Status>
     Ok(Task::Pre { worker, verdict })
 }
 
-// An answer without a context.
+// `pre W VERDICT` without a context.
 fn read_pre_bare(words: &[&[u8]]) -> Result<Task, Status>
     ensures { AnswersBare (map (λ word. word.now) words.now) result }
 {
@@ -400,6 +411,7 @@ fn read_pre_bare(words: &[&[u8]]) -> Result<Task, Status>
     Ok(Task::Pre { worker, verdict })
 }
 
+// `plan I VERDICT`.
 fn read_plan(state: &State, words: &[&[u8]]) -> Result<Task, Status>
     ensures { Plans state.now (map (λ word. word.now) words.now) result }
 {
@@ -412,6 +424,7 @@ fn read_plan(state: &State, words: &[&[u8]]) -> Result<Task, Status>
     Ok(Task::Plan { instance, verdict })
 }
 
+// `post W done`.
 fn read_post(words: &[&[u8]]) -> Result<Task, Status>
     ensures { result ≡ post_read (map (λ word. word.now) words.now) }
 {
@@ -426,6 +439,7 @@ fn read_post(words: &[&[u8]]) -> Result<Task, Status>
     }
 }
 
+// `collect O`.
 fn read_collect(state: &State, words: &[&[u8]]) -> Result<Task, Status>
     ensures { result ≡ collect_read state.now (map (λ word. word.now) words.now) }
 {
@@ -434,6 +448,7 @@ fn read_collect(state: &State, words: &[&[u8]]) -> Result<Task, Status>
     Ok(Task::Event(Step::Collect { operation }))
 }
 
+// `phase I`.
 fn read_phase(state: &State, words: &[&[u8]]) -> Result<Task, Status>
     ensures { result ≡ phase_read state.now (map (λ word. word.now) words.now) }
 {
@@ -441,6 +456,7 @@ fn read_phase(state: &State, words: &[&[u8]]) -> Result<Task, Status>
     Ok(Task::Phase(instance_in(state, instance)?))
 }
 
+// `with`, `none` or `complete STATUS`.
 fn read_verdict(words: &[&[u8]]) -> Result<PreVerdict, Status>
     ensures { ReadsVerdict (map (λ word. word.now) words.now) result }
 {

@@ -64,7 +64,7 @@ fn held_by(contexts: &[CtxId], worker: u64, context: u64) -> Result<(WorkerId, C
     Ok((worker, context))
 }
 
-// The same, as the only words.
+// The same, as the only words: `ref W C`, `rel W C`, `body W C`.
 fn read_held(contexts: &[CtxId], words: &[&[u8]]) -> Result<(WorkerId, CtxId), Status>
     ensures { result ≡ held_read contexts.now (map (λ word. word.now) words.now) }
 {
@@ -83,7 +83,7 @@ fn held_ids(worker: &[u8], context: &[u8]) -> Result<(u64, u64), Status>
     Ok((id(b'w', worker)?, id(b'c', context)?))
 }
 
-// A worker and a kind of contexts, as the only words.
+// A worker and a kind of contexts, as the only words: `get W KIND`.
 fn read_kind_of(words: &[&[u8]]) -> Result<(WorkerId, ContextKind), Status>
     ensures { result ≡ kind_of_read (map (λ word. word.now) words.now) }
 {
@@ -123,6 +123,7 @@ pub(crate) fn read_write_body(
     }))
 }
 
+// `set W C MODE`, with `old` behind it or nothing.
 fn read_set(contexts: &[CtxId], words: &[&[u8]]) -> Result<Task, Status>
     ensures { result ≡ set_read contexts.now (map (λ word. word.now) words.now) }
 {
@@ -160,6 +161,7 @@ fn read_manner(mode: &[u8], rest: &[&[u8]]) -> Result<(SetMode, bool), Status>
     Ok((read_mode(mode)?, read_old(rest)?))
 }
 
+// `del W KIND`, with `old` behind it or nothing.
 fn read_delete(words: &[&[u8]]) -> Result<Task, Status>
     ensures { result ≡ delete_read (map (λ word. word.now) words.now) }
 {
@@ -184,6 +186,7 @@ fn delete_as(worker: &[u8], kind: &[u8], rest: &[&[u8]]) -> Result<Task, Status>
     }))
 }
 
+// `bump W C PLACE BY`.
 fn read_bump(contexts: &[CtxId], words: &[&[u8]]) -> Result<Task, Status>
     ensures { result ≡ bump_read contexts.now (map (λ word. word.now) words.now) }
 {
@@ -222,6 +225,7 @@ fn bump_at(contexts: &[CtxId], ids: (u64, u64), numbers: (u64, u64)) -> Result<T
     }))
 }
 
+// `leaks`.
 fn read_leaks(words: &[&[u8]]) -> Result<Task, Status>
     ensures { result ≡ leaks_read (map (λ word. word.now) words.now) }
 {

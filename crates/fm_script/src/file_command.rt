@@ -33,6 +33,7 @@ pub(crate) fn read_file_command(
     }
 }
 
+// `read H OFFSET LEN`.
 fn read_read(state: &State, words: &[&[u8]]) -> Result<Task, Status>
     ensures { result ≡ read_read state.now (map (λ word. word.now) words.now) }
 {
@@ -57,6 +58,7 @@ fn handle_and_number(state: &State, words: &[&[u8]]) -> Result<(HandleId, u64), 
     Ok((handle_in(state, handle)?, number))
 }
 
+// `setsize H N`.
 fn read_set_size(state: &State, words: &[&[u8]]) -> Result<Task, Status>
     ensures { result ≡ set_size_read state.now (map (λ word. word.now) words.now) }
 {
@@ -74,6 +76,7 @@ pub(crate) fn read_write(state: &State, words: &[&[u8]], bytes: Bytes) -> Result
     Ok(Task::Event(Step::Begin(Request::OnHandle { handle, request })))
 }
 
+// `fail N`.
 fn read_fail(words: &[&[u8]]) -> Result<Task, Status>
     ensures { result ≡ fail_read (map (λ word. word.now) words.now) }
 {
@@ -83,6 +86,7 @@ fn read_fail(words: &[&[u8]]) -> Result<Task, Status>
     Ok(Task::Fail(number(word)?))
 }
 
+// `failures`.
 fn read_failures(words: &[&[u8]]) -> Result<Task, Status>
     ensures { result ≡ failures_read (map (λ word. word.now) words.now) }
 {
@@ -92,7 +96,7 @@ fn read_failures(words: &[&[u8]]) -> Result<Task, Status>
     }
 }
 
-// A request on the handle that is the only word begins.
+// A request on the handle that is the only word begins: `size H`, `flush H`, `delete H`, `cleanup H`, `close H`.
 fn only_asked(state: &State, words: &[&[u8]], request: FileRequest) -> Result<Task, Status>
     ensures { result ≡ only_asked state.now (map (λ word. word.now) words.now) request }
 {

@@ -21,9 +21,10 @@ fn hex_digit(nibble: u8) -> u8
 fn write_pairs(text: &mut Vec<u8>, bytes: &[u8]) -> Result<(), AllocError>
     ensures { IfOk result (λ _. text.new.items ≡ text.old.items ++ hex_pairs bytes.now) }
 {
+    text.try_reserve(bytes.len() * 2)?;
     for byte in bytes {
-        text.push(hex_digit(*byte / 16))?;
-        text.push(hex_digit(*byte % 16))?;
+        text.push_reserved(hex_digit(*byte / 16));
+        text.push_reserved(hex_digit(*byte % 16));
     }
     Ok(())
 }
@@ -63,13 +64,13 @@ fn read_pair(high: u8, low: u8) -> Option<u8>
 fn read_pairs(alloc: Global, word: &[u8]) -> Result<Option<Vec<u8>>, AllocError>
     ensures { IfOk result (λ read. MatchOption read (IsNoPairs word.now) (λ bytes. hex_pairs bytes.items ≡ word.now)) }
 {
-    let mut bytes = Vec::new(alloc);
+    let mut bytes = Vec::with_capacity(alloc, word.len() / 2)?;
     let mut rest = word;
     while let [high, low, behind @ ..] = rest {
         let Some(byte) = read_pair(*high, *low) else {
             return Ok(None);
         };
-        bytes.push(byte)?;
+        bytes.push_reserved(byte);
         rest = behind;
     }
     if rest.is_empty() {

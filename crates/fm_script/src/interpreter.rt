@@ -10,7 +10,6 @@ ghost use Rattle.fm_script.specs.Runs.{AttachesAndAccepts, Fails, KeepsLists, Ma
 
 use crate::command::WITH;
 use crate::devices::Devices;
-pub use crate::interpreter::go::Turn;
 use fm_altitude::Altitude;
 use fm_core::{Entry, State, Step, StepReply};
 use fm_data::{PostVerdict, PreVerdict};

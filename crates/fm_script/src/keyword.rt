@@ -1,6 +1,6 @@
 //! The words that commands begin with.
 
-ghost use Rattle.std.specs.Prelude.{◌≡◌};
+ghost use Rattle.std.specs.Prelude.{◌≡◌, ◌∷◌, ℕ, List, bytes_eq, find};
 ghost use Rattle.fm_script.specs.Commands.{keyword_read, spelling};
 
 /// What the first word of a line asks for.
@@ -47,47 +47,56 @@ pub enum Keyword {
     Failures,
 }
 
-const ALL: [Keyword; 39] = [
-    Keyword::Load,
-    Keyword::Mount,
-    Keyword::Attach,
-    Keyword::List,
-    Keyword::Next,
-    Keyword::Pre,
-    Keyword::Plan,
-    Keyword::Base,
-    Keyword::Post,
-    Keyword::Go,
-    Keyword::Collect,
-    Keyword::Phase,
-    Keyword::Setup,
-    Keyword::SetDone,
-    Keyword::Finish,
-    Keyword::Create,
-    Keyword::Alloc,
-    Keyword::Set,
-    Keyword::Get,
-    Keyword::Del,
-    Keyword::Ref,
-    Keyword::Rel,
-    Keyword::Body,
-    Keyword::WBody,
-    Keyword::Bump,
-    Keyword::Due,
-    Keyword::Cleaned,
-    Keyword::Count,
-    Keyword::Leaks,
-    Keyword::Read,
-    Keyword::Write,
-    Keyword::Size,
-    Keyword::SetSize,
-    Keyword::Flush,
-    Keyword::Delete,
-    Keyword::Cleanup,
-    Keyword::Close,
-    Keyword::Fail,
-    Keyword::Failures,
-];
+// The keywords that begin with that letter.
+#[tactic(auto, unfolding(crate::specs::Commands::keyword_read))]
+fn beginning_with(letter: u8) -> &'static [Keyword]
+    ensures { (rest : List ℕ) → find (λ k. bytes_eq (spelling k) (letter ∷ rest)) result.now ≡ keyword_read (letter ∷ rest) }
+{
+    match letter {
+        b'l' => &[Keyword::Load, Keyword::List, Keyword::Leaks],
+        b'm' => &[Keyword::Mount],
+        b'a' => &[Keyword::Attach, Keyword::Alloc],
+        b'n' => &[Keyword::Next],
+        b'p' => &[Keyword::Pre, Keyword::Plan, Keyword::Post, Keyword::Phase],
+        b'b' => &[Keyword::Base, Keyword::Body, Keyword::Bump],
+        b'g' => &[Keyword::Go, Keyword::Get],
+        b'c' => &[
+            Keyword::Collect,
+            Keyword::Create,
+            Keyword::Cleaned,
+            Keyword::Count,
+            Keyword::Cleanup,
+            Keyword::Close,
+        ],
+        b's' => &[
+            Keyword::Setup,
+            Keyword::SetDone,
+            Keyword::Set,
+            Keyword::Size,
+            Keyword::SetSize,
+        ],
+        b'f' => &[
+            Keyword::Finish,
+            Keyword::Flush,
+            Keyword::Fail,
+            Keyword::Failures,
+        ],
+        b'd' => &[Keyword::Del, Keyword::Due, Keyword::Delete],
+        b'r' => &[Keyword::Ref, Keyword::Rel, Keyword::Read],
+        b'w' => &[Keyword::WBody, Keyword::Write],
+        _ => &[],
+    }
+}
+
+// The one that is spelled so.
+fn spelled(keywords: &[Keyword], word: &[u8]) -> Option<Keyword>
+    ensures { result ≡ find (λ k. bytes_eq (spelling k) word.now) keywords.now }
+{
+    keywords
+        .iter()
+        .copied()
+        .find(|keyword| keyword.spelling() == word)
+}
 
 impl Keyword {
     /// The keyword that a word is, if it is one.
@@ -95,9 +104,10 @@ impl Keyword {
     pub fn read(word: &[u8]) -> Option<Keyword>
         ensures { result ≡ keyword_read word.now }
     {
-        ALL.iter()
-            .copied()
-            .find(|keyword| keyword.spelling() == word)
+        match word {
+            [] => None,
+            [first, ..] => spelled(beginning_with(*first), word),
+        }
     }
 
     // How a line spells it.

@@ -1,30 +1,37 @@
 //! Numbers and ids, as words of a script spell them.
 
-ghost use Rattle.std.specs.Prelude.{◌≡◌, ◌<◌, ◌≤◌, ℕ, IfNone, IfSome};
-ghost use Rattle.std.specs.Str.{all_ascii_digits};
+ghost use Rattle.std.specs.Prelude.{◌≡◌, ◌<◌, ◌≤◌, ◌⊎◌, ◌+◌, ◌*◌, ◌^◌, ℕ, IfNone, IfSome, MatchOption, true, false};
+ghost use Rattle.std.specs.Char.{digit_value, is_ascii_digit};
 ghost use Rattle.fm_types.specs.Statuses.{number_of};
 ghost use Rattle.fm_script.specs.Numbers.{id_read, number_read};
 
 use fm_types::Status;
 
-// Whether the text is digits alone, the empty text too.
-fn has_digits_alone(text: &[u8]) -> bool
-    ensures { result ≡ all_ascii_digits text.now }
+// The number with one digit more, as far as the byte is a digit and there is such a u64.
+fn with_digit(number: u64, byte: u8) -> Option<u64>
+    ensures { MatchOption result
+        ((is_ascii_digit byte ≡ false) ⊎ (2 ^ 64 ≤ number * 10 + digit_value byte))
+        (λ more. (is_ascii_digit byte ≡ true) × (more ≡ number * 10 + digit_value byte) × (more < 2 ^ 64)) }
 {
-    text.iter().all(|b| b.is_ascii_digit())
+    if !byte.is_ascii_digit() {
+        return None;
+    }
+    number.checked_mul(10)?.checked_add(u64::from(byte - b'0'))
 }
 
 /// Reads a number: decimal digits alone, at least one and leading zeros allowed, up to 2^64 - 1. There is none where the word is anything else.
+#[tactic(auto, unfolding(crate::specs::Numbers::number_read))]
 pub fn read_number(word: &[u8]) -> Option<u64>
     ensures { result ≡ number_read word.now }
 {
-    if !has_digits_alone(word) {
+    if word.is_empty() {
         return None;
     }
-    let Ok(digits) = str::from_utf8(word) else {
-        return None;
-    };
-    digits.parse::<u64>().ok()
+    let mut number = 0;
+    for byte in word {
+        number = with_digit(number, *byte)?;
+    }
+    Some(number)
 }
 
 /// Reads an id: its letter, and a number behind it.

@@ -20,6 +20,7 @@ use crate::words::split_words;
 use fm_core::Step;
 use fm_data::PreVerdict;
 use fm_types::{Bytes, InstanceId, OpId, Status, WorkerId};
+use smallvec::SmallVec;
 use std::alloc::Global;
 use std::io::Write;
 
@@ -73,7 +74,8 @@ impl<W: Write + Drop> Runner<W> {
     fn read(&self, line: &[u8]) -> Result<Task, Status>
         ensures { OrMemory result (ReadsTask (words_of line.now) self.now.interpreter result) }
     {
-        let words = split_words(self.alloc, line)?;
+        let mut words = SmallVec::new(self.alloc);
+        split_words(&mut words, line)?;
         self.read_words(words.as_slice())
     }
 
@@ -142,12 +144,8 @@ impl<W: Write + Drop> Runner<W> {
         ensures { Goes worker operation self.old.interpreter self.new.interpreter }
     {
         for _ in 0..MAX_STEPS {
-            let turn = self.interpreter.turn(worker, operation);
-            if let Some(line) = &turn.said {
-                self.output.say(line)?;
-            }
-            if let Some(line) = &turn.last {
-                return self.output.say(line);
+            if !self.interpreter.turn(worker, operation, &mut self.output)? {
+                return Ok(());
             }
         }
         self.output.say(&Said::Refused(Status::WrongStep))

@@ -1,7 +1,7 @@
 //! The lines that a script prints: which one for which answer, and the bytes of each.
 
-ghost use Rattle.std.specs.Prelude.{◌≡◌, ◌++◌, ◌∷◌, [], IfOk, decimal, position};
-ghost use Rattle.fm_script.specs.Sayings.{is_context, phase_word, refused_text, reply_text, said_context, said_count, said_done, said_due, said_given, said_new, said_of, said_old, said_set, text_with, verdict_text, word_text};
+ghost use Rattle.std.specs.Prelude.{◌≡◌, ◌++◌, ◌∷◌, [], IfOk, decimal, position, reverse};
+ghost use Rattle.fm_script.specs.Sayings.{is_context, number_in, phase_word, refused_text, reply_text, said_context, said_count, said_done, said_due, said_given, said_new, said_of, said_old, said_set, text_with, verdict_text, word_text};
 ghost use Rattle.fm_script.specs.declared.said.Said.TheVariants as SaidOf;
 ghost use Rattle.fm_script.specs.declared.said.Word.TheVariants as WordOf;
 ghost use Rattle.fm_session.specs.Sessions.{given_after_next};
@@ -139,11 +139,22 @@ pub fn said_done(answer: Result<(), Status>) -> Said
     }
 }
 
+// How many contexts were allocated after it. The newest is the one that is mostly spoken of.
+fn newer_than(contexts: &[CtxId], context: CtxId) -> Option<usize>
+    ensures { result ≡ position (is_context context) (reverse contexts.now) }
+{
+    contexts.iter().rev().position(|own| own.slot == context.slot
+        && own.generation == context.generation)
+}
+
 // The number of a context in the order of allocation.
 fn number_of(contexts: &[CtxId], context: CtxId) -> Option<usize>
-    ensures { result ≡ position (is_context context) contexts.now }
+    ensures { result ≡ number_in context contexts.now }
 {
-    contexts.iter().position(|own| own.slot == context.slot && own.generation == context.generation)
+    match newer_than(contexts, context) {
+        Some(newer) => Some(contexts.len().saturating_sub(newer + 1)),
+        None => None,
+    }
 }
 
 // A word and a context.
@@ -306,6 +317,10 @@ impl Said {
 fn print_number(text: &mut Vec<u8>, number: u64) -> Result<(), AllocError>
     ensures { IfOk result (λ _. text.new.items ≡ text.old.items ++ decimal number) }
 {
+    if number < 10 {
+        text.push(b'0' + number as u8)?;
+        return Ok(());
+    }
     let mut buffer = itoa::Buffer::new();
     text.extend_from_slice(buffer.format(number).as_bytes())
 }

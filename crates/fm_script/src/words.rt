@@ -4,7 +4,11 @@ ghost use Rattle.std.specs.Prelude.{◌≡◌, ◌==◌, ◌∷◌, ◌++◌, If
 ghost use Rattle.std.specs.List.{All};
 ghost use Rattle.fm_script.specs.Words.{words_of};
 
-use std::alloc::{AllocError, Global};
+use smallvec::SmallVec;
+use std::alloc::AllocError;
+
+/// How many words the longest command has.
+const FEW: usize = 6;
 
 /// What stands before the first byte of that value, and what stands behind it; the whole text and nothing where it isn't there.
 pub fn split_at_byte(text: &[u8], byte: u8) -> (&[u8], Option<&[u8]>)
@@ -17,10 +21,13 @@ pub fn split_at_byte(text: &[u8], byte: u8) -> (&[u8], Option<&[u8]>)
     }
 }
 
-/// The words of a line, divided by single spaces: a line without a space is one word, and two spaces have an empty word between them. It
-/// fails where there is no memory for the list.
-pub fn split_words<'a>(alloc: Global, line: &'a [u8]) -> Result<Vec<&'a [u8]>, AllocError>
-    ensures { IfOk result (λ words. map (λ word. word.now) words.items ≡ words_of line.now) }
+/// Appends the words of a line, divided by single spaces: a line without a space is one word, and two spaces have an empty word between them.
+/// It fails where there is no memory for the list, which takes some only past six words.
+pub fn split_words<'a>(
+    words: &mut SmallVec<&'a [u8], FEW>,
+    line: &'a [u8],
+) -> Result<(), AllocError>
+    ensures { IfOk result (λ _. map (λ word. word.now) words.new.items ≡ map (λ word. word.now) words.old.items ++ words_of line.now) }
 {
-    line.split(|b| *b == b' ').collect(alloc)
+    words.extend(line.split(|b| *b == b' '))
 }

@@ -4,109 +4,136 @@ ghost use Rattle.std.specs.Prelude.{◌≡◌};
 ghost use Rattle.fm_script.specs.Runs.{Goes};
 
 use super::Interpreter;
+use crate::output::Output;
 use crate::said::{Said, Word, said_given};
+use crate::script_end::ScriptEnd;
 use fm_data::PreVerdict;
 use fm_session::Given;
 use fm_types::{InstanceId, OpId, Status, WorkerId};
-
-/// One turn of `go`: the line for what happened, if there is one, and the last line where there is no other turn.
-#[derive(Drop)]
-pub struct Turn {
-    pub said: Option<Said>,
-    pub last: Option<Said>,
-}
-
-impl Turn {
-    // Something happened, and the operation goes on unless that was refused.
-    fn after(said: Said, outcome: Result<(), Status>) -> Turn {
-        Turn {
-            said: Some(said),
-            last: outcome.err().map(Said::Refused),
-        }
-    }
-
-    // Nothing more happens.
-    fn ended(last: Said) -> Turn {
-        Turn {
-            said: None,
-            last: Some(last),
-        }
-    }
-}
+use std::io::Write;
 
 impl Interpreter {
     /// A worker takes the operation's next step, and answers it: a preoperation callback as it is planned, a base call by the devices, a
-    /// postoperation callback and a drain by finishing them, and a done operation by collecting its reply.
-    pub fn turn(&mut self, worker: WorkerId, operation: OpId) -> Turn
+    /// postoperation callback and a drain by finishing them, and a done operation by collecting its reply. It prints what happened, and
+    /// says whether the operation goes on.
+    pub fn turn<W: Write + Drop>(
+        &mut self,
+        worker: WorkerId,
+        operation: OpId,
+        output: &mut Output<W>,
+    ) -> Result<bool, ScriptEnd>
         ensures { Goes worker operation self.old self.new }
     {
         let given = self.next(worker, operation);
-        self.answer(worker, operation, given)
+        self.answer(worker, operation, given, output)
     }
 
+    // A line is printed where it is known: made in one place for all, each would be moved with room for the largest.
     #[tactic(auto, using(crate::proofs::Going::goes_none))]
-    fn answer(&mut self, worker: WorkerId, operation: OpId, given: Result<Given, Status>) -> Turn
+    fn answer<W: Write + Drop>(
+        &mut self,
+        worker: WorkerId,
+        operation: OpId,
+        given: Result<Given, Status>,
+        output: &mut Output<W>,
+    ) -> Result<bool, ScriptEnd>
         ensures { Goes worker operation self.old self.new }
     {
         match given {
-            Ok(Given::Pre(instance)) => self.answer_pre(worker, operation, instance),
-            Ok(Given::Base) => self.answer_base(worker, operation),
+            Ok(Given::Pre(instance)) => {
+                let (verdict, outcome) = self.answer_pre(worker, operation, instance);
+                let line = Said::Answered(u64::from(instance.0), verdict);
+                goes_on(output, &line, outcome)
+            }
+            Ok(Given::Base) => match self.answer_base(worker, operation) {
+                Ok(status) => goes_on(output, &Said::Based(status), Ok(())),
+                Err(status) => ends(output, &Said::Refused(status)),
+            },
             Ok(Given::Post(instance, _)) => {
-                self.answer_post(worker, operation, Word::Post, instance)
+                let outcome = self.answer_post(worker, operation);
+                goes_on(output, &said_post(Word::Post, instance), outcome)
             }
             Ok(Given::Drain(instance, _)) => {
-                self.answer_post(worker, operation, Word::Drain, instance)
+                let outcome = self.answer_post(worker, operation);
+                goes_on(output, &said_post(Word::Drain, instance), outcome)
             }
-            Ok(Given::Moved) => Turn {
-                said: self.known(operation).map(Said::Based),
-                last: None,
-            },
-            Ok(Given::Done) => self.answer_done(worker, operation),
-            Ok(Given::Held) | Err(_) => Turn::ended(said_given(given)),
+            Ok(Given::Moved) => say_moved(output, self.known(operation)),
+            Ok(Given::Done) => ends(output, &self.answer_done(worker, operation)),
+            Ok(Given::Held) | Err(_) => ends(output, &said_given(given)),
         }
     }
 
-    fn answer_pre(&mut self, worker: WorkerId, operation: OpId, instance: InstanceId) -> Turn
+    fn answer_pre(
+        &mut self,
+        worker: WorkerId,
+        operation: OpId,
+        instance: InstanceId,
+    ) -> (PreVerdict, Result<(), Status>)
         ensures { Goes worker operation self.old self.new }
     {
         let _ = operation;
         let verdict = self.planned(instance);
         let outcome = self.pre(worker, verdict);
-        Turn::after(Said::Answered(u64::from(instance.0), verdict), outcome)
+        (verdict, outcome)
     }
 
-    fn answer_base(&mut self, worker: WorkerId, operation: OpId) -> Turn
+    fn answer_base(&mut self, worker: WorkerId, operation: OpId) -> Result<Status, Status>
         ensures { Goes worker operation self.old self.new }
     {
         let _ = operation;
-        match self.base(worker) {
-            Ok(status) => Turn::after(Said::Based(status), Ok(())),
-            Err(status) => Turn::ended(Said::Refused(status)),
-        }
+        self.base(worker)
     }
 
-    fn answer_post(
-        &mut self,
-        worker: WorkerId,
-        operation: OpId,
-        word: Word,
-        instance: InstanceId,
-    ) -> Turn
+    fn answer_post(&mut self, worker: WorkerId, operation: OpId) -> Result<(), Status>
         ensures { Goes worker operation self.old self.new }
     {
         let _ = operation;
-        let outcome = self.post(worker);
-        Turn::after(Said::Id(word, b'i', u64::from(instance.0)), outcome)
+        self.post(worker)
     }
 
     #[tactic(auto, using(crate::proofs::Going::goes_collect))]
-    fn answer_done(&mut self, worker: WorkerId, operation: OpId) -> Turn
+    fn answer_done(&mut self, worker: WorkerId, operation: OpId) -> Said
         ensures { Goes worker operation self.old self.new }
     {
         let _ = worker;
-        Turn::ended(match self.session.collect(operation) {
+        match self.session.collect(operation) {
             Ok(answer) => Said::Replied(answer),
             Err(status) => Said::Refused(status),
-        })
+        }
     }
+}
+
+// The line for a postoperation callback or a drain.
+fn said_post(word: Word, instance: InstanceId) -> Said {
+    Said::Id(word, b'i', u64::from(instance.0))
+}
+
+// Prints the line for what happened. The operation goes on unless that was refused.
+fn goes_on<W: Write + Drop>(
+    output: &mut Output<W>,
+    line: &Said,
+    outcome: Result<(), Status>,
+) -> Result<bool, ScriptEnd> {
+    output.say(line)?;
+    match outcome {
+        Ok(()) => Ok(true),
+        Err(status) => ends(output, &Said::Refused(status)),
+    }
+}
+
+// Prints the status of the base, if it is known. The operation goes on.
+fn say_moved<W: Write + Drop>(
+    output: &mut Output<W>,
+    status: Option<Status>,
+) -> Result<bool, ScriptEnd> {
+    if let Some(status) = status {
+        output.say(&Said::Based(status))?;
+    }
+    Ok(true)
+}
+
+// Prints the last line.
+fn ends<W: Write + Drop>(output: &mut Output<W>, line: &Said) -> Result<bool, ScriptEnd> {
+    output.say(line)?;
+    Ok(false)
 }

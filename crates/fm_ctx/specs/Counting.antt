@@ -1,6 +1,9 @@
 -- What readers count.
-use Rattle.std.specs.Prelude.{ℕ, ◌+◌, Bool, false, cond, nat_lt, nat_le, List, sum_by, count_by, slice_get, Option, Some, None, is_none}
+use Rattle.std.specs.Prelude.{ℕ, ◌+◌, ◌==◌, ◌&&◌, Bool, true, false, cond, nat_lt, nat_le, List, sum_by, count_by, slice_get, Option, Some, None, is_none}
+use Rattle.fm_types.specs.declared.context_kind.ContextKind.{ContextKind}
+use Rattle.fm_types.specs.declared.context_kind.ContextKind.TheVariants as kind
 use Rattle.fm_types.specs.declared.ids.CtxId.{CtxId}
+use Rattle.fm_types.specs.declared.ids.VolumeId.{VolumeId}
 use Rattle.fm_ctx.specs.declared.owner.Owner.{Owner}
 use Rattle.fm_ctx.specs.declared.count.Count.{Count}
 use Rattle.fm_ctx.specs.declared.count.Count.TheVariants.{Live, Due, Cleaning, Cleaned, Absent}
@@ -39,3 +42,16 @@ is_open owner (Some x) = same_owner owner x.owner
 -- how many contexts of an owner aren't cleaned
 abbrev pub open_of : List Slot → Owner → ℕ
 open_of slots owner = count_by (λ (s : Slot). is_open owner s.context) slots
+
+abbrev pub is_volume : ContextKind → Bool
+is_volume kind.Volume = true
+is_volume _ = false
+
+-- a volume context that was allocated on the volume
+abbrev pub is_open_on : VolumeId → Option Context → Bool
+is_open_on v None = false
+is_open_on v (Some x) = is_volume x.kind && (x.volume.0 == v.0)
+
+-- how many volume contexts that were allocated on a volume aren't cleaned
+abbrev pub open_on : List Slot → VolumeId → ℕ
+open_on slots v = count_by (λ (s : Slot). is_open_on v s.context) slots

@@ -4,7 +4,7 @@
 ghost use Rattle.std.specs.Prelude.{◌≡◌, ◌==◌, ℕ, ◌+◌, ◌-◌, ◌^◌, ◌<◌, ◌≤◌, length, slice_index_or, Some, option_copied, count_by};
 ghost use Rattle.std.specs.Global.{Vec};
 ghost use Rattle.fm_types.specs.Lists.{updated};
-ghost use Rattle.fm_ctx.specs.Counting.{is_open, was_given};
+ghost use Rattle.fm_ctx.specs.Counting.{is_open, is_open_on, was_given};
 ghost use Rattle.fm_ctx.specs.Bodies.{raised as raised_number, with_number};
 ghost use Rattle.fm_ctx.specs.Rows.{slot_of, slots_of, row_at, raised, lowered, carried_away, brought_back, linked_row, unlinked_row, cleaned_row, row_with, IsRewritten};
 ghost use Rattle.fm_ctx.specs.declared.row.Row.{Row as KeptRow};
@@ -35,6 +35,13 @@ impl Row {
     {
         !self.is_cleaned && owner.is(self.owner)
     }
+
+    /// Whether it is a volume context that was allocated on that volume and isn't cleaned.
+    pub fn is_open_on(&self, volume: VolumeId) -> bool
+        ensures { result ≡ is_open_on volume (slot_of self.now).context }
+    {
+        !self.is_cleaned && matches!(self.kind, ContextKind::Volume) && self.volume.0 == volume.0
+    }
 }
 
 /// The row of the context that an id names, if it isn't cleaned.
@@ -54,6 +61,13 @@ pub fn open_of(rows: &[Row], owner: Owner) -> usize
     ensures { result ≡ count_by (λ (r : KeptRow). is_open owner (slot_of r).context) rows.now }
 {
     rows.iter().filter(|row| row.is_open_of(owner)).count()
+}
+
+/// How many volume contexts that were allocated on a volume aren't cleaned.
+pub fn open_on(rows: &[Row], volume: VolumeId) -> usize
+    ensures { result ≡ count_by (λ (r : KeptRow). is_open_on volume (slot_of r).context) rows.now }
+{
+    rows.iter().filter(|row| row.is_open_on(volume)).count()
 }
 
 /// Whether a context was given that id.

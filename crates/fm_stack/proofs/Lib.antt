@@ -10,3 +10,7 @@ mod Orders
 mod Keeping
 mod Kept
 pub mod Finishing
+pub mod GoingOn
+pub mod Teardowns
+pub mod Unloads
+pub mod Dismounts

@@ -2,13 +2,15 @@
 pub use Rattle.fm_stack.specs.Events.{accept_row, accepted, attach_refusals, attached, finish_row, finished, has_altitude_on, has_name_on}
 pub use Rattle.fm_stack.specs.Events.{is_emptying_at, is_setup_at, mount_refusals, mounted, new_filter, new_instance, new_volume}
 pub use Rattle.fm_stack.specs.Events.{refuse_row, refused, register_refusals, registered}
+pub use Rattle.fm_stack.specs.Dismounting.{is_on}
+pub use Rattle.fm_stack.specs.Unloading.{is_of, stop_where}
 pub use Rattle.fm_stack.specs.Follows.{Follows}
-pub use Rattle.fm_stack.specs.Instances.{clashes, is_attached, is_detached, is_emptying, is_live_on, is_lower, is_setup, same_altitude}
-pub use Rattle.fm_stack.specs.Instances.{same_name}
-pub use Rattle.fm_stack.specs.Instances.{is_lower_option, registration_in}
+pub use Rattle.fm_stack.specs.Instances.{clashes, is_attached, is_completing, is_detached, is_emptying, is_live_on, is_lower, is_setup, is_stopping}
+pub use Rattle.fm_stack.specs.Instances.{same_altitude, same_name}
+pub use Rattle.fm_stack.specs.Instances.{is_lower_option, passes, registration_in}
 pub use Rattle.fm_stack.specs.Next.{IsNextInstance, has_post_in, has_pre_in, is_below_cursor, is_candidate, is_registered, is_to_visit}
 pub use Rattle.fm_stack.specs.Orders.{HasSeat, IsAbove, IsKept, IsOrder, IsSeated, altitude_in, is_called_for, is_in_time, is_seat_of}
-pub use Rattle.fm_stack.specs.Orders.{is_under, is_visited, passes, place_behind, place_behind_at, place_behind_row, place_under}
+pub use Rattle.fm_stack.specs.Orders.{is_under, is_visited, place_behind, place_behind_at, place_behind_row, place_under}
 pub use Rattle.fm_stack.specs.Orders.{instance_of, seat_passes, seats_at}
 pub use Rattle.fm_stack.specs.StackWorld.{StackWorld}
 pub use Rattle.fm_stack.specs.Stacks.{IsPlaced, IsStack}
@@ -23,6 +25,7 @@ pub use Rattle.fm_types.proofs.Lists.{count_by-updated, count_by_weaker, length-
 pub use Rattle.fm_types.proofs.Lists.{slice_get-kept, slice_get-push_cases, updated-other, updated-same, updated_cases}
 pub use Rattle.fm_types.proofs.Refusals.{none_refuses}
 pub use Rattle.fm_types.specs.Refusals.{first_of}
+pub use Rattle.fm_types.specs.declared.ids.FilterId.{FilterId}
 pub use Rattle.fm_types.specs.declared.ids.InstanceId.{InstanceId}
 pub use Rattle.fm_types.specs.declared.ids.VolumeId.{VolumeId}
 pub use Rattle.fm_types.specs.declared.operation.Operation.{Operation}

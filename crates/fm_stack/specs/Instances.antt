@@ -21,6 +21,14 @@ abbrev pub is_attached : Phase → Bool
 is_attached phase.Attached = true
 is_attached _ = false
 
+abbrev pub is_stopping : Phase → Bool
+is_stopping phase.Stopping = true
+is_stopping _ = false
+
+abbrev pub is_completing : Phase → Bool
+is_completing phase.Completing = true
+is_completing _ = false
+
 abbrev pub is_emptying : Phase → Bool
 is_emptying phase.Emptying = true
 is_emptying _ = false
@@ -28,6 +36,16 @@ is_emptying _ = false
 abbrev pub is_detached : Phase → Bool
 is_detached phase.Detached = true
 is_detached _ = false
+
+-- whether no instance is there, or one that is detached
+abbrev pub is_gone_at : Option Instance → Bool
+is_gone_at None = true
+is_gone_at (Some row) = is_detached row.phase
+
+-- whether an instance is there and passes a test
+abbrev pub passes : (Instance → Bool) → Option Instance → Bool
+passes test None = false
+passes test (Some row) = test row
 
 -- a name as its text
 abbrev pub same_name : List ℕ → List ℕ → Bool

@@ -2,6 +2,9 @@ pub mod StackWorld
 pub mod Instances
 pub mod Next
 pub mod Events
+pub mod Detaching
+pub mod Unloading
+pub mod Dismounting
 pub mod Follows
 pub mod Stacks
 pub mod Orders

@@ -1,5 +1,5 @@
 -- The order of a volume: its instances that aren't detached, the highest first, each with what its filter registered.
-use Rattle.std.specs.Prelude.{◌≡◌, ℕ, ◌+◌, List, [], Bool, true, false, ◌&&◌, ◌||◌, ◌==◌, nat_lt}
+use Rattle.std.specs.Prelude.{◌≡◌, ℕ, ◌+◌, List, [], Bool, true, ◌&&◌, ◌||◌, ◌==◌, nat_lt}
 use Rattle.std.specs.Prelude.{Option, Some, None, slice_get, length, AllPairs, position, unwrap_or, option_map, count_by}
 use Rattle.fm_types.specs.declared.ids.VolumeId.{VolumeId}
 use Rattle.fm_types.specs.declared.ids.InstanceId.{InstanceId}
@@ -9,7 +9,7 @@ use Rattle.fm_stack.specs.declared.filter.Filter.{Filter}
 use Rattle.fm_stack.specs.declared.instance.Instance.{Instance}
 use Rattle.fm_stack.specs.declared.order.Seat.{Seat}
 use Rattle.fm_stack.specs.StackWorld.{StackWorld}
-use Rattle.fm_stack.specs.Instances.{is_attached, is_live_on, is_lower, is_lower_option, registration_in}
+use Rattle.fm_stack.specs.Instances.{is_attached, is_live_on, is_lower, is_lower_option, passes, registration_in}
 use Rattle.fm_stack.specs.Stacks.{IsStack}
 
 -- ---- what a search tests ----
@@ -20,10 +20,6 @@ is_seat_of i seat = seat.instance.0 == i.0
 -- whether the filter of the instance has a callback before or after the operation
 abbrev pub is_called_for : Operation → Seat → Bool
 is_called_for operation seat = has_operation seat.registration.pre.0 operation || has_operation seat.registration.post.0 operation
-
-abbrev pub passes : (Instance → Bool) → Option Instance → Bool
-passes test None = false
-passes test (Some row) = test row
 
 -- whether the instance that sits there passes a test
 abbrev pub seat_passes : List Instance → (Instance → Bool) → Seat → Bool

@@ -1,7 +1,9 @@
 //! Filters: a name, what it registered for, and how far its life has come.
 
-ghost use Rattle.std.specs.Prelude.{◌≡◌};
+ghost use Rattle.std.specs.Prelude.{◌≡◌, ◌<◌, length};
+ghost use Rattle.fm_types.specs.Lists.{updated};
 ghost use Rattle.fm_stack.specs.Events.{is_named, is_loaded_phase};
+ghost use Rattle.fm_stack.specs.Unloading.{filter_in, is_unloading_phase, is_filter_emptied_phase};
 
 use fm_types::{Name, Registration};
 
@@ -43,4 +45,27 @@ impl Filter {
     {
         matches!(self.phase, FilterPhase::Loaded)
     }
+
+    /// Whether the filter is being unloaded: its unload was consented to or forced, and it isn't unloaded
+    /// for good.
+    pub fn is_unloading(&self) -> bool
+        ensures { result ≡ is_unloading_phase self.now.phase }
+    {
+        matches!(self.phase, FilterPhase::Unloading | FilterPhase::Emptied)
+    }
+
+    /// Whether the filter's volume contexts are unlinked, and it may be unloaded for good.
+    pub fn is_emptied(&self) -> bool
+        ensures { result ≡ is_filter_emptied_phase self.now.phase }
+    {
+        matches!(self.phase, FilterPhase::Emptied)
+    }
+}
+
+/// One filter goes on to that phase.
+pub fn set_phase(rows: &mut Vec<Filter>, at: usize, phase: FilterPhase)
+    requires { at < length rows.old.items }
+    ensures { rows.new.items ≡ updated (filter_in phase) rows.old.items at }
+{
+    rows[at].phase = phase;
 }

@@ -1,7 +1,11 @@
 //! Instances: one attachment of a filter to a volume, at an altitude.
 
-ghost use Rattle.std.specs.Prelude.{◌≡◌};
-ghost use Rattle.fm_stack.specs.Events.{has_name_on, has_altitude_on, new_instance, accept_row, refuse_row, finish_row};
+ghost use Rattle.std.specs.Prelude.{◌≡◌, ◌<◌, length, map};
+ghost use Rattle.fm_types.specs.Lists.{updated};
+ghost use Rattle.fm_stack.specs.Events.{has_name_on, has_altitude_on, new_instance, accept_row};
+ghost use Rattle.fm_stack.specs.Detaching.{in_phase, with_start, is_to_start, is_to_complete};
+ghost use Rattle.fm_stack.specs.Unloading.{is_of, is_left_of, stop_where};
+ghost use Rattle.fm_stack.specs.Dismounting.{is_on};
 ghost use Rattle.fm_stack.specs.Instances.{is_lower, is_live_on};
 
 use fm_altitude::Altitude;
@@ -107,17 +111,77 @@ impl Instance {
         self.birth = births;
     }
 
-    /// Ends the setup of an instance that isn't to be attached: it leaves again.
-    pub fn refuse(&mut self)
-        ensures { self.new ≡ refuse_row self.old }
+    /// Whether the instance is of that filter and isn't detached.
+    pub fn is_left_of(&self, filter: FilterId) -> bool
+        ensures { result ≡ is_left_of filter self.now }
     {
-        self.phase = Phase::Emptying;
+        self.filter.0 == filter.0 && !matches!(self.phase, Phase::Detached)
     }
 
-    /// Ends an instance whose contexts are cleaned up.
-    pub fn finish(&mut self)
-        ensures { self.new ≡ finish_row self.old }
+    /// Whether the teardown of the instance may start: it is stopping, and no start was made.
+    pub fn is_to_start(&self) -> bool
+        ensures { result ≡ is_to_start self.now }
     {
-        self.phase = Phase::Detached;
+        matches!(self.phase, Phase::Stopping) && matches!(self.start, StartMark::NotMade)
+    }
+
+    /// Whether the teardown of the instance may be completed, as far as the instance itself knows: it is
+    /// stopping, and the start returned.
+    pub fn is_to_complete(&self) -> bool
+        ensures { result ≡ is_to_complete self.now }
+    {
+        matches!(self.phase, Phase::Stopping) && matches!(self.start, StartMark::Returned)
+    }
+
+    /// Stops the instance, where it is attached and of that filter: no new operation comes to it.
+    fn stop_of(&mut self, filter: FilterId)
+        ensures { self.new ≡ stop_where (is_of filter) self.old }
+    {
+        if self.filter.0 == filter.0 && matches!(self.phase, Phase::Attached) {
+            self.phase = Phase::Stopping;
+        }
+    }
+
+    /// Stops the instance, where it is attached to that volume: no new operation comes to it.
+    fn stop_on(&mut self, volume: VolumeId)
+        ensures { self.new ≡ stop_where (is_on volume) self.old }
+    {
+        if self.volume.0 == volume.0 && matches!(self.phase, Phase::Attached) {
+            self.phase = Phase::Stopping;
+        }
+    }
+}
+
+/// One instance goes on to that phase.
+pub fn set_phase(rows: &mut Vec<Instance>, at: usize, phase: Phase)
+    requires { at < length rows.old.items }
+    ensures { rows.new.items ≡ updated (in_phase phase) rows.old.items at }
+{
+    rows[at].phase = phase;
+}
+
+/// How far the teardown-start callback of one instance has come.
+pub fn set_start(rows: &mut Vec<Instance>, at: usize, start: StartMark)
+    requires { at < length rows.old.items }
+    ensures { rows.new.items ≡ updated (with_start start) rows.old.items at }
+{
+    rows[at].start = start;
+}
+
+/// Stops the attached instances of a filter.
+pub fn stop_of(rows: &mut Vec<Instance>, filter: FilterId)
+    ensures { rows.new.items ≡ map (stop_where (is_of filter)) rows.old.items }
+{
+    for row in rows.iter_mut() {
+        row.stop_of(filter);
+    }
+}
+
+/// Stops the attached instances on a volume.
+pub fn stop_on(rows: &mut Vec<Instance>, volume: VolumeId)
+    ensures { rows.new.items ≡ map (stop_where (is_on volume)) rows.old.items }
+{
+    for row in rows.iter_mut() {
+        row.stop_on(volume);
     }
 }

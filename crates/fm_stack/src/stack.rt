@@ -8,7 +8,7 @@ ghost use Rattle.fm_types.specs.Lists.{updated};
 ghost use Rattle.fm_stack.specs.StackWorld.{empty_stack};
 ghost use Rattle.fm_stack.specs.Stacks.{IsStack};
 ghost use Rattle.fm_stack.specs.Follows.{Follows};
-ghost use Rattle.fm_stack.specs.Events.{Registers, Mounts, Attaches, SetsUp, is_named, has_name_on, has_altitude_on, register_refusals, mount_refusals, attach_refusals, setup_refusals, is_wanted, is_setup_at, accepted, refused, accept_row, refuse_row, finish_row, finished, is_emptying_at};
+ghost use Rattle.fm_stack.specs.Events.{Registers, Mounts, Attaches, SetsUp, is_named, has_name_on, has_altitude_on, register_refusals, mount_refusals, attach_refusals, setup_refusals, is_wanted, is_setup_at, accepted, refused, accept_row, finished, is_emptying_at};
 ghost use Rattle.fm_stack.specs.Instances.{is_live_on, registration_in, registration_of, same_name};
 ghost use Rattle.fm_types.specs.declared.ids.InstanceId.{InstanceId};
 ghost use Rattle.fm_stack.specs.declared.filter.Filter.{Filter};
@@ -19,7 +19,7 @@ ghost use Rattle.fm_stack.specs.Next.{IsNextInstance};
 ghost use Rattle.fm_stack.specs.Orders.{IsOrder};
 
 use crate::filter::{Filter, FilterPhase};
-use crate::instance::{Instance, Phase};
+use crate::instance::{self, Instance, Phase};
 use crate::order::{self, MAX_LIVE, Order, Seat};
 use crate::volume::{Volume, VolumePhase};
 use fm_altitude::Altitude;
@@ -42,10 +42,10 @@ pub const MAX_INSTANCES: usize = 4096;
 #[derive(Drop)]
 pub struct Stack {
     alloc: Global,
-    filters: Vec<Filter>,
-    volumes: Vec<Volume>,
+    pub(crate) filters: Vec<Filter>,
+    pub(crate) volumes: Vec<Volume>,
     orders: Vec<Order>,
-    instances: Vec<Instance>,
+    pub(crate) instances: Vec<Instance>,
     births: u64,
 }
 
@@ -67,22 +67,6 @@ fn accept_at(rows: &mut Vec<Instance>, at: usize, births: u64)
     ensures { rows.new.items ≡ updated (accept_row births) rows.old.items at }
 {
     rows[at].accept(births);
-}
-
-// Ends the setup of one row by letting it leave.
-fn refuse_at(rows: &mut Vec<Instance>, at: usize)
-    requires { at < length rows.old.items }
-    ensures { rows.new.items ≡ updated refuse_row rows.old.items at }
-{
-    rows[at].refuse();
-}
-
-// Ends one row.
-fn finish_at(rows: &mut Vec<Instance>, at: usize)
-    requires { at < length rows.old.items }
-    ensures { rows.new.items ≡ updated finish_row rows.old.items at }
-{
-    rows[at].finish();
 }
 
 // One more seat in one order.
@@ -189,7 +173,7 @@ impl Stack {
     }
 
     // The instances on a volume that aren't detached, the highest first.
-    fn seats(&self, volume: VolumeId) -> &[Seat]
+    pub(crate) fn seats(&self, volume: VolumeId) -> &[Seat]
         ensures { IsOrder self.now.filters self.now.instances volume result.now }
     {
         order::seats_at(&self.orders, volume)
@@ -432,7 +416,7 @@ impl Stack {
         ensures event { self.new ≡ refused self.old instance }
         ensures follows { Follows self.old self.new }
     {
-        refuse_at(&mut self.instances, instance.0 as usize);
+        instance::set_phase(&mut self.instances, instance.0 as usize, Phase::Emptying);
     }
 
     /// Ends the setup callback of an instance (`InstanceSetupCallback` returns). Accepted, the instance
@@ -465,7 +449,7 @@ impl Stack {
         let Some(place) = order::place_of(seats, instance) else {
             unreachable!();
         };
-        finish_at(&mut self.instances, instance.0 as usize);
+        instance::set_phase(&mut self.instances, instance.0 as usize, Phase::Detached);
         remove_at(&mut self.orders, volume.0 as usize, place);
     }
 }

@@ -1,7 +1,9 @@
 //! Volumes: a name, and how far a dismount has come.
 
-ghost use Rattle.std.specs.Prelude.{◌≡◌};
+ghost use Rattle.std.specs.Prelude.{◌≡◌, ◌<◌, length};
+ghost use Rattle.fm_types.specs.Lists.{updated};
 ghost use Rattle.fm_stack.specs.Events.{is_mounted_phase};
+ghost use Rattle.fm_stack.specs.Dismounting.{volume_in, is_dismounting_phase, is_volume_emptied_phase};
 
 use fm_types::Name;
 
@@ -34,4 +36,26 @@ impl Volume {
     {
         matches!(self.phase, VolumePhase::Mounted)
     }
+
+    /// Whether the volume is being dismounted: a dismount has begun, and isn't finished.
+    pub fn is_dismounting(&self) -> bool
+        ensures { result ≡ is_dismounting_phase self.now.phase }
+    {
+        matches!(self.phase, VolumePhase::Dismounting | VolumePhase::Emptied)
+    }
+
+    /// Whether the volume's contexts are unlinked, and its dismount may be finished.
+    pub fn is_emptied(&self) -> bool
+        ensures { result ≡ is_volume_emptied_phase self.now.phase }
+    {
+        matches!(self.phase, VolumePhase::Emptied)
+    }
+}
+
+/// One volume goes on to that phase.
+pub fn set_phase(rows: &mut Vec<Volume>, at: usize, phase: VolumePhase)
+    requires { at < length rows.old.items }
+    ensures { rows.new.items ≡ updated (volume_in phase) rows.old.items at }
+{
+    rows[at].phase = phase;
 }

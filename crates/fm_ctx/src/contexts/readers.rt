@@ -9,7 +9,7 @@ ghost use Rattle.fm_ctx.specs.Rows.{context_of, count_of_row};
 ghost use Rattle.fm_ctx.specs.declared.row.Row.{Row as KeptRow};
 ghost use Rattle.fm_ctx.specs.Kept.{carried_of};
 ghost use Rattle.fm_ctx.specs.declared.count.Count.TheVariants as Count;
-ghost use Rattle.fm_ctx.specs.Counting.{count_reply, was_given, born, cleaned_count, open_of};
+ghost use Rattle.fm_ctx.specs.Counting.{count_reply, was_given, born, cleaned_count, open_of, open_on};
 
 use crate::contexts::Contexts;
 use crate::count::Count;
@@ -17,7 +17,7 @@ use crate::object::Object;
 use crate::owner::Owner;
 use crate::row::Row;
 use crate::{hand, row};
-use fm_types::{ContextKind, CtxId, WorkerId};
+use fm_types::{ContextKind, CtxId, VolumeId, WorkerId};
 
 /// How many slots there are at most.
 const MAX_SLOTS: usize = 65536;
@@ -161,6 +161,13 @@ impl Contexts {
         ensures { result ≡ open_of self.now.table.slots owner }
     {
         row::open_of(&self.rows, owner) as u64
+    }
+
+    /// How many volume contexts that were allocated on a volume aren't cleaned, whosever they are.
+    pub fn open_on(&self, volume: VolumeId) -> u64
+        ensures { result ≡ open_on self.now.table.slots volume }
+    {
+        row::open_on(&self.rows, volume) as u64
     }
 
     /// How far the life of a context has come. A live one has as many references as its link, the

@@ -9,8 +9,8 @@ unreachable-requires c =
     sits_there _ _ c.args.instance c.index.result.now c.self.invariant row.1 row.2
     (found_at _ _ _ c.args.instance c.index.result.now.volume None _ c.seats_at-seats.ensures c.deref.ensures.value c.place_of.ensures c.in_default.is)
 
-pub finish_at-requires : goal.finish_at-requires
-finish_at-requires c = (emptying_read c.args.instance c.index.result.now c.self.view_is c.requires c.index.ensures).0
+pub set_phase-requires : goal.set_phase-requires
+set_phase-requires c = (emptying_read c.args.instance c.index.result.now c.self.view_is c.requires c.index.ensures).0
 
 pub remove_at-requires-clause-there : goal.remove_at-requires-clause-there
 remove_at-requires-clause-there c =
@@ -22,7 +22,7 @@ invariant_of-self c =
     let row = emptying_read c.args.instance c.index.result.now c.self.view_is c.requires c.index.ensures in
     let at =
     found_at _ _ _ c.args.instance c.index.result.now.volume (Some c.in-Some.place) _ c.seats_at-seats.ensures c.deref.ensures.value c.place_of.ensures c.in-Some.is in
-    rw (c.finish_at.ensures, c.remove_at.ensures) (finished_kept _ _ c.args.instance c.index.result.now c.in-Some.place c.self.invariant row.1 row.2 at)
+    rw (c.set_phase.ensures, c.remove_at.ensures) (finished_kept _ _ c.args.instance c.index.result.now c.in-Some.place c.self.invariant row.1 row.2 at)
 
 pub returns-clause-follows : goal.returns-clause-follows
-returns-clause-follows c = rw (← c.self.view_is, c.finish_at.ensures) (finished_follows _ c.args.instance)
+returns-clause-follows c = rw (← c.self.view_is, c.set_phase.ensures) (finished_follows _ c.args.instance)

@@ -1,0 +1,7 @@
+use Rattle.fm_stack.proofs.Words.{set_is_updated}
+use Rattle.fm_stack.specs.Detaching.{in_phase}
+use Rattle.std.proofs.Common.{refl}
+use Rattle.fm_stack.proofs.instance.set_phase.Goals as goal
+
+pub returns : goal.returns
+returns c = set_is_updated (in_phase c.args.phase) c.args.rows.now.items c.args.at c.index_mut.result.now _ c.requires c.index_mut.ensures.value refl

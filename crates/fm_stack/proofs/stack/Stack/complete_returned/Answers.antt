@@ -1,0 +1,8 @@
+use Rattle.fm_stack.proofs.Teardowns.{empties}
+use Rattle.fm_stack.proofs.stack.Stack.complete_returned.Goals as goal
+
+pub invariant_of-self : goal.invariant_of-self
+invariant_of-self c = rw c.set_phase.ensures (empties c.self.inside.orders.items c.args.instance c.self.invariant c.self.view_is c.requires).0
+
+pub returns-clause-follows : goal.returns-clause-follows
+returns-clause-follows c = rw c.set_phase.ensures (empties c.self.inside.orders.items c.args.instance c.self.invariant c.self.view_is c.requires).1

@@ -1,0 +1,8 @@
+use Rattle.fm_stack.proofs.Dismounts.{volume_ends}
+use Rattle.fm_stack.proofs.stack.Stack.finish_volume.Goals as goal
+
+pub invariant_of-self : goal.invariant_of-self
+invariant_of-self c = rw c.set_phase.ensures (volume_ends c.self.inside.orders.items c.args.volume c.self.invariant c.self.view_is).0
+
+pub returns-clause-follows : goal.returns-clause-follows
+returns-clause-follows c = rw c.set_phase.ensures (volume_ends c.self.inside.orders.items c.args.volume c.self.invariant c.self.view_is).1

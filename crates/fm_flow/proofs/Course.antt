@@ -5,7 +5,7 @@ use Rattle.fm_flow.proofs.Words.{Descending, PreRunning, InBase, Ascending, Post
 use Rattle.fm_flow.proofs.Words.{bare_ask, drain_opens, Ask, Entry, Pre, Base, Drain, one, times, ask_of, is_drained, is_answered}
 use Rattle.fm_flow.proofs.Words.{visited, asked, posted, owed, instances, without, walk, way_of, answer_count, IsCourse, answers, visit_of}
 use Rattle.fm_flow.proofs.Words.{post_of, post_entry, ⊤, filter-append, filter_agree, undrained, drains, after, slack, list_any}
-use Rattle.fm_flow.proofs.Words.{HasItsDrain}
+use Rattle.fm_flow.proofs.Words.{HasItsDrain, MadeAsAsked, All, All-nil, All-push, ap₂, subst, may_take}
 use Rattle.std.proofs.Common.{◌≡◌, ◌+◌, ◌*◌, ◌<◌, ◌≤◌, ◌==◌, ◌&&◌, ◌∷◌, ◌++◌, ◌∙◌, append_assoc}
 use Rattle.fm_flow.specs.declared.entry.PreState.TheVariants as pre
 use Rattle.fm_flow.specs.declared.entry.PostState.TheVariants as post
@@ -13,6 +13,7 @@ use Rattle.fm_flow.specs.Counts.{drain_opens_at}
 use Rattle.fm_flow.proofs.Owed.{without_head, others, times-append, times_instances-append, instances_without, length_without, others_none}
 use Rattle.fm_flow.proofs.Owed.{others_once, filter_map-push, answer_count_push, left, left_push_ask, left_push_answer, left_push_none}
 use Rattle.fm_flow.proofs.Owed.{unanswered, not_drained}
+use Rattle.fm_flow.proofs.Synchronized.{none_made, made_next}
 use Rattle.fm_flow.proofs.Walks.{walk_push, no_posts}
 
 -- ---- counts of instances
@@ -83,8 +84,8 @@ settled_ascent es fs o h fresh ascent =
     by_ask None fresh = ascent
     by_ask (Some ask) fresh = let none = fresh.1 in rw none (ap (λ xs. ask.instance.0 ∷ xs) (rw none at ascent))
 
-pub course_settled : (s t : Stage) (es fs : List Entry) (o : Option Ask) → Settles es fs o → IsCourse s es → IsFresh es o → walk Descending fs ≡ Some (way_of t) → length (option_to_list o) + slack t ≤ slack s → HasItsDrain t fs → IsCourse t fs
-course_settled s t es fs o h c fresh w room drain =
+pub course_settled : (s t : Stage) (es fs : List Entry) (o : Option Ask) → Settles es fs o → IsCourse s es → IsFresh es o → walk Descending fs ≡ Some (way_of t) → length (option_to_list o) + slack t ≤ slack s → All (MadeAsAsked (asked fs)) fs → HasItsDrain t fs → IsCourse t fs
+course_settled s t es fs o h c fresh w room made drain =
     let owes = owed_settled es fs o h fresh in record {
       order = w;
       apart = λ i. omega (arith, ap (times i) h.visits, c.apart i);
@@ -93,6 +94,7 @@ course_settled s t es fs o h c fresh w room drain =
           let e = ap (λ xs. times i (instances xs)) h.asks ∙ times_instances-append i (asked es) (option_to_list o) in
           omega (arith, h.counts i, c.once i, b, e);
       ascent = settled_ascent es fs o h fresh c.ascent;
+      synchronized = made;
       few = omega (arith, ap length h.visits, c.few);
       room = omega (arith, ap length h.visits, c.room, h.len, ap length owes ∙ length-append (option_to_list o) (owed es));
       drain = drain;
@@ -100,8 +102,12 @@ course_settled s t es fs o h c fresh w room drain =
 
 -- ---- one more entry
 
+-- on the way down
+none_made_push : (es : List Entry) (e : Entry) → posted es ≡ [] → post_of e ≡ None → All (MadeAsAsked (asked (es ++ e ∷ []))) (es ++ e ∷ [])
+none_made_push es e none unposted = none_made (asked (es ++ e ∷ [])) (es ++ e ∷ []) (filter_map-push post_of es e ∙ ap₂ (λ xs o. xs ++ option_to_list o) none unposted)
+
 pub course_start : IsCourse Descending []
-course_start = record { order = refl; apart = λ i. omega arith; once = λ i. refl; ascent = refl; few = omega arith; room = omega arith; drain = tt }
+course_start = record { order = refl; apart = λ i. omega arith; once = λ i. refl; ascent = refl; synchronized = All-nil (MadeAsAsked []); few = omega arith; room = omega arith; drain = tt }
 
 -- one more entry at a stage that allows it
 course_push : (s t : Stage) (es : List Entry) (e : Entry) → IsCourse s es → after (way_of s) e ≡ Some (way_of t)
@@ -110,8 +116,8 @@ course_push : (s t : Stage) (es : List Entry) (e : Entry) → IsCourse s es → 
     → posted es ++ (option_to_list (post_of e) ++ instances (owed (es ++ e ∷ []))) ≡ instances (undrained (es ++ e ∷ []))
     → length (visited es) + length (option_to_list (visit_of e)) ≤ 32
     → length (owed (es ++ e ∷ [])) + slack t + 1 ≤ length (owed es) + slack s + 2 * length (option_to_list (visit_of e))
-    → HasItsDrain t (es ++ e ∷ []) → IsCourse t (es ++ e ∷ [])
-course_push s t es e c comes apart once ascent few room drain =
+    → All (MadeAsAsked (asked (es ++ e ∷ []))) (es ++ e ∷ []) → HasItsDrain t (es ++ e ∷ []) → IsCourse t (es ++ e ∷ [])
+course_push s t es e c comes apart once ascent few room made drain =
     let v = filter_map-push visit_of es e in
     let lv = ap length v ∙ length-append (visited es) (option_to_list (visit_of e)) in
     record {
@@ -121,6 +127,7 @@ course_push s t es e c comes apart once ascent few room drain =
           let q = ap (λ xs. times i (instances xs)) (filter_map-push ask_of es e) ∙ times_instances-append i (asked es) (option_to_list (ask_of e)) in
           omega (arith, answer_count_push i es e, q, c.once i, once i);
       ascent = rw (filter_map-push post_of es e, append_assoc) ascent;
+      synchronized = made;
       few = omega (arith, lv, few);
       room = omega (arith, lv, length-append es (e ∷ []), c.room, few, room);
       drain = drain;
@@ -135,7 +142,7 @@ module _ (es : List Entry) (worker : WorkerId) (i : InstanceId) (place : ℕ) (c
       let o = left_push_none answers es e refl (λ j. refl) in
       let u = left_push_none drains es e refl (λ j. refl) in
       course_push Descending PreRunning es e c refl (λ j. apart_more j i.0 (visited es) fresh (c.apart j)) (λ j. omega (arith, ap (λ xs. times j (instances xs)) o)) (rw (o, u) c.ascent)
-      (omega (arith, few)) (omega (arith, ap length o)) tt
+      (omega (arith, few)) (omega (arith, ap length o)) (none_made_push es e (no_posts Descending es Descending c.order refl) refl) tt
 
   -- that asks at once
   pub course_visit_ask : IsCourse Descending (es ++ Pre (record { instance = i; worker = worker; state = bare_ask; place = place }) ∷ [])
@@ -145,11 +152,11 @@ module _ (es : List Entry) (worker : WorkerId) (i : InstanceId) (place : ℕ) (c
       let u = left_push_ask drains es e (bare_ask_of worker i place) refl (λ j. refl) (not_drained i.0 es (unvisited Descending es i.0 c fresh)) in
       let n = no_posts Descending es Descending c.order refl in let h = c.ascent in
       course_push Descending Descending es e c refl (λ j. apart_more j i.0 (visited es) fresh (c.apart j)) (λ j. omega (arith, ap (λ xs. times j (instances xs)) o))
-      (rw (o, u, n) (ap (λ xs. i.0 ∷ xs) (rw n at h))) (omega (arith, few)) (omega (arith, ap length o)) tt
+      (rw (o, u, n) (ap (λ xs. i.0 ∷ xs) (rw n at h))) (omega (arith, few)) (omega (arith, ap length o)) (none_made_push es e n refl) tt
 
 -- a base call begins
 pub course_in_base : (es : List Entry) → IsCourse Descending es → IsCourse InBase es
-course_in_base es c = record { order = c.order; apart = c.apart; once = c.once; ascent = c.ascent; few = c.few; room = c.room; drain = tt }
+course_in_base es c = record { order = c.order; apart = c.apart; once = c.once; ascent = c.ascent; synchronized = c.synchronized; few = c.few; room = c.room; drain = tt }
 
 -- the base's entry
 pub course_base : (s : Stage) (es : List Entry) (status : Status) (information : ℕ) → way_of s ≡ Descending → slack s ≡ 1 → IsCourse s es → IsCourse Ascending (es ++ Base status information ∷ [])
@@ -158,7 +165,7 @@ course_base s es status information way slack_is c =
     let o = left_push_none answers es e refl (λ i. refl) in
     let u = left_push_none drains es e refl (λ i. refl) in
     course_push s Ascending es e c (rw way refl) (λ i. omega (arith, c.apart i)) (λ i. omega (arith, ap (λ xs. times i (instances xs)) o)) (rw (o, u) c.ascent) (omega (arith, c.few))
-    (omega (arith, ap length o, slack_is)) tt
+    (omega (arith, ap length o, slack_is)) (none_made_push es e (no_posts Descending es Descending (c.order ∙ ap Some way) refl) refl) tt
 
 -- an instance stands at most once among those owed, and so the first of them does
 pub owed_once : (s : Stage) (es : List Entry) (i : ℕ) → IsCourse s es → times i (instances (owed es)) ≤ 1
@@ -182,16 +189,23 @@ answered_once es e i asks same once j =
     let b = ap (λ xs. times j (instances xs)) (left_push_answer answers es e i asks same) ∙ ap (times j) (instances_without i (owed es)) in
     omega (arith, ap one (same j), b, others_once i j (instances (owed es)) once)
 
--- the postoperation that comes next
-pub course_post : (es : List Entry) (worker : WorkerId) (ask : Ask) (rest : List Ask) → owed es ≡ ask ∷ rest → IsCourse Ascending es
+-- an entry that asks for nothing
+made_push : (es : List Entry) (e : Entry) → ask_of e ≡ None → All (MadeAsAsked (asked es)) es → MadeAsAsked (asked es) e → All (MadeAsAsked (asked (es ++ e ∷ []))) (es ++ e ∷ [])
+made_push es e asks h here =
+    subst (λ xs. All (MadeAsAsked xs) (es ++ e ∷ [])) (sym (filter_map-push ask_of es e ∙ ap (λ o. asked es ++ option_to_list o) asks ∙ append-nil (asked es)))
+    (All-push (MadeAsAsked (asked es)) es e h here)
+
+-- the postoperation that comes next, by a worker that may make it
+pub course_post : (es : List Entry) (worker : WorkerId) (ask : Ask) (rest : List Ask) → owed es ≡ ask ∷ rest → may_take worker ask ≡ true → IsCourse Ascending es
     → IsCourse PostRunning (es ++ post_entry worker ask.instance post.Running ∷ [])
-course_post es worker ask rest next c =
+course_post es worker ask rest next may c =
     let e = post_entry worker ask.instance post.Running in
     let r = owed_answered Ascending es e ask rest c next refl (λ j. refl) in
     let u = left_push_none drains es e refl (λ j. refl) in
     let h = c.ascent in
     course_push Ascending PostRunning es e c refl (λ j. omega (arith, c.apart j)) (answered_once es e ask.instance.0 refl (λ j. refl) (owed_first Ascending es ask rest c next))
-    (rw (r, u) (sym (ap (λ xs. posted es ++ instances xs) next) ∙ h)) (omega (arith, c.few)) (omega (arith, ap length r, ap length next)) tt
+    (rw (r, u) (sym (ap (λ xs. posted es ++ instances xs) next) ∙ h)) (omega (arith, c.few)) (omega (arith, ap length r, ap length next))
+    (made_push es e refl c.synchronized (made_next worker post.Running es ask rest next (omega (arith, asked_among ask.instance.0 es, c.apart ask.instance.0)) may)) tt
 
 drains_among : (i : ℕ) (es : List Entry) → drain_opens i es ≤ answer_count i es
 drains_among i [] = omega arith
@@ -217,4 +231,4 @@ course_drain s t es i once way slack_is drains' c =
     let b = sym (filter-append (λ j. not (i.0 == j)) (posted es) (instances (owed es)) ∙ ap (λ xs. xs ++ others i.0 (instances (owed es))) (others_none i.0 (posted es) unposted)) in
     course_push s t es e c (ap Some (sym way)) (λ j. omega (arith, c.apart j)) (answered_once es e i.0 refl (λ j. refl) once)
     (rw (w, n) (a ∙ b ∙ ap (others i.0) c.ascent ∙ sym (instances_without i.0 (undrained es)))) (omega (arith, c.few))
-    (omega (arith, ap length w, length_without i.0 (owed es), once, slack_is)) (drains' runs c.drain)
+    (omega (arith, ap length w, length_without i.0 (owed es), once, slack_is)) (made_push es e refl c.synchronized tt) (drains' runs c.drain)

@@ -1,5 +1,8 @@
 mod Words
 pub mod Owed
+mod Synchronized
+pub mod Holds
+mod Lowest
 pub mod Walks
 pub mod Course
 pub mod Settled
@@ -8,7 +11,9 @@ pub mod Noted
 pub mod Soundness
 pub mod Next
 pub mod Returns
+pub mod Resumes
 pub mod Tallied
 pub mod Flows
 pub mod Requests
 mod Seeing
+mod Turns

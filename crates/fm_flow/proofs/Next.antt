@@ -73,10 +73,10 @@ unwinds place r (Some p) at st = record {
 left_short : (operation : Operation) (answer : Answer) → length answer.bytes ≤ 32768 → length (left_answer operation answer).bytes ≤ 32768
 left_short operation answer h = grind (arith, h)
 
-pub sound_give_post : (worker : WorkerId) (ask : Ask) (rest : List Ask) (r : FlowRecord) (p : Params) → r.stage ≡ Ascending → owed r.entries ≡ ask ∷ rest → IsSound r → IsSound ((give_post worker ask r (Some p)).after)
-sound_give_post worker ask rest r p st next h =
+pub sound_give_post : (worker : WorkerId) (ask : Ask) (rest : List Ask) (r : FlowRecord) (p : Params) → r.stage ≡ Ascending → owed r.entries ≡ ask ∷ rest → may_take worker ask ≡ true → IsSound r → IsSound ((give_post worker ask r (Some p)).after)
+sound_give_post worker ask rest r p st next may h =
     sound_pushed r Ascending PostRunning (post_entry worker ask.instance post.Running) None (left_answer r.operation r.answer) r.handle st h (ap₂ done_at st next)
-    (course_post r.entries worker ask rest next (at_stage r Ascending st h).0) refl tt (omega arith) (left_short r.operation r.answer h.bytes)
+    (course_post r.entries worker ask rest next may (at_stage r Ascending st h).0) refl tt (omega arith) (left_short r.operation r.answer h.bytes)
 
 pub sound_drain : (ask : Ask) (rest : List Ask) (r : FlowRecord) → r.stage ≡ Ascending → owed r.entries ≡ ask ∷ rest → IsSound r → IsSound (with_drain ask.instance (InDrain ask.instance) r)
 sound_drain ask rest r st next h =
@@ -226,14 +226,14 @@ answered_owed : {r : FlowRecord} (ask : Ask) (rest : List Ask) (s : FlowRecord) 
 answered_owed ask rest s e st next back asks answers' h = owed_answered Ascending s.entries e ask rest (at_stage s Ascending (back.stage ∙ st) (back.sound h)).0 (ap owed back.entries ∙ next) asks answers'
 
 module _ {worker : WorkerId} {lies : Below} (ask : Ask) (rest : List Ask) (r : FlowRecord) (st : r.stage ≡ Ascending) (next : owed r.entries ≡ ask ∷ rest) where
-  did_post : (s : FlowRecord) (m : Option Params) → Unwinds r s → Did worker lies r (give_post worker ask s m)
-  did_post s None back = did_refused r s back
-  did_post s (Some p) back =
+  did_post : (s : FlowRecord) (m : Option Params) → may_take worker ask ≡ true → Unwinds r s → Did worker lies r (give_post worker ask s m)
+  did_post s None takes back = did_refused r s back
+  did_post s (Some p) takes back =
       let e = post_entry worker ask.instance post.Running in let t = give_post worker ask s (Some p) in
       did_more e t.after t.reply (ap (λ es. es ++ e ∷ []) back.entries) (stays_so back.stays.number back.stays.collected) (λ j. refl) (λ j apart. refl)
       (λ may h.
       let o = answered_owed ask rest s e st next back refl (λ j. refl) h in (
-        sound_give_post worker ask rest s p (back.stage ∙ st) (ap owed back.entries ∙ next) (back.sound h),
+        sound_give_post worker ask rest s p (back.stage ∙ st) (ap owed back.entries ∙ next) takes (back.sound h),
         owing_first ask rest next o (λ c. refl) (λ P was. (ask, was, refl, refl)),
         λ j. grind (arith, nat_tests, ap (λ xs. times j (instances xs)) next, ap (λ xs. times j (instances xs)) o),
       ))
@@ -249,14 +249,14 @@ module _ {worker : WorkerId} {lies : Below} (ask : Ask) (rest : List Ask) (r : F
         λ j. grind (arith, nat_tests, ap (λ xs. times j (instances xs)) next, ap (λ xs. times j (instances xs)) o),
       ))
 
-  did_take : (b : Bool) → Did worker lies r (cond b (call_post worker ask r) (turn (Err WrongStep) r))
-  did_take false = did_refused r r (unwinds_none r)
-  did_take true = let s = unwound ask.place r in did_post s s.params (unwinds ask.place r (slice_get r.kept ask.place) refl st)
+  did_take : (b : Bool) → may_take worker ask ≡ b → Did worker lies r (cond b (call_post worker ask r) (turn (Err WrongStep) r))
+  did_take false takes = did_refused r r (unwinds_none r)
+  did_take true takes = let s = unwound ask.place r in did_post s s.params takes (unwinds ask.place r (slice_get r.kept ask.place) refl st)
 
 did_up : (worker : WorkerId) (lies : Below) (stops : Bool) (r : FlowRecord) (m : Option Ask) → r.stage ≡ Ascending → slice_get (owed r.entries) 0 ≡ m → Did worker lies r (ascend worker stops r m)
 did_up worker lies stops r None st is = did_none r (Ok action.Done) refl (stays_so refl refl) (λ h. h) (λ c. refl) (λ i. (refl, refl)) (λ P. tt)
 did_up worker lies true r (Some ask) st is = did_drain ask (tail_of (owed r.entries)) r st (head_of (owed r.entries) ask is)
-did_up worker lies false r (Some ask) st is = did_take ask (tail_of (owed r.entries)) r st (head_of (owed r.entries) ask is) (may_take worker ask)
+did_up worker lies false r (Some ask) st is = did_take ask (tail_of (owed r.entries)) r st (head_of (owed r.entries) ask is) (may_take worker ask) refl
 
 did_held : {worker : WorkerId} {lies : Below} (r : FlowRecord) → Did worker lies r (turn (Ok action.Held) r)
 did_held r = did_none r (Ok action.Held) refl (stays_so refl refl) (λ h. h) (λ c. refl) (λ i. (refl, refl)) (λ P. tt)

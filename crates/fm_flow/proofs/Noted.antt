@@ -5,9 +5,12 @@ use Rattle.fm_flow.proofs.Words.{InstanceId, WorkerId, Status, Stage, Descending
 use Rattle.fm_flow.proofs.Words.{ask_in, ask_of, ask_at, asks, visit_of, answers, visited, last_visited, owed, bare_ask, walk, way_of, is_open, is_pre_open}
 use Rattle.fm_flow.proofs.Words.{settle, is_due, settle_pre, settle_post, settle_drain, IsCourse, IsNoted, is_running_drain_of, drain_opens, after}
 use Rattle.fm_flow.specs.Counts.{drain_opens_at}
-use Rattle.std.proofs.Common.{◌≡◌, ◌+◌, ◌<◌, ◌≤◌, ◌==◌, ◌∷◌, ◌++◌, ◌∙◌, zero, suc, set, option_and_then}
+use Rattle.std.proofs.Common.{◌≡◌, ◌+◌, ◌-◌, ◌<◌, ◌≤◌, ◌==◌, ◌∷◌, ◌++◌, ◌∙◌, zero, suc, set, option_and_then}
 use Rattle.std.specs.Option.{option_or}
+use Rattle.fm_flow.proofs.Words.{take, take_more, post_of, last_posted}
+use Rattle.std.specs.List.{filter_map}
 use Rattle.std.proofs.lemmas.Option.{slice_get-map}
+use Rattle.std.specs.Option.{is_some}
 use Rattle.fm_flow.specs.declared.entry.PreState.TheVariants as pre
 use Rattle.fm_flow.specs.declared.entries.Ending.{Ending}
 use Rattle.fm_flow.specs.declared.entries.Ending.TheVariants as ending
@@ -105,8 +108,25 @@ ask_at_end es e = ap (option_and_then ask_of) (slice_get-push es e)
 
 -- ---- one more entry
 
+last_more : (f : Entry → Option ℕ) (es : List Entry) (e : Entry) → slice_get (reverse (filter_map f (es ++ e ∷ []))) 0 ≡ option_or (f e) (slice_get (reverse (filter_map f es)) 0)
+last_more f es e = ap (λ xs. slice_get (reverse xs) 0) (filter_map-push f es e) ∙ last_with (filter_map f es) (f e)
+
 last_push : (es : List Entry) (e : Entry) → last_visited (es ++ e ∷ []) ≡ option_or (visit_of e) (last_visited es)
-last_push es e = ap (λ xs. slice_get (reverse xs) 0) (filter_map-push visit_of es e) ∙ last_with (visited es) (visit_of e)
+last_push es e = last_more visit_of es e
+
+-- the last entry up to a place says it, or those before it do
+pub posted_back : (es : List Entry) (n : ℕ) (e : Entry) (p : Option InstanceId) → 0 < n → n ≤ length es → last_posted es ≡ last_posted (take n es)
+    → option_map (λ i. i.0) p ≡ post_of (get_or es (n - 1) e) → last_posted es ≡ option_or (option_map (λ i. i.0) p) (last_posted (take (n - 1) es))
+posted_back es n e p some within from is =
+    let k : n - 1 + 1 ≡ n = omega (arith, some) in
+    from ∙ ap (λ j. last_posted (take j es)) (sym k) ∙ ap last_posted (take_more es (n - 1) e (omega (arith, some, within)))
+    ∙ last_more post_of (take (n - 1) es) (get_or es (n - 1) e) ∙ ap (λ o. option_or o (last_posted (take (n - 1) es))) (sym is)
+
+pub posted_here : (p : Option InstanceId) (m rest : Option ℕ) → m ≡ option_or (option_map (λ i. i.0) p) rest → is_some p ≡ true → option_map (λ i. i.0) p ≡ m
+posted_here p m rest is some = grind (arith, is, some)
+
+pub posted_before : (p : Option InstanceId) (m rest : Option ℕ) → m ≡ option_or (option_map (λ i. i.0) p) rest → is_some p ≡ false → m ≡ rest
+posted_before p m rest is none = grind (arith, is, none)
 
 noted_same : {places : List ℕ} {latest : Option InstanceId} {es : List Entry} (fs : List Entry) → AsksStay es fs → owed fs ≡ owed es → last_visited fs ≡ last_visited es
     → IsNoted places latest es → IsNoted places latest fs

@@ -36,7 +36,7 @@ fits_parts operation path d fits =
 -- ---- a preoperation returns
 
 -- a verdict gives the parameters back, and nothing more is kept then
-returned : (state : PreState) → is_counted state ≡ true → (lends (pre_leads state) ≡ false) × (keeps_more (pre_leads state) ≡ 0)
+pub returned : (state : PreState) → is_counted state ≡ true → (lends (pre_leads state) ≡ false) × (keeps_more (pre_leads state) ≡ 0)
 returned state c = (grind (arith, c), grind (arith, c))
 
 fit_change : (operation : Operation) (path : Option (List ℕ)) (received : Params) (changed : Option Params) → fit operation path received ≡ true

@@ -54,4 +54,5 @@ seen = record {
       given worker ask (unwound ask.place r) (unwound ask.place r).params (sees r.kept ask.place current) (unwound_seen ask.place ask.place r current m refl has (omega arith)).0
       ∙ ap₂ (λ operation answer. Ok (action.Post ask.instance (answered_data (sees r.kept ask.place current) (lent_answer operation answer)) ask.completion)) same.0 same.1;
   later = λ place at r current has below. unwound_seen place at r current (slice_get r.kept place) refl has below;
+  held = λ state end r. (refl, refl, refl, refl);
 }

@@ -9,6 +9,7 @@ use Rattle.std.proofs.Common.{◌≡◌, ◌+◌, ◌≤◌, ◌==◌, ◌||◌,
 use Rattle.fm_flow.specs.declared.entry.PreState.TheVariants as pre
 use Rattle.fm_flow.specs.declared.entry.PostState.TheVariants as post
 use Rattle.fm_flow.proofs.Owed.{times-append}
+use Rattle.fm_flow.proofs.Synchronized.{none_made, made_post, made_drain}
 use Rattle.fm_flow.proofs.Walks.{Settling, OpenAs, OpenPre, OpenPost, open_pre, open_post, settling_pre, settling_post, is_pre, is_post}
 use Rattle.fm_flow.proofs.Walks.{walk-append, no_posts}
 use Rattle.fm_flow.proofs.Course.{Settles, IsFresh, course_settled, asked_among}
@@ -128,7 +129,8 @@ course_pre_settled s es state p c =
     let o = the_open_pre s es c p in
     let room : length (option_to_list (ask_in (with_state o.visit state) state)) + slack (pre_leads state) ≤ slack s = grind (arith, nat_tests) in
     course_settled s (pre_leads state) es (map (settle_pre state) es) (ask_in (with_state o.visit state) state) (settles_pre es state o) c (fresh_of_open s es state c p)
-    (walk_settled (Pre (with_state o.visit state)) (pre_leads state) o (settled_pre_is es state o) refl (grind arith)) room (no_drain_of_pre state (map (settle_pre state) es))
+    (walk_settled (Pre (with_state o.visit state)) (pre_leads state) o (settled_pre_is es state o) refl (grind arith)) room
+    (none_made (asked (map (settle_pre state) es)) (map (settle_pre state) es) ((settles_pre es state o).posts ∙ no_posts Descending es s (walks_to s es c (grind arith)) (grind arith))) (no_drain_of_pre state (map (settle_pre state) es))
 
 -- ---- a postoperation
 
@@ -153,7 +155,8 @@ course_post_settled s es state p c =
     let o = the_open_post s es c p in
     let room : 0 + slack (post_leads state) ≤ slack s = grind (arith, nat_tests) in
     course_settled s (post_leads state) es (map (settle_post state) es) None (settles_post es state) c tt
-    (walk_settled (Post (with_post o.visit state)) (post_leads state) o (settled_post_is es state o) refl (grind arith)) room (no_drain_of_post state (map (settle_post state) es))
+    (walk_settled (Post (with_post o.visit state)) (post_leads state) o (settled_post_is es state o) refl (grind arith)) room
+    (made_post state es (map_alike ask_of (settle_post state) (λ e. grind arith) es) c.synchronized) (no_drain_of_post state (map (settle_post state) es))
 
 -- ---- a drain
 
@@ -169,4 +172,5 @@ drain_walks i s (e ∷ es) =
 -- a drain that `next` gave is over
 pub course_drain_settled : (i : InstanceId) (es : List Entry) → IsCourse (InDrain i) es → IsCourse Ascending (map (settle_drain i.0) es)
 course_drain_settled i es c =
-    course_settled (InDrain i) Ascending es (map (settle_drain i.0) es) None (settles_drain i.0 es) c tt (drain_walks i.0 Descending es ∙ c.order) (omega arith) tt
+    course_settled (InDrain i) Ascending es (map (settle_drain i.0) es) None (settles_drain i.0 es) c tt (drain_walks i.0 Descending es ∙ c.order) (omega arith)
+    (made_drain i.0 es (map_alike ask_of (settle_drain i.0) (λ e. grind arith) es) c.synchronized) tt

@@ -102,7 +102,7 @@ pub record Open (s : Stage) (es : List Entry) (t : Stage) : Type 0 where
   pub quiet : Quiet back
 
 -- an entry is open where it leads to a callback
-opens_after : (s : Stage) (e : Entry) (u : Stage) → after s e ≡ Some u → is_callback s ≡ false → is_open e ≡ is_callback u
+pub opens_after : (s : Stage) (e : Entry) (u : Stage) → after s e ≡ Some u → is_callback s ≡ false → is_open e ≡ is_callback u
 opens_after s e u k calm = grind arith
 
 open_walk : (s : Stage) (es : List Entry) (t : Stage) → walk s es ≡ Some t → is_callback t ≡ true → is_callback s ≡ false → Open s es t

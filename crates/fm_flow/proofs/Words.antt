@@ -11,7 +11,7 @@ pub use Rattle.fm_flow.specs.Entries.{last_posted, last_visited, one, owed, post
 pub use Rattle.fm_flow.specs.Entries.{undrained, visit_of, visited, without}
 pub use Rattle.fm_flow.specs.Noted.{IsNoted}
 pub use Rattle.fm_flow.specs.Record.{FlowRecord}
-pub use Rattle.fm_flow.specs.Sound.{HasItsDrain, HasPath, IsCourse, IsSound, after, answer_count, is_called, keeps_more, lends, slack, walk, way_of}
+pub use Rattle.fm_flow.specs.Sound.{HasItsDrain, HasPath, IsCourse, IsSound, MadeAsAsked, after, answer_count, is_called, keeps_more, lends, slack, walk, way_of}
 pub use Rattle.fm_flow.specs.Steps.{MayLieBelow, Turned, answer_after, ascend, bare_ask, base_after, base_fits, base_reply}
 pub use Rattle.fm_flow.specs.Steps.{base_returned_of, call_base, call_post, call_pre, data_reply, descend, done_at, drain_returned_of}
 pub use Rattle.fm_flow.specs.Steps.{give_post, is_done, kept_of, left_answer, lent_answer, may_take, next_at, next_of, post_after}
@@ -48,7 +48,7 @@ pub use Rattle.std.proofs.lemmas.Bool.{and_from, and_parts, cases_Bool, eq-eqb, 
 pub use Rattle.std.proofs.lemmas.Bool.Decides.{nat_tests}
 pub use Rattle.std.proofs.lemmas.Grind.{common_steps}
 pub use Rattle.std.proofs.lemmas.List.{get_or_default, length-append, length-map, length-take, map-append, reverse-append, take_more}
-pub use Rattle.std.proofs.lemmas.List.Elements.{All-append, All-cons, All-head, All-nil, All-push, All-tail, All-take, All-weaker}
+pub use Rattle.std.proofs.lemmas.List.Elements.{All-append, All-cons, All-head, All-map, All-nil, All-push, All-tail, All-take, All-weaker}
 pub use Rattle.std.proofs.lemmas.List.Elements.{filter-append, filter_agree, filter_map-append}
 pub use Rattle.std.proofs.lemmas.Option.{none-some, same_Some}
 pub use Rattle.std.specs.List.{cons_option, list_any}

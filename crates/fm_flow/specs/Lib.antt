@@ -11,3 +11,5 @@ pub mod Creates
 pub mod Tallied
 pub mod Verdict
 pub mod Seen
+pub mod Holds
+pub mod Turns

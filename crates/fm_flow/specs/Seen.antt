@@ -6,8 +6,9 @@ use Rattle.fm_data.specs.Data.{Data, current_of, answered_data}
 use Rattle.fm_flow.specs.declared.action.FlowAction.TheVariants as action
 use Rattle.fm_flow.specs.declared.entry.Ask.{Ask}
 use Rattle.fm_flow.specs.declared.entry.PreState.{PreState}
+use Rattle.fm_flow.specs.declared.entry.PostState.{PostState}
 use Rattle.fm_flow.specs.Record.{FlowRecord}
-use Rattle.fm_flow.specs.Steps.{lent_answer, unwound, call_post, pre_returned_of}
+use Rattle.fm_flow.specs.Steps.{lent_answer, unwound, call_post, pre_returned_of, pre_settled, post_settled}
 
 -- what the postoperation of a visit at that place is to see: the first parameters that were received and changed there or below, else the current ones. A
 -- visit's place is how many were kept before it
@@ -27,3 +28,6 @@ pub record ParametersSeen : Type 0 where
   -- and those above it still are to see what they were
   pub later : (place at : ℕ) (r : FlowRecord) (current : Params) → r.params ≡ Some current → at ≤ place
       → ((unwound place r).params ≡ Some (sees r.kept place current)) × (sees (unwound place r).kept at (sees r.kept place current) ≡ sees r.kept at current)
+  -- a callback that held the operation and is resumed leaves all that is to be seen
+  pub held : (state : PreState) (end : PostState) (r : FlowRecord)
+      → ((pre_settled state r).params ≡ r.params) × ((pre_settled state r).kept ≡ r.kept) × ((post_settled end r).params ≡ r.params) × ((post_settled end r).kept ≡ r.kept)

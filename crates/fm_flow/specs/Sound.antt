@@ -3,6 +3,7 @@ use Rattle.std.specs.Prelude.{◌≡◌, ℕ, ◌+◌, ◌-◌, ◌*◌, ◌≤�
 use Rattle.fm_data.specs.Params.{fit}
 use Rattle.fm_flow.specs.declared.stage.Stage.{Stage}
 use Rattle.fm_flow.specs.declared.stage.Stage.TheVariants.{Descending, PreRunning, PreHeld, InBase, Ascending, PostRunning, InDrain}
+use Rattle.fm_flow.specs.declared.entry.Ask.{Ask}
 use Rattle.fm_flow.specs.declared.entry.Entry.{Entry}
 use Rattle.fm_flow.specs.declared.entry.Entry.TheVariants.{Pre, Base, Post, Drain}
 use Rattle.fm_flow.specs.Entries.{one, times, answers, visited, asked, posted, owed, undrained, instances}
@@ -56,6 +57,13 @@ abbrev pub HasItsDrain : Stage → List Entry → Type 0
 HasItsDrain (InDrain i) entries = drain_opens i.0 entries ≡ 1
 HasItsDrain _ entries = ⊤
 
+-- a postoperation that was asked for as synchronized is made by the worker of its preoperation
+abbrev pub MadeAsAsked : List Ask → Entry → Type 0
+MadeAsAsked asks (Pre visit) = ⊤
+MadeAsAsked asks (Base status information) = ⊤
+MadeAsAsked asks (Post visit) = All (λ ask. ask.instance.0 ≡ visit.instance.0 → ask.is_synchronized ≡ true → visit.worker.0 ≡ ask.worker.0) asks
+MadeAsAsked asks (Drain visit) = ⊤
+
 -- the laws of entries at a stage
 pub record IsCourse (stage : Stage) (entries : List Entry) : Type 0 where
   -- they come in order: nothing but drains follows a callback that runs or holds, no visit follows a
@@ -67,6 +75,8 @@ pub record IsCourse (stage : Stage) (entries : List Entry) : Type 0 where
   pub once : (i : ℕ) → answer_count i entries + times i (instances (owed entries)) ≡ times i (instances (asked entries))
   -- postoperations come in the reverse order of those asked for, without drained ones, and none is left out
   pub ascent : posted entries ++ instances (owed entries) ≡ instances (undrained entries)
+  -- a postoperation is synchronized with its preoperation, where that asked for it
+  pub synchronized : All (MadeAsAsked (asked entries)) entries
   -- 32 visits, and 65 entries with what is still to come
   pub few : length (visited entries) ≤ 32
   pub room : length entries + (2 * (32 - length (visited entries)) + (length (owed entries) + slack stage)) ≤ 65

@@ -2,7 +2,7 @@
 
 ghost use Rattle.std.specs.Prelude.{◌≡◌, ◌<◌, [], ◌∷◌, ◌++◌, length, drop, true, map, count_by, vec_capacity, slice_get, Some, option_map};
 ghost use Rattle.std.specs.List.{list_any};
-ghost use Rattle.fm_flow.specs.Entries.{ask_of, asks, ask_at, is_open, settle_pre, settle_post, settle_drain, settle};
+ghost use Rattle.fm_flow.specs.Entries.{ask_of, asks, ask_at, is_open, settle_pre, settle_post, settle_drain, settle, post_of, last_posted};
 ghost use Rattle.fm_flow.specs.Counts.{is_running_drain, is_running_drain_of, is_due};
 
 use crate::entry::{Ask, DrainVisit, Entry, PostState, PostVisit, PreState, PreVisit};
@@ -215,4 +215,28 @@ pub(crate) fn has_running_drain(entries: &[Entry]) -> bool
     ensures { result ≡ list_any is_running_drain entries.now }
 {
     entries.iter().any(|entry| is_running_drain(*entry))
+}
+
+fn post_of(entry: Entry) -> Option<InstanceId>
+    ensures { option_map (λ i. i.0) result ≡ post_of entry }
+{
+    match entry {
+        Entry::Post(visit) => Some(visit.instance),
+        _ => None,
+    }
+}
+
+/// The instance that was visited last on the way up: nearly always at the end.
+pub(crate) fn last_posted(entries: &[Entry]) -> Option<InstanceId>
+    ensures { option_map (λ i. i.0) result ≡ last_posted entries.now }
+{
+    let mut place = entries.len();
+    while place > 0 {
+        place -= 1;
+        let posted = post_of(entries[place]);
+        if posted.is_some() {
+            return posted;
+        }
+    }
+    None
 }

@@ -5,14 +5,16 @@ ghost use Rattle.std.specs.List.{list_any};
 ghost use Rattle.fm_types.specs.Refusals.{AnswersOrMemory, first_of};
 ghost use Rattle.fm_data.specs.Params.{is_within_limits, are_on};
 ghost use Rattle.fm_flow.specs.Verdict.{is_counted};
-ghost use Rattle.fm_flow.specs.Steps.{next_of, data_reply, pre_after, base_reply, base_after, post_after, drain_returned_of};
+ghost use Rattle.fm_flow.specs.Steps.{next_of, data_reply, pre_after, base_reply, base_after, post_after, pre_settled, post_settled, drain_returned_of};
+ghost use Rattle.fm_flow.specs.Holds.{is_held, IsFirstHeld};
 ghost use Rattle.fm_flow.specs.Creates.{is_creating, is_on_stream, has_create_on, creates, is_over};
 ghost use Rattle.fm_flow.specs.Tallied.{IsAscending};
 ghost use Rattle.fm_flow.specs.Table.{IsFlow, MayLieBelowOf, StandsAt, empty_table, is_number, operation_at, changed, told, is_full, is_collectable, begun, collect_reply, collected_of};
 
 use crate::action::{Below, FlowAction};
 use crate::boxed_record::BoxedRecord;
-use crate::entry::PreState;
+use crate::entry::{PostState, PreState};
+use crate::hold::Hold;
 use crate::operation_record::OperationRecord;
 use crate::stage::Stage;
 use fm_data::{Answer, BaseCall, CallbackData, Params, PostVerdict};
@@ -85,6 +87,25 @@ fn record_of(operations: &[BoxedRecord], number: OpId) -> Option<&OperationRecor
     ensures { option_copied result ≡ find (is_number number) operations.now }
 {
     let place = place_of(operations, number)?;
+    Some(operations[place].as_ref())
+}
+
+fn held_place(operations: &[BoxedRecord], hold: Hold, instance: InstanceId) -> Option<usize>
+    ensures { result ≡ position (is_held hold instance.0) operations.now }
+{
+    operations
+        .iter()
+        .position(|operation| operation.as_ref().is_held(hold, instance))
+}
+
+fn first_held(
+    operations: &[BoxedRecord],
+    hold: Hold,
+    instance: InstanceId,
+) -> Option<&OperationRecord>
+    ensures { option_copied result ≡ find (is_held hold instance.0) operations.now }
+{
+    let place = held_place(operations, hold, instance)?;
     Some(operations[place].as_ref())
 }
 
@@ -324,6 +345,38 @@ impl Flow {
     {
         let place = standing(&self.operations, number);
         self.operations[place].as_mut().post_returned(verdict, lent)
+    }
+
+    /// A held preoperation of an operation is resumed, with the verdict that counts (`FltCompletePendedPreOperation`). The operation has to be held
+    /// in one. All other operations stay. It takes no memory.
+    pub fn resume_pre(&mut self, number: OpId, state: PreState)
+        requires stage { StandsAt Stage.PreHeld (operation_at number self.old) }
+        requires counted { is_counted state ≡ true }
+        ensures { self.new ≡ changed number (pre_settled state) self.old }
+    {
+        let place = standing(&self.operations, number);
+        let operation = self.operations[place].as_mut();
+        let was_creating = operation.is_creating();
+        operation.resume_pre(state);
+        self.creates = recounted(self.creates, was_creating, operation.is_creating());
+    }
+
+    /// A held postoperation of an operation is over (`FltCompletePendedPostOperation`). The operation has to be held in one. All other operations
+    /// stay. It takes no memory.
+    pub fn resume_post(&mut self, number: OpId)
+        requires { StandsAt Stage.PostHeld (operation_at number self.old) }
+        ensures { self.new ≡ changed number (post_settled PostState.Finished) self.old }
+    {
+        let place = standing(&self.operations, number);
+        self.operations[place].as_mut().resume_post();
+    }
+
+    /// The lowest number of those operations that a callback of that kind of the instance holds.
+    pub fn first_held(&self, hold: Hold, instance: InstanceId) -> Option<OpId>
+        ensures { IsFirstHeld hold instance.0 self.now result }
+    {
+        let operation = first_held(&self.operations, hold, instance)?;
+        Some(operation.number())
     }
 
     /// The drain that has an operation is over. All other operations stay. It takes no memory.

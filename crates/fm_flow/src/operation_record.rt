@@ -7,15 +7,17 @@ ghost use Rattle.fm_data.specs.Data.{data_fits};
 ghost use Rattle.fm_flow.specs.Entries.{times, visited, last_visited, owed};
 ghost use Rattle.fm_flow.specs.Verdict.{is_counted};
 ghost use Rattle.fm_flow.specs.Counts.{is_running_drain};
-ghost use Rattle.fm_flow.specs.Steps.{bare_ask, with_visit, with_base, with_drain, call_pre, call_base, call_post, give_post, descend, ascend, unwound, may_take, next_of, MayLieBelow, pre_returned_of, base_returned_of, post_state, post_returned_of, drain_returned_of, is_done, data_reply, pre_after, base_fits, base_reply, base_after, post_after, pre_leads, post_leads};
+ghost use Rattle.fm_flow.specs.Steps.{bare_ask, with_visit, with_base, with_drain, call_pre, call_base, call_post, give_post, descend, ascend, unwound, may_take, next_of, MayLieBelow, pre_settled, pre_returned_of, base_returned_of, post_state, post_settled, post_returned_of, drain_returned_of, is_done, data_reply, pre_after, base_fits, base_reply, base_after, post_after, pre_leads, post_leads};
 ghost use Rattle.fm_flow.specs.Answered.{bare_answer};
 ghost use Rattle.fm_flow.specs.Creates.{is_creating, is_unanswered};
 ghost use Rattle.fm_flow.specs.Sound.{IsSound};
+ghost use Rattle.fm_flow.specs.Holds.{holder, is_held, same_number, sync_of};
 ghost use Rattle.fm_flow.specs.Table.{begun_record, marked, is_collectable};
 
 use crate::action::{Below, FlowAction};
 use crate::answered::{bare_answer, base_counted, handle_given};
 use crate::entry::{Ask, DrainVisit, Entry, PostState, PostVisit, PreState, PreVisit};
+use crate::hold::Hold;
 use crate::owed_stack::OwedStack;
 use crate::stage::Stage;
 use crate::{entries, lent};
@@ -206,6 +208,44 @@ impl OperationRecord {
         }
     }
 
+    // the instance whose callback of that kind holds it
+    fn holder(&self, hold: Hold) -> Option<InstanceId>
+        ensures { option_map (λ i. i.0) result ≡ holder hold self.now }
+    {
+        match (hold, self.stage) {
+            (Hold::Pre, Stage::PreHeld) => self.last,
+            (Hold::Post, Stage::PostHeld) => entries::last_posted(&self.entries),
+            _ => None,
+        }
+    }
+
+    /// Whether a callback of that kind of an instance holds it.
+    pub fn is_held(&self, hold: Hold, instance: InstanceId) -> bool
+        ensures { result ≡ is_held hold instance.0 self.now }
+    {
+        self.laws();
+        is_that(instance, self.holder(hold))
+    }
+
+    /// The worker that alone may make the postoperation that comes next: that of its preoperation, which asked for it as synchronized
+    /// (`FLT_PREOP_SYNCHRONIZE`). None where another comes next or nothing, and where the instance is torn down, for anybody may drain it.
+    pub fn synchronized_with(&self, is_stopping: bool) -> Option<WorkerId>
+        ensures { result ≡ sync_of is_stopping self.now }
+    {
+        if self.is_collected || is_stopping {
+            return None;
+        }
+        let Stage::Ascending = self.stage else {
+            return None;
+        };
+        let ask = self.next_owed()?;
+        if ask.is_synchronized {
+            Some(ask.worker)
+        } else {
+            None
+        }
+    }
+
     /// Whether it is a create that neither the base nor a filter has answered.
     pub fn is_creating(&self) -> bool
         ensures { result ≡ is_creating self.now }
@@ -381,6 +421,7 @@ impl OperationRecord {
     fn call_post(&mut self, worker: WorkerId, ask: Ask) -> FlowAction
         requires stage { self.old.stage ≡ Stage.Ascending }
         requires next { slice_get (owed self.old.entries) 0 ≡ Some ask }
+        requires may { may_take worker ask ≡ true }
         ensures reply { Ok result ≡ (call_post worker ask self.old).reply }
         ensures after { self.new ≡ (call_post worker ask self.old).after }
     {
@@ -402,6 +443,7 @@ impl OperationRecord {
     fn give_post(&mut self, worker: WorkerId, ask: Ask) -> FlowAction
         requires stage { self.old.stage ≡ Stage.Ascending }
         requires next { slice_get (owed self.old.entries) 0 ≡ Some ask }
+        requires may { may_take worker ask ≡ true }
         ensures reply { Ok result ≡ (give_post worker ask self.old self.old.params).reply }
         ensures after { self.new ≡ (give_post worker ask self.old self.old.params).after }
     {
@@ -540,6 +582,27 @@ impl OperationRecord {
         self.stage = post_leads(state);
     }
 
+    /// The preoperation that holds it gives its verdict after all.
+    pub(crate) fn resume_pre(&mut self, state: PreState)
+        requires stage { self.old.stage ≡ Stage.PreHeld }
+        requires counted { is_counted state ≡ true }
+        ensures { self.new ≡ pre_settled state self.old }
+    {
+        lent::complete(self.alloc, state, &mut self.answer);
+        let place = entries::settle_pre(&mut self.entries, state);
+        self.owed.note(entries::asks(state), place);
+        self.stage = pre_leads(state);
+    }
+
+    /// The postoperation that holds it is over.
+    pub(crate) fn resume_post(&mut self)
+        requires { self.old.stage ≡ Stage.PostHeld }
+        ensures { self.new ≡ post_settled PostState.Finished self.old }
+    {
+        entries::settle_post(&mut self.entries, PostState::Finished);
+        self.stage = Stage::Ascending;
+    }
+
     /// The drain that has the operation is over.
     pub(crate) fn drain_returned(&mut self, instance: InstanceId)
         requires { self.old.stage ≡ Stage.InDrain instance }
@@ -597,6 +660,15 @@ fn is_unanswered(stage: Stage) -> bool
         stage,
         Stage::Descending | Stage::PreRunning | Stage::PreHeld | Stage::InBase
     )
+}
+
+fn is_that(instance: InstanceId, other: Option<InstanceId>) -> bool
+    ensures { result ≡ same_number instance.0 (option_map (λ i. i.0) other) }
+{
+    match other {
+        Some(other) => other.0 == instance.0,
+        None => false,
+    }
 }
 
 fn may_take(worker: WorkerId, ask: Ask) -> bool

@@ -11,7 +11,7 @@ invariant_of-self c =
     let next = head_of _ c.args.ask (ap (λ (r : FlowRecord). slice_get (owed r.entries) 0) c.self.view_is ∙ c.requires.next) in
     let course = (at_stage _ Ascending stage c.self.invariant.0).0 in (
       rw (c.answer.ensures.items, c.take.ensures.after, c.lend_answer-answer.ensures.left)
-          (sound_give_post c.args.worker c.args.ask _ _ c.in-Some.params stage next c.self.invariant.0),
+          (sound_give_post c.args.worker c.args.ask _ _ c.in-Some.params stage next c.requires.may c.self.invariant.0),
       (
         omega arith,
         (

@@ -1,0 +1,27 @@
+use Rattle.fm_flow.proofs.Words.{refl, sym, ap, one, arith, StandsAt, PreHeld}
+use Rattle.fm_flow.specs.Steps.{pre_settled}
+use Rattle.fm_flow.proofs.Flows.{may_recount, found, changed_some, said_there, kept_set, stands_some}
+use Rattle.fm_flow.proofs.Soundness.{stays_so}
+use Rattle.fm_flow.proofs.Resumes.{sound_pre_resumed}
+use Rattle.fm_flow.proofs.flow.Flow.resume_pre.Goals as goal
+
+pub standing-place-requires : goal.standing-place-requires
+standing-place-requires c = record { there = stands_some PreHeld c.args.number c.self.view_is c.deref.ensures.value c.requires.stage; ascending = rw c.deref.ensures.value c.self.invariant.0.ascending }
+
+pub resume_pre-requires-clause-stage : goal.resume_pre-requires-clause-stage
+resume_pre-requires-clause-stage c = said_there (found c.args.number c.self.view_is (sym c.standing-place.ensures) c.deref.ensures.value refl c.as_mut-operation.ensures.value c.index_mut.ensures.value) (StandsAt PreHeld) c.requires.stage
+
+pub invariant_of-self : goal.invariant_of-self
+invariant_of-self c =
+    let there = found c.args.number c.self.view_is (sym c.standing-place.ensures) c.deref.ensures.value refl c.as_mut-operation.ensures.value c.index_mut.ensures.value in
+    kept_set there c.self.invariant (pre_settled c.args.state) c.resume_pre.ensures (λ r. stays_so refl refl)
+    (sound_pre_resumed c.args.state c.as_mut-operation.result.now (said_there there (StandsAt PreHeld) c.requires.stage) c.requires.counted)
+    (omega (arith, c.recounted-self-inside.ensures, ap one c.is_creating-was_creating.ensures, ap one c.is_creating.ensures))
+
+pub returns : goal.returns
+returns c = changed_some (found c.args.number c.self.view_is (sym c.standing-place.ensures) c.deref.ensures.value refl c.as_mut-operation.ensures.value c.index_mut.ensures.value) (pre_settled c.args.state) c.resume_pre.ensures
+
+pub recounted-self-inside-requires : goal.recounted-self-inside-requires
+recounted-self-inside-requires c =
+    let there = found c.args.number c.self.view_is (sym c.standing-place.ensures) c.deref.ensures.value refl c.as_mut-operation.ensures.value c.index_mut.ensures.value in
+    may_recount there c.self.invariant c.is_creating-was_creating.ensures

@@ -4,6 +4,7 @@ pub mod Changes
 pub mod Counted
 pub mod Attached
 pub mod Operated
+pub mod Resumed
 pub mod Holding
 pub mod Called
 pub mod Linked

@@ -387,7 +387,7 @@ pub pre_sends : {old : World} {kept : ContextsKept} (k : WorkerId) (o : OpId) (i
 pre_sends {old} {kept} k o i given state m s at same sends contexts =
     may_send kept k m old.flow s.sound.under_way.flow s.tied
     (λ d e. subst (λ (t : ContextTable). holds (hand_of t.hands k.0) d ≡ true) contexts
-    (sent_is_held old k o i given at s.sound.under_way d (sym (sends ∙ ap sent_in same) ∙ e)))
+    (sent_is_held old k o i given d (sym (sends ∙ ap sent_in same) ∙ e)))
 
 -- and completions carry it then
 pub pre_tied : {old : World} {kept : ContextsKept} (k : WorkerId) (o : OpId) (i : InstanceId) (given : PreVerdict) (lent : Data) (state : PreState)
@@ -401,7 +401,7 @@ pre_tied {old} {kept} k o i given lent state m s at same sends contexts matched 
     matched
     (subst (λ (t : ContextTable). k.0 < length t.hands) contexts
     (within_hands k.0 s.sound.owned.lawful (subst (λ n. k.0 < n) s.sound.under_way.hands (slice_get_within old.workers k.0 (place.Pre o i) at))))
-    (λ d e. subst (λ (t : ContextTable). holds (hand_of t.hands k.0) d ≡ true) contexts (sent_is_held old k o i given at s.sound.under_way d
+    (λ d e. subst (λ (t : ContextTable). holds (hand_of t.hands k.0) d ≡ true) contexts (sent_is_held old k o i given d
     (sym (ap sent_in same) ∙ e)))
     (pre_balance old k o i state lent at s.sound.under_way) s.tied)
 

@@ -3,7 +3,8 @@
 ghost use Rattle.std.specs.Prelude.{◌≡◌, ◌<◌, Some, None, IfSome, IfNone, option_map, slice_get};
 ghost use Rattle.fm_world.specs.ContextEvents.{callback_of};
 ghost use Rattle.fm_world.specs.Links.{is_there};
-ghost use Rattle.fm_world.specs.Owners.{instance_in, operation_in, file_object, file_of};
+ghost use Rattle.fm_world.specs.Workers.{worker_at};
+ghost use Rattle.fm_world.specs.Owners.{instance_in, operation_in, place_in, file_object, file_of};
 ghost use Rattle.fm_core.specs.Callers.{caller_of, owner_for, object_for, has_kind_at, is_closing_at};
 
 use crate::files::Files;
@@ -128,6 +129,13 @@ pub(crate) fn is_closing(stack: &Stack, instance: InstanceId) -> bool
 }
 
 impl State {
+    /// The instance in one of whose callbacks the worker is.
+    pub(crate) fn instance_of(&self, worker: WorkerId) -> Option<InstanceId>
+        ensures { result ≡ place_in (worker_at self.now.workers worker) }
+    {
+        instance_in(self.place(worker)?)
+    }
+
     /// Whose callback the worker is in.
     pub(crate) fn caller(&self, worker: WorkerId) -> Option<Caller>
         ensures callback { result ≡ option_map caller_of (callback_of self.now worker) }

@@ -10,6 +10,7 @@ mod cleanups;
 mod contexts;
 mod descent;
 mod files;
+mod holds;
 mod instances;
 mod operations;
 mod readers;
@@ -24,7 +25,8 @@ pub use crate::runs::run;
 pub use crate::state::State;
 pub use fm_ctx::{Count, Due, Object, Owner, SetMode};
 pub use fm_flow::{
-    Ask, DrainVisit, Entry, FlowAction as Action, PostState, PostVisit, PreState, PreVisit, Stage,
+    Ask, DrainVisit, Entry, FlowAction as Action, Hold, PostState, PostVisit, PreState, PreVisit,
+    Stage,
 };
 pub use fm_stack::{FilterPhase, Phase, VolumePhase};
 pub use fm_world::{FileHandle, HandlePhase, Refused, SetAnswer, Step, StepReply, Worker};

@@ -5,7 +5,7 @@ ghost use Rattle.fm_ctx.specs.Bags.{hand_of};
 ghost use Rattle.fm_flow.specs.declared.entry.PreState.{PreState as CountedState};
 ghost use Rattle.fm_world.specs.ContextEvents.{References, Releases, ReadsBody, WritesBody, Bumps};
 ghost use Rattle.fm_world.specs.Events.{of_hand, held_context, sent_in};
-ghost use Rattle.fm_world.specs.Hands.{OnlyHandOf, KeepsHands, HoldsMore, HoldsOneFewer};
+ghost use Rattle.fm_world.specs.Hands.{OnlyHandOf, KeepsHands, HoldsFewer, HoldsMore};
 ghost use Rattle.fm_core.specs.Hands.{back_in, MayBring, kept_brought, MaySend, kept_sent, Ends, SweepsUnless};
 
 use crate::state::State;
@@ -70,15 +70,24 @@ pub(crate) fn bring_back(contexts: &mut Contexts, worker: WorkerId, action: &Flo
     }
 }
 
+/// A completion takes a context along, out of the worker's hand.
+pub(crate) fn send(contexts: &mut Contexts, worker: WorkerId, sent: Option<CtxId>)
+    requires within { worker.0 < 48 }
+    requires sends { MaySend contexts.old worker.0 sent }
+    ensures { contexts.new ≡ kept_sent contexts.old worker.0 sent }
+{
+    if let Some(id) = sent {
+        contexts.carry(worker, id);
+    }
+}
+
 /// A callback ends: its completion takes a context along, and what is left in the hand leaks.
 pub(crate) fn end_callback(contexts: &mut Contexts, worker: WorkerId, sent: Option<CtxId>)
     requires within { worker.0 < 48 }
     requires sends { MaySend contexts.old worker.0 sent }
     ensures { Ends (kept_sent contexts.old worker.0 sent) contexts.new worker.0 }
 {
-    if let Some(id) = sent {
-        contexts.carry(worker, id);
-    }
+    send(contexts, worker, sent);
     contexts.leave(worker);
 }
 
@@ -116,7 +125,7 @@ impl State {
     pub fn release(&mut self, worker: WorkerId, context: CtxId) -> Result<(), Status>
         ensures event { Releases self.old worker context result self.new }
         ensures hand { OnlyHandOf worker.0 self.old self.new }
-        ensures held { HoldsOneFewer worker.0 result self.old self.new }
+        ensures held { HoldsFewer worker.0 result 1 self.old self.new }
     {
         let Some(_caller) = self.caller(worker) else {
             return Err(Status::WrongStep);

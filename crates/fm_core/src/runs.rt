@@ -57,6 +57,15 @@ impl State {
                 verdict,
                 data,
             } => StepReply::Done(without_data(self.post_returned(worker, verdict, data))),
+            Step::ResumePre {
+                worker,
+                operation,
+                verdict,
+            } => StepReply::Done(self.resume_pre(worker, operation, verdict)),
+            Step::ResumePost { worker, operation } => StepReply::Done(self.resume_post(
+                worker, operation,
+            )),
+            Step::FirstHeld { worker, hold } => StepReply::Held(self.first_held(worker, hold)),
             Step::Collect { operation } => StepReply::Answer(self.collect(operation)),
             Step::Allocate { worker, kind, body } => StepReply::Context(self.allocate(
                 worker, kind, body,

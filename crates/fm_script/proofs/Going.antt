@@ -45,7 +45,7 @@ goes_pre k o answer r old new event rest = one k o (task.Pre k answer) old new r
 
 pub goes_post : (k : WorkerId) (o : OpId) (r : Result (Unit {0}) Status) (old new : Interpreter)
     → LentPostReturns old.session k Finished r new.session → BySession old new → Goes k o old new
-goes_post k o r old new event rest = one k o (task.Post k) old new refl (r, event, rest)
+goes_post k o r old new event rest = one k o (task.Post k Finished) old new (refl, refl) (r, event, rest)
 
 pub goes_base : (k : WorkerId) (o : OpId) (r : Result Status Status) (old new : Interpreter)
     → LentBaseReturns Calls old.session old.devices k r new.session new.devices → KeepsLists old new → Goes k o old new

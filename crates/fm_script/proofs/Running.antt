@@ -9,7 +9,7 @@ use Rattle.fm_data.specs.Data.{Data}
 use Rattle.fm_data.specs.declared.answer.Answer.{Answer}
 use Rattle.fm_data.specs.declared.base_call.BaseCall.{BaseCall}
 use Rattle.fm_data.specs.declared.verdict.PreVerdict.{PreVerdict}
-use Rattle.fm_data.specs.declared.verdict.PostVerdict.TheVariants.{Finished}
+use Rattle.fm_data.specs.declared.verdict.PostVerdict.{PostVerdict}
 use Rattle.fm_world.specs.World.{World}
 use Rattle.fm_world.specs.Steps.{Run, Steps}
 use Rattle.fm_world.specs.declared.step.Step.{Step}
@@ -65,10 +65,10 @@ pre_runs : {P : Step → Type 0} (old new : Lending) (k : WorkerId) (answer : Pr
 pre_runs {P} old new k answer r None is (_, same) = none P old.world new.world (ap (λ (l : Lending). l.world) same)
 pre_runs {P} old new k answer r (Some own) is (event, _) = one P old.world new.world (step.PreReturned k answer own) (reply.Done r) (is own) event
 
-post_runs : {P : Step → Type 0} (old new : Lending) (k : WorkerId) (r : Result (Unit {0}) Status) (lent : Option (Option Data))
-    → ((own : Option Data) → P (step.PostReturned k Finished own)) → ReturnsPost old k Finished r new lent → RunOf P old.world new.world
-post_runs {P} old new k r None is (_, same) = none P old.world new.world (ap (λ (l : Lending). l.world) same)
-post_runs {P} old new k r (Some own) is (event, _) = one P old.world new.world (step.PostReturned k Finished own) (reply.Done r) (is own) event
+post_runs : {P : Step → Type 0} (old new : Lending) (k : WorkerId) (answer : PostVerdict) (r : Result (Unit {0}) Status) (lent : Option (Option Data))
+    → ((own : Option Data) → P (step.PostReturned k answer own)) → ReturnsPost old k answer r new lent → RunOf P old.world new.world
+post_runs {P} old new k answer r None is (_, same) = none P old.world new.world (ap (λ (l : Lending). l.world) same)
+post_runs {P} old new k answer r (Some own) is (event, _) = one P old.world new.world (step.PostReturned k answer own) (reply.Done r) (is own) event
 
 base_runs : {P : Step → Type 0} (old new : Lending) (below after : Devices) (k : WorkerId) (r : Result Status Status) (lent : Option BaseCall)
     → ((call : BaseCall) (answer : Answer) → P (step.BaseReturned k call answer)) → ReturnsBase Calls old below k r new after lent → RunOf P old.world new.world
@@ -87,8 +87,8 @@ acts_run {P} (task.Pre k answer) old new is (r, event, _) =
 acts_run {P} (task.Base k) old new is (r, event, _) =
     base_runs old.session new.session old.devices new.devices k r (base_in (lent_to old.session.lent k))
     (λ call answer. is (step.BaseReturned k call answer) (call, answer, refl)) event
-acts_run {P} (task.Post k) old new is (r, event, _) =
-    post_runs old.session new.session k r (post_in (lent_to old.session.lent k)) (λ own. is (step.PostReturned k Finished own) (own, refl)) event
+acts_run {P} (task.Post k answer) old new is (r, event, _) =
+    post_runs old.session new.session k answer r (post_in (lent_to old.session.lent k)) (λ own. is (step.PostReturned k answer own) (own, refl)) event
 acts_run {P} t old new is acts = absurd acts
 
 turn_named : (k : WorkerId) (o : OpId) (t : Task) → IsTurn k o t → (s : Step) → Names t s → Names (task.Go k o) s
@@ -96,7 +96,9 @@ turn_named k o (task.Next by own) (worker, operation) s is = inl (is ∙ ap (λ 
 turn_named k o (task.Pre by answer) worker s (own, is) = inr (inl (answer, own, is ∙ ap (λ (w : WorkerId). step.PreReturned w answer own) worker))
 turn_named k o (task.Base by) worker s (call, answer, is) =
     inr (inr (inl (call, answer, is ∙ ap (λ (w : WorkerId). step.BaseReturned w call answer) worker)))
-turn_named k o (task.Post by) worker s (own, is) = inr (inr (inr (inl (own, is ∙ ap (λ (w : WorkerId). step.PostReturned w Finished own) worker))))
+turn_named k o (task.Post by answer) (worker, finished) s (own, is) =
+    inr (inr (inr (inl
+    (own, is ∙ ap (λ (w : WorkerId). step.PostReturned w answer own) worker ∙ ap (λ (v : PostVerdict). step.PostReturned k v own) finished))))
 turn_named k o (task.Event own) collects s is = inr (inr (inr (inr (is ∙ collects))))
 turn_named k o t turn s is = absurd turn
 
@@ -132,7 +134,7 @@ performed (task.Attach f v name altitude) old new (result, (r, mid, attaches, ac
 performed (task.Next k o) old new acts = acts_by (task.Next k o) old new acts
 performed (task.Pre k answer) old new acts = acts_by (task.Pre k answer) old new acts
 performed (task.Base k) old new acts = acts_by (task.Base k) old new acts
-performed (task.Post k) old new acts = acts_by (task.Post k) old new acts
+performed (task.Post k answer) old new acts = acts_by (task.Post k answer) old new acts
 performed (task.Go k o) old new goes = runs_by (task.Go k o) old new (goes_run k o old new goes)
 performed (task.Plan i answer) old new plans = still (task.Plan i answer) old new plans.manager.session
 performed (task.Phase i) old new stays = still (task.Phase i) old new stays.0.session

@@ -1,5 +1,5 @@
 -- What the words of a line stand for, and by which status a line is refused that stands for nothing.
-use Rattle.std.specs.Prelude.{◌≡◌, ℕ, ◌<◌, ◌≤◌, Bool, true, false, List, [], ◌∷◌, Option, Some, None, Result, Ok, Err, MatchResult, codes, bytes_eq, cond, find}
+use Rattle.std.specs.Prelude.{◌≡◌, ℕ, Bool, true, false, List, [], ◌∷◌, Option, Result, Ok, Err, MatchResult, codes, bytes_eq, cond, find}
 use Rattle.fm_types.specs.declared.ids.CtxId.{CtxId}
 use Rattle.fm_types.specs.declared.ids.OpId.{OpId}
 use Rattle.fm_types.specs.declared.ids.WorkerId.{WorkerId}
@@ -10,28 +10,20 @@ use Rattle.fm_types.specs.declared.status.Status.{Status}
 use Rattle.fm_types.specs.declared.status.Status.TheVariants.{BadAltitude, BadName, BadPath, BadRequest}
 use Rattle.fm_types.specs.Paths.{IsPath}
 use Rattle.fm_types.specs.Names.{IsName}
-use Rattle.fm_types.specs.Statuses.{number_of}
 use Rattle.fm_altitude.specs.Grammar.{IsAltitude, canonical}
 use Rattle.fm_data.specs.declared.request.Request.TheVariants as request
-use Rattle.fm_data.specs.declared.verdict.PreVerdict.{PreVerdict}
-use Rattle.fm_data.specs.declared.verdict.PreVerdict.TheVariants as verdict
 use Rattle.fm_world.specs.World.{World}
 use Rattle.fm_world.specs.declared.step.Step.TheVariants as step
 use Rattle.fm_script.specs.declared.keyword.Keyword.{Keyword}
 use Rattle.fm_script.specs.declared.keyword.Keyword.TheVariants as keyword
 use Rattle.fm_script.specs.declared.task.Task.{Task}
 use Rattle.fm_script.specs.declared.task.Task.TheVariants as task
-use Rattle.fm_script.specs.Numbers.{number_read}
 use Rattle.fm_script.specs.Reading.{◌>>=◌}
-use Rattle.fm_script.specs.Ids.{filter_in, volume_in, instance_in, operation_in, context_in, worker_in}
-use Rattle.fm_script.specs.Tasks.{context_id, filter_id, instance_id, operation_id, volume_id, worker_id, one_id, only_worker, event}
+use Rattle.fm_script.specs.Ids.{filter_in, volume_in, instance_in, operation_in, worker_in}
+use Rattle.fm_script.specs.Tasks.{filter_id, volume_id, worker_id, turn_ids, turn_in, one_id, only_worker, event}
 use Rattle.fm_script.specs.ContextCommands.{context_read, allocate_read, write_body_read}
 use Rattle.fm_script.specs.FileCommands.{file_read, write_read}
-
--- the one case where the test holds, else the other
-abbrev pub Either : Bool → Type 0 → Type 0 → Type 0
-Either true A B = A
-Either false A B = B
+use Rattle.fm_script.specs.VerdictCommands.{AnswersPre, Plans, Resumes, post_read}
 
 -- ---- the words that lines begin with
 
@@ -75,6 +67,8 @@ spelling keyword.Cleanup = codes "cleanup"
 spelling keyword.Close = codes "close"
 spelling keyword.Fail = codes "fail"
 spelling keyword.Failures = codes "failures"
+spelling keyword.Resume = codes "resume"
+spelling keyword.ResPost = codes "respost"
 
 abbrev pub all_keywords : List Keyword
 all_keywords =
@@ -82,7 +76,7 @@ all_keywords =
     keyword.Go ∷ keyword.Collect ∷ keyword.Phase ∷ keyword.Setup ∷ keyword.SetDone ∷ keyword.Finish ∷ keyword.Create ∷ keyword.Alloc ∷
     keyword.Set ∷ keyword.Get ∷ keyword.Del ∷ keyword.Ref ∷ keyword.Rel ∷ keyword.Body ∷ keyword.WBody ∷ keyword.Bump ∷ keyword.Due ∷
     keyword.Cleaned ∷ keyword.Count ∷ keyword.Leaks ∷ keyword.Read ∷ keyword.Write ∷ keyword.Size ∷ keyword.SetSize ∷ keyword.Flush ∷
-    keyword.Delete ∷ keyword.Cleanup ∷ keyword.Close ∷ keyword.Fail ∷ keyword.Failures ∷ []
+    keyword.Delete ∷ keyword.Cleanup ∷ keyword.Close ∷ keyword.Fail ∷ keyword.Failures ∷ keyword.Resume ∷ keyword.ResPost ∷ []
 
 -- the keyword that a word is
 unfoldable pub keyword_read : List ℕ → Option Keyword
@@ -198,71 +192,11 @@ abbrev pub Creates : World → List (List ℕ) → Result Task Status → Type 0
 Creates w (v ∷ path ∷ mode ∷ []) result = CreatesAs w (create_ids v mode) path result
 Creates w _ result = result ≡ Err BadRequest
 
--- ---- what a preoperation answers
-
--- a word that is the number of a status which a filter may give, any but Busy
-abbrev pub IsStatus : List ℕ → PreVerdict → Type 0
-IsStatus word (verdict.Complete status) = (number_read word ≡ Some (number_of status)) × (number_of status < 34)
-IsStatus word _ = ⊥
-
-abbrev pub IsNoStatus : List ℕ → Type 0
-IsNoStatus word = (n : ℕ) → number_read word ≡ Some n → 34 ≤ n
-
--- a script's completions carry the number 0, and no context that the line doesn't name
-abbrev pub with_callback : PreVerdict
-with_callback = verdict.WithCallback (record { number = 0; context = None })
-
-abbrev pub bare_verdict : List ℕ → Result PreVerdict Status
-bare_verdict word = cond (bytes_eq word (codes "with")) (Ok with_callback) (cond (bytes_eq word (codes "none")) (Ok verdict.NoCallback) (Err BadRequest))
-
-abbrev pub ReadsComplete : List ℕ → Result PreVerdict Status → Type 0
-ReadsComplete word result = MatchResult result (IsStatus word) (λ why. (why ≡ BadRequest) × IsNoStatus word)
-
-abbrev pub ReadsVerdict : List (List ℕ) → Result PreVerdict Status → Type 0
-ReadsVerdict (word ∷ []) result = result ≡ bare_verdict word
-ReadsVerdict (word ∷ status ∷ []) result =
-    Either (bytes_eq word (codes "complete")) (ReadsComplete status result) (result ≡ Err BadRequest)
-ReadsVerdict _ result = result ≡ Err BadRequest
-
--- an id, and a verdict behind it
-abbrev pub AnswersAs : Result ℕ Status → List (List ℕ) → (ℕ → PreVerdict → Result Task Status) → Result Task Status → Type 0
-AnswersAs (Err status) words next result = result ≡ Err status
-AnswersAs (Ok n) words next result = (read : Result PreVerdict Status) × ReadsVerdict words read × (result ≡ (read >>= λ answer. next n answer))
-
--- with a context that goes along, or without
-abbrev pub sends_context : List (List ℕ) → Bool
-sends_context (worker ∷ word ∷ context ∷ []) = bytes_eq word (codes "with")
-sends_context _ = false
-
-abbrev pub carrying : CtxId → PreVerdict
-carrying c = verdict.WithCallback (record { number = 0; context = Some c })
-
-abbrev pub pre_with_read : List CtxId → List (List ℕ) → Result Task Status
-pre_with_read contexts (worker ∷ word ∷ context ∷ []) =
-    worker_id worker >>= λ k. context_id context >>= λ c. context_in contexts c >>= λ own. worker_in k >>= λ by. Ok (task.Pre by (carrying own))
-pre_with_read contexts _ = Err BadRequest
-
-abbrev pub AnswersBare : List (List ℕ) → Result Task Status → Type 0
-AnswersBare (worker ∷ words) result = AnswersAs (worker_id worker) words (λ k answer. worker_in k >>= λ by. Ok (task.Pre by answer)) result
-AnswersBare _ result = result ≡ Err BadRequest
-
-abbrev pub AnswersPre : List CtxId → List (List ℕ) → Result Task Status → Type 0
-AnswersPre contexts words result = Either (sends_context words) (result ≡ pre_with_read contexts words) (AnswersBare words result)
-
-abbrev pub Plans : World → List (List ℕ) → Result Task Status → Type 0
-Plans w (instance ∷ words) result = AnswersAs (instance_id instance) words (λ i answer. instance_in w i >>= λ own. Ok (task.Plan own answer)) result
-Plans w _ result = result ≡ Err BadRequest
-
 -- ---- the other commands
 
-abbrev pub post_read : List (List ℕ) → Result Task Status
-post_read (worker ∷ word ∷ []) = cond (bytes_eq word (codes "done")) (worker_id worker >>= λ k. worker_in k >>= λ by. Ok (task.Post by)) (Err BadRequest)
-post_read _ = Err BadRequest
-
--- a worker and an operation
+-- a worker and an operation, as the only words
 abbrev pub turn_read : World → List (List ℕ) → Result (WorkerId × OpId) Status
-turn_read w (worker ∷ operation ∷ []) =
-    worker_id worker >>= λ k. operation_id operation >>= λ o. operation_in w o >>= λ own. worker_in k >>= λ by. Ok (by, own)
+turn_read w (worker ∷ operation ∷ []) = turn_ids worker operation >>= λ ids. turn_in w ids.0 ids.1
 turn_read w _ = Err BadRequest
 
 abbrev pub collect_read : World → List (List ℕ) → Result Task Status
@@ -307,6 +241,8 @@ ReadsAs w contexts keyword.Pre words result = AnswersPre contexts words result
 ReadsAs w contexts keyword.Base words result = result ≡ (only_worker words >>= λ by. Ok (task.Base by))
 ReadsAs w contexts keyword.Post words result = result ≡ post_read words
 ReadsAs w contexts keyword.Plan words result = Plans w words result
+ReadsAs w contexts keyword.Resume words result = Resumes w words result
+ReadsAs w contexts keyword.ResPost words result = result ≡ (turn_read w words >>= λ turn. event (step.ResumePost turn.0 turn.1))
 ReadsAs w contexts keyword.Collect words result = result ≡ collect_read w words
 ReadsAs w contexts keyword.Phase words result = result ≡ phase_read w words
 ReadsAs w contexts other words result = result ≡ cond (is_of_contexts other) (context_read contexts other words) (file_read w other words)

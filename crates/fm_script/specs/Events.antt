@@ -35,7 +35,7 @@ Names (task.Attach f v name altitude) s = (s ≡ step.Attach worker_0 f v name a
 Names (task.Next k o) s = s ≡ step.Next k o
 Names (task.Pre k answer) s = (own : Data) × (s ≡ step.PreReturned k answer own)
 Names (task.Base k) s = IsBase k s
-Names (task.Post k) s = IsPost k s
+Names (task.Post k answer) s = (own : Option Data) × (s ≡ step.PostReturned k answer own)
 Names (task.Go k o) s = (s ≡ step.Next k o) ⊎ (IsPre k s ⊎ (IsBase k s ⊎ (IsPost k s ⊎ (s ≡ step.Collect o))))
 Names _ s = ⊥
 

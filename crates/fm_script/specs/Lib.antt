@@ -1,4 +1,5 @@
 pub mod Commands
+pub mod VerdictCommands
 pub mod Words
 pub mod Numbers
 pub mod Hexadecimal

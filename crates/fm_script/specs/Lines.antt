@@ -2,10 +2,10 @@
 use Rattle.std.specs.Prelude.{◌≡◌, ℕ, ◌==◌, Bool, true, false, nat_lt, List, [], ◌∷◌, length, Option, Some, None, Result, Ok, Err}
 use Rattle.fm_types.specs.declared.status.Status.{Status}
 use Rattle.fm_types.specs.declared.status.Status.TheVariants.{BadRequest, NoMemory}
-use Rattle.fm_script.specs.Commands.{Either, ReadsAs, keyword_read, takes_bytes, with_bytes_read}
+use Rattle.fm_script.specs.Commands.{ReadsAs, keyword_read, takes_bytes, with_bytes_read}
 use Rattle.fm_script.specs.Hexadecimal.{hex_of, IsNoHexadecimal}
 use Rattle.fm_script.specs.Runs.{PerformsRead}
-use Rattle.fm_script.specs.Reading.{◌>>=◌}
+use Rattle.fm_script.specs.Reading.{◌>>=◌, Either}
 use Rattle.fm_script.specs.Words.{words_of}
 use Rattle.fm_script.specs.declared.keyword.Keyword.{Keyword}
 use Rattle.fm_script.specs.declared.task.Task.{Task}

@@ -20,7 +20,7 @@ use Rattle.fm_world.specs.declared.step.StepReply.TheVariants as reply
 use Rattle.fm_session.specs.declared.lent.Given.{Given}
 use Rattle.fm_session.specs.Sessions.{LendsNext, LentPreReturns, LentPostReturns, LentBaseReturns}
 use Rattle.fm_script.specs.Devices.{Calls}
-use Rattle.fm_script.specs.Commands.{with_callback}
+use Rattle.fm_script.specs.VerdictCommands.{with_callback}
 use Rattle.fm_script.specs.declared.devices.Devices.{Devices}
 use Rattle.fm_script.specs.declared.interpreter.Interpreter.{Interpreter}
 use Rattle.fm_script.specs.declared.script_end.ScriptEnd.{ScriptEnd}
@@ -93,15 +93,15 @@ Acts (task.Event s) old new = (r : StepReply) × MakesEvent old s r new
 Acts (task.Next k o) old new = (r : Result Given Status) × LendsNext old.session k o r new.session × BySession old new
 Acts (task.Pre k answer) old new = (r : Result (Unit {0}) Status) × LentPreReturns old.session k answer r new.session × BySession old new
 Acts (task.Base k) old new = (r : Result Status Status) × LentBaseReturns Calls old.session old.devices k r new.session new.devices × KeepsLists old new
-Acts (task.Post k) old new = (r : Result (Unit {0}) Status) × LentPostReturns old.session k Finished r new.session × BySession old new
+Acts (task.Post k answer) old new = (r : Result (Unit {0}) Status) × LentPostReturns old.session k answer r new.session × BySession old new
 Acts _ old new = ⊥
 
--- `go` is of those of its worker, and of its operation
+-- `go` is of those of its worker, and of its operation; it holds none on its way up
 abbrev pub IsTurn : WorkerId → OpId → Task → Type 0
 IsTurn k o (task.Next by own) = (by ≡ k) × (own ≡ o)
 IsTurn k o (task.Pre by answer) = by ≡ k
 IsTurn k o (task.Base by) = by ≡ k
-IsTurn k o (task.Post by) = by ≡ k
+IsTurn k o (task.Post by answer) = (by ≡ k) × (answer ≡ Finished)
 IsTurn k o (task.Event s) = s ≡ step.Collect o
 IsTurn k o _ = ⊥
 
@@ -148,7 +148,7 @@ Performs (task.Event s) old new = Acts (task.Event s) old new
 Performs (task.Next k o) old new = Acts (task.Next k o) old new
 Performs (task.Pre k answer) old new = Acts (task.Pre k answer) old new
 Performs (task.Base k) old new = Acts (task.Base k) old new
-Performs (task.Post k) old new = Acts (task.Post k) old new
+Performs (task.Post k answer) old new = Acts (task.Post k answer) old new
 
 -- or nothing, where a note of the script's own wants memory: that ends the script
 abbrev pub PerformsOr : Task → Result (Unit {0}) ScriptEnd → Interpreter → Interpreter → Type 0

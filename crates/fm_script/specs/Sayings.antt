@@ -1,6 +1,7 @@
 -- What a script prints: which line for which answer, and the bytes of each line.
 use Rattle.std.specs.Prelude.{ℕ, ◌==◌, ◌&&◌, ◌++◌, Bool, List, [], ◌∷◌, Option, Some, None, ◌+◌, ◌-◌, length, option_map, reverse, position, codes, decimal, Result, Ok, Err}
 use Rattle.fm_types.specs.declared.ids.CtxId.{CtxId}
+use Rattle.fm_types.specs.declared.ids.OpId.{OpId}
 use Rattle.fm_types.specs.declared.status.Status.{Status}
 use Rattle.fm_types.specs.declared.status.Status.TheVariants.{Busy, NotHeld, AlreadyDefined}
 use Rattle.fm_types.specs.Statuses.{number_of}
@@ -74,6 +75,11 @@ said_due contexts (Ok None) = Plain word.None
 said_due contexts (Ok (Some due)) = said_context (Id word.Cleanup 99) contexts due.id
 said_due contexts (Err status) = Refused status
 
+abbrev pub said_held : Result (Option OpId) Status → Said
+said_held (Ok None) = Plain word.None
+said_held (Ok (Some o)) = Id word.Ok 111 o.0
+said_held (Err status) = Refused status
+
 abbrev pub said_new : {A : Type 0} → (A → Said) → Result A Status → Said
 said_new say (Ok it) = say it
 said_new say (Err status) = Refused status
@@ -86,6 +92,7 @@ said_of contexts (reply.Instance r) = said_new (λ i. Id word.Ok 105 i.0) r
 said_of contexts (reply.Operation r) = said_new (λ o. Id word.Ok 111 o.0) r
 said_of contexts (reply.Action r) = said_given (given_after_next r)
 said_of contexts (reply.Done r) = said_done r
+said_of contexts (reply.Held r) = said_held r
 said_of contexts (reply.Answer r) = said_new Replied r
 said_of contexts (reply.Context r) = said_new (said_context (Id word.Ok 99) contexts) r
 said_of contexts (reply.Set r) = said_set contexts r

@@ -2,15 +2,17 @@
 -- kind of id before the next, and workers last.
 use Rattle.std.specs.Prelude.{ℕ, List, [], ◌∷◌, Option, Some, None, Result, Ok, Err}
 use Rattle.fm_types.specs.declared.ids.CtxId.{CtxId}
+use Rattle.fm_types.specs.declared.ids.OpId.{OpId}
 use Rattle.fm_types.specs.declared.ids.WorkerId.{WorkerId}
 use Rattle.fm_types.specs.declared.status.Status.{Status}
 use Rattle.fm_types.specs.declared.status.Status.TheVariants.{BadRequest}
+use Rattle.fm_world.specs.World.{World}
 use Rattle.fm_world.specs.declared.step.Step.{Step}
 use Rattle.fm_script.specs.declared.task.Task.{Task}
 use Rattle.fm_script.specs.declared.task.Task.TheVariants as task
 use Rattle.fm_script.specs.Numbers.{id_read, number_read}
 use Rattle.fm_script.specs.Reading.{◌>>=◌}
-use Rattle.fm_script.specs.Ids.{context_in, worker_in}
+use Rattle.fm_script.specs.Ids.{context_in, operation_in, worker_in}
 
 abbrev pub or_bad : {T : Type 0} → Option T → Result T Status
 or_bad None = Err BadRequest
@@ -50,6 +52,14 @@ only_worker words = one_id 119 words >>= worker_in
 -- a context and the worker that says it holds it
 abbrev pub held_in : List CtxId → ℕ → ℕ → Result (WorkerId × CtxId) Status
 held_in contexts k c = context_in contexts c >>= λ own. worker_in k >>= λ w. Ok (w, own)
+
+-- the numbers of a worker and an operation
+unfoldable pub turn_ids : List ℕ → List ℕ → Result (ℕ × ℕ) Status
+turn_ids worker operation = worker_id worker >>= λ k. operation_id operation >>= λ o. Ok (k, o)
+
+-- an operation and the worker that takes a turn with it
+abbrev pub turn_in : World → ℕ → ℕ → Result (WorkerId × OpId) Status
+turn_in w k o = operation_in w o >>= λ own. worker_in k >>= λ by. Ok (by, own)
 
 -- two numbers
 unfoldable pub numbers_read : List ℕ → List ℕ → Result (ℕ × ℕ) Status

@@ -3,29 +3,24 @@
 //! that wasn't given is refused: 6, 7, 8, 14, 30 and 25 in this order, and 30 for a worker last.
 
 ghost use Rattle.std.specs.Prelude.{◌≡◌, map};
-ghost use Rattle.fm_script.specs.Commands.{Attaches, AnswersBare, AnswersPre, Creates, Loads, Mounts, Plans, ReadsAs, ReadsComplete, ReadsPlace, ReadsVerdict, SetsUp, attach_at, bare_verdict, collect_read, create_ids, create_mode_read, finish_read, is_of_contexts, list_read, option_read, phase_read, place_ids, post_read, pre_with_read, registration_read, sends_context, set_done_read, setup_at, setup_ids, takes_bytes, turn_read, with_bytes_read, yes_or_no};
+ghost use Rattle.fm_script.specs.Commands.{Attaches, Creates, Loads, Mounts, ReadsAs, ReadsPlace, SetsUp, attach_at, collect_read, create_ids, create_mode_read, finish_read, is_of_contexts, list_read, option_read, phase_read, place_ids, registration_read, set_done_read, setup_at, setup_ids, takes_bytes, turn_read, with_bytes_read, yes_or_no};
 ghost use Rattle.fm_script.specs.Numbers.{id_read, number_read};
-ghost use Rattle.fm_script.specs.Tasks.{numbers_read, one_id, only_worker, or_bad};
+ghost use Rattle.fm_script.specs.Tasks.{numbers_read, one_id, only_worker, or_bad, turn_ids, turn_in};
 
 use crate::context_command::{read_allocate, read_context_command, read_write_body};
 use crate::file_command::{read_file_command, read_write};
-use crate::ids::{context_in, filter_in, instance_in, operation_in, volume_in, worker_in};
+use crate::ids::{filter_in, instance_in, operation_in, volume_in, worker_in};
 use crate::keyword::Keyword;
-use crate::number::{read_id, read_number, read_status};
+use crate::number::{read_id, read_number};
 use crate::task::Task;
+use crate::verdict_command::{read_plan, read_post, read_pre, read_resume};
 use fm_altitude::Altitude;
 use fm_core::{State, Step};
-use fm_data::{Completion, PreVerdict, Request};
+use fm_data::Request;
 use fm_types::{
     Bytes, ContextMask, CreateMode, CtxId, Name, OpId, OpMask, Registration, RelPath, Status,
     WorkerId,
 };
-
-/// The verdict `with`: a script's completions carry the number 0, and no context that the line doesn't name.
-pub const WITH: PreVerdict = PreVerdict::WithCallback(Completion {
-    number: 0,
-    context: None,
-});
 
 /// Whether the command's last word is bytes.
 pub fn takes_bytes(keyword: Keyword) -> bool
@@ -83,6 +78,11 @@ pub fn read_command(
         }),
         Keyword::Post => read_post(words),
         Keyword::Plan => read_plan(state, words),
+        Keyword::Resume => read_resume(state, words),
+        Keyword::ResPost => {
+            let (worker, operation) = read_turn(state, words)?;
+            Ok(Task::Event(Step::ResumePost { worker, operation }))
+        }
         Keyword::Collect => read_collect(state, words),
         Keyword::Phase => read_phase(state, words),
         other if is_of_contexts(other) => read_context_command(contexts, other, words),
@@ -349,94 +349,35 @@ fn read_list(state: &State, words: &[&[u8]]) -> Result<Task, Status>
     Ok(Task::Event(Step::Begin(Request::List { volume })))
 }
 
-// A worker and an operation, as behind `next` and `go`.
+// A worker and an operation, as the only words behind `next`, `go` and `respost`.
 fn read_turn(state: &State, words: &[&[u8]]) -> Result<(WorkerId, OpId), Status>
     ensures { result ≡ turn_read state.now (map (λ word. word.now) words.now) }
 {
     let [worker, operation] = words else {
         return Err(Status::BadRequest);
     };
-    let worker = id(b'w', worker)?;
-    let operation = id(b'o', operation)?;
+    let (worker, operation) = turn_ids(worker, operation)?;
+    turn_in(state, worker, operation)
+}
+
+/// The numbers of a worker and an operation.
+#[tactic(auto, unfolding(crate::specs::Tasks::turn_ids))]
+pub(crate) fn turn_ids(worker: &[u8], operation: &[u8]) -> Result<(u64, u64), Status>
+    ensures { result ≡ turn_ids worker.now operation.now }
+{
+    Ok((id(b'w', worker)?, id(b'o', operation)?))
+}
+
+/// An operation and the worker that takes a turn with it.
+pub(crate) fn turn_in(
+    state: &State,
+    worker: u64,
+    operation: u64,
+) -> Result<(WorkerId, OpId), Status>
+    ensures { result ≡ turn_in state.now worker operation }
+{
     let operation = operation_in(state, operation)?;
     Ok((worker_in(worker)?, operation))
-}
-
-// `pre W VERDICT`.
-fn read_pre(contexts: &[CtxId], words: &[&[u8]]) -> Result<Task, Status>
-    ensures { AnswersPre contexts.now (map (λ word. word.now) words.now) result }
-{
-    if sends_context(words) {
-        read_pre_with(contexts, words)
-    } else {
-        read_pre_bare(words)
-    }
-}
-
-// Whether the words are those of an answer that sends a context along.
-fn sends_context(words: &[&[u8]]) -> bool
-    ensures { result ≡ sends_context (map (λ word. word.now) words.now) }
-{
-    match words {
-        [_, word, _] => *word == b"with".as_slice(),
-        _ => false,
-    }
-}
-
-// `pre W with C`.
-fn read_pre_with(contexts: &[CtxId], words: &[&[u8]]) -> Result<Task, Status>
-    ensures { result ≡ pre_with_read contexts.now (map (λ word. word.now) words.now) }
-{
-    let [worker, _, context] = words else {
-        return Err(Status::BadRequest);
-    };
-    let worker = id(b'w', worker)?;
-    let context = id(b'c', context)?;
-    let context = Some(context_in(contexts, context)?);
-    let worker = worker_in(worker)?;
-    let verdict = PreVerdict::WithCallback(Completion { number: 0, context });
-    Ok(Task::Pre { worker, verdict })
-}
-
-// `pre W VERDICT` without a context.
-fn read_pre_bare(words: &[&[u8]]) -> Result<Task, Status>
-    ensures { AnswersBare (map (λ word. word.now) words.now) result }
-{
-    let Some((worker, verdict)) = words.split_first() else {
-        return Err(Status::BadRequest);
-    };
-    let worker = id(b'w', worker)?;
-    let verdict = read_verdict(verdict)?;
-    let worker = worker_in(worker)?;
-    Ok(Task::Pre { worker, verdict })
-}
-
-// `plan I VERDICT`.
-fn read_plan(state: &State, words: &[&[u8]]) -> Result<Task, Status>
-    ensures { Plans state.now (map (λ word. word.now) words.now) result }
-{
-    let Some((instance, verdict)) = words.split_first() else {
-        return Err(Status::BadRequest);
-    };
-    let instance = id(b'i', instance)?;
-    let verdict = read_verdict(verdict)?;
-    let instance = instance_in(state, instance)?;
-    Ok(Task::Plan { instance, verdict })
-}
-
-// `post W done`.
-fn read_post(words: &[&[u8]]) -> Result<Task, Status>
-    ensures { result ≡ post_read (map (λ word. word.now) words.now) }
-{
-    match words {
-        [worker, verdict] if *verdict == b"done".as_slice() => {
-            let worker = id(b'w', worker)?;
-            Ok(Task::Post {
-                worker: worker_in(worker)?,
-            })
-        }
-        _ => Err(Status::BadRequest),
-    }
 }
 
 // `collect O`.
@@ -454,40 +395,6 @@ fn read_phase(state: &State, words: &[&[u8]]) -> Result<Task, Status>
 {
     let instance = one_id(b'i', words)?;
     Ok(Task::Phase(instance_in(state, instance)?))
-}
-
-// `with`, `none` or `complete STATUS`.
-fn read_verdict(words: &[&[u8]]) -> Result<PreVerdict, Status>
-    ensures { ReadsVerdict (map (λ word. word.now) words.now) result }
-{
-    match words {
-        [word] => read_bare_verdict(word),
-        [word, status] if *word == b"complete".as_slice() => read_complete(status),
-        _ => Err(Status::BadRequest),
-    }
-}
-
-// A verdict of one word.
-fn read_bare_verdict(word: &[u8]) -> Result<PreVerdict, Status>
-    ensures { result ≡ bare_verdict word.now }
-{
-    if word == b"with".as_slice() {
-        Ok(WITH)
-    } else if word == b"none".as_slice() {
-        Ok(PreVerdict::NoCallback)
-    } else {
-        Err(Status::BadRequest)
-    }
-}
-
-// The operation ends with the status of that number, from 0 to 33.
-fn read_complete(word: &[u8]) -> Result<PreVerdict, Status>
-    ensures { ReadsComplete word.now result }
-{
-    match read_status(word) {
-        Some(status) => Ok(PreVerdict::Complete(status)),
-        None => Err(Status::BadRequest),
-    }
 }
 
 /// The worker that is the only word.

@@ -3,13 +3,12 @@
 mod go;
 
 ghost use Rattle.std.specs.Prelude.{◌≡◌, MatchResult, OnErr, OnOk};
-ghost use Rattle.fm_data.specs.declared.verdict.PostVerdict.TheVariants.{Finished};
 ghost use Rattle.fm_session.specs.Sessions.{LendsNext, LentPreReturns, LentPostReturns, LentBaseReturns};
 ghost use Rattle.fm_script.specs.Devices.{Calls};
 ghost use Rattle.fm_script.specs.Runs.{AttachesAndAccepts, Fails, KeepsLists, MakesEvent, Plans, Stays, BySession, is_allocation, planned};
 
-use crate::command::WITH;
 use crate::devices::Devices;
+use crate::verdict_command::WITH;
 use fm_altitude::Altitude;
 use fm_core::{Entry, State, Step, StepReply};
 use fm_data::{PostVerdict, PreVerdict};
@@ -120,11 +119,11 @@ impl Interpreter {
     }
 
     /// The worker's postoperation callback or drain returns.
-    pub fn post(&mut self, worker: WorkerId) -> Result<(), Status>
-        ensures event { LentPostReturns self.old.session worker Finished result self.new.session }
+    pub fn post(&mut self, worker: WorkerId, verdict: PostVerdict) -> Result<(), Status>
+        ensures event { LentPostReturns self.old.session worker verdict result self.new.session }
         ensures rest { BySession self.old self.new }
     {
-        self.session.post_returned(worker, PostVerdict::Finished)
+        self.session.post_returned(worker, verdict)
     }
 
     /// What `go` answers for the instance from here on. It fails, nothing changed, where there is no memory for it.

@@ -45,6 +45,8 @@ pub enum Keyword {
     Close,
     Fail,
     Failures,
+    Resume,
+    ResPost,
 }
 
 // The keywords that begin with that letter.
@@ -82,7 +84,13 @@ fn beginning_with(letter: u8) -> &'static [Keyword]
             Keyword::Failures,
         ],
         b'd' => &[Keyword::Del, Keyword::Due, Keyword::Delete],
-        b'r' => &[Keyword::Ref, Keyword::Rel, Keyword::Read],
+        b'r' => &[
+            Keyword::Ref,
+            Keyword::Rel,
+            Keyword::Read,
+            Keyword::Resume,
+            Keyword::ResPost,
+        ],
         b'w' => &[Keyword::WBody, Keyword::Write],
         _ => &[],
     }
@@ -154,6 +162,8 @@ impl Keyword {
             Keyword::Close => b"close",
             Keyword::Fail => b"fail",
             Keyword::Failures => b"failures",
+            Keyword::Resume => b"resume",
+            Keyword::ResPost => b"respost",
         }
     }
 }

@@ -19,6 +19,7 @@ mod runner;
 mod said;
 mod script_end;
 mod task;
+mod verdict_command;
 mod words;
 
 pub use crate::devices::Devices;

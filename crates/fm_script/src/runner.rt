@@ -209,8 +209,8 @@ impl<W: Write + Drop> Runner<W> {
                 let answer = self.interpreter.base(worker).map(|_| ());
                 self.output.say(&said_done(answer))
             }
-            Task::Post { worker } => {
-                let answer = self.interpreter.post(worker);
+            Task::Post { worker, verdict } => {
+                let answer = self.interpreter.post(worker, verdict);
                 self.output.say(&said_done(answer))
             }
             Task::Go { worker, operation } => self.go(worker, operation),

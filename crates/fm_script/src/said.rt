@@ -1,7 +1,7 @@
 //! The lines that a script prints: which one for which answer, and the bytes of each.
 
 ghost use Rattle.std.specs.Prelude.{◌≡◌, ◌++◌, ◌∷◌, [], IfOk, decimal, position, reverse};
-ghost use Rattle.fm_script.specs.Sayings.{is_context, number_in, phase_word, refused_text, reply_text, said_context, said_count, said_done, said_due, said_given, said_new, said_of, said_old, said_set, text_with, verdict_text, word_text};
+ghost use Rattle.fm_script.specs.Sayings.{is_context, number_in, phase_word, refused_text, reply_text, said_context, said_count, said_done, said_due, said_given, said_held, said_new, said_of, said_old, said_set, text_with, verdict_text, word_text};
 ghost use Rattle.fm_script.specs.declared.said.Said.TheVariants as SaidOf;
 ghost use Rattle.fm_script.specs.declared.said.Word.TheVariants as WordOf;
 ghost use Rattle.fm_session.specs.Sessions.{given_after_next};
@@ -10,7 +10,7 @@ use crate::hexadecimal::write_hex;
 use fm_core::{Action, Count, Due, Phase, SetAnswer, StepReply};
 use fm_data::{Answer, PreVerdict};
 use fm_session::Given;
-use fm_types::{Bytes, CtxId, InstanceId, Status};
+use fm_types::{Bytes, CtxId, InstanceId, OpId, Status};
 use std::alloc::AllocError;
 
 /// The words that lines begin with.
@@ -75,6 +75,7 @@ pub fn said_of(contexts: &[CtxId], reply: StepReply) -> Said
         StepReply::Operation(Ok(operation)) => Said::Id(Word::Ok, b'o', operation.0),
         StepReply::Action(answer) => said_action(answer),
         StepReply::Done(answer) => said_done(answer),
+        StepReply::Held(answer) => said_held(answer),
         StepReply::Answer(Ok(answer)) => Said::Replied(answer),
         StepReply::Context(Ok(context)) => said_context(Word::Ok, contexts, context),
         StepReply::Set(answer) => said_set(contexts, answer),
@@ -205,6 +206,16 @@ fn said_due(contexts: &[CtxId], answer: Result<Option<Due>, Status>) -> Said
     match answer {
         Ok(None) => Said::Plain(Word::None),
         Ok(Some(due)) => said_context(Word::Cleanup, contexts, due.id),
+        Err(status) => Said::Refused(status),
+    }
+}
+
+fn said_held(answer: Result<Option<OpId>, Status>) -> Said
+    ensures { result ≡ said_held answer }
+{
+    match answer {
+        Ok(None) => Said::Plain(Word::None),
+        Ok(Some(operation)) => Said::Id(Word::Ok, b'o', operation.0),
         Err(status) => Said::Refused(status),
     }
 }

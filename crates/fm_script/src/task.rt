@@ -2,7 +2,7 @@
 
 use fm_altitude::Altitude;
 use fm_core::Step;
-use fm_data::PreVerdict;
+use fm_data::{PostVerdict, PreVerdict};
 use fm_types::{CtxId, FilterId, InstanceId, Name, OpId, VolumeId, WorkerId};
 
 /// What a line has the manager, a worker or the script itself do.
@@ -34,6 +34,7 @@ pub enum Task {
     /// The worker's postoperation callback or drain returns.
     Post {
         worker: WorkerId,
+        verdict: PostVerdict,
     },
     /// The worker takes the operation's steps until it is held or done.
     Go {

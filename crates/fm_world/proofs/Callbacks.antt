@@ -1,7 +1,7 @@
 -- What holds of a worker in a callback, and what its events on references and bodies do.
 use Rattle.std.proofs.Common.{Bool, List, None, Ok, Option, Result, Some, [], ap, arith, cond, false, find, length, not, option_map, refl, subst, sym, true, ℕ, ◌++◌, ◌+◌, ◌<◌, ◌∙◌, ◌∷◌, ◌≡◌, ◌≢◌, ◌≤◌, ◌⊎◌}
 use Rattle.fm_world.proofs.Words.{All, All-push, AreOwned, Bumps, Callback, ContextTable, CtxId, FileObject, FlowRecord, FlowTable, HoldsIn}
-use Rattle.fm_world.proofs.Words.{HoldsMore, HoldsOneFewer, Instance, InstanceId, IsCourse, IsLawful, IsOwned, IsPlaced, IsSound, IsUnderWay}
+use Rattle.fm_world.proofs.Words.{HoldsFewer, HoldsMore, Instance, InstanceId, IsCourse, IsLawful, IsOwned, IsPlaced, IsSound, IsUnderWay}
 use Rattle.fm_world.proofs.Words.{OpId, Phase, PostRunning, PostState, PreRunning, PreState, ReadsBody, References, Releases, StackWorld, Status}
 use Rattle.fm_world.proofs.Words.{Worker, WorkerId, World, WritesBody, all_at, belongs, body_keeps, callback_in, callback_of, carried, carries}
 use Rattle.fm_world.proofs.Words.{cleaning_of, cleanup_in, drains_open, eq-eqb, file_of, fits, flight, flight_post_settled, flight_pre_settled}
@@ -206,10 +206,10 @@ reference_does old k c result new h =
     (in_hand old k at c i s.owned has)))
 
 pub release_does : (old : World) (k : WorkerId) (c : CtxId) (result : Result (Unit {0}) Status) (new : World) → Releases old k c result new
-    → Does old new × (IsSound old → HoldsOneFewer k.0 result old new)
+    → Does old new × (IsSound old → HoldsFewer k.0 result 1 old new)
 unfolding Releases
 release_does old k c result new h =
-    asked_by (λ r w. Does old w × (IsSound old → HoldsOneFewer k.0 r old w)) old k result new _ _ h (λ why. (nothing old, λ s. refl)) (λ at is v free e.
+    asked_by (λ r w. Does old w × (IsSound old → HoldsFewer k.0 r 1 old w)) old k result new _ _ h (λ why. (nothing old, λ s. refl)) (λ at is v free e.
     let hand = hand_of old.contexts.hands k.0 in
     let has = not_false (holds hand c) (none_of (not (holds hand c)) Status.NotHeld None free).0 in
     let t = released (carries old) old.contexts k.0 c in

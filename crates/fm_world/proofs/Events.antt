@@ -17,6 +17,10 @@ pub unless_by : {T : Type 0} (P : Result T Status → World → Type 0) (refusal
     → Unless refusal b result old new Event → Refused P old → (b ≡ true → Event → P result new) → P result new
 unless_by P refusal b result old new Event h refused event = grind arith
 
+pub answers_by : {T : Type 0} (P : Result T Status → World → Type 0) (refusal : Option Status) (result : Result T Status) (old new : World) (E : T → Type 0)
+    → Answers refusal result old new E → Refused P old → ((v : T) → refusal ≡ None → E v → P (Ok v) new) → P result new
+answers_by P refusal result old new E h refused event = grind arith
+
 pub memory_by : {T : Type 0} (P : Result T Status → World → Type 0) (refusal : Option Status) (result : Result T Status) (old new : World) (E : T → Type 0)
     → AnswersOrMemory refusal result old new E → Refused P old → ((v : T) → refusal ≡ None → E v → P (Ok v) new) → P result new
 memory_by P refusal result old new E h refused event = grind arith

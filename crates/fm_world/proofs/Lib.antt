@@ -21,4 +21,5 @@ pub mod Events
 pub mod Requests
 pub mod Turns
 pub mod Returns
+pub mod Resumes
 pub mod Staying

@@ -37,26 +37,26 @@ use Rattle.fm_flow.specs.Sound as flow
 -- ---- a preoperation: the verdict that counts
 
 -- a verdict that counts leaves the callback
-counted_from : (state : PreState) → is_running (pre_leads state) ≡ false → is_counted state ≡ true
+pub counted_from : (state : PreState) → is_running (pre_leads state) ≡ false → is_counted state ≡ true
 counted_from state h = grind arith
 
-counted_quiet : (given : PreVerdict) (operation : Operation) (has_post : Bool) → is_running (pre_leads (verdict_counted given operation has_post)) ≡ false
+pub counted_quiet : (given : PreVerdict) (operation : Operation) (has_post : Bool) → is_running (pre_leads (verdict_counted given operation has_post)) ≡ false
 counted_quiet given operation has_post = grind arith
 
-taken_sent : (c : CtxId) (state : PreState) → taken_by c state ≡ carried_in c (record { number = 0; context = sent_in state })
+pub taken_sent : (c : CtxId) (state : PreState) → taken_by c state ≡ carried_in c (record { number = 0; context = sent_in state })
 taken_sent c state = grind arith
 
 -- what the verdict asks for carries what it sends
-asked_carries : (s : StackWorld) (slots : List Slot) (visit : PreVisit) (state : PreState) (asks : List Ask) → CarriesIn s slots visit.instance (sent_in state)
+pub asked_carries : (s : StackWorld) (slots : List Slot) (visit : PreVisit) (state : PreState) (asks : List Ask) → CarriesIn s slots visit.instance (sent_in state)
     → All (AskCarries s slots) asks → All (AskCarries s slots) (option_to_list (ask_in visit state) ++ asks)
 asked_carries s slots visit state asks h5 h6 = grind arith
 
 -- the table after a context was sent along
-sent_rests : (t : ContextTable) (k : WorkerId) (m : Option CtxId)
+pub sent_rests : (t : ContextTable) (k : WorkerId) (m : Option CtxId)
     → ((sent t k m).slots ≡ t.slots) × ((sent t k m).cleaning ≡ t.cleaning) × (slice_set (sent t k m).hands k.0 [] ≡ slice_set t.hands k.0 [])
 sent_rests t k m = grind (arith, set-set)
 
-sent_lawful : (w : World) (o : OpId) (f : FlowRecord → FlowRecord) (k : WorkerId) (m : Option CtxId) → k.0 < 48 → IsLawful (carries w) w.contexts
+pub sent_lawful : (w : World) (o : OpId) (f : FlowRecord → FlowRecord) (k : WorkerId) (m : Option CtxId) → k.0 < 48 → IsLawful (carries w) w.contexts
     → ((c : CtxId) → carries_after w o f c ≡ carries w c + carried_in c (record { number = 0; context = m }))
     → ((d : CtxId) → m ≡ Some d → holds (hand_of w.contexts.hands k.0) d ≡ true) → IsLawful (carries_after w o f) (sent w.contexts k m)
 sent_lawful w o f k None worker law balance has = lawful_alike (λ c. omega (arith, balance c)) law
@@ -70,16 +70,15 @@ pre_balance w k o i state lent at s c =
     omega (arith, carried_changed w.flow o x.0.row (pre_returned_of state lent) x.0.at c, pre_returned_carries c state lent x.0.row x.1 x.0.sound, taken_sent c state)
 
 -- and it was in the hand
-pub sent_is_held : (w : World) (k : WorkerId) (o : OpId) (i : InstanceId) (given : PreVerdict) → worker_at w.workers k ≡ Some (Worker.Pre o i) → IsUnderWay w
-    → (d : CtxId) → sent_in (state_at w k o i given) ≡ Some d → holds (hand_of w.contexts.hands k.0) d ≡ true
-sent_is_held w k o i given at s d e = grind arith
+pub sent_is_held : (w : World) (k : WorkerId) (o : OpId) (i : InstanceId) (given : PreVerdict) (d : CtxId) → sent_in (state_at w k o i given) ≡ Some d → holds (hand_of w.contexts.hands k.0) d ≡ true
+sent_is_held w k o i given d e = grind arith
 
 -- a context that a preoperation sends along may be carried
-sent_owned : (w : World) (k : WorkerId) (o : OpId) (i : InstanceId) (m : Option CtxId) → worker_at w.workers k ≡ Some (Worker.Pre o i)
+pub sent_owned : (w : World) (k : WorkerId) (i : InstanceId) (m : Option CtxId) → place_in (worker_at w.workers k) ≡ Some i
     → ((d : CtxId) → m ≡ Some d → holds (hand_of w.contexts.hands k.0) d ≡ true) → IsSound w → CarriesIn w.stack w.contexts.slots i m
-sent_owned w k o i None at has s = tt
-sent_owned w k o i (Some d) at has s =
-    subst (λ p. HoldsIn w.stack w.contexts.slots p d) (ap place_in at)
+sent_owned w k i None at has s = tt
+sent_owned w k i (Some d) at has s =
+    subst (λ p. HoldsIn w.stack w.contexts.slots p d) at
     (held_has (HoldsIn w.stack w.contexts.slots (place_in (worker_at w.workers k))) (hand_of w.contexts.hands k.0) d (s.owned.holders k) (has d refl))
 
 -- ---- its streams and handles
@@ -87,35 +86,40 @@ sent_owned w k o i (Some d) at has s =
 pre_shrinks : (given : PreState) (operation : Operation) (s : Option StreamId) (b : Bool) (f : FileTable) → Shrinks f (after_pre given operation s b f)
 pre_shrinks given operation s b f = grind arith
 
-pre_same : (given : PreState) (lent : Data) (r : FlowRecord) → r.stage ≡ PreRunning → is_unanswered (pre_leads given) ≡ true → SameFile r (pre_returned_of given lent r)
-pre_same given lent r stage unanswered = grind arith
+-- what a verdict leaves of the operation: it is on what it was on, and stands where the verdict leads
+pub record Decides (given : PreState) (r s : FlowRecord) : Type 0 where
+  pub operation : s.operation ≡ r.operation
+  pub stream : s.stream ≡ r.stream
+  pub handle : s.handle ≡ r.handle
+  pub stage : s.stage ≡ pre_leads given
+
+pre_same : (given : PreState) (r s : FlowRecord) → is_unanswered r.stage ≡ true → is_unanswered (pre_leads given) ≡ true → Decides given r s → SameFile r s
+pre_same given r s was unanswered d = grind arith
 
 -- what is no create stays none
-pre_other : (given : PreState) (lent : Data) (r : FlowRecord) → is_create r.operation ≡ false → SameFile r (pre_returned_of given lent r)
-pre_other given lent r h3 = grind arith
+pre_other : (given : PreState) (r s : FlowRecord) → is_create r.operation ≡ false → Decides given r s → SameFile r s
+pre_other given r s h3 d = grind arith
 
-stands_pre : (f : FileTable) (t : FlowTable) (o : OpId) (r : FlowRecord) (given : PreState) (lent : Data) (operation : Operation) (s : Option StreamId) (b : Bool)
-    → operation_at o t ≡ Some r → r.operation ≡ operation → r.stream ≡ s → r.stage ≡ PreRunning → is_created_on s (changed o (pre_returned_of given lent) t) ≡ b
-    → Stands none_out f t.operations t.next → Stands none_out (after_pre given operation s b f) (changed o (pre_returned_of given lent) t).operations t.next
-stands_pre f t o r (PreState.Completed why) lent Operation.Create (Some s) b at same stream stage is h =
-    let step = pre_returned_of (PreState.Completed why) lent in
-    stands_ended f t.operations t.next (is_number o) step r s b at stream refl refl (answered_none (step r) refl) is h
-stands_pre f t o r (PreState.Completed why) lent Operation.Create None b at same stream stage is h =
-    absurd (create_on_none f t.operations t.next (is_number o) r at stream (and_from (is_create r.operation) (is_unanswered r.stage) (ap is_create same) (ap is_unanswered stage)) h)
-stands_pre f t o r (PreState.Completed why) lent _ s b at same stream stage is h =
-    stands_same f t.operations t.next (is_number o) (pre_returned_of (PreState.Completed why) lent) r at (pre_other (PreState.Completed why) lent r (ap is_create same)) h
-stands_pre f t o r given lent _ _ b at same stream stage is h =
-    stands_same f t.operations t.next (is_number o) (pre_returned_of given lent) r at (pre_same given lent r stage refl) h
+stands_pre : (f : FileTable) (t : FlowTable) (o : OpId) (r : FlowRecord) (given : PreState) (step : FlowRecord → FlowRecord) (operation : Operation) (s : Option StreamId) (b : Bool)
+    → operation_at o t ≡ Some r → r.operation ≡ operation → r.stream ≡ s → is_unanswered r.stage ≡ true → Decides given r (step r) → is_created_on s (changed o step t) ≡ b
+    → Stands none_out f t.operations t.next → Stands none_out (after_pre given operation s b f) (changed o step t).operations t.next
+stands_pre f t o r (PreState.Completed why) step Operation.Create (Some s) b at same stream was d is h =
+    stands_ended f t.operations t.next (is_number o) step r s b at stream d.stream d.handle (answered_none (step r) (ap is_unanswered d.stage)) is h
+stands_pre f t o r (PreState.Completed why) step Operation.Create None b at same stream was d is h =
+    absurd (create_on_none f t.operations t.next (is_number o) r at stream (and_from (is_create r.operation) (is_unanswered r.stage) (ap is_create same) was) h)
+stands_pre f t o r (PreState.Completed why) step _ s b at same stream was d is h =
+    stands_same f t.operations t.next (is_number o) step r at (pre_other (PreState.Completed why) r (step r) (ap is_create same) d) h
+stands_pre f t o r given step _ _ b at same stream was d is h = stands_same f t.operations t.next (is_number o) step r at (pre_same given r (step r) was refl d) h
 
-file_pre : (f : FileTable) (t : FlowTable) (o : OpId) (r : FlowRecord) (given : PreState) (lent : Data) → operation_at o t ≡ Some r → r.stage ≡ PreRunning → IsFileSound f t
-    → IsFileSound (after_pre given r.operation r.stream (is_created_on r.stream (changed o (pre_returned_of given lent) t)) f) (changed o (pre_returned_of given lent) t)
-file_pre f t o r given lent at stage h =
-    let step = pre_returned_of given lent in
+pub file_decided : (f : FileTable) (t : FlowTable) (o : OpId) (r : FlowRecord) (given : PreState) (step : FlowRecord → FlowRecord) → operation_at o t ≡ Some r
+    → is_unanswered r.stage ≡ true → Decides given r (step r) → IsFileSound f t
+    → IsFileSound (after_pre given r.operation r.stream (is_created_on r.stream (changed o step t)) f) (changed o step t)
+file_decided f t o r given step at was d h =
     let b = is_created_on r.stream (changed o step t) in
     let g = after_pre given r.operation r.stream b f in
     sound_from g (changed o step t)
-    (filed_step f g t o r step at (not_more_same r (step r) refl (ap is_unanswered stage)) (pre_shrinks given r.operation r.stream b f) h.room)
-    (stands_pre f t o r given lent r.operation r.stream b at refl refl stage refl (stands_in f t h))
+    (filed_step f g t o r step at (not_more_same r (step r) d.operation was) (pre_shrinks given r.operation r.stream b f) h.room)
+    (stands_pre f t o r given step r.operation r.stream b at refl refl was d refl (stands_in f t h))
 
 -- ---- the event
 
@@ -145,7 +149,7 @@ pre_sound old k o i given lent after new at fits leaves loses s =
     let t = changed o f old.flow in
     let slots = old.contexts.slots in
     let worker = worker_below old k (Worker.Pre o i) at s.under_way in
-    let has = sent_is_held old k o i given at s.under_way in
+    let has = sent_is_held old k o i given in
     let law = sent_lawful old o f k (sent_in state) worker s.owned.lawful (pre_balance old k o i state lent at s.under_way) has in
     let rests = sent_rests old.contexts k (sent_in state) in
     let settled = owed_pre_settled PreRunning r.entries state refl (subst (λ x. IsCourse x r.entries) x.1 x.0.sound.course) in
@@ -163,11 +167,11 @@ pre_sound old k o i given lent after new at fits leaves loses s =
     (left_owned old o r f k (Worker.Pre o i) (sent old.contexts k (sent_in state)) after x.0.at at worker refl law rests.0 rests.1 rests.2 leaves
     (subst (All (AskCarries old.stack slots)) (sym settled.2)
     (asked_carries old.stack slots settled.0 state (owed r.entries)
-    (subst (λ x. CarriesIn old.stack slots x (sent_in state)) (sym visited) (sent_owned old k o i (sent_in state) at has s)) (asks_of old o r x.0.at s.owned)))
+    (subst (λ x. CarriesIn old.stack slots x (sent_in state)) (sym visited) (sent_owned old k i (sent_in state) (ap place_in at) has s)) (asks_of old o r x.0.at s.owned)))
     (λ j. omega (arith, pre_returned_flies j state lent r x.1 x.0.sound)) s.owned)
     (subst (λ (files : FileTable). IsFileSound files t)
     (sym (told_there (λ (x : FlowRecord). after_pre state x.operation x.stream (is_created_on x.stream t) old.files) old.files o old.flow r x.0.at))
-    (file_pre old.files old.flow o r state lent x.0.at x.1 s.filed))
+    (file_decided old.files old.flow o r state f x.0.at (ap is_unanswered x.1) (record { operation = refl; stream = refl; handle = refl; stage = refl }) s.filed))
 
 pub pre_does : (old : World) (k : WorkerId) (given : PreVerdict) (lent : Data) (result : Result (Unit {0}) Status) (new : World) → PreReturns old k given lent result new
     → Does old new × (OnlyHandOf k.0 old new × HoldsNone k.0 result old new)

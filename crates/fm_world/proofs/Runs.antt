@@ -1,7 +1,7 @@
 -- The empty World is sound, each event keeps a World sound, and a sound World keeps the Headline.
 use Rattle.std.proofs.Common.{Bool, List, None, Option, Some, [], ap, arith, cond, false, get_or, is_some, option_and_then, option_map, refl, replicate, slice_get, subst, suc, sym, true, ℕ, ◌++◌, ◌==◌, ◌∙◌, ◌∷◌, ◌≡◌}
 use Rattle.fm_world.proofs.Words.{All, All-head, All-nil, All-tail, All-weaker, Ask, AskCarries, CarriesIn, Context, CtxId, DescendsIn}
-use Rattle.fm_world.proofs.Words.{FlowRecord, Headline, HoldsIn, Instance, InstanceId, IsAmong, IsAscent, IsInOrder, IsSound, Object, Owner}
+use Rattle.fm_world.proofs.Words.{FlowRecord, Headline, HoldsIn, Instance, InstanceId, IsAmong, IsAscent, IsInOrder, IsSound, IsSynchronized, Object, Owner}
 use Rattle.fm_world.proofs.Words.{RulesKeepHeadline, Run, RunThrough, Slot, StackWorld, Step, StepReply, Steps, Worker, WorkerId, World, all_at}
 use Rattle.fm_world.proofs.Words.{and_parts, belongs, belongs_by, carried_among, carried_by, carried_in, cleanup_in, context_at, context_in}
 use Rattle.fm_world.proofs.Words.{count-cons, empty_files, empty_stack, empty_world, eq-eqb, fits, flight, hand_of, held, holds, instances}
@@ -19,6 +19,7 @@ use Rattle.fm_world.proofs.Filed.{file_empty}
 use Rattle.fm_world.proofs.Linking.{allocate_does, delete_does, get_does, set_does}
 use Rattle.fm_world.proofs.Owning.{attach_does, mount_does, register_does, setup_does}
 use Rattle.fm_world.proofs.Requests.{begin_does, collect_does}
+use Rattle.fm_world.proofs.Resumes.{first_held_does, resume_post_does, resume_pre_does}
 use Rattle.fm_world.proofs.Returns.{base_does, post_does, pre_does}
 use Rattle.fm_world.proofs.Staying.{Does}
 use Rattle.fm_world.proofs.Turns.{next_does}
@@ -166,6 +167,7 @@ headline_from w s =
       descents = All-weaker (IsAmong w.stack) (DescendsIn w.stack) (λ r k. k.descent) w.flow.operations h.among;
       ascents = All-weaker flow.IsSound IsAscent (λ r k. k.course.ascent) w.flow.operations h.flow.sound;
       orders = All-weaker flow.IsSound IsInOrder (λ r k. k.course.order) w.flow.operations h.flow.sound;
+      synchronized = All-weaker flow.IsSound IsSynchronized (λ r k. k.course.synchronized) w.flow.operations h.flow.sound;
       workers = h.workers;
       drains = h.drains;
       alive = k.lawful.alive;
@@ -197,6 +199,9 @@ step_does old (Step.Next k o) (StepReply.Action r) new h = (next_does old k o r 
 step_does old (Step.PreReturned k verdict lent) (StepReply.Done r) new h = (pre_does old k verdict lent r new h).0
 step_does old (Step.BaseReturned k call given) (StepReply.Done r) new h = base_does old k call given r new h
 step_does old (Step.PostReturned k verdict lent) (StepReply.Done r) new h = (post_does old k verdict lent r new h).0
+step_does old (Step.ResumePre k o verdict) (StepReply.Done r) new h = (resume_pre_does old k o verdict r new h).0
+step_does old (Step.ResumePost k o) (StepReply.Done r) new h = resume_post_does old k o r new h
+step_does old (Step.FirstHeld k kind) (StepReply.Held r) new h = first_held_does old k kind r new h
 step_does old (Step.Collect o) (StepReply.Answer r) new h = collect_does old o r new h
 step_does old (Step.Allocate k what body) (StepReply.Context r) new h = (allocate_does old k what body r new h).0
 step_does old (Step.Set k c mode wants) (StepReply.Set r) new h = (set_does old k c mode wants r new h).0

@@ -129,6 +129,11 @@ hand_given k old new m within e = grind (arith, common_steps)
 pub hand_emptied : (k : ℕ) (old new : World) → new.contexts.hands ≡ slice_set old.contexts.hands k [] → OnlyHandOf k old new × (hand_len k new ≡ 0)
 hand_emptied k old new e = grind (arith, common_steps)
 
+-- the hand is another, and no other hand changes
+pub hand_written : (k : ℕ) (old new : World) (hand : List CtxId) → k < length old.contexts.hands → new.contexts.hands ≡ slice_set old.contexts.hands k hand
+    → OnlyHandOf k old new × (hand_len k new ≡ length hand)
+hand_written k old new hand within e = grind (arith, common_steps)
+
 -- ---- what every event does
 
 -- a sound World stays so, and contexts last

@@ -65,7 +65,7 @@ pub use Rattle.fm_flow.specs.Counts.{carried_in, carried_among, carried_by, drai
 pub use Rattle.fm_flow.specs.Creates.{is_unanswered}
 pub use Rattle.fm_flow.specs.Entries.{visit_of, post_of, is_base, settle_pre, settle_post, settle_drain, times, ask_in}
 pub use Rattle.fm_flow.specs.Sound.{after, walk, way_of, if_down, IsCourse}
-pub use Rattle.fm_flow.specs.Steps.{post_leads, next_of, post_returned_of, drain_returned_of, base_fits, give_post, pre_leads, pre_returned_of}
+pub use Rattle.fm_flow.specs.Steps.{post_leads, next_of, post_returned_of, drain_returned_of, base_fits, give_post, pre_leads, pre_returned_of, pre_settled, post_settled}
 pub use Rattle.fm_flow.specs.Steps.{base_returned_of, is_done, done_at, with_drain, Turned, with_base, post_state, call_pre, call_base, MayLieBelow}
 pub use Rattle.fm_flow.specs.Steps.{bare_ask, turn, next_at, descend, ascend, call_post, unwound_to, with_visit, may_take}
 pub use Rattle.fm_flow.specs.Table.{total, is_number, begun_record, collected_in, marked, removed}
@@ -87,15 +87,17 @@ pub use Rattle.fm_world.specs.Events.{PostReturnsAt, pre_step, state_at, base_re
 pub use Rattle.fm_world.specs.Events.{is_created_on, brought, returned, state_given, of_hand, sent, sent_in, carries_after, has_post, begun_on}
 pub use Rattle.fm_world.specs.Events.{has_no_handle_left, filed_pre, filed_record, base_step, asked_refused, asked_begun, created_begun}
 pub use Rattle.fm_world.specs.Events.{EmptiesUnless, or_else, begin_refused, after_begin}
+pub use Rattle.fm_world.specs.Events.{FindsHeldAt, ResumesPostAt, ResumesPreAt, is_held_by, lets_go, pre_resumed, resume_post_refused, resume_pre_refused}
+unfoldable pub use Rattle.fm_world.specs.Events.{FindsHeld, ResumesPost, ResumesPre}
 unfoldable pub use Rattle.fm_world.specs.Events.{SetsUp, Nexts, PreReturns, BaseReturns, PostReturns, Begins, Collects, Registers, Mounts, Attaches}
 pub use Rattle.fm_world.specs.FileLaws.{has_stream, has_stream_of, IsCreatedOn, IsOnHandle}
 pub use Rattle.fm_world.specs.Files.{FileTable, empty_files, is_handle, handle_at, opened, closed, left, created, stream_for, after_base, after_pre}
 pub use Rattle.fm_world.specs.Files.{with_phase, torn_down, created_in, stream_of_path, has_handle_on, is_stream, fresh_stream, phased, is_on}
 pub use Rattle.fm_world.specs.Files.{is_at_path, with_mark}
-pub use Rattle.fm_world.specs.Hands.{pairs_in, OnlyHandOf, KeepsHands, hand_len, HoldsMore, HoldsOneFewer, HoldsNone, given_with, given_by_set}
-pub use Rattle.fm_world.specs.Hands.{given_by_next, left_by_setup}
+pub use Rattle.fm_world.specs.Hands.{pairs_in, OnlyHandOf, KeepsHands, hand_len, HoldsMore, HoldsFewer, HoldsNone, given_with, given_by_set}
+pub use Rattle.fm_world.specs.Hands.{given_by_next, left_by_setup, taken_by_resume}
 pub use Rattle.fm_world.specs.Headline.{Spot, AtPre, is_in_at, is_in_drain, drains_running, AtBase, AtPost, AtDrain, spot_at, spot_of, is_spot}
-pub use Rattle.fm_world.specs.Headline.{Headline, RulesKeepHeadline, DescendsIn, IsAscent, IsInOrder, stands_at}
+pub use Rattle.fm_world.specs.Headline.{Headline, RulesKeepHeadline, DescendsIn, IsAscent, IsInOrder, IsSynchronized, stands_at}
 pub use Rattle.fm_world.specs.Links.{names_there, LosesLinks, is_there, is_on_gone}
 pub use Rattle.fm_world.specs.Owners.{row_at, owner_by, place_in, belongs, belongs_by, HoldsIn, CarriesIn, AskCarries, file_of, fits, owner_fits}
 pub use Rattle.fm_world.specs.Owners.{link_fits, is_left_by, is_flown_by, is_flown, may_link, keeps_links, keeps_links_by, holds_links_by, has_kind}

@@ -2,7 +2,7 @@
 -- (The events on contexts stand in ContextEvents.)
 -- An event that a worker makes is refused first of all, with WrongStep, where the worker isn't in the right place.
 use Rattle.std.specs.Prelude.{◌≡◌, ℕ, ◌+◌, ◌-◌, ◌^◌, ◌==◌, ◌&&◌, ◌||◌, Bool, true, false, cond, not, List, [], ◌∷◌, length, nat_le, Option, Some, None, is_none, Result, Ok, Err, slice_get}
-use Rattle.fm_world.specs.Words.{FilterId, VolumeId, InstanceId, OpId, WorkerId, HandleId, StreamId, CtxId, Status, Operation, first_of, AnswersOrMemory}
+use Rattle.fm_world.specs.Words.{FilterId, VolumeId, InstanceId, OpId, WorkerId, HandleId, StreamId, CtxId, Status, Operation, first_of, Answers, AnswersOrMemory}
 use Rattle.fm_world.specs.Words.{Params, Answer, Instance, Phase, StackWorld, IsNextInstance, has_pre_in, has_post_in, holds, hand_of, ContextTable, grabbed}
 use Rattle.fm_world.specs.Words.{handed_on, Leaves, Sweeps, is_linked_of, FlowAction, Ask, PreState, Descending, FlowRecord, owed, last_visited, creates}
 use Rattle.fm_world.specs.Words.{has_create_on, is_create, FlowTable, carried, operation_at, changed, told, begun, is_full, collect_reply, collected_of}
@@ -15,7 +15,11 @@ use Rattle.fm_data.specs.Data.{Data, data_fits}
 use Rattle.fm_data.specs.Params.{is_within_limits, operation_of}
 use Rattle.fm_flow.specs.declared.action.Below.{Below}
 use Rattle.fm_flow.specs.declared.entry.PreState.TheVariants.{Passed}
-use Rattle.fm_flow.specs.Steps.{next_of, pre_returned_of, base_returned_of, post_returned_of, drain_returned_of, base_fits}
+use Rattle.fm_flow.specs.Steps.{next_of, pre_returned_of, pre_settled, base_returned_of, post_returned_of, post_settled, drain_returned_of, base_fits}
+use Rattle.fm_flow.specs.Holds.{is_held, IsFirstHeld, sync_of}
+use Rattle.fm_flow.specs.declared.hold.Hold.{Hold}
+use Rattle.fm_flow.specs.declared.hold.Hold.TheVariants as hold
+use Rattle.fm_flow.specs.declared.entry.PostState.TheVariants as post
 use Rattle.fm_flow.specs.Verdict.{verdict_counted}
 use Rattle.fm_types.specs.declared.operation.CreateMode.{CreateMode}
 use Rattle.fm_types.specs.declared.status.Status.TheVariants as status
@@ -41,6 +45,7 @@ use Rattle.fm_world.specs.declared.file.FileHandle.{FileHandle}
 use Rattle.fm_world.specs.declared.file.FileStream.{FileStream}
 use Rattle.fm_world.specs.declared.file.HandlePhase.TheVariants as phase
 use Rattle.fm_world.specs.Workers.{worker_at, put, is_idle, after_attach, after_next}
+use Rattle.fm_world.specs.Owners.{place_in}
 
 -- the event where the test holds, and else a refusal that changes nothing
 abbrev pub Unless : {T : Type 0} → Status → Bool → Result T Status → World → World → Type 0 → Type 0
@@ -381,6 +386,61 @@ PostReturnsAt old k given lent result new _ = (result ≡ Err status.WrongStep) 
 
 unfoldable pub PostReturns : World → WorkerId → PostVerdict → Option Data → Result (Unit {0}) Status → World → Type 0
 PostReturns old k given lent result new = PostReturnsAt old k given lent result new (worker_at old.workers k)
+
+-- ---- held operations go on
+
+-- whether a callback of that kind of an instance holds the operation
+abbrev pub is_held_by : World → Hold → OpId → InstanceId → Bool
+is_held_by w kind o i = told (is_held kind i.0) false o w.flow
+
+-- a verdict that lets the operation go on; to be synchronized a postoperation needs the worker of a preoperation that returns
+abbrev pub lets_go : PreVerdict → Bool
+lets_go verdict.Pending = false
+lets_go (verdict.Synchronize completion) = false
+lets_go _ = true
+
+abbrev pub resume_pre_refused : World → OpId → InstanceId → PreVerdict → Option Status
+resume_pre_refused w o i given = first_of ((not (lets_go given), status.BadRequest) ∷ (not (is_held_by w hold.Pre o i), status.NotPended) ∷ [])
+
+-- the operation goes on as after a preoperation's return; the worker stays where it is, and its hand loses the completion's context alone
+abbrev pub pre_resumed : World → WorkerId → OpId → PreState → World
+pre_resumed w k o given = record w {
+  flow = changed o (pre_settled given) w.flow;
+  contexts = sent w.contexts k (sent_in given);
+  files = filed_pre w o (changed o (pre_settled given) w.flow) given;
+}
+
+-- by a worker in a callback of the instance that holds it; the links to a stream that went go last
+abbrev pub ResumesPreAt : World → WorkerId → OpId → PreVerdict → Result (Unit {0}) Status → World → Option InstanceId → Type 0
+ResumesPreAt old k o given result new None = (result ≡ Err status.WrongStep) × (new ≡ old)
+ResumesPreAt old k o given result new (Some i) =
+    Answers (resume_pre_refused old o i given) result old new (λ done. LosesLinks (pre_resumed old k o (state_at old k o i given)) new)
+
+unfoldable pub ResumesPre : World → WorkerId → OpId → PreVerdict → Result (Unit {0}) Status → World → Type 0
+ResumesPre old k o given result new = ResumesPreAt old k o given result new (place_in (worker_at old.workers k))
+
+abbrev pub resume_post_refused : World → OpId → InstanceId → Option Status
+resume_post_refused w o i = first_of ((not (is_held_by w hold.Post o i), status.NotPended) ∷ [])
+
+abbrev pub ResumesPostAt : World → OpId → Result (Unit {0}) Status → World → Option InstanceId → Type 0
+ResumesPostAt old o result new None = (result ≡ Err status.WrongStep) × (new ≡ old)
+ResumesPostAt old o result new (Some i) =
+    Answers (resume_post_refused old o i) result old new (λ done. new ≡ record old { flow = changed o (post_settled post.Finished) old.flow })
+
+unfoldable pub ResumesPost : World → WorkerId → OpId → Result (Unit {0}) Status → World → Type 0
+ResumesPost old k o result new = ResumesPostAt old o result new (place_in (worker_at old.workers k))
+
+-- the first operation that the instance holds is told, and nothing changes
+abbrev pub FindsHeldAt : World → Hold → Result (Option OpId) Status → World → Option InstanceId → Type 0
+FindsHeldAt old kind result new None = (result ≡ Err status.WrongStep) × (new ≡ old)
+FindsHeldAt old kind result new (Some i) = (first : Option OpId) × (result ≡ Ok first) × IsFirstHeld kind i.0 old.flow first × (new ≡ old)
+
+unfoldable pub FindsHeld : World → WorkerId → Hold → Result (Option OpId) Status → World → Type 0
+FindsHeld old k kind result new = FindsHeldAt old kind result new (place_in (worker_at old.workers k))
+
+-- the worker that alone would be given the operation's next postoperation: none where that isn't synchronized, and for a drain
+abbrev pub sync_worker : World → OpId → Option WorkerId
+sync_worker w o = told (λ r. sync_of (drains_next w.stack r) r) None o w.flow
 
 -- ---- the answer is taken
 

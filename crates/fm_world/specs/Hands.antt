@@ -1,6 +1,8 @@
 -- What workers hold, counted: what a lock above the state rests on, which keeps a book of all hands without looking at any but its own.
-use Rattle.std.specs.Prelude.{◌≡◌, ℕ, ◌+◌, List, length, sum_by, Option, Some, is_some, Result, Ok, Err}
-use Rattle.fm_world.specs.Words.{CtxId, Status, one, hand_of, FlowAction}
+use Rattle.std.specs.Prelude.{◌≡◌, ℕ, ◌+◌, List, length, sum_by, Option, Some, None, is_some, Result, Ok, Err}
+use Rattle.fm_world.specs.Words.{CtxId, InstanceId, OpId, WorkerId, Status, one, hand_of, FlowAction}
+use Rattle.fm_data.specs.declared.verdict.PreVerdict.{PreVerdict}
+use Rattle.fm_world.specs.Events.{sent_in, state_at}
 use Rattle.fm_flow.specs.declared.action.FlowAction.TheVariants as action
 use Rattle.fm_world.specs.declared.set_answer.SetAnswer.{SetAnswer}
 use Rattle.fm_world.specs.declared.set_answer.SetAnswer.TheVariants as answer
@@ -32,10 +34,10 @@ abbrev pub HoldsMore : {T : Type 0} → ℕ → Result T Status → (T → ℕ) 
 HoldsMore k (Ok value) more old new = hand_len k new ≡ hand_len k old + more value
 HoldsMore k (Err status) more old new = hand_len k new ≡ hand_len k old
 
--- one fewer where it succeeds
-abbrev pub HoldsOneFewer : {T : Type 0} → ℕ → Result T Status → World → World → Type 0
-HoldsOneFewer k (Ok value) old new = hand_len k new + 1 ≡ hand_len k old
-HoldsOneFewer k (Err status) old new = hand_len k new ≡ hand_len k old
+-- so many fewer where it succeeds, and the same where it is refused
+abbrev pub HoldsFewer : {T : Type 0} → ℕ → Result T Status → ℕ → World → World → Type 0
+HoldsFewer k (Ok value) fewer old new = hand_len k new + fewer ≡ hand_len k old
+HoldsFewer k (Err status) fewer old new = hand_len k new ≡ hand_len k old
 
 -- none where it succeeds
 abbrev pub HoldsNone : {T : Type 0} → ℕ → Result T Status → World → World → Type 0
@@ -60,3 +62,8 @@ given_by_next _ = 0
 abbrev pub left_by_setup : Option Worker → ℕ → ℕ
 left_by_setup (Some (place.Setup i)) n = 0
 left_by_setup _ n = n
+
+-- how many references a preoperation that is resumed sends along with its completion
+abbrev pub taken_by_resume : World → WorkerId → OpId → PreVerdict → Option InstanceId → ℕ
+taken_by_resume w k o given None = 0
+taken_by_resume w k o given (Some i) = given_with (sent_in (state_at w k o i given))

@@ -4,7 +4,8 @@ use Rattle.fm_world.specs.Words.{CtxId, InstanceId, OpId, WorkerId, StackWorld, 
 use Rattle.fm_world.specs.Words.{is_waiting, Slot, context_at, owner_at, Stage, Descending, PreRunning, InBase, PostRunning, InDrain, FlowRecord, Entry}
 use Rattle.fm_world.specs.Words.{visited, last_visited, last_posted, has_base, posted, owed, undrained, instances, FlowTable, told, in_flight}
 use Rattle.fm_flow.specs.Counts.{drain_opens}
-use Rattle.fm_flow.specs.Sound.{walk, way_of}
+use Rattle.fm_flow.specs.Entries.{asked}
+use Rattle.fm_flow.specs.Sound.{walk, way_of, MadeAsAsked}
 use Rattle.fm_ctx.specs.declared.owner.Owner.TheVariants as owner
 use Rattle.fm_world.specs.declared.step.Step.{Step}
 use Rattle.fm_world.specs.declared.step.StepReply.{StepReply}
@@ -26,6 +27,10 @@ IsAscent r = posted r.entries ++ instances (owed r.entries) ≡ instances (undra
 -- at most, and not after a Complete; a postoperation comes after a Complete or the base
 abbrev pub IsInOrder : FlowRecord → Type 0
 IsInOrder r = walk Descending r.entries ≡ Some (way_of r.stage)
+
+-- a postoperation that was asked for as synchronized, and wasn't drained, is made by the worker of its preoperation
+abbrev pub IsSynchronized : FlowRecord → Type 0
+IsSynchronized r = All (MadeAsAsked (asked r.entries)) r.entries
 
 -- the preoperations fall by altitude, and nobody is passed over
 abbrev pub DescendsIn : StackWorld → FlowRecord → Type 0
@@ -96,6 +101,7 @@ pub record Headline (w : World) : Type 0 where
   pub descents : All (DescendsIn w.stack) w.flow.operations
   pub ascents : All IsAscent w.flow.operations
   pub orders : All IsInOrder w.flow.operations
+  pub synchronized : All IsSynchronized w.flow.operations
   -- exactly one worker is inside the callback or the call that an operation is in, and none inside any other that `next` gives
   pub workers : (o : OpId) (spot : Spot) → count_by (is_in_at o spot) w.workers ≡ stands_at o spot w.flow
   -- exactly one is inside each drain that runs, also inside one that was taken early, beside which the operation goes on

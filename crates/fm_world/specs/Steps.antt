@@ -8,7 +8,7 @@ use Rattle.fm_world.specs.declared.step.StepReply.{StepReply}
 use Rattle.fm_world.specs.declared.step.StepReply.TheVariants as reply
 use Rattle.fm_world.specs.World.{World}
 use Rattle.fm_world.specs.ContextEvents.{Allocates, Sets, Gets, Deletes, References, Releases, ReadsBody, WritesBody, Bumps, TakesDue, Cleans, Finishes}
-use Rattle.fm_world.specs.Events.{Registers, Mounts, Attaches, SetsUp, Begins, Nexts, PreReturns, BaseReturns, PostReturns, Collects}
+use Rattle.fm_world.specs.Events.{Registers, Mounts, Attaches, SetsUp, Begins, Nexts, PreReturns, BaseReturns, PostReturns, ResumesPre, ResumesPost, FindsHeld, Collects}
 
 -- the answer is of that kind, and this holds of it
 abbrev pub OfFilter : StepReply → (Result FilterId Status → Type 0) → Type 0
@@ -59,6 +59,10 @@ abbrev pub OfDue : StepReply → (Result (Option Due) Status → Type 0) → Typ
 OfDue (reply.Due r) P = P r
 OfDue _ P = ⊥
 
+abbrev pub OfHeld : StepReply → (Result (Option OpId) Status → Type 0) → Type 0
+OfHeld (reply.Held r) P = P r
+OfHeld _ P = ⊥
+
 abbrev pub OfAnswer : StepReply → (Result Answer Status → Type 0) → Type 0
 OfAnswer (reply.Answer r) P = P r
 OfAnswer _ P = ⊥
@@ -74,6 +78,9 @@ Steps old (step.Next k o) answer new = OfAction answer (λ r. Nexts old k o r ne
 Steps old (step.PreReturned k verdict lent) answer new = OfDone answer (λ r. PreReturns old k verdict lent r new)
 Steps old (step.BaseReturned k call given) answer new = OfDone answer (λ r. BaseReturns old k call given r new)
 Steps old (step.PostReturned k verdict lent) answer new = OfDone answer (λ r. PostReturns old k verdict lent r new)
+Steps old (step.ResumePre k o verdict) answer new = OfDone answer (λ r. ResumesPre old k o verdict r new)
+Steps old (step.ResumePost k o) answer new = OfDone answer (λ r. ResumesPost old k o r new)
+Steps old (step.FirstHeld k hold) answer new = OfHeld answer (λ r. FindsHeld old k hold r new)
 Steps old (step.Collect o) answer new = OfAnswer answer (λ r. Collects old o r new)
 Steps old (step.Allocate k kind body) answer new = OfContext answer (λ r. Allocates old k kind body r new)
 Steps old (step.Set k c mode wants) answer new = OfSet answer (λ r. Sets old k c mode wants r new)

@@ -4,7 +4,7 @@ use crate::set_answer::SetAnswer;
 use fm_altitude::Altitude;
 use fm_ctx::{Due, SetMode};
 use fm_data::{Answer, BaseCall, CallbackData, PostVerdict, PreVerdict, Request};
-use fm_flow::FlowAction;
+use fm_flow::{FlowAction, Hold};
 use fm_types::{
     Bytes, ContextKind, CtxId, FilterId, InstanceId, Name, OpId, Registration, Status, VolumeId,
     WorkerId,
@@ -59,6 +59,22 @@ pub enum Step {
         worker: WorkerId,
         verdict: PostVerdict,
         data: Option<CallbackData>,
+    },
+    /// The callback that the worker is in resumes a preoperation of its instance that holds an operation, with a verdict.
+    ResumePre {
+        worker: WorkerId,
+        operation: OpId,
+        verdict: PreVerdict,
+    },
+    /// It resumes a postoperation of its instance that holds an operation: that is over.
+    ResumePost {
+        worker: WorkerId,
+        operation: OpId,
+    },
+    /// It asks for the first operation that a callback of its instance holds.
+    FirstHeld {
+        worker: WorkerId,
+        hold: Hold,
     },
     /// The client takes the answer of a done operation.
     Collect {
@@ -146,6 +162,8 @@ pub enum StepReply {
     Action(Result<FlowAction, Status>),
     /// To an event that answers nothing but how it went. What a refusal hands back isn't part of it.
     Done(Result<(), Status>),
+    /// To FirstHeld.
+    Held(Result<Option<OpId>, Status>),
     /// To Collect.
     Answer(Result<Answer, Status>),
     /// To Allocate and Get.

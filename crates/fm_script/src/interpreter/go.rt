@@ -7,7 +7,7 @@ use super::Interpreter;
 use crate::output::Output;
 use crate::said::{Said, Word, said_given};
 use crate::script_end::ScriptEnd;
-use fm_data::PreVerdict;
+use fm_data::{PostVerdict, PreVerdict};
 use fm_session::Given;
 use fm_types::{InstanceId, OpId, Status, WorkerId};
 use std::io::Write;
@@ -88,7 +88,7 @@ impl Interpreter {
         ensures { Goes worker operation self.old self.new }
     {
         let _ = operation;
-        self.post(worker)
+        self.post(worker, PostVerdict::Finished)
     }
 
     #[tactic(auto, using(crate::proofs::Going::goes_collect))]

@@ -1,11 +1,12 @@
-//! Events as values without texts and bytes, so that a list of them is data, and the steps that they stand for: all of one filter with one instance on one
-//! volume, and of one file there with its first handle.
+//! Events as values without texts and bytes, so that a list of them is data, and the steps that they stand for: all of one filter with an instance or two on
+//! one volume, and of one file there with its first handle.
 
 use fm_altitude::Altitude;
 use fm_ctx::SetMode;
 use fm_data::{
     Answer, BaseCall, CallbackData, FileRequest, Params, PostVerdict, PreVerdict, Request,
 };
+use fm_flow::Hold;
 use fm_types::{
     Bytes, ContextKind, ContextMask, CreateMode, CtxId, FilterId, HandleId, Name, OpId, OpMask,
     Operation, Registration, RelPath, SharedPath, Status, VolumeId, WorkerId,
@@ -28,8 +29,12 @@ const VOLUME: VolumeId = VolumeId(0);
 #[derive(Clone, Copy)]
 pub enum Event {
     Register,
+    /// A filter that has no postoperation callbacks.
+    RegisterPre,
     Mount,
     Attach,
+    /// Another instance, below the first.
+    AttachBelow,
     SetupDone(bool),
     Begin(Operation),
     Next(WorkerId, OpId),
@@ -39,6 +44,9 @@ pub enum Event {
     Base(WorkerId, Operation),
     /// The callback returns with data of an operation of that kind.
     Post(WorkerId, PostVerdict, Operation),
+    ResumePre(WorkerId, OpId, PreVerdict),
+    ResumePost(WorkerId, OpId),
+    FirstHeld(WorkerId, Hold),
     Collect(OpId),
     Allocate(ContextKind),
     Set,
@@ -51,11 +59,11 @@ fn path() -> Result<RelPath, Status> {
     RelPath::read(b"f")
 }
 
-// A filter that is called for all operations, and has contexts of all kinds.
-fn register() -> Result<Step, Status> {
+// A filter that is called before all operations and behind those, and has contexts of all kinds.
+fn register(post: OpMask) -> Result<Step, Status> {
     let registration = Registration {
         pre: OpMask::ALL,
-        post: OpMask::ALL,
+        post,
         contexts: ContextMask::ALL,
         query: false,
         unload: false,
@@ -66,13 +74,13 @@ fn register() -> Result<Step, Status> {
     })
 }
 
-fn attach() -> Result<Step, Status> {
+fn attach(name: &[u8], altitude: &[u8]) -> Result<Step, Status> {
     Ok(Step::Attach {
         worker: WORKER,
         filter: FilterId(0),
         volume: VOLUME,
-        name: Name::read(b"a")?,
-        altitude: Altitude::read(b"100")?,
+        name: Name::read(name)?,
+        altitude: Altitude::read(altitude)?,
     })
 }
 
@@ -157,11 +165,13 @@ fn set() -> Step {
 /// The step that an event stands for.
 pub fn step_of(alloc: Global, event: Event) -> Result<Step, Status> {
     Ok(match event {
-        Event::Register => register()?,
+        Event::Register => register(OpMask::ALL)?,
+        Event::RegisterPre => register(OpMask::NONE)?,
         Event::Mount => Step::Mount {
             name: Name::read(b"v")?,
         },
-        Event::Attach => attach()?,
+        Event::Attach => attach(b"a", b"100")?,
+        Event::AttachBelow => attach(b"b", b"50")?,
         Event::SetupDone(accept) => Step::SetupDone {
             worker: WORKER,
             accept,
@@ -183,6 +193,13 @@ pub fn step_of(alloc: Global, event: Event) -> Result<Step, Status> {
             verdict,
             data: Some(data(alloc, operation)?),
         },
+        Event::ResumePre(worker, operation, verdict) => Step::ResumePre {
+            worker,
+            operation,
+            verdict,
+        },
+        Event::ResumePost(worker, operation) => Step::ResumePost { worker, operation },
+        Event::FirstHeld(worker, hold) => Step::FirstHeld { worker, hold },
         Event::Collect(operation) => Step::Collect { operation },
         Event::Allocate(kind) => Step::Allocate {
             worker: WORKER,

@@ -12,6 +12,8 @@ mod events;
 #[cfg(test)]
 mod frame_tests;
 #[cfg(test)]
+mod hold_tests;
+#[cfg(test)]
 mod limit_tests;
 #[cfg(test)]
 mod memory_tests;
@@ -25,6 +27,8 @@ mod run_tests;
 mod rundown_tests;
 #[cfg(test)]
 mod script_tests;
+#[cfg(test)]
+mod seen_tests;
 #[cfg(test)]
 mod text_tests;
 #[cfg(test)]

@@ -1,5 +1,4 @@
-//! Lists of events with what each of them is told, which no script can say: data that isn't the operation's, an operation that a filter holds, and a base
-//! that tells more than it is asked.
+//! Lists of events with what each of them is told, which no script can say: data that isn't the operation's, and a base that tells more than it is asked.
 
 use crate::events::{CONTEXT, Event, WORKER, step_of};
 use crate::told::{Told, told_by};
@@ -14,7 +13,7 @@ use std::process::Abort;
 // An event, and what it is told.
 type Row = (Event, Told);
 
-/// The worker of a read that another worker's close crosses.
+// The worker of a read.
 const READER: WorkerId = WorkerId(1);
 
 const FIRST: OpId = OpId(0);
@@ -23,17 +22,7 @@ const SECOND: OpId = OpId(1);
 
 const THIRD: OpId = OpId(2);
 
-const FOURTH: OpId = OpId(3);
-
-const FIFTH: OpId = OpId(4);
-
-// Asks for the postoperation.
-const WITH: PreVerdict = PreVerdict::WithCallback(Completion {
-    number: 0,
-    context: None,
-});
-
-// Asks for it, and sends the context along.
+// Asks for the postoperation, and sends the context along.
 const WITH_CONTEXT: PreVerdict = PreVerdict::WithCallback(Completion {
     number: 0,
     context: Some(CONTEXT),
@@ -138,65 +127,6 @@ const READ: &[Row] = &[
     (Event::Collect(SECOND), Told::Answer(Status::Success, 1, 1)),
 ];
 
-// A read that a filter holds on its way up.
-const HELD_UP: &[Row] = &[
-    (Event::Begin(Operation::Read), Told::Number(1)),
-    (Event::Next(READER, SECOND), Told::Pre),
-    (Event::Pre(READER, WITH, Operation::Read), Told::Done),
-    (Event::Next(READER, SECOND), Told::Base),
-    (Event::Base(READER, Operation::Read), Told::Done),
-    (Event::Next(READER, SECOND), Told::Post),
-    (
-        Event::Post(READER, PostVerdict::MoreProcessing, Operation::Read),
-        Told::Done,
-    ),
-];
-
-// A read that a filter holds on its way down.
-const HELD_DOWN: &[Row] = &[
-    (Event::Begin(Operation::Read), Told::Number(1)),
-    (Event::Next(READER, SECOND), Told::Pre),
-    (
-        Event::Pre(READER, PreVerdict::Pending, Operation::Read),
-        Told::Done,
-    ),
-];
-
-// The handle closes, so that its stream is torn down, and its path is opened again.
-const REOPENED: &[Row] = &[
-    (Event::Begin(Operation::Cleanup), Told::Number(2)),
-    (Event::Next(WORKER, THIRD), Told::Pre),
-    (
-        Event::Pre(WORKER, PreVerdict::NoCallback, Operation::Cleanup),
-        Told::Done,
-    ),
-    (Event::Next(WORKER, THIRD), Told::Moved),
-    (Event::Collect(THIRD), Told::Answer(Status::Success, 0, 0)),
-    (Event::Begin(Operation::Close), Told::Number(3)),
-    (Event::Next(WORKER, FOURTH), Told::Pre),
-    (
-        Event::Pre(WORKER, PreVerdict::NoCallback, Operation::Close),
-        Told::Done,
-    ),
-    (Event::Next(WORKER, FOURTH), Told::Moved),
-    (Event::Collect(FOURTH), Told::Answer(Status::Success, 0, 0)),
-    (Event::Begin(Operation::Create), Told::Number(4)),
-    (Event::Next(WORKER, FIFTH), Told::Pre),
-    (
-        Event::Pre(WORKER, PreVerdict::NoCallback, Operation::Create),
-        Told::Done,
-    ),
-    (Event::Next(WORKER, FIFTH), Told::Base),
-    (Event::Base(WORKER, Operation::Create), Told::Done),
-    (Event::Collect(FIFTH), Told::Answer(Status::Success, 1, 0)),
-];
-
-// The read is held as before.
-const STILL_HELD: &[Row] = &[
-    (Event::Next(READER, SECOND), Told::Held),
-    (Event::Collect(SECOND), Told::Refused(Status::WrongStep)),
-];
-
 // A list in parts, and what can be read of the state at its end: the open handles, the leaks, the filter's total, and the context's count.
 type List = (
     &'static str,
@@ -204,7 +134,7 @@ type List = (
     (usize, u64, u64, Count),
 );
 
-const LISTS: [List; 4] = [
+const LISTS: [List; 2] = [
     (
         "contexts_of_a_create",
         &[OPENING, CREATE_WITH_A_CONTEXT, CLOSED, CLEANED],
@@ -213,16 +143,6 @@ const LISTS: [List; 4] = [
     (
         "a_base_that_tells_more",
         &[OPENING, CREATED, READ],
-        (1, 0, 0, Count::Absent),
-    ),
-    (
-        "held_on_its_way_down",
-        &[OPENING, CREATED, HELD_DOWN, REOPENED, STILL_HELD],
-        (1, 0, 0, Count::Absent),
-    ),
-    (
-        "held_on_its_way_up",
-        &[OPENING, CREATED, HELD_UP, REOPENED, STILL_HELD],
         (1, 0, 0, Count::Absent),
     ),
 ];

@@ -3,7 +3,7 @@
 use fm_ctx::Due;
 use fm_data::Answer;
 use fm_flow::FlowAction;
-use fm_types::{CtxId, Status};
+use fm_types::{CtxId, OpId, Status};
 use fm_world::{SetAnswer, StepReply};
 
 /// What a reply tells, without the data that it lends.
@@ -28,6 +28,8 @@ pub enum Told {
     Moved,
     Held,
     AllDone,
+    /// The first operation that an instance holds.
+    First(Option<OpId>),
     /// A status, the information, and how many bytes.
     Answer(Status, u64, usize),
 }
@@ -73,6 +75,7 @@ pub fn told_by(reply: &StepReply) -> Told {
         StepReply::Number(Ok(number)) => Told::Number(*number),
         StepReply::Action(Ok(action)) => told_action(action),
         StepReply::Done(Ok(())) => Told::Done,
+        StepReply::Held(Ok(first)) => Told::First(*first),
         StepReply::Answer(Ok(answer)) => told_answer(answer),
         StepReply::Context(Ok(id)) => Told::Context(*id),
         StepReply::Set(answer) => told_set(*answer),
@@ -86,6 +89,7 @@ pub fn told_by(reply: &StepReply) -> Told {
         | StepReply::Number(Err(status))
         | StepReply::Action(Err(status))
         | StepReply::Done(Err(status))
+        | StepReply::Held(Err(status))
         | StepReply::Answer(Err(status))
         | StepReply::Context(Err(status))
         | StepReply::Old(Err(status))

@@ -5,6 +5,7 @@ pub mod Holds
 mod Lowest
 pub mod Walks
 pub mod Course
+pub mod Depths
 pub mod Settled
 pub mod Counting
 pub mod Noted
@@ -12,6 +13,7 @@ pub mod Soundness
 pub mod Next
 pub mod Returns
 pub mod Resumes
+pub mod Drains
 pub mod Tallied
 pub mod Flows
 pub mod Requests

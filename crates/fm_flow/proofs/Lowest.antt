@@ -7,10 +7,10 @@ use Rattle.fm_types.proofs.Firsts.{found_holds}
 abbrev Rises : {X : Type 0} → (X → ℕ) → List X → Type 0
 Rises key xs = AllPairs (λ x y. key x < key y) xs
 
-others_above : {X : Type 0} (key : X → ℕ) (x : X) (xs : List X) → Rises key (x ∷ xs) → All (λ y. key x < key y) xs
+pub others_above : {X : Type 0} (key : X → ℕ) (x : X) (xs : List X) → Rises key (x ∷ xs) → All (λ y. key x < key y) xs
 others_above key x xs rises = λ k d within. rises 0 (suc k) d (omega arith) (omega (arith, within))
 
-rest_rises : {X : Type 0} (key : X → ℕ) (x : X) (xs : List X) → Rises key (x ∷ xs) → Rises key xs
+pub rest_rises : {X : Type 0} (key : X → ℕ) (x : X) (xs : List X) → Rises key (x ∷ xs) → Rises key xs
 rest_rises key x xs rises = λ i j d below within. rises (suc i) (suc j) d (omega (arith, below)) (omega (arith, within))
 
 pub none_passes : {X : Type 0} (p : X → Bool) (xs : List X) → find p xs ≡ None → All (λ x. p x ≡ false) xs

@@ -2,10 +2,10 @@
 use Rattle.fm_flow.proofs.Words.{ℕ, Bool, true, false, cond, List, [], length, map, drop, get_or, Option, Some, None, option_map, option_to_list, reverse}
 use Rattle.fm_flow.proofs.Words.{refl, sym, ap, ap₂, arith, nat_tests, same_Some, slice_get, count_by, length-map, slack}
 use Rattle.fm_flow.proofs.Words.{InstanceId, WorkerId, Status, Stage, Descending, PreState, PostState, PreVisit, Ask, Entry, Pre, Base, one, times}
-use Rattle.fm_flow.proofs.Words.{ask_in, ask_of, ask_at, asks, visit_of, answers, visited, last_visited, owed, bare_ask, walk, way_of, is_open, is_pre_open}
+use Rattle.fm_flow.proofs.Words.{ask_in, ask_of, ask_at, asks, visit_of, answers, Drain, visited, last_visited, owed, bare_ask, walk, way_of, is_open, is_pre_open}
 use Rattle.fm_flow.proofs.Words.{settle, is_due, settle_pre, settle_post, settle_drain, IsCourse, IsNoted, is_running_drain_of, drain_opens, after}
 use Rattle.fm_flow.specs.Counts.{drain_opens_at}
-use Rattle.std.proofs.Common.{◌≡◌, ◌+◌, ◌-◌, ◌<◌, ◌≤◌, ◌==◌, ◌∷◌, ◌++◌, ◌∙◌, zero, suc, set, option_and_then}
+use Rattle.std.proofs.Common.{◌≡◌, ◌+◌, ◌-◌, ◌<◌, ◌≤◌, ◌==◌, ◌∷◌, ◌++◌, ◌∙◌, zero, suc, set, remove, position, option_and_then}
 use Rattle.std.specs.Option.{option_or}
 use Rattle.fm_flow.proofs.Words.{take, take_more, post_of, last_posted}
 use Rattle.std.specs.List.{filter_map}
@@ -16,9 +16,11 @@ use Rattle.fm_flow.specs.declared.entries.Ending.{Ending}
 use Rattle.fm_flow.specs.declared.entries.Ending.TheVariants as ending
 use Rattle.fm_types.proofs.Firsts.{count-cons}
 use Rattle.fm_types.proofs.Lists.{slice_get-push}
-use Rattle.fm_flow.proofs.Owed.{filter_map-push, owed_push_none}
+use Rattle.fm_flow.proofs.Owed.{filter_map-push, owed_push_none, left_push_answer}
+use Rattle.fm_flow.specs.Drains.{is_of}
+use Rattle.fm_flow.proofs.Depths.{left_there, removed_alone}
 use Rattle.fm_flow.proofs.Walks.{is_callback, is_pre, is_post, walk_parts, last_with, settling_pre, settling_post}
-use Rattle.fm_flow.proofs.Course.{owed_bare, owed_answered}
+use Rattle.fm_flow.proofs.Course.{owed_bare, owed_answered, owed_once}
 use Rattle.fm_flow.proofs.Settled.{with_state, settles_pre, settles_post, settles_drain, the_open_pre, walks_to}
 use Rattle.fm_flow.proofs.Counting.{owed_asked, owed_post_settled, owed_drain_settled}
 
@@ -162,6 +164,16 @@ module _ {places : List ℕ} {latest : Option InstanceId} (es : List Entry) (n :
       map_tail : (f : ℕ → Option Ask) (ks : List ℕ) (x : Option Ask) (xs : List (Option Ask)) → map f ks ≡ x ∷ xs → map f (drop 1 ks) ≡ xs
       map_tail f [] x xs is = cc
       map_tail f (k ∷ ks) x xs is = cc
+
+-- an answer to one that stands anywhere
+pub noted_early : {places : List ℕ} {latest : Option InstanceId} (s : Stage) (es : List Entry) (i : InstanceId) (depth : ℕ) → IsCourse s es → position (is_of i.0) (owed es) ≡ Some depth
+    → IsNoted places latest es → IsNoted (remove places depth) latest (es ++ Drain (record { instance = i; is_running = true }) ∷ [])
+noted_early {places} s es i depth c is n =
+    let e : Entry = Drain (record { instance = i; is_running = true }) in record {
+      asks = stays_asked es (es ++ e ∷ []) (asks_push es (e ∷ [])) (remove places depth) (remove (owed es) depth) (left_there (ask_at es) places (owed es) depth n.asks)
+          ∙ ap (map Some) (removed_alone i.0 (owed es) depth is (owed_once s es i.0 c) ∙ sym (left_push_answer answers es e i.0 refl (λ j. refl)));
+      last = n.last ∙ sym (last_push es e);
+    }
 
 -- ---- a callback that is settled
 

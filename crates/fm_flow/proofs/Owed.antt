@@ -36,7 +36,7 @@ pub length_without : (i : ℕ) (asks : List Ask) → length (without i asks) + t
 length_without i [] = refl
 length_without i (ask ∷ asks) = grind (arith, nat_tests, length_without i asks)
 
-without_none : (i : ℕ) (asks : List Ask) → times i (instances asks) ≡ 0 → without i asks ≡ asks
+pub without_none : (i : ℕ) (asks : List Ask) → times i (instances asks) ≡ 0 → without i asks ≡ asks
 without_none i [] none = refl
 without_none i (ask ∷ asks) none = grind (arith, nat_tests, none, without_none i asks)
 

@@ -81,7 +81,7 @@ sound_marked r h e = record {
   collected = λ k. (and_parts (not r.collected) (is_done r) e).1;
 }
 
-flow_removed : (t : FlowTable) (o : OpId) → IsFlow t → IsFlow (removed o t)
+pub flow_removed : (t : FlowTable) (o : OpId) → IsFlow t → IsFlow (removed o t)
 flow_removed t o h = record {
   sound = all_without IsSound (is_number o) t.operations h.sound;
   ascending = pairs_without (is_number o) (λ (r s : FlowRecord). r.number.0 < s.number.0) t.operations h.ascending;

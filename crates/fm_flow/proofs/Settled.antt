@@ -169,8 +169,12 @@ drain_walks i s (e ∷ es) =
     let same : after s (settle_drain i e) ≡ after s e = grind arith in
     rw same (elim (after s e) as (λ o. option_and_then (λ t. walk t (map (settle_drain i) es)) o ≡ option_and_then (λ t. walk t es) o) [ None ↦ refl | Some u ↦ drain_walks i u es ])
 
--- a drain that `next` gave is over
+-- a drain is over
+pub course_drain_over : (i : ℕ) (s t : Stage) (es : List Entry) → way_of t ≡ way_of s → slack t ≤ slack s → HasItsDrain t (map (settle_drain i) es) → IsCourse s es → IsCourse t (map (settle_drain i) es)
+course_drain_over i s t es way less drain c =
+    course_settled s t es (map (settle_drain i) es) None (settles_drain i es) c tt (drain_walks i Descending es ∙ c.order ∙ ap Some (sym way)) (omega (arith, less))
+    (made_drain i es (map_alike ask_of (settle_drain i) (λ e. grind arith) es) c.synchronized) drain
+
+-- one that `next` gave
 pub course_drain_settled : (i : InstanceId) (es : List Entry) → IsCourse (InDrain i) es → IsCourse Ascending (map (settle_drain i.0) es)
-course_drain_settled i es c =
-    course_settled (InDrain i) Ascending es (map (settle_drain i.0) es) None (settles_drain i.0 es) c tt (drain_walks i.0 Descending es ∙ c.order) (omega arith)
-    (made_drain i.0 es (map_alike ask_of (settle_drain i.0) (λ e. grind arith) es) c.synchronized) tt
+course_drain_settled i es c = course_drain_over i.0 (InDrain i) Ascending es refl (omega arith) tt c

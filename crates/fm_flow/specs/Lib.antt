@@ -12,4 +12,5 @@ pub mod Tallied
 pub mod Verdict
 pub mod Seen
 pub mod Holds
+pub mod Drains
 pub mod Turns

@@ -1,9 +1,11 @@
 //! The entries of an operation: who asked, and callbacks that are settled.
 
-ghost use Rattle.std.specs.Prelude.{◌≡◌, ◌<◌, [], ◌∷◌, ◌++◌, length, drop, true, map, count_by, vec_capacity, slice_get, Some, option_map};
+ghost use Rattle.std.specs.Prelude.{◌≡◌, ◌<◌, [], ◌∷◌, ◌++◌, length, drop, true, map, count_by, position, vec_capacity, slice_get, Some, option_map};
 ghost use Rattle.std.specs.List.{list_any};
 ghost use Rattle.fm_flow.specs.Entries.{ask_of, asks, ask_at, is_open, settle_pre, settle_post, settle_drain, settle, post_of, last_posted};
 ghost use Rattle.fm_flow.specs.Counts.{is_running_drain, is_running_drain_of, is_due};
+ghost use Rattle.fm_flow.specs.Drains.{is_some_of};
+ghost use Rattle.fm_flow.specs.Flights.{is_at};
 
 use crate::entry::{Ask, DrainVisit, Entry, PostState, PostVisit, PreState, PreVisit};
 use crate::owed_stack::OwedStack;
@@ -40,6 +42,25 @@ pub(crate) fn ask_at(entries: &[Entry], place: usize) -> Option<Ask>
     ensures { result ≡ ask_at entries.now place }
 {
     ask(*entries.get(place)?)
+}
+
+fn is_of(ask: Option<Ask>, instance: InstanceId) -> bool
+    ensures { result ≡ is_some_of instance.0 ask }
+{
+    match ask {
+        Some(ask) => ask.instance.0 == instance.0,
+        None => false,
+    }
+}
+
+/// How deep in the stack the place stands at which an instance asked for its postoperation.
+pub(crate) fn depth_of(entries: &[Entry], owed: &OwedStack, instance: InstanceId) -> Option<usize>
+    ensures { result ≡ position (λ place. is_some_of instance.0 (ask_at entries.now place)) owed.now }
+{
+    owed.places()
+        .iter()
+        .rev()
+        .position(|place| is_of(ask_at(entries, *place as usize), instance))
 }
 
 /// One more entry, which answers what is owed next.
@@ -208,6 +229,24 @@ pub(crate) fn settle_drain(entries: &mut Vec<Entry>, instance: InstanceId)
     ensures capacity { vec_capacity entries.new ≡ vec_capacity entries.old }
 {
     settle_due(entries, Ending::Drain(instance));
+}
+
+fn is_at(entry: Entry, instance: InstanceId) -> bool
+    ensures { result ≡ is_at instance.0 entry }
+{
+    match entry {
+        Entry::Pre(visit) => visit.instance.0 == instance.0 && is_open(entry),
+        Entry::Base(_, _) => false,
+        Entry::Post(visit) => visit.instance.0 == instance.0 && is_open(entry),
+        Entry::Drain(_) => is_running_drain_of(entry, instance),
+    }
+}
+
+/// Whether a callback of an instance runs or holds the operation.
+pub(crate) fn has_callback_at(entries: &[Entry], instance: InstanceId) -> bool
+    ensures { result ≡ list_any (is_at instance.0) entries.now }
+{
+    entries.iter().any(|entry| is_at(*entry, instance))
 }
 
 /// Whether a drain runs.

@@ -1,6 +1,6 @@
 //! All operations that were begun and not yet collected.
 
-ghost use Rattle.std.specs.Prelude.{◌≡◌, ◌+◌, ◌<◌, ◌≤◌, ◌^◌, ◌&&◌, ◌∷◌, [], ℕ, true, length, Option, Some, None, Ok, Err, IsTrue, option_copied, is_some, position, find, if◌then◌else◌};
+ghost use Rattle.std.specs.Prelude.{◌≡◌, ◌+◌, ◌<◌, ◌≤◌, ◌^◌, ◌&&◌, ◌∷◌, [], ℕ, true, length, Option, Some, None, Ok, Err, IsTrue, option_copied, is_some, position, count_by, find, if◌then◌else◌};
 ghost use Rattle.std.specs.List.{list_any};
 ghost use Rattle.fm_types.specs.Refusals.{AnswersOrMemory, first_of};
 ghost use Rattle.fm_data.specs.Params.{is_within_limits, are_on};
@@ -9,7 +9,9 @@ ghost use Rattle.fm_flow.specs.Steps.{next_of, data_reply, pre_after, base_reply
 ghost use Rattle.fm_flow.specs.Holds.{is_held, IsFirstHeld};
 ghost use Rattle.fm_flow.specs.Creates.{is_creating, is_on_stream, has_create_on, creates, is_over};
 ghost use Rattle.fm_flow.specs.Tallied.{IsAscending};
-ghost use Rattle.fm_flow.specs.Table.{IsFlow, MayLieBelowOf, StandsAt, empty_table, is_number, operation_at, changed, told, is_full, is_collectable, begun, collect_reply, collected_of};
+ghost use Rattle.fm_flow.specs.Drains.{owes, DrainTaken, RunsEarly, is_spent, drain_done_of};
+ghost use Rattle.fm_flow.specs.Flights.{flies};
+ghost use Rattle.fm_flow.specs.Table.{in_flight, IsFlow, MayLieBelowOf, StandsAt, empty_table, is_number, operation_at, changed, told, is_full, is_collectable, begun, collect_reply, collected_of};
 
 use crate::action::{Below, FlowAction};
 use crate::boxed_record::BoxedRecord;
@@ -17,7 +19,7 @@ use crate::entry::{PostState, PreState};
 use crate::hold::Hold;
 use crate::operation_record::OperationRecord;
 use crate::stage::Stage;
-use fm_data::{Answer, BaseCall, CallbackData, Params, PostVerdict};
+use fm_data::{Answer, BaseCall, CallbackData, Completion, Params, PostVerdict};
 use fm_types::{HandleId, InstanceId, OpId, SharedPath, Status, StreamId, VolumeId, WorkerId};
 use std::alloc::Global;
 use std::marker::Model;
@@ -109,6 +111,23 @@ fn first_held(
     Some(operations[place].as_ref())
 }
 
+fn owing_place(operations: &[BoxedRecord], instance: InstanceId) -> Option<usize>
+    ensures { result ≡ position (owes instance.0) operations.now }
+{
+    operations
+        .iter()
+        .position(|operation| operation.as_ref().owes(instance))
+}
+
+fn flying(operations: &[BoxedRecord], instance: InstanceId) -> usize
+    ensures { result ≡ count_by (flies instance.0) operations.now }
+{
+    operations
+        .iter()
+        .filter(|operation| operation.as_ref().is_in_flight(instance))
+        .count()
+}
+
 // How many pass a test, where one of them may have come to pass it or to fail it.
 fn recounted(count: usize, did_pass: bool, passes: bool) -> usize
     requires some { did_pass ≡ true → 0 < count }
@@ -149,6 +168,13 @@ fn is_collectable(operation: &OperationRecord) -> bool
     ensures { result ≡ is_collectable operation.now }
 {
     !operation.is_collected() && operation.is_done()
+}
+
+// whether nobody needs it any more
+fn is_spent(operation: &OperationRecord) -> bool
+    ensures { result ≡ is_spent operation.now }
+{
+    operation.is_collected() && !operation.has_running_drain()
 }
 
 impl Flow {
@@ -386,6 +412,44 @@ impl Flow {
     {
         let place = standing(&self.operations, number);
         self.operations[place].as_mut().drain_returned(instance);
+    }
+
+    /// How many operations are in flight at an instance: a callback there runs or holds them, or they
+    /// owe the instance a postoperation. One counts also after its answer was handed out, while a
+    /// drain of it runs.
+    pub fn in_flight(&self, instance: InstanceId) -> u64
+        ensures { result ≡ in_flight instance.0 self.now }
+    {
+        flying(&self.operations, instance) as u64
+    }
+
+    /// Gives an instance that is torn down the completion of a postoperation that it is owed, before
+    /// its place in the ascent (`FLTFL_POST_OPERATION_DRAINING`): that of the operation of the lowest
+    /// number that owes it one, whatever the operation is doing. The drain runs from then on; the
+    /// operation stays where it is, and goes on. None, nothing changed, where no operation owes the
+    /// instance anything. All other operations stay. It takes no memory.
+    pub fn drain_take(&mut self, instance: InstanceId) -> Option<(OpId, Completion)>
+        ensures { DrainTaken instance self.old result self.new }
+    {
+        let place = owing_place(&self.operations, instance)?;
+        let operation = self.operations[place].as_mut();
+        let completion = operation.drain_early(instance);
+        Some((operation.number(), completion))
+    }
+
+    /// A drain that `drain_take` gave is over. The record of an operation whose answer was handed out
+    /// goes, where no other drain of it runs. The drain has to run, and not to be the one
+    /// that has the operation. All other operations stay. It takes no memory.
+    pub fn drain_done(&mut self, number: OpId, instance: InstanceId)
+        requires { RunsEarly instance (operation_at number self.old) }
+        ensures { self.new ≡ drain_done_of number instance self.old }
+    {
+        let place = standing(&self.operations, number);
+        let operation = self.operations[place].as_mut();
+        operation.early_over(instance);
+        if is_spent(operation) {
+            self.operations.remove(place);
+        }
     }
 
     /// Hands out the answer of a done operation (the request is completed), once. Its record goes, or

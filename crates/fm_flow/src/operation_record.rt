@@ -1,6 +1,6 @@
 //! One operation.
 
-ghost use Rattle.std.specs.Prelude.{◌≡◌, ℕ, ◌<◌, ◌≤◌, true, false, length, IsTrue, IfOk, Ok, Err, Some, None, option_map, slice_get, if◌then◌else◌};
+ghost use Rattle.std.specs.Prelude.{◌≡◌, ℕ, ◌<◌, ◌≤◌, true, false, length, IsTrue, IfOk, Ok, Err, Some, None, option_map, position, slice_get, if◌then◌else◌};
 ghost use Rattle.std.specs.List.{list_any};
 ghost use Rattle.fm_data.specs.Params.{is_within_limits, are_on, fit, call_fits};
 ghost use Rattle.fm_data.specs.Data.{data_fits};
@@ -11,6 +11,8 @@ ghost use Rattle.fm_flow.specs.Steps.{bare_ask, with_visit, with_base, with_drai
 ghost use Rattle.fm_flow.specs.Answered.{bare_answer};
 ghost use Rattle.fm_flow.specs.Creates.{is_creating, is_unanswered};
 ghost use Rattle.fm_flow.specs.Sound.{IsSound};
+ghost use Rattle.fm_flow.specs.Drains.{is_of, owes, owed_to, drained_early, early_over, RunsEarly};
+ghost use Rattle.fm_flow.specs.Flights.{flies};
 ghost use Rattle.fm_flow.specs.Holds.{holder, is_held, same_number, sync_of};
 ghost use Rattle.fm_flow.specs.Table.{begun_record, marked, is_collectable};
 
@@ -610,6 +612,54 @@ impl OperationRecord {
     {
         entries::settle_drain(&mut self.entries, instance);
         self.stage = Stage::Ascending;
+    }
+
+    // how deep in the stack what an instance is owed stands
+    fn depth_of(&self, instance: InstanceId) -> Option<usize>
+        ensures { result ≡ position (is_of instance.0) (owed self.now.entries) }
+    {
+        entries::depth_of(&self.entries, &self.owed, instance)
+    }
+
+    /// Whether it owes an instance its postoperation.
+    pub fn owes(&self, instance: InstanceId) -> bool
+        ensures { result ≡ owes instance.0 self.now }
+    {
+        self.depth_of(instance).is_some()
+    }
+
+    /// Whether it is in flight at an instance: a callback there runs or holds it, or the instance is owed a postoperation.
+    pub fn is_in_flight(&self, instance: InstanceId) -> bool
+        ensures { result ≡ flies instance.0 self.now }
+    {
+        self.owes(instance) || entries::has_callback_at(&self.entries, instance)
+    }
+
+    /// A drain of an instance that is owed a postoperation starts, whatever the operation is doing. Gives its completion.
+    pub(crate) fn drain_early(&mut self, instance: InstanceId) -> Completion
+        requires { owes instance.0 self.old ≡ true }
+        ensures completion { owed_to instance.0 self.old ≡ Some result }
+        ensures after { self.new ≡ drained_early instance self.old }
+    {
+        let Some(depth) = self.depth_of(instance) else {
+            unreachable!();
+        };
+        let Some(ask) = entries::ask_at(&self.entries, self.owed.remove(depth)) else {
+            unreachable!();
+        };
+        self.entries.push_reserved(Entry::Drain(DrainVisit {
+            instance,
+            is_running: true,
+        }));
+        ask.completion
+    }
+
+    /// A drain that was taken early is over.
+    pub(crate) fn early_over(&mut self, instance: InstanceId)
+        requires { RunsEarly instance (Some self.old) }
+        ensures { self.new ≡ early_over instance self.old }
+    {
+        entries::settle_drain(&mut self.entries, instance);
     }
 
     /// Whether a drain runs.

@@ -1,6 +1,7 @@
 //! Whose postoperations are owed.
 
-ghost use Rattle.std.specs.Prelude.{◌≡◌, ◌<◌, [], ◌∷◌, length, drop, slice_get, if◌then◌else◌};
+ghost use Rattle.std.specs.Prelude.{◌≡◌, ◌<◌, [], ◌∷◌, length, drop, reverse, slice_get, Some, if◌then◌else◌};
+ghost use Rattle.std.specs.List.{remove};
 
 use smallvec::SmallVec;
 use std::alloc::Global;
@@ -58,5 +59,22 @@ impl OwedStack {
         ensures { self.new ≡ drop 1 self.old }
     {
         self.places.pop();
+    }
+
+    /// The places, from the one that comes last to the one that comes next.
+    pub(crate) fn places(&self) -> &[u8]
+        ensures { reverse result.now ≡ self.now }
+    {
+        self.places.as_slice()
+    }
+
+    /// The one so deep below the top had its answer. Gives its place.
+    pub(crate) fn remove(&mut self, depth: usize) -> usize
+        requires { depth < length self.old }
+        ensures place { slice_get self.old depth ≡ Some result }
+        ensures others { self.new ≡ remove self.old depth }
+    {
+        let place = self.places.len() - 1 - depth;
+        self.places.remove(place) as usize
     }
 }

@@ -1,0 +1,34 @@
+use Rattle.fm_flow.proofs.Words.{refl, sym}
+use Rattle.std.proofs.Common.{◌∙◌}
+use Rattle.fm_flow.specs.Drains.{RunsEarly, early_over}
+use Rattle.fm_flow.proofs.Flows.{uncounted, found, itself, said_there, kept_set}
+use Rattle.fm_flow.proofs.Drains.{sound_over, stays_over, over_uncreated, done_stays, done_goes, kept_gone}
+use Rattle.fm_flow.proofs.flow.Flow.drain_done.Goals as goal
+
+pub early_over-requires : goal.early_over-requires
+early_over-requires c =
+    said_there (found c.args.number c.self.view_is (sym c.standing-place.ensures) c.deref.ensures.value refl c.as_mut-operation.ensures.value c.index_mut.ensures.value) (RunsEarly c.args.instance) c.requires
+
+-- it goes
+pub invariant_of-self : goal.invariant_of-self
+invariant_of-self c =
+    let there = found c.args.number c.self.view_is (sym c.standing-place.ensures) c.deref.ensures.value refl c.as_mut-operation.ensures.value c.index_mut.ensures.value in
+    kept_gone c.args.instance (itself there) c.early_over.ensures (sym c.is_spent.ensures ∙ c.if-is_spent.true) c.remove.ensures.items c.self.invariant
+
+pub returns-then-is_spent : goal.returns-then-is_spent
+returns-then-is_spent c =
+    let there = found c.args.number c.self.view_is (sym c.standing-place.ensures) c.deref.ensures.value refl c.as_mut-operation.ensures.value c.index_mut.ensures.value in
+    done_goes c.args.instance there c.early_over.ensures (sym c.is_spent.ensures ∙ c.if-is_spent.true) c.remove.ensures.items
+
+-- it stays
+pub invariant_of-self-else-is_spent : goal.invariant_of-self-else-is_spent
+invariant_of-self-else-is_spent c =
+    let there = found c.args.number c.self.view_is (sym c.standing-place.ensures) c.deref.ensures.value refl c.as_mut-operation.ensures.value c.index_mut.ensures.value in
+    kept_set there c.self.invariant (early_over c.args.instance) c.early_over.ensures (stays_over c.args.instance)
+    (sound_over c.args.instance c.as_mut-operation.result.now (said_there there (RunsEarly c.args.instance) c.requires))
+    (uncounted c.self.inside.creates c.as_mut-operation.result.now c.early_over.new.self (over_uncreated c.args.instance _ _ c.early_over.ensures))
+
+pub returns-else-is_spent : goal.returns-else-is_spent
+returns-else-is_spent c =
+    let there = found c.args.number c.self.view_is (sym c.standing-place.ensures) c.deref.ensures.value refl c.as_mut-operation.ensures.value c.index_mut.ensures.value in
+    done_stays c.args.instance there c.early_over.ensures (sym c.is_spent.ensures ∙ c.if-is_spent.false)

@@ -17,7 +17,11 @@ use Rattle.fm_ctx.specs.Counting.{open_of}
 use Rattle.fm_ctx.proofs.Carried.{carried_cleaned}
 use Rattle.fm_ctx.proofs.Lives.{count_cleaning}
 use Rattle.fm_world.specs.declared.worker.Worker.TheVariants as place
-use Rattle.fm_world.specs.ContextEvents.{TakesDue, after_due, Cleans, CleansAt, filter_of, Finishes, is_gone_at, finish_refused}
+use Rattle.fm_world.specs.ContextEvents.{TakesDue, after_due, Cleans, CleansAt, filter_of, Finishes, is_gone_at, finish_refused, OwnsOnlyWaiting}
+use Rattle.fm_world.specs.Owners.{keeps_links_by}
+use Rattle.fm_world.specs.Sound.{IsSound}
+use Rattle.fm_world.proofs.Runs.{headline_from}
+use Rattle.fm_world.proofs.Waiting.{waits}
 use Rattle.fm_core.specs.Callers.{filter_at}
 use Rattle.fm_core.proofs.Called.{table_tied}
 
@@ -112,6 +116,15 @@ finish_last w i n h count =
     ∷ []))) ends.0
     ∙ ap (λ b. cond (not b) (Some status.WrongStep) (first_of ((nat_lt 0 open', status.Busy open') ∷ []))) ends.1
     ∙ ap (λ m. cond (nat_lt 0 m) (Some (status.Busy m)) None) (sym count)
+
+emptying_keeps_none : (row : Option Instance) → refused_in (phase_in row) ≡ None → keeps_links_by row ≡ false
+emptying_keeps_none None h = refl
+emptying_keeps_none (Some row) h = grind arith
+
+-- the contexts of an instance that only they keep from its end wait for their cleanup
+pub only_waiting : {w now : World} (i : InstanceId) → w ≡ now → refused_in (phase_in (row_at w.stack i)) ≡ None → IsSound now → OwnsOnlyWaiting now i
+only_waiting {w} {now} i same h sound =
+    waits now i (headline_from now sound) (subst (λ (v : World). keeps_links_by (row_at v.stack i) ≡ false) same (emptying_keeps_none (row_at w.stack i) h))
 
 pub finishes : {w now : World} (i : InstanceId) (n : ℕ) (s : StackWorld) → w ≡ now → refused_in (phase_in (row_at w.stack i)) ≡ None
     → n ≡ open_of w.contexts.slots (owner.Instance i) → n ≤ 0 → s ≡ finished w.stack i → Finishes now i (Ok tt) (record w { stack = s })

@@ -5,6 +5,8 @@ pub mod Counted
 pub mod Attached
 pub mod Operated
 pub mod Resumed
+pub mod Torn
+pub mod Drained
 pub mod Holding
 pub mod Called
 pub mod Linked

@@ -4,7 +4,7 @@ pub use Rattle.fm_core.specs.Callers.{caller_of, has_kind_at, is_closing_at, own
 pub use Rattle.fm_core.specs.Fields.{IsState, IsTied}
 pub use Rattle.fm_core.specs.Hands.{Ends, MayBring, MaySend, back_in, kept_brought, kept_sent}
 pub use Rattle.fm_core.specs.Lost.{Sweeping, handle_lost, is_lost, is_lost_of, is_named, stream_lost}
-pub use Rattle.fm_core.specs.Places.{base_of, drain_of, post_of, pre_of, setup_of}
+pub use Rattle.fm_core.specs.Places.{base_of, complete_of, drain_of, post_of, pre_of, query_of, setup_of, start_of, unload_of}
 pub use Rattle.fm_core.specs.Targets.{answered, decided}
 pub use Rattle.fm_core.specs.contracts.state.State.{the_view}
 pub use Rattle.fm_core.specs.declared.caller.Caller.{Caller}

@@ -1,6 +1,7 @@
 -- What becomes of a worker's hand where a callback begins with a completion, and where one ends.
 use Rattle.std.specs.Prelude.{◌≡◌, ◌<◌, ◌^◌, ℕ, true, Option, Some, None, Result, Ok, Err, length}
 use Rattle.fm_types.specs.declared.ids.CtxId.{CtxId}
+use Rattle.fm_types.specs.declared.ids.FilterId.{FilterId}
 use Rattle.fm_types.specs.declared.ids.InstanceId.{InstanceId}
 use Rattle.fm_types.specs.declared.status.Status.{Status}
 use Rattle.fm_ctx.specs.declared.owner.Owner.TheVariants as owner
@@ -44,3 +45,8 @@ pub record Ends (mid new : ContextsKept) (w : ℕ) : Type 0 where
 abbrev pub SweepsUnless : Result (Unit {0}) Status → InstanceId → ContextsKept → ContextsKept → Type 0
 SweepsUnless (Ok done) i old new = new ≡ old
 SweepsUnless (Err status) i old new = Sweeping (is_linked_of (owner.Instance i)) old new
+
+-- where a filter is emptied, its volume contexts lose their links
+abbrev pub SweptWhere : Result (Unit {0}) Status → FilterId → ContextsKept → ContextsKept → Type 0
+SweptWhere (Ok done) f old new = Sweeping (is_linked_of (owner.Filter f)) old new
+SweptWhere (Err status) f old new = new ≡ old

@@ -1,7 +1,12 @@
 -- What a worker's place says: the callback or the call that it is inside of.
-use Rattle.std.specs.Prelude.{Option, Some, None}
+use Rattle.std.specs.Prelude.{Bool, true, false, Option, Some, None, Result, Ok, Err}
+use Rattle.fm_types.specs.declared.ids.FilterId.{FilterId}
 use Rattle.fm_types.specs.declared.ids.InstanceId.{InstanceId}
 use Rattle.fm_types.specs.declared.ids.OpId.{OpId}
+use Rattle.fm_types.specs.declared.status.Status.{Status}
+use Rattle.fm_types.specs.declared.status.Status.TheVariants as status
+use Rattle.fm_stack.specs.declared.instance.Phase.{Phase}
+use Rattle.fm_stack.specs.declared.instance.Phase.TheVariants as phase
 use Rattle.fm_world.specs.declared.worker.Worker.{Worker}
 use Rattle.fm_world.specs.declared.worker.Worker.TheVariants as place
 
@@ -24,3 +29,30 @@ post_of _ = None
 abbrev pub drain_of : Option Worker → Option (OpId × InstanceId)
 drain_of (Some (place.Drain o i)) = Some (o, i)
 drain_of _ = None
+
+abbrev pub early_drain_of : Option Worker → Option (OpId × InstanceId)
+early_drain_of (Some (place.EarlyDrain o i)) = Some (o, i)
+early_drain_of _ = None
+
+abbrev pub query_of : Option Worker → Option InstanceId
+query_of (Some (place.Query i)) = Some i
+query_of _ = None
+
+abbrev pub start_of : Option Worker → Option InstanceId
+start_of (Some (place.Start i)) = Some i
+start_of _ = None
+
+abbrev pub complete_of : Option Worker → Option InstanceId
+complete_of (Some (place.Complete i)) = Some i
+complete_of _ = None
+
+abbrev pub unload_of : Option Worker → Option FilterId
+unload_of (Some (place.Unload f)) = Some f
+unload_of _ = None
+
+-- whether an instance in that phase is drained before the turn of what it is owed; one that isn't there refuses
+abbrev pub drains_in : Option Phase → Result Bool Status
+drains_in None = Err status.NoInstance
+drains_in (Some phase.Detached) = Err status.NoInstance
+drains_in (Some phase.Stopping) = Ok true
+drains_in (Some _) = Ok false

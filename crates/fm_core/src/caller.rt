@@ -58,8 +58,11 @@ fn instance_in(place: Worker) -> Option<InstanceId>
         | Worker::Pre(_, instance)
         | Worker::Post(_, instance)
         | Worker::Drain(_, instance)
-        | Worker::EarlyDrain(_, instance) => Some(instance),
-        Worker::Idle | Worker::Base(_) | Worker::Cleanup(_) => None,
+        | Worker::EarlyDrain(_, instance)
+        | Worker::Query(instance)
+        | Worker::Start(instance)
+        | Worker::Complete(instance) => Some(instance),
+        Worker::Idle | Worker::Base(_) | Worker::Cleanup(_) | Worker::Unload(_) => None,
     }
 }
 
@@ -72,7 +75,14 @@ fn operation_in(place: Worker) -> Option<OpId>
         | Worker::Post(operation, _)
         | Worker::Drain(operation, _)
         | Worker::EarlyDrain(operation, _) => Some(operation),
-        Worker::Idle | Worker::Setup(_) | Worker::Base(_) | Worker::Cleanup(_) => None,
+        Worker::Idle
+        | Worker::Setup(_)
+        | Worker::Base(_)
+        | Worker::Cleanup(_)
+        | Worker::Query(_)
+        | Worker::Start(_)
+        | Worker::Complete(_)
+        | Worker::Unload(_) => None,
     }
 }
 

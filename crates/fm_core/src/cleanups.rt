@@ -2,7 +2,7 @@
 
 ghost use Rattle.std.specs.Prelude.{◌≡◌, ◌+◌, ◌<◌, ◌%◌, ◌^◌, length};
 ghost use Rattle.fm_types.specs.Lists.{updated};
-ghost use Rattle.fm_world.specs.ContextEvents.{TakesDue, Cleans, Finishes, totalled_for};
+ghost use Rattle.fm_world.specs.ContextEvents.{TakesDue, Cleans, Finishes, WaitsIfBusy, totalled_for};
 ghost use Rattle.fm_world.specs.Hands.{KeepsHands};
 ghost use Rattle.fm_core.specs.Callers.{filter_at, refused_in};
 
@@ -89,10 +89,12 @@ impl State {
     }
 
     /// Ends an instance whose contexts are all cleaned up: it is Detached, and its name and altitude are free. Refused, nothing changed: 8 where the
-    /// instance isn't there or is Detached, 30 where it isn't Emptying, 34 with the number of its contexts that aren't cleaned. It takes no memory.
+    /// instance isn't there or is Detached, 30 where it isn't Emptying, 34 with the number of its contexts that aren't cleaned: each of them is due, or one
+    /// worker cleans it up. It takes no memory.
     #[tactic(auto, unfolding(fm_world::specs::ContextEvents::Finishes))]
     pub fn finish(&mut self, instance: InstanceId) -> Result<(), Status>
         ensures event { Finishes self.old instance result self.new }
+        ensures waiting { WaitsIfBusy self.old instance result }
         ensures hand { KeepsHands self.old self.new }
     {
         if let Some(status) = refused_in(self.stack.phase(instance)) {

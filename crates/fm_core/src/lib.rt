@@ -9,6 +9,7 @@ mod caller;
 mod cleanups;
 mod contexts;
 mod descent;
+mod drains;
 mod files;
 mod holds;
 mod instances;
@@ -19,6 +20,8 @@ mod requests;
 mod runs;
 mod state;
 mod target;
+mod teardowns;
+mod unloads;
 mod workers;
 
 pub use crate::runs::run;

@@ -9,7 +9,7 @@ ghost use Rattle.fm_stack.specs.declared.instance.Instance.{Instance};
 ghost use Rattle.fm_stack.specs.declared.volume.Volume.{Volume};
 ghost use Rattle.fm_flow.specs.Record.{FlowRecord};
 ghost use Rattle.fm_flow.specs.Steps.{is_done};
-ghost use Rattle.fm_flow.specs.Table.{operation_at};
+ghost use Rattle.fm_flow.specs.Table.{operation_at, in_flight};
 
 use crate::state::State;
 use crate::workers::WORKERS;
@@ -117,6 +117,13 @@ impl State {
             Some(record) => Some(record.is_done()),
             None => None,
         }
+    }
+
+    /// How many operations are in flight at an instance: a callback of it runs or holds them, or they owe it a postoperation.
+    pub fn in_flight(&self, instance: InstanceId) -> u64
+        ensures { result ≡ in_flight instance.0 self.now.flow }
+    {
+        self.flow.in_flight(instance)
     }
 
     /// How far a context's life has come: its reference count, one where it is linked and one for each reference that a worker holds or a completion carries;

@@ -55,6 +55,16 @@ pub(crate) fn sent_in(state: &PreState) -> Option<CtxId>
     }
 }
 
+/// A context that a completion carried is in the worker's hand again.
+pub(crate) fn bring(contexts: &mut Contexts, worker: WorkerId, brought: Option<CtxId>)
+    requires { MayBring contexts.old worker.0 brought }
+    ensures { contexts.new ≡ kept_brought contexts.old worker.0 brought }
+{
+    if let Some(id) = brought {
+        contexts.bring(worker, id);
+    }
+}
+
 /// A callback begins: the context that its completion carried is in the worker's hand again.
 pub(crate) fn bring_back(contexts: &mut Contexts, worker: WorkerId, action: &FlowAction)
     requires { MayBring contexts.old worker.0 (back_in action.now) }
@@ -62,9 +72,7 @@ pub(crate) fn bring_back(contexts: &mut Contexts, worker: WorkerId, action: &Flo
 {
     match action {
         FlowAction::Post(_, _, completion) | FlowAction::Drain(_, completion) => {
-            if let Some(id) = completion.context {
-                contexts.bring(worker, id);
-            }
+            bring(contexts, worker, completion.context);
         }
         _ => {}
     }

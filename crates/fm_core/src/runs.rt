@@ -98,6 +98,31 @@ impl State {
             } => StepReply::Number(self.bump(worker, context, place, by)),
             Step::TakeDue { worker } => StepReply::Due(self.take_due(worker)),
             Step::Cleaned { worker, number } => StepReply::Done(self.cleaned(worker, number)),
+            Step::AskDetach { worker, instance } => StepReply::Done(self.ask_detach(
+                worker, instance,
+            )),
+            Step::QueryReturned { worker, allow } => StepReply::Done(self.query_returned(
+                worker, allow,
+            )),
+            Step::StartTeardown { worker, instance } => StepReply::Done(self.start_teardown(
+                worker, instance,
+            )),
+            Step::StartReturned { worker } => StepReply::Done(self.start_returned(worker)),
+            Step::DrainTake { worker, instance } => StepReply::Drained(self.drain_take(
+                worker, instance,
+            )),
+            Step::DrainDone { worker } => StepReply::Done(self.drain_done(worker)),
+            Step::CompleteTeardown { worker, instance } => StepReply::Done(self.complete_teardown(
+                worker, instance,
+            )),
+            Step::CompleteReturned { worker } => StepReply::Done(self.complete_returned(worker)),
+            Step::AskUnload { worker, filter } => StepReply::Done(self.ask_unload(worker, filter)),
+            Step::UnloadReturned { worker, allow } => StepReply::Done(self.unload_returned(
+                worker, allow,
+            )),
+            Step::ForceUnload { filter } => StepReply::Done(self.force_unload(filter)),
+            Step::EmptyFilter { filter } => StepReply::Done(self.empty_filter(filter)),
+            Step::FinishFilter { filter } => StepReply::Done(self.finish_filter(filter)),
             Step::Finish { instance } => StepReply::Done(self.finish(instance)),
         }
     }

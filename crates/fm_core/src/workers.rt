@@ -3,12 +3,12 @@
 ghost use Rattle.std.specs.Prelude.{◌≡◌, Ok, option_map};
 ghost use Rattle.fm_ctx.specs.declared.due.Due.{Due as DueContext};
 ghost use Rattle.fm_world.specs.ContextEvents.{after_due};
-ghost use Rattle.fm_world.specs.Workers.{put, after_attach, after_next, cleanup_in};
-ghost use Rattle.fm_core.specs.Places.{setup_of, pre_of, base_of, post_of, drain_of};
+ghost use Rattle.fm_world.specs.Workers.{put, after_attach, after_entering, after_next, cleanup_in};
+ghost use Rattle.fm_core.specs.Places.{setup_of, pre_of, base_of, post_of, drain_of, early_drain_of, query_of, start_of, complete_of, unload_of};
 
 use fm_ctx::Due;
 use fm_flow::FlowAction;
-use fm_types::{CtxId, InstanceId, OpId, Status, WorkerId};
+use fm_types::{CtxId, FilterId, InstanceId, OpId, Status, WorkerId};
 use fm_world::Worker;
 
 /// How many workers there are.
@@ -64,6 +64,56 @@ pub(crate) fn drain_of(place: Option<Worker>) -> Option<(OpId, InstanceId)>
     }
 }
 
+/// The operation and the instance whose drain before its turn it is.
+pub(crate) fn early_drain_of(place: Option<Worker>) -> Option<(OpId, InstanceId)>
+    ensures { result ≡ early_drain_of place }
+{
+    match place? {
+        Worker::EarlyDrain(operation, instance) => Some((operation, instance)),
+        _ => None,
+    }
+}
+
+/// The instance that it is a query of.
+pub(crate) fn query_of(place: Option<Worker>) -> Option<InstanceId>
+    ensures { result ≡ query_of place }
+{
+    match place? {
+        Worker::Query(instance) => Some(instance),
+        _ => None,
+    }
+}
+
+/// The instance whose teardown-start callback it is.
+pub(crate) fn start_of(place: Option<Worker>) -> Option<InstanceId>
+    ensures { result ≡ start_of place }
+{
+    match place? {
+        Worker::Start(instance) => Some(instance),
+        _ => None,
+    }
+}
+
+/// The instance whose teardown-complete callback it is.
+pub(crate) fn complete_of(place: Option<Worker>) -> Option<InstanceId>
+    ensures { result ≡ complete_of place }
+{
+    match place? {
+        Worker::Complete(instance) => Some(instance),
+        _ => None,
+    }
+}
+
+/// The filter whose unload callback it is.
+pub(crate) fn unload_of(place: Option<Worker>) -> Option<FilterId>
+    ensures { result ≡ unload_of place }
+{
+    match place? {
+        Worker::Unload(filter) => Some(filter),
+        _ => None,
+    }
+}
+
 /// The context whose cleanup callback it is.
 pub(crate) fn cleanup_of(place: Option<Worker>) -> Option<CtxId>
     ensures { result ≡ cleanup_in place }
@@ -95,6 +145,20 @@ pub(crate) fn note_attach(
     match answer {
         Ok(instance) => put(workers, worker, Worker::Setup(*instance)),
         Err(_) => {}
+    }
+}
+
+/// After an event that begins a callback: where it succeeded, the worker is in it.
+pub(crate) fn note_entering(
+    workers: &mut [Worker],
+    worker: WorkerId,
+    place: Worker,
+    answer: &Result<(), Status>,
+)
+    ensures { workers.new ≡ after_entering workers.old worker place answer.now }
+{
+    if answer.is_ok() {
+        put(workers, worker, place);
     }
 }
 

@@ -138,6 +138,7 @@ performed (task.Post k answer) old new acts = acts_by (task.Post k answer) old n
 performed (task.Go k o) old new goes = runs_by (task.Go k o) old new (goes_run k o old new goes)
 performed (task.Plan i answer) old new plans = still (task.Plan i answer) old new plans.manager.session
 performed (task.Phase i) old new stays = still (task.Phase i) old new stays.0.session
+performed (task.Flight i) old new stays = still (task.Flight i) old new stays.0.session
 performed (task.Count c) old new stays = still (task.Count c) old new stays.0.session
 performed task.Leaks old new stays = still task.Leaks old new stays.0.session
 performed task.Failures old new stays = still task.Failures old new stays.0.session

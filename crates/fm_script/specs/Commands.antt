@@ -19,10 +19,11 @@ use Rattle.fm_script.specs.declared.keyword.Keyword.TheVariants as keyword
 use Rattle.fm_script.specs.declared.task.Task.{Task}
 use Rattle.fm_script.specs.declared.task.Task.TheVariants as task
 use Rattle.fm_script.specs.Reading.{◌>>=◌}
-use Rattle.fm_script.specs.Ids.{filter_in, volume_in, instance_in, operation_in, worker_in}
-use Rattle.fm_script.specs.Tasks.{filter_id, volume_id, worker_id, turn_ids, turn_in, one_id, only_worker, event}
+use Rattle.fm_script.specs.Ids.{filter_in, volume_in, operation_in, worker_in}
+use Rattle.fm_script.specs.Tasks.{filter_id, volume_id, worker_id, turn_ids, turn_in, one_id, only_instance, only_worker, answered_read, event}
 use Rattle.fm_script.specs.ContextCommands.{context_read, allocate_read, write_body_read}
 use Rattle.fm_script.specs.FileCommands.{file_read, write_read}
+use Rattle.fm_script.specs.TeardownCommands.{teardown_read}
 use Rattle.fm_script.specs.VerdictCommands.{AnswersPre, Plans, Resumes, post_read}
 
 -- ---- the words that lines begin with
@@ -69,6 +70,19 @@ spelling keyword.Fail = codes "fail"
 spelling keyword.Failures = codes "failures"
 spelling keyword.Resume = codes "resume"
 spelling keyword.ResPost = codes "respost"
+spelling keyword.Query = codes "query"
+spelling keyword.Queried = codes "queried"
+spelling keyword.Start = codes "start"
+spelling keyword.Started = codes "started"
+spelling keyword.Complete = codes "complete"
+spelling keyword.Completed = codes "completed"
+spelling keyword.Unload = codes "unload"
+spelling keyword.Unloaded = codes "unloaded"
+spelling keyword.EmptyF = codes "emptyf"
+spelling keyword.FinishF = codes "finishf"
+spelling keyword.Flight = codes "flight"
+spelling keyword.Drain = codes "drain"
+spelling keyword.Drained = codes "drained"
 
 abbrev pub all_keywords : List Keyword
 all_keywords =
@@ -76,7 +90,9 @@ all_keywords =
     keyword.Go ∷ keyword.Collect ∷ keyword.Phase ∷ keyword.Setup ∷ keyword.SetDone ∷ keyword.Finish ∷ keyword.Create ∷ keyword.Alloc ∷
     keyword.Set ∷ keyword.Get ∷ keyword.Del ∷ keyword.Ref ∷ keyword.Rel ∷ keyword.Body ∷ keyword.WBody ∷ keyword.Bump ∷ keyword.Due ∷
     keyword.Cleaned ∷ keyword.Count ∷ keyword.Leaks ∷ keyword.Read ∷ keyword.Write ∷ keyword.Size ∷ keyword.SetSize ∷ keyword.Flush ∷
-    keyword.Delete ∷ keyword.Cleanup ∷ keyword.Close ∷ keyword.Fail ∷ keyword.Failures ∷ keyword.Resume ∷ keyword.ResPost ∷ []
+    keyword.Delete ∷ keyword.Cleanup ∷ keyword.Close ∷ keyword.Fail ∷ keyword.Failures ∷ keyword.Resume ∷ keyword.ResPost ∷
+    keyword.Query ∷ keyword.Queried ∷ keyword.Start ∷ keyword.Started ∷ keyword.Complete ∷ keyword.Completed ∷ keyword.Unload ∷
+    keyword.Unloaded ∷ keyword.EmptyF ∷ keyword.FinishF ∷ keyword.Flight ∷ keyword.Drain ∷ keyword.Drained ∷ []
 
 -- the keyword that a word is
 unfoldable pub keyword_read : List ℕ → Option Keyword
@@ -162,13 +178,6 @@ SetsUp w (k ∷ f ∷ v ∷ name ∷ altitude ∷ []) result =
     Placed (setup_ids k f v) name altitude (λ ids place. setup_at w ids place.0 place.1) result
 SetsUp w _ result = result ≡ Err BadRequest
 
-abbrev pub yes_or_no : List ℕ → Result Bool Status
-yes_or_no word = cond (bytes_eq word (codes "yes")) (Ok true) (cond (bytes_eq word (codes "no")) (Ok false) (Err BadRequest))
-
-abbrev pub set_done_read : List (List ℕ) → Result Task Status
-set_done_read (worker ∷ word ∷ []) = worker_id worker >>= λ k. yes_or_no word >>= λ accept. worker_in k >>= λ by. event (step.SetupDone by accept)
-set_done_read _ = Err BadRequest
-
 -- ---- create
 
 abbrev pub create_mode_read : List ℕ → Result CreateMode Status
@@ -202,12 +211,6 @@ turn_read w _ = Err BadRequest
 abbrev pub collect_read : World → List (List ℕ) → Result Task Status
 collect_read w words = one_id 111 words >>= λ o. operation_in w o >>= λ own. event (step.Collect own)
 
-abbrev pub phase_read : World → List (List ℕ) → Result Task Status
-phase_read w words = one_id 105 words >>= λ i. instance_in w i >>= λ own. Ok (task.Phase own)
-
-abbrev pub finish_read : World → List (List ℕ) → Result Task Status
-finish_read w words = one_id 105 words >>= λ i. instance_in w i >>= λ own. event (step.Finish own)
-
 abbrev pub list_read : World → List (List ℕ) → Result Task Status
 list_read w words = one_id 118 words >>= λ v. volume_in w v >>= λ at. event (step.Begin (request.List at))
 
@@ -225,14 +228,30 @@ is_of_contexts keyword.Count = true
 is_of_contexts keyword.Leaks = true
 is_of_contexts _ = false
 
+abbrev pub is_of_teardowns : Keyword → Bool
+is_of_teardowns keyword.Query = true
+is_of_teardowns keyword.Queried = true
+is_of_teardowns keyword.Start = true
+is_of_teardowns keyword.Started = true
+is_of_teardowns keyword.Complete = true
+is_of_teardowns keyword.Completed = true
+is_of_teardowns keyword.Finish = true
+is_of_teardowns keyword.Unload = true
+is_of_teardowns keyword.Unloaded = true
+is_of_teardowns keyword.EmptyF = true
+is_of_teardowns keyword.FinishF = true
+is_of_teardowns keyword.Flight = true
+is_of_teardowns keyword.Drain = true
+is_of_teardowns keyword.Drained = true
+is_of_teardowns _ = false
+
 -- the words behind a keyword
 abbrev pub ReadsAs : World → List CtxId → Keyword → List (List ℕ) → Result Task Status → Type 0
 ReadsAs w contexts keyword.Load words result = Loads words result
 ReadsAs w contexts keyword.Mount words result = Mounts words result
 ReadsAs w contexts keyword.Attach words result = Attaches w words result
 ReadsAs w contexts keyword.Setup words result = SetsUp w words result
-ReadsAs w contexts keyword.SetDone words result = result ≡ set_done_read words
-ReadsAs w contexts keyword.Finish words result = result ≡ finish_read w words
+ReadsAs w contexts keyword.SetDone words result = result ≡ (answered_read words >>= λ both. event (step.SetupDone both.0 both.1))
 ReadsAs w contexts keyword.Create words result = Creates w words result
 ReadsAs w contexts keyword.List words result = result ≡ list_read w words
 ReadsAs w contexts keyword.Next words result = result ≡ (turn_read w words >>= λ turn. Ok (task.Next turn.0 turn.1))
@@ -244,8 +263,10 @@ ReadsAs w contexts keyword.Plan words result = Plans w words result
 ReadsAs w contexts keyword.Resume words result = Resumes w words result
 ReadsAs w contexts keyword.ResPost words result = result ≡ (turn_read w words >>= λ turn. event (step.ResumePost turn.0 turn.1))
 ReadsAs w contexts keyword.Collect words result = result ≡ collect_read w words
-ReadsAs w contexts keyword.Phase words result = result ≡ phase_read w words
-ReadsAs w contexts other words result = result ≡ cond (is_of_contexts other) (context_read contexts other words) (file_read w other words)
+ReadsAs w contexts keyword.Phase words result = result ≡ (only_instance w words >>= λ own. Ok (task.Phase own))
+ReadsAs w contexts other words result =
+    result ≡ cond (is_of_contexts other) (context_read contexts other words)
+    (cond (is_of_teardowns other) (teardown_read w other words) (file_read w other words))
 
 -- the commands whose third and last word behind the keyword is bytes
 abbrev pub takes_bytes : Keyword → Bool

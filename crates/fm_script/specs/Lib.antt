@@ -1,5 +1,6 @@
 pub mod Commands
 pub mod VerdictCommands
+pub mod TeardownCommands
 pub mod Words
 pub mod Numbers
 pub mod Hexadecimal

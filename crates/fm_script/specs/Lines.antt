@@ -1,5 +1,5 @@
 -- What a line of a script makes: nothing where it is empty, a comment, too long or refused, and else what its command stands for.
-use Rattle.std.specs.Prelude.{◌≡◌, ℕ, ◌==◌, Bool, true, false, nat_lt, List, [], ◌∷◌, length, Option, Some, None, Result, Ok, Err}
+use Rattle.std.specs.Prelude.{◌≡◌, ℕ, ◌==◌, Bool, true, nat_lt, List, [], ◌∷◌, length, Option, Some, None, Result, Ok, Err}
 use Rattle.fm_types.specs.declared.status.Status.{Status}
 use Rattle.fm_types.specs.declared.status.Status.TheVariants.{BadRequest, NoMemory}
 use Rattle.fm_script.specs.Commands.{ReadsAs, keyword_read, takes_bytes, with_bytes_read}

@@ -141,6 +141,7 @@ Performs (task.Go k o) old new = Goes k o old new
 Performs (task.Plan i answer) old new = Plans old i answer new
 Performs (task.Fail n) old new = Fails old n new
 Performs (task.Phase i) old new = Stays old new
+Performs (task.Flight i) old new = Stays old new
 Performs (task.Count c) old new = Stays old new
 Performs task.Leaks old new = Stays old new
 Performs task.Failures old new = Stays old new

@@ -6,6 +6,7 @@ use Rattle.fm_types.specs.declared.status.Status.{Status}
 use Rattle.fm_types.specs.declared.status.Status.TheVariants.{Busy, NotHeld, AlreadyDefined}
 use Rattle.fm_types.specs.Statuses.{number_of}
 use Rattle.fm_data.specs.declared.answer.Answer.{Answer}
+use Rattle.fm_data.specs.declared.verdict.Completion.{Completion}
 use Rattle.fm_data.specs.declared.verdict.PreVerdict.{PreVerdict}
 use Rattle.fm_data.specs.declared.verdict.PreVerdict.TheVariants as verdict
 use Rattle.fm_stack.specs.declared.instance.Phase.{Phase}
@@ -80,6 +81,11 @@ said_held (Ok None) = Plain word.None
 said_held (Ok (Some o)) = Id word.Ok 111 o.0
 said_held (Err status) = Refused status
 
+abbrev pub said_drained : Result (Option (OpId × Completion)) Status → Said
+said_drained (Ok None) = Plain word.None
+said_drained (Ok (Some (o, completion))) = Id word.Drain 111 o.0
+said_drained (Err status) = Refused status
+
 abbrev pub said_new : {A : Type 0} → (A → Said) → Result A Status → Said
 said_new say (Ok it) = say it
 said_new say (Err status) = Refused status
@@ -93,6 +99,7 @@ said_of contexts (reply.Operation r) = said_new (λ o. Id word.Ok 111 o.0) r
 said_of contexts (reply.Action r) = said_given (given_after_next r)
 said_of contexts (reply.Done r) = said_done r
 said_of contexts (reply.Held r) = said_held r
+said_of contexts (reply.Drained r) = said_drained r
 said_of contexts (reply.Answer r) = said_new Replied r
 said_of contexts (reply.Context r) = said_new (said_context (Id word.Ok 99) contexts) r
 said_of contexts (reply.Set r) = said_set contexts r
@@ -140,6 +147,7 @@ word_text word.Stopping = codes "stopping"
 word_text word.Completing = codes "completing"
 word_text word.Emptying = codes "emptying"
 word_text word.Detached = codes "detached"
+word_text word.Flight = codes "flight"
 word_text word.Leaks = codes "leaks"
 word_text word.Failures = codes "failures"
 

@@ -1,7 +1,8 @@
 -- What words are read as, one after the other: first all of them as numbers and ids, 32 where one can't be read, and then whether the ids are there, each
 -- kind of id before the next, and workers last.
-use Rattle.std.specs.Prelude.{ℕ, List, [], ◌∷◌, Option, Some, None, Result, Ok, Err}
+use Rattle.std.specs.Prelude.{ℕ, Bool, true, false, List, [], ◌∷◌, Option, Some, None, Result, Ok, Err, codes, bytes_eq, cond}
 use Rattle.fm_types.specs.declared.ids.CtxId.{CtxId}
+use Rattle.fm_types.specs.declared.ids.InstanceId.{InstanceId}
 use Rattle.fm_types.specs.declared.ids.OpId.{OpId}
 use Rattle.fm_types.specs.declared.ids.WorkerId.{WorkerId}
 use Rattle.fm_types.specs.declared.status.Status.{Status}
@@ -12,7 +13,7 @@ use Rattle.fm_script.specs.declared.task.Task.{Task}
 use Rattle.fm_script.specs.declared.task.Task.TheVariants as task
 use Rattle.fm_script.specs.Numbers.{id_read, number_read}
 use Rattle.fm_script.specs.Reading.{◌>>=◌}
-use Rattle.fm_script.specs.Ids.{context_in, operation_in, worker_in}
+use Rattle.fm_script.specs.Ids.{context_in, instance_in, operation_in, worker_in}
 
 abbrev pub or_bad : {T : Type 0} → Option T → Result T Status
 or_bad None = Err BadRequest
@@ -48,6 +49,18 @@ one_id letter _ = Err BadRequest
 -- the worker that is the only word
 abbrev pub only_worker : List (List ℕ) → Result WorkerId Status
 only_worker words = one_id 119 words >>= worker_in
+
+-- the instance that is the only word
+abbrev pub only_instance : World → List (List ℕ) → Result InstanceId Status
+only_instance w words = one_id 105 words >>= instance_in w
+
+abbrev pub yes_or_no : List ℕ → Result Bool Status
+yes_or_no word = cond (bytes_eq word (codes "yes")) (Ok true) (cond (bytes_eq word (codes "no")) (Ok false) (Err BadRequest))
+
+-- a worker, and whether its callback agrees, as the only words
+abbrev pub answered_read : List (List ℕ) → Result (WorkerId × Bool) Status
+answered_read (worker ∷ word ∷ []) = worker_id worker >>= λ k. yes_or_no word >>= λ agrees. worker_in k >>= λ by. Ok (by, agrees)
+answered_read _ = Err BadRequest
 
 -- a context and the worker that says it holds it
 abbrev pub held_in : List CtxId → ℕ → ℕ → Result (WorkerId × CtxId) Status

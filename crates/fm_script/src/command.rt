@@ -3,9 +3,9 @@
 //! that wasn't given is refused: 6, 7, 8, 14, 30 and 25 in this order, and 30 for a worker last.
 
 ghost use Rattle.std.specs.Prelude.{◌≡◌, map};
-ghost use Rattle.fm_script.specs.Commands.{Attaches, Creates, Loads, Mounts, ReadsAs, ReadsPlace, SetsUp, attach_at, collect_read, create_ids, create_mode_read, finish_read, is_of_contexts, list_read, option_read, phase_read, place_ids, registration_read, set_done_read, setup_at, setup_ids, takes_bytes, turn_read, with_bytes_read, yes_or_no};
+ghost use Rattle.fm_script.specs.Commands.{Attaches, Creates, Loads, Mounts, ReadsAs, ReadsPlace, SetsUp, attach_at, collect_read, create_ids, create_mode_read, is_of_contexts, is_of_teardowns, list_read, option_read, place_ids, registration_read, setup_at, setup_ids, takes_bytes, turn_read, with_bytes_read};
 ghost use Rattle.fm_script.specs.Numbers.{id_read, number_read};
-ghost use Rattle.fm_script.specs.Tasks.{numbers_read, one_id, only_worker, or_bad, turn_ids, turn_in};
+ghost use Rattle.fm_script.specs.Tasks.{answered_read, numbers_read, one_id, only_instance, only_worker, or_bad, turn_ids, turn_in, yes_or_no};
 
 use crate::context_command::{read_allocate, read_context_command, read_write_body};
 use crate::file_command::{read_file_command, read_write};
@@ -13,13 +13,14 @@ use crate::ids::{filter_in, instance_in, operation_in, volume_in, worker_in};
 use crate::keyword::Keyword;
 use crate::number::{read_id, read_number};
 use crate::task::Task;
+use crate::teardown_command::read_teardown_command;
 use crate::verdict_command::{read_plan, read_post, read_pre, read_resume};
 use fm_altitude::Altitude;
 use fm_core::{State, Step};
 use fm_data::Request;
 use fm_types::{
-    Bytes, ContextMask, CreateMode, CtxId, Name, OpId, OpMask, Registration, RelPath, Status,
-    WorkerId,
+    Bytes, ContextMask, CreateMode, CtxId, InstanceId, Name, OpId, OpMask, Registration, RelPath,
+    Status, WorkerId,
 };
 
 /// Whether the command's last word is bytes.
@@ -60,8 +61,10 @@ pub fn read_command(
         Keyword::Mount => read_mount(words),
         Keyword::Attach => read_attach(state, words),
         Keyword::Setup => read_setup(state, words),
-        Keyword::SetDone => read_set_done(words),
-        Keyword::Finish => read_finish(state, words),
+        Keyword::SetDone => {
+            let (worker, accept) = read_answered(words)?;
+            Ok(Task::Event(Step::SetupDone { worker, accept }))
+        }
         Keyword::Create => read_create(state, words),
         Keyword::List => read_list(state, words),
         Keyword::Next => {
@@ -84,8 +87,9 @@ pub fn read_command(
             Ok(Task::Event(Step::ResumePost { worker, operation }))
         }
         Keyword::Collect => read_collect(state, words),
-        Keyword::Phase => read_phase(state, words),
+        Keyword::Phase => Ok(Task::Phase(only_instance(state, words)?)),
         other if is_of_contexts(other) => read_context_command(contexts, other, words),
+        other if is_of_teardowns(other) => read_teardown_command(state, other, words),
         other => read_file_command(state, other, words),
     }
 }
@@ -107,6 +111,29 @@ fn is_of_contexts(keyword: Keyword) -> bool
             | Keyword::Cleaned
             | Keyword::Count
             | Keyword::Leaks,
+    )
+}
+
+// Whether it is of a detach or an unload.
+fn is_of_teardowns(keyword: Keyword) -> bool
+    ensures { result ≡ is_of_teardowns keyword }
+{
+    matches!(
+        keyword,
+        Keyword::Query
+            | Keyword::Queried
+            | Keyword::Start
+            | Keyword::Started
+            | Keyword::Complete
+            | Keyword::Completed
+            | Keyword::Finish
+            | Keyword::Unload
+            | Keyword::Unloaded
+            | Keyword::EmptyF
+            | Keyword::FinishF
+            | Keyword::Flight
+            | Keyword::Drain
+            | Keyword::Drained,
     )
 }
 
@@ -271,17 +298,17 @@ fn read_place(name: &[u8], altitude: &[u8]) -> Result<(Name, Altitude), Status>
     Ok((name, altitude))
 }
 
-// `setdone W yes`, or `no`.
-fn read_set_done(words: &[&[u8]]) -> Result<Task, Status>
-    ensures { result ≡ set_done_read (map (λ word. word.now) words.now) }
+/// A worker, and whether its callback agrees: `W yes`, or `no`, as the only words.
+pub(crate) fn read_answered(words: &[&[u8]]) -> Result<(WorkerId, bool), Status>
+    ensures { result ≡ answered_read (map (λ word. word.now) words.now) }
 {
     let [worker, answer] = words else {
         return Err(Status::BadRequest);
     };
     let worker = id(b'w', worker)?;
-    let accept = yes_or_no(answer)?;
+    let agrees = yes_or_no(answer)?;
     let worker = worker_in(worker)?;
-    Ok(Task::Event(Step::SetupDone { worker, accept }))
+    Ok((worker, agrees))
 }
 
 fn yes_or_no(word: &[u8]) -> Result<bool, Status>
@@ -294,15 +321,6 @@ fn yes_or_no(word: &[u8]) -> Result<bool, Status>
     } else {
         Err(Status::BadRequest)
     }
-}
-
-// `finish I`.
-fn read_finish(state: &State, words: &[&[u8]]) -> Result<Task, Status>
-    ensures { result ≡ finish_read state.now (map (λ word. word.now) words.now) }
-{
-    let instance = one_id(b'i', words)?;
-    let instance = instance_in(state, instance)?;
-    Ok(Task::Event(Step::Finish { instance }))
 }
 
 // `create V PATH MODE`.
@@ -389,20 +407,20 @@ fn read_collect(state: &State, words: &[&[u8]]) -> Result<Task, Status>
     Ok(Task::Event(Step::Collect { operation }))
 }
 
-// `phase I`.
-fn read_phase(state: &State, words: &[&[u8]]) -> Result<Task, Status>
-    ensures { result ≡ phase_read state.now (map (λ word. word.now) words.now) }
-{
-    let instance = one_id(b'i', words)?;
-    Ok(Task::Phase(instance_in(state, instance)?))
-}
-
 /// The worker that is the only word.
 pub(crate) fn only_worker(words: &[&[u8]]) -> Result<WorkerId, Status>
     ensures { result ≡ only_worker (map (λ word. word.now) words.now) }
 {
     let worker = one_id(b'w', words)?;
     worker_in(worker)
+}
+
+/// The instance that is the only word.
+pub(crate) fn only_instance(state: &State, words: &[&[u8]]) -> Result<InstanceId, Status>
+    ensures { result ≡ only_instance state.now (map (λ word. word.now) words.now) }
+{
+    let instance = one_id(b'i', words)?;
+    instance_in(state, instance)
 }
 
 /// The id that is the only word.

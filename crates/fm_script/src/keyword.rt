@@ -47,6 +47,19 @@ pub enum Keyword {
     Failures,
     Resume,
     ResPost,
+    Query,
+    Queried,
+    Start,
+    Started,
+    Complete,
+    Completed,
+    Unload,
+    Unloaded,
+    EmptyF,
+    FinishF,
+    Flight,
+    Drain,
+    Drained,
 }
 
 // The keywords that begin with that letter.
@@ -69,6 +82,8 @@ fn beginning_with(letter: u8) -> &'static [Keyword]
             Keyword::Count,
             Keyword::Cleanup,
             Keyword::Close,
+            Keyword::Complete,
+            Keyword::Completed,
         ],
         b's' => &[
             Keyword::Setup,
@@ -76,14 +91,24 @@ fn beginning_with(letter: u8) -> &'static [Keyword]
             Keyword::Set,
             Keyword::Size,
             Keyword::SetSize,
+            Keyword::Start,
+            Keyword::Started,
         ],
         b'f' => &[
             Keyword::Finish,
             Keyword::Flush,
             Keyword::Fail,
             Keyword::Failures,
+            Keyword::FinishF,
+            Keyword::Flight,
         ],
-        b'd' => &[Keyword::Del, Keyword::Due, Keyword::Delete],
+        b'd' => &[
+            Keyword::Del,
+            Keyword::Due,
+            Keyword::Delete,
+            Keyword::Drain,
+            Keyword::Drained,
+        ],
         b'r' => &[
             Keyword::Ref,
             Keyword::Rel,
@@ -92,6 +117,9 @@ fn beginning_with(letter: u8) -> &'static [Keyword]
             Keyword::ResPost,
         ],
         b'w' => &[Keyword::WBody, Keyword::Write],
+        b'q' => &[Keyword::Query, Keyword::Queried],
+        b'u' => &[Keyword::Unload, Keyword::Unloaded],
+        b'e' => &[Keyword::EmptyF],
         _ => &[],
     }
 }
@@ -164,6 +192,19 @@ impl Keyword {
             Keyword::Failures => b"failures",
             Keyword::Resume => b"resume",
             Keyword::ResPost => b"respost",
+            Keyword::Query => b"query",
+            Keyword::Queried => b"queried",
+            Keyword::Start => b"start",
+            Keyword::Started => b"started",
+            Keyword::Complete => b"complete",
+            Keyword::Completed => b"completed",
+            Keyword::Unload => b"unload",
+            Keyword::Unloaded => b"unloaded",
+            Keyword::EmptyF => b"emptyf",
+            Keyword::FinishF => b"finishf",
+            Keyword::Flight => b"flight",
+            Keyword::Drain => b"drain",
+            Keyword::Drained => b"drained",
         }
     }
 }

@@ -19,6 +19,7 @@ mod runner;
 mod said;
 mod script_end;
 mod task;
+mod teardown_command;
 mod verdict_command;
 mod words;
 

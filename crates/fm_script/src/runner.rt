@@ -216,6 +216,10 @@ impl<W: Write + Drop> Runner<W> {
             Task::Go { worker, operation } => self.go(worker, operation),
             Task::Plan { instance, verdict } => self.plan(instance, verdict),
             Task::Phase(instance) => self.phase(instance),
+            Task::Flight(instance) => {
+                let flight = self.interpreter.state().in_flight(instance);
+                self.output.say(&Said::Number(Word::Flight, flight))
+            }
             Task::Count(context) => {
                 let count = self.interpreter.state().count(context);
                 self.output.say(&said_count(count))

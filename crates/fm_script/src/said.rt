@@ -1,14 +1,14 @@
 //! The lines that a script prints: which one for which answer, and the bytes of each.
 
 ghost use Rattle.std.specs.Prelude.{◌≡◌, ◌++◌, ◌∷◌, [], IfOk, decimal, position, reverse};
-ghost use Rattle.fm_script.specs.Sayings.{is_context, number_in, phase_word, refused_text, reply_text, said_context, said_count, said_done, said_due, said_given, said_held, said_new, said_of, said_old, said_set, text_with, verdict_text, word_text};
+ghost use Rattle.fm_script.specs.Sayings.{is_context, number_in, phase_word, refused_text, reply_text, said_context, said_count, said_done, said_drained, said_due, said_given, said_held, said_new, said_of, said_old, said_set, text_with, verdict_text, word_text};
 ghost use Rattle.fm_script.specs.declared.said.Said.TheVariants as SaidOf;
 ghost use Rattle.fm_script.specs.declared.said.Word.TheVariants as WordOf;
 ghost use Rattle.fm_session.specs.Sessions.{given_after_next};
 
 use crate::hexadecimal::write_hex;
 use fm_core::{Action, Count, Due, Phase, SetAnswer, StepReply};
-use fm_data::{Answer, PreVerdict};
+use fm_data::{Answer, Completion, PreVerdict};
 use fm_session::Given;
 use fm_types::{Bytes, CtxId, InstanceId, OpId, Status};
 use std::alloc::AllocError;
@@ -37,6 +37,7 @@ pub enum Word {
     Completing,
     Emptying,
     Detached,
+    Flight,
     Leaks,
     Failures,
 }
@@ -76,6 +77,7 @@ pub fn said_of(contexts: &[CtxId], reply: StepReply) -> Said
         StepReply::Action(answer) => said_action(answer),
         StepReply::Done(answer) => said_done(answer),
         StepReply::Held(answer) => said_held(answer),
+        StepReply::Drained(answer) => said_drained(answer),
         StepReply::Answer(Ok(answer)) => Said::Replied(answer),
         StepReply::Context(Ok(context)) => said_context(Word::Ok, contexts, context),
         StepReply::Set(answer) => said_set(contexts, answer),
@@ -220,6 +222,17 @@ fn said_held(answer: Result<Option<OpId>, Status>) -> Said
     }
 }
 
+// The operation whose completion a drain that is taken before its turn has.
+fn said_drained(answer: Result<Option<(OpId, Completion)>, Status>) -> Said
+    ensures { result ≡ said_drained answer }
+{
+    match answer {
+        Ok(None) => Said::Plain(Word::None),
+        Ok(Some((operation, _))) => Said::Id(Word::Drain, b'o', operation.0),
+        Err(status) => Said::Refused(status),
+    }
+}
+
 /// The line for how far a context's life has come.
 pub fn said_count(count: Count) -> Said
     ensures { result ≡ said_count count }
@@ -274,6 +287,7 @@ impl Word {
             Word::Completing => b"completing",
             Word::Emptying => b"emptying",
             Word::Detached => b"detached",
+            Word::Flight => b"flight",
             Word::Leaks => b"leaks",
             Word::Failures => b"failures",
         }

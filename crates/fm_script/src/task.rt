@@ -48,6 +48,8 @@ pub enum Task {
     },
     /// The instance's phase is told.
     Phase(InstanceId),
+    /// How many operations are in flight at the instance is told.
+    Flight(InstanceId),
     /// How far the context's life has come is told.
     Count(CtxId),
     /// How many references callbacks left behind is told.

@@ -1,6 +1,7 @@
 -- What each step of an operation leaves of its place among the instances.
 use Rattle.std.proofs.Common.{Bool, List, None, Option, Some, [], ap, arith, count_by, false, length, map, option_and_then, refl, subst, sym, true, ℕ, ◌++◌, ◌<◌, ◌||◌, ◌∙◌, ◌∷◌, ◌≡◌, ◌≤◌}
-use Rattle.fm_world.proofs.Words.{All, All-head, All-push, All-tail, All-weaker, Ascending, Base, Descending, Entry, Follows, HasRoom, InBase}
+use Rattle.fm_flow.specs.declared.entry.DrainVisit.{DrainVisit}
+use Rattle.fm_world.proofs.Words.{All, All-head, All-push, All-tail, All-weaker, Ascending, Base, Descending, Drain, Entry, Follows, HasRoom, InBase}
 use Rattle.fm_world.proofs.Words.{IsAmongAt, IsDescent, IsHighest, IsStack, NoneLeft, Operation, Post, PostHeld, PostRunning, PostState}
 use Rattle.fm_world.proofs.Words.{PostVisit, Pre, PreState, PreVisit, StackWorld, Stage, Status, VolumeId, after, append-nil, cons_option}
 use Rattle.fm_world.proofs.Words.{filter_map, filter_map-append, has_base, if_down, is_base, is_candidate, is_to_visit, last_of, last_posted}
@@ -156,3 +157,30 @@ among_follows s t v born operation entries stage f h =
 pub among_begins : (s : StackWorld) (v : VolumeId) (operation : Operation)
     → count_by (is_to_visit s v s.births operation) s.instances ≤ 32 → IsAmongAt s v s.births operation [] Descending
 among_begins s v operation few = grind arith
+
+-- ---- drains that come and go beside what the operation is doing
+
+pub drain_unseen : (es : List Entry) (visit : DrainVisit) → (last_visited (es ++ Drain visit ∷ []) ≡ last_visited es) × (last_posted (es ++ Drain visit ∷ []) ≡ last_posted es)
+drain_unseen es visit =
+    (ap last_of (visited_push es (Drain visit) ∙ append-nil (visited es)), ap last_of (filter_map-append post_of es (Drain visit ∷ []) ∙ append-nil (posted es)))
+
+pub among_drain : (s : StackWorld) (v : VolumeId) (born : ℕ) (operation : Operation) (entries : List Entry) (stage : Stage) (visit : DrainVisit)
+    → IsAmongAt s v born operation entries stage → IsAmongAt s v born operation (entries ++ Drain visit ∷ []) stage
+among_drain s v born operation entries stage visit h =
+    among_from s v born operation (entries ++ Drain visit ∷ []) stage (visited entries) (has_base entries) (visited_push entries (Drain visit) ∙ append-nil (visited entries))
+    (base_push entries (Drain visit) ∙ or_false (has_base entries)) (stands_of entries stage h)
+    (λ k. subst (λ m. NoneLeft s v m born operation) (sym (drain_unseen entries visit).0) (h.base k))
+
+posts_settled : (i : ℕ) (es : List Entry) → posted (map (settle_drain i) es) ≡ posted es
+posts_settled i [] = refl
+posts_settled i (e ∷ es) = grind (arith, (posts_settled i es))
+
+pub over_unseen : (i : ℕ) (es : List Entry) → (last_visited (map (settle_drain i) es) ≡ last_visited es) × (last_posted (map (settle_drain i) es) ≡ last_posted es)
+over_unseen i es = (ap last_of (map_keeps (settle_drain i) es (settle_drain_keeps i)).0, ap last_of (posts_settled i es))
+
+pub among_over : (s : StackWorld) (v : VolumeId) (born : ℕ) (operation : Operation) (entries : List Entry) (stage : Stage) (i : ℕ)
+    → IsAmongAt s v born operation entries stage → IsAmongAt s v born operation (map (settle_drain i) entries) stage
+among_over s v born operation entries stage i h =
+    let same = map_keeps (settle_drain i) entries (settle_drain_keeps i) in
+    among_from s v born operation (map (settle_drain i) entries) stage (visited entries) (has_base entries) same.0 same.1 (stands_of entries stage h)
+    (λ k. subst (λ m. NoneLeft s v m born operation) (sym (over_unseen i entries).0) (h.base k))

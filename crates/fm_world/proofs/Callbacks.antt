@@ -1,5 +1,5 @@
 -- What holds of a worker in a callback, and what its events on references and bodies do.
-use Rattle.std.proofs.Common.{Bool, List, None, Ok, Option, Result, Some, [], ap, arith, cond, false, find, length, not, option_map, refl, subst, sym, true, ℕ, ◌++◌, ◌+◌, ◌<◌, ◌∙◌, ◌∷◌, ◌≡◌, ◌≢◌, ◌≤◌, ◌⊎◌}
+use Rattle.std.proofs.Common.{Bool, List, None, Ok, Option, Result, Some, [], ap, arith, cond, false, find, get_or, length, not, option_map, refl, subst, sym, true, ℕ, ◌++◌, ◌+◌, ◌<◌, ◌∙◌, ◌∷◌, ◌≡◌, ◌≢◌, ◌≤◌, ◌⊎◌}
 use Rattle.fm_world.proofs.Words.{All, All-push, AreOwned, Bumps, Callback, ContextTable, CtxId, FileObject, FlowRecord, FlowTable, HoldsIn}
 use Rattle.fm_world.proofs.Words.{HoldsFewer, HoldsMore, Instance, InstanceId, IsCourse, IsLawful, IsOwned, IsPlaced, IsSound, IsUnderWay}
 use Rattle.fm_world.proofs.Words.{OpId, Phase, PostRunning, PostState, PreRunning, PreState, ReadsBody, References, Releases, StackWorld, Status}
@@ -10,14 +10,14 @@ use Rattle.fm_world.proofs.Words.{is_hand_full, is_in_drain, is_left_by, is_numb
 use Rattle.fm_world.proofs.Words.{last_visited, leaves_at, leb-false, length-without, names_there, none-some, none_refuses, place_in}
 use Rattle.fm_world.proofs.Words.{reference_keeps, release_keeps, released, rewritten, row_at, same_Some, set-get_or, slice_get, slice_set}
 use Rattle.fm_world.proofs.Words.{total, with_body, with_contexts, within_hands, without, worker_at}
+use Rattle.fm_world.proofs.Words.{AtComplete, AtQuery, AtSetup, AtStart, Desk, is_at, is_completing, most_at}
 use Rattle.fm_ctx.proofs.Counts.{count_held}
-use Rattle.std.proofs.lemmas.Bool.Decides.{nat_tests}
 use Rattle.std.proofs.lemmas.Grind.{common_steps}
 use Rattle.fm_world.proofs.Belonging.{AllCarry, AllFit, AllHold, AllPass, BelongsStill, OwnersStay, all_carry_still, all_hold, all_without, belongs_still, filters_same, held_has, owners_changed, owners_same, passes_changed}
-use Rattle.fm_world.proofs.Events.{asked_by}
-use Rattle.fm_world.proofs.Keeps.{setup_place, worker_below}
+use Rattle.fm_world.proofs.Events.{asked_by, taken_by}
+use Rattle.fm_world.proofs.Keeps.{desk_place, worker_below}
 use Rattle.fm_world.proofs.Operations.{both_same, inside_post, inside_pre}
-use Rattle.fm_world.proofs.Staying.{Does, Gives, HandMore, TableStays, hand_given, lasts, makes, nothing, slots_changed, still}
+use Rattle.fm_world.proofs.Staying.{Does, Gives, HandMore, TableStays, hand_given, lasts, makes, nothing, slots_changed, still, unchanged}
 use Rattle.fm_world.proofs.Ties.{drained_there}
 
 -- what one operation counts for, all of them do
@@ -46,9 +46,9 @@ drain_flies w k a o i s at inside =
     let there = drained_there w.workers w.flow k a o i.0 s.drains at inside in
     omega (arith, there.2, drains_open i.0 there.0.entries, total_found (flight i.0) (is_number o) w.flow.operations there.0 there.1)
 
--- in its setup, or operations may be in flight at it
+-- in its setup, or operations may be in flight at it, or its teardown is being completed
 abbrev pub IsOpen : Phase → Type 0
-IsOpen p = (is_setup p ≡ true) ⊎ (is_flown p ≡ true)
+IsOpen p = (is_setup p ≡ true) ⊎ (is_flown p ≡ true) ⊎ (is_completing p ≡ true)
 
 flown_row : (w : World) (i : InstanceId) (row : Instance) → IsSound w → row_at w.stack i ≡ Some row → 1 ≤ in_flight i.0 w.flow → IsOpen row.phase
 flown_row w i row s there flies = grind arith
@@ -56,14 +56,32 @@ flown_row w i row s there flies = grind arith
 flown_in : (w : World) (j i : InstanceId) → Some j ≡ Some i → 1 ≤ in_flight j.0 w.flow → 1 ≤ in_flight i.0 w.flow
 flown_in w j i is flies = subst (λ (x : InstanceId). 1 ≤ in_flight x.0 w.flow) (same_Some j i is) flies
 
+-- the instance may have a worker in such a callback
+staffed_open : (d : Desk) (row : Instance) → 1 ≤ most_at d row → IsOpen row.phase
+staffed_open d row h = grind arith
+
+open_desk : (w : World) (k : WorkerId) (a : Worker) (d : Desk) (j i : InstanceId) (row : Instance) → IsSound w → worker_at w.workers k ≡ Some a → is_at d j.0 a ≡ true
+    → Some j ≡ Some i → row_at w.stack i ≡ Some row → IsOpen row.phase
+open_desk w k a d j i row s at is same there =
+    let place = desk_place w k a d j s.under_way at is in
+    let own : place.0 ≡ row = same_Some place.0 row (sym place.1 ∙ ap (λ (x : InstanceId). slice_get w.stack.instances x.0) (same_Some j i same) ∙ there) in
+    staffed_open d row (subst (λ x. 1 ≤ most_at d x) own place.2)
+
 open_at : (w : World) (k : WorkerId) (i : InstanceId) (row : Instance) (m : Option Worker) → IsSound w → worker_at w.workers k ≡ m → place_in m ≡ Some i
     → row_at w.stack i ≡ Some row → IsOpen row.phase
-open_at w k i row (Some (Worker.Setup j)) s at is there = grind (arith, setup_place, flown_row, flown_in, pre_flies, post_flies, drain_flies, both_same)
+open_at w k i row (Some (Worker.Setup j)) s at is there = open_desk w k (Worker.Setup j) AtSetup j i row s at (eq-eqb j.0 j.0 refl) is there
+open_at w k i row (Some (Worker.Query j)) s at is there = open_desk w k (Worker.Query j) AtQuery j i row s at (eq-eqb j.0 j.0 refl) is there
+open_at w k i row (Some (Worker.Start j)) s at is there = open_desk w k (Worker.Start j) AtStart j i row s at (eq-eqb j.0 j.0 refl) is there
+open_at w k i row (Some (Worker.Complete j)) s at is there = open_desk w k (Worker.Complete j) AtComplete j i row s at (eq-eqb j.0 j.0 refl) is there
 open_at w k i row (Some (Worker.Pre o j)) s at is there = flown_row w i row s there (flown_in w j i is (pre_flies w k o j s.under_way at))
 open_at w k i row (Some (Worker.Post o j)) s at is there = flown_row w i row s there (flown_in w j i is (post_flies w k o j s.under_way at))
 open_at w k i row (Some (Worker.Drain o j)) s at is there = flown_row w i row s there (flown_in w j i is (drain_flies w k (Worker.Drain o j) o j s.under_way at (both_same o j)))
 open_at w k i row (Some (Worker.EarlyDrain o j)) s at is there = flown_row w i row s there (flown_in w j i is (drain_flies w k (Worker.EarlyDrain o j) o j s.under_way at (both_same o j)))
-open_at w k i row _ s at is there = absurd (none-some i is)
+open_at w k i row (Some Worker.Idle) s at is there = absurd (none-some i is)
+open_at w k i row (Some (Worker.Base o)) s at is there = absurd (none-some i is)
+open_at w k i row (Some (Worker.Cleanup c)) s at is there = absurd (none-some i is)
+open_at w k i row (Some (Worker.Unload f)) s at is there = absurd (none-some i is)
+open_at w k i row None s at is there = absurd (none-some i is)
 
 open_is : (p : Phase) → IsOpen p → (not (is_detached p) ≡ true) × (keeps_links p ≡ true)
 open_is p h = grind arith
@@ -71,7 +89,9 @@ open_is p h = grind arith
 -- so it isn't detached, and its contexts aren't unlinked
 pub callback_left : (w : World) (k : WorkerId) (i : InstanceId) (row : Instance) → IsSound w → place_in (worker_at w.workers k) ≡ Some i
     → row_at w.stack i ≡ Some row → (is_left_by (row_at w.stack i) ≡ true) × (keeps_links_by (row_at w.stack i) ≡ true)
-callback_left w k i row s is there = grind (arith, open_is, open_at)
+callback_left w k i row s is there =
+    let open' = open_is row.phase (open_at w k i row (worker_at w.workers k) s refl is there) in
+    (ap is_left_by there ∙ open'.0, ap keeps_links_by there ∙ open'.1)
 
 -- ---- the callback that a worker is in
 
@@ -139,7 +159,13 @@ in_hand w k at c i h has =
 -- a hand that stays, where the slots' owners stay
 pub same_hand : (w : World) (t : ContextTable) (k : WorkerId) → IsOwned w → OwnersStay w.contexts.slots t.slots
     → All (HoldsIn w.stack t.slots (place_in (worker_at w.workers k))) (hand_of w.contexts.hands k.0)
-same_hand w t k h owners = grind (arith, nat_tests)
+same_hand w t k h owners n d l =
+    let place = place_in (worker_at w.workers k) in
+    let id = get_or (hand_of w.contexts.hands k.0) n d in
+    elim place as (λ p. HoldsIn w.stack w.contexts.slots p id → HoldsIn w.stack t.slots p id) [
+      | None ↦ λ held. held
+      | Some i ↦ belongs_still w.stack w.contexts.slots w.stack t.slots (filters_same w.stack) owners i id
+    ] (h.holders k n d l)
 
 -- a hand with one more, where the slots' owners stay
 pub one_more : (w : World) (t : ContextTable) (k : WorkerId) (at : Callback) (c : CtxId) → IsIn w k at → IsOwned w → OwnersStay w.contexts.slots t.slots
@@ -238,7 +264,8 @@ rewrites old new k at c bytes is e =
 
 pub read_body_does : (old : World) (k : WorkerId) (c : CtxId) (result : Result (List ℕ) Status) (new : World) → ReadsBody old k c result new → Does old new
 unfolding ReadsBody
-read_body_does old k c result new h = grind arith
+read_body_does old k c result new h =
+    taken_by (λ _ w. Does old w) old k result new _ _ h (λ why. nothing old) (λ at is v free e. unchanged old new e.1)
 
 pub write_body_does : (old : World) (k : WorkerId) (c : CtxId) (bytes : List ℕ) (result : Result (Unit {0}) Status) (new : World) → WritesBody old k c bytes result new → Does old new
 unfolding WritesBody

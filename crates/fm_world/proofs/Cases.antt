@@ -1,6 +1,6 @@
 -- Proofs by cases: on a test, on what a look-up finds, and on the places of a list; and counts over two lists, element by element.
 use Rattle.std.proofs.Common.{Bool, List, None, Option, Some, [], ap, arith, cond, count_by, false, length, refl, slice_get, suc, true, zero, ℕ, ◌+◌, ◌<◌, ◌∙◌, ◌∷◌, ◌≡◌, ◌≢◌, ◌≤◌}
-use Rattle.fm_world.proofs.Words.{All, cases_eq, count-cons, none-some, same_Some, slice_get, slice_get-set_other, slice_get-set_same, slice_set}
+use Rattle.fm_world.proofs.Words.{All, cases_eq, count-cons, list_any, none-some, or_parts, same_Some, slice_get, slice_get-set_other, slice_get-set_same, slice_set}
 use Rattle.fm_world.proofs.Words.{updated, updated-other, updated-same}
 use Rattle.std.proofs.lemmas.Grind.{common_steps}
 
@@ -42,6 +42,13 @@ count-some p (y ∷ ys) (suc i) x h t = grind (arith, common_steps, (count-some 
 -- where none counts, none passes
 pub none_pass : {X : Type 0} (p : X → Bool) (xs : List X) → count_by p xs ≡ 0 → All (λ x. p x ≡ false) xs
 none_pass p xs h2 = grind (arith, common_steps)
+
+-- where none passes, none counts
+pub none_any : {X : Type 0} (p : X → Bool) (xs : List X) → list_any p xs ≡ false → count_by p xs ≡ 0
+none_any p [] h = refl
+none_any p (x ∷ xs) h =
+    let parts = or_parts (p x) (list_any p xs) h in
+    omega (arith, if_false (p x) parts.0, none_any p xs parts.1, count-cons p x xs)
 
 pub one-le : (a b : Bool) → (a ≡ true → b ≡ true) → cond a 1 0 ≤ cond b 1 0
 one-le a b h = grind arith

@@ -6,27 +6,29 @@ use Rattle.fm_world.proofs.Words.{StackWorld, Status, TakesDue, Worker, WorkerId
 use Rattle.fm_world.proofs.Words.{carried_by, carried_in, cases_eq, change_context, cleaned, cleaned_keeps, cleaning_of, cleanup_in, context_at}
 use Rattle.fm_world.proofs.Words.{context_at-here, context_at-other, count_cleaning, emptied, eq-eqb, filter_of, finish_row, finished, fits}
 use Rattle.fm_world.proofs.Words.{get_or-set_other, get_or-set_same, hand_counted, hand_of, held, is_emptying, is_emptying_at, is_flown}
-use Rattle.fm_world.proofs.Words.{is_flown_by, is_gone_at, is_id, is_in_setup, is_open, is_setup, length-updated, ltb-false, ltb-true}
+use Rattle.fm_world.proofs.Words.{is_flown_by, is_gone_at, is_id, is_open, length-updated, ltb-false, ltb-true}
 use Rattle.fm_world.proofs.Words.{names_there, none-some, none_refuses, one, open_of, owed, place_in, put, references, references_cons}
-use Rattle.fm_world.proofs.Words.{references_none, row_at, setup_row, slice_get_within, slice_set, take_due_keeps, taken_due, taken_of, total}
+use Rattle.fm_world.proofs.Words.{references_none, row_at, slice_get_within, slice_set, take_due_keeps, taken_due, taken_of, total}
 use Rattle.fm_world.proofs.Words.{totalled_for, updated-other, worker_at}
+use Rattle.fm_world.proofs.Words.{Desk, Instance, IsStaffed}
 use Rattle.fm_stack.proofs.Finishing.{emptying_row, finished_follows, finished_keeps}
 use Rattle.std.proofs.lemmas.Grind.{common_steps}
 use Rattle.fm_world.proofs.Belonging.{all_carry_still, all_hold_still, belongs_still, filters_same, filters_updated, link_stays, others_link, owner_stays, owners_changed, owners_same, passes_changed}
 use Rattle.fm_world.proofs.Callbacks.{not_false, same_hands}
 use Rattle.fm_world.proofs.Cases.{at_updated, at_written, none_pass}
 use Rattle.fm_world.proofs.Events.{idle_by}
-use Rattle.fm_world.proofs.Keeps.{Outside, follows_same, outside_cleanup, outside_idle, stack_changes, worker_below, worker_moves}
+use Rattle.fm_world.proofs.Keeps.{Outside, follows_same, outside_of, stack_changes, worker_below, worker_moves}
 use Rattle.fm_world.proofs.Owning.{empty_hand, owned_moves}
 use Rattle.fm_world.proofs.Staying.{CleansOn, Does, Lasts, SlotsStay, contexts_in, lasts, makes, nothing, slots_changed, still, unchanged}
-use Rattle.fm_world.proofs.Ties.{count_stays}
+use Rattle.fm_world.proofs.Ties.{AtNoDesk, at_none, staffed_still}
 
 -- ---- a worker goes into a cleanup, or comes out of it
 
 -- a worker goes between idleness and a cleanup
-goes_keeps : (w : World) (k : WorkerId) (a b : Worker) → worker_at w.workers k ≡ Some a → Outside a → Outside b → ((i : ℕ) → is_in_setup i a ≡ false)
-    → ((i : ℕ) → is_in_setup i b ≡ false) → IsUnderWay w → IsUnderWay (record w { workers = put w.workers k b })
-goes_keeps w k a b h4 h5 h6 h7 h8 h9 = grind (arith, worker_moves, follows_same, count_stays)
+goes_keeps : (w : World) (k : WorkerId) (a b : Worker) → worker_at w.workers k ≡ Some a → Outside a → Outside b → AtNoDesk a → AtNoDesk b
+    → IsUnderWay w → IsUnderWay (record w { workers = put w.workers k b })
+goes_keeps w k a b at from to off on s =
+    worker_moves w w.stack k a b at from to s.stack (follows_same w.stack) (λ d i. staffed_still d i w.workers k a b (slice_get w.stack.instances i) at off on (s.desks d i)) s
 
 -- the tie of cleanups and places, where one worker goes elsewhere
 cleaning_moves : (w : World) (k : WorkerId) (o : Option CtxId) (b : Worker) → k.0 < length w.workers → k.0 < length w.contexts.cleaning → o ≡ cleanup_in (Some b)
@@ -49,7 +51,8 @@ take_due_at old k (Some c) at first s =
     let owners = owners_changed emptied slots c (λ x. (refl, refl)) in
     let cleans = cleaning_moves old k (Some c) (Worker.Cleanup c) (slice_get_within old.workers k.0 Worker.Idle at) (subst (λ n. k.0 < n) (sym h.lawful.cleaners) worker) refl h.cleaning in
     record {
-      under_way = goes_keeps old k Worker.Idle (Worker.Cleanup c) at outside_idle (outside_cleanup c) (λ i. refl) (λ i. refl) s.under_way;
+      under_way = goes_keeps old k Worker.Idle (Worker.Cleanup c) at (outside_of Worker.Idle refl) (outside_of (Worker.Cleanup c) refl) (at_none Worker.Idle refl)
+          (at_none (Worker.Cleanup c) refl) s.under_way;
       owned = owned_moves old old.stack old.flow t k Worker.Idle (Worker.Cleanup c) [] at worker cleans (filters_same old.stack) owners
           (take_due_keeps k.0 c h.lawful worker first (h.cleaning k.0 ∙ ap cleanup_in at))
           (same_hands old.contexts.hands k.0 ∙ ap (slice_set old.contexts.hands k.0) (empty_hand old k Worker.Idle at refl h)) (All-nil (HoldsIn old.stack t.slots None))
@@ -162,7 +165,8 @@ cleaned_does old k number result new h = by_place (worker_at old.workers k) refl
     by_place : (m : Option Worker) → worker_at old.workers k ≡ m → CleansAt old k number result new m → Does old new
     by_place (Some (Worker.Cleanup c)) at e = record {
       sound = λ s. subst IsSound (sym e.1) (record {
-        under_way = goes_keeps old k (Worker.Cleanup c) Worker.Idle at (outside_cleanup c) outside_idle (λ i. refl) (λ i. refl) s.under_way;
+        under_way = goes_keeps old k (Worker.Cleanup c) Worker.Idle at (outside_of (Worker.Cleanup c) refl) (outside_of Worker.Idle refl) (at_none (Worker.Cleanup c) refl)
+            (at_none Worker.Idle refl) s.under_way;
         owned = cleaned_owned old k c number at s;
         filed = s.filed;
         links = passes_changed (names_there old.files) (λ (x : Option Context). None) old.contexts.slots c refl (λ x there named. refl) s.links;
@@ -179,6 +183,9 @@ cleaned_does old k number result new h = by_place (worker_at old.workers k) refl
 
 emptying_is : (p : Phase) → is_emptying p ≡ true → p ≡ Phase.Emptying
 emptying_is p h = grind arith
+
+finish_staffs : (d : Desk) (row : Instance) (n : ℕ) → row.phase ≡ Phase.Emptying → IsStaffed d (Some row) n → IsStaffed d (Some (finish_row row)) n
+finish_staffs d row n was h = grind arith
 
 finish_fits : (s : StackWorld) (i : InstanceId) (o : Option Context) → fits s o ≡ true → is_open (Owner.Instance i) o ≡ false → fits (finished s i) o ≡ true
 finish_fits s i o fit closed = grind (arith, and_parts, updated-other, and_from, owner_stays, eq-eqb, link_stays, others_link)
@@ -201,7 +208,8 @@ finish_does old i (Ok done) new h =
     let belongs = belongs_still old.stack slots t slots (filters_updated old.stack t finish_row i.0 refl (λ row. refl)) (owners_same slots slots refl) in
     record {
       under_way = stack_changes old t (finished_keeps old.stack i s.under_way.stack row.0 row.1 row.2) (finished_follows old.stack i)
-          (at_updated (λ n m. setup_row (slice_get rows n) ≡ setup_row m) finish_row rows i.0 row.0 row.1 (ap setup_row row.1 ∙ ap (λ p. one (is_setup p)) emptying) (λ n apart. refl)) s.under_way;
+          (λ d j n. at_updated (λ x m. IsStaffed d (slice_get rows x) n → IsStaffed d m n) finish_row rows i.0 row.0 row.1
+          (λ h. finish_staffs d row.0 n emptying (subst (λ m. IsStaffed d m n) row.1 h)) (λ x apart h. h) j) s.under_way;
       filed = s.filed;
       links = s.links;
       owned = record {

@@ -1,14 +1,15 @@
 -- The events on filters, volumes and instances keep what is under way.
-use Rattle.std.proofs.Common.{Bool, Err, List, None, Ok, Result, Some, [], ap, arith, count_by, false, length, length-set, refl, subst, suc, sym, true, zero, ℕ, ◌++◌, ◌+◌, ◌<◌, ◌==◌, ◌∙◌, ◌∷◌, ◌≡◌, ◌≤◌}
-use Rattle.fm_world.proofs.Words.{AtPre, CtxId, FilterId, Follows, Instance, InstanceId, IsFileSound, IsStack, IsUnderWay, OpId, Spot}
+use Rattle.std.proofs.Common.{Bool, Err, List, None, Ok, Option, Result, Some, [], ap, arith, count_by, false, inl, inr, length, length-set, refl, subst, suc, sym, true, zero, ℕ, ◌++◌, ◌+◌, ◌<◌, ◌∙◌, ◌∷◌, ◌≡◌, ◌≢◌, ◌≤◌}
+use Rattle.fm_world.proofs.Words.{AtSetup, Desk, IsStaffed, cases_eq, is_at, most_at, slice_get-push, updated-other, updated-same}
+use Rattle.fm_world.proofs.Words.{FilterId, Follows, Instance, InstanceId, IsFileSound, IsStack, IsUnderWay, OpId, Spot}
 use Rattle.fm_world.proofs.Words.{StackWorld, Status, VolumeId, Worker, WorkerId, World, accept_row, eq-eqb, first_of, is_in_at, is_in_drain}
-use Rattle.fm_world.proofs.Words.{is_in_setup, is_setup, ne_eqb, one, put, refuse_row, setup_row, slice_get, slice_get_within, updated}
+use Rattle.fm_world.proofs.Words.{is_setup, ne_eqb, one, put, refuse_row, slice_get, slice_get_within, updated}
 use Rattle.fm_world.proofs.Words.{worker_at}
 use Rattle.fm_stack.proofs.Attaching.{attached_follows, attached_keeps}
 use Rattle.fm_stack.proofs.SettingUp.{accepted_follows, accepted_keeps, refused_follows, refused_keeps}
 use Rattle.fm_world.proofs.Amongs.{among_follows}
-use Rattle.fm_world.proofs.Cases.{at_updated, by_option, count-some, one_true}
-use Rattle.fm_world.proofs.Ties.{count_moves, count_stays}
+use Rattle.fm_world.proofs.Cases.{by_option, count-some, one_true}
+use Rattle.fm_world.proofs.Ties.{at_none, count_moves, count_stays, desk_of}
 use Rattle.fm_stack.specs.Events as stack
 
 -- streams, handles and the creates under way
@@ -24,99 +25,194 @@ pub record Outside (a : Worker) : Type 0 where
   pub spots : (p : OpId) (s : Spot) → is_in_at p s a ≡ false
   pub drains : (p : OpId) (i : ℕ) → is_in_drain p i a ≡ false
 
-pub outside_idle : Outside Worker.Idle
-outside_idle = record { spots = λ p s. elim s as (λ x. is_in_at p x Worker.Idle ≡ false) [ AtPre j ↦ refl | _ ↦ refl ]; drains = λ p i. refl }
+abbrev pub is_outside : Worker → Bool
+is_outside (Worker.Pre o i) = false
+is_outside (Worker.Base o) = false
+is_outside (Worker.Post o i) = false
+is_outside (Worker.Drain o i) = false
+is_outside (Worker.EarlyDrain o i) = false
+is_outside _ = true
 
-pub outside_cleanup : (c : CtxId) → Outside (Worker.Cleanup c)
-outside_cleanup c = record { spots = λ p s. elim s as (λ x. is_in_at p x (Worker.Cleanup c) ≡ false) [ AtPre j ↦ refl | _ ↦ refl ]; drains = λ p i. refl }
+pub outside_of : (a : Worker) → is_outside a ≡ true → Outside a
+outside_of a h = record { spots = λ p s. in_none p s h; drains = λ p i. in_no_drain p i h }
+  where
+    in_none : (p : OpId) (s : Spot) → is_outside a ≡ true → is_in_at p s a ≡ false
+    in_none p s h = grind arith
 
-outside_setup : (i : InstanceId) → Outside (Worker.Setup i)
-outside_setup i = record { spots = λ p s. elim s as (λ x. is_in_at p x (Worker.Setup i) ≡ false) [ AtPre j ↦ refl | _ ↦ refl ]; drains = λ p n. refl }
+    in_no_drain : (p : OpId) (i : ℕ) → is_outside a ≡ true → is_in_drain p i a ≡ false
+    in_no_drain p i h = grind arith
 
 pub follows_same : (s : StackWorld) → Follows s s
 follows_same s = grind arith
 
+-- whoever is in callbacks of instances may be there still
+abbrev pub StaffsStill : StackWorld → StackWorld → Type 0
+StaffsStill s t = (d : Desk) (i n : ℕ) → IsStaffed d (slice_get s.instances i) n → IsStaffed d (slice_get t.instances i) n
+
 -- filters, volumes and instances change
-pub stack_changes : (w : World) (t : StackWorld) → IsStack t → Follows w.stack t → ((i : ℕ) → setup_row (slice_get w.stack.instances i) ≡ setup_row (slice_get t.instances i))
-    → IsUnderWay w → IsUnderWay (record w { stack = t })
-stack_changes w t stack follows same h = record {
+pub stack_changes : (w : World) (t : StackWorld) → IsStack t → Follows w.stack t → StaffsStill w.stack t → IsUnderWay w → IsUnderWay (record w { stack = t })
+stack_changes w t stack follows still h = record {
   stack = stack;
   flow = h.flow;
   among = λ k d l. among_follows w.stack t _ _ _ _ _ follows (h.among k d l);
   hands = h.hands;
   workers = h.workers;
   drains = h.drains;
-  setups = λ i. h.setups i ∙ same i;
+  desks = λ d i. still d i (count_by (is_at d i) w.workers) (h.desks d i);
 }
 
 -- and a worker moves outside of operations
 pub worker_moves : (w : World) (t : StackWorld) (k : WorkerId) (a b : Worker) → worker_at w.workers k ≡ Some a → Outside a → Outside b → IsStack t → Follows w.stack t
-    → ((i : ℕ) → count_by (is_in_setup i) (put w.workers k b) ≡ setup_row (slice_get t.instances i)) → IsUnderWay w
+    → ((d : Desk) (i : ℕ) → IsStaffed d (slice_get t.instances i) (count_by (is_at d i) (put w.workers k b))) → IsUnderWay w
     → IsUnderWay (record w { stack = t; workers = put w.workers k b })
-worker_moves w t k a b at from to stack follows setups h = record {
+worker_moves w t k a b at from to stack follows desks h = record {
   stack = stack;
   flow = h.flow;
   among = λ k d l. among_follows w.stack t _ _ _ _ _ follows (h.among k d l);
   hands = length-set w.workers k.0 b ∙ h.hands;
   workers = λ o spot. count_stays (is_in_at o spot) w.workers k a b at (from.spots o spot) (to.spots o spot) ∙ h.workers o spot;
   drains = λ o i. count_stays (is_in_drain o i) w.workers k a b at (from.drains o i) (to.drains o i) ∙ h.drains o i;
-  setups = setups;
+  desks = desks;
 }
+
+-- ---- callbacks of an instance
+
+-- of callbacks that don't belong to an operation, the worker is in that instance's alone, if in any
+abbrev pub AtDeskOf : ℕ → Worker → Type 0
+AtDeskOf i a = (d : Desk) (j : ℕ) → j ≢ i → is_at d j a ≡ false
+
+at_desk : (a : Worker) (i : InstanceId) → desk_of a ≡ Some i → AtDeskOf i.0 a
+at_desk a i h d j apart = grind (arith, ne_eqb)
+
+-- who is in callbacks of an instance, where one worker goes elsewhere
+abbrev pub Restaffs : ℕ → Worker → Worker → Option Instance → Option Instance → Type 0
+Restaffs i a b x y = (d : Desk) (n m : ℕ) → m + one (is_at d i a) ≡ n + one (is_at d i b) → IsStaffed d x n → IsStaffed d y m
+
+-- one instance changes perhaps, and one worker goes into a callback of it or comes out of it
+pub staffed_moves : (w : World) (t : StackWorld) (k : WorkerId) (a b : Worker) (i : ℕ) → worker_at w.workers k ≡ Some a → AtDeskOf i a → AtDeskOf i b
+    → ((j : ℕ) → j ≢ i → slice_get t.instances j ≡ slice_get w.stack.instances j)
+    → ((d : Desk) (m : ℕ) → m + one (is_at d i a) ≡ count_by (is_at d i) w.workers + one (is_at d i b) → IsStaffed d (slice_get t.instances i) m) → IsUnderWay w
+    → (d : Desk) (j : ℕ) → IsStaffed d (slice_get t.instances j) (count_by (is_at d j) (put w.workers k b))
+staffed_moves w t k a b i at from to others here s d j = elim (cases_eq j i) [
+  | inl is ↦
+      subst (λ x. IsStaffed d (slice_get t.instances x) (count_by (is_at d x) (put w.workers k b))) (sym is)
+      (here d (count_by (is_at d i) (put w.workers k b)) (count_moves (is_at d i) w.workers k a b at))
+  | inr apart ↦
+      subst (λ m. IsStaffed d m (count_by (is_at d j) (put w.workers k b))) (sym (others j apart))
+      (subst (IsStaffed d (slice_get w.stack.instances j)) (sym (count_stays (is_at d j) w.workers k a b at (from d j apart) (to d j apart))) (s.desks d j))
+]
+
+-- the instance whose callback a worker is in is there, and may have it there
+pub desk_place : (w : World) (k : WorkerId) (a : Worker) (d : Desk) (i : InstanceId) → IsUnderWay w → worker_at w.workers k ≡ Some a → is_at d i.0 a ≡ true
+    → (row : Instance) × (slice_get w.stack.instances i.0 ≡ Some row) × (1 ≤ most_at d row)
+desk_place w k a d i s at is =
+    let inside = count-some (is_at d i.0) w.workers k.0 a at is in
+    by_option (λ m. IsStaffed d m (count_by (is_at d i.0) w.workers) → (row : Instance) × (m ≡ Some row) × (1 ≤ most_at d row)) (slice_get w.stack.instances i.0)
+    (λ none h. absurd (omega (arith, inside, h))) (λ row there h. (row, refl, omega (arith, inside, h.1))) (s.desks d i.0)
 
 -- ---- attach
 
-same_suc : (a b : ℕ) → (suc a == suc b) ≡ (a == b)
-same_suc a b = grind arith
+others_push : {A : Type 0} (xs : List A) (x : A) (j : ℕ) → j ≢ length xs → slice_get (xs ++ x ∷ []) j ≡ slice_get xs j
+others_push [] x zero apart = absurd (apart refl)
+others_push [] x (suc j) apart = refl
+others_push (y ∷ xs) x zero apart = refl
+others_push (y ∷ xs) x (suc j) apart = others_push xs x j (λ e. apart (ap suc e))
 
-setup_push : (rows : List Instance) (row : Instance) (j : ℕ) → is_setup row.phase ≡ true
-    → setup_row (slice_get (rows ++ row ∷ []) j) ≡ setup_row (slice_get rows j) + one (length rows == j)
-setup_push [] row zero h = rw h refl
-setup_push (x ∷ rows) row (suc j) h = setup_push rows row j h ∙ ap (λ b. setup_row (slice_get rows j) + one b) (sym (same_suc (length rows) j))
-setup_push _ row _ h = grind arith
+none_behind : {A : Type 0} (xs : List A) → slice_get xs (length xs) ≡ None
+none_behind [] = refl
+none_behind (x ∷ xs) = none_behind xs
+
+attach_staffs : (f : FilterId) (v : VolumeId) (name altitude : List ℕ) (i : InstanceId) (d : Desk) (n m : ℕ) → m + one (is_at d i.0 Worker.Idle) ≡ n + one (is_at d i.0 (Worker.Setup i))
+    → n ≡ 0 → IsStaffed d (Some (stack.new_instance f v name altitude)) m
+attach_staffs f v name altitude i d n m moves none = grind (arith, eq-eqb)
 
 pub attach_keeps : (old : World) (k : WorkerId) (f : FilterId) (v : VolumeId) (name altitude : List ℕ) (i : InstanceId) → worker_at old.workers k ≡ Some Worker.Idle
     → first_of (stack.attach_refusals old.stack f v name altitude) ≡ None → i.0 ≡ length old.stack.instances → IsUnderWay old
     → IsUnderWay (record old { stack = stack.attached old.stack f v name altitude; workers = put old.workers k (Worker.Setup i) })
 attach_keeps old k f v name altitude i idle free is s =
-    worker_moves old (stack.attached old.stack f v name altitude) k Worker.Idle (Worker.Setup i) idle outside_idle (outside_setup i)
+    let t = stack.attached old.stack f v name altitude in
+    let rows = old.stack.instances in
+    let row = stack.new_instance f v name altitude in
+    let none : slice_get rows i.0 ≡ None = ap (slice_get rows) is ∙ none_behind rows in
+    let here : slice_get t.instances i.0 ≡ Some row = ap (slice_get t.instances) is ∙ slice_get-push rows row in
+    worker_moves old t k Worker.Idle (Worker.Setup i) idle (outside_of Worker.Idle refl) (outside_of (Worker.Setup i) refl)
     (attached_keeps old.stack f v name altitude s.stack free) (attached_follows old.stack f v name altitude s.stack)
-    (λ j.
-    let moves = count_moves (is_in_setup j) old.workers k Worker.Idle (Worker.Setup i) idle in
-    let rows = setup_push old.stack.instances (stack.new_instance f v name altitude) j refl in
-    let same : one (i.0 == j) ≡ one (length old.stack.instances == j) = ap (λ n. one (n == j)) is in
-    omega (arith, moves, rows, same, s.setups j))
+    (staffed_moves old t k Worker.Idle (Worker.Setup i) i.0 idle (λ d j _. at_none Worker.Idle refl d j) (at_desk (Worker.Setup i) i refl)
+    (λ j apart. others_push rows row j (λ e. apart (e ∙ sym is)))
+    (λ d m moves. subst (λ o. IsStaffed d o m) (sym here)
+    (attach_staffs f v name altitude i d (count_by (is_at d i.0) old.workers) m moves (subst (λ o. IsStaffed d o (count_by (is_at d i.0) old.workers)) none (s.desks d i.0)))) s)
     s
 
--- ---- the end of a setup callback
+-- ---- one instance changes, and a worker goes into a callback of it or comes out of it
 
-setup_updated : (change : Instance → Instance) (rows : List Instance) (i j : ℕ) (row : Instance) → slice_get rows i ≡ Some row
-    → is_setup row.phase ≡ true → is_setup (change row).phase ≡ false
-    → setup_row (slice_get (updated change rows i) j) + one (i == j) ≡ setup_row (slice_get rows j)
-setup_updated change rows i j row there was is =
-    at_updated (λ n m. setup_row m + one (i == n) ≡ setup_row (slice_get rows n)) change rows i row there
-    (rw (there, was, is, eq-eqb i i refl) refl) (λ n apart. rw (ne_eqb i n (λ e. apart (sym e))) (omega arith)) j
+-- x is the instance, y what becomes of it; all others stay
+pub record RowChanges (s t : StackWorld) (i : ℕ) (x y : Instance) : Type 0 where
+  pub was : slice_get s.instances i ≡ Some x
+  pub now : slice_get t.instances i ≡ Some y
+  pub others : (j : ℕ) → j ≢ i → slice_get t.instances j ≡ slice_get s.instances j
+
+pub row_updated : (s t : StackWorld) (change : Instance → Instance) (i : ℕ) (row : Instance) → t.instances ≡ updated change s.instances i → slice_get s.instances i ≡ Some row
+    → RowChanges s t i row (change row)
+row_updated s t change i row is there = record {
+  was = there;
+  now = ap (λ (xs : List Instance). slice_get xs i) is ∙ updated-same change s.instances i row there;
+  others = λ j apart. ap (λ (xs : List Instance). slice_get xs j) is ∙ updated-other change s.instances i j apart;
+}
+
+pub row_stays : (s : StackWorld) (i : ℕ) (row : Instance) → slice_get s.instances i ≡ Some row → RowChanges s s i row row
+row_stays s i row there = record { was = there; now = there; others = λ j apart. refl }
+
+pub desk_moves : (old : World) (k : WorkerId) (a b : Worker) (i : InstanceId) (t : StackWorld) (x y : Instance) → worker_at old.workers k ≡ Some a
+    → Outside a → Outside b → AtDeskOf i.0 a → AtDeskOf i.0 b → RowChanges old.stack t i.0 x y
+    → ((d : Desk) (m : ℕ) → m + one (is_at d i.0 a) ≡ count_by (is_at d i.0) old.workers + one (is_at d i.0 b)
+    → IsStaffed d (Some x) (count_by (is_at d i.0) old.workers) → IsStaffed d (Some y) m)
+    → IsStack t → Follows old.stack t → IsUnderWay old → IsUnderWay (record old { stack = t; workers = put old.workers k b })
+desk_moves old k a b i t x y at from to off on row here stack follows s =
+    worker_moves old t k a b at from to stack follows
+    (staffed_moves old t k a b i.0 at off on row.others
+    (λ d m moves. subst (λ o. IsStaffed d o m) (sym row.now) (here d m moves (subst (λ o. IsStaffed d o (count_by (is_at d i.0) old.workers)) row.was (s.desks d i.0)))) s)
+    s
+
+-- a callback is entered
+pub desk_enters : (old : World) (k : WorkerId) (b : Worker) (i : InstanceId) (t : StackWorld) (x y : Instance) → worker_at old.workers k ≡ Some Worker.Idle
+    → is_outside b ≡ true → desk_of b ≡ Some i → RowChanges old.stack t i.0 x y
+    → ((d : Desk) (m : ℕ) → m + one (is_at d i.0 Worker.Idle) ≡ count_by (is_at d i.0) old.workers + one (is_at d i.0 b)
+    → IsStaffed d (Some x) (count_by (is_at d i.0) old.workers) → IsStaffed d (Some y) m)
+    → IsStack t → Follows old.stack t → IsUnderWay old → IsUnderWay (record old { stack = t; workers = put old.workers k b })
+desk_enters old k b i t x y at outside desk row here stack follows s =
+    desk_moves old k Worker.Idle b i t x y at (outside_of Worker.Idle refl) (outside_of b outside) (λ d j _. at_none Worker.Idle refl d j) (at_desk b i desk) row here stack follows s
+
+-- a callback returns
+pub desk_returns : (old : World) (k : WorkerId) (a : Worker) (i : InstanceId) (t : StackWorld) (x y : Instance) → worker_at old.workers k ≡ Some a
+    → is_outside a ≡ true → desk_of a ≡ Some i → RowChanges old.stack t i.0 x y → Restaffs i.0 a Worker.Idle (Some x) (Some y)
+    → IsStack t → Follows old.stack t → IsUnderWay old → IsUnderWay (record old { stack = t; workers = put old.workers k Worker.Idle })
+desk_returns old k a i t x y at outside desk row restaffs stack follows s =
+    desk_moves old k a Worker.Idle i t x y at (outside_of a outside) (outside_of Worker.Idle refl) (at_desk a i desk) (λ d j _. at_none Worker.Idle refl d j) row
+    (λ d m moves h. restaffs d (count_by (is_at d i.0) old.workers) m moves h) stack follows s
+
+-- ---- the end of a setup callback
 
 -- the instance that a worker's setup callback is of is there, in its setup
 pub setup_place : (w : World) (k : WorkerId) (i : InstanceId) → IsUnderWay w → worker_at w.workers k ≡ Some (Worker.Setup i)
     → (row : Instance) × (slice_get w.stack.instances i.0 ≡ Some row) × (is_setup row.phase ≡ true)
 setup_place w k i s at =
-    let inside = count-some (is_in_setup i.0) w.workers k.0 (Worker.Setup i) at (eq-eqb i.0 i.0 refl) in
-    by_option (λ m. 1 ≤ setup_row m → (row : Instance) × (m ≡ Some row) × (is_setup row.phase ≡ true)) (slice_get w.stack.instances i.0) (λ none h. absurd (omega arith))
-    (λ row there h. (row, refl, one_true (is_setup row.phase) h)) (omega (arith, inside, s.setups i.0))
+    let place = desk_place w k (Worker.Setup i) AtSetup i s at (eq-eqb i.0 i.0 refl) in
+    (place.0, place.1, one_true (is_setup place.0.phase) place.2)
+
+accepted_staffs : (births : ℕ) (i : InstanceId) (row : Instance) → is_setup row.phase ≡ true → Restaffs i.0 (Worker.Setup i) Worker.Idle (Some row) (Some (accept_row births row))
+accepted_staffs births i row was d n m moves h = grind (arith, eq-eqb)
+
+refused_staffs : (i : InstanceId) (row : Instance) → is_setup row.phase ≡ true → Restaffs i.0 (Worker.Setup i) Worker.Idle (Some row) (Some (refuse_row row))
+refused_staffs i row was d n m moves h = grind (arith, eq-eqb)
 
 -- the callback returns, and the instance leaves its setup
 setup_ends : (old : World) (k : WorkerId) (i : InstanceId) (t : StackWorld) (change : Instance → Instance) (row : Instance) (new : World)
-    → worker_at old.workers k ≡ Some (Worker.Setup i) → slice_get old.stack.instances i.0 ≡ Some row → is_setup row.phase ≡ true → is_setup (change row).phase ≡ false
+    → worker_at old.workers k ≡ Some (Worker.Setup i) → slice_get old.stack.instances i.0 ≡ Some row → Restaffs i.0 (Worker.Setup i) Worker.Idle (Some row) (Some (change row))
     → t.instances ≡ updated change old.stack.instances i.0 → IsStack t → Follows old.stack t → new.stack ≡ t
     → new ≡ record old { stack = new.stack; workers = put old.workers k Worker.Idle; contexts = new.contexts } → IsUnderWay old → IsUnderWay new
-setup_ends old k i t change row new at there was is rows stack follows made e s =
+setup_ends old k i t change row new at there restaffs rows stack follows made e s =
     subst IsUnderWay (sym (e ∙ ap (λ x. record old { stack = x; workers = put old.workers k Worker.Idle; contexts = new.contexts }) made))
-    (worker_moves old t k (Worker.Setup i) Worker.Idle at (outside_setup i) outside_idle stack follows
-    (λ j.
-    let moves = count_moves (is_in_setup j) old.workers k (Worker.Setup i) Worker.Idle at in
-    let now = ap (λ (xs : List Instance). setup_row (slice_get xs j)) rows in
-    omega (arith, moves, setup_updated change old.stack.instances i.0 j row there was is, now, s.setups j))
-    s)
+    (desk_returns old k (Worker.Setup i) i t row (change row) at refl refl (row_updated old.stack t change i.0 row rows there) restaffs stack follows s)
 
 pub setup_keeps : (old : World) (k : WorkerId) (i : InstanceId) (accept : Bool) (result : Result (Unit {0}) Status) (new : World)
     → worker_at old.workers k ≡ Some (Worker.Setup i) → stack.SetsUp old.stack i accept result new.stack
@@ -124,9 +220,9 @@ pub setup_keeps : (old : World) (k : WorkerId) (i : InstanceId) (accept : Bool) 
 unfolding stack.SetsUp
 setup_keeps old k i accept (Ok done) new at h e s =
     let row = setup_place old k i s at in
-    setup_ends old k i (stack.accepted old.stack i) (accept_row old.stack.births) row.0 new at row.1 row.2 refl refl
+    setup_ends old k i (stack.accepted old.stack i) (accept_row old.stack.births) row.0 new at row.1 (accepted_staffs old.stack.births i row.0 row.2) refl
     (accepted_keeps old.stack i s.stack row.0 row.1 row.2) (accepted_follows old.stack i s.stack row.0 row.1 row.2) h.1 e s
 setup_keeps old k i accept (Err why) new at h e s =
     let row = setup_place old k i s at in
-    setup_ends old k i (stack.refused old.stack i) refuse_row row.0 new at row.1 row.2 refl refl
+    setup_ends old k i (stack.refused old.stack i) refuse_row row.0 new at row.1 (refused_staffs i row.0 row.2) refl
     (refused_keeps old.stack i s.stack row.0 row.1 row.2) (refused_follows old.stack i s.stack row.0 row.1 row.2) h.1 e s

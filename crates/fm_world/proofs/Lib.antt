@@ -11,6 +11,7 @@ pub mod Belonging
 pub mod Callbacks
 pub mod Linking
 pub mod Cleanups
+pub mod Waiting
 pub mod Owning
 pub mod Filing
 pub mod Streams
@@ -23,3 +24,6 @@ pub mod Turns
 pub mod Returns
 pub mod Resumes
 pub mod Staying
+pub mod Draining
+pub mod Detaching
+pub mod Unloading

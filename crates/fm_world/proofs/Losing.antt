@@ -1,5 +1,6 @@
 -- Links that go with what they name leave a World sound.
 use Rattle.std.proofs.Common.{Bool, List, None, Option, Some, [], ap, arith, cond, false, find, is_some, map, not, refl, subst, sym, true, ℕ, ◌++◌, ◌∙◌, ◌∷◌, ◌≡◌}
+use Rattle.fm_world.proofs.Words.{ContextTable, Sweeps, carries, with_contexts}
 use Rattle.fm_world.proofs.Words.{Context, FileTable, HandleId, HandlePhase, IsOwned, IsSound, IsUnderWay, LosesLinks, Object, Operation, Slot}
 use Rattle.fm_world.proofs.Words.{VolumeId, WorkerId, World, change_first, created, false≢true, fits, hand_of, is_on_gone, is_there, moved_on}
 use Rattle.fm_world.proofs.Words.{names_there, phased, sweep_keeps, swept, swept_slot, with_link}
@@ -19,16 +20,23 @@ pub passes_unlinked : (p : Option Context → Bool) (test : Context → Bool) (x
     → p (Some x) ≡ true → p (Some (swept test x)) ≡ true
 passes_unlinked p test x bare h = elim (test x) as (λ b. p (Some (cond b (with_link None x) x)) ≡ true) [ true ↦ bare h | false ↦ h ]
 
-loses_owned : (old new : World) → LosesLinks old new → IsOwned old → IsOwned new
-loses_owned old new h s =
-    let test = is_on_gone old.files in
+-- contexts that pass a test lose their links
+pub sweeps_owned : (old : World) (test : Context → Bool) (after : ContextTable) → Sweeps (carries old) test old.contexts after → IsOwned old → IsOwned (with_contexts old after)
+sweeps_owned old test after h s =
     let slots = old.contexts.slots in
     let first : WorkerId = record { 0 = 0 } in
-    let owners = owners_after slots (map (swept_slot test) slots) new.contexts.slots (owners_swept test slots) (owners_same (map (swept_slot test) slots) new.contexts.slots h.0.slots) in
+    let owners = owners_after slots (map (swept_slot test) slots) after.slots (owners_swept test slots) (owners_same (map (swept_slot test) slots) after.slots h.slots) in
     let fit = passes_swept (fits old.stack) (fits old.stack) test slots refl (λ x. passes_unlinked (fits old.stack) test x (fits_unlinked old.stack x)) s.fits in
-    subst IsOwned (sym h.1)
-    (contexts_owned old new.contexts first (hand_of old.contexts.hands 0) (sweep_keeps test s.lawful h.0) h.0.cleaning owners (h.0.hands ∙ same_hands old.contexts.hands 0) (omega arith)
-    (same_hand old new.contexts first s owners) (subst (AllPass (fits old.stack)) (sym h.0.slots) fit) s)
+    contexts_owned old after first (hand_of old.contexts.hands 0) (sweep_keeps test s.lawful h) h.cleaning owners (h.hands ∙ same_hands old.contexts.hands 0) (omega arith)
+    (same_hand old after first s owners) (subst (AllPass (fits old.stack)) (sym h.slots) fit) s
+
+pub sweeps_named : (old : World) (test : Context → Bool) (after : ContextTable) → Sweeps (carries old) test old.contexts after → NamedIn old → NamedIn (with_contexts old after)
+sweeps_named old test after h named =
+    subst (AllPass (names_there old.files)) (sym h.slots)
+    (passes_swept (names_there old.files) (names_there old.files) test old.contexts.slots refl (λ x. passes_unlinked (names_there old.files) test x (λ was. refl)) named)
+
+loses_owned : (old new : World) → LosesLinks old new → IsOwned old → IsOwned new
+loses_owned old new h s = subst IsOwned (sym h.1) (sweeps_owned old (is_on_gone old.files) new.contexts h.0 s)
 
 -- the links that are left name what is there
 left_there : (f : FileTable) (x : Context) → names_there f (Some (swept (is_on_gone f) x)) ≡ true

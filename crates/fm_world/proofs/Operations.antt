@@ -2,11 +2,11 @@
 use Rattle.std.proofs.Common.{Some, ap, arith, false, length-set, refl, subst, sym, true, ℕ, ◌&&◌, ◌+◌, ◌==◌, ◌∙◌, ◌≡◌}
 use Rattle.fm_world.proofs.Words.{AtBase, AtDrain, AtPost, AtPre, FlowRecord, FlowTable, InBase, InDrain, InstanceId, IsAmong, IsUnderWay, OpId}
 use Rattle.fm_world.proofs.Words.{PostRunning, PreRunning, Spot, Stage, Worker, WorkerId, World, all_change, and_from, changed, drain_opens}
-use Rattle.fm_world.proofs.Words.{eq-eqb, false≢true, found_holds, is_in_at, is_in_drain, is_in_setup, is_number, is_spot, last_posted}
-use Rattle.fm_world.proofs.Words.{last_visited, operation_at, option_map, put, returned, same_Some, spot_of, told, unwrap_or, worker_at}
+use Rattle.fm_world.proofs.Words.{eq-eqb, false≢true, found_holds, is_in_at, is_in_drain, is_number, is_spot, last_posted}
+use Rattle.fm_world.proofs.Words.{last_visited, operation_at, option_map, put, returned, same_Some, slice_get, spot_of, told, unwrap_or, worker_at}
 use Rattle.fm_flow.proofs.Soundness.{Stays}
 use Rattle.fm_flow.proofs.Flows.{flow_changes}
-use Rattle.fm_world.proofs.Ties.{BalancesDrains, BalancesSpots, InDrains, Matches, count_stays, drains_balance, in_no_drain, is_running, matches_idle, spot_base, spot_drain, spot_post, spot_pre, spots_balance, standing, tied_moves, tied_there}
+use Rattle.fm_world.proofs.Ties.{AtNoDesk, at_none, staffed_still, BalancesDrains, BalancesSpots, InDrains, Matches, drains_balance, in_no_drain, is_running, matches_idle, spot_base, spot_drain, spot_post, spot_pre, spots_balance, standing, tied_moves, tied_there}
 use Rattle.fm_flow.specs.Sound as flow
 
 -- ---- one operation changes
@@ -14,7 +14,7 @@ use Rattle.fm_flow.specs.Sound as flow
 -- one operation changes, and one worker goes elsewhere with it
 pub step_keeps : (w : World) (o : OpId) (r : FlowRecord) (f : FlowRecord → FlowRecord) (k : WorkerId) (a b : Worker) → operation_at o w.flow ≡ Some r → worker_at w.workers k ≡ Some a
     → ((x : FlowRecord) → Stays x (f x)) → flow.IsSound (f r) → IsAmong w.stack (f r) → BalancesSpots o a b r (f r) → BalancesDrains o a b r (f r)
-    → ((i : ℕ) → is_in_setup i a ≡ false) → ((i : ℕ) → is_in_setup i b ≡ false) → IsUnderWay w
+    → AtNoDesk a → AtNoDesk b → IsUnderWay w
     → IsUnderWay (record w { flow = changed o f w.flow; workers = put w.workers k b })
 step_keeps w o r f k a b at worker stays sound among spots drains from to s =
     let number : (x : FlowRecord) → (f x).number.0 ≡ x.number.0 = λ x. (stays x).number in
@@ -25,7 +25,7 @@ step_keeps w o r f k a b at worker stays sound among spots drains from to s =
       hands = length-set w.workers k.0 b ∙ s.hands;
       workers = λ p x. tied_moves (λ q. is_in_at q x) (standing x) w.workers w.flow k a b o r f worker at number (spots x) p (s.workers p x);
       drains = λ p i. tied_moves (λ q. is_in_drain q i) (λ y. drain_opens i y.entries) w.workers w.flow k a b o r f worker at number (drains i) p (s.drains p i);
-      setups = λ i. count_stays (is_in_setup i) w.workers k a b worker (from i) (to i) ∙ s.setups i;
+      desks = λ d i. staffed_still d i w.workers k a b (slice_get w.stack.instances i) worker from to (s.desks d i);
     }
 
 -- what is told of an operation that is there
@@ -78,11 +78,11 @@ inside_drain w k o i at s = let x = inside w k (Worker.Drain o i) o (AtDrain i.0
 -- a worker leaves an operation, which then stands where no worker is inside it
 pub return_keeps : (old : World) (k : WorkerId) (a : Worker) (o : OpId) (r : FlowRecord) (f : FlowRecord → FlowRecord) (n : ℕ → ℕ) → worker_at old.workers k ≡ Some a
     → operation_at o old.flow ≡ Some r → ((x : FlowRecord) → Stays x (f x)) → Matches o a (spot_of r) → is_running (f r).stage ≡ false → InDrains o a n
-    → ((i : ℕ) → drain_opens i (f r).entries + n i ≡ drain_opens i r.entries) → ((i : ℕ) → is_in_setup i a ≡ false) → flow.IsSound (f r) → IsAmong old.stack (f r)
+    → ((i : ℕ) → drain_opens i (f r).entries + n i ≡ drain_opens i r.entries) → AtNoDesk a → flow.IsSound (f r) → IsAmong old.stack (f r)
     → IsUnderWay old → IsUnderWay (returned old k o f)
 return_keeps old k a o r f n at there stays matches quiet from even outside sound among s =
     step_keeps old o r f k a Worker.Idle there at stays sound among (spots_balance o a Worker.Idle r (f r) matches (matches_idle o (f r).stage (f r).entries quiet))
-    (drains_balance o a Worker.Idle r (f r) n (λ i. 0) from (in_no_drain o Worker.Idle (λ p i. refl)) (λ i. omega (arith, even i))) outside (λ i. refl) s
+    (drains_balance o a Worker.Idle r (f r) n (λ i. 0) from (in_no_drain o Worker.Idle (λ p i. refl)) (λ i. omega (arith, even i))) outside (at_none Worker.Idle refl) s
 
 pub not_base_of : (stage : Stage) → is_running stage ≡ false → stage ≡ InBase → ⊥
 not_base_of stage h e = false≢true (sym h ∙ ap is_running e)

@@ -1,5 +1,6 @@
 -- What the events that begin an operation and collect one do.
 use Rattle.std.proofs.Common.{Bool, List, None, Option, Result, Some, [], ap, arith, cond, false, find, get_or, inl, inr, length, refl, subst, suc, sym, true, ℕ, ◌&&◌, ◌++◌, ◌+◌, ◌-◌, ◌<◌, ◌==◌, ◌^◌, ◌||◌, ◌∙◌, ◌∷◌, ◌≡◌, ◌≤◌}
+use Rattle.fm_world.proofs.Words.{IsOwned}
 use Rattle.fm_world.proofs.Words.{All, All-head, All-nil, All-push, All-tail, AllPairs, Answer, Ask, AskCarries, Request, Begins, Collects}
 use Rattle.fm_world.proofs.Words.{CreateMode, CtxId, Descending, FileHandle, FileStream, FileTable, FlowRecord, FlowTable, HandleId, HandlePhase}
 use Rattle.fm_world.proofs.Words.{IsAmong, IsCreatedOn, IsFileSound, IsFiled, IsFlow, IsLawful, IsSound, IsUnderWay, KeepsHands, OpId, Operation}
@@ -78,7 +79,7 @@ operation_begins old v stream handle path p on within free s =
       hands = s.hands;
       workers = λ o x. s.workers o x ∙ sym (told_push (standing x) o old.flow.operations fresh (ap one (quiet x)));
       drains = λ o i. s.drains o i ∙ sym (told_push (λ (x : FlowRecord). drain_opens i x.entries) o old.flow.operations fresh refl);
-      setups = s.setups;
+      desks = s.desks;
     }
 
 pub total_push : (f : FlowRecord → ℕ) (rs : List FlowRecord) (r : FlowRecord) → f r ≡ 0 → total f (rs ++ r ∷ []) ≡ total f rs
@@ -228,7 +229,7 @@ found_once o (x ∷ rs) r pairs h =
     ∙ found_once o rs r (λ i j d p q. pairs (suc i) (suc j) d (omega arith) (omega arith)) found) h
 
 -- what is told of operations stays where one goes of which nothing was told
-told_without : (read : FlowRecord → ℕ) (p : OpId) (t : FlowTable) (o : OpId) (r : FlowRecord) → AllPairs Ascends t.operations → operation_at o t ≡ Some r
+pub told_without : (read : FlowRecord → ℕ) (p : OpId) (t : FlowTable) (o : OpId) (r : FlowRecord) → AllPairs Ascends t.operations → operation_at o t ≡ Some r
     → read r ≡ 0 → told read 0 p t ≡ told read 0 p (removed o t)
 told_without read p t o r pairs at none =
     let tell = λ (m : Option FlowRecord). unwrap_or (option_map read m) 0 in
@@ -254,26 +255,57 @@ filed_collects f o t h =
 done_none : (r : FlowRecord) → is_done r ≡ true → is_creating r ≡ false
 done_none r h1 = grind arith
 
-stands_collected : (f : FileTable) (o : OpId) (t : FlowTable) (m : Option FlowRecord) → operation_at o t ≡ m → Stands none_out f t.operations t.next
-    → Stands none_out f (collected_in o t m).operations (collected_in o t m).next
-stands_collected f o t m at h =
-    collected_by (λ u. Stands none_out f u.operations u.next) o t m at h
-    (λ r at done. stands_same f t.operations t.next (is_number o) marked r at (record { stream = refl; handle = refl; creating = refl }) h) (λ r at done d.
+stands_gone : (f : FileTable) (o : OpId) (t : FlowTable) (r : FlowRecord) → operation_at o t ≡ Some r → is_done r ≡ true → Stands none_out f t.operations t.next
+    → Stands none_out f (removed o t).operations (removed o t).next
+stands_gone f o t r at done h =
     let gone = λ (q : StreamId) (x : FlowRecord) (found : operation_at o t ≡ Some x).
     subst (λ (y : FlowRecord). is_creating_on q y ≡ false) (same_Some r x (sym at ∙ found)) (ap (λ b. b && is_on_stream q r.stream) (done_none r done)) in
     stands_among none_out none_out f t.operations (without_first (is_number o) t.operations) t.next t.next (all_without (IsCreatedOn f) (is_number o) t.operations h.creates_on)
     (all_without (IsOn f) (is_number o) t.operations h.operations_on) (omega arith)
-    (λ q apart was. ap (λ a. has_handle_on q f || a) (any_without (is_creating_on q) (is_number o) t.operations (λ x found. gone q x found)) ∙ was refl) h)
+    (λ q apart was. ap (λ a. has_handle_on q f || a) (any_without (is_creating_on q) (is_number o) t.operations (λ x found. gone q x found)) ∙ was refl) h
+
+stands_collected : (f : FileTable) (o : OpId) (t : FlowTable) (m : Option FlowRecord) → operation_at o t ≡ m → Stands none_out f t.operations t.next
+    → Stands none_out f (collected_in o t m).operations (collected_in o t m).next
+stands_collected f o t m at h =
+    collected_by (λ u. Stands none_out f u.operations u.next) o t m at h
+    (λ r at done. stands_same f t.operations t.next (is_number o) marked r at (record { stream = refl; handle = refl; creating = refl }) h) (λ r at done d. stands_gone f o t r at done h)
 
 file_collects : (f : FileTable) (o : OpId) (t : FlowTable) → IsFileSound f t → IsFileSound f (collected_of o t)
 file_collects f o t h = sound_from f (collected_of o t) (filed_collects f o t h.room) (stands_collected f o t (operation_at o t) refl (stands_in f t h))
 
--- ---- collect
+-- an operation that is done goes, and no drain of it runs
+pub file_gone : (f : FileTable) (o : OpId) (t : FlowTable) (r : FlowRecord) → operation_at o t ≡ Some r → is_done r ≡ true → IsFileSound f t → IsFileSound f (removed o t)
+file_gone f o t r at done h =
+    let counts = count_without is_creating (is_number o) t.operations in
+    sound_from f (removed o t) (record { numbers = omega (arith, counts, h.room.numbers); few = omega (arith, counts, h.room.few) }) (stands_gone f o t r at done (stands_in f t h))
 
-total_without : (f : FlowRecord → ℕ) (test : FlowRecord → Bool) (rs : List FlowRecord) (r : FlowRecord) → find test rs ≡ Some r
+pub total_without : (f : FlowRecord → ℕ) (test : FlowRecord → Bool) (rs : List FlowRecord) (r : FlowRecord) → find test rs ≡ Some r
     → total f (without_first test rs) + f r ≡ total f rs
 total_without f test [] r is = absurd (none-some r is)
 total_without f test (x ∷ rs) r is = grind (arith, (total_without f test rs r))
+
+pub goes_owned : (w : World) (o : OpId) (r : FlowRecord) → operation_at o w.flow ≡ Some r → IsLawful (λ c. carried c (removed o w.flow)) w.contexts → IsOwned w
+    → IsOwned (record w { flow = removed o w.flow })
+goes_owned w o r at lawful h =
+    flow_owned w (removed o w.flow) lawful
+    (all_without (λ (x : FlowRecord). All (AskCarries w.stack w.contexts.slots) (owed x.entries)) (is_number o) w.flow.operations h.completions)
+    (λ i rests. omega (arith, total_without (flight i.0) (is_number o) w.flow.operations r at, h.quiet i rests)) h
+
+pub goes_keeps : (w : World) (o : OpId) (r : FlowRecord) → operation_at o w.flow ≡ Some r → is_done r ≡ true → list_any is_running_drain r.entries ≡ false → IsFlow (removed o w.flow)
+    → IsUnderWay w → IsUnderWay (record w { flow = removed o w.flow })
+goes_keeps w o r at done d flow u =
+    let quiet = quiet_is_none r.stage r.entries (done_stage r.stage (owed r.entries) done) in
+    record {
+      stack = u.stack;
+      flow = flow;
+      among = all_without (IsAmong w.stack) (is_number o) w.flow.operations u.among;
+      hands = u.hands;
+      workers = λ p x. u.workers p x ∙ told_without (standing x) p w.flow o r u.flow.ascending at (ap one (quiet x));
+      drains = λ p i. u.drains p i ∙ told_without (λ (y : FlowRecord). drain_opens i y.entries) p w.flow o r u.flow.ascending at (none_running i r.entries d);
+      desks = u.desks;
+    }
+
+-- ---- collect
 
 pub done_owes : (stage : Stage) (asks : List Ask) → done_at stage asks ≡ true → asks ≡ []
 done_owes stage asks h = grind arith
@@ -287,7 +319,6 @@ unfolding Collects
 collect_does old o result new h = makes old (record old { flow = collected_of o old.flow }) new h.1 (still old.contexts) (λ s.
     let operations = old.flow.operations in
     let u = s.under_way in
-    let owes = λ (x : FlowRecord). All (AskCarries old.stack old.contexts.slots) (owed x.entries) in
     let opens = λ (i : ℕ) (y : FlowRecord). drain_opens i y.entries in
     collected_by (λ t. IsFlow t → IsLawful (λ c. carried c t) old.contexts → IsFileSound old.files t → IsSound (record old { flow = t })) o old.flow (operation_at o old.flow) refl
     (λ flow lawful filed. s)
@@ -299,7 +330,7 @@ collect_does old o result new h = makes old (record old { flow = collected_of o 
         hands = u.hands;
         workers = λ p x. u.workers p x ∙ told_same (standing x) p old.flow o r marked at (λ y. refl) refl;
         drains = λ p i. u.drains p i ∙ told_same (opens i) p old.flow o r marked at (λ y. refl) refl;
-        setups = u.setups;
+        desks = u.desks;
       };
       owned = flow_owned old (changed o marked old.flow) lawful
           (carry_changed old.stack old.contexts.slots old.flow o r marked at (asks_of old o r at s.owned) s.owned.completions)
@@ -307,20 +338,9 @@ collect_does old o result new h = makes old (record old { flow = collected_of o 
       filed = filed;
       links = s.links;
     })
-    (λ r at done d flow lawful filed.
-    let quiet = quiet_is_none r.stage r.entries (done_stage r.stage (owed r.entries) done) in
-    record {
-      under_way = record {
-        stack = u.stack;
-        flow = flow;
-        among = all_without (IsAmong old.stack) (is_number o) operations u.among;
-        hands = u.hands;
-        workers = λ p x. u.workers p x ∙ told_without (standing x) p old.flow o r u.flow.ascending at (ap one (quiet x));
-        drains = λ p i. u.drains p i ∙ told_without (opens i) p old.flow o r u.flow.ascending at (none_running i r.entries d);
-        setups = u.setups;
-      };
-      owned = flow_owned old (removed o old.flow) lawful (all_without owes (is_number o) operations s.owned.completions)
-          (λ i rests. omega (arith, total_without (flight i.0) (is_number o) operations r at, s.owned.quiet i rests)) s.owned;
+    (λ r at done d flow lawful filed. record {
+      under_way = goes_keeps old o r at done d flow u;
+      owned = goes_owned old o r at lawful s.owned;
       filed = filed;
       links = s.links;
     })

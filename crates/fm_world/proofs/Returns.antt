@@ -31,7 +31,7 @@ use Rattle.fm_world.proofs.Operations.{inside_base, inside_drain, inside_post, i
 use Rattle.fm_world.proofs.Owning.{empty_hand}
 use Rattle.fm_world.proofs.Staying.{Does, hand_emptied, loses_lasts, nothing, still, table_same, unchanged}
 use Rattle.fm_world.proofs.Streams.{Stands, none_out}
-use Rattle.fm_world.proofs.Ties.{Matches, in_a_drain, in_no_drain, is_running, matches_base, matches_drain, matches_post, matches_pre}
+use Rattle.fm_world.proofs.Ties.{at_none, Matches, in_a_drain, in_no_drain, is_running, matches_base, matches_drain, matches_post, matches_pre}
 use Rattle.fm_flow.specs.Sound as flow
 
 -- ---- a preoperation: the verdict that counts
@@ -160,7 +160,7 @@ pre_sound old k o i given lent after new at fits leaves loses s =
     loses_sound (pre_made old k o i given lent after) new loses
     (return_keeps old k (Worker.Pre o i) o r f (λ j. 0) at x.0.at (λ x. record { number = refl; collected = refl })
     (subst (Matches o (Worker.Pre o i)) (sym (ap (λ a. spot_at a r.entries) x.1 ∙ ap (option_map AtPre) x.2)) (matches_pre o i)) quiet
-    (in_no_drain o (Worker.Pre o i) (λ p j. refl)) (λ j. omega (arith, drains_pre_settled j state r.entries)) (λ j. refl)
+    (in_no_drain o (Worker.Pre o i) (λ p j. refl)) (λ j. omega (arith, drains_pre_settled j state r.entries)) (at_none (Worker.Pre o i) refl)
     (sound_pre_returned state lent r x.1 (counted_from state quiet) (sym (told_there (λ (x : FlowRecord). data_fits x.operation x.path lent) false o old.flow r x.0.at) ∙ fits) x.0.sound)
     (among_settles old.stack r.volume r.born r.operation r.entries r.stage (pre_leads state) (settle_pre state) (settle_pre_keeps state)
     (not_base_of (pre_leads state) quiet) x.0.among) s.under_way)
@@ -224,7 +224,7 @@ base_sound old k o call given new at fits loses s =
     loses_sound (base_returned old k o call given) new loses
     (return_keeps old k (Worker.Base o) o r f (λ j. 0) at x.0.at (λ x. record { number = refl; collected = refl })
     (subst (Matches o (Worker.Base o)) (sym (ap (λ a. spot_at a r.entries) x.1)) (matches_base o)) refl
-    (in_no_drain o (Worker.Base o) (λ p j. refl)) (λ j. omega (arith, drains_push j r.entries (Base counts.status counts.information))) (λ j. refl)
+    (in_no_drain o (Worker.Base o) (λ p j. refl)) (λ j. omega (arith, drains_push j r.entries (Base counts.status counts.information))) (at_none (Worker.Base o) refl)
     (sound_base call given handle r x.1 fitting x.0.sound)
     (among_base old.stack r.volume r.born r.operation r.entries r.stage counts.status counts.information no_base' (x.0.among.base x.1) x.0.among) s.under_way)
     (step_owned old o r f k (Worker.Base o) Worker.Idle old.contexts (hand_of old.contexts.hands k.0) x.0.at at (worker_below old k (Worker.Base o) at s.under_way) refl refl
@@ -264,7 +264,7 @@ drain_balance w k o i at s c =
     omega (arith, carried_changed w.flow o x.row (drain_returned_of i) x.at c, drain_returned_carries c i x.row)
 
 -- a callback of an operation that has its answer returns: streams and handles stay, and what has a link has it still
-returned_sound : (old : World) (k : WorkerId) (a : Worker) (o : OpId) (r : FlowRecord) (f : FlowRecord → FlowRecord) (after : ContextTable) → operation_at o old.flow ≡ Some r
+pub returned_sound : (old : World) (k : WorkerId) (a : Worker) (o : OpId) (r : FlowRecord) (f : FlowRecord → FlowRecord) (after : ContextTable) → operation_at o old.flow ≡ Some r
     → worker_at old.workers k ≡ Some a → cleanup_in (Some a) ≡ None → SameFile r (f r) → Leaves (carries_after old o f) old.contexts after k.0
     → ((c : CtxId) → carries_after old o f c ≡ carries old c) → owed (f r).entries ≡ owed r.entries → ((j : ℕ) → flight j (f r) ≤ flight j r)
     → IsUnderWay (returned old k o f) → IsSound old → IsSound (record (returned old k o f) { contexts = after })
@@ -298,7 +298,7 @@ post_does old k given lent result new h = by_place lent (worker_at old.workers k
         (λ j. omega (arith, post_returned_flies j given back r x.1 x.0.sound))
         (return_keeps old k (Worker.Post o i) o r f (λ j. 0) at x.0.at (λ x. record { number = refl; collected = refl })
         (subst (Matches o (Worker.Post o i)) (sym (ap (λ a. spot_at a r.entries) x.1 ∙ ap (option_map AtPost) x.2)) (matches_post o i)) (post_quiet given)
-        (in_no_drain o (Worker.Post o i) (λ p j. refl)) (λ j. omega (arith, drains_post_settled j state r.entries)) (λ j. refl)
+        (in_no_drain o (Worker.Post o i) (λ p j. refl)) (λ j. omega (arith, drains_post_settled j state r.entries)) (at_none (Worker.Post o i) refl)
         (sound_post_returned given back r x.1 (sym (told_there (λ (x : FlowRecord). data_fits x.operation x.path back) false o old.flow r x.0.at) ∙ fits) x.0.sound)
         (among_settles old.stack r.volume r.born r.operation r.entries r.stage (post_leads state) (settle_post state) (settle_post_keeps state)
         (not_base_of (post_leads state) (post_quiet given)) x.0.among) s.under_way) s))
@@ -313,7 +313,7 @@ post_does old k given lent result new h = by_place lent (worker_at old.workers k
         returned_sound old k (Worker.Drain o i) o r f new.contexts x.0.at at refl (answered_same r (f r) refl refl (ap is_unanswered x.1) refl) e.1.0
         (drain_balance old k o i at s.under_way) (owed_drain_settled i.0 r.entries) (λ j. omega (arith, drain_returned_flies j i r x.1 x.0.sound))
         (return_keeps old k (Worker.Drain o i) o r f (λ j. one (i.0 == j)) at x.0.at (λ x. record { number = refl; collected = refl })
-        (subst (Matches o (Worker.Drain o i)) (sym (ap (λ a. spot_at a r.entries) x.1)) (matches_drain o i)) refl (in_a_drain o i) even (λ j. refl)
+        (subst (Matches o (Worker.Drain o i)) (sym (ap (λ a. spot_at a r.entries) x.1)) (matches_drain o i)) refl (in_a_drain o i) even (at_none (Worker.Drain o i) refl)
         (sound_drain_returned i r x.1 x.0.sound)
         (among_settles old.stack r.volume r.born r.operation r.entries r.stage Ascending (settle_drain i.0) (settle_drain_keeps i.0)
         (not_base_of Ascending refl) x.0.among) s.under_way) s)

@@ -15,6 +15,8 @@ use Rattle.fm_world.proofs.Belonging.{AllCarry, AllPass, held_has}
 use Rattle.fm_world.proofs.Callbacks.{bump_does, callback_left, read_body_does, reference_does, release_does, write_body_does}
 use Rattle.fm_world.proofs.Cases.{by_bool, by_option, some_of}
 use Rattle.fm_world.proofs.Cleanups.{cleaned_does, finish_does, none_one, take_due_does}
+use Rattle.fm_world.proofs.Detaching.{ask_detach_does, complete_returned_does, complete_teardown_does, query_does, start_returned_does, start_teardown_does}
+use Rattle.fm_world.proofs.Draining.{drain_done_does, drain_take_does}
 use Rattle.fm_world.proofs.Filed.{file_empty}
 use Rattle.fm_world.proofs.Linking.{allocate_does, delete_does, get_does, set_does}
 use Rattle.fm_world.proofs.Owning.{attach_does, mount_does, register_does, setup_does}
@@ -23,6 +25,7 @@ use Rattle.fm_world.proofs.Resumes.{first_held_does, resume_post_does, resume_pr
 use Rattle.fm_world.proofs.Returns.{base_does, post_does, pre_does}
 use Rattle.fm_world.proofs.Staying.{Does}
 use Rattle.fm_world.proofs.Turns.{next_does}
+use Rattle.fm_world.proofs.Unloading.{ask_unload_does, empty_filter_does, finish_filter_does, force_unload_does, unload_does}
 use Rattle.fm_flow.specs.Sound as flow
 
 -- ---- whose it is
@@ -63,7 +66,11 @@ held_none (hand ∷ hands) c none = omega (arith, sum_by-cons (λ (h : List CtxI
 -- a worker in a callback of the instance would be in one whose links are kept
 not_held : (w : World) (i : InstanceId) (c : CtxId) (x : Context) (k : WorkerId) → IsSound w → keeps_links_by (row_at w.stack i) ≡ false
     → context_at w.contexts.slots c ≡ Some x → x.owner ≡ Owner.Instance i → HoldsIn w.stack w.contexts.slots (place_in (worker_at w.workers k)) c → ⊥
-not_held w i c x k h5 h6 h7 h8 h9 = grind (arith, some_of, callback_left, callback_of_owner)
+not_held w i c x k s gone there own h =
+    by_option (λ m. HoldsIn w.stack w.contexts.slots m c → ⊥) (place_in (worker_at w.workers k)) (λ _ held. held) (λ j is held.
+    let row = some_of (λ m. belongs_by m j (context_at w.contexts.slots c)) (row_at w.stack j) refl held in
+    let same : row_at w.stack j ≡ row_at w.stack i = ap (slice_get w.stack.instances) (callback_of_owner w.stack w.contexts.slots c i j x there own held) in
+    true≢false (sym (callback_left w k j row.0 s is row.1).1 ∙ ap keeps_links_by same ∙ gone)) h
 
 none_held : (w : World) (i : InstanceId) (c : CtxId) (x : Context) → IsSound w → keeps_links_by (row_at w.stack i) ≡ false → context_at w.contexts.slots c ≡ Some x
     → x.owner ≡ Owner.Instance i → held w.contexts.hands c ≡ 0
@@ -215,6 +222,19 @@ step_does old (Step.Bump k c at by) (StepReply.Number r) new h = bump_does old k
 step_does old (Step.TakeDue k) (StepReply.Due r) new h = take_due_does old k r new h
 step_does old (Step.Cleaned k number) (StepReply.Done r) new h = cleaned_does old k number r new h
 step_does old (Step.Finish i) (StepReply.Done r) new h = finish_does old i r new h
+step_does old (Step.AskDetach k i) (StepReply.Done r) new h = ask_detach_does old k i r new h
+step_does old (Step.QueryReturned k allow) (StepReply.Done r) new h = (query_does old k allow r new h).0
+step_does old (Step.StartTeardown k i) (StepReply.Done r) new h = start_teardown_does old k i r new h
+step_does old (Step.StartReturned k) (StepReply.Done r) new h = (start_returned_does old k r new h).0
+step_does old (Step.DrainTake k i) (StepReply.Drained r) new h = (drain_take_does old k i r new h).0
+step_does old (Step.DrainDone k) (StepReply.Done r) new h = (drain_done_does old k r new h).0
+step_does old (Step.CompleteTeardown k i) (StepReply.Done r) new h = complete_teardown_does old k i r new h
+step_does old (Step.CompleteReturned k) (StepReply.Done r) new h = (complete_returned_does old k r new h).0
+step_does old (Step.AskUnload k f) (StepReply.Done r) new h = ask_unload_does old k f r new h
+step_does old (Step.UnloadReturned k allow) (StepReply.Done r) new h = unload_does old k allow r new h
+step_does old (Step.ForceUnload f) (StepReply.Done r) new h = force_unload_does old f r new h
+step_does old (Step.EmptyFilter f) (StepReply.Done r) new h = (empty_filter_does old f r new h).0
+step_does old (Step.FinishFilter f) (StepReply.Done r) new h = finish_filter_does old f r new h
 step_does old _ _ new h = absurd h
 
 pub step_keeps : (old : World) (s : Step) (r : StepReply) (new : World) → Steps old s r new → IsSound old → IsSound new

@@ -4,6 +4,7 @@ use Rattle.fm_world.proofs.Words.{AtBase, AtDrain, AtPost, AtPre, Entry, FlowRec
 use Rattle.fm_world.proofs.Words.{PreRunning, Spot, Stage, Worker, WorkerId, and_right, cases_eq, changed, drain_opens, drains_running, eq-eqb}
 use Rattle.fm_world.proofs.Words.{eqb-true, find, find_changed, find_unchanged, get_or_from_slice_get, is_in_at, is_in_drain, is_number, is_spot}
 use Rattle.fm_world.proofs.Words.{last_posted, last_visited, ne_eqb, one, one_of_and, operation_at, option_map, put, same_either}
+use Rattle.fm_world.proofs.Words.{Desk, is_at, IsStaffed, Instance}
 use Rattle.fm_world.proofs.Words.{slice_get_within, spot_at, spot_of, stands_at, sum_by-set, told, unwrap_or, worker_at}
 use Rattle.std.proofs.lemmas.Bool.Decides.{nat_tests}
 use Rattle.fm_world.proofs.Cases.{count-some, one_true}
@@ -24,6 +25,25 @@ pub count_stays : (p : Worker → Bool) (workers : List Worker) (k : WorkerId) (
 count_stays p workers k a b h na nb =
     let from : one (p a) ≡ 0 = ap one na in
     grind (arith, count_moves)
+
+-- the instance whose callback a worker is in that doesn't belong to an operation
+abbrev pub desk_of : Worker → Option InstanceId
+desk_of (Worker.Setup i) = Some i
+desk_of (Worker.Query i) = Some i
+desk_of (Worker.Start i) = Some i
+desk_of (Worker.Complete i) = Some i
+desk_of _ = None
+
+abbrev pub AtNoDesk : Worker → Type 0
+AtNoDesk a = (d : Desk) (i : ℕ) → is_at d i a ≡ false
+
+pub at_none : (a : Worker) → desk_of a ≡ None → AtNoDesk a
+at_none a h d i = grind arith
+
+-- a worker goes from one such place to another
+pub staffed_still : (d : Desk) (i : ℕ) (workers : List Worker) (k : WorkerId) (a b : Worker) (m : Option Instance) → worker_at workers k ≡ Some a → AtNoDesk a → AtNoDesk b
+    → IsStaffed d m (count_by (is_at d i) workers) → IsStaffed d m (count_by (is_at d i) (put workers k b))
+staffed_still d i workers k a b m at from to h = subst (IsStaffed d m) (sym (count_stays (is_at d i) workers k a b at (from d i) (to d i))) h
 
 -- what is counted of an operation, after a change of one
 told_changed : (read : FlowRecord → ℕ) (p : OpId) (t : FlowTable) (o : OpId) (r : FlowRecord) (f : FlowRecord → FlowRecord) → operation_at o t ≡ Some r

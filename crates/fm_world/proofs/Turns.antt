@@ -9,7 +9,7 @@ use Rattle.fm_world.proofs.Words.{Worker, WorkerId, World, after_next, ascend, b
 use Rattle.fm_world.proofs.Words.{call_pre, carried_in, carries, carries_after, change_first, change_none, changed, cleanup_in, descend}
 use Rattle.fm_world.proofs.Words.{drains_at, drains_given, false≢true, filed_next, flow_after_next, found_holds, get_or_from_slice_get}
 use Rattle.fm_world.proofs.Words.{give_post, given_by_next, given_with, gives_nothing, grabbed, hand_of, handed, has_base, in_flight, is_among}
-use Rattle.fm_world.proofs.Words.{is_create, is_creating, is_flown_by, is_in_at, is_in_setup, is_number, is_spot, is_unanswered, lawful_alike}
+use Rattle.fm_world.proofs.Words.{is_create, is_creating, is_flown_by, is_in_at, is_number, is_spot, is_unanswered, lawful_alike}
 use Rattle.fm_world.proofs.Words.{may_take, next_at, next_drains, next_of, none-some, one, operation_at, option_map, owed, place_in, put}
 use Rattle.fm_world.proofs.Words.{received, row_at, set-get_or, slice_get_within, slice_set, spot_of, take, times, turn, unwound_to, unwrap_or}
 use Rattle.fm_world.proofs.Words.{visited, way_of, with_base, with_drain, with_visit, worker_at}
@@ -29,7 +29,7 @@ use Rattle.fm_world.proofs.Losing.{loses_sound}
 use Rattle.fm_world.proofs.Operations.{step_keeps, told_there}
 use Rattle.fm_world.proofs.Owning.{empty_hand}
 use Rattle.fm_world.proofs.Staying.{Does, Gives, HandMore, hand_given, loses_lasts, nothing, table_same}
-use Rattle.fm_world.proofs.Ties.{BalancesSpots, InDrains, Matches, drains_balance, in_a_drain, in_no_drain, is_running, matches_drain, matches_idle, matches_post, matches_pre, quiet_is_nowhere, spots_balance, standing}
+use Rattle.fm_world.proofs.Ties.{AtNoDesk, at_none, BalancesSpots, InDrains, Matches, drains_balance, in_a_drain, in_no_drain, is_running, matches_drain, matches_idle, matches_post, matches_pre, quiet_is_nowhere, spots_balance, standing}
 use Rattle.fm_flow.specs.Sound as flow
 
 -- ---- what it makes of an operation, decided once
@@ -162,17 +162,17 @@ placed_by o _ = Worker.Idle
 
 pub record Placed (o : OpId) (reply : Result FlowAction Status) : Type 0 where
   pub drains : InDrains o (placed_by o reply) (λ i. drains_given i reply)
-  pub outside : (i : ℕ) → is_in_setup i (placed_by o reply) ≡ false
+  pub outside : AtNoDesk (placed_by o reply)
   pub puts : (workers : List Worker) (k : WorkerId) → worker_at workers k ≡ Some Worker.Idle → after_next workers k o reply ≡ put workers k (placed_by o reply)
 
 pub placed : (o : OpId) (reply : Result FlowAction Status) → Placed o reply
-placed o (Ok (FlowAction.Drain i completion)) = record { drains = in_a_drain o i; outside = λ j. refl; puts = λ workers k idle. refl }
-placed o (Ok (FlowAction.Pre i lent)) = record { drains = in_no_drain o (Worker.Pre o i) (λ p j. refl); outside = λ j. refl; puts = λ workers k idle. refl }
-placed o (Ok (FlowAction.Base call)) = record { drains = in_no_drain o (Worker.Base o) (λ p j. refl); outside = λ j. refl; puts = λ workers k idle. refl }
-placed o (Ok (FlowAction.Post i lent completion)) = record { drains = in_no_drain o (Worker.Post o i) (λ p j. refl); outside = λ j. refl; puts = λ workers k idle. refl }
+placed o (Ok (FlowAction.Drain i completion)) = record { drains = in_a_drain o i; outside = at_none (Worker.Drain o i) refl; puts = λ workers k idle. refl }
+placed o (Ok (FlowAction.Pre i lent)) = record { drains = in_no_drain o (Worker.Pre o i) (λ p j. refl); outside = at_none (Worker.Pre o i) refl; puts = λ workers k idle. refl }
+placed o (Ok (FlowAction.Base call)) = record { drains = in_no_drain o (Worker.Base o) (λ p j. refl); outside = at_none (Worker.Base o) refl; puts = λ workers k idle. refl }
+placed o (Ok (FlowAction.Post i lent completion)) = record { drains = in_no_drain o (Worker.Post o i) (λ p j. refl); outside = at_none (Worker.Post o i) refl; puts = λ workers k idle. refl }
 placed o _ = record {
   drains = in_no_drain o Worker.Idle (λ p j. refl);
-  outside = λ j. refl;
+  outside = at_none Worker.Idle refl;
   puts = λ workers k idle. sym (ap (put workers k) (sym (get_or_from_slice_get workers k.0 Worker.Idle Worker.Idle idle)) ∙ set-get_or workers k.0 Worker.Idle);
 }
 
@@ -272,7 +272,7 @@ next_keeps old k o new e s =
     (step_keeps old o r f k Worker.Idle (placed_by o reply) e.at e.idle (next_stays k e.lies d)
     (sound_next k e.lies d r sound (λ down. may_visit old.stack r e.lies among (e.finds down))) leads.among leads.spots
     (drains_balance o Worker.Idle (placed_by o reply) r (f r) (λ i. 0) (λ i. drains_given i reply) (in_no_drain o Worker.Idle (λ p i. refl)) place.drains
-    (λ i. omega (arith, next_drains i k e.lies d r))) (λ i. refl) place.outside s)
+    (λ i. omega (arith, next_drains i k e.lies d r))) (at_none Worker.Idle refl) place.outside s)
 
 -- ---- contexts
 
@@ -294,7 +294,7 @@ next_balance w o k lies d r at finds s c =
     omega (arith, carried_changed w.flow o r (λ (x : FlowRecord). (next_of k lies d x).after) at c, next_carries c k lies d r (λ e. may_visit w.stack r lies among (finds e)) sound)
 
 -- a completion comes back to the worker that it is given to
-brought_owned : (w : World) (o : OpId) (r : FlowRecord) (f : FlowRecord → FlowRecord) (k : WorkerId) (b : Worker) (i : InstanceId) (m : Option CtxId)
+pub brought_owned : (w : World) (o : OpId) (r : FlowRecord) (f : FlowRecord → FlowRecord) (k : WorkerId) (b : Worker) (i : InstanceId) (m : Option CtxId)
     → operation_at o w.flow ≡ Some r → worker_at w.workers k ≡ Some Worker.Idle → k.0 < 48 → cleanup_in (Some b) ≡ None → place_in (Some b) ≡ Some i
     → ((c : CtxId) → carries w c ≡ carries_after w o f c + carried_in c (record { number = 0; context = m })) → CarriesIn w.stack w.contexts.slots i m
     → All (AskCarries w.stack w.contexts.slots) (owed (f r).entries)

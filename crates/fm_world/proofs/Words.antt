@@ -12,9 +12,9 @@ pub use Rattle.std.specs.List.{cons_option, list_any}
 pub use Rattle.std.specs.Prelude.{All, filter_map, slice_set, slice_get, option_map, AllPairs, unwrap_or, nat_le, length, count_by, IfOk, find, take}
 pub use Rattle.fm_world.specs.Words.{updated, change_first, without_first, first_of, Answers, AnswersOrMemory, ContextKind, CtxId, FilterId, HandleId}
 pub use Rattle.fm_world.specs.Words.{InstanceId, OpId, StreamId, VolumeId, WorkerId, Operation, Status, Answer, Params, is_emptying_at, finished}
-pub use Rattle.fm_world.specs.Words.{is_mounted, is_setup, is_lower_at, clashes, is_attached, is_detached, is_candidate, is_to_visit, is_below_cursor}
+pub use Rattle.fm_world.specs.Words.{is_mounted, is_setup, is_stopping, is_completing, is_lower_at, clashes, is_attached, is_detached, is_candidate, is_to_visit, is_below_cursor}
 pub use Rattle.fm_world.specs.Words.{NonePasses, StackWorld, Instance, Phase, hand_of, cleaning_of, one, open_of, IsLawful, grabbed, released, Leaves}
-pub use Rattle.fm_world.specs.Words.{is_linked_of, Context, Slot, ContextTable, owner_at, link_at, Due, Object, Owner, is_create, is_creating}
+pub use Rattle.fm_world.specs.Words.{Sweeps, is_linked_of, Context, Slot, ContextTable, owner_at, link_at, Due, Object, Owner, is_create, is_creating}
 pub use Rattle.fm_world.specs.Words.{is_on_stream, creates, visited, last_visited, posted, last_posted, has_base, owed, instances, FlowRecord}
 pub use Rattle.fm_world.specs.Words.{FlowTable, operation_at, changed, told, empty_table, begun, collected_of, in_flight, carried, is_full, IsFlow}
 pub use Rattle.fm_world.specs.Words.{FlowAction, Ask, Entry, PreState, Stage, Descending, InBase, PostRunning, PreRunning, InDrain}
@@ -95,17 +95,21 @@ pub use Rattle.fm_world.specs.Files.{FileTable, empty_files, is_handle, handle_a
 pub use Rattle.fm_world.specs.Files.{with_phase, torn_down, created_in, stream_of_path, has_handle_on, is_stream, fresh_stream, phased, is_on}
 pub use Rattle.fm_world.specs.Files.{is_at_path, with_mark}
 pub use Rattle.fm_world.specs.Hands.{pairs_in, OnlyHandOf, KeepsHands, hand_len, HoldsMore, HoldsFewer, HoldsNone, given_with, given_by_set}
-pub use Rattle.fm_world.specs.Hands.{given_by_next, left_by_setup, taken_by_resume}
+pub use Rattle.fm_world.specs.Hands.{given_by_next, left_by, left_by_setup, taken_by_resume}
 pub use Rattle.fm_world.specs.Headline.{Spot, AtPre, is_in_at, is_in_drain, drains_running, AtBase, AtPost, AtDrain, spot_at, spot_of, is_spot}
 pub use Rattle.fm_world.specs.Headline.{Headline, RulesKeepHeadline, DescendsIn, IsAscent, IsInOrder, IsSynchronized, stands_at}
 pub use Rattle.fm_world.specs.Links.{names_there, LosesLinks, is_there, is_on_gone}
 pub use Rattle.fm_world.specs.Owners.{row_at, owner_by, place_in, belongs, belongs_by, HoldsIn, CarriesIn, AskCarries, file_of, fits, owner_fits}
 pub use Rattle.fm_world.specs.Owners.{link_fits, is_left_by, is_flown_by, is_flown, may_link, keeps_links, keeps_links_by, holds_links_by, has_kind}
 pub use Rattle.fm_world.specs.Owners.{object_by, is_closing}
-pub use Rattle.fm_world.specs.Sound.{IsAmongAt, NoneLeft, IsSound, IsOwned, AreOwned, IsUnderWay, AreUnderWay, is_in_setup, setup_row, IsFiled}
-pub use Rattle.fm_world.specs.Sound.{IsFileSound, IsAmong}
+pub use Rattle.fm_world.specs.Sound.{IsAmongAt, NoneLeft, IsSound, IsOwned, AreOwned, IsUnderWay, AreUnderWay, IsFiled}
+pub use Rattle.fm_world.specs.Sound.{IsFileSound, IsAmong, IsStaffed, least_at, most_at, is_made}
 pub use Rattle.fm_world.specs.Steps.{Steps, Run, RunThrough}
+unfoldable pub use Rattle.fm_world.specs.Teardowns.{AsksDetach, QueryReturns, StartsTeardown, StartReturns, CompletesTeardown, CompleteReturns}
+unfoldable pub use Rattle.fm_world.specs.Teardowns.{AsksUnload, UnloadReturns, ForcesUnload, EmptiesFilter, FinishesFilter}
+pub use Rattle.fm_world.specs.Teardowns.{QueryReturnsAt, StartReturnsAt, CompleteReturnsAt, UnloadReturnsAt, SweepsWhere}
 pub use Rattle.fm_world.specs.Workers.{worker_at, put, cleanup_in, after_next, is_idle, gives_nothing, after_attach}
+pub use Rattle.fm_world.specs.Workers.{Desk, AtSetup, AtQuery, AtStart, AtComplete, is_at, is_in_query, is_queried, is_asked_to_unload, after_entering}
 pub use Rattle.fm_world.specs.World.{World, carries, reference_count, empty_world, empty_stack}
 pub use Rattle.fm_world.specs.declared.file.FileHandle.{FileHandle}
 pub use Rattle.fm_world.specs.declared.file.FileObject.{FileObject}

@@ -1,9 +1,9 @@
 -- The events on contexts: the refusals of each, in their order, and what it makes of the World. A refusal changes nothing, but for a `set` with Keep
 -- that hands out the context which is there. An event of a callback is refused first of all, with WrongStep, where the worker is in none.
-use Rattle.std.specs.Prelude.{◌≡◌, ℕ, ◌+◌, ◌%◌, ◌^◌, ◌||◌, Bool, true, not, cond, nat_lt, List, [], ◌∷◌, Option, Some, None, is_some, is_none, option_map, option_and_then, slice_get, Result, Ok, Err}
+use Rattle.std.specs.Prelude.{◌≡◌, ℕ, ◌+◌, ◌%◌, ◌^◌, ◌||◌, Bool, true, not, cond, nat_lt, List, [], ◌∷◌, Option, Some, None, is_some, is_none, option_map, option_and_then, slice_get, Result, Ok, Err, ⊤}
 use Rattle.fm_world.specs.Words.{CtxId, FilterId, InstanceId, WorkerId, ContextKind, Status, updated, first_of, Answers, AnswersOrMemory, Instance}
 use Rattle.fm_world.specs.Words.{StackWorld, is_detached, is_emptying_at, finished, Due, Object, holds, hand_of, open_of, grabbed, released}
-use Rattle.fm_world.specs.Words.{reference_refusal, release_refusal, Context, ContextTable, context_at, link_at}
+use Rattle.fm_world.specs.Words.{reference_refusal, release_refusal, Context, ContextTable, context_at, link_at, owner_at, places}
 use Rattle.fm_ctx.specs.declared.set_reply.SetMode.{SetMode}
 use Rattle.fm_ctx.specs.declared.set_reply.SetReply.{SetReply}
 use Rattle.fm_ctx.specs.Births.{IsNew, new_context, allocated, allocate_refusal}
@@ -218,3 +218,13 @@ finish_refused w i =
 
 unfoldable pub Finishes : World → InstanceId → Result (Unit {0}) Status → World → Type 0
 Finishes old i result new = Answers (finish_refused old i) result old new (λ _. new ≡ record old { stack = finished old.stack i })
+
+-- each context that an instance owns and that isn't cleaned waits for its cleanup: it is due, or one worker cleans it up
+abbrev pub OwnsOnlyWaiting : World → InstanceId → Type 0
+OwnsOnlyWaiting w i = (c : CtxId) → owner_at w.contexts.slots c ≡ Some (owner.Instance i) → places w.contexts.due w.contexts.cleaning c ≡ 1
+
+-- so it is where its end is refused with Busy
+abbrev pub WaitsIfBusy : World → InstanceId → Result (Unit {0}) Status → Type 0
+WaitsIfBusy w i (Err (status.Busy n)) = OwnsOnlyWaiting w i
+WaitsIfBusy w i (Err other) = ⊤
+WaitsIfBusy w i (Ok done) = ⊤

@@ -1,6 +1,7 @@
 -- What workers hold, counted: what a lock above the state rests on, which keeps a book of all hands without looking at any but its own.
 use Rattle.std.specs.Prelude.{◌≡◌, ℕ, ◌+◌, List, length, sum_by, Option, Some, None, is_some, Result, Ok, Err}
 use Rattle.fm_world.specs.Words.{CtxId, InstanceId, OpId, WorkerId, Status, one, hand_of, FlowAction}
+use Rattle.fm_data.specs.declared.verdict.Completion.{Completion}
 use Rattle.fm_data.specs.declared.verdict.PreVerdict.{PreVerdict}
 use Rattle.fm_world.specs.Events.{sent_in, state_at}
 use Rattle.fm_flow.specs.declared.action.FlowAction.TheVariants as action
@@ -8,6 +9,7 @@ use Rattle.fm_world.specs.declared.set_answer.SetAnswer.{SetAnswer}
 use Rattle.fm_world.specs.declared.set_answer.SetAnswer.TheVariants as answer
 use Rattle.fm_world.specs.declared.worker.Worker.{Worker}
 use Rattle.fm_world.specs.declared.worker.Worker.TheVariants as place
+use Rattle.fm_world.specs.Workers.{Desk, AtSetup, AtQuery, AtStart, AtComplete}
 use Rattle.fm_world.specs.World.{World}
 
 -- how many references a list of hands has in all
@@ -58,10 +60,20 @@ given_by_next (action.Post i lent completion) = given_with completion.context
 given_by_next (action.Drain i completion) = given_with completion.context
 given_by_next _ = 0
 
--- the end of a setup callback, whatever its answer, leaves none
+abbrev pub given_by_drain : Option (OpId × Completion) → ℕ
+given_by_drain None = 0
+given_by_drain (Some (o, completion)) = given_with completion.context
+
+-- the end of such a callback, whatever its answer, leaves none
+abbrev pub left_by : Desk → Option Worker → ℕ → ℕ
+left_by AtSetup (Some (place.Setup i)) n = 0
+left_by AtQuery (Some (place.Query i)) n = 0
+left_by AtStart (Some (place.Start i)) n = 0
+left_by AtComplete (Some (place.Complete i)) n = 0
+left_by _ _ n = n
+
 abbrev pub left_by_setup : Option Worker → ℕ → ℕ
-left_by_setup (Some (place.Setup i)) n = 0
-left_by_setup _ n = n
+left_by_setup m n = left_by AtSetup m n
 
 -- how many references a preoperation that is resumed sends along with its completion
 abbrev pub taken_by_resume : World → WorkerId → OpId → PreVerdict → Option InstanceId → ℕ

@@ -57,6 +57,10 @@ is_in_at o _ (place.EarlyDrain p j) = false
 is_in_at o _ place.Idle = false
 is_in_at o _ (place.Setup i) = false
 is_in_at o _ (place.Cleanup c) = false
+is_in_at o _ (place.Query i) = false
+is_in_at o _ (place.Start i) = false
+is_in_at o _ (place.Complete i) = false
+is_in_at o _ (place.Unload f) = false
 
 -- where that is, by its stage and its last entry; nowhere, where it is with no worker
 abbrev pub spot_at : Stage → List Entry → Option Spot
@@ -90,6 +94,10 @@ is_in_drain o i (place.Pre p j) = false
 is_in_drain o i (place.Base p) = false
 is_in_drain o i (place.Post p j) = false
 is_in_drain o i (place.Cleanup c) = false
+is_in_drain o i (place.Query j) = false
+is_in_drain o i (place.Start j) = false
+is_in_drain o i (place.Complete j) = false
+is_in_drain o i (place.Unload f) = false
 
 -- how many drains of an instance run in the operation of that number
 abbrev pub drains_running : OpId → ℕ → FlowTable → ℕ

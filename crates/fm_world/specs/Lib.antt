@@ -8,6 +8,8 @@ pub mod Workers
 pub mod Owners
 pub mod Events
 pub mod ContextEvents
+pub mod Teardowns
+pub mod EarlyDrains
 pub mod Steps
 pub mod Descent
 pub mod Headline

@@ -16,16 +16,20 @@ use Rattle.fm_world.specs.declared.file.FileObject.{FileObject}
 use Rattle.fm_world.specs.declared.worker.Worker.{Worker}
 use Rattle.fm_world.specs.declared.worker.Worker.TheVariants as place
 
--- the instance whose callback a worker is in: for an operation, or for its setup
+-- the instance whose callback a worker is in: for an operation, for its setup, or for its teardown
 abbrev pub instance_in : Worker → Option InstanceId
 instance_in (place.Setup i) = Some i
 instance_in (place.Pre o i) = Some i
 instance_in (place.Post o i) = Some i
 instance_in (place.Drain o i) = Some i
 instance_in (place.EarlyDrain o i) = Some i
+instance_in (place.Query i) = Some i
+instance_in (place.Start i) = Some i
+instance_in (place.Complete i) = Some i
 instance_in place.Idle = None
 instance_in (place.Base o) = None
 instance_in (place.Cleanup c) = None
+instance_in (place.Unload f) = None
 
 abbrev pub place_in : Option Worker → Option InstanceId
 place_in m = option_and_then instance_in m
@@ -46,6 +50,10 @@ operation_in place.Idle = None
 operation_in (place.Setup i) = None
 operation_in (place.Base o) = None
 operation_in (place.Cleanup c) = None
+operation_in (place.Query i) = None
+operation_in (place.Start i) = None
+operation_in (place.Complete i) = None
+operation_in (place.Unload f) = None
 
 abbrev pub file_at : FlowTable → Option OpId → Option FileObject
 file_at t None = None

@@ -1,18 +1,19 @@
 -- What an induction over events needs besides the Headline, and from which the Headline follows.
-use Rattle.std.specs.Prelude.{◌≡◌, ℕ, ◌+◌, ◌<◌, ◌≤◌, Bool, true, false, cond, List, length, All, count_by, Option, Some, None, slice_get, ◌==◌}
+use Rattle.std.specs.Prelude.{◌≡◌, ℕ, ◌+◌, ◌<◌, ◌≤◌, ◌&&◌, Bool, true, false, List, length, All, count_by, Option, Some, None, slice_get}
 use Rattle.fm_world.specs.Words.{InstanceId, WorkerId, OpId, VolumeId, Operation, Instance, StackWorld, is_setup, NonePasses, is_candidate, cleaning_of}
 use Rattle.fm_world.specs.Words.{hand_of, IsLawful, Slot, Stage, InBase, Entry, FlowRecord, visited, last_visited, has_base, owed, creates, FlowTable, IsFlow}
-use Rattle.fm_world.specs.Words.{in_flight, carried, ContextTable}
+use Rattle.fm_world.specs.Words.{in_flight, carried, ContextTable, one, is_stopping, is_completing}
 use Rattle.fm_stack.specs.Stacks.{IsStack}
+use Rattle.fm_stack.specs.declared.instance.StartMark.{StartMark}
+use Rattle.fm_stack.specs.declared.instance.StartMark.TheVariants as mark
 use Rattle.fm_world.specs.declared.worker.Worker.{Worker}
-use Rattle.fm_world.specs.declared.worker.Worker.TheVariants as place
 use Rattle.fm_world.specs.declared.file.FileStream.{FileStream}
 use Rattle.fm_world.specs.Files.{FileTable}
 use Rattle.fm_world.specs.FileLaws.{FilesHold}
 use Rattle.fm_world.specs.Links.{names_there}
 use Rattle.fm_world.specs.World.{World}
-use Rattle.fm_world.specs.Workers.{worker_at, cleanup_in}
-use Rattle.fm_world.specs.Owners.{row_at, place_in, HoldsIn, AskCarries, fits, is_flown_by}
+use Rattle.fm_world.specs.Workers.{worker_at, cleanup_in, Desk, AtSetup, AtQuery, AtStart, AtComplete, is_at}
+use Rattle.fm_world.specs.Owners.{row_at, place_in, HoldsIn, AskCarries, fits, is_flown, is_flown_by}
 use Rattle.fm_world.specs.Descent.{IsDescent, HasRoom}
 use Rattle.fm_world.specs.Headline.{Spot, is_in_at, stands_at, is_in_drain, drains_running}
 
@@ -31,20 +32,29 @@ pub record IsAmongAt (s : StackWorld) (v : VolumeId) (born : ℕ) (operation : O
 abbrev pub IsAmong : StackWorld → FlowRecord → Type 0
 IsAmong s r = IsAmongAt s r.volume r.born r.operation r.entries r.stage
 
--- whether a worker is in the setup callback of that instance
-abbrev pub is_in_setup : ℕ → Worker → Bool
-is_in_setup i (place.Setup j) = j.0 == i
-is_in_setup i place.Idle = false
-is_in_setup i (place.Pre o j) = false
-is_in_setup i (place.Base o) = false
-is_in_setup i (place.Post o j) = false
-is_in_setup i (place.Drain o j) = false
-is_in_setup i (place.EarlyDrain o j) = false
-is_in_setup i (place.Cleanup c) = false
+abbrev pub is_made : StartMark → Bool
+is_made mark.Made = true
+is_made _ = false
 
-abbrev pub setup_row : Option Instance → ℕ
-setup_row None = 0
-setup_row (Some row) = cond (is_setup row.phase) 1 0
+-- how many workers are there, at least and at most: one is in the setup callback of an instance in Setup; one in the teardown-start callback of an instance
+-- whose start was made and didn't return, which is where it is stopping; one in the teardown-complete callback of one that is completing; and perhaps one in
+-- a query of one that is attached or stopping
+abbrev pub least_at : Desk → Instance → ℕ
+least_at AtSetup row = one (is_setup row.phase)
+least_at AtQuery row = 0
+least_at AtStart row = one (is_made row.start)
+least_at AtComplete row = one (is_completing row.phase)
+
+abbrev pub most_at : Desk → Instance → ℕ
+most_at AtSetup row = one (is_setup row.phase)
+most_at AtQuery row = one (is_flown row.phase)
+most_at AtStart row = one (is_stopping row.phase && is_made row.start)
+most_at AtComplete row = one (is_completing row.phase)
+
+-- so many workers are right for an instance; for one that isn't there, none
+abbrev pub IsStaffed : Desk → Option Instance → ℕ → Type 0
+IsStaffed d None n = n ≡ 0
+IsStaffed d (Some row) n = (least_at d row ≤ n) × (n ≤ most_at d row)
 
 -- filters, volumes, instances, operations and workers together
 pub record AreUnderWay (s : StackWorld) (t : FlowTable) (ws : List Worker) : Type 0 where
@@ -54,7 +64,7 @@ pub record AreUnderWay (s : StackWorld) (t : FlowTable) (ws : List Worker) : Typ
   pub hands : length ws ≡ 48
   pub workers : (o : OpId) (spot : Spot) → count_by (is_in_at o spot) ws ≡ stands_at o spot t
   pub drains : (o : OpId) (i : ℕ) → count_by (is_in_drain o i) ws ≡ drains_running o i t
-  pub setups : (i : ℕ) → count_by (is_in_setup i) ws ≡ setup_row (slice_get s.instances i)
+  pub desks : (d : Desk) (i : ℕ) → IsStaffed d (slice_get s.instances i) (count_by (is_at d i) ws)
 
 -- contexts, streams and handles don't matter to it
 abbrev pub IsUnderWay : World → Type 0

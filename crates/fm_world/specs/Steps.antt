@@ -1,5 +1,6 @@
 -- An event as a value, with its answer; and lists of them.
 use Rattle.std.specs.Prelude.{◌≡◌, ℕ, Option, List, [], ◌∷◌, Result}
+use Rattle.fm_data.specs.declared.verdict.Completion.{Completion}
 use Rattle.fm_world.specs.Words.{FilterId, VolumeId, InstanceId, OpId, CtxId, Status, Answer, Due, FlowAction}
 use Rattle.fm_world.specs.declared.set_answer.SetAnswer.{SetAnswer}
 use Rattle.fm_world.specs.declared.step.Step.{Step}
@@ -8,6 +9,9 @@ use Rattle.fm_world.specs.declared.step.StepReply.{StepReply}
 use Rattle.fm_world.specs.declared.step.StepReply.TheVariants as reply
 use Rattle.fm_world.specs.World.{World}
 use Rattle.fm_world.specs.ContextEvents.{Allocates, Sets, Gets, Deletes, References, Releases, ReadsBody, WritesBody, Bumps, TakesDue, Cleans, Finishes}
+use Rattle.fm_world.specs.Teardowns.{AsksDetach, QueryReturns, StartsTeardown, StartReturns, CompletesTeardown, CompleteReturns}
+use Rattle.fm_world.specs.EarlyDrains.{TakesDrain, DrainReturns}
+use Rattle.fm_world.specs.Teardowns.{AsksUnload, UnloadReturns, ForcesUnload, EmptiesFilter, FinishesFilter}
 use Rattle.fm_world.specs.Events.{Registers, Mounts, Attaches, SetsUp, Begins, Nexts, PreReturns, BaseReturns, PostReturns, ResumesPre, ResumesPost, FindsHeld, Collects}
 
 -- the answer is of that kind, and this holds of it
@@ -63,6 +67,10 @@ abbrev pub OfHeld : StepReply → (Result (Option OpId) Status → Type 0) → T
 OfHeld (reply.Held r) P = P r
 OfHeld _ P = ⊥
 
+abbrev pub OfDrained : StepReply → (Result (Option (OpId × Completion)) Status → Type 0) → Type 0
+OfDrained (reply.Drained r) P = P r
+OfDrained _ P = ⊥
+
 abbrev pub OfAnswer : StepReply → (Result Answer Status → Type 0) → Type 0
 OfAnswer (reply.Answer r) P = P r
 OfAnswer _ P = ⊥
@@ -93,7 +101,20 @@ Steps old (step.WriteBody k c bytes) answer new = OfDone answer (λ r. WritesBod
 Steps old (step.Bump k c at by) answer new = OfNumber answer (λ r. Bumps old k c at by r new)
 Steps old (step.TakeDue k) answer new = OfDue answer (λ r. TakesDue old k r new)
 Steps old (step.Cleaned k number) answer new = OfDone answer (λ r. Cleans old k number r new)
+Steps old (step.AskDetach k i) answer new = OfDone answer (λ r. AsksDetach old k i r new)
+Steps old (step.QueryReturned k allow) answer new = OfDone answer (λ r. QueryReturns old k allow r new)
+Steps old (step.StartTeardown k i) answer new = OfDone answer (λ r. StartsTeardown old k i r new)
+Steps old (step.StartReturned k) answer new = OfDone answer (λ r. StartReturns old k r new)
+Steps old (step.DrainTake k i) answer new = OfDrained answer (λ r. TakesDrain old k i r new)
+Steps old (step.DrainDone k) answer new = OfDone answer (λ r. DrainReturns old k r new)
+Steps old (step.CompleteTeardown k i) answer new = OfDone answer (λ r. CompletesTeardown old k i r new)
+Steps old (step.CompleteReturned k) answer new = OfDone answer (λ r. CompleteReturns old k r new)
 Steps old (step.Finish i) answer new = OfDone answer (λ r. Finishes old i r new)
+Steps old (step.AskUnload k f) answer new = OfDone answer (λ r. AsksUnload old k f r new)
+Steps old (step.UnloadReturned k allow) answer new = OfDone answer (λ r. UnloadReturns old k allow r new)
+Steps old (step.ForceUnload f) answer new = OfDone answer (λ r. ForcesUnload old f r new)
+Steps old (step.EmptyFilter f) answer new = OfDone answer (λ r. EmptiesFilter old f r new)
+Steps old (step.FinishFilter f) answer new = OfDone answer (λ r. FinishesFilter old f r new)
 
 -- the events in their order, each with its answer, lead from the old World to the new one
 abbrev pub Run : World → List Step → List StepReply → World → Type 0

@@ -15,7 +15,7 @@ pub use Rattle.fm_types.specs.declared.status.Status.{Status}
 pub use Rattle.fm_data.specs.declared.answer.Answer.{Answer}
 pub use Rattle.fm_data.specs.declared.params.Params.{Params}
 pub use Rattle.fm_stack.specs.Events.{is_emptying_at, finished, is_mounted}
-pub use Rattle.fm_stack.specs.Instances.{is_detached, is_lower_at, clashes, is_setup, is_attached}
+pub use Rattle.fm_stack.specs.Instances.{is_detached, is_lower_at, clashes, is_setup, is_attached, is_stopping, is_completing}
 pub use Rattle.fm_stack.specs.Next.{is_to_visit, is_below_cursor, is_candidate, IsNextInstance, has_pre_in, has_post_in, NonePasses}
 pub use Rattle.fm_stack.specs.StackWorld.{StackWorld}
 pub use Rattle.fm_stack.specs.declared.instance.Instance.{Instance}

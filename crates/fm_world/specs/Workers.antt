@@ -1,6 +1,7 @@
 -- Where workers are.
-use Rattle.std.specs.Prelude.{Bool, true, false, List, Option, Some, None, slice_get, slice_set, Result, Ok, Err}
-use Rattle.fm_world.specs.Words.{WorkerId, CtxId, OpId, InstanceId, Status, FlowAction}
+use Rattle.std.specs.Prelude.{ℕ, ◌==◌, Bool, true, false, List, Option, Some, None, slice_get, slice_set, Result, Ok, Err}
+use Rattle.std.specs.List.{list_any}
+use Rattle.fm_world.specs.Words.{WorkerId, CtxId, OpId, InstanceId, FilterId, Status, FlowAction}
 use Rattle.fm_flow.specs.declared.action.FlowAction.TheVariants as action
 use Rattle.fm_world.specs.declared.worker.Worker.{Worker}
 use Rattle.fm_world.specs.declared.worker.Worker.TheVariants as place
@@ -27,12 +28,64 @@ cleanup_in (Some (place.Base o)) = None
 cleanup_in (Some (place.Post o i)) = None
 cleanup_in (Some (place.Drain o i)) = None
 cleanup_in (Some (place.EarlyDrain o i)) = None
+cleanup_in (Some (place.Query i)) = None
+cleanup_in (Some (place.Start i)) = None
+cleanup_in (Some (place.Complete i)) = None
+cleanup_in (Some (place.Unload f)) = None
 cleanup_in None = None
 
 -- the workers after an attach: where it succeeds, this one is in the new instance's setup callback
 abbrev pub after_attach : List Worker → WorkerId → Result InstanceId Status → List Worker
 after_attach workers k (Ok i) = put workers k (place.Setup i)
 after_attach workers k (Err status) = workers
+
+-- the callbacks of an instance that don't belong to an operation
+pub data Desk : Type 0 where
+  AtSetup : Desk
+  AtQuery : Desk
+  AtStart : Desk
+  AtComplete : Desk
+
+-- a worker in the setup callback of that instance, in a query of it, in its teardown-start, and in its teardown-complete
+abbrev pub is_in_setup : ℕ → Worker → Bool
+is_in_setup i (place.Setup j) = j.0 == i
+is_in_setup i _ = false
+
+abbrev pub is_in_query : ℕ → Worker → Bool
+is_in_query i (place.Query j) = j.0 == i
+is_in_query i _ = false
+
+abbrev pub is_in_start : ℕ → Worker → Bool
+is_in_start i (place.Start j) = j.0 == i
+is_in_start i _ = false
+
+abbrev pub is_in_complete : ℕ → Worker → Bool
+is_in_complete i (place.Complete j) = j.0 == i
+is_in_complete i _ = false
+
+-- one of these
+abbrev pub is_at : Desk → ℕ → Worker → Bool
+is_at AtSetup i a = is_in_setup i a
+is_at AtQuery i a = is_in_query i a
+is_at AtStart i a = is_in_start i a
+is_at AtComplete i a = is_in_complete i a
+
+-- a worker in an unload callback of that filter
+abbrev pub is_in_unload : ℕ → Worker → Bool
+is_in_unload f (place.Unload g) = g.0 == f
+is_in_unload f _ = false
+
+-- whether a query of the instance runs, and an unload callback of the filter
+abbrev pub is_queried : InstanceId → List Worker → Bool
+is_queried i workers = list_any (is_in_query i.0) workers
+
+abbrev pub is_asked_to_unload : FilterId → List Worker → Bool
+is_asked_to_unload f workers = list_any (is_in_unload f.0) workers
+
+-- the workers after an event that begins a callback: where it succeeds, this one is in it
+abbrev pub after_entering : List Worker → WorkerId → Worker → Result (Unit {0}) Status → List Worker
+after_entering workers k where' (Ok done) = put workers k where'
+after_entering workers k where' (Err status) = workers
 
 -- a `next` that gives nothing to do: a filter holds the operation, or it is done, or the `next` is refused
 abbrev pub gives_nothing : Result FlowAction Status → Bool

@@ -3,7 +3,7 @@
 use crate::set_answer::SetAnswer;
 use fm_altitude::Altitude;
 use fm_ctx::{Due, SetMode};
-use fm_data::{Answer, BaseCall, CallbackData, PostVerdict, PreVerdict, Request};
+use fm_data::{Answer, BaseCall, CallbackData, Completion, PostVerdict, PreVerdict, Request};
 use fm_flow::{FlowAction, Hold};
 use fm_types::{
     Bytes, ContextKind, CtxId, FilterId, InstanceId, Name, OpId, Registration, Status, VolumeId,
@@ -141,9 +141,68 @@ pub enum Step {
         worker: WorkerId,
         number: u64,
     },
+    /// The worker asks an instance's filter whether it may be detached, and enters its query callback.
+    AskDetach {
+        worker: WorkerId,
+        instance: InstanceId,
+    },
+    /// The query callback that the worker is in returns.
+    QueryReturned {
+        worker: WorkerId,
+        allow: bool,
+    },
+    /// The worker starts an instance's teardown, and enters the callback that says so.
+    StartTeardown {
+        worker: WorkerId,
+        instance: InstanceId,
+    },
+    /// The teardown-start callback that the worker is in returns.
+    StartReturned {
+        worker: WorkerId,
+    },
+    /// The worker gets back what a stopping instance is owed, before its turn, and enters that drain.
+    DrainTake {
+        worker: WorkerId,
+        instance: InstanceId,
+    },
+    /// The drain that the worker is in, which was taken before its turn, returns.
+    DrainDone {
+        worker: WorkerId,
+    },
+    /// The worker completes an instance's teardown, and enters the callback that says so.
+    CompleteTeardown {
+        worker: WorkerId,
+        instance: InstanceId,
+    },
+    /// The teardown-complete callback that the worker is in returns.
+    CompleteReturned {
+        worker: WorkerId,
+    },
     /// The instance ends, once its contexts are cleaned up.
     Finish {
         instance: InstanceId,
+    },
+    /// The worker asks a filter whether it may be unloaded, and enters its unload callback.
+    AskUnload {
+        worker: WorkerId,
+        filter: FilterId,
+    },
+    /// The unload callback that the worker is in returns.
+    UnloadReturned {
+        worker: WorkerId,
+        allow: bool,
+    },
+    /// A filter is unloaded, and isn't asked.
+    ForceUnload {
+        filter: FilterId,
+    },
+    /// A filter's volume contexts are unlinked, once its instances are detached.
+    EmptyFilter {
+        filter: FilterId,
+    },
+    /// The filter ends, once its contexts are cleaned up.
+    FinishFilter {
+        filter: FilterId,
     },
 }
 
@@ -164,6 +223,8 @@ pub enum StepReply {
     Done(Result<(), Status>),
     /// To FirstHeld.
     Held(Result<Option<OpId>, Status>),
+    /// To DrainTake.
+    Drained(Result<Option<(OpId, Completion)>, Status>),
     /// To Collect.
     Answer(Result<Answer, Status>),
     /// To Allocate and Get.

@@ -1,6 +1,6 @@
 //! Where a worker is.
 
-use fm_types::{CtxId, InstanceId, OpId};
+use fm_types::{CtxId, FilterId, InstanceId, OpId};
 
 /// Where a worker is: idle, or inside one callback of an instance, one call of the base or one cleanup of a context.
 #[derive(Clone, Copy, Debug, PartialEq, Eq)]
@@ -17,9 +17,16 @@ pub enum Worker {
     Post(OpId, InstanceId),
     /// In a drain of the instance: it has its completion of the operation back.
     Drain(OpId, InstanceId),
-    /// In a drain of the instance that was taken early: it has its completion back, and the operation goes on meanwhile, perhaps to its end. No event leads
-    /// here so far.
+    /// In a drain of the instance that was taken before its turn: it has its completion back, and the operation goes on meanwhile, perhaps to its end.
     EarlyDrain(OpId, InstanceId),
     /// In the cleanup callback of a context.
     Cleanup(CtxId),
+    /// In the callback that asks whether the instance may be detached.
+    Query(InstanceId),
+    /// In the callback that starts the instance's teardown.
+    Start(InstanceId),
+    /// In the callback that completes the instance's teardown.
+    Complete(InstanceId),
+    /// In the filter's unload callback.
+    Unload(FilterId),
 }

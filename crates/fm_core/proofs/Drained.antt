@@ -1,0 +1,126 @@
+-- Drains that are taken before their turn, from what their parts did.
+use Rattle.fm_core.proofs.Words.{arith, Bool, true, false, Option, Some, None, Ok, Err, refl, ap, sym, subst, CtxId, InstanceId, WorkerId, Status, Worker, World, slice_get_within}
+use Rattle.fm_types.specs.declared.ids.OpId.{OpId}
+use Rattle.fm_flow.specs.Counts.{carried_in}
+use Rattle.fm_core.proofs.Words.{FlowTable, worker_at, put, is_idle, ContextsKept, ContextTable, carried_of, carried, Leaves, IsTied, IsState, row_at, operation_at}
+use Rattle.std.proofs.Common.{◌≡◌, List, [], ◌∷◌, ◌+◌, ◌<◌, ◌∙◌, length}
+use Rattle.fm_types.specs.Refusals as refusals
+use Rattle.fm_types.specs.declared.status.Status.TheVariants as status
+use Rattle.fm_data.specs.declared.verdict.Completion.{Completion}
+use Rattle.fm_flow.specs.Drains.{DrainTaken, RunsEarly, drain_done_of}
+use Rattle.fm_flow.proofs.Drains.{early_carried, drain_done_carried}
+use Rattle.fm_stack.specs.declared.instance.Instance.{Instance}
+use Rattle.fm_core.proofs.Cleaned.{phase_in}
+use Rattle.fm_ctx.specs.Bags.{hand_of}
+use Rattle.fm_world.specs.declared.worker.Worker.TheVariants as place
+use Rattle.fm_world.specs.ContextEvents.{is_gone_at}
+use Rattle.fm_world.specs.Events.{brought}
+use Rattle.fm_world.specs.EarlyDrains.{TakesDrain, DrainReturns, DrainReturnsAt, DrainsWhere, is_stopping_at}
+use Rattle.fm_world.proofs.Draining.{early_there}
+use Rattle.fm_world.proofs.Events.{idle_there}
+use Rattle.fm_world.proofs.Owning.{empty_hand}
+use Rattle.fm_core.specs.Hands.{MayBring, kept_brought}
+use Rattle.fm_core.specs.Places.{drains_in, early_drain_of}
+use Rattle.fm_core.proofs.Holding.{may_bring, tied_brought}
+use Rattle.fm_core.proofs.Torn.{idles, leaks, left_tied}
+
+-- ---- a drain is taken
+
+-- what the phase says of it
+refuses : (row : Option Instance) (why : Status) → drains_in (phase_in row) ≡ Err why → refusals.first_of ((is_gone_at row, status.NoInstance) ∷ []) ≡ Some why
+refuses None why h = grind arith
+refuses (Some row) why h = grind arith
+
+frees : (row : Option Instance) (b : Bool) → drains_in (phase_in row) ≡ Ok b → (refusals.first_of ((is_gone_at row, status.NoInstance) ∷ []) ≡ None) × (is_stopping_at row ≡ b)
+frees None b h = grind arith
+frees (Some row) b h = grind arith
+
+pub takes_err : {old now : World} (k : WorkerId) (i : InstanceId) (why : Status) → old ≡ now → is_idle (worker_at now.workers k) ≡ true
+    → drains_in (phase_in (row_at old.stack i)) ≡ Err why → TakesDrain now k i (Err why) old
+unfolding TakesDrain
+takes_err {old} k i why same idle refused =
+    subst (λ (w : World). TakesDrain w k i (Err why) old) same (idles k (Err why) old _ same idle (refuses (row_at old.stack i) why refused, refl))
+
+-- nothing is owed, or the instance isn't stopping
+pub takes_none : {old now : World} (k : WorkerId) (i : InstanceId) → old ≡ now → is_idle (worker_at now.workers k) ≡ true
+    → drains_in (phase_in (row_at old.stack i)) ≡ Ok false → TakesDrain now k i (Ok None) old
+unfolding TakesDrain
+takes_none {old} k i same idle stands =
+    let free = frees (row_at old.stack i) false stands in
+    subst (λ (w : World). TakesDrain w k i (Ok None) old) same
+    (idles k (Ok None) old _ same idle (free.0, subst (λ b. DrainsWhere b old k i None old) (sym free.1) (refl, refl)))
+
+pub takes_nothing : {old now : World} (k : WorkerId) (i : InstanceId) (t : FlowTable) → old ≡ now → is_idle (worker_at now.workers k) ≡ true
+    → drains_in (phase_in (row_at old.stack i)) ≡ Ok true → DrainTaken i old.flow None t → TakesDrain now k i (Ok None) (record old { flow = t })
+unfolding TakesDrain
+takes_nothing {old} k i t same idle stands taken =
+    let free = frees (row_at old.stack i) true stands in
+    subst (λ (w : World). TakesDrain w k i (Ok None) (record old { flow = t })) same
+    (idles k (Ok None) (record old { flow = t }) _ same idle (
+      free.0,
+      subst (λ b. DrainsWhere b old k i None (record old { flow = t })) (sym free.1)
+          (taken, ap (λ (x : FlowTable). record old { flow = x }) taken.1),
+    ))
+
+brought_table : (kept : ContextsKept) (k : WorkerId) (m : Option CtxId) → (kept_brought kept k.0 m).table ≡ brought kept.table k m
+brought_table kept k None = refl
+brought_table kept k (Some c) = refl
+
+pub takes_one : {old now : World} (k : WorkerId) (i : InstanceId) (o : OpId) (completion : Completion) (t : FlowTable) (ws : List Worker) (kept after : ContextsKept) → old ≡ now
+    → is_idle (worker_at now.workers k) ≡ true → drains_in (phase_in (row_at old.stack i)) ≡ Ok true → DrainTaken i old.flow (Some (o, completion)) t
+    → ws ≡ put old.workers k (place.EarlyDrain o i) → old.contexts ≡ kept.table → after ≡ kept_brought kept k.0 completion.context
+    → TakesDrain now k i (Ok (Some (o, completion))) (record old { flow = t; workers = ws; contexts = after.table })
+unfolding TakesDrain
+takes_one {old} k i o completion t ws kept after same idle stands taken workers contexts brings =
+    let new : World = record old { flow = t; workers = ws; contexts = after.table } in
+    let free = frees (row_at old.stack i) true stands in
+    let table : after.table ≡ brought old.contexts k completion.context =
+    ap (λ (x : ContextsKept). x.table) brings ∙ brought_table kept k completion.context ∙ ap (λ (x : ContextTable). brought x k completion.context) (sym contexts) in
+    let whole : new ≡ record old { flow = t; workers = put old.workers k (place.EarlyDrain o i); contexts = brought old.contexts k completion.context } =
+    ap (λ (x : List Worker). record old { flow = t; workers = x; contexts = after.table }) workers
+    ∙ ap (λ (x : ContextTable). record old { flow = t; workers = put old.workers k (place.EarlyDrain o i); contexts = x }) table in
+    subst (λ (w : World). TakesDrain w k i (Ok (Some (o, completion))) new) same
+    (idles k (Ok (Some (o, completion))) new _ same idle (free.0, subst (λ b. DrainsWhere b old k i (Some (o, completion)) new) (sym free.1) (taken, whole)))
+
+-- the completion's reference goes from those that are carried into the hand
+given : (old : World) (i : InstanceId) (o : OpId) (completion : Completion) (t : FlowTable) → DrainTaken i old.flow (Some (o, completion)) t → (kept : ContextsKept) → IsState old kept
+    → (c : CtxId) → carried c old.flow ≡ carried c t + carried_in c (record { number = 0; context = completion.context })
+given old i o completion t taken kept s c =
+    early_carried old.flow o i completion taken.owed c s.sound.under_way.flow ∙ ap (λ (x : FlowTable). carried c x + carried_in c completion) (sym taken.after)
+
+pub take_brings : {old now : World} {kept : ContextsKept} (k : WorkerId) (i : InstanceId) (o : OpId) (completion : Completion) (t : FlowTable) → IsState old kept → old ≡ now
+    → is_idle (worker_at now.workers k) ≡ true → old.contexts ≡ kept.table → DrainTaken i old.flow (Some (o, completion)) t → MayBring kept k.0 completion.context
+take_brings {old} {now} {kept} k i o completion t s same idle contexts taken =
+    let at = idle_there old.workers k (subst (λ (w : World). is_idle (worker_at w.workers k) ≡ true) (sym same) idle) in
+    may_bring kept k completion.context old.flow t (subst (λ n. k.0 < n) s.sound.under_way.hands (slice_get_within old.workers k.0 place.Idle at))
+    (sym (ap (λ (x : ContextTable). hand_of x.hands k.0) contexts) ∙ empty_hand old k place.Idle at refl s.sound.owned)
+    (given old i o completion t taken kept s) s.tied
+
+pub take_tied : {old : World} {kept : ContextsKept} (k : WorkerId) (i : InstanceId) (o : OpId) (completion : Completion) (t : FlowTable) (after : ContextsKept) → IsState old kept
+    → DrainTaken i old.flow (Some (o, completion)) t → length kept.carried ≡ length kept.table.slots → after ≡ kept_brought kept k.0 completion.context → IsTied after t
+take_tied {old} {kept} k i o completion t after s taken matched brings =
+    subst (λ x. IsTied x t) (sym brings) (tied_brought kept k completion.context old.flow t matched (given old i o completion t taken kept s) s.tied)
+
+-- ---- it returns
+
+pub early_is : (m : Option Worker) (p : OpId × InstanceId) → early_drain_of m ≡ Some p → m ≡ Some (place.EarlyDrain p.0 p.1)
+early_is m p h = grind (arith, h)
+
+pub runs_early : {old : World} {kept : ContextsKept} (k : WorkerId) (o : OpId) (i : InstanceId) → IsState old kept → worker_at old.workers k ≡ Some (place.EarlyDrain o i)
+    → RunsEarly i (operation_at o old.flow)
+runs_early {old} k o i s at = let there = early_there old k o i at s.sound.under_way in subst (RunsEarly i) (sym there.1) there.2
+
+pub early_returns : {old now : World} (k : WorkerId) (o : OpId) (i : InstanceId) (t : FlowTable) (ws : List Worker) (kept left : ContextsKept) → old ≡ now
+    → worker_at old.workers k ≡ Some (place.EarlyDrain o i) → t ≡ drain_done_of o i old.flow → ws ≡ put old.workers k place.Idle → old.contexts ≡ kept.table
+    → Leaves (carried_of kept) kept.table left.table k.0 → IsTied kept old.flow → DrainReturns now k (Ok tt) (record old { flow = t; workers = ws; contexts = left.table })
+unfolding DrainReturns
+early_returns {old} k o i t ws kept left same at over workers contexts leaves tied =
+    let new : World = record old { flow = t; workers = ws; contexts = left.table } in
+    let whole : new ≡ record old { flow = drain_done_of o i old.flow; workers = put old.workers k place.Idle; contexts = left.table } = cc in
+    subst (λ (w : World). DrainReturns w k (Ok tt) new) same (subst (DrainReturnsAt old k (Ok tt) new) (sym at) (refl, leaks old k kept left contexts leaves tied, whole))
+
+pub early_tied : {old : World} {kept : ContextsKept} (k : WorkerId) (o : OpId) (i : InstanceId) (t : FlowTable) (left : ContextsKept) → IsState old kept
+    → worker_at old.workers k ≡ Some (place.EarlyDrain o i) → t ≡ drain_done_of o i old.flow → Leaves (carried_of kept) kept.table left.table k.0 → left.carried ≡ kept.carried → IsTied left t
+early_tied {old} {kept} k o i t left s at over leaves same c =
+    let there = early_there old k o i at s.sound.under_way in
+    left_tied kept left k.0 old.flow leaves same s.tied c ∙ sym (drain_done_carried old.flow o i there.0 there.1 there.2 c s.sound.under_way.flow) ∙ ap (carried c) (sym over)

@@ -1,0 +1,38 @@
+use Rattle.fm_core.proofs.Words.{Some, refl, subst, worker_at, IsSound, the_view}
+use Rattle.std.proofs.Common.{◌≡◌}
+use Rattle.fm_world.specs.declared.worker.Worker.TheVariants as place
+use Rattle.fm_world.proofs.Draining.{drain_done_does}
+use Rattle.fm_core.specs.Places.{early_drain_of}
+use Rattle.fm_core.proofs.Operated.{placed, within_at}
+use Rattle.fm_core.proofs.Drained.{early_is, early_returns, early_tied, runs_early}
+use Rattle.fm_core.proofs.state.State.drain_done.Goals.{In-Some}
+use Rattle.fm_core.proofs.state.State.drain_done.Goals as goal
+
+at : (c : In-Some) → worker_at (the_view c.self.inside).workers c.args.worker ≡ Some (place.EarlyDrain c.in-Some.operation c.in-Some.instance)
+at c =
+    placed early_drain_of (λ p. place.EarlyDrain p.0 p.1) c.args.worker (c.in-Some.operation, c.in-Some.instance) c.place.result c.early_drain_of.result early_is
+    c.self.view_is c.place.ensures c.early_drain_of.ensures c.in-Some.is
+
+pub leave-requires : goal.leave-requires
+leave-requires c = within_at c.args.worker _ c.self.invariant (at (goal.at.leave-requires c).In-Some)
+
+pub drain_done-requires : goal.drain_done-requires
+drain_done-requires c = runs_early c.args.worker c.in-Some.operation c.in-Some.instance c.self.invariant (at (goal.at.drain_done-requires c).In-Some)
+
+pub returns-clause-event : goal.returns-clause-event
+returns-clause-event c =
+    early_returns c.args.worker c.in-Some.operation c.in-Some.instance c.drain_done.new.self c.put.new.workers c.self.inside.contexts c.leave.new.self
+    c.self.view_is (at (goal.at.returns-clause-event c).In-Some) c.drain_done.ensures c.put.ensures refl c.leave.ensures.table c.self.invariant.tied
+
+pub invariant_of-self : goal.invariant_of-self
+invariant_of-self c = record {
+  sound = (drain_done_does _ _ _ _ (returns-clause-event c)).0.sound (subst IsSound c.self.view_is c.self.invariant.sound);
+  tied = early_tied c.args.worker c.in-Some.operation c.in-Some.instance c.drain_done.new.self c.leave.new.self c.self.invariant
+      (at (goal.at.invariant_of-self c).In-Some) c.drain_done.ensures c.leave.ensures.table c.leave.ensures.carried;
+}
+
+pub returns-clause-hand : goal.returns-clause-hand
+returns-clause-hand c = (drain_done_does _ _ _ _ (returns-clause-event c)).1.0
+
+pub returns-clause-held : goal.returns-clause-held
+returns-clause-held c = (drain_done_does _ _ _ _ (returns-clause-event c)).1.1

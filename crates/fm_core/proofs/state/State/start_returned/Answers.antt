@@ -1,0 +1,33 @@
+use Rattle.fm_core.proofs.Words.{Some, refl, slice_get_within, subst, worker_at, IsSound, start_of, the_view}
+use Rattle.std.proofs.Common.{◌≡◌}
+use Rattle.fm_world.specs.declared.worker.Worker.TheVariants as place
+use Rattle.fm_world.proofs.Detaching.{start_place, start_returned_does}
+use Rattle.fm_core.proofs.Operated.{placed, within_at}
+use Rattle.fm_core.proofs.Torn.{left_tied, start_is, start_returns}
+use Rattle.fm_core.proofs.state.State.start_returned.Goals.{In-Some}
+use Rattle.fm_core.proofs.state.State.start_returned.Goals as goal
+
+at : (c : In-Some) → worker_at (the_view c.self.inside).workers c.args.worker ≡ Some (place.Start c.in-Some.instance)
+at c = placed start_of place.Start c.args.worker c.in-Some.instance c.place.result c.start_of.result start_is c.self.view_is c.place.ensures c.start_of.ensures c.in-Some.is
+
+pub leave-requires : goal.leave-requires
+leave-requires c = within_at c.args.worker _ c.self.invariant (at (goal.at.leave-requires c).In-Some)
+
+pub start_returned-requires : goal.start_returned-requires
+start_returned-requires c =
+    let row = start_place (the_view c.self.inside) c.args.worker c.in-Some.instance c.self.invariant.sound.under_way (at (goal.at.start_returned-requires c).In-Some) in
+    slice_get_within c.self.inside.stack.instances c.in-Some.instance.0 row.0 row.1
+
+pub returns-clause-event : goal.returns-clause-event
+returns-clause-event c =
+    start_returns c.args.worker c.in-Some.instance c.start_returned.new.self c.put.new.workers c.self.inside.contexts c.leave.new.self
+    c.self.view_is (at (goal.at.returns-clause-event c).In-Some) c.start_returned.ensures.event c.put.ensures refl c.leave.ensures.table c.self.invariant.tied
+
+pub invariant_of-self : goal.invariant_of-self
+invariant_of-self c = record {
+  sound = (start_returned_does _ _ _ _ (returns-clause-event c)).0.sound (subst IsSound c.self.view_is c.self.invariant.sound);
+  tied = left_tied c.self.inside.contexts c.leave.new.self c.args.worker.0 c.self.inside.flow c.leave.ensures.table c.leave.ensures.carried c.self.invariant.tied;
+}
+
+pub returns-clause-held : goal.returns-clause-held
+returns-clause-held c = (start_returned_does _ _ _ _ (returns-clause-event c)).1

@@ -1,0 +1,20 @@
+use Rattle.fm_core.proofs.Words.{Some, subst, worker_at, IsSound, unload_of, the_view}
+use Rattle.std.proofs.Common.{◌≡◌}
+use Rattle.fm_world.specs.declared.worker.Worker.TheVariants as place
+use Rattle.fm_world.proofs.Unloading.{unload_does}
+use Rattle.fm_core.proofs.Operated.{placed}
+use Rattle.fm_core.proofs.Torn.{unload_is, unload_returns}
+use Rattle.fm_core.proofs.state.State.unload_returned.Goals.{In-Some}
+use Rattle.fm_core.proofs.state.State.unload_returned.Goals as goal
+
+at : (c : In-Some) → worker_at (the_view c.self.inside).workers c.args.worker ≡ Some (place.Unload c.in-Some.filter)
+at c = placed unload_of place.Unload c.args.worker c.in-Some.filter c.place.result c.unload_of.result unload_is c.self.view_is c.place.ensures c.unload_of.ensures c.in-Some.is
+
+pub returns-clause-event : goal.returns-clause-event
+returns-clause-event c =
+    unload_returns c.args.worker c.in-Some.filter c.args.allow c.unload_returned.result c.unload_returned.new.self c.put.new.workers c.self.view_is
+    (at (goal.at.returns-clause-event c).In-Some) c.unload_returned.ensures.event c.put.ensures
+
+pub invariant_of-self : goal.invariant_of-self
+invariant_of-self c =
+    record { sound = (unload_does _ _ _ _ _ (returns-clause-event c)).sound (subst IsSound c.self.view_is c.self.invariant.sound); tied = c.self.invariant.tied }

@@ -1,0 +1,48 @@
+-- What the commands by which instances are detached and filters unloaded stand for.
+use Rattle.std.specs.Prelude.{ℕ, List, [], ◌∷◌, Result, Ok, Err}
+use Rattle.fm_types.specs.declared.ids.FilterId.{FilterId}
+use Rattle.fm_types.specs.declared.ids.InstanceId.{InstanceId}
+use Rattle.fm_types.specs.declared.ids.WorkerId.{WorkerId}
+use Rattle.fm_types.specs.declared.status.Status.{Status}
+use Rattle.fm_types.specs.declared.status.Status.TheVariants.{BadRequest}
+use Rattle.fm_world.specs.World.{World}
+use Rattle.fm_world.specs.declared.step.Step.TheVariants as step
+use Rattle.fm_script.specs.declared.keyword.Keyword.{Keyword}
+use Rattle.fm_script.specs.declared.keyword.Keyword.TheVariants as keyword
+use Rattle.fm_script.specs.declared.task.Task.{Task}
+use Rattle.fm_script.specs.declared.task.Task.TheVariants as task
+use Rattle.fm_script.specs.Reading.{◌>>=◌}
+use Rattle.fm_script.specs.Ids.{filter_in, instance_in, worker_in}
+use Rattle.fm_script.specs.Tasks.{filter_id, instance_id, worker_id, one_id, only_instance, only_worker, answered_read, event}
+
+-- a worker and the instance whose callback it enters, as the only words
+abbrev pub asked_instance : World → List (List ℕ) → Result (WorkerId × InstanceId) Status
+asked_instance w (worker ∷ instance ∷ []) = worker_id worker >>= λ k. instance_id instance >>= λ i. instance_in w i >>= λ own. worker_in k >>= λ by. Ok (by, own)
+asked_instance w _ = Err BadRequest
+
+-- a worker and the filter whose callback it enters, as the only words
+abbrev pub asked_filter : World → List (List ℕ) → Result (WorkerId × FilterId) Status
+asked_filter w (worker ∷ filter ∷ []) = worker_id worker >>= λ k. filter_id filter >>= λ f. filter_in w f >>= λ own. worker_in k >>= λ by. Ok (by, own)
+asked_filter w _ = Err BadRequest
+
+-- the filter that is the only word
+abbrev pub only_filter : World → List (List ℕ) → Result FilterId Status
+only_filter w words = one_id 102 words >>= filter_in w
+
+-- the words behind a keyword
+abbrev pub teardown_read : World → Keyword → List (List ℕ) → Result Task Status
+teardown_read w keyword.Query words = asked_instance w words >>= λ both. event (step.AskDetach both.0 both.1)
+teardown_read w keyword.Queried words = answered_read words >>= λ both. event (step.QueryReturned both.0 both.1)
+teardown_read w keyword.Start words = asked_instance w words >>= λ both. event (step.StartTeardown both.0 both.1)
+teardown_read w keyword.Started words = only_worker words >>= λ by. event (step.StartReturned by)
+teardown_read w keyword.Complete words = asked_instance w words >>= λ both. event (step.CompleteTeardown both.0 both.1)
+teardown_read w keyword.Completed words = only_worker words >>= λ by. event (step.CompleteReturned by)
+teardown_read w keyword.Finish words = only_instance w words >>= λ own. event (step.Finish own)
+teardown_read w keyword.Unload words = asked_filter w words >>= λ both. event (step.AskUnload both.0 both.1)
+teardown_read w keyword.Unloaded words = answered_read words >>= λ both. event (step.UnloadReturned both.0 both.1)
+teardown_read w keyword.EmptyF words = only_filter w words >>= λ own. event (step.EmptyFilter own)
+teardown_read w keyword.FinishF words = only_filter w words >>= λ own. event (step.FinishFilter own)
+teardown_read w keyword.Drain words = asked_instance w words >>= λ both. event (step.DrainTake both.0 both.1)
+teardown_read w keyword.Drained words = only_worker words >>= λ by. event (step.DrainDone by)
+teardown_read w keyword.Flight words = only_instance w words >>= λ own. Ok (task.Flight own)
+teardown_read w _ words = Err BadRequest

@@ -1,0 +1,105 @@
+//! The commands by which instances are detached and filters unloaded, and what is in flight at an instance.
+
+ghost use Rattle.std.specs.Prelude.{◌≡◌, map};
+ghost use Rattle.fm_script.specs.TeardownCommands.{asked_filter, asked_instance, only_filter, teardown_read};
+
+use crate::command::{id, one_id, only_instance, only_worker, read_answered};
+use crate::ids::{filter_in, instance_in, worker_in};
+use crate::keyword::Keyword;
+use crate::task::Task;
+use fm_core::{State, Step};
+use fm_types::{FilterId, InstanceId, Status, WorkerId};
+
+/// What the words behind the keyword of a command of a detach or an unload stand for.
+pub(crate) fn read_teardown_command(
+    state: &State,
+    keyword: Keyword,
+    words: &[&[u8]],
+) -> Result<Task, Status>
+    ensures { result ≡ teardown_read state.now keyword (map (λ word. word.now) words.now) }
+{
+    match keyword {
+        Keyword::Query => {
+            let (worker, instance) = read_asked_instance(state, words)?;
+            Ok(Task::Event(Step::AskDetach { worker, instance }))
+        }
+        Keyword::Queried => {
+            let (worker, allow) = read_answered(words)?;
+            Ok(Task::Event(Step::QueryReturned { worker, allow }))
+        }
+        Keyword::Start => {
+            let (worker, instance) = read_asked_instance(state, words)?;
+            Ok(Task::Event(Step::StartTeardown { worker, instance }))
+        }
+        Keyword::Started => Ok(Task::Event(Step::StartReturned {
+            worker: only_worker(words)?,
+        })),
+        Keyword::Complete => {
+            let (worker, instance) = read_asked_instance(state, words)?;
+            Ok(Task::Event(Step::CompleteTeardown { worker, instance }))
+        }
+        Keyword::Completed => Ok(Task::Event(Step::CompleteReturned {
+            worker: only_worker(words)?,
+        })),
+        Keyword::Finish => Ok(Task::Event(Step::Finish {
+            instance: only_instance(state, words)?,
+        })),
+        Keyword::Unload => {
+            let (worker, filter) = read_asked_filter(state, words)?;
+            Ok(Task::Event(Step::AskUnload { worker, filter }))
+        }
+        Keyword::Unloaded => {
+            let (worker, allow) = read_answered(words)?;
+            Ok(Task::Event(Step::UnloadReturned { worker, allow }))
+        }
+        Keyword::EmptyF => Ok(Task::Event(Step::EmptyFilter {
+            filter: only_filter(state, words)?,
+        })),
+        Keyword::FinishF => Ok(Task::Event(Step::FinishFilter {
+            filter: only_filter(state, words)?,
+        })),
+        Keyword::Drain => {
+            let (worker, instance) = read_asked_instance(state, words)?;
+            Ok(Task::Event(Step::DrainTake { worker, instance }))
+        }
+        Keyword::Drained => Ok(Task::Event(Step::DrainDone {
+            worker: only_worker(words)?,
+        })),
+        Keyword::Flight => Ok(Task::Flight(only_instance(state, words)?)),
+        _ => Err(Status::BadRequest),
+    }
+}
+
+// A worker and the instance whose callback it enters, as the only words.
+fn read_asked_instance(state: &State, words: &[&[u8]]) -> Result<(WorkerId, InstanceId), Status>
+    ensures { result ≡ asked_instance state.now (map (λ word. word.now) words.now) }
+{
+    let [worker, instance] = words else {
+        return Err(Status::BadRequest);
+    };
+    let worker = id(b'w', worker)?;
+    let instance = id(b'i', instance)?;
+    let instance = instance_in(state, instance)?;
+    Ok((worker_in(worker)?, instance))
+}
+
+// A worker and the filter whose callback it enters, as the only words.
+fn read_asked_filter(state: &State, words: &[&[u8]]) -> Result<(WorkerId, FilterId), Status>
+    ensures { result ≡ asked_filter state.now (map (λ word. word.now) words.now) }
+{
+    let [worker, filter] = words else {
+        return Err(Status::BadRequest);
+    };
+    let worker = id(b'w', worker)?;
+    let filter = id(b'f', filter)?;
+    let filter = filter_in(state, filter)?;
+    Ok((worker_in(worker)?, filter))
+}
+
+// The filter that is the only word.
+fn only_filter(state: &State, words: &[&[u8]]) -> Result<FilterId, Status>
+    ensures { result ≡ only_filter state.now (map (λ word. word.now) words.now) }
+{
+    let filter = one_id(b'f', words)?;
+    filter_in(state, filter)
+}

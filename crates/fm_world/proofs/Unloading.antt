@@ -1,0 +1,156 @@
+-- What the events by which a filter is unloaded do: it is asked or forced, its instances are stopped, and it is emptied and finished.
+use Rattle.std.proofs.Common.{Bool, Err, List, None, Ok, Option, Result, Some, ap, arith, cond, inl, inr, length, refl, slice_get, subst, sym, true, ℕ, ◌&&◌, ◌∙◌, ◌≡◌, ◌≤◌}
+use Rattle.fm_stack.specs.declared.filter.Filter.{Filter}
+use Rattle.fm_world.proofs.Words.{CtxId, Follows, OnlyHandOf, hand_of, option_map, updated, with_contexts}
+use Rattle.fm_world.proofs.Words.{AsksUnload, Desk, EmptiesFilter, FilterId, FinishesFilter, ForcesUnload, Instance, IsSound, IsStack, IsStaffed, IsUnderWay, KeepsHands}
+use Rattle.fm_world.proofs.Words.{Owner, StackWorld, Status, UnloadReturns, UnloadReturnsAt, Worker, WorkerId, World, and_parts, cases_Bool}
+use Rattle.fm_world.proofs.Words.{is_attached, is_linked_of, length-updated, pairs_in, put, slice_get-map, worker_at}
+use Rattle.fm_stack.proofs.GoingOn.{StackGoesOn, goes_on_follows, goes_on_keeps}
+use Rattle.fm_stack.proofs.Unloads.{filter_emptied_goes_on, unloaded_goes_on, unloading_goes_on}
+use Rattle.fm_stack.specs.Detaching.{stop_row}
+use Rattle.fm_stack.specs.Unloading as filters
+use Rattle.fm_stack.specs.declared.filter.FilterPhase.TheVariants as phase
+use Rattle.fm_world.proofs.Belonging.{VolumesStay}
+use Rattle.fm_world.proofs.Cases.{by_option}
+use Rattle.fm_world.proofs.Detaching.{stop_goes}
+use Rattle.fm_world.proofs.Events.{answers_by, idle_by}
+use Rattle.fm_world.proofs.Keeps.{StaffsStill, follows_same, is_outside, outside_of, stack_changes, worker_moves}
+use Rattle.fm_world.proofs.Losing.{sweeps_named, sweeps_owned}
+use Rattle.fm_world.proofs.Owning.{GoesOnAt, RowsGoOn, goes_owned, goes_same, rows_same, stack_owned}
+use Rattle.fm_world.proofs.Staying.{Does, SlotsStay, lasts, makes, nothing, slots_swept, still, unchanged}
+use Rattle.fm_world.proofs.Ties.{at_none, desk_of, staffed_still}
+
+-- ---- a worker goes into an unload callback, or comes out of it
+
+-- filters go on, and instances perhaps
+unload_moves : (w : World) (t : StackWorld) (k : WorkerId) (a b : Worker) → worker_at w.workers k ≡ Some a → is_outside a ≡ true → is_outside b ≡ true
+    → desk_of a ≡ None → desk_of b ≡ None → IsStack t → Follows w.stack t → StaffsStill w.stack t → IsUnderWay w
+    → IsUnderWay (record w { stack = t; workers = put w.workers k b })
+unload_moves w t k a b at from to off on stack follows staffs s =
+    worker_moves w t k a b at (outside_of a from) (outside_of b to) stack follows
+    (λ d i. staffs d i _ (staffed_still d i w.workers k a b (slice_get w.stack.instances i) at (at_none a off) (at_none b on) (s.desks d i))) s
+
+pub ask_unload_does : (old : World) (k : WorkerId) (f : FilterId) (result : Result (Unit {0}) Status) (new : World) → AsksUnload old k f result new → Does old new
+unfolding AsksUnload
+ask_unload_does old k f result new h =
+    idle_by (λ _ w. Does old w) k result old new _ h (λ why. nothing old) (λ at event.
+    answers_by (λ _ w. Does old w) _ result old new _ event (λ why. nothing old) (λ done free e.
+    makes old (record old { workers = put old.workers k (Worker.Unload f) }) new e (still old.contexts) (λ s. record {
+      under_way = unload_moves old old.stack k Worker.Idle (Worker.Unload f) at refl refl refl refl s.under_way.stack (follows_same old.stack) (λ d i n h. h) s.under_way;
+      owned = goes_owned old k Worker.Idle (Worker.Unload f) old.stack at refl refl refl (rows_same old old.stack refl) (omega arith) (λ v h. h) s;
+      filed = s.filed;
+      links = s.links;
+    })))
+
+-- ---- instances are stopped
+
+-- of both an instance that stays as it is, and one that is stopped
+stop_by : (P : Instance → Type 0) (test : Instance → Bool) (row : Instance) → P row → (is_attached row.phase ≡ true → P (stop_row row)) → P (filters.stop_where test row)
+stop_by P test row stays stops = elim (cases_Bool (test row && is_attached row.phase)) [
+  | inl is ↦ subst (λ b. P (cond b (stop_row row) row)) (sym is) (stops (and_parts (test row) (is_attached row.phase) is).1)
+  | inr fails ↦ subst (λ b. P (cond b (stop_row row) row)) (sym fails) stays
+]
+
+stopped_staffs : (d : Desk) (row : Instance) (n : ℕ) → is_attached row.phase ≡ true → IsStaffed d (Some row) n → IsStaffed d (Some (stop_row row)) n
+stopped_staffs d row n is h = grind arith
+
+stops_staff : (s : StackWorld) (f : FilterId) → StaffsStill s (filters.unloading s f)
+stops_staff s f d i n h =
+    let test = filters.is_of f in
+    subst (λ m. IsStaffed d m n) (sym (slice_get-map (filters.stop_where test) s.instances i))
+    (by_option (λ m. IsStaffed d m n → IsStaffed d (option_map (filters.stop_where test) m) n) (slice_get s.instances i) (λ none h. h)
+    (λ row there h. stop_by (λ x. IsStaffed d (Some x) n) test row h (λ is. stopped_staffs d row n is h)) h)
+
+stops_go : (w : World) (f : FilterId) → RowsGoOn w (filters.unloading w.stack f)
+stops_go w f j row there =
+    let test = filters.is_of f in (
+      filters.stop_where test row,
+      slice_get-map (filters.stop_where test) w.stack.instances j ∙ ap (option_map (filters.stop_where test)) there,
+      stop_by (λ x. GoesOnAt w j row x) test row (goes_same w j row row refl refl) (λ is. stop_goes w j row),
+    )
+
+more_filters : (s : StackWorld) (change : Filter → Filter) (f : FilterId) → length s.filters ≤ length (updated change s.filters f.0)
+more_filters s change f = omega (arith, length-updated change s.filters f.0)
+
+pub unload_does : (old : World) (k : WorkerId) (allow : Bool) (result : Result (Unit {0}) Status) (new : World) → UnloadReturns old k allow result new → Does old new
+unfolding UnloadReturns filters.UnloadReturns
+unload_does old k allow result new h = by_place (worker_at old.workers k) refl h
+  where
+    returns : (f : FilterId) (t : StackWorld) → worker_at old.workers k ≡ Some (Worker.Unload f) → new.stack ≡ t → new ≡ record old { stack = new.stack; workers = put old.workers k Worker.Idle }
+        → RowsGoOn old t → length old.stack.filters ≤ length t.filters → VolumesStay old.stack t
+        → (IsUnderWay old → IsUnderWay (record old { stack = t; workers = put old.workers k Worker.Idle })) → Does old new
+    returns f t at is e on filters volumes keeps =
+        makes old (record old { stack = t; workers = put old.workers k Worker.Idle }) new (e ∙ ap (λ x. record old { stack = x; workers = put old.workers k Worker.Idle }) is)
+        (still old.contexts) (λ s. record {
+          under_way = keeps s.under_way;
+          owned = goes_owned old k (Worker.Unload f) Worker.Idle t at refl refl refl on filters volumes s;
+          filed = s.filed;
+          links = s.links;
+        })
+
+    by_result : (f : FilterId) (result : Result (Unit {0}) Status) → worker_at old.workers k ≡ Some (Worker.Unload f) → UnloadReturnsAt old k allow result new (Some (Worker.Unload f)) → Does old new
+    by_result f (Err why) at h = returns f old.stack at h.0.1 h.1 (rows_same old old.stack refl) (omega arith) (λ v h. h) (λ s.
+        unload_moves old old.stack k (Worker.Unload f) Worker.Idle at refl refl refl refl s.stack (follows_same old.stack) (λ d i n h. h) s)
+    by_result f (Ok done) at h =
+        let t = filters.unloading old.stack f in
+        let goes = unloading_goes_on old.stack f in
+        returns f t at h.0.1 h.1 (stops_go old f) (more_filters old.stack (filters.filter_in phase.Unloading) f) (λ v h. h)
+        (λ s. unload_moves old t k (Worker.Unload f) Worker.Idle at refl refl refl refl (goes_on_keeps old.stack t goes s.stack) (goes_on_follows old.stack t goes) (stops_staff old.stack f) s)
+
+    by_place : (m : Option Worker) → worker_at old.workers k ≡ m → UnloadReturnsAt old k allow result new m → Does old new
+    by_place (Some (Worker.Unload f)) at h = by_result f result at h
+    by_place _ at h = unchanged old new h.1
+
+-- ---- nobody is asked
+
+-- filters go on, and instances perhaps; contexts and workers stay
+filter_sound : (old : World) (t : StackWorld) → StackGoesOn old.stack t → StaffsStill old.stack t → RowsGoOn old t → length old.stack.filters ≤ length t.filters
+    → VolumesStay old.stack t → IsSound old → IsSound (record old { stack = t })
+filter_sound old t goes staffs on filters volumes s = record {
+  under_way = stack_changes old t (goes_on_keeps old.stack t goes s.under_way.stack) (goes_on_follows old.stack t goes) staffs s.under_way;
+  owned = stack_owned old t on filters volumes s.owned;
+  filed = s.filed;
+  links = s.links;
+}
+
+filter_does : (old new : World) (t : StackWorld) → new.stack ≡ t → new ≡ record old { stack = new.stack } → StackGoesOn old.stack t → StaffsStill old.stack t → RowsGoOn old t
+    → length old.stack.filters ≤ length t.filters → VolumesStay old.stack t → Does old new
+filter_does old new t is e goes staffs on filters volumes =
+    makes old (record old { stack = t }) new (e ∙ ap (λ x. record old { stack = x }) is) (still old.contexts) (filter_sound old t goes staffs on filters volumes)
+
+pub force_unload_does : (old : World) (f : FilterId) (result : Result (Unit {0}) Status) (new : World) → ForcesUnload old f result new → Does old new
+unfolding ForcesUnload filters.ForcesUnload
+force_unload_does old f (Err why) new h = unchanged old new (h.1 ∙ ap (λ x. record old { stack = x }) h.0.1)
+force_unload_does old f (Ok done) new h =
+    filter_does old new (filters.unloading old.stack f) h.0.1 h.1 (unloading_goes_on old.stack f) (stops_staff old.stack f) (stops_go old f)
+    (more_filters old.stack (filters.filter_in phase.Unloading) f) (λ v h. h)
+
+-- ---- its end
+
+-- the filter's volume contexts lose their links
+pub empty_filter_does : (old : World) (f : FilterId) (result : Result (Unit {0}) Status) (new : World) → EmptiesFilter old f result new → Does old new × KeepsHands old new
+unfolding EmptiesFilter filters.EmptiesFilter
+empty_filter_does old f (Err why) new h =
+    let same = h.2 ∙ ap (λ x. record old { stack = x; contexts = new.contexts }) h.0.1 ∙ ap (λ c. record old { contexts = c }) h.1 in
+    (unchanged old new same, λ k. subst (λ w. OnlyHandOf k old w) (sym same) refl)
+empty_filter_does old f (Ok done) new h =
+    let t = filters.filter_emptied old.stack f in
+    let mid = with_contexts old new.contexts in
+    let sweeps = h.1 in (
+      record {
+        sound = λ s.
+            let swept : IsSound mid =
+            record { under_way = s.under_way; owned = sweeps_owned old (is_linked_of (Owner.Filter f)) new.contexts sweeps s.owned; filed = s.filed; links = sweeps_named old (is_linked_of (Owner.Filter f)) new.contexts sweeps s.links } in
+            subst IsSound (sym (h.2 ∙ ap (λ x. record old { stack = x; contexts = new.contexts }) h.0.1))
+            (filter_sound mid t (filter_emptied_goes_on old.stack f) (λ d i n h. h) (rows_same mid t refl) (more_filters old.stack (filters.filter_in phase.Emptied) f) (λ v h. h) swept);
+        lasts = λ s. lasts old new new.contexts refl (subst (SlotsStay old.contexts.slots) (sym sweeps.slots) (slots_swept _ old.contexts.slots), sweeps.cleaning);
+      },
+      λ k. omega (arith, ap pairs_in sweeps.hands, ap (λ (hands : List (List CtxId)). length (hand_of hands k)) sweeps.hands),
+    )
+
+pub finish_filter_does : (old : World) (f : FilterId) (result : Result (Unit {0}) Status) (new : World) → FinishesFilter old f result new → Does old new
+unfolding FinishesFilter filters.FinishesFilter
+finish_filter_does old f (Err why) new h = unchanged old new (h.1 ∙ ap (λ x. record old { stack = x }) h.0.1)
+finish_filter_does old f (Ok done) new h =
+    let t = filters.unloaded old.stack f in
+    filter_does old new t h.0.1 h.1 (unloaded_goes_on old.stack f) (λ d i n h. h) (rows_same old t refl) (more_filters old.stack (filters.filter_in phase.NotLoaded) f) (λ v h. h)

@@ -8,8 +8,8 @@ use fm_data::{
 };
 use fm_flow::Hold;
 use fm_types::{
-    Bytes, ContextKind, ContextMask, CreateMode, CtxId, FilterId, HandleId, Name, OpId, OpMask,
-    Operation, Registration, RelPath, SharedPath, Status, VolumeId, WorkerId,
+    Bytes, ContextKind, ContextMask, CreateMode, CtxId, FilterId, HandleId, InstanceId, Name, OpId,
+    OpMask, Operation, Registration, RelPath, SharedPath, Status, VolumeId, WorkerId,
 };
 use fm_world::Step;
 use std::alloc::Global;
@@ -31,6 +31,8 @@ pub enum Event {
     Register,
     /// A filter that has no postoperation callbacks.
     RegisterPre,
+    /// A filter that is asked before an instance of it is detached, and before it is unloaded.
+    RegisterAsked,
     Mount,
     Attach,
     /// Another instance, below the first.
@@ -44,29 +46,44 @@ pub enum Event {
     Base(WorkerId, Operation),
     /// The callback returns with data of an operation of that kind.
     Post(WorkerId, PostVerdict, Operation),
+    /// A drain returns.
+    Drained(WorkerId),
     ResumePre(WorkerId, OpId, PreVerdict),
     ResumePost(WorkerId, OpId),
     FirstHeld(WorkerId, Hold),
     Collect(OpId),
     Allocate(ContextKind),
     Set,
+    Get(ContextKind),
     ReadBody,
     TakeDue,
     Cleaned(u64),
+    AskDetach(WorkerId, InstanceId),
+    QueryReturned(WorkerId, bool),
+    StartTeardown(WorkerId, InstanceId),
+    StartReturned(WorkerId),
+    CompleteTeardown(WorkerId, InstanceId),
+    CompleteReturned(WorkerId),
+    Finish(InstanceId),
+    AskUnload(WorkerId, FilterId),
+    UnloadReturned(WorkerId, bool),
+    ForceUnload(FilterId),
+    EmptyFilter(FilterId),
+    FinishFilter(FilterId),
 }
 
 fn path() -> Result<RelPath, Status> {
     RelPath::read(b"f")
 }
 
-// A filter that is called before all operations and behind those, and has contexts of all kinds.
-fn register(post: OpMask) -> Result<Step, Status> {
+// A filter that is called before all operations and behind those, and has contexts of all kinds; asked before it goes, or not.
+fn register(post: OpMask, is_asked: bool) -> Result<Step, Status> {
     let registration = Registration {
         pre: OpMask::ALL,
         post,
         contexts: ContextMask::ALL,
-        query: false,
-        unload: false,
+        query: is_asked,
+        unload: is_asked,
     };
     Ok(Step::Register {
         name: Name::read(b"f")?,
@@ -128,10 +145,15 @@ fn data(alloc: Global, operation: Operation) -> Result<CallbackData, Status> {
     Ok(CallbackData::new(alloc, params)?)
 }
 
+// The call that the base brings back: a listing names no file.
 fn call(alloc: Global, operation: Operation) -> Result<BaseCall, Status> {
+    let path = match operation {
+        Operation::List => None,
+        _ => Some(SharedPath::new(alloc, path()?)?),
+    };
     Ok(BaseCall {
         volume: VOLUME,
-        path: Some(SharedPath::new(alloc, path()?)?),
+        path,
         params: params(alloc, operation)?,
     })
 }
@@ -162,11 +184,31 @@ fn set() -> Step {
     }
 }
 
+// The step that an event of a detach or an unload stands for.
+fn ending(event: Event) -> Result<Step, Status> {
+    Ok(match event {
+        Event::AskDetach(worker, instance) => Step::AskDetach { worker, instance },
+        Event::QueryReturned(worker, allow) => Step::QueryReturned { worker, allow },
+        Event::StartTeardown(worker, instance) => Step::StartTeardown { worker, instance },
+        Event::StartReturned(worker) => Step::StartReturned { worker },
+        Event::CompleteTeardown(worker, instance) => Step::CompleteTeardown { worker, instance },
+        Event::CompleteReturned(worker) => Step::CompleteReturned { worker },
+        Event::Finish(instance) => Step::Finish { instance },
+        Event::AskUnload(worker, filter) => Step::AskUnload { worker, filter },
+        Event::UnloadReturned(worker, allow) => Step::UnloadReturned { worker, allow },
+        Event::ForceUnload(filter) => Step::ForceUnload { filter },
+        Event::EmptyFilter(filter) => Step::EmptyFilter { filter },
+        Event::FinishFilter(filter) => Step::FinishFilter { filter },
+        _ => return Err(Status::BadRequest),
+    })
+}
+
 /// The step that an event stands for.
 pub fn step_of(alloc: Global, event: Event) -> Result<Step, Status> {
     Ok(match event {
-        Event::Register => register(OpMask::ALL)?,
-        Event::RegisterPre => register(OpMask::NONE)?,
+        Event::Register => register(OpMask::ALL, false)?,
+        Event::RegisterPre => register(OpMask::NONE, false)?,
+        Event::RegisterAsked => register(OpMask::ALL, true)?,
         Event::Mount => Step::Mount {
             name: Name::read(b"v")?,
         },
@@ -193,6 +235,11 @@ pub fn step_of(alloc: Global, event: Event) -> Result<Step, Status> {
             verdict,
             data: Some(data(alloc, operation)?),
         },
+        Event::Drained(worker) => Step::PostReturned {
+            worker,
+            verdict: PostVerdict::Finished,
+            data: None,
+        },
         Event::ResumePre(worker, operation, verdict) => Step::ResumePre {
             worker,
             operation,
@@ -207,6 +254,10 @@ pub fn step_of(alloc: Global, event: Event) -> Result<Step, Status> {
             body: zeros(alloc, 2)?,
         },
         Event::Set => set(),
+        Event::Get(kind) => Step::Get {
+            worker: WORKER,
+            kind,
+        },
         Event::ReadBody => Step::ReadBody {
             worker: WORKER,
             context: CONTEXT,
@@ -216,5 +267,6 @@ pub fn step_of(alloc: Global, event: Event) -> Result<Step, Status> {
             worker: WORKER,
             number,
         },
+        other => ending(other)?,
     })
 }

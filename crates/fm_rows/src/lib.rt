@@ -30,6 +30,8 @@ mod script_tests;
 #[cfg(test)]
 mod seen_tests;
 #[cfg(test)]
+mod teardown_tests;
+#[cfg(test)]
 mod text_tests;
 #[cfg(test)]
 mod told;

@@ -25,6 +25,8 @@ pub enum Told {
     Base,
     Post,
     Drain,
+    /// The operation whose completion is drained before its turn.
+    Early(Option<OpId>),
     Moved,
     Held,
     AllDone,
@@ -76,6 +78,7 @@ pub fn told_by(reply: &StepReply) -> Told {
         StepReply::Action(Ok(action)) => told_action(action),
         StepReply::Done(Ok(())) => Told::Done,
         StepReply::Held(Ok(first)) => Told::First(*first),
+        StepReply::Drained(Ok(drain)) => Told::Early(drain.map(|(operation, _)| operation)),
         StepReply::Answer(Ok(answer)) => told_answer(answer),
         StepReply::Context(Ok(id)) => Told::Context(*id),
         StepReply::Set(answer) => told_set(*answer),
@@ -90,6 +93,7 @@ pub fn told_by(reply: &StepReply) -> Told {
         | StepReply::Action(Err(status))
         | StepReply::Done(Err(status))
         | StepReply::Held(Err(status))
+        | StepReply::Drained(Err(status))
         | StepReply::Answer(Err(status))
         | StepReply::Context(Err(status))
         | StepReply::Old(Err(status))

@@ -1,6 +1,6 @@
 -- Drains that are taken early, and that are over: the laws of an operation and of all operations are kept.
 use Rattle.fm_flow.proofs.Words.{ℕ, Bool, true, false, cond, not, List, [], length, map, find, get_or, Option, Some, None, option_map, refl, sym, ap, subst, arith, nat_tests}
-use Rattle.fm_flow.proofs.Words.{same_Some, none-some, cases_Bool, inl, inr, and_parts, list_any, count_by, unwrap_or, All, All-head, All-tail, InstanceId, CtxId, Stage, Descending, InDrain, Ask, Entry, Drain, walk, way_of, is_open, false≢true}
+use Rattle.fm_flow.proofs.Words.{same_Some, none-some, cases_Bool, inl, inr, and_parts, list_any, count_by, unwrap_or, All, All-head, All-tail, InstanceId, CtxId, Stage, InDrain, Ask, Entry, Drain}
 use Rattle.fm_flow.proofs.Words.{one, times, owed, instances, without, answers, settle_drain, opens, drain_opens, is_running_drain, FlowRecord, HasItsDrain, IsSound, done_at, is_done, is_creating}
 use Rattle.fm_flow.proofs.Words.{FlowTable, IsFlow, IsAscending, is_number, operation_at, changed, removed, told, total, under_way, change_first, without_first}
 use Rattle.std.proofs.Common.{◌≡◌, ◌≢◌, ◌+◌, ◌<◌, ◌≤◌, ◌==◌, ◌&&◌, ◌∷◌, ◌++◌, ◌∙◌, set, remove, position, zero, suc}
@@ -22,10 +22,10 @@ use Rattle.fm_flow.proofs.Counting.{opens_push, flight_few, none_running, owed_d
 use Rattle.fm_flow.proofs.Settled.{settles_drain, course_drain_over}
 use Rattle.fm_flow.proofs.Soundness.{Stays, stays_so, sound_pushed}
 use Rattle.fm_flow.proofs.Lowest.{none_passes, lowest_passes, others_above, rest_rises}
-use Rattle.fm_flow.proofs.Flows.{Found, IsKept, either_way, through, itself, operation_is, told_some, changed_some, flow_changes, total_changed}
+use Rattle.fm_flow.proofs.Flows.{Found, IsKept, Follows, either_way, through, itself, operation_is, told_some, changed_some, flow_changes, total_changed}
 use Rattle.fm_flow.proofs.Requests.{flow_removed}
-use Rattle.fm_flow.proofs.Tallied.{count_removed, done_uncreating}
-use Rattle.fm_flow.proofs.Walks.{walk_parts, is_callback, drains_follow, opens_after}
+use Rattle.fm_flow.proofs.Calm.{done_calm, done_flies}
+use Rattle.fm_flow.proofs.Tallied.{count_removed, done_uncreating, total_removed}
 
 -- ---- one operation gives a drain
 
@@ -275,15 +275,18 @@ module _ {o : OpId} {t u : FlowTable} {k : ℕ} {d s : FlowRecord} (i : Instance
   pub done_goes : {xs : List FlowRecord} → is_spent s ≡ true → xs ≡ remove (set t.operations k s) k → record t { operations = xs } ≡ drain_done_of o i u
   done_goes spent left = gone left ∙ sym (done_as true spent)
 
-  pub kept_gone : {xs : List FlowRecord} {flying creating : ℕ} → is_spent s ≡ true → xs ≡ remove (set t.operations k s) k → IsKept flying creating t → IsKept flying creating (record t { operations = xs })
-  kept_gone {xs} spent left kept =
+  pub kept_gone : {xs : List FlowRecord} {flying creating : ℕ} {counts ns : List ℕ} → is_spent s ≡ true → xs ≡ remove (set t.operations k s) k → RunsEarly i (Some d) → Follows counts ns d (early_over i d) → IsKept flying creating counts t → IsKept flying creating ns (record t { operations = xs })
+  kept_gone {xs} spent left runs follows kept =
       let out : d.collected ≡ true = ap (λ (r : FlowRecord). r.collected) (sym is) ∙ (and_parts s.collected (not (list_any is_running_drain s.entries)) spent).0 in
       let sound = found_holds IsSound (is_number o) t.operations d kept.0.sound (operation_is h) in
+      let quiet : list_any is_running_drain (early_over i d).entries ≡ false = ap (λ (r : FlowRecord). list_any is_running_drain r.entries) (sym is) ∙ (let no = (and_parts s.collected (not (list_any is_running_drain s.entries)) spent).1 in grind (arith, no)) in
+      let calm = done_flies (early_over i d) (sound_over i d runs sound) (ap (done_at d.stage) (owed_over i d) ∙ sound.collected out) quiet in
       let rest : xs ≡ remove t.operations k = left ∙ remove_set t.operations k s in (
         subst IsFlow (sym (gone left)) (flow_removed t o kept.0),
         rw rest (record {
           under_way = omega (arith, count_removed (λ (r : FlowRecord). not r.collected) t.operations k d h.there.inside h.at, ap (λ b. one (not b)) out, kept.1.under_way);
           creates = omega (arith, count_removed is_creating t.operations k d h.there.inside h.at, ap one (done_uncreating d (sound.collected out)), kept.1.creates);
+          flights = λ j low. omega (arith, total_removed (flight j) t.operations k d h.there.inside h.at, follows.by j low, calm j, kept.1.flights j low);
         }),
       )
 
@@ -292,29 +295,6 @@ module _ {o : OpId} {t u : FlowTable} {k : ℕ} {d s : FlowRecord} (i : Instance
 number_apart : (f : FlowRecord → FlowRecord) (o : OpId) (rs : List FlowRecord) → ((x : FlowRecord) → (f x).number.0 ≡ x.number.0) → without_first (is_number o) (change_first (is_number o) f rs) ≡ without_first (is_number o) rs
 number_apart f o [] same = refl
 number_apart f o (x ∷ rs) same = grind (arith, same x, number_apart f o rs same)
-
--- an operation that is done is in flight where its drains run, and nowhere else
-opens_walked : (i : ℕ) (s : Stage) (es : List Entry) (t : Stage) → walk s es ≡ Some t → is_callback s ≡ false → is_callback t ≡ false → opens i es ≡ drain_opens i es
-opens_walked i s [] t w p q = refl
-opens_walked i s (e ∷ es) t w p q =
-    let k = walk_parts s e es t w in
-    elim (cases_Bool (is_callback k.0)) [
-      | inl now ↦ let same = same_Some t k.0 (sym k.2 ∙ (drains_follow k.0 es t k.2 now).walks k.0) in absurd (false≢true (sym q ∙ ap is_callback same ∙ now))
-      | inr later ↦
-          let closed : opens_at i e ≡ drain_opens_at i e = closed_opens i e (opens_after s e k.0 k.1 p ∙ later) in
-          omega (arith, closed, opens_walked i k.0 es t k.2 later q)
-    ]
-  where
-    closed_opens : (i : ℕ) (e : Entry) → is_open e ≡ false → opens_at i e ≡ drain_opens_at i e
-    closed_opens i e h = grind (arith, h)
-
-done_calm : (s : Stage) (asks : List Ask) → done_at s asks ≡ true → (asks ≡ []) × (is_callback (way_of s) ≡ false)
-done_calm s asks h = grind arith
-
-pub done_flies : (r : FlowRecord) → IsSound r → is_done r ≡ true → list_any is_running_drain r.entries ≡ false → (j : ℕ) → flight j r ≡ 0
-done_flies r h done none j =
-    let calm = done_calm r.stage (owed r.entries) done in
-    omega (arith, opens_walked j Descending r.entries (way_of r.stage) h.course.order refl calm.1, none_running j r.entries none, ap (λ xs. times j (instances xs)) calm.0)
 
 pub done_carries : (r : FlowRecord) → is_done r ≡ true → (c : CtxId) → carried_by c r ≡ 0
 done_carries r done c = ap (carried_among c) (done_calm r.stage (owed r.entries) done).0

@@ -6,7 +6,9 @@ use Rattle.std.proofs.Common.{◌≡◌, ◌+◌, ◌<◌, ◌≤◌, ◌∷◌,
 use Rattle.fm_types.specs.declared.ids.OpId.{OpId}
 use Rattle.fm_types.proofs.Firsts.{StandsThere, stands_there, absent, change_none, found_holds, all_change, length_change, count_changed}
 use Rattle.fm_flow.proofs.Soundness.{Stays, stays_so}
-use Rattle.fm_flow.proofs.Tallied.{count_set, count_removed, creates_few}
+use Rattle.fm_flow.proofs.Tallied.{count_set, count_removed, creates_few, total_set}
+use Rattle.fm_flow.specs.Counts.{flight}
+use Rattle.fm_flow.specs.Tallied.{kept_at}
 
 -- what holds either way
 pub either_way : {A : Type 0} {x y : A} (P : A → Type 0) (b : Bool) → (b ≡ true → P x) → (b ≡ false → P y) → P (cond b x y)
@@ -107,14 +109,18 @@ module _ {o : OpId} {t u : FlowTable} {k : ℕ} {d : FlowRecord} (h : Found o t 
 -- ---- what a step keeps
 
 -- the laws of all operations, and what is tallied of them
-abbrev pub IsKept : ℕ → ℕ → FlowTable → Type 0
-IsKept flying creating t = IsFlow t × IsTallied flying creating t.operations
+abbrev pub IsKept : ℕ → ℕ → List ℕ → FlowTable → Type 0
+IsKept flying creating counts t = IsFlow t × IsTallied flying creating counts t.operations
+
+-- what an instance's number has to do with a step of one operation
+pub record Follows (ms ns : List ℕ) (d s : FlowRecord) : Type 0 where
+  pub by : (j : ℕ) → j < 4096 → kept_at ns j + flight j d ≡ kept_at ms j + flight j s
 
 -- where no create comes or goes
 pub uncounted : (creating : ℕ) (d s : FlowRecord) → is_creating s ≡ is_creating d → creating + one (is_creating d) ≡ creating + one (is_creating s)
 uncounted creating d s same = ap (λ b. creating + one b) (sym same)
 
-module _ {o : OpId} {t u : FlowTable} {k flying creating : ℕ} {d : FlowRecord} (h : Found o t u k d) (kept : IsKept flying creating t) where
+module _ {o : OpId} {t u : FlowTable} {k flying creating : ℕ} {counts : List ℕ} {d : FlowRecord} (h : Found o t u k d) (kept : IsKept flying creating counts t) where
   -- creates that are under way are counted, and are few
   pub may_recount : {a : Bool} → a ≡ is_creating d → record { some : a ≡ true → 0 < creating; few : creating ≤ 256 }
   may_recount was = record {
@@ -122,10 +128,13 @@ module _ {o : OpId} {t u : FlowTable} {k flying creating : ℕ} {d : FlowRecord}
     few = omega (arith, kept.1.creates, creates_few t.operations kept.0.sound, kept.0.few);
   }
 
+  pub sound_now : IsSound d
+  sound_now = found_holds IsSound (is_number o) t.operations d kept.0.sound (operation_is h)
+
   -- a step of one
-  pub kept_set : {s : FlowRecord} {n : ℕ} (f : FlowRecord → FlowRecord) → s ≡ f d → ((r : FlowRecord) → Stays r (f r)) → (IsSound d → IsSound (f d))
-      → n + one (is_creating d) ≡ creating + one (is_creating s) → IsKept flying n (record t { operations = set t.operations k s })
-  kept_set {s} {n} f is same sound counts = (
+  pub kept_set : {s : FlowRecord} {n : ℕ} {ns : List ℕ} (f : FlowRecord → FlowRecord) → s ≡ f d → ((r : FlowRecord) → Stays r (f r)) → (IsSound d → IsSound (f d))
+      → n + one (is_creating d) ≡ creating + one (is_creating s) → (IsSound d → Follows counts ns d s) → IsKept flying n ns (record t { operations = set t.operations k s })
+  kept_set {s} {n} f is same sound creates' follows = (
     subst IsFlow (sym (changed_some (itself h) f is))
         (flow_changes t o f kept.0 (λ r. (same r).number) (λ r. (same r).collected)
         (λ r one'.
@@ -135,13 +144,14 @@ module _ {o : OpId} {t u : FlowTable} {k flying creating : ℕ} {d : FlowRecord}
       under_way =
           let stays = ap (λ (r : FlowRecord). one (not r.collected)) is ∙ ap (λ b. one (not b)) (same d).collected in
           omega (arith, count_set (λ (r : FlowRecord). not r.collected) t.operations k d s h.there.inside h.at, stays, kept.1.under_way);
-      creates = omega (arith, count_set is_creating t.operations k d s h.there.inside h.at, counts, kept.1.creates);
+      creates = omega (arith, count_set is_creating t.operations k d s h.there.inside h.at, creates', kept.1.creates);
+      flights = λ j low. omega (arith, total_set (flight j) t.operations k d s h.there.inside h.at, (follows sound_now).by j low, kept.1.flights j low);
     },
   )
 
   -- one that takes what fits
-  pub kept_took : {s : FlowRecord} {n : ℕ} (fits : FlowRecord → Bool) (step : FlowRecord → FlowRecord) → s ≡ cond (fits d) (step d) d → ((r : FlowRecord) → Stays r (step r))
-      → (fits d ≡ true → IsSound d → IsSound (step d)) → n + one (is_creating d) ≡ creating + one (is_creating s) → IsKept flying n (record t { operations = set t.operations k s })
-  kept_took fits step is same sound counts =
+  pub kept_took : {s : FlowRecord} {n : ℕ} {ns : List ℕ} (fits : FlowRecord → Bool) (step : FlowRecord → FlowRecord) → s ≡ cond (fits d) (step d) d → ((r : FlowRecord) → Stays r (step r))
+      → (fits d ≡ true → IsSound d → IsSound (step d)) → n + one (is_creating d) ≡ creating + one (is_creating s) → (IsSound d → Follows counts ns d s) → IsKept flying n ns (record t { operations = set t.operations k s })
+  kept_took fits step is same sound creates' follows =
       kept_set (λ r. cond (fits r) (step r) r) is (λ r. either_way (Stays r) (fits r) (λ e. same r) (λ e. stays_so refl refl))
-      (λ s. either_way IsSound (fits d) (λ e. sound e s) (λ e. s)) counts
+      (λ s. either_way IsSound (fits d) (λ e. sound e s) (λ e. s)) creates' follows

@@ -8,6 +8,7 @@ pub mod Course
 pub mod Depths
 pub mod Settled
 pub mod Counting
+pub mod Calm
 pub mod Noted
 pub mod Soundness
 pub mod Next
@@ -16,6 +17,7 @@ pub mod Resumes
 pub mod Drains
 pub mod Tallied
 pub mod Flows
+mod Follows
 pub mod Requests
 mod Seeing
 mod Turns

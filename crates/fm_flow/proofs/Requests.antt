@@ -5,7 +5,10 @@ use Rattle.fm_flow.proofs.Words.{is_running_drain, marked, All, AllPairs, false�
 use Rattle.fm_flow.proofs.Words.{All-weaker, is_done, FlowTable, IsFlow, without_first, is_number, operation_at, changed, removed, told}
 use Rattle.fm_flow.proofs.Words.{begun, begun_record, under_way, is_full, collected_of, collected_in, collect_reply, is_collectable, count_by-push}
 use Rattle.fm_flow.proofs.Words.{get_or_default, [], IsTallied, is_creating, one}
-use Rattle.fm_flow.proofs.Tallied.{count_set, count_removed, done_uncreating}
+use Rattle.fm_flow.proofs.Tallied.{count_set, count_removed, done_uncreating, total_set, total_removed, total_push}
+use Rattle.fm_flow.proofs.Words.{opens, times, instances, owed}
+use Rattle.fm_flow.specs.Counts.{flight}
+use Rattle.fm_flow.proofs.Calm.{done_flies}
 use Rattle.std.proofs.Common.{◌≡◌, ◌+◌, ◌-◌, ◌<◌, ◌≤◌, ◌∷◌, ◌++◌, ◌∙◌, zero, suc, set, remove}
 use Rattle.std.proofs.lemmas.List.Quantifiers.{all_pairs_push}
 use Rattle.fm_types.specs.declared.ids.OpId.{OpId}
@@ -48,11 +51,12 @@ flow_begins v stream handle born path p t on within h full =
     }
 
 -- it is tallied
-pub tally_begun : {flying creating n : ℕ} {a : Bool} (rs : List FlowRecord) (r : FlowRecord) → IsTallied flying creating rs → r.collected ≡ false → n + 0 ≡ creating + one a → a ≡ is_creating r
-    → IsTallied (flying + 1) n (rs ++ r ∷ [])
-tally_begun rs r tally open' is was = record {
+pub tally_begun : {flying creating n : ℕ} {counts : List ℕ} {a : Bool} (rs : List FlowRecord) (r : FlowRecord) → IsTallied flying creating counts rs → r.entries ≡ [] → r.collected ≡ false → n + 0 ≡ creating + one a → a ≡ is_creating r
+    → IsTallied (flying + 1) n counts (rs ++ r ∷ [])
+tally_begun rs r tally fresh open' is was = record {
   under_way = omega (arith, count_by-push (λ (s : FlowRecord). not s.collected) rs r, ap (λ b. one (not b)) open', tally.under_way);
   creates = omega (arith, count_by-push is_creating rs r, is, ap one was, tally.creates);
+  flights = λ j low. omega (arith, total_push (flight j) rs r, ap (λ es. opens j es + times j (instances (owed es))) fresh, tally.flights j low);
 }
 
 -- ---- collect
@@ -138,12 +142,12 @@ module _ {o : OpId} {t u : FlowTable} {k : ℕ} {d : FlowRecord} (h : Found o t 
       ap (λ (rs : List FlowRecord). record t { operations = rs }) (is ∙ h.there.goes) ∙ sym (collected_as true false ready at drains)
 
   -- it is tallied until its answer is handed out
-  pub may_fall : {flying creating : ℕ} → is_collectable d ≡ true → IsTallied flying creating t.operations → 1 ≤ flying
+  pub may_fall : {flying creating : ℕ} {counts : List ℕ} → is_collectable d ≡ true → IsTallied flying creating counts t.operations → 1 ≤ flying
   may_fall ready tally =
       omega (arith, count_removed (λ (r : FlowRecord). not r.collected) t.operations k d h.there.inside h.at, ap one (and_parts (not d.collected) (is_done d) ready).0, tally.under_way)
 
-  pub tally_marked : {q s : FlowRecord} {flying creating : ℕ} → is_collectable d ≡ true → q ≡ get_or t.operations k q → s ≡ marked q → IsTallied flying creating t.operations
-      → IsTallied (flying - 1) creating (set t.operations k s)
+  pub tally_marked : {q s : FlowRecord} {flying creating : ℕ} {counts : List ℕ} → is_collectable d ≡ true → q ≡ get_or t.operations k q → s ≡ marked q → IsTallied flying creating counts t.operations
+      → IsTallied (flying - 1) creating counts (set t.operations k s)
   tally_marked {s = s} ready read is tally =
       let same : s ≡ marked d = is ∙ ap marked (same_place read) in record {
         under_way = omega (
@@ -154,11 +158,16 @@ module _ {o : OpId} {t u : FlowTable} {k : ℕ} {d : FlowRecord} (h : Found o t 
           tally.under_way,
         );
         creates = omega (arith, count_set is_creating t.operations k d s h.there.inside h.at, ap (λ (r : FlowRecord). one (is_creating r)) same, tally.creates);
+        flights = λ j low. omega (arith, total_set (flight j) t.operations k d s h.there.inside h.at, ap (λ (r : FlowRecord). flight j r) same, tally.flights j low);
       }
 
-  pub tally_removed : {xs : List FlowRecord} {flying creating : ℕ} → is_collectable d ≡ true → xs ≡ remove t.operations k → IsTallied flying creating t.operations → IsTallied (flying - 1) creating xs
-  tally_removed ready is tally =
+  pub tally_removed : {e : FlowRecord} {xs : List FlowRecord} {flying creating : ℕ} {counts : List ℕ} → is_collectable d ≡ true → IsSound d → e ≡ get_or t.operations k e → list_any is_running_drain e.entries ≡ false
+      → xs ≡ remove t.operations k → IsTallied flying creating counts t.operations → IsTallied (flying - 1) creating counts xs
+  tally_removed ready sound read rests is tally =
       let parts = and_parts (not d.collected) (is_done d) ready in rw is (record {
         under_way = omega (arith, count_removed (λ (r : FlowRecord). not r.collected) t.operations k d h.there.inside h.at, ap one parts.0, tally.under_way);
         creates = omega (arith, count_removed is_creating t.operations k d h.there.inside h.at, ap one (done_uncreating d parts.1), tally.creates);
+        flights = λ j low.
+            let calm = ap (λ (r : FlowRecord). list_any is_running_drain r.entries) (sym (same_place read)) ∙ rests in
+            omega (arith, total_removed (flight j) t.operations k d h.there.inside h.at, done_flies d sound parts.1 calm j, tally.flights j low);
       })

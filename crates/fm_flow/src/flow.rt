@@ -1,6 +1,6 @@
 //! All operations that were begun and not yet collected.
 
-ghost use Rattle.std.specs.Prelude.{◌≡◌, ◌+◌, ◌<◌, ◌≤◌, ◌^◌, ◌&&◌, ◌∷◌, [], ℕ, true, length, Option, Some, None, Ok, Err, IsTrue, option_copied, is_some, position, count_by, find, if◌then◌else◌};
+ghost use Rattle.std.specs.Prelude.{◌≡◌, ◌+◌, ◌<◌, ◌≤◌, ◌^◌, ◌&&◌, ◌∷◌, [], ℕ, true, length, Option, Some, None, Ok, Err, IsTrue, IfOk, option_copied, is_some, position, count_by, find, if◌then◌else◌};
 ghost use Rattle.std.specs.List.{list_any};
 ghost use Rattle.fm_types.specs.Refusals.{AnswersOrMemory, first_of};
 ghost use Rattle.fm_data.specs.Params.{is_within_limits, are_on};
@@ -8,7 +8,7 @@ ghost use Rattle.fm_flow.specs.Verdict.{is_counted};
 ghost use Rattle.fm_flow.specs.Steps.{next_of, data_reply, pre_after, base_reply, base_after, post_after, pre_settled, post_settled, drain_returned_of};
 ghost use Rattle.fm_flow.specs.Holds.{is_held, IsFirstHeld};
 ghost use Rattle.fm_flow.specs.Creates.{is_creating, is_on_stream, has_create_on, creates, is_over};
-ghost use Rattle.fm_flow.specs.Tallied.{IsAscending};
+ghost use Rattle.fm_flow.specs.Tallied.{IsAscending, entered, left_pre, left_post, if_taken};
 ghost use Rattle.fm_flow.specs.Drains.{owes, DrainTaken, RunsEarly, is_spent, drain_done_of};
 ghost use Rattle.fm_flow.specs.Flights.{flies};
 ghost use Rattle.fm_flow.specs.Table.{in_flight, IsFlow, MayLieBelowOf, StandsAt, empty_table, is_number, operation_at, changed, told, is_full, is_collectable, begun, collect_reply, collected_of};
@@ -16,12 +16,13 @@ ghost use Rattle.fm_flow.specs.Table.{in_flight, IsFlow, MayLieBelowOf, StandsAt
 use crate::action::{Below, FlowAction};
 use crate::boxed_record::BoxedRecord;
 use crate::entry::{PostState, PreState};
+use crate::flights::{Flights, INSTANCES};
 use crate::hold::Hold;
-use crate::operation_record::OperationRecord;
+use crate::operation_record::{OperationRecord, post_state};
 use crate::stage::Stage;
 use fm_data::{Answer, BaseCall, CallbackData, Completion, Params, PostVerdict};
 use fm_types::{HandleId, InstanceId, OpId, SharedPath, Status, StreamId, VolumeId, WorkerId};
-use std::alloc::Global;
+use std::alloc::{AllocError, Global};
 use std::marker::Model;
 
 /// How many operations there are at once, not counting those whose answer was handed out.
@@ -35,6 +36,8 @@ pub struct Flow {
     // beside the operations: how many weren't collected, and how many are creates that nobody answered
     under_way: usize,
     creates: usize,
+    // and how many are in flight at each instance
+    flights: Flights,
     next: u64,
 }
 
@@ -46,7 +49,7 @@ impl Model for Flow {
 
     ghost view = { λ f. record { operations = f.operations.items; next = f.next } };
 
-    ghost invariant = { λ f. IsFlow (record { operations = f.operations.items; next = f.next }) × IsTallied f.under_way f.creates f.operations.items };
+    ghost invariant = { λ f. IsFlow (record { operations = f.operations.items; next = f.next }) × IsTallied f.under_way f.creates f.flights f.operations.items };
 }
 
 // By halves: the numbers ascend.
@@ -119,6 +122,7 @@ fn owing_place(operations: &[BoxedRecord], instance: InstanceId) -> Option<usize
         .position(|operation| operation.as_ref().owes(instance))
 }
 
+// Where an instance's number isn't kept.
 fn flying(operations: &[BoxedRecord], instance: InstanceId) -> usize
     ensures { result ≡ count_by (flies instance.0) operations.now }
 {
@@ -138,6 +142,50 @@ fn recounted(count: usize, did_pass: bool, passes: bool) -> usize
         (true, false) => count - 1,
         (false, true) => count + 1,
         _ => count,
+    }
+}
+
+// The instance to which the answer of `next` brings an operation on its way down.
+fn entered(below: Below, reply: &Result<FlowAction, Status>) -> Option<InstanceId>
+    ensures { result ≡ entered below reply.now }
+{
+    match (reply, below) {
+        (Ok(FlowAction::Pre(instance, _)), _) => Some(*instance),
+        (Ok(FlowAction::Moved), Below::Instance(instance, _)) => Some(instance),
+        _ => None,
+    }
+}
+
+// The instance that an operation leaves where a preoperation there gives that verdict: none where it asks or holds.
+fn left_pre(state: PreState, instance: Option<InstanceId>) -> Option<InstanceId>
+    ensures { result ≡ left_pre state instance }
+{
+    match state {
+        PreState::Passed | PreState::Completed(_) => instance,
+        _ => None,
+    }
+}
+
+// And where a postoperation does.
+fn left_post(state: PostState, instance: Option<InstanceId>) -> Option<InstanceId>
+    ensures { result ≡ left_post state instance }
+{
+    match state {
+        PostState::Finished => instance,
+        _ => None,
+    }
+}
+
+// None where the data was handed back.
+fn if_taken(
+    reply: &Result<(), CallbackData>,
+    instance: Option<InstanceId>,
+) -> Option<InstanceId>
+    ensures { result ≡ if_taken reply.now instance }
+{
+    match reply {
+        Ok(()) => instance,
+        Err(_) => None,
     }
 }
 
@@ -178,17 +226,19 @@ fn is_spent(operation: &OperationRecord) -> bool
 }
 
 impl Flow {
-    /// No operation. It takes no memory.
-    pub fn new(alloc: Global) -> Self
-        ensures { result ≡ empty_table }
+    /// No operation, and a number for each of 4,096 instances; the error says that memory was refused.
+    pub fn new(alloc: Global) -> Result<Flow, AllocError>
+        ensures { IfOk result (λ flow. flow ≡ empty_table) }
     {
-        Flow {
+        let flights = Flights::new(alloc)?;
+        Ok(Flow {
             alloc,
             operations: Vec::new(alloc),
             under_way: 0,
             creates: 0,
+            flights,
             next: 0,
-        }
+        })
     }
 
     /// The laws of all operations, for callers that rest on them: each is sound, their numbers ascend
@@ -258,10 +308,12 @@ impl Flow {
         let Some(place) = place_of(&self.operations, number) else {
             return Err(Status::WrongStep);
         };
+        let count = self.operations.len();
         let operation = self.operations[place].as_mut();
         let was_creating = operation.is_creating();
         let reply = operation.next(worker, below, is_stopping);
         self.creates = recounted(self.creates, was_creating, operation.is_creating());
+        self.flights.enters(entered(below, &reply), count);
         reply
     }
 
@@ -326,8 +378,10 @@ impl Flow {
         let place = standing(&self.operations, number);
         let operation = self.operations[place].as_mut();
         let was_creating = operation.is_creating();
+        let instance = operation.last_visited();
         let reply = operation.pre_returned(state, lent);
         self.creates = recounted(self.creates, was_creating, operation.is_creating());
+        self.flights.leaves(if_taken(&reply, left_pre(state, instance)));
         reply
     }
 
@@ -370,7 +424,11 @@ impl Flow {
         ensures after { self.new ≡ changed number (post_after verdict lent) self.old }
     {
         let place = standing(&self.operations, number);
-        self.operations[place].as_mut().post_returned(verdict, lent)
+        let operation = self.operations[place].as_mut();
+        let instance = operation.last_posted();
+        let reply = operation.post_returned(verdict, lent);
+        self.flights.leaves(if_taken(&reply, left_post(post_state(verdict), instance)));
+        reply
     }
 
     /// A held preoperation of an operation is resumed, with the verdict that counts (`FltCompletePendedPreOperation`). The operation has to be held
@@ -383,8 +441,10 @@ impl Flow {
         let place = standing(&self.operations, number);
         let operation = self.operations[place].as_mut();
         let was_creating = operation.is_creating();
+        let instance = operation.last_visited();
         operation.resume_pre(state);
         self.creates = recounted(self.creates, was_creating, operation.is_creating());
+        self.flights.leaves(left_pre(state, instance));
     }
 
     /// A held postoperation of an operation is over (`FltCompletePendedPostOperation`). The operation has to be held in one. All other operations
@@ -394,7 +454,10 @@ impl Flow {
         ensures { self.new ≡ changed number (post_settled PostState.Finished) self.old }
     {
         let place = standing(&self.operations, number);
-        self.operations[place].as_mut().resume_post();
+        let operation = self.operations[place].as_mut();
+        let instance = operation.last_posted();
+        operation.resume_post();
+        self.flights.leaves(instance);
     }
 
     /// The lowest number of those operations that a callback of that kind of the instance holds.
@@ -412,6 +475,7 @@ impl Flow {
     {
         let place = standing(&self.operations, number);
         self.operations[place].as_mut().drain_returned(instance);
+        self.flights.leaves(Some(instance));
     }
 
     /// How many operations are in flight at an instance: a callback there runs or holds them, or they
@@ -420,6 +484,9 @@ impl Flow {
     pub fn in_flight(&self, instance: InstanceId) -> u64
         ensures { result ≡ in_flight instance.0 self.now }
     {
+        if (instance.0 as usize) < INSTANCES {
+            return self.flights.of(instance) as u64;
+        }
         flying(&self.operations, instance) as u64
     }
 
@@ -447,6 +514,7 @@ impl Flow {
         let place = standing(&self.operations, number);
         let operation = self.operations[place].as_mut();
         operation.early_over(instance);
+        self.flights.leaves(Some(instance));
         if is_spent(operation) {
             self.operations.remove(place);
         }

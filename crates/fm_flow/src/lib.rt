@@ -8,6 +8,7 @@ mod answered;
 mod boxed_record;
 mod entries;
 mod entry;
+mod flights;
 mod flow;
 mod hold;
 pub mod laws;

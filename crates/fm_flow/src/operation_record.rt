@@ -4,7 +4,7 @@ ghost use Rattle.std.specs.Prelude.{◌≡◌, ℕ, ◌<◌, ◌≤◌, true, fa
 ghost use Rattle.std.specs.List.{list_any};
 ghost use Rattle.fm_data.specs.Params.{is_within_limits, are_on, fit, call_fits};
 ghost use Rattle.fm_data.specs.Data.{data_fits};
-ghost use Rattle.fm_flow.specs.Entries.{times, visited, last_visited, owed};
+ghost use Rattle.fm_flow.specs.Entries.{times, visited, last_visited, last_posted, owed};
 ghost use Rattle.fm_flow.specs.Verdict.{is_counted};
 ghost use Rattle.fm_flow.specs.Counts.{is_running_drain};
 ghost use Rattle.fm_flow.specs.Steps.{bare_ask, with_visit, with_base, with_drain, call_pre, call_base, call_post, give_post, descend, ascend, unwound, may_take, next_of, MayLieBelow, pre_settled, pre_returned_of, base_returned_of, post_state, post_settled, post_returned_of, drain_returned_of, is_done, data_reply, pre_after, base_fits, base_reply, base_after, post_after, pre_leads, post_leads};
@@ -191,6 +191,13 @@ impl OperationRecord {
         ensures { option_map (λ i. i.0) result ≡ last_visited self.now.entries }
     {
         self.last
+    }
+
+    /// The instance that had a postoperation of it last.
+    pub fn last_posted(&self) -> Option<InstanceId>
+        ensures { option_map (λ i. i.0) result ≡ last_posted self.now.entries }
+    {
+        entries::last_posted(&self.entries)
     }
 
     /// The postoperation that it is owed next.
@@ -748,7 +755,7 @@ fn post_leads(state: PostState) -> Stage
     }
 }
 
-fn post_state(verdict: PostVerdict) -> PostState
+pub(crate) fn post_state(verdict: PostVerdict) -> PostState
     ensures { result ≡ post_state verdict }
 {
     match verdict {

@@ -2,6 +2,7 @@ use Rattle.fm_flow.proofs.Words.{refl, sym, Err, ap, one, arith, FlowRecord, Sta
 use Rattle.fm_flow.proofs.Flows.{may_recount, found, told_some, changed_some, said_there, kept_took, stands_some}
 use Rattle.fm_flow.proofs.Soundness.{stays_so}
 use Rattle.fm_flow.proofs.Returns.{sound_base}
+use Rattle.fm_flow.proofs.Follows.{follows_same, base_flies}
 use Rattle.fm_flow.proofs.flow.Flow.base_returned.Goals as goal
 
 pub standing-place-requires : goal.standing-place-requires
@@ -17,6 +18,7 @@ invariant_of-self c =
     c.base_returned-reply.ensures.after (λ r. stays_so refl refl)
     (sound_base c.args.call c.args.answer c.args.handle c.as_mut-operation.result.now (said_there there (StandsAt InBase) c.requires))
     (omega (arith, c.recounted-self-inside.ensures, ap one c.is_creating-was_creating.ensures, ap one c.is_creating.ensures))
+    (λ sound. follows_same (λ j. base_flies j c.args.call c.args.answer c.args.handle c.as_mut-operation.result.now c.base_returned-reply.new.self c.base_returned-reply.ensures.after))
 
 pub returns : goal.returns
 returns c =

@@ -1,6 +1,8 @@
 use Rattle.fm_flow.proofs.Words.{sym, ap, FlowRecord, Err, WrongStep, collect_reply}
 use Rattle.std.proofs.Common.{◌∙◌}
-use Rattle.fm_flow.proofs.Flows.{missing, told_none, through, found, itself}
+use Rattle.fm_flow.proofs.Flows.{missing, told_none, through, found, itself, operation_is}
+use Rattle.fm_types.proofs.Firsts.{found_holds}
+use Rattle.fm_flow.proofs.Words.{IsSound, is_number}
 use Rattle.fm_flow.proofs.Requests.{collected_none, collect_refused, collect_told, collect_marked, collect_removed, flow_collected}
 use Rattle.fm_flow.proofs.Requests.{may_fall, tally_marked, tally_removed}
 use Rattle.fm_flow.proofs.flow.Flow.collect.Goals as goal
@@ -50,7 +52,7 @@ invariant_of-self-2 c =
     let asked = through c.self.inside.operations.items c.in-Some.place c.as_ref-2.ensures c.index-2.ensures in
     let rests = sym c.has_running_drain.ensures ∙ c.if-has_running_drain.false in (
       flow_collected c.args.number (collect_removed there ready asked rests c.remove.ensures.items) c.self.invariant.0,
-      tally_removed there ready c.remove.ensures.items c.self.invariant.1,
+      tally_removed there ready (found_holds IsSound (is_number c.args.number) c.self.inside.operations.items _ c.self.invariant.0.sound (operation_is there)) asked rests c.remove.ensures.items c.self.invariant.1,
     )
 
 pub returns : goal.returns

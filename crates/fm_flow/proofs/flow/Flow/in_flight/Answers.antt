@@ -1,9 +1,12 @@
-use Rattle.fm_flow.proofs.Words.{ap, count_by}
+use Rattle.fm_flow.proofs.Words.{ap, count_by, arith}
 use Rattle.std.proofs.Common.{◌∙◌}
 use Rattle.fm_flow.specs.Flights.{flies}
 use Rattle.fm_flow.specs.Table.{in_flight}
 use Rattle.fm_flow.proofs.Drains.{in_flight_counted}
 use Rattle.fm_flow.proofs.flow.Flow.in_flight.Goals as goal
+
+pub returns-then-instance-lt-INSTANCES : goal.returns-then-instance-lt-INSTANCES
+returns-then-instance-lt-INSTANCES c = c.of.ensures ∙ c.self.invariant.1.flights c.args.instance.0 (omega arith) ∙ ap (in_flight c.args.instance.0) c.self.view_is
 
 pub returns : goal.returns
 returns c =

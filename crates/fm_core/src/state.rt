@@ -45,16 +45,17 @@ impl Model for State {
 
 impl State {
     /// The state before the first event: nothing is registered, mounted or attached, nothing is under way, each worker is idle and holds nothing. It
-    /// takes the memory for all that workers will ever hold, and for all handles. Refused with 1 where memory was refused.
+    /// takes the memory for all that workers will ever hold, for all handles, and for a number for each instance. Refused with 1 where memory was refused.
     pub fn new(alloc: Global) -> Result<State, Status>
         ensures empty { IfOk result (λ state. state ≡ empty_world) }
         ensures memory { IfErr result (λ status. status ≡ Status.NoMemory) }
     {
+        let flow = Flow::new(alloc)?;
         let contexts = Contexts::new(alloc)?;
         let files = Files::new(alloc)?;
         Ok(State {
             stack: Stack::new(alloc),
-            flow: Flow::new(alloc),
+            flow,
             contexts,
             workers: [Worker::Idle; WORKERS],
             totals: [0; FILTERS],

@@ -275,12 +275,15 @@ module _ {o : OpId} {t u : FlowTable} {k : ℕ} {d s : FlowRecord} (i : Instance
   pub done_goes : {xs : List FlowRecord} → is_spent s ≡ true → xs ≡ remove (set t.operations k s) k → record t { operations = xs } ≡ drain_done_of o i u
   done_goes spent left = gone left ∙ sym (done_as true spent)
 
-  pub kept_gone : {xs : List FlowRecord} {flying creating : ℕ} {counts ns : List ℕ} → is_spent s ≡ true → xs ≡ remove (set t.operations k s) k → RunsEarly i (Some d) → Follows counts ns d (early_over i d) → IsKept flying creating counts t → IsKept flying creating ns (record t { operations = xs })
+  pub kept_gone : {xs : List FlowRecord} {flying creating : ℕ} {counts ns : List ℕ} → is_spent s ≡ true → xs ≡ remove (set t.operations k s) k → RunsEarly i (Some d)
+      → Follows counts ns d s → IsKept flying creating counts t → IsKept flying creating ns (record t { operations = xs })
   kept_gone {xs} spent left runs follows kept =
-      let out : d.collected ≡ true = ap (λ (r : FlowRecord). r.collected) (sym is) ∙ (and_parts s.collected (not (list_any is_running_drain s.entries)) spent).0 in
+      let parts = and_parts s.collected (not (list_any is_running_drain s.entries)) spent in
+      let out : d.collected ≡ true = ap (λ (r : FlowRecord). r.collected) (sym is) ∙ parts.0 in
       let sound = found_holds IsSound (is_number o) t.operations d kept.0.sound (operation_is h) in
-      let quiet : list_any is_running_drain (early_over i d).entries ≡ false = ap (λ (r : FlowRecord). list_any is_running_drain r.entries) (sym is) ∙ (let no = (and_parts s.collected (not (list_any is_running_drain s.entries)) spent).1 in grind (arith, no)) in
-      let calm = done_flies (early_over i d) (sound_over i d runs sound) (ap (done_at d.stage) (owed_over i d) ∙ sound.collected out) quiet in
+      let quiet : list_any is_running_drain s.entries ≡ false = grind (arith, parts.1) in
+      let done = ap is_done is ∙ ap (done_at d.stage) (owed_over i d) ∙ sound.collected out in
+      let calm = done_flies s (subst IsSound (sym is) (sound_over i d runs sound)) done quiet in
       let rest : xs ≡ remove t.operations k = left ∙ remove_set t.operations k s in (
         subst IsFlow (sym (gone left)) (flow_removed t o kept.0),
         rw rest (record {

@@ -133,8 +133,8 @@ module _ {o : OpId} {t u : FlowTable} {k flying creating : ℕ} {counts : List �
 
   -- a step of one
   pub kept_set : {s : FlowRecord} {n : ℕ} {ns : List ℕ} (f : FlowRecord → FlowRecord) → s ≡ f d → ((r : FlowRecord) → Stays r (f r)) → (IsSound d → IsSound (f d))
-      → n + one (is_creating d) ≡ creating + one (is_creating s) → (IsSound d → Follows counts ns d s) → IsKept flying n ns (record t { operations = set t.operations k s })
-  kept_set {s} {n} f is same sound creates' follows = (
+      → n + one (is_creating d) ≡ creating + one (is_creating s) → Follows counts ns d s → IsKept flying n ns (record t { operations = set t.operations k s })
+  kept_set {s} {n} f is same sound creates follows = (
     subst IsFlow (sym (changed_some (itself h) f is))
         (flow_changes t o f kept.0 (λ r. (same r).number) (λ r. (same r).collected)
         (λ r one'.
@@ -144,14 +144,15 @@ module _ {o : OpId} {t u : FlowTable} {k flying creating : ℕ} {counts : List �
       under_way =
           let stays = ap (λ (r : FlowRecord). one (not r.collected)) is ∙ ap (λ b. one (not b)) (same d).collected in
           omega (arith, count_set (λ (r : FlowRecord). not r.collected) t.operations k d s h.there.inside h.at, stays, kept.1.under_way);
-      creates = omega (arith, count_set is_creating t.operations k d s h.there.inside h.at, creates', kept.1.creates);
-      flights = λ j low. omega (arith, total_set (flight j) t.operations k d s h.there.inside h.at, (follows sound_now).by j low, kept.1.flights j low);
+      creates = omega (arith, count_set is_creating t.operations k d s h.there.inside h.at, creates, kept.1.creates);
+      flights = λ j low. omega (arith, total_set (flight j) t.operations k d s h.there.inside h.at, follows.by j low, kept.1.flights j low);
     },
   )
 
   -- one that takes what fits
   pub kept_took : {s : FlowRecord} {n : ℕ} {ns : List ℕ} (fits : FlowRecord → Bool) (step : FlowRecord → FlowRecord) → s ≡ cond (fits d) (step d) d → ((r : FlowRecord) → Stays r (step r))
-      → (fits d ≡ true → IsSound d → IsSound (step d)) → n + one (is_creating d) ≡ creating + one (is_creating s) → (IsSound d → Follows counts ns d s) → IsKept flying n ns (record t { operations = set t.operations k s })
-  kept_took fits step is same sound creates' follows =
+      → (fits d ≡ true → IsSound d → IsSound (step d)) → n + one (is_creating d) ≡ creating + one (is_creating s) → Follows counts ns d s
+      → IsKept flying n ns (record t { operations = set t.operations k s })
+  kept_took fits step is same sound creates follows =
       kept_set (λ r. cond (fits r) (step r) r) is (λ r. either_way (Stays r) (fits r) (λ e. same r) (λ e. stays_so refl refl))
-      (λ s. either_way IsSound (fits d) (λ e. sound e s) (λ e. s)) creates' follows
+      (λ s. either_way IsSound (fits d) (λ e. sound e s) (λ e. s)) creates follows

@@ -51,8 +51,8 @@ flow_begins v stream handle born path p t on within h full =
     }
 
 -- it is tallied
-pub tally_begun : {flying creating n : ℕ} {counts : List ℕ} {a : Bool} (rs : List FlowRecord) (r : FlowRecord) → IsTallied flying creating counts rs → r.entries ≡ [] → r.collected ≡ false → n + 0 ≡ creating + one a → a ≡ is_creating r
-    → IsTallied (flying + 1) n counts (rs ++ r ∷ [])
+pub tally_begun : {flying creating n : ℕ} {counts : List ℕ} {a : Bool} (rs : List FlowRecord) (r : FlowRecord) → IsTallied flying creating counts rs → r.entries ≡ [] → r.collected ≡ false
+    → n + 0 ≡ creating + one a → a ≡ is_creating r → IsTallied (flying + 1) n counts (rs ++ r ∷ [])
 tally_begun rs r tally fresh open' is was = record {
   under_way = omega (arith, count_by-push (λ (s : FlowRecord). not s.collected) rs r, ap (λ b. one (not b)) open', tally.under_way);
   creates = omega (arith, count_by-push is_creating rs r, is, ap one was, tally.creates);
@@ -161,8 +161,8 @@ module _ {o : OpId} {t u : FlowTable} {k : ℕ} {d : FlowRecord} (h : Found o t 
         flights = λ j low. omega (arith, total_set (flight j) t.operations k d s h.there.inside h.at, ap (λ (r : FlowRecord). flight j r) same, tally.flights j low);
       }
 
-  pub tally_removed : {e : FlowRecord} {xs : List FlowRecord} {flying creating : ℕ} {counts : List ℕ} → is_collectable d ≡ true → IsSound d → e ≡ get_or t.operations k e → list_any is_running_drain e.entries ≡ false
-      → xs ≡ remove t.operations k → IsTallied flying creating counts t.operations → IsTallied (flying - 1) creating counts xs
+  pub tally_removed : {e : FlowRecord} {xs : List FlowRecord} {flying creating : ℕ} {counts : List ℕ} → is_collectable d ≡ true → IsSound d → e ≡ get_or t.operations k e
+      → list_any is_running_drain e.entries ≡ false → xs ≡ remove t.operations k → IsTallied flying creating counts t.operations → IsTallied (flying - 1) creating counts xs
   tally_removed ready sound read rests is tally =
       let parts = and_parts (not d.collected) (is_done d) ready in rw is (record {
         under_way = omega (arith, count_removed (λ (r : FlowRecord). not r.collected) t.operations k d h.there.inside h.at, ap one parts.0, tally.under_way);

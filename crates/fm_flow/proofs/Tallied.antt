@@ -71,7 +71,8 @@ kept_more (Some i) ns j len low = elim (cases_eq j i.0) [
   | inr other ↦ let no : (i.0 == j) ≡ false = grind (arith, nat_tests, other) in rw no (get_or-set_other ns i.0 j (kept_at ns i.0 + 1) 0 other ∙ omega arith)
 ]
 
-pub kept_less : (at : Option InstanceId) (ns : List ℕ) (j : ℕ) → length ns ≡ 4096 → j < 4096 → MayLeave at ns → kept_at (one_less at ns) j + leaves_at j (option_map (λ (i : InstanceId). i.0) at) 1 ≡ kept_at ns j
+pub kept_less : (at : Option InstanceId) (ns : List ℕ) (j : ℕ) → length ns ≡ 4096 → j < 4096 → MayLeave at ns
+    → kept_at (one_less at ns) j + leaves_at j (option_map (λ (i : InstanceId). i.0) at) 1 ≡ kept_at ns j
 kept_less None ns j len low may = omega arith
 kept_less (Some i) ns j len low may = elim (cases_eq j i.0) [
   | inl e ↦

@@ -18,7 +18,7 @@ invariant_of-self c =
     c.base_returned-reply.ensures.after (λ r. stays_so refl refl)
     (sound_base c.args.call c.args.answer c.args.handle c.as_mut-operation.result.now (said_there there (StandsAt InBase) c.requires))
     (omega (arith, c.recounted-self-inside.ensures, ap one c.is_creating-was_creating.ensures, ap one c.is_creating.ensures))
-    (λ sound. follows_same (λ j. base_flies j c.args.call c.args.answer c.args.handle c.as_mut-operation.result.now c.base_returned-reply.new.self c.base_returned-reply.ensures.after))
+    (follows_same (λ j. base_flies j c.args.call c.args.answer c.args.handle c.as_mut-operation.result.now c.base_returned-reply.new.self c.base_returned-reply.ensures.after))
 
 pub returns : goal.returns
 returns c =

@@ -50,9 +50,10 @@ invariant_of-self-2 c =
     let there = itself (found c.args.number c.self.view_is c.place_of.ensures c.deref.ensures.value c.in-Some.is c.as_ref.ensures c.index.ensures) in
     let ready = sym c.is_collectable.ensures ∙ c.if-not-is_collectable.false in
     let asked = through c.self.inside.operations.items c.in-Some.place c.as_ref-2.ensures c.index-2.ensures in
-    let rests = sym c.has_running_drain.ensures ∙ c.if-has_running_drain.false in (
+    let rests = sym c.has_running_drain.ensures ∙ c.if-has_running_drain.false in
+    let sound = found_holds IsSound (is_number c.args.number) c.self.inside.operations.items _ c.self.invariant.0.sound (operation_is there) in (
       flow_collected c.args.number (collect_removed there ready asked rests c.remove.ensures.items) c.self.invariant.0,
-      tally_removed there ready (found_holds IsSound (is_number c.args.number) c.self.inside.operations.items _ c.self.invariant.0.sound (operation_is there)) asked rests c.remove.ensures.items c.self.invariant.1,
+      tally_removed there ready sound asked rests c.remove.ensures.items c.self.invariant.1,
     )
 
 pub returns : goal.returns

@@ -3,8 +3,14 @@ use Rattle.std.proofs.Common.{◌∙◌}
 use Rattle.fm_flow.specs.Drains.{RunsEarly, early_over}
 use Rattle.fm_flow.proofs.Flows.{uncounted, found, itself, said_there, kept_set}
 use Rattle.fm_flow.proofs.Drains.{sound_over, stays_over, over_uncreated, done_stays, done_goes, kept_gone}
-use Rattle.fm_flow.proofs.Follows.{follows_less, may_leave, over_leaves}
+use Rattle.fm_flow.proofs.Follows.{Leaves, follows_less, may_leave, over_leaves}
+use Rattle.fm_flow.proofs.flow.Flow.drain_done.Goals.{After-early_over}
 use Rattle.fm_flow.proofs.flow.Flow.drain_done.Goals as goal
+
+left : (c : After-early_over) → Leaves (Some c.args.instance) c.as_mut-operation.result.now c.early_over.new.self
+left c =
+    let there = found c.args.number c.self.view_is (sym c.standing-place.ensures) c.deref.ensures.value refl c.as_mut-operation.ensures.value c.index_mut.ensures.value in
+    over_leaves c.args.instance c.as_mut-operation.result.now (said_there there (RunsEarly c.args.instance) c.requires) c.early_over.ensures
 
 pub early_over-requires : goal.early_over-requires
 early_over-requires c =
@@ -14,8 +20,9 @@ early_over-requires c =
 pub invariant_of-self : goal.invariant_of-self
 invariant_of-self c =
     let there = found c.args.number c.self.view_is (sym c.standing-place.ensures) c.deref.ensures.value refl c.as_mut-operation.ensures.value c.index_mut.ensures.value in
-    kept_gone c.args.instance (itself there) c.early_over.ensures (sym c.is_spent.ensures ∙ c.if-is_spent.true) c.remove.ensures.items (said_there there (RunsEarly c.args.instance) c.requires) (follows_less there c.self.invariant (Some c.args.instance) c.leaves.ensures.table c.leaves.ensures.after
-    (λ j. over_leaves j c.args.instance c.as_mut-operation.result.now (said_there there (RunsEarly c.args.instance) c.requires) refl)) c.self.invariant
+    let runs = said_there there (RunsEarly c.args.instance) c.requires in
+    let follows = follows_less there c.self.invariant (Some c.args.instance) c.leaves.ensures.table c.leaves.ensures.after (left (goal.at.invariant_of-self c).After-early_over) in
+    kept_gone c.args.instance (itself there) c.early_over.ensures (sym c.is_spent.ensures ∙ c.if-is_spent.true) c.remove.ensures.items runs follows c.self.invariant
 
 pub returns-then-is_spent : goal.returns-then-is_spent
 returns-then-is_spent c =
@@ -26,17 +33,15 @@ returns-then-is_spent c =
 pub invariant_of-self-else-is_spent : goal.invariant_of-self-else-is_spent
 invariant_of-self-else-is_spent c =
     let there = found c.args.number c.self.view_is (sym c.standing-place.ensures) c.deref.ensures.value refl c.as_mut-operation.ensures.value c.index_mut.ensures.value in
-    kept_set there c.self.invariant (early_over c.args.instance) c.early_over.ensures (stays_over c.args.instance)
-    (sound_over c.args.instance c.as_mut-operation.result.now (said_there there (RunsEarly c.args.instance) c.requires))
-    (uncounted c.self.inside.creates c.as_mut-operation.result.now c.early_over.new.self (over_uncreated c.args.instance _ _ c.early_over.ensures))
-    (λ sound. follows_less there c.self.invariant (Some c.args.instance) c.leaves.ensures.table c.leaves.ensures.after
-    (λ j. over_leaves j c.args.instance c.as_mut-operation.result.now (said_there there (RunsEarly c.args.instance) c.requires) c.early_over.ensures))
+    let runs = said_there there (RunsEarly c.args.instance) c.requires in
+    let follows = follows_less there c.self.invariant (Some c.args.instance) c.leaves.ensures.table c.leaves.ensures.after (left (goal.at.invariant_of-self-else-is_spent c).After-early_over) in
+    kept_set there c.self.invariant (early_over c.args.instance) c.early_over.ensures (stays_over c.args.instance) (sound_over c.args.instance c.as_mut-operation.result.now runs)
+    (uncounted c.self.inside.creates c.as_mut-operation.result.now c.early_over.new.self (over_uncreated c.args.instance _ _ c.early_over.ensures)) follows
 
 pub leaves-requires : goal.leaves-requires
 leaves-requires c =
     let there = found c.args.number c.self.view_is (sym c.standing-place.ensures) c.deref.ensures.value refl c.as_mut-operation.ensures.value c.index_mut.ensures.value in
-    may_leave there c.self.invariant (Some c.args.instance) c.early_over.new.self
-    (λ j. over_leaves j c.args.instance c.as_mut-operation.result.now (said_there there (RunsEarly c.args.instance) c.requires) c.early_over.ensures)
+    may_leave there c.self.invariant (Some c.args.instance) c.early_over.new.self (left (goal.at.leaves-requires c).After-early_over)
 
 pub returns-else-is_spent : goal.returns-else-is_spent
 returns-else-is_spent c =

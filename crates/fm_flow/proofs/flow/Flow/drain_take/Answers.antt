@@ -3,7 +3,7 @@ use Rattle.std.proofs.Common.{◌∙◌}
 use Rattle.fm_flow.specs.Counts.{flight}
 use Rattle.fm_flow.proofs.Follows.{follows_same}
 use Rattle.fm_flow.specs.Drains.{DrainTaken, drained_early}
-use Rattle.fm_flow.proofs.Flows.{uncounted, kept_set}
+use Rattle.fm_flow.proofs.Flows.{uncounted, kept_set, sound_now}
 use Rattle.fm_flow.proofs.Drains.{lowest_owing, early_told, none_owing, stays_early, sound_early, early_uncreated, flies_early}
 use Rattle.fm_flow.proofs.flow.Flow.drain_take.Goals as goal
 
@@ -22,7 +22,7 @@ invariant_of-self c =
     kept_set low.there c.self.invariant (drained_early c.args.instance) c.drain_early-completion.ensures.after (stays_early c.args.instance)
     (sound_early c.args.instance c.as_mut-operation.result.now low.owing)
     (uncounted c.self.inside.creates c.as_mut-operation.result.now c.drain_early-completion.new.self (early_uncreated c.args.instance _ _ c.drain_early-completion.ensures.after))
-    (λ sound. follows_same (λ j. ap (flight j) c.drain_early-completion.ensures.after ∙ flies_early c.args.instance c.as_mut-operation.result.now j low.owing sound))
+    (follows_same (λ j. ap (flight j) c.drain_early-completion.ensures.after ∙ flies_early c.args.instance c.as_mut-operation.result.now j low.owing (sound_now low.there c.self.invariant)))
 
 pub returns : goal.returns
 returns c =

@@ -1,12 +1,17 @@
 use Rattle.fm_flow.proofs.Words.{Err, ap, one, arith, FlowRecord, WrongStep, next_of, MayLieBelowOf}
 use Rattle.fm_flow.proofs.Flows.{may_recount, missing, told_none, changed_none, found, told_some, changed_some, said_there, kept_set, sound_now}
-use Rattle.std.proofs.Common.{◌∙◌, ◌≡◌, ◌+◌}
-use Rattle.fm_flow.specs.Tallied.{entered, one_more}
-use Rattle.fm_flow.proofs.Follows.{follows_more, next_comes, may_enter, number_of}
-use Rattle.fm_flow.specs.Counts.{flight, leaves_at}
+use Rattle.std.proofs.Common.{◌∙◌}
+use Rattle.fm_flow.proofs.Follows.{Leaves, follows_more, next_comes, may_enter}
 use Rattle.fm_flow.proofs.Words.{subst, sym, IsSound}
 use Rattle.fm_flow.proofs.Next.{next_stays, sound_next}
+use Rattle.fm_flow.proofs.flow.Flow.next.Goals.{After-entered}
 use Rattle.fm_flow.proofs.flow.Flow.next.Goals as goal
+
+comes : (c : After-entered) → Leaves c.entered.result c.next-reply.new.self c.as_mut-operation.result.now
+comes c =
+    let there = found c.args.number c.self.view_is c.place_of.ensures c.deref.ensures.value c.in-Some.is c.as_mut-operation.ensures.value c.index_mut.ensures.value in
+    next_comes c.args.worker c.args.below c.args.is_stopping c.as_mut-operation.result.now (said_there there (MayLieBelowOf c.args.below) c.requires) (sound_now there c.self.invariant)
+    c.next-reply.ensures.after c.next-reply.ensures.reply c.entered.ensures
 
 pub returns-in_default : goal.returns-in_default
 returns-in_default c =
@@ -25,8 +30,7 @@ invariant_of-self c =
     kept_set there c.self.invariant (λ (r : FlowRecord). (next_of c.args.worker c.args.below c.args.is_stopping r).after) c.next-reply.ensures.after (next_stays c.args.worker c.args.below c.args.is_stopping)
     (λ h. sound_next c.args.worker c.args.below c.args.is_stopping c.as_mut-operation.result.now h (λ e. (said_there there (MayLieBelowOf c.args.below) c.requires)))
     (omega (arith, c.recounted-self-inside.ensures, ap one c.is_creating-was_creating.ensures, ap one c.is_creating.ensures))
-    (λ sound. follows_more (entered c.args.below c.next-reply.result) c.enters.ensures.table (c.enters.ensures.after ∙ ap (λ at. one_more at c.self.inside.flights) c.entered.ensures)
-    (λ j. next_comes j c.args.worker c.args.below c.args.is_stopping c.as_mut-operation.result.now c.next-reply.ensures.after c.next-reply.ensures.reply (said_there there (MayLieBelowOf c.args.below) c.requires) sound))
+    (follows_more c.entered.result c.enters.ensures.table c.enters.ensures.after (comes (goal.at.invariant_of-self c).After-entered))
 
 pub returns : goal.returns
 returns c =
@@ -43,9 +47,6 @@ recounted-self-inside-requires c =
 pub enters-requires : goal.enters-requires
 enters-requires c =
     let there = found c.args.number c.self.view_is c.place_of.ensures c.deref.ensures.value c.in-Some.is c.as_mut-operation.ensures.value c.index_mut.ensures.value in
-    let may = said_there there (MayLieBelowOf c.args.below) c.requires in
-    let sound = sound_now there c.self.invariant in
+    let sound = sound_next c.args.worker c.args.below c.args.is_stopping c.as_mut-operation.result.now (sound_now there c.self.invariant) (λ e. said_there there (MayLieBelowOf c.args.below) c.requires) in
     may_enter there c.self.invariant c.entered.result c.next-reply.new.self c.len-count.result (c.len-count.ensures ∙ c.self.inside.operations.ok.0)
-    (subst IsSound (sym c.next-reply.ensures.after) (sound_next c.args.worker c.args.below c.args.is_stopping c.as_mut-operation.result.now sound (λ e. may)))
-    (λ j. subst (λ at. flight j c.next-reply.new.self ≡ flight j c.as_mut-operation.result.now + leaves_at j (number_of at) 1) (sym c.entered.ensures)
-    (next_comes j c.args.worker c.args.below c.args.is_stopping c.as_mut-operation.result.now c.next-reply.ensures.after c.next-reply.ensures.reply may sound))
+    (subst IsSound (sym c.next-reply.ensures.after) sound) (comes (goal.at.enters-requires c).After-entered)

@@ -2,10 +2,17 @@ use Rattle.fm_flow.proofs.Words.{refl, sym, Err, ap, one, arith, FlowRecord, Sta
 use Rattle.fm_flow.proofs.Flows.{may_recount, found, told_some, changed_some, said_there, kept_took, stands_some, sound_now}
 use Rattle.std.proofs.Common.{◌∙◌}
 use Rattle.fm_flow.specs.Tallied.{if_taken}
-use Rattle.fm_flow.proofs.Follows.{follows_less, may_leave, pre_leaves}
+use Rattle.fm_flow.proofs.Follows.{Leaves, follows_less, may_leave, pre_leaves}
 use Rattle.fm_flow.proofs.Soundness.{stays_so}
 use Rattle.fm_flow.proofs.Returns.{sound_pre_returned}
+use Rattle.fm_flow.proofs.flow.Flow.pre_returned.Goals.{After-if_taken}
 use Rattle.fm_flow.proofs.flow.Flow.pre_returned.Goals as goal
+
+left : (c : After-if_taken) → Leaves c.if_taken.result c.as_mut-operation.result.now c.pre_returned-reply.new.self
+left c =
+    let there = found c.args.number c.self.view_is (sym c.standing-place.ensures) c.deref.ensures.value refl c.as_mut-operation.ensures.value c.index_mut.ensures.value in
+    pre_leaves c.args.state c.args.lent c.as_mut-operation.result.now c.last_visited-instance.result (said_there there (StandsAt PreRunning) c.requires.stage) (sound_now there c.self.invariant)
+    c.last_visited-instance.ensures c.pre_returned-reply.ensures.after c.pre_returned-reply.ensures.reply (c.if_taken.ensures ∙ ap (if_taken c.pre_returned-reply.result) c.left_pre.ensures)
 
 pub standing-place-requires : goal.standing-place-requires
 standing-place-requires c = record { there = stands_some PreRunning c.args.number c.self.view_is c.deref.ensures.value c.requires.stage; ascending = rw c.deref.ensures.value c.self.invariant.0.ascending }
@@ -20,16 +27,12 @@ invariant_of-self c =
     c.pre_returned-reply.ensures.after (λ r. stays_so refl refl)
     (λ fits. sound_pre_returned c.args.state c.args.lent c.as_mut-operation.result.now (said_there there (StandsAt PreRunning) c.requires.stage) c.requires.counted fits)
     (omega (arith, c.recounted-self-inside.ensures, ap one c.is_creating-was_creating.ensures, ap one c.is_creating.ensures))
-    (λ sound. follows_less there c.self.invariant c.if_taken.result c.leaves.ensures.table c.leaves.ensures.after
-    (λ j. pre_leaves j c.args.state c.args.lent c.as_mut-operation.result.now c.last_visited-instance.result (said_there there (StandsAt PreRunning) c.requires.stage) sound c.last_visited-instance.ensures
-    c.pre_returned-reply.ensures.after c.pre_returned-reply.ensures.reply (c.if_taken.ensures ∙ ap (if_taken c.pre_returned-reply.result) c.left_pre.ensures)))
+    (follows_less there c.self.invariant c.if_taken.result c.leaves.ensures.table c.leaves.ensures.after (left (goal.at.invariant_of-self c).After-if_taken))
 
 pub leaves-requires : goal.leaves-requires
 leaves-requires c =
     let there = found c.args.number c.self.view_is (sym c.standing-place.ensures) c.deref.ensures.value refl c.as_mut-operation.ensures.value c.index_mut.ensures.value in
-    may_leave there c.self.invariant c.if_taken.result c.pre_returned-reply.new.self
-    (λ j. pre_leaves j c.args.state c.args.lent c.as_mut-operation.result.now c.last_visited-instance.result (said_there there (StandsAt PreRunning) c.requires.stage) (sound_now there c.self.invariant) c.last_visited-instance.ensures
-    c.pre_returned-reply.ensures.after c.pre_returned-reply.ensures.reply (c.if_taken.ensures ∙ ap (if_taken c.pre_returned-reply.result) c.left_pre.ensures))
+    may_leave there c.self.invariant c.if_taken.result c.pre_returned-reply.new.self (left (goal.at.leaves-requires c).After-if_taken)
 
 pub returns : goal.returns
 returns c =

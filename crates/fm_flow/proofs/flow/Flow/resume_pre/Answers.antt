@@ -1,10 +1,17 @@
 use Rattle.fm_flow.proofs.Words.{refl, sym, ap, one, arith, StandsAt, PreHeld}
 use Rattle.fm_flow.specs.Steps.{pre_settled}
 use Rattle.fm_flow.proofs.Flows.{may_recount, found, changed_some, said_there, kept_set, stands_some, sound_now}
-use Rattle.fm_flow.proofs.Follows.{follows_less, may_leave, resumed_pre_leaves}
+use Rattle.fm_flow.proofs.Follows.{Leaves, follows_less, may_leave, resumed_pre_leaves}
 use Rattle.fm_flow.proofs.Soundness.{stays_so}
 use Rattle.fm_flow.proofs.Resumes.{sound_pre_resumed}
+use Rattle.fm_flow.proofs.flow.Flow.resume_pre.Goals.{After-left_pre}
 use Rattle.fm_flow.proofs.flow.Flow.resume_pre.Goals as goal
+
+left : (c : After-left_pre) → Leaves c.left_pre.result c.as_mut-operation.result.now c.resume_pre.new.self
+left c =
+    let there = found c.args.number c.self.view_is (sym c.standing-place.ensures) c.deref.ensures.value refl c.as_mut-operation.ensures.value c.index_mut.ensures.value in
+    resumed_pre_leaves c.args.state c.as_mut-operation.result.now c.last_visited-instance.result (said_there there (StandsAt PreHeld) c.requires.stage) (sound_now there c.self.invariant)
+    c.last_visited-instance.ensures c.resume_pre.ensures c.left_pre.ensures
 
 pub standing-place-requires : goal.standing-place-requires
 standing-place-requires c = record { there = stands_some PreHeld c.args.number c.self.view_is c.deref.ensures.value c.requires.stage; ascending = rw c.deref.ensures.value c.self.invariant.0.ascending }
@@ -18,14 +25,12 @@ invariant_of-self c =
     kept_set there c.self.invariant (pre_settled c.args.state) c.resume_pre.ensures (λ r. stays_so refl refl)
     (sound_pre_resumed c.args.state c.as_mut-operation.result.now (said_there there (StandsAt PreHeld) c.requires.stage) c.requires.counted)
     (omega (arith, c.recounted-self-inside.ensures, ap one c.is_creating-was_creating.ensures, ap one c.is_creating.ensures))
-    (λ sound. follows_less there c.self.invariant c.left_pre.result c.leaves.ensures.table c.leaves.ensures.after
-    (λ j. resumed_pre_leaves j c.args.state c.as_mut-operation.result.now c.last_visited-instance.result (said_there there (StandsAt PreHeld) c.requires.stage) sound c.last_visited-instance.ensures c.resume_pre.ensures c.left_pre.ensures))
+    (follows_less there c.self.invariant c.left_pre.result c.leaves.ensures.table c.leaves.ensures.after (left (goal.at.invariant_of-self c).After-left_pre))
 
 pub leaves-requires : goal.leaves-requires
 leaves-requires c =
     let there = found c.args.number c.self.view_is (sym c.standing-place.ensures) c.deref.ensures.value refl c.as_mut-operation.ensures.value c.index_mut.ensures.value in
-    may_leave there c.self.invariant c.left_pre.result c.resume_pre.new.self
-    (λ j. resumed_pre_leaves j c.args.state c.as_mut-operation.result.now c.last_visited-instance.result (said_there there (StandsAt PreHeld) c.requires.stage) (sound_now there c.self.invariant) c.last_visited-instance.ensures c.resume_pre.ensures c.left_pre.ensures)
+    may_leave there c.self.invariant c.left_pre.result c.resume_pre.new.self (left (goal.at.leaves-requires c).After-left_pre)
 
 pub returns : goal.returns
 returns c = changed_some (found c.args.number c.self.view_is (sym c.standing-place.ensures) c.deref.ensures.value refl c.as_mut-operation.ensures.value c.index_mut.ensures.value) (pre_settled c.args.state) c.resume_pre.ensures

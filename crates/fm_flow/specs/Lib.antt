@@ -7,6 +7,7 @@ pub mod Noted
 pub mod Counts
 pub mod Flights
 pub mod Table
+pub mod OnVolumes
 pub mod Creates
 pub mod Tallied
 pub mod Verdict

@@ -11,6 +11,7 @@ ghost use Rattle.fm_flow.specs.Creates.{is_creating, is_on_stream, has_create_on
 ghost use Rattle.fm_flow.specs.Tallied.{IsAscending, entered, left_pre, left_post, if_taken};
 ghost use Rattle.fm_flow.specs.Drains.{owes, DrainTaken, RunsEarly, is_spent, drain_done_of};
 ghost use Rattle.fm_flow.specs.Flights.{flies};
+ghost use Rattle.fm_flow.specs.OnVolumes.{is_left_on, left_on};
 ghost use Rattle.fm_flow.specs.Table.{in_flight, IsFlow, MayLieBelowOf, StandsAt, empty_table, is_number, operation_at, changed, told, is_full, is_collectable, begun, collect_reply, collected_of};
 
 use crate::action::{Below, FlowAction};
@@ -132,6 +133,21 @@ fn flying(operations: &[BoxedRecord], instance: InstanceId) -> usize
         .count()
 }
 
+fn is_left_on(operation: &OperationRecord, volume: VolumeId) -> bool
+    ensures { result ≡ is_left_on volume operation.now }
+{
+    !operation.is_collected() && operation.volume().0 == volume.0
+}
+
+fn left_on(operations: &[BoxedRecord], volume: VolumeId) -> usize
+    ensures { result ≡ count_by (is_left_on volume) operations.now }
+{
+    operations
+        .iter()
+        .filter(|operation| is_left_on(operation.as_ref(), volume))
+        .count()
+}
+
 // How many pass a test, where one of them may have come to pass it or to fail it.
 fn recounted(count: usize, did_pass: bool, passes: bool) -> usize
     requires some { did_pass ≡ true → 0 < count }
@@ -177,10 +193,7 @@ fn left_post(state: PostState, instance: Option<InstanceId>) -> Option<InstanceI
 }
 
 // None where the data was handed back.
-fn if_taken(
-    reply: &Result<(), CallbackData>,
-    instance: Option<InstanceId>,
-) -> Option<InstanceId>
+fn if_taken(reply: &Result<(), CallbackData>, instance: Option<InstanceId>) -> Option<InstanceId>
     ensures { result ≡ if_taken reply.now instance }
 {
     match reply {
@@ -381,7 +394,8 @@ impl Flow {
         let instance = operation.last_visited();
         let reply = operation.pre_returned(state, lent);
         self.creates = recounted(self.creates, was_creating, operation.is_creating());
-        self.flights.leaves(if_taken(&reply, left_pre(state, instance)));
+        self.flights
+            .leaves(if_taken(&reply, left_pre(state, instance)));
         reply
     }
 
@@ -427,7 +441,8 @@ impl Flow {
         let operation = self.operations[place].as_mut();
         let instance = operation.last_posted();
         let reply = operation.post_returned(verdict, lent);
-        self.flights.leaves(if_taken(&reply, left_post(post_state(verdict), instance)));
+        self.flights
+            .leaves(if_taken(&reply, left_post(post_state(verdict), instance)));
         reply
     }
 
@@ -488,6 +503,14 @@ impl Flow {
             return self.flights.of(instance) as u64;
         }
         flying(&self.operations, instance) as u64
+    }
+
+    /// How many operations of a volume weren't collected. A drain that runs for one whose answer was
+    /// handed out doesn't count.
+    pub fn left_on(&self, volume: VolumeId) -> u64
+        ensures { result ≡ left_on volume self.now }
+    {
+        left_on(&self.operations, volume) as u64
     }
 
     /// Gives an instance that is torn down the completion of a postoperation that it is owed, before

@@ -1,6 +1,6 @@
 -- How a volume is dismounted: its instances are stopped, and once they are detached it is emptied and finished. How many operations, handles and contexts
 -- are left on it, the caller says.
-use Rattle.std.specs.Prelude.{◌≡◌, ℕ, ◌+◌, List, [], ◌∷◌, Bool, true, false, not, ◌==◌, nat_le, nat_lt, length, map, slice_get, Option, Some, None, Result, count_by}
+use Rattle.std.specs.Prelude.{◌≡◌, ℕ, ◌+◌, List, [], ◌∷◌, ◌++◌, Bool, true, false, not, ◌==◌, nat_le, nat_lt, length, map, slice_get, Option, Some, None, Result, count_by}
 use Rattle.fm_types.specs.declared.ids.VolumeId.{VolumeId}
 use Rattle.fm_types.specs.declared.status.Status.{Status}
 use Rattle.fm_types.specs.declared.status.Status.TheVariants as status
@@ -65,16 +65,19 @@ StartsDismount old v uncollected result new =
 
 -- ---- its end ----
 
+-- a volume that isn't there, or isn't being dismounted
+abbrev pub unless_dismounting : StackWorld → VolumeId → List (Bool × Status)
+unless_dismounting s v =
+    (nat_le (length s.volumes) v.0, status.NoVolume)
+    ∷ (not (is_dismounting (slice_get s.volumes v.0)), status.WrongStep)
+    ∷ []
+
 -- the open handles on the volume, and its instances that aren't detached
 abbrev pub left_on : StackWorld → VolumeId → ℕ → ℕ
 left_on s v handles = handles + count_by (is_live_on v) s.instances
 
 abbrev pub empty_volume_refusals : StackWorld → VolumeId → ℕ → List (Bool × Status)
-empty_volume_refusals s v handles =
-    (nat_le (length s.volumes) v.0, status.NoVolume)
-    ∷ (not (is_dismounting (slice_get s.volumes v.0)), status.WrongStep)
-    ∷ (nat_lt 0 (left_on s v handles), status.Busy (left_on s v handles))
-    ∷ []
+empty_volume_refusals s v handles = unless_dismounting s v ++ (nat_lt 0 (left_on s v handles), status.Busy (left_on s v handles)) ∷ []
 
 abbrev pub volume_emptied : StackWorld → VolumeId → StackWorld
 volume_emptied s v = record s { volumes = updated (volume_in volume_phase.Emptied) s.volumes v.0 }

@@ -2,7 +2,7 @@
 
 ghost use Rattle.std.specs.Prelude.{◌≡◌, ◌+◌, ◌<◌, ◌^◌, slice_get};
 ghost use Rattle.fm_types.specs.Refusals.{first_of};
-ghost use Rattle.fm_stack.specs.Dismounting.{StartsDismount, EmptiesVolume, FinishesVolume, dismount_refusals, empty_volume_refusals, finish_volume_refusals, is_dismounting, is_volume_emptied, left_on};
+ghost use Rattle.fm_stack.specs.Dismounting.{StartsDismount, EmptiesVolume, FinishesVolume, dismount_refusals, unless_dismounting, empty_volume_refusals, finish_volume_refusals, is_dismounting, is_volume_emptied, left_on};
 ghost use Rattle.fm_stack.specs.Events.{is_mounted};
 ghost use Rattle.fm_stack.specs.Follows.{Follows};
 
@@ -63,15 +63,27 @@ impl Stack {
         None
     }
 
-    fn empty_volume_refusal(&self, volume: VolumeId, handles: u64) -> Option<Status>
-        requires { handles < 2 ^ 63 }
-        ensures { result ≡ first_of (empty_volume_refusals self.now volume handles) }
+    /// What refuses the end of a handle without its file's callbacks, which a dismount alone may bring:
+    /// `NoVolume` (7), `WrongStep` (30) where the volume isn't being dismounted or is finished. Nothing
+    /// changes.
+    pub fn unless_dismounting(&self, volume: VolumeId) -> Option<Status>
+        ensures { result ≡ first_of (unless_dismounting self.now volume) }
     {
         if volume.0 as usize >= self.volumes.len() {
             return Some(Status::NoVolume);
         }
         if !self.is_dismounting(volume) {
             return Some(Status::WrongStep);
+        }
+        None
+    }
+
+    fn empty_volume_refusal(&self, volume: VolumeId, handles: u64) -> Option<Status>
+        requires { handles < 2 ^ 63 }
+        ensures { result ≡ first_of (empty_volume_refusals self.now volume handles) }
+    {
+        if let Some(status) = self.unless_dismounting(volume) {
+            return Some(status);
         }
         let left = self.left_on(volume, handles);
         if left > 0 {

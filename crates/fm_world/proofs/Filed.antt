@@ -2,13 +2,13 @@
 use Rattle.std.proofs.Common.{Bool, List, None, Option, Some, ap, arith, cond, false, find, inl, inr, refl, subst, sym, true, ℕ, ◌<◌, ◌==◌, ◌||◌, ◌∙◌, ◌≡◌, ◌⊎◌}
 use Rattle.fm_world.proofs.Words.{All, FileHandle, FileTable, FlowRecord, FlowTable, HandleId, IsCreatedOn, IsFileSound, IsFiled, IsOnHandle}
 use Rattle.fm_world.proofs.Words.{OpId, Operation, Status, StreamId, after_base, all_change, and_from, cases_Bool, change_first, changed, closed}
-use Rattle.fm_world.proofs.Words.{empty_files, empty_table, false≢true, found_holds, has_handle_on, has_stream_of, is_create, is_created_on}
+use Rattle.fm_world.proofs.Words.{empty_files, empty_table, false≢true, found_holds, has_create_on, has_handle_on, has_stream_of, is_create, is_created_on}
 use Rattle.fm_world.proofs.Words.{is_creating, is_number, is_on, is_success, is_unanswered, left, list_any, opened, operation_at, or_left}
 use Rattle.fm_world.proofs.Words.{same_Some}
 use Rattle.std.proofs.lemmas.Grind.{common_steps}
 use Rattle.fm_world.proofs.Cases.{by_bool}
-use Rattle.fm_world.proofs.Filing.{answered_none, filed_answered, filed_step, shrinks_same}
-use Rattle.fm_world.proofs.Streams.{IsOn, Stands, any_pushed, creating_ended, creating_same, is_creating_on, none_out, same_number, stands_among, stands_closed, stands_left, stands_marked, stands_opened, that, uses}
+use Rattle.fm_world.proofs.Filing.{answered_none, filed_answered, filed_closed, filed_step, shrinks_same}
+use Rattle.fm_world.proofs.Streams.{IsOn, Stands, any_pushed, creating_ended, creating_same, is_creating_on, none_out, on_found, same_number, stands_among, stands_closed, stands_left, stands_marked, stands_opened, that, uses}
 use Rattle.fm_world.specs.Files as files
 
 -- ---- the parts
@@ -104,6 +104,16 @@ stands_close f rs n test step r s g b at stream handle same is h =
     subst (λ m. IsOnHandle f m (Some g)) stream (subst (IsOnHandle f r.stream) handle (found_holds (IsOn f) test rs r h.operations_on at)) in
     stands_left s b (closed g f) (change_first test step rs) n is
     (stands_closed s g f (change_first test step rs) n on (stands_same f rs n test step r at same h))
+
+-- a handle closes that no operation closes
+pub file_closed : (f : FileTable) (t : FlowTable) (test : FileHandle → Bool) (x : FileHandle) → find test f.handles ≡ Some x → IsFileSound f t
+    → IsFileSound (left x.stream (has_create_on x.stream t) (closed x.number f)) t
+file_closed f t test x at h =
+    let b = has_create_on x.stream t in
+    let stands = stands_in f t h in
+    sound_from (left x.stream b (closed x.number f)) t (filed_closed f t x.stream x.number b h.room)
+    (stands_left x.stream b (closed x.number f) t.operations t.next refl
+    (stands_closed x.stream x.number f t.operations t.next (on_found f t.operations t.next test x at stands) stands))
 
 -- no create
 same_answered : (f : FileTable) (why : Status) (r s : FlowRecord) → is_create r.operation ≡ false → IsAnswered f why r s → SameFile r s

@@ -18,6 +18,17 @@ shrinks_same f = record { next = refl; handles = omega arith }
 left_shrinks : (s : StreamId) (b : Bool) (f : FileTable) → Shrinks f (left s b f)
 left_shrinks s b f = grind arith
 
+-- a handle closes
+closed_shrinks : (s : StreamId) (h : HandleId) (b : Bool) (f : FileTable) → Shrinks f (left s b (closed h f))
+closed_shrinks s h b f =
+    let gone = left_shrinks s b (closed h f) in
+    record { next = gone.next; handles = omega (arith, gone.handles, length_without (is_handle h) f.handles) }
+
+pub filed_closed : (f : FileTable) (t : FlowTable) (s : StreamId) (h : HandleId) (b : Bool) → IsFiled f t → IsFiled (left s b (closed h f)) t
+filed_closed f t s h b k =
+    let less = closed_shrinks s h b f in
+    record { numbers = omega (arith, less.next, k.numbers); few = omega (arith, less.handles, k.few) }
+
 -- ---- one operation takes a step
 
 -- it isn't a create under way where it was none
@@ -53,9 +64,7 @@ filed_answered f t o r step Operation.SetDelete (Some s) h why b at same unanswe
     filed_step f (cond (is_success why) (files.marked s f) f) t o r step at (not_more_none r (step r) none)
     (elim (is_success why) as (λ c. Shrinks f (cond c (files.marked s f) f)) [ true ↦ record { next = refl; handles = omega arith } | false ↦ shrinks_same f ]) k
 filed_answered f t o r step Operation.Close (Some s) (Some h) why b at same unanswered none k =
-    let gone = left_shrinks s b (closed h f) in
-    filed_step f (left s b (closed h f)) t o r step at (not_more_none r (step r) none)
-    (record { next = gone.next; handles = omega (arith, gone.handles, length_without (is_handle h) f.handles) }) k
+    filed_step f (left s b (closed h f)) t o r step at (not_more_none r (step r) none) (closed_shrinks s h b f) k
 filed_answered f t o r step _ _ _ why b at same unanswered none k = filed_step f f t o r step at (not_more_none r (step r) none) (shrinks_same f) k
 
 -- an operation that has an answer is no create under way

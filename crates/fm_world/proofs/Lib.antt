@@ -27,3 +27,4 @@ pub mod Staying
 pub mod Draining
 pub mod Detaching
 pub mod Unloading
+pub mod Dismounting

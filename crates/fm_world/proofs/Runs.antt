@@ -16,6 +16,7 @@ use Rattle.fm_world.proofs.Callbacks.{bump_does, callback_left, read_body_does, 
 use Rattle.fm_world.proofs.Cases.{by_bool, by_option, some_of}
 use Rattle.fm_world.proofs.Cleanups.{cleaned_does, finish_does, none_one, take_due_does}
 use Rattle.fm_world.proofs.Detaching.{ask_detach_does, complete_returned_does, complete_teardown_does, query_does, start_returned_does, start_teardown_does}
+use Rattle.fm_world.proofs.Dismounting.{drop_handle_does, empty_volume_does, finish_volume_does, start_dismount_does}
 use Rattle.fm_world.proofs.Draining.{drain_done_does, drain_take_does}
 use Rattle.fm_world.proofs.Filed.{file_empty}
 use Rattle.fm_world.proofs.Linking.{allocate_does, delete_does, get_does, set_does}
@@ -235,6 +236,10 @@ step_does old (Step.UnloadReturned k allow) (StepReply.Done r) new h = unload_do
 step_does old (Step.ForceUnload f) (StepReply.Done r) new h = force_unload_does old f r new h
 step_does old (Step.EmptyFilter f) (StepReply.Done r) new h = (empty_filter_does old f r new h).0
 step_does old (Step.FinishFilter f) (StepReply.Done r) new h = finish_filter_does old f r new h
+step_does old (Step.StartDismount v) (StepReply.Done r) new h = start_dismount_does old v r new h
+step_does old (Step.DropHandle v) (StepReply.Dropped r) new h = drop_handle_does old v r new h
+step_does old (Step.EmptyVolume v) (StepReply.Done r) new h = (empty_volume_does old v r new h).0
+step_does old (Step.FinishVolume v) (StepReply.Done r) new h = finish_volume_does old v r new h
 step_does old _ _ new h = absurd h
 
 pub step_keeps : (old : World) (s : Step) (r : StepReply) (new : World) → Steps old s r new → IsSound old → IsSound new

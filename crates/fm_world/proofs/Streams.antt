@@ -104,6 +104,20 @@ once : {A : Type 0} (number : A → ℕ) (n : ℕ) (xs : List A) → AllPairs (�
     → AllPairs (λ x y. (number x == n) ≡ true → (number y == n) ≡ false) xs
 once number n xs h3 = grind arith
 
+-- and what is found by another test is found by its number
+found_by_number : {A : Type 0} (number : A → ℕ) (test : A → Bool) (xs : List A) (x : A) → AllPairs (λ y z. number y < number z) xs → find test xs ≡ Some x
+    → find (λ y. number y == number x) xs ≡ Some x
+found_by_number number test [] x ascend found = absurd (none-some x found)
+found_by_number {A} number test (y ∷ xs) x ascend found =
+    let Below = λ (a b : A). number a < number b in
+    let is_x = λ (z : A). number z == number x in
+    by_bool (λ b. cond b (Some y) (find test xs) ≡ Some x → find is_x (y ∷ xs) ≡ Some x) (test y)
+    (λ _ is. let same = same_Some y x is in
+    ap (λ b. cond b (Some y) (find is_x xs)) (eq-eqb (number y) (number x) (ap number same)) ∙ is)
+    (λ _ is. let less = found_holds (Below y) test xs x (pairs_head Below y xs ascend) is in
+    ap (λ b. cond b (Some y) (find is_x xs)) (ne_eqb (number y) (number x) (λ e. omega (arith, e, less)))
+    ∙ found_by_number number test xs x (pairs_tail Below y xs ascend) is) found
+
 -- ---- streams and handles, among operations of numbers below n
 
 -- a create of that stream is under way
@@ -272,6 +286,11 @@ on_open f rs n g x at h =
       omega (arith, below, is),
       all_passing (λ (y : FileHandle). is_on_stream y.stream (Some x.stream) ≡ true) (is_handle g) f.handles x (once (λ (y : FileHandle). y.number.0) g.0 f.handles h.handles.ascend) at (eq-eqb x.stream.0 x.stream.0 refl),
     )
+
+-- so it is of one that is found by another test
+pub on_found : (f : FileTable) (rs : List FlowRecord) (n : ℕ) (test : FileHandle → Bool) (x : FileHandle) → find test f.handles ≡ Some x → Stands none_out f rs n
+    → IsOnHandle f (Some x.stream) (Some x.number)
+on_found f rs n test x at h = on_open f rs n x.number x (found_by_number (λ (y : FileHandle). y.number.0) test f.handles x h.handles.ascend at) h
 
 -- ---- one operation changes
 

@@ -1,5 +1,5 @@
 -- What the events by which a filter is unloaded do: it is asked or forced, its instances are stopped, and it is emptied and finished.
-use Rattle.std.proofs.Common.{Bool, Err, List, None, Ok, Option, Result, Some, ap, arith, cond, inl, inr, length, refl, slice_get, subst, sym, true, ℕ, ◌&&◌, ◌∙◌, ◌≡◌, ◌≤◌}
+use Rattle.std.proofs.Common.{Bool, Err, List, None, Ok, Option, Result, Some, ap, arith, cond, inl, inr, length, map, refl, slice_get, subst, sym, true, ℕ, ◌&&◌, ◌∙◌, ◌≡◌, ◌≤◌}
 use Rattle.fm_stack.specs.declared.filter.Filter.{Filter}
 use Rattle.fm_world.proofs.Words.{CtxId, Follows, OnlyHandOf, hand_of, option_map, updated, with_contexts}
 use Rattle.fm_world.proofs.Words.{AsksUnload, Desk, EmptiesFilter, FilterId, FinishesFilter, ForcesUnload, Instance, IsSound, IsStack, IsStaffed, IsUnderWay, KeepsHands}
@@ -54,20 +54,19 @@ stop_by P test row stays stops = elim (cases_Bool (test row && is_attached row.p
 stopped_staffs : (d : Desk) (row : Instance) (n : ℕ) → is_attached row.phase ≡ true → IsStaffed d (Some row) n → IsStaffed d (Some (stop_row row)) n
 stopped_staffs d row n is h = grind arith
 
-stops_staff : (s : StackWorld) (f : FilterId) → StaffsStill s (filters.unloading s f)
-stops_staff s f d i n h =
-    let test = filters.is_of f in
-    subst (λ m. IsStaffed d m n) (sym (slice_get-map (filters.stop_where test) s.instances i))
+-- instances are stopped that pass a test, where they are attached
+pub stops_staff : (test : Instance → Bool) (s t : StackWorld) → t.instances ≡ map (filters.stop_where test) s.instances → StaffsStill s t
+stops_staff test s t is d i n h =
+    subst (λ m. IsStaffed d m n) (sym (ap (λ (xs : List Instance). slice_get xs i) is ∙ slice_get-map (filters.stop_where test) s.instances i))
     (by_option (λ m. IsStaffed d m n → IsStaffed d (option_map (filters.stop_where test) m) n) (slice_get s.instances i) (λ none h. h)
     (λ row there h. stop_by (λ x. IsStaffed d (Some x) n) test row h (λ is. stopped_staffs d row n is h)) h)
 
-stops_go : (w : World) (f : FilterId) → RowsGoOn w (filters.unloading w.stack f)
-stops_go w f j row there =
-    let test = filters.is_of f in (
-      filters.stop_where test row,
-      slice_get-map (filters.stop_where test) w.stack.instances j ∙ ap (option_map (filters.stop_where test)) there,
-      stop_by (λ x. GoesOnAt w j row x) test row (goes_same w j row row refl refl) (λ is. stop_goes w j row),
-    )
+pub stops_go : (test : Instance → Bool) (w : World) (t : StackWorld) → t.instances ≡ map (filters.stop_where test) w.stack.instances → RowsGoOn w t
+stops_go test w t is j row there = (
+  filters.stop_where test row,
+  ap (λ (xs : List Instance). slice_get xs j) is ∙ slice_get-map (filters.stop_where test) w.stack.instances j ∙ ap (option_map (filters.stop_where test)) there,
+  stop_by (λ x. GoesOnAt w j row x) test row (goes_same w j row row refl refl) (λ is. stop_goes w j row),
+)
 
 more_filters : (s : StackWorld) (change : Filter → Filter) (f : FilterId) → length s.filters ≤ length (updated change s.filters f.0)
 more_filters s change f = omega (arith, length-updated change s.filters f.0)
@@ -94,8 +93,9 @@ unload_does old k allow result new h = by_place (worker_at old.workers k) refl h
     by_result f (Ok done) at h =
         let t = filters.unloading old.stack f in
         let goes = unloading_goes_on old.stack f in
-        returns f t at h.0.1 h.1 (stops_go old f) (more_filters old.stack (filters.filter_in phase.Unloading) f) (λ v h. h)
-        (λ s. unload_moves old t k (Worker.Unload f) Worker.Idle at refl refl refl refl (goes_on_keeps old.stack t goes s.stack) (goes_on_follows old.stack t goes) (stops_staff old.stack f) s)
+        returns f t at h.0.1 h.1 (stops_go (filters.is_of f) old t refl) (more_filters old.stack (filters.filter_in phase.Unloading) f) (λ v h. h)
+        (λ s. unload_moves old t k (Worker.Unload f) Worker.Idle at refl refl refl refl (goes_on_keeps old.stack t goes s.stack) (goes_on_follows old.stack t goes)
+        (stops_staff (filters.is_of f) old.stack t refl) s)
 
     by_place : (m : Option Worker) → worker_at old.workers k ≡ m → UnloadReturnsAt old k allow result new m → Does old new
     by_place (Some (Worker.Unload f)) at h = by_result f result at h
@@ -103,26 +103,27 @@ unload_does old k allow result new h = by_place (worker_at old.workers k) refl h
 
 -- ---- nobody is asked
 
--- filters go on, and instances perhaps; contexts and workers stay
-filter_sound : (old : World) (t : StackWorld) → StackGoesOn old.stack t → StaffsStill old.stack t → RowsGoOn old t → length old.stack.filters ≤ length t.filters
+-- filters, volumes and instances go on; contexts and workers stay
+goes_sound : (old : World) (t : StackWorld) → StackGoesOn old.stack t → StaffsStill old.stack t → RowsGoOn old t → length old.stack.filters ≤ length t.filters
     → VolumesStay old.stack t → IsSound old → IsSound (record old { stack = t })
-filter_sound old t goes staffs on filters volumes s = record {
+goes_sound old t goes staffs on filters volumes s = record {
   under_way = stack_changes old t (goes_on_keeps old.stack t goes s.under_way.stack) (goes_on_follows old.stack t goes) staffs s.under_way;
   owned = stack_owned old t on filters volumes s.owned;
   filed = s.filed;
   links = s.links;
 }
 
-filter_does : (old new : World) (t : StackWorld) → new.stack ≡ t → new ≡ record old { stack = new.stack } → StackGoesOn old.stack t → StaffsStill old.stack t → RowsGoOn old t
+pub goes_does : (old new : World) (t : StackWorld) → new.stack ≡ t → new ≡ record old { stack = new.stack } → StackGoesOn old.stack t → StaffsStill old.stack t → RowsGoOn old t
     → length old.stack.filters ≤ length t.filters → VolumesStay old.stack t → Does old new
-filter_does old new t is e goes staffs on filters volumes =
-    makes old (record old { stack = t }) new (e ∙ ap (λ x. record old { stack = x }) is) (still old.contexts) (filter_sound old t goes staffs on filters volumes)
+goes_does old new t is e goes staffs on filters volumes =
+    makes old (record old { stack = t }) new (e ∙ ap (λ x. record old { stack = x }) is) (still old.contexts) (goes_sound old t goes staffs on filters volumes)
 
 pub force_unload_does : (old : World) (f : FilterId) (result : Result (Unit {0}) Status) (new : World) → ForcesUnload old f result new → Does old new
 unfolding ForcesUnload filters.ForcesUnload
 force_unload_does old f (Err why) new h = unchanged old new (h.1 ∙ ap (λ x. record old { stack = x }) h.0.1)
 force_unload_does old f (Ok done) new h =
-    filter_does old new (filters.unloading old.stack f) h.0.1 h.1 (unloading_goes_on old.stack f) (stops_staff old.stack f) (stops_go old f)
+    let t = filters.unloading old.stack f in
+    goes_does old new t h.0.1 h.1 (unloading_goes_on old.stack f) (stops_staff (filters.is_of f) old.stack t refl) (stops_go (filters.is_of f) old t refl)
     (more_filters old.stack (filters.filter_in phase.Unloading) f) (λ v h. h)
 
 -- ---- its end
@@ -142,7 +143,7 @@ empty_filter_does old f (Ok done) new h =
             let swept : IsSound mid =
             record { under_way = s.under_way; owned = sweeps_owned old (is_linked_of (Owner.Filter f)) new.contexts sweeps s.owned; filed = s.filed; links = sweeps_named old (is_linked_of (Owner.Filter f)) new.contexts sweeps s.links } in
             subst IsSound (sym (h.2 ∙ ap (λ x. record old { stack = x; contexts = new.contexts }) h.0.1))
-            (filter_sound mid t (filter_emptied_goes_on old.stack f) (λ d i n h. h) (rows_same mid t refl) (more_filters old.stack (filters.filter_in phase.Emptied) f) (λ v h. h) swept);
+            (goes_sound mid t (filter_emptied_goes_on old.stack f) (λ d i n h. h) (rows_same mid t refl) (more_filters old.stack (filters.filter_in phase.Emptied) f) (λ v h. h) swept);
         lasts = λ s. lasts old new new.contexts refl (subst (SlotsStay old.contexts.slots) (sym sweeps.slots) (slots_swept _ old.contexts.slots), sweeps.cleaning);
       },
       λ k. omega (arith, ap pairs_in sweeps.hands, ap (λ (hands : List (List CtxId)). length (hand_of hands k)) sweeps.hands),
@@ -153,4 +154,4 @@ unfolding FinishesFilter filters.FinishesFilter
 finish_filter_does old f (Err why) new h = unchanged old new (h.1 ∙ ap (λ x. record old { stack = x }) h.0.1)
 finish_filter_does old f (Ok done) new h =
     let t = filters.unloaded old.stack f in
-    filter_does old new t h.0.1 h.1 (unloaded_goes_on old.stack f) (λ d i n h. h) (rows_same old t refl) (more_filters old.stack (filters.filter_in phase.NotLoaded) f) (λ v h. h)
+    goes_does old new t h.0.1 h.1 (unloaded_goes_on old.stack f) (λ d i n h. h) (rows_same old t refl) (more_filters old.stack (filters.filter_in phase.NotLoaded) f) (λ v h. h)

@@ -15,7 +15,7 @@ pub use Rattle.fm_world.specs.Words.{InstanceId, OpId, StreamId, VolumeId, Worke
 pub use Rattle.fm_world.specs.Words.{is_mounted, is_setup, is_stopping, is_completing, is_lower_at, clashes, is_attached, is_detached, is_candidate, is_to_visit, is_below_cursor}
 pub use Rattle.fm_world.specs.Words.{NonePasses, StackWorld, Instance, Phase, hand_of, cleaning_of, one, open_of, IsLawful, grabbed, released, Leaves}
 pub use Rattle.fm_world.specs.Words.{Sweeps, is_linked_of, Context, Slot, ContextTable, owner_at, link_at, Due, Object, Owner, is_create, is_creating}
-pub use Rattle.fm_world.specs.Words.{is_on_stream, creates, visited, last_visited, posted, last_posted, has_base, owed, instances, FlowRecord}
+pub use Rattle.fm_world.specs.Words.{is_on_stream, has_create_on, creates, visited, last_visited, posted, last_posted, has_base, owed, instances, FlowRecord}
 pub use Rattle.fm_world.specs.Words.{FlowTable, operation_at, changed, told, empty_table, begun, collected_of, in_flight, carried, is_full, IsFlow}
 pub use Rattle.fm_world.specs.Words.{FlowAction, Ask, Entry, PreState, Stage, Descending, InBase, PostRunning, PreRunning, InDrain}
 pub use Rattle.fm_types.proofs.Firsts.{change_none, found_holds, all_change, all_without, count_changed, count_without, found_counts, length_change}
@@ -108,6 +108,8 @@ pub use Rattle.fm_world.specs.Steps.{Steps, Run, RunThrough}
 unfoldable pub use Rattle.fm_world.specs.Teardowns.{AsksDetach, QueryReturns, StartsTeardown, StartReturns, CompletesTeardown, CompleteReturns}
 unfoldable pub use Rattle.fm_world.specs.Teardowns.{AsksUnload, UnloadReturns, ForcesUnload, EmptiesFilter, FinishesFilter}
 pub use Rattle.fm_world.specs.Teardowns.{QueryReturnsAt, StartReturnsAt, CompleteReturnsAt, UnloadReturnsAt, SweepsWhere}
+unfoldable pub use Rattle.fm_world.specs.Dismounts.{StartsDismount, DropsHandle, EmptiesVolume, FinishesVolume}
+pub use Rattle.fm_world.specs.Dismounts.{Drops, dropped, is_handle_on, lowest_on}
 pub use Rattle.fm_world.specs.Workers.{worker_at, put, cleanup_in, after_next, is_idle, gives_nothing, after_attach}
 pub use Rattle.fm_world.specs.Workers.{Desk, AtSetup, AtQuery, AtStart, AtComplete, is_at, is_in_query, is_queried, is_asked_to_unload, after_entering}
 pub use Rattle.fm_world.specs.World.{World, carries, reference_count, empty_world, empty_stack}

@@ -10,6 +10,7 @@ pub mod Events
 pub mod ContextEvents
 pub mod Teardowns
 pub mod EarlyDrains
+pub mod Dismounts
 pub mod Steps
 pub mod Descent
 pub mod Headline

@@ -1,7 +1,7 @@
 -- An event as a value, with its answer; and lists of them.
 use Rattle.std.specs.Prelude.{◌≡◌, ℕ, Option, List, [], ◌∷◌, Result}
 use Rattle.fm_data.specs.declared.verdict.Completion.{Completion}
-use Rattle.fm_world.specs.Words.{FilterId, VolumeId, InstanceId, OpId, CtxId, Status, Answer, Due, FlowAction}
+use Rattle.fm_world.specs.Words.{FilterId, VolumeId, InstanceId, OpId, HandleId, CtxId, Status, Answer, Due, FlowAction}
 use Rattle.fm_world.specs.declared.set_answer.SetAnswer.{SetAnswer}
 use Rattle.fm_world.specs.declared.step.Step.{Step}
 use Rattle.fm_world.specs.declared.step.Step.TheVariants as step
@@ -11,6 +11,7 @@ use Rattle.fm_world.specs.World.{World}
 use Rattle.fm_world.specs.ContextEvents.{Allocates, Sets, Gets, Deletes, References, Releases, ReadsBody, WritesBody, Bumps, TakesDue, Cleans, Finishes}
 use Rattle.fm_world.specs.Teardowns.{AsksDetach, QueryReturns, StartsTeardown, StartReturns, CompletesTeardown, CompleteReturns}
 use Rattle.fm_world.specs.EarlyDrains.{TakesDrain, DrainReturns}
+use Rattle.fm_world.specs.Dismounts.{StartsDismount, DropsHandle, EmptiesVolume, FinishesVolume}
 use Rattle.fm_world.specs.Teardowns.{AsksUnload, UnloadReturns, ForcesUnload, EmptiesFilter, FinishesFilter}
 use Rattle.fm_world.specs.Events.{Registers, Mounts, Attaches, SetsUp, Begins, Nexts, PreReturns, BaseReturns, PostReturns, ResumesPre, ResumesPost, FindsHeld, Collects}
 
@@ -71,6 +72,10 @@ abbrev pub OfDrained : StepReply → (Result (Option (OpId × Completion)) Statu
 OfDrained (reply.Drained r) P = P r
 OfDrained _ P = ⊥
 
+abbrev pub OfDropped : StepReply → (Result (Option HandleId) Status → Type 0) → Type 0
+OfDropped (reply.Dropped r) P = P r
+OfDropped _ P = ⊥
+
 abbrev pub OfAnswer : StepReply → (Result Answer Status → Type 0) → Type 0
 OfAnswer (reply.Answer r) P = P r
 OfAnswer _ P = ⊥
@@ -115,6 +120,10 @@ Steps old (step.UnloadReturned k allow) answer new = OfDone answer (λ r. Unload
 Steps old (step.ForceUnload f) answer new = OfDone answer (λ r. ForcesUnload old f r new)
 Steps old (step.EmptyFilter f) answer new = OfDone answer (λ r. EmptiesFilter old f r new)
 Steps old (step.FinishFilter f) answer new = OfDone answer (λ r. FinishesFilter old f r new)
+Steps old (step.StartDismount v) answer new = OfDone answer (λ r. StartsDismount old v r new)
+Steps old (step.DropHandle v) answer new = OfDropped answer (λ r. DropsHandle old v r new)
+Steps old (step.EmptyVolume v) answer new = OfDone answer (λ r. EmptiesVolume old v r new)
+Steps old (step.FinishVolume v) answer new = OfDone answer (λ r. FinishesVolume old v r new)
 
 -- the events in their order, each with its answer, lead from the old World to the new one
 abbrev pub Run : World → List Step → List StepReply → World → Type 0

@@ -2,7 +2,7 @@
 -- nothing, but for the end of a callback, which returns whatever the answer: what its worker still holds leaks.
 -- An event that a worker makes is refused first of all, with WrongStep, where the worker isn't in the right place.
 use Rattle.std.specs.Prelude.{◌≡◌, Bool, Option, Some, Result, Ok, Err}
-use Rattle.fm_world.specs.Words.{FilterId, InstanceId, WorkerId, Status, first_of, Answers, ContextTable, Leaves, Sweeps, is_linked_of, open_of, in_flight}
+use Rattle.fm_world.specs.Words.{FilterId, InstanceId, WorkerId, Status, first_of, Answers, Context, ContextTable, Leaves, Sweeps, is_linked_of, open_of, in_flight}
 use Rattle.fm_types.specs.declared.status.Status.TheVariants as status
 use Rattle.fm_ctx.specs.declared.owner.Owner.TheVariants as owner
 use Rattle.fm_stack.specs.Detaching as stack
@@ -86,14 +86,15 @@ UnloadReturns old k allow result new = UnloadReturnsAt old k allow result new (w
 unfoldable pub ForcesUnload : World → FilterId → Result (Unit {0}) Status → World → Type 0
 ForcesUnload old f result new = filters.ForcesUnload old.stack f result new.stack × (new ≡ record old { stack = new.stack })
 
--- the filter's volume contexts lose their links, where it is emptied
-abbrev pub SweepsWhere : Result (Unit {0}) Status → FilterId → World → ContextTable → Type 0
-SweepsWhere (Ok done) f w after = Sweeps (carries w) (is_linked_of (owner.Filter f)) w.contexts after
-SweepsWhere (Err status) f w after = after ≡ w.contexts
+-- the contexts that pass a test lose their links, where the event succeeds
+abbrev pub SweepsWhere : Result (Unit {0}) Status → (Context → Bool) → World → ContextTable → Type 0
+SweepsWhere (Ok done) test w after = Sweeps (carries w) test w.contexts after
+SweepsWhere (Err status) test w after = after ≡ w.contexts
 
+-- the filter's volume contexts lose their links
 unfoldable pub EmptiesFilter : World → FilterId → Result (Unit {0}) Status → World → Type 0
 EmptiesFilter old f result new =
-    filters.EmptiesFilter old.stack f (is_asked_to_unload f old.workers) result new.stack × SweepsWhere result f old new.contexts
+    filters.EmptiesFilter old.stack f (is_asked_to_unload f old.workers) result new.stack × SweepsWhere result (is_linked_of (owner.Filter f)) old new.contexts
     × (new ≡ record old { stack = new.stack; contexts = new.contexts })
 
 unfoldable pub FinishesFilter : World → FilterId → Result (Unit {0}) Status → World → Type 0

@@ -6,8 +6,8 @@ use fm_ctx::{Due, SetMode};
 use fm_data::{Answer, BaseCall, CallbackData, Completion, PostVerdict, PreVerdict, Request};
 use fm_flow::{FlowAction, Hold};
 use fm_types::{
-    Bytes, ContextKind, CtxId, FilterId, InstanceId, Name, OpId, Registration, Status, VolumeId,
-    WorkerId,
+    Bytes, ContextKind, CtxId, FilterId, HandleId, InstanceId, Name, OpId, Registration, Status,
+    VolumeId, WorkerId,
 };
 
 /// One event, with what it is handed.
@@ -204,6 +204,22 @@ pub enum Step {
     FinishFilter {
         filter: FilterId,
     },
+    /// The dismount of a volume begins, and nobody is asked.
+    StartDismount {
+        volume: VolumeId,
+    },
+    /// The lowest handle that is open on a volume closes, without its file's callbacks.
+    DropHandle {
+        volume: VolumeId,
+    },
+    /// A volume's contexts are unlinked, once no handle is open on it and its instances are detached.
+    EmptyVolume {
+        volume: VolumeId,
+    },
+    /// The dismount of a volume ends, once its contexts are cleaned up.
+    FinishVolume {
+        volume: VolumeId,
+    },
 }
 
 /// What an event answered.
@@ -225,6 +241,8 @@ pub enum StepReply {
     Held(Result<Option<OpId>, Status>),
     /// To DrainTake.
     Drained(Result<Option<(OpId, Completion)>, Status>),
+    /// To DropHandle.
+    Dropped(Result<Option<HandleId>, Status>),
     /// To Collect.
     Answer(Result<Answer, Status>),
     /// To Allocate and Get.

@@ -7,6 +7,7 @@ pub mod Operated
 pub mod Resumed
 pub mod Torn
 pub mod Drained
+pub mod Dismounted
 pub mod Holding
 pub mod Called
 pub mod Linked

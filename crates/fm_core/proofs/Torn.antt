@@ -9,6 +9,7 @@ use Rattle.fm_stack.specs.Unloading as filters
 use Rattle.fm_flow.specs.Table.{in_flight}
 use Rattle.fm_ctx.specs.Counting.{open_of}
 use Rattle.fm_ctx.specs.Settling.{Sweeps, is_linked_of}
+use Rattle.fm_ctx.specs.Table.{Context}
 use Rattle.fm_ctx.specs.declared.owner.Owner.TheVariants as owner
 use Rattle.fm_world.specs.declared.worker.Worker.TheVariants as place
 use Rattle.fm_world.specs.Workers.{after_entering, is_queried, is_asked_to_unload}
@@ -136,21 +137,23 @@ pub forces : {old now : World} (f : FilterId) (result : Result (Unit {0}) Status
 unfolding ForcesUnload
 forces {old} f result t same event = subst (λ (w : World). ForcesUnload w f result (record old { stack = t })) same (event, refl)
 
+-- contexts lost their links, where the event succeeded
+pub where_swept : (old : World) (test : Context → Bool) (result : Result (Unit {0}) Status) (kept after : ContextsKept) → old.contexts ≡ kept.table → IsTied kept old.flow
+    → SweptWhere result test kept after → SweepsWhere result test old after.table
+where_swept old test (Ok done) kept after contexts tied e = subst (λ x. Sweeps (carries old) test x after.table) (sym contexts) (sweeps_alike tied e.sweeps)
+where_swept old test (Err why) kept after contexts tied e = ap (λ (x : ContextsKept). x.table) e ∙ sym contexts
+
+pub where_tied : (test : Context → Bool) (result : Result (Unit {0}) Status) (kept after : ContextsKept) (t : FlowTable) → SweptWhere result test kept after → IsTied kept t → IsTied after t
+where_tied test (Ok done) kept after t e tied = sweeping_tied test kept after t e tied
+where_tied test (Err why) kept after t e tied = subst (λ x. IsTied x t) (sym e) tied
+
 pub empties : {old now : World} (f : FilterId) (asked : Bool) (result : Result (Unit {0}) Status) (t : StackWorld) (kept after : ContextsKept) → old ≡ now
-    → asked ≡ is_asked_to_unload f old.workers → filters.EmptiesFilter old.stack f asked result t → old.contexts ≡ kept.table → IsTied kept old.flow → SweptWhere result f kept after
-    → EmptiesFilter now f result (record old { stack = t; contexts = after.table })
+    → asked ≡ is_asked_to_unload f old.workers → filters.EmptiesFilter old.stack f asked result t → old.contexts ≡ kept.table → IsTied kept old.flow
+    → SweptWhere result (is_linked_of (owner.Filter f)) kept after → EmptiesFilter now f result (record old { stack = t; contexts = after.table })
 unfolding EmptiesFilter
 empties {old} f asked result t kept after same is event contexts tied sweeps =
     subst (λ (w : World). EmptiesFilter w f result (record old { stack = t; contexts = after.table })) same
-    (subst (λ b. filters.EmptiesFilter old.stack f b result t) is event, where_swept result sweeps, refl)
-  where
-    where_swept : (r : Result (Unit {0}) Status) → SweptWhere r f kept after → SweepsWhere r f old after.table
-    where_swept (Ok done) e = subst (λ x. Sweeps (carries old) (is_linked_of (owner.Filter f)) x after.table) (sym contexts) (sweeps_alike tied e.sweeps)
-    where_swept (Err why) e = ap (λ (x : ContextsKept). x.table) e ∙ sym contexts
-
-pub emptied_tied : (f : FilterId) (result : Result (Unit {0}) Status) (kept after : ContextsKept) (t : FlowTable) → SweptWhere result f kept after → IsTied kept t → IsTied after t
-emptied_tied f (Ok done) kept after t e tied = sweeping_tied (is_linked_of (owner.Filter f)) kept after t e tied
-emptied_tied f (Err why) kept after t e tied = subst (λ x. IsTied x t) (sym e) tied
+    (subst (λ b. filters.EmptiesFilter old.stack f b result t) is event, where_swept old (is_linked_of (owner.Filter f)) result kept after contexts tied sweeps, refl)
 
 pub ends_filter : {old now : World} (f : FilterId) (n : ℕ) (result : Result (Unit {0}) Status) (t : StackWorld) → old ≡ now → n ≡ open_of old.contexts.slots (owner.Filter f)
     → filters.FinishesFilter old.stack f n result t → FinishesFilter now f result (record old { stack = t })

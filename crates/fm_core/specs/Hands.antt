@@ -1,7 +1,6 @@
 -- What becomes of a worker's hand where a callback begins with a completion, and where one ends.
-use Rattle.std.specs.Prelude.{◌≡◌, ◌<◌, ◌^◌, ℕ, true, Option, Some, None, Result, Ok, Err, length}
+use Rattle.std.specs.Prelude.{◌≡◌, ◌<◌, ◌^◌, ℕ, Bool, true, Option, Some, None, Result, Ok, Err, length}
 use Rattle.fm_types.specs.declared.ids.CtxId.{CtxId}
-use Rattle.fm_types.specs.declared.ids.FilterId.{FilterId}
 use Rattle.fm_types.specs.declared.ids.InstanceId.{InstanceId}
 use Rattle.fm_types.specs.declared.status.Status.{Status}
 use Rattle.fm_ctx.specs.declared.owner.Owner.TheVariants as owner
@@ -9,6 +8,7 @@ use Rattle.fm_ctx.specs.Bags.{holds, hand_of}
 use Rattle.fm_ctx.specs.Kept.{ContextsKept, carried_of, carried_more, carried_fewer}
 use Rattle.fm_ctx.specs.References.{grabbed, handed_on}
 use Rattle.fm_ctx.specs.Settling.{Leaves, is_linked_of}
+use Rattle.fm_ctx.specs.Table.{Context}
 use Rattle.fm_core.specs.Lost.{Sweeping}
 use Rattle.fm_flow.specs.declared.action.FlowAction.{FlowAction}
 use Rattle.fm_flow.specs.declared.action.FlowAction.TheVariants as action
@@ -46,7 +46,7 @@ abbrev pub SweepsUnless : Result (Unit {0}) Status → InstanceId → ContextsKe
 SweepsUnless (Ok done) i old new = new ≡ old
 SweepsUnless (Err status) i old new = Sweeping (is_linked_of (owner.Instance i)) old new
 
--- where a filter is emptied, its volume contexts lose their links
-abbrev pub SweptWhere : Result (Unit {0}) Status → FilterId → ContextsKept → ContextsKept → Type 0
-SweptWhere (Ok done) f old new = Sweeping (is_linked_of (owner.Filter f)) old new
-SweptWhere (Err status) f old new = new ≡ old
+-- where an event succeeds, the contexts that pass a test lose their links
+abbrev pub SweptWhere : Result (Unit {0}) Status → (Context → Bool) → ContextsKept → ContextsKept → Type 0
+SweptWhere (Ok done) test old new = Sweeping test old new
+SweptWhere (Err status) test old new = new ≡ old

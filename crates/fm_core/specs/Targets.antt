@@ -13,12 +13,17 @@ use Rattle.fm_flow.specs.Creates.{is_create}
 use Rattle.fm_flow.specs.Record.{FlowRecord}
 use Rattle.fm_flow.specs.Table.{FlowTable}
 use Rattle.fm_flow.specs.declared.entry.PreState.{PreState}
+use Rattle.fm_world.specs.declared.file.FileHandle.{FileHandle}
 use Rattle.fm_world.specs.Files.{FileTable, after_base, after_pre}
 use Rattle.fm_world.specs.Events.{is_created_on}
 use Rattle.fm_core.specs.declared.target.Target.{Target}
 
 abbrev pub target_in : FlowRecord → Target
 target_in r = record { operation = r.operation; stream = r.stream; handle = r.handle }
+
+-- what the close of a handle is on
+abbrev pub close_on : FileHandle → Target
+close_on x = record { operation = kind.Close; stream = Some x.stream; handle = Some x.number }
 
 -- a success that gives a handle
 abbrev pub opens : Target → Status → Bool

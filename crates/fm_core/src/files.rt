@@ -3,6 +3,7 @@
 ghost use Rattle.std.specs.Prelude.{◌≡◌, ℕ, ◌<◌, ◌≤◌, ◌+◌, ◌-◌, ◌^◌, true, false, cond, Some, IfOk, OnOk, All, AllPairs, length, count_by, option_copied, option_map, find, position, slice_index_or, IfSome, vec_capacity};
 ghost use Rattle.fm_types.specs.Lists.{change_first, without_first};
 ghost use Rattle.fm_world.specs.Files.{empty_files, is_handle, is_stream, is_on, is_at_path, with_phase, with_mark, stream_at, stream_of_path, handle_at, has_handle_on, has_other_handle, is_marked, created, phased, marked, opened, closed, torn_down, left, after_base};
+ghost use Rattle.fm_world.specs.Dismounts.{is_of, handles_on, lowest_on};
 ghost use Rattle.fm_types.specs.declared.operation.Operation.TheVariants as kind;
 ghost use Rattle.fm_flow.specs.Answered.{is_success};
 ghost use Rattle.fm_core.specs.FilesKept.{paths_of, found_at, stream_or, IsBefore, IsOlder, AreCounted, changed_at, without_at, is_own};
@@ -112,6 +113,35 @@ impl Files {
             Some(row) => Some(row.volume),
             None => None,
         }
+    }
+
+    // Whether a stream is of the volume.
+    fn is_of(&self, stream: StreamId, volume: VolumeId) -> bool
+        ensures { result ≡ is_of volume (stream_at stream self.now.table) }
+    {
+        match self.stream(stream) {
+            Some(row) => row.volume.0 == volume.0,
+            None => false,
+        }
+    }
+
+    /// How many handles are open on a volume.
+    pub(crate) fn handles_on(&self, volume: VolumeId) -> usize
+        ensures { result ≡ handles_on volume self.now.table }
+    {
+        self.handles
+            .iter()
+            .filter(|row| self.is_of(row.stream, volume))
+            .count()
+    }
+
+    /// The lowest handle that is open on a volume.
+    pub(crate) fn lowest_on(&self, volume: VolumeId) -> Option<&FileHandle>
+        ensures { option_copied result ≡ lowest_on volume self.now.table }
+    {
+        self.handles
+            .iter()
+            .find(|row| self.is_of(row.stream, volume))
     }
 
     /// Whether a stream's file is to be unlinked.

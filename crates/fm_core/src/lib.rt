@@ -9,6 +9,7 @@ mod caller;
 mod cleanups;
 mod contexts;
 mod descent;
+mod dismounts;
 mod drains;
 mod files;
 mod holds;

@@ -123,6 +123,10 @@ impl State {
             Step::ForceUnload { filter } => StepReply::Done(self.force_unload(filter)),
             Step::EmptyFilter { filter } => StepReply::Done(self.empty_filter(filter)),
             Step::FinishFilter { filter } => StepReply::Done(self.finish_filter(filter)),
+            Step::StartDismount { volume } => StepReply::Done(self.start_dismount(volume)),
+            Step::DropHandle { volume } => StepReply::Dropped(self.drop_handle(volume)),
+            Step::EmptyVolume { volume } => StepReply::Done(self.empty_volume(volume)),
+            Step::FinishVolume { volume } => StepReply::Done(self.finish_volume(volume)),
             Step::Finish { instance } => StepReply::Done(self.finish(instance)),
         }
     }

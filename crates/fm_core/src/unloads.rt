@@ -4,6 +4,8 @@ ghost use Rattle.std.specs.Prelude.{◌≡◌};
 ghost use Rattle.fm_world.specs.Workers.{is_asked_to_unload, is_in_unload};
 ghost use Rattle.fm_world.specs.Teardowns.{AsksUnload, UnloadReturns, ForcesUnload, EmptiesFilter, FinishesFilter};
 ghost use Rattle.fm_world.specs.Hands.{KeepsHands};
+ghost use Rattle.fm_ctx.specs.Settling.{is_linked_of};
+ghost use Rattle.fm_ctx.specs.declared.owner.Owner.TheVariants as owner;
 ghost use Rattle.fm_core.specs.Hands.{SweptWhere};
 
 use crate::state::State;
@@ -30,7 +32,7 @@ fn is_asked_to_unload(filter: FilterId, workers: &[Worker]) -> bool
 
 /// Where a filter is emptied, its volume contexts lose their links.
 fn unlink_where(contexts: &mut Contexts, filter: FilterId, emptied: &Result<(), Status>)
-    ensures { SweptWhere emptied.now filter contexts.old contexts.new }
+    ensures { SweptWhere emptied.now (is_linked_of (owner.Filter filter)) contexts.old contexts.new }
 {
     if emptied.is_ok() {
         contexts.unlink_owner(Owner::Filter(filter));

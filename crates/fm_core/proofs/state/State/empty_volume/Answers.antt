@@ -1,0 +1,25 @@
+use Rattle.fm_core.proofs.Words.{refl, subst, IsSound}
+use Rattle.fm_ctx.specs.Settling.{is_linked_to}
+use Rattle.fm_ctx.specs.declared.object.Object.TheVariants as object
+use Rattle.fm_world.proofs.Dismounting.{empty_volume_does}
+use Rattle.fm_core.proofs.Dismounted.{empties_volume, few_on}
+use Rattle.fm_core.proofs.Torn.{where_tied}
+use Rattle.fm_core.proofs.state.State.empty_volume.Goals as goal
+
+pub empty_volume-result-requires : goal.empty_volume-result-requires
+empty_volume-result-requires c = few_on c.args.volume c.handles_on-handles.result c.self.invariant c.handles_on-handles.ensures
+
+pub returns-clause-event : goal.returns-clause-event
+returns-clause-event c =
+    empties_volume c.args.volume c.handles_on-handles.result c.empty_volume-result.result c.empty_volume-result.new.self c.self.inside.contexts c.unlink_where.new.contexts
+    c.self.view_is c.handles_on-handles.ensures c.empty_volume-result.ensures.event refl c.self.invariant.tied c.unlink_where.ensures
+
+pub invariant_of-self : goal.invariant_of-self
+invariant_of-self c = record {
+  sound = (empty_volume_does _ _ _ _ (returns-clause-event c)).0.sound (subst IsSound c.self.view_is c.self.invariant.sound);
+  tied = where_tied (is_linked_to (object.Volume c.args.volume)) c.empty_volume-result.result c.self.inside.contexts c.unlink_where.new.contexts c.self.inside.flow c.unlink_where.ensures
+      c.self.invariant.tied;
+}
+
+pub returns-clause-hand : goal.returns-clause-hand
+returns-clause-hand c = (empty_volume_does _ _ _ _ (returns-clause-event c)).1

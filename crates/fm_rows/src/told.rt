@@ -3,7 +3,7 @@
 use fm_ctx::Due;
 use fm_data::Answer;
 use fm_flow::FlowAction;
-use fm_types::{CtxId, OpId, Status};
+use fm_types::{CtxId, HandleId, OpId, Status};
 use fm_world::{SetAnswer, StepReply};
 
 /// What a reply tells, without the data that it lends.
@@ -27,6 +27,8 @@ pub enum Told {
     Drain,
     /// The operation whose completion is drained before its turn.
     Early(Option<OpId>),
+    /// The handle that a dismount closed.
+    Dropped(Option<HandleId>),
     Moved,
     Held,
     AllDone,
@@ -79,6 +81,7 @@ pub fn told_by(reply: &StepReply) -> Told {
         StepReply::Done(Ok(())) => Told::Done,
         StepReply::Held(Ok(first)) => Told::First(*first),
         StepReply::Drained(Ok(drain)) => Told::Early(drain.map(|(operation, _)| operation)),
+        StepReply::Dropped(Ok(handle)) => Told::Dropped(*handle),
         StepReply::Answer(Ok(answer)) => told_answer(answer),
         StepReply::Context(Ok(id)) => Told::Context(*id),
         StepReply::Set(answer) => told_set(*answer),
@@ -94,6 +97,7 @@ pub fn told_by(reply: &StepReply) -> Told {
         | StepReply::Done(Err(status))
         | StepReply::Held(Err(status))
         | StepReply::Drained(Err(status))
+        | StepReply::Dropped(Err(status))
         | StepReply::Answer(Err(status))
         | StepReply::Context(Err(status))
         | StepReply::Old(Err(status))

@@ -20,7 +20,7 @@ use Rattle.fm_script.specs.declared.task.Task.{Task}
 use Rattle.fm_script.specs.declared.task.Task.TheVariants as task
 use Rattle.fm_script.specs.Reading.{◌>>=◌}
 use Rattle.fm_script.specs.Ids.{filter_in, volume_in, operation_in, worker_in}
-use Rattle.fm_script.specs.Tasks.{filter_id, volume_id, worker_id, turn_ids, turn_in, one_id, only_instance, only_worker, answered_read, event}
+use Rattle.fm_script.specs.Tasks.{filter_id, volume_id, worker_id, turn_ids, turn_in, one_id, only_instance, only_volume, only_worker, answered_read, event}
 use Rattle.fm_script.specs.ContextCommands.{context_read, allocate_read, write_body_read}
 use Rattle.fm_script.specs.FileCommands.{file_read, write_read}
 use Rattle.fm_script.specs.TeardownCommands.{teardown_read}
@@ -83,6 +83,10 @@ spelling keyword.FinishF = codes "finishf"
 spelling keyword.Flight = codes "flight"
 spelling keyword.Drain = codes "drain"
 spelling keyword.Drained = codes "drained"
+spelling keyword.Dismount = codes "dismount"
+spelling keyword.Drop = codes "drop"
+spelling keyword.EmptyV = codes "emptyv"
+spelling keyword.FinishV = codes "finishv"
 
 abbrev pub all_keywords : List Keyword
 all_keywords =
@@ -92,7 +96,8 @@ all_keywords =
     keyword.Cleaned ∷ keyword.Count ∷ keyword.Leaks ∷ keyword.Read ∷ keyword.Write ∷ keyword.Size ∷ keyword.SetSize ∷ keyword.Flush ∷
     keyword.Delete ∷ keyword.Cleanup ∷ keyword.Close ∷ keyword.Fail ∷ keyword.Failures ∷ keyword.Resume ∷ keyword.ResPost ∷
     keyword.Query ∷ keyword.Queried ∷ keyword.Start ∷ keyword.Started ∷ keyword.Complete ∷ keyword.Completed ∷ keyword.Unload ∷
-    keyword.Unloaded ∷ keyword.EmptyF ∷ keyword.FinishF ∷ keyword.Flight ∷ keyword.Drain ∷ keyword.Drained ∷ []
+    keyword.Unloaded ∷ keyword.EmptyF ∷ keyword.FinishF ∷ keyword.Flight ∷ keyword.Drain ∷ keyword.Drained ∷
+    keyword.Dismount ∷ keyword.Drop ∷ keyword.EmptyV ∷ keyword.FinishV ∷ []
 
 -- the keyword that a word is
 unfoldable pub keyword_read : List ℕ → Option Keyword
@@ -212,7 +217,7 @@ abbrev pub collect_read : World → List (List ℕ) → Result Task Status
 collect_read w words = one_id 111 words >>= λ o. operation_in w o >>= λ own. event (step.Collect own)
 
 abbrev pub list_read : World → List (List ℕ) → Result Task Status
-list_read w words = one_id 118 words >>= λ v. volume_in w v >>= λ at. event (step.Begin (request.List at))
+list_read w words = only_volume w words >>= λ at. event (step.Begin (request.List at))
 
 abbrev pub is_of_contexts : Keyword → Bool
 is_of_contexts keyword.Set = true
@@ -243,6 +248,10 @@ is_of_teardowns keyword.FinishF = true
 is_of_teardowns keyword.Flight = true
 is_of_teardowns keyword.Drain = true
 is_of_teardowns keyword.Drained = true
+is_of_teardowns keyword.Dismount = true
+is_of_teardowns keyword.Drop = true
+is_of_teardowns keyword.EmptyV = true
+is_of_teardowns keyword.FinishV = true
 is_of_teardowns _ = false
 
 -- the words behind a keyword

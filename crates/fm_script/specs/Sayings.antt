@@ -1,6 +1,7 @@
 -- What a script prints: which line for which answer, and the bytes of each line.
 use Rattle.std.specs.Prelude.{ℕ, ◌==◌, ◌&&◌, ◌++◌, Bool, List, [], ◌∷◌, Option, Some, None, ◌+◌, ◌-◌, length, option_map, reverse, position, codes, decimal, Result, Ok, Err}
 use Rattle.fm_types.specs.declared.ids.CtxId.{CtxId}
+use Rattle.fm_types.specs.declared.ids.HandleId.{HandleId}
 use Rattle.fm_types.specs.declared.ids.OpId.{OpId}
 use Rattle.fm_types.specs.declared.status.Status.{Status}
 use Rattle.fm_types.specs.declared.status.Status.TheVariants.{Busy, NotHeld, AlreadyDefined}
@@ -29,7 +30,7 @@ use Rattle.fm_script.specs.Hexadecimal.{hex_of}
 
 -- ---- which line
 
--- the letters of ids: c, f, i, o, v
+-- the letters of ids: c, f, h, i, o, v
 abbrev pub is_context : CtxId → CtxId → Bool
 is_context c own = (own.slot == c.slot) && (own.generation == c.generation)
 
@@ -86,6 +87,11 @@ said_drained (Ok None) = Plain word.None
 said_drained (Ok (Some (o, completion))) = Id word.Drain 111 o.0
 said_drained (Err status) = Refused status
 
+abbrev pub said_dropped : Result (Option HandleId) Status → Said
+said_dropped (Ok None) = Plain word.None
+said_dropped (Ok (Some h)) = Id word.Ok 104 h.0
+said_dropped (Err status) = Refused status
+
 abbrev pub said_new : {A : Type 0} → (A → Said) → Result A Status → Said
 said_new say (Ok it) = say it
 said_new say (Err status) = Refused status
@@ -100,6 +106,7 @@ said_of contexts (reply.Action r) = said_given (given_after_next r)
 said_of contexts (reply.Done r) = said_done r
 said_of contexts (reply.Held r) = said_held r
 said_of contexts (reply.Drained r) = said_drained r
+said_of contexts (reply.Dropped r) = said_dropped r
 said_of contexts (reply.Answer r) = said_new Replied r
 said_of contexts (reply.Context r) = said_new (said_context (Id word.Ok 99) contexts) r
 said_of contexts (reply.Set r) = said_set contexts r

@@ -4,6 +4,7 @@ use Rattle.std.specs.Prelude.{ℕ, Bool, true, false, List, [], ◌∷◌, Optio
 use Rattle.fm_types.specs.declared.ids.CtxId.{CtxId}
 use Rattle.fm_types.specs.declared.ids.InstanceId.{InstanceId}
 use Rattle.fm_types.specs.declared.ids.OpId.{OpId}
+use Rattle.fm_types.specs.declared.ids.VolumeId.{VolumeId}
 use Rattle.fm_types.specs.declared.ids.WorkerId.{WorkerId}
 use Rattle.fm_types.specs.declared.status.Status.{Status}
 use Rattle.fm_types.specs.declared.status.Status.TheVariants.{BadRequest}
@@ -13,7 +14,7 @@ use Rattle.fm_script.specs.declared.task.Task.{Task}
 use Rattle.fm_script.specs.declared.task.Task.TheVariants as task
 use Rattle.fm_script.specs.Numbers.{id_read, number_read}
 use Rattle.fm_script.specs.Reading.{◌>>=◌}
-use Rattle.fm_script.specs.Ids.{context_in, instance_in, operation_in, worker_in}
+use Rattle.fm_script.specs.Ids.{context_in, instance_in, operation_in, volume_in, worker_in}
 
 abbrev pub or_bad : {T : Type 0} → Option T → Result T Status
 or_bad None = Err BadRequest
@@ -49,6 +50,10 @@ one_id letter _ = Err BadRequest
 -- the worker that is the only word
 abbrev pub only_worker : List (List ℕ) → Result WorkerId Status
 only_worker words = one_id 119 words >>= worker_in
+
+-- the volume that is the only word
+abbrev pub only_volume : World → List (List ℕ) → Result VolumeId Status
+only_volume w words = one_id 118 words >>= volume_in w
 
 -- the instance that is the only word
 abbrev pub only_instance : World → List (List ℕ) → Result InstanceId Status

@@ -1,4 +1,4 @@
--- What the commands by which instances are detached and filters unloaded stand for.
+-- What the commands by which instances are detached, filters unloaded and volumes dismounted stand for.
 use Rattle.std.specs.Prelude.{ℕ, List, [], ◌∷◌, Result, Ok, Err}
 use Rattle.fm_types.specs.declared.ids.FilterId.{FilterId}
 use Rattle.fm_types.specs.declared.ids.InstanceId.{InstanceId}
@@ -13,7 +13,7 @@ use Rattle.fm_script.specs.declared.task.Task.{Task}
 use Rattle.fm_script.specs.declared.task.Task.TheVariants as task
 use Rattle.fm_script.specs.Reading.{◌>>=◌}
 use Rattle.fm_script.specs.Ids.{filter_in, instance_in, worker_in}
-use Rattle.fm_script.specs.Tasks.{filter_id, instance_id, worker_id, one_id, only_instance, only_worker, answered_read, event}
+use Rattle.fm_script.specs.Tasks.{filter_id, instance_id, worker_id, one_id, only_instance, only_volume, only_worker, answered_read, event}
 
 -- a worker and the instance whose callback it enters, as the only words
 abbrev pub asked_instance : World → List (List ℕ) → Result (WorkerId × InstanceId) Status
@@ -44,5 +44,9 @@ teardown_read w keyword.EmptyF words = only_filter w words >>= λ own. event (st
 teardown_read w keyword.FinishF words = only_filter w words >>= λ own. event (step.FinishFilter own)
 teardown_read w keyword.Drain words = asked_instance w words >>= λ both. event (step.DrainTake both.0 both.1)
 teardown_read w keyword.Drained words = only_worker words >>= λ by. event (step.DrainDone by)
+teardown_read w keyword.Dismount words = only_volume w words >>= λ at. event (step.StartDismount at)
+teardown_read w keyword.Drop words = only_volume w words >>= λ at. event (step.DropHandle at)
+teardown_read w keyword.EmptyV words = only_volume w words >>= λ at. event (step.EmptyVolume at)
+teardown_read w keyword.FinishV words = only_volume w words >>= λ at. event (step.FinishVolume at)
 teardown_read w keyword.Flight words = only_instance w words >>= λ own. Ok (task.Flight own)
 teardown_read w _ words = Err BadRequest

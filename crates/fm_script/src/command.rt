@@ -5,7 +5,7 @@
 ghost use Rattle.std.specs.Prelude.{◌≡◌, map};
 ghost use Rattle.fm_script.specs.Commands.{Attaches, Creates, Loads, Mounts, ReadsAs, ReadsPlace, SetsUp, attach_at, collect_read, create_ids, create_mode_read, is_of_contexts, is_of_teardowns, list_read, option_read, place_ids, registration_read, setup_at, setup_ids, takes_bytes, turn_read, with_bytes_read};
 ghost use Rattle.fm_script.specs.Numbers.{id_read, number_read};
-ghost use Rattle.fm_script.specs.Tasks.{answered_read, numbers_read, one_id, only_instance, only_worker, or_bad, turn_ids, turn_in, yes_or_no};
+ghost use Rattle.fm_script.specs.Tasks.{answered_read, numbers_read, one_id, only_instance, only_volume, only_worker, or_bad, turn_ids, turn_in, yes_or_no};
 
 use crate::context_command::{read_allocate, read_context_command, read_write_body};
 use crate::file_command::{read_file_command, read_write};
@@ -20,7 +20,7 @@ use fm_core::{State, Step};
 use fm_data::Request;
 use fm_types::{
     Bytes, ContextMask, CreateMode, CtxId, InstanceId, Name, OpId, OpMask, Registration, RelPath,
-    Status, WorkerId,
+    Status, VolumeId, WorkerId,
 };
 
 /// Whether the command's last word is bytes.
@@ -114,7 +114,7 @@ fn is_of_contexts(keyword: Keyword) -> bool
     )
 }
 
-// Whether it is of a detach or an unload.
+// Whether it is of a detach, an unload or a dismount.
 fn is_of_teardowns(keyword: Keyword) -> bool
     ensures { result ≡ is_of_teardowns keyword }
 {
@@ -133,7 +133,11 @@ fn is_of_teardowns(keyword: Keyword) -> bool
             | Keyword::FinishF
             | Keyword::Flight
             | Keyword::Drain
-            | Keyword::Drained,
+            | Keyword::Drained
+            | Keyword::Dismount
+            | Keyword::Drop
+            | Keyword::EmptyV
+            | Keyword::FinishV,
     )
 }
 
@@ -362,8 +366,7 @@ fn read_create_mode(word: &[u8]) -> Result<CreateMode, Status>
 fn read_list(state: &State, words: &[&[u8]]) -> Result<Task, Status>
     ensures { result ≡ list_read state.now (map (λ word. word.now) words.now) }
 {
-    let volume = one_id(b'v', words)?;
-    let volume = volume_in(state, volume)?;
+    let volume = only_volume(state, words)?;
     Ok(Task::Event(Step::Begin(Request::List { volume })))
 }
 
@@ -413,6 +416,14 @@ pub(crate) fn only_worker(words: &[&[u8]]) -> Result<WorkerId, Status>
 {
     let worker = one_id(b'w', words)?;
     worker_in(worker)
+}
+
+/// The volume that is the only word.
+pub(crate) fn only_volume(state: &State, words: &[&[u8]]) -> Result<VolumeId, Status>
+    ensures { result ≡ only_volume state.now (map (λ word. word.now) words.now) }
+{
+    let volume = one_id(b'v', words)?;
+    volume_in(state, volume)
 }
 
 /// The instance that is the only word.

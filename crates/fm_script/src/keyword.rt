@@ -60,6 +60,10 @@ pub enum Keyword {
     Flight,
     Drain,
     Drained,
+    Dismount,
+    Drop,
+    EmptyV,
+    FinishV,
 }
 
 // The keywords that begin with that letter.
@@ -101,6 +105,7 @@ fn beginning_with(letter: u8) -> &'static [Keyword]
             Keyword::Failures,
             Keyword::FinishF,
             Keyword::Flight,
+            Keyword::FinishV,
         ],
         b'd' => &[
             Keyword::Del,
@@ -108,6 +113,8 @@ fn beginning_with(letter: u8) -> &'static [Keyword]
             Keyword::Delete,
             Keyword::Drain,
             Keyword::Drained,
+            Keyword::Dismount,
+            Keyword::Drop,
         ],
         b'r' => &[
             Keyword::Ref,
@@ -119,7 +126,7 @@ fn beginning_with(letter: u8) -> &'static [Keyword]
         b'w' => &[Keyword::WBody, Keyword::Write],
         b'q' => &[Keyword::Query, Keyword::Queried],
         b'u' => &[Keyword::Unload, Keyword::Unloaded],
-        b'e' => &[Keyword::EmptyF],
+        b'e' => &[Keyword::EmptyF, Keyword::EmptyV],
         _ => &[],
     }
 }
@@ -205,6 +212,10 @@ impl Keyword {
             Keyword::Flight => b"flight",
             Keyword::Drain => b"drain",
             Keyword::Drained => b"drained",
+            Keyword::Dismount => b"dismount",
+            Keyword::Drop => b"drop",
+            Keyword::EmptyV => b"emptyv",
+            Keyword::FinishV => b"finishv",
         }
     }
 }

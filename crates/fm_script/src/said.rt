@@ -1,7 +1,7 @@
 //! The lines that a script prints: which one for which answer, and the bytes of each.
 
 ghost use Rattle.std.specs.Prelude.{◌≡◌, ◌++◌, ◌∷◌, [], IfOk, decimal, position, reverse};
-ghost use Rattle.fm_script.specs.Sayings.{is_context, number_in, phase_word, refused_text, reply_text, said_context, said_count, said_done, said_drained, said_due, said_given, said_held, said_new, said_of, said_old, said_set, text_with, verdict_text, word_text};
+ghost use Rattle.fm_script.specs.Sayings.{is_context, number_in, phase_word, refused_text, reply_text, said_context, said_count, said_done, said_drained, said_dropped, said_due, said_given, said_held, said_new, said_of, said_old, said_set, text_with, verdict_text, word_text};
 ghost use Rattle.fm_script.specs.declared.said.Said.TheVariants as SaidOf;
 ghost use Rattle.fm_script.specs.declared.said.Word.TheVariants as WordOf;
 ghost use Rattle.fm_session.specs.Sessions.{given_after_next};
@@ -10,7 +10,7 @@ use crate::hexadecimal::write_hex;
 use fm_core::{Action, Count, Due, Phase, SetAnswer, StepReply};
 use fm_data::{Answer, Completion, PreVerdict};
 use fm_session::Given;
-use fm_types::{Bytes, CtxId, InstanceId, OpId, Status};
+use fm_types::{Bytes, CtxId, HandleId, InstanceId, OpId, Status};
 use std::alloc::AllocError;
 
 /// The words that lines begin with.
@@ -78,6 +78,7 @@ pub fn said_of(contexts: &[CtxId], reply: StepReply) -> Said
         StepReply::Done(answer) => said_done(answer),
         StepReply::Held(answer) => said_held(answer),
         StepReply::Drained(answer) => said_drained(answer),
+        StepReply::Dropped(answer) => said_dropped(answer),
         StepReply::Answer(Ok(answer)) => Said::Replied(answer),
         StepReply::Context(Ok(context)) => said_context(Word::Ok, contexts, context),
         StepReply::Set(answer) => said_set(contexts, answer),
@@ -229,6 +230,17 @@ fn said_drained(answer: Result<Option<(OpId, Completion)>, Status>) -> Said
     match answer {
         Ok(None) => Said::Plain(Word::None),
         Ok(Some((operation, _))) => Said::Id(Word::Drain, b'o', operation.0),
+        Err(status) => Said::Refused(status),
+    }
+}
+
+// The handle that a dismount closed.
+fn said_dropped(answer: Result<Option<HandleId>, Status>) -> Said
+    ensures { result ≡ said_dropped answer }
+{
+    match answer {
+        Ok(None) => Said::Plain(Word::None),
+        Ok(Some(handle)) => Said::Id(Word::Ok, b'h', handle.0),
         Err(status) => Said::Refused(status),
     }
 }

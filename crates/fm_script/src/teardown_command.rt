@@ -1,16 +1,16 @@
-//! The commands by which instances are detached and filters unloaded, and what is in flight at an instance.
+//! The commands by which instances are detached, filters unloaded and volumes dismounted, and what is in flight at an instance.
 
 ghost use Rattle.std.specs.Prelude.{◌≡◌, map};
 ghost use Rattle.fm_script.specs.TeardownCommands.{asked_filter, asked_instance, only_filter, teardown_read};
 
-use crate::command::{id, one_id, only_instance, only_worker, read_answered};
+use crate::command::{id, one_id, only_instance, only_volume, only_worker, read_answered};
 use crate::ids::{filter_in, instance_in, worker_in};
 use crate::keyword::Keyword;
 use crate::task::Task;
 use fm_core::{State, Step};
 use fm_types::{FilterId, InstanceId, Status, WorkerId};
 
-/// What the words behind the keyword of a command of a detach or an unload stand for.
+/// What the words behind the keyword of a command of a detach, an unload or a dismount stand for.
 pub(crate) fn read_teardown_command(
     state: &State,
     keyword: Keyword,
@@ -64,6 +64,18 @@ pub(crate) fn read_teardown_command(
         }
         Keyword::Drained => Ok(Task::Event(Step::DrainDone {
             worker: only_worker(words)?,
+        })),
+        Keyword::Dismount => Ok(Task::Event(Step::StartDismount {
+            volume: only_volume(state, words)?,
+        })),
+        Keyword::Drop => Ok(Task::Event(Step::DropHandle {
+            volume: only_volume(state, words)?,
+        })),
+        Keyword::EmptyV => Ok(Task::Event(Step::EmptyVolume {
+            volume: only_volume(state, words)?,
+        })),
+        Keyword::FinishV => Ok(Task::Event(Step::FinishVolume {
+            volume: only_volume(state, words)?,
         })),
         Keyword::Flight => Ok(Task::Flight(only_instance(state, words)?)),
         _ => Err(Status::BadRequest),

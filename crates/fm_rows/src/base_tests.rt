@@ -1,59 +1,60 @@
 //! The longest listing of a base in memory, and what is proved of any base at two of them.
 
 use fm_base::{Base, FailNth, MemoryBase, laws};
-use fm_types::{Bytes, CreateMode, RelPath, Status};
-use std::process::Abort;
+use fm_types::{CreateMode, RelPath, Status};
+use std::alloc::Global;
 
-// A name of 255 letters, which ends in those two.
-fn long_name(rt: &impl Abort, first: u8, last: u8) -> RelPath {
+// A name of 255 letters, of which the last two are that number's.
+fn long_name(number: u8) -> Result<RelPath, Status> {
     let mut name = [b'n'; 255];
-    name[253] = first;
-    name[254] = last;
-    RelPath::read(name.as_slice()).expect(rt, "a path")
+    name[253] = b'a' + number / 16;
+    name[254] = b'a' + number % 16;
+    RelPath::read(name.as_slice())
 }
 
 // Makes 128 files of such names.
-fn fill(rt: &impl Abort, base: &mut MemoryBase) {
-    for first in b'0'..b'8' {
-        for last in b'a'..b'q' {
-            base.create(&long_name(rt, first, last), CreateMode::New)
-                .expect(rt, "a new file");
-        }
+fn fill(base: &mut MemoryBase) -> Result<(), Status> {
+    for number in 0..128 {
+        base.create(&long_name(number)?, CreateMode::New)?;
     }
+    Ok(())
 }
 
 // The length of their listing, what is said with one file more, and the length with one of them less.
-fn listed(rt: &impl Abort, base: &mut MemoryBase) -> (usize, Option<Status>, usize) {
-    let whole = base.list().expect(rt, "a listing").len();
-    let more = RelPath::read(b"a").expect(rt, "a path");
-    base.create(&more, CreateMode::New).expect(rt, "a new file");
+fn listed(base: &mut MemoryBase) -> Result<(usize, Option<Status>, usize), Status> {
+    fill(base)?;
+    let whole = base.list()?.len();
+    base.create(&RelPath::read(b"a")?, CreateMode::New)?;
     let refused = base.list().err();
-    base.unlink(&long_name(rt, b'0', b'a'))
-        .expect(rt, "a file less");
-    (whole, refused, base.list().expect(rt, "a listing").len())
+    base.unlink(&long_name(0)?)?;
+    Ok((whole, refused, base.list()?.len()))
 }
 
 #[test]
 fn listing_of_32768_bytes(rt: HostRuntime) {
     let mut base = MemoryBase::new(rt.alloc());
-    fill(&rt, &mut base);
-    let told = listed(&rt, &mut base);
-    assert_eq!(rt; told, (32_768, Some(Status::TooMany), 32_514));
+    let told = listed(&mut base);
+    assert_eq!(rt; told, Ok((32_768, Some(Status::TooMany), 32_514)));
 }
 
-fn read_back<B: Base>(rt: &impl Abort, base: &mut B) -> Bytes {
-    let path = RelPath::read(b"f").expect(rt, "a path");
-    base.create(&path, CreateMode::Always).expect(rt, "a file");
-    laws::write_and_read(base, &path, 5, b"bytes").expect(rt, "its bytes")
+// Whether the base gives back what is written to a new file.
+fn reads_back<B: Base>(base: &mut B) -> Result<bool, Status> {
+    let path = RelPath::read(b"f")?;
+    base.create(&path, CreateMode::Always)?;
+    let bytes = laws::write_and_read(base, &path, 5, b"bytes")?;
+    Ok(bytes.as_slice() == b"bytes".as_slice())
+}
+
+fn memory_reads_back(alloc: Global) -> Result<bool, Status> {
+    reads_back(&mut MemoryBase::new(alloc))
+}
+
+fn failing_reads_back(alloc: Global) -> Result<bool, Status> {
+    reads_back(&mut FailNth::new(MemoryBase::new(alloc), 9))
 }
 
 #[test]
 fn any_base_reads_back(rt: HostRuntime) {
-    let mut memory = MemoryBase::new(rt.alloc());
-    assert_eq!(rt; read_back(&rt, &mut memory).as_slice(), b"bytes".as_slice());
-    let mut failing = FailNth::new(memory, 9);
-    assert_eq!(rt;
-        read_back(&rt, &mut failing).as_slice(),
-        b"bytes".as_slice()
-    );
+    assert_eq!(rt; memory_reads_back(rt.alloc()), Ok(true));
+    assert_eq!(rt; failing_reads_back(rt.alloc()), Ok(true));
 }

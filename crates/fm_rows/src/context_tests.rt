@@ -1,11 +1,13 @@
 //! The limits of bodies and numbers, slots that are used again, and memory that is refused.
 
-use crate::events::{CONTEXT, Event, WORKER, step_of};
+use crate::events::{CONTEXT, Event, WORKER};
+use crate::lines::Line::Does;
+use crate::lines::{Line, OTHER, other_line};
+use crate::told::Told;
 use fm_core::State;
 use fm_ctx::{Contexts, Count, Owner};
-use fm_types::{Bytes, ContextKind, CtxId, InstanceId, Status, VolumeId, WorkerId};
+use fm_types::{Bytes, ContextKind, CtxId, InstanceId, Status, VolumeId};
 use std::alloc::Global;
-use std::process::Abort;
 
 const OWNER: Owner = Owner::Instance(InstanceId(3));
 
@@ -13,39 +15,40 @@ const OWNER: Owner = Owner::Instance(InstanceId(3));
 fn allocate(alloc: Global, contexts: &mut Contexts, len: usize) -> Result<CtxId, Status> {
     let mut body = Bytes::new(alloc);
     body.set_len(len)?;
-    contexts.allocate(WorkerId(0), ContextKind::Stream, OWNER, VolumeId(1), body)
+    contexts.allocate(WORKER, ContextKind::Stream, OWNER, VolumeId(1), body)
 }
 
 // The length of the longest body, and what its last number is when 258 and then 2^64 - 1 are added to it.
-fn longest(rt: &impl Abort, alloc: Global, contexts: &mut Contexts) -> (usize, u64, u64) {
-    let id = allocate(alloc, contexts, 4096).expect(rt, "a context");
-    let body = contexts.read_body(WorkerId(0), id).expect(rt, "its body");
-    let len = body.len();
-    let first = contexts
-        .bump(WorkerId(0), id, 4088, 258)
-        .expect(rt, "a number");
-    let second = contexts
-        .bump(WorkerId(0), id, 4088, u64::MAX)
-        .expect(rt, "a number");
-    (len, first, second)
+fn longest(alloc: Global, contexts: &mut Contexts) -> Result<(usize, u64, u64), Status> {
+    let id = allocate(alloc, contexts, 4096)?;
+    let len = contexts.read_body(WORKER, id)?.len();
+    let first = contexts.bump(WORKER, id, 4088, 258)?;
+    let second = contexts.bump(WORKER, id, 4088, u64::MAX)?;
+    Ok((len, first, second))
+}
+
+// What is said to a body that is too long, and of the longest.
+fn lengths(
+    alloc: Global,
+    contexts: &mut Contexts,
+) -> Result<(Option<Status>, (usize, u64, u64)), Status> {
+    let refused = allocate(alloc, contexts, 4097).err();
+    Ok((refused, longest(alloc, contexts)?))
 }
 
 #[test]
 fn bodies_of_4096_bytes(rt: HostRuntime) {
     let mut contexts = Contexts::new(rt.alloc()).expect(&rt, "a table");
-    let too_long = allocate(rt.alloc(), &mut contexts, 4097).err();
-    assert_eq!(rt; too_long, Some(Status::TooMany));
-    let told = longest(&rt, rt.alloc(), &mut contexts);
-    assert_eq!(rt; told, (4096, 258, 257));
+    let told = lengths(rt.alloc(), &mut contexts);
+    assert_eq!(rt; told, Ok((Some(Status::TooMany), (4096, 258, 257))));
 }
 
 // Worker 0 is in the setup callback of an instance.
-fn set_up(rt: &impl Abort, alloc: Global, state: &mut State) {
-    for event in [Event::Register, Event::Mount, Event::Attach] {
-        let step = step_of(alloc, event).expect(rt, "a step");
-        state.step(step);
-    }
-}
+const SET_UP: &[Line] = &[
+    Does(Event::Register, Told::Number(0)),
+    Does(Event::Mount, Told::Number(0)),
+    Does(Event::Attach, Told::Number(0)),
+];
 
 // A context of that instance, with no body.
 fn bare(alloc: Global, state: &mut State) -> Result<CtxId, Status> {
@@ -53,61 +56,76 @@ fn bare(alloc: Global, state: &mut State) -> Result<CtxId, Status> {
 }
 
 // All contexts that there may be, none of which is held.
-fn fill(rt: &impl Abort, alloc: Global, state: &mut State) {
+fn fill(alloc: Global, state: &mut State) -> Result<(), Status> {
     for _context in 0..65536 {
-        let id = bare(alloc, state).expect(rt, "a context");
-        state.release(WORKER, id).expect(rt, "its release");
+        let id = bare(alloc, state)?;
+        state.release(WORKER, id)?;
     }
+    Ok(())
 }
 
-// Worker 1 cleans up the context that is due longest.
-fn clean_up(rt: &impl Abort, state: &mut State) {
-    let due = state.take_due(WorkerId(1)).expect(rt, "a worker");
-    assert_eq!(rt; due.is_some(), true);
-    state.cleaned(WorkerId(1), 0).expect(rt, "its cleanup");
+// What is said to one context more, the context that comes once another worker cleaned one up, and what is said to a release of the first.
+fn full(
+    alloc: Global,
+    state: &mut State,
+) -> Result<(Option<Status>, CtxId, Option<Status>), Status> {
+    fill(alloc, state)?;
+    let more = bare(alloc, state).err();
+    state.take_due(OTHER)?;
+    state.cleaned(OTHER, 0)?;
+    let next = bare(alloc, state)?;
+    Ok((more, next, state.release(WORKER, CONTEXT).err()))
 }
 
 #[test]
 fn slots_run_out(rt: HostRuntime) {
     let mut state = State::new(rt.alloc()).expect(&rt, "a state");
-    set_up(&rt, rt.alloc(), &mut state);
-    fill(&rt, rt.alloc(), &mut state);
-    assert_eq!(rt; bare(rt.alloc(), &mut state), Err(Status::TooMany));
-    clean_up(&rt, &mut state);
-    let id = bare(rt.alloc(), &mut state).expect(&rt, "a context");
-    assert_eq!(rt; (id.slot, id.generation), (CONTEXT.slot, 1));
-    assert_eq!(rt; state.release(WORKER, CONTEXT), Err(Status::NotHeld));
+    assert_eq!(rt; other_line(rt.alloc(), &mut state, SET_UP), Ok(None));
+    let next = CtxId {
+        slot: CONTEXT.slot,
+        generation: 1,
+    };
+    let told = (Some(Status::TooMany), next, Some(Status::NotHeld));
+    assert_eq!(rt; full(rt.alloc(), &mut state), Ok(told));
 }
 
-// A context that comes and goes: it is due, is cleaned up, and is no more. Gives its id.
-fn pass(rt: &impl Abort, alloc: Global, contexts: &mut Contexts) -> CtxId {
-    let id = allocate(alloc, contexts, 0).expect(rt, "a context");
-    contexts.release(WorkerId(0), id).expect(rt, "its release");
-    assert_eq!(rt; contexts.count(id), Count::Due);
-    let None = contexts.cleaning_of(WorkerId(0)) else {
-        panic!(rt; "the worker cleans up none");
+// A context that comes and goes, with what is counted while it is due, and while it is cleaned up.
+fn pass(alloc: Global, contexts: &mut Contexts) -> Result<(CtxId, Count, Count), Status> {
+    let id = allocate(alloc, contexts, 0)?;
+    contexts.release(WORKER, id)?;
+    let due = contexts.count(id);
+    let None = contexts.cleaning_of(WORKER) else {
+        return Err(Status::WrongStep);
     };
-    contexts.take_due(WorkerId(0)).expect(rt, "it is due");
-    assert_eq!(rt; contexts.count(id), Count::Cleaning);
-    let Some(due) = contexts.cleaning_of(WorkerId(0)) else {
-        panic!(rt; "the worker cleans it up");
+    contexts.take_due(WORKER);
+    let cleaning = contexts.count(id);
+    let Some(cleaned) = contexts.cleaning_of(WORKER) else {
+        return Err(Status::WrongStep);
     };
-    contexts.cleaned(WorkerId(0), due);
-    id
+    contexts.cleaned(WORKER, cleaned);
+    Ok((id, due, cleaning))
+}
+
+// The first of 70,000 that isn't at the first slot, with a generation of its own, or isn't counted so.
+fn other_pass(alloc: Global, contexts: &mut Contexts) -> Result<Option<u32>, Status> {
+    for generation in 0..70000 {
+        let id = CtxId {
+            slot: CONTEXT.slot,
+            generation,
+        };
+        if pass(alloc, contexts)? != (id, Count::Due, Count::Cleaning) {
+            return Ok(Some(generation));
+        }
+    }
+    Ok(None)
 }
 
 #[test]
 fn slots_are_used_again(rt: HostRuntime) {
     let mut contexts = Contexts::new(rt.alloc()).expect(&rt, "a table");
-    let first = pass(&rt, rt.alloc(), &mut contexts);
-    for number in 1..70000 {
-        let id = pass(&rt, rt.alloc(), &mut contexts);
-        assert_eq!(rt; (id.slot, id.generation), (first.slot, number));
-    }
-    assert_eq!(rt;
-        (contexts.count(first), contexts.born()),
-        (Count::Cleaned, 70000)
-    );
+    let other = other_pass(rt.alloc(), &mut contexts);
+    let end = (other, contexts.count(CONTEXT), contexts.born());
+    assert_eq!(rt; end, (Ok(None), Count::Cleaned, 70000));
 }
 
 // What can be read of the table, where one worker holds each context of the owner once.
@@ -115,8 +133,40 @@ fn seen(contexts: &Contexts) -> [u64; 3] {
     [
         contexts.born(),
         contexts.open_of(OWNER),
-        contexts.hand_len(WorkerId(0)) as u64,
+        contexts.hand_len(WORKER) as u64,
     ]
+}
+
+// Whether one context more, if it is refused memory, changes nothing that can be seen, and succeeds when it is asked again.
+fn is_allocated(alloc: Global, contexts: &mut Contexts, number: u64) -> bool {
+    match allocate(alloc, contexts, 3) {
+        Ok(_) => true,
+        Err(status) => {
+            (status, seen(contexts)) == (Status::NoMemory, [number; 3])
+                && allocate(alloc, contexts, 3).is_ok()
+        }
+    }
+}
+
+// The same of reading a body.
+fn is_read(contexts: &Contexts, id: CtxId) -> bool {
+    match contexts.read_body(WORKER, id) {
+        Ok(_) => true,
+        Err(status) => {
+            (status, seen(contexts)) == (Status::NoMemory, [10; 3])
+                && contexts.read_body(WORKER, id).is_ok()
+        }
+    }
+}
+
+// How many of ten contexts came so.
+fn allocated(alloc: Global, contexts: &mut Contexts) -> u64 {
+    for number in 0..10 {
+        if !is_allocated(alloc, contexts, number) {
+            return number;
+        }
+    }
+    10
 }
 
 // For `rt try --test --fail-alloc N`: whichever allocation is refused, once, the call answers 1 and nothing can be seen to have changed; asked again it
@@ -127,22 +177,11 @@ fn each_refusal_of_memory(rt: HostRuntime) {
         Ok(contexts) => contexts,
         Err(_) => Contexts::new(rt.alloc()).expect(&rt, "a table"),
     };
-    for number in 0..10 {
-        if let Err(status) = allocate(rt.alloc(), &mut contexts, 3) {
-            assert_eq!(rt; (status, seen(&contexts)), (Status::NoMemory, [number; 3]));
-            allocate(rt.alloc(), &mut contexts, 3).expect(&rt, "a context");
-        }
-    }
     let id = CtxId {
         slot: 9,
         generation: 0,
     };
-    if let Err(status) = contexts.read_body(WorkerId(0), id) {
-        assert_eq!(rt; (status, seen(&contexts)), (Status::NoMemory, [10; 3]));
-        contexts.read_body(WorkerId(0), id).expect(&rt, "its body");
-    }
-    assert_eq!(rt;
-        (contexts.count(id), seen(&contexts)),
-        (Count::Live(1), [10; 3])
-    );
+    let count = allocated(rt.alloc(), &mut contexts);
+    let end = (is_read(&contexts, id), contexts.count(id), seen(&contexts));
+    assert_eq!(rt; (count, end), (10, (true, Count::Live(1), [10; 3])));
 }

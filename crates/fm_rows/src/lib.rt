@@ -8,13 +8,19 @@ mod base_tests;
 #[cfg(test)]
 mod context_tests;
 #[cfg(test)]
+mod create_lists;
+#[cfg(test)]
 mod events;
 #[cfg(test)]
 mod frame_tests;
 #[cfg(test)]
-mod hold_tests;
+mod hold_lists;
 #[cfg(test)]
 mod limit_tests;
+#[cfg(test)]
+mod lines;
+#[cfg(test)]
+mod list_tests;
 #[cfg(test)]
 mod memory_tests;
 #[cfg(test)]
@@ -22,15 +28,13 @@ mod operation_tests;
 #[cfg(test)]
 mod queue_tests;
 #[cfg(test)]
-mod run_tests;
-#[cfg(test)]
 mod rundown_tests;
 #[cfg(test)]
 mod script_tests;
 #[cfg(test)]
 mod seen_tests;
 #[cfg(test)]
-mod teardown_tests;
+mod teardown_lists;
 #[cfg(test)]
 mod text_tests;
 #[cfg(test)]

@@ -1,6 +1,7 @@
 //! Scripts at limits that are too long to be stored.
 
-use fm_script::{ScriptEnd, script};
+use crate::script_tests::end_of;
+use fm_script::ScriptEnd;
 use std::alloc::Global;
 use std::io::Write;
 use std::process::Abort;
@@ -45,12 +46,9 @@ impl Row {
         }
     }
 
-    // Runs the script.
-    fn run(&self, rt: &impl Abort, alloc: Global) {
-        let mut bytes = Vec::new(alloc);
-        let end = script(alloc, self.input.as_slice(), &mut bytes);
-        assert_eq!(rt; end, ScriptEnd::Ended);
-        assert_eq!(rt; bytes.as_slice(), self.output.as_slice());
+    // How it ends, and whether it prints that.
+    fn end(&self, alloc: Global) -> (ScriptEnd, bool) {
+        end_of(alloc, self.input.as_slice(), self.output.as_slice())
     }
 }
 
@@ -78,7 +76,7 @@ fn most_handles(rt: HostRuntime) {
     let mut row = Row::of(&rt, rt.alloc(), FILE);
     creates(&rt, &mut row);
     row.add(&rt, ONE_MORE_HANDLE);
-    row.run(&rt, rt.alloc());
+    assert_eq!(rt; row.end(rt.alloc()), (ScriptEnd::Ended, true));
 }
 
 const LONG_READ: Lines = &[
@@ -103,5 +101,5 @@ fn longest_read(rt: HostRuntime) {
     let mut row = Row::of(&rt, rt.alloc(), FILE);
     row.add(&rt, LONG_READ);
     zeros(&rt, &mut row);
-    row.run(&rt, rt.alloc());
+    assert_eq!(rt; row.end(rt.alloc()), (ScriptEnd::Ended, true));
 }

@@ -1,7 +1,8 @@
 //! What each refusal of memory leaves of the state.
 
-use crate::events::{CONTEXT, Event, WORKER, step_of};
-use crate::told::{Told, told_by};
+use crate::events::{CONTEXT, Event, WORKER};
+use crate::lines::ask;
+use crate::told::Told;
 use fm_core::State;
 use fm_ctx::Count;
 use fm_stack::Phase;
@@ -29,8 +30,13 @@ const EVENTS: [Event; 16] = [
     Event::Begin(Operation::List),
 ];
 
+type Numbers = [u64; 6];
+
+// How far the instance, the operation and the context are.
+type Stages = (Option<Phase>, Option<bool>, Count);
+
 // What can be read of a state: how many filters, instances, contexts in the hand, births, cleanups and leaks there are.
-fn numbers(state: &State) -> [u64; 6] {
+fn numbers(state: &State) -> Numbers {
     [
         state.filters() as u64,
         state.instances() as u64,
@@ -41,8 +47,7 @@ fn numbers(state: &State) -> [u64; 6] {
     ]
 }
 
-// How far the instance, the operation and the context are.
-fn stages(state: &State) -> (Option<Phase>, Option<bool>, Count) {
+fn stages(state: &State) -> Stages {
     (
         state.phase(InstanceId(0)),
         state.is_done(OpId(0)),
@@ -57,39 +62,33 @@ fn opened(rt: &impl Abort, alloc: Global) -> State {
     }
 }
 
-// What the event is told.
-fn ask(rt: &impl Abort, alloc: Global, state: &mut State, event: Event) -> Told {
-    let step = step_of(alloc, event).expect(rt, "a step");
-    told_by(&state.step(step))
-}
+const REFUSED: Told = Told::Refused(Status::NoMemory);
 
-// An event that is refused memory changes nothing that can be seen, and succeeds when it is asked again.
-fn ask_twice(rt: &impl Abort, alloc: Global, state: &mut State, event: Event) {
-    let want = Told::Refused(Status::NoMemory);
+// Whether the event, if it is refused memory, changes nothing that can be seen, and succeeds when it is asked again.
+fn is_harmless(alloc: Global, state: &mut State, event: Event) -> Result<bool, Status> {
     let before = (numbers(state), stages(state));
-    if ask(rt, alloc, state, event) == want {
-        assert_eq!(rt; (numbers(state), stages(state)), before);
-        assert_ne!(rt; ask(rt, alloc, state, event), want);
+    if ask(alloc, state, event)? != REFUSED {
+        return Ok(true);
     }
+    let after = (numbers(state), stages(state));
+    Ok(after == before && ask(alloc, state, event)? != REFUSED)
 }
 
-fn ask_all(rt: &impl Abort, alloc: Global, state: &mut State) {
+// Whether all of them are, and what can be read at the end.
+fn life(alloc: Global, state: &mut State) -> Result<(bool, Numbers, Stages), Status> {
     for event in EVENTS {
-        ask_twice(rt, alloc, state, event);
+        if !is_harmless(alloc, state, event)? {
+            return Ok((false, numbers(state), stages(state)));
+        }
     }
-}
-
-// What can be read at the end.
-fn compare(rt: &impl Abort, state: &State) {
-    assert_eq!(rt; numbers(state), [1, 1, 0, 10, 0, 10]);
-    let stages = stages(state);
-    assert_eq!(rt; stages, (Some(Phase::Attached), Some(false), Count::Due));
+    Ok((true, numbers(state), stages(state)))
 }
 
 // For `rt try --test --fail-alloc N`: whichever allocation is refused, once, the end is the same.
 #[test]
 fn each_refusal_of_memory(rt: HostRuntime) {
     let mut state = opened(&rt, rt.alloc());
-    ask_all(&rt, rt.alloc(), &mut state);
-    compare(&rt, &state);
+    let stages = (Some(Phase::Attached), Some(false), Count::Due);
+    let end = (true, [1, 1, 0, 10, 0, 10], stages);
+    assert_eq!(rt; life(rt.alloc(), &mut state), Ok(end));
 }

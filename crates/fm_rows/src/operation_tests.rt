@@ -305,10 +305,8 @@ impl Run {
         assert!(rt; taken.is_ok());
     }
 
-    // Takes an operation to its end.
-    fn run(&mut self, rt: &impl Abort, what: Request) -> Answer {
-        let operation = self.state.begin(what).expect(rt, "an operation");
-        self.way.clear();
+    // Takes an operation along its way: each turn is a callback or a call of the base.
+    fn carry(&mut self, rt: &impl Abort, operation: OpId) {
         for _ in 0..WAY.len() {
             match self.state.next(WORKER, operation).expect(rt, "an action") {
                 Action::Pre(instance, data) => self.pre(rt, operation, instance, data),
@@ -319,15 +317,19 @@ impl Run {
                 _ => panic!(rt; "operation {} is called for nothing else", operation.0),
             }
         }
-        assert_eq!(rt;
-            self.way.as_slice(),
-            WAY.as_slice(),
-            "operation {}",
-            operation.0
-        );
-        assert!(rt; matches!(self.state.next(WORKER, operation), Ok(Action::Done)));
+    }
+
+    // Takes an operation to its end.
+    fn run(&mut self, rt: &impl Abort, what: Request) -> Answer {
+        let operation = self.state.begin(what).expect(rt, "an operation");
+        self.way.clear();
+        self.carry(rt, operation);
+        let is_whole = self.way.as_slice() == WAY.as_slice();
+        let is_done = matches!(self.state.next(WORKER, operation), Ok(Action::Done));
         let answer = self.state.collect(operation).expect(rt, "an answer");
-        assert_eq!(rt; answer.status, Status::Success, "operation {}", operation.0);
+        let told = (is_whole, is_done, answer.status);
+        let number = operation.0;
+        assert_eq!(rt; told, (true, true, Status::Success), "operation {number}");
         answer
     }
 
@@ -375,8 +377,9 @@ impl Run {
         );
         let end = offset.saturating_add(len as usize).min(self.written.len());
         let bytes = answer.bytes.as_slice();
-        assert_eq!(rt; Some(bytes), self.written.get(offset..end), "step {step}");
-        assert_eq!(rt; answer.information, bytes.len() as u64, "step {step}");
+        let is_read = Some(bytes) == self.written.get(offset..end);
+        let told = (is_read, answer.information);
+        assert_eq!(rt; told, (true, bytes.len() as u64), "step {step}");
     }
 
     fn query_size(&mut self, rt: &impl Abort, step: u8) {
@@ -418,9 +421,9 @@ impl Run {
             expected.push(stored(*byte)).expect(rt, "memory");
         }
         let bytes = self.base.read(&path, 0, 32_768).expect(rt, "a read");
-        assert_eq!(rt; bytes.as_slice(), expected.as_slice());
+        let is_same = bytes.as_slice() == expected.as_slice();
         let size = self.base.size(&path).expect(rt, "a size");
-        assert_eq!(rt; size, expected.len() as u64);
+        assert_eq!(rt; (is_same, size), (true, expected.len() as u64));
     }
 
     // A create, and all operations behind it.
@@ -438,11 +441,13 @@ impl Run {
         self.create(rt);
         let bytes = long_bytes(rt, self.alloc, 32_768);
         note(rt, &mut self.written, 0, bytes.as_slice());
-        let written = self.ask(rt, FileRequest::Write { offset: 0, bytes });
-        assert_eq!(rt; written.information, 32_768);
+        let written = self
+            .ask(rt, FileRequest::Write { offset: 0, bytes })
+            .information;
         let len = 32_768;
         let read = self.ask(rt, FileRequest::Read { offset: 0, len });
-        assert_eq!(rt; read.bytes.as_slice(), self.written.as_slice());
+        let is_read = read.bytes.as_slice() == self.written.as_slice();
+        assert_eq!(rt; (written, is_read), (32_768, true));
         self.compare(rt);
     }
 

@@ -29,22 +29,35 @@ fn next_pass(queue: &JobQueue, passes: &mut Vec<JobPass>) -> Option<JobPass>
     passes.pop()
 }
 
+// What is said to a job.
+type Put = Result<(), (Job, Status)>;
+
+// Three jobs for a queue of two, and the last of them again once there is room: what is said to each, and what is taken.
+fn puts_and_takes<R: Wait>(rt: &R, queue: &JobQueue, pass: &mut JobPass) -> ([Put; 4], [Job; 3])
+    requires { IsPassOf queue.now pass.old }
+    ensures own { IsPassOf queue.now pass.new }
+    ensures parts { parts_of pass.new ≡ parts_of pass.old }
+{
+    let first = queue.put(rt, pass, run(0));
+    let second = queue.put(rt, pass, run(1));
+    let refused = queue.put(rt, pass, Job::Stop);
+    let taken = queue.take(rt, pass);
+    let stop = queue.put(rt, pass, Job::Stop);
+    let last = queue.take(rt, pass);
+    let stopped = queue.take(rt, pass);
+    ([first, second, refused, stop], [taken, last, stopped])
+}
+
 #[test]
 fn queue_of_two(rt: HostRuntime) {
     let (queue, mut passes) = JobQueue::new(rt.alloc(), 2, 1).expect(&rt, "a queue");
     let mut pass = next_pass(&queue, &mut passes).expect(&rt, "a pass");
-    assert_eq!(rt; queue.put(&rt, &mut pass, run(0)), Ok(()));
-    assert_eq!(rt; queue.put(&rt, &mut pass, run(1)), Ok(()));
-    assert_eq!(rt;
-        queue.put(&rt, &mut pass, Job::Stop),
-        Err((Job::Stop, Status::TooMany))
-    );
-    assert_eq!(rt; queue.take(&rt, &mut pass), run(0));
-    assert_eq!(rt; queue.put(&rt, &mut pass, Job::Stop), Ok(()));
-    assert_eq!(rt; queue.take(&rt, &mut pass), run(1));
-    assert_eq!(rt; queue.take(&rt, &mut pass), Job::Stop);
+    let (puts, taken) = puts_and_takes(&rt, &queue, &mut pass);
     assert!(rt; next_pass(&queue, &mut passes).is_none());
     jobs_are_kept(&queue, &mut pass);
+    let refused = Err((Job::Stop, Status::TooMany));
+    assert_eq!(rt; puts, [Ok(()), Ok(()), refused, Ok(())]);
+    assert_eq!(rt; taken, [run(0), run(1), Job::Stop]);
 }
 
 #[test]

@@ -33,23 +33,100 @@ fn put_back(rt: &impl Abort, gate: &RundownGate, seats: &mut Vec<GateSeat>, seat
     seats.push(seat).expect(rt, "memory");
 }
 
+// What a seat is asked, with what it says.
+#[derive(Clone, Copy)]
+enum Line {
+    Enters(VolumeId, Result<(), Status>),
+    Leaves(VolumeId, Result<(), Status>),
+    Closes(VolumeId, Result<(), Status>),
+    Looks(VolumeId, Result<Look, Status>),
+    /// How many passes it holds.
+    Holds(u64),
+}
+
+use Line::{Closes, Enters, Holds, Leaves, Looks};
+
+// Whether the seat says what the line has.
+fn is_said(gate: &RundownGate, seat: &mut GateSeat, line: Line) -> bool
+    requires { IsSeatOf gate.now seat.old }
+    ensures { IsSeatOf gate.now seat.new }
+{
+    match line {
+        Enters(volume, told) => gate.enter(seat, volume) == told,
+        Leaves(volume, told) => gate.leave(seat, volume) == told,
+        Closes(volume, told) => gate.close(seat, volume) == told,
+        Looks(volume, told) => gate.look(seat, volume) == told,
+        Holds(count) => seat.passes() == count,
+    }
+}
+
+// Goes through the lines, up to the first at which the seat says something else: that line's number.
+fn other_line(gate: &RundownGate, seat: &mut GateSeat, lines: &[Line]) -> Option<usize>
+    requires { IsSeatOf gate.now seat.old }
+    ensures { IsSeatOf gate.now seat.new }
+{
+    'lines: for (number, line) in lines.iter().enumerate() {
+        if !is_said(gate, seat, *line) {
+            return Some(number);
+        }
+    }
+    None
+}
+
+// The same a thousand times.
+fn other_of_thousand(gate: &RundownGate, seat: &mut GateSeat, lines: &[Line]) -> Option<usize>
+    requires { IsSeatOf gate.now seat.old }
+    ensures { IsSeatOf gate.now seat.new }
+{
+    'turns: for _ in 0..1_000 {
+        if let Some(number) = other_line(gate, seat, lines) {
+            return Some(number);
+        }
+    }
+    None
+}
+
+const CLOSED: &[Line] = &[
+    Looks(VOLUME, Ok(Look::Open)),
+    Enters(VOLUME, Ok(())),
+    Closes(VOLUME, Ok(())),
+    Looks(VOLUME, Ok(Look::Closing)),
+];
+
+const REFUSED: &[Line] = &[Enters(VOLUME, Err(Status::Dismounting))];
+
+const DRAINED: &[Line] = &[
+    Leaves(VOLUME, Ok(())),
+    Looks(VOLUME, Ok(Look::Drained)),
+    Leaves(VOLUME, Err(Status::NotHeld)),
+];
+
 #[test]
 fn gate_steps(rt: HostRuntime) {
     let (gate, mut seats) = RundownGate::new(rt.alloc(), 1, 2).expect(&rt, "a gate");
     let mut second = next_seat(&gate, &mut seats).expect(&rt, "two seats");
     let mut first = next_seat(&gate, &mut seats).expect(&rt, "two seats");
-    assert_eq!(rt; gate.look(&mut first, VOLUME), Ok(Look::Open));
-    assert_eq!(rt; gate.enter(&mut first, VOLUME), Ok(()));
-    assert_eq!(rt; gate.close(&mut first, VOLUME), Ok(()));
-    assert_eq!(rt; gate.look(&mut first, VOLUME), Ok(Look::Closing));
-    assert_eq!(rt; gate.enter(&mut second, VOLUME), Err(Status::Dismounting));
-    assert_eq!(rt; gate.leave(&mut first, VOLUME), Ok(()));
-    assert_eq!(rt; gate.look(&mut first, VOLUME), Ok(Look::Drained));
-    assert_eq!(rt; gate.leave(&mut first, VOLUME), Err(Status::NotHeld));
+    let closed = other_line(&gate, &mut first, CLOSED);
+    let refused = other_line(&gate, &mut second, REFUSED);
+    let drained = other_line(&gate, &mut first, DRAINED);
     put_back(&rt, &gate, &mut seats, first);
     put_back(&rt, &gate, &mut seats, second);
-    assert!(rt; gate.end(seats).is_ok());
+    let is_ended = gate.end(seats).is_ok();
+    assert_eq!(rt;
+        (closed, refused, drained, is_ended),
+        (None, None, None, true)
+    );
 }
+
+const NO_VOLUME: Status = Status::NoVolume;
+
+const LAST_VOLUME: &[Line] = &[
+    Enters(VolumeId(7), Ok(())),
+    Enters(VolumeId(8), Err(NO_VOLUME)),
+    Leaves(VolumeId(8), Err(NO_VOLUME)),
+    Closes(VolumeId(8), Err(NO_VOLUME)),
+    Looks(VolumeId(8), Err(NO_VOLUME)),
+];
 
 #[test]
 fn numbers_of_a_gate(rt: HostRuntime) {
@@ -62,34 +139,46 @@ fn numbers_of_a_gate(rt: HostRuntime) {
         );
     }
     let (gate, mut seats) = RundownGate::new(rt.alloc(), 8, 65_536).expect(&rt, "a gate");
-    assert_eq!(rt; seats.len(), 65_536);
+    let count = seats.len();
     let mut seat = next_seat(&gate, &mut seats).expect(&rt, "a seat");
-    assert_eq!(rt; gate.enter(&mut seat, VolumeId(7)), Ok(()));
-    assert_eq!(rt; gate.enter(&mut seat, VolumeId(8)), Err(Status::NoVolume));
-    assert_eq!(rt; gate.leave(&mut seat, VolumeId(8)), Err(Status::NoVolume));
-    assert_eq!(rt; gate.close(&mut seat, VolumeId(8)), Err(Status::NoVolume));
-    assert_eq!(rt; gate.look(&mut seat, VolumeId(8)), Err(Status::NoVolume));
+    let other = other_line(&gate, &mut seat, LAST_VOLUME);
+    assert_eq!(rt; (count, other), (65_536, None));
+}
+
+const ENTERED: &[Line] = &[Enters(VOLUME, Ok(()))];
+
+const FULL: &[Line] = &[
+    Enters(VOLUME, Err(Status::TooMany)),
+    Holds(1_000),
+    Enters(VolumeId(1), Ok(())),
+    Closes(VOLUME, Ok(())),
+    Enters(VOLUME, Err(Status::Dismounting)),
+];
+
+const LEFT: &[Line] = &[Looks(VOLUME, Ok(Look::Closing)), Leaves(VOLUME, Ok(()))];
+
+const EMPTY: &[Line] = &[
+    Looks(VOLUME, Ok(Look::Drained)),
+    Looks(VolumeId(1), Ok(Look::Open)),
+    Holds(1),
+];
+
+// A thousand passes are taken and given back: what the seat says otherwise.
+fn others(gate: &RundownGate, seat: &mut GateSeat) -> [Option<usize>; 4]
+    requires { IsSeatOf gate.now seat.old }
+    ensures { IsSeatOf gate.now seat.new }
+{
+    let entered = other_of_thousand(gate, seat, ENTERED);
+    let full = other_line(gate, seat, FULL);
+    let left = other_of_thousand(gate, seat, LEFT);
+    [entered, full, left, other_line(gate, seat, EMPTY)]
 }
 
 #[test]
 fn thousand_passes(rt: HostRuntime) {
     let (gate, mut seats) = RundownGate::new(rt.alloc(), 2, 1).expect(&rt, "a gate");
     let mut seat = next_seat(&gate, &mut seats).expect(&rt, "a seat");
-    'enters: for _ in 0..1_000 {
-        assert_eq!(rt; gate.enter(&mut seat, VOLUME), Ok(()));
-    }
-    assert_eq!(rt; gate.enter(&mut seat, VOLUME), Err(Status::TooMany));
-    assert_eq!(rt; seat.passes(), 1_000);
-    assert_eq!(rt; gate.enter(&mut seat, VolumeId(1)), Ok(()));
-    assert_eq!(rt; gate.close(&mut seat, VOLUME), Ok(()));
-    assert_eq!(rt; gate.enter(&mut seat, VOLUME), Err(Status::Dismounting));
-    'leaves: for _ in 0..1_000 {
-        assert_eq!(rt; gate.look(&mut seat, VOLUME), Ok(Look::Closing));
-        assert_eq!(rt; gate.leave(&mut seat, VOLUME), Ok(()));
-    }
-    assert_eq!(rt; gate.look(&mut seat, VOLUME), Ok(Look::Drained));
-    assert_eq!(rt; gate.look(&mut seat, VolumeId(1)), Ok(Look::Open));
-    assert_eq!(rt; seat.passes(), 1);
+    assert_eq!(rt; others(&gate, &mut seat), [None; 4]);
 }
 
 #[test]
@@ -248,21 +337,41 @@ fn next_two(gate: &RundownGate, seats: &mut Vec<GateSeat>) -> Option<Two>
     Some(Two(one, other))
 }
 
-// What a seat is answered to `enter` and `look`, before it goes back to the list.
-fn answers_at_end(
+const ENDED: &[Line] = &[
+    Enters(VOLUME, Err(Status::Dismounting)),
+    Looks(VOLUME, Ok(Look::Drained)),
+];
+
+// Whether the seat finds the volume drained, before it goes back to the list.
+fn other_at_end(
     rt: &impl Abort,
     gate: &RundownGate,
     seats: &mut Vec<GateSeat>,
     mut seat: GateSeat,
-) -> (Result<(), Status>, Result<Look, Status>)
+) -> Option<usize>
     requires all { All (λ seat. IsSeatOf gate.now seat) seats.old.items }
     requires own { IsSeatOf gate.now seat }
     ensures { All (λ seat. IsSeatOf gate.now seat) seats.new.items }
 {
-    let entered = gate.enter(&mut seat, VOLUME);
-    let seen = gate.look(&mut seat, VOLUME);
+    let other = other_line(gate, &mut seat, ENDED);
     put_back(rt, gate, seats, seat);
-    (entered, seen)
+    other
+}
+
+// The same of two.
+fn others_at_end(
+    rt: &impl Abort,
+    gate: &RundownGate,
+    seats: &mut Vec<GateSeat>,
+    two: Two,
+) -> (Option<usize>, Option<usize>)
+    requires all { All (λ seat. IsSeatOf gate.now seat) seats.old.items }
+    requires own { IsSeatOf gate.now two.0 × IsSeatOf gate.now two.1 }
+    ensures { All (λ seat. IsSeatOf gate.now seat) seats.new.items }
+{
+    let Two(one, other) = two;
+    let first = other_at_end(rt, gate, seats, one);
+    (first, other_at_end(rt, gate, seats, other))
 }
 
 #[test]
@@ -272,14 +381,10 @@ fn four_threads_and_a_close(rt: HostRuntime) {
     let first = next_two(&gate, &mut seats).expect(&rt, "five seats");
     let second = next_two(&gate, &mut seats).expect(&rt, "five seats");
     let (inside, closer, first, second) = rundown(&rt, &gate, closer, first, second);
-    assert_eq!(rt; inside, 0);
-    let drained = (Err(Status::Dismounting), Ok(Look::Drained));
-    assert_eq!(rt; answers_at_end(&rt, &gate, &mut seats, closer), drained);
-    let Two(one, other) = first;
-    assert_eq!(rt; answers_at_end(&rt, &gate, &mut seats, one), drained);
-    assert_eq!(rt; answers_at_end(&rt, &gate, &mut seats, other), drained);
-    let Two(one, other) = second;
-    assert_eq!(rt; answers_at_end(&rt, &gate, &mut seats, one), drained);
-    assert_eq!(rt; answers_at_end(&rt, &gate, &mut seats, other), drained);
-    assert!(rt; gate.end(seats).is_ok());
+    let closer = other_at_end(&rt, &gate, &mut seats, closer);
+    let first = others_at_end(&rt, &gate, &mut seats, first);
+    let second = others_at_end(&rt, &gate, &mut seats, second);
+    let is_ended = gate.end(seats).is_ok();
+    assert_eq!(rt; (inside, is_ended), (0, true));
+    assert_eq!(rt; (closer, first, second), (None, (None, None), (None, None)));
 }

@@ -7,23 +7,6 @@ use std::io;
 use std::io::{Read, Write};
 use std::process::Abort;
 
-// A writer over memory.
-#[derive(Drop)]
-struct Kept<'a> {
-    bytes: &'a mut Vec<u8>,
-}
-
-impl Write for Kept<'_> {
-    fn write(&mut self, buf: &[u8]) -> io::Result<usize> {
-        self.bytes.extend_from_slice(buf)?;
-        Ok(buf.len())
-    }
-
-    fn flush(&mut self) -> io::Result<()> {
-        Ok(())
-    }
-}
-
 // A writer whose pipe is broken.
 #[derive(Drop)]
 struct Broken;
@@ -56,83 +39,91 @@ impl Read for Pieces<'_> {
     }
 }
 
-// Runs the input in pieces of so many bytes, and compares what it prints.
-fn compare(rt: &impl Abort, alloc: Global, input: &[u8], output: &[u8], step: usize) {
+/// How the script ends, and whether that is what it prints.
+pub fn end_of<R: Read + Drop>(alloc: Global, reader: R, output: &[u8]) -> (ScriptEnd, bool) {
     let mut bytes = Vec::new(alloc);
+    let end = script(alloc, reader, &mut bytes);
+    (end, bytes.as_slice() == output)
+}
+
+// Long lines, each of one byte so often.
+const LONG: [(u8, usize); 5] = [
+    (b'#', 4096),
+    (b'#', 4097),
+    (b'x', 4097),
+    (b'#', 100_000),
+    (b'x', 4096),
+];
+
+fn add_line(rt: &impl Abort, alloc: Global, input: &mut Vec<u8>, byte: u8, len: usize) {
+    let line = Vec::from_elem(alloc, byte, len).expect(rt, "memory");
+    input.extend_from_slice(&line).expect(rt, "memory");
+    input.push(b'\n').expect(rt, "memory");
+}
+
+fn add_lines(rt: &impl Abort, alloc: Global, input: &mut Vec<u8>) {
+    for (byte, len) in LONG {
+        add_line(rt, alloc, input, byte, len);
+    }
+    input.extend_from_slice(b"load f").expect(rt, "memory");
+}
+
+fn end_in_pieces(alloc: Global, input: &[u8], step: usize) -> (ScriptEnd, bool) {
     let reader = Pieces {
         rest: input,
         step,
         has_fault: false,
     };
-    let end = script(alloc, reader, Kept { bytes: &mut bytes });
-    assert_eq!(rt; end, ScriptEnd::Ended);
-    assert_eq!(rt; bytes.as_slice(), output);
+    end_of(alloc, reader, b"no 32\nno 32\nno 32\nno 32\nok f0\n")
 }
 
 #[test]
 fn long_lines(rt: HostRuntime) {
-    let alloc = rt.alloc();
-    let mut input = Vec::new(alloc);
-    for (byte, len) in [
-        (b'#', 4096),
-        (b'#', 4097),
-        (b'x', 4097),
-        (b'#', 100_000),
-        (b'x', 4096),
-    ] {
-        for _ in 0..len {
-            input.push(byte).expect(&rt, "memory");
-        }
-        input.push(b'\n').expect(&rt, "memory");
-    }
-    input.extend_from_slice(b"load f").expect(&rt, "memory");
-    let output = b"no 32\nno 32\nno 32\nno 32\nok f0\n";
+    let mut input = Vec::new(rt.alloc());
+    add_lines(&rt, rt.alloc(), &mut input);
     for step in [1000, 16384] {
-        compare(&rt, alloc, input.as_slice(), output, step);
+        assert_eq!(rt;
+            end_in_pieces(rt.alloc(), &input, step),
+            (ScriptEnd::Ended, true),
+            "{step}"
+        );
     }
+}
+
+// A hundred thousand lines, and these bytes behind them.
+fn end_behind_most_lines(rt: &impl Abort, alloc: Global, rest: &[u8]) -> (ScriptEnd, bool) {
+    let mut input = b"load f\n".to_vec(alloc).expect(rt, "memory");
+    let lines = Vec::from_elem(alloc, b'\n', 99_999).expect(rt, "memory");
+    input.extend_from_slice(&lines).expect(rt, "memory");
+    input.extend_from_slice(rest).expect(rt, "memory");
+    end_of(alloc, input.as_slice(), b"ok f0\n")
 }
 
 #[test]
 fn most_lines(rt: HostRuntime) {
-    let alloc = rt.alloc();
-    let mut input = b"load f\n".to_vec(alloc).expect(&rt, "memory");
-    for _ in 0..99_999 {
-        input.push(b'\n').expect(&rt, "memory");
-    }
-    let mut bytes = Vec::new(alloc);
-    let reader = input.as_slice();
+    let whole = end_behind_most_lines(&rt, rt.alloc(), b"");
+    let more = end_behind_most_lines(&rt, rt.alloc(), b"#");
     assert_eq!(rt;
-        script(alloc, reader, Kept { bytes: &mut bytes }),
-        ScriptEnd::Ended
+        (whole, more),
+        ((ScriptEnd::Ended, true), (ScriptEnd::ReadFault, true))
     );
-    input.push(b'#').expect(&rt, "memory");
-    bytes.clear();
-    let reader = input.as_slice();
-    assert_eq!(rt;
-        script(alloc, reader, Kept { bytes: &mut bytes }),
-        ScriptEnd::ReadFault
-    );
-    assert_eq!(rt; bytes.as_slice(), b"ok f0\n".as_slice());
 }
 
 #[test]
 fn faults(rt: HostRuntime) {
-    let alloc = rt.alloc();
-    let mut bytes = Vec::new(alloc);
     let reader = Pieces {
         rest: b"load f\nmount",
         step: 5,
         has_fault: true,
     };
+    let read = end_of(rt.alloc(), reader, b"ok f0\n");
+    let written = script(rt.alloc(), b"load f\nload g".as_slice(), Broken);
+    let unwritten = script(rt.alloc(), b"# nothing".as_slice(), Broken);
+    assert_eq!(rt; read, (ScriptEnd::ReadFault, true));
     assert_eq!(rt;
-        script(alloc, reader, Kept { bytes: &mut bytes }),
-        ScriptEnd::ReadFault
+        (written, unwritten),
+        (ScriptEnd::WriteFault, ScriptEnd::Ended)
     );
-    assert_eq!(rt; bytes.as_slice(), b"ok f0\n".as_slice());
-    let reader = b"load f\nload g".as_slice();
-    assert_eq!(rt; script(alloc, reader, Broken), ScriptEnd::WriteFault);
-    let reader = b"# nothing".as_slice();
-    assert_eq!(rt; script(alloc, reader, Broken), ScriptEnd::Ended);
 }
 
 // A reader that fails where what was printed before wasn't flushed.

@@ -1,38 +1,15 @@
-//! Lists of events on operations that a filter holds, or whose postoperation is one worker's, with what can be read between them: what no script can say.
+//! Lists of events on operations that a filter holds, or whose postoperation is one worker's, with what can be read between them.
 
-use crate::events::{CONTEXT, Event, WORKER, step_of};
-use crate::told::{Told, told_by};
-use fm_core::State;
+use crate::events::{CONTEXT, Event, WORKER};
+use crate::lines::Line::{Does, Holds, Synchronized};
+use crate::lines::{
+    ATTACHED, BAD, BELOW, CREATED, FIRST, IDLE, Line, List, NOBODY, NONE, OTHER, REGISTERED,
+    SECOND, THIRD, WITH, WITH_CONTEXT,
+};
+use crate::told::Told;
 use fm_data::{Completion, PostVerdict, PreVerdict};
 use fm_flow::Hold;
 use fm_types::{ContextKind, CtxId, OpId, Operation, Status, WorkerId};
-use std::alloc::Global;
-use std::process::Abort;
-
-// What is asked of the state, with what it says.
-#[derive(Clone, Copy)]
-enum Line {
-    /// An event, and what it is told.
-    Does(Event, Told),
-    /// How many references worker 0 holds.
-    Holds(usize),
-    /// The worker that alone may make the operation's next postoperation.
-    Synchronized(OpId, Option<WorkerId>),
-}
-
-use Line::{Does, Holds, Synchronized};
-
-/// The worker of the operations that are held.
-const OTHER: WorkerId = WorkerId(1);
-
-/// One that there isn't.
-const NOBODY: WorkerId = WorkerId(48);
-
-const FIRST: OpId = OpId(0);
-
-const SECOND: OpId = OpId(1);
-
-const THIRD: OpId = OpId(2);
 
 const FOURTH: OpId = OpId(3);
 
@@ -44,69 +21,36 @@ const NEXT_CONTEXT: CtxId = CtxId {
     generation: 0,
 };
 
-const NONE: PreVerdict = PreVerdict::NoCallback;
-
 const PEND: PreVerdict = PreVerdict::Pending;
 
-const BARE: Completion = Completion {
+const SYNC: PreVerdict = PreVerdict::Synchronize(Completion {
     number: 0,
     context: None,
-};
+});
 
-const CARRYING: Completion = Completion {
+const SYNC_WITH_CONTEXT: PreVerdict = PreVerdict::Synchronize(Completion {
     number: 0,
     context: Some(CONTEXT),
-};
-
-const WITH: PreVerdict = PreVerdict::WithCallback(BARE);
-
-const SYNC: PreVerdict = PreVerdict::Synchronize(BARE);
-
-const WITH_CONTEXT: PreVerdict = PreVerdict::WithCallback(CARRYING);
-
-const SYNC_WITH_CONTEXT: PreVerdict = PreVerdict::Synchronize(CARRYING);
+});
 
 const MORE: PostVerdict = PostVerdict::MoreProcessing;
 
 const DONE: PostVerdict = PostVerdict::Finished;
 
-const IDLE: Told = Told::Refused(Status::WrongStep);
-
 const NOT_HELD: Told = Told::Refused(Status::NotPended);
 
-const BAD: Told = Told::Refused(Status::BadRequest);
+const HOLDS_NONE: Told = Told::First(None);
 
-// One instance of a filter.
-const OPENING: &[Line] = &[
-    Does(Event::Register, Told::Number(0)),
-    Does(Event::Mount, Told::Number(0)),
-    Does(Event::Attach, Told::Number(0)),
-    Does(Event::SetupDone(true), Told::Done),
-];
+const HOLDS_FIRST: Told = Told::First(Some(FIRST));
 
-// One of a filter without postoperation callbacks.
-const OPENING_PRE: &[Line] = &[
-    Does(Event::RegisterPre, Told::Number(0)),
-    Does(Event::Mount, Told::Number(0)),
-    Does(Event::Attach, Told::Number(0)),
-    Does(Event::SetupDone(true), Told::Done),
-];
+const HOLDS_SECOND: Told = Told::First(Some(SECOND));
 
-// Another one below it.
-const BELOW: &[Line] = &[
-    Does(Event::AttachBelow, Told::Number(1)),
-    Does(Event::SetupDone(true), Told::Done),
-];
+const HOLDS_THIRD: Told = Told::First(Some(THIRD));
 
-// A create through one instance.
-const CREATED: &[Line] = &[
-    Does(Event::Begin(Operation::Create), Told::Number(0)),
-    Does(Event::Next(WORKER, FIRST), Told::Pre),
-    Does(Event::Pre(WORKER, NONE, Operation::Create), Told::Done),
-    Does(Event::Next(WORKER, FIRST), Told::Base),
-    Does(Event::Base(WORKER, Operation::Create), Told::Done),
-    Does(Event::Next(WORKER, FIRST), Told::AllDone),
-];
+const HOLDS_FOURTH: Told = Told::First(Some(FOURTH));
+
+// A filter without postoperation callbacks.
+const REGISTERED_PRE: &[Line] = &[Does(Event::RegisterPre, Told::Number(0))];
 
 // The fourth, the second and then the first of four listings are held on their way down, the first by the instance below. The third asks for what its
 // instance holds: nobody is told of the other's, and the lowest number comes first, not what was held first.
@@ -118,39 +62,27 @@ const HELD_DOWN: &[Line] = &[
     Does(Event::Begin(Operation::List), Told::Number(2)),
     Does(Event::Begin(Operation::List), Told::Number(3)),
     Does(Event::Next(OTHER, FOURTH), Told::Pre),
-    Does(Event::FirstHeld(OTHER, Hold::Pre), Told::First(None)),
+    Does(Event::FirstHeld(OTHER, Hold::Pre), HOLDS_NONE),
     Does(Event::Pre(OTHER, PEND, Operation::List), Told::Done),
     Does(Event::FirstHeld(OTHER, Hold::Pre), IDLE),
     Does(Event::Next(OTHER, SECOND), Told::Pre),
-    Does(
-        Event::FirstHeld(OTHER, Hold::Pre),
-        Told::First(Some(FOURTH)),
-    ),
+    Does(Event::FirstHeld(OTHER, Hold::Pre), HOLDS_FOURTH),
     Does(Event::Pre(OTHER, PEND, Operation::List), Told::Done),
     Does(Event::Next(OTHER, FIRST), Told::Pre),
     Does(Event::Pre(OTHER, NONE, Operation::List), Told::Done),
     Does(Event::Next(OTHER, FIRST), Told::Pre),
-    Does(Event::FirstHeld(OTHER, Hold::Pre), Told::First(None)),
+    Does(Event::FirstHeld(OTHER, Hold::Pre), HOLDS_NONE),
     Does(Event::Pre(OTHER, PEND, Operation::List), Told::Done),
     Does(Event::Next(WORKER, THIRD), Told::Pre),
-    Does(
-        Event::FirstHeld(WORKER, Hold::Pre),
-        Told::First(Some(SECOND)),
-    ),
-    Does(Event::FirstHeld(WORKER, Hold::Post), Told::First(None)),
+    Does(Event::FirstHeld(WORKER, Hold::Pre), HOLDS_SECOND),
+    Does(Event::FirstHeld(WORKER, Hold::Post), HOLDS_NONE),
     Does(Event::ResumePre(WORKER, SECOND, NONE), Told::Done),
-    Does(
-        Event::FirstHeld(WORKER, Hold::Pre),
-        Told::First(Some(FOURTH)),
-    ),
+    Does(Event::FirstHeld(WORKER, Hold::Pre), HOLDS_FOURTH),
     Does(Event::ResumePre(WORKER, FOURTH, NONE), Told::Done),
-    Does(Event::FirstHeld(WORKER, Hold::Pre), Told::First(None)),
+    Does(Event::FirstHeld(WORKER, Hold::Pre), HOLDS_NONE),
     Does(Event::Pre(WORKER, NONE, Operation::List), Told::Done),
     Does(Event::Next(WORKER, THIRD), Told::Pre),
-    Does(
-        Event::FirstHeld(WORKER, Hold::Pre),
-        Told::First(Some(FIRST)),
-    ),
+    Does(Event::FirstHeld(WORKER, Hold::Pre), HOLDS_FIRST),
     Does(Event::Pre(WORKER, NONE, Operation::List), Told::Done),
     Does(Event::Next(WORKER, THIRD), Told::Base),
     Does(Event::FirstHeld(WORKER, Hold::Pre), IDLE),
@@ -166,7 +98,7 @@ const HELD_UP: &[Line] = &[
     Does(Event::Next(OTHER, THIRD), Told::Base),
     Does(Event::Base(OTHER, Operation::Read), Told::Done),
     Does(Event::Next(OTHER, THIRD), Told::Post),
-    Does(Event::FirstHeld(OTHER, Hold::Post), Told::First(None)),
+    Does(Event::FirstHeld(OTHER, Hold::Post), HOLDS_NONE),
     Does(Event::Post(OTHER, MORE, Operation::Read), Told::Done),
     Does(Event::Next(OTHER, SECOND), Told::Pre),
     Does(Event::Pre(OTHER, WITH, Operation::Read), Told::Done),
@@ -174,10 +106,7 @@ const HELD_UP: &[Line] = &[
     Does(Event::FirstHeld(OTHER, Hold::Post), IDLE),
     Does(Event::Base(OTHER, Operation::Read), Told::Done),
     Does(Event::Next(OTHER, SECOND), Told::Post),
-    Does(
-        Event::FirstHeld(OTHER, Hold::Post),
-        Told::First(Some(THIRD)),
-    ),
+    Does(Event::FirstHeld(OTHER, Hold::Post), HOLDS_THIRD),
     Does(Event::Post(OTHER, MORE, Operation::Read), Told::Done),
     Does(Event::FirstHeld(OTHER, Hold::Post), IDLE),
 ];
@@ -185,22 +114,16 @@ const HELD_UP: &[Line] = &[
 // The setup of another instance holds nothing, and lets nothing go on. A callback of the first resumes one after the other.
 const LET_UP: &[Line] = &[
     Does(Event::AttachBelow, Told::Number(1)),
-    Does(Event::FirstHeld(WORKER, Hold::Post), Told::First(None)),
+    Does(Event::FirstHeld(WORKER, Hold::Post), HOLDS_NONE),
     Does(Event::ResumePost(WORKER, SECOND), NOT_HELD),
     Does(Event::SetupDone(true), Told::Done),
     Does(Event::Next(WORKER, FOURTH), Told::Pre),
-    Does(
-        Event::FirstHeld(WORKER, Hold::Post),
-        Told::First(Some(SECOND)),
-    ),
-    Does(Event::FirstHeld(WORKER, Hold::Pre), Told::First(None)),
+    Does(Event::FirstHeld(WORKER, Hold::Post), HOLDS_SECOND),
+    Does(Event::FirstHeld(WORKER, Hold::Pre), HOLDS_NONE),
     Does(Event::ResumePost(WORKER, SECOND), Told::Done),
-    Does(
-        Event::FirstHeld(WORKER, Hold::Post),
-        Told::First(Some(THIRD)),
-    ),
+    Does(Event::FirstHeld(WORKER, Hold::Post), HOLDS_THIRD),
     Does(Event::ResumePost(WORKER, THIRD), Told::Done),
-    Does(Event::FirstHeld(WORKER, Hold::Post), Told::First(None)),
+    Does(Event::FirstHeld(WORKER, Hold::Post), HOLDS_NONE),
     Does(Event::ResumePost(WORKER, THIRD), NOT_HELD),
     Does(Event::Next(OTHER, SECOND), Told::AllDone),
     Does(Event::Collect(THIRD), Told::Answer(Status::Success, 0, 0)),
@@ -238,10 +161,7 @@ const REFUSED: &[Line] = &[
     Does(Event::ResumePre(OTHER, SECOND, PEND), IDLE),
     Does(Event::ResumePost(OTHER, SECOND), IDLE),
     Holds(2),
-    Does(
-        Event::FirstHeld(WORKER, Hold::Pre),
-        Told::First(Some(SECOND)),
-    ),
+    Does(Event::FirstHeld(WORKER, Hold::Pre), HOLDS_SECOND),
     Does(Event::Next(OTHER, SECOND), Told::Held),
 ];
 
@@ -357,69 +277,47 @@ const SYNCHRONIZED_ABOVE: &[Line] = &[
     Does(Event::Next(OTHER, SECOND), Told::AllDone),
 ];
 
-// A list in parts.
-type List = (&'static str, &'static [&'static [Line]]);
-
-const LISTS: [List; 7] = [
-    ("first_held_on_its_way_down", &[OPENING, BELOW, HELD_DOWN]),
+/// The lists.
+pub const LISTS: &[List] = &[
+    (
+        "first_held_on_its_way_down",
+        &[REGISTERED, ATTACHED, BELOW, HELD_DOWN],
+    ),
     (
         "first_held_on_its_way_up",
-        &[OPENING, CREATED, HELD_UP, LET_UP],
+        &[REGISTERED, ATTACHED, CREATED, HELD_UP, LET_UP],
     ),
     (
         "context_carried",
-        &[OPENING, CREATED, HELD_WITH_TWO, REFUSED, CARRIED],
+        &[
+            REGISTERED,
+            ATTACHED,
+            CREATED,
+            HELD_WITH_TWO,
+            REFUSED,
+            CARRIED,
+        ],
     ),
     (
         "context_not_carried",
-        &[OPENING_PRE, CREATED, HELD_WITH_TWO, NOT_CARRIED],
+        &[
+            REGISTERED_PRE,
+            ATTACHED,
+            CREATED,
+            HELD_WITH_TWO,
+            NOT_CARRIED,
+        ],
     ),
     (
         "context_not_in_hand",
-        &[OPENING, CREATED, HELD_WITH_TWO, NOT_IN_HAND],
+        &[REGISTERED, ATTACHED, CREATED, HELD_WITH_TWO, NOT_IN_HAND],
     ),
-    ("synchronized", &[OPENING, CREATED, SYNCHRONIZED]),
+    (
+        "synchronized",
+        &[REGISTERED, ATTACHED, CREATED, SYNCHRONIZED],
+    ),
     (
         "synchronized_above",
-        &[OPENING, CREATED, BELOW, SYNCHRONIZED_ABOVE],
+        &[REGISTERED, ATTACHED, CREATED, BELOW, SYNCHRONIZED_ABOVE],
     ),
 ];
-
-fn ask(rt: &impl Abort, alloc: Global, state: &mut State, event: Event) -> Told {
-    let step = step_of(alloc, event).expect(rt, "a step");
-    told_by(&state.step(step))
-}
-
-// Asks the state, and compares what it says.
-fn check_line(rt: &impl Abort, alloc: Global, state: &mut State, line: Line, place: (&str, usize)) {
-    let (name, number) = place;
-    match line {
-        Does(event, told) => assert_eq!(rt; ask(rt, alloc, state, event), told, "{name}, {number}"),
-        Holds(count) => assert_eq!(rt; state.hand_len(WORKER), count, "{name}, {number}"),
-        Synchronized(operation, worker) => {
-            assert_eq!(rt; state.sync_worker(operation), worker, "{name}, {number}")
-        }
-    }
-}
-
-// Goes through a part of a list.
-fn check_part(rt: &impl Abort, alloc: Global, state: &mut State, name: &str, part: &[Line]) {
-    for (number, line) in part.iter().enumerate() {
-        check_line(rt, alloc, state, *line, (name, number));
-    }
-}
-
-fn check(rt: &impl Abort, alloc: Global, state: &mut State, list: List) {
-    let (name, parts) = list;
-    for part in parts {
-        check_part(rt, alloc, state, name, part);
-    }
-}
-
-#[test]
-fn lists(rt: HostRuntime) {
-    for list in LISTS {
-        let mut state = State::new(rt.alloc()).expect(&rt, "a state");
-        check(&rt, rt.alloc(), &mut state, list);
-    }
-}

@@ -1,41 +1,16 @@
-//! Lists of events by which instances are detached and filters unloaded, with what can be read between them: what no script can say, an unload that asks
-//! nobody above all.
+//! Lists of events by which instances are detached and filters unloaded, with what can be read between them: an unload that asks nobody above all.
 
-use crate::events::{CONTEXT, Event, WORKER, step_of};
-use crate::told::{Told, told_by};
-use fm_core::State;
-use fm_data::{Completion, PostVerdict, PreVerdict};
+use crate::events::{CONTEXT, Event, WORKER};
+use crate::lines::Line::{Does, FilterIs, Flies, Holds, Is};
+use crate::lines::{
+    ATTACHED, BAD, FILTER, FIRST, IDLE, Line, List, NOBODY, OTHER, REGISTERED, WITH_CONTEXT,
+};
+use crate::told::Told;
+use fm_data::PostVerdict;
 use fm_stack::{FilterPhase, Phase};
-use fm_types::{ContextKind, FilterId, InstanceId, OpId, Operation, Status, WorkerId};
-use std::alloc::Global;
-use std::process::Abort;
-
-// What is asked of the state, with what it says.
-#[derive(Clone, Copy)]
-enum Line {
-    /// An event, and what it is told.
-    Does(Event, Told),
-    /// How far the instance is.
-    Is(InstanceId, Option<Phase>),
-    /// How far the filter is.
-    FilterIs(FilterId, Option<FilterPhase>),
-    /// How many operations are in flight at the instance.
-    Flies(InstanceId, u64),
-    /// How many references worker 0 holds.
-    Holds(usize),
-}
-
-use Line::{Does, FilterIs, Flies, Holds, Is};
-
-/// The worker of what meets an unload.
-const OTHER: WorkerId = WorkerId(1);
+use fm_types::{ContextKind, FilterId, InstanceId, Operation, Status, WorkerId};
 
 const LAST: WorkerId = WorkerId(47);
-
-/// One that there isn't.
-const NOBODY: WorkerId = WorkerId(48);
-
-const FILTER: FilterId = FilterId(0);
 
 const NEXT_FILTER: FilterId = FilterId(1);
 
@@ -49,16 +24,9 @@ const LOWER: InstanceId = InstanceId(1);
 /// One that there isn't.
 const NO_INSTANCE: InstanceId = InstanceId(9);
 
-const FIRST: OpId = OpId(0);
-
-const WITH_CONTEXT: PreVerdict = PreVerdict::WithCallback(Completion {
-    number: 0,
-    context: Some(CONTEXT),
-});
-
-const IDLE: Told = Told::Refused(Status::WrongStep);
-
 const NOT_LOADED: Told = Told::Refused(Status::NotLoaded);
+
+const NOT_FOUND: Told = Told::Refused(Status::NoFilter);
 
 const NOT_DETACHED: Told = Told::Refused(Status::DoNotDetach);
 
@@ -68,21 +36,8 @@ const GONE: Told = Told::Refused(Status::NoInstance);
 
 const ONE_LEFT: Told = Told::Refused(Status::Busy(1));
 
-// One instance of a filter that is asked.
-const OPENING: &[Line] = &[
-    Does(Event::RegisterAsked, Told::Number(0)),
-    Does(Event::Mount, Told::Number(0)),
-    Does(Event::Attach, Told::Number(0)),
-    Does(Event::SetupDone(true), Told::Done),
-];
-
-// One of a filter that isn't.
-const OPENING_BARE: &[Line] = &[
-    Does(Event::Register, Told::Number(0)),
-    Does(Event::Mount, Told::Number(0)),
-    Does(Event::Attach, Told::Number(0)),
-    Does(Event::SetupDone(true), Told::Done),
-];
+// A filter that is asked.
+const REGISTERED_ASKED: &[Line] = &[Does(Event::RegisterAsked, Told::Number(0))];
 
 // The filter is unloaded by force while its unload callback runs, and another instance of it is in its setup.
 const FORCED: &[Line] = &[
@@ -184,22 +139,10 @@ const BARE: &[Line] = &[
 
 // What isn't there, and workers that aren't in the callback that returns.
 const NOT_THERE: &[Line] = &[
-    Does(
-        Event::ForceUnload(NO_FILTER),
-        Told::Refused(Status::NoFilter),
-    ),
-    Does(
-        Event::EmptyFilter(NO_FILTER),
-        Told::Refused(Status::NoFilter),
-    ),
-    Does(
-        Event::FinishFilter(NO_FILTER),
-        Told::Refused(Status::NoFilter),
-    ),
-    Does(
-        Event::AskUnload(WORKER, NO_FILTER),
-        Told::Refused(Status::NoFilter),
-    ),
+    Does(Event::ForceUnload(NO_FILTER), NOT_FOUND),
+    Does(Event::EmptyFilter(NO_FILTER), NOT_FOUND),
+    Does(Event::FinishFilter(NO_FILTER), NOT_FOUND),
+    Does(Event::AskUnload(WORKER, NO_FILTER), NOT_FOUND),
     Does(Event::AskUnload(NOBODY, NO_FILTER), IDLE),
     FilterIs(NO_FILTER, None),
     Does(Event::AskDetach(WORKER, NO_INSTANCE), GONE),
@@ -263,7 +206,7 @@ const HANDS: &[Line] = &[
     Flies(UPPER, 1),
     Does(
         Event::Post(WORKER, PostVerdict::Finished, Operation::List),
-        Told::Refused(Status::BadRequest),
+        BAD,
     ),
     Holds(1),
     Does(Event::Drained(WORKER), Told::Done),
@@ -281,67 +224,37 @@ const HANDS: &[Line] = &[
     Flies(UPPER, 0),
 ];
 
-// A list in parts.
-type List = (&'static str, &'static [&'static [Line]]);
-
-const LISTS: [List; 7] = [
-    ("forced", &[OPENING, FORCED, TORN_DOWN, ENDED]),
+/// The lists.
+pub const LISTS: &[List] = &[
+    (
+        "forced",
+        &[REGISTERED_ASKED, ATTACHED, FORCED, TORN_DOWN, ENDED],
+    ),
     (
         "forced_and_refused",
-        &[OPENING, FORCED_AND_REFUSED, TORN_DOWN, ENDED],
+        &[
+            REGISTERED_ASKED,
+            ATTACHED,
+            FORCED_AND_REFUSED,
+            TORN_DOWN,
+            ENDED,
+        ],
     ),
     (
         "forced_under_a_query",
-        &[OPENING, FORCED_UNDER_A_QUERY, ENDED],
+        &[REGISTERED_ASKED, ATTACHED, FORCED_UNDER_A_QUERY, ENDED],
     ),
     (
         "refused_under_force",
-        &[OPENING, REFUSED_UNDER_FORCE, TORN_DOWN, ENDED],
+        &[
+            REGISTERED_ASKED,
+            ATTACHED,
+            REFUSED_UNDER_FORCE,
+            TORN_DOWN,
+            ENDED,
+        ],
     ),
-    ("bare", &[OPENING_BARE, BARE, TORN_DOWN, ENDED]),
-    ("not_there", &[OPENING, NOT_THERE]),
-    ("hands", &[OPENING, HANDS]),
+    ("bare", &[REGISTERED, ATTACHED, BARE, TORN_DOWN, ENDED]),
+    ("not_there", &[REGISTERED_ASKED, ATTACHED, NOT_THERE]),
+    ("hands", &[REGISTERED_ASKED, ATTACHED, HANDS]),
 ];
-
-fn ask(rt: &impl Abort, alloc: Global, state: &mut State, event: Event) -> Told {
-    let step = step_of(alloc, event).expect(rt, "a step");
-    told_by(&state.step(step))
-}
-
-// Asks the state, and compares what it says.
-fn check_line(rt: &impl Abort, alloc: Global, state: &mut State, line: Line, place: (&str, usize)) {
-    let (name, number) = place;
-    match line {
-        Does(event, told) => assert_eq!(rt; ask(rt, alloc, state, event), told, "{name}, {number}"),
-        Is(instance, phase) => assert_eq!(rt; state.phase(instance), phase, "{name}, {number}"),
-        FilterIs(filter, phase) => {
-            assert_eq!(rt; state.filter_phase(filter), phase, "{name}, {number}")
-        }
-        Flies(instance, count) => {
-            assert_eq!(rt; state.in_flight(instance), count, "{name}, {number}")
-        }
-        Holds(count) => assert_eq!(rt; state.hand_len(WORKER), count, "{name}, {number}"),
-    }
-}
-
-// Goes through a part of a list.
-fn check_part(rt: &impl Abort, alloc: Global, state: &mut State, name: &str, part: &[Line]) {
-    for (number, line) in part.iter().enumerate() {
-        check_line(rt, alloc, state, *line, (name, number));
-    }
-}
-
-fn check(rt: &impl Abort, alloc: Global, state: &mut State, list: List) {
-    let (name, parts) = list;
-    for part in parts {
-        check_part(rt, alloc, state, name, part);
-    }
-}
-
-#[test]
-fn lists(rt: HostRuntime) {
-    for list in LISTS {
-        let mut state = State::new(rt.alloc()).expect(&rt, "a state");
-        check(&rt, rt.alloc(), &mut state, list);
-    }
-}

@@ -43,7 +43,6 @@ impl CreatePaths {
 /// The streams in the order of their creates, and the open handles in the order of their numbers.
 #[derive(Drop)]
 pub(crate) struct Files {
-    alloc: Global,
     streams: Vec<FileStream>,
     /// How many handles are open on the stream of each place.
     opens: Vec<u32>,
@@ -68,7 +67,6 @@ impl Files {
         ensures { IfOk result (λ files. files.table ≡ empty_files) }
     {
         Ok(Files {
-            alloc,
             streams: Vec::new(alloc),
             opens: Vec::new(alloc),
             handles: Vec::with_capacity(alloc, MAX_HANDLES)?,
@@ -187,7 +185,7 @@ impl Files {
     pub(crate) fn prepare(
         &mut self,
         volume: VolumeId,
-        path: RelPath,
+        path: SharedPath,
     ) -> Result<CreatePaths, AllocError>
         ensures table { self.new.table ≡ self.old.table }
         ensures room { OnOk result (length self.new.table.streams < self.new.room) }
@@ -195,9 +193,9 @@ impl Files {
     {
         self.streams.try_reserve(1)?;
         self.opens.try_reserve(1)?;
-        let row = stream_of_path(&self.streams, volume, &path);
+        let row = stream_of_path(&self.streams, volume, path.path());
         let found = number_of(row);
-        let stream = shared(self.alloc, row, path)?;
+        let stream = shared(row, path)?;
         let operation = stream.share()?;
         let params = stream.share()?;
         Ok(CreatePaths {
@@ -422,13 +420,13 @@ fn number_of(row: Option<&FileStream>) -> Option<StreamId>
 }
 
 /// A path, which is shared with its stream where it has one.
-fn shared(alloc: Global, row: Option<&FileStream>, path: RelPath) -> Result<SharedPath, AllocError>
+fn shared(row: Option<&FileStream>, path: SharedPath) -> Result<SharedPath, AllocError>
     requires { IfSome row (λ row. row.now.path ≡ path) }
     ensures { IfOk result (λ shared. shared ≡ path) }
 {
     match row {
         Some(row) => row.path.share(),
-        None => SharedPath::new(alloc, path),
+        None => Ok(path),
     }
 }
 

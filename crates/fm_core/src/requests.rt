@@ -20,7 +20,7 @@ use fm_data::{Params, Request};
 use fm_flow::Flow;
 use fm_stack::VolumePhase;
 use fm_types::{
-    CreateMode, HandleId, OpId, Operation, RelPath, Role, SharedPath, Status, StreamId, VolumeId,
+    CreateMode, HandleId, OpId, Operation, Role, SharedPath, Status, StreamId, VolumeId,
 };
 use fm_world::{FileHandle, HandlePhase};
 
@@ -171,7 +171,7 @@ impl State {
     fn begin_create(
         &mut self,
         volume: VolumeId,
-        path: RelPath,
+        path: SharedPath,
         mode: CreateMode,
     ) -> Result<OpId, Status>
         ensures { Begins self.old (Request.Create volume path mode) result self.new }
@@ -186,7 +186,7 @@ impl State {
     fn create_mounted(
         &mut self,
         volume: VolumeId,
-        path: RelPath,
+        path: SharedPath,
         mode: CreateMode,
     ) -> Result<OpId, Status>
         requires { first_of (volume_refusals self.old volume (is_full self.old.flow || has_no_handle_left self.old)) ≡ None }

@@ -4,7 +4,7 @@ ghost use Rattle.std.specs.Prelude.{◌≡◌};
 ghost use Rattle.fm_data.specs.Requests.{params_of};
 
 use crate::params::Params;
-use fm_types::{Bytes, CreateMode, HandleId, OpId, RelPath, Status, VolumeId};
+use fm_types::{Bytes, CreateMode, HandleId, OpId, SharedPath, Status, VolumeId};
 
 /// What a client asks of a handle.
 #[derive(Drop)]
@@ -53,7 +53,7 @@ pub enum Request {
     /// Opens or makes a file of a volume (`IRP_MJ_CREATE`).
     Create {
         volume: VolumeId,
-        path: RelPath,
+        path: SharedPath,
         mode: CreateMode,
     },
     /// Lists the files of a volume (`IRP_MJ_DIRECTORY_CONTROL`).

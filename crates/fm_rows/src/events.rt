@@ -72,8 +72,8 @@ pub enum Event {
     FinishFilter(FilterId),
 }
 
-fn path() -> Result<RelPath, Status> {
-    RelPath::read(b"f")
+fn path(alloc: Global) -> Result<SharedPath, Status> {
+    Ok(SharedPath::new(alloc, RelPath::read(b"f")?)?)
 }
 
 // A filter that is called before all operations and behind those, and has contexts of all kinds; asked before it goes, or not.
@@ -108,11 +108,11 @@ fn on_handle(request: FileRequest) -> Request {
     }
 }
 
-fn begin(operation: Operation) -> Result<Request, Status> {
+fn begin(alloc: Global, operation: Operation) -> Result<Request, Status> {
     Ok(match operation {
         Operation::Create => Request::Create {
             volume: VOLUME,
-            path: path()?,
+            path: path(alloc)?,
             mode: CreateMode::Always,
         },
         Operation::Read => on_handle(FileRequest::Read { offset: 0, len: 9 }),
@@ -126,7 +126,7 @@ fn begin(operation: Operation) -> Result<Request, Status> {
 fn params(alloc: Global, operation: Operation) -> Result<Params, Status> {
     Ok(match operation {
         Operation::Create => Params::Create {
-            path: SharedPath::new(alloc, path()?)?,
+            path: path(alloc)?,
             mode: CreateMode::Always,
         },
         Operation::Read => Params::Read { offset: 0, len: 9 },
@@ -149,7 +149,7 @@ fn data(alloc: Global, operation: Operation) -> Result<CallbackData, Status> {
 fn call(alloc: Global, operation: Operation) -> Result<BaseCall, Status> {
     let path = match operation {
         Operation::List => None,
-        _ => Some(SharedPath::new(alloc, path()?)?),
+        _ => Some(path(alloc)?),
     };
     Ok(BaseCall {
         volume: VOLUME,
@@ -218,7 +218,7 @@ pub fn step_of(alloc: Global, event: Event) -> Result<Step, Status> {
             worker: WORKER,
             accept,
         },
-        Event::Begin(operation) => Step::Begin(begin(operation)?),
+        Event::Begin(operation) => Step::Begin(begin(alloc, operation)?),
         Event::Next(worker, operation) => Step::Next { worker, operation },
         Event::Pre(worker, verdict, operation) => Step::PreReturned {
             worker,

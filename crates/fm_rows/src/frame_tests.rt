@@ -3,7 +3,8 @@
 use fm_altitude::Altitude;
 use fm_data::{FileRequest, Reply, Request};
 use fm_types::{
-    Bytes, CreateMode, FilterId, HandleId, InstanceId, Name, OpId, RelPath, Status, VolumeId,
+    Bytes, CreateMode, FilterId, HandleId, InstanceId, Name, OpId, RelPath, SharedPath, Status,
+    VolumeId,
 };
 use fm_wire::{Body, Control, Decoder, Frame, encode};
 use std::alloc::Global;
@@ -24,10 +25,11 @@ fn on_handle(request: FileRequest) -> Body {
     })
 }
 
-fn create(rt: &impl Abort, mode: CreateMode) -> Body {
+fn create(rt: &impl Abort, alloc: Global, mode: CreateMode) -> Body {
+    let path = RelPath::read(b"a/b").expect(rt, "a path");
     Body::Operation(Request::Create {
         volume: VolumeId(3),
-        path: RelPath::read(b"a/b").expect(rt, "a path"),
+        path: SharedPath::new(alloc, path).expect(rt, "memory"),
         mode,
     })
 }
@@ -106,9 +108,9 @@ const CLOSE: [u8; 17] = [0, 0, 0, 13, 9, 1, 2, 3, 4, 0, 0, 0, 0, 0, 0, 5, 6];
 // What frames of operations say, beside their bytes.
 fn operation(rt: &impl Abort, alloc: Global, at: u8) -> Option<(Body, &'static [u8])> {
     let row: (Body, &[u8]) = match at {
-        0 => (create(rt, CreateMode::Existing), &CREATES[0]),
-        1 => (create(rt, CreateMode::New), &CREATES[1]),
-        2 => (create(rt, CreateMode::Always), &CREATES[2]),
+        0 => (create(rt, alloc, CreateMode::Existing), &CREATES[0]),
+        1 => (create(rt, alloc, CreateMode::New), &CREATES[1]),
+        2 => (create(rt, alloc, CreateMode::Always), &CREATES[2]),
         3 => (read(32_768), &READ),
         4 => (write(rt, alloc, &[0x61, 0x62, 0xff]), &WRITE),
         5 => (on_handle(FileRequest::QuerySize), &QUERY_SIZE),

@@ -10,7 +10,7 @@ use fm_data::{
 };
 use fm_types::{
     Bytes, ContextMask, CreateMode, FilterId, HandleId, InstanceId, Name, OpId, OpMask, Operation,
-    Registration, RelPath, Status, VolumeId, WorkerId,
+    Registration, RelPath, SharedPath, Status, VolumeId, WorkerId,
 };
 use std::alloc::Global;
 use std::process::Abort;
@@ -335,11 +335,12 @@ impl Run {
 
     // Opens the file.
     fn create(&mut self, rt: &impl Abort) -> Answer {
+        let path = RelPath::read(PATH).expect(rt, "a path");
         self.run(
             rt,
             Request::Create {
                 volume: VOLUME,
-                path: RelPath::read(PATH).expect(rt, "a path"),
+                path: SharedPath::new(self.alloc, path).expect(rt, "memory"),
                 mode: CreateMode::New,
             },
         )

@@ -4,6 +4,7 @@
 
 ghost use Rattle.std.specs.Prelude.{◌≡◌, map};
 ghost use Rattle.fm_script.specs.Commands.{Attaches, Creates, Loads, Mounts, ReadsAs, ReadsPlace, SetsUp, attach_at, collect_read, create_ids, create_mode_read, is_of_contexts, is_of_teardowns, list_read, option_read, place_ids, registration_read, setup_at, setup_ids, takes_bytes, turn_read, with_bytes_read};
+ghost use Rattle.fm_script.specs.Lines.{OrMemory};
 ghost use Rattle.fm_script.specs.Numbers.{id_read, number_read};
 ghost use Rattle.fm_script.specs.Tasks.{answered_read, numbers_read, one_id, only_instance, only_volume, only_worker, or_bad, turn_ids, turn_in, yes_or_no};
 
@@ -20,8 +21,9 @@ use fm_core::{State, Step};
 use fm_data::Request;
 use fm_types::{
     Bytes, ContextMask, CreateMode, CtxId, InstanceId, Name, OpId, OpMask, Registration, RelPath,
-    Status, VolumeId, WorkerId,
+    SharedPath, Status, VolumeId, WorkerId,
 };
+use std::alloc::Global;
 
 /// Whether the command's last word is bytes.
 pub fn takes_bytes(keyword: Keyword) -> bool
@@ -47,14 +49,15 @@ pub fn read_with_bytes(
     }
 }
 
-/// What the words behind the keyword of any other command stand for.
+/// What the words behind the keyword of any other command stand for; 1 where the path of a create wants memory.
 pub fn read_command(
+    alloc: Global,
     state: &State,
     contexts: &[CtxId],
     keyword: Keyword,
     words: &[&[u8]],
 ) -> Result<Task, Status>
-    ensures { ReadsAs state.now contexts.now keyword (map (λ word. word.now) words.now) result }
+    ensures { OrMemory result (ReadsAs state.now contexts.now keyword (map (λ word. word.now) words.now) result) }
 {
     match keyword {
         Keyword::Load => read_load(words),
@@ -65,7 +68,7 @@ pub fn read_command(
             let (worker, accept) = read_answered(words)?;
             Ok(Task::Event(Step::SetupDone { worker, accept }))
         }
-        Keyword::Create => read_create(state, words),
+        Keyword::Create => read_create(alloc, state, words),
         Keyword::List => read_list(state, words),
         Keyword::Next => {
             let (worker, operation) = read_turn(state, words)?;
@@ -328,8 +331,8 @@ fn yes_or_no(word: &[u8]) -> Result<bool, Status>
 }
 
 // `create V PATH MODE`.
-fn read_create(state: &State, words: &[&[u8]]) -> Result<Task, Status>
-    ensures { Creates state.now (map (λ word. word.now) words.now) result }
+fn read_create(alloc: Global, state: &State, words: &[&[u8]]) -> Result<Task, Status>
+    ensures { OrMemory result (Creates state.now (map (λ word. word.now) words.now) result) }
 {
     let [volume, path, mode] = words else {
         return Err(Status::BadRequest);
@@ -337,6 +340,7 @@ fn read_create(state: &State, words: &[&[u8]]) -> Result<Task, Status>
     let (volume, mode) = create_ids(volume, mode)?;
     let path = RelPath::read(path)?;
     let volume = volume_in(state, volume)?;
+    let path = SharedPath::new(alloc, path)?;
     Ok(Task::Event(Step::Begin(Request::Create { volume, path, mode })))
 }
 

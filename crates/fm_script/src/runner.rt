@@ -100,7 +100,13 @@ impl<W: Write + Drop> Runner<W> {
             self.read_bytes(keyword, words)
         } else {
             let state = self.interpreter.state();
-            read_command(state, self.interpreter.contexts(), keyword, words)
+            read_command(
+                self.alloc,
+                state,
+                self.interpreter.contexts(),
+                keyword,
+                words,
+            )
         }
     }
 

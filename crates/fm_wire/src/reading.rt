@@ -22,7 +22,7 @@ fn read_fields(alloc: Global, code: u8, fields: &[u8]) -> Result<Body, Status>
     ensures refused { IfErr result (λ status. (status ≡ Status.NoMemory) ⊎ Reading code fields.now (Err status)) }
 {
     match code {
-        1 => read_create(fields),
+        1 => read_create(alloc, fields),
         2 => read_read(fields),
         3 => read_write(alloc, fields),
         4 | 6 | 8 | 9 | 129 => read_on_number(code, fields),

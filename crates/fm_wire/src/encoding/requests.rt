@@ -77,7 +77,7 @@ pub(crate) fn request_len(request: &Request) -> usize
     ensures { result ≡ length (spelling.request_fields request.now) }
 {
     match request {
-        Request::Create { path, .. } => 2 + path.text().len(),
+        Request::Create { path, .. } => 2 + path.path().text().len(),
         Request::List { .. } => 1,
         Request::OnHandle { request, .. } => 8 + file_len(request),
     }
@@ -122,7 +122,7 @@ pub(crate) fn put_request(out: &mut Vec<u8>, request: &Request) -> Result<(), Al
         Request::Create { volume, path, mode } => {
             out.push(volume.0)?;
             out.push(mode_number(*mode))?;
-            out.extend_from_slice(path.text())
+            out.extend_from_slice(path.path().text())
         }
         Request::List { volume } => Ok(out.push(volume.0)?),
         Request::OnHandle { handle, request } => {

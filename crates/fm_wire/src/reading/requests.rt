@@ -7,7 +7,7 @@ ghost use Rattle.fm_wire.specs.Grammar.{Reading};
 use crate::frame::Body;
 use crate::numbers::{split_u8, split_u32, split_u64};
 use fm_data::{FileRequest, MAX_TRANSFER, Request};
-use fm_types::{Bytes, CreateMode, HandleId, RelPath, Status, VolumeId};
+use fm_types::{Bytes, CreateMode, HandleId, RelPath, SharedPath, Status, VolumeId};
 use std::alloc::Global;
 
 fn read_mode(number: u8) -> Result<CreateMode, Status>
@@ -23,8 +23,9 @@ fn read_mode(number: u8) -> Result<CreateMode, Status>
 }
 
 /// Reads a volume, a mode and a path that fills the rest.
-pub(crate) fn read_create(fields: &[u8]) -> Result<Body, Status>
-    ensures { Reading 1 fields.now result }
+pub(crate) fn read_create(alloc: Global, fields: &[u8]) -> Result<Body, Status>
+    ensures ok { IfOk result (λ body. Reading 1 fields.now (Ok body)) }
+    ensures refused { IfErr result (λ status. (status ≡ Status.NoMemory) ⊎ Reading 1 fields.now (Err status)) }
 {
     if fields.len() < 2 {
         return Err(Status::BadRequest);
@@ -38,7 +39,7 @@ pub(crate) fn read_create(fields: &[u8]) -> Result<Body, Status>
     match RelPath::read(path) {
         Ok(path) => Ok(Body::Operation(Request::Create {
             volume: VolumeId(volume),
-            path,
+            path: SharedPath::new(alloc, path)?,
             mode,
         })),
         Err(status) => Err(status),

@@ -2,7 +2,7 @@
 use Rattle.fm_flow.proofs.Words.{ℕ, Bool, true, false, cond, not, List, [], length, map, find, get_or, Option, Some, None, option_map, refl, sym, ap, subst, arith, nat_tests}
 use Rattle.fm_flow.proofs.Words.{same_Some, none-some, cases_Bool, inl, inr, and_parts, list_any, count_by, unwrap_or, All, All-head, All-tail, InstanceId, CtxId, Stage, InDrain, Ask, Entry, Drain}
 use Rattle.fm_flow.proofs.Words.{one, times, owed, instances, without, answers, settle_drain, opens, drain_opens, is_running_drain, FlowRecord, HasItsDrain, IsSound, done_at, is_done, is_creating}
-use Rattle.fm_flow.proofs.Words.{FlowTable, IsFlow, IsAscending, is_number, operation_at, changed, removed, told, total, under_way, change_first, without_first}
+use Rattle.fm_flow.proofs.Words.{FlowTable, IsFlow, IsAscending, is_number, is_spent, operation_at, changed, removed, told, total, under_way, change_first, without_first}
 use Rattle.std.proofs.Common.{◌≡◌, ◌≢◌, ◌+◌, ◌<◌, ◌≤◌, ◌==◌, ◌&&◌, ◌∷◌, ◌++◌, ◌∙◌, set, remove, position, zero, suc}
 use Rattle.std.proofs.lemmas.Bool.{cases_eq}
 use Rattle.std.proofs.lemmas.List.Elements.{All-filter}
@@ -13,14 +13,14 @@ use Rattle.fm_data.specs.declared.verdict.Completion.{Completion}
 use Rattle.fm_flow.specs.Counts.{carried_in, carried_among, carried_by, opens_at, drain_opens_at, flight}
 use Rattle.fm_flow.specs.Creates.{creates}
 use Rattle.fm_flow.specs.Table.{carried, in_flight}
-use Rattle.fm_flow.specs.Drains.{is_of, owes, owed_to, drained_early, IsDrainedEarly, DrainTaken, early_over, is_spent, drain_done_in, drain_done_of, RunsEarly}
+use Rattle.fm_flow.specs.Drains.{is_of, owes, owed_to, drained_early, IsDrainedEarly, DrainTaken, early_over, drain_done_in, drain_done_of, RunsEarly}
 use Rattle.fm_flow.specs.Flights.{is_at, flies}
 use Rattle.fm_flow.proofs.Owed.{left_push_answer, instances_without, others_once, without_none}
 use Rattle.fm_flow.proofs.Depths.{owes_counts}
 use Rattle.fm_flow.proofs.Course.{owed_once, course_drain, drains_push}
 use Rattle.fm_flow.proofs.Counting.{opens_push, flight_few, none_running, owed_drain_settled, opens_drain_settled, drains_drain_settled}
 use Rattle.fm_flow.proofs.Settled.{settles_drain, course_drain_over}
-use Rattle.fm_flow.proofs.Soundness.{Stays, stays_so, sound_pushed}
+use Rattle.fm_flow.proofs.Soundness.{Stays, stays_so, sound_pushed, unspent}
 use Rattle.fm_flow.proofs.Lowest.{none_passes, lowest_passes, others_above, rest_rises}
 use Rattle.fm_flow.proofs.Flows.{Found, IsKept, Follows, either_way, through, itself, operation_is, told_some, changed_some, flow_changes, total_changed}
 use Rattle.fm_flow.proofs.Requests.{flow_removed}
@@ -59,6 +59,10 @@ module _ (i : InstanceId) (r : FlowRecord) where
 
   pub stays_early : Stays r (drained_early i r)
   stays_early = stays_so refl refl
+
+  -- it wasn't handed out, as it owes
+  pub needed_early : owes i.0 r ≡ true → IsSound r → is_spent (drained_early i r) ≡ false
+  needed_early some h = unspent r (drained_early i r) stays_early (owing_undone i.0 r.stage (owed r.entries) some) h
 
   pub drains_early : (j : ℕ) → drain_opens j (drained_early i r).entries ≡ drain_opens j r.entries + one (i.0 == j)
   drains_early j = let here : drain_opens_at j (drain_of i) ≡ one (i.0 == j) = grind arith in omega (arith, drains_push j r.entries (drain_of i), here)
@@ -233,6 +237,9 @@ module _ (t : FlowTable) (o : OpId) (i : InstanceId) (completion : Completion) (
       flow_changes t o (drained_early i) flow (λ x. refl) (λ x. refl) (λ x found.
       let same = same_Some owing_there.0 x (sym owing_there.1 ∙ found) in
       sound_early i x (ap (owes i.0) (sym same) ∙ owing_so) (found_holds IsSound (is_number o) t.operations x flow.sound found))
+      (λ x found.
+      let same = same_Some owing_there.0 x (sym owing_there.1 ∙ found) in
+      needed_early i x (ap (owes i.0) (sym same) ∙ owing_so) (found_holds IsSound (is_number o) t.operations x flow.sound found))
 
   sound_there : IsFlow t → IsSound owing_there.0
   sound_there flow = found_holds IsSound (is_number o) t.operations owing_there.0 flow.sound owing_there.1
@@ -315,12 +322,12 @@ count_gone p test (x ∷ rs) r is = elim (cases_Bool (test x)) [
 
 module _ (t : FlowTable) (o : OpId) (i : InstanceId) (r : FlowRecord) (at : operation_at o t ≡ Some r) (runs : RunsEarly i (Some r)) where
   -- either the drain is over and the record stays, or it goes after that: it was done, its answer was handed out and no drain of it runs any more
-  pub drain_done_by : (P : FlowTable → Type 0) → IsFlow t → P (changed o (early_over i) t)
+  pub drain_done_by : (P : FlowTable → Type 0) → IsFlow t → (is_spent (early_over i r) ≡ false → P (changed o (early_over i) t))
       → (is_done r ≡ true → r.collected ≡ true → list_any is_running_drain (early_over i r).entries ≡ false → P (removed o t)) → P (drain_done_of o i t)
   drain_done_by P flow stays goes =
       subst P (sym (ap (drain_done_in o i t) at)) (either_way P (is_spent (early_over i r)) (λ spent.
       let parts = and_parts r.collected (not (list_any is_running_drain (early_over i r).entries)) spent in
-      goes ((found_holds IsSound (is_number o) t.operations r flow.sound at).collected parts.0) parts.0 (unset parts.1)) (λ spent. stays))
+      goes ((found_holds IsSound (is_number o) t.operations r flow.sound at).collected parts.0) parts.0 (unset parts.1)) stays)
     where
       unset : {b : Bool} → not b ≡ true → b ≡ false
       unset {b} h = grind (arith, h)
@@ -332,36 +339,39 @@ module _ (t : FlowTable) (o : OpId) (i : InstanceId) (r : FlowRecord) (at : oper
   sound_now : IsFlow t → IsSound r
   sound_now flow = found_holds IsSound (is_number o) t.operations r flow.sound at
 
-  pub flow_over : IsFlow t → IsFlow (changed o (early_over i) t)
-  flow_over flow =
+  -- where the record stays
+  pub flow_over : is_spent (early_over i r) ≡ false → IsFlow t → IsFlow (changed o (early_over i) t)
+  flow_over needed flow =
       flow_changes t o (early_over i) flow (λ x. refl) (λ x. refl) (λ x found.
       subst (λ (y : FlowRecord). IsSound (early_over i y)) (same_Some r x (sym at ∙ found)) (sound_over i r runs (sound_now flow)))
+      (λ x found. subst (λ (y : FlowRecord). is_spent (early_over i y) ≡ false) (same_Some r x (sym at ∙ found)) needed)
 
   pub flow_drain_done : IsFlow t → IsFlow (drain_done_of o i t)
-  flow_drain_done flow = drain_done_by IsFlow flow (flow_over flow) (λ done out none. flow_removed t o flow)
+  flow_drain_done flow = drain_done_by IsFlow flow (λ needed. flow_over needed flow) (λ done out none. flow_removed t o flow)
 
   pub drain_done_carried : (c : CtxId) → IsFlow t → carried c (drain_done_of o i t) ≡ carried c t
   drain_done_carried c flow =
       drain_done_by (λ w. carried c w ≡ carried c t) flow
-      (omega (arith, total_changed (carried_by c) (is_number o) (early_over i) t.operations r at, carries_over i r c))
+      (λ needed. omega (arith, total_changed (carried_by c) (is_number o) (early_over i) t.operations r at, carries_over i r c))
       (λ done out none. omega (arith, total_gone (carried_by c) (is_number o) t.operations r at, done_carries r done c))
 
   pub drain_done_in_flight : (j : ℕ) → IsFlow t → in_flight j t ≡ in_flight j (drain_done_of o i t) + one (i.0 == j)
   drain_done_in_flight j flow =
       drain_done_by (λ w. in_flight j t ≡ in_flight j w + one (i.0 == j)) flow
-      (omega (arith, total_changed (flight j) (is_number o) (early_over i) t.operations r at, flies_over i r j runs))
+      (λ needed. omega (arith, total_changed (flight j) (is_number o) (early_over i) t.operations r at, flies_over i r j runs))
       (λ done out none.
       let over : is_done (early_over i r) ≡ true = ap (done_at r.stage) (owed_over i r) ∙ done in
       omega (arith, total_gone (flight j) (is_number o) t.operations r at, flies_over i r j runs, done_flies (early_over i r) (sound_over i r runs (sound_now flow)) over none j))
 
   pub drain_done_under_way : IsFlow t → under_way (drain_done_of o i t).operations ≡ under_way t.operations
   drain_done_under_way flow =
-      drain_done_by (λ w. under_way w.operations ≡ under_way t.operations) flow (omega (arith, count_changed (λ (x : FlowRecord). not x.collected) (is_number o) (early_over i) t.operations r at))
+      drain_done_by (λ w. under_way w.operations ≡ under_way t.operations) flow
+      (λ needed. omega (arith, count_changed (λ (x : FlowRecord). not x.collected) (is_number o) (early_over i) t.operations r at))
       (λ done out none. omega (arith, count_gone (λ (x : FlowRecord). not x.collected) (is_number o) t.operations r at, ap (λ b. one (not b)) out))
 
   pub drain_done_creates : IsFlow t → creates (drain_done_of o i t) ≡ creates t
   drain_done_creates flow =
-      drain_done_by (λ w. creates w ≡ creates t) flow (omega (arith, count_changed is_creating (is_number o) (early_over i) t.operations r at))
+      drain_done_by (λ w. creates w ≡ creates t) flow (λ needed. omega (arith, count_changed is_creating (is_number o) (early_over i) t.operations r at))
       (λ done out none. omega (arith, count_gone is_creating (is_number o) t.operations r at, ap one (done_uncreating r done)))
 
 -- ---- how many drains of an instance run in an operation
@@ -439,7 +449,7 @@ pub drain_done_drains : (t : FlowTable) (o p : OpId) (i : InstanceId) (r : FlowR
 drain_done_drains t o p i r j at runs flow =
     let read : FlowRecord → ℕ = λ x. drain_opens j x.entries in
     drain_done_by t o i r at runs (λ w. told read 0 p t ≡ told read 0 p w + cond (o.0 == p.0) (one (i.0 == j)) 0) flow
-    (omega (arith, told_step read t o p r at (early_over i) (λ x. refl), if_more (o.0 == p.0) _ _ _ (drains_over i r j runs)))
+    (λ needed. omega (arith, told_step read t o p r at (early_over i) (λ x. refl), if_more (o.0 == p.0) _ _ _ (drains_over i r j runs)))
     (λ done out none.
     let left : drain_opens j r.entries ≡ one (i.0 == j) = omega (arith, drains_over i r j runs, none_running j (early_over i r).entries none) in
     omega (arith, told_gone read t o p r at flow.ascending, ap (λ n. cond (o.0 == p.0) n 0) left))

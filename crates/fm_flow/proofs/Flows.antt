@@ -1,7 +1,7 @@
 -- The table of operations: one is found by its number, and the laws of the table are kept where it changes.
 use Rattle.fm_flow.proofs.Words.{ℕ, Bool, true, false, cond, not, List, [], length, get_or, find, Option, Some, None, option_map, refl}
 use Rattle.fm_flow.proofs.Words.{ap, sym, subst, arith, same_Some, none-some, IsFlow, FlowTable, FlowRecord, is_number, operation_at}
-use Rattle.fm_flow.proofs.Words.{changed, change_first, told, total, under_way, Stage, StandsAt, IsSound, IsTallied, is_creating, one}
+use Rattle.fm_flow.proofs.Words.{AllPairs, changed, change_first, told, total, under_way, Stage, StandsAt, IsSound, IsTallied, is_creating, is_spent, one}
 use Rattle.std.proofs.Common.{◌≡◌, ◌+◌, ◌<◌, ◌≤◌, ◌∷◌, ◌∙◌, set, is_some, position, unwrap_or, zero, suc}
 use Rattle.fm_types.specs.declared.ids.OpId.{OpId}
 use Rattle.fm_types.proofs.Firsts.{StandsThere, stands_there, absent, change_none, found_holds, all_change, length_change, count_changed}
@@ -30,21 +30,29 @@ under_way_falls test f rs falls = elim (find test rs) as (λ m. find test rs ≡
   | Some r ↦ λ one. omega (arith, count_changed (λ (x : FlowRecord). not x.collected) test f rs r one, falls r)
 ] refl
 
+-- the numbers still ascend
+pub still_ascends : (t : FlowTable) (o : OpId) (f : FlowRecord → FlowRecord) → ((x : FlowRecord) → (f x).number.0 ≡ x.number.0)
+    → AllPairs (λ (r s : FlowRecord). r.number.0 < s.number.0) t.operations → AllPairs (λ (r s : FlowRecord). r.number.0 < s.number.0) (changed o f t).operations
+still_ascends t o f number ascending i j d p q =
+    let l : j < length t.operations = omega (arith, q, length_change (is_number o) f t.operations) in
+    omega (arith, number_stays (is_number o) f t.operations number i d, number_stays (is_number o) f t.operations number j d, ascending i j d p l)
+
 pub changes : (t : FlowTable) (o : OpId) (f : FlowRecord → FlowRecord) → IsFlow t → ((x : FlowRecord) → (f x).number.0 ≡ x.number.0)
-    → ((x : FlowRecord) → cond (not (f x).collected) 1 0 ≤ cond (not x.collected) 1 0) → ((r : FlowRecord) → operation_at o t ≡ Some r → IsSound (f r)) → IsFlow (changed o f t)
-changes t o f h number counts sound = record {
+    → ((x : FlowRecord) → cond (not (f x).collected) 1 0 ≤ cond (not x.collected) 1 0) → ((r : FlowRecord) → operation_at o t ≡ Some r → IsSound (f r))
+    → ((r : FlowRecord) → operation_at o t ≡ Some r → is_spent (f r) ≡ false) → IsFlow (changed o f t)
+changes t o f h number counts sound needed = record {
   sound = all_change IsSound (is_number o) f t.operations sound h.sound;
-  ascending = λ i j d p q.
-      let l : j < length t.operations = omega (arith, q, length_change (is_number o) f t.operations) in
-      omega (arith, number_stays (is_number o) f t.operations number i d, number_stays (is_number o) f t.operations number j d, h.ascending i j d p l);
+  ascending = still_ascends t o f number h.ascending;
   below = all_change (λ (r : FlowRecord). r.number.0 < t.next) (is_number o) f t.operations
       (λ r e. omega (arith, found_holds (λ (r : FlowRecord). r.number.0 < t.next) (is_number o) t.operations r h.below e, number r)) h.below;
   few = omega (arith, under_way_falls (is_number o) f t.operations counts, h.few);
+  needed = all_change (λ (r : FlowRecord). is_spent r ≡ false) (is_number o) f t.operations needed h.needed;
 }
 
 pub flow_changes : (t : FlowTable) (o : OpId) (f : FlowRecord → FlowRecord) → IsFlow t → ((x : FlowRecord) → (f x).number.0 ≡ x.number.0)
-    → ((x : FlowRecord) → (f x).collected ≡ x.collected) → ((r : FlowRecord) → operation_at o t ≡ Some r → IsSound (f r)) → IsFlow (changed o f t)
-flow_changes t o f h number collected sound = changes t o f h number (λ x. grind (arith, collected x)) sound
+    → ((x : FlowRecord) → (f x).collected ≡ x.collected) → ((r : FlowRecord) → operation_at o t ≡ Some r → IsSound (f r))
+    → ((r : FlowRecord) → operation_at o t ≡ Some r → is_spent (f r) ≡ false) → IsFlow (changed o f t)
+flow_changes t o f h number collected sound needed = changes t o f h number (λ x. grind (arith, collected x)) sound needed
 
 pub total_changed : (g : FlowRecord → ℕ) (test : FlowRecord → Bool) (f : FlowRecord → FlowRecord) (rs : List FlowRecord) (r : FlowRecord) → find test rs ≡ Some r → total g (change_first test f rs) + g r ≡ total g rs + g (f r)
 total_changed g test f [] r is = absurd (none-some r is)
@@ -131,15 +139,19 @@ module _ {o : OpId} {t u : FlowTable} {k flying creating : ℕ} {counts : List �
   pub sound_now : IsSound d
   sound_now = found_holds IsSound (is_number o) t.operations d kept.0.sound (operation_is h)
 
+  needed_now : is_spent d ≡ false
+  needed_now = found_holds (λ (r : FlowRecord). is_spent r ≡ false) (is_number o) t.operations d kept.0.needed (operation_is h)
+
   -- a step of one
   pub kept_set : {s : FlowRecord} {n : ℕ} {ns : List ℕ} (f : FlowRecord → FlowRecord) → s ≡ f d → ((r : FlowRecord) → Stays r (f r)) → (IsSound d → IsSound (f d))
-      → n + one (is_creating d) ≡ creating + one (is_creating s) → Follows counts ns d s → IsKept flying n ns (record t { operations = set t.operations k s })
-  kept_set {s} {n} f is same sound creates follows = (
+      → (IsSound d → is_spent d ≡ false → is_spent (f d) ≡ false) → n + one (is_creating d) ≡ creating + one (is_creating s) → Follows counts ns d s → IsKept flying n ns (record t { operations = set t.operations k s })
+  kept_set {s} {n} f is same sound needed creates follows = (
     subst IsFlow (sym (changed_some (itself h) f is))
         (flow_changes t o f kept.0 (λ r. (same r).number) (λ r. (same r).collected)
         (λ r one'.
         let e : r ≡ d = same_Some r d (sym one' ∙ operation_is h) in
-        subst (λ (q : FlowRecord). IsSound (f q)) (sym e) (sound (subst IsSound e (found_holds IsSound (is_number o) t.operations r kept.0.sound one'))))),
+        subst (λ (q : FlowRecord). IsSound (f q)) (sym e) (sound (subst IsSound e (found_holds IsSound (is_number o) t.operations r kept.0.sound one'))))
+        (λ r one'. subst (λ (q : FlowRecord). is_spent (f q) ≡ false) (sym (same_Some r d (sym one' ∙ operation_is h))) (needed sound_now needed_now))),
     record {
       under_way =
           let stays = ap (λ (r : FlowRecord). one (not r.collected)) is ∙ ap (λ b. one (not b)) (same d).collected in
@@ -151,8 +163,9 @@ module _ {o : OpId} {t u : FlowTable} {k flying creating : ℕ} {counts : List �
 
   -- one that takes what fits
   pub kept_took : {s : FlowRecord} {n : ℕ} {ns : List ℕ} (fits : FlowRecord → Bool) (step : FlowRecord → FlowRecord) → s ≡ cond (fits d) (step d) d → ((r : FlowRecord) → Stays r (step r))
-      → (fits d ≡ true → IsSound d → IsSound (step d)) → n + one (is_creating d) ≡ creating + one (is_creating s) → Follows counts ns d s
+      → (fits d ≡ true → IsSound d → IsSound (step d)) → (IsSound d → is_spent (step d) ≡ false) → n + one (is_creating d) ≡ creating + one (is_creating s) → Follows counts ns d s
       → IsKept flying n ns (record t { operations = set t.operations k s })
-  kept_took fits step is same sound creates follows =
+  kept_took fits step is same sound needed creates follows =
       kept_set (λ r. cond (fits r) (step r) r) is (λ r. either_way (Stays r) (fits r) (λ e. same r) (λ e. stays_so refl refl))
-      (λ s. either_way IsSound (fits d) (λ e. sound e s) (λ e. s)) creates follows
+      (λ s. either_way IsSound (fits d) (λ e. sound e s) (λ e. s))
+      (λ s n. either_way (λ (r : FlowRecord). is_spent r ≡ false) (fits d) (λ e. needed s) (λ e. n)) creates follows

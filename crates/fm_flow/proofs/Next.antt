@@ -5,7 +5,7 @@ use Rattle.fm_flow.proofs.Words.{Status, WrongStep, Params, Answer, Below, Stage
 use Rattle.fm_flow.proofs.Words.{PreHeld, PostHeld, InDrain, Ask, Entry, Base, Drain, one, times, visited, owed, instances, ask_of, answers}
 use Rattle.fm_flow.proofs.Words.{opens, drain_opens, FlowRecord, Turned, turn, pre_entry, post_entry, bare_ask, with_visit, with_base, with_drain}
 use Rattle.fm_flow.proofs.Words.{call_pre, call_base, call_post, give_post, unwound_to, unwound, descend, ascend, may_take, next_at, next_of}
-use Rattle.fm_flow.proofs.Words.{MayLieBelow, bare_answer, left_answer, done_at, IsSound, All, CtxId, FlowAction}
+use Rattle.fm_flow.proofs.Words.{MayLieBelow, bare_answer, left_answer, done_at, is_spent, IsSound, All, CtxId, FlowAction, cases_Bool, inl, inr}
 use Rattle.std.proofs.Common.{◌≡◌, ◌+◌, ◌<◌, ◌≤◌, ◌==◌, ◌∷◌, ◌++◌, ◌∙◌, Result}
 use Rattle.fm_types.specs.declared.operation.Operation.{Operation}
 use Rattle.fm_data.specs.Params.{fit}
@@ -278,6 +278,15 @@ did worker lies stops r = elim r.collected as (λ b. Did worker lies r (cond b (
 
 pub next_stays : (k : WorkerId) (lies : Below) (stops : Bool) (r : FlowRecord) → Stays r (next_of k lies stops r).after
 next_stays k lies stops r = (did k lies stops r).stays
+
+-- one whose answer was handed out is left as it is
+pub next_needed : (k : WorkerId) (lies : Below) (stops : Bool) (r : FlowRecord) → is_spent r ≡ false → is_spent (next_of k lies stops r).after ≡ false
+next_needed k lies stops r needed = elim (cases_Bool r.collected) [
+  | inl out ↦
+      let same : (next_of k lies stops r).after ≡ r = ap (λ b. (cond b (turn (Err WrongStep) r) (next_at k lies stops r r.stage)).after) out in
+      ap is_spent same ∙ needed
+  | inr kept ↦ let same = (next_stays k lies stops r).collected ∙ kept in grind (arith, same)
+]
 
 pub next_drains : (i : ℕ) (k : WorkerId) (lies : Below) (stops : Bool) (r : FlowRecord)
     → drain_opens i (next_of k lies stops r).after.entries ≡ drain_opens i r.entries + drains_given i (next_of k lies stops r).reply

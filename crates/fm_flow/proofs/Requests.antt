@@ -3,7 +3,7 @@ use Rattle.fm_flow.proofs.Words.{ℕ, Bool, true, false, cond, not, List, Option
 use Rattle.fm_flow.proofs.Words.{arith, nat_tests, find, list_any, same_Some, Ok, Err, WrongStep, HandleId, Params, Answer, FlowRecord, IsSound}
 use Rattle.fm_flow.proofs.Words.{is_running_drain, marked, All, AllPairs, false≢true, eq-eqb, and_parts, and_from, All-push}
 use Rattle.fm_flow.proofs.Words.{All-weaker, is_done, FlowTable, IsFlow, without_first, is_number, operation_at, changed, removed, told}
-use Rattle.fm_flow.proofs.Words.{begun, begun_record, under_way, is_full, collected_of, collected_in, collect_reply, is_collectable, count_by-push}
+use Rattle.fm_flow.proofs.Words.{begun, begun_record, under_way, is_full, is_spent, collected_of, collected_in, collect_reply, is_collectable, count_by-push}
 use Rattle.fm_flow.proofs.Words.{get_or_default, [], IsTallied, is_creating, one}
 use Rattle.fm_flow.proofs.Tallied.{count_set, count_removed, done_uncreating, total_set, total_removed, total_push}
 use Rattle.fm_flow.proofs.Words.{opens, times, instances, owed}
@@ -48,6 +48,7 @@ flow_begins v stream handle born path p t on within h full =
           (All-weaker (λ (r : FlowRecord). r.number.0 < t.next) (λ (r : FlowRecord). r.number.0 < t.next + 1) (λ r k. omega (arith, k)) t.operations h.below)
           (omega arith);
       few = omega (arith, count_by-push (λ (r : FlowRecord). not r.collected) t.operations fresh, room);
+      needed = All-push (λ (r : FlowRecord). is_spent r ≡ false) t.operations fresh h.needed refl;
     }
 
 -- it is tallied
@@ -91,6 +92,7 @@ flow_removed t o h = record {
   ascending = pairs_without (is_number o) (λ (r s : FlowRecord). r.number.0 < s.number.0) t.operations h.ascending;
   below = all_without (λ (r : FlowRecord). r.number.0 < t.next) (is_number o) t.operations h.below;
   few = omega (arith, count_without (λ (r : FlowRecord). not r.collected) (is_number o) t.operations, h.few);
+  needed = all_without (λ (r : FlowRecord). is_spent r ≡ false) (is_number o) t.operations h.needed;
 }
 
 collects_at : (t : FlowTable) (o : OpId) (m : Option FlowRecord) → operation_at o t ≡ m → IsFlow t → IsFlow (collected_in o t m)
@@ -98,7 +100,8 @@ collects_at t o None at h = h
 collects_at t o (Some r) at h =
     either_way IsFlow (is_collectable r) (λ e. either_way IsFlow (list_any is_running_drain r.entries)
     (λ d. changes t o marked h (λ x. refl) (λ x. omega arith)
-    (λ x k. subst (λ y. IsSound (marked y)) (same_Some r x (sym at ∙ k)) (sound_marked r (found_holds IsSound (is_number o) t.operations r h.sound at) e)))
+    (λ x k. subst (λ y. IsSound (marked y)) (same_Some r x (sym at ∙ k)) (sound_marked r (found_holds IsSound (is_number o) t.operations r h.sound at) e))
+    (λ x k. subst (λ y. is_spent (marked y) ≡ false) (same_Some r x (sym at ∙ k)) (ap not d)))
     (λ d. flow_removed t o h)) (λ e. h)
 
 pub flow_collects : (t : FlowTable) (o : OpId) → IsFlow t → IsFlow (collected_of o t)

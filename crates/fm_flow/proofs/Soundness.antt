@@ -1,8 +1,8 @@
 -- What keeps the laws of an operation, whatever the step.
 use Rattle.fm_flow.proofs.Words.{not, List, [], length, Option, option_to_list, subst, ap, arith, length-append, true}
 use Rattle.fm_flow.proofs.Words.{Params, Answer, with_entry, Stage, Entry, visit_of, visited, HandleId, FlowRecord, IsCourse, IsSound, All}
-use Rattle.fm_flow.proofs.Words.{IfSome, is_done, lends, keeps_more, false}
-use Rattle.std.proofs.Common.{◌≡◌, ◌+◌, ◌≤◌, ◌∷◌, ◌++◌, ◌∙◌, is_some}
+use Rattle.fm_flow.proofs.Words.{Bool, IfSome, cases_Bool, inl, inr, is_done, is_spent, lends, keeps_more, false, list_any, is_running_drain, sym}
+use Rattle.std.proofs.Common.{◌≡◌, ◌+◌, ◌≤◌, ◌&&◌, ◌∷◌, ◌++◌, ◌∙◌, is_some}
 use Rattle.fm_data.specs.Params.{fit}
 use Rattle.fm_flow.proofs.Owed.{filter_map-push}
 
@@ -13,6 +13,13 @@ pub record Stays (r s : FlowRecord) : Type 0 where
 
 pub stays_so : {r s : FlowRecord} → s.number.0 ≡ r.number.0 → s.collected ≡ r.collected → Stays r s
 stays_so number collected = record { number = number; collected = collected }
+
+-- a step of an operation that isn't done leaves a record that is needed
+pub unspent : (r s : FlowRecord) → Stays r s → is_done r ≡ false → IsSound r → is_spent s ≡ false
+unspent r s stays undone h = elim (cases_Bool s.collected) [
+  | inl out ↦ let done = h.collected (sym stays.collected ∙ out) in cc
+  | inr kept ↦ ap (λ (b : Bool). b && not (list_any is_running_drain s.entries)) kept
+]
 
 -- what is said of the stage, where that is known
 pub at_stage : (r : FlowRecord) (s : Stage) → r.stage ≡ s → IsSound r → IsCourse s r.entries × (is_some r.params ≡ not (lends s)) × (length r.kept + keeps_more s ≤ length (visited r.entries))

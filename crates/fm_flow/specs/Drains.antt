@@ -1,5 +1,5 @@
 -- Drains that are taken before `next` reaches them.
-use Rattle.std.specs.Prelude.{◌≡◌, ◌≢◌, ℕ, ◌≤◌, ◌==◌, ◌&&◌, Bool, true, false, not, cond, All, find, Option, Some, None, option_map}
+use Rattle.std.specs.Prelude.{◌≡◌, ◌≢◌, ℕ, ◌≤◌, ◌==◌, Bool, true, false, cond, All, find, Option, Some, None, option_map}
 use Rattle.std.specs.List.{list_any}
 use Rattle.fm_types.specs.declared.ids.OpId.{OpId}
 use Rattle.fm_types.specs.declared.ids.InstanceId.{InstanceId}
@@ -7,10 +7,10 @@ use Rattle.fm_data.specs.declared.verdict.Completion.{Completion}
 use Rattle.fm_flow.specs.declared.stage.Stage.TheVariants.{InDrain}
 use Rattle.fm_flow.specs.declared.entry.Ask.{Ask}
 use Rattle.fm_flow.specs.Entries.{owed}
-use Rattle.fm_flow.specs.Counts.{drain_opens, is_running_drain}
+use Rattle.fm_flow.specs.Counts.{drain_opens}
 use Rattle.fm_flow.specs.Record.{FlowRecord}
 use Rattle.fm_flow.specs.Steps.{with_drain, drain_settled}
-use Rattle.fm_flow.specs.Table.{FlowTable, operation_at, changed, removed, told}
+use Rattle.fm_flow.specs.Table.{FlowTable, operation_at, changed, removed, told, is_spent}
 
 -- ---- taken
 
@@ -52,10 +52,7 @@ DrainTaken i old (Some (o, completion)) new = IsDrainedEarly i old o completion 
 abbrev pub early_over : InstanceId → FlowRecord → FlowRecord
 early_over i r = drain_settled i r.stage r
 
--- nobody needs the record any more: its answer was handed out, and no drain of it runs
-abbrev pub is_spent : FlowRecord → Bool
-is_spent r = r.collected && not (list_any is_running_drain r.entries)
-
+-- the record goes where nobody needs it any more
 abbrev pub drain_done_in : OpId → InstanceId → FlowTable → Option FlowRecord → FlowTable
 drain_done_in o i t None = t
 drain_done_in o i t (Some r) = cond (is_spent (early_over i r)) (removed o t) (changed o (early_over i) t)

@@ -96,6 +96,10 @@ collected_in o t (Some r) = cond (is_collectable r) (cond (list_any is_running_d
 abbrev pub collected_of : OpId → FlowTable → FlowTable
 collected_of o t = collected_in o t (operation_at o t)
 
+-- nobody needs the record any more: its answer was handed out, and no drain of it runs
+abbrev pub is_spent : FlowRecord → Bool
+is_spent r = r.collected && not (list_any is_running_drain r.entries)
+
 -- ---- counts
 
 abbrev pub total : (FlowRecord → ℕ) → List FlowRecord → ℕ
@@ -118,6 +122,8 @@ pub record IsFlow (t : FlowTable) : Type 0 where
   pub ascending : AllPairs (λ r s. r.number.0 < s.number.0) t.operations
   pub below : All (λ r. r.number.0 < t.next) t.operations
   pub few : under_way t.operations ≤ 256
+  -- no record stays that nobody needs: where the answer was handed out, a drain runs
+  pub needed : All (λ r. is_spent r ≡ false) t.operations
 
 -- ---- what calls want of the operation that they name
 

@@ -9,10 +9,10 @@ ghost use Rattle.fm_flow.specs.Steps.{next_of, data_reply, pre_after, base_reply
 ghost use Rattle.fm_flow.specs.Holds.{is_held, IsFirstHeld};
 ghost use Rattle.fm_flow.specs.Creates.{is_creating, is_on_stream, has_create_on, creates, is_over};
 ghost use Rattle.fm_flow.specs.Tallied.{IsAscending, entered, left_pre, left_post, if_taken};
-ghost use Rattle.fm_flow.specs.Drains.{owes, DrainTaken, RunsEarly, is_spent, drain_done_of};
+ghost use Rattle.fm_flow.specs.Drains.{owes, DrainTaken, RunsEarly, drain_done_of};
 ghost use Rattle.fm_flow.specs.Flights.{flies};
 ghost use Rattle.fm_flow.specs.OnVolumes.{is_left_on, left_on};
-ghost use Rattle.fm_flow.specs.Table.{in_flight, IsFlow, MayLieBelowOf, StandsAt, empty_table, is_number, operation_at, changed, told, is_full, is_collectable, begun, collect_reply, collected_of};
+ghost use Rattle.fm_flow.specs.Table.{in_flight, IsFlow, MayLieBelowOf, StandsAt, empty_table, is_number, operation_at, changed, told, is_full, is_collectable, begun, collect_reply, collected_of, is_spent};
 
 use crate::action::{Below, FlowAction};
 use crate::boxed_record::BoxedRecord;
@@ -255,7 +255,8 @@ impl Flow {
     }
 
     /// The laws of all operations, for callers that rest on them: each is sound, their numbers ascend
-    /// and lie below the next, and at most 256 aren't collected. It does nothing.
+    /// and lie below the next, at most 256 aren't collected, and of each that was collected a drain
+    /// runs. It does nothing.
     pub fn laws(&self)
         ensures { IsFlow self.now }
     {

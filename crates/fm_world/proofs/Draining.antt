@@ -9,7 +9,7 @@ use Rattle.fm_ctx.proofs.Alike.{leaves_alike}
 use Rattle.fm_flow.specs.Drains.{DrainTaken, RunsEarly, drain_done_of, drained_early, early_over, owed_to}
 use Rattle.fm_flow.specs.Sound as flow
 use Rattle.fm_flow.proofs.Drains.{carries_early, carries_over, done_carries, drain_done_by, drains_early, drains_over, early_uncreated, flies_early, flies_over}
-use Rattle.fm_flow.proofs.Drains.{goes_after, handed_early, over_uncreated, owed_over, owed_so, owes_early, owing_there, sound_early, sound_over, stays_early, stays_over}
+use Rattle.fm_flow.proofs.Drains.{goes_after, handed_early, over_uncreated, owed_over, owed_so, owes_early, owing_there, flow_over, needed_early, sound_early, stays_early, stays_over}
 use Rattle.fm_flow.proofs.Counting.{flight_few}
 use Rattle.fm_world.specs.EarlyDrains.{DrainReturns, DrainReturnsAt, DrainsWhere, GivesDrain, TakesDrain, is_stopping_at}
 use Rattle.fm_world.specs.Events.{brought}
@@ -21,10 +21,11 @@ use Rattle.fm_world.proofs.Events.{answers_by, idle_by, refused_by}
 use Rattle.fm_world.proofs.Filed.{file_step}
 use Rattle.fm_world.proofs.Flowing.{asks_of, carried_changed, quieter}
 use Rattle.fm_world.proofs.Keeps.{worker_below}
-use Rattle.fm_world.proofs.Operations.{both_same, step_keeps}
+use Rattle.fm_world.proofs.Operations.{AreInStep, both_same, step_keeps, step_moves, with_laws}
 use Rattle.fm_flow.proofs.Requests.{flow_removed}
+use Rattle.fm_flow.specs.Table.{IsFlow, is_spent}
 use Rattle.fm_world.proofs.Requests.{file_gone, goes_keeps, goes_owned, total_without}
-use Rattle.fm_world.proofs.Returns.{returned_sound}
+use Rattle.fm_world.proofs.Returns.{AreKept, returned_kept}
 use Rattle.fm_world.proofs.Staying.{Does, Gives, TableStays, hand_emptied, hand_given, makes, nothing, table_same}
 use Rattle.fm_world.proofs.Ties.{BalancesSpots, InDrains, at_none, drained_there, drains_balance, in_no_drain, standing}
 use Rattle.fm_world.proofs.Turns.{brought_owned}
@@ -68,7 +69,7 @@ module _ (old : World) (k : WorkerId) (o : OpId) (i : InstanceId) (r : FlowRecor
       let owes = owed_so i.0 (owed r.entries) completion owing in
       let had = handed_early (AskCarries old.stack old.contexts.slots) i.0 (owed r.entries) completion owing asks in
       record {
-        under_way = step_keeps old o r f k Worker.Idle (Worker.EarlyDrain o i) at idle (λ x. stays_early i x) (sound_early i r owes sound)
+        under_way = step_keeps old o r f k Worker.Idle (Worker.EarlyDrain o i) at idle (λ x. stays_early i x) (sound_early i r owes sound) (needed_early i r owes sound)
             (among_drain old.stack r.volume r.born r.operation r.entries r.stage _
             (found_holds (IsAmong old.stack) (is_number o) old.flow.operations r u.among at))
             (spots_stay o Worker.Idle (Worker.EarlyDrain o i) r (f r) idle_unseen (early_unseen o i)
@@ -186,42 +187,51 @@ module _ (old : World) (k : WorkerId) (o : OpId) (i : InstanceId) (r : FlowRecor
   abbrev over_with : FlowTable → World
   over_with t = record old { flow = t; workers = put old.workers k Worker.Idle; contexts = after }
 
-  -- the operation stays
-  over_stays : IsSound old → IsSound (over_with (changed o (early_over i) old.flow))
-  over_stays s =
+  -- the drain is over
+  over_kept : IsSound old → AreKept (over_with (changed o (early_over i) old.flow))
+  over_kept s =
+      let f = early_over i in
+      let balance : (c : CtxId) → carries_after old o f c ≡ carries old c = λ c. omega (arith, carried_changed old.flow o r f at c, carries_over i r c) in
+      returned_kept old k (Worker.EarlyDrain o i) o r f after at worker refl (record { stream = refl; handle = refl; creating = over_uncreated i r (f r) refl })
+      (leaves_alike (λ c. sym (balance c)) leaves) balance (owed_over i r) (λ j. omega (arith, flies_over i r j runs)) s
+
+  over_moves : IsSound old → AreInStep old.stack (changed o (early_over i) old.flow) (put old.workers k Worker.Idle)
+  over_moves s =
       let f = early_over i in
       let u = s.under_way in
-      let sound = found_holds flow.IsSound (is_number o) old.flow.operations r u.flow.sound at in
-      let balance : (c : CtxId) → carries_after old o f c ≡ carries old c = λ c. omega (arith, carried_changed old.flow o r f at c, carries_over i r c) in
-      returned_sound old k (Worker.EarlyDrain o i) o r f after at worker refl (record { stream = refl; handle = refl; creating = over_uncreated i r (f r) refl })
-      (leaves_alike (λ c. sym (balance c)) leaves) balance (owed_over i r) (λ j. omega (arith, flies_over i r j runs))
-      (step_keeps old o r f k (Worker.EarlyDrain o i) Worker.Idle at worker (λ x. stays_over i x) (sound_over i r runs sound)
+      step_moves old o r f k (Worker.EarlyDrain o i) Worker.Idle at worker (λ x. stays_over i x)
       (among_over old.stack r.volume r.born r.operation r.entries r.stage i.0 (found_holds (IsAmong old.stack) (is_number o) old.flow.operations r u.among at))
       (spots_stay o (Worker.EarlyDrain o i) Worker.Idle r (f r) (early_unseen o i) idle_unseen
       (let same = over_unseen i.0 r.entries in spot_stays r.stage r.entries (f r).entries same.0 same.1))
       (drains_balance o (Worker.EarlyDrain o i) Worker.Idle r (f r) (λ j. one (i.0 == j)) (λ j. 0) (in_early o i) (in_no_drain o Worker.Idle (λ p j. refl))
       (λ j. omega (arith, drains_over i r j runs)))
-      (at_none (Worker.EarlyDrain o i) refl) (at_none Worker.Idle refl) u) s
+      (at_none (Worker.EarlyDrain o i) refl) (at_none Worker.Idle refl) u
+
+  -- the operation stays
+  over_stays : is_spent (early_over i r) ≡ false → IsSound old → IsSound (over_with (changed o (early_over i) old.flow))
+  over_stays needed s =
+      let kept = over_kept s in
+      record { under_way = with_laws (over_moves s) (flow_over old.flow o i r at runs needed s.under_way.flow); owned = kept.0; filed = kept.1; links = kept.2 }
 
   -- it goes after that
   over_goes : is_done r ≡ true → list_any is_running_drain (early_over i r).entries ≡ false → IsSound old → IsSound (over_with (removed o (changed o (early_over i) old.flow)))
   over_goes done none s =
       let f = early_over i in
       let mid = over_with (changed o f old.flow) in
-      let m = over_stays s in
+      let kept = over_kept s in
       let here : operation_at o mid.flow ≡ Some (f r) = find_changed (is_number o) f old.flow.operations (λ x. refl) ∙ ap (option_map f) at in
       let over : is_done (f r) ≡ true = ap (done_at r.stage) (owed_over i r) ∙ done in
       record {
-        under_way = goes_keeps mid o (f r) here over none (flow_removed mid.flow o m.under_way.flow) m.under_way;
+        under_way = goes_keeps mid o (f r) here over none (subst IsFlow (sym (goes_after old.flow o i r at runs)) (flow_removed old.flow o s.under_way.flow)) (over_moves s);
         owned = goes_owned mid o (f r) here
-            (lawful_alike (λ c. omega (arith, total_without (λ (x : FlowRecord). carried_by c x) (is_number o) mid.flow.operations (f r) here, done_carries (f r) over c)) m.owned.lawful) m.owned;
-        filed = file_gone old.files o mid.flow (f r) here over m.filed;
-        links = m.links;
+            (lawful_alike (λ c. omega (arith, total_without (λ (x : FlowRecord). carried_by c x) (is_number o) mid.flow.operations (f r) here, done_carries (f r) over c)) kept.0.lawful) kept.0;
+        filed = file_gone old.files o mid.flow (f r) here over kept.1;
+        links = kept.2;
       }
 
   over_sound : IsSound old → IsSound (over_with (drain_done_of o i old.flow))
   over_sound s =
-      drain_done_by old.flow o i r at runs (λ t. IsSound (over_with t)) s.under_way.flow (over_stays s)
+      drain_done_by old.flow o i r at runs (λ t. IsSound (over_with t)) s.under_way.flow (λ needed. over_stays needed s)
       (λ done out none. subst (λ t. IsSound (over_with t)) (goes_after old.flow o i r at runs) (over_goes done none s))
 
 abbrev Ends : World → WorkerId → Result (Unit {0}) Status → World → Type 0

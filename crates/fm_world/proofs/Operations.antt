@@ -1,32 +1,66 @@
 -- What a step of one operation leaves of what is under way; and the operation that a worker is inside of.
-use Rattle.std.proofs.Common.{Some, ap, arith, false, length-set, refl, subst, sym, true, ℕ, ◌&&◌, ◌+◌, ◌==◌, ◌∙◌, ◌≡◌}
+use Rattle.std.proofs.Common.{List, Some, ap, arith, count_by, false, length, length-set, refl, subst, sym, true, ℕ, ◌&&◌, ◌+◌, ◌<◌, ◌==◌, ◌∙◌, ◌≡◌}
 use Rattle.fm_world.proofs.Words.{AtBase, AtDrain, AtPost, AtPre, FlowRecord, FlowTable, InBase, InDrain, InstanceId, IsAmong, IsUnderWay, OpId}
 use Rattle.fm_world.proofs.Words.{PostRunning, PreRunning, Spot, Stage, Worker, WorkerId, World, all_change, and_from, changed, drain_opens}
+use Rattle.fm_world.proofs.Words.{All, AllPairs, AreUnderWay, Desk, IsFlow, IsStaffed, StackWorld, done_at, drains_running, is_at, is_done, owed, stands_at}
 use Rattle.fm_world.proofs.Words.{eq-eqb, false≢true, found_holds, is_in_at, is_in_drain, is_number, is_spot, last_posted}
 use Rattle.fm_world.proofs.Words.{last_visited, operation_at, option_map, put, returned, same_Some, slice_get, spot_of, told, unwrap_or, worker_at}
-use Rattle.fm_flow.proofs.Soundness.{Stays}
-use Rattle.fm_flow.proofs.Flows.{flow_changes}
+use Rattle.fm_flow.proofs.Soundness.{Stays, unspent}
+use Rattle.fm_flow.proofs.Flows.{flow_changes, still_ascends}
+use Rattle.fm_flow.specs.Table.{is_spent}
+use Rattle.fm_stack.specs.Stacks.{IsStack}
 use Rattle.fm_world.proofs.Ties.{AtNoDesk, at_none, staffed_still, BalancesDrains, BalancesSpots, InDrains, Matches, drains_balance, in_no_drain, is_running, matches_idle, spot_base, spot_drain, spot_post, spot_pre, spots_balance, standing, tied_moves, tied_there}
 use Rattle.fm_flow.specs.Sound as flow
 
 -- ---- one operation changes
 
+-- what is under way, but for the laws of operations: a record that is about to go breaks them
+pub record AreInStep (s : StackWorld) (t : FlowTable) (ws : List Worker) : Type 0 where
+  pub stack : IsStack s
+  pub ascending : AllPairs (λ (x y : FlowRecord). x.number.0 < y.number.0) t.operations
+  pub among : All (IsAmong s) t.operations
+  pub hands : length ws ≡ 48
+  pub workers : (o : OpId) (spot : Spot) → count_by (is_in_at o spot) ws ≡ stands_at o spot t
+  pub drains : (o : OpId) (i : ℕ) → count_by (is_in_drain o i) ws ≡ drains_running o i t
+  pub desks : (d : Desk) (i : ℕ) → IsStaffed d (slice_get s.instances i) (count_by (is_at d i) ws)
+
+pub in_step : {s : StackWorld} {t : FlowTable} {ws : List Worker} → AreUnderWay s t ws → AreInStep s t ws
+in_step u = record { stack = u.stack; ascending = u.flow.ascending; among = u.among; hands = u.hands; workers = u.workers; drains = u.drains; desks = u.desks }
+
+pub with_laws : {s : StackWorld} {t : FlowTable} {ws : List Worker} → AreInStep s t ws → IsFlow t → AreUnderWay s t ws
+with_laws u flow = record { stack = u.stack; flow = flow; among = u.among; hands = u.hands; workers = u.workers; drains = u.drains; desks = u.desks }
+
 -- one operation changes, and one worker goes elsewhere with it
-pub step_keeps : (w : World) (o : OpId) (r : FlowRecord) (f : FlowRecord → FlowRecord) (k : WorkerId) (a b : Worker) → operation_at o w.flow ≡ Some r → worker_at w.workers k ≡ Some a
-    → ((x : FlowRecord) → Stays x (f x)) → flow.IsSound (f r) → IsAmong w.stack (f r) → BalancesSpots o a b r (f r) → BalancesDrains o a b r (f r)
+pub step_moves : (w : World) (o : OpId) (r : FlowRecord) (f : FlowRecord → FlowRecord) (k : WorkerId) (a b : Worker) → operation_at o w.flow ≡ Some r → worker_at w.workers k ≡ Some a
+    → ((x : FlowRecord) → Stays x (f x)) → IsAmong w.stack (f r) → BalancesSpots o a b r (f r) → BalancesDrains o a b r (f r)
     → AtNoDesk a → AtNoDesk b → IsUnderWay w
-    → IsUnderWay (record w { flow = changed o f w.flow; workers = put w.workers k b })
-step_keeps w o r f k a b at worker stays sound among spots drains from to s =
+    → AreInStep w.stack (changed o f w.flow) (put w.workers k b)
+step_moves w o r f k a b at worker stays among spots drains from to s =
     let number : (x : FlowRecord) → (f x).number.0 ≡ x.number.0 = λ x. (stays x).number in
     record {
       stack = s.stack;
-      flow = flow_changes w.flow o f s.flow number (λ x. (stays x).collected) (λ x e. subst (λ y. flow.IsSound (f y)) (same_Some r x (sym at ∙ e)) sound);
+      ascending = still_ascends w.flow o f number s.flow.ascending;
       among = all_change (IsAmong w.stack) (is_number o) f w.flow.operations (λ x e. subst (λ y. IsAmong w.stack (f y)) (same_Some r x (sym at ∙ e)) among) s.among;
       hands = length-set w.workers k.0 b ∙ s.hands;
       workers = λ p x. tied_moves (λ q. is_in_at q x) (standing x) w.workers w.flow k a b o r f worker at number (spots x) p (s.workers p x);
       drains = λ p i. tied_moves (λ q. is_in_drain q i) (λ y. drain_opens i y.entries) w.workers w.flow k a b o r f worker at number (drains i) p (s.drains p i);
       desks = λ d i. staffed_still d i w.workers k a b (slice_get w.stack.instances i) worker from to (s.desks d i);
     }
+
+-- and the record is still needed
+pub step_keeps : (w : World) (o : OpId) (r : FlowRecord) (f : FlowRecord → FlowRecord) (k : WorkerId) (a b : Worker) → operation_at o w.flow ≡ Some r → worker_at w.workers k ≡ Some a
+    → ((x : FlowRecord) → Stays x (f x)) → flow.IsSound (f r) → is_spent (f r) ≡ false → IsAmong w.stack (f r) → BalancesSpots o a b r (f r) → BalancesDrains o a b r (f r)
+    → AtNoDesk a → AtNoDesk b → IsUnderWay w
+    → IsUnderWay (record w { flow = changed o f w.flow; workers = put w.workers k b })
+step_keeps w o r f k a b at worker stays sound needed among spots drains from to s =
+    with_laws (step_moves w o r f k a b at worker stays among spots drains from to s)
+    (flow_changes w.flow o f s.flow (λ x. (stays x).number) (λ x. (stays x).collected)
+    (λ x e. subst (λ y. flow.IsSound (f y)) (same_Some r x (sym at ∙ e)) sound)
+    (λ x e. subst (λ y. is_spent (f y) ≡ false) (same_Some r x (sym at ∙ e)) needed))
+
+-- an operation that is with a callback, or held, isn't done
+pub undone_at : (r : FlowRecord) (stage : Stage) → r.stage ≡ stage → done_at stage (owed r.entries) ≡ false → is_done r ≡ false
+undone_at r stage at undone = ap (λ (s : Stage). done_at s (owed r.entries)) at ∙ undone
 
 -- what is told of an operation that is there
 pub told_there : {A : Type 0} (read : FlowRecord → A) (other : A) (o : OpId) (t : FlowTable) (r : FlowRecord) → operation_at o t ≡ Some r → told read other o t ≡ read r
@@ -78,10 +112,11 @@ inside_drain w k o i at s = let x = inside w k (Worker.Drain o i) o (AtDrain i.0
 -- a worker leaves an operation, which then stands where no worker is inside it
 pub return_keeps : (old : World) (k : WorkerId) (a : Worker) (o : OpId) (r : FlowRecord) (f : FlowRecord → FlowRecord) (n : ℕ → ℕ) → worker_at old.workers k ≡ Some a
     → operation_at o old.flow ≡ Some r → ((x : FlowRecord) → Stays x (f x)) → Matches o a (spot_of r) → is_running (f r).stage ≡ false → InDrains o a n
-    → ((i : ℕ) → drain_opens i (f r).entries + n i ≡ drain_opens i r.entries) → AtNoDesk a → flow.IsSound (f r) → IsAmong old.stack (f r)
+    → ((i : ℕ) → drain_opens i (f r).entries + n i ≡ drain_opens i r.entries) → AtNoDesk a → flow.IsSound (f r) → is_done r ≡ false → IsAmong old.stack (f r)
     → IsUnderWay old → IsUnderWay (returned old k o f)
-return_keeps old k a o r f n at there stays matches quiet from even outside sound among s =
-    step_keeps old o r f k a Worker.Idle there at stays sound among (spots_balance o a Worker.Idle r (f r) matches (matches_idle o (f r).stage (f r).entries quiet))
+return_keeps old k a o r f n at there stays matches quiet from even outside sound undone among s =
+    step_keeps old o r f k a Worker.Idle there at stays sound
+    (unspent r (f r) (stays r) undone (found_holds flow.IsSound (is_number o) old.flow.operations r s.flow.sound there)) among (spots_balance o a Worker.Idle r (f r) matches (matches_idle o (f r).stage (f r).entries quiet))
     (drains_balance o a Worker.Idle r (f r) n (λ i. 0) from (in_no_drain o Worker.Idle (λ p i. refl)) (λ i. omega (arith, even i))) outside (at_none Worker.Idle refl) s
 
 pub not_base_of : (stage : Stage) → is_running stage ≡ false → stage ≡ InBase → ⊥

@@ -24,6 +24,7 @@ use Rattle.fm_world.proofs.Filed.{sound_from, stands_in, stands_same}
 use Rattle.fm_world.proofs.Filing.{Shrinks, shrinks_same}
 use Rattle.fm_world.proofs.Flowing.{asks_of, carried_changed, carry_changed, flow_owned, quieter}
 use Rattle.fm_world.proofs.Losing.{created_there, moved_there, named_more}
+use Rattle.fm_world.proofs.Operations.{AreInStep, in_step}
 use Rattle.fm_world.proofs.Staying.{Does, contexts_in, makes, nothing, still}
 use Rattle.fm_world.proofs.Streams.{IsOn, Stands, any_pushed, any_without, fresh_there, is_creating_on, none_out, on_open, stands_among, stands_created, stands_phased, uses}
 use Rattle.fm_world.proofs.Ties.{is_running, quiet_is_none, standing, told_same}
@@ -292,7 +293,7 @@ goes_owned w o r at lawful h =
     (λ i rests. omega (arith, total_without (flight i.0) (is_number o) w.flow.operations r at, h.quiet i rests)) h
 
 pub goes_keeps : (w : World) (o : OpId) (r : FlowRecord) → operation_at o w.flow ≡ Some r → is_done r ≡ true → list_any is_running_drain r.entries ≡ false → IsFlow (removed o w.flow)
-    → IsUnderWay w → IsUnderWay (record w { flow = removed o w.flow })
+    → AreInStep w.stack w.flow w.workers → IsUnderWay (record w { flow = removed o w.flow })
 goes_keeps w o r at done d flow u =
     let quiet = quiet_is_none r.stage r.entries (done_stage r.stage (owed r.entries) done) in
     record {
@@ -300,8 +301,8 @@ goes_keeps w o r at done d flow u =
       flow = flow;
       among = all_without (IsAmong w.stack) (is_number o) w.flow.operations u.among;
       hands = u.hands;
-      workers = λ p x. u.workers p x ∙ told_without (standing x) p w.flow o r u.flow.ascending at (ap one (quiet x));
-      drains = λ p i. u.drains p i ∙ told_without (λ (y : FlowRecord). drain_opens i y.entries) p w.flow o r u.flow.ascending at (none_running i r.entries d);
+      workers = λ p x. u.workers p x ∙ told_without (standing x) p w.flow o r u.ascending at (ap one (quiet x));
+      drains = λ p i. u.drains p i ∙ told_without (λ (y : FlowRecord). drain_opens i y.entries) p w.flow o r u.ascending at (none_running i r.entries d);
       desks = u.desks;
     }
 
@@ -339,7 +340,7 @@ collect_does old o result new h = makes old (record old { flow = collected_of o 
       links = s.links;
     })
     (λ r at done d flow lawful filed. record {
-      under_way = goes_keeps old o r at done d flow u;
+      under_way = goes_keeps old o r at done d flow (in_step u);
       owned = goes_owned old o r at lawful s.owned;
       filed = filed;
       links = s.links;

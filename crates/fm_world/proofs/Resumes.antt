@@ -3,7 +3,7 @@ use Rattle.std.proofs.Common.{[], not, ◌∷◌, Err, List, None, Ok, Option, R
 use Rattle.fm_world.proofs.Words.{All, AskCarries, ContextTable, CtxId, FlowRecord, HoldsFewer, HoldsIn, InstanceId, IsAmong, IsCourse, IsFileSound}
 use Rattle.fm_world.proofs.Words.{IsSound, IsUnderWay, LosesLinks, OnlyHandOf, OpId, PreHeld, PostHeld, PreState, PreVerdict, Spot, Status, WorkerId, World}
 use Rattle.fm_world.proofs.Words.{Ascending, CarriesIn, FileTable, all_change, cleaning_of, is_created_on, lets_go, none_refuses, after_pre, carried_in, carries, carries_after, changed, drain_opens, drains_post_settled, drains_pre_settled, given_with, hand_of, has_post}
-use Rattle.fm_world.proofs.Words.{holds, is_held_by, is_number, is_unanswered, lawful_alike, length-without, none-some, of_hand, operation_at, owed, owed_pre_settled, owed_post_settled}
+use Rattle.fm_world.proofs.Words.{holds, is_done, is_held_by, is_number, is_unanswered, lawful_alike, length-without, none-some, of_hand, operation_at, owed, owed_pre_settled, owed_post_settled}
 use Rattle.fm_world.proofs.Words.{place_in, post_settled, pre_leads, pre_resumed, pre_settled, same_Some, sent, sent_in, settle_post, settle_pre, state_at, state_given, unwrap_or, without, worker_at}
 use Rattle.fm_world.proofs.Words.{FindsHeld, FindsHeldAt, ResumesPost, ResumesPostAt, ResumesPre, ResumesPreAt, resume_pre_refused, resume_post_refused, taken_by_resume, found_holds}
 use Rattle.fm_flow.specs.declared.hold.Hold.{Hold}
@@ -13,7 +13,8 @@ use Rattle.fm_flow.specs.Sound as flow
 use Rattle.fm_flow.proofs.Flows.{flow_changes}
 use Rattle.fm_flow.proofs.Holds.{held_pre, held_post}
 use Rattle.fm_flow.proofs.Resumes.{sound_pre_resumed, pre_resumed_carries, pre_resumed_flies, sound_post_resumed, post_resumed_carries, post_resumed_flies}
-use Rattle.fm_flow.proofs.Soundness.{Stays}
+use Rattle.fm_flow.proofs.Soundness.{Stays, unspent}
+use Rattle.fm_flow.specs.Table.{is_spent}
 use Rattle.fm_world.proofs.Amongs.{among_settles, settle_post_keeps, settle_pre_keeps}
 use Rattle.fm_world.proofs.Belonging.{AllCarry, AllFit, all_without, belongs_still, filters_same, owners_same}
 use Rattle.fm_world.proofs.Callbacks.{not_false, owned_with, same_hands}
@@ -22,7 +23,7 @@ use Rattle.fm_world.proofs.Filed.{answered_same, file_step}
 use Rattle.fm_world.proofs.Flowing.{asks_of, carried_changed, carry_changed, flow_owned, quieter}
 use Rattle.fm_world.proofs.Keeps.{worker_below}
 use Rattle.fm_world.proofs.Losing.{loses_sound}
-use Rattle.fm_world.proofs.Operations.{not_base_of, told_there}
+use Rattle.fm_world.proofs.Operations.{not_base_of, told_there, undone_at}
 use Rattle.fm_world.proofs.Returns.{asked_carries, counted_from, counted_quiet, file_decided, sent_is_held, sent_lawful, sent_owned, sent_rests, taken_sent}
 use Rattle.fm_world.proofs.Staying.{Does, hand_written, loses_lasts, makes, nothing, still, table_same, unchanged}
 use Rattle.fm_world.proofs.Ties.{is_running, quiet_is_none, standing, told_same}
@@ -52,15 +53,18 @@ held_by w kind o i s h = by_row (operation_at o w.flow) refl h
 -- ---- one operation changes, and nobody goes anywhere
 
 step_stays : (w : World) (o : OpId) (r : FlowRecord) (f : FlowRecord → FlowRecord) → operation_at o w.flow ≡ Some r → ((x : FlowRecord) → Stays x (f x)) → flow.IsSound (f r)
-    → IsAmong w.stack (f r) → is_running r.stage ≡ false → is_running (f r).stage ≡ false → ((i : ℕ) → drain_opens i (f r).entries ≡ drain_opens i r.entries) → IsUnderWay w
+    → is_done r ≡ false → IsAmong w.stack (f r) → is_running r.stage ≡ false → is_running (f r).stage ≡ false → ((i : ℕ) → drain_opens i (f r).entries ≡ drain_opens i r.entries) → IsUnderWay w
     → IsUnderWay (record w { flow = changed o f w.flow })
-step_stays w o r f at stays sound among before after drains s =
+step_stays w o r f at stays sound undone among before after drains s =
+    let needed = unspent r (f r) (stays r) undone (found_holds flow.IsSound (is_number o) w.flow.operations r s.flow.sound at) in
     let number : (x : FlowRecord) → (f x).number.0 ≡ x.number.0 = λ x. (stays x).number in
     let nowhere : (p : Spot) → standing p (f r) ≡ standing p r = λ p.
     ap (λ b. cond b 1 0) (quiet_is_none (f r).stage (f r).entries after p ∙ sym (quiet_is_none r.stage r.entries before p)) in
     record {
       stack = s.stack;
-      flow = flow_changes w.flow o f s.flow number (λ x. (stays x).collected) (λ x e. subst (λ y. flow.IsSound (f y)) (same_Some r x (sym at ∙ e)) sound);
+      flow = flow_changes w.flow o f s.flow number (λ x. (stays x).collected)
+          (λ x e. subst (λ y. flow.IsSound (f y)) (same_Some r x (sym at ∙ e)) sound)
+          (λ x e. subst (λ y. is_spent (f y) ≡ false) (same_Some r x (sym at ∙ e)) needed);
       among = all_change (IsAmong w.stack) (is_number o) f w.flow.operations (λ x e. subst (λ y. IsAmong w.stack (f y)) (same_Some r x (sym at ∙ e)) among) s.among;
       hands = s.hands;
       workers = λ p x. s.workers p x ∙ told_same (standing x) p w.flow o r f at number (nowhere x);
@@ -120,6 +124,7 @@ pre_resumed_sound old k o i given new place held loses s =
     ∙ counted_quiet (of_hand hand given) r.operation (has_post old.stack (slice_get old.stack.instances i.0) r.operation) in
     loses_sound (pre_resumed old k o state) new loses
     (step_stays old o r f x.at (λ y. record { number = refl; collected = refl }) (sound_pre_resumed state r at.0 (counted_from state quiet) x.sound)
+    (undone_at r PreHeld at.0 refl)
     (among_settles old.stack r.volume r.born r.operation r.entries r.stage (pre_leads state) (settle_pre state) (settle_pre_keeps state) (not_base_of (pre_leads state) quiet) x.among)
     (ap is_running at.0) quiet (λ j. omega (arith, drains_pre_settled j state r.entries)) s.under_way)
     (owned_with old old.stack t old.workers (sent old.contexts k m) k (hand_left hand m)
@@ -190,6 +195,7 @@ post_resumed_sound old o i held s =
     let course = subst (λ a. IsCourse a r.entries) stage x.sound.course in
     record {
       under_way = step_stays old o r f x.at (λ y. record { number = refl; collected = refl }) (sound_post_resumed r stage x.sound)
+          (undone_at r PostHeld stage refl)
           (among_settles old.stack r.volume r.born r.operation r.entries r.stage Ascending (settle_post post.Finished) (settle_post_keeps post.Finished) (not_base_of Ascending refl) x.among)
           (ap is_running stage) refl (λ j. omega (arith, drains_post_settled j post.Finished r.entries)) s.under_way;
       owned = flow_owned old (changed o f old.flow) (lawful_alike (λ c. sym (post_resumed_balance old o i held s.under_way c)) s.owned.lawful)

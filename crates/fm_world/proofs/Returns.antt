@@ -1,5 +1,6 @@
 -- What the ends of callbacks and of base calls of operations do.
 use Rattle.std.proofs.Common.{Bool, Err, List, None, Ok, Option, Result, Some, [], ap, arith, cond, false, option_to_list, refl, slice_get, subst, sym, true, ℕ, ◌++◌, ◌+◌, ◌<◌, ◌==◌, ◌∙◌, ◌≡◌, ◌≤◌}
+use Rattle.fm_world.proofs.Words.{InBase, InDrain, IsOwned}
 use Rattle.fm_world.proofs.Words.{All, All-nil, Answer, Ascending, Ask, AskCarries, AtPost, AtPre, Base, BaseCall, BaseReturns, BaseReturnsAt}
 use Rattle.fm_world.proofs.Words.{CarriesIn, ContextTable, CtxId, Data, FileTable, FlowRecord, FlowTable, HandleId, HoldsIn, HoldsNone}
 use Rattle.fm_world.proofs.Words.{InstanceId, IsCourse, IsFileSound, IsLawful, IsSound, IsUnderWay, Leaves, LosesLinks, OnlyHandOf, OpId}
@@ -27,7 +28,7 @@ use Rattle.fm_world.proofs.Filing.{Shrinks, answered_none, filed_step, not_more_
 use Rattle.fm_world.proofs.Flowing.{asks_of, carried_changed, left_owned, quieter, step_owned}
 use Rattle.fm_world.proofs.Keeps.{worker_below}
 use Rattle.fm_world.proofs.Losing.{loses_sound}
-use Rattle.fm_world.proofs.Operations.{inside_base, inside_drain, inside_post, inside_pre, not_base_of, return_keeps, told_there}
+use Rattle.fm_world.proofs.Operations.{inside_base, inside_drain, inside_post, inside_pre, not_base_of, return_keeps, told_there, undone_at}
 use Rattle.fm_world.proofs.Owning.{empty_hand}
 use Rattle.fm_world.proofs.Staying.{Does, hand_emptied, loses_lasts, nothing, still, table_same, unchanged}
 use Rattle.fm_world.proofs.Streams.{Stands, none_out}
@@ -162,6 +163,7 @@ pre_sound old k o i given lent after new at fits leaves loses s =
     (subst (Matches o (Worker.Pre o i)) (sym (ap (λ a. spot_at a r.entries) x.1 ∙ ap (option_map AtPre) x.2)) (matches_pre o i)) quiet
     (in_no_drain o (Worker.Pre o i) (λ p j. refl)) (λ j. omega (arith, drains_pre_settled j state r.entries)) (at_none (Worker.Pre o i) refl)
     (sound_pre_returned state lent r x.1 (counted_from state quiet) (sym (told_there (λ (x : FlowRecord). data_fits x.operation x.path lent) false o old.flow r x.0.at) ∙ fits) x.0.sound)
+    (undone_at r PreRunning x.1 refl)
     (among_settles old.stack r.volume r.born r.operation r.entries r.stage (pre_leads state) (settle_pre state) (settle_pre_keeps state)
     (not_base_of (pre_leads state) quiet) x.0.among) s.under_way)
     (left_owned old o r f k (Worker.Pre o i) (sent old.contexts k (sent_in state)) after x.0.at at worker refl law rests.0 rests.1 rests.2 leaves
@@ -225,7 +227,7 @@ base_sound old k o call given new at fits loses s =
     (return_keeps old k (Worker.Base o) o r f (λ j. 0) at x.0.at (λ x. record { number = refl; collected = refl })
     (subst (Matches o (Worker.Base o)) (sym (ap (λ a. spot_at a r.entries) x.1)) (matches_base o)) refl
     (in_no_drain o (Worker.Base o) (λ p j. refl)) (λ j. omega (arith, drains_push j r.entries (Base counts.status counts.information))) (at_none (Worker.Base o) refl)
-    (sound_base call given handle r x.1 fitting x.0.sound)
+    (sound_base call given handle r x.1 fitting x.0.sound) (undone_at r InBase x.1 refl)
     (among_base old.stack r.volume r.born r.operation r.entries r.stage counts.status counts.information no_base' (x.0.among.base x.1) x.0.among) s.under_way)
     (step_owned old o r f k (Worker.Base o) Worker.Idle old.contexts (hand_of old.contexts.hands k.0) x.0.at at (worker_below old k (Worker.Base o) at s.under_way) refl refl
     (lawful_alike (λ c. omega (arith, carried_changed old.flow o r f x.0.at c, base_returned_carries c call given handle r)) s.owned.lawful) refl (same_hands old.contexts.hands k.0) refl
@@ -263,18 +265,29 @@ drain_balance w k o i at s c =
     let x = (inside_drain w k o i at s).0 in
     omega (arith, carried_changed w.flow o x.row (drain_returned_of i) x.at c, drain_returned_carries c i x.row)
 
+-- contexts, streams and handles, whatever is under way
+abbrev pub AreKept : World → Type 0
+AreKept w = IsOwned w × IsFileSound w.files w.flow × AllPass (names_there w.files) w.contexts.slots
+
 -- a callback of an operation that has its answer returns: streams and handles stay, and what has a link has it still
+pub returned_kept : (old : World) (k : WorkerId) (a : Worker) (o : OpId) (r : FlowRecord) (f : FlowRecord → FlowRecord) (after : ContextTable) → operation_at o old.flow ≡ Some r
+    → worker_at old.workers k ≡ Some a → cleanup_in (Some a) ≡ None → SameFile r (f r) → Leaves (carries_after old o f) old.contexts after k.0
+    → ((c : CtxId) → carries_after old o f c ≡ carries old c) → owed (f r).entries ≡ owed r.entries → ((j : ℕ) → flight j (f r) ≤ flight j r)
+    → IsSound old → AreKept (record (returned old k o f) { contexts = after })
+returned_kept old k a o r f after at worker outside same leaves balance owes fewer s = (
+  left_owned old o r f k a old.contexts after at worker (worker_below old k a worker s.under_way) outside (lawful_alike (λ c. sym (balance c)) s.owned.lawful)
+      refl refl refl leaves (subst (All (AskCarries old.stack old.contexts.slots)) (sym owes) (asks_of old o r at s.owned)) fewer s.owned,
+  file_step old.files old.flow o r f at same s.filed,
+  subst (AllPass (names_there old.files)) (sym leaves.slots) s.links,
+)
+
 pub returned_sound : (old : World) (k : WorkerId) (a : Worker) (o : OpId) (r : FlowRecord) (f : FlowRecord → FlowRecord) (after : ContextTable) → operation_at o old.flow ≡ Some r
     → worker_at old.workers k ≡ Some a → cleanup_in (Some a) ≡ None → SameFile r (f r) → Leaves (carries_after old o f) old.contexts after k.0
     → ((c : CtxId) → carries_after old o f c ≡ carries old c) → owed (f r).entries ≡ owed r.entries → ((j : ℕ) → flight j (f r) ≤ flight j r)
     → IsUnderWay (returned old k o f) → IsSound old → IsSound (record (returned old k o f) { contexts = after })
-returned_sound old k a o r f after at worker outside same leaves balance owes fewer under_way s = record {
-  under_way = under_way;
-  owned = left_owned old o r f k a old.contexts after at worker (worker_below old k a worker s.under_way) outside (lawful_alike (λ c. sym (balance c)) s.owned.lawful)
-      refl refl refl leaves (subst (All (AskCarries old.stack old.contexts.slots)) (sym owes) (asks_of old o r at s.owned)) fewer s.owned;
-  filed = file_step old.files old.flow o r f at same s.filed;
-  links = subst (AllPass (names_there old.files)) (sym leaves.slots) s.links;
-}
+returned_sound old k a o r f after at worker outside same leaves balance owes fewer under_way s =
+    let kept = returned_kept old k a o r f after at worker outside same leaves balance owes fewer s in
+    record { under_way = under_way; owned = kept.0; filed = kept.1; links = kept.2 }
 
 pub post_does : (old : World) (k : WorkerId) (given : PostVerdict) (lent : Option Data) (result : Result (Unit {0}) Status) (new : World) → PostReturns old k given lent result new
     → Does old new × (OnlyHandOf k.0 old new × HoldsNone k.0 result old new)
@@ -300,6 +313,7 @@ post_does old k given lent result new h = by_place lent (worker_at old.workers k
         (subst (Matches o (Worker.Post o i)) (sym (ap (λ a. spot_at a r.entries) x.1 ∙ ap (option_map AtPost) x.2)) (matches_post o i)) (post_quiet given)
         (in_no_drain o (Worker.Post o i) (λ p j. refl)) (λ j. omega (arith, drains_post_settled j state r.entries)) (at_none (Worker.Post o i) refl)
         (sound_post_returned given back r x.1 (sym (told_there (λ (x : FlowRecord). data_fits x.operation x.path back) false o old.flow r x.0.at) ∙ fits) x.0.sound)
+        (undone_at r PostRunning x.1 refl)
         (among_settles old.stack r.volume r.born r.operation r.entries r.stage (post_leads state) (settle_post state) (settle_post_keeps state)
         (not_base_of (post_leads state) (post_quiet given)) x.0.among) s.under_way) s))
     by_place None (Some (Worker.Drain o i)) at e = ends o (drain_returned_of i) e (λ s.
@@ -314,7 +328,7 @@ post_does old k given lent result new h = by_place lent (worker_at old.workers k
         (drain_balance old k o i at s.under_way) (owed_drain_settled i.0 r.entries) (λ j. omega (arith, drain_returned_flies j i r x.1 x.0.sound))
         (return_keeps old k (Worker.Drain o i) o r f (λ j. one (i.0 == j)) at x.0.at (λ x. record { number = refl; collected = refl })
         (subst (Matches o (Worker.Drain o i)) (sym (ap (λ a. spot_at a r.entries) x.1)) (matches_drain o i)) refl (in_a_drain o i) even (at_none (Worker.Drain o i) refl)
-        (sound_drain_returned i r x.1 x.0.sound)
+        (sound_drain_returned i r x.1 x.0.sound) (undone_at r (InDrain i) x.1 refl)
         (among_settles old.stack r.volume r.born r.operation r.entries r.stage Ascending (settle_drain i.0) (settle_drain_keeps i.0)
         (not_base_of Ascending refl) x.0.among) s.under_way) s)
     by_place None (Some (Worker.Post o i)) at h = refused_by (λ r w. Ends old k r w) Status.BadRequest result old new h (none_ends old k)

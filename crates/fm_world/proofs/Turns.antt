@@ -15,7 +15,8 @@ use Rattle.fm_world.proofs.Words.{received, row_at, set-get_or, slice_get_within
 use Rattle.fm_world.proofs.Words.{visited, way_of, with_base, with_drain, with_visit, worker_at}
 use Rattle.fm_data.specs.declared.verdict.Completion.{Completion}
 use Rattle.fm_flow.proofs.Next.{next_carries, next_enters, next_flies}
-use Rattle.fm_flow.proofs.Next.{next_stays, sound_next}
+use Rattle.fm_flow.proofs.Next.{next_needed, next_stays, sound_next}
+use Rattle.fm_flow.specs.Table.{is_spent}
 use Rattle.fm_flow.proofs.Next.{MayAsk, WasOwed, next_owes}
 use Rattle.fm_world.proofs.Amongs.{among_base, among_other, among_visits, is_up, no_base, post_last, visit_last}
 use Rattle.fm_world.proofs.Callbacks.{same_hands}
@@ -270,7 +271,8 @@ next_keeps old k o new e s =
     let leads = leads_of old.stack k o r e.lies d s.stack sound e.finds among in
     subst (AreUnderWay old.stack (changed o f old.flow)) (sym (place.puts old.workers k e.idle))
     (step_keeps old o r f k Worker.Idle (placed_by o reply) e.at e.idle (next_stays k e.lies d)
-    (sound_next k e.lies d r sound (λ down. may_visit old.stack r e.lies among (e.finds down))) leads.among leads.spots
+    (sound_next k e.lies d r sound (λ down. may_visit old.stack r e.lies among (e.finds down)))
+    (next_needed k e.lies d r (found_holds (λ (x : FlowRecord). is_spent x ≡ false) (is_number o) old.flow.operations r s.flow.needed e.at)) leads.among leads.spots
     (drains_balance o Worker.Idle (placed_by o reply) r (f r) (λ i. 0) (λ i. drains_given i reply) (in_no_drain o Worker.Idle (λ p i. refl)) place.drains
     (λ i. omega (arith, next_drains i k e.lies d r))) (at_none Worker.Idle refl) place.outside s)
 

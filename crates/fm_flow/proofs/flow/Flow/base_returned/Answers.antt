@@ -1,6 +1,6 @@
 use Rattle.fm_flow.proofs.Words.{refl, sym, Err, ap, one, arith, FlowRecord, StandsAt, InBase, base_fits, base_reply, base_after, base_returned_of}
 use Rattle.fm_flow.proofs.Flows.{may_recount, found, told_some, changed_some, said_there, kept_took, stands_some}
-use Rattle.fm_flow.proofs.Soundness.{stays_so}
+use Rattle.fm_flow.proofs.Soundness.{stays_so, unspent}
 use Rattle.fm_flow.proofs.Returns.{sound_base}
 use Rattle.fm_flow.proofs.Follows.{follows_same, base_flies}
 use Rattle.fm_flow.proofs.flow.Flow.base_returned.Goals as goal
@@ -17,6 +17,8 @@ invariant_of-self c =
     kept_took there c.self.invariant (λ (r : FlowRecord). base_fits c.args.call c.args.answer r) (base_returned_of c.args.call c.args.answer c.args.handle)
     c.base_returned-reply.ensures.after (λ r. stays_so refl refl)
     (sound_base c.args.call c.args.answer c.args.handle c.as_mut-operation.result.now (said_there there (StandsAt InBase) c.requires))
+    (λ h. let stage = said_there there (StandsAt InBase) c.requires in
+    unspent c.as_mut-operation.result.now (base_returned_of c.args.call c.args.answer c.args.handle c.as_mut-operation.result.now) (stays_so refl refl) (rw stage refl) h)
     (omega (arith, c.recounted-self-inside.ensures, ap one c.is_creating-was_creating.ensures, ap one c.is_creating.ensures))
     (follows_same (λ j. base_flies j c.args.call c.args.answer c.args.handle c.as_mut-operation.result.now c.base_returned-reply.new.self c.base_returned-reply.ensures.after))
 

@@ -1,4 +1,4 @@
-use Rattle.fm_flow.proofs.Words.{refl, sym, Some}
+use Rattle.fm_flow.proofs.Words.{refl, sym, ap, is_spent, Some}
 use Rattle.std.proofs.Common.{◌∙◌}
 use Rattle.fm_flow.specs.Drains.{RunsEarly, early_over}
 use Rattle.fm_flow.proofs.Flows.{uncounted, found, itself, said_there, kept_set}
@@ -36,6 +36,7 @@ invariant_of-self-else-is_spent c =
     let runs = said_there there (RunsEarly c.args.instance) c.requires in
     let follows = follows_less there c.self.invariant (Some c.args.instance) c.leaves.ensures.table c.leaves.ensures.after (left (goal.at.invariant_of-self-else-is_spent c).After-early_over) in
     kept_set there c.self.invariant (early_over c.args.instance) c.early_over.ensures (stays_over c.args.instance) (sound_over c.args.instance c.as_mut-operation.result.now runs)
+    (λ h needed. ap is_spent (sym c.early_over.ensures) ∙ sym c.is_spent.ensures ∙ c.if-is_spent.false)
     (uncounted c.self.inside.creates c.as_mut-operation.result.now c.early_over.new.self (over_uncreated c.args.instance _ _ c.early_over.ensures)) follows
 
 pub leaves-requires : goal.leaves-requires

@@ -1,7 +1,7 @@
 use Rattle.fm_flow.proofs.Words.{refl, sym, Some, StandsAt, InDrain, drain_returned_of}
 use Rattle.fm_flow.proofs.Flows.{uncounted, found, changed_some, said_there, kept_set, stands_some, sound_now}
 use Rattle.fm_flow.proofs.Follows.{Leaves, follows_less, may_leave, drain_leaves}
-use Rattle.fm_flow.proofs.Soundness.{stays_so}
+use Rattle.fm_flow.proofs.Soundness.{stays_so, unspent}
 use Rattle.fm_flow.proofs.Returns.{sound_drain_returned, drain_uncreated}
 use Rattle.fm_flow.proofs.flow.Flow.drain_returned.Goals.{After-drain_returned}
 use Rattle.fm_flow.proofs.flow.Flow.drain_returned.Goals as goal
@@ -22,6 +22,8 @@ invariant_of-self c =
     let there = found c.args.number c.self.view_is (sym c.standing-place.ensures) c.deref.ensures.value refl c.as_mut.ensures.value c.index_mut.ensures.value in
     kept_set there c.self.invariant (drain_returned_of c.args.instance) c.drain_returned.ensures (λ r. stays_so refl refl)
     (sound_drain_returned c.args.instance c.as_mut.result.now (said_there there (StandsAt (InDrain c.args.instance)) c.requires))
+    (λ h needed. let stage = said_there there (StandsAt (InDrain c.args.instance)) c.requires in
+    unspent c.as_mut.result.now (drain_returned_of c.args.instance c.as_mut.result.now) (stays_so refl refl) (rw stage refl) h)
     (uncounted c.self.inside.creates c.as_mut.result.now c.drain_returned.new.self (drain_uncreated c.args.instance _ _ (said_there there (StandsAt (InDrain c.args.instance)) c.requires) c.drain_returned.ensures))
     (follows_less there c.self.invariant (Some c.args.instance) c.leaves.ensures.table c.leaves.ensures.after (left (goal.at.invariant_of-self c).After-drain_returned))
 

@@ -3,7 +3,7 @@ use Rattle.fm_flow.proofs.Flows.{may_recount, missing, told_none, changed_none, 
 use Rattle.std.proofs.Common.{◌∙◌}
 use Rattle.fm_flow.proofs.Follows.{Leaves, follows_more, next_comes, may_enter}
 use Rattle.fm_flow.proofs.Words.{subst, sym, IsSound}
-use Rattle.fm_flow.proofs.Next.{next_stays, sound_next}
+use Rattle.fm_flow.proofs.Next.{next_needed, next_stays, sound_next}
 use Rattle.fm_flow.proofs.flow.Flow.next.Goals.{After-entered}
 use Rattle.fm_flow.proofs.flow.Flow.next.Goals as goal
 
@@ -29,6 +29,7 @@ invariant_of-self c =
     let there = found c.args.number c.self.view_is c.place_of.ensures c.deref.ensures.value c.in-Some.is c.as_mut-operation.ensures.value c.index_mut.ensures.value in
     kept_set there c.self.invariant (λ (r : FlowRecord). (next_of c.args.worker c.args.below c.args.is_stopping r).after) c.next-reply.ensures.after (next_stays c.args.worker c.args.below c.args.is_stopping)
     (λ h. sound_next c.args.worker c.args.below c.args.is_stopping c.as_mut-operation.result.now h (λ e. (said_there there (MayLieBelowOf c.args.below) c.requires)))
+    (λ h needed. next_needed c.args.worker c.args.below c.args.is_stopping c.as_mut-operation.result.now needed)
     (omega (arith, c.recounted-self-inside.ensures, ap one c.is_creating-was_creating.ensures, ap one c.is_creating.ensures))
     (follows_more c.entered.result c.enters.ensures.table c.enters.ensures.after (comes (goal.at.invariant_of-self c).After-entered))
 

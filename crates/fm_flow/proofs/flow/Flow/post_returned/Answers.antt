@@ -3,7 +3,7 @@ use Rattle.fm_flow.proofs.Flows.{uncounted, found, told_some, changed_some, said
 use Rattle.std.proofs.Common.{◌∙◌}
 use Rattle.fm_flow.specs.Tallied.{if_taken, left_post}
 use Rattle.fm_flow.proofs.Follows.{Leaves, follows_less, may_leave, post_leaves}
-use Rattle.fm_flow.proofs.Soundness.{stays_so}
+use Rattle.fm_flow.proofs.Soundness.{stays_so, unspent}
 use Rattle.fm_flow.proofs.Returns.{sound_post_returned, post_uncreated}
 use Rattle.fm_flow.proofs.flow.Flow.post_returned.Goals.{After-if_taken}
 use Rattle.fm_flow.proofs.flow.Flow.post_returned.Goals as goal
@@ -29,6 +29,7 @@ invariant_of-self c =
     kept_took there c.self.invariant (λ (r : FlowRecord). data_fits r.operation r.path c.args.lent) (post_returned_of c.args.verdict c.args.lent)
     c.post_returned-reply.ensures.after (λ r. stays_so refl refl)
     (sound_post_returned c.args.verdict c.args.lent c.as_mut-operation.result.now stage)
+    (λ h. unspent c.as_mut-operation.result.now (post_returned_of c.args.verdict c.args.lent c.as_mut-operation.result.now) (stays_so refl refl) (rw stage refl) h)
     (uncounted c.self.inside.creates c.as_mut-operation.result.now c.post_returned-reply.new.self (post_uncreated c.args.verdict c.args.lent _ _ stage c.post_returned-reply.ensures.after))
     (follows_less there c.self.invariant c.if_taken.result c.leaves.ensures.table c.leaves.ensures.after (left (goal.at.invariant_of-self c).After-if_taken))
 

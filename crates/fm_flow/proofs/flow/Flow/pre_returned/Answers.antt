@@ -3,7 +3,7 @@ use Rattle.fm_flow.proofs.Flows.{may_recount, found, told_some, changed_some, sa
 use Rattle.std.proofs.Common.{◌∙◌}
 use Rattle.fm_flow.specs.Tallied.{if_taken}
 use Rattle.fm_flow.proofs.Follows.{Leaves, follows_less, may_leave, pre_leaves}
-use Rattle.fm_flow.proofs.Soundness.{stays_so}
+use Rattle.fm_flow.proofs.Soundness.{stays_so, unspent}
 use Rattle.fm_flow.proofs.Returns.{sound_pre_returned}
 use Rattle.fm_flow.proofs.flow.Flow.pre_returned.Goals.{After-if_taken}
 use Rattle.fm_flow.proofs.flow.Flow.pre_returned.Goals as goal
@@ -26,6 +26,8 @@ invariant_of-self c =
     kept_took there c.self.invariant (λ (r : FlowRecord). data_fits r.operation r.path c.args.lent) (pre_returned_of c.args.state c.args.lent)
     c.pre_returned-reply.ensures.after (λ r. stays_so refl refl)
     (λ fits. sound_pre_returned c.args.state c.args.lent c.as_mut-operation.result.now (said_there there (StandsAt PreRunning) c.requires.stage) c.requires.counted fits)
+    (λ h. let stage = said_there there (StandsAt PreRunning) c.requires.stage in
+    unspent c.as_mut-operation.result.now (pre_returned_of c.args.state c.args.lent c.as_mut-operation.result.now) (stays_so refl refl) (rw stage refl) h)
     (omega (arith, c.recounted-self-inside.ensures, ap one c.is_creating-was_creating.ensures, ap one c.is_creating.ensures))
     (follows_less there c.self.invariant c.if_taken.result c.leaves.ensures.table c.leaves.ensures.after (left (goal.at.invariant_of-self c).After-if_taken))
 

@@ -3,7 +3,7 @@ use Rattle.fm_flow.specs.Steps.{post_settled}
 use Rattle.fm_flow.specs.declared.entry.PostState.TheVariants as post
 use Rattle.fm_flow.proofs.Flows.{uncounted, found, changed_some, said_there, kept_set, stands_some, sound_now}
 use Rattle.fm_flow.proofs.Follows.{Leaves, follows_less, may_leave, resumed_post_leaves}
-use Rattle.fm_flow.proofs.Soundness.{stays_so}
+use Rattle.fm_flow.proofs.Soundness.{stays_so, unspent}
 use Rattle.fm_flow.proofs.Resumes.{sound_post_resumed, post_resumed_uncreated}
 use Rattle.fm_flow.proofs.flow.Flow.resume_post.Goals.{After-resume_post}
 use Rattle.fm_flow.proofs.flow.Flow.resume_post.Goals as goal
@@ -26,6 +26,7 @@ invariant_of-self c =
     let there = found c.args.number c.self.view_is (sym c.standing-place.ensures) c.deref.ensures.value refl c.as_mut-operation.ensures.value c.index_mut.ensures.value in
     let stage = said_there there (StandsAt PostHeld) c.requires in
     kept_set there c.self.invariant (post_settled post.Finished) c.resume_post.ensures (λ r. stays_so refl refl) (sound_post_resumed c.as_mut-operation.result.now stage)
+    (λ h needed. unspent c.as_mut-operation.result.now (post_settled post.Finished c.as_mut-operation.result.now) (stays_so refl refl) (rw stage refl) h)
     (uncounted c.self.inside.creates c.as_mut-operation.result.now c.resume_post.new.self (post_resumed_uncreated _ _ stage c.resume_post.ensures))
     (follows_less there c.self.invariant c.last_posted-instance.result c.leaves.ensures.table c.leaves.ensures.after (left (goal.at.invariant_of-self c).After-resume_post))
 

@@ -2,7 +2,7 @@ use Rattle.fm_flow.proofs.Words.{refl, sym, ap, one, arith, StandsAt, PreHeld}
 use Rattle.fm_flow.specs.Steps.{pre_settled}
 use Rattle.fm_flow.proofs.Flows.{may_recount, found, changed_some, said_there, kept_set, stands_some, sound_now}
 use Rattle.fm_flow.proofs.Follows.{Leaves, follows_less, may_leave, resumed_pre_leaves}
-use Rattle.fm_flow.proofs.Soundness.{stays_so}
+use Rattle.fm_flow.proofs.Soundness.{stays_so, unspent}
 use Rattle.fm_flow.proofs.Resumes.{sound_pre_resumed}
 use Rattle.fm_flow.proofs.flow.Flow.resume_pre.Goals.{After-left_pre}
 use Rattle.fm_flow.proofs.flow.Flow.resume_pre.Goals as goal
@@ -24,6 +24,8 @@ invariant_of-self c =
     let there = found c.args.number c.self.view_is (sym c.standing-place.ensures) c.deref.ensures.value refl c.as_mut-operation.ensures.value c.index_mut.ensures.value in
     kept_set there c.self.invariant (pre_settled c.args.state) c.resume_pre.ensures (λ r. stays_so refl refl)
     (sound_pre_resumed c.args.state c.as_mut-operation.result.now (said_there there (StandsAt PreHeld) c.requires.stage) c.requires.counted)
+    (λ h needed. let stage = said_there there (StandsAt PreHeld) c.requires.stage in
+    unspent c.as_mut-operation.result.now (pre_settled c.args.state c.as_mut-operation.result.now) (stays_so refl refl) (rw stage refl) h)
     (omega (arith, c.recounted-self-inside.ensures, ap one c.is_creating-was_creating.ensures, ap one c.is_creating.ensures))
     (follows_less there c.self.invariant c.left_pre.result c.leaves.ensures.table c.leaves.ensures.after (left (goal.at.invariant_of-self c).After-left_pre))
 

@@ -5,6 +5,7 @@ pub mod Ties
 pub mod Amongs
 pub mod Keeps
 pub mod Operations
+mod Collected
 pub mod Runs
 pub mod Lasting
 pub mod Belonging

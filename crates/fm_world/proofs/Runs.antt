@@ -14,6 +14,7 @@ use Rattle.fm_ctx.specs.Kept.{carried_of, nothing_kept}
 use Rattle.fm_world.proofs.Belonging.{AllCarry, AllPass, held_has}
 use Rattle.fm_world.proofs.Callbacks.{bump_does, callback_left, read_body_does, reference_does, release_does, write_body_does}
 use Rattle.fm_world.proofs.Cases.{by_bool, by_option, some_of}
+use Rattle.fm_world.proofs.Collected.{collected_few}
 use Rattle.fm_world.proofs.Cleanups.{cleaned_does, finish_does, none_one, take_due_does}
 use Rattle.fm_world.proofs.Detaching.{ask_detach_does, complete_returned_does, complete_teardown_does, query_does, start_returned_does, start_teardown_does}
 use Rattle.fm_world.proofs.Dismounting.{drop_handle_does, empty_volume_does, finish_volume_does, start_dismount_does}
@@ -178,6 +179,7 @@ headline_from w s =
       synchronized = All-weaker flow.IsSound IsSynchronized (λ r k. k.course.synchronized) w.flow.operations h.flow.sound;
       workers = h.workers;
       drains = h.drains;
+      collected = collected_few w.workers w.flow h.flow h.hands h.drains;
       alive = k.lawful.alive;
       cleaned_once = k.lawful.waits;
       cleanups = λ n. k.cleaning n.0;

@@ -97,7 +97,7 @@ pub use Rattle.fm_world.specs.Files.{is_at_path, with_mark}
 pub use Rattle.fm_world.specs.Hands.{pairs_in, OnlyHandOf, KeepsHands, hand_len, HoldsMore, HoldsFewer, HoldsNone, given_with, given_by_set}
 pub use Rattle.fm_world.specs.Hands.{given_by_next, left_by, left_by_setup, taken_by_resume}
 pub use Rattle.fm_world.specs.Headline.{Spot, AtPre, is_in_at, is_in_drain, drains_running, AtBase, AtPost, AtDrain, spot_at, spot_of, is_spot}
-pub use Rattle.fm_world.specs.Headline.{Headline, RulesKeepHeadline, DescendsIn, IsAscent, IsInOrder, IsSynchronized, stands_at}
+pub use Rattle.fm_world.specs.Headline.{Headline, RulesKeepHeadline, collected_records, DescendsIn, IsAscent, IsInOrder, IsSynchronized, stands_at}
 pub use Rattle.fm_world.specs.Links.{names_there, LosesLinks, is_there, is_on_gone}
 pub use Rattle.fm_world.specs.Owners.{row_at, owner_by, place_in, belongs, belongs_by, HoldsIn, CarriesIn, AskCarries, file_of, fits, owner_fits}
 pub use Rattle.fm_world.specs.Owners.{link_fits, is_left_by, is_flown_by, is_flown, may_link, keeps_links, keeps_links_by, holds_links_by, has_kind}

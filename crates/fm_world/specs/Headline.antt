@@ -103,6 +103,10 @@ is_in_drain o i (place.Unload f) = false
 abbrev pub drains_running : OpId → ℕ → FlowTable → ℕ
 drains_running o i flow = told (λ r. drain_opens i r.entries) 0 o flow
 
+-- how many records stay of operations whose answers were handed out, beside those of the operations that are still to be collected
+abbrev pub collected_records : FlowTable → ℕ
+collected_records flow = count_by (λ r. r.collected) flow.operations
+
 pub record Headline (w : World) : Type 0 where
   -- on one volume, instances that aren't detached have distinct names and distinct altitudes
   pub apart : AllPairs (λ a b. clashes a b ≡ false) w.stack.instances
@@ -114,6 +118,8 @@ pub record Headline (w : World) : Type 0 where
   pub workers : (o : OpId) (spot : Spot) → count_by (is_in_at o spot) w.workers ≡ stands_at o spot w.flow
   -- exactly one is inside each drain that runs, also inside one that was taken early, beside which the operation goes on
   pub drains : (o : OpId) (i : ℕ) → count_by (is_in_drain o i) w.workers ≡ drains_running o i w.flow
+  -- a record stays after its answer was handed out only for drains that still run, each with a worker of its own: such records are no more than workers
+  pub collected : collected_records w.flow ≤ 48
   -- a context has references of what links it, of what holds it and of what carries it: whatever has one isn't cleaned
   pub alive : (c : CtxId) → context_at w.contexts.slots c ≡ None → reference_count w c ≡ 0
   -- a context without references is in one place, once: it is due, or one worker cleans it up; one with references is in none

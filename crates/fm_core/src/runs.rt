@@ -3,11 +3,13 @@
 ghost use Rattle.std.specs.Prelude.{◌≡◌, IfErr, IfOk};
 ghost use Rattle.fm_world.specs.World.{empty_world};
 ghost use Rattle.fm_core.specs.Returned.{status_of};
+ghost use Rattle.fm_world.specs.Events.{BaseReturns, PostReturns, PreReturns};
 ghost use Rattle.fm_world.specs.Steps.{Steps, RunThrough};
 ghost use Rattle.fm_world.specs.Headline.{Headline};
 
 use crate::state::State;
-use fm_types::Status;
+use fm_data::{Answer, BaseCall, CallbackData, PostVerdict, PreVerdict};
+use fm_types::{Status, WorkerId};
 use fm_world::{Refused, Step, StepReply};
 use std::alloc::Global;
 
@@ -22,6 +24,37 @@ fn without_data<T: Drop>(result_given: Result<(), Refused<T>>) -> Result<(), Sta
 }
 
 impl State {
+    // A preoperation's return, of which nothing is handed back.
+    fn pre_done(
+        &mut self,
+        worker: WorkerId,
+        verdict: PreVerdict,
+        lent: CallbackData,
+    ) -> Result<(), Status>
+        ensures { PreReturns self.old worker verdict lent result self.new }
+    {
+        without_data(self.pre_returned(worker, verdict, lent))
+    }
+
+    // A base call's return, of which nothing is handed back.
+    fn base_done(&mut self, worker: WorkerId, call: BaseCall, answer: Answer) -> Result<(), Status>
+        ensures { BaseReturns self.old worker call answer result self.new }
+    {
+        without_data(self.base_returned(worker, call, answer))
+    }
+
+    // A postoperation's return, of which nothing is handed back.
+    fn post_done(
+        &mut self,
+        worker: WorkerId,
+        verdict: PostVerdict,
+        lent: Option<CallbackData>,
+    ) -> Result<(), Status>
+        ensures { PostReturns self.old worker verdict lent result self.new }
+    {
+        without_data(self.post_returned(worker, verdict, lent))
+    }
+
     /// Makes one event, and tells what it answered. What a refusal hands back is dropped.
     pub fn step(&mut self, step: Step) -> StepReply
         ensures { Steps self.old step result self.new }
@@ -46,17 +79,17 @@ impl State {
                 worker,
                 verdict,
                 data,
-            } => StepReply::Done(without_data(self.pre_returned(worker, verdict, data))),
+            } => StepReply::Done(self.pre_done(worker, verdict, data)),
             Step::BaseReturned {
                 worker,
                 call,
                 answer,
-            } => StepReply::Done(without_data(self.base_returned(worker, call, answer))),
+            } => StepReply::Done(self.base_done(worker, call, answer)),
             Step::PostReturned {
                 worker,
                 verdict,
                 data,
-            } => StepReply::Done(without_data(self.post_returned(worker, verdict, data))),
+            } => StepReply::Done(self.post_done(worker, verdict, data)),
             Step::ResumePre {
                 worker,
                 operation,

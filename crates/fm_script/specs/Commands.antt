@@ -254,25 +254,44 @@ is_of_teardowns keyword.EmptyV = true
 is_of_teardowns keyword.FinishV = true
 is_of_teardowns _ = false
 
+-- the commands of a worker's turn, and a phase
+abbrev pub setup_done_read : List (List ℕ) → Result Task Status
+setup_done_read words = answered_read words >>= λ both. event (step.SetupDone both.0 both.1)
+
+abbrev pub next_read : World → List (List ℕ) → Result Task Status
+next_read w words = turn_read w words >>= λ turn. Ok (task.Next turn.0 turn.1)
+
+abbrev pub go_read : World → List (List ℕ) → Result Task Status
+go_read w words = turn_read w words >>= λ turn. Ok (task.Go turn.0 turn.1)
+
+abbrev pub base_read : List (List ℕ) → Result Task Status
+base_read words = only_worker words >>= λ by. Ok (task.Base by)
+
+abbrev pub resume_post_read : World → List (List ℕ) → Result Task Status
+resume_post_read w words = turn_read w words >>= λ turn. event (step.ResumePost turn.0 turn.1)
+
+abbrev pub phase_read : World → List (List ℕ) → Result Task Status
+phase_read w words = only_instance w words >>= λ own. Ok (task.Phase own)
+
 -- the words behind a keyword
 abbrev pub ReadsAs : World → List CtxId → Keyword → List (List ℕ) → Result Task Status → Type 0
 ReadsAs w contexts keyword.Load words result = Loads words result
 ReadsAs w contexts keyword.Mount words result = Mounts words result
 ReadsAs w contexts keyword.Attach words result = Attaches w words result
 ReadsAs w contexts keyword.Setup words result = SetsUp w words result
-ReadsAs w contexts keyword.SetDone words result = result ≡ (answered_read words >>= λ both. event (step.SetupDone both.0 both.1))
+ReadsAs w contexts keyword.SetDone words result = result ≡ setup_done_read words
 ReadsAs w contexts keyword.Create words result = Creates w words result
 ReadsAs w contexts keyword.List words result = result ≡ list_read w words
-ReadsAs w contexts keyword.Next words result = result ≡ (turn_read w words >>= λ turn. Ok (task.Next turn.0 turn.1))
-ReadsAs w contexts keyword.Go words result = result ≡ (turn_read w words >>= λ turn. Ok (task.Go turn.0 turn.1))
+ReadsAs w contexts keyword.Next words result = result ≡ next_read w words
+ReadsAs w contexts keyword.Go words result = result ≡ go_read w words
 ReadsAs w contexts keyword.Pre words result = AnswersPre contexts words result
-ReadsAs w contexts keyword.Base words result = result ≡ (only_worker words >>= λ by. Ok (task.Base by))
+ReadsAs w contexts keyword.Base words result = result ≡ base_read words
 ReadsAs w contexts keyword.Post words result = result ≡ post_read words
 ReadsAs w contexts keyword.Plan words result = Plans w words result
 ReadsAs w contexts keyword.Resume words result = Resumes w words result
-ReadsAs w contexts keyword.ResPost words result = result ≡ (turn_read w words >>= λ turn. event (step.ResumePost turn.0 turn.1))
+ReadsAs w contexts keyword.ResPost words result = result ≡ resume_post_read w words
 ReadsAs w contexts keyword.Collect words result = result ≡ collect_read w words
-ReadsAs w contexts keyword.Phase words result = result ≡ (only_instance w words >>= λ own. Ok (task.Phase own))
+ReadsAs w contexts keyword.Phase words result = result ≡ phase_read w words
 ReadsAs w contexts other words result =
     result ≡ cond (is_of_contexts other) (context_read contexts other words)
     (cond (is_of_teardowns other) (teardown_read w other words) (file_read w other words))

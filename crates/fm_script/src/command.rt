@@ -3,7 +3,7 @@
 //! that wasn't given is refused: 6, 7, 8, 14, 30 and 25 in this order, and 30 for a worker last.
 
 ghost use Rattle.std.specs.Prelude.{◌≡◌, map};
-ghost use Rattle.fm_script.specs.Commands.{Attaches, Creates, Loads, Mounts, ReadsAs, ReadsPlace, SetsUp, attach_at, collect_read, create_ids, create_mode_read, is_of_contexts, is_of_teardowns, list_read, option_read, place_ids, registration_read, setup_at, setup_ids, takes_bytes, turn_read, with_bytes_read};
+ghost use Rattle.fm_script.specs.Commands.{Attaches, Creates, Loads, Mounts, ReadsAs, ReadsPlace, SetsUp, attach_at, base_read, collect_read, create_ids, create_mode_read, go_read, is_of_contexts, is_of_teardowns, list_read, next_read, option_read, phase_read, place_ids, registration_read, resume_post_read, setup_at, setup_done_read, setup_ids, takes_bytes, turn_read, with_bytes_read};
 ghost use Rattle.fm_script.specs.Lines.{OrMemory};
 ghost use Rattle.fm_script.specs.Numbers.{id_read, number_read};
 ghost use Rattle.fm_script.specs.Tasks.{answered_read, numbers_read, one_id, only_instance, only_volume, only_worker, or_bad, turn_ids, turn_in, yes_or_no};
@@ -64,37 +64,71 @@ pub fn read_command(
         Keyword::Mount => read_mount(words),
         Keyword::Attach => read_attach(state, words),
         Keyword::Setup => read_setup(state, words),
-        Keyword::SetDone => {
-            let (worker, accept) = read_answered(words)?;
-            Ok(Task::Event(Step::SetupDone { worker, accept }))
-        }
+        Keyword::SetDone => read_setup_done(words),
         Keyword::Create => read_create(alloc, state, words),
         Keyword::List => read_list(state, words),
-        Keyword::Next => {
-            let (worker, operation) = read_turn(state, words)?;
-            Ok(Task::Next { worker, operation })
-        }
-        Keyword::Go => {
-            let (worker, operation) = read_turn(state, words)?;
-            Ok(Task::Go { worker, operation })
-        }
+        Keyword::Next => read_next(state, words),
+        Keyword::Go => read_go(state, words),
         Keyword::Pre => read_pre(contexts, words),
-        Keyword::Base => Ok(Task::Base {
-            worker: only_worker(words)?,
-        }),
+        Keyword::Base => read_base(words),
         Keyword::Post => read_post(words),
         Keyword::Plan => read_plan(state, words),
         Keyword::Resume => read_resume(state, words),
-        Keyword::ResPost => {
-            let (worker, operation) = read_turn(state, words)?;
-            Ok(Task::Event(Step::ResumePost { worker, operation }))
-        }
+        Keyword::ResPost => read_resume_post(state, words),
         Keyword::Collect => read_collect(state, words),
-        Keyword::Phase => Ok(Task::Phase(only_instance(state, words)?)),
+        Keyword::Phase => read_phase(state, words),
         other if is_of_contexts(other) => read_context_command(contexts, other, words),
         other if is_of_teardowns(other) => read_teardown_command(state, other, words),
         other => read_file_command(state, other, words),
     }
+}
+
+// `setdone`: a setup callback returns.
+fn read_setup_done(words: &[&[u8]]) -> Result<Task, Status>
+    ensures { result ≡ setup_done_read (map (λ word. word.now) words.now) }
+{
+    let (worker, accept) = read_answered(words)?;
+    Ok(Task::Event(Step::SetupDone { worker, accept }))
+}
+
+// `next`: a worker takes one step of an operation.
+fn read_next(state: &State, words: &[&[u8]]) -> Result<Task, Status>
+    ensures { result ≡ next_read state.now (map (λ word. word.now) words.now) }
+{
+    let (worker, operation) = read_turn(state, words)?;
+    Ok(Task::Next { worker, operation })
+}
+
+// `go`: a worker takes an operation's steps.
+fn read_go(state: &State, words: &[&[u8]]) -> Result<Task, Status>
+    ensures { result ≡ go_read state.now (map (λ word. word.now) words.now) }
+{
+    let (worker, operation) = read_turn(state, words)?;
+    Ok(Task::Go { worker, operation })
+}
+
+// `base`: a base call is carried out.
+fn read_base(words: &[&[u8]]) -> Result<Task, Status>
+    ensures { result ≡ base_read (map (λ word. word.now) words.now) }
+{
+    Ok(Task::Base {
+        worker: only_worker(words)?,
+    })
+}
+
+// `respost`: a held postoperation goes on.
+fn read_resume_post(state: &State, words: &[&[u8]]) -> Result<Task, Status>
+    ensures { result ≡ resume_post_read state.now (map (λ word. word.now) words.now) }
+{
+    let (worker, operation) = read_turn(state, words)?;
+    Ok(Task::Event(Step::ResumePost { worker, operation }))
+}
+
+// `phase`: an instance's phase is told.
+fn read_phase(state: &State, words: &[&[u8]]) -> Result<Task, Status>
+    ensures { result ≡ phase_read state.now (map (λ word. word.now) words.now) }
+{
+    Ok(Task::Phase(only_instance(state, words)?))
 }
 
 // Whether the command is on contexts.

@@ -17,9 +17,10 @@ use crate::said::{
 use crate::script_end::ScriptEnd;
 use crate::task::Task;
 use crate::words::split_words;
+use fm_altitude::Altitude;
 use fm_core::Step;
-use fm_data::PreVerdict;
-use fm_types::{Bytes, InstanceId, OpId, Status, WorkerId};
+use fm_data::{PostVerdict, PreVerdict};
+use fm_types::{Bytes, CtxId, FilterId, InstanceId, Name, OpId, Status, VolumeId, WorkerId};
 use smallvec::SmallVec;
 use std::alloc::Global;
 use std::io::Write;
@@ -59,15 +60,22 @@ impl<W: Write + Drop> Runner<W> {
         ensures { RunsLine line.now result self.old.interpreter self.new.interpreter }
     {
         if line.len() > MAX_LINE {
-            return self.output.say(&Said::Refused(Status::BadRequest));
+            return self.refuse(Status::BadRequest);
         }
         if is_silent(line) {
             return Ok(());
         }
         match self.read(line) {
             Ok(task) => self.perform(task),
-            Err(status) => self.output.say(&Said::Refused(status)),
+            Err(status) => self.refuse(status),
         }
+    }
+
+    // A refusal.
+    fn refuse(&mut self, status: Status) -> Result<(), ScriptEnd>
+        ensures { self.new.interpreter ≡ self.old.interpreter }
+    {
+        self.output.say(&Said::Refused(status))
     }
 
     // What a line has to be done.
@@ -144,6 +152,52 @@ impl<W: Write + Drop> Runner<W> {
         }
     }
 
+    // Worker 0 attaches an instance, and accepts its setup.
+    fn attach(
+        &mut self,
+        filter: FilterId,
+        volume: VolumeId,
+        name: Name,
+        altitude: Altitude,
+    ) -> Result<(), ScriptEnd>
+        ensures { PerformsOr (TaskOf.Attach filter volume name altitude) result self.old.interpreter self.new.interpreter }
+    {
+        let answer = self.interpreter.attach(filter, volume, name, altitude);
+        self.output.say(&said_attached(answer))
+    }
+
+    // A worker takes one step of an operation.
+    fn next(&mut self, worker: WorkerId, operation: OpId) -> Result<(), ScriptEnd>
+        ensures { PerformsOr (TaskOf.Next worker operation) result self.old.interpreter self.new.interpreter }
+    {
+        let answer = self.interpreter.next(worker, operation);
+        self.output.say(&said_given(answer))
+    }
+
+    // The worker's preoperation callback returns.
+    fn pre(&mut self, worker: WorkerId, verdict: PreVerdict) -> Result<(), ScriptEnd>
+        ensures { PerformsOr (TaskOf.Pre worker verdict) result self.old.interpreter self.new.interpreter }
+    {
+        let answer = self.interpreter.pre(worker, verdict);
+        self.output.say(&said_done(answer))
+    }
+
+    // The worker's base call is carried out, and returns.
+    fn base(&mut self, worker: WorkerId) -> Result<(), ScriptEnd>
+        ensures { PerformsOr (TaskOf.Base worker) result self.old.interpreter self.new.interpreter }
+    {
+        let answer = self.interpreter.base(worker).map(|_| ());
+        self.output.say(&said_done(answer))
+    }
+
+    // The worker's postoperation callback or drain returns.
+    fn post(&mut self, worker: WorkerId, verdict: PostVerdict) -> Result<(), ScriptEnd>
+        ensures { PerformsOr (TaskOf.Post worker verdict) result self.old.interpreter self.new.interpreter }
+    {
+        let answer = self.interpreter.post(worker, verdict);
+        self.output.say(&said_done(answer))
+    }
+
     // A worker takes the operation's steps, and answers each, until the operation is held or done.
     #[tactic(auto, using(crate::proofs::Going::goes_then, crate::proofs::Going::goes_none))]
     fn go(&mut self, worker: WorkerId, operation: OpId) -> Result<(), ScriptEnd>
@@ -166,6 +220,38 @@ impl<W: Write + Drop> Runner<W> {
             None => Said::Refused(Status::NoInstance),
         };
         self.output.say(&line)
+    }
+
+    // How many operations are in flight at an instance.
+    fn flight(&mut self, instance: InstanceId) -> Result<(), ScriptEnd>
+        ensures { self.new.interpreter ≡ self.old.interpreter }
+    {
+        let flight = self.interpreter.state().in_flight(instance);
+        self.output.say(&Said::Number(Word::Flight, flight))
+    }
+
+    // How far a context's life has come.
+    fn count(&mut self, context: CtxId) -> Result<(), ScriptEnd>
+        ensures { self.new.interpreter ≡ self.old.interpreter }
+    {
+        let count = self.interpreter.state().count(context);
+        self.output.say(&said_count(count))
+    }
+
+    // How many references callbacks left behind.
+    fn leaks(&mut self) -> Result<(), ScriptEnd>
+        ensures { self.new.interpreter ≡ self.old.interpreter }
+    {
+        let leaks = self.interpreter.state().leaks();
+        self.output.say(&Said::Number(Word::Leaks, leaks))
+    }
+
+    // How many device calls failed.
+    fn failures(&mut self) -> Result<(), ScriptEnd>
+        ensures { self.new.interpreter ≡ self.old.interpreter }
+    {
+        let failures = self.interpreter.failures();
+        self.output.say(&Said::Number(Word::Failures, failures))
     }
 
     // What `go` will answer for an instance.
@@ -199,46 +285,19 @@ impl<W: Write + Drop> Runner<W> {
                 volume,
                 name,
                 altitude,
-            } => {
-                let answer = self.interpreter.attach(filter, volume, name, altitude);
-                self.output.say(&said_attached(answer))
-            }
-            Task::Next { worker, operation } => {
-                let answer = self.interpreter.next(worker, operation);
-                self.output.say(&said_given(answer))
-            }
-            Task::Pre { worker, verdict } => {
-                let answer = self.interpreter.pre(worker, verdict);
-                self.output.say(&said_done(answer))
-            }
-            Task::Base { worker } => {
-                let answer = self.interpreter.base(worker).map(|_| ());
-                self.output.say(&said_done(answer))
-            }
-            Task::Post { worker, verdict } => {
-                let answer = self.interpreter.post(worker, verdict);
-                self.output.say(&said_done(answer))
-            }
+            } => self.attach(filter, volume, name, altitude),
+            Task::Next { worker, operation } => self.next(worker, operation),
+            Task::Pre { worker, verdict } => self.pre(worker, verdict),
+            Task::Base { worker } => self.base(worker),
+            Task::Post { worker, verdict } => self.post(worker, verdict),
             Task::Go { worker, operation } => self.go(worker, operation),
             Task::Plan { instance, verdict } => self.plan(instance, verdict),
             Task::Phase(instance) => self.phase(instance),
-            Task::Flight(instance) => {
-                let flight = self.interpreter.state().in_flight(instance);
-                self.output.say(&Said::Number(Word::Flight, flight))
-            }
-            Task::Count(context) => {
-                let count = self.interpreter.state().count(context);
-                self.output.say(&said_count(count))
-            }
-            Task::Leaks => {
-                let leaks = self.interpreter.state().leaks();
-                self.output.say(&Said::Number(Word::Leaks, leaks))
-            }
+            Task::Flight(instance) => self.flight(instance),
+            Task::Count(context) => self.count(context),
+            Task::Leaks => self.leaks(),
             Task::Fail(number) => self.fail(number),
-            Task::Failures => {
-                let failures = self.interpreter.failures();
-                self.output.say(&Said::Number(Word::Failures, failures))
-            }
+            Task::Failures => self.failures(),
         }
     }
 }

@@ -28,7 +28,7 @@ impl Interpreter {
         self.answer(worker, operation, given, output)
     }
 
-    // A line is printed where it is known: made in one place for all, each would be moved with room for the largest.
+    // Each line is made where it is printed, and nowhere else: what any arm here makes has its room cleared at every turn.
     #[tactic(auto, using(crate::proofs::Going::goes_none))]
     fn answer<W: Write + Drop>(
         &mut self,
@@ -42,24 +42,23 @@ impl Interpreter {
         match given {
             Ok(Given::Pre(instance)) => {
                 let (verdict, outcome) = self.answer_pre(worker, operation, instance);
-                let line = Said::Answered(u64::from(instance.0), verdict);
-                goes_on(output, &line, outcome)
+                say_answered(output, instance, verdict, outcome)
             }
             Ok(Given::Base) => match self.answer_base(worker, operation) {
-                Ok(status) => goes_on(output, &Said::Based(status), Ok(())),
-                Err(status) => ends(output, &Said::Refused(status)),
+                Ok(status) => say_based(output, status),
+                Err(status) => refuses(output, status),
             },
             Ok(Given::Post(instance, _)) => {
                 let outcome = self.answer_post(worker, operation);
-                goes_on(output, &said_post(Word::Post, instance), outcome)
+                say_back(output, Word::Post, instance, outcome)
             }
             Ok(Given::Drain(instance, _)) => {
                 let outcome = self.answer_post(worker, operation);
-                goes_on(output, &said_post(Word::Drain, instance), outcome)
+                say_back(output, Word::Drain, instance, outcome)
             }
             Ok(Given::Moved) => say_moved(output, self.known(operation)),
-            Ok(Given::Done) => ends(output, &self.answer_done(worker, operation)),
-            Ok(Given::Held) | Err(_) => ends(output, &said_given(given)),
+            Ok(Given::Done) => self.answer_done(worker, operation, output),
+            Ok(Given::Held) | Err(_) => say_stopped(output, given),
         }
     }
 
@@ -92,33 +91,58 @@ impl Interpreter {
     }
 
     #[tactic(auto, using(crate::proofs::Going::goes_collect))]
-    fn answer_done(&mut self, worker: WorkerId, operation: OpId) -> Said
+    fn answer_done<W: Write + Drop>(
+        &mut self,
+        worker: WorkerId,
+        operation: OpId,
+        output: &mut Output<W>,
+    ) -> Result<bool, ScriptEnd>
         ensures { Goes worker operation self.old self.new }
     {
         let _ = worker;
         match self.session.collect(operation) {
-            Ok(answer) => Said::Replied(answer),
-            Err(status) => Said::Refused(status),
+            Ok(answer) => ends(output, &Said::Replied(answer)),
+            Err(status) => refuses(output, status),
         }
     }
 }
 
-// The line for a postoperation callback or a drain.
-fn said_post(word: Word, instance: InstanceId) -> Said {
-    Said::Id(word, b'i', u64::from(instance.0))
-}
-
-// Prints the line for what happened. The operation goes on unless that was refused.
-fn goes_on<W: Write + Drop>(
+// Prints what a preoperation callback answered. The operation goes on unless that was refused.
+fn say_answered<W: Write + Drop>(
     output: &mut Output<W>,
-    line: &Said,
+    instance: InstanceId,
+    verdict: PreVerdict,
     outcome: Result<(), Status>,
 ) -> Result<bool, ScriptEnd> {
-    output.say(line)?;
+    output.say(&Said::Answered(u64::from(instance.0), verdict))?;
+    goes_on(output, outcome)
+}
+
+// Prints that a postoperation callback or a drain returned. The operation goes on unless that was refused.
+fn say_back<W: Write + Drop>(
+    output: &mut Output<W>,
+    word: Word,
+    instance: InstanceId,
+    outcome: Result<(), Status>,
+) -> Result<bool, ScriptEnd> {
+    output.say(&Said::Id(word, b'i', u64::from(instance.0)))?;
+    goes_on(output, outcome)
+}
+
+fn goes_on<W: Write + Drop>(
+    output: &mut Output<W>,
+    outcome: Result<(), Status>,
+) -> Result<bool, ScriptEnd> {
     match outcome {
         Ok(()) => Ok(true),
-        Err(status) => ends(output, &Said::Refused(status)),
+        Err(status) => refuses(output, status),
     }
+}
+
+// Prints the status of the base. The operation goes on.
+fn say_based<W: Write + Drop>(output: &mut Output<W>, status: Status) -> Result<bool, ScriptEnd> {
+    output.say(&Said::Based(status))?;
+    Ok(true)
 }
 
 // Prints the status of the base, if it is known. The operation goes on.
@@ -126,10 +150,23 @@ fn say_moved<W: Write + Drop>(
     output: &mut Output<W>,
     status: Option<Status>,
 ) -> Result<bool, ScriptEnd> {
-    if let Some(status) = status {
-        output.say(&Said::Based(status))?;
+    match status {
+        Some(status) => say_based(output, status),
+        None => Ok(true),
     }
-    Ok(true)
+}
+
+// Prints that the operation is held, or why it doesn't go on.
+fn say_stopped<W: Write + Drop>(
+    output: &mut Output<W>,
+    given: Result<Given, Status>,
+) -> Result<bool, ScriptEnd> {
+    ends(output, &said_given(given))
+}
+
+// Prints a refusal as the last line.
+fn refuses<W: Write + Drop>(output: &mut Output<W>, status: Status) -> Result<bool, ScriptEnd> {
+    ends(output, &Said::Refused(status))
 }
 
 // Prints the last line.

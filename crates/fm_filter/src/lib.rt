@@ -1,0 +1,9 @@
+//! What a minifilter is to the filter manager: the calls that the manager makes of it, and the calls that
+//! its callbacks may make of the manager.
+#![tactic(auto)]
+
+mod minifilter;
+mod port;
+
+pub use crate::minifilter::Minifilter;
+pub use crate::port::Port;

@@ -1,0 +1,19 @@
+-- What the sample filters have in common.
+use Rattle.std.specs.Prelude.{◌≡◌, ℕ, Bool, true, List}
+use Rattle.fm_types.specs.declared.context_kind.ContextKind.{ContextKind}
+use Rattle.fm_data.specs.Data.{Data}
+use Rattle.fm_data.specs.declared.verdict.Completion.{Completion}
+use Rattle.fm_data.specs.declared.verdict.PostVerdict.{PostVerdict}
+use Rattle.fm_data.specs.declared.verdict.PostVerdict.TheVariants.{Finished}
+
+-- a setup, a query or an unload that agrees
+abbrev pub Agrees : Bool → Type 0
+Agrees answer = answer ≡ true
+
+-- a postoperation that leaves the data as it is, and lets it go on
+abbrev pub IsBarePost : Data → Completion → PostVerdict → Data → Type 0
+IsBarePost old completion answer new = (answer ≡ Finished) × (new ≡ old)
+
+-- a cleanup that counts nothing
+abbrev pub CountsNothing : ContextKind → List ℕ → ℕ → Type 0
+CountsNothing kind body number = number ≡ 0

@@ -1,7 +1,6 @@
 -- The filter that denies creates below one folder.
 use Rattle.std.specs.Prelude.{◌≡◌, ℕ, Bool, true, false, cond, List, codes, nat_eq}
 use Rattle.std.specs.List.{starts_with}
-use Rattle.fm_types.specs.declared.operation.OpMask.{OpMask}
 use Rattle.fm_types.specs.declared.registration.Registration.{Registration}
 use Rattle.fm_types.specs.declared.status.Status.TheVariants as status
 use Rattle.fm_data.specs.declared.params.Params.{Params}

@@ -1,2 +1,4 @@
 pub mod Common
 pub mod Guard
+pub mod Shift
+pub mod Meter

@@ -1,0 +1,50 @@
+//! What the sample filters have in common.
+
+ghost use Rattle.std.specs.Prelude.{◌≡◌};
+ghost use Rattle.fm_samples.specs.Common.{plain_completion};
+
+use fm_ctx::SetMode;
+use fm_data::Completion;
+use fm_filter::Port;
+use fm_types::{Bytes, ContextKind, CtxId};
+use fm_world::SetAnswer;
+
+/// How many operations a callback resumes at most: as many as there may be at once.
+pub(crate) const MOST_HELD: usize = 256;
+
+/// A completion that says nothing: its number is 0, and no context travels along.
+pub(crate) fn plain_completion() -> Completion
+    ensures { result ≡ plain_completion }
+{
+    Completion {
+        number: 0,
+        context: None,
+    }
+}
+
+/// The context of that kind that is set on the callback's object, with a reference in the hand: a new one
+/// with that body, or another one where that was there first. None, with nothing taken, where a call was
+/// refused.
+pub(crate) fn set_unless_there<P: Port>(
+    port: &mut P,
+    kind: ContextKind,
+    body: Bytes,
+) -> Option<CtxId>
+    ensures far { P.kept port.new ≡ P.kept port.old }
+    ensures same { P.name port.new ≡ P.name port.old }
+{
+    let Ok(context) = port.allocate(kind, body) else {
+        return None;
+    };
+    match port.set(context, SetMode::Keep, true) {
+        SetAnswer::Linked(_) => Some(context),
+        SetAnswer::AlreadyDefined(there) => {
+            let _ = port.release(context);
+            there
+        }
+        SetAnswer::Refused(_) => {
+            let _ = port.release(context);
+            None
+        }
+    }
+}

@@ -1,0 +1,129 @@
+//! A filter that counts what is read and written.
+
+ghost use Rattle.std.specs.Prelude.{◌≡◌};
+ghost use Rattle.fm_samples.specs.Meter.{counted_in};
+
+use crate::common::set_unless_there;
+use fm_data::{CallbackData, Completion, Params, PostVerdict, PreVerdict};
+use fm_filter::{Minifilter, Port};
+use fm_types::{Bytes, ContextKind, ContextMask, OpMask, Registration};
+use std::alloc::{AllocError, Global};
+
+/// Counts the reads and the writes of each stream in a context of the stream (what a filter for auditing
+/// does): a number of reads, then a number of writes, eight bytes each, the highest first. Where a call is
+/// refused it doesn't count. A context's cleanup returns how many operations it counted, modulo 2^64.
+#[derive(Clone, Copy)]
+pub struct Meter {
+    alloc: Global,
+}
+
+impl Meter {
+    /// The filter, which takes memory for the body of each context.
+    pub fn new(alloc: Global) -> Meter {
+        Meter { alloc }
+    }
+
+    // A body that has counted nothing.
+    fn blank(&self) -> Result<Bytes, AllocError> {
+        Bytes::copy_of(self.alloc, &[0; 16])
+    }
+
+    // Counts one operation in the number at that place of the stream's context.
+    fn count<P: Port>(&self, place: u64, port: &mut P)
+        ensures far { P.kept port.new ≡ P.kept port.old }
+        ensures same { P.name port.new ≡ P.name port.old }
+    {
+        let Ok(body) = self.blank() else {
+            return;
+        };
+        let Some(context) = set_unless_there(port, ContextKind::Stream, body) else {
+            return;
+        };
+        let _ = port.bump(context, place, 1);
+        let _ = port.release(context);
+    }
+}
+
+// How many operations a body has counted, modulo 2^64; a body of less than 16 bytes counts none.
+fn counted_in(body: &[u8]) -> u64
+    ensures { result ≡ counted_in body.now }
+{
+    let Some((reads, rest)) = body.split_first_chunk::<8>() else {
+        return 0;
+    };
+    let Some((writes, _)) = rest.split_first_chunk::<8>() else {
+        return 0;
+    };
+    u64::from_be_bytes(*reads).wrapping_add(u64::from_be_bytes(*writes))
+}
+
+impl Minifilter for Meter {
+    ghost use Rattle.fm_samples.specs.Meter.{meter_registers, MetersCleanup};
+    ghost use Rattle.fm_samples.specs.Common.{Agrees, IsBarePre, IsBarePost};
+
+    ghost registers = { λ _. meter_registers };
+
+    ghost setup_may = { λ _. Agrees };
+
+    ghost pre_may = { λ _. IsBarePre };
+
+    ghost post_may = { λ _. IsBarePost };
+
+    ghost query_may = { λ _. Agrees };
+
+    ghost unload_may = { λ _. Agrees };
+
+    ghost cleanup_may = { λ _. MetersCleanup };
+
+    ghost is_quiet = { λ _. ⊥ };
+
+    fn registration(&self) -> Registration {
+        Registration {
+            pre: OpMask(OpMask::READ.0 | OpMask::WRITE.0),
+            post: OpMask::NONE,
+            contexts: ContextMask::STREAM,
+            query: true,
+            unload: true,
+        }
+    }
+
+    fn setup<P: Port>(&self, _port: &mut P) -> bool {
+        true
+    }
+
+    fn pre<P: Port>(&self, lent: &mut CallbackData, port: &mut P) -> PreVerdict {
+        match lent.params() {
+            Params::Read { .. } => self.count(0, port),
+            Params::Write { .. } => self.count(8, port),
+            _ => {}
+        }
+        PreVerdict::NoCallback
+    }
+
+    fn post<P: Port>(
+        &self,
+        _lent: &mut CallbackData,
+        _completion: Completion,
+        _port: &mut P,
+    ) -> PostVerdict {
+        PostVerdict::Finished
+    }
+
+    fn drain<P: Port>(&self, _completion: Completion, _port: &mut P) {}
+
+    fn query_teardown<P: Port>(&self, _port: &mut P) -> bool {
+        true
+    }
+
+    fn teardown_start<P: Port>(&self, _port: &mut P) {}
+
+    fn teardown_complete<P: Port>(&self, _port: &mut P) {}
+
+    fn unload(&self) -> bool {
+        true
+    }
+
+    fn cleanup(&self, _kind: ContextKind, body: &[u8]) -> u64 {
+        counted_in(body)
+    }
+}

@@ -1,11 +1,19 @@
 //! Sample filters, each as small as its kind allows.
 #![tactic(auto)]
 
+mod carry;
 mod common;
 mod guard;
+mod hold;
 mod meter;
+mod sample;
 mod shift;
+mod stay;
 
+pub use crate::carry::Carry;
 pub use crate::guard::Guard;
+pub use crate::hold::Hold;
 pub use crate::meter::Meter;
+pub use crate::sample::Sample;
 pub use crate::shift::Shift;
+pub use crate::stay::Stay;

@@ -1,0 +1,131 @@
+//! A filter whose reads take a context along.
+
+ghost use Rattle.std.specs.Prelude.{◌≡◌};
+
+use crate::common::set_unless_there;
+use fm_data::{CallbackData, Completion, Params, PostVerdict, PreVerdict};
+use fm_filter::{Minifilter, Port};
+use fm_types::{Bytes, ContextKind, ContextMask, CtxId, OpMask, Registration};
+use std::alloc::{AllocError, Global};
+
+/// Sends the context of its handle along with each read (what a filter does that keeps a handle's state for
+/// the way up): a reference is in the hand again at the postoperation, or at the drain, which releases it.
+/// Where a call is refused the read goes on without a postoperation.
+#[derive(Clone, Copy)]
+pub struct Carry {
+    alloc: Global,
+}
+
+impl Carry {
+    /// The filter, which takes memory for the body of each context.
+    pub fn new(alloc: Global) -> Carry {
+        Carry { alloc }
+    }
+
+    // A body of one byte.
+    fn blank(&self) -> Result<Bytes, AllocError> {
+        Bytes::copy_of(self.alloc, &[0])
+    }
+
+    // The context of the callback's handle, with a reference in the hand; a new one where there was none.
+    fn of_handle<P: Port>(&self, port: &mut P) -> Option<CtxId>
+        ensures far { P.kept port.new ≡ P.kept port.old }
+        ensures same { P.name port.new ≡ P.name port.old }
+    {
+        if let Ok(context) = port.get(ContextKind::Handle) {
+            return Some(context);
+        }
+        let Ok(body) = self.blank() else {
+            return None;
+        };
+        set_unless_there(port, ContextKind::Handle, body)
+    }
+}
+
+// Releases what a completion brought.
+fn release<P: Port>(completion: Completion, port: &mut P)
+    ensures far { P.kept port.new ≡ P.kept port.old }
+    ensures same { P.name port.new ≡ P.name port.old }
+{
+    if let Some(context) = completion.context {
+        let _ = port.release(context);
+    }
+}
+
+impl Minifilter for Carry {
+    ghost use Rattle.fm_samples.specs.Carry.{carry_registers, CarriesPre};
+    ghost use Rattle.fm_samples.specs.Common.{Agrees, IsBarePost, CountsNothing};
+
+    ghost registers = { λ _. carry_registers };
+
+    ghost setup_may = { λ _. Agrees };
+
+    ghost pre_may = { λ _. CarriesPre };
+
+    ghost post_may = { λ _. IsBarePost };
+
+    ghost query_may = { λ _. Agrees };
+
+    ghost unload_may = { λ _. Agrees };
+
+    ghost cleanup_may = { λ _. CountsNothing };
+
+    ghost is_quiet = { λ _. ⊥ };
+
+    fn registration(&self) -> Registration {
+        Registration {
+            pre: OpMask::READ,
+            post: OpMask::READ,
+            contexts: ContextMask::HANDLE,
+            query: true,
+            unload: true,
+        }
+    }
+
+    fn setup<P: Port>(&self, _port: &mut P) -> bool {
+        true
+    }
+
+    fn pre<P: Port>(&self, lent: &mut CallbackData, port: &mut P) -> PreVerdict {
+        let Params::Read { .. } = lent.params() else {
+            return PreVerdict::NoCallback;
+        };
+        match self.of_handle(port) {
+            Some(context) => PreVerdict::WithCallback(Completion {
+                number: 1,
+                context: Some(context),
+            }),
+            None => PreVerdict::NoCallback,
+        }
+    }
+
+    fn post<P: Port>(
+        &self,
+        _lent: &mut CallbackData,
+        completion: Completion,
+        port: &mut P,
+    ) -> PostVerdict {
+        release(completion, port);
+        PostVerdict::Finished
+    }
+
+    fn drain<P: Port>(&self, completion: Completion, port: &mut P) {
+        release(completion, port);
+    }
+
+    fn query_teardown<P: Port>(&self, _port: &mut P) -> bool {
+        true
+    }
+
+    fn teardown_start<P: Port>(&self, _port: &mut P) {}
+
+    fn teardown_complete<P: Port>(&self, _port: &mut P) {}
+
+    fn unload(&self) -> bool {
+        true
+    }
+
+    fn cleanup(&self, _kind: ContextKind, _body: &[u8]) -> u64 {
+        0
+    }
+}

@@ -1,0 +1,104 @@
+//! A filter that holds reads until a flush.
+
+ghost use Rattle.std.specs.Prelude.{◌≡◌};
+
+use crate::common::MOST_HELD;
+use fm_data::{CallbackData, Completion, Params, PostVerdict, PreVerdict};
+use fm_filter::{Minifilter, Port};
+use fm_flow::Hold as Held;
+use fm_types::{ContextKind, ContextMask, OpMask, Registration};
+
+/// Holds each read in its preoperation, until a flush comes to the instance or its teardown starts (what a
+/// filter does that has to wait for a verdict of its own).
+#[derive(Clone, Copy, Debug)]
+pub struct Hold;
+
+// Lets every read go on that the instance holds.
+fn resume_all<P: Port>(port: &mut P)
+    ensures far { P.kept port.new ≡ P.kept port.old }
+    ensures same { P.name port.new ≡ P.name port.old }
+{
+    for _ in 0..MOST_HELD {
+        let Ok(Some(operation)) = port.first_held(Held::Pre) else {
+            return;
+        };
+        if port.resume_pre(operation, PreVerdict::NoCallback).is_err() {
+            return;
+        }
+    }
+}
+
+impl Minifilter for Hold {
+    ghost use Rattle.fm_samples.specs.Hold.{hold_registers, HoldsPre};
+    ghost use Rattle.fm_samples.specs.Common.{Agrees, IsBarePost, CountsNothing};
+
+    ghost registers = { λ _. hold_registers };
+
+    ghost setup_may = { λ _. Agrees };
+
+    ghost pre_may = { λ _. HoldsPre };
+
+    ghost post_may = { λ _. IsBarePost };
+
+    ghost query_may = { λ _. Agrees };
+
+    ghost unload_may = { λ _. Agrees };
+
+    ghost cleanup_may = { λ _. CountsNothing };
+
+    ghost is_quiet = { λ _. ⊥ };
+
+    fn registration(&self) -> Registration {
+        Registration {
+            pre: OpMask(OpMask::READ.0 | OpMask::FLUSH.0),
+            post: OpMask::NONE,
+            contexts: ContextMask::NONE,
+            query: true,
+            unload: true,
+        }
+    }
+
+    fn setup<P: Port>(&self, _port: &mut P) -> bool {
+        true
+    }
+
+    fn pre<P: Port>(&self, lent: &mut CallbackData, port: &mut P) -> PreVerdict {
+        match lent.params() {
+            Params::Read { .. } => PreVerdict::Pending,
+            Params::Flush => {
+                resume_all(port);
+                PreVerdict::NoCallback
+            }
+            _ => PreVerdict::NoCallback,
+        }
+    }
+
+    fn post<P: Port>(
+        &self,
+        _lent: &mut CallbackData,
+        _completion: Completion,
+        _port: &mut P,
+    ) -> PostVerdict {
+        PostVerdict::Finished
+    }
+
+    fn drain<P: Port>(&self, _completion: Completion, _port: &mut P) {}
+
+    fn query_teardown<P: Port>(&self, _port: &mut P) -> bool {
+        true
+    }
+
+    fn teardown_start<P: Port>(&self, port: &mut P) {
+        resume_all(port);
+    }
+
+    fn teardown_complete<P: Port>(&self, _port: &mut P) {}
+
+    fn unload(&self) -> bool {
+        true
+    }
+
+    fn cleanup(&self, _kind: ContextKind, _body: &[u8]) -> u64 {
+        0
+    }
+}

@@ -1,0 +1,165 @@
+//! The sample filters as one type.
+
+use crate::carry::Carry;
+use crate::guard::Guard;
+use crate::hold::Hold;
+use crate::meter::Meter;
+use crate::shift::Shift;
+use crate::stay::Stay;
+use fm_data::{CallbackData, Completion, PostVerdict, PreVerdict};
+use fm_filter::{Minifilter, Port};
+use fm_types::{ContextKind, Registration};
+
+/// One of the sample filters, so that a manager of filters of one type can have them all. Each call is that
+/// of the filter.
+#[derive(Clone, Copy)]
+pub enum Sample {
+    /// Denies creates below the folder `deny`.
+    Guard(Guard),
+    /// Counts reads and writes.
+    Meter(Meter),
+    /// Keeps the bytes of files raised by one.
+    Shift(Shift),
+    /// Holds reads on the way down.
+    Hold(Hold),
+    /// Sends a context along with each read.
+    Carry(Carry),
+    /// Holds reads on the way up.
+    Stay(Stay),
+}
+
+impl Minifilter for Sample {
+    ghost use Rattle.fm_samples.specs.Common.{Agrees};
+    ghost use Rattle.fm_samples.specs.Sample.{sample_registers, SamplesPre, SamplesPost, SamplesCleanup, IsQuietSample};
+
+    ghost registers = { sample_registers };
+
+    ghost setup_may = { λ _. Agrees };
+
+    ghost pre_may = { SamplesPre };
+
+    ghost post_may = { SamplesPost };
+
+    ghost query_may = { λ _. Agrees };
+
+    ghost unload_may = { λ _. Agrees };
+
+    ghost cleanup_may = { SamplesCleanup };
+
+    ghost is_quiet = { IsQuietSample };
+
+    fn registration(&self) -> Registration {
+        match self {
+            Sample::Guard(filter) => filter.registration(),
+            Sample::Meter(filter) => filter.registration(),
+            Sample::Shift(filter) => filter.registration(),
+            Sample::Hold(filter) => filter.registration(),
+            Sample::Carry(filter) => filter.registration(),
+            Sample::Stay(filter) => filter.registration(),
+        }
+    }
+
+    fn setup<P: Port>(&self, port: &mut P) -> bool {
+        match self {
+            Sample::Guard(filter) => filter.setup(port),
+            Sample::Meter(filter) => filter.setup(port),
+            Sample::Shift(filter) => filter.setup(port),
+            Sample::Hold(filter) => filter.setup(port),
+            Sample::Carry(filter) => filter.setup(port),
+            Sample::Stay(filter) => filter.setup(port),
+        }
+    }
+
+    fn pre<P: Port>(&self, lent: &mut CallbackData, port: &mut P) -> PreVerdict {
+        match self {
+            Sample::Guard(filter) => filter.pre(lent, port),
+            Sample::Meter(filter) => filter.pre(lent, port),
+            Sample::Shift(filter) => filter.pre(lent, port),
+            Sample::Hold(filter) => filter.pre(lent, port),
+            Sample::Carry(filter) => filter.pre(lent, port),
+            Sample::Stay(filter) => filter.pre(lent, port),
+        }
+    }
+
+    fn post<P: Port>(
+        &self,
+        lent: &mut CallbackData,
+        completion: Completion,
+        port: &mut P,
+    ) -> PostVerdict {
+        match self {
+            Sample::Guard(filter) => filter.post(lent, completion, port),
+            Sample::Meter(filter) => filter.post(lent, completion, port),
+            Sample::Shift(filter) => filter.post(lent, completion, port),
+            Sample::Hold(filter) => filter.post(lent, completion, port),
+            Sample::Carry(filter) => filter.post(lent, completion, port),
+            Sample::Stay(filter) => filter.post(lent, completion, port),
+        }
+    }
+
+    fn drain<P: Port>(&self, completion: Completion, port: &mut P) {
+        match self {
+            Sample::Guard(filter) => filter.drain(completion, port),
+            Sample::Meter(filter) => filter.drain(completion, port),
+            Sample::Shift(filter) => filter.drain(completion, port),
+            Sample::Hold(filter) => filter.drain(completion, port),
+            Sample::Carry(filter) => filter.drain(completion, port),
+            Sample::Stay(filter) => filter.drain(completion, port),
+        }
+    }
+
+    fn query_teardown<P: Port>(&self, port: &mut P) -> bool {
+        match self {
+            Sample::Guard(filter) => filter.query_teardown(port),
+            Sample::Meter(filter) => filter.query_teardown(port),
+            Sample::Shift(filter) => filter.query_teardown(port),
+            Sample::Hold(filter) => filter.query_teardown(port),
+            Sample::Carry(filter) => filter.query_teardown(port),
+            Sample::Stay(filter) => filter.query_teardown(port),
+        }
+    }
+
+    fn teardown_start<P: Port>(&self, port: &mut P) {
+        match self {
+            Sample::Guard(filter) => filter.teardown_start(port),
+            Sample::Meter(filter) => filter.teardown_start(port),
+            Sample::Shift(filter) => filter.teardown_start(port),
+            Sample::Hold(filter) => filter.teardown_start(port),
+            Sample::Carry(filter) => filter.teardown_start(port),
+            Sample::Stay(filter) => filter.teardown_start(port),
+        }
+    }
+
+    fn teardown_complete<P: Port>(&self, port: &mut P) {
+        match self {
+            Sample::Guard(filter) => filter.teardown_complete(port),
+            Sample::Meter(filter) => filter.teardown_complete(port),
+            Sample::Shift(filter) => filter.teardown_complete(port),
+            Sample::Hold(filter) => filter.teardown_complete(port),
+            Sample::Carry(filter) => filter.teardown_complete(port),
+            Sample::Stay(filter) => filter.teardown_complete(port),
+        }
+    }
+
+    fn unload(&self) -> bool {
+        match self {
+            Sample::Guard(filter) => filter.unload(),
+            Sample::Meter(filter) => filter.unload(),
+            Sample::Shift(filter) => filter.unload(),
+            Sample::Hold(filter) => filter.unload(),
+            Sample::Carry(filter) => filter.unload(),
+            Sample::Stay(filter) => filter.unload(),
+        }
+    }
+
+    fn cleanup(&self, kind: ContextKind, body: &[u8]) -> u64 {
+        match self {
+            Sample::Guard(filter) => filter.cleanup(kind, body),
+            Sample::Meter(filter) => filter.cleanup(kind, body),
+            Sample::Shift(filter) => filter.cleanup(kind, body),
+            Sample::Hold(filter) => filter.cleanup(kind, body),
+            Sample::Carry(filter) => filter.cleanup(kind, body),
+            Sample::Stay(filter) => filter.cleanup(kind, body),
+        }
+    }
+}

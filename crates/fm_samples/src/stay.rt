@@ -1,0 +1,105 @@
+//! A filter that holds the answers of reads until a flush.
+
+ghost use Rattle.std.specs.Prelude.{◌≡◌};
+
+use crate::common::{MOST_HELD, plain_completion};
+use fm_data::{CallbackData, Completion, Params, PostVerdict, PreVerdict};
+use fm_filter::{Minifilter, Port};
+use fm_flow::Hold as Held;
+use fm_types::{ContextKind, ContextMask, OpMask, Registration};
+
+/// Holds each read in its postoperation, until a flush comes to the instance or its teardown starts. It
+/// has no query routine, so that its instances can't be detached by hand.
+#[derive(Clone, Copy, Debug)]
+pub struct Stay;
+
+// Lets every answer go on that the instance holds.
+fn resume_all<P: Port>(port: &mut P)
+    ensures far { P.kept port.new ≡ P.kept port.old }
+    ensures same { P.name port.new ≡ P.name port.old }
+{
+    for _ in 0..MOST_HELD {
+        let Ok(Some(operation)) = port.first_held(Held::Post) else {
+            return;
+        };
+        if port.resume_post(operation).is_err() {
+            return;
+        }
+    }
+}
+
+impl Minifilter for Stay {
+    ghost use Rattle.fm_samples.specs.Stay.{stay_registers, StaysPre, StaysPost};
+    ghost use Rattle.fm_samples.specs.Common.{Agrees, CountsNothing};
+
+    ghost registers = { λ _. stay_registers };
+
+    ghost setup_may = { λ _. Agrees };
+
+    ghost pre_may = { λ _. StaysPre };
+
+    ghost post_may = { λ _. StaysPost };
+
+    ghost query_may = { λ _. Agrees };
+
+    ghost unload_may = { λ _. Agrees };
+
+    ghost cleanup_may = { λ _. CountsNothing };
+
+    ghost is_quiet = { λ _. ⊥ };
+
+    fn registration(&self) -> Registration {
+        Registration {
+            pre: OpMask(OpMask::READ.0 | OpMask::FLUSH.0),
+            post: OpMask::READ,
+            contexts: ContextMask::NONE,
+            query: false,
+            unload: true,
+        }
+    }
+
+    fn setup<P: Port>(&self, _port: &mut P) -> bool {
+        true
+    }
+
+    fn pre<P: Port>(&self, lent: &mut CallbackData, port: &mut P) -> PreVerdict {
+        match lent.params() {
+            Params::Read { .. } => PreVerdict::WithCallback(plain_completion()),
+            Params::Flush => {
+                resume_all(port);
+                PreVerdict::NoCallback
+            }
+            _ => PreVerdict::NoCallback,
+        }
+    }
+
+    fn post<P: Port>(
+        &self,
+        _lent: &mut CallbackData,
+        _completion: Completion,
+        _port: &mut P,
+    ) -> PostVerdict {
+        PostVerdict::MoreProcessing
+    }
+
+    fn drain<P: Port>(&self, _completion: Completion, _port: &mut P) {}
+
+    // nobody calls it, since it isn't registered
+    fn query_teardown<P: Port>(&self, _port: &mut P) -> bool {
+        true
+    }
+
+    fn teardown_start<P: Port>(&self, port: &mut P) {
+        resume_all(port);
+    }
+
+    fn teardown_complete<P: Port>(&self, _port: &mut P) {}
+
+    fn unload(&self) -> bool {
+        true
+    }
+
+    fn cleanup(&self, _kind: ContextKind, _body: &[u8]) -> u64 {
+        0
+    }
+}

@@ -6,3 +6,4 @@ pub mod Hold
 pub mod Carry
 pub mod Stay
 pub mod Sample
+pub mod Laws

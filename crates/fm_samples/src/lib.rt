@@ -5,6 +5,7 @@ mod carry;
 mod common;
 mod guard;
 mod hold;
+pub mod laws;
 mod meter;
 mod sample;
 mod shift;

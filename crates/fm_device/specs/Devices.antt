@@ -2,7 +2,7 @@
 use Rattle.std.specs.Prelude.{◌≡◌, ◌≢◌, ℕ, Bool, true, false, List, [], ◌<◌, ◌≤◌, length, slice_index_or, slice_set, Option, Some, None, Result, Ok, Err}
 use Rattle.std.specs.FinMap.{empty}
 use Rattle.fm_types.specs.declared.status.Status.{Status}
-use Rattle.fm_types.specs.declared.status.Status.TheVariants.{Success, NoMemory, NoVolume, BadRequest}
+use Rattle.fm_types.specs.declared.status.Status.TheVariants.{Success, NoMemory, NoVolume, DeviceFault, BadRequest}
 use Rattle.fm_data.specs.declared.answer.Answer.{Answer}
 use Rattle.fm_data.specs.declared.base_call.BaseCall.{BaseCall}
 use Rattle.fm_data.specs.declared.params.Params.{Params}
@@ -77,6 +77,12 @@ CarriesOn false (Some path) call old new answer = CarriesWithin (is_within_limit
 
 abbrev pub CarriesAny : Option (List ℕ) → Params → Folder → Folder → Answer → Type 0
 CarriesAny path call old new answer = CarriesOn (is_listing call) path call old new answer
+
+-- of a base that knows its folder, unless the device failed; after a failure nothing is said of it, and of one that doesn't know its folder nothing either
+abbrev pub KnownAs : Option Folder → Option Folder → (Folder → Folder → Type 0) → Answer → Type 0
+KnownAs None new carries answer = new ≡ None
+KnownAs (Some old) None carries answer = ⊥
+KnownAs (Some old) (Some new) carries answer = answer ≢ bare DeviceFault → carries old new
 
 -- the folder of the volume answers and changes so, and all others stay; a volume that isn't there is refused
 pub record CarriesCall (old : List Folder) (call : BaseCall) (answer : Answer) (new : List Folder) : Type 0 where

@@ -2,8 +2,10 @@
 //! operation is.
 #![tactic(auto)]
 
+mod calls;
 mod device;
 mod memory;
 
+pub use crate::calls::call_base;
 pub use crate::device::Device;
 pub use crate::memory::MemoryDevices;

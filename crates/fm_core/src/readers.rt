@@ -3,6 +3,7 @@
 ghost use Rattle.std.specs.Prelude.{◌≡◌, length, slice_get, slice_index_or, option_map, option_and_then, option_copied};
 ghost use Rattle.fm_ctx.specs.Bags.{hand_of};
 ghost use Rattle.fm_ctx.specs.Counting.{born, cleaned_count, count_reply};
+ghost use Rattle.fm_ctx.specs.Table.{kind_at};
 ghost use Rattle.fm_world.specs.World.{carries};
 ghost use Rattle.fm_stack.specs.declared.filter.Filter.{Filter};
 ghost use Rattle.fm_stack.specs.declared.instance.Instance.{Instance};
@@ -16,7 +17,7 @@ use crate::workers::WORKERS;
 use fm_ctx::Count;
 use fm_flow::Entry;
 use fm_stack::{FilterPhase, Phase, VolumePhase};
-use fm_types::{CtxId, FilterId, HandleId, InstanceId, OpId, VolumeId, WorkerId};
+use fm_types::{ContextKind, CtxId, FilterId, HandleId, InstanceId, OpId, VolumeId, WorkerId};
 
 impl State {
     /// How many filters were registered: the ids given out are those below.
@@ -160,6 +161,24 @@ impl State {
         } else {
             0
         }
+    }
+
+    /// The reference at that place of the worker's hand, if it holds so many.
+    pub fn held_at(&self, worker: WorkerId, place: usize) -> Option<CtxId>
+        ensures { result ≡ slice_get (hand_of self.now.contexts.hands worker.0) place }
+    {
+        if (worker.0 as usize) < WORKERS {
+            self.contexts.held_at(worker, place)
+        } else {
+            None
+        }
+    }
+
+    /// Of which kind a context is, if it isn't cleaned.
+    pub fn kind_of(&self, context: CtxId) -> Option<ContextKind>
+        ensures { result ≡ kind_at self.now.contexts.slots context }
+    {
+        self.contexts.kind_of(context)
     }
 
     /// How many contexts were allocated.

@@ -66,6 +66,13 @@ impl Hand {
         self.ids.first().copied()
     }
 
+    /// The reference at that place, if it has so many.
+    pub fn at(&self, place: usize) -> Option<CtxId>
+        ensures { result ≡ slice_get self.now place }
+    {
+        self.ids.get(place).copied()
+    }
+
     fn place_of(&self, id: CtxId) -> Option<usize>
         ensures { result ≡ position (is_id id) self.now }
     {

@@ -1,6 +1,6 @@
 //! What can be read of the contexts.
 
-ghost use Rattle.std.specs.Prelude.{cond, not, ◌≡◌, ◌<◌, true, is_some, length, option_copied, option_map, unwrap_or};
+ghost use Rattle.std.specs.Prelude.{cond, not, ◌≡◌, ◌<◌, true, is_some, length, option_copied, option_map, slice_get, unwrap_or};
 ghost use Rattle.std.specs.List.{list_any};
 ghost use Rattle.fm_ctx.specs.Bags.{holds, hand_of, is_hand_full, cleaning_of, cleans};
 ghost use Rattle.fm_ctx.specs.Births.{is_out_of_slots};
@@ -55,6 +55,14 @@ impl Contexts {
         ensures { result ≡ length (hand_of self.now.table.hands worker.0) }
     {
         self.hands[worker.0 as usize].len()
+    }
+
+    /// The reference at that place of the worker's hand, if it holds so many.
+    pub fn held_at(&self, worker: WorkerId, place: usize) -> Option<CtxId>
+        requires { worker.0 < 48 }
+        ensures { result ≡ slice_get (hand_of self.now.table.hands worker.0) place }
+    {
+        self.hands[worker.0 as usize].at(place)
     }
 
     pub(super) fn is_hand_full(&self, worker: WorkerId) -> bool

@@ -1,0 +1,66 @@
+//! Queues that take their memory once.
+
+ghost use Rattle.std.specs.Prelude.{◌≡◌, ◌<◌, ◌≤◌, ◌++◌, ◌∷◌, [], IfOk, length, nat_le, slice_get};
+
+use std::alloc::{AllocError, Global};
+use std::collections::VecDeque;
+
+/// A queue of a bounded length, whose room is taken when it is made.
+#[derive(Drop)]
+pub struct Bounded<T> {
+    items: VecDeque<T>,
+    limit: usize,
+}
+
+impl<T: Copy> Bounded<T> {
+    /// An empty queue for at most `limit` items. It fails where there is no memory for them.
+    pub fn new(alloc: Global, limit: usize) -> Result<Bounded<T>, AllocError>
+        ensures { IfOk result (λ queue. queue.items.items ≡ []) }
+    {
+        let items = VecDeque::with_capacity(alloc, limit)?;
+        Ok(Bounded { items, limit })
+    }
+
+    /// How many items wait.
+    pub fn len(&self) -> usize
+        ensures { result ≡ length self.now.items.items }
+    {
+        self.items.len()
+    }
+
+    /// Whether there is no room for one more.
+    pub fn is_full(&self) -> bool
+        ensures { result ≡ nat_le self.now.limit (length self.now.items.items) }
+    {
+        self.items.len() >= self.limit
+    }
+
+    /// The item at that place, the one put longest ago first.
+    pub fn get(&self, place: usize) -> Option<T>
+        ensures { result ≡ slice_get self.now.items.items place }
+    {
+        self.items.get(place).copied()
+    }
+
+    /// Puts an item behind the others; where there is no room it goes in the place of the one put longest ago.
+    pub fn put(&mut self, item: T) {
+        if self.is_full() {
+            let _ = self.items.pop_front();
+        }
+        let _ = self.items.push_back(item);
+    }
+
+    /// Takes the item put longest ago.
+    pub fn take(&mut self) -> Option<T>
+        ensures { result ≡ slice_get self.old.items.items 0 }
+    {
+        self.items.pop_front()
+    }
+
+    /// Takes all items away.
+    pub fn clear(&mut self)
+        ensures { self.new.items.items ≡ [] }
+    {
+        self.items.clear();
+    }
+}

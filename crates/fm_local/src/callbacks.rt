@@ -1,0 +1,312 @@
+//! The callbacks of filters, each between the event that enters it and the one that ends it.
+
+use crate::leak::{Callback, Leak};
+use crate::local_port::LocalPort;
+use crate::manager::{LocalManager, WORKER};
+use crate::trace::{Traced, Visit};
+use fm_base::Base;
+use fm_core::{Due, Owner};
+use fm_data::{CallbackData, Completion, PostVerdict, PreVerdict};
+use fm_filter::Minifilter;
+use fm_types::{CtxId, FilterId, InstanceId, OpId, Status};
+
+/// How many contexts are cleaned up at most: as many as there may be.
+const CLEANED: usize = 65_536;
+
+/// Which callback returns: what a leak says of it.
+#[derive(Clone, Copy)]
+struct Returning {
+    callback: Callback,
+    instance: InstanceId,
+    operation: Option<OpId>,
+    /// The context that its completion sends along, of which one reference isn't left behind.
+    sent: Option<CtxId>,
+}
+
+/// Which context a verdict sends along.
+fn sent_by(verdict: PreVerdict) -> Option<CtxId> {
+    match verdict {
+        PreVerdict::WithCallback(completion) | PreVerdict::Synchronize(completion) => {
+            completion.context
+        }
+        PreVerdict::NoCallback | PreVerdict::Complete(_) | PreVerdict::Pending => None,
+    }
+}
+
+impl<F: Minifilter, B: Base> LocalManager<F, B> {
+    /// Calls the setup callback of a new instance. Refused as the end of that callback is.
+    pub(crate) fn setup(&mut self, instance: InstanceId) -> Result<(), Status> {
+        let accepts = match self.filters.of(self.desk.state.filter_of(instance)) {
+            Some(filter) => {
+                let mut port = LocalPort {
+                    desk: &mut self.desk,
+                    worker: WORKER,
+                };
+                filter.setup(&mut port)
+            }
+            None => false,
+        };
+        let before = self.look_at_hand();
+        let ended = self.desk.state.setup_done(WORKER, accepts);
+        self.note_leaks(before, Returning::of(Callback::Setup, instance));
+        ended
+    }
+
+    /// Calls the preoperation of an instance.
+    pub(crate) fn pre(
+        &mut self,
+        operation: OpId,
+        instance: InstanceId,
+        mut data: CallbackData,
+    ) -> Result<(), Status> {
+        let verdict = match self.filters.of(self.desk.state.filter_of(instance)) {
+            Some(filter) => {
+                let mut port = LocalPort {
+                    desk: &mut self.desk,
+                    worker: WORKER,
+                };
+                filter.pre(&mut data, &mut port)
+            }
+            None => PreVerdict::NoCallback,
+        };
+        self.note(operation, Visit::Pre(instance, verdict));
+        let before = self.look_at_hand();
+        let ended = self.desk.state.pre_returned(WORKER, verdict, data);
+        self.note_leaks(
+            before,
+            Returning {
+                callback: Callback::Pre,
+                instance,
+                operation: Some(operation),
+                sent: sent_by(verdict),
+            },
+        );
+        match ended {
+            Ok(()) => Ok(()),
+            Err(refused) => Err(refused.status),
+        }
+    }
+
+    /// Calls the postoperation of an instance.
+    pub(crate) fn post(
+        &mut self,
+        operation: OpId,
+        instance: InstanceId,
+        mut data: CallbackData,
+        completion: Completion,
+    ) -> Result<(), Status> {
+        let verdict = match self.filters.of(self.desk.state.filter_of(instance)) {
+            Some(filter) => {
+                let mut port = LocalPort {
+                    desk: &mut self.desk,
+                    worker: WORKER,
+                };
+                filter.post(&mut data, completion, &mut port)
+            }
+            None => PostVerdict::Finished,
+        };
+        self.note(operation, Visit::Post(instance, verdict));
+        let before = self.look_at_hand();
+        let ended = self.desk.state.post_returned(WORKER, verdict, Some(data));
+        self.note_leaks(
+            before,
+            Returning::for_operation(Callback::Post, instance, operation),
+        );
+        match ended {
+            Ok(()) => Ok(()),
+            Err(refused) => Err(refused.status),
+        }
+    }
+
+    /// Has an instance let go of what its completion names: in the place of its postoperation.
+    pub(crate) fn drain_next(
+        &mut self,
+        operation: OpId,
+        instance: InstanceId,
+        completion: Completion,
+    ) -> Result<(), Status> {
+        self.drain(operation, instance, completion);
+        let before = self.look_at_hand();
+        let ended = self
+            .desk
+            .state
+            .post_returned(WORKER, PostVerdict::Finished, None);
+        self.note_leaks(
+            before,
+            Returning::for_operation(Callback::Drain, instance, operation),
+        );
+        match ended {
+            Ok(()) => Ok(()),
+            Err(refused) => Err(refused.status),
+        }
+    }
+
+    /// The same before the operation has come to its postoperation.
+    pub(crate) fn drain_early(
+        &mut self,
+        operation: OpId,
+        instance: InstanceId,
+        completion: Completion,
+    ) -> Result<(), Status> {
+        self.drain(operation, instance, completion);
+        let before = self.look_at_hand();
+        let ended = self.desk.state.drain_done(WORKER);
+        self.note_leaks(
+            before,
+            Returning::for_operation(Callback::Drain, instance, operation),
+        );
+        ended
+    }
+
+    fn drain(&mut self, operation: OpId, instance: InstanceId, completion: Completion) {
+        if let Some(filter) = self.filters.of(self.desk.state.filter_of(instance)) {
+            let mut port = LocalPort {
+                desk: &mut self.desk,
+                worker: WORKER,
+            };
+            filter.drain(completion, &mut port);
+        }
+        self.note(operation, Visit::Drain(instance));
+    }
+
+    /// Calls the query callback of an instance. Refused as the end of that callback is.
+    pub(crate) fn query(&mut self, instance: InstanceId) -> Result<(), Status> {
+        let allows = match self.filters.of(self.desk.state.filter_of(instance)) {
+            Some(filter) => {
+                let mut port = LocalPort {
+                    desk: &mut self.desk,
+                    worker: WORKER,
+                };
+                filter.query_teardown(&mut port)
+            }
+            None => false,
+        };
+        let before = self.look_at_hand();
+        let ended = self.desk.state.query_returned(WORKER, allows);
+        self.note_leaks(before, Returning::of(Callback::Query, instance));
+        ended
+    }
+
+    /// Calls the callback that says that an instance's teardown starts.
+    pub(crate) fn start(&mut self, instance: InstanceId) -> Result<(), Status> {
+        if let Some(filter) = self.filters.of(self.desk.state.filter_of(instance)) {
+            let mut port = LocalPort {
+                desk: &mut self.desk,
+                worker: WORKER,
+            };
+            filter.teardown_start(&mut port);
+        }
+        let before = self.look_at_hand();
+        let ended = self.desk.state.start_returned(WORKER);
+        self.note_leaks(before, Returning::of(Callback::Start, instance));
+        ended
+    }
+
+    /// Calls the callback that says that an instance's teardown is complete.
+    pub(crate) fn complete(&mut self, instance: InstanceId) -> Result<(), Status> {
+        if let Some(filter) = self.filters.of(self.desk.state.filter_of(instance)) {
+            let mut port = LocalPort {
+                desk: &mut self.desk,
+                worker: WORKER,
+            };
+            filter.teardown_complete(&mut port);
+        }
+        let before = self.look_at_hand();
+        let ended = self.desk.state.complete_returned(WORKER);
+        self.note_leaks(before, Returning::of(Callback::Complete, instance));
+        ended
+    }
+
+    /// Calls the unload callback of a filter. Refused as the end of that callback is.
+    pub(crate) fn unloading(&mut self, filter: FilterId) -> Result<(), Status> {
+        let allows = match self.filters.of(Some(filter)) {
+            Some(filter) => filter.unload(),
+            None => false,
+        };
+        self.desk.state.unload_returned(WORKER, allows)
+    }
+
+    /// Cleans up every context that is due.
+    pub(crate) fn clean_up(&mut self) {
+        for _ in 0..CLEANED {
+            let Ok(Some(due)) = self.desk.state.take_due(WORKER) else {
+                return;
+            };
+            let number = self.cleanup(&due);
+            let _ = self.desk.state.cleaned(WORKER, number);
+        }
+    }
+
+    fn cleanup(&self, due: &Due) -> u64 {
+        let filter = match due.owner {
+            Owner::Instance(instance) => self.desk.state.filter_of(instance),
+            Owner::Filter(filter) => Some(filter),
+        };
+        match self.filters.of(filter) {
+            Some(filter) => filter.cleanup(due.kind, due.body.as_slice()),
+            None => 0,
+        }
+    }
+
+    /// Notes a step of an operation.
+    pub(crate) fn note(&mut self, operation: OpId, visit: Visit) {
+        self.trace.put(Traced { operation, visit });
+    }
+
+    // Copies what the callback holds that is about to return; the number of leaks so far.
+    fn look_at_hand(&mut self) -> u64 {
+        self.hand.clear();
+        for place in 0..self.desk.state.hand_len(WORKER) {
+            if let Some(context) = self.desk.state.held_at(WORKER, place) {
+                self.hand.put(context);
+            }
+        }
+        self.desk.state.leaks()
+    }
+
+    // Notes which of the references that the callback held were left behind, where some were: all of them, or all but the one that its completion sends.
+    fn note_leaks(&mut self, before: u64, returning: Returning) {
+        if self.desk.state.leaks() == before {
+            return;
+        }
+        let left = self.desk.state.leaks().saturating_sub(before);
+        let mut sent = returning.sent;
+        if left >= self.hand.len() as u64 {
+            sent = None;
+        }
+        for place in 0..self.hand.len() {
+            let held = self.hand.get(place);
+            if held.is_some() && held == sent {
+                sent = None;
+            } else if let Some(context) = held {
+                self.leaks.put(Leak {
+                    context,
+                    kind: self.desk.state.kind_of(context),
+                    instance: returning.instance,
+                    callback: returning.callback,
+                    operation: returning.operation,
+                });
+            }
+        }
+    }
+}
+
+impl Returning {
+    fn of(callback: Callback, instance: InstanceId) -> Returning {
+        Returning {
+            callback,
+            instance,
+            operation: None,
+            sent: None,
+        }
+    }
+
+    fn for_operation(callback: Callback, instance: InstanceId, operation: OpId) -> Returning {
+        Returning {
+            callback,
+            instance,
+            operation: Some(operation),
+            sent: None,
+        }
+    }
+}

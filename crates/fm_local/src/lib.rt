@@ -1,0 +1,18 @@
+//! The one-thread manager: filters as code, requests answered one after the other, and what they left behind.
+#![tactic(auto)]
+
+mod bounded;
+mod callbacks;
+mod filters;
+mod leak;
+mod local_port;
+mod manager;
+mod requests;
+mod teardowns;
+mod trace;
+
+pub use crate::filters::Filters;
+pub use crate::leak::{Callback, Leak};
+pub use crate::local_port::LocalPort;
+pub use crate::manager::LocalManager;
+pub use crate::trace::{Traced, Visit};

@@ -1,0 +1,117 @@
+//! The port of a callback of the one-thread manager.
+
+ghost use Rattle.std.specs.Prelude.{◌≡◌};
+
+use crate::bounded::Bounded;
+use fm_core::{Hold, SetAnswer, SetMode, State};
+use fm_data::PreVerdict;
+use fm_filter::Port;
+use fm_types::{Bytes, ContextKind, CtxId, OpId, Status, WorkerId};
+
+/// What callbacks work on: the manager's state, and what they resumed, in the order of the resumptions.
+#[derive(Drop)]
+pub struct Desk {
+    pub(crate) state: State,
+    pub(crate) resumed: Bounded<OpId>,
+}
+
+/// What a callback may call: each call is the event of the manager's state, for the worker that runs the callback. What a callback resumes is noted, so
+/// that the manager carries it on afterwards.
+#[derive(Drop)]
+pub struct LocalPort<'a> {
+    pub(crate) desk: &'a mut Desk,
+    pub(crate) worker: WorkerId,
+}
+
+impl<'a> Port for LocalPort<'a> {
+    ghost use Rattle.fm_world.specs.ContextEvents.{Allocates, Sets, Gets, Deletes, References, Releases, ReadsBody, WritesBody, Bumps};
+    ghost use Rattle.fm_world.specs.Events.{Unless, FindsHeld, ResumesPre, ResumesPost};
+    ghost use Rattle.fm_types.specs.declared.status.Status.TheVariants as status;
+    ghost use Rattle.fm_local.specs.Ports.{has_room};
+
+    ghost allocates = { λ old kind body result new. Allocates old.desk.now.state old.worker kind body result new.desk.now.state };
+
+    ghost sets = { λ old context mode wants_old result new. Sets old.desk.now.state old.worker context mode wants_old result new.desk.now.state };
+
+    ghost gets = { λ old kind result new. Gets old.desk.now.state old.worker kind result new.desk.now.state };
+
+    ghost deletes = { λ old kind wants_old result new. Deletes old.desk.now.state old.worker kind wants_old result new.desk.now.state };
+
+    ghost references = { λ old context result new. References old.desk.now.state old.worker context result new.desk.now.state };
+
+    ghost releases = { λ old context result new. Releases old.desk.now.state old.worker context result new.desk.now.state };
+
+    ghost reads_body = { λ old context result new. ReadsBody old.desk.now.state old.worker context result new.desk.now.state };
+
+    ghost writes_body = { λ old context bytes result new. WritesBody old.desk.now.state old.worker context bytes result new.desk.now.state };
+
+    ghost bumps = { λ old context place by result new. Bumps old.desk.now.state old.worker context place by result new.desk.now.state };
+
+    ghost finds_held = { λ old hold result new. FindsHeld old.desk.now.state old.worker hold result new.desk.now.state };
+
+    ghost resumes_pre = { λ old operation verdict result new. Unless status.TooMany (has_room old.desk.now.resumed.limit old.desk.now.resumed.items.items) result old.desk.now.state new.desk.now.state (ResumesPre old.desk.now.state old.worker operation verdict result new.desk.now.state) };
+
+    ghost resumes_post = { λ old operation result new. Unless status.TooMany (has_room old.desk.now.resumed.limit old.desk.now.resumed.items.items) result old.desk.now.state new.desk.now.state (ResumesPost old.desk.now.state old.worker operation result new.desk.now.state) };
+
+    ghost kept = { λ _. 0 };
+
+    ghost name = { λ port. port.desk.ghost_name };
+
+    fn allocate(&mut self, kind: ContextKind, body: Bytes) -> Result<CtxId, Status> {
+        self.desk.state.allocate(self.worker, kind, body)
+    }
+
+    fn set(&mut self, context: CtxId, mode: SetMode, wants_old: bool) -> SetAnswer {
+        self.desk.state.set(self.worker, context, mode, wants_old)
+    }
+
+    fn get(&mut self, kind: ContextKind) -> Result<CtxId, Status> {
+        self.desk.state.get(self.worker, kind)
+    }
+
+    fn delete(&mut self, kind: ContextKind, wants_old: bool) -> Result<Option<CtxId>, Status> {
+        self.desk.state.delete(self.worker, kind, wants_old)
+    }
+
+    fn reference(&mut self, context: CtxId) -> Result<(), Status> {
+        self.desk.state.reference(self.worker, context)
+    }
+
+    fn release(&mut self, context: CtxId) -> Result<(), Status> {
+        self.desk.state.release(self.worker, context)
+    }
+
+    fn read_body(&mut self, context: CtxId) -> Result<Bytes, Status> {
+        self.desk.state.read_body(self.worker, context)
+    }
+
+    fn write_body(&mut self, context: CtxId, bytes: &[u8]) -> Result<(), Status> {
+        self.desk.state.write_body(self.worker, context, bytes)
+    }
+
+    fn bump(&mut self, context: CtxId, place: u64, by: u64) -> Result<u64, Status> {
+        self.desk.state.bump(self.worker, context, place, by)
+    }
+
+    fn first_held(&mut self, hold: Hold) -> Result<Option<OpId>, Status> {
+        self.desk.state.first_held(self.worker, hold)
+    }
+
+    fn resume_pre(&mut self, operation: OpId, verdict: PreVerdict) -> Result<(), Status> {
+        if self.desk.resumed.is_full() {
+            return Err(Status::TooMany);
+        }
+        self.desk.state.resume_pre(self.worker, operation, verdict)?;
+        self.desk.resumed.put(operation);
+        Ok(())
+    }
+
+    fn resume_post(&mut self, operation: OpId) -> Result<(), Status> {
+        if self.desk.resumed.is_full() {
+            return Err(Status::TooMany);
+        }
+        self.desk.state.resume_post(self.worker, operation)?;
+        self.desk.resumed.put(operation);
+        Ok(())
+    }
+}

@@ -1,0 +1,114 @@
+//! The manager, and what begins in it.
+
+ghost use Rattle.std.specs.Prelude.{◌≡◌};
+
+use crate::bounded::Bounded;
+use crate::filters::Filters;
+use crate::leak::Leak;
+use crate::local_port::Desk;
+use crate::trace::Traced;
+use fm_base::Base;
+use fm_core::State;
+use fm_filter::Minifilter;
+use fm_types::{CtxId, FilterId, Name, OpId, Status, VolumeId, WorkerId};
+use std::alloc::Global;
+
+/// The worker that does everything.
+pub(crate) const WORKER: WorkerId = WorkerId(0);
+
+/// How many operations may be under way.
+pub(crate) const UNDER_WAY: usize = 256;
+
+/// How many references a hand has at most.
+const IN_HAND: usize = 16;
+
+/// How many steps of operations, and how many leaks, are kept to be read.
+const KEPT: usize = 1024;
+
+/// A filter manager on one thread: filters as code, one file system of a type for each volume, and the manager's state, of which each thing that happens
+/// is one event. A call runs every callback that it leads to, carries on what these resume, and cleans up the contexts that are due before it returns.
+#[derive(Drop)]
+pub struct LocalManager<F, B> {
+    pub(crate) alloc: Global,
+    pub(crate) desk: Desk,
+    pub(crate) filters: Filters<F>,
+    pub(crate) bases: Vec<B>,
+    pub(crate) finished: Bounded<OpId>,
+    pub(crate) hand: Bounded<CtxId>,
+    pub(crate) leaks: Bounded<Leak>,
+    pub(crate) trace: Bounded<Traced>,
+}
+
+impl<F: Minifilter, B: Base> LocalManager<F, B> {
+    /// A manager that has these filters, each under its name, and none of them loaded. Refused with 1.
+    pub fn new(alloc: Global, filters: Vec<(Name, F)>) -> Result<LocalManager<F, B>, Status> {
+        let state = State::new(alloc)?;
+        Ok(LocalManager {
+            alloc,
+            desk: Desk {
+                state,
+                resumed: Bounded::new(alloc, UNDER_WAY)?,
+            },
+            filters: Filters::new(alloc, filters),
+            bases: Vec::new(alloc),
+            finished: Bounded::new(alloc, UNDER_WAY)?,
+            hand: Bounded::new(alloc, IN_HAND)?,
+            leaks: Bounded::new(alloc, KEPT)?,
+            trace: Bounded::new(alloc, KEPT)?,
+        })
+    }
+
+    /// The manager's state, to be read.
+    pub fn state(&self) -> &State
+        ensures { result.now ≡ self.now.desk.state }
+    {
+        &self.desk.state
+    }
+
+    /// The file system of a volume, if it is mounted.
+    pub fn base(&mut self, volume: VolumeId) -> Option<&mut B> {
+        self.bases.get_mut(usize::from(volume.0))
+    }
+
+    /// How many steps of operations can be read.
+    pub fn traced(&self) -> usize {
+        self.trace.len()
+    }
+
+    /// One of the last 1,024 steps of operations, the oldest at place 0.
+    pub fn trace(&self, place: usize) -> Option<Traced> {
+        self.trace.get(place)
+    }
+
+    /// How many leaks can be read; the state's number counts those that were left out too.
+    pub fn leaked(&self) -> usize {
+        self.leaks.len()
+    }
+
+    /// One of the last 1,024 references that callbacks left behind, the oldest at place 0.
+    pub fn leak(&self, place: usize) -> Option<Leak> {
+        self.leaks.get(place)
+    }
+
+    /// Loads the filter of that name, with what it registers for (`FltRegisterFilter`, `FltStartFiltering`). Refused, nothing changed: 6 where no filter
+    /// has that name, 1, and then as `State::register`.
+    pub fn load(&mut self, name: &Name) -> Result<FilterId, Status> {
+        let place = self.filters.place(name)?;
+        let Some(filter) = self.filters.at(place) else {
+            return Err(Status::NoFilter);
+        };
+        let registration = filter.registration();
+        self.filters.reserve()?;
+        let number = self.desk.state.register(*name, registration)?;
+        self.filters.note(place)?;
+        Ok(number)
+    }
+
+    /// Mounts a volume over a file system. Refused, nothing changed but that the file system is gone: 1, and then as `State::mount`.
+    pub fn mount(&mut self, name: Name, base: B) -> Result<VolumeId, Status> {
+        self.bases.reserve(1)?;
+        let volume = self.desk.state.mount(name)?;
+        self.bases.push(base)?;
+        Ok(volume)
+    }
+}

@@ -1,0 +1,9 @@
+//! Lists of requests through the one-thread manager with the sample filters, each with what it is answered. There is nothing here but tests.
+#![tactic(auto)]
+
+#[cfg(test)]
+mod asked;
+#[cfg(test)]
+mod sample_tests;
+#[cfg(test)]
+mod teardown_tests;

@@ -1,0 +1,102 @@
+//! What requests are answered through samples that nothing holds up.
+
+use crate::asked::{Ask, DONE, Line, Told, VOLUME, ask_all, with};
+use fm_base::Base;
+use fm_samples::{Guard, Meter, Sample, Shift};
+use fm_types::{FilterId, HandleId, InstanceId, RelPath, Status};
+use std::process::Abort;
+
+fn refused(status: Status) -> Told<'static> {
+    Told::Done(status, 0, b"")
+}
+
+// What the file of a volume holds.
+fn holds(rt: &impl Abort, manager: &mut crate::asked::Samples, path: &[u8], wanted: &[u8]) {
+    let path = RelPath::read(path).expect(rt, "a path");
+    let base = manager.base(VOLUME).expect(rt, "the base");
+    let bytes = base.read(&path, 0, 100).expect(rt, "its bytes");
+    assert!(rt; bytes.as_slice() == wanted);
+}
+
+#[test]
+fn shift_local(rt: HostRuntime) {
+    let alloc = rt.alloc();
+    let mut manager = with(
+        &rt,
+        alloc,
+        &[(b"shift", Sample::Shift(Shift::new(alloc)), b"100")],
+    );
+    let written: [Line; 2] = [
+        (Ask::Create(b"x"), DONE),
+        (
+            Ask::Write(0, 0, b"ab\xff"),
+            Told::Done(Status::Success, 3, b""),
+        ),
+    ];
+    ask_all(&rt, alloc, &mut manager, &written);
+    holds(&rt, &mut manager, b"x", b"bc\x00");
+    let seen: [Line; 5] = [
+        (
+            Ask::Read(0, 0, 5),
+            Told::Done(Status::Success, 3, b"ab\xff"),
+        ),
+        (Ask::Read(0, 3, 1), refused(Status::EndOfFile)),
+        (Ask::Size(0), Told::Done(Status::Success, 3, b"")),
+        (Ask::Read(0, 0, 32_769), refused(Status::BadRequest)),
+        (Ask::SetSize(0, (1 << 40) + 1), refused(Status::BadRequest)),
+    ];
+    ask_all(&rt, alloc, &mut manager, &seen);
+}
+
+// The guard lies above both shifts, of which each adds 1.
+#[test]
+fn samples_above_each_other(rt: HostRuntime) {
+    let alloc = rt.alloc();
+    let shift = Sample::Shift(Shift::new(alloc));
+    let rows = [
+        (b"low".as_slice(), shift, b"100.25".as_slice()),
+        (b"guard", Sample::Guard(Guard), b"300"),
+        (b"high", shift, b"100.5"),
+    ];
+    let mut manager = with(&rt, alloc, &rows);
+    let lines: [Line; 8] = [
+        (Ask::Create(b"deny/x"), refused(Status::AccessDenied)),
+        (Ask::Create(b"y"), DONE),
+        (Ask::Write(0, 0, b"ab"), Told::Done(Status::Success, 2, b"")),
+        (Ask::Read(0, 1, 5), Told::Done(Status::Success, 1, b"b")),
+        (Ask::Flush(0), DONE),
+        (Ask::List, Told::Done(Status::Success, 2, b"y\n")),
+        (Ask::Close(0), DONE),
+        (Ask::Close(0), refused(Status::NoHandle)),
+    ];
+    ask_all(&rt, alloc, &mut manager, &lines);
+    holds(&rt, &mut manager, b"y", b"cd");
+}
+
+// The numbers of a stream's reads and writes come with its cleanup, which the close of the last handle makes due. Each callback allocates a context, of
+// which only the first is set: the others are cleaned up at once, and have counted nothing.
+#[test]
+fn meter_total(rt: HostRuntime) {
+    let alloc = rt.alloc();
+    let mut manager = with(
+        &rt,
+        alloc,
+        &[(b"meter", Sample::Meter(Meter::new(alloc)), b"100")],
+    );
+    ask_all(&rt, alloc, &mut manager, &[(Ask::Create(b"x"), DONE)]);
+    for _ in 0..50 {
+        let lines: [Line; 2] = [
+            (Ask::Write(0, 0, b"a"), Told::Done(Status::Success, 1, b"")),
+            (Ask::Read(0, 0, 0), DONE),
+        ];
+        ask_all(&rt, alloc, &mut manager, &lines);
+    }
+    assert_eq!(rt; manager.state().total(FilterId(0)), 0);
+    ask_all(&rt, alloc, &mut manager, &[(Ask::Close(0), DONE)]);
+    assert_eq!(rt; manager.state().total(FilterId(0)), 100);
+    assert_eq!(rt; manager.state().born(), 100);
+    assert_eq!(rt; manager.state().cleaned_count(), 100);
+    assert_eq!(rt; manager.leaked(), 0);
+    assert!(rt; manager.detach(InstanceId(0)) == Ok(()));
+    assert!(rt; manager.unload(FilterId(0)) == Ok(()));
+}

@@ -1,1 +1,4 @@
+pub mod Chains
+pub mod Folds
+pub mod Functions
 pub mod Ports

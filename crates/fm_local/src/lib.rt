@@ -4,6 +4,7 @@
 mod bounded;
 mod callbacks;
 mod filters;
+pub mod laws;
 mod leak;
 mod local_port;
 mod manager;

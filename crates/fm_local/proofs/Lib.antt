@@ -1,1 +1,2 @@
 pub mod OneFold
+pub mod Visits

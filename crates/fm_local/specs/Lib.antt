@@ -2,3 +2,4 @@ pub mod Chains
 pub mod Folds
 pub mod Functions
 pub mod Ports
+pub mod Visits

@@ -1,0 +1,5 @@
+use Rattle.fm_local.proofs.Visits.{one_way}
+use Rattle.fm_local.proofs.laws.one_way.Goals as goal
+
+pub returns : goal.returns
+returns c = one_way

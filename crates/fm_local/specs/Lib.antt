@@ -1,5 +1,7 @@
+pub mod Bases
 pub mod Chains
 pub mod Folds
 pub mod Functions
 pub mod Ports
+pub mod Shifts
 pub mod Visits

@@ -1,0 +1,300 @@
+-- What each whole turn of an operation leaves of its fold: of one record, and any chain.
+use Rattle.std.specs.Prelude.{◌≡◌, ℕ, suc, zero, ⊤, Bool, true, false, cond, List, [], ◌∷◌, ◌++◌, length, map, take, Option, Some, None, unwrap_or, slice_get, refl}
+use Rattle.std.proofs.Common.{sym, ap, ap₂, subst, ◌∙◌, arith}
+use Rattle.std.proofs.lemmas.List.{map-append, length-append, length-take}
+use Rattle.fm_types.specs.declared.ids.HandleId.{HandleId}
+use Rattle.fm_types.specs.declared.ids.InstanceId.{InstanceId}
+use Rattle.fm_types.specs.declared.ids.WorkerId.{WorkerId}
+use Rattle.fm_types.specs.declared.operation.Operation.{Operation}
+use Rattle.fm_types.specs.declared.status.Status.{Status}
+use Rattle.fm_data.specs.declared.answer.Answer.{Answer}
+use Rattle.fm_data.specs.declared.params.Params.{Params}
+use Rattle.fm_data.specs.declared.verdict.Completion.{Completion}
+use Rattle.fm_data.specs.declared.verdict.PreVerdict.{PreVerdict}
+use Rattle.fm_data.specs.declared.verdict.PostVerdict.TheVariants.{Finished}
+use Rattle.fm_data.specs.Data.{Data, current_of, fresh_data, answered_data}
+use Rattle.fm_flow.specs.declared.entry.Ask.{Ask}
+use Rattle.fm_flow.specs.declared.entry.Entry.{Entry}
+use Rattle.fm_flow.specs.declared.entry.Entry.TheVariants.{Base}
+use Rattle.fm_flow.specs.declared.entry.PreState.{PreState}
+use Rattle.fm_flow.specs.declared.entry.PreState.TheVariants as pre
+use Rattle.fm_flow.specs.declared.entry.PostState.TheVariants as post
+use Rattle.fm_flow.specs.declared.stage.Stage.{Stage}
+use Rattle.fm_flow.specs.declared.stage.Stage.TheVariants.{Descending, Ascending}
+use Rattle.fm_flow.specs.Answered.{bare_answer, base_counted}
+use Rattle.fm_flow.specs.Entries.{owed, visited, last_visited, times, ask_in, settle_pre, settle_post}
+use Rattle.fm_flow.specs.Record.{FlowRecord}
+use Rattle.fm_flow.specs.Seen.{sees}
+use Rattle.fm_flow.specs.Sound.{IsCourse}
+use Rattle.fm_flow.specs.Steps.{call_pre, call_base, call_of, call_post, give_post, unwound, unwound_to, pre_returned_of, base_returned_of, post_returned_of, with_visit, with_base, bare_ask}
+use Rattle.fm_flow.specs.Steps.{post_entry, pre_leads, answer_after, kept_of, stands, lent_answer, left_answer, returned_answer}
+use Rattle.fm_flow.specs.Verdict.{verdict_counted}
+use Rattle.fm_flow.proofs.Course.{bare_ask_of, owed_answered}
+use Rattle.fm_flow.proofs.Owed.{owed_push_none}
+use Rattle.fm_flow.proofs.Walks.{settling_pre, settling_post}
+use Rattle.fm_local.specs.Folds.{Chain, Asker, asker, Rises, Leads, Visit, Descends, bare_completion}
+use Rattle.fm_local.specs.Left.{askers, LeftAt, LeftIn, LeftOf, PlacesFall}
+use Rattle.fm_local.proofs.Askers.{closed_stay, askers_above, none_at_end, asker_now, entry_of, last_is, owed_asks, owed_goes}
+
+-- a turn leaves no more than what was left before: any answer and end of what is left after it are those of what was left
+pub record Leaves {W : Type 0} (chain : Chain W) (Meets : Option ℕ → List ℕ → Type 0) (r s : FlowRecord) (old new : W) : Type 0 where
+  pub falls : PlacesFall (length s.kept) (owed s.entries)
+  pub left : (answer : Answer) (end : W) → LeftOf chain Meets s new answer end → LeftOf chain Meets r old answer end
+
+-- what a filter that completes makes of what lies below
+abbrev pub after_verdict : {W : Type 0} → Chain W → PreState → W → W
+after_verdict chain (pre.Completed status) old = chain.completes status old
+after_verdict chain _ old = old
+
+-- a verdict that holds nothing and binds no worker
+abbrev pub IsPlainState : PreState → Type 0
+IsPlainState (pre.Asked completion) = ⊤
+IsPlainState pre.Passed = ⊤
+IsPlainState (pre.Completed status) = ⊤
+IsPlainState _ = ⊥
+
+falls_above : (asks : List Ask) (kept more : List Params) → PlacesFall (length kept) asks → PlacesFall (length (kept ++ more)) asks
+falls_above [] kept more fall = tt
+falls_above (ask ∷ asks) kept more fall = (omega (arith, fall.0, length-append kept more), fall.1)
+
+module _ {W : Type 0} (chain : Chain W) (Meets : Option ℕ → List ℕ → Type 0) (r : FlowRecord) (p : Params) (has : r.params ≡ Some p) (old : W) where
+  left_of : (t : Stage) (answer : Answer) (end : W) → r.stage ≡ t → LeftAt chain Meets t r p old answer end → LeftOf chain Meets r old answer end
+  left_of t answer end st h =
+      subst (λ (m : Option Params). LeftIn chain Meets r m old answer end) (sym has) (subst (λ (u : Stage). LeftAt chain Meets u r p old answer end) (sym st) h)
+
+  -- ---- a visit
+  module _ (worker : WorkerId) (i : InstanceId) (st : r.stage ≡ Descending) (c : IsCourse Descending r.entries) (fresh : times i.0 (visited r.entries) ≡ 0)
+      (falls : PlacesFall (length r.kept) (owed r.entries)) (meets : (below : List ℕ) → Meets (Some i.0) below → Meets (last_visited r.entries) (i.0 ∷ below)) where
+    abbrev asked : List Asker
+    asked = askers (owed r.entries) r.kept p
+
+    abbrev entries_as : PreState → List Entry
+    entries_as state = r.entries ++ entry_of r.entries worker i (length r.kept) state ∷ []
+
+    module _ (given : PreVerdict) (back : Data) (state : PreState) (called : chain.has_pre i.0 ≡ true) (same : back.received ≡ p)
+        (may : chain.pre_may i.0 (fresh_data p) given back) (counted : verdict_counted given chain.operation (chain.has_post i.0) ≡ state) where
+      abbrev pub visited_once : FlowRecord
+      visited_once = pre_returned_of state back (call_pre worker i r (Some p)).after
+
+      entries_are : visited_once.entries ≡ entries_as state
+      entries_are =
+          map-append (settle_pre state) r.entries (entry_of r.entries worker i (length r.kept) pre.Running ∷ [])
+          ∙ ap (λ es. es ++ entry_of r.entries worker i (length r.kept) state ∷ []) (closed_stay (settle_pre state) (settling_pre state) Descending r.entries Descending c.order refl refl)
+
+      met : (below : List ℕ) (answer : Answer) (end : W) → Meets (Some i.0) below → Leads chain (Descends chain below) i.0 p back asked state old answer end → LeftOf chain Meets r old answer end
+      met below answer end at led =
+          left_of Descending answer end st (
+            i.0 ∷ below,
+            meets below at,
+            subst (λ (b : Bool). Visit chain (Descends chain below) i.0 b p asked old answer end) (sym called) (
+              given,
+              back,
+              may,
+              subst (λ (s : PreState). Leads chain (Descends chain below) i.0 p back asked s old answer end) (sym counted) led,
+            ),
+          )
+
+      last_here : last_visited visited_once.entries ≡ Some i.0
+      last_here = ap last_visited entries_are ∙ last_is r.entries worker i (length r.kept) state
+
+      -- what it received is what it was given
+      asked_same : (asks : List Ask) → askers asks r.kept back.received ≡ askers asks r.kept p
+      asked_same asks = ap (askers asks r.kept) same
+
+      asked_goes : owed visited_once.entries ≡ owed r.entries → askers (owed visited_once.entries) visited_once.kept (current_of back) ≡ asked
+      asked_goes goes =
+          ap (λ asks. askers asks visited_once.kept (current_of back)) goes ∙ askers_above (owed r.entries) r.kept back.received back.changed falls ∙ asked_same (owed r.entries)
+
+      -- it asks for its postoperation
+      pub left_asked : (completion : Completion) → state ≡ pre.Asked completion → Leaves chain Meets r visited_once old old
+      left_asked completion is =
+          let ask : Ask = record { instance = i; worker = worker; completion = completion; is_synchronized = false; place = length r.kept } in
+          let owes : owed visited_once.entries ≡ ask ∷ owed r.entries =
+          ap owed entries_are
+          ∙ owed_asks r.entries worker i (length r.kept) state ask (ap (ask_in (record { instance = i; worker = worker; state = state; place = length r.kept })) is) refl c fresh in
+          let asks : askers (owed visited_once.entries) visited_once.kept (current_of back) ≡ asker i.0 p completion ∷ asked =
+          ap (λ asks. askers asks visited_once.kept (current_of back)) owes
+          ∙ asker_now i.0 completion ask (owed r.entries) r.kept back.received back.changed refl refl refl
+          ∙ ap (λ q. asker i.0 q completion ∷ askers (owed r.entries) r.kept q) same in
+          record {
+            falls = subst (PlacesFall (length visited_once.kept)) (sym owes) (omega (arith, length-append r.kept (kept_of back.received back.changed)), falls);
+            left = λ answer end h.
+                let t : LeftAt chain Meets Descending visited_once (current_of back) old answer end =
+                subst (λ (u : Stage). LeftAt chain Meets u visited_once (current_of back) old answer end) (ap pre_leads is) h in
+                met t.0 answer end (subst (λ (m : Option ℕ). Meets m t.0) last_here t.1)
+                (subst (λ (s : PreState). Leads chain (Descends chain t.0) i.0 p back asked s old answer end) (sym is)
+                (subst (λ (xs : List Asker). Descends chain t.0 (current_of back) xs old answer end) asks t.2));
+          }
+
+      -- it lets the operation pass
+      pub left_passed : state ≡ pre.Passed → Leaves chain Meets r visited_once old old
+      left_passed is =
+          let goes : owed visited_once.entries ≡ owed r.entries =
+          ap owed entries_are ∙ owed_goes r.entries worker i (length r.kept) state (ap (ask_in (record { instance = i; worker = worker; state = state; place = length r.kept })) is) in
+          record {
+            falls = subst (PlacesFall (length visited_once.kept)) (sym goes) (falls_above (owed r.entries) r.kept (kept_of back.received back.changed) falls);
+            left = λ answer end h.
+                let t : LeftAt chain Meets Descending visited_once (current_of back) old answer end =
+                subst (λ (u : Stage). LeftAt chain Meets u visited_once (current_of back) old answer end) (ap pre_leads is) h in
+                met t.0 answer end (subst (λ (m : Option ℕ). Meets m t.0) last_here t.1)
+                (subst (λ (s : PreState). Leads chain (Descends chain t.0) i.0 p back asked s old answer end) (sym is)
+                (subst (λ (xs : List Asker). Descends chain t.0 (current_of back) xs old answer end) (asked_goes goes) t.2));
+          }
+
+      -- it completes the operation, which meets nobody below
+      pub left_completed : (status : Status) → state ≡ pre.Completed status → (below : List ℕ) → Meets (Some i.0) below
+          → Leaves chain Meets r visited_once old (chain.completes status old)
+      left_completed status is below at =
+          let goes : owed visited_once.entries ≡ owed r.entries =
+          ap owed entries_are ∙ owed_goes r.entries worker i (length r.kept) state (ap (ask_in (record { instance = i; worker = worker; state = state; place = length r.kept })) is) in
+          let said : visited_once.answer ≡ bare_answer status = ap (λ s. answer_after s r.answer) is in
+          record {
+            falls = subst (PlacesFall (length visited_once.kept)) (sym goes) (falls_above (owed r.entries) r.kept (kept_of back.received back.changed) falls);
+            left = λ answer end h.
+                let t : LeftAt chain Meets Ascending visited_once (current_of back) (chain.completes status old) answer end =
+                subst (λ (u : Stage). LeftAt chain Meets u visited_once (current_of back) (chain.completes status old) answer end) (ap pre_leads is) h in
+                met below answer end at
+                (subst (λ (s : PreState). Leads chain (Descends chain below) i.0 p back asked s old answer end) (sym is) (
+                  subst (λ (given : Answer). Rises chain asked given answer) said (subst (λ (xs : List Asker). Rises chain xs visited_once.answer answer) (asked_goes goes) t.0),
+                  t.1,
+                ));
+          }
+
+    -- an instance is passed without a call
+    pub left_bare : chain.has_pre i.0 ≡ false → Leaves chain Meets r (with_visit worker i bare_ask r) old old
+    left_bare uncalled =
+        let s = with_visit worker i bare_ask r in
+        let owes : owed s.entries ≡ bare_ask_of worker i (length r.kept) ∷ owed r.entries =
+        owed_asks r.entries worker i (length r.kept) bare_ask (bare_ask_of worker i (length r.kept)) refl refl c fresh in
+        let asks : askers (owed s.entries) r.kept p ≡ asker i.0 p bare_completion ∷ asked =
+        ap (λ asks. askers asks r.kept p) owes
+        ∙ ap₂ (λ q ps. asker i.0 q bare_completion ∷ askers (owed r.entries) ps q) (none_at_end r.kept p).0 (none_at_end r.kept p).1 in
+        record {
+          falls = subst (PlacesFall (length r.kept)) (sym owes) (omega arith, falls);
+          left = λ answer end h.
+              let t : LeftAt chain Meets Descending s p old answer end = subst (λ (m : Option Params). LeftIn chain Meets s m old answer end) has h in
+              left_of Descending answer end st (
+                i.0 ∷ t.0,
+                meets t.0 (subst (λ (m : Option ℕ). Meets m t.0) (last_is r.entries worker i (length r.kept) bare_ask) t.1),
+                subst (λ (b : Bool). Visit chain (Descends chain t.0) i.0 b p asked old answer end) (sym uncalled)
+                    (subst (λ (xs : List Asker). Descends chain t.0 p xs old answer end) asks t.2),
+              );
+        }
+
+  -- ---- the base
+  module _ (st : r.stage ≡ Descending) (falls : PlacesFall (length r.kept) (owed r.entries)) (last : Meets (last_visited r.entries) []) (new : W) where
+    -- it answers
+    at_base : (s : FlowRecord) (given : Answer) → chain.base_may p old given new → owed s.entries ≡ owed r.entries → s.kept ≡ r.kept → s.params ≡ Some p → s.stage ≡ Ascending → s.answer ≡ given
+        → Leaves chain Meets r s old new
+    at_base s given may owes kept params stage said = record {
+      falls = subst (λ (ps : List Params). PlacesFall (length ps) (owed s.entries)) (sym kept) (subst (PlacesFall (length r.kept)) (sym owes) falls);
+      left = λ answer end h.
+          let t : LeftAt chain Meets Ascending s p new answer end =
+          subst (λ (u : Stage). LeftAt chain Meets u s p new answer end) stage (subst (λ (m : Option Params). LeftIn chain Meets s m new answer end) params h) in
+          let up : Rises chain (askers (owed r.entries) r.kept p) given answer =
+          subst (λ (a : Answer). Rises chain (askers (owed r.entries) r.kept p) a answer) said
+          (subst (λ (ps : List Params). Rises chain (askers (owed r.entries) ps p) s.answer answer) kept
+          (subst (λ (xs : List Ask). Rises chain (askers xs s.kept p) s.answer answer) owes t.0)) in
+          left_of Descending answer end st (
+            [],
+            last,
+            subst (λ (w : W). (b : Answer) × chain.base_may p old b w × Rises chain (askers (owed r.entries) r.kept p) b answer) (sym t.1) (given, may, up),
+          );
+    }
+
+    pub left_base : (answer : Answer) (handle : HandleId) → chain.base_may p old (base_counted p answer handle) new
+        → Leaves chain Meets r (base_returned_of (call_of r p) answer handle (call_base r (Some p)).after) old new
+    left_base answer handle may =
+        let counts = base_counted p answer handle in
+        at_base (base_returned_of (call_of r p) answer handle (call_base r (Some p)).after) counts may
+        (owed_push_none r.entries (Base counts.status counts.information) refl (λ j. refl)) refl refl refl refl
+
+    pub left_known : (status : Status) → chain.base_may p old (bare_answer status) new → Leaves chain Meets r (with_base (bare_answer status) r) old new
+    left_known status may =
+        at_base (with_base (bare_answer status) r) (bare_answer status) may (owed_push_none r.entries (Base status 0) refl (λ j. refl)) refl has refl refl
+
+-- ---- a postoperation
+
+-- where nothing was kept at a place, nothing goes
+none_taken : (kept : List Params) (place : ℕ) → slice_get kept place ≡ None → take place kept ≡ kept
+none_taken [] zero none = refl
+none_taken [] (suc place) none = refl
+none_taken (x ∷ kept) zero none = cc
+none_taken (x ∷ kept) (suc place) none = ap (λ xs. x ∷ xs) (none_taken kept place none)
+
+-- what the parameters are put back to
+record PutBack (place : ℕ) (r s : FlowRecord) (p : Params) : Type 0 where
+  params : s.params ≡ Some (sees r.kept place p)
+  kept : s.kept ≡ take place r.kept
+  entries : s.entries ≡ r.entries
+  operation : s.operation ≡ r.operation
+  answer : s.answer ≡ r.answer
+
+put_back : (place : ℕ) (r : FlowRecord) (p : Params) (m : Option Params) → slice_get r.kept place ≡ m → r.params ≡ Some p → PutBack place r (unwound_to place r m) p
+put_back place r p None at has = record {
+  params = has ∙ ap (λ (m : Option Params). Some (unwrap_or m p)) (sym at);
+  kept = sym (none_taken r.kept place at);
+  entries = refl;
+  operation = refl;
+  answer = refl;
+}
+put_back place r p (Some q) at has = record {
+  params = ap (λ (m : Option Params). Some (unwrap_or m p)) (sym at);
+  kept = refl;
+  entries = refl;
+  operation = refl;
+  answer = refl;
+}
+
+-- the answer that stands meanwhile doesn't matter to the answer after it
+returned_same : (operation : Operation) (answer : Answer) (back : Data) → returned_answer operation (left_answer operation answer) back ≡ returned_answer operation answer back
+returned_same operation answer back =
+    elim (stands operation) as (λ b. cond b (cond b answer (record answer { bytes = [] })) (record { status = back.status; information = back.information; bytes = back.out })
+    ≡ cond b answer (record { status = back.status; information = back.information; bytes = back.out })) [ true ↦ refl | false ↦ refl ]
+
+module _ {W : Type 0} (chain : Chain W) (Meets : Option ℕ → List ℕ → Type 0) (r : FlowRecord) (p : Params) (has : r.params ≡ Some p) (old : W) (worker : WorkerId) (ask : Ask)
+    (rest : List Ask) (next : owed r.entries ≡ ask ∷ rest) (st : r.stage ≡ Ascending) (c : IsCourse Ascending r.entries) (falls : PlacesFall (length r.kept) (owed r.entries))
+    (kind : chain.operation ≡ r.operation) (back : Data) (same : back.received ≡ sees r.kept ask.place p)
+    (may : chain.post_may ask.instance.0 (answered_data (sees r.kept ask.place p) (lent_answer chain.operation r.answer)) ask.completion Finished back) where
+  abbrev pub posted_once : FlowRecord
+  posted_once = post_returned_of Finished back (call_post worker ask r).after
+
+  -- with the parameters at hand
+  given_post : (u : FlowRecord) (m : Option Params) → PutBack ask.place r u p → m ≡ Some (sees r.kept ask.place p) → Leaves chain Meets r (post_returned_of Finished back (give_post worker ask u m).after) old old
+  given_post u None back' is = cc
+  given_post u (Some q) back' is =
+      let s = post_returned_of Finished back (give_post worker ask u (Some q)).after in
+      let entry : Entry = post_entry worker ask.instance post.Finished in
+      let entries : s.entries ≡ r.entries ++ entry ∷ [] =
+      map-append (settle_post post.Finished) u.entries (post_entry worker ask.instance post.Running ∷ [])
+      ∙ ap (λ es. map (settle_post post.Finished) es ++ entry ∷ []) back'.entries
+      ∙ ap (λ es. es ++ entry ∷ []) (closed_stay (settle_post post.Finished) (settling_post post.Finished) Descending r.entries Ascending c.order refl refl) in
+      let owes : owed s.entries ≡ rest = ap owed entries ∙ owed_answered Ascending r.entries entry ask rest c next refl (λ j. refl) in
+      let fall : PlacesFall (length r.kept) (ask ∷ rest) = subst (PlacesFall (length r.kept)) next falls in
+      let long : length u.kept ≡ ask.place = ap length back'.kept ∙ omega (arith, length-take ask.place r.kept, fall.0) in
+      let said : s.answer ≡ returned_answer chain.operation r.answer back =
+      ap₂ (λ o a. returned_answer o (left_answer o a) back) (back'.operation ∙ sym kind) back'.answer ∙ returned_same chain.operation r.answer back in
+      let asks : askers (owed s.entries) s.kept back.received ≡ askers rest (take ask.place r.kept) (sees r.kept ask.place p) =
+      ap (λ xs. askers xs s.kept back.received) owes ∙ ap₂ (λ ps q. askers rest ps q) back'.kept same in
+      record {
+        falls = subst (λ (n : ℕ). PlacesFall n (owed s.entries)) (sym long) (subst (PlacesFall ask.place) (sym owes) fall.1);
+        left = λ answer end h.
+            let up : Rises chain (askers rest (take ask.place r.kept) (sees r.kept ask.place p)) (returned_answer chain.operation r.answer back) answer =
+            subst (λ (a : Answer). Rises chain (askers rest (take ask.place r.kept) (sees r.kept ask.place p)) a answer) said
+            (subst (λ (xs : List Asker). Rises chain xs s.answer answer) asks h.0) in
+            left_of chain Meets r p has old Ascending answer end st
+            (subst (λ (xs : List Ask). Rises chain (askers xs r.kept p) r.answer answer) (sym next) (back, may, up), h.1);
+      }
+
+  pub left_post : Leaves chain Meets r posted_once old old
+  left_post =
+      let u = put_back ask.place r p (slice_get r.kept ask.place) refl has in
+      given_post (unwound ask.place r) (unwound ask.place r).params u u.params
+
+-- ---- the ends
+
+-- an operation that is done has nothing left but its answer
+pub left_done : {W : Type 0} (chain : Chain W) (Meets : Option ℕ → List ℕ → Type 0) (r : FlowRecord) (p : Params) (old : W) → r.params ≡ Some p → r.stage ≡ Ascending → owed r.entries ≡ []
+    → LeftOf chain Meets r old r.answer old
+left_done chain Meets r p old has st none =
+    left_of chain Meets r p has old Ascending r.answer old st (subst (λ (xs : List Ask). Rises chain (askers xs r.kept p) r.answer r.answer) (sym none) refl, refl)

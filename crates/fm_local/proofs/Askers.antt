@@ -21,7 +21,7 @@ use Rattle.fm_flow.proofs.Owed.{filter_map-push, owed_push_none, left_push_ask, 
 use Rattle.fm_flow.proofs.Course.{unvisited}
 use Rattle.fm_flow.proofs.Walks.{Settling, is_callback, walk_parts, drains_follow, opens_after, last_with}
 use Rattle.fm_local.specs.Folds.{asker}
-use Rattle.fm_local.specs.Left.{askers, PlacesFall}
+use Rattle.fm_local.specs.Left.{askers, ArePlain}
 
 -- entries that lead from no callback to none are all closed
 pub closed_stay : (f : Entry → Entry) → Settling f → (s : Stage) (es : List Entry) (t : Stage) → walk s es ≡ Some t → is_callback s ≡ false → is_callback t ≡ false → map f es ≡ es
@@ -49,7 +49,7 @@ kept_above (x ∷ kept) received changed (suc place) few =
     (rest.0, ap (λ xs. x ∷ xs) rest.1)
 
 -- those that asked before see what they saw
-pub askers_above : (asks : List Ask) (kept : List Params) (received : Params) (changed : Option Params) → PlacesFall (length kept) asks
+pub askers_above : (asks : List Ask) (kept : List Params) (received : Params) (changed : Option Params) → ArePlain (length kept) asks
     → askers asks (kept ++ kept_of received changed) (unwrap_or changed received) ≡ askers asks kept received
 askers_above [] kept received changed fall = refl
 askers_above (ask ∷ asks) kept received changed fall =

@@ -2,6 +2,10 @@ pub mod OneFold
 pub mod Askers
 pub mod Turning
 pub mod Visits
+pub mod Alone
+pub mod Events
+pub mod Fitting
+pub mod Carrying
 pub mod Successes
 pub mod Shifted
 pub mod RoundTrip

@@ -33,12 +33,12 @@ use Rattle.fm_flow.proofs.Course.{bare_ask_of, owed_answered}
 use Rattle.fm_flow.proofs.Owed.{owed_push_none}
 use Rattle.fm_flow.proofs.Walks.{settling_pre, settling_post}
 use Rattle.fm_local.specs.Folds.{Chain, Asker, asker, Rises, Leads, Visit, Descends, bare_completion}
-use Rattle.fm_local.specs.Left.{askers, LeftAt, LeftIn, LeftOf, PlacesFall}
+use Rattle.fm_local.specs.Left.{askers, LeftAt, LeftIn, LeftOf, ArePlain}
 use Rattle.fm_local.proofs.Askers.{closed_stay, askers_above, none_at_end, asker_now, entry_of, last_is, owed_asks, owed_goes}
 
 -- a turn leaves no more than what was left before: any answer and end of what is left after it are those of what was left
 pub record Leaves {W : Type 0} (chain : Chain W) (Meets : Option ℕ → List ℕ → Type 0) (r s : FlowRecord) (old new : W) : Type 0 where
-  pub falls : PlacesFall (length s.kept) (owed s.entries)
+  pub plain : ArePlain (length s.kept) (owed s.entries)
   pub left : (answer : Answer) (end : W) → LeftOf chain Meets s new answer end → LeftOf chain Meets r old answer end
 
 -- what a filter that completes makes of what lies below
@@ -53,9 +53,9 @@ IsPlainState pre.Passed = ⊤
 IsPlainState (pre.Completed status) = ⊤
 IsPlainState _ = ⊥
 
-falls_above : (asks : List Ask) (kept more : List Params) → PlacesFall (length kept) asks → PlacesFall (length (kept ++ more)) asks
-falls_above [] kept more fall = tt
-falls_above (ask ∷ asks) kept more fall = (omega (arith, fall.0, length-append kept more), fall.1)
+plain_above : (asks : List Ask) (kept more : List Params) → ArePlain (length kept) asks → ArePlain (length (kept ++ more)) asks
+plain_above [] kept more fall = tt
+plain_above (ask ∷ asks) kept more fall = (omega (arith, fall.0, length-append kept more), fall.1, fall.2)
 
 module _ {W : Type 0} (chain : Chain W) (Meets : Option ℕ → List ℕ → Type 0) (r : FlowRecord) (p : Params) (has : r.params ≡ Some p) (old : W) where
   left_of : (t : Stage) (answer : Answer) (end : W) → r.stage ≡ t → LeftAt chain Meets t r p old answer end → LeftOf chain Meets r old answer end
@@ -64,7 +64,7 @@ module _ {W : Type 0} (chain : Chain W) (Meets : Option ℕ → List ℕ → Typ
 
   -- ---- a visit
   module _ (worker : WorkerId) (i : InstanceId) (st : r.stage ≡ Descending) (c : IsCourse Descending r.entries) (fresh : times i.0 (visited r.entries) ≡ 0)
-      (falls : PlacesFall (length r.kept) (owed r.entries)) (meets : (below : List ℕ) → Meets (Some i.0) below → Meets (last_visited r.entries) (i.0 ∷ below)) where
+      (plain : ArePlain (length r.kept) (owed r.entries)) (meets : (below : List ℕ) → Meets (Some i.0) below → Meets (last_visited r.entries) (i.0 ∷ below)) where
     abbrev asked : List Asker
     asked = askers (owed r.entries) r.kept p
 
@@ -103,7 +103,7 @@ module _ {W : Type 0} (chain : Chain W) (Meets : Option ℕ → List ℕ → Typ
 
       asked_goes : owed visited_once.entries ≡ owed r.entries → askers (owed visited_once.entries) visited_once.kept (current_of back) ≡ asked
       asked_goes goes =
-          ap (λ asks. askers asks visited_once.kept (current_of back)) goes ∙ askers_above (owed r.entries) r.kept back.received back.changed falls ∙ asked_same (owed r.entries)
+          ap (λ asks. askers asks visited_once.kept (current_of back)) goes ∙ askers_above (owed r.entries) r.kept back.received back.changed plain ∙ asked_same (owed r.entries)
 
       -- it asks for its postoperation
       pub left_asked : (completion : Completion) → state ≡ pre.Asked completion → Leaves chain Meets r visited_once old old
@@ -117,7 +117,7 @@ module _ {W : Type 0} (chain : Chain W) (Meets : Option ℕ → List ℕ → Typ
           ∙ asker_now i.0 completion ask (owed r.entries) r.kept back.received back.changed refl refl refl
           ∙ ap (λ q. asker i.0 q completion ∷ askers (owed r.entries) r.kept q) same in
           record {
-            falls = subst (PlacesFall (length visited_once.kept)) (sym owes) (omega (arith, length-append r.kept (kept_of back.received back.changed)), falls);
+            plain = subst (ArePlain (length visited_once.kept)) (sym owes) (omega (arith, length-append r.kept (kept_of back.received back.changed)), refl, plain);
             left = λ answer end h.
                 let t : LeftAt chain Meets Descending visited_once (current_of back) old answer end =
                 subst (λ (u : Stage). LeftAt chain Meets u visited_once (current_of back) old answer end) (ap pre_leads is) h in
@@ -132,7 +132,7 @@ module _ {W : Type 0} (chain : Chain W) (Meets : Option ℕ → List ℕ → Typ
           let goes : owed visited_once.entries ≡ owed r.entries =
           ap owed entries_are ∙ owed_goes r.entries worker i (length r.kept) state (ap (ask_in (record { instance = i; worker = worker; state = state; place = length r.kept })) is) in
           record {
-            falls = subst (PlacesFall (length visited_once.kept)) (sym goes) (falls_above (owed r.entries) r.kept (kept_of back.received back.changed) falls);
+            plain = subst (ArePlain (length visited_once.kept)) (sym goes) (plain_above (owed r.entries) r.kept (kept_of back.received back.changed) plain);
             left = λ answer end h.
                 let t : LeftAt chain Meets Descending visited_once (current_of back) old answer end =
                 subst (λ (u : Stage). LeftAt chain Meets u visited_once (current_of back) old answer end) (ap pre_leads is) h in
@@ -149,7 +149,7 @@ module _ {W : Type 0} (chain : Chain W) (Meets : Option ℕ → List ℕ → Typ
           ap owed entries_are ∙ owed_goes r.entries worker i (length r.kept) state (ap (ask_in (record { instance = i; worker = worker; state = state; place = length r.kept })) is) in
           let said : visited_once.answer ≡ bare_answer status = ap (λ s. answer_after s r.answer) is in
           record {
-            falls = subst (PlacesFall (length visited_once.kept)) (sym goes) (falls_above (owed r.entries) r.kept (kept_of back.received back.changed) falls);
+            plain = subst (ArePlain (length visited_once.kept)) (sym goes) (plain_above (owed r.entries) r.kept (kept_of back.received back.changed) plain);
             left = λ answer end h.
                 let t : LeftAt chain Meets Ascending visited_once (current_of back) (chain.completes status old) answer end =
                 subst (λ (u : Stage). LeftAt chain Meets u visited_once (current_of back) (chain.completes status old) answer end) (ap pre_leads is) h in
@@ -170,7 +170,7 @@ module _ {W : Type 0} (chain : Chain W) (Meets : Option ℕ → List ℕ → Typ
         ap (λ asks. askers asks r.kept p) owes
         ∙ ap₂ (λ q ps. asker i.0 q bare_completion ∷ askers (owed r.entries) ps q) (none_at_end r.kept p).0 (none_at_end r.kept p).1 in
         record {
-          falls = subst (PlacesFall (length r.kept)) (sym owes) (omega arith, falls);
+          plain = subst (ArePlain (length r.kept)) (sym owes) (omega arith, refl, plain);
           left = λ answer end h.
               let t : LeftAt chain Meets Descending s p old answer end = subst (λ (m : Option Params). LeftIn chain Meets s m old answer end) has h in
               left_of Descending answer end st (
@@ -182,12 +182,12 @@ module _ {W : Type 0} (chain : Chain W) (Meets : Option ℕ → List ℕ → Typ
         }
 
   -- ---- the base
-  module _ (st : r.stage ≡ Descending) (falls : PlacesFall (length r.kept) (owed r.entries)) (last : Meets (last_visited r.entries) []) (new : W) where
+  module _ (st : r.stage ≡ Descending) (plain : ArePlain (length r.kept) (owed r.entries)) (last : Meets (last_visited r.entries) []) (new : W) where
     -- it answers
     at_base : (s : FlowRecord) (given : Answer) → chain.base_may p old given new → owed s.entries ≡ owed r.entries → s.kept ≡ r.kept → s.params ≡ Some p → s.stage ≡ Ascending → s.answer ≡ given
         → Leaves chain Meets r s old new
     at_base s given may owes kept params stage said = record {
-      falls = subst (λ (ps : List Params). PlacesFall (length ps) (owed s.entries)) (sym kept) (subst (PlacesFall (length r.kept)) (sym owes) falls);
+      plain = subst (λ (ps : List Params). ArePlain (length ps) (owed s.entries)) (sym kept) (subst (ArePlain (length r.kept)) (sym owes) plain);
       left = λ answer end h.
           let t : LeftAt chain Meets Ascending s p new answer end =
           subst (λ (u : Stage). LeftAt chain Meets u s p new answer end) stage (subst (λ (m : Option Params). LeftIn chain Meets s m new answer end) params h) in
@@ -223,20 +223,28 @@ none_taken (x ∷ kept) zero none = cc
 none_taken (x ∷ kept) (suc place) none = ap (λ xs. x ∷ xs) (none_taken kept place none)
 
 -- what the parameters are put back to
-record PutBack (place : ℕ) (r s : FlowRecord) (p : Params) : Type 0 where
-  params : s.params ≡ Some (sees r.kept place p)
-  kept : s.kept ≡ take place r.kept
-  entries : s.entries ≡ r.entries
-  operation : s.operation ≡ r.operation
-  answer : s.answer ≡ r.answer
+pub record PutBack (place : ℕ) (r s : FlowRecord) (p : Params) : Type 0 where
+  pub params : s.params ≡ Some (sees r.kept place p)
+  pub kept : s.kept ≡ take place r.kept
+  pub entries : s.entries ≡ r.entries
+  pub operation : s.operation ≡ r.operation
+  pub answer : s.answer ≡ r.answer
+  pub path : s.path ≡ r.path
+  pub volume : s.volume ≡ r.volume
+  pub born : s.born ≡ r.born
+  pub collected : s.collected ≡ r.collected
 
-put_back : (place : ℕ) (r : FlowRecord) (p : Params) (m : Option Params) → slice_get r.kept place ≡ m → r.params ≡ Some p → PutBack place r (unwound_to place r m) p
+pub put_back : (place : ℕ) (r : FlowRecord) (p : Params) (m : Option Params) → slice_get r.kept place ≡ m → r.params ≡ Some p → PutBack place r (unwound_to place r m) p
 put_back place r p None at has = record {
   params = has ∙ ap (λ (m : Option Params). Some (unwrap_or m p)) (sym at);
   kept = sym (none_taken r.kept place at);
   entries = refl;
   operation = refl;
   answer = refl;
+  path = refl;
+  volume = refl;
+  born = refl;
+  collected = refl;
 }
 put_back place r p (Some q) at has = record {
   params = ap (λ (m : Option Params). Some (unwrap_or m p)) (sym at);
@@ -244,6 +252,10 @@ put_back place r p (Some q) at has = record {
   entries = refl;
   operation = refl;
   answer = refl;
+  path = refl;
+  volume = refl;
+  born = refl;
+  collected = refl;
 }
 
 -- the answer that stands meanwhile doesn't matter to the answer after it
@@ -253,7 +265,7 @@ returned_same operation answer back =
     ≡ cond b answer (record { status = back.status; information = back.information; bytes = back.out })) [ true ↦ refl | false ↦ refl ]
 
 module _ {W : Type 0} (chain : Chain W) (Meets : Option ℕ → List ℕ → Type 0) (r : FlowRecord) (p : Params) (has : r.params ≡ Some p) (old : W) (worker : WorkerId) (ask : Ask)
-    (rest : List Ask) (next : owed r.entries ≡ ask ∷ rest) (st : r.stage ≡ Ascending) (c : IsCourse Ascending r.entries) (falls : PlacesFall (length r.kept) (owed r.entries))
+    (rest : List Ask) (next : owed r.entries ≡ ask ∷ rest) (st : r.stage ≡ Ascending) (c : IsCourse Ascending r.entries) (plain : ArePlain (length r.kept) (owed r.entries))
     (kind : chain.operation ≡ r.operation) (back : Data) (same : back.received ≡ sees r.kept ask.place p)
     (may : chain.post_may ask.instance.0 (answered_data (sees r.kept ask.place p) (lent_answer chain.operation r.answer)) ask.completion Finished back) where
   abbrev pub posted_once : FlowRecord
@@ -270,14 +282,14 @@ module _ {W : Type 0} (chain : Chain W) (Meets : Option ℕ → List ℕ → Typ
       ∙ ap (λ es. map (settle_post post.Finished) es ++ entry ∷ []) back'.entries
       ∙ ap (λ es. es ++ entry ∷ []) (closed_stay (settle_post post.Finished) (settling_post post.Finished) Descending r.entries Ascending c.order refl refl) in
       let owes : owed s.entries ≡ rest = ap owed entries ∙ owed_answered Ascending r.entries entry ask rest c next refl (λ j. refl) in
-      let fall : PlacesFall (length r.kept) (ask ∷ rest) = subst (PlacesFall (length r.kept)) next falls in
+      let fall : ArePlain (length r.kept) (ask ∷ rest) = subst (ArePlain (length r.kept)) next plain in
       let long : length u.kept ≡ ask.place = ap length back'.kept ∙ omega (arith, length-take ask.place r.kept, fall.0) in
       let said : s.answer ≡ returned_answer chain.operation r.answer back =
       ap₂ (λ o a. returned_answer o (left_answer o a) back) (back'.operation ∙ sym kind) back'.answer ∙ returned_same chain.operation r.answer back in
       let asks : askers (owed s.entries) s.kept back.received ≡ askers rest (take ask.place r.kept) (sees r.kept ask.place p) =
       ap (λ xs. askers xs s.kept back.received) owes ∙ ap₂ (λ ps q. askers rest ps q) back'.kept same in
       record {
-        falls = subst (λ (n : ℕ). PlacesFall n (owed s.entries)) (sym long) (subst (PlacesFall ask.place) (sym owes) fall.1);
+        plain = subst (λ (n : ℕ). ArePlain n (owed s.entries)) (sym long) (subst (ArePlain ask.place) (sym owes) fall.2);
         left = λ answer end h.
             let up : Rises chain (askers rest (take ask.place r.kept) (sees r.kept ask.place p)) (returned_answer chain.operation r.answer back) answer =
             subst (λ (a : Answer). Rises chain (askers rest (take ask.place r.kept) (sees r.kept ask.place p)) a answer) said

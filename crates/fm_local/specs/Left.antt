@@ -1,5 +1,5 @@
 -- What is left of a fold, of an operation that is on its way.
-use Rattle.std.specs.Prelude.{◌≡◌, ◌≤◌, ℕ, ⊤, List, [], ◌∷◌, take, Option, Some, None}
+use Rattle.std.specs.Prelude.{false, ◌≡◌, ◌≤◌, ℕ, ⊤, List, [], ◌∷◌, take, Option, Some, None}
 use Rattle.fm_data.specs.declared.answer.Answer.{Answer}
 use Rattle.fm_data.specs.declared.params.Params.{Params}
 use Rattle.fm_flow.specs.declared.entry.Ask.{Ask}
@@ -30,7 +30,7 @@ LeftIn chain Meets r (Some p) old answer new = LeftAt chain Meets r.stage r p ol
 abbrev pub LeftOf : {W : Type 0} → Chain W → (Option ℕ → List ℕ → Type 0) → FlowRecord → W → Answer → W → Type 0
 LeftOf chain Meets r old answer new = LeftIn chain Meets r r.params old answer new
 
--- the later an instance asked, the later in the list of what was kept its place is
-abbrev pub PlacesFall : ℕ → List Ask → Type 0
-PlacesFall most [] = ⊤
-PlacesFall most (ask ∷ asks) = (ask.place ≤ most) × PlacesFall ask.place asks
+-- asks for postoperations that any worker may make; the later an instance asked, the later in the list of what was kept its place is
+abbrev pub ArePlain : ℕ → List Ask → Type 0
+ArePlain most [] = ⊤
+ArePlain most (ask ∷ asks) = (ask.place ≤ most) × (ask.is_synchronized ≡ false) × ArePlain ask.place asks

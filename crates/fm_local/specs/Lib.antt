@@ -5,4 +5,5 @@ pub mod Functions
 pub mod Left
 pub mod Ports
 pub mod Shifts
+pub mod Turns
 pub mod Visits

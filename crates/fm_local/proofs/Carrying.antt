@@ -1,0 +1,393 @@
+-- Each turn of an operation that is alone leaves no more of its fold than there was.
+use Rattle.std.specs.Prelude.{◌≡◌, ◌≤◌, ◌<◌, ◌==◌, ◌&&◌, ℕ, zero, suc, ⊤, Bool, true, false, cond, not, List, [], ◌∷◌, ◌++◌, length, Option, Some, None, unwrap_or, is_some, IfSome, Result, Ok, Err, slice_get, refl}
+use Rattle.std.proofs.Common.{sym, ap, ap₂, subst, ◌∙◌, arith}
+use Rattle.std.proofs.lemmas.Bool.{false≢true}
+use Rattle.fm_types.proofs.Firsts.{found_holds}
+use Rattle.fm_types.proofs.Lists.{all_at}
+use Rattle.fm_types.specs.declared.operation.Operation.{Operation}
+use Rattle.fm_types.specs.declared.operation.Operation.TheVariants as kind
+use Rattle.fm_types.specs.declared.status.Status.{Status}
+use Rattle.fm_types.specs.declared.status.Status.TheVariants as status
+use Rattle.fm_data.specs.Data.{Data, fresh_data, answered_data, current_of}
+use Rattle.fm_data.specs.Params.{fit}
+use Rattle.fm_data.specs.declared.answer.Answer.{Answer}
+use Rattle.fm_data.specs.declared.base_call.BaseCall.{BaseCall}
+use Rattle.fm_data.specs.declared.params.Params.{Params}
+use Rattle.fm_data.specs.declared.verdict.Completion.{Completion}
+use Rattle.fm_data.specs.declared.verdict.PreVerdict.{PreVerdict}
+use Rattle.fm_data.specs.declared.verdict.PreVerdict.TheVariants as verdict
+use Rattle.fm_data.specs.declared.verdict.PostVerdict.{PostVerdict}
+use Rattle.fm_data.specs.declared.verdict.PostVerdict.TheVariants as end
+use Rattle.fm_filter.specs.Plain.{IsPlainFilter, IsPlainPre, IsPlainPost}
+use Rattle.fm_stack.specs.StackWorld.{StackWorld}
+use Rattle.fm_stack.specs.declared.instance.Instance.{Instance}
+use Rattle.fm_flow.proofs.Soundness.{at_stage}
+use Rattle.fm_types.specs.declared.ids.HandleId.{HandleId}
+use Rattle.fm_flow.specs.Answered.{bare_answer, base_counted}
+use Rattle.fm_flow.specs.Creates.{is_create}
+use Rattle.fm_flow.specs.Entries.{owed, visited, last_visited, times}
+use Rattle.fm_flow.specs.Record.{FlowRecord}
+use Rattle.fm_flow.specs.Sound as flow
+use Rattle.fm_flow.specs.Sound.{IsCourse}
+use Rattle.fm_flow.specs.Steps.{next_of, call_pre, call_base, call_of, call_post, with_visit, with_base, bare_ask, pre_returned_of, base_returned_of, post_returned_of, ascend, descend, give_post, unwound, lent_answer, next_at, turn, may_take, Turned as Turn}
+use Rattle.fm_flow.specs.Seen.{sees}
+use Rattle.fm_flow.specs.Table.{FlowTable, is_number}
+use Rattle.fm_flow.specs.Verdict.{verdict_counted, completed_as}
+use Rattle.fm_flow.specs.declared.action.Below.{Below}
+use Rattle.fm_flow.specs.declared.action.Below.TheVariants as below
+use Rattle.fm_flow.specs.declared.action.FlowAction.{FlowAction}
+use Rattle.fm_flow.specs.declared.action.FlowAction.TheVariants as action
+use Rattle.fm_flow.specs.declared.entry.Ask.{Ask}
+use Rattle.fm_flow.specs.declared.entry.PreState.{PreState}
+use Rattle.fm_flow.specs.declared.entry.PreState.TheVariants as pre
+use Rattle.fm_flow.specs.declared.stage.Stage.{Stage}
+use Rattle.fm_flow.specs.declared.stage.Stage.TheVariants.{Descending, Ascending}
+use Rattle.fm_world.proofs.Descents.{last_of-push, room_visits}
+use Rattle.fm_world.proofs.Turns.{may_visit}
+use Rattle.fm_world.specs.Events.{base_known, filed_base, filed_record}
+use Rattle.fm_world.specs.Events.{Nexts, drains_next, has_post, LiesBelow, AnswersBelow, is_stopping_phase, is_stopping_row, is_stopping_ask}
+use Rattle.fm_world.specs.Files.{FileTable, after_base, after_pre}
+use Rattle.fm_world.specs.Sound.{IsSound, IsAmong}
+use Rattle.fm_world.specs.Words.{InstanceId, OpId, WorkerId}
+use Rattle.fm_world.specs.Workers.{worker_at}
+use Rattle.fm_world.specs.World.{World}
+use Rattle.fm_world.specs.declared.worker.Worker.TheVariants as place
+use Rattle.fm_local.proofs.Alone.{Alone, found_alone, told_alone, known_alone, none_created}
+use Rattle.fm_local.proofs.Events.{Nexted, next_leaves, IsLeft, pre_leaves, base_leaves, post_leaves, and_none}
+use Rattle.fm_local.proofs.Fitting.{fits_back, call_back}
+use Rattle.fm_local.proofs.Turning.{Leaves, IsPlainState, after_verdict, left_asked, left_passed, left_completed, left_bare, left_base, left_known, left_post, left_done, PutBack, put_back}
+use Rattle.fm_local.proofs.Visits.{visits_after}
+use Rattle.fm_local.specs.Chains.{Under, Subject, subject_of, PreMay, PostMay, filter_in, filter_in_row, completed_under, known_answer, BaseMay, BaseMayBy, chain_of}
+use Rattle.fm_local.specs.Folds.{Chain}
+use Rattle.fm_local.specs.Left.{ArePlain, LeftOf}
+use Rattle.fm_local.specs.Turns.{HandsBack, Does, Turns}
+use Rattle.fm_local.specs.Visits.{Visits}
+
+-- what lies below all instances, of a World and a device
+abbrev pub under : {D : Type 0} → D → World → Under D
+under d w = record { device = d; files = w.files }
+
+-- the operation is between two callbacks
+abbrev pub is_between : Stage → Bool
+is_between Descending = true
+is_between Ascending = true
+is_between _ = false
+
+-- a record that is still what the subject says; a create that was answered has a handle more
+pub record IsOn (x : Subject) (r : FlowRecord) : Type 0 where
+  pub kind : r.operation ≡ x.operation
+  pub all : r.stage ≡ Descending → subject_of r ≡ x
+
+-- an operation that is on its way, alone, between two callbacks
+pub record IsGoing (k : WorkerId) (o : OpId) (x : Subject) (r : FlowRecord) (w : World) : Type 0 where
+  pub alone : Alone o r w.flow
+  pub idle : worker_at w.workers k ≡ Some place.Idle
+  pub uncollected : r.collected ≡ false
+  pub between : is_between r.stage ≡ true
+  pub on : IsOn x r
+  pub asks : ArePlain (length r.kept) (owed r.entries)
+
+-- no instance is being torn down
+abbrev pub NoneStops : StackWorld → Type 0
+NoneStops s = (i : ℕ) (row : Instance) → slice_get s.instances i ≡ Some row → is_stopping_phase row.phase ≡ false
+
+-- no operation is drained then
+none_drains : (s : StackWorld) → NoneStops s → (m : Option Ask) → is_stopping_ask s m ≡ false
+none_drains s none None = refl
+none_drains s none (Some ask) = by_row (slice_get s.instances ask.instance.0) refl
+  where
+    by_row : (m : Option Instance) → slice_get s.instances ask.instance.0 ≡ m → is_stopping_row m ≡ false
+    by_row None at = refl
+    by_row (Some row) at = none ask.instance.0 row at
+
+-- what an operation that is sound has
+module _ (w : World) (sound : IsSound w) (o : OpId) (r : FlowRecord) (alone : Alone o r w.flow) where
+  record_sound : flow.IsSound r
+  record_sound = found_holds flow.IsSound (is_number o) w.flow.operations r sound.under_way.flow.sound (found_alone o r w.flow alone)
+
+  record_among : IsAmong w.stack r
+  record_among = found_holds (IsAmong w.stack) (is_number o) w.flow.operations r sound.under_way.among (found_alone o r w.flow alone)
+
+-- what a postoperation that is given leaves of the record
+record GivenKeeps (u s : FlowRecord) : Type 0 where
+  operation : s.operation ≡ u.operation
+  path : s.path ≡ u.path
+  volume : s.volume ≡ u.volume
+  born : s.born ≡ u.born
+  collected : s.collected ≡ u.collected
+
+given_keeps : (k : WorkerId) (ask : Ask) (u : FlowRecord) (m : Option Params) → GivenKeeps u (give_post k ask u m).after
+given_keeps k ask u None = record { operation = refl; path = refl; volume = refl; born = refl; collected = refl }
+given_keeps k ask u (Some q) = record { operation = refl; path = refl; volume = refl; born = refl; collected = refl }
+
+some_there : (m : Option Params) → is_some m ≡ true → (p : Params) × (m ≡ Some p)
+some_there None is = cc
+some_there (Some p) is = (p, refl)
+
+module _ {F D : Type 0} (pre_may : F → Data → PreVerdict → Data → Type 0) (post_may : F → Data → Completion → PostVerdict → Data → Type 0) (is_quiet : F → Type 0)
+    (carries : D → BaseCall → Answer → D → Type 0) (filters : ℕ → Option F) (plain : (n : ℕ) (f : F) → filters n ≡ Some f → IsPlainFilter pre_may post_may is_quiet f)
+    (k : WorkerId) (o : OpId) (x : Subject) (s : StackWorld) (quiet : NoneStops s) where
+  abbrev chain : Subject → Chain (Under D)
+  chain y = chain_of pre_may post_may carries filters s y
+
+  abbrev Meets : FlowRecord → Option ℕ → List ℕ → Type 0
+  Meets r = Visits s r.volume r.born r.operation
+
+  -- a turn leaves the operation going, and no more of its fold than there was
+  record Turned (r : FlowRecord) (old : World) (d : D) (new : World) (e : D) : Type 0 where
+    next : FlowRecord
+    going : IsGoing k o x next new
+    stays : new.stack ≡ old.stack
+    same : (next.volume ≡ r.volume) × (next.born ≡ r.born)
+    less : Leaves (chain x) (Meets r) r next (under d old) (under e new)
+
+  -- verdicts of filters that are there are plain
+  pre_plain : (i : ℕ) (lent : Data) (given : PreVerdict) (back : Data) → PreMay pre_may (filter_in filters s i) lent given back → IsPlainPre given
+  pre_plain i lent given back may = by_row (slice_get s.instances i) may
+    where
+      by_filter : (n : ℕ) (m : Option F) → filters n ≡ m → PreMay pre_may m lent given back → IsPlainPre given
+      by_filter n None at may = absurd may
+      by_filter n (Some f) at may = (plain n f at).descends lent given back may
+
+      by_row : (m : Option Instance) → PreMay pre_may (filter_in_row filters m) lent given back → IsPlainPre given
+      by_row None may = absurd may
+      by_row (Some row) may = by_filter row.filter.0 (filters row.filter.0) refl may
+
+  post_plain : (i : ℕ) (lent : Data) (completion : Completion) (given : PostVerdict) (back : Data) → PostMay post_may (filter_in filters s i) lent completion given back → given ≡ end.Finished
+  post_plain i lent completion given back may = by_row (slice_get s.instances i) may
+    where
+      finished : (given : PostVerdict) → IsPlainPost given → given ≡ end.Finished
+      finished end.Finished p = refl
+      finished end.MoreProcessing p = absurd p
+
+      by_filter : (n : ℕ) (m : Option F) → filters n ≡ m → PostMay post_may m lent completion given back → given ≡ end.Finished
+      by_filter n None at may = absurd may
+      by_filter n (Some f) at may = finished given ((plain n f at).ascends lent completion given back may)
+
+      by_row : (m : Option Instance) → PostMay post_may (filter_in_row filters m) lent completion given back → given ≡ end.Finished
+      by_row None may = absurd may
+      by_row (Some row) may = by_filter row.filter.0 (filters row.filter.0) refl may
+
+  -- a plain verdict that counts is plain
+  state_plain : (given : PreVerdict) (operation : Operation) (has : Bool) → IsPlainPre given → IsPlainState (verdict_counted given operation has)
+  state_plain (verdict.WithCallback completion) operation true p = tt
+  state_plain (verdict.WithCallback completion) operation false p = tt
+  state_plain (verdict.Synchronize completion) operation has p = absurd p
+  state_plain verdict.NoCallback operation has p = tt
+  state_plain (verdict.Complete why) operation has p = ended operation
+    where
+      ended : (operation : Operation) → IsPlainState (completed_as why operation)
+      ended kind.Cleanup = tt
+      ended kind.Close = tt
+      ended kind.Create = tt
+      ended _ = tt
+  state_plain verdict.Pending operation has p = absurd p
+
+  module _ (r : FlowRecord) (old : World) (d : D) (going : IsGoing k o x r old) (sound : IsSound old) (at_stack : old.stack ≡ s) (p : Params) (has : r.params ≡ Some p) where
+    own : flow.IsSound r
+    own = record_sound old sound o r going.alone
+
+    among : IsAmong s r
+    among = subst (λ (t : StackWorld). IsAmong t r) at_stack (record_among old sound o r going.alone)
+
+    fits : fit r.operation r.path p ≡ true
+    fits = subst (λ (m : Option Params). IfSome m (λ q. fit r.operation r.path q ≡ true)) has own.params
+
+    -- ---- a visit
+    module _ (st : r.stage ≡ Descending) where
+      course : IsCourse Descending r.entries
+      course = (at_stage r Descending st own).0
+
+      -- what is known of the chain of the record is known of the subject's
+      of_subject : (next : FlowRecord) (w : Under D) → Leaves (chain (subject_of r)) (Meets r) r next (under d old) w → Leaves (chain x) (Meets r) r next (under d old) w
+      of_subject next w h = subst (λ (y : Subject). Leaves (chain y) (Meets r) r next (under d old) w) (going.on.all st) h
+
+      module _ (i : InstanceId) (lies : LiesBelow s r (below.Instance i true)) where
+        fresh : times i.0 (visited r.entries) ≡ 0
+        fresh = (may_visit s r (below.Instance i true) among lies).0
+
+        further : (below : List ℕ) × Visits s r.volume r.born r.operation (Some i.0) below
+        further =
+            let rest = visits_after s r.volume r.born r.operation (visited r.entries ++ i.0 ∷ [])
+            (room_visits s r.volume r.born r.operation (visited r.entries) i.0 among.room lies.0) in
+            (rest.0, subst (λ (m : Option ℕ). Visits s r.volume r.born r.operation m rest.0) (last_of-push (visited r.entries) i.0) rest.1)
+
+        meets : (below : List ℕ) → Visits s r.volume r.born r.operation (Some i.0) below → Visits s r.volume r.born r.operation (last_visited r.entries) (i.0 ∷ below)
+        meets below v = (lies.0, v)
+
+        module _ (given : PreVerdict) (back : Data) (may : PreMay pre_may (filter_in filters s i.0) (fresh_data p) given back) (same : back.received ≡ p) (new : World) (e : D) (end_is : e ≡ d) where
+          by_state : (state : PreState) → verdict_counted given r.operation (has_post s (slice_get s.instances i.0) r.operation) ≡ state → IsPlainState state
+              → IsLeft k o (pre_returned_of state back (call_pre k i r (Some p)).after) s (after_pre state r.operation r.stream false old.files) new → Turned r old d new e
+          by_state (pre.Asked completion) counted plain left =
+              let next = pre_returned_of (pre.Asked completion) back (call_pre k i r (Some p)).after in
+              let less = left_asked (chain (subject_of r)) (Meets r) r p has (under d old) k i st course fresh going.asks meets given back (pre.Asked completion) (sym lies.1) same may counted completion refl in
+              let ends : under d old ≡ under e new = ap₂ (λ dev fs. record { device = dev; files = fs }) (sym end_is) (sym left.filed) in
+              record {
+                next = next;
+                going = record { alone = left.alone; idle = left.idle; uncollected = going.uncollected; between = refl; on = record { kind = going.on.kind; all = λ h. going.on.all st }; asks = less.plain };
+                stays = left.stays ∙ sym at_stack;
+                same = (refl, refl);
+                less = subst (λ (w : Under D). Leaves (chain x) (Meets r) r next (under d old) w) ends (of_subject next (under d old) less);
+              }
+          by_state pre.Passed counted plain left =
+              let next = pre_returned_of pre.Passed back (call_pre k i r (Some p)).after in
+              let less = left_passed (chain (subject_of r)) (Meets r) r p has (under d old) k i st course fresh going.asks meets given back pre.Passed (sym lies.1) same may counted refl in
+              let ends : under d old ≡ under e new = ap₂ (λ dev fs. record { device = dev; files = fs }) (sym end_is) (sym left.filed) in
+              record {
+                next = next;
+                going = record { alone = left.alone; idle = left.idle; uncollected = going.uncollected; between = refl; on = record { kind = going.on.kind; all = λ h. going.on.all st }; asks = less.plain };
+                stays = left.stays ∙ sym at_stack;
+                same = (refl, refl);
+                less = subst (λ (w : Under D). Leaves (chain x) (Meets r) r next (under d old) w) ends (of_subject next (under d old) less);
+              }
+          by_state (pre.Completed why) counted plain left =
+              let next = pre_returned_of (pre.Completed why) back (call_pre k i r (Some p)).after in
+              let w = completed_under (subject_of r) why (under d old) in
+              let less = left_completed (chain (subject_of r)) (Meets r) r p has (under d old) k i st course fresh going.asks meets given back (pre.Completed why) (sym lies.1) same may counted why refl further.0 further.1 in
+              let ends : w ≡ under e new = ap₂ (λ dev fs. record { device = dev; files = fs }) (sym end_is) (sym left.filed) in
+              record {
+                next = next;
+                going = record { alone = left.alone; idle = left.idle; uncollected = going.uncollected; between = refl; on = record { kind = going.on.kind; all = λ h. going.on.all st }; asks = less.plain };
+                stays = left.stays ∙ sym at_stack;
+                same = (refl, refl);
+                less = subst (λ (v : Under D). Leaves (chain x) (Meets r) r next (under d old) v) ends (of_subject next w less);
+              }
+          by_state _ counted plain left = absurd plain
+
+        visit_turn : (mid : World) → Alone o (call_pre k i r (Some p)).after mid.flow → worker_at mid.workers k ≡ Some (place.Pre o i) → mid.stack ≡ s → mid.files ≡ old.files
+            → (new : World) (e : D) → Does pre_may post_may carries filters k o (Ok (action.Pre i (fresh_data p))) mid d new e → Turned r old d new e
+        visit_turn mid alone worker stack files new e does =
+            let given = does.0 in
+            let back = does.1 in
+            let may : PreMay pre_may (filter_in filters s i.0) (fresh_data p) given back =
+            subst (λ (t : StackWorld). PreMay pre_may (filter_in filters t i.0) (fresh_data p) given back) stack does.3 in
+            let plainly = pre_plain i.0 (fresh_data p) given back may in
+            let State : StackWorld → PreState = λ t. verdict_counted given r.operation (has_post t (slice_get t.instances i.0) r.operation) in
+            let left = pre_leaves mid k o (call_pre k i r (Some p)).after alone i given back does.2 new worker (fits_back r.operation r.path p back fits does.4.received does.4.laws) plainly does.5 in
+            let left' = subst (λ (t : StackWorld). IsLeft k o (pre_returned_of (State t) back (call_pre k i r (Some p)).after) t (after_pre (State t) r.operation r.stream false mid.files) new) stack left in
+            by_state given back may does.4.received new e does.6 (State s) refl (state_plain given r.operation (has_post s (slice_get s.instances i.0) r.operation) plainly)
+            (subst (λ (f : FileTable). IsLeft k o (pre_returned_of (State s) back (call_pre k i r (Some p)).after) s (after_pre (State s) r.operation r.stream false f) new) files left')
+
+      -- ---- an instance that is passed without a call
+      bare_turn : (i : InstanceId) → LiesBelow s r (below.Instance i false) → (mid : World) → Alone o (with_visit k i bare_ask r) mid.flow → worker_at mid.workers k ≡ Some place.Idle
+          → mid.stack ≡ s → mid.files ≡ old.files → (new : World) (e : D) → new ≡ mid → e ≡ d → Turned r old d new e
+      bare_turn i lies mid alone idle stack files new e same end_is =
+          let next = with_visit k i bare_ask r in
+          let fresh = (may_visit s r (below.Instance i false) among lies).0 in
+          let less = left_bare (chain (subject_of r)) (Meets r) r p has (under d old) k i st course fresh going.asks (λ below v. (lies.0, v)) (sym lies.1) in
+          let ends : under d old ≡ under e new =
+          ap₂ (λ dev fs. record { device = dev; files = fs }) (sym end_is) (sym (ap (λ (w : World). w.files) same ∙ files)) in
+          record {
+            next = next;
+            going = record {
+              alone = subst (λ (w : World). Alone o next w.flow) (sym same) alone;
+              idle = subst (λ (w : World). worker_at w.workers k ≡ Some place.Idle) (sym same) idle;
+              uncollected = going.uncollected;
+              between = refl;
+              on = record { kind = going.on.kind; all = λ h. going.on.all st };
+              asks = less.plain;
+            };
+            stays = ap (λ (w : World). w.stack) same ∙ stack ∙ sym at_stack;
+            same = (refl, refl);
+            less = subst (λ (w : Under D). Leaves (chain x) (Meets r) r next (under d old) w) ends (of_subject next (under d old) less);
+          }
+
+      -- ---- the base
+      module _ (lies : Visits s r.volume r.born r.operation (last_visited r.entries) []) where
+        base_turn : base_known old.files old.flow r ≡ None → (mid : World) → Alone o (call_base r (Some p)).after mid.flow → worker_at mid.workers k ≡ Some (place.Base o)
+            → mid.stack ≡ s → mid.files ≡ old.files → (new : World) (e : D) → Does pre_may post_may carries filters k o (Ok (action.Base (call_of r p))) mid d new e → Turned r old d new e
+        base_turn unknown mid alone worker stack files new e does =
+            let answer = does.0 in
+            let handle : FileTable → HandleId = λ f. record { 0 = f.next } in
+            let left = base_leaves mid k o (call_base r (Some p)).after alone (call_of r p) answer does.1 new worker (call_back r p answer fits does.3) does.4 in
+            let left' = subst (λ (f : FileTable). IsLeft k o (base_returned_of (call_of r p) answer (handle f) (call_base r (Some p)).after) mid.stack (after_base r.operation r.stream r.handle answer.status false f) new) files left in
+            let next = base_returned_of (call_of r p) answer (handle old.files) (call_base r (Some p)).after in
+            let known : known_answer old.files (subject_of r) ≡ None = sym (known_alone o r old.flow going.alone old.files) ∙ unknown in
+            let By : Option Status → Type 0 = λ m. BaseMayBy carries (subject_of r) p m (under d old) (base_counted p answer (handle old.files)) (under e new) in
+            let may : BaseMay carries (subject_of r) p (under d old) (base_counted p answer (handle old.files)) (under e new) = subst By (sym known) (answer, does.2, refl, left'.filed) in
+            let less = left_base (chain (subject_of r)) (Meets r) r p has (under d old) st going.asks lies (under e new) answer (handle old.files) may in
+            record {
+              next = next;
+              going = record { alone = left'.alone; idle = left'.idle; uncollected = going.uncollected; between = refl; on = record { kind = going.on.kind; all = λ h. cc }; asks = less.plain };
+              stays = left'.stays ∙ stack ∙ sym at_stack;
+              same = (refl, refl);
+              less = of_subject next (under e new) less;
+            }
+
+        known_turn : (why : Status) → base_known old.files old.flow r ≡ Some why → (mid : World) → Alone o (with_base (bare_answer why) r) mid.flow → worker_at mid.workers k ≡ Some place.Idle
+            → mid.stack ≡ s → mid.files ≡ filed_base old o mid.flow why → (new : World) (e : D) → new ≡ mid → e ≡ d → Turned r old d new e
+        known_turn why knows mid alone idle stack files new e same end_is =
+            let next = with_base (bare_answer why) r in
+            let filing : new.files ≡ after_base r.operation r.stream r.handle why false old.files =
+            ap (λ (w : World). w.files) same ∙ files ∙ told_alone o r old.flow going.alone (filed_record old.files mid.flow why) old.files
+            ∙ ap (λ b. after_base r.operation r.stream r.handle why b old.files) (none_created o next mid.flow alone (and_none (is_create r.operation)) r.stream) in
+            let known : known_answer old.files (subject_of r) ≡ Some why = sym (known_alone o r old.flow going.alone old.files) ∙ knows in
+            let By : Option Status → Type 0 = λ m. BaseMayBy carries (subject_of r) p m (under d old) (bare_answer why) (under e new) in
+            let ends : under e new ≡ record { device = d; files = after_base r.operation r.stream r.handle why false old.files } =
+            ap₂ (λ dev fs. record { device = dev; files = fs }) end_is filing in
+            let may : BaseMay carries (subject_of r) p (under d old) (bare_answer why) (under e new) = subst By (sym known) (refl, ends) in
+            let less = left_known (chain (subject_of r)) (Meets r) r p has (under d old) st going.asks lies (under e new) why may in
+            record {
+              next = next;
+              going = record {
+                alone = subst (λ (w : World). Alone o next w.flow) (sym same) alone;
+                idle = subst (λ (w : World). worker_at w.workers k ≡ Some place.Idle) (sym same) idle;
+                uncollected = going.uncollected;
+                between = refl;
+                on = record { kind = going.on.kind; all = λ h. cc };
+                asks = less.plain;
+              };
+              stays = ap (λ (w : World). w.stack) same ∙ stack ∙ sym at_stack;
+              same = (refl, refl);
+              less = of_subject next (under e new) less;
+            }
+
+    -- ---- a postoperation
+    module _ (st : r.stage ≡ Ascending) (ask : Ask) (rest : List Ask) (owes : owed r.entries ≡ ask ∷ rest) where
+      abbrev saw : Params
+      saw = sees r.kept ask.place p
+
+      abbrev unwinds : PutBack ask.place r (unwound ask.place r) p
+      unwinds = put_back ask.place r p (slice_get r.kept ask.place) refl has
+
+      -- what it is given fits
+      saw_fits : (m : Option Params) → slice_get r.kept ask.place ≡ m → fit r.operation r.path (unwrap_or m p) ≡ true
+      saw_fits None at = fits
+      saw_fits (Some q) at = all_at (λ v. fit r.operation r.path v ≡ true) r.kept ask.place q own.kept at
+
+      post_turn : (mid : World) → Alone o (call_post k ask r).after mid.flow → worker_at mid.workers k ≡ Some (place.Post o ask.instance) → mid.stack ≡ s → mid.files ≡ old.files
+          → (new : World) (e : D) → Does pre_may post_may carries filters k o (Ok (action.Post ask.instance (answered_data saw (lent_answer r.operation r.answer)) ask.completion)) mid d new e
+          → Turned r old d new e
+      post_turn mid alone worker stack files new e does =
+          let back = does.1 in
+          let lent = answered_data saw (lent_answer r.operation r.answer) in
+          let may : PostMay post_may (filter_in filters s ask.instance.0) lent ask.completion does.0 back =
+          subst (λ (t : StackWorld). PostMay post_may (filter_in filters t ask.instance.0) lent ask.completion does.0 back) stack does.3 in
+          let finished : does.0 ≡ end.Finished = post_plain ask.instance.0 lent ask.completion does.0 back may in
+          let s0 = (call_post k ask r).after in
+          let keeps = given_keeps k ask (unwound ask.place r) (unwound ask.place r).params in
+          let operation : s0.operation ≡ r.operation = keeps.operation ∙ unwinds.operation in
+          let path : s0.path ≡ r.path = keeps.path ∙ unwinds.path in
+          let fitting : fit s0.operation s0.path saw ≡ true = ap₂ (λ a b. fit a b saw) operation path ∙ saw_fits (slice_get r.kept ask.place) refl in
+          let left = post_leaves mid k o s0 alone ask.instance does.0 back does.2 new worker (fits_back s0.operation s0.path saw back fitting does.4.received does.4.laws) does.5 in
+          let next = post_returned_of end.Finished back s0 in
+          let left' : IsLeft k o next mid.stack mid.files new = subst (λ (v : PostVerdict). IsLeft k o (post_returned_of v back s0) mid.stack mid.files new) finished left in
+          let ended : PostMay post_may (filter_in filters s ask.instance.0) (answered_data saw (lent_answer x.operation r.answer)) ask.completion end.Finished back =
+          subst (λ (a : Operation). PostMay post_may (filter_in filters s ask.instance.0) (answered_data saw (lent_answer a r.answer)) ask.completion end.Finished back) going.on.kind
+          (subst (λ (v : PostVerdict). PostMay post_may (filter_in filters s ask.instance.0) lent ask.completion v back) finished may) in
+          let less = left_post (chain x) (Meets r) r p has (under d old) k ask rest owes st (at_stage r Ascending st own).0 going.asks (sym going.on.kind) back does.4.received ended in
+          let ends : under d old ≡ under e new = ap₂ (λ dev fs. record { device = dev; files = fs }) (sym does.6) (sym (left'.filed ∙ files)) in
+          record {
+            next = next;
+            going = record {
+              alone = left'.alone;
+              idle = left'.idle;
+              uncollected = keeps.collected ∙ unwinds.collected ∙ going.uncollected;
+              between = refl;
+              on = record { kind = operation ∙ going.on.kind; all = λ h. cc };
+              asks = less.plain;
+            };
+            stays = left'.stays ∙ stack ∙ sym at_stack;
+            same = (keeps.volume ∙ unwinds.volume, keeps.born ∙ unwinds.born);
+            less = subst (λ (w : Under D). Leaves (chain x) (Meets r) r next (under d old) w) ends less;
+          }

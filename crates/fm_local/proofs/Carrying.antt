@@ -1,5 +1,5 @@
 -- Each turn of an operation that is alone leaves no more of its fold than there was.
-use Rattle.std.specs.Prelude.{◌≡◌, ◌≤◌, ◌<◌, ◌==◌, ◌&&◌, ℕ, zero, suc, ⊤, Bool, true, false, cond, not, List, [], ◌∷◌, ◌++◌, length, Option, Some, None, unwrap_or, is_some, IfSome, Result, Ok, Err, slice_get, refl}
+use Rattle.std.specs.Prelude.{◌≡◌, ◌≤◌, ◌<◌, ◌==◌, ◌&&◌, ◌||◌, ℕ, zero, suc, ⊤, Bool, true, false, cond, not, List, [], ◌∷◌, ◌++◌, length, Option, Some, None, unwrap_or, is_some, IfSome, Result, Ok, Err, slice_get, refl}
 use Rattle.std.proofs.Common.{sym, ap, ap₂, subst, ◌∙◌, arith}
 use Rattle.std.proofs.lemmas.Bool.{false≢true}
 use Rattle.fm_types.proofs.Firsts.{found_holds}
@@ -44,16 +44,17 @@ use Rattle.fm_flow.specs.declared.stage.Stage.{Stage}
 use Rattle.fm_flow.specs.declared.stage.Stage.TheVariants.{Descending, Ascending}
 use Rattle.fm_world.proofs.Descents.{last_of-push, room_visits}
 use Rattle.fm_world.proofs.Turns.{may_visit}
-use Rattle.fm_world.specs.Events.{base_known, filed_base, filed_record}
+use Rattle.fm_world.specs.Events.{base_known, filed_base, filed_next, filed_record}
 use Rattle.fm_world.specs.Events.{Nexts, drains_next, has_post, LiesBelow, AnswersBelow, is_stopping_phase, is_stopping_row, is_stopping_ask}
 use Rattle.fm_world.specs.Files.{FileTable, after_base, after_pre}
 use Rattle.fm_world.specs.Sound.{IsSound, IsAmong}
 use Rattle.fm_world.specs.Words.{InstanceId, OpId, WorkerId}
-use Rattle.fm_world.specs.Workers.{worker_at}
+use Rattle.fm_world.specs.Workers.{worker_at, put, after_next}
+use Rattle.fm_world.specs.declared.worker.Worker.{Worker}
 use Rattle.fm_world.specs.World.{World}
 use Rattle.fm_world.specs.declared.worker.Worker.TheVariants as place
 use Rattle.fm_local.proofs.Alone.{Alone, found_alone, told_alone, known_alone, none_created}
-use Rattle.fm_local.proofs.Events.{Nexted, next_leaves, IsLeft, pre_leaves, base_leaves, post_leaves, and_none}
+use Rattle.fm_local.proofs.Events.{Nexted, next_leaves, IsLeft, pre_leaves, base_leaves, post_leaves, and_none, placed}
 use Rattle.fm_local.proofs.Fitting.{fits_back, call_back}
 use Rattle.fm_local.proofs.Turning.{Leaves, IsPlainState, after_verdict, left_asked, left_passed, left_completed, left_bare, left_base, left_known, left_post, left_done, PutBack, put_back}
 use Rattle.fm_local.proofs.Visits.{visits_after}
@@ -127,19 +128,19 @@ some_there (Some p) is = (p, refl)
 module _ {F D : Type 0} (pre_may : F → Data → PreVerdict → Data → Type 0) (post_may : F → Data → Completion → PostVerdict → Data → Type 0) (is_quiet : F → Type 0)
     (carries : D → BaseCall → Answer → D → Type 0) (filters : ℕ → Option F) (plain : (n : ℕ) (f : F) → filters n ≡ Some f → IsPlainFilter pre_may post_may is_quiet f)
     (k : WorkerId) (o : OpId) (x : Subject) (s : StackWorld) (quiet : NoneStops s) where
-  abbrev chain : Subject → Chain (Under D)
+  abbrev pub chain : Subject → Chain (Under D)
   chain y = chain_of pre_may post_may carries filters s y
 
-  abbrev Meets : FlowRecord → Option ℕ → List ℕ → Type 0
+  abbrev pub Meets : FlowRecord → Option ℕ → List ℕ → Type 0
   Meets r = Visits s r.volume r.born r.operation
 
   -- a turn leaves the operation going, and no more of its fold than there was
-  record Turned (r : FlowRecord) (old : World) (d : D) (new : World) (e : D) : Type 0 where
-    next : FlowRecord
-    going : IsGoing k o x next new
-    stays : new.stack ≡ old.stack
-    same : (next.volume ≡ r.volume) × (next.born ≡ r.born)
-    less : Leaves (chain x) (Meets r) r next (under d old) (under e new)
+  pub record Turned (r : FlowRecord) (old : World) (d : D) (new : World) (e : D) : Type 0 where
+    pub next : FlowRecord
+    pub going : IsGoing k o x next new
+    pub stays : new.stack ≡ old.stack
+    pub same : (next.volume ≡ r.volume) × (next.born ≡ r.born)
+    pub less : Leaves (chain x) (Meets r) r next (under d old) (under e new)
 
   -- verdicts of filters that are there are plain
   pre_plain : (i : ℕ) (lent : Data) (given : PreVerdict) (back : Data) → PreMay pre_may (filter_in filters s i) lent given back → IsPlainPre given
@@ -391,3 +392,76 @@ module _ {F D : Type 0} (pre_may : F → Data → PreVerdict → Data → Type 0
             same = (keeps.volume ∙ unwinds.volume, keeps.born ∙ unwinds.born);
             less = subst (λ (w : Under D). Leaves (chain x) (Meets r) r next (under d old) w) ends less;
           }
+
+    -- ---- one turn, whatever is next
+    module _ (reply : Result FlowAction Status) (mid new : World) (e : D) (workers : mid.workers ≡ after_next old.workers k o reply) (stack : mid.stack ≡ s)
+        (does : Does pre_may post_may carries filters k o reply mid d new e) where
+      abbrev Done : Result FlowAction Status → Type 0
+      Done said = Does pre_may post_may carries filters k o said mid d new e
+
+      -- the worker is where the answer of `next` brings it
+      brought : (said : Result FlowAction Status) (at : Worker) → reply ≡ said → after_next old.workers k o said ≡ put old.workers k at → worker_at mid.workers k ≡ Some at
+      brought said at is puts = ap (λ ws. worker_at ws k) (workers ∙ ap (after_next old.workers k o) is ∙ puts) ∙ placed old.workers k place.Idle at going.idle
+
+      rested : (said : Result FlowAction Status) → reply ≡ said → after_next old.workers k o said ≡ old.workers → worker_at mid.workers k ≡ Some place.Idle
+      rested said is same = ap (λ ws. worker_at ws k) (workers ∙ ap (after_next old.workers k o) is ∙ same) ∙ going.idle
+
+      down_by : r.stage ≡ Descending → (lies : Below) → LiesBelow s r lies → AnswersBelow old.files old.flow r lies → reply ≡ (descend k lies r).reply
+          → Alone o (descend k lies r).after mid.flow → mid.files ≡ filed_next old o mid.flow reply lies → Turned r old d new e
+      down_by st (below.Instance i true) found answers said alone files =
+          let is : reply ≡ Ok (action.Pre i (fresh_data p)) = said ∙ ap (λ m. (call_pre k i r m).reply) has in
+          visit_turn st i found mid (subst (λ (m : Option Params). Alone o (call_pre k i r m).after mid.flow) has alone) (brought (Ok (action.Pre i (fresh_data p))) (place.Pre o i) is refl) stack
+          (files ∙ ap (λ a. filed_next old o mid.flow a (below.Instance i true)) is) new e (subst Done is does)
+      down_by st (below.Instance i false) found answers said alone files =
+          let moved : Done (Ok action.Moved) = subst Done said does in
+          bare_turn st i found mid alone (rested (Ok action.Moved) said refl) stack (files ∙ ap (λ a. filed_next old o mid.flow a (below.Instance i false)) said) new e moved.0 moved.1
+      down_by st below.Call found answers said alone files =
+          let is : reply ≡ Ok (action.Base (call_of r p)) = said ∙ ap (λ m. (call_base r m).reply) has in
+          base_turn st found answers mid (subst (λ (m : Option Params). Alone o (call_base r m).after mid.flow) has alone) (brought (Ok (action.Base (call_of r p))) (place.Base o) is refl) stack
+          (files ∙ ap (λ a. filed_next old o mid.flow a below.Call) is) new e (subst Done is does)
+      down_by st (below.Known why) found answers said alone files =
+          let moved : Done (Ok action.Moved) = subst Done said does in
+          known_turn st found why answers mid alone (rested (Ok action.Moved) said refl) stack (files ∙ ap (λ a. filed_next old o mid.flow a (below.Known why)) said) new e moved.0 moved.1
+
+      up_by : r.stage ≡ Ascending → (asks : List Ask) → owed r.entries ≡ asks → (lies : Below) → reply ≡ (ascend k false r (slice_get asks 0)).reply
+          → Alone o (ascend k false r (slice_get asks 0)).after mid.flow → mid.files ≡ filed_next old o mid.flow reply lies → Turned r old d new e
+      up_by st [] owes lies said alone files = absurd (subst Done said does)
+      up_by st (ask ∷ rest) owes lies said alone files =
+          let plainly : ArePlain (length r.kept) (ask ∷ rest) = subst (ArePlain (length r.kept)) owes going.asks in
+          let takes : may_take k ask ≡ true = ap (λ b. not b || (ask.worker.0 == k.0)) plainly.1 in
+          let Is : Bool → Turn = λ b. cond b (call_post k ask r) (turn (Err status.WrongStep) r) in
+          let back = unwinds st ask rest owes in
+          let given : reply ≡ Ok (action.Post ask.instance (answered_data (saw st ask rest owes) (lent_answer r.operation r.answer)) ask.completion) =
+          said ∙ ap (λ b. (Is b).reply) takes ∙ ap (λ m. (give_post k ask (unwound ask.place r) m).reply) back.params
+          ∙ ap₂ (λ a b. Ok (action.Post ask.instance (answered_data (saw st ask rest owes) (lent_answer a b)) ask.completion)) back.operation back.answer in
+          let post = Ok (action.Post ask.instance (answered_data (saw st ask rest owes) (lent_answer r.operation r.answer)) ask.completion) in
+          post_turn st ask rest owes mid (subst (λ (b : Bool). Alone o (Is b).after mid.flow) takes alone) (brought post (place.Post o ask.instance) given refl) stack
+          (files ∙ ap (λ a. filed_next old o mid.flow a lies) given) new e (subst Done given does)
+
+      by_stage : (t : Stage) → r.stage ≡ t → is_between t ≡ true → (lies : Below) → (t ≡ Descending → LiesBelow s r lies × AnswersBelow old.files old.flow r lies)
+          → reply ≡ (next_at k lies false r t).reply → Alone o (next_at k lies false r t).after mid.flow → mid.files ≡ filed_next old o mid.flow reply lies → Turned r old d new e
+      by_stage Descending st between lies finds said alone files = down_by st lies (finds refl).0 (finds refl).1 said alone files
+      by_stage Ascending st between lies finds said alone files = up_by st (owed r.entries) refl lies said alone files
+      by_stage _ st between lies finds said alone files = cc
+
+  between_here : (t : Stage) → is_between t ≡ true → not (flow.lends t) ≡ true
+  between_here Descending h = refl
+  between_here Ascending h = refl
+  between_here _ h = cc
+
+  module _ (r : FlowRecord) (old : World) (d : D) (going : IsGoing k o x r old) (sound : IsSound old) (at_stack : old.stack ≡ s) where
+    -- its parameters are here
+    pub has_params : (p : Params) × (r.params ≡ Some p)
+    has_params = some_there r.params ((record_sound old sound o r going.alone).here ∙ between_here r.stage going.between)
+
+    pub calm_here : drains_next old.stack r ≡ false
+    calm_here = ap (λ t. drains_next t r) at_stack ∙ none_drains s quiet (slice_get (owed r.entries) 0)
+
+    pub turn_leaves : (new : World) (e : D) → Turns pre_may post_may carries filters k o old d new e → Turned r old d new e
+    turn_leaves new e h =
+        let n = next_leaves old k o r going.alone h.0 h.1 going.idle calm_here h.2 in
+        let is : next_of k n.lies false r ≡ next_at k n.lies false r r.stage =
+        ap (λ b. cond b (turn (Err status.WrongStep) r) (next_at k n.lies false r r.stage)) going.uncollected in
+        by_stage r old d going sound at_stack has_params.0 has_params.1 h.0 h.1 new e n.workers (n.stack ∙ at_stack) h.3 r.stage refl going.between n.lies
+        (λ st. let found = n.finds st in (subst (λ (t : StackWorld). LiesBelow t r n.lies) at_stack found.0, found.1))
+        (n.said ∙ ap (λ (t : Turn). t.reply) is) (subst (λ (t : Turn). Alone o t.after h.1.flow) is n.alone) n.files

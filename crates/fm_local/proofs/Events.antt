@@ -67,7 +67,7 @@ lost (Ok action.Moved) (below.Known why) old new h = by_links old new h
 lost reply lies old new h = by_same old new h
 
 -- a worker that was there is where it was put
-placed : (workers : List Worker) (k : WorkerId) (was is : Worker) → worker_at workers k ≡ Some was → worker_at (put workers k is) k ≡ Some is
+pub placed : (workers : List Worker) (k : WorkerId) (was is : Worker) → worker_at workers k ≡ Some was → worker_at (put workers k is) k ≡ Some is
 placed workers k was is there = slice_get-set_same workers k.0 is (slice_get_within workers k.0 was there)
 
 -- a verdict that sends no context along counts as it was given

@@ -6,6 +6,7 @@ pub mod Alone
 pub mod Events
 pub mod Fitting
 pub mod Carrying
+pub mod Carried
 pub mod Successes
 pub mod Shifted
 pub mod RoundTrip

@@ -28,15 +28,18 @@ use Rattle.fm_world.proofs.Runs.{step_keeps}
 use Rattle.fm_world.specs.Events.{Nexts, filed_next}
 use Rattle.fm_world.specs.Sound.{IsSound}
 use Rattle.fm_world.specs.Words.{OpId, WorkerId}
+use Rattle.fm_world.specs.Workers.{worker_at}
 use Rattle.fm_world.specs.World.{World}
+use Rattle.fm_world.specs.declared.worker.Worker.TheVariants as place
 use Rattle.fm_world.specs.declared.step.Step.TheVariants as step
 use Rattle.fm_world.specs.declared.step.StepReply.TheVariants as said
 use Rattle.fm_local.proofs.Alone.{Alone}
-use Rattle.fm_local.proofs.Carrying.{under, IsGoing, IsOn, is_between, NoneStops, Turned, turn_leaves, has_params, calm_here, chain, Meets}
+use Rattle.fm_local.proofs.Carrying.{IsGoing, IsOn, is_between, Turned, turn_leaves, has_params, calm_here, chain, Meets}
 use Rattle.fm_local.proofs.Events.{next_leaves}
 use Rattle.fm_local.proofs.Turning.{left_done}
 use Rattle.fm_local.specs.Chains.{Under, Subject, chain_of}
 use Rattle.fm_local.specs.Left.{ArePlain, LeftOf}
+use Rattle.fm_local.specs.Requests.{under, NoneStops}
 use Rattle.fm_local.specs.Turns.{Does, Turns, Carries}
 use Rattle.fm_local.specs.Visits.{Visits}
 
@@ -59,6 +62,7 @@ module _ {F D : Type 0} (pre_may : F → Data → PreVerdict → Data → Type 0
     pub record Ended (v : VolumeId) (born : ℕ) (operation : Operation) (r : FlowRecord) (old : World) (d : D) (new : World) (e : D) : Type 0 where
       pub last : FlowRecord
       pub alone : Alone o last new.flow
+      pub idle : worker_at new.workers k ≡ Some place.Idle
       pub ascends : last.stage ≡ Ascending
       pub owes : owed last.entries ≡ []
       pub uncollected : last.collected ≡ false
@@ -86,12 +90,13 @@ module _ {F D : Type 0} (pre_may : F → Data → PreVerdict → Data → Type 0
       not_up ask true h = not_given ask (unwound ask.place r) (unwound ask.place r).params h
       not_up ask false h = cc
 
-      by_asks : (new : World) (e : D) → new.stack ≡ s → IsSound new → under e new ≡ under d old → r.stage ≡ Ascending → (asks : List Ask) → owed r.entries ≡ asks
+      by_asks : (new : World) (e : D) → worker_at new.workers k ≡ Some place.Idle → new.stack ≡ s → IsSound new → under e new ≡ under d old → r.stage ≡ Ascending → (asks : List Ask) → owed r.entries ≡ asks
           → Ok action.Done ≡ (ascend k false r (slice_get asks 0)).reply → Alone o (ascend k false r (slice_get asks 0)).after new.flow
           → Ended r.volume r.born r.operation r old d new e
-      by_asks new e stack sound' ends st [] owes is alone = record {
+      by_asks new e idle stack sound' ends st [] owes is alone = record {
         last = r;
         alone = alone;
+        idle = idle;
         ascends = st;
         owes = owes;
         uncollected = going.uncollected;
@@ -100,13 +105,13 @@ module _ {F D : Type 0} (pre_may : F → Data → PreVerdict → Data → Type 0
         left = subst (λ (w : Under D). LeftOf (chain_of pre_may post_may carries filters s x) (Visits s r.volume r.born r.operation) r (under d old) r.answer w) (sym ends)
             (left_done (chain_of pre_may post_may carries filters s x) (Visits s r.volume r.born r.operation) r here.0 (under d old) here.1 st owes);
       }
-      by_asks new e stack sound' ends st (ask ∷ rest) owes is alone = absurd (not_up ask (may_take k ask) is)
+      by_asks new e idle stack sound' ends st (ask ∷ rest) owes is alone = absurd (not_up ask (may_take k ask) is)
 
-      by_stage : (new : World) (e : D) → new.stack ≡ s → IsSound new → under e new ≡ under d old → (t : Stage) → r.stage ≡ t → is_between t ≡ true → (lies : Below)
+      by_stage : (new : World) (e : D) → worker_at new.workers k ≡ Some place.Idle → new.stack ≡ s → IsSound new → under e new ≡ under d old → (t : Stage) → r.stage ≡ t → is_between t ≡ true → (lies : Below)
           → Ok action.Done ≡ (next_at k lies false r t).reply → Alone o (next_at k lies false r t).after new.flow → Ended r.volume r.born r.operation r old d new e
-      by_stage new e stack sound' ends Descending st between lies is alone = absurd (not_down lies is)
-      by_stage new e stack sound' ends Ascending st between lies is alone = by_asks new e stack sound' ends st (owed r.entries) refl is alone
-      by_stage new e stack sound' ends _ st between lies is alone = cc
+      by_stage new e idle stack sound' ends Descending st between lies is alone = absurd (not_down lies is)
+      by_stage new e idle stack sound' ends Ascending st between lies is alone = by_asks new e idle stack sound' ends st (owed r.entries) refl is alone
+      by_stage new e idle stack sound' ends _ st between lies is alone = cc
 
       ended_now : (new : World) (e : D) → Nexts old k o (Ok action.Done) new → e ≡ d → Ended r.volume r.born r.operation r old d new e
       ended_now new e h same =
@@ -114,7 +119,7 @@ module _ {F D : Type 0} (pre_may : F → Data → PreVerdict → Data → Type 0
           (calm_here pre_may post_may is_quiet carries filters plain k o x s quiet r old d going sound at_stack) h in
           let is : next_of k n.lies false r ≡ next_at k n.lies false r r.stage =
           ap (λ b. cond b (turn (Err status.WrongStep) r) (next_at k n.lies false r r.stage)) going.uncollected in
-          by_stage new e (n.stack ∙ at_stack) (step_keeps old (step.Next k o) (said.Action (Ok action.Done)) new h sound) (ap₂ (λ dev fs. record { device = dev; files = fs }) same n.files)
+          by_stage new e (ap (λ ws. worker_at ws k) n.workers ∙ going.idle) (n.stack ∙ at_stack) (step_keeps old (step.Next k o) (said.Action (Ok action.Done)) new h sound) (ap₂ (λ dev fs. record { device = dev; files = fs }) same n.files)
           r.stage refl going.between n.lies (n.said ∙ ap (λ (t : Turn). t.reply) is) (subst (λ (t : Turn). Alone o t.after new.flow) is n.alone)
 
     pub carried : (n : ℕ) (r : FlowRecord) (old : World) (d : D) → IsGoing k o x r old → IsSound old → old.stack ≡ s → (new : World) (e : D)
@@ -133,6 +138,7 @@ module _ {F D : Type 0} (pre_may : F → Data → PreVerdict → Data → Type 0
         record {
           last = rest.last;
           alone = rest.alone;
+          idle = rest.idle;
           ascends = rest.ascends;
           owes = rest.owes;
           uncollected = rest.uncollected;

@@ -62,11 +62,8 @@ use Rattle.fm_local.specs.Chains.{Under, Subject, subject_of, PreMay, PostMay, f
 use Rattle.fm_local.specs.Folds.{Chain}
 use Rattle.fm_local.specs.Left.{ArePlain, LeftOf}
 use Rattle.fm_local.specs.Turns.{HandsBack, Does, Turns}
+use Rattle.fm_local.specs.Requests.{under, NoneStops}
 use Rattle.fm_local.specs.Visits.{Visits}
-
--- what lies below all instances, of a World and a device
-abbrev pub under : {D : Type 0} → D → World → Under D
-under d w = record { device = d; files = w.files }
 
 -- the operation is between two callbacks
 abbrev pub is_between : Stage → Bool
@@ -87,10 +84,6 @@ pub record IsGoing (k : WorkerId) (o : OpId) (x : Subject) (r : FlowRecord) (w :
   pub between : is_between r.stage ≡ true
   pub on : IsOn x r
   pub asks : ArePlain (length r.kept) (owed r.entries)
-
--- no instance is being torn down
-abbrev pub NoneStops : StackWorld → Type 0
-NoneStops s = (i : ℕ) (row : Instance) → slice_get s.instances i ≡ Some row → is_stopping_phase row.phase ≡ false
 
 -- no operation is drained then
 none_drains : (s : StackWorld) → NoneStops s → (m : Option Ask) → is_stopping_ask s m ≡ false

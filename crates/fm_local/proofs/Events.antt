@@ -46,7 +46,7 @@ pub record SameBut (old new : World) : Type 0 where
   pub workers : new.workers ≡ old.workers
   pub files : new.files ≡ old.files
 
-by_links : (old new : World) → LosesLinks old new → SameBut old new
+pub by_links : (old new : World) → LosesLinks old new → SameBut old new
 by_links old new h = record {
   stack = ap (λ (w : World). w.stack) h.1;
   flow = ap (λ (w : World). w.flow) h.1;
@@ -62,7 +62,7 @@ by_same old new h = record {
   files = ap (λ (w : World). w.files) h;
 }
 
-lost : (reply : Result FlowAction Status) (lies : Below) (old new : World) → LosesByKnown reply lies old new → SameBut old new
+pub lost : (reply : Result FlowAction Status) (lies : Below) (old new : World) → LosesByKnown reply lies old new → SameBut old new
 lost (Ok action.Moved) (below.Known why) old new h = by_links old new h
 lost reply lies old new h = by_same old new h
 

@@ -7,6 +7,7 @@ pub mod Events
 pub mod Fitting
 pub mod Carrying
 pub mod Carried
+pub mod Beside
 pub mod Successes
 pub mod Shifted
 pub mod RoundTrip

@@ -4,6 +4,7 @@ pub mod Folds
 pub mod Functions
 pub mod Left
 pub mod Ports
+pub mod Requests
 pub mod Shifts
 pub mod Turns
 pub mod Visits

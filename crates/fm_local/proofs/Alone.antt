@@ -1,14 +1,14 @@
 -- A table with one operation alone.
-use Rattle.std.specs.Prelude.{◌≡◌, ◌&&◌, ◌||◌, ℕ, Bool, true, false, cond, not, List, [], ◌∷◌, Option, Some, None, unwrap_or, option_map, is_none, find, refl}
+use Rattle.std.specs.Prelude.{◌≡◌, ◌&&◌, ◌||◌, Bool, true, false, cond, not, [], ◌∷◌, Option, Some, None, unwrap_or, option_map, is_none, find, refl}
 use Rattle.std.specs.List.{list_any}
-use Rattle.std.proofs.Common.{sym, ap, ap₂, subst, ◌∙◌}
+use Rattle.std.proofs.Common.{ap, ◌∙◌}
 use Rattle.fm_types.specs.declared.operation.Operation.{Operation}
 use Rattle.fm_types.specs.declared.operation.Operation.TheVariants as kind
 use Rattle.fm_types.specs.declared.status.Status.TheVariants as status
 use Rattle.fm_flow.specs.Creates.{is_create, is_creating, is_unanswered, is_on_stream, has_create_on}
 use Rattle.fm_flow.specs.Record.{FlowRecord}
 use Rattle.fm_flow.specs.Table.{FlowTable, empty_table, is_number, operation_at, changed, told, change_first}
-use Rattle.fm_world.specs.Events.{base_known, known_at, known_on, known_create, is_created_on, unlinks}
+use Rattle.fm_world.specs.Events.{base_known, known_at, known_on, known_create, is_created_on}
 use Rattle.fm_world.specs.Files.{FileTable, handle_at, is_marked, has_other_handle}
 use Rattle.fm_world.specs.Words.{HandleId, OpId, StreamId}
 use Rattle.fm_local.specs.Chains.{known_answer, subject_of}

@@ -1,6 +1,6 @@
 -- Events of one worker leave the others where they are.
-use Rattle.std.specs.Prelude.{◌≡◌, ◌≢◌, ℕ, zero, suc, Bool, true, false, List, Option, Some, None, Result, Ok, Err, slice_get, refl}
-use Rattle.std.proofs.Common.{sym, ap, subst, ◌∙◌}
+use Rattle.std.specs.Prelude.{◌≡◌, ◌≢◌, ℕ, zero, suc, Bool, true, false, List, Option, Some, Result, Ok, Err, slice_get}
+use Rattle.std.proofs.Common.{ap, ◌∙◌}
 use Rattle.fm_types.proofs.Lists.{slice_get-set_other}
 use Rattle.fm_types.specs.declared.status.Status.TheVariants as status
 use Rattle.fm_data.specs.Data.{Data, data_fits}
@@ -15,13 +15,13 @@ use Rattle.fm_flow.specs.declared.action.FlowAction.{FlowAction}
 use Rattle.fm_flow.specs.declared.action.FlowAction.TheVariants as action
 use Rattle.fm_world.specs.Events.{Nexts, NextsAt, PreReturns, PreReturnsAt, PreReturnsOver, BaseReturns, BaseReturnsAt, PostReturns, PostReturnsAt, ReturnsFrom, Unless, pre_step, state_at, base_returned}
 use Rattle.fm_world.specs.Links.{LosesLinks}
-use Rattle.fm_world.specs.Words.{InstanceId, OpId, Status, WorkerId}
+use Rattle.fm_world.specs.Words.{OpId, Status, WorkerId}
 use Rattle.fm_world.specs.Workers.{worker_at, put, is_idle, after_next}
 use Rattle.fm_world.specs.World.{World}
 use Rattle.fm_world.specs.declared.worker.Worker.{Worker}
 use Rattle.fm_world.specs.declared.worker.Worker.TheVariants as place
 use Rattle.fm_local.proofs.Events.{lost, by_links}
-use Rattle.fm_local.specs.Turns.{Does, Turns, Carries}
+use Rattle.fm_local.specs.Turns.{Does, Carries}
 
 -- the other workers are where they were
 abbrev pub Beside : WorkerId → List Worker → List Worker → Type 0

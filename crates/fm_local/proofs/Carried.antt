@@ -1,6 +1,6 @@
 -- An operation that is carried to its end is answered by its fold.
-use Rattle.std.specs.Prelude.{◌≡◌, ◌≤◌, ◌<◌, ◌==◌, ◌&&◌, ◌||◌, ℕ, zero, suc, ⊤, Bool, true, false, cond, not, List, [], ◌∷◌, ◌++◌, length, Option, Some, None, Result, Ok, Err, slice_get, refl}
-use Rattle.std.proofs.Common.{sym, ap, ap₂, subst, ◌∙◌, arith}
+use Rattle.std.specs.Prelude.{◌≡◌, ℕ, zero, suc, Bool, true, false, cond, List, [], ◌∷◌, Option, Some, None, Result, Ok, Err, slice_get, refl}
+use Rattle.std.proofs.Common.{sym, ap, ap₂, subst, ◌∙◌}
 use Rattle.fm_types.specs.declared.operation.Operation.{Operation}
 use Rattle.fm_types.specs.declared.ids.VolumeId.{VolumeId}
 use Rattle.fm_types.specs.declared.status.Status.{Status}
@@ -25,7 +25,7 @@ use Rattle.fm_flow.specs.declared.entry.Ask.{Ask}
 use Rattle.fm_flow.specs.declared.stage.Stage.{Stage}
 use Rattle.fm_flow.specs.declared.stage.Stage.TheVariants.{Descending, Ascending}
 use Rattle.fm_world.proofs.Runs.{step_keeps}
-use Rattle.fm_world.specs.Events.{Nexts, filed_next}
+use Rattle.fm_world.specs.Events.{Nexts}
 use Rattle.fm_world.specs.Sound.{IsSound}
 use Rattle.fm_world.specs.Words.{OpId, WorkerId}
 use Rattle.fm_world.specs.Workers.{worker_at}
@@ -34,11 +34,11 @@ use Rattle.fm_world.specs.declared.worker.Worker.TheVariants as place
 use Rattle.fm_world.specs.declared.step.Step.TheVariants as step
 use Rattle.fm_world.specs.declared.step.StepReply.TheVariants as said
 use Rattle.fm_local.proofs.Alone.{Alone}
-use Rattle.fm_local.proofs.Carrying.{IsGoing, IsOn, is_between, Turned, turn_leaves, has_params, calm_here, chain, Meets}
+use Rattle.fm_local.proofs.Carrying.{IsGoing, is_between, turn_leaves, has_params, calm_here}
 use Rattle.fm_local.proofs.Events.{next_leaves}
 use Rattle.fm_local.proofs.Turning.{left_done}
 use Rattle.fm_local.specs.Chains.{Under, Subject, chain_of}
-use Rattle.fm_local.specs.Left.{ArePlain, LeftOf}
+use Rattle.fm_local.specs.Left.{LeftOf}
 use Rattle.fm_local.specs.Requests.{under, NoneStops}
 use Rattle.fm_local.specs.Turns.{Does, Turns, Carries}
 use Rattle.fm_local.specs.Visits.{Visits}

@@ -1,14 +1,13 @@
 -- Each turn of an operation that is alone leaves no more of its fold than there was.
-use Rattle.std.specs.Prelude.{◌≡◌, ◌≤◌, ◌<◌, ◌==◌, ◌&&◌, ◌||◌, ℕ, zero, suc, ⊤, Bool, true, false, cond, not, List, [], ◌∷◌, ◌++◌, length, Option, Some, None, unwrap_or, is_some, IfSome, Result, Ok, Err, slice_get, refl}
-use Rattle.std.proofs.Common.{sym, ap, ap₂, subst, ◌∙◌, arith}
-use Rattle.std.proofs.lemmas.Bool.{false≢true}
+use Rattle.std.specs.Prelude.{◌≡◌, ◌==◌, ◌||◌, ℕ, Bool, true, false, cond, not, List, [], ◌∷◌, ◌++◌, length, Option, Some, None, unwrap_or, is_some, IfSome, Result, Ok, Err, slice_get, refl}
+use Rattle.std.proofs.Common.{sym, ap, ap₂, subst, ◌∙◌}
 use Rattle.fm_types.proofs.Firsts.{found_holds}
 use Rattle.fm_types.proofs.Lists.{all_at}
 use Rattle.fm_types.specs.declared.operation.Operation.{Operation}
 use Rattle.fm_types.specs.declared.operation.Operation.TheVariants as kind
 use Rattle.fm_types.specs.declared.status.Status.{Status}
 use Rattle.fm_types.specs.declared.status.Status.TheVariants as status
-use Rattle.fm_data.specs.Data.{Data, fresh_data, answered_data, current_of}
+use Rattle.fm_data.specs.Data.{Data, fresh_data, answered_data}
 use Rattle.fm_data.specs.Params.{fit}
 use Rattle.fm_data.specs.declared.answer.Answer.{Answer}
 use Rattle.fm_data.specs.declared.base_call.BaseCall.{BaseCall}
@@ -31,7 +30,7 @@ use Rattle.fm_flow.specs.Sound as flow
 use Rattle.fm_flow.specs.Sound.{IsCourse}
 use Rattle.fm_flow.specs.Steps.{next_of, call_pre, call_base, call_of, call_post, with_visit, with_base, bare_ask, pre_returned_of, base_returned_of, post_returned_of, ascend, descend, give_post, unwound, lent_answer, next_at, turn, may_take, Turned as Turn}
 use Rattle.fm_flow.specs.Seen.{sees}
-use Rattle.fm_flow.specs.Table.{FlowTable, is_number}
+use Rattle.fm_flow.specs.Table.{is_number}
 use Rattle.fm_flow.specs.Verdict.{verdict_counted, completed_as}
 use Rattle.fm_flow.specs.declared.action.Below.{Below}
 use Rattle.fm_flow.specs.declared.action.Below.TheVariants as below
@@ -45,7 +44,7 @@ use Rattle.fm_flow.specs.declared.stage.Stage.TheVariants.{Descending, Ascending
 use Rattle.fm_world.proofs.Descents.{last_of-push, room_visits}
 use Rattle.fm_world.proofs.Turns.{may_visit}
 use Rattle.fm_world.specs.Events.{base_known, filed_base, filed_next, filed_record}
-use Rattle.fm_world.specs.Events.{Nexts, drains_next, has_post, LiesBelow, AnswersBelow, is_stopping_phase, is_stopping_row, is_stopping_ask}
+use Rattle.fm_world.specs.Events.{drains_next, has_post, LiesBelow, AnswersBelow, is_stopping_row, is_stopping_ask}
 use Rattle.fm_world.specs.Files.{FileTable, after_base, after_pre}
 use Rattle.fm_world.specs.Sound.{IsSound, IsAmong}
 use Rattle.fm_world.specs.Words.{InstanceId, OpId, WorkerId}
@@ -54,14 +53,14 @@ use Rattle.fm_world.specs.declared.worker.Worker.{Worker}
 use Rattle.fm_world.specs.World.{World}
 use Rattle.fm_world.specs.declared.worker.Worker.TheVariants as place
 use Rattle.fm_local.proofs.Alone.{Alone, found_alone, told_alone, known_alone, none_created}
-use Rattle.fm_local.proofs.Events.{Nexted, next_leaves, IsLeft, pre_leaves, base_leaves, post_leaves, and_none, placed}
+use Rattle.fm_local.proofs.Events.{next_leaves, IsLeft, pre_leaves, base_leaves, post_leaves, and_none, placed}
 use Rattle.fm_local.proofs.Fitting.{fits_back, call_back}
-use Rattle.fm_local.proofs.Turning.{Leaves, IsPlainState, after_verdict, left_asked, left_passed, left_completed, left_bare, left_base, left_known, left_post, left_done, PutBack, put_back}
+use Rattle.fm_local.proofs.Turning.{Leaves, IsPlainState, left_asked, left_passed, left_completed, left_bare, left_base, left_known, left_post, PutBack, put_back}
 use Rattle.fm_local.proofs.Visits.{visits_after}
 use Rattle.fm_local.specs.Chains.{Under, Subject, subject_of, PreMay, PostMay, filter_in, filter_in_row, completed_under, known_answer, BaseMay, BaseMayBy, chain_of}
 use Rattle.fm_local.specs.Folds.{Chain}
-use Rattle.fm_local.specs.Left.{ArePlain, LeftOf}
-use Rattle.fm_local.specs.Turns.{HandsBack, Does, Turns}
+use Rattle.fm_local.specs.Left.{ArePlain}
+use Rattle.fm_local.specs.Turns.{Does, Turns}
 use Rattle.fm_local.specs.Requests.{under, NoneStops}
 use Rattle.fm_local.specs.Visits.{Visits}
 

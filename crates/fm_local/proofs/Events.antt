@@ -1,22 +1,21 @@
 -- What each event of an operation leaves of the World, where it is the only one.
-use Rattle.std.specs.Prelude.{◌≡◌, ◌<◌, ◌==◌, ◌&&◌, ℕ, Bool, true, false, cond, List, [], ◌∷◌, length, Option, Some, None, Result, Ok, Err, slice_get, refl}
-use Rattle.std.proofs.Common.{sym, ap, ap₂, subst, ◌∙◌, arith}
+use Rattle.std.specs.Prelude.{◌≡◌, ◌==◌, ◌&&◌, Bool, true, false, List, Option, Some, Result, Ok, Err, slice_get, refl}
+use Rattle.std.proofs.Common.{sym, ap, subst, ◌∙◌}
 use Rattle.std.proofs.lemmas.Option.{slice_get_within}
 use Rattle.fm_types.proofs.Lists.{slice_get-set_same}
 use Rattle.fm_types.specs.declared.status.Status.TheVariants as status
 use Rattle.fm_data.specs.Data.{Data, data_fits}
 use Rattle.fm_data.specs.declared.answer.Answer.{Answer}
 use Rattle.fm_data.specs.declared.base_call.BaseCall.{BaseCall}
-use Rattle.fm_data.specs.declared.verdict.Completion.{Completion}
 use Rattle.fm_data.specs.declared.verdict.PreVerdict.{PreVerdict}
 use Rattle.fm_data.specs.declared.verdict.PreVerdict.TheVariants as verdict
 use Rattle.fm_data.specs.declared.verdict.PostVerdict.{PostVerdict}
 use Rattle.fm_filter.specs.Plain.{IsPlainPre}
 use Rattle.fm_flow.proofs.Next.{next_stays}
-use Rattle.fm_flow.specs.Creates.{is_create, is_creating, is_unanswered}
+use Rattle.fm_flow.specs.Creates.{is_create}
 use Rattle.fm_flow.specs.Record.{FlowRecord}
-use Rattle.fm_flow.specs.Steps.{next_of, pre_returned_of, base_returned_of, post_returned_of, base_fits, pre_leads}
-use Rattle.fm_flow.specs.Table.{FlowTable, changed, told}
+use Rattle.fm_flow.specs.Steps.{next_of, pre_returned_of, base_returned_of, post_returned_of, base_fits}
+use Rattle.fm_flow.specs.Table.{FlowTable, changed}
 use Rattle.fm_flow.specs.Verdict.{verdict_counted}
 use Rattle.fm_flow.specs.declared.action.Below.{Below}
 use Rattle.fm_flow.specs.declared.action.Below.TheVariants as below
@@ -27,8 +26,8 @@ use Rattle.fm_flow.specs.declared.entry.PreState.TheVariants as pre
 use Rattle.fm_flow.specs.declared.stage.Stage.TheVariants.{Descending}
 use Rattle.fm_stack.specs.StackWorld.{StackWorld}
 use Rattle.fm_world.specs.Events.{Nexts, NextsAt, PreReturns, PreReturnsAt, PreReturnsOver, BaseReturns, BaseReturnsAt, PostReturns, PostReturnsAt, ReturnsFrom, Unless}
-use Rattle.fm_world.specs.Events.{FindsBelow, LiesBelow, AnswersBelow, LosesByKnown, drains_next, drains_at, flow_after_next, filed_next, filed_base, filed_pre, filed_record}
-use Rattle.fm_world.specs.Events.{of_hand, held_context, state_given, state_at, pre_step, base_step, base_returned, returned, is_created_on, has_post}
+use Rattle.fm_world.specs.Events.{FindsBelow, LiesBelow, AnswersBelow, LosesByKnown, drains_next, drains_at, flow_after_next, filed_next, filed_record}
+use Rattle.fm_world.specs.Events.{of_hand, held_context, state_given, state_at, base_step, base_returned, is_created_on, has_post}
 use Rattle.fm_world.specs.Files.{FileTable, after_base, after_pre}
 use Rattle.fm_world.specs.Links.{LosesLinks}
 use Rattle.fm_world.specs.Words.{CtxId, InstanceId, OpId, Status, WorkerId}

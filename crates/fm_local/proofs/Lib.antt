@@ -8,6 +8,7 @@ pub mod Fitting
 pub mod Carrying
 pub mod Carried
 pub mod Beside
+pub mod Performed
 pub mod Successes
 pub mod Shifted
 pub mod RoundTrip

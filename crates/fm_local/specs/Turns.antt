@@ -1,5 +1,5 @@
 -- How an operation is carried from its beginning to its end: turn after turn, by one worker.
-use Rattle.std.specs.Prelude.{◌≡◌, ◌≤◌, ℕ, length, zero, suc, Bool, Option, Some, None, Result, Ok, Err}
+use Rattle.std.specs.Prelude.{◌≡◌, ◌≤◌, ℕ, length, zero, suc, Option, Some, Result, Ok}
 use Rattle.fm_data.specs.declared.answer.Answer.{Answer}
 use Rattle.fm_data.specs.declared.base_call.BaseCall.{BaseCall}
 use Rattle.fm_data.specs.declared.verdict.Completion.{Completion}
@@ -9,7 +9,7 @@ use Rattle.fm_data.specs.Data.{Data, IsData}
 use Rattle.fm_flow.specs.declared.action.FlowAction.{FlowAction}
 use Rattle.fm_flow.specs.declared.action.FlowAction.TheVariants as action
 use Rattle.fm_world.specs.Events.{Nexts, PreReturns, BaseReturns, PostReturns}
-use Rattle.fm_world.specs.Words.{InstanceId, OpId, Status, WorkerId}
+use Rattle.fm_world.specs.Words.{OpId, Status, WorkerId}
 use Rattle.fm_world.specs.World.{World}
 use Rattle.fm_local.specs.Chains.{PreMay, PostMay, filter_in}
 

@@ -1,22 +1,28 @@
 //! The laws of folds, as functions that promise them and do nothing.
 
+ghost use Rattle.fm_local.specs.Bases.{BasesCarry};
 ghost use Rattle.fm_local.specs.Functions.{OneFold};
+ghost use Rattle.fm_local.specs.Requests.{CarriedIsFold};
 ghost use Rattle.fm_local.specs.Shifts.{ShiftRound};
 ghost use Rattle.fm_local.specs.Visits.{OneWay};
 
 use fm_base::Base;
-use fm_device::Device;
 use fm_filter::Minifilter;
 
-/// Where every callback and the base are functions of what they are given, an operation has one answer and leaves one end, whatever the
-/// filters and the device are. It does nothing.
-pub fn one_fold<F: Minifilter, D: Device>()
-    ensures { OneFold F.pre_may F.post_may D.carries }
+/// Where every callback and every base are functions of what they are given, an operation has one answer and leaves one end. It does nothing.
+pub fn one_fold<F: Minifilter, B: Base>()
+    ensures { OneFold F.pre_may F.post_may (BasesCarry B.folder B.faults) }
 {}
 
 /// Which instances an operation meets on its way down: there is one such list, and one alone. It does nothing.
 pub fn one_way()
     ensures { OneWay }
+{}
+
+/// A request that one worker carries to its end, by the events of the World alone, with filters that are plain: it is answered as its fold
+/// says, leaves the folders and the open handles that the fold says, and all is at rest again. It does nothing.
+pub fn carried_is_fold<F: Minifilter, B: Base>()
+    ensures { CarriedIsFold F.pre_may F.post_may F.is_quiet (BasesCarry B.folder B.faults) }
 {}
 
 /// A write and a later read of the same range, through the same instances, all of them of the filter shift, both answered with success,

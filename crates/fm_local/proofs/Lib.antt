@@ -12,3 +12,4 @@ pub mod Performed
 pub mod Successes
 pub mod Shifted
 pub mod RoundTrip
+pub mod AllPerformed

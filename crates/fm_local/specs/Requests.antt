@@ -19,6 +19,9 @@ use Rattle.fm_filter.specs.Plain.{IsPlainFilter}
 use Rattle.fm_stack.specs.declared.instance.Instance.{Instance}
 use Rattle.fm_world.specs.Events.{begin_refused, after_begin, is_stopping_phase, Begins, Collects}
 use Rattle.fm_world.specs.Sound.{IsSound}
+use Rattle.fm_world.specs.Steps.{Run}
+use Rattle.fm_world.specs.declared.step.Step.{Step}
+use Rattle.fm_world.specs.declared.step.StepReply.{StepReply}
 use Rattle.fm_world.specs.Words.{OpId, WorkerId}
 use Rattle.fm_world.specs.Workers.{worker_at}
 use Rattle.fm_world.specs.declared.worker.Worker.{Worker}
@@ -109,6 +112,56 @@ pub record IsAnswered {F D : Type 0} (pre : F → Data → PreVerdict → Data �
   pub rests : IsAtRest k new
   pub sound : IsSound new
   pub stays : new.stack ≡ old.stack
+
+-- events that leave all but contexts and totals: cleanups
+pub record Tidies (old new : World) : Type 0 where
+  pub steps : List Step
+  pub replies : List StepReply
+  pub run : Run old steps replies new
+  pub stack : new.stack ≡ old.stack
+  pub flow : new.flow ≡ old.flow
+  pub workers : new.workers ≡ old.workers
+  pub files : new.files ≡ old.files
+
+module _ {F D : Type 0} (pre : F → Data → PreVerdict → Data → Type 0) (post : F → Data → Completion → PostVerdict → Data → Type 0) (carries : D → BaseCall → Answer → D → Type 0)
+    (filters : ℕ → Option F) (k : WorkerId) where
+  -- a request is done, and what is due is cleaned up
+  abbrev pub DoesTidily : Request → World → D → Answer → World → D → Type 0
+  DoesTidily what old d answer new e = (mid : World) × DoesRequest pre post carries filters k what old d answer mid e × Tidies mid new
+
+  abbrev pub DoesClose : Status → Request → World → D → Answer → Answer → World → D → Type 0
+  DoesClose status.Success what old d cleanup answer new e = DoesTidily what old d answer new e
+  DoesClose status.WrongStep what old d cleanup answer new e = DoesTidily what old d answer new e
+  DoesClose _ what old d cleanup answer new e = (answer ≡ cleanup) × (new ≡ old) × (e ≡ d)
+
+  -- a close is a cleanup, and then the close itself
+  abbrev pub DoesOne : Request → World → D → Answer → World → D → Type 0
+  DoesOne (request.OnHandle h asked.Close) old d answer new e =
+      (mid : World) × (between : D) × (cleanup : Answer) × DoesTidily (request.OnHandle h asked.Cleanup) old d cleanup mid between
+      × DoesClose cleanup.status (request.OnHandle h asked.Close) mid between cleanup answer new e
+  DoesOne what old d answer new e = DoesTidily what old d answer new e
+
+  -- requests are done one after the other
+  abbrev pub DoesAll : List Request → World → D → List Answer → World → D → Type 0
+  DoesAll [] old d [] new e = (new ≡ old) × (e ≡ d)
+  DoesAll (what ∷ requests) old d (answer ∷ answers) new e =
+      (mid : World) × (between : D) × DoesOne what old d answer mid between × DoesAll requests mid between answers new e
+  DoesAll requests old d answers new e = ⊥
+
+-- the requests of a list are answered as their folds say, and leave what these say
+pub record AreAnswered {F D : Type 0} (pre : F → Data → PreVerdict → Data → Type 0) (post : F → Data → Completion → PostVerdict → Data → Type 0) (carries : D → BaseCall → Answer → D → Type 0)
+    (filters : ℕ → Option F) (k : WorkerId) (requests : List Request) (old : World) (d : D) (answers : List Answer) (new : World) (e : D) : Type 0 where
+  pub performs : AnswersAll pre post carries filters old.stack old.flow.next requests (under d old) answers (under e new) new.flow.next
+  pub rests : IsAtRest k new
+  pub sound : IsSound new
+  pub stays : new.stack ≡ old.stack
+
+abbrev pub CarriedAreFolds : {F D : Type 0} → (F → Data → PreVerdict → Data → Type 0) → (F → Data → Completion → PostVerdict → Data → Type 0) → (F → Type 0)
+    → (D → BaseCall → Answer → D → Type 0) → Type 0
+CarriedAreFolds {F} {D} pre post is_quiet carries =
+    (filters : ℕ → Option F) (k : WorkerId) (requests : List Request) (old : World) (d : D) (answers : List Answer) (new : World) (e : D)
+    → ((n : ℕ) (f : F) → filters n ≡ Some f → IsPlainFilter pre post is_quiet f) → IsSound old → IsAtRest k old → NoneStops old.stack
+    → DoesAll pre post carries filters k requests old d answers new e → AreAnswered pre post carries filters k requests old d answers new e
 
 abbrev pub CarriedIsFold : {F D : Type 0} → (F → Data → PreVerdict → Data → Type 0) → (F → Data → Completion → PostVerdict → Data → Type 0) → (F → Type 0)
     → (D → BaseCall → Answer → D → Type 0) → Type 0

@@ -2,7 +2,7 @@
 
 ghost use Rattle.fm_local.specs.Bases.{BasesCarry};
 ghost use Rattle.fm_local.specs.Functions.{OneFold};
-ghost use Rattle.fm_local.specs.Requests.{CarriedIsFold};
+ghost use Rattle.fm_local.specs.Requests.{CarriedAreFolds, CarriedIsFold};
 ghost use Rattle.fm_local.specs.Shifts.{ShiftRound};
 ghost use Rattle.fm_local.specs.Visits.{OneWay};
 
@@ -23,6 +23,12 @@ pub fn one_way()
 /// says, leaves the folders and the open handles that the fold says, and all is at rest again. It does nothing.
 pub fn carried_is_fold<F: Minifilter, B: Base>()
     ensures { CarriedIsFold F.pre_may F.post_may F.is_quiet (BasesCarry B.folder B.faults) }
+{}
+
+/// Requests that one worker carries to their ends one after the other, with cleanups in between: all of them are answered as their folds
+/// say, a close as its cleanup and then the close itself. It does nothing.
+pub fn carried_are_folds<F: Minifilter, B: Base>()
+    ensures { CarriedAreFolds F.pre_may F.post_may F.is_quiet (BasesCarry B.folder B.faults) }
 {}
 
 /// A write and a later read of the same range, through the same instances, all of them of the filter shift, both answered with success,

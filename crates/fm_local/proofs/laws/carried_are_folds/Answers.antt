@@ -1,0 +1,6 @@
+use Rattle.fm_local.specs.Bases.{BasesCarry}
+use Rattle.fm_local.proofs.AllPerformed.{all_answered}
+use Rattle.fm_local.proofs.laws.carried_are_folds.Goals as goal
+
+pub returns : goal.returns
+returns g c = all_answered g.F.Minifilter.pre_may g.F.Minifilter.post_may g.F.Minifilter.is_quiet (BasesCarry g.B.Base.folder g.B.Base.faults)

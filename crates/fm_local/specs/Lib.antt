@@ -3,6 +3,7 @@ pub mod Chains
 pub mod Folds
 pub mod Functions
 pub mod Left
+pub mod Managers
 pub mod Ports
 pub mod Requests
 pub mod Shifts

@@ -1,5 +1,9 @@
 //! The callbacks of filters, each between the event that enters it and the one that ends it.
 
+ghost use Rattle.std.specs.Prelude.{◌≡◌};
+ghost use Rattle.fm_local.specs.Chains.{filter_in};
+ghost use Rattle.fm_local.specs.Managers.{numbered, PreSaid, PostSaid, IsQuietIn};
+
 use crate::leak::{Callback, Leak};
 use crate::local_port::LocalPort;
 use crate::manager::{LocalManager, WORKER};
@@ -59,16 +63,7 @@ impl<F: Minifilter, B: Base> LocalManager<F, B> {
         instance: InstanceId,
         mut data: CallbackData,
     ) -> Result<(), Status> {
-        let verdict = match self.filters.of(self.desk.state.filter_of(instance)) {
-            Some(filter) => {
-                let mut port = LocalPort {
-                    desk: &mut self.desk,
-                    worker: WORKER,
-                };
-                filter.pre(&mut data, &mut port)
-            }
-            None => PreVerdict::NoCallback,
-        };
+        let verdict = self.ask_pre(instance, &mut data);
         self.note(operation, Visit::Pre(instance, verdict));
         let before = self.look_at_hand();
         let ended = self.desk.state.pre_returned(WORKER, verdict, data);
@@ -87,6 +82,25 @@ impl<F: Minifilter, B: Base> LocalManager<F, B> {
         }
     }
 
+    // What the filter of an instance says of the data on its way down.
+    fn ask_pre(&mut self, instance: InstanceId, lent: &mut CallbackData) -> PreVerdict
+        ensures said { PreSaid F.pre_may (filter_in (numbered self.old.filters) self.old.desk.state.stack instance.0) lent.old result lent.new }
+        ensures kept { lent.new.received ≡ lent.old.received }
+        ensures quiet { IsQuietIn F.is_quiet (filter_in (numbered self.old.filters) self.old.desk.state.stack instance.0) → self.new.desk ≡ self.old.desk }
+        ensures same { self.new ≡ record self.old { desk = self.new.desk } }
+    {
+        match self.filters.of(self.desk.state.filter_of(instance)) {
+            Some(filter) => {
+                let mut port = LocalPort {
+                    desk: &mut self.desk,
+                    worker: WORKER,
+                };
+                filter.pre(lent, &mut port)
+            }
+            None => PreVerdict::NoCallback,
+        }
+    }
+
     /// Calls the postoperation of an instance.
     pub(crate) fn post(
         &mut self,
@@ -95,16 +109,7 @@ impl<F: Minifilter, B: Base> LocalManager<F, B> {
         mut data: CallbackData,
         completion: Completion,
     ) -> Result<(), Status> {
-        let verdict = match self.filters.of(self.desk.state.filter_of(instance)) {
-            Some(filter) => {
-                let mut port = LocalPort {
-                    desk: &mut self.desk,
-                    worker: WORKER,
-                };
-                filter.post(&mut data, completion, &mut port)
-            }
-            None => PostVerdict::Finished,
-        };
+        let verdict = self.ask_post(instance, &mut data, completion);
         self.note(operation, Visit::Post(instance, verdict));
         let before = self.look_at_hand();
         let ended = self.desk.state.post_returned(WORKER, verdict, Some(data));
@@ -115,6 +120,30 @@ impl<F: Minifilter, B: Base> LocalManager<F, B> {
         match ended {
             Ok(()) => Ok(()),
             Err(refused) => Err(refused.status),
+        }
+    }
+
+    // What the filter of an instance says of the data on its way up.
+    fn ask_post(
+        &mut self,
+        instance: InstanceId,
+        lent: &mut CallbackData,
+        completion: Completion,
+    ) -> PostVerdict
+        ensures said { PostSaid F.post_may (filter_in (numbered self.old.filters) self.old.desk.state.stack instance.0) lent.old completion result lent.new }
+        ensures kept { lent.new.received ≡ lent.old.received }
+        ensures quiet { IsQuietIn F.is_quiet (filter_in (numbered self.old.filters) self.old.desk.state.stack instance.0) → self.new.desk ≡ self.old.desk }
+        ensures same { self.new ≡ record self.old { desk = self.new.desk } }
+    {
+        match self.filters.of(self.desk.state.filter_of(instance)) {
+            Some(filter) => {
+                let mut port = LocalPort {
+                    desk: &mut self.desk,
+                    worker: WORKER,
+                };
+                filter.post(lent, completion, &mut port)
+            }
+            None => PostVerdict::Finished,
         }
     }
 
@@ -249,12 +278,16 @@ impl<F: Minifilter, B: Base> LocalManager<F, B> {
     }
 
     /// Notes a step of an operation.
-    pub(crate) fn note(&mut self, operation: OpId, visit: Visit) {
+    pub(crate) fn note(&mut self, operation: OpId, visit: Visit)
+        ensures { self.new ≡ record self.old { trace = self.new.trace } }
+    {
         self.trace.put(Traced { operation, visit });
     }
 
     // Copies what the callback holds that is about to return; the number of leaks so far.
-    fn look_at_hand(&mut self) -> u64 {
+    fn look_at_hand(&mut self) -> u64
+        ensures { self.new ≡ record self.old { hand = self.new.hand } }
+    {
         self.hand.clear();
         for place in 0..self.desk.state.hand_len(WORKER) {
             if let Some(context) = self.desk.state.held_at(WORKER, place) {
@@ -265,7 +298,9 @@ impl<F: Minifilter, B: Base> LocalManager<F, B> {
     }
 
     // Notes which of the references that the callback held were left behind, where some were: all of them, or all but the one that its completion sends.
-    fn note_leaks(&mut self, before: u64, returning: Returning) {
+    fn note_leaks(&mut self, before: u64, returning: Returning)
+        ensures { self.new ≡ record self.old { leaks = self.new.leaks } }
+    {
         if self.desk.state.leaks() == before {
             return;
         }

@@ -1,6 +1,7 @@
 //! The filters that a manager has.
 
-ghost use Rattle.std.specs.Prelude.{◌≡◌, ◌≤◌, length};
+ghost use Rattle.std.specs.Prelude.{◌≡◌, MatchOption, Some, None, option_and_then, option_map, slice_get};
+ghost use Rattle.fm_local.specs.Managers.{handed_in, numbered};
 
 use fm_types::{FilterId, Name, Status};
 use std::alloc::Global;
@@ -30,7 +31,9 @@ impl<F: Drop> Filters<F> {
     }
 
     /// The filter at a place.
-    pub fn at(&self, place: usize) -> Option<&F> {
+    pub fn at(&self, place: usize) -> Option<&F>
+        ensures { MatchOption result (handed_in self.now place ≡ None) (λ found. handed_in self.now place ≡ Some found.now) }
+    {
         match self.all.get(place) {
             Some(row) => Some(&row.1),
             None => None,
@@ -50,7 +53,9 @@ impl<F: Drop> Filters<F> {
     }
 
     /// The filter that a number stands for.
-    pub fn of(&self, filter: Option<FilterId>) -> Option<&F> {
+    pub fn of(&self, filter: Option<FilterId>) -> Option<&F>
+        ensures { let wanted = option_and_then (λ number. numbered self.now number.0) filter in MatchOption result (wanted ≡ None) (λ found. wanted ≡ Some found.now) }
+    {
         let filter = filter?;
         self.at(*self.loaded.get(usize::from(filter.0))?)
     }

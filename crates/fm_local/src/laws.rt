@@ -7,11 +7,13 @@ ghost use Rattle.fm_local.specs.Shifts.{ShiftRound};
 ghost use Rattle.fm_local.specs.Visits.{OneWay};
 
 use fm_base::Base;
+use fm_device::Device;
 use fm_filter::Minifilter;
 
-/// Where every callback and every base are functions of what they are given, an operation has one answer and leaves one end. It does nothing.
-pub fn one_fold<F: Minifilter, B: Base>()
-    ensures { OneFold F.pre_may F.post_may (BasesCarry B.folder B.faults) }
+/// Where every callback and the device are functions of what they are given, an operation has one answer and leaves one end. (A device that
+/// may want memory is none: it has two answers.) It does nothing.
+pub fn one_fold<F: Minifilter, D: Device>()
+    ensures { OneFold F.pre_may F.post_may D.carries }
 {}
 
 /// Which instances an operation meets on its way down: there is one such list, and one alone. It does nothing.

@@ -1,6 +1,5 @@
-use Rattle.fm_local.specs.Bases.{BasesCarry}
 use Rattle.fm_local.proofs.OneFold.{one_fold}
 use Rattle.fm_local.proofs.laws.one_fold.Goals as goal
 
 pub returns : goal.returns
-returns g c = one_fold g.F.Minifilter.pre_may g.F.Minifilter.post_may (BasesCarry g.B.Base.folder g.B.Base.faults)
+returns g c = one_fold g.F.Minifilter.pre_may g.F.Minifilter.post_may g.D.Device.carries

@@ -1,4 +1,5 @@
 pub mod Bases
+pub mod Calls
 pub mod Chains
 pub mod Folds
 pub mod Functions

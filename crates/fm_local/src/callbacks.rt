@@ -3,13 +3,17 @@
 ghost use Rattle.std.specs.Prelude.{◌≡◌};
 ghost use Rattle.fm_local.specs.Chains.{filter_in};
 ghost use Rattle.fm_local.specs.Managers.{numbered, PreSaid, PostSaid, IsQuietIn};
+ghost use Rattle.fm_local.specs.Calls.{MayAgree, QueryEnds, SetupEnds};
+ghost use Rattle.fm_world.specs.Teardowns.{CompleteReturns, StartReturns};
+ghost use Rattle.fm_world.specs.World.{World};
 
+use crate::bounded::Bounded;
 use crate::leak::{Callback, Leak};
 use crate::local_port::LocalPort;
 use crate::manager::{LocalManager, WORKER};
 use crate::trace::{Traced, Visit};
 use fm_base::Base;
-use fm_core::{Due, Owner};
+use fm_core::{Due, Owner, State};
 use fm_data::{CallbackData, Completion, PostVerdict, PreVerdict};
 use fm_filter::Minifilter;
 use fm_types::{CtxId, FilterId, InstanceId, OpId, Status};
@@ -39,7 +43,9 @@ fn sent_by(verdict: PreVerdict) -> Option<CtxId> {
 
 impl<F: Minifilter, B: Base> LocalManager<F, B> {
     /// Calls the setup callback of a new instance. Refused as the end of that callback is.
-    pub(crate) fn setup(&mut self, instance: InstanceId) -> Result<(), Status> {
+    pub(crate) fn setup(&mut self, instance: InstanceId) -> Result<(), Status>
+        ensures { SetupEnds (MayAgree F.setup_may (filter_in (numbered self.old.filters) self.old.desk.state.stack instance.0)) WORKER result }
+    {
         let accepts = match self.filters.of(self.desk.state.filter_of(instance)) {
             Some(filter) => {
                 let mut port = LocalPort {
@@ -50,9 +56,15 @@ impl<F: Minifilter, B: Base> LocalManager<F, B> {
             }
             None => false,
         };
-        let before = self.look_at_hand();
+        let before = look_at_hand(&self.desk.state, &mut self.hand);
         let ended = self.desk.state.setup_done(WORKER, accepts);
-        self.note_leaks(before, Returning::of(Callback::Setup, instance));
+        note_leaks(
+            &self.desk.state,
+            &self.hand,
+            &mut self.leaks,
+            before,
+            Returning::of(Callback::Setup, instance),
+        );
         ended
     }
 
@@ -65,9 +77,12 @@ impl<F: Minifilter, B: Base> LocalManager<F, B> {
     ) -> Result<(), Status> {
         let verdict = self.ask_pre(instance, &mut data);
         self.note(operation, Visit::Pre(instance, verdict));
-        let before = self.look_at_hand();
+        let before = look_at_hand(&self.desk.state, &mut self.hand);
         let ended = self.desk.state.pre_returned(WORKER, verdict, data);
-        self.note_leaks(
+        note_leaks(
+            &self.desk.state,
+            &self.hand,
+            &mut self.leaks,
             before,
             Returning {
                 callback: Callback::Pre,
@@ -111,9 +126,12 @@ impl<F: Minifilter, B: Base> LocalManager<F, B> {
     ) -> Result<(), Status> {
         let verdict = self.ask_post(instance, &mut data, completion);
         self.note(operation, Visit::Post(instance, verdict));
-        let before = self.look_at_hand();
+        let before = look_at_hand(&self.desk.state, &mut self.hand);
         let ended = self.desk.state.post_returned(WORKER, verdict, Some(data));
-        self.note_leaks(
+        note_leaks(
+            &self.desk.state,
+            &self.hand,
+            &mut self.leaks,
             before,
             Returning::for_operation(Callback::Post, instance, operation),
         );
@@ -155,12 +173,15 @@ impl<F: Minifilter, B: Base> LocalManager<F, B> {
         completion: Completion,
     ) -> Result<(), Status> {
         self.drain(operation, instance, completion);
-        let before = self.look_at_hand();
+        let before = look_at_hand(&self.desk.state, &mut self.hand);
         let ended = self
             .desk
             .state
             .post_returned(WORKER, PostVerdict::Finished, None);
-        self.note_leaks(
+        note_leaks(
+            &self.desk.state,
+            &self.hand,
+            &mut self.leaks,
             before,
             Returning::for_operation(Callback::Drain, instance, operation),
         );
@@ -178,9 +199,12 @@ impl<F: Minifilter, B: Base> LocalManager<F, B> {
         completion: Completion,
     ) -> Result<(), Status> {
         self.drain(operation, instance, completion);
-        let before = self.look_at_hand();
+        let before = look_at_hand(&self.desk.state, &mut self.hand);
         let ended = self.desk.state.drain_done(WORKER);
-        self.note_leaks(
+        note_leaks(
+            &self.desk.state,
+            &self.hand,
+            &mut self.leaks,
             before,
             Returning::for_operation(Callback::Drain, instance, operation),
         );
@@ -199,7 +223,9 @@ impl<F: Minifilter, B: Base> LocalManager<F, B> {
     }
 
     /// Calls the query callback of an instance. Refused as the end of that callback is.
-    pub(crate) fn query(&mut self, instance: InstanceId) -> Result<(), Status> {
+    pub(crate) fn query(&mut self, instance: InstanceId) -> Result<(), Status>
+        ensures { QueryEnds (MayAgree F.query_may (filter_in (numbered self.old.filters) self.old.desk.state.stack instance.0)) WORKER result }
+    {
         let allows = match self.filters.of(self.desk.state.filter_of(instance)) {
             Some(filter) => {
                 let mut port = LocalPort {
@@ -210,14 +236,36 @@ impl<F: Minifilter, B: Base> LocalManager<F, B> {
             }
             None => false,
         };
-        let before = self.look_at_hand();
+        let before = look_at_hand(&self.desk.state, &mut self.hand);
         let ended = self.desk.state.query_returned(WORKER, allows);
-        self.note_leaks(before, Returning::of(Callback::Query, instance));
+        note_leaks(
+            &self.desk.state,
+            &self.hand,
+            &mut self.leaks,
+            before,
+            Returning::of(Callback::Query, instance),
+        );
         ended
     }
 
     /// Calls the callback that says that an instance's teardown starts.
-    pub(crate) fn start(&mut self, instance: InstanceId) -> Result<(), Status> {
+    pub(crate) fn start(&mut self, instance: InstanceId) -> Result<(), Status>
+        ensures { (before : World) × StartReturns before WORKER result self.new.desk.state }
+    {
+        self.tell_start(instance);
+        let before = look_at_hand(&self.desk.state, &mut self.hand);
+        let ended = self.desk.state.start_returned(WORKER);
+        note_leaks(
+            &self.desk.state,
+            &self.hand,
+            &mut self.leaks,
+            before,
+            Returning::of(Callback::Start, instance),
+        );
+        ended
+    }
+
+    fn tell_start(&mut self, instance: InstanceId) {
         if let Some(filter) = self.filters.of(self.desk.state.filter_of(instance)) {
             let mut port = LocalPort {
                 desk: &mut self.desk,
@@ -225,14 +273,26 @@ impl<F: Minifilter, B: Base> LocalManager<F, B> {
             };
             filter.teardown_start(&mut port);
         }
-        let before = self.look_at_hand();
-        let ended = self.desk.state.start_returned(WORKER);
-        self.note_leaks(before, Returning::of(Callback::Start, instance));
-        ended
     }
 
     /// Calls the callback that says that an instance's teardown is complete.
-    pub(crate) fn complete(&mut self, instance: InstanceId) -> Result<(), Status> {
+    pub(crate) fn complete(&mut self, instance: InstanceId) -> Result<(), Status>
+        ensures { (before : World) × CompleteReturns before WORKER result self.new.desk.state }
+    {
+        self.tell_complete(instance);
+        let before = look_at_hand(&self.desk.state, &mut self.hand);
+        let ended = self.desk.state.complete_returned(WORKER);
+        note_leaks(
+            &self.desk.state,
+            &self.hand,
+            &mut self.leaks,
+            before,
+            Returning::of(Callback::Complete, instance),
+        );
+        ended
+    }
+
+    fn tell_complete(&mut self, instance: InstanceId) {
         if let Some(filter) = self.filters.of(self.desk.state.filter_of(instance)) {
             let mut port = LocalPort {
                 desk: &mut self.desk,
@@ -240,10 +300,6 @@ impl<F: Minifilter, B: Base> LocalManager<F, B> {
             };
             filter.teardown_complete(&mut port);
         }
-        let before = self.look_at_hand();
-        let ended = self.desk.state.complete_returned(WORKER);
-        self.note_leaks(before, Returning::of(Callback::Complete, instance));
-        ended
     }
 
     /// Calls the unload callback of a filter. Refused as the end of that callback is.
@@ -283,45 +339,47 @@ impl<F: Minifilter, B: Base> LocalManager<F, B> {
     {
         self.trace.put(Traced { operation, visit });
     }
+}
 
-    // Copies what the callback holds that is about to return; the number of leaks so far.
-    fn look_at_hand(&mut self) -> u64
-        ensures { self.new ≡ record self.old { hand = self.new.hand } }
-    {
-        self.hand.clear();
-        for place in 0..self.desk.state.hand_len(WORKER) {
-            if let Some(context) = self.desk.state.held_at(WORKER, place) {
-                self.hand.put(context);
-            }
+// Copies what the callback holds that is about to return; the number of leaks so far.
+fn look_at_hand(state: &State, hand: &mut Bounded<CtxId>) -> u64 {
+    hand.clear();
+    for place in 0..state.hand_len(WORKER) {
+        if let Some(context) = state.held_at(WORKER, place) {
+            hand.put(context);
         }
-        self.desk.state.leaks()
     }
+    state.leaks()
+}
 
-    // Notes which of the references that the callback held were left behind, where some were: all of them, or all but the one that its completion sends.
-    fn note_leaks(&mut self, before: u64, returning: Returning)
-        ensures { self.new ≡ record self.old { leaks = self.new.leaks } }
-    {
-        if self.desk.state.leaks() == before {
-            return;
-        }
-        let left = self.desk.state.leaks().saturating_sub(before);
-        let mut sent = returning.sent;
-        if left >= self.hand.len() as u64 {
+// Notes which of the references that the callback held were left behind, where some were: all of them, or all but the one that its completion sends.
+fn note_leaks(
+    state: &State,
+    hand: &Bounded<CtxId>,
+    leaks: &mut Bounded<Leak>,
+    before: u64,
+    returning: Returning,
+) {
+    let left = state.leaks().saturating_sub(before);
+    if left == 0 {
+        return;
+    }
+    let mut sent = returning.sent;
+    if left >= hand.len() as u64 {
+        sent = None;
+    }
+    for place in 0..hand.len() {
+        let held = hand.get(place);
+        if held.is_some() && held == sent {
             sent = None;
-        }
-        for place in 0..self.hand.len() {
-            let held = self.hand.get(place);
-            if held.is_some() && held == sent {
-                sent = None;
-            } else if let Some(context) = held {
-                self.leaks.put(Leak {
-                    context,
-                    kind: self.desk.state.kind_of(context),
-                    instance: returning.instance,
-                    callback: returning.callback,
-                    operation: returning.operation,
-                });
-            }
+        } else if let Some(context) = held {
+            leaks.put(Leak {
+                context,
+                kind: state.kind_of(context),
+                instance: returning.instance,
+                callback: returning.callback,
+                operation: returning.operation,
+            });
         }
     }
 }

@@ -1,6 +1,8 @@
 //! The manager, and what begins in it.
 
-ghost use Rattle.std.specs.Prelude.{◌≡◌};
+ghost use Rattle.std.specs.Prelude.{◌≡◌, ◌++◌, ◌∷◌, [], IfErr, IfOk, option_and_then, option_map};
+ghost use Rattle.fm_local.specs.Calls.{LoadsAs, MountsAs, place_called};
+ghost use Rattle.fm_local.specs.Managers.{handed_in};
 
 use crate::bounded::Bounded;
 use crate::filters::Filters;
@@ -92,7 +94,9 @@ impl<F: Minifilter, B: Base> LocalManager<F, B> {
 
     /// Loads the filter of that name, with what it registers for (`FltRegisterFilter`, `FltStartFiltering`). Refused, nothing changed: 6 where no filter
     /// has that name, 1, and then as `State::register`.
-    pub fn load(&mut self, name: &Name) -> Result<FilterId, Status> {
+    pub fn load(&mut self, name: &Name) -> Result<FilterId, Status>
+        ensures { LoadsAs (option_map F.registers (option_and_then (handed_in self.old.filters) (place_called name.now self.old.filters.all.items))) self.old.desk.state name.now result self.new.desk.state }
+    {
         let place = self.filters.place(name)?;
         let Some(filter) = self.filters.at(place) else {
             return Err(Status::NoFilter);
@@ -100,15 +104,19 @@ impl<F: Minifilter, B: Base> LocalManager<F, B> {
         let registration = filter.registration();
         self.filters.reserve()?;
         let number = self.desk.state.register(*name, registration)?;
-        self.filters.note(place)?;
+        self.filters.note(place);
         Ok(number)
     }
 
     /// Mounts a volume over a file system. Refused, nothing changed but that the file system is gone: 1, and then as `State::mount`.
-    pub fn mount(&mut self, name: Name, base: B) -> Result<VolumeId, Status> {
+    pub fn mount(&mut self, name: Name, base: B) -> Result<VolumeId, Status>
+        ensures event { MountsAs self.old.desk.state name result self.new.desk.state }
+        ensures base { IfOk result (λ _. self.new.bases.items ≡ self.old.bases.items ++ base ∷ []) }
+        ensures refused { IfErr result (λ _. self.new.bases.items ≡ self.old.bases.items) }
+    {
         self.bases.reserve(1)?;
         let volume = self.desk.state.mount(name)?;
-        self.bases.push(base)?;
+        self.bases.push_reserved(base);
         Ok(volume)
     }
 }

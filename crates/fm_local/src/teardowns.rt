@@ -1,5 +1,10 @@
 //! How instances come and go, with all callbacks in between.
 
+ghost use Rattle.std.specs.Prelude.{◌≡◌};
+ghost use Rattle.fm_local.specs.Calls.{Asks, AttachesAs, DetachesBy, MayAgree, TornDown, is_leaving};
+ghost use Rattle.fm_local.specs.Chains.{filter_in};
+ghost use Rattle.fm_local.specs.Managers.{numbered};
+
 use crate::manager::{LocalManager, WORKER};
 use fm_altitude::Altitude;
 use fm_base::Base;
@@ -19,7 +24,9 @@ impl<F: Minifilter, B: Base> LocalManager<F, B> {
         volume: VolumeId,
         name: Name,
         altitude: Altitude,
-    ) -> Result<InstanceId, Status> {
+    ) -> Result<InstanceId, Status>
+        ensures { AttachesAs (λ born i. MayAgree F.setup_may (filter_in (numbered self.old.filters) born.stack i.0)) self.old.desk.state WORKER filter volume name altitude result self.new.desk.state }
+    {
         let instance = self
             .desk
             .state
@@ -37,12 +44,11 @@ impl<F: Minifilter, B: Base> LocalManager<F, B> {
     /// flight at it any more tells it that the teardown is complete, and cleans up its contexts. Refused as the events of the state are, of which it makes
     /// one after the other; with 34 and their number while operations are in flight at it, or contexts of it aren't cleaned. Called again, it goes on where
     /// it stopped.
-    pub fn detach(&mut self, instance: InstanceId) -> Result<(), Status> {
+    pub fn detach(&mut self, instance: InstanceId) -> Result<(), Status>
+        ensures { DetachesBy (is_leaving self.old.desk.state instance) (λ asked. MayAgree F.query_may (filter_in (numbered self.old.filters) asked.stack instance.0)) self.old.desk.state WORKER instance result self.new.desk.state }
+    {
         if !self.is_leaving(instance) {
-            self.desk.state.ask_detach(WORKER, instance)?;
-            let allowed = self.query(instance);
-            self.settle();
-            allowed?;
+            self.ask(instance)?;
         }
         self.tear_down(instance)
     }
@@ -61,8 +67,20 @@ impl<F: Minifilter, B: Base> LocalManager<F, B> {
         self.desk.state.finish_filter(filter)
     }
 
+    // Asks an instance's filter whether it may be detached.
+    fn ask(&mut self, instance: InstanceId) -> Result<(), Status>
+        ensures { Asks (λ asked. MayAgree F.query_may (filter_in (numbered self.old.filters) asked.stack instance.0)) self.old.desk.state WORKER instance result }
+    {
+        self.desk.state.ask_detach(WORKER, instance)?;
+        let allowed = self.query(instance);
+        self.settle();
+        allowed
+    }
+
     // Whether an instance's teardown is under way.
-    fn is_leaving(&self, instance: InstanceId) -> bool {
+    fn is_leaving(&self, instance: InstanceId) -> bool
+        ensures { result ≡ is_leaving self.now.desk.state instance }
+    {
         matches!(
             self.desk.state.phase(instance),
             Some(Phase::Stopping | Phase::Completing | Phase::Emptying)
@@ -89,7 +107,9 @@ impl<F: Minifilter, B: Base> LocalManager<F, B> {
     }
 
     // The teardown of an instance, from where it is.
-    fn tear_down(&mut self, instance: InstanceId) -> Result<(), Status> {
+    fn tear_down(&mut self, instance: InstanceId) -> Result<(), Status>
+        ensures { TornDown WORKER instance result self.new.desk.state }
+    {
         if self.desk.state.start_teardown(WORKER, instance).is_ok() {
             self.start(instance)?;
             self.drain_all(instance);

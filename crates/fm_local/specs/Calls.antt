@@ -1,0 +1,81 @@
+-- What a manager's calls answer, by the events of its state that they make.
+use Rattle.std.specs.Prelude.{◌≡◌, ◌⊎◌, ℕ, Bool, true, false, List, Option, Some, None, Result, Ok, Err, IsErr, option_map, position, slice_get}
+use Rattle.fm_types.specs.declared.ids.FilterId.{FilterId}
+use Rattle.fm_types.specs.declared.ids.VolumeId.{VolumeId}
+use Rattle.fm_types.specs.declared.ids.InstanceId.{InstanceId}
+use Rattle.fm_types.specs.declared.ids.WorkerId.{WorkerId}
+use Rattle.fm_types.specs.declared.registration.Registration.{Registration}
+use Rattle.fm_types.specs.declared.status.Status.{Status}
+use Rattle.fm_types.specs.declared.status.Status.TheVariants.{NoMemory, NoFilter}
+use Rattle.fm_stack.specs.Instances.{same_name}
+use Rattle.fm_stack.specs.declared.instance.Instance.{Instance}
+use Rattle.fm_stack.specs.declared.instance.Phase.{Phase}
+use Rattle.fm_stack.specs.declared.instance.Phase.TheVariants as phase
+use Rattle.fm_world.specs.World.{World}
+use Rattle.fm_world.specs.Events.{Registers, Mounts, Attaches, SetsUp}
+use Rattle.fm_world.specs.ContextEvents.{Finishes}
+use Rattle.fm_world.specs.Teardowns.{AsksDetach, QueryReturns, StartReturns, CompletesTeardown, CompleteReturns}
+
+-- the place of the filter of that name
+abbrev pub place_called : {F : Type 0} → List ℕ → List (List ℕ × F) → Option ℕ
+place_called {F} name all = position (λ (row : List ℕ × F). same_name row.0 name) all
+
+-- a filter is loaded: none has that name, or a growth of the manager's own was refused, or it registers
+abbrev pub LoadsAs : Option Registration → World → List ℕ → Result FilterId Status → World → Type 0
+LoadsAs None old name result new = (result ≡ Err NoFilter) × (new ≡ old)
+LoadsAs (Some registration) old name result new = ((result ≡ Err NoMemory) × (new ≡ old)) ⊎ Registers old name registration result new
+
+-- a volume is mounted, unless a growth of the manager's own was refused
+abbrev pub MountsAs : World → List ℕ → Result VolumeId Status → World → Type 0
+MountsAs old name result new = ((result ≡ Err NoMemory) × (new ≡ old)) ⊎ Mounts old name result new
+
+-- what a callback that agrees or refuses may answer, if there is one; no filter refuses
+abbrev pub MayAgree : {F : Type 0} → (F → Bool → Type 0) → Option F → Bool → Type 0
+MayAgree may None agrees = agrees ≡ false
+MayAgree may (Some f) agrees = may f agrees
+
+-- a setup callback ended so, with an answer that its filter may give
+abbrev pub SetupEnds : (Bool → Type 0) → WorkerId → Result (Unit {0}) Status → Type 0
+SetupEnds may k ended = (accepts : Bool) × (before after : World) × may accepts × SetsUp before k accepts ended after
+
+-- an instance is attached: that is refused at once, or its setup callback is called, and then its end refuses it or not
+abbrev pub AttachesAs : (World → InstanceId → Bool → Type 0) → World → WorkerId → FilterId → VolumeId → List ℕ → List ℕ → Result InstanceId Status → World → Type 0
+AttachesAs may old k f v name altitude (Err status) new =
+    Attaches old k f v name altitude (Err status) new
+    ⊎ ((i : InstanceId) × (born : World) × Attaches old k f v name altitude (Ok i) born × SetupEnds (may born i) k (Err status))
+AttachesAs may old k f v name altitude (Ok i) new = (born : World) × Attaches old k f v name altitude (Ok i) born × SetupEnds (may born i) k (Ok tt)
+
+-- a query callback ended so, with an answer that its filter may give
+abbrev pub QueryEnds : (Bool → Type 0) → WorkerId → Result (Unit {0}) Status → Type 0
+QueryEnds may k ended = (allows : Bool) × (before after : World) × may allows × QueryReturns before k allows ended after
+
+-- the teardown of an instance stopped with the first event that was refused, or ended with its last one
+abbrev pub TornDown : WorkerId → InstanceId → Result (Unit {0}) Status → World → Type 0
+TornDown k i (Err status) new =
+    ((before after : World) × StartReturns before k (Err status) after)
+    ⊎ (((before : World) × CompletesTeardown before k i (Err status) new)
+    ⊎ (((before after : World) × CompleteReturns before k (Err status) after)
+    ⊎ ((before : World) × Finishes before i (Err status) new)))
+TornDown k i (Ok done) new = (before : World) × Finishes before i (Ok done) new
+
+-- whether a teardown is under way
+abbrev pub is_leaving_phase : Option Phase → Bool
+is_leaving_phase (Some phase.Stopping) = true
+is_leaving_phase (Some phase.Completing) = true
+is_leaving_phase (Some phase.Emptying) = true
+is_leaving_phase _ = false
+
+abbrev pub is_leaving : World → InstanceId → Bool
+is_leaving w i = is_leaving_phase (option_map (λ (row : Instance). row.phase) (slice_get w.stack.instances i.0))
+
+-- a detach asks first: that is refused at once, or the query callback is called, and then its end refuses it or not
+abbrev pub Asks : (World → Bool → Type 0) → World → WorkerId → InstanceId → Result (Unit {0}) Status → Type 0
+Asks may old k i (Err status) =
+    ((new : World) × AsksDetach old k i (Err status) new)
+    ⊎ ((asked : World) × AsksDetach old k i (Ok tt) asked × QueryEnds (may asked) k (Err status))
+Asks may old k i (Ok done) = (asked : World) × AsksDetach old k i (Ok tt) asked × QueryEnds (may asked) k (Ok tt)
+
+-- a detach asks where no teardown is under way, and then the teardown says how it ends
+abbrev pub DetachesBy : Bool → (World → Bool → Type 0) → World → WorkerId → InstanceId → Result (Unit {0}) Status → World → Type 0
+DetachesBy true may old k i result new = TornDown k i result new
+DetachesBy false may old k i result new = (IsErr result × Asks may old k i result) ⊎ (Asks may old k i (Ok tt) × TornDown k i result new)

@@ -36,3 +36,49 @@ pub struct Leak {
     /// The operation that it was called for, if it was called for one.
     pub operation: Option<OpId>,
 }
+
+impl fmt::Display for Callback {
+    fn fmt<W: fmt::Write>(&self, f: &mut fmt::Formatter<W>) -> fmt::Result {
+        f.write_str(match self {
+            Callback::Setup => "setup",
+            Callback::Pre => "pre",
+            Callback::Post => "post",
+            Callback::Drain => "drain",
+            Callback::Query => "query",
+            Callback::Start => "start",
+            Callback::Complete => "complete",
+        })
+    }
+}
+
+fn kind_word(kind: Option<ContextKind>) -> &'static str {
+    match kind {
+        Some(ContextKind::Volume) => "volume",
+        Some(ContextKind::Instance) => "instance",
+        Some(ContextKind::Stream) => "stream",
+        Some(ContextKind::Handle) => "handle",
+        None => "-",
+    }
+}
+
+/// The context with its kind, whose callback it was, and the operation if there was one: `leak c0 stream i1 pre o3`. A context is named by its slot, and
+/// behind a point stands how many contexts lay there before, if any did: `c0.1`.
+impl fmt::Display for Leak {
+    fn fmt<W: fmt::Write>(&self, f: &mut fmt::Formatter<W>) -> fmt::Result {
+        write!(f, "leak c{}", self.context.slot)?;
+        if self.context.generation > 0 {
+            write!(f, ".{}", self.context.generation)?;
+        }
+        write!(
+            f,
+            " {} i{} {}",
+            kind_word(self.kind),
+            self.instance.0,
+            self.callback
+        )?;
+        match self.operation {
+            Some(operation) => write!(f, " o{}", operation.0),
+            None => Ok(()),
+        }
+    }
+}

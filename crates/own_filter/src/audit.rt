@@ -1,0 +1,111 @@
+//! A filter that audits a volume: it counts what is written to each file, and lets nobody delete one.
+
+ghost use Rattle.std.specs.Prelude.{◌≡◌};
+
+use fm_core::{SetAnswer, SetMode};
+use fm_data::{CallbackData, Completion, Params, PostVerdict, PreVerdict};
+use fm_filter::{Minifilter, Port};
+use fm_types::{Bytes, ContextKind, ContextMask, CtxId, OpMask, Registration, Status};
+use std::alloc::Global;
+
+/// Counts the writes to each file in a context of its stream, eight bytes, and denies each deletion. A write that can't be counted passes all the same.
+#[derive(Clone, Copy)]
+pub struct Audit {
+    alloc: Global,
+}
+
+impl Audit {
+    /// The filter, which takes memory for the body of each context.
+    pub fn new(alloc: Global) -> Audit {
+        Audit { alloc }
+    }
+
+    // The stream's context, with a reference in the hand; the first write makes it. None, with nothing in the hand, where a call was refused.
+    fn counter<P: Port>(&self, port: &mut P) -> Option<CtxId>
+        ensures far { P.kept port.new ≡ P.kept port.old }
+        ensures same { P.name port.new ≡ P.name port.old }
+    {
+        if let Ok(there) = port.get(ContextKind::Stream) {
+            return Some(there);
+        }
+        let body = Bytes::copy_of(self.alloc, &[0; 8]).ok()?;
+        let context = port.allocate(ContextKind::Stream, body).ok()?;
+        let there = match port.set(context, SetMode::Keep, true) {
+            SetAnswer::Linked(_) => return Some(context),
+            SetAnswer::AlreadyDefined(there) => there,
+            SetAnswer::Refused(_) => None,
+        };
+        let _ = port.release(context);
+        there
+    }
+}
+
+impl Minifilter for Audit {
+    ghost use Rattle.std.specs.Prelude.{⊤, true};
+
+    ghost registers = { λ _. record { pre = record { 0 = 132 }; post = record { 0 = 0 }; contexts = record { 0 = 4 }; query = true; unload = true } };
+
+    ghost setup_may = { λ _ _. ⊤ };
+
+    ghost pre_may = { λ _ _ _ _. ⊤ };
+
+    ghost post_may = { λ _ _ _ _ _. ⊤ };
+
+    ghost query_may = { λ _ _. ⊤ };
+
+    ghost unload_may = { λ _ _. ⊤ };
+
+    ghost cleanup_may = { λ _ _ _ _. ⊤ };
+
+    ghost is_quiet = { λ _. ⊥ };
+
+    fn registration(&self) -> Registration {
+        Registration {
+            pre: OpMask(OpMask::WRITE.0 | OpMask::SET_DELETE.0),
+            post: OpMask::NONE,
+            contexts: ContextMask::STREAM,
+            query: true,
+            unload: true,
+        }
+    }
+
+    fn setup<P: Port>(&self, _port: &mut P) -> bool {
+        true
+    }
+
+    fn pre<P: Port>(&self, lent: &mut CallbackData, port: &mut P) -> PreVerdict {
+        if let Params::SetDelete = lent.params() {
+            return PreVerdict::Complete(Status::AccessDenied);
+        }
+        if let Some(counter) = self.counter(port) {
+            let _ = port.bump(counter, 0, 1);
+            let _ = port.release(counter);
+        }
+        PreVerdict::NoCallback
+    }
+
+    fn post<P: Port>(&self, _: &mut CallbackData, _: Completion, _: &mut P) -> PostVerdict {
+        PostVerdict::Finished
+    }
+
+    fn drain<P: Port>(&self, _completion: Completion, _port: &mut P) {}
+
+    fn query_teardown<P: Port>(&self, _port: &mut P) -> bool {
+        true
+    }
+
+    fn teardown_start<P: Port>(&self, _port: &mut P) {}
+
+    fn teardown_complete<P: Port>(&self, _port: &mut P) {}
+
+    fn unload(&self) -> bool {
+        true
+    }
+
+    fn cleanup(&self, _kind: ContextKind, body: &[u8]) -> u64 {
+        match body.first_chunk::<8>() {
+            Some(writes) => u64::from_be_bytes(*writes),
+            None => 0,
+        }
+    }
+}

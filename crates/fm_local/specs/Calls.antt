@@ -1,5 +1,5 @@
 -- What a manager's calls answer, by the events of its state that they make.
-use Rattle.std.specs.Prelude.{◌≡◌, ◌⊎◌, ℕ, Bool, true, false, List, Option, Some, None, Result, Ok, Err, IsErr, option_map, position, slice_get}
+use Rattle.std.specs.Prelude.{◌≡◌, ◌⊎◌, ℕ, Bool, true, false, List, Option, Some, None, Result, Ok, Err, IsErr, option_and_then, option_map, position, slice_get}
 use Rattle.fm_types.specs.declared.ids.FilterId.{FilterId}
 use Rattle.fm_types.specs.declared.ids.VolumeId.{VolumeId}
 use Rattle.fm_types.specs.declared.ids.InstanceId.{InstanceId}
@@ -11,6 +11,9 @@ use Rattle.fm_stack.specs.Instances.{same_name}
 use Rattle.fm_stack.specs.declared.instance.Instance.{Instance}
 use Rattle.fm_stack.specs.declared.instance.Phase.{Phase}
 use Rattle.fm_stack.specs.declared.instance.Phase.TheVariants as phase
+use Rattle.fm_local.specs.declared.filters.Filters.{Filters}
+use Rattle.fm_local.specs.Chains.{filter_in}
+use Rattle.fm_local.specs.Managers.{handed_in, numbered}
 use Rattle.fm_world.specs.World.{World}
 use Rattle.fm_world.specs.Events.{Registers, Mounts, Attaches, SetsUp}
 use Rattle.fm_world.specs.ContextEvents.{Finishes}
@@ -20,10 +23,14 @@ use Rattle.fm_world.specs.Teardowns.{AsksDetach, QueryReturns, StartReturns, Com
 abbrev pub place_called : {F : Type 0} → List ℕ → List (List ℕ × F) → Option ℕ
 place_called {F} name all = position (λ (row : List ℕ × F). same_name row.0 name) all
 
--- a filter is loaded: none has that name, or a growth of the manager's own was refused, or it registers
-abbrev pub LoadsAs : Option Registration → World → List ℕ → Result FilterId Status → World → Type 0
-LoadsAs None old name result new = (result ≡ Err NoFilter) × (new ≡ old)
-LoadsAs (Some registration) old name result new = ((result ≡ Err NoMemory) × (new ≡ old)) ⊎ Registers old name registration result new
+-- a filter is loaded: none has that name, or a growth of the manager's own was refused, or it registers for what it says
+abbrev pub LoadsBy : Option Registration → World → List ℕ → Result FilterId Status → World → Type 0
+LoadsBy None old name result new = (result ≡ Err NoFilter) × (new ≡ old)
+LoadsBy (Some registration) old name result new = ((result ≡ Err NoMemory) × (new ≡ old)) ⊎ Registers old name registration result new
+
+abbrev pub LoadsAs : {F : Type 0} → (F → Registration) → Filters F → World → List ℕ → Result FilterId Status → World → Type 0
+LoadsAs registers filters old name result new =
+    LoadsBy (option_map registers (option_and_then (handed_in filters) (place_called name filters.all.items))) old name result new
 
 -- a volume is mounted, unless a growth of the manager's own was refused
 abbrev pub MountsAs : World → List ℕ → Result VolumeId Status → World → Type 0
@@ -33,6 +40,10 @@ MountsAs old name result new = ((result ≡ Err NoMemory) × (new ≡ old)) ⊎ 
 abbrev pub MayAgree : {F : Type 0} → (F → Bool → Type 0) → Option F → Bool → Type 0
 MayAgree may None agrees = agrees ≡ false
 MayAgree may (Some f) agrees = may f agrees
+
+-- of an instance
+abbrev pub AgreesAt : {F : Type 0} → (F → Bool → Type 0) → Filters F → World → InstanceId → Bool → Type 0
+AgreesAt may filters w i agrees = MayAgree may (filter_in (numbered filters) w.stack i.0) agrees
 
 -- a setup callback ended so, with an answer that its filter may give
 abbrev pub SetupEnds : (Bool → Type 0) → WorkerId → Result (Unit {0}) Status → Type 0
@@ -69,13 +80,16 @@ abbrev pub is_leaving : World → InstanceId → Bool
 is_leaving w i = is_leaving_phase (option_map (λ (row : Instance). row.phase) (slice_get w.stack.instances i.0))
 
 -- a detach asks first: that is refused at once, or the query callback is called, and then its end refuses it or not
-abbrev pub Asks : (World → Bool → Type 0) → World → WorkerId → InstanceId → Result (Unit {0}) Status → Type 0
+abbrev pub Asks : (World → InstanceId → Bool → Type 0) → World → WorkerId → InstanceId → Result (Unit {0}) Status → Type 0
 Asks may old k i (Err status) =
     ((new : World) × AsksDetach old k i (Err status) new)
-    ⊎ ((asked : World) × AsksDetach old k i (Ok tt) asked × QueryEnds (may asked) k (Err status))
-Asks may old k i (Ok done) = (asked : World) × AsksDetach old k i (Ok tt) asked × QueryEnds (may asked) k (Ok tt)
+    ⊎ ((asked : World) × AsksDetach old k i (Ok tt) asked × QueryEnds (may asked i) k (Err status))
+Asks may old k i (Ok done) = (asked : World) × AsksDetach old k i (Ok tt) asked × QueryEnds (may asked i) k (Ok tt)
 
 -- a detach asks where no teardown is under way, and then the teardown says how it ends
-abbrev pub DetachesBy : Bool → (World → Bool → Type 0) → World → WorkerId → InstanceId → Result (Unit {0}) Status → World → Type 0
+abbrev pub DetachesBy : Bool → (World → InstanceId → Bool → Type 0) → World → WorkerId → InstanceId → Result (Unit {0}) Status → World → Type 0
 DetachesBy true may old k i result new = TornDown k i result new
 DetachesBy false may old k i result new = (IsErr result × Asks may old k i result) ⊎ (Asks may old k i (Ok tt) × TornDown k i result new)
+
+abbrev pub DetachesAs : (World → InstanceId → Bool → Type 0) → World → WorkerId → InstanceId → Result (Unit {0}) Status → World → Type 0
+DetachesAs may old k i result new = DetachesBy (is_leaving old i) may old k i result new

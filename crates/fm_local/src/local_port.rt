@@ -25,9 +25,8 @@ pub struct LocalPort<'a> {
 
 impl<'a> Port for LocalPort<'a> {
     ghost use Rattle.fm_world.specs.ContextEvents.{Allocates, Sets, Gets, Deletes, References, Releases, ReadsBody, WritesBody, Bumps};
-    ghost use Rattle.fm_world.specs.Events.{Unless, FindsHeld, ResumesPre, ResumesPost};
-    ghost use Rattle.fm_types.specs.declared.status.Status.TheVariants as status;
-    ghost use Rattle.fm_local.specs.Ports.{has_room};
+    ghost use Rattle.fm_world.specs.Events.{FindsHeld};
+    ghost use Rattle.fm_local.specs.Ports.{ResumesPreIn, ResumesPostIn};
 
     ghost allocates = { λ old kind body result new. Allocates old.desk.now.state old.worker kind body result new.desk.now.state };
 
@@ -49,9 +48,9 @@ impl<'a> Port for LocalPort<'a> {
 
     ghost finds_held = { λ old hold result new. FindsHeld old.desk.now.state old.worker hold result new.desk.now.state };
 
-    ghost resumes_pre = { λ old operation verdict result new. Unless status.TooMany (has_room old.desk.now.resumed.limit old.desk.now.resumed.items.items) result old.desk.now.state new.desk.now.state (ResumesPre old.desk.now.state old.worker operation verdict result new.desk.now.state) };
+    ghost resumes_pre = { λ old operation verdict result new. ResumesPreIn old.desk.now old.worker operation verdict result new.desk.now };
 
-    ghost resumes_post = { λ old operation result new. Unless status.TooMany (has_room old.desk.now.resumed.limit old.desk.now.resumed.items.items) result old.desk.now.state new.desk.now.state (ResumesPost old.desk.now.state old.worker operation result new.desk.now.state) };
+    ghost resumes_post = { λ old operation result new. ResumesPostIn old.desk.now old.worker operation result new.desk.now };
 
     ghost kept = { λ _. 0 };
 

@@ -1,8 +1,7 @@
 //! The manager, and what begins in it.
 
-ghost use Rattle.std.specs.Prelude.{◌≡◌, ◌++◌, ◌∷◌, [], IfErr, IfOk, option_and_then, option_map};
-ghost use Rattle.fm_local.specs.Calls.{LoadsAs, MountsAs, place_called};
-ghost use Rattle.fm_local.specs.Managers.{handed_in};
+ghost use Rattle.std.specs.Prelude.{◌≡◌, ◌++◌, ◌∷◌, [], IfErr, IfOk};
+ghost use Rattle.fm_local.specs.Calls.{LoadsAs, MountsAs};
 
 use crate::bounded::Bounded;
 use crate::filters::Filters;
@@ -95,7 +94,7 @@ impl<F: Minifilter, B: Base> LocalManager<F, B> {
     /// Loads the filter of that name, with what it registers for (`FltRegisterFilter`, `FltStartFiltering`). Refused, nothing changed: 6 where no filter
     /// has that name, 1, and then as `State::register`.
     pub fn load(&mut self, name: &Name) -> Result<FilterId, Status>
-        ensures { LoadsAs (option_map F.registers (option_and_then (handed_in self.old.filters) (place_called name.now self.old.filters.all.items))) self.old.desk.state name.now result self.new.desk.state }
+        ensures { LoadsAs F.registers self.old.filters self.old.desk.state name.now result self.new.desk.state }
     {
         let place = self.filters.place(name)?;
         let Some(filter) = self.filters.at(place) else {

@@ -1,9 +1,7 @@
 //! How instances come and go, with all callbacks in between.
 
 ghost use Rattle.std.specs.Prelude.{◌≡◌};
-ghost use Rattle.fm_local.specs.Calls.{Asks, AttachesAs, DetachesBy, MayAgree, TornDown, is_leaving};
-ghost use Rattle.fm_local.specs.Chains.{filter_in};
-ghost use Rattle.fm_local.specs.Managers.{numbered};
+ghost use Rattle.fm_local.specs.Calls.{AgreesAt, Asks, AttachesAs, DetachesAs, TornDown, is_leaving};
 
 use crate::manager::{LocalManager, WORKER};
 use fm_altitude::Altitude;
@@ -25,7 +23,7 @@ impl<F: Minifilter, B: Base> LocalManager<F, B> {
         name: Name,
         altitude: Altitude,
     ) -> Result<InstanceId, Status>
-        ensures { AttachesAs (λ born i. MayAgree F.setup_may (filter_in (numbered self.old.filters) born.stack i.0)) self.old.desk.state WORKER filter volume name altitude result self.new.desk.state }
+        ensures { AttachesAs (AgreesAt F.setup_may self.old.filters) self.old.desk.state WORKER filter volume name altitude result self.new.desk.state }
     {
         let instance = self
             .desk
@@ -45,7 +43,7 @@ impl<F: Minifilter, B: Base> LocalManager<F, B> {
     /// one after the other; with 34 and their number while operations are in flight at it, or contexts of it aren't cleaned. Called again, it goes on where
     /// it stopped.
     pub fn detach(&mut self, instance: InstanceId) -> Result<(), Status>
-        ensures { DetachesBy (is_leaving self.old.desk.state instance) (λ asked. MayAgree F.query_may (filter_in (numbered self.old.filters) asked.stack instance.0)) self.old.desk.state WORKER instance result self.new.desk.state }
+        ensures { DetachesAs (AgreesAt F.query_may self.old.filters) self.old.desk.state WORKER instance result self.new.desk.state }
     {
         if !self.is_leaving(instance) {
             self.ask(instance)?;
@@ -69,7 +67,7 @@ impl<F: Minifilter, B: Base> LocalManager<F, B> {
 
     // Asks an instance's filter whether it may be detached.
     fn ask(&mut self, instance: InstanceId) -> Result<(), Status>
-        ensures { Asks (λ asked. MayAgree F.query_may (filter_in (numbered self.old.filters) asked.stack instance.0)) self.old.desk.state WORKER instance result }
+        ensures { Asks (AgreesAt F.query_may self.old.filters) self.old.desk.state WORKER instance result }
     {
         self.desk.state.ask_detach(WORKER, instance)?;
         let allowed = self.query(instance);

@@ -8,6 +8,9 @@ use Rattle.fm_types.specs.declared.registration.Registration.{Registration}
 use Rattle.fm_types.specs.declared.status.Status.{Status}
 use Rattle.fm_types.specs.declared.status.Status.TheVariants.{NoMemory, NoFilter}
 use Rattle.fm_stack.specs.Instances.{same_name}
+use Rattle.fm_stack.specs.declared.filter.Filter.{Filter}
+use Rattle.fm_stack.specs.declared.filter.FilterPhase.{FilterPhase}
+use Rattle.fm_stack.specs.declared.filter.FilterPhase.TheVariants as end
 use Rattle.fm_stack.specs.declared.instance.Instance.{Instance}
 use Rattle.fm_stack.specs.declared.instance.Phase.{Phase}
 use Rattle.fm_stack.specs.declared.instance.Phase.TheVariants as phase
@@ -17,7 +20,7 @@ use Rattle.fm_local.specs.Managers.{handed_in, numbered}
 use Rattle.fm_world.specs.World.{World}
 use Rattle.fm_world.specs.Events.{Registers, Mounts, Attaches, SetsUp}
 use Rattle.fm_world.specs.ContextEvents.{Finishes}
-use Rattle.fm_world.specs.Teardowns.{AsksDetach, QueryReturns, StartReturns, CompletesTeardown, CompleteReturns}
+use Rattle.fm_world.specs.Teardowns.{AsksDetach, QueryReturns, StartReturns, CompletesTeardown, CompleteReturns, AsksUnload, UnloadReturns, EmptiesFilter, FinishesFilter}
 
 -- the place of the filter of that name
 abbrev pub place_called : {F : Type 0} → List ℕ → List (List ℕ × F) → Option ℕ
@@ -93,3 +96,37 @@ DetachesBy false may old k i result new = (IsErr result × Asks may old k i resu
 
 abbrev pub DetachesAs : (World → InstanceId → Bool → Type 0) → World → WorkerId → InstanceId → Result (Unit {0}) Status → World → Type 0
 DetachesAs may old k i result new = DetachesBy (is_leaving old i) may old k i result new
+
+-- an unload callback ended so, with an answer that its filter may give
+abbrev pub UnloadEnds : (Bool → Type 0) → WorkerId → Result (Unit {0}) Status → Type 0
+UnloadEnds may k ended = (allows : Bool) × (before after : World) × may allows × UnloadReturns before k allows ended after
+
+-- an unload asks first: that is refused at once, or the unload callback is called, and then its end refuses it or not
+abbrev pub AsksToUnload : (Bool → Type 0) → World → WorkerId → FilterId → Result (Unit {0}) Status → Type 0
+AsksToUnload may old k f (Err status) =
+    ((new : World) × AsksUnload old k f (Err status) new) ⊎ ((asked : World) × AsksUnload old k f (Ok tt) asked × UnloadEnds may k (Err status))
+AsksToUnload may old k f (Ok done) = (asked : World) × AsksUnload old k f (Ok tt) asked × UnloadEnds may k (Ok tt)
+
+-- the end of a filter stopped with the first event that was refused, of an instance's teardown or of its own, or ended with its last one
+abbrev pub FilterEnds : WorkerId → FilterId → Result (Unit {0}) Status → World → Type 0
+FilterEnds k f (Err status) new =
+    ((i : InstanceId) × TornDown k i (Err status) new)
+    ⊎ (((before : World) × EmptiesFilter before f (Err status) new) ⊎ ((before : World) × FinishesFilter before f (Err status) new))
+FilterEnds k f (Ok done) new = (before : World) × FinishesFilter before f (Ok done) new
+
+-- whether a filter's end is under way
+abbrev pub is_unloading_phase : Option FilterPhase → Bool
+is_unloading_phase (Some end.Unloading) = true
+is_unloading_phase (Some end.Emptied) = true
+is_unloading_phase _ = false
+
+abbrev pub is_unloading : World → FilterId → Bool
+is_unloading w f = is_unloading_phase (option_map (λ (row : Filter). row.phase) (slice_get w.stack.filters f.0))
+
+-- an unload asks where no end is under way, and then the end says how it ends
+abbrev pub UnloadsBy : Bool → (Bool → Type 0) → World → WorkerId → FilterId → Result (Unit {0}) Status → World → Type 0
+UnloadsBy true may old k f result new = FilterEnds k f result new
+UnloadsBy false may old k f result new = (IsErr result × AsksToUnload may old k f result) ⊎ (AsksToUnload may old k f (Ok tt) × FilterEnds k f result new)
+
+abbrev pub UnloadsAs : {F : Type 0} → (F → Bool → Type 0) → Filters F → World → WorkerId → FilterId → Result (Unit {0}) Status → World → Type 0
+UnloadsAs may filters old k f result new = UnloadsBy (is_unloading old f) (MayAgree may (numbered filters f.0)) old k f result new

@@ -3,7 +3,7 @@
 ghost use Rattle.std.specs.Prelude.{◌≡◌};
 ghost use Rattle.fm_local.specs.Chains.{filter_in};
 ghost use Rattle.fm_local.specs.Managers.{numbered, PreSaid, PostSaid, IsQuietIn};
-ghost use Rattle.fm_local.specs.Calls.{MayAgree, QueryEnds, SetupEnds};
+ghost use Rattle.fm_local.specs.Calls.{MayAgree, QueryEnds, SetupEnds, UnloadEnds};
 ghost use Rattle.fm_world.specs.Teardowns.{CompleteReturns, StartReturns};
 ghost use Rattle.fm_world.specs.World.{World};
 
@@ -303,7 +303,9 @@ impl<F: Minifilter, B: Base> LocalManager<F, B> {
     }
 
     /// Calls the unload callback of a filter. Refused as the end of that callback is.
-    pub(crate) fn unloading(&mut self, filter: FilterId) -> Result<(), Status> {
+    pub(crate) fn unloading(&mut self, filter: FilterId) -> Result<(), Status>
+        ensures { UnloadEnds (MayAgree F.unload_may (numbered self.old.filters filter.0)) WORKER result }
+    {
         let allows = match self.filters.of(Some(filter)) {
             Some(filter) => filter.unload(),
             None => false,

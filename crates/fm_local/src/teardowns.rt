@@ -1,7 +1,9 @@
 //! How instances come and go, with all callbacks in between.
 
-ghost use Rattle.std.specs.Prelude.{◌≡◌};
-ghost use Rattle.fm_local.specs.Calls.{AgreesAt, Asks, AttachesAs, DetachesAs, TornDown, is_leaving};
+ghost use Rattle.std.specs.Prelude.{◌≡◌, Err, IfErr};
+ghost use Rattle.fm_local.specs.Calls.{AgreesAt, Asks, AsksToUnload, AttachesAs, DetachesAs, FilterEnds, MayAgree, TornDown, UnloadsAs, is_leaving, is_unloading};
+ghost use Rattle.fm_local.specs.Managers.{numbered};
+ghost use Rattle.fm_types.specs.declared.ids.InstanceId.{InstanceId};
 
 use crate::manager::{LocalManager, WORKER};
 use fm_altitude::Altitude;
@@ -54,11 +56,27 @@ impl<F: Minifilter, B: Base> LocalManager<F, B> {
     /// Unloads a filter (`FltUnloadFilter`): asks it, tears down its instances one after the other, and cleans up its contexts. Refused as the events of the
     /// state are, of which it makes one after the other; with 34 and their number while operations are in flight or contexts aren't cleaned. Called again, it
     /// goes on where it stopped.
-    pub fn unload(&mut self, filter: FilterId) -> Result<(), Status> {
+    pub fn unload(&mut self, filter: FilterId) -> Result<(), Status>
+        ensures { UnloadsAs F.unload_may self.old.filters self.old.desk.state WORKER filter result self.new.desk.state }
+    {
         if !self.is_unloading(filter) {
-            self.desk.state.ask_unload(WORKER, filter)?;
-            self.unloading(filter)?;
+            self.ask_to_unload(filter)?;
         }
+        self.end(filter)
+    }
+
+    // Asks a filter whether it may be unloaded.
+    fn ask_to_unload(&mut self, filter: FilterId) -> Result<(), Status>
+        ensures { AsksToUnload (MayAgree F.unload_may (numbered self.old.filters filter.0)) self.old.desk.state WORKER filter result }
+    {
+        self.desk.state.ask_unload(WORKER, filter)?;
+        self.unloading(filter)
+    }
+
+    // The end of a filter, from where it is.
+    fn end(&mut self, filter: FilterId) -> Result<(), Status>
+        ensures { FilterEnds WORKER filter result self.new.desk.state }
+    {
         self.tear_down_all(filter)?;
         self.desk.state.empty_filter(filter)?;
         self.clean_up();
@@ -86,7 +104,9 @@ impl<F: Minifilter, B: Base> LocalManager<F, B> {
     }
 
     // Whether a filter's end is under way.
-    fn is_unloading(&self, filter: FilterId) -> bool {
+    fn is_unloading(&self, filter: FilterId) -> bool
+        ensures { result ≡ is_unloading self.now.desk.state filter }
+    {
         matches!(
             self.desk.state.filter_phase(filter),
             Some(FilterPhase::Unloading | FilterPhase::Emptied)
@@ -94,7 +114,9 @@ impl<F: Minifilter, B: Base> LocalManager<F, B> {
     }
 
     // Tears down the instances of a filter that aren't detached, until one can't be yet.
-    fn tear_down_all(&mut self, filter: FilterId) -> Result<(), Status> {
+    fn tear_down_all(&mut self, filter: FilterId) -> Result<(), Status>
+        ensures { IfErr result (λ status. (i : InstanceId) × TornDown WORKER i (Err status) self.new.desk.state) }
+    {
         for at in 0..u16::try_from(self.desk.state.instances()).unwrap_or(u16::MAX) {
             let instance = InstanceId(at);
             if self.desk.state.filter_of(instance) == Some(filter) && self.is_leaving(instance) {

@@ -70,8 +70,8 @@ impl State {
         self.laws();
     }
 
-    /// What the induction over events rests on.
-    pub(crate) fn laws(&self)
+    /// What the induction over events rests on, for callers that carry one further. It does nothing.
+    pub fn laws(&self)
         ensures { IsSound self.now }
     {
         let _ = &self.stack;

@@ -28,17 +28,17 @@ module _ {F D : Type 0} (pre : F → Data → PreVerdict → Data → Type 0) (p
     (carries : D → BaseCall → Answer → D → Type 0) (filters : ℕ → Option F) (k : WorkerId) (plain : (n : ℕ) (f : F) → filters n ≡ Some f → IsPlainFilter pre post is_quiet f)
     (s : StackWorld) (quiet : NoneStops s) where
   -- sound, at rest, over that stack
-  record IsReady (w : World) : Type 0 where
-    sound : IsSound w
-    rests : IsAtRest k w
-    stack : w.stack ≡ s
+  pub record RestsOver (w : World) : Type 0 where
+    pub sound : IsSound w
+    pub rests : IsAtRest k w
+    pub stack : w.stack ≡ s
 
   -- what was answered, and that all is ready again
-  record Ready (P : Under D → ℕ → Type 0) (new : World) (e : D) : Type 0 where
-    ready : IsReady new
-    holds : P (under e new) new.flow.next
+  pub record Ready (P : Under D → ℕ → Type 0) (new : World) (e : D) : Type 0 where
+    pub ready : RestsOver new
+    pub holds : P (under e new) new.flow.next
 
-  tidied : (old new : World) → Tidies old new → IsReady old → IsReady new
+  tidied : (old new : World) → Tidies old new → RestsOver old → RestsOver new
   tidied old new t ready = record {
     sound = run_keeps old t.steps t.replies new t.run ready.sound;
     rests = record {
@@ -49,12 +49,12 @@ module _ {F D : Type 0} (pre : F → Data → PreVerdict → Data → Type 0) (p
     stack = t.stack ∙ ready.stack;
   }
 
-  one_tidily : (what : Request) (old : World) (d : D) (answer : Answer) (new : World) (e : D) → IsReady old → DoesTidily pre post carries filters k what old d answer new e
+  pub one_tidily : (what : Request) (old : World) (d : D) (answer : Answer) (new : World) (e : D) → RestsOver old → DoesTidily pre post carries filters k what old d answer new e
       → Ready (λ u n. Performs pre post carries filters s old.flow.next what (under d old) answer u n) new e
   one_tidily what old d answer new e ready h =
       let calm : NoneStops old.stack = subst NoneStops (sym ready.stack) quiet in
       let a = answered pre post is_quiet carries filters k what old d answer h.0 e plain ready.sound ready.rests calm h.1 in
-      let mid : IsReady h.0 = record { sound = a.sound; rests = a.rests; stack = a.stays ∙ ready.stack } in
+      let mid : RestsOver h.0 = record { sound = a.sound; rests = a.rests; stack = a.stays ∙ ready.stack } in
       record {
         ready = tidied h.0 new h.2 mid;
         holds =
@@ -63,17 +63,17 @@ module _ {F D : Type 0} (pre : F → Data → PreVerdict → Data → Type 0) (p
             (subst (λ (t : StackWorld). Performs pre post carries filters t old.flow.next what (under d old) answer (under e h.0) h.0.flow.next) ready.stack a.performs));
       }
 
-  one_close : (st : Status) (what : Request) (old : World) (d : D) (cleanup answer : Answer) (new : World) (e : D) → IsReady old
+  one_close : (st : Status) (what : Request) (old : World) (d : D) (cleanup answer : Answer) (new : World) (e : D) → RestsOver old
       → DoesClose pre post carries filters k st what old d cleanup answer new e
       → Ready (λ u n. ClosesAfter pre post carries filters s st old.flow.next what (under d old) cleanup answer u n) new e
   one_close status.Success what old d cleanup answer new e ready h = let r = one_tidily what old d answer new e ready h in record { ready = r.ready; holds = r.holds }
   one_close status.WrongStep what old d cleanup answer new e ready h = let r = one_tidily what old d answer new e ready h in record { ready = r.ready; holds = r.holds }
   one_close _ what old d cleanup answer new e ready h = record {
-    ready = subst IsReady (sym h.1) ready;
+    ready = subst RestsOver (sym h.1) ready;
     holds = (h.0, ap₂ (λ dev fs. record { device = dev; files = fs }) h.2 (ap (λ (w : World). w.files) h.1), ap (λ (w : World). w.flow.next) h.1);
   }
 
-  one_done : (what : Request) (old : World) (d : D) (answer : Answer) (new : World) (e : D) → IsReady old → DoesOne pre post carries filters k what old d answer new e
+  pub one_done : (what : Request) (old : World) (d : D) (answer : Answer) (new : World) (e : D) → RestsOver old → DoesOne pre post carries filters k what old d answer new e
       → Ready (λ u n. AnswersOne pre post carries filters s old.flow.next what (under d old) answer u n) new e
   one_done (request.OnHandle h asked.Close) old d answer new e ready does =
       let first = one_tidily (request.OnHandle h asked.Cleanup) old d does.2 does.0 does.1 ready does.3 in
@@ -81,10 +81,10 @@ module _ {F D : Type 0} (pre : F → Data → PreVerdict → Data → Type 0) (p
       record { ready = then.ready; holds = (under does.1 does.0, does.2, does.0.flow.next, first.holds, then.holds) }
   one_done what old d answer new e ready does = let r = one_tidily what old d answer new e ready does in record { ready = r.ready; holds = r.holds }
 
-  all_done : (requests : List Request) (old : World) (d : D) (answers : List Answer) (new : World) (e : D) → IsReady old → DoesAll pre post carries filters k requests old d answers new e
+  all_done : (requests : List Request) (old : World) (d : D) (answers : List Answer) (new : World) (e : D) → RestsOver old → DoesAll pre post carries filters k requests old d answers new e
       → Ready (λ u n. AnswersAll pre post carries filters s old.flow.next requests (under d old) answers u n) new e
   all_done [] old d [] new e ready h = record {
-    ready = subst IsReady (sym h.0) ready;
+    ready = subst RestsOver (sym h.0) ready;
     holds = (ap₂ (λ dev fs. record { device = dev; files = fs }) h.1 (ap (λ (w : World). w.files) h.0), ap (λ (w : World). w.flow.next) h.0);
   }
   all_done [] old d (answer ∷ answers) new e ready h = absurd h

@@ -54,7 +54,7 @@ module _ {F D : Type 0} (pre_may : F → Data → PreVerdict → Data → Type 0
   done_sound (Ok action.Moved) mid d new e sound h = subst IsSound (sym h.0) sound
   done_sound _ mid d new e sound h = absurd h
 
-  turn_sound : (old : World) (d : D) (new : World) (e : D) → IsSound old → Turns pre_may post_may carries filters k o old d new e → IsSound new
+  pub turn_sound : (old : World) (d : D) (new : World) (e : D) → IsSound old → Turns pre_may post_may carries filters k o old d new e → IsSound new
   turn_sound old d new e sound h = done_sound h.0 h.1 d new e (step_keeps old (step.Next k o) (said.Action h.0) h.1 h.2 sound) h.3
 
   module _ (s : StackWorld) (quiet : NoneStops s) where

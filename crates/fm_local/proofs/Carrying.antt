@@ -1,6 +1,7 @@
 -- Each turn of an operation that is alone leaves no more of its fold than there was.
-use Rattle.std.specs.Prelude.{◌≡◌, ◌==◌, ◌||◌, ℕ, Bool, true, false, cond, not, List, [], ◌∷◌, ◌++◌, length, Option, Some, None, unwrap_or, is_some, IfSome, Result, Ok, Err, slice_get, refl}
-use Rattle.std.proofs.Common.{sym, ap, ap₂, subst, ◌∙◌}
+use Rattle.std.specs.Prelude.{◌≡◌, ◌==◌, ◌||◌, ℕ, suc, Bool, true, false, cond, not, List, [], ◌∷◌, ◌++◌, length, map, Option, Some, None, unwrap_or, is_some, IfSome, Result, Ok, Err, slice_get, refl}
+use Rattle.std.proofs.Common.{sym, ap, ap₂, subst, ◌∙◌, arith}
+use Rattle.std.proofs.lemmas.List.{length-append, length-map}
 use Rattle.fm_types.proofs.Firsts.{found_holds}
 use Rattle.fm_types.proofs.Lists.{all_at}
 use Rattle.fm_types.specs.declared.operation.Operation.{Operation}
@@ -24,11 +25,11 @@ use Rattle.fm_flow.proofs.Soundness.{at_stage}
 use Rattle.fm_types.specs.declared.ids.HandleId.{HandleId}
 use Rattle.fm_flow.specs.Answered.{bare_answer, base_counted}
 use Rattle.fm_flow.specs.Creates.{is_create}
-use Rattle.fm_flow.specs.Entries.{owed, visited, last_visited, times}
+use Rattle.fm_flow.specs.Entries.{owed, visited, last_visited, times, settle_pre, settle_post}
 use Rattle.fm_flow.specs.Record.{FlowRecord}
 use Rattle.fm_flow.specs.Sound as flow
 use Rattle.fm_flow.specs.Sound.{IsCourse}
-use Rattle.fm_flow.specs.Steps.{next_of, call_pre, call_base, call_of, call_post, with_visit, with_base, bare_ask, pre_returned_of, base_returned_of, post_returned_of, ascend, descend, give_post, unwound, lent_answer, next_at, turn, may_take, Turned as Turn}
+use Rattle.fm_flow.specs.Steps.{next_of, pre_entry, post_entry, call_pre, call_base, call_of, call_post, with_visit, with_base, bare_ask, pre_returned_of, base_returned_of, post_returned_of, ascend, descend, give_post, unwound, lent_answer, next_at, turn, may_take, Turned as Turn}
 use Rattle.fm_flow.specs.Seen.{sees}
 use Rattle.fm_flow.specs.Table.{is_number}
 use Rattle.fm_flow.specs.Verdict.{verdict_counted, completed_as}
@@ -37,6 +38,9 @@ use Rattle.fm_flow.specs.declared.action.Below.TheVariants as below
 use Rattle.fm_flow.specs.declared.action.FlowAction.{FlowAction}
 use Rattle.fm_flow.specs.declared.action.FlowAction.TheVariants as action
 use Rattle.fm_flow.specs.declared.entry.Ask.{Ask}
+use Rattle.fm_flow.specs.declared.entry.Entry.{Entry}
+use Rattle.fm_flow.specs.declared.entry.Entry.TheVariants as entry
+use Rattle.fm_flow.specs.declared.entry.PostState.TheVariants as post
 use Rattle.fm_flow.specs.declared.entry.PreState.{PreState}
 use Rattle.fm_flow.specs.declared.entry.PreState.TheVariants as pre
 use Rattle.fm_flow.specs.declared.stage.Stage.{Stage}
@@ -95,7 +99,7 @@ none_drains s none (Some ask) = by_row (slice_get s.instances ask.instance.0) re
 
 -- what an operation that is sound has
 module _ (w : World) (sound : IsSound w) (o : OpId) (r : FlowRecord) (alone : Alone o r w.flow) where
-  record_sound : flow.IsSound r
+  pub record_sound : flow.IsSound r
   record_sound = found_holds flow.IsSound (is_number o) w.flow.operations r sound.under_way.flow.sound (found_alone o r w.flow alone)
 
   record_among : IsAmong w.stack r
@@ -112,6 +116,19 @@ record GivenKeeps (u s : FlowRecord) : Type 0 where
 given_keeps : (k : WorkerId) (ask : Ask) (u : FlowRecord) (m : Option Params) → GivenKeeps u (give_post k ask u m).after
 given_keeps k ask u None = record { operation = refl; path = refl; volume = refl; born = refl; collected = refl }
 given_keeps k ask u (Some q) = record { operation = refl; path = refl; volume = refl; born = refl; collected = refl }
+
+-- an entry more
+one_more : (es : List Entry) (e : Entry) → length (es ++ e ∷ []) ≡ suc (length es)
+one_more es e = omega (arith, length-append es (e ∷ []))
+
+-- an entry more, and all settled
+settled_more : (f : Entry → Entry) (es : List Entry) (e : Entry) → length (map f (es ++ e ∷ [])) ≡ suc (length es)
+settled_more f es e = length-map (es ++ e ∷ []) f ∙ one_more es e
+
+-- and an entry more, where parameters are at hand
+given_more : (k : WorkerId) (ask : Ask) (u : FlowRecord) (m : Option Params) (q : Params) → m ≡ Some q → length (give_post k ask u m).after.entries ≡ suc (length u.entries)
+given_more k ask u None q has = cc
+given_more k ask u (Some p) q has = one_more u.entries (post_entry k ask.instance post.Running)
 
 some_there : (m : Option Params) → is_some m ≡ true → (p : Params) × (m ≡ Some p)
 some_there None is = cc
@@ -132,6 +149,8 @@ module _ {F D : Type 0} (pre_may : F → Data → PreVerdict → Data → Type 0
     pub going : IsGoing k o x next new
     pub stays : new.stack ≡ old.stack
     pub same : (next.volume ≡ r.volume) × (next.born ≡ r.born)
+    -- each turn leaves an entry more
+    pub longer : length next.entries ≡ suc (length r.entries)
     pub less : Leaves (chain x) (Meets r) r next (under d old) (under e new)
 
   -- verdicts of filters that are there are plain
@@ -139,11 +158,11 @@ module _ {F D : Type 0} (pre_may : F → Data → PreVerdict → Data → Type 0
   pre_plain i lent given back may = by_row (slice_get s.instances i) may
     where
       by_filter : (n : ℕ) (m : Option F) → filters n ≡ m → PreMay pre_may m lent given back → IsPlainPre given
-      by_filter n None at may = absurd may
+      by_filter n None at may = subst IsPlainPre (sym may.0) tt
       by_filter n (Some f) at may = (plain n f at).descends lent given back may
 
       by_row : (m : Option Instance) → PreMay pre_may (filter_in_row filters m) lent given back → IsPlainPre given
-      by_row None may = absurd may
+      by_row None may = subst IsPlainPre (sym may.0) tt
       by_row (Some row) may = by_filter row.filter.0 (filters row.filter.0) refl may
 
   post_plain : (i : ℕ) (lent : Data) (completion : Completion) (given : PostVerdict) (back : Data) → PostMay post_may (filter_in filters s i) lent completion given back → given ≡ end.Finished
@@ -154,11 +173,11 @@ module _ {F D : Type 0} (pre_may : F → Data → PreVerdict → Data → Type 0
       finished end.MoreProcessing p = absurd p
 
       by_filter : (n : ℕ) (m : Option F) → filters n ≡ m → PostMay post_may m lent completion given back → given ≡ end.Finished
-      by_filter n None at may = absurd may
+      by_filter n None at may = may.0
       by_filter n (Some f) at may = finished given ((plain n f at).ascends lent completion given back may)
 
       by_row : (m : Option Instance) → PostMay post_may (filter_in_row filters m) lent completion given back → given ≡ end.Finished
-      by_row None may = absurd may
+      by_row None may = may.0
       by_row (Some row) may = by_filter row.filter.0 (filters row.filter.0) refl may
 
   -- a plain verdict that counts is plain
@@ -220,6 +239,7 @@ module _ {F D : Type 0} (pre_may : F → Data → PreVerdict → Data → Type 0
                 going = record { alone = left.alone; idle = left.idle; uncollected = going.uncollected; between = refl; on = record { kind = going.on.kind; all = λ h. going.on.all st }; asks = less.plain };
                 stays = left.stays ∙ sym at_stack;
                 same = (refl, refl);
+                longer = settled_more (settle_pre (pre.Asked completion)) r.entries (pre_entry k i pre.Running r);
                 less = subst (λ (w : Under D). Leaves (chain x) (Meets r) r next (under d old) w) ends (of_subject next (under d old) less);
               }
           by_state pre.Passed counted plain left =
@@ -231,6 +251,7 @@ module _ {F D : Type 0} (pre_may : F → Data → PreVerdict → Data → Type 0
                 going = record { alone = left.alone; idle = left.idle; uncollected = going.uncollected; between = refl; on = record { kind = going.on.kind; all = λ h. going.on.all st }; asks = less.plain };
                 stays = left.stays ∙ sym at_stack;
                 same = (refl, refl);
+                longer = settled_more (settle_pre pre.Passed) r.entries (pre_entry k i pre.Running r);
                 less = subst (λ (w : Under D). Leaves (chain x) (Meets r) r next (under d old) w) ends (of_subject next (under d old) less);
               }
           by_state (pre.Completed why) counted plain left =
@@ -243,6 +264,7 @@ module _ {F D : Type 0} (pre_may : F → Data → PreVerdict → Data → Type 0
                 going = record { alone = left.alone; idle = left.idle; uncollected = going.uncollected; between = refl; on = record { kind = going.on.kind; all = λ h. going.on.all st }; asks = less.plain };
                 stays = left.stays ∙ sym at_stack;
                 same = (refl, refl);
+                longer = settled_more (settle_pre (pre.Completed why)) r.entries (pre_entry k i pre.Running r);
                 less = subst (λ (v : Under D). Leaves (chain x) (Meets r) r next (under d old) v) ends (of_subject next w less);
               }
           by_state _ counted plain left = absurd plain
@@ -282,6 +304,7 @@ module _ {F D : Type 0} (pre_may : F → Data → PreVerdict → Data → Type 0
             };
             stays = ap (λ (w : World). w.stack) same ∙ stack ∙ sym at_stack;
             same = (refl, refl);
+            longer = one_more r.entries (pre_entry k i bare_ask r);
             less = subst (λ (w : Under D). Leaves (chain x) (Meets r) r next (under d old) w) ends (of_subject next (under d old) less);
           }
 
@@ -304,6 +327,7 @@ module _ {F D : Type 0} (pre_may : F → Data → PreVerdict → Data → Type 0
               going = record { alone = left'.alone; idle = left'.idle; uncollected = going.uncollected; between = refl; on = record { kind = going.on.kind; all = λ h. cc }; asks = less.plain };
               stays = left'.stays ∙ stack ∙ sym at_stack;
               same = (refl, refl);
+              longer = one_more r.entries (entry.Base (base_counted p answer (handle old.files)).status (base_counted p answer (handle old.files)).information);
               less = of_subject next (under e new) less;
             }
 
@@ -332,6 +356,7 @@ module _ {F D : Type 0} (pre_may : F → Data → PreVerdict → Data → Type 0
               };
               stays = ap (λ (w : World). w.stack) same ∙ stack ∙ sym at_stack;
               same = (refl, refl);
+              longer = one_more r.entries (entry.Base why 0);
               less = of_subject next (under e new) less;
             }
 
@@ -382,6 +407,8 @@ module _ {F D : Type 0} (pre_may : F → Data → PreVerdict → Data → Type 0
             };
             stays = left'.stays ∙ stack ∙ sym at_stack;
             same = (keeps.volume ∙ unwinds.volume, keeps.born ∙ unwinds.born);
+            longer = length-map s0.entries (settle_post post.Finished) ∙ given_more k ask (unwound ask.place r) (unwound ask.place r).params saw unwinds.params
+                ∙ ap (λ (es : List Entry). suc (length es)) unwinds.entries;
             less = subst (λ (w : Under D). Leaves (chain x) (Meets r) r next (under d old) w) ends less;
           }
 

@@ -7,9 +7,17 @@ pub mod Events
 pub mod Fitting
 pub mod Carrying
 pub mod Carried
+pub mod Begun
 pub mod Beside
+pub mod Lasting
+pub mod CarriedOn
 pub mod Performed
 pub mod Successes
 pub mod Shifted
 pub mod RoundTrip
 pub mod AllPerformed
+pub mod Performing
+pub mod Answering
+pub mod Tidying
+pub mod BaseCalls
+pub mod AllReplied

@@ -1,14 +1,12 @@
 -- A request that is carried to its end is answered as its fold says.
-use Rattle.std.specs.Prelude.{◌≡◌, ◌+◌, ◌&&◌, ℕ, suc, Bool, true, false, cond, not, List, [], ◌∷◌, ◌++◌, count_by, Option, Some, None, Result, Ok, Err, slice_get, refl}
+use Rattle.std.specs.Prelude.{◌≡◌, ◌&&◌, ℕ, suc, Bool, true, false, cond, not, List, [], ◌∷◌, count_by, Option, Some, None, Result, Ok, Err, slice_get, refl}
 use Rattle.std.specs.List.{list_any}
 use Rattle.std.proofs.Common.{sym, ap, ap₂, subst, ◌∙◌, arith, inl, inr}
-use Rattle.std.proofs.lemmas.Bool.{cases_eq, eq-eqb}
+use Rattle.std.proofs.lemmas.Bool.{cases_eq}
 use Rattle.std.proofs.lemmas.Bool.Decides.{nat_tests}
 use Rattle.fm_types.proofs.Firsts.{count-cons}
 use Rattle.fm_types.specs.Refusals.{IsRefusalOrMemory}
 use Rattle.fm_types.specs.declared.ids.HandleId.{HandleId}
-use Rattle.fm_types.specs.declared.ids.StreamId.{StreamId}
-use Rattle.fm_types.specs.declared.ids.VolumeId.{VolumeId}
 use Rattle.fm_types.specs.declared.status.Status.{Status}
 use Rattle.fm_types.specs.declared.status.Status.TheVariants as status
 use Rattle.fm_data.specs.Data.{Data}
@@ -16,7 +14,6 @@ use Rattle.fm_data.specs.Requests.{params_of}
 use Rattle.fm_data.specs.declared.answer.Answer.{Answer}
 use Rattle.fm_data.specs.declared.base_call.BaseCall.{BaseCall}
 use Rattle.fm_data.specs.declared.params.Params.{Params}
-use Rattle.fm_data.specs.declared.params.Params.TheVariants as params
 use Rattle.fm_data.specs.declared.request.Request.{Request}
 use Rattle.fm_data.specs.declared.request.Request.TheVariants as request
 use Rattle.fm_data.specs.declared.verdict.Completion.{Completion}
@@ -28,14 +25,13 @@ use Rattle.fm_flow.specs.Counts.{drain_opens, is_running_drain}
 use Rattle.fm_flow.specs.Entries.{owed}
 use Rattle.fm_flow.specs.Record.{FlowRecord}
 use Rattle.fm_flow.specs.Steps.{done_at}
-use Rattle.fm_flow.specs.Table.{FlowTable, begun_record, collect_reply, collected_of, collected_in, is_collectable, is_number, removed, marked, changed, without_first}
+use Rattle.fm_flow.specs.Table.{FlowTable, collect_reply, collected_of, collected_in, is_collectable, is_number, removed, marked, changed, without_first}
 use Rattle.fm_flow.specs.declared.entry.Entry.{Entry}
 use Rattle.fm_flow.specs.declared.entry.Entry.TheVariants.{Pre, Base, Post, Drain}
 use Rattle.fm_flow.specs.declared.stage.Stage.TheVariants.{Ascending}
 use Rattle.fm_world.proofs.Runs.{step_keeps}
-use Rattle.fm_world.specs.Events.{Begins, Collects, begin_refused, after_begin, refused_at, refused_on, begun_at, begun_on}
-use Rattle.fm_world.specs.Files.{FileTable, handle_at, stream_at, stream_for}
-use Rattle.fm_data.specs.Params.{is_within_limits}
+use Rattle.fm_world.specs.Events.{Begins, Collects, begin_refused, after_begin, begun_at, begun_on}
+use Rattle.fm_world.specs.Files.{FileTable, handle_at, stream_at}
 use Rattle.fm_world.specs.Headline.{is_in_drain}
 use Rattle.fm_world.specs.Sound.{IsSound}
 use Rattle.fm_world.specs.Words.{OpId, WorkerId}
@@ -48,6 +44,8 @@ use Rattle.fm_world.specs.declared.step.StepReply.TheVariants as said
 use Rattle.fm_world.specs.declared.worker.Worker.{Worker}
 use Rattle.fm_world.specs.declared.worker.Worker.TheVariants as place
 use Rattle.fm_local.proofs.Alone.{Alone, found_alone, told_alone}
+use Rattle.fm_local.proofs.Begun as begin
+use Rattle.fm_local.proofs.Begun.{Started}
 use Rattle.fm_local.proofs.Beside.{KeepsRest, carries_beside}
 use Rattle.fm_local.proofs.Carried.{Ended, carried}
 use Rattle.fm_local.proofs.Carrying.{IsGoing}
@@ -58,67 +56,7 @@ use Rattle.fm_local.specs.Requests.{at_rest, under, NoneStops, IsAtRest, FoldsAl
 
 -- ---- it begins
 
--- what begins, at rest: one operation, which has the next number
-pub record Started (old after : World) : Type 0 where
-  pub volume : VolumeId
-  pub stream : Option StreamId
-  pub handle : Option HandleId
-  pub path : Option (List ℕ)
-  pub asks : Params
-  pub operations : after.flow.operations ≡ begun_record old.flow.next volume stream handle old.stack.births path asks ∷ []
-  pub next : after.flow.next ≡ old.flow.next + 1
-  pub workers : after.workers ≡ old.workers
-  pub stack : after.stack ≡ old.stack
-
 module _ (old : World) (rest : old.flow.operations ≡ []) where
-  on_handle : (h : HandleId) (p : Params) (m : Option FileHandle) → refused_at old p m ≡ None → Started old (begun_at old h p m)
-  on_handle h p None none = cc
-  on_handle h p (Some x) none = by_stream (stream_at x.stream old.files) none
-    where
-      by_stream : (m : Option FileStream) → refused_on old p x m ≡ None → Started old (begun_on old h p x m)
-      by_stream None none = cc
-      by_stream (Some y) none = record {
-        volume = y.volume;
-        stream = Some x.stream;
-        handle = Some h;
-        path = Some y.path;
-        asks = p;
-        operations = ap (λ rs. rs ++ begun_record old.flow.next y.volume (Some x.stream) (Some h) old.stack.births (Some y.path) p ∷ []) rest;
-        next = refl;
-        workers = refl;
-        stack = refl;
-      }
-
-  within : (b : Bool) (m : Option Status) → cond b m (Some status.BadRequest) ≡ None → m ≡ None
-  within true m none = none
-  within false m none = cc
-
-  started : (what : Request) → begin_refused old what ≡ None → Started old (after_begin old what)
-  started (request.List v) none = record {
-    volume = v;
-    stream = None;
-    handle = None;
-    path = None;
-    asks = params.List;
-    operations = ap (λ rs. rs ++ begun_record old.flow.next v None None old.stack.births None params.List ∷ []) rest;
-    next = refl;
-    workers = refl;
-    stack = refl;
-  }
-  started (request.Create v path mode) none = record {
-    volume = v;
-    stream = Some (stream_for v path old.flow.next old.files);
-    handle = None;
-    path = Some path;
-    asks = params.Create path mode;
-    operations = ap (λ rs. rs ++ begun_record old.flow.next v (Some (stream_for v path old.flow.next old.files)) None old.stack.births (Some path) (params.Create path mode) ∷ []) rest;
-    next = refl;
-    workers = refl;
-    stack = refl;
-  }
-  started (request.OnHandle h asked) none =
-      on_handle h (params_of asked) (handle_at h old.files) (within (is_within_limits (params_of asked)) (refused_at old (params_of asked) (handle_at h old.files)) none)
-
   -- beginning looks at no more than what lies below and the next number
   flow_is : old.flow ≡ record { operations = []; next = old.flow.next }
   flow_is = ap (λ rs. record { operations = rs; next = old.flow.next }) rest
@@ -179,16 +117,17 @@ none_counted p idle (a ∷ ws) all =
     let one : ◌≡◌ {A = ℕ} (cond (p a) 1 0) 0 = ap (λ b. cond b 1 0) here in
     omega (arith, count-cons p a ws, one, none_counted p idle ws (λ j b at. all (suc j) b at))
 
+-- the answer of a done operation can be taken, once
+pub collectable : (last : FlowRecord) → last.stage ≡ Ascending → owed last.entries ≡ [] → last.collected ≡ false → is_collectable last ≡ true
+collectable last ascends owes uncollected = ap₂ (λ b c. not b && c) uncollected (ap₂ done_at ascends owes)
+
 -- a done operation, alone, whose answer is taken, is gone
 module _ (o : OpId) (last : FlowRecord) (done : World) (alone : Alone o last done.flow) (ascends : last.stage ≡ Ascending) (owes : owed last.entries ≡ []) (uncollected : last.collected ≡ false)
     (calm : list_any is_running_drain last.entries ≡ false) where
-  collectable : is_collectable last ≡ true
-  collectable = ap₂ (λ b c. not b && c) uncollected (ap₂ done_at ascends owes)
-
   removed_is : collected_of o done.flow ≡ removed o done.flow
   removed_is =
       ap (collected_in o done.flow) (found_alone o last done.flow alone)
-      ∙ ap (λ b. cond b (cond (list_any is_running_drain last.entries) (changed o marked done.flow) (removed o done.flow)) done.flow) collectable
+      ∙ ap (λ b. cond b (cond (list_any is_running_drain last.entries) (changed o marked done.flow) (removed o done.flow)) done.flow) (collectable last ascends owes uncollected)
       ∙ ap (λ b. cond b (changed o marked done.flow) (removed o done.flow)) calm
 
   all_gone : (removed o done.flow).operations ≡ []
@@ -198,7 +137,7 @@ module _ (o : OpId) (last : FlowRecord) (done : World) (alone : Alone o last don
   unfolding Collects
   answer_is answer new h =
       let is : Ok answer ≡ Ok last.answer =
-      h.0 ∙ told_alone o last done.flow alone collect_reply (Err status.WrongStep) ∙ ap (λ b. cond b (Ok last.answer) (Err status.WrongStep)) collectable in
+      h.0 ∙ told_alone o last done.flow alone collect_reply (Err status.WrongStep) ∙ ap (λ b. cond b (Ok last.answer) (Err status.WrongStep)) (collectable last ascends owes uncollected) in
       cc
 
   pub flow_left : (answer : Answer) (new : World) → Collects done o (Ok answer) new → new ≡ record done { flow = removed o done.flow }
@@ -242,24 +181,16 @@ module _ {F D : Type 0} (pre_may : F → Data → PreVerdict → Data → Type 0
     module _ (o : OpId) (begun : World) (n : ℕ) (done : World) (answer : Answer) (new : World) (e : D) (begins : Begins old what (Ok o) begun)
         (carries_it : Carries pre_may post_may carries filters k o n begun d done e) (collects : Collects done o (Ok answer) new) where
       begun_parts : (begin_refused old what ≡ None) × (o.0 ≡ old.flow.next) × (begun ≡ after_begin old what)
-      unfolding Begins
-      begun_parts = (begins.0, begins.1.0, begins.1.1)
+      begun_parts = begin.begun_parts k o what old rest begun begins
 
-      start : Started old begun
-      start = subst (Started old) (sym begun_parts.2) (started old rest.operations what begun_parts.0)
+      abbrev start : Started old begun
+      start = begin.start k o what old rest begun begins
 
       abbrev first : FlowRecord
-      first = begun_record old.flow.next start.volume start.stream start.handle old.stack.births start.path start.asks
+      first = begin.first k o what old rest begun begins
 
       going : IsGoing k o (subject_of first) first begun
-      going = record {
-        alone = record { operations = start.operations; number = eq-eqb old.flow.next o.0 (sym begun_parts.1) };
-        idle = ap (λ ws. worker_at ws k) start.workers ∙ rest.idle;
-        uncollected = refl;
-        between = refl;
-        on = record { kind = refl; all = λ st. refl };
-        asks = tt;
-      }
+      going = begin.going k o what old rest begun begins
 
       ended : Ended pre_may post_may is_quiet carries filters plain k o (subject_of first) old.stack quiet first.volume first.born first.operation first begun d done e
       ended = carried pre_may post_may is_quiet carries filters plain k o (subject_of first) old.stack quiet n first begun d going

@@ -10,7 +10,9 @@ use Rattle.fm_data.specs.declared.base_call.BaseCall.{BaseCall}
 use Rattle.fm_data.specs.declared.params.Params.{Params}
 use Rattle.fm_data.specs.declared.verdict.Completion.{Completion}
 use Rattle.fm_data.specs.declared.verdict.PreVerdict.{PreVerdict}
+use Rattle.fm_data.specs.declared.verdict.PreVerdict.TheVariants.{NoCallback}
 use Rattle.fm_data.specs.declared.verdict.PostVerdict.{PostVerdict}
+use Rattle.fm_data.specs.declared.verdict.PostVerdict.TheVariants.{Finished}
 use Rattle.fm_data.specs.Data.{Data}
 use Rattle.fm_stack.specs.declared.instance.Instance.{Instance}
 use Rattle.fm_stack.specs.StackWorld.{StackWorld}
@@ -47,13 +49,13 @@ filter_in_row filters (Some row) = filters row.filter.0
 abbrev pub filter_in : {F : Type 0} → (ℕ → Option F) → StackWorld → ℕ → Option F
 filter_in filters s i = filter_in_row filters (slice_get s.instances i)
 
--- what it may answer before an operation, and after it
+-- what it may answer before an operation, and after it; where there is none, the operation goes on as it is
 abbrev pub PreMay : {F : Type 0} → (F → Data → PreVerdict → Data → Type 0) → Option F → Data → PreVerdict → Data → Type 0
-PreMay pre None given verdict back = ⊥
+PreMay pre None given verdict back = (verdict ≡ NoCallback) × (back ≡ given)
 PreMay pre (Some f) given verdict back = pre f given verdict back
 
 abbrev pub PostMay : {F : Type 0} → (F → Data → Completion → PostVerdict → Data → Type 0) → Option F → Data → Completion → PostVerdict → Data → Type 0
-PostMay post None given completion verdict back = ⊥
+PostMay post None given completion verdict back = (verdict ≡ Finished) × (back ≡ given)
 PostMay post (Some f) given completion verdict back = post f given completion verdict back
 
 -- what the base answers without a call of the device, while no other operation is under way

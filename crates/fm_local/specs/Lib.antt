@@ -1,3 +1,4 @@
+pub mod Actions
 pub mod Bases
 pub mod Calls
 pub mod Chains

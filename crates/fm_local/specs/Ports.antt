@@ -1,5 +1,5 @@
 -- What a callback's resumptions through its port may answer beyond what the events say.
-use Rattle.std.specs.Prelude.{ℕ, Bool, not, List, length, nat_le, Result}
+use Rattle.std.specs.Prelude.{Bool, not, length, nat_le, Result}
 use Rattle.fm_types.specs.declared.ids.OpId.{OpId}
 use Rattle.fm_types.specs.declared.ids.WorkerId.{WorkerId}
 use Rattle.fm_types.specs.declared.status.Status.{Status}

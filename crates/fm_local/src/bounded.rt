@@ -1,6 +1,6 @@
 //! Queues that take their memory once.
 
-ghost use Rattle.std.specs.Prelude.{◌≡◌, ◌<◌, ◌≤◌, ◌++◌, ◌∷◌, [], IfOk, length, nat_le, slice_get};
+ghost use Rattle.std.specs.Prelude.{◌≡◌, ◌↔◌, ◌<◌, ◌≤◌, ◌++◌, ◌∷◌, [], IfOk, IsTrue, length, nat_le, slice_get};
 
 use std::alloc::{AllocError, Global};
 use std::collections::VecDeque;
@@ -26,6 +26,13 @@ impl<T: Copy> Bounded<T> {
         ensures { result ≡ length self.now.items.items }
     {
         self.items.len()
+    }
+
+    /// Whether none waits.
+    pub fn is_empty(&self) -> bool
+        ensures { IsTrue result ↔ (self.now.items.items ≡ []) }
+    {
+        self.items.is_empty()
     }
 
     /// Whether there is no room for one more.

@@ -1,8 +1,13 @@
 //! The callbacks of filters, each between the event that enters it and the one that ends it.
 
 ghost use Rattle.std.specs.Prelude.{◌≡◌};
-ghost use Rattle.fm_local.specs.Chains.{filter_in};
-ghost use Rattle.fm_local.specs.Managers.{numbered, PreSaid, PostSaid, IsQuietIn};
+ghost use Rattle.fm_flow.specs.declared.action.FlowAction.TheVariants as step;
+ghost use Rattle.fm_local.specs.Actions.{ArePlainFilters};
+ghost use Rattle.fm_local.specs.Bases.{BasesCarry};
+ghost use Rattle.fm_local.specs.Chains.{filter_in, PreMay, PostMay};
+ghost use Rattle.fm_local.specs.Managers.{numbered, IsQuietIn};
+ghost use Rattle.fm_local.specs.Turns.{Does};
+ghost use Rattle.fm_world.specs.Events.{PreReturns, PostReturns};
 ghost use Rattle.fm_local.specs.Calls.{MayAgree, QueryEnds, SetupEnds, UnloadEnds};
 ghost use Rattle.fm_world.specs.Teardowns.{CompleteReturns, StartReturns};
 ghost use Rattle.fm_world.specs.World.{World};
@@ -13,13 +18,10 @@ use crate::local_port::LocalPort;
 use crate::manager::{LocalManager, WORKER};
 use crate::trace::{Traced, Visit};
 use fm_base::Base;
-use fm_core::{Due, Owner, State};
+use fm_core::State;
 use fm_data::{CallbackData, Completion, PostVerdict, PreVerdict};
 use fm_filter::Minifilter;
 use fm_types::{CtxId, FilterId, InstanceId, OpId, Status};
-
-/// How many contexts are cleaned up at most: as many as there may be.
-const CLEANED: usize = 65_536;
 
 /// Which callback returns: what a leak says of it.
 #[derive(Clone, Copy)]
@@ -73,23 +75,42 @@ impl<F: Minifilter, B: Base> LocalManager<F, B> {
         &mut self,
         operation: OpId,
         instance: InstanceId,
-        mut data: CallbackData,
-    ) -> Result<(), Status> {
-        let verdict = self.ask_pre(instance, &mut data);
+        mut lent: CallbackData,
+    ) -> Result<(), Status>
+        ensures does { ArePlainFilters F.pre_may F.post_may F.is_quiet (numbered self.old.filters) → Does F.pre_may F.post_may (BasesCarry B.folder B.faults) (numbered self.old.filters) WORKER operation (Ok (step.Pre instance lent)) self.old.desk.state self.old.bases.items self.new.desk.state self.new.bases.items }
+        ensures quiet { ArePlainFilters F.pre_may F.post_may F.is_quiet (numbered self.old.filters) → self.new.desk.resumed ≡ self.old.desk.resumed }
+        ensures kept { self.new ≡ record self.old { desk = self.new.desk; trace = self.new.trace; hand = self.new.hand; leaks = self.new.leaks } }
+    {
+        let verdict = self.ask_pre(instance, &mut lent);
+        lent.laws();
         self.note(operation, Visit::Pre(instance, verdict));
+        let returning = Returning {
+            callback: Callback::Pre,
+            instance,
+            operation: Some(operation),
+            sent: sent_by(verdict),
+        };
+        self.end_pre(verdict, lent, returning)
+    }
+
+    // The end of a preoperation.
+    fn end_pre(
+        &mut self,
+        verdict: PreVerdict,
+        back: CallbackData,
+        returning: Returning,
+    ) -> Result<(), Status>
+        ensures event { PreReturns self.old.desk.state WORKER verdict back result self.new.desk.state }
+        ensures kept { self.new ≡ record self.old { desk = record self.old.desk { state = self.new.desk.state }; hand = self.new.hand; leaks = self.new.leaks } }
+    {
         let before = look_at_hand(&self.desk.state, &mut self.hand);
-        let ended = self.desk.state.pre_returned(WORKER, verdict, data);
+        let ended = self.desk.state.pre_returned(WORKER, verdict, back);
         note_leaks(
             &self.desk.state,
             &self.hand,
             &mut self.leaks,
             before,
-            Returning {
-                callback: Callback::Pre,
-                instance,
-                operation: Some(operation),
-                sent: sent_by(verdict),
-            },
+            returning,
         );
         match ended {
             Ok(()) => Ok(()),
@@ -99,7 +120,7 @@ impl<F: Minifilter, B: Base> LocalManager<F, B> {
 
     // What the filter of an instance says of the data on its way down.
     fn ask_pre(&mut self, instance: InstanceId, lent: &mut CallbackData) -> PreVerdict
-        ensures said { PreSaid F.pre_may (filter_in (numbered self.old.filters) self.old.desk.state.stack instance.0) lent.old result lent.new }
+        ensures said { PreMay F.pre_may (filter_in (numbered self.old.filters) self.old.desk.state.stack instance.0) lent.old result lent.new }
         ensures kept { lent.new.received ≡ lent.old.received }
         ensures quiet { IsQuietIn F.is_quiet (filter_in (numbered self.old.filters) self.old.desk.state.stack instance.0) → self.new.desk ≡ self.old.desk }
         ensures same { self.new ≡ record self.old { desk = self.new.desk } }
@@ -121,19 +142,38 @@ impl<F: Minifilter, B: Base> LocalManager<F, B> {
         &mut self,
         operation: OpId,
         instance: InstanceId,
-        mut data: CallbackData,
+        mut lent: CallbackData,
         completion: Completion,
-    ) -> Result<(), Status> {
-        let verdict = self.ask_post(instance, &mut data, completion);
+    ) -> Result<(), Status>
+        ensures does { ArePlainFilters F.pre_may F.post_may F.is_quiet (numbered self.old.filters) → Does F.pre_may F.post_may (BasesCarry B.folder B.faults) (numbered self.old.filters) WORKER operation (Ok (step.Post instance lent completion)) self.old.desk.state self.old.bases.items self.new.desk.state self.new.bases.items }
+        ensures quiet { ArePlainFilters F.pre_may F.post_may F.is_quiet (numbered self.old.filters) → self.new.desk.resumed ≡ self.old.desk.resumed }
+        ensures kept { self.new ≡ record self.old { desk = self.new.desk; trace = self.new.trace; hand = self.new.hand; leaks = self.new.leaks } }
+    {
+        let verdict = self.ask_post(instance, &mut lent, completion);
+        lent.laws();
         self.note(operation, Visit::Post(instance, verdict));
+        let returning = Returning::for_operation(Callback::Post, instance, operation);
+        self.end_post(verdict, Some(lent), returning)
+    }
+
+    // The end of a postoperation, or of a drain in its place.
+    fn end_post(
+        &mut self,
+        verdict: PostVerdict,
+        back: Option<CallbackData>,
+        returning: Returning,
+    ) -> Result<(), Status>
+        ensures event { PostReturns self.old.desk.state WORKER verdict back result self.new.desk.state }
+        ensures kept { self.new ≡ record self.old { desk = record self.old.desk { state = self.new.desk.state }; hand = self.new.hand; leaks = self.new.leaks } }
+    {
         let before = look_at_hand(&self.desk.state, &mut self.hand);
-        let ended = self.desk.state.post_returned(WORKER, verdict, Some(data));
+        let ended = self.desk.state.post_returned(WORKER, verdict, back);
         note_leaks(
             &self.desk.state,
             &self.hand,
             &mut self.leaks,
             before,
-            Returning::for_operation(Callback::Post, instance, operation),
+            returning,
         );
         match ended {
             Ok(()) => Ok(()),
@@ -148,7 +188,7 @@ impl<F: Minifilter, B: Base> LocalManager<F, B> {
         lent: &mut CallbackData,
         completion: Completion,
     ) -> PostVerdict
-        ensures said { PostSaid F.post_may (filter_in (numbered self.old.filters) self.old.desk.state.stack instance.0) lent.old completion result lent.new }
+        ensures said { PostMay F.post_may (filter_in (numbered self.old.filters) self.old.desk.state.stack instance.0) lent.old completion result lent.new }
         ensures kept { lent.new.received ≡ lent.old.received }
         ensures quiet { IsQuietIn F.is_quiet (filter_in (numbered self.old.filters) self.old.desk.state.stack instance.0) → self.new.desk ≡ self.old.desk }
         ensures same { self.new ≡ record self.old { desk = self.new.desk } }
@@ -171,24 +211,13 @@ impl<F: Minifilter, B: Base> LocalManager<F, B> {
         operation: OpId,
         instance: InstanceId,
         completion: Completion,
-    ) -> Result<(), Status> {
+    ) -> Result<(), Status>
+        ensures quiet { ArePlainFilters F.pre_may F.post_may F.is_quiet (numbered self.old.filters) → self.new.desk.resumed ≡ self.old.desk.resumed }
+        ensures kept { self.new ≡ record self.old { desk = self.new.desk; trace = self.new.trace; hand = self.new.hand; leaks = self.new.leaks } }
+    {
         self.drain(operation, instance, completion);
-        let before = look_at_hand(&self.desk.state, &mut self.hand);
-        let ended = self
-            .desk
-            .state
-            .post_returned(WORKER, PostVerdict::Finished, None);
-        note_leaks(
-            &self.desk.state,
-            &self.hand,
-            &mut self.leaks,
-            before,
-            Returning::for_operation(Callback::Drain, instance, operation),
-        );
-        match ended {
-            Ok(()) => Ok(()),
-            Err(refused) => Err(refused.status),
-        }
+        let returning = Returning::for_operation(Callback::Drain, instance, operation);
+        self.end_post(PostVerdict::Finished, None, returning)
     }
 
     /// The same before the operation has come to its postoperation.
@@ -211,15 +240,29 @@ impl<F: Minifilter, B: Base> LocalManager<F, B> {
         ended
     }
 
-    fn drain(&mut self, operation: OpId, instance: InstanceId, completion: Completion) {
-        if let Some(filter) = self.filters.of(self.desk.state.filter_of(instance)) {
-            let mut port = LocalPort {
-                desk: &mut self.desk,
-                worker: WORKER,
-            };
-            filter.drain(completion, &mut port);
-        }
+    // Has the filter of an instance let go, and notes it.
+    fn drain(&mut self, operation: OpId, instance: InstanceId, completion: Completion)
+        ensures quiet { IsQuietIn F.is_quiet (filter_in (numbered self.old.filters) self.old.desk.state.stack instance.0) → self.new.desk ≡ self.old.desk }
+        ensures same { self.new ≡ record self.old { desk = self.new.desk; trace = self.new.trace } }
+    {
+        self.tell_drain(instance, completion);
         self.note(operation, Visit::Drain(instance));
+    }
+
+    fn tell_drain(&mut self, instance: InstanceId, completion: Completion)
+        ensures quiet { IsQuietIn F.is_quiet (filter_in (numbered self.old.filters) self.old.desk.state.stack instance.0) → self.new.desk ≡ self.old.desk }
+        ensures same { self.new ≡ record self.old { desk = self.new.desk } }
+    {
+        match self.filters.of(self.desk.state.filter_of(instance)) {
+            Some(filter) => {
+                let mut port = LocalPort {
+                    desk: &mut self.desk,
+                    worker: WORKER,
+                };
+                filter.drain(completion, &mut port);
+            }
+            None => {}
+        }
     }
 
     /// Calls the query callback of an instance. Refused as the end of that callback is.
@@ -311,28 +354,6 @@ impl<F: Minifilter, B: Base> LocalManager<F, B> {
             None => false,
         };
         self.desk.state.unload_returned(WORKER, allows)
-    }
-
-    /// Cleans up every context that is due.
-    pub(crate) fn clean_up(&mut self) {
-        for _ in 0..CLEANED {
-            let Ok(Some(due)) = self.desk.state.take_due(WORKER) else {
-                return;
-            };
-            let number = self.cleanup(&due);
-            let _ = self.desk.state.cleaned(WORKER, number);
-        }
-    }
-
-    fn cleanup(&self, due: &Due) -> u64 {
-        let filter = match due.owner {
-            Owner::Instance(instance) => self.desk.state.filter_of(instance),
-            Owner::Filter(filter) => Some(filter),
-        };
-        match self.filters.of(filter) {
-            Some(filter) => filter.cleanup(due.kind, due.body.as_slice()),
-            None => 0,
-        }
     }
 
     /// Notes a step of an operation.

@@ -3,6 +3,7 @@
 
 mod bounded;
 mod callbacks;
+mod cleanups;
 mod filters;
 pub mod laws;
 mod leak;

@@ -1,5 +1,17 @@
 //! Requests, each carried from its first callback to its reply.
 
+ghost use Rattle.std.specs.Prelude.{◌≡◌, ◌≤◌, ℕ, [], Result, length};
+ghost use Rattle.fm_data.specs.declared.request.FileRequest.TheVariants as asked;
+ghost use Rattle.fm_data.specs.declared.request.Request.TheVariants as client;
+ghost use Rattle.fm_flow.specs.Answered.{bare_answer};
+ghost use Rattle.fm_flow.specs.declared.action.FlowAction.TheVariants as step;
+ghost use Rattle.fm_local.specs.Actions.{Acts, AnswersIn, ArePlainFilters, CarriesIn, IsBegun, IsReady, PerformsIn, ResumesNone, RunsIn, TurnsAs, closed_handle, goes_on, reply_of, replied};
+ghost use Rattle.fm_local.specs.Bases.{BasesCarry};
+ghost use Rattle.fm_local.specs.Managers.{numbered};
+ghost use Rattle.fm_local.specs.Requests.{Tidies};
+ghost use Rattle.fm_local.specs.Turns.{Does};
+ghost use Rattle.fm_world.specs.Events.{BaseReturns, Collects};
+
 use crate::manager::{LocalManager, UNDER_WAY, WORKER};
 use crate::trace::Visit;
 use fm_base::Base;
@@ -8,6 +20,7 @@ use fm_data::{Answer, BaseCall, FileRequest, Reply, Request};
 use fm_device::call_base;
 use fm_filter::Minifilter;
 use fm_types::{Bytes, HandleId, OpId, Status};
+use std::alloc::Global;
 
 /// How many turns an operation takes at most, from where it begins or is resumed to where it ends or is held: 32 instances on the way down, the file
 /// system, 32 on the way up, and its end.
@@ -32,15 +45,14 @@ impl<F: Minifilter, B: Base> LocalManager<F, B> {
     /// its reply comes from `finished`, once a callback has resumed it. Close is a cleanup, unless that began before, and then the close itself; where the
     /// cleanup is held it is the one that `Held` names, and the request is to be made again. A request that can't begin is answered with the status of its
     /// refusal, and changes nothing.
-    pub fn answer(&mut self, request: Request) -> Reply {
-        if let Request::OnHandle {
-            handle,
-            request: FileRequest::Close,
-        } = request
-        {
-            return self.close(handle);
+    pub fn answer(&mut self, request: Request) -> Reply
+        ensures fold { IsReady F.pre_may F.post_may F.is_quiet B.folder B.faults WORKER self.old → AnswersIn F.pre_may F.post_may F.is_quiet B.folder B.faults WORKER request self.old result self.new }
+    {
+        self.desk.state.laws();
+        match closed_handle(&request) {
+            Some(handle) => self.close(handle),
+            None => self.perform(request),
         }
-        self.perform(request)
     }
 
     /// The reply of an operation that was held, in the order in which they ended.
@@ -50,40 +62,59 @@ impl<F: Minifilter, B: Base> LocalManager<F, B> {
     }
 
     // A cleanup, and then the close.
-    fn close(&mut self, handle: HandleId) -> Reply {
+    fn close(&mut self, handle: HandleId) -> Reply
+        ensures fold { IsReady F.pre_may F.post_may F.is_quiet B.folder B.faults WORKER self.old → AnswersIn F.pre_may F.post_may F.is_quiet B.folder B.faults WORKER (client.OnHandle handle asked.Close) self.old result self.new }
+    {
+        self.desk.state.laws();
         let cleanup = self.perform(Request::OnHandle {
             handle,
             request: FileRequest::Cleanup,
         });
-        match cleanup {
-            Reply::Done {
-                status: Status::Success | Status::WrongStep,
-                ..
-            } => self.perform(Request::OnHandle {
-                handle,
-                request: FileRequest::Close,
-            }),
-            other => other,
+        if !goes_on(&cleanup) {
+            return cleanup;
         }
+        self.perform(Request::OnHandle {
+            handle,
+            request: FileRequest::Close,
+        })
     }
 
     // One operation, from its beginning to its reply, with all that its callbacks resumed.
-    fn perform(&mut self, request: Request) -> Reply {
-        let operation = match self.desk.state.begin(request) {
-            Ok(operation) => operation,
-            Err(status) => return self.refusal(status),
-        };
+    fn perform(&mut self, request: Request) -> Reply
+        ensures { IsReady F.pre_may F.post_may F.is_quiet B.folder B.faults WORKER self.old → PerformsIn F.pre_may F.post_may F.is_quiet B.folder B.faults WORKER request self.old result self.new }
+    {
+        self.desk.state.laws();
+        match self.desk.state.begin(request) {
+            Ok(operation) => self.run(operation),
+            Err(status) => self.refusal(status),
+        }
+    }
+
+    // An operation that began, to its reply, with all that its callbacks resumed.
+    fn run(&mut self, operation: OpId) -> Reply
+        ensures { ArePlainFilters F.pre_may F.post_may F.is_quiet (numbered self.old.filters) → IsBegun WORKER operation self.old.desk.state → self.old.desk.resumed.items.items ≡ [] → RunsIn F.pre_may F.post_may F.is_quiet B.folder B.faults WORKER operation self.old result self.new }
+    {
         let ended = self.carry(operation);
-        let reply = match ended {
-            Turn::Done => self.reply(operation),
-            Turn::Goes | Turn::Held => Reply::Held(operation),
-        };
+        let reply = self.reply_after(operation, ended);
         self.settle();
         reply
     }
 
+    // The answer of an operation whose turns ended so.
+    fn reply_after(&mut self, operation: OpId, ended: Turn) -> Reply
+        ensures answer { ended ≡ Turn.Done → (collected : Result Answer Status) × Collects self.old.desk.state operation collected self.new.desk.state × (result ≡ reply_of collected) }
+        ensures kept { self.new ≡ record self.old { desk = record self.old.desk { state = self.new.desk.state }; trace = self.new.trace } }
+    {
+        match ended {
+            Turn::Done => self.reply(operation),
+            Turn::Goes | Turn::Held => Reply::Held(operation),
+        }
+    }
+
     // The reply of a request that couldn't begin.
-    fn refusal(&self, status: Status) -> Reply {
+    fn refusal(&self, status: Status) -> Reply
+        ensures { result ≡ replied (bare_answer status) }
+    {
         Reply::Done {
             status,
             information: 0,
@@ -92,7 +123,10 @@ impl<F: Minifilter, B: Base> LocalManager<F, B> {
     }
 
     // Hands out the answer of a done operation.
-    fn reply(&mut self, operation: OpId) -> Reply {
+    fn reply(&mut self, operation: OpId) -> Reply
+        ensures answer { (collected : Result Answer Status) × Collects self.old.desk.state operation collected self.new.desk.state × (result ≡ reply_of collected) }
+        ensures kept { self.new ≡ record self.old { desk = record self.old.desk { state = self.new.desk.state }; trace = self.new.trace } }
+    {
         match self.desk.state.collect(operation) {
             Ok(
                 Answer {
@@ -113,8 +147,12 @@ impl<F: Minifilter, B: Base> LocalManager<F, B> {
     }
 
     // Turn after turn of an operation, until it is done or held.
-    fn carry(&mut self, operation: OpId) -> Turn {
-        for _ in 0..TURNS {
+    fn carry(&mut self, operation: OpId) -> Turn
+        ensures carried { CarriesIn F.pre_may F.post_may F.is_quiet B.folder B.faults WORKER operation self.old result self.new }
+        ensures quiet { ResumesNone F.pre_may F.post_may F.is_quiet B.folder B.faults WORKER self.old self.new }
+        ensures kept { self.new ≡ record self.old { desk = self.new.desk; bases = self.new.bases; trace = self.new.trace; hand = self.new.hand; leaks = self.new.leaks } }
+    {
+        for _made in 0..TURNS {
             match self.turn(operation) {
                 Turn::Goes => {}
                 ended => return ended,
@@ -123,52 +161,129 @@ impl<F: Minifilter, B: Base> LocalManager<F, B> {
         Turn::Held
     }
 
-    // What is next for an operation: a callback, or the call of the file system.
-    fn turn(&mut self, operation: OpId) -> Turn {
-        let Ok(action) = self.desk.state.next(WORKER, operation) else {
-            return Turn::Held;
-        };
-        let _ = match action {
-            Action::Pre(instance, data) => self.pre(operation, instance, data),
-            Action::Base(call) => self.call(operation, call),
-            Action::Post(instance, data, completion) => {
-                self.post(operation, instance, data, completion)
+    // What is next for an operation, done.
+    fn turn(&mut self, operation: OpId) -> Turn
+        ensures turned { ArePlainFilters F.pre_may F.post_may F.is_quiet (numbered self.old.filters) → TurnsAs F.pre_may F.post_may (BasesCarry B.folder B.faults) (numbered self.old.filters) WORKER operation self.old.desk.state self.old.bases.items result self.new.desk.state self.new.bases.items }
+        ensures quiet { ArePlainFilters F.pre_may F.post_may F.is_quiet (numbered self.old.filters) → self.new.desk.resumed ≡ self.old.desk.resumed }
+        ensures kept { self.new ≡ record self.old { desk = self.new.desk; bases = self.new.bases; trace = self.new.trace; hand = self.new.hand; leaks = self.new.leaks } }
+    {
+        let said = self.desk.state.next(WORKER, operation);
+        self.act(operation, said)
+    }
+
+    // A callback, or the call of the file system.
+    fn act(&mut self, operation: OpId, said: Result<Action, Status>) -> Turn
+        ensures acts { ArePlainFilters F.pre_may F.post_may F.is_quiet (numbered self.old.filters) → Acts F.pre_may F.post_may (BasesCarry B.folder B.faults) (numbered self.old.filters) WORKER operation said self.old.desk.state self.old.bases.items result self.new.desk.state self.new.bases.items }
+        ensures quiet { ArePlainFilters F.pre_may F.post_may F.is_quiet (numbered self.old.filters) → self.new.desk.resumed ≡ self.old.desk.resumed }
+        ensures kept { self.new ≡ record self.old { desk = self.new.desk; bases = self.new.bases; trace = self.new.trace; hand = self.new.hand; leaks = self.new.leaks } }
+    {
+        match said {
+            Ok(Action::Pre(instance, data)) => {
+                let _ = self.pre(operation, instance, data);
+                Turn::Goes
             }
-            Action::Drain(instance, completion) => self.drain_next(operation, instance, completion),
-            Action::Moved => Ok(()),
-            Action::Held => return Turn::Held,
-            Action::Done => return Turn::Done,
-        };
-        Turn::Goes
+            Ok(Action::Base(call)) => {
+                let _ = self.call(operation, call);
+                Turn::Goes
+            }
+            Ok(Action::Post(instance, data, completion)) => {
+                let _ = self.post(operation, instance, data, completion);
+                Turn::Goes
+            }
+            Ok(Action::Drain(instance, completion)) => {
+                let _ = self.drain_next(operation, instance, completion);
+                Turn::Goes
+            }
+            Ok(Action::Moved) => Turn::Goes,
+            Ok(Action::Held) => Turn::Held,
+            Ok(Action::Done) => Turn::Done,
+            Err(_) => Turn::Held,
+        }
     }
 
     // Has the file system of the call's volume carry it out.
-    fn call(&mut self, operation: OpId, call: BaseCall) -> Result<(), Status> {
-        let answer = match self.bases.get_mut(usize::from(call.volume.0)) {
-            Some(base) => call_base(self.alloc, base, &call),
-            None => Answer {
-                status: Status::NoVolume,
-                information: 0,
-                bytes: Bytes::new(self.alloc),
-            },
-        };
+    fn call(&mut self, operation: OpId, call: BaseCall) -> Result<(), Status>
+        ensures does { Does F.pre_may F.post_may (BasesCarry B.folder B.faults) (numbered self.old.filters) WORKER operation (Ok (step.Base call)) self.old.desk.state self.old.bases.items self.new.desk.state self.new.bases.items }
+        ensures quiet { self.new.desk.resumed ≡ self.old.desk.resumed }
+        ensures kept { self.new ≡ record self.old { desk = self.new.desk; bases = self.new.bases; trace = self.new.trace } }
+    {
+        let answer = call_on(self.alloc, &mut self.bases, &call);
         self.note(operation, Visit::Base(answer.status));
+        self.end_call(call, answer)
+    }
+
+    // The end of a call of the file system.
+    fn end_call(&mut self, call: BaseCall, answer: Answer) -> Result<(), Status>
+        ensures event { BaseReturns self.old.desk.state WORKER call answer result self.new.desk.state }
+        ensures kept { self.new ≡ record self.old { desk = record self.old.desk { state = self.new.desk.state } } }
+    {
         match self.desk.state.base_returned(WORKER, call, answer) {
             Ok(()) => Ok(()),
             Err(refused) => Err(refused.status),
         }
     }
 
-    // Carries on what callbacks resumed, in the order of the resumptions, and then cleans up what is due.
-    pub(crate) fn settle(&mut self) {
+    /// Carries on what callbacks resumed, in the order of the resumptions, and then cleans up what is due.
+    pub(crate) fn settle(&mut self)
+        ensures tidies { self.old.desk.resumed.items.items ≡ [] → Tidies self.old.desk.state self.new.desk.state }
+        ensures kept { self.old.desk.resumed.items.items ≡ [] → (self.new.bases ≡ self.old.bases) × (self.new.filters ≡ self.old.filters) × (self.new.desk.resumed.items.items ≡ []) }
+    {
+        self.carry_on_resumed();
+        self.clean_up();
+    }
+
+    // Carries on what callbacks resumed; where they resumed nothing, nothing changes.
+    fn carry_on_resumed(&mut self)
+        ensures { self.old.desk.resumed.items.items ≡ [] → self.new ≡ self.old }
+    {
+        if self.desk.resumed.is_empty() {
+            return;
+        }
         for _ in 0..RESUMPTIONS {
             let Some(operation) = self.desk.resumed.take() else {
-                break;
+                return;
             };
             if let Turn::Done = self.carry(operation) {
                 self.finished.put(operation);
             }
         }
-        self.clean_up();
+    }
+}
+
+// The handle that a request closes.
+fn closed_handle(request: &Request) -> Option<HandleId>
+    ensures { result ≡ closed_handle request.now }
+{
+    match request {
+        Request::OnHandle { handle, request } => match request {
+            FileRequest::Close => Some(*handle),
+            _ => None,
+        },
+        Request::List { .. } | Request::Create { .. } => None,
+    }
+}
+
+// Whether a close goes on, where its cleanup was answered so.
+fn goes_on(cleanup: &Reply) -> bool
+    ensures { result ≡ goes_on cleanup.now }
+{
+    match cleanup {
+        Reply::Done { status, .. } => matches!(status, Status::Success | Status::WrongStep),
+        Reply::Held(_) => false,
+    }
+}
+
+// What the file system of the call's volume answers, if it is there.
+fn call_on<B: Base>(alloc: Global, bases: &mut Vec<B>, call: &BaseCall) -> Answer
+    ensures carried { BasesCarry B.folder B.faults bases.old.items call.now result bases.new.items }
+    ensures within { length result.bytes ≤ 32768 }
+{
+    match bases.get_mut(usize::from(call.volume.0)) {
+        Some(base) => call_base(alloc, base, call),
+        None => Answer {
+            status: Status::NoVolume,
+            information: 0,
+            bytes: Bytes::new(alloc),
+        },
     }
 }

@@ -1,0 +1,97 @@
+-- A manager that makes turn after turn of an operation carries it to its end.
+use Rattle.std.specs.Prelude.{◌≡◌, ◌+◌, ◌≤◌, ℕ, suc, Option, refl}
+use Rattle.std.proofs.Common.{sym, ap, subst, ◌∙◌, arith}
+use Rattle.fm_base.specs.Folders.{Folder}
+use Rattle.fm_data.specs.Data.{Data}
+use Rattle.fm_data.specs.declared.verdict.Completion.{Completion}
+use Rattle.fm_data.specs.declared.verdict.PreVerdict.{PreVerdict}
+use Rattle.fm_data.specs.declared.verdict.PostVerdict.{PostVerdict}
+use Rattle.fm_world.specs.Words.{OpId, WorkerId}
+use Rattle.fm_local.proofs.Lasting.{goes_on, ends_so, never_held, few_turns}
+use Rattle.fm_local.specs.Actions.{ArePlainFilters, CarriesIn, IsBegun, HasTurned, ResumesNone, TurnsAs}
+use Rattle.fm_local.specs.Bases.{BasesCarry}
+use Rattle.fm_local.specs.Managers.{numbered}
+use Rattle.fm_local.specs.declared.filters.Filters.{Filters}
+use Rattle.fm_local.specs.declared.manager.LocalManager.{LocalManager}
+use Rattle.fm_local.specs.declared.requests.Turn.{Turn}
+use Rattle.fm_local.specs.declared.requests.Turn.TheVariants as turn
+
+module _ {F B : Type 0} (pre : F → Data → PreVerdict → Data → Type 0) (post : F → Data → Completion → PostVerdict → Data → Type 0) (is_quiet : F → Type 0)
+    (folder : B → Option Folder) (faults : B → ℕ) (k : WorkerId) (o : OpId) where
+  -- all but what a turn may change is as it was
+  abbrev pub Keeps : LocalManager F B → LocalManager F B → Type 0
+  Keeps old new = new ≡ record old { desk = new.desk; bases = new.bases; trace = new.trace; hand = new.hand; leaks = new.leaks }
+
+  -- what a turn promises
+  abbrev pub TurnPromises : LocalManager F B → Turn → LocalManager F B → Type 0
+  TurnPromises old ended new =
+      ArePlainFilters pre post is_quiet (numbered old.filters)
+      → TurnsAs pre post (BasesCarry folder faults) (numbered old.filters) k o old.desk.state old.bases.items ended new.desk.state new.bases.items
+
+  abbrev pub Calm : LocalManager F B → LocalManager F B → Type 0
+  Calm old new = ResumesNone pre post is_quiet folder faults k old new
+
+  -- so many turns were made
+  pub record HasGone (old : LocalManager F B) (n : ℕ) (now : LocalManager F B) : Type 0 where
+    pub kept : Keeps old now
+    pub calm : Calm old now
+    pub turned : ArePlainFilters pre post is_quiet (numbered old.filters) → IsBegun k o old.desk.state
+        → HasTurned pre post (BasesCarry folder faults) (numbered old.filters) k o n old.desk.state old.bases.items now.desk.state now.bases.items
+
+  pub gone_none : (old : LocalManager F B) → HasGone old 0 old
+  gone_none old = record { kept = refl; calm = λ plain. refl; turned = λ plain began. (refl, refl) }
+
+  module _ (old now new : LocalManager F B) (n : ℕ) (gone : HasGone old n now) (ended : Turn) (promised : TurnPromises now ended new) (calm : Calm now new) (kept : Keeps now new) where
+    same_filters : now.filters ≡ old.filters
+    same_filters = ap (λ (m : LocalManager F B). m.filters) gone.kept
+
+    plain_now : ArePlainFilters pre post is_quiet (numbered old.filters) → ArePlainFilters pre post is_quiet (numbered now.filters)
+    plain_now plain = subst (λ (fs : Filters F). ArePlainFilters pre post is_quiet (numbered fs)) (sym same_filters) plain
+
+    pub kept_both : Keeps old new
+    kept_both = kept ∙ ap (λ (m : LocalManager F B). record m { desk = new.desk; bases = new.bases; trace = new.trace; hand = new.hand; leaks = new.leaks }) gone.kept
+
+    pub calm_both : Calm old new
+    calm_both plain = calm (plain_now plain) ∙ gone.calm plain
+
+    turns : ArePlainFilters pre post is_quiet (numbered old.filters)
+        → TurnsAs pre post (BasesCarry folder faults) (numbered old.filters) k o now.desk.state now.bases.items ended new.desk.state new.bases.items
+    turns plain = subst (λ (fs : Filters F). TurnsAs pre post (BasesCarry folder faults) (numbered fs) k o now.desk.state now.bases.items ended new.desk.state new.bases.items) same_filters
+        (promised (plain_now plain))
+
+    -- there is more to do
+    pub gone_more : ended ≡ turn.Goes → HasGone old (n + 1) new
+    gone_more is = record {
+      kept = kept_both;
+      calm = calm_both;
+      turned = λ plain began.
+          let same : suc n ≡ n + 1 = omega arith in
+          subst (λ (j : ℕ). HasTurned pre post (BasesCarry folder faults) (numbered old.filters) k o j old.desk.state old.bases.items new.desk.state new.bases.items) same
+          (goes_on pre post is_quiet (BasesCarry folder faults) (numbered old.filters) plain k o old.desk.state began n old.bases.items now.desk.state now.bases.items new.desk.state new.bases.items
+          (gone.turned plain began)
+          (subst (λ (t : Turn). TurnsAs pre post (BasesCarry folder faults) (numbered old.filters) k o now.desk.state now.bases.items t new.desk.state new.bases.items) is (turns plain)));
+    }
+
+    -- it ended
+    by_end : (t : Turn) → ended ≡ t → (t ≡ turn.Goes → ⊥) → CarriesIn pre post is_quiet folder faults k o old t new
+    by_end turn.Goes is not plain began = absurd (not refl)
+    by_end turn.Held is not plain began =
+        absurd (never_held pre post is_quiet (BasesCarry folder faults) (numbered old.filters) plain k o old.desk.state began n old.bases.items now.desk.state now.bases.items new.desk.state new.bases.items
+        (gone.turned plain began)
+        (subst (λ (t : Turn). TurnsAs pre post (BasesCarry folder faults) (numbered old.filters) k o now.desk.state now.bases.items t new.desk.state new.bases.items) is (turns plain)))
+    by_end turn.Done is not plain began =
+        let whole =
+        ends_so pre post is_quiet (BasesCarry folder faults) (numbered old.filters) plain k o old.desk.state began n old.bases.items now.desk.state now.bases.items new.desk.state new.bases.items
+        (gone.turned plain began)
+        (subst (λ (t : Turn). TurnsAs pre post (BasesCarry folder faults) (numbered old.filters) k o now.desk.state now.bases.items t new.desk.state new.bases.items) is (turns plain)) in
+        (refl, (n, whole))
+
+    pub gone_to_end : (ended ≡ turn.Goes → ⊥) → CarriesIn pre post is_quiet folder faults k o old ended new
+    gone_to_end not = by_end ended refl not
+
+  -- there are never so many turns
+  pub gone_too_far : (old now : LocalManager F B) (n : ℕ) → HasGone old n now → 66 ≤ n → CarriesIn pre post is_quiet folder faults k o old turn.Held now
+  gone_too_far old now n gone many plain began =
+      let few : n ≤ 65 =
+      few_turns pre post is_quiet (BasesCarry folder faults) (numbered old.filters) plain k o old.desk.state began n old.bases.items now.desk.state now.bases.items (gone.turned plain began) in
+      absurd (omega (arith, few, many))

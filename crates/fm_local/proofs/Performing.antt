@@ -1,0 +1,118 @@
+-- A request that a manager carries to its reply, by what its functions promise.
+use Rattle.std.specs.Prelude.{◌≡◌, ℕ, List, cond, [], Option, Result, Ok, Err, refl}
+use Rattle.std.proofs.Common.{sym, ap, subst, ◌∙◌}
+use Rattle.fm_types.specs.declared.status.Status.{Status}
+use Rattle.fm_types.specs.declared.status.Status.TheVariants as status
+use Rattle.fm_data.specs.Data.{Data}
+use Rattle.fm_data.specs.declared.answer.Answer.{Answer}
+use Rattle.fm_data.specs.declared.base_call.BaseCall.{BaseCall}
+use Rattle.fm_base.specs.Folders.{Folder}
+use Rattle.fm_data.specs.declared.request.Reply.{Reply}
+use Rattle.fm_data.specs.declared.request.Request.{Request}
+use Rattle.fm_flow.specs.Answered.{bare_answer}
+use Rattle.fm_world.specs.Sound.{IsSound}
+use Rattle.fm_data.specs.declared.verdict.Completion.{Completion}
+use Rattle.fm_data.specs.declared.verdict.PreVerdict.{PreVerdict}
+use Rattle.fm_data.specs.declared.verdict.PostVerdict.{PostVerdict}
+use Rattle.fm_flow.specs.Table.{collect_reply}
+use Rattle.fm_world.proofs.Runs.{step_keeps}
+use Rattle.fm_world.specs.Events.{Begins, Collects}
+use Rattle.fm_world.specs.Words.{OpId, WorkerId}
+use Rattle.fm_world.specs.World.{World}
+use Rattle.fm_world.specs.declared.step.Step.TheVariants as step
+use Rattle.fm_world.specs.declared.step.StepReply.TheVariants as said
+use Rattle.fm_local.proofs.Alone.{told_alone}
+use Rattle.fm_local.proofs.Carried.{carried}
+use Rattle.fm_local.proofs.Begun.{start, first, going}
+use Rattle.fm_local.proofs.Performed.{collectable}
+use Rattle.fm_local.proofs.CarriedOn.{Keeps}
+use Rattle.fm_local.proofs.Tidying.{tidies_none}
+use Rattle.fm_local.specs.Actions.{ArePlainFilters, CarriesIn, IsBegun, IsReady, PerformsIn, ResumesNone, RunsIn, reply_of, replied}
+use Rattle.fm_local.specs.Bases.{BasesCarry}
+use Rattle.fm_local.specs.Managers.{numbered}
+use Rattle.fm_local.specs.Requests.{Tidies}
+use Rattle.fm_local.specs.declared.manager.LocalManager.{LocalManager}
+use Rattle.fm_local.specs.declared.requests.Turn.{Turn}
+use Rattle.fm_local.specs.declared.requests.Turn.TheVariants as turn
+use Rattle.fm_local.specs.Chains.{subject_of}
+use Rattle.fm_local.specs.Turns.{Carries}
+
+module _ {F D : Type 0} (pre : F → Data → PreVerdict → Data → Type 0) (post : F → Data → Completion → PostVerdict → Data → Type 0) (is_quiet : F → Type 0)
+    (carries : D → BaseCall → Answer → D → Type 0) (filters : ℕ → Option F) (k : WorkerId) (plain : ArePlainFilters pre post is_quiet filters) (o : OpId) (begun : World)
+    (began : IsBegun k o begun) (n : ℕ) (d : D) (done : World) (e : D) (carries_it : Carries pre post carries filters k o n begun d done e) where
+  -- an operation that is carried to its end has an answer to be taken
+  pub answer_there : (collected : Result Answer Status) (new : World) → Collects done o collected new → (answer : Answer) × (collected ≡ Ok answer)
+  unfolding Collects
+  answer_there collected new h =
+      let here = began in
+      let r = first k o here.what here.before here.rests begun here.begins in
+      let ended = carried pre post is_quiet carries filters plain k o (subject_of r) here.before.stack here.calm n r begun d (going k o here.what here.before here.rests begun here.begins)
+      (step_keeps here.before (step.Begin here.what) (said.Operation (Ok o)) begun here.begins here.sound) (start k o here.what here.before here.rests begun here.begins).stack done e carries_it in (
+        ended.last.answer,
+        h.0 ∙ told_alone o ended.last done.flow ended.alone collect_reply (Err status.WrongStep)
+            ∙ ap (λ b. cond b (Ok ended.last.answer) (Err status.WrongStep)) (collectable ended.last ended.ascends ended.owes ended.uncollected),
+      )
+
+module _ {F B : Type 0} (pre : F → Data → PreVerdict → Data → Type 0) (post : F → Data → Completion → PostVerdict → Data → Type 0) (is_quiet : F → Type 0)
+    (folder : B → Option Folder) (faults : B → ℕ) (k : WorkerId) where
+  -- what a reply is taken from
+  abbrev Replies : OpId → LocalManager F B → Reply → LocalManager F B → Type 0
+  Replies o old said new = (collected : Result Answer Status) × Collects old.desk.state o collected new.desk.state × (said ≡ reply_of collected)
+
+  -- an operation is carried to its end, its answer is taken, and what is due is cleaned up
+  module _ (o : OpId) (old now taken new : LocalManager F B) (ended : Turn) (said : Reply) (carried : CarriesIn pre post is_quiet folder faults k o old ended now)
+      (calm : ResumesNone pre post is_quiet folder faults k old now) (kept : Keeps pre post is_quiet folder faults k o old now) (replies : ended ≡ turn.Done → Replies o now said taken)
+      (keeps : taken ≡ record now { desk = record now.desk { state = taken.desk.state }; trace = taken.trace })
+      (tidies : taken.desk.resumed.items.items ≡ [] → Tidies taken.desk.state new.desk.state)
+      (settles : taken.desk.resumed.items.items ≡ [] → (new.bases ≡ taken.bases) × (new.filters ≡ taken.filters) × (new.desk.resumed.items.items ≡ [])) where
+    pub runs : ArePlainFilters pre post is_quiet (numbered old.filters) → IsBegun k o old.desk.state → old.desk.resumed.items.items ≡ [] → RunsIn pre post is_quiet folder faults k o old said new
+    runs plain began settled =
+        let c = carried plain began in
+        let r = replies c.0 in
+        let none : taken.desk.resumed.items.items ≡ [] =
+        ap (λ (m : LocalManager F B). m.desk.resumed.items.items) keeps ∙ ap (λ q. q.items.items) (calm plain) ∙ settled in
+        let s = settles none in
+        let bases : now.bases.items ≡ new.bases.items = ap (λ bs. bs.items) (sym (s.0 ∙ ap (λ (m : LocalManager F B). m.bases) keeps)) in
+        let there = answer_there pre post is_quiet (BasesCarry folder faults) (numbered old.filters) k plain o old.desk.state began c.1.0 old.bases.items now.desk.state now.bases.items c.1.1
+        r.0 taken.desk.state r.1 in
+        record {
+          answer = there.0;
+          says = r.2 ∙ ap reply_of there.1;
+          turns = c.1.0;
+          done = now.desk.state;
+          mid = taken.desk.state;
+          carries = subst (λ (bs : List B). Carries pre post (BasesCarry folder faults) (numbered old.filters) k o c.1.0 old.desk.state old.bases.items now.desk.state bs) bases c.1.1;
+          collects = subst (λ (a : Result Answer Status). Collects now.desk.state o a taken.desk.state) there.1 r.1;
+          tidies = tidies none;
+          filters = s.1 ∙ ap (λ (m : LocalManager F B). m.filters) keeps ∙ ap (λ (m : LocalManager F B). m.filters) kept;
+          settled = s.2;
+        }
+
+  module _ (what : Request) (old : LocalManager F B) (ready : IsReady pre post is_quiet folder faults k old) (begun : World) where
+    abbrev now : LocalManager F B
+    now = record old { desk = record old.desk { state = begun } }
+
+    -- a request that begins
+    pub performs_begun : (o : OpId) (said : Reply) (new : LocalManager F B) → IsSound old.desk.state → Begins old.desk.state what (Ok o) begun
+        → (ArePlainFilters pre post is_quiet (numbered old.filters) → IsBegun k o begun → old.desk.resumed.items.items ≡ [] → RunsIn pre post is_quiet folder faults k o now said new)
+        → PerformsIn pre post is_quiet folder faults k what old said new
+    performs_begun o said new sound begins runs_it =
+        let began : IsBegun k o begun = record { what = what; before = old.desk.state; sound = sound; rests = ready.rests; calm = ready.calm; begins = begins } in
+        let r = runs_it ready.plain began ready.settled in
+        record {
+          answer = r.answer;
+          says = r.says;
+          does = (r.mid, (Ok o, begun, begins, (r.turns, r.done, r.carries, r.collects)), r.tidies);
+          filters = r.filters;
+          settled = r.settled;
+        }
+
+    -- a request that can't begin
+    pub performs_refused : (why : Status) → Begins old.desk.state what (Err why) begun → PerformsIn pre post is_quiet folder faults k what old (replied (bare_answer why)) now
+    performs_refused why begins = record {
+      answer = bare_answer why;
+      says = refl;
+      does = (begun, (Err why, begun, begins, (refl, refl, refl)), tidies_none begun);
+      filters = refl;
+      settled = ready.settled;
+    }

@@ -3,6 +3,7 @@
 use fm_altitude::Altitude;
 use fm_base::MemoryBase;
 use fm_data::{FileRequest, Reply, Request};
+use fm_filter::Minifilter;
 use fm_local::LocalManager;
 use fm_samples::Sample;
 use fm_types::{
@@ -122,7 +123,12 @@ pub fn see(rt: &impl Abort, reply: &Reply, wanted: Told) {
 }
 
 /// Makes the requests one after the other, and sees to it that each gets its reply.
-pub fn ask_all(rt: &impl Abort, alloc: Global, manager: &mut Samples, lines: &[Line]) {
+pub fn ask_all<F: Minifilter>(
+    rt: &impl Abort,
+    alloc: Global,
+    manager: &mut LocalManager<F, MemoryBase>,
+    lines: &[Line],
+) {
     for (ask, told) in lines {
         let reply = manager.answer(request_of(rt, alloc, *ask));
         see(rt, &reply, *told);

@@ -4,6 +4,10 @@
 #[cfg(test)]
 mod asked;
 #[cfg(test)]
+mod forgets;
+#[cfg(test)]
+mod report_tests;
+#[cfg(test)]
 mod sample_tests;
 #[cfg(test)]
 mod teardown_tests;

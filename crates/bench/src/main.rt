@@ -1,10 +1,11 @@
-//! Measures parts of the house: `bench memory`, `queue`, `gate` or `wire`, and behind it a number that says how much is done; the figures are printed.
+//! Measures parts of the house: `bench memory`, `queue`, `gate`, `wire` or `local`, and behind it a number that says how much is done; the figures are printed.
 //! Given no word, it does a little of each and prints nothing.
 #![tactic(auto)]
 
 mod gate;
 mod gated;
 mod listed;
+mod local;
 mod locked;
 mod memory;
 mod queue;
@@ -29,13 +30,15 @@ fn main(rt: HostRuntime) -> io::Result<()> {
             memory::measure(&rt, None)?;
             queue::measure(&rt, &rt, None)?;
             gate::measure(&rt, &rt, None)?;
-            wire::measure(&rt, None)
+            wire::measure(&rt, None)?;
+            local::measure(&rt, None)
         }
         Some(part) => match part.as_str() {
             "memory" => memory::measure(&rt, count),
             "queue" => queue::measure(&rt, &rt, count),
             "gate" => gate::measure(&rt, &rt, count),
             "wire" => wire::measure(&rt, count),
+            "local" => local::measure(&rt, count),
             _ => Err(io::Error::from(io::ErrorKind::InvalidInput)),
         },
     }

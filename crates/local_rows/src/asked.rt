@@ -46,6 +46,7 @@ pub enum Told<'a> {
 /// A request, and its reply.
 pub type Line<'a> = (Ask<'a>, Told<'a>);
 
+/// The name of these letters.
 pub fn named(rt: &impl Abort, text: &[u8]) -> Name {
     Name::read(text).expect(rt, "a name")
 }

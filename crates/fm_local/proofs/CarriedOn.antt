@@ -8,7 +8,7 @@ use Rattle.fm_data.specs.declared.verdict.PreVerdict.{PreVerdict}
 use Rattle.fm_data.specs.declared.verdict.PostVerdict.{PostVerdict}
 use Rattle.fm_world.specs.Words.{OpId, WorkerId}
 use Rattle.fm_local.proofs.Lasting.{goes_on, ends_so, never_held, few_turns}
-use Rattle.fm_local.specs.Actions.{ArePlainFilters, CarriesIn, IsBegun, HasTurned, ResumesNone, TurnsAs}
+use Rattle.fm_local.specs.Actions.{ArePlainFilters, CarriesIn, IsBegun, HasTurned, IsDoneAt, ResumesNone, TurnsAs}
 use Rattle.fm_local.specs.Bases.{BasesCarry}
 use Rattle.fm_local.specs.Managers.{numbered}
 use Rattle.fm_local.specs.declared.filters.Filters.{Filters}
@@ -37,11 +37,13 @@ module _ {F B : Type 0} (pre : F → Data → PreVerdict → Data → Type 0) (p
     pub calm : Calm old now
     pub turned : ArePlainFilters pre post is_quiet (numbered old.filters) → IsBegun k o old.desk.state
         → HasTurned pre post (BasesCarry folder faults) (numbered old.filters) k o n old.desk.state old.bases.items now.desk.state now.bases.items
+    pub at_end : IsDoneAt k o old.desk.state → (n ≡ 0) × (now ≡ old)
 
   pub gone_none : (old : LocalManager F B) → HasGone old 0 old
-  gone_none old = record { kept = refl; calm = λ plain. refl; turned = λ plain began. (refl, refl) }
+  gone_none old = record { kept = refl; calm = λ plain. refl; turned = λ plain began. (refl, refl); at_end = λ done. (refl, refl) }
 
-  module _ (old now new : LocalManager F B) (n : ℕ) (gone : HasGone old n now) (ended : Turn) (promised : TurnPromises now ended new) (calm : Calm now new) (kept : Keeps now new) where
+  module _ (old now new : LocalManager F B) (n : ℕ) (gone : HasGone old n now) (ended : Turn) (promised : TurnPromises now ended new) (calm : Calm now new) (kept : Keeps now new)
+      (at_once : IsDoneAt k o now.desk.state → (ended ≡ turn.Done) × (new ≡ now)) where
     same_filters : now.filters ≡ old.filters
     same_filters = ap (λ (m : LocalManager F B). m.filters) gone.kept
 
@@ -59,6 +61,18 @@ module _ {F B : Type 0} (pre : F → Data → PreVerdict → Data → Type 0) (p
     turns plain = subst (λ (fs : Filters F). TurnsAs pre post (BasesCarry folder faults) (numbered fs) k o now.desk.state now.bases.items ended new.desk.state new.bases.items) same_filters
         (promised (plain_now plain))
 
+    -- where nothing was left to do, that was said at once
+    pub done_at_once : IsDoneAt k o old.desk.state → (ended ≡ turn.Done) × (new ≡ old)
+    done_at_once done =
+        let g = gone.at_end done in
+        let d = at_once (subst (λ (m : LocalManager F B). IsDoneAt k o m.desk.state) (sym g.1) done) in
+        (d.0, d.1 ∙ g.1)
+
+    more_not_done : ended ≡ turn.Goes → IsDoneAt k o old.desk.state → (n + 1 ≡ 0) × (new ≡ old)
+    more_not_done is done =
+        let clash : turn.Done ≡ turn.Goes = sym (done_at_once done).0 ∙ is in
+        cc
+
     -- there is more to do
     pub gone_more : ended ≡ turn.Goes → HasGone old (n + 1) new
     gone_more is = record {
@@ -70,6 +84,7 @@ module _ {F B : Type 0} (pre : F → Data → PreVerdict → Data → Type 0) (p
           (goes_on pre post is_quiet (BasesCarry folder faults) (numbered old.filters) plain k o old.desk.state began n old.bases.items now.desk.state now.bases.items new.desk.state new.bases.items
           (gone.turned plain began)
           (subst (λ (t : Turn). TurnsAs pre post (BasesCarry folder faults) (numbered old.filters) k o now.desk.state now.bases.items t new.desk.state new.bases.items) is (turns plain)));
+      at_end = more_not_done is;
     }
 
     -- it ended
@@ -95,3 +110,6 @@ module _ {F B : Type 0} (pre : F → Data → PreVerdict → Data → Type 0) (p
       let few : n ≤ 65 =
       few_turns pre post is_quiet (BasesCarry folder faults) (numbered old.filters) plain k o old.desk.state began n old.bases.items now.desk.state now.bases.items (gone.turned plain began) in
       absurd (omega (arith, few, many))
+
+  pub far_not_done : (old now : LocalManager F B) (n : ℕ) → HasGone old n now → 66 ≤ n → IsDoneAt k o old.desk.state → (turn.Held ≡ turn.Done) × (now ≡ old)
+  far_not_done old now n gone many done = absurd (omega (arith, (gone.at_end done).0, many))

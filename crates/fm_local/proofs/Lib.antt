@@ -10,6 +10,7 @@ pub mod Carried
 pub mod Begun
 pub mod Beside
 pub mod Lasting
+pub mod Ending
 pub mod CarriedOn
 pub mod Performed
 pub mod Successes

@@ -1,5 +1,6 @@
 -- What a manager does of what its state says is next: how a turn of an operation ends, and where turn after turn leads.
-use Rattle.std.specs.Prelude.{◌≡◌, ℕ, zero, suc, Bool, true, false, List, [], ◌∷◌, map, Option, Some, None, Result, Ok, Err}
+use Rattle.std.specs.Prelude.{◌≡◌, ◌<◌, ℕ, zero, suc, Bool, true, false, List, [], ◌∷◌, length, map, Option, Some, None, Result, Ok, Err}
+use Rattle.std.specs.VecDeque.{deque_capacity}
 use Rattle.fm_types.specs.declared.ids.HandleId.{HandleId}
 use Rattle.fm_types.specs.declared.status.Status.{Status}
 use Rattle.fm_types.specs.declared.status.Status.TheVariants as status
@@ -63,6 +64,10 @@ pub record IsBegun (k : WorkerId) (o : OpId) (begun : World) : Type 0 where
   pub calm : NoneStops before.stack
   pub begins : Begins before what (Ok o) begun
 
+-- nothing is left to do for an operation: the state says that it is done
+abbrev pub IsDoneAt : WorkerId → OpId → World → Type 0
+IsDoneAt k o w = (same : World) × Nexts w k o (Ok action.Done) same
+
 -- an answer as a reply
 abbrev pub replied : Answer → Reply
 replied answer = reply.Done answer.status answer.information answer.bytes
@@ -95,6 +100,12 @@ module _ {F B : Type 0} (pre : F → Data → PreVerdict → Data → Type 0) (p
     pub rests : IsAtRest k m.desk.state
     pub calm : NoneStops m.desk.state.stack
     pub settled : m.desk.resumed.items.items ≡ []
+
+  -- one operation waits to be carried on, of which nothing is left to do, and there is room to note its end
+  pub record WaitsAtEnd (o : OpId) (m : LocalManager F B) : Type 0 where
+    pub waits : m.desk.resumed.items.items ≡ o ∷ []
+    pub done : IsDoneAt k o m.desk.state
+    pub room : length m.finished.items.items < deque_capacity m.finished.items
 
   -- an operation is carried to its end
   abbrev pub CarriesIn : OpId → LocalManager F B → Turn → LocalManager F B → Type 0

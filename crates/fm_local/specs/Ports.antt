@@ -1,5 +1,6 @@
 -- What a callback's resumptions through its port may answer beyond what the events say.
 use Rattle.std.specs.Prelude.{Bool, not, length, nat_le, Result}
+use Rattle.std.specs.VecDeque.{deque_capacity}
 use Rattle.fm_types.specs.declared.ids.OpId.{OpId}
 use Rattle.fm_types.specs.declared.ids.WorkerId.{WorkerId}
 use Rattle.fm_types.specs.declared.status.Status.{Status}
@@ -10,7 +11,7 @@ use Rattle.fm_local.specs.declared.local_port.Desk.{Desk}
 
 -- whether there is room to note one more resumed operation
 abbrev pub has_room : Desk → Bool
-has_room desk = not (nat_le desk.resumed.limit (length desk.resumed.items.items))
+has_room desk = not (nat_le (deque_capacity desk.resumed.items) (length desk.resumed.items.items))
 
 -- refused where there is no room, and else the event
 abbrev pub ResumesPreIn : Desk → WorkerId → OpId → PreVerdict → Result (Unit {0}) Status → Desk → Type 0

@@ -1,6 +1,7 @@
 //! Queues that take their memory once.
 
-ghost use Rattle.std.specs.Prelude.{◌≡◌, ◌↔◌, ◌<◌, ◌≤◌, ◌++◌, ◌∷◌, [], IfOk, IsTrue, length, nat_le, slice_get};
+ghost use Rattle.std.specs.Prelude.{◌≡◌, ◌↔◌, ◌<◌, ◌≤◌, ◌++◌, ◌∷◌, [], IfOk, IsTrue, drop, length, nat_le, slice_get};
+ghost use Rattle.std.specs.VecDeque.{deque_capacity};
 
 use std::alloc::{AllocError, Global};
 use std::collections::VecDeque;
@@ -9,7 +10,6 @@ use std::collections::VecDeque;
 #[derive(Drop)]
 pub struct Bounded<T> {
     items: VecDeque<T>,
-    limit: usize,
 }
 
 impl<T: Copy> Bounded<T> {
@@ -18,7 +18,7 @@ impl<T: Copy> Bounded<T> {
         ensures { IfOk result (λ queue. queue.items.items ≡ []) }
     {
         let items = VecDeque::with_capacity(alloc, limit)?;
-        Ok(Bounded { items, limit })
+        Ok(Bounded { items })
     }
 
     /// How many items wait.
@@ -37,9 +37,9 @@ impl<T: Copy> Bounded<T> {
 
     /// Whether there is no room for one more.
     pub fn is_full(&self) -> bool
-        ensures { result ≡ nat_le self.now.limit (length self.now.items.items) }
+        ensures { result ≡ nat_le (deque_capacity self.now.items) (length self.now.items.items) }
     {
-        self.items.len() >= self.limit
+        self.items.len() >= self.items.capacity()
     }
 
     /// The item at that place, the one put longest ago first.
@@ -50,7 +50,9 @@ impl<T: Copy> Bounded<T> {
     }
 
     /// Puts an item behind the others; where there is no room it goes in the place of the one put longest ago.
-    pub fn put(&mut self, item: T) {
+    pub fn put(&mut self, item: T)
+        ensures { length self.old.items.items < deque_capacity self.old.items → self.new.items.items ≡ self.old.items.items ++ item ∷ [] }
+    {
         if self.is_full() {
             let _ = self.items.pop_front();
         }
@@ -59,7 +61,8 @@ impl<T: Copy> Bounded<T> {
 
     /// Takes the item put longest ago.
     pub fn take(&mut self) -> Option<T>
-        ensures { result ≡ slice_get self.old.items.items 0 }
+        ensures first { result ≡ slice_get self.old.items.items 0 }
+        ensures rest { self.new.items.items ≡ drop 1 self.old.items.items }
     {
         self.items.pop_front()
     }

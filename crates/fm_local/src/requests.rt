@@ -1,11 +1,12 @@
 //! Requests, each carried from its first callback to its reply.
 
-ghost use Rattle.std.specs.Prelude.{◌≡◌, ◌≤◌, ℕ, [], Result, length};
+ghost use Rattle.std.specs.Prelude.{◌≡◌, ◌<◌, ◌≤◌, ◌++◌, ◌∷◌, ℕ, [], Ok, Result, length};
+ghost use Rattle.std.specs.VecDeque.{deque_capacity};
 ghost use Rattle.fm_data.specs.declared.request.FileRequest.TheVariants as asked;
 ghost use Rattle.fm_data.specs.declared.request.Request.TheVariants as client;
 ghost use Rattle.fm_flow.specs.Answered.{bare_answer};
 ghost use Rattle.fm_flow.specs.declared.action.FlowAction.TheVariants as step;
-ghost use Rattle.fm_local.specs.Actions.{Acts, AnswersIn, ArePlainFilters, CarriesIn, IsBegun, IsReady, PerformsIn, ResumesNone, RunsIn, TurnsAs, closed_handle, goes_on, reply_of, replied};
+ghost use Rattle.fm_local.specs.Actions.{Acts, AnswersIn, ArePlainFilters, CarriesIn, IsBegun, IsDoneAt, IsReady, PerformsIn, ResumesNone, RunsIn, TurnsAs, WaitsAtEnd, closed_handle, goes_on, reply_of, replied};
 ghost use Rattle.fm_local.specs.Bases.{BasesCarry};
 ghost use Rattle.fm_local.specs.Managers.{numbered};
 ghost use Rattle.fm_local.specs.Requests.{Tidies};
@@ -151,6 +152,7 @@ impl<F: Minifilter, B: Base> LocalManager<F, B> {
         ensures carried { CarriesIn F.pre_may F.post_may F.is_quiet B.folder B.faults WORKER operation self.old result self.new }
         ensures quiet { ResumesNone F.pre_may F.post_may F.is_quiet B.folder B.faults WORKER self.old self.new }
         ensures kept { self.new ≡ record self.old { desk = self.new.desk; bases = self.new.bases; trace = self.new.trace; hand = self.new.hand; leaks = self.new.leaks } }
+        ensures at_once { IsDoneAt WORKER operation self.old.desk.state → (result ≡ Turn.Done) × (self.new ≡ self.old) }
     {
         for _made in 0..TURNS {
             match self.turn(operation) {
@@ -166,6 +168,7 @@ impl<F: Minifilter, B: Base> LocalManager<F, B> {
         ensures turned { ArePlainFilters F.pre_may F.post_may F.is_quiet (numbered self.old.filters) → TurnsAs F.pre_may F.post_may (BasesCarry B.folder B.faults) (numbered self.old.filters) WORKER operation self.old.desk.state self.old.bases.items result self.new.desk.state self.new.bases.items }
         ensures quiet { ArePlainFilters F.pre_may F.post_may F.is_quiet (numbered self.old.filters) → self.new.desk.resumed ≡ self.old.desk.resumed }
         ensures kept { self.new ≡ record self.old { desk = self.new.desk; bases = self.new.bases; trace = self.new.trace; hand = self.new.hand; leaks = self.new.leaks } }
+        ensures at_once { IsDoneAt WORKER operation self.old.desk.state → (result ≡ Turn.Done) × (self.new ≡ self.old) }
     {
         let said = self.desk.state.next(WORKER, operation);
         self.act(operation, said)
@@ -176,6 +179,7 @@ impl<F: Minifilter, B: Base> LocalManager<F, B> {
         ensures acts { ArePlainFilters F.pre_may F.post_may F.is_quiet (numbered self.old.filters) → Acts F.pre_may F.post_may (BasesCarry B.folder B.faults) (numbered self.old.filters) WORKER operation said self.old.desk.state self.old.bases.items result self.new.desk.state self.new.bases.items }
         ensures quiet { ArePlainFilters F.pre_may F.post_may F.is_quiet (numbered self.old.filters) → self.new.desk.resumed ≡ self.old.desk.resumed }
         ensures kept { self.new ≡ record self.old { desk = self.new.desk; bases = self.new.bases; trace = self.new.trace; hand = self.new.hand; leaks = self.new.leaks } }
+        ensures at_once { said ≡ Ok step.Done → (result ≡ Turn.Done) × (self.new ≡ self.old) }
     {
         match said {
             Ok(Action::Pre(instance, data)) => {
@@ -226,26 +230,35 @@ impl<F: Minifilter, B: Base> LocalManager<F, B> {
     /// Carries on what callbacks resumed, in the order of the resumptions, and then cleans up what is due.
     pub(crate) fn settle(&mut self)
         ensures tidies { self.old.desk.resumed.items.items ≡ [] → Tidies self.old.desk.state self.new.desk.state }
+        ensures carries_on { (o : OpId) → WaitsAtEnd F.pre_may F.post_may F.is_quiet B.folder B.faults WORKER o self.old → self.new.finished.items.items ≡ self.old.finished.items.items ++ o ∷ [] }
         ensures kept { self.old.desk.resumed.items.items ≡ [] → (self.new.bases ≡ self.old.bases) × (self.new.filters ≡ self.old.filters) × (self.new.desk.resumed.items.items ≡ []) }
     {
         self.carry_on_resumed();
         self.clean_up();
     }
 
-    // Carries on what callbacks resumed; where they resumed nothing, nothing changes.
+    // Carries on what callbacks resumed; where they resumed nothing, nothing changes. One that waits alone, of which nothing is left to do, is finished.
     fn carry_on_resumed(&mut self)
-        ensures { self.old.desk.resumed.items.items ≡ [] → self.new ≡ self.old }
+        ensures none { self.old.desk.resumed.items.items ≡ [] → self.new ≡ self.old }
+        ensures one { (o : OpId) → WaitsAtEnd F.pre_may F.post_may F.is_quiet B.folder B.faults WORKER o self.old → self.new.finished.items.items ≡ self.old.finished.items.items ++ o ∷ [] }
     {
         if self.desk.resumed.is_empty() {
             return;
         }
-        for _ in 0..RESUMPTIONS {
+        for _made in 0..RESUMPTIONS {
             let Some(operation) = self.desk.resumed.take() else {
                 return;
             };
-            if let Turn::Done = self.carry(operation) {
-                self.finished.put(operation);
-            }
+            self.carry_on(operation);
+        }
+    }
+
+    // Carries on an operation that was resumed, and notes its end.
+    fn carry_on(&mut self, operation: OpId)
+        ensures { IsDoneAt WORKER operation self.old.desk.state → length self.old.finished.items.items < deque_capacity self.old.finished.items → (self.new.desk ≡ self.old.desk) × (self.new.finished.items.items ≡ self.old.finished.items.items ++ operation ∷ []) }
+    {
+        if let Turn::Done = self.carry(operation) {
+            self.finished.put(operation);
         }
     }
 }

@@ -1,4 +1,4 @@
-use Rattle.fm_local.proofs.CarriedOn.{gone_none, gone_more, gone_to_end, gone_too_far, kept_both, calm_both}
+use Rattle.fm_local.proofs.CarriedOn.{gone_none, gone_more, gone_to_end, gone_too_far, far_not_done, done_at_once, kept_both, calm_both}
 use Rattle.fm_local.proofs.manager.LocalManager.carry.Goals as goal
 use Rattle.fm_local.specs.declared.manager.TheConstants.{WORKER}
 
@@ -10,17 +10,19 @@ returns-in_default g c =
     let turned = c.turn.ensures in
     record {
       carried = gone_to_end g.F.Minifilter.pre_may g.F.Minifilter.post_may g.F.Minifilter.is_quiet g.B.Base.folder g.B.Base.faults WORKER c.args.operation c.args.self.now c.loop-made.self
-          c.turn.new.self c.loop-made._made c.loop-made.invariant c.turn.result turned.turned turned.quiet turned.kept c.in_default.not-Goes;
+          c.turn.new.self c.loop-made._made c.loop-made.invariant c.turn.result turned.turned turned.quiet turned.kept turned.at_once c.in_default.not-Goes;
       quiet = calm_both g.F.Minifilter.pre_may g.F.Minifilter.post_may g.F.Minifilter.is_quiet g.B.Base.folder g.B.Base.faults WORKER c.args.operation c.args.self.now c.loop-made.self
-          c.turn.new.self c.loop-made._made c.loop-made.invariant c.turn.result turned.turned turned.quiet turned.kept;
+          c.turn.new.self c.loop-made._made c.loop-made.invariant c.turn.result turned.turned turned.quiet turned.kept turned.at_once;
       kept = kept_both g.F.Minifilter.pre_may g.F.Minifilter.post_may g.F.Minifilter.is_quiet g.B.Base.folder g.B.Base.faults WORKER c.args.operation c.args.self.now c.loop-made.self
-          c.turn.new.self c.loop-made._made c.loop-made.invariant c.turn.result turned.turned turned.quiet turned.kept;
+          c.turn.new.self c.loop-made._made c.loop-made.invariant c.turn.result turned.turned turned.quiet turned.kept turned.at_once;
+      at_once = done_at_once g.F.Minifilter.pre_may g.F.Minifilter.post_may g.F.Minifilter.is_quiet g.B.Base.folder g.B.Base.faults WORKER c.args.operation c.args.self.now c.loop-made.self
+          c.turn.new.self c.loop-made._made c.loop-made.invariant c.turn.result turned.turned turned.quiet turned.kept turned.at_once;
     }
 
 pub loop-made-preserved : goal.loop-made-preserved
 loop-made-preserved g c =
     gone_more g.F.Minifilter.pre_may g.F.Minifilter.post_may g.F.Minifilter.is_quiet g.B.Base.folder g.B.Base.faults WORKER c.args.operation c.args.self.now c.loop-made.self c.turn.new.self
-    c.loop-made._made c.loop-made.invariant c.turn.result c.turn.ensures.turned c.turn.ensures.quiet c.turn.ensures.kept c.in-Goes.is
+    c.loop-made._made c.loop-made.invariant c.turn.result c.turn.ensures.turned c.turn.ensures.quiet c.turn.ensures.kept c.turn.ensures.at_once c.in-Goes.is
 
 pub returns-clause-carried : goal.returns-clause-carried
 returns-clause-carried g c =
@@ -32,3 +34,8 @@ returns-clause-quiet g c = c.loop-made.invariant.calm
 
 pub returns-clause-kept : goal.returns-clause-kept
 returns-clause-kept g c = c.loop-made.invariant.kept
+
+pub returns-clause-at_once : goal.returns-clause-at_once
+returns-clause-at_once g c =
+    far_not_done g.F.Minifilter.pre_may g.F.Minifilter.post_may g.F.Minifilter.is_quiet g.B.Base.folder g.B.Base.faults WORKER c.args.operation c.args.self.now c.loop-made.self
+    c.loop-made._made c.loop-made.invariant c.loop-made-test.false

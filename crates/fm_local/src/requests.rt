@@ -45,7 +45,8 @@ impl<F: Minifilter, B: Base> LocalManager<F, B> {
     /// Answers a request: the operation goes down through the instances of its volume to the file system and back up. `Held` says that a filter holds it:
     /// its reply comes from `finished`, once a callback has resumed it. Close is a cleanup, unless that began before, and then the close itself; where the
     /// cleanup is held it is the one that `Held` names, and the request is to be made again. A request that can't begin is answered with the status of its
-    /// refusal, and changes nothing.
+    /// refusal, and changes nothing. A manager that is ready (all its filters plain, nothing under way or being torn down) answers with the fold of its
+    /// filters over its file systems, never with `Held`, and is ready again.
     pub fn answer(&mut self, request: Request) -> Reply
         ensures fold { IsReady F.pre_may F.post_may F.is_quiet B.folder B.faults WORKER self.old → AnswersIn F.pre_may F.post_may F.is_quiet B.folder B.faults WORKER request self.old result self.new }
     {

@@ -1,6 +1,6 @@
 //! A filter whose reads take a context along.
 
-ghost use Rattle.std.specs.Prelude.{◌≡◌};
+ghost use Rattle.std.specs.Prelude.{◌≡◌, ◌∷◌, [], IfOk};
 
 use crate::common::set_unless_there;
 use fm_data::{CallbackData, Completion, Params, PostVerdict, PreVerdict};
@@ -23,7 +23,9 @@ impl Carry {
     }
 
     // A body of one byte.
-    fn blank(&self) -> Result<Bytes, AllocError> {
+    fn blank(&self) -> Result<Bytes, AllocError>
+        ensures { IfOk result (λ body. body ≡ 0 ∷ []) }
+    {
         Bytes::copy_of(self.alloc, &[0])
     }
 

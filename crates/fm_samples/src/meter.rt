@@ -1,6 +1,6 @@
 //! A filter that counts what is read and written.
 
-ghost use Rattle.std.specs.Prelude.{◌≡◌};
+ghost use Rattle.std.specs.Prelude.{◌≡◌, IfOk, replicate};
 ghost use Rattle.fm_samples.specs.Meter.{counted_in};
 
 use crate::common::set_unless_there;
@@ -24,7 +24,9 @@ impl Meter {
     }
 
     // A body that has counted nothing.
-    fn blank(&self) -> Result<Bytes, AllocError> {
+    fn blank(&self) -> Result<Bytes, AllocError>
+        ensures { IfOk result (λ body. body ≡ replicate 16 0) }
+    {
         Bytes::copy_of(self.alloc, &[0; 16])
     }
 

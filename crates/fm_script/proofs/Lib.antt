@@ -3,3 +3,5 @@ pub mod Numbers
 pub mod Kept
 pub mod Going
 pub mod Running
+pub mod Rows
+pub mod Cuts

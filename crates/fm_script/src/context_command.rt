@@ -1,8 +1,9 @@
 //! The commands on contexts. A context is meant by its number in the order of allocation.
 
-ghost use Rattle.std.specs.Prelude.{◌≡◌, map};
+ghost use Rattle.std.specs.Prelude.{◌≡◌, [], map};
 ghost use Rattle.fm_script.specs.ContextCommands.{allocate_read, bump_as, bump_at, bump_read, context_read, delete_as, delete_read, held_ids, held_read, kind_of_read, kind_read, leaks_read, manner_read, mode_read, old_read, set_as, set_read, write_body_read};
 ghost use Rattle.fm_script.specs.Tasks.{held_in};
+ghost use Rattle.fm_script.specs.declared.keyword.Keyword.TheVariants as key;
 
 use crate::command::{id, numbers, one_id, only_worker};
 use crate::ids::{context_in, worker_in};
@@ -21,38 +22,74 @@ pub(crate) fn read_context_command(
 {
     match keyword {
         Keyword::Set => read_set(contexts, words),
-        Keyword::Get => {
-            let (worker, kind) = read_kind_of(words)?;
-            Ok(Task::Event(Step::Get { worker, kind }))
-        }
+        Keyword::Get => read_get(words),
         Keyword::Del => read_delete(words),
-        Keyword::Ref => {
-            let (worker, context) = read_held(contexts, words)?;
-            Ok(Task::Event(Step::Reference { worker, context }))
-        }
-        Keyword::Rel => {
-            let (worker, context) = read_held(contexts, words)?;
-            Ok(Task::Event(Step::Release { worker, context }))
-        }
-        Keyword::Body => {
-            let (worker, context) = read_held(contexts, words)?;
-            Ok(Task::Event(Step::ReadBody { worker, context }))
-        }
+        Keyword::Ref => read_reference(contexts, words),
+        Keyword::Rel => read_release(contexts, words),
+        Keyword::Body => read_body(contexts, words),
         Keyword::Bump => read_bump(contexts, words),
-        Keyword::Due => Ok(Task::Event(Step::TakeDue {
-            worker: only_worker(words)?,
-        })),
-        Keyword::Cleaned => Ok(Task::Event(Step::Cleaned {
-            worker: only_worker(words)?,
-            number: 0,
-        })),
-        Keyword::Count => {
-            let context = one_id(b'c', words)?;
-            Ok(Task::Count(context_in(contexts, context)?))
-        }
+        Keyword::Due => read_due(words),
+        Keyword::Cleaned => read_cleaned(words),
+        Keyword::Count => read_count(contexts, words),
         Keyword::Leaks => read_leaks(words),
         _ => Err(Status::BadRequest),
     }
+}
+
+// `get W KIND`.
+fn read_get(words: &[&[u8]]) -> Result<Task, Status>
+    ensures { result ≡ context_read [] key.Get (map (λ word. word.now) words.now) }
+{
+    let (worker, kind) = read_kind_of(words)?;
+    Ok(Task::Event(Step::Get { worker, kind }))
+}
+
+// `ref W C`.
+fn read_reference(contexts: &[CtxId], words: &[&[u8]]) -> Result<Task, Status>
+    ensures { result ≡ context_read contexts.now key.Ref (map (λ word. word.now) words.now) }
+{
+    let (worker, context) = read_held(contexts, words)?;
+    Ok(Task::Event(Step::Reference { worker, context }))
+}
+
+// `rel W C`.
+fn read_release(contexts: &[CtxId], words: &[&[u8]]) -> Result<Task, Status>
+    ensures { result ≡ context_read contexts.now key.Rel (map (λ word. word.now) words.now) }
+{
+    let (worker, context) = read_held(contexts, words)?;
+    Ok(Task::Event(Step::Release { worker, context }))
+}
+
+// `body W C`.
+fn read_body(contexts: &[CtxId], words: &[&[u8]]) -> Result<Task, Status>
+    ensures { result ≡ context_read contexts.now key.Body (map (λ word. word.now) words.now) }
+{
+    let (worker, context) = read_held(contexts, words)?;
+    Ok(Task::Event(Step::ReadBody { worker, context }))
+}
+
+// `due W`.
+fn read_due(words: &[&[u8]]) -> Result<Task, Status>
+    ensures { result ≡ context_read [] key.Due (map (λ word. word.now) words.now) }
+{
+    let worker = only_worker(words)?;
+    Ok(Task::Event(Step::TakeDue { worker }))
+}
+
+// `cleaned W`.
+fn read_cleaned(words: &[&[u8]]) -> Result<Task, Status>
+    ensures { result ≡ context_read [] key.Cleaned (map (λ word. word.now) words.now) }
+{
+    let worker = only_worker(words)?;
+    Ok(Task::Event(Step::Cleaned { worker, number: 0 }))
+}
+
+// `count C`.
+fn read_count(contexts: &[CtxId], words: &[&[u8]]) -> Result<Task, Status>
+    ensures { result ≡ context_read contexts.now key.Count (map (λ word. word.now) words.now) }
+{
+    let context = one_id(b'c', words)?;
+    Ok(Task::Count(context_in(contexts, context)?))
 }
 
 // A context and the worker that says it holds it.

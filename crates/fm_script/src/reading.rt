@@ -30,15 +30,28 @@ impl<W: Write + Drop> Lines<W> {
                 return Err(ScriptEnd::ReadFault);
             }
             let (front, behind) = split_at_byte(rest, b'\n');
-            self.line.extend(front).map_err(|_| ScriptEnd::NoMemory)?;
             let Some(behind) = behind else {
-                return Ok(());
+                return self.keep(front);
             };
             self.count += 1;
-            self.run()?;
+            self.end_line(front)?;
             rest = behind;
         }
         Ok(())
+    }
+
+    // Keeps the beginning of a line, or more of one.
+    fn keep(&mut self, piece: &[u8]) -> Result<(), ScriptEnd> {
+        self.line.extend(piece).map_err(|_| ScriptEnd::NoMemory)
+    }
+
+    // Runs the line that ends with that piece. One that stands in it whole is run where it stands.
+    fn end_line(&mut self, piece: &[u8]) -> Result<(), ScriptEnd> {
+        if self.line.as_slice().is_empty() {
+            return self.runner.run(piece);
+        }
+        self.keep(piece)?;
+        self.run()
     }
 
     // Runs the line that was read, and begins the next one.

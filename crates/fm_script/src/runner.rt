@@ -55,7 +55,7 @@ impl<W: Write + Drop> Runner<W> {
         self.output.flush()
     }
 
-    /// Runs one line, of which at most 4,097 bytes are given: one that is longer than 4,096 is refused. An empty line and a comment do nothing.
+    /// Runs one line, of which 4,097 bytes are enough: one that is longer than 4,096 is refused. An empty line and a comment do nothing.
     pub fn run(&mut self, line: &[u8]) -> Result<(), ScriptEnd>
         ensures { RunsLine line.now result self.old.interpreter self.new.interpreter }
     {

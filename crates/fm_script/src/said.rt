@@ -1,6 +1,7 @@
 //! The lines that a script prints: which one for which answer, and the bytes of each.
 
 ghost use Rattle.std.specs.Prelude.{◌≡◌, ◌++◌, ◌∷◌, [], IfOk, decimal, position, reverse};
+ghost use Rattle.std.specs.List.{position_or_len};
 ghost use Rattle.fm_script.specs.Sayings.{is_context, number_in, phase_word, refused_text, reply_text, said_context, said_count, said_done, said_drained, said_dropped, said_due, said_given, said_held, said_new, said_of, said_old, said_set, text_with, verdict_text, word_text};
 ghost use Rattle.fm_script.specs.declared.said.Said.TheVariants as SaidOf;
 ghost use Rattle.fm_script.specs.declared.said.Word.TheVariants as WordOf;
@@ -12,6 +13,9 @@ use fm_data::{Answer, Completion, PreVerdict};
 use fm_session::Given;
 use fm_types::{Bytes, CtxId, HandleId, InstanceId, OpId, Status};
 use std::alloc::AllocError;
+
+/// How many contexts are compared in a row, without a look whether there are more.
+const ROW: usize = 8;
 
 /// The words that lines begin with.
 #[derive(Clone, Copy)]
@@ -143,21 +147,42 @@ pub fn said_done(answer: Result<(), Status>) -> Said
     }
 }
 
-// How many contexts were allocated after it. The newest is the one that is mostly spoken of.
-fn newer_than(contexts: &[CtxId], context: CtxId) -> Option<usize>
-    ensures { result ≡ position (is_context context) (reverse contexts.now) }
+// How many of a row of contexts were allocated after it, if it is among them.
+fn newer_in_row(row: &[CtxId], context: CtxId) -> Option<usize>
+    ensures { result ≡ position (is_context context) (reverse row.now) }
 {
-    contexts.iter().rev().position(|own| own.slot == context.slot
+    row.iter().rev().position(|own| own.slot == context.slot
         && own.generation == context.generation)
+}
+
+// How many contexts were allocated after it: all where it isn't among them. The newest is the one that is mostly spoken of.
+fn newer_than(contexts: &[CtxId], context: CtxId) -> usize
+    ensures { result ≡ position_or_len (is_context context) (reverse contexts.now) }
+{
+    let mut newer = 0;
+    let mut rest = contexts;
+    while let Some((older, row)) = rest.split_last_chunk::<ROW>() {
+        if let Some(place) = newer_in_row(row, context) {
+            return newer + place;
+        }
+        newer += ROW;
+        rest = older;
+    }
+    match newer_in_row(rest, context) {
+        Some(place) => newer + place,
+        None => contexts.len(),
+    }
 }
 
 // The number of a context in the order of allocation.
 fn number_of(contexts: &[CtxId], context: CtxId) -> Option<usize>
     ensures { result ≡ number_in context contexts.now }
 {
-    match newer_than(contexts, context) {
-        Some(newer) => Some(contexts.len().saturating_sub(newer + 1)),
-        None => None,
+    let newer = newer_than(contexts, context);
+    if newer < contexts.len() {
+        Some(contexts.len() - (newer + 1))
+    } else {
+        None
     }
 }
 

@@ -1,7 +1,7 @@
 //! Cutting: input into lines, and lines into words.
 
 ghost use Rattle.std.specs.Prelude.{◌≡◌, ◌==◌, ◌∷◌, ◌++◌, IfOk, MatchOption, false, map};
-ghost use Rattle.std.specs.List.{All};
+ghost use Rattle.std.specs.List.{All, position, position_or_len};
 ghost use Rattle.fm_script.specs.Words.{words_of};
 
 use smallvec::SmallVec;
@@ -10,14 +10,45 @@ use std::alloc::AllocError;
 /// How many words the longest command has.
 const FEW: usize = 6;
 
+/// How many bytes are compared in a row, without a look whether the text ends.
+const ROW: usize = 8;
+
+// Where a byte stands first.
+fn place_among(bytes: &[u8], byte: u8) -> Option<usize>
+    ensures { result ≡ position (λ b. b == byte) bytes.now }
+{
+    bytes.iter().position(|b| *b == byte)
+}
+
+// How many bytes stand before the first one of that value: all of them where it isn't there.
+fn count_before(text: &[u8], byte: u8) -> usize
+    ensures { result ≡ position_or_len (λ b. b == byte) text.now }
+{
+    let mut before = 0;
+    let mut rest = text;
+    while let Some((row, behind)) = rest.split_first_chunk::<ROW>() {
+        if let Some(place) = place_among(row, byte) {
+            return before + place;
+        }
+        before += ROW;
+        rest = behind;
+    }
+    match place_among(rest, byte) {
+        Some(place) => before + place,
+        None => text.len(),
+    }
+}
+
 /// What stands before the first byte of that value, and what stands behind it; the whole text and nothing where it isn't there.
 pub fn split_at_byte(text: &[u8], byte: u8) -> (&[u8], Option<&[u8]>)
     ensures front { All (λ b. (b == byte) ≡ false) result.0.now }
     ensures parts { MatchOption result.1 (result.0.now ≡ text.now) (λ behind. text.now ≡ result.0.now ++ byte ∷ behind.now) }
 {
-    match text.iter().position(|b| *b == byte) {
-        Some(at) => (&text[..at], Some(&text[at + 1..])),
-        None => (text, None),
+    let at = count_before(text, byte);
+    if at < text.len() {
+        (&text[..at], Some(&text[at + 1..]))
+    } else {
+        (text, None)
     }
 }
 
@@ -29,5 +60,11 @@ pub fn split_words<'a>(
 ) -> Result<(), AllocError>
     ensures { IfOk result (λ _. map (λ word. word.now) words.new.items ≡ map (λ word. word.now) words.old.items ++ words_of line.now) }
 {
-    words.extend(line.split(|b| *b == b' '))
+    let mut left = Some(line);
+    while let Some(rest) = left {
+        let (word, behind) = split_at_byte(rest, b' ');
+        words.push(word)?;
+        left = behind;
+    }
+    Ok(())
 }

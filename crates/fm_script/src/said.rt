@@ -1,6 +1,6 @@
 //! The lines that a script prints: which one for which answer, and the bytes of each.
 
-ghost use Rattle.std.specs.Prelude.{◌≡◌, ◌++◌, ◌∷◌, [], IfOk, decimal, position, reverse};
+ghost use Rattle.std.specs.Prelude.{◌≡◌, ◌≤◌, ◌<◌, ◌++◌, ◌∷◌, [], IfOk, decimal, position, reverse};
 ghost use Rattle.std.specs.List.{position_or_len};
 ghost use Rattle.fm_script.specs.Sayings.{is_context, number_in, phase_word, refused_text, reply_text, said_context, said_count, said_done, said_drained, said_dropped, said_due, said_given, said_held, said_new, said_of, said_old, said_set, text_with, verdict_text, word_text};
 ghost use Rattle.fm_script.specs.declared.said.Said.TheVariants as SaidOf;
@@ -375,13 +375,27 @@ impl Said {
     }
 }
 
-// Appends a number.
+// Appends a number of two digits.
+fn print_pair(text: &mut Vec<u8>, number: u8) -> Result<(), AllocError>
+    requires above { 10 ≤ number }
+    requires below { number < 100 }
+    ensures { IfOk result (λ _. text.new.items ≡ text.old.items ++ decimal number) }
+{
+    text.push(b'0' + number / 10)?;
+    text.push(b'0' + number % 10)?;
+    Ok(())
+}
+
+// Appends a number. Most have one digit or two, which are made where they stand.
 fn print_number(text: &mut Vec<u8>, number: u64) -> Result<(), AllocError>
     ensures { IfOk result (λ _. text.new.items ≡ text.old.items ++ decimal number) }
 {
     if number < 10 {
         text.push(b'0' + number as u8)?;
         return Ok(());
+    }
+    if number < 100 {
+        return print_pair(text, number as u8);
     }
     let mut buffer = itoa::Buffer::new();
     text.extend_from_slice(buffer.format(number).as_bytes())

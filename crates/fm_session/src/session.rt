@@ -4,7 +4,7 @@ ghost use Rattle.std.specs.Prelude.{◌≡◌, IfErr, IfNone, IfOk, IfSome};
 ghost use Rattle.fm_world.specs.World.{empty_world};
 ghost use Rattle.fm_world.specs.Events.{Attaches, BaseReturns, Collects, SetsUp};
 ghost use Rattle.fm_world.specs.Steps.{Steps};
-ghost use Rattle.fm_session.specs.Sessions.{LendsNext, LentPreReturns, LentPostReturns, LentBaseReturns, lent_to, lend, pre_in, post_in, base_in, post_lent, lent_back};
+ghost use Rattle.fm_session.specs.Sessions.{LendsNext, LentPreReturns, LentPostReturns, LentBaseReturns, lent_to, lend, lent_by, given_by, pre_in, post_in, base_in, post_lent, lent_back};
 ghost use Rattle.fm_session.specs.declared.lent.Lent.{Lent};
 ghost use Rattle.fm_session.specs.declared.lent.Lent.TheVariants as lent;
 
@@ -13,6 +13,7 @@ use fm_altitude::Altitude;
 use fm_core::{Refused, State, Step, StepReply};
 use fm_data::{Answer, BaseCall, CallbackData, PostVerdict, PreVerdict};
 use fm_device::Device;
+use fm_flow::FlowAction;
 use fm_types::{FilterId, InstanceId, Name, OpId, Status, VolumeId, WorkerId};
 use std::alloc::Global;
 use std::marker::Model;
@@ -92,10 +93,27 @@ impl Session {
     pub fn next(&mut self, worker: WorkerId, operation: OpId) -> Result<Given, Status>
         ensures { LendsNext self.old worker operation result self.new }
     {
-        let action = self.state.next(worker, operation)?;
+        match self.state.next(worker, operation)? {
+            FlowAction::Pre(instance, data) => {
+                self.lend(worker, Lent::Pre(data));
+                Ok(Given::Pre(instance))
+            }
+            FlowAction::Post(instance, data, completion) => {
+                self.lend(worker, Lent::Post(data));
+                Ok(Given::Post(instance, completion))
+            }
+            other => Ok(self.lend_other(worker, other)),
+        }
+    }
+
+    // The same of an action that isn't a callback's. Each has room of its own to be lent from, which the callbacks don't pay for.
+    fn lend_other(&mut self, worker: WorkerId, action: FlowAction) -> Given
+        ensures given { result ≡ given_by action }
+        ensures lent { self.new ≡ record self.old { lent = lend self.old.lent worker (lent_by action) } }
+    {
         let given = Given::of(&action);
         self.lend(worker, Lent::by(action));
-        Ok(given)
+        given
     }
 
     /// The worker's preoperation callback returns with what it was lent (`State::pre_returned`). Refused with 30, nothing changed, where it was lent no

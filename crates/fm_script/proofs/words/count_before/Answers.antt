@@ -1,5 +1,4 @@
-use Rattle.std.proofs.Common.{◌≡◌, ◌==◌, length, sym, arith}
-use Rattle.std.specs.List.{position_or_len}
+use Rattle.std.proofs.Common.{◌==◌, sym, arith}
 use Rattle.fm_script.proofs.Rows.{none_passes}
 use Rattle.fm_script.proofs.words.count_before.Goals as goal
 

@@ -1,4 +1,4 @@
-use Rattle.std.proofs.Common.{◌≡◌, ◌+◌, ◌++◌, ℕ, Bor, List, [], Option, Some, None, length, map}
+use Rattle.std.proofs.Common.{◌≡◌, ◌++◌, map}
 use Rattle.fm_script.specs.Words.{words_of}
 use Rattle.fm_script.proofs.Cuts.{words_left, count_left}
 use Rattle.fm_script.proofs.words.split_words.Given as goal

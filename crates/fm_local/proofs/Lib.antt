@@ -22,3 +22,9 @@ pub mod Answering
 pub mod Tidying
 pub mod BaseCalls
 pub mod AllReplied
+pub mod Resting
+pub mod Leaving
+pub mod Readied
+pub mod Cleaning
+pub mod Emptied
+pub mod Unloaded

@@ -1,5 +1,5 @@
 -- Cleanups leave all but contexts and totals.
-use Rattle.std.specs.Prelude.{◌≡◌, ℕ, zero, suc, List, [], ◌∷◌, ◌++◌, Option, Some, None, is_some, option_and_then, option_map, Result, Ok, Err, slice_get, slice_set, refl}
+use Rattle.std.specs.Prelude.{◌≡◌, ℕ, zero, suc, List, [], ◌∷◌, ◌++◌, drop, Option, Some, None, is_some, option_and_then, option_map, Result, Ok, Err, slice_get, slice_set, refl}
 use Rattle.std.proofs.Common.{sym, ap, subst, ◌∙◌}
 use Rattle.std.proofs.lemmas.Option.{none-some, same_Some}
 use Rattle.fm_types.specs.declared.status.Status.{Status}
@@ -53,21 +53,23 @@ tidies_same old new same = subst (Tidies old) (sym same) (tidies_none old)
 -- ---- one cleanup
 
 -- what stood at a place is put back
-set_back : {X : Type 0} (xs : List X) (n : ℕ) (was is : X) → slice_get xs n ≡ Some was → slice_set (slice_set xs n is) n was ≡ xs
+pub set_back : {X : Type 0} (xs : List X) (n : ℕ) (was is : X) → slice_get xs n ≡ Some was → slice_set (slice_set xs n is) n was ≡ xs
 set_back [] n was is there = absurd (none-some was there)
 set_back (x ∷ xs) zero was is there = ap (λ y. y ∷ xs) (sym (same_Some x was there))
 set_back (x ∷ xs) (suc n) was is there = ap (λ ys. x ∷ ys) (set_back xs n was is there)
 
 -- an idle worker is in the cleanup of what was due; all else but contexts stays
-record IsIn (old : World) (k : WorkerId) (c : CtxId) (mid : World) : Type 0 where
-  idle : worker_at old.workers k ≡ Some place.Idle
-  workers : mid.workers ≡ put old.workers k (place.Cleanup c)
-  stack : mid.stack ≡ old.stack
-  flow : mid.flow ≡ old.flow
-  files : mid.files ≡ old.files
+pub record IsIn (old : World) (k : WorkerId) (c : CtxId) (mid : World) : Type 0 where
+  pub idle : worker_at old.workers k ≡ Some place.Idle
+  pub workers : mid.workers ≡ put old.workers k (place.Cleanup c)
+  pub stack : mid.stack ≡ old.stack
+  pub flow : mid.flow ≡ old.flow
+  pub files : mid.files ≡ old.files
+  pub first : slice_get old.contexts.due 0 ≡ Some c
+  pub due : mid.contexts.due ≡ drop 1 old.contexts.due
 
 -- or nothing changed, since nothing was due or the worker wasn't idle
-abbrev Took : World → WorkerId → Result (Option Due) Status → World → Type 0
+abbrev pub Took : World → WorkerId → Result (Option Due) Status → World → Type 0
 Took old k (Ok (Some due)) mid = (c : CtxId) × IsIn old k c mid
 Took old k (Ok None) mid = mid ≡ old
 Took old k (Err why) mid = mid ≡ old
@@ -90,10 +92,12 @@ module _ (old : World) (k : WorkerId) (result : Result (Option Due) Status) (mid
           stack = ap (λ (w : World). w.stack) made;
           flow = ap (λ (w : World). w.flow) made;
           files = ap (λ (w : World). w.files) made;
+          first = first;
+          due = ap (λ (w : World). w.contexts.due) made ∙ ap (λ m. (taken_of old.contexts k.0 m).due) first;
         },
       )
 
-  took : TakesDue old k result mid → Took old k result mid
+  pub took : TakesDue old k result mid → Took old k result mid
   unfolding TakesDue
   took takes = idle_by (Took old k) k result old mid _ takes (λ why. refl) (λ idle event. took_first (slice_get old.contexts.due 0) refl idle event.0 event.1)
 

@@ -76,6 +76,13 @@ abbrev pub reply_of : Result Answer Status → Reply
 reply_of (Ok answer) = replied answer
 reply_of (Err why) = replied (bare_answer why)
 
+-- the first of the operations that ended is given, with its answer, which is handed out; where none waits, nothing changes
+abbrev pub GivesFinished : {F B : Type 0} → LocalManager F B → Option (OpId × Reply) → LocalManager F B → Type 0
+GivesFinished old None new = (old.finished.items.items ≡ []) × (new.finished.items.items ≡ []) × (new.desk ≡ old.desk)
+GivesFinished old (Some (o, said)) new =
+    (old.finished.items.items ≡ o ∷ new.finished.items.items)
+    × ((collected : Result Answer Status) × Collects old.desk.state o collected new.desk.state × (said ≡ reply_of collected))
+
 -- the handle that a request closes
 abbrev pub closed_handle : Request → Option HandleId
 closed_handle (request.OnHandle h asked.Close) = Some h

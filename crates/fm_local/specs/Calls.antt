@@ -48,9 +48,12 @@ MayAgree may (Some f) agrees = may f agrees
 abbrev pub AgreesAt : {F : Type 0} → (F → Bool → Type 0) → Filters F → World → InstanceId → Bool → Type 0
 AgreesAt may filters w i agrees = MayAgree may (filter_in (numbered filters) w.stack i.0) agrees
 
--- a setup callback ended so, with an answer that its filter may give
+-- the end of a setup callback, with an answer that its filter may give
+abbrev pub SetsUpWith : (Bool → Type 0) → WorkerId → World → Result (Unit {0}) Status → World → Type 0
+SetsUpWith may k before ended after = (accepts : Bool) × may accepts × SetsUp before k accepts ended after
+
 abbrev pub SetupEnds : (Bool → Type 0) → WorkerId → Result (Unit {0}) Status → Type 0
-SetupEnds may k ended = (accepts : Bool) × (before after : World) × may accepts × SetsUp before k accepts ended after
+SetupEnds may k ended = (before after : World) × SetsUpWith may k before ended after
 
 -- an instance is attached: that is refused at once, or its setup callback is called, and then its end refuses it or not
 abbrev pub AttachesAs : (World → InstanceId → Bool → Type 0) → World → WorkerId → FilterId → VolumeId → List ℕ → List ℕ → Result InstanceId Status → World → Type 0
@@ -59,9 +62,12 @@ AttachesAs may old k f v name altitude (Err status) new =
     ⊎ ((i : InstanceId) × (born : World) × Attaches old k f v name altitude (Ok i) born × SetupEnds (may born i) k (Err status))
 AttachesAs may old k f v name altitude (Ok i) new = (born : World) × Attaches old k f v name altitude (Ok i) born × SetupEnds (may born i) k (Ok tt)
 
--- a query callback ended so, with an answer that its filter may give
+-- the end of a query callback, with an answer that its filter may give
+abbrev pub QueriesWith : (Bool → Type 0) → WorkerId → World → Result (Unit {0}) Status → World → Type 0
+QueriesWith may k before ended after = (allows : Bool) × may allows × QueryReturns before k allows ended after
+
 abbrev pub QueryEnds : (Bool → Type 0) → WorkerId → Result (Unit {0}) Status → Type 0
-QueryEnds may k ended = (allows : Bool) × (before after : World) × may allows × QueryReturns before k allows ended after
+QueryEnds may k ended = (before after : World) × QueriesWith may k before ended after
 
 -- the teardown of an instance stopped with the first event that was refused, or ended with its last one
 abbrev pub TornDown : WorkerId → InstanceId → Result (Unit {0}) Status → World → Type 0
@@ -97,15 +103,15 @@ DetachesBy false may old k i result new = (IsErr result × Asks may old k i resu
 abbrev pub DetachesAs : (World → InstanceId → Bool → Type 0) → World → WorkerId → InstanceId → Result (Unit {0}) Status → World → Type 0
 DetachesAs may old k i result new = DetachesBy (is_leaving old i) may old k i result new
 
--- an unload callback ended so, with an answer that its filter may give
-abbrev pub UnloadEnds : (Bool → Type 0) → WorkerId → Result (Unit {0}) Status → Type 0
-UnloadEnds may k ended = (allows : Bool) × (before after : World) × may allows × UnloadReturns before k allows ended after
+-- the end of an unload callback, with an answer that its filter may give
+abbrev pub UnloadsWith : (Bool → Type 0) → WorkerId → World → Result (Unit {0}) Status → World → Type 0
+UnloadsWith may k before ended after = (allows : Bool) × may allows × UnloadReturns before k allows ended after
 
 -- an unload asks first: that is refused at once, or the unload callback is called, and then its end refuses it or not
-abbrev pub AsksToUnload : (Bool → Type 0) → World → WorkerId → FilterId → Result (Unit {0}) Status → Type 0
-AsksToUnload may old k f (Err status) =
-    ((new : World) × AsksUnload old k f (Err status) new) ⊎ ((asked : World) × AsksUnload old k f (Ok tt) asked × UnloadEnds may k (Err status))
-AsksToUnload may old k f (Ok done) = (asked : World) × AsksUnload old k f (Ok tt) asked × UnloadEnds may k (Ok tt)
+abbrev pub AsksToUnload : (Bool → Type 0) → World → WorkerId → FilterId → Result (Unit {0}) Status → World → Type 0
+AsksToUnload may old k f (Err status) new =
+    AsksUnload old k f (Err status) new ⊎ ((asked : World) × AsksUnload old k f (Ok tt) asked × UnloadsWith may k asked (Err status) new)
+AsksToUnload may old k f (Ok done) new = (asked : World) × AsksUnload old k f (Ok tt) asked × UnloadsWith may k asked (Ok tt) new
 
 -- the end of a filter stopped with the first event that was refused, of an instance's teardown or of its own, or ended with its last one
 abbrev pub FilterEnds : WorkerId → FilterId → Result (Unit {0}) Status → World → Type 0
@@ -126,7 +132,8 @@ is_unloading w f = is_unloading_phase (option_map (λ (row : Filter). row.phase)
 -- an unload asks where no end is under way, and then the end says how it ends
 abbrev pub UnloadsBy : Bool → (Bool → Type 0) → World → WorkerId → FilterId → Result (Unit {0}) Status → World → Type 0
 UnloadsBy true may old k f result new = FilterEnds k f result new
-UnloadsBy false may old k f result new = (IsErr result × AsksToUnload may old k f result) ⊎ (AsksToUnload may old k f (Ok tt) × FilterEnds k f result new)
+UnloadsBy false may old k f result new =
+    (IsErr result × AsksToUnload may old k f result new) ⊎ ((asked : World) × AsksToUnload may old k f (Ok tt) asked × FilterEnds k f result new)
 
 abbrev pub UnloadsAs : {F : Type 0} → (F → Bool → Type 0) → Filters F → World → WorkerId → FilterId → Result (Unit {0}) Status → World → Type 0
 UnloadsAs may filters old k f result new = UnloadsBy (is_unloading old f) (MayAgree may (numbered filters f.0)) old k f result new

@@ -2,11 +2,13 @@ pub mod Actions
 pub mod Bases
 pub mod Calls
 pub mod Chains
+pub mod Cleanups
 pub mod Folds
 pub mod Functions
 pub mod Left
 pub mod Managers
 pub mod Ports
+pub mod Quietly
 pub mod Requests
 pub mod Shifts
 pub mod Turns

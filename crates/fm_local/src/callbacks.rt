@@ -8,7 +8,7 @@ ghost use Rattle.fm_local.specs.Chains.{filter_in, PreMay, PostMay};
 ghost use Rattle.fm_local.specs.Managers.{numbered, IsQuietIn};
 ghost use Rattle.fm_local.specs.Turns.{Does};
 ghost use Rattle.fm_world.specs.Events.{PreReturns, PostReturns};
-ghost use Rattle.fm_local.specs.Calls.{MayAgree, QueryEnds, SetupEnds, UnloadEnds};
+ghost use Rattle.fm_local.specs.Calls.{MayAgree, QueriesWith, QueryEnds, SetsUpWith, SetupEnds, UnloadsWith};
 ghost use Rattle.fm_world.specs.Teardowns.{CompleteReturns, StartReturns};
 ghost use Rattle.fm_world.specs.World.{World};
 
@@ -46,9 +46,24 @@ fn sent_by(verdict: PreVerdict) -> Option<CtxId> {
 impl<F: Minifilter, B: Base> LocalManager<F, B> {
     /// Calls the setup callback of a new instance. Refused as the end of that callback is.
     pub(crate) fn setup(&mut self, instance: InstanceId) -> Result<(), Status>
-        ensures { SetupEnds (MayAgree F.setup_may (filter_in (numbered self.old.filters) self.old.desk.state.stack instance.0)) WORKER result }
+        ensures ends { SetupEnds (MayAgree F.setup_may (filter_in (numbered self.old.filters) self.old.desk.state.stack instance.0)) WORKER result }
+        ensures quiet { ArePlainFilters F.pre_may F.post_may F.is_quiet (numbered self.old.filters) → SetsUpWith (MayAgree F.setup_may (filter_in (numbered self.old.filters) self.old.desk.state.stack instance.0)) WORKER self.old.desk.state result self.new.desk.state × (self.new.desk.resumed ≡ self.old.desk.resumed) }
+        ensures kept { self.new ≡ record self.old { desk = self.new.desk; hand = self.new.hand; leaks = self.new.leaks } }
     {
-        let accepts = match self.filters.of(self.desk.state.filter_of(instance)) {
+        let accepts = self.ask_setup(instance);
+        let before = look_at_hand(&self.desk.state, &mut self.hand);
+        let ended = self.desk.state.setup_done(WORKER, accepts);
+        self.note_left(before, Returning::of(Callback::Setup, instance));
+        ended
+    }
+
+    // Whether the filter of a new instance takes it.
+    fn ask_setup(&mut self, instance: InstanceId) -> bool
+        ensures said { MayAgree F.setup_may (filter_in (numbered self.old.filters) self.old.desk.state.stack instance.0) result }
+        ensures quiet { IsQuietIn F.is_quiet (filter_in (numbered self.old.filters) self.old.desk.state.stack instance.0) → self.new.desk ≡ self.old.desk }
+        ensures same { self.new ≡ record self.old { desk = self.new.desk } }
+    {
+        match self.filters.of(self.desk.state.filter_of(instance)) {
             Some(filter) => {
                 let mut port = LocalPort {
                     desk: &mut self.desk,
@@ -57,17 +72,7 @@ impl<F: Minifilter, B: Base> LocalManager<F, B> {
                 filter.setup(&mut port)
             }
             None => false,
-        };
-        let before = look_at_hand(&self.desk.state, &mut self.hand);
-        let ended = self.desk.state.setup_done(WORKER, accepts);
-        note_leaks(
-            &self.desk.state,
-            &self.hand,
-            &mut self.leaks,
-            before,
-            Returning::of(Callback::Setup, instance),
-        );
-        ended
+        }
     }
 
     /// Calls the preoperation of an instance.
@@ -105,13 +110,7 @@ impl<F: Minifilter, B: Base> LocalManager<F, B> {
     {
         let before = look_at_hand(&self.desk.state, &mut self.hand);
         let ended = self.desk.state.pre_returned(WORKER, verdict, back);
-        note_leaks(
-            &self.desk.state,
-            &self.hand,
-            &mut self.leaks,
-            before,
-            returning,
-        );
+        self.note_left(before, returning);
         match ended {
             Ok(()) => Ok(()),
             Err(refused) => Err(refused.status),
@@ -168,13 +167,7 @@ impl<F: Minifilter, B: Base> LocalManager<F, B> {
     {
         let before = look_at_hand(&self.desk.state, &mut self.hand);
         let ended = self.desk.state.post_returned(WORKER, verdict, back);
-        note_leaks(
-            &self.desk.state,
-            &self.hand,
-            &mut self.leaks,
-            before,
-            returning,
-        );
+        self.note_left(before, returning);
         match ended {
             Ok(()) => Ok(()),
             Err(refused) => Err(refused.status),
@@ -230,13 +223,8 @@ impl<F: Minifilter, B: Base> LocalManager<F, B> {
         self.drain(operation, instance, completion);
         let before = look_at_hand(&self.desk.state, &mut self.hand);
         let ended = self.desk.state.drain_done(WORKER);
-        note_leaks(
-            &self.desk.state,
-            &self.hand,
-            &mut self.leaks,
-            before,
-            Returning::for_operation(Callback::Drain, instance, operation),
-        );
+        let returning = Returning::for_operation(Callback::Drain, instance, operation);
+        self.note_left(before, returning);
         ended
     }
 
@@ -267,9 +255,24 @@ impl<F: Minifilter, B: Base> LocalManager<F, B> {
 
     /// Calls the query callback of an instance. Refused as the end of that callback is.
     pub(crate) fn query(&mut self, instance: InstanceId) -> Result<(), Status>
-        ensures { QueryEnds (MayAgree F.query_may (filter_in (numbered self.old.filters) self.old.desk.state.stack instance.0)) WORKER result }
+        ensures ends { QueryEnds (MayAgree F.query_may (filter_in (numbered self.old.filters) self.old.desk.state.stack instance.0)) WORKER result }
+        ensures quiet { ArePlainFilters F.pre_may F.post_may F.is_quiet (numbered self.old.filters) → QueriesWith (MayAgree F.query_may (filter_in (numbered self.old.filters) self.old.desk.state.stack instance.0)) WORKER self.old.desk.state result self.new.desk.state × (self.new.desk.resumed ≡ self.old.desk.resumed) }
+        ensures kept { self.new ≡ record self.old { desk = self.new.desk; hand = self.new.hand; leaks = self.new.leaks } }
     {
-        let allows = match self.filters.of(self.desk.state.filter_of(instance)) {
+        let allows = self.ask_query(instance);
+        let before = look_at_hand(&self.desk.state, &mut self.hand);
+        let ended = self.desk.state.query_returned(WORKER, allows);
+        self.note_left(before, Returning::of(Callback::Query, instance));
+        ended
+    }
+
+    // Whether the filter of an instance lets it be detached.
+    fn ask_query(&mut self, instance: InstanceId) -> bool
+        ensures said { MayAgree F.query_may (filter_in (numbered self.old.filters) self.old.desk.state.stack instance.0) result }
+        ensures quiet { IsQuietIn F.is_quiet (filter_in (numbered self.old.filters) self.old.desk.state.stack instance.0) → self.new.desk ≡ self.old.desk }
+        ensures same { self.new ≡ record self.old { desk = self.new.desk } }
+    {
+        match self.filters.of(self.desk.state.filter_of(instance)) {
             Some(filter) => {
                 let mut port = LocalPort {
                     desk: &mut self.desk,
@@ -278,82 +281,90 @@ impl<F: Minifilter, B: Base> LocalManager<F, B> {
                 filter.query_teardown(&mut port)
             }
             None => false,
-        };
-        let before = look_at_hand(&self.desk.state, &mut self.hand);
-        let ended = self.desk.state.query_returned(WORKER, allows);
-        note_leaks(
-            &self.desk.state,
-            &self.hand,
-            &mut self.leaks,
-            before,
-            Returning::of(Callback::Query, instance),
-        );
-        ended
+        }
     }
 
     /// Calls the callback that says that an instance's teardown starts.
     pub(crate) fn start(&mut self, instance: InstanceId) -> Result<(), Status>
-        ensures { (before : World) × StartReturns before WORKER result self.new.desk.state }
+        ensures ends { (before : World) × StartReturns before WORKER result self.new.desk.state }
+        ensures quiet { ArePlainFilters F.pre_may F.post_may F.is_quiet (numbered self.old.filters) → StartReturns self.old.desk.state WORKER result self.new.desk.state × (self.new.desk.resumed ≡ self.old.desk.resumed) }
+        ensures kept { self.new ≡ record self.old { desk = self.new.desk; hand = self.new.hand; leaks = self.new.leaks } }
     {
         self.tell_start(instance);
         let before = look_at_hand(&self.desk.state, &mut self.hand);
         let ended = self.desk.state.start_returned(WORKER);
-        note_leaks(
-            &self.desk.state,
-            &self.hand,
-            &mut self.leaks,
-            before,
-            Returning::of(Callback::Start, instance),
-        );
+        self.note_left(before, Returning::of(Callback::Start, instance));
         ended
     }
 
-    fn tell_start(&mut self, instance: InstanceId) {
-        if let Some(filter) = self.filters.of(self.desk.state.filter_of(instance)) {
-            let mut port = LocalPort {
-                desk: &mut self.desk,
-                worker: WORKER,
-            };
-            filter.teardown_start(&mut port);
+    fn tell_start(&mut self, instance: InstanceId)
+        ensures quiet { IsQuietIn F.is_quiet (filter_in (numbered self.old.filters) self.old.desk.state.stack instance.0) → self.new.desk ≡ self.old.desk }
+        ensures same { self.new ≡ record self.old { desk = self.new.desk } }
+    {
+        match self.filters.of(self.desk.state.filter_of(instance)) {
+            Some(filter) => {
+                let mut port = LocalPort {
+                    desk: &mut self.desk,
+                    worker: WORKER,
+                };
+                filter.teardown_start(&mut port);
+            }
+            None => {}
         }
     }
 
     /// Calls the callback that says that an instance's teardown is complete.
     pub(crate) fn complete(&mut self, instance: InstanceId) -> Result<(), Status>
-        ensures { (before : World) × CompleteReturns before WORKER result self.new.desk.state }
+        ensures ends { (before : World) × CompleteReturns before WORKER result self.new.desk.state }
+        ensures quiet { ArePlainFilters F.pre_may F.post_may F.is_quiet (numbered self.old.filters) → CompleteReturns self.old.desk.state WORKER result self.new.desk.state × (self.new.desk.resumed ≡ self.old.desk.resumed) }
+        ensures kept { self.new ≡ record self.old { desk = self.new.desk; hand = self.new.hand; leaks = self.new.leaks } }
     {
         self.tell_complete(instance);
         let before = look_at_hand(&self.desk.state, &mut self.hand);
         let ended = self.desk.state.complete_returned(WORKER);
-        note_leaks(
-            &self.desk.state,
-            &self.hand,
-            &mut self.leaks,
-            before,
-            Returning::of(Callback::Complete, instance),
-        );
+        self.note_left(before, Returning::of(Callback::Complete, instance));
         ended
     }
 
-    fn tell_complete(&mut self, instance: InstanceId) {
-        if let Some(filter) = self.filters.of(self.desk.state.filter_of(instance)) {
-            let mut port = LocalPort {
-                desk: &mut self.desk,
-                worker: WORKER,
-            };
-            filter.teardown_complete(&mut port);
+    fn tell_complete(&mut self, instance: InstanceId)
+        ensures quiet { IsQuietIn F.is_quiet (filter_in (numbered self.old.filters) self.old.desk.state.stack instance.0) → self.new.desk ≡ self.old.desk }
+        ensures same { self.new ≡ record self.old { desk = self.new.desk } }
+    {
+        match self.filters.of(self.desk.state.filter_of(instance)) {
+            Some(filter) => {
+                let mut port = LocalPort {
+                    desk: &mut self.desk,
+                    worker: WORKER,
+                };
+                filter.teardown_complete(&mut port);
+            }
+            None => {}
         }
     }
 
     /// Calls the unload callback of a filter. Refused as the end of that callback is.
     pub(crate) fn unloading(&mut self, filter: FilterId) -> Result<(), Status>
-        ensures { UnloadEnds (MayAgree F.unload_may (numbered self.old.filters filter.0)) WORKER result }
+        ensures event { UnloadsWith (MayAgree F.unload_may (numbered self.old.filters filter.0)) WORKER self.old.desk.state result self.new.desk.state }
+        ensures kept { self.new ≡ record self.old { desk = record self.old.desk { state = self.new.desk.state } } }
     {
         let allows = match self.filters.of(Some(filter)) {
             Some(filter) => filter.unload(),
             None => false,
         };
         self.desk.state.unload_returned(WORKER, allows)
+    }
+
+    // Notes which references a callback that returned left behind.
+    fn note_left(&mut self, before: u64, returning: Returning)
+        ensures { self.new ≡ record self.old { leaks = self.new.leaks } }
+    {
+        note_leaks(
+            &self.desk.state,
+            &self.hand,
+            &mut self.leaks,
+            before,
+            returning,
+        );
     }
 
     /// Notes a step of an operation.

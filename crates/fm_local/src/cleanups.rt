@@ -1,6 +1,8 @@
 //! Cleaning up contexts that nobody refers to any more.
 
-ghost use Rattle.std.specs.Prelude.{◌≡◌};
+ghost use Rattle.std.specs.Prelude.{◌≡◌, []};
+ghost use Rattle.fm_local.specs.Cleanups.{CleansAll, CleansSome, LeavesNoneDue, MayReturn, cleaner_of};
+ghost use Rattle.fm_local.specs.Managers.{numbered};
 ghost use Rattle.fm_local.specs.Requests.{Tidies};
 
 use crate::filters::Filters;
@@ -9,13 +11,12 @@ use fm_base::Base;
 use fm_core::{Due, Owner, State};
 use fm_filter::Minifilter;
 
-/// How many contexts are cleaned up at most: as many as there may be.
-const CLEANED: usize = 65_536;
-
 impl<F: Minifilter, B: Base> LocalManager<F, B> {
     /// Cleans up every context that is due.
     pub(crate) fn clean_up(&mut self)
+        ensures cleans { CleansAll F.cleanup_may (numbered self.old.filters) WORKER self.old.desk.state self.new.desk.state }
         ensures tidies { Tidies self.old.desk.state self.new.desk.state }
+        ensures none { LeavesNoneDue WORKER self.old.desk.state self.new.desk.state }
         ensures kept { self.new ≡ record self.old { desk = record self.old.desk { state = self.new.desk.state } } }
     {
         clean_all(&mut self.desk.state, &self.filters);
@@ -23,21 +24,20 @@ impl<F: Minifilter, B: Base> LocalManager<F, B> {
 }
 
 // Cleans up what is due, the longest due first, until nothing is.
-#[tactic(auto, using(crate::proofs::Tidying::tidies_both, crate::proofs::Tidying::tidies_none))]
+#[tactic(auto, using(crate::proofs::Cleaning::cleaned_all, crate::proofs::Tidying::tidies_both, crate::proofs::Tidying::tidies_none))]
 fn clean_all<F: Minifilter>(state: &mut State, filters: &Filters<F>)
-    ensures { Tidies state.old state.new }
+    ensures cleans { CleansAll F.cleanup_may (numbered filters.now) WORKER state.old state.new }
+    ensures tidies { Tidies state.old state.new }
+    ensures none { LeavesNoneDue WORKER state.old state.new }
 {
-    for _ in 0..CLEANED {
-        if !clean_next(state, filters) {
-            return;
-        }
-    }
+    while clean_next(state, filters) {}
 }
 
 // Cleans up the context that is due longest; false where none is due.
-#[tactic(auto, using(crate::proofs::Tidying::tidying))]
+#[tactic(auto, using(crate::proofs::Cleaning::cleaning, crate::proofs::Tidying::tidying))]
 fn clean_next<F: Minifilter>(state: &mut State, filters: &Filters<F>) -> bool
-    ensures { Tidies state.old state.new }
+    ensures cleans { CleansSome F.cleanup_may (numbered filters.now) WORKER result state.old state.new }
+    ensures tidies { Tidies state.old state.new }
 {
     state.laws();
     match state.take_due(WORKER) {
@@ -52,7 +52,9 @@ fn clean_next<F: Minifilter>(state: &mut State, filters: &Filters<F>) -> bool
 }
 
 // The cleanup callback of a context's filter: what it returns for its total.
-fn cleanup<F: Minifilter>(state: &State, filters: &Filters<F>, due: &Due) -> u64 {
+fn cleanup<F: Minifilter>(state: &State, filters: &Filters<F>, due: &Due) -> u64
+    ensures { MayReturn F.cleanup_may (cleaner_of (numbered filters.now) state.now.stack due.now.owner) due.now result }
+{
     let filter = match due.owner {
         Owner::Instance(instance) => state.filter_of(instance),
         Owner::Filter(filter) => Some(filter),

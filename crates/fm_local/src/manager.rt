@@ -1,7 +1,10 @@
 //! The manager, and what begins in it.
 
-ghost use Rattle.std.specs.Prelude.{◌≡◌, ◌++◌, ◌∷◌, [], IfErr, IfOk};
+ghost use Rattle.std.specs.Prelude.{◌≡◌, ◌++◌, ◌∷◌, [], IfErr, IfOk, length, slice_get};
+ghost use Rattle.fm_local.specs.Actions.{ArePlainFilters, IsReady};
 ghost use Rattle.fm_local.specs.Calls.{LoadsAs, MountsAs};
+ghost use Rattle.fm_local.specs.Managers.{handed_in};
+ghost use Rattle.fm_world.specs.World.{empty_world};
 
 use crate::bounded::Bounded;
 use crate::filters::Filters;
@@ -41,21 +44,27 @@ pub struct LocalManager<F, B> {
 }
 
 impl<F: Minifilter, B: Base> LocalManager<F, B> {
-    /// A manager that has these filters, each under its name, and none of them loaded. Refused with 1.
-    pub fn new(alloc: Global, filters: Vec<(Name, F)>) -> Result<LocalManager<F, B>, Status> {
+    /// A manager that has these filters, each under its name, and none of them loaded: it is ready. Refused with 1.
+    pub fn new(alloc: Global, filters: Vec<(Name, F)>) -> Result<LocalManager<F, B>, Status>
+        ensures empty { IfOk result (λ manager. (manager.desk.state ≡ empty_world) × (manager.filters.all ≡ filters) × (manager.bases.items ≡ [])) }
+        ensures ready { IfOk result (λ manager. IsReady F.pre_may F.post_may F.is_quiet B.folder B.faults WORKER manager) }
+        ensures memory { IfErr result (λ status. status ≡ Status.NoMemory) }
+    {
+        let resumed = Bounded::new(alloc, UNDER_WAY)?;
+        let finished = Bounded::new(alloc, UNDER_WAY)?;
+        let hand = Bounded::new(alloc, IN_HAND)?;
+        let leaks = Bounded::new(alloc, KEPT)?;
+        let trace = Bounded::new(alloc, KEPT)?;
         let state = State::new(alloc)?;
         Ok(LocalManager {
             alloc,
-            desk: Desk {
-                state,
-                resumed: Bounded::new(alloc, UNDER_WAY)?,
-            },
+            desk: Desk { state, resumed },
             filters: Filters::new(alloc, filters),
             bases: Vec::new(alloc),
-            finished: Bounded::new(alloc, UNDER_WAY)?,
-            hand: Bounded::new(alloc, IN_HAND)?,
-            leaks: Bounded::new(alloc, KEPT)?,
-            trace: Bounded::new(alloc, KEPT)?,
+            finished,
+            hand,
+            leaks,
+            trace,
         })
     }
 
@@ -72,29 +81,39 @@ impl<F: Minifilter, B: Base> LocalManager<F, B> {
     }
 
     /// How many steps of operations can be read.
-    pub fn traced(&self) -> usize {
+    pub fn traced(&self) -> usize
+        ensures { result ≡ length self.now.trace.items.items }
+    {
         self.trace.len()
     }
 
     /// One of the last 1,024 steps of operations, the oldest at place 0.
-    pub fn trace(&self, place: usize) -> Option<Traced> {
+    pub fn trace(&self, place: usize) -> Option<Traced>
+        ensures { result ≡ slice_get self.now.trace.items.items place }
+    {
         self.trace.get(place)
     }
 
     /// How many leaks can be read; the state's number counts those that were left out too.
-    pub fn leaked(&self) -> usize {
+    pub fn leaked(&self) -> usize
+        ensures { result ≡ length self.now.leaks.items.items }
+    {
         self.leaks.len()
     }
 
     /// One of the last 1,024 references that callbacks left behind, the oldest at place 0.
-    pub fn leak(&self, place: usize) -> Option<Leak> {
+    pub fn leak(&self, place: usize) -> Option<Leak>
+        ensures { result ≡ slice_get self.now.leaks.items.items place }
+    {
         self.leaks.get(place)
     }
 
     /// Loads the filter of that name, with what it registers for (`FltRegisterFilter`, `FltStartFiltering`). Refused, nothing changed: 6 where no filter
-    /// has that name, 1, and then as `State::register`.
+    /// has that name, 1, and then as `State::register`. A manager that is ready, to which only plain filters were handed in, stays ready.
     pub fn load(&mut self, name: &Name) -> Result<FilterId, Status>
-        ensures { LoadsAs F.registers self.old.filters self.old.desk.state name.now result self.new.desk.state }
+        ensures event { LoadsAs F.registers self.old.filters self.old.desk.state name.now result self.new.desk.state }
+        ensures ready { ArePlainFilters F.pre_may F.post_may F.is_quiet (handed_in self.old.filters) → IsReady F.pre_may F.post_may F.is_quiet B.folder B.faults WORKER self.old → IsReady F.pre_may F.post_may F.is_quiet B.folder B.faults WORKER self.new }
+        ensures kept { (self.new.filters.all ≡ self.old.filters.all) × (self.new.bases ≡ self.old.bases) }
     {
         let place = self.filters.place(name)?;
         let Some(filter) = self.filters.at(place) else {
@@ -107,11 +126,14 @@ impl<F: Minifilter, B: Base> LocalManager<F, B> {
         Ok(number)
     }
 
-    /// Mounts a volume over a file system. Refused, nothing changed but that the file system is gone: 1, and then as `State::mount`.
+    /// Mounts a volume over a file system. Refused, nothing changed but that the file system is gone: 1, and then as `State::mount`. A manager that is ready
+    /// stays ready.
     pub fn mount(&mut self, name: Name, base: B) -> Result<VolumeId, Status>
         ensures event { MountsAs self.old.desk.state name result self.new.desk.state }
         ensures base { IfOk result (λ _. self.new.bases.items ≡ self.old.bases.items ++ base ∷ []) }
         ensures refused { IfErr result (λ _. self.new.bases.items ≡ self.old.bases.items) }
+        ensures ready { IsReady F.pre_may F.post_may F.is_quiet B.folder B.faults WORKER self.old → IsReady F.pre_may F.post_may F.is_quiet B.folder B.faults WORKER self.new }
+        ensures kept { self.new.filters ≡ self.old.filters }
     {
         self.bases.reserve(1)?;
         let volume = self.desk.state.mount(name)?;

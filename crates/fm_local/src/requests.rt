@@ -6,7 +6,7 @@ ghost use Rattle.fm_data.specs.declared.request.FileRequest.TheVariants as asked
 ghost use Rattle.fm_data.specs.declared.request.Request.TheVariants as client;
 ghost use Rattle.fm_flow.specs.Answered.{bare_answer};
 ghost use Rattle.fm_flow.specs.declared.action.FlowAction.TheVariants as step;
-ghost use Rattle.fm_local.specs.Actions.{Acts, AnswersIn, ArePlainFilters, CarriesIn, IsBegun, IsDoneAt, IsReady, PerformsIn, ResumesNone, RunsIn, TurnsAs, WaitsAtEnd, closed_handle, goes_on, reply_of, replied};
+ghost use Rattle.fm_local.specs.Actions.{Acts, AnswersIn, ArePlainFilters, CarriesIn, GivesFinished, IsBegun, IsDoneAt, IsReady, PerformsIn, ResumesNone, RunsIn, TurnsAs, WaitsAtEnd, closed_handle, goes_on, reply_of, replied};
 ghost use Rattle.fm_local.specs.Bases.{BasesCarry};
 ghost use Rattle.fm_local.specs.Managers.{numbered};
 ghost use Rattle.fm_local.specs.Requests.{Tidies};
@@ -58,7 +58,10 @@ impl<F: Minifilter, B: Base> LocalManager<F, B> {
     }
 
     /// The reply of an operation that was held, in the order in which they ended.
-    pub fn finished(&mut self) -> Option<(OpId, Reply)> {
+    pub fn finished(&mut self) -> Option<(OpId, Reply)>
+        ensures first { GivesFinished self.old result self.new }
+        ensures kept { (self.new.filters ≡ self.old.filters) × (self.new.bases ≡ self.old.bases) × (self.new.desk.resumed ≡ self.old.desk.resumed) }
+    {
         let operation = self.finished.take()?;
         Some((operation, self.reply(operation)))
     }

@@ -1,8 +1,14 @@
 //! How instances come and go, with all callbacks in between.
 
-ghost use Rattle.std.specs.Prelude.{◌≡◌, Err, IfErr};
-ghost use Rattle.fm_local.specs.Calls.{AgreesAt, Asks, AsksToUnload, AttachesAs, DetachesAs, FilterEnds, MayAgree, TornDown, UnloadsAs, is_leaving, is_unloading};
+ghost use Rattle.std.specs.Prelude.{◌≡◌, ◌⊎◌, false, true, [], Err, IfErr, IsOk, length, slice_get};
+ghost use Rattle.fm_local.specs.Actions.{ArePlainFilters, IsReady};
+ghost use Rattle.fm_local.specs.Calls.{AgreesAt, Asks, AsksToUnload, AttachesAs, DetachesAs, FilterEnds, MayAgree, SetupEnds, TornDown, UnloadsAs, is_leaving, is_unloading};
 ghost use Rattle.fm_local.specs.Managers.{numbered};
+ghost use Rattle.fm_local.specs.Quietly.{AsksQuietly, AttachesQuietly, CompletesQuietly, DetachesQuietly, EndsQuietly, IsSettled, LeavesReady, SetUpQuietly, StartsQuietly, TearsDownFirst, TearsDownIf, TearsDownQuietly, UnloadsQuietly, WasTold, is_to_go};
+ghost use Rattle.fm_local.specs.Requests.{IsAtRest};
+ghost use Rattle.fm_world.specs.Events.{is_stopping_row};
+ghost use Rattle.fm_world.specs.Teardowns.{CompleteReturns, CompletesTeardown, StartReturns};
+ghost use Rattle.fm_world.specs.World.{World};
 ghost use Rattle.fm_types.specs.declared.ids.InstanceId.{InstanceId};
 
 use crate::manager::{LocalManager, WORKER};
@@ -17,7 +23,8 @@ const DRAINED: usize = 304;
 
 impl<F: Minifilter, B: Base> LocalManager<F, B> {
     /// Attaches an instance of a filter to a volume at an altitude, and calls its setup callback (`FltAttachVolumeAtAltitude`). Refused, nothing changed, as
-    /// `State::attach`; or, after the callback, as `State::setup_done`, with 11 where the filter declines: the instance is detached again then.
+    /// `State::attach`; or, after the callback, as `State::setup_done`, with 11 where the filter declines: the instance is detached again then. A manager that
+    /// is ready makes these events and no others, but for cleanups, and is ready again.
     pub fn attach(
         &mut self,
         filter: FilterId,
@@ -25,49 +32,68 @@ impl<F: Minifilter, B: Base> LocalManager<F, B> {
         name: Name,
         altitude: Altitude,
     ) -> Result<InstanceId, Status>
-        ensures { AttachesAs (AgreesAt F.setup_may self.old.filters) self.old.desk.state WORKER filter volume name altitude result self.new.desk.state }
+        ensures events { AttachesAs (AgreesAt F.setup_may self.old.filters) self.old.desk.state WORKER filter volume name altitude result self.new.desk.state }
+        ensures quiet { IsReady F.pre_may F.post_may F.is_quiet B.folder B.faults WORKER self.old → AttachesQuietly (AgreesAt F.setup_may self.old.filters) self.old.desk.state WORKER filter volume name altitude result self.new.desk.state }
+        ensures ready { IsReady F.pre_may F.post_may F.is_quiet B.folder B.faults WORKER self.old → LeavesReady F.pre_may F.post_may F.is_quiet B.folder B.faults WORKER self.old self.new }
     {
         let instance = self
             .desk
             .state
             .attach(WORKER, filter, volume, name, altitude)?;
+        match self.set_up(instance) {
+            Ok(()) => Ok(instance),
+            Err(status) => Err(status),
+        }
+    }
+
+    // The setup of a new instance, which is detached again where that is refused.
+    fn set_up(&mut self, instance: InstanceId) -> Result<(), Status>
+        ensures ends { SetupEnds (AgreesAt F.setup_may self.old.filters self.old.desk.state instance) WORKER result }
+        ensures quiet { ArePlainFilters F.pre_may F.post_may F.is_quiet (numbered self.old.filters) → self.old.desk.resumed.items.items ≡ [] → SetUpQuietly WORKER instance (AgreesAt F.setup_may self.old.filters self.old.desk.state instance) self.old.desk.state result self.new.desk.state × IsSettled self.old self.new }
+    {
         let accepted = self.setup(instance);
         self.settle();
-        if let Err(status) = accepted {
+        if accepted.is_err() {
             let _ = self.desk.state.finish(instance);
-            return Err(status);
         }
-        Ok(instance)
+        accepted
     }
 
     /// Detaches an instance (`FltDetachVolume`): asks its filter, tells it that the teardown starts, drains what it still waits for, and once nothing is in
     /// flight at it any more tells it that the teardown is complete, and cleans up its contexts. Refused as the events of the state are, of which it makes
     /// one after the other; with 34 and their number while operations are in flight at it, or contexts of it aren't cleaned. Called again, it goes on where
-    /// it stopped.
+    /// it stopped. A manager that is ready makes these events and no others, but for cleanups, and is ready again.
     pub fn detach(&mut self, instance: InstanceId) -> Result<(), Status>
-        ensures { DetachesAs (AgreesAt F.query_may self.old.filters) self.old.desk.state WORKER instance result self.new.desk.state }
+        ensures events { DetachesAs (AgreesAt F.query_may self.old.filters) self.old.desk.state WORKER instance result self.new.desk.state }
+        ensures quiet { IsReady F.pre_may F.post_may F.is_quiet B.folder B.faults WORKER self.old → DetachesQuietly WORKER instance (AgreesAt F.query_may self.old.filters) self.old.desk.state result self.new.desk.state }
+        ensures ready { IsReady F.pre_may F.post_may F.is_quiet B.folder B.faults WORKER self.old → LeavesReady F.pre_may F.post_may F.is_quiet B.folder B.faults WORKER self.old self.new }
     {
-        if !self.is_leaving(instance) {
-            self.ask(instance)?;
+        if self.is_leaving(instance) {
+            return self.tear_down(instance);
         }
+        self.ask(instance)?;
         self.tear_down(instance)
     }
 
     /// Unloads a filter (`FltUnloadFilter`): asks it, tears down its instances one after the other, and cleans up its contexts. Refused as the events of the
     /// state are, of which it makes one after the other; with 34 and their number while operations are in flight or contexts aren't cleaned. Called again, it
-    /// goes on where it stopped.
+    /// goes on where it stopped. A manager that is ready makes these events and no others, but for cleanups, and is ready again.
     pub fn unload(&mut self, filter: FilterId) -> Result<(), Status>
-        ensures { UnloadsAs F.unload_may self.old.filters self.old.desk.state WORKER filter result self.new.desk.state }
+        ensures events { UnloadsAs F.unload_may self.old.filters self.old.desk.state WORKER filter result self.new.desk.state }
+        ensures quiet { IsReady F.pre_may F.post_may F.is_quiet B.folder B.faults WORKER self.old → UnloadsQuietly WORKER filter (MayAgree F.unload_may (numbered self.old.filters filter.0)) self.old.desk.state result self.new.desk.state }
+        ensures ready { IsReady F.pre_may F.post_may F.is_quiet B.folder B.faults WORKER self.old → LeavesReady F.pre_may F.post_may F.is_quiet B.folder B.faults WORKER self.old self.new }
     {
-        if !self.is_unloading(filter) {
-            self.ask_to_unload(filter)?;
+        if self.is_unloading(filter) {
+            return self.end(filter);
         }
+        self.ask_to_unload(filter)?;
         self.end(filter)
     }
 
     // Asks a filter whether it may be unloaded.
     fn ask_to_unload(&mut self, filter: FilterId) -> Result<(), Status>
-        ensures { AsksToUnload (MayAgree F.unload_may (numbered self.old.filters filter.0)) self.old.desk.state WORKER filter result }
+        ensures asks { AsksToUnload (MayAgree F.unload_may (numbered self.old.filters filter.0)) self.old.desk.state WORKER filter result self.new.desk.state }
+        ensures kept { self.new ≡ record self.old { desk = record self.old.desk { state = self.new.desk.state } } }
     {
         self.desk.state.ask_unload(WORKER, filter)?;
         self.unloading(filter)
@@ -75,7 +101,8 @@ impl<F: Minifilter, B: Base> LocalManager<F, B> {
 
     // The end of a filter, from where it is.
     fn end(&mut self, filter: FilterId) -> Result<(), Status>
-        ensures { FilterEnds WORKER filter result self.new.desk.state }
+        ensures ends { FilterEnds WORKER filter result self.new.desk.state }
+        ensures quiet { ArePlainFilters F.pre_may F.post_may F.is_quiet (numbered self.old.filters) → IsAtRest WORKER self.old.desk.state → self.old.desk.resumed.items.items ≡ [] → EndsQuietly WORKER filter self.old.desk.state result self.new.desk.state × IsSettled self.old self.new }
     {
         self.tear_down_all(filter)?;
         self.desk.state.empty_filter(filter)?;
@@ -85,7 +112,8 @@ impl<F: Minifilter, B: Base> LocalManager<F, B> {
 
     // Asks an instance's filter whether it may be detached.
     fn ask(&mut self, instance: InstanceId) -> Result<(), Status>
-        ensures { Asks (AgreesAt F.query_may self.old.filters) self.old.desk.state WORKER instance result }
+        ensures asks { Asks (AgreesAt F.query_may self.old.filters) self.old.desk.state WORKER instance result }
+        ensures quiet { ArePlainFilters F.pre_may F.post_may F.is_quiet (numbered self.old.filters) → self.old.desk.resumed.items.items ≡ [] → AsksQuietly WORKER instance (AgreesAt F.query_may self.old.filters) self.old.desk.state result self.new.desk.state × IsSettled self.old self.new }
     {
         self.desk.state.ask_detach(WORKER, instance)?;
         let allowed = self.query(instance);
@@ -103,6 +131,13 @@ impl<F: Minifilter, B: Base> LocalManager<F, B> {
         )
     }
 
+    // Whether an instance is stopping.
+    fn is_stopping(&self, instance: InstanceId) -> bool
+        ensures { result ≡ is_stopping_row (slice_get self.now.desk.state.stack.instances instance.0) }
+    {
+        matches!(self.desk.state.phase(instance), Some(Phase::Stopping))
+    }
+
     // Whether a filter's end is under way.
     fn is_unloading(&self, filter: FilterId) -> bool
         ensures { result ≡ is_unloading self.now.desk.state filter }
@@ -115,43 +150,99 @@ impl<F: Minifilter, B: Base> LocalManager<F, B> {
 
     // Tears down the instances of a filter that aren't detached, until one can't be yet.
     fn tear_down_all(&mut self, filter: FilterId) -> Result<(), Status>
-        ensures { IfErr result (λ status. (i : InstanceId) × TornDown WORKER i (Err status) self.new.desk.state) }
+        ensures stops { IfErr result (λ status. (i : InstanceId) × TornDown WORKER i (Err status) self.new.desk.state) }
+        ensures quiet { ArePlainFilters F.pre_may F.post_may F.is_quiet (numbered self.old.filters) → IsAtRest WORKER self.old.desk.state → self.old.desk.resumed.items.items ≡ [] → IsOk result × TearsDownFirst WORKER filter (length self.old.desk.state.stack.instances) self.old.desk.state self.new.desk.state × IsSettled self.old self.new }
     {
+        self.desk.state.laws();
         for at in 0..u16::try_from(self.desk.state.instances()).unwrap_or(u16::MAX) {
-            let instance = InstanceId(at);
-            if self.desk.state.filter_of(instance) == Some(filter) && self.is_leaving(instance) {
-                self.tear_down(instance)?;
-            }
+            self.tear_down_if(filter, InstanceId(at))?;
         }
         Ok(())
     }
 
+    // The teardown of an instance, where it is one of the filter and its teardown is under way.
+    fn tear_down_if(&mut self, filter: FilterId, instance: InstanceId) -> Result<(), Status>
+        ensures stops { IfErr result (λ status. TornDown WORKER instance (Err status) self.new.desk.state) }
+        ensures quiet { ArePlainFilters F.pre_may F.post_may F.is_quiet (numbered self.old.filters) → IsAtRest WORKER self.old.desk.state → self.old.desk.resumed.items.items ≡ [] → IsOk result × TearsDownIf WORKER filter (is_to_go filter self.old.desk.state instance) instance self.old.desk.state self.new.desk.state × IsSettled self.old self.new }
+    {
+        if self.is_to_go(filter, instance) {
+            return self.tear_down(instance);
+        }
+        Ok(())
+    }
+
+    // Whether an instance is one of the filter, and its teardown is under way.
+    fn is_to_go(&self, filter: FilterId, instance: InstanceId) -> bool
+        ensures { result ≡ is_to_go filter self.now.desk.state instance }
+    {
+        match self.desk.state.filter_of(instance) {
+            Some(own) => own.0 == filter.0 && self.is_leaving(instance),
+            None => false,
+        }
+    }
+
     // The teardown of an instance, from where it is.
     fn tear_down(&mut self, instance: InstanceId) -> Result<(), Status>
-        ensures { TornDown WORKER instance result self.new.desk.state }
+        ensures ends { TornDown WORKER instance result self.new.desk.state }
+        ensures quiet { ArePlainFilters F.pre_may F.post_may F.is_quiet (numbered self.old.filters) → IsAtRest WORKER self.old.desk.state → self.old.desk.resumed.items.items ≡ [] → TearsDownQuietly WORKER instance self.old.desk.state result self.new.desk.state × IsSettled self.old self.new }
+        ensures goes { ArePlainFilters F.pre_may F.post_may F.is_quiet (numbered self.old.filters) → IsAtRest WORKER self.old.desk.state → self.old.desk.resumed.items.items ≡ [] → is_leaving self.old.desk.state instance ≡ true → IsOk result }
     {
-        if self.desk.state.start_teardown(WORKER, instance).is_ok() {
+        self.desk.state.laws();
+        self.begin_teardown(instance)?;
+        self.end_teardown(instance)?;
+        self.clean_up();
+        self.desk.state.laws();
+        self.desk.state.finish(instance)
+    }
+
+    // The start of an instance's teardown, unless it was made before.
+    fn begin_teardown(&mut self, instance: InstanceId) -> Result<(), Status>
+        ensures stops { IfErr result (λ status. (before after : World) × StartReturns before WORKER (Err status) after) }
+        ensures quiet { ArePlainFilters F.pre_may F.post_may F.is_quiet (numbered self.old.filters) → IsAtRest WORKER self.old.desk.state → self.old.desk.resumed.items.items ≡ [] → IsOk result × StartsQuietly WORKER instance self.old.desk.state self.new.desk.state × IsSettled self.old self.new }
+    {
+        if let Ok(()) = self.desk.state.start_teardown(WORKER, instance) {
             self.start(instance)?;
             self.drain_all(instance);
             self.settle();
         }
-        if self.desk.state.phase(instance) == Some(Phase::Stopping) {
+        Ok(())
+    }
+
+    // The completion of an instance's teardown, where it is stopping.
+    fn end_teardown(&mut self, instance: InstanceId) -> Result<(), Status>
+        ensures stops { IfErr result (λ status. ((before : World) × CompletesTeardown before WORKER instance (Err status) self.new.desk.state) ⊎ ((before after : World) × CompleteReturns before WORKER (Err status) after)) }
+        ensures quiet { ArePlainFilters F.pre_may F.post_may F.is_quiet (numbered self.old.filters) → IsAtRest WORKER self.old.desk.state → self.old.desk.resumed.items.items ≡ [] → WasTold instance self.old.desk.state.stack → IsOk result × CompletesQuietly WORKER instance self.old.desk.state self.new.desk.state × IsSettled self.old self.new }
+    {
+        if self.is_stopping(instance) {
             self.desk.state.complete_teardown(WORKER, instance)?;
             self.complete(instance)?;
             self.settle();
         }
-        self.clean_up();
-        self.desk.state.finish(instance)
+        Ok(())
     }
 
     // Has a stopping instance let go of all that it waits for.
-    fn drain_all(&mut self, instance: InstanceId) {
+    fn drain_all(&mut self, instance: InstanceId)
+        ensures none { self.old.desk.state.flow.operations ≡ [] → self.new ≡ self.old }
+    {
         for _ in 0..DRAINED {
-            let Ok(Some((operation, completion))) = self.desk.state.drain_take(WORKER, instance)
-            else {
+            if !self.drain_first(instance) {
                 return;
-            };
-            let _ = self.drain_early(operation, instance, completion);
+            }
+        }
+    }
+
+    // Has it let go of what the first operation owes it; false where none does.
+    fn drain_first(&mut self, instance: InstanceId) -> bool
+        ensures none { self.old.desk.state.flow.operations ≡ [] → (result ≡ false) × (self.new ≡ self.old) }
+    {
+        match self.desk.state.drain_take(WORKER, instance) {
+            Ok(Some((operation, completion))) => {
+                let _ = self.drain_early(operation, instance, completion);
+                true
+            }
+            Ok(None) => false,
+            Err(_) => false,
         }
     }
 }

@@ -1,0 +1,17 @@
+use Rattle.std.specs.Prelude.{Ok, Option}
+use Rattle.std.proofs.Common.{subst}
+use Rattle.fm_ctx.specs.declared.due.Due.{Due}
+use Rattle.fm_world.specs.ContextEvents.{TakesDue}
+use Rattle.fm_local.proofs.Cleaning.{cleans_nothing, cleans_refused}
+use Rattle.fm_local.proofs.cleanups.clean_next.Goals as goal
+use Rattle.fm_local.specs.Managers.{numbered}
+use Rattle.fm_local.specs.declared.manager.TheConstants.{WORKER}
+
+pub returns-in-Ok-None-clause-cleans : goal.returns-in-Ok-None-clause-cleans
+returns-in-Ok-None-clause-cleans g c =
+    cleans_nothing g.F.Minifilter.cleanup_may (numbered c.args.filters.now) WORKER c.args.state.now c.take_due.new.self c.laws.ensures
+    (subst (λ (m : Option Due). TakesDue c.args.state.now WORKER (Ok m) c.take_due.new.self) c.in-Ok-None.field-0-is c.in-Ok-None.ensures.event)
+
+pub returns-in-Err-clause-cleans : goal.returns-in-Err-clause-cleans
+returns-in-Err-clause-cleans g c =
+    cleans_refused g.F.Minifilter.cleanup_may (numbered c.args.filters.now) WORKER c.args.state.now c.take_due.new.self c.in-Err.field-0 c.laws.ensures c.in-Err.ensures.event

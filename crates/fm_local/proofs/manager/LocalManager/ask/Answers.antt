@@ -1,0 +1,9 @@
+use Rattle.fm_local.proofs.Readied.{asks_by}
+use Rattle.fm_local.proofs.manager.LocalManager.ask.Goals as goal
+use Rattle.fm_local.specs.Calls.{AgreesAt}
+use Rattle.fm_local.specs.declared.manager.TheConstants.{WORKER}
+
+pub returns-clause-asks : goal.returns-clause-asks
+returns-clause-asks g c =
+    let old = c.args.self.now in
+    asks_by (AgreesAt g.F.Minifilter.query_may old.filters) old.desk.state WORKER c.args.instance c.query-allowed.result c.ask_detach.new.self c.in_ok-ask_detach.ensures.event c.query-allowed.ensures.ends

@@ -1,0 +1,12 @@
+use Rattle.std.proofs.Common.{sym, ap, subst}
+use Rattle.fm_local.proofs.manager.LocalManager.complete.Goals as goal
+use Rattle.fm_local.specs.declared.manager.TheConstants.{WORKER}
+use Rattle.fm_world.specs.Teardowns.{CompleteReturns}
+use Rattle.fm_world.specs.World.{World}
+
+pub returns-clause-ends : goal.returns-clause-ends
+returns-clause-ends g c =
+    let before = c.tell_complete.new.self.desk.state in (
+      before,
+      subst (λ (w : World). CompleteReturns before WORKER c.complete_returned-ended.result w) (sym (ap (λ m. m.desk.state) c.note_left.ensures)) c.complete_returned-ended.ensures.event,
+    )

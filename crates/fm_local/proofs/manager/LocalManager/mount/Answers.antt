@@ -1,0 +1,22 @@
+use Rattle.std.specs.Prelude.{Err, Ok}
+use Rattle.std.proofs.Common.{refl}
+use Rattle.fm_local.proofs.Readied.{mounted_ready}
+use Rattle.fm_local.proofs.Resting.{mounted_calm}
+use Rattle.fm_local.proofs.manager.LocalManager.mount.Goals as goal
+use Rattle.fm_local.specs.declared.manager.TheConstants.{WORKER}
+
+pub returns-in_err-volume-clause-ready : goal.returns-in_err-volume-clause-ready
+returns-in_err-volume-clause-ready g c ready =
+    let old = c.args.self.now in
+    let state = c.mount.new.self in
+    mounted_ready g.F.Minifilter.pre_may g.F.Minifilter.post_may g.F.Minifilter.is_quiet g.B.Base.folder g.B.Base.faults WORKER old
+    (record old { bases = c.reserve.new.self; desk = record old.desk { state = state } }) ready refl refl
+    (mounted_calm old.desk.state c.args.name (Err c.in_err-volume.field-0.0) state c.in_err-volume.ensures.event)
+
+pub returns-clause-ready : goal.returns-clause-ready
+returns-clause-ready g c ready =
+    let old = c.args.self.now in
+    let state = c.mount.new.self in
+    mounted_ready g.F.Minifilter.pre_may g.F.Minifilter.post_may g.F.Minifilter.is_quiet g.B.Base.folder g.B.Base.faults WORKER old
+    (record old { bases = c.push_reserved.new.self; desk = record old.desk { state = state } }) ready refl refl
+    (mounted_calm old.desk.state c.args.name (Ok c.in_ok-volume.volume) state c.in_ok-volume.ensures.event)

@@ -1,0 +1,9 @@
+use Rattle.std.proofs.Common.{refl}
+use Rattle.fm_local.proofs.Readied.{new_ready}
+use Rattle.fm_local.proofs.manager.LocalManager.new.Goals as goal
+use Rattle.fm_local.specs.declared.manager.TheConstants.{WORKER}
+
+pub returns-clause-ready : goal.returns-clause-ready
+returns-clause-ready g c =
+    new_ready g.F.Minifilter.pre_may g.F.Minifilter.post_may g.F.Minifilter.is_quiet g.B.Base.folder g.B.Base.faults WORKER _ refl c.in_ok-state.ensures.empty c.new-7.ensures.none
+    c.in_ok-resumed.ensures

@@ -1,0 +1,55 @@
+use Rattle.std.proofs.Common.{ap, ◌∙◌}
+use Rattle.fm_local.proofs.Emptied.{ends_well}
+use Rattle.fm_local.proofs.Readied.{not_ok, plain_still, rests_still, told_still}
+use Rattle.fm_local.proofs.manager.LocalManager.tear_down.Goals as goal
+use Rattle.fm_local.specs.declared.manager.TheConstants.{WORKER}
+
+pub returns-in_err-end_teardown-clause-quiet : goal.returns-in_err-end_teardown-clause-quiet
+returns-in_err-end_teardown-clause-quiet g c plain rests settled =
+    let old = c.args.self.now in
+    let mid = c.begin_teardown.new.self in
+    let first = c.in_ok-begin_teardown.ensures.quiet plain rests settled in
+    let still = plain_still g.F.Minifilter.pre_may g.F.Minifilter.post_may g.F.Minifilter.is_quiet g.B.Base.folder g.B.Base.faults WORKER old mid first.2 plain in
+    let calm = rests_still g.F.Minifilter.pre_may g.F.Minifilter.post_may g.F.Minifilter.is_quiet g.B.Base.folder g.B.Base.faults WORKER c.args.instance old c.laws.ensures plain rests mid first.1 first.2 in
+    let told = told_still g.F.Minifilter.pre_may g.F.Minifilter.post_may g.F.Minifilter.is_quiet g.B.Base.folder g.B.Base.faults WORKER c.args.instance old c.laws.ensures plain rests mid first.1 first.2 in
+    absurd (not_ok c.in_err-end_teardown.field-0.0 (c.in_err-end_teardown.ensures.quiet still calm first.2.settled told).0)
+
+pub returns-clause-quiet : goal.returns-clause-quiet
+returns-clause-quiet g c plain rests settled =
+    let old = c.args.self.now in
+    let mid = c.begin_teardown.new.self in
+    let first = c.in_ok-begin_teardown.ensures.quiet plain rests settled in
+    let still = plain_still g.F.Minifilter.pre_may g.F.Minifilter.post_may g.F.Minifilter.is_quiet g.B.Base.folder g.B.Base.faults WORKER old mid first.2 plain in
+    let calm = rests_still g.F.Minifilter.pre_may g.F.Minifilter.post_may g.F.Minifilter.is_quiet g.B.Base.folder g.B.Base.faults WORKER c.args.instance old c.laws.ensures plain rests mid first.1 first.2 in
+    let told = told_still g.F.Minifilter.pre_may g.F.Minifilter.post_may g.F.Minifilter.is_quiet g.B.Base.folder g.B.Base.faults WORKER c.args.instance old c.laws.ensures plain rests mid first.1 first.2 in
+    let then = c.in_ok-end_teardown.ensures.quiet still calm first.2.settled told in
+    let kept = c.clean_up.ensures.kept in (
+      (mid.desk.state, c.end_teardown.new.self.desk.state, c.clean_up.new.self.desk.state, first.1, then.1, c.clean_up.ensures.tidies, c.finish.ensures.event),
+      record {
+        bases = ap (λ m. m.bases) kept ∙ then.2.bases ∙ first.2.bases;
+        filters = ap (λ m. m.filters) kept ∙ then.2.filters ∙ first.2.filters;
+        settled = ap (λ m. m.desk.resumed.items.items) kept ∙ then.2.settled;
+      },
+    )
+
+pub returns-in_err-end_teardown-clause-goes : goal.returns-in_err-end_teardown-clause-goes
+returns-in_err-end_teardown-clause-goes g c plain rests settled leaves =
+    let old = c.args.self.now in
+    let mid = c.begin_teardown.new.self in
+    let first = c.in_ok-begin_teardown.ensures.quiet plain rests settled in
+    let still = plain_still g.F.Minifilter.pre_may g.F.Minifilter.post_may g.F.Minifilter.is_quiet g.B.Base.folder g.B.Base.faults WORKER old mid first.2 plain in
+    let calm = rests_still g.F.Minifilter.pre_may g.F.Minifilter.post_may g.F.Minifilter.is_quiet g.B.Base.folder g.B.Base.faults WORKER c.args.instance old c.laws.ensures plain rests mid first.1 first.2 in
+    let told = told_still g.F.Minifilter.pre_may g.F.Minifilter.post_may g.F.Minifilter.is_quiet g.B.Base.folder g.B.Base.faults WORKER c.args.instance old c.laws.ensures plain rests mid first.1 first.2 in
+    absurd (not_ok c.in_err-end_teardown.field-0.0 (c.in_err-end_teardown.ensures.quiet still calm first.2.settled told).0)
+
+pub returns-clause-goes : goal.returns-clause-goes
+returns-clause-goes g c plain rests settled leaves =
+    let old = c.args.self.now in
+    let mid = c.begin_teardown.new.self in
+    let first = c.in_ok-begin_teardown.ensures.quiet plain rests settled in
+    let still = plain_still g.F.Minifilter.pre_may g.F.Minifilter.post_may g.F.Minifilter.is_quiet g.B.Base.folder g.B.Base.faults WORKER old mid first.2 plain in
+    let calm = rests_still g.F.Minifilter.pre_may g.F.Minifilter.post_may g.F.Minifilter.is_quiet g.B.Base.folder g.B.Base.faults WORKER c.args.instance old c.laws.ensures plain rests mid first.1 first.2 in
+    let told = told_still g.F.Minifilter.pre_may g.F.Minifilter.post_may g.F.Minifilter.is_quiet g.B.Base.folder g.B.Base.faults WORKER c.args.instance old c.laws.ensures plain rests mid first.1 first.2 in
+    let then = c.in_ok-end_teardown.ensures.quiet still calm first.2.settled told in
+    ends_well WORKER c.args.instance old.desk.state mid.desk.state c.end_teardown.new.self.desk.state c.clean_up.new.self.desk.state c.laws.ensures rests first.1 then.1 c.clean_up.ensures.tidies
+    leaves c.laws-2.ensures c.clean_up.ensures.none c.finish.result c.finish.new.self c.finish.ensures.event c.finish.ensures.waiting

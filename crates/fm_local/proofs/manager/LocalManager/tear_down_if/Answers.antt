@@ -1,0 +1,18 @@
+use Rattle.std.specs.Prelude.{Bool}
+use Rattle.std.proofs.Common.{sym, subst, ◌∙◌}
+use Rattle.fm_local.proofs.Readied.{goes_on_leaving, torn_ok}
+use Rattle.fm_local.proofs.manager.LocalManager.tear_down_if.Goals as goal
+use Rattle.fm_local.specs.Quietly.{TearsDownIf}
+use Rattle.fm_local.specs.declared.manager.TheConstants.{WORKER}
+
+pub returns-then-is_to_go-clause-quiet : goal.returns-then-is_to_go-clause-quiet
+returns-then-is_to_go-clause-quiet g c plain rests settled =
+    let old = c.args.self.now.desk.state in
+    let new = c.tear_down.new.self.desk.state in
+    let goes = sym c.is_to_go.ensures ∙ c.if-is_to_go.true in
+    let ok = c.tear_down.ensures.goes plain rests settled (goes_on_leaving c.args.filter old c.args.instance goes) in
+    let tears = c.tear_down.ensures.quiet plain rests settled in (
+      ok,
+      subst (λ (b : Bool). TearsDownIf WORKER c.args.filter b c.args.instance old new) (sym goes) (torn_ok WORKER c.args.instance old c.tear_down.result new ok tears.0),
+      tears.1,
+    )

@@ -1,0 +1,47 @@
+use Rattle.std.specs.Prelude.{Bool}
+use Rattle.std.proofs.Common.{inr, sym, ap, subst, ◌∙◌}
+use Rattle.fm_local.proofs.Readied.{agreed_rests, ends_ready, loaded_leaves, plain_still, unloaded_leaves}
+use Rattle.fm_local.proofs.manager.LocalManager.unload.Goals as goal
+use Rattle.fm_local.specs.Calls.{MayAgree}
+use Rattle.fm_local.specs.Managers.{numbered}
+use Rattle.fm_local.specs.Quietly.{IsSettled, UnloadsQuietlyBy}
+use Rattle.fm_local.specs.declared.manager.TheConstants.{WORKER}
+
+pub returns-then-is_unloading-clause-ready : goal.returns-then-is_unloading-clause-ready
+returns-then-is_unloading-clause-ready g c ready =
+    ends_ready g.F.Minifilter.pre_may g.F.Minifilter.post_may g.F.Minifilter.is_quiet g.B.Base.folder g.B.Base.faults WORKER c.args.filter c.args.self.now ready c.end.result c.end.new.self
+    (c.end.ensures.quiet ready.plain ready.rests ready.settled)
+
+pub returns-in_err-ask_to_unload-clause-ready : goal.returns-in_err-ask_to_unload-clause-ready
+returns-in_err-ask_to_unload-clause-ready g c ready =
+    let old = c.args.self.now in
+    let kept = c.in_err-ask_to_unload.ensures.kept in
+    loaded_leaves g.F.Minifilter.pre_may g.F.Minifilter.post_may g.F.Minifilter.is_quiet g.B.Base.folder g.B.Base.faults WORKER c.args.filter old ready
+    (MayAgree g.F.Minifilter.unload_may (numbered old.filters c.args.filter.0)) c.in_err-ask_to_unload.field-0.0 c.ask_to_unload.new.self c.in_err-ask_to_unload.ensures.asks
+    (record { bases = ap (λ m. m.bases) kept; filters = ap (λ m. m.filters) kept; settled = ap (λ m. m.desk.resumed.items.items) kept ∙ ready.settled })
+
+pub returns-clause-quiet : goal.returns-clause-quiet
+returns-clause-quiet g c ready =
+    let old = c.args.self.now in
+    let asked = c.ask_to_unload.new.self in
+    let may = MayAgree g.F.Minifilter.unload_may (numbered old.filters c.args.filter.0) in
+    let asks = c.in_ok-ask_to_unload.ensures.asks in
+    let kept = c.in_ok-ask_to_unload.ensures.kept in
+    let settles : IsSettled old asked = record { bases = ap (λ m. m.bases) kept; filters = ap (λ m. m.filters) kept; settled = ap (λ m. m.desk.resumed.items.items) kept ∙ ready.settled } in
+    let rests = agreed_rests g.F.Minifilter.pre_may g.F.Minifilter.post_may g.F.Minifilter.is_quiet g.B.Base.folder g.B.Base.faults WORKER c.args.filter old ready may asked asks settles in
+    let plain = plain_still g.F.Minifilter.pre_may g.F.Minifilter.post_may g.F.Minifilter.is_quiet g.B.Base.folder g.B.Base.faults WORKER old asked settles ready.plain in
+    subst (λ (b : Bool). UnloadsQuietlyBy WORKER c.args.filter b may old.desk.state c.end-2.result c.end-2.new.self.desk.state)
+    (sym (sym c.is_unloading.ensures ∙ c.if-is_unloading.false)) (inr (asked.desk.state, asks, (c.end-2.ensures.quiet plain rests settles.settled).0))
+
+pub returns-clause-ready : goal.returns-clause-ready
+returns-clause-ready g c ready =
+    let old = c.args.self.now in
+    let asked = c.ask_to_unload.new.self in
+    let may = MayAgree g.F.Minifilter.unload_may (numbered old.filters c.args.filter.0) in
+    let asks = c.in_ok-ask_to_unload.ensures.asks in
+    let kept = c.in_ok-ask_to_unload.ensures.kept in
+    let settles : IsSettled old asked = record { bases = ap (λ m. m.bases) kept; filters = ap (λ m. m.filters) kept; settled = ap (λ m. m.desk.resumed.items.items) kept ∙ ready.settled } in
+    let rests = agreed_rests g.F.Minifilter.pre_may g.F.Minifilter.post_may g.F.Minifilter.is_quiet g.B.Base.folder g.B.Base.faults WORKER c.args.filter old ready may asked asks settles in
+    let plain = plain_still g.F.Minifilter.pre_may g.F.Minifilter.post_may g.F.Minifilter.is_quiet g.B.Base.folder g.B.Base.faults WORKER old asked settles ready.plain in
+    unloaded_leaves g.F.Minifilter.pre_may g.F.Minifilter.post_may g.F.Minifilter.is_quiet g.B.Base.folder g.B.Base.faults WORKER c.args.filter old ready may asked asks settles c.end-2.result c.end-2.new.self
+    (c.end-2.ensures.quiet plain rests settles.settled)

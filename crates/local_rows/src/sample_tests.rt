@@ -2,7 +2,7 @@
 
 use crate::asked::{Ask, DONE, Line, Told, VOLUME, ask_all, with};
 use fm_base::Base;
-use fm_samples::{Guard, Meter, Sample, Shift};
+use fm_samples::{Carry, Guard, Meter, Sample, Shift};
 use fm_types::{FilterId, HandleId, InstanceId, RelPath, Status};
 use std::process::Abort;
 
@@ -99,4 +99,25 @@ fn meter_total(rt: HostRuntime) {
     assert_eq!(rt; manager.leaked(), 0);
     assert!(rt; manager.detach(InstanceId(0)) == Ok(()));
     assert!(rt; manager.unload(FilterId(0)) == Ok(()));
+}
+
+// The first read makes a context of its handle, the second one finds it; both send it along, and it comes back to be released. The close is its end.
+#[test]
+fn carried_reads(rt: HostRuntime) {
+    let alloc = rt.alloc();
+    let mut manager = with(
+        &rt,
+        alloc,
+        &[(b"carry", Sample::Carry(Carry::new(alloc)), b"100")],
+    );
+    let lines: [Line; 4] = [
+        (Ask::Create(b"x"), DONE),
+        (Ask::Read(0, 0, 0), DONE),
+        (Ask::Read(0, 0, 0), DONE),
+        (Ask::Close(0), DONE),
+    ];
+    ask_all(&rt, alloc, &mut manager, &lines);
+    assert_eq!(rt; manager.state().born(), 1);
+    assert_eq!(rt; manager.state().cleaned_count(), 1);
+    assert_eq!(rt; manager.state().leaks(), 0);
 }

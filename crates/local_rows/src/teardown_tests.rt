@@ -55,6 +55,20 @@ fn hold_and_stay(rt: HostRuntime) {
     see_finished(&rt, &mut manager, &[(1, DONE)]);
 }
 
+// The start of its teardown has it resume what it holds, and the read goes on below it.
+#[test]
+fn detach_of_a_hold(rt: HostRuntime) {
+    let alloc = rt.alloc();
+    let mut manager = with(&rt, alloc, &[(b"hold", Sample::Hold(Hold), b"100")]);
+    let held: [Line; 2] = [
+        (Ask::Create(b"x"), DONE),
+        (Ask::Read(0, 0, 0), Told::Held(1)),
+    ];
+    ask_all(&rt, alloc, &mut manager, &held);
+    assert!(rt; manager.detach(INSTANCE) == Ok(()));
+    see_finished(&rt, &mut manager, &[(1, DONE)]);
+}
+
 // The read is held above the instance that is to be told of it on the way up: the detach of that one drains it, and the read goes on when it is resumed.
 #[test]
 fn detach_below_a_held_read(rt: HostRuntime) {

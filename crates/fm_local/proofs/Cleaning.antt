@@ -19,8 +19,7 @@ use Rattle.fm_world.specs.World.{World}
 use Rattle.fm_world.specs.declared.worker.Worker.TheVariants as place
 use Rattle.fm_local.proofs.Events.{placed}
 use Rattle.fm_local.proofs.Tidying.{took}
-use Rattle.fm_local.specs.Cleanups.{CleansAll, CleansSome, LeavesNoneDue, MayReturn, cleaner_of}
-use Rattle.fm_local.specs.Requests.{Tidies}
+use Rattle.fm_local.specs.Cleanups.{CleansAll, CleansSome, HasNoneDue, MayReturn, cleaner_of}
 
 none_first : {X : Type 0} (xs : List X) → slice_get xs 0 ≡ None → xs ≡ []
 none_first [] h = refl
@@ -89,8 +88,8 @@ module _ {F : Type 0} (may : F → ContextKind → List ℕ → ℕ → Type 0) 
   pub cleans_fewer : (mid new : World) → CleansSome may filters k true mid new → length new.contexts.due < length mid.contexts.due
   cleans_fewer mid new (one, fewer) = grind arith
 
-  pub none_left : (old mid new : World) → Tidies old mid → CleansSome may filters k false mid new → LeavesNoneDue k old new
-  none_left old mid new tidies (same, none) idle = ap (λ (w : World). w.contexts.due) same ∙ none (ap (λ ws. is_idle (worker_at ws k)) tidies.workers ∙ idle)
+  pub none_left : (mid new : World) → CleansSome may filters k false mid new → HasNoneDue k new
+  none_left mid new (same, none) idle = ap (λ (w : World). w.contexts.due) same ∙ none (ap (λ (w : World). is_idle (worker_at w.workers k)) (sym same) ∙ idle)
 
 pub ruleset cleaning = (cleans_one, cleans_nothing, cleans_refused)
 

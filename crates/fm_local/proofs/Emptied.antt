@@ -32,7 +32,7 @@ use Rattle.fm_world.specs.declared.worker.Worker.{Worker}
 use Rattle.fm_local.proofs.Leaving.{complete_stack, completes_leaves, not_completing, start_refused, start_stack, starts_leaves}
 use Rattle.fm_local.proofs.Resting.{by_tidying, rests_on}
 use Rattle.fm_local.specs.Calls.{is_leaving, is_leaving_phase}
-use Rattle.fm_local.specs.Cleanups.{LeavesNoneDue}
+use Rattle.fm_local.specs.Cleanups.{HasNoneDue}
 use Rattle.fm_local.specs.Quietly.{StartsQuietly, CompletesQuietly}
 use Rattle.fm_local.specs.Requests.{IsAtRest, Tidies}
 
@@ -196,9 +196,10 @@ module _ (k : WorkerId) (i : InstanceId) (old mid late tidy : World) (sound : Is
   late_rests : IsAtRest k late
   late_rests = rests_on k mid late (completes_leaves k i mid late mid_rests.idle completes).0.undisturbed mid_rests
 
-  pub ends_well : is_leaving old i ≡ true → IsSound tidy → LeavesNoneDue k late tidy → (result : Result (Unit {0}) Status) (new : World) → Finishes tidy i result new → WaitsIfBusy tidy i result
+  pub ends_well : is_leaving old i ≡ true → IsSound tidy → HasNoneDue k tidy → (result : Result (Unit {0}) Status) (new : World) → Finishes tidy i result new → WaitsIfBusy tidy i result
       → IsOk result
   ends_well leaves still none (Ok done) new h waits = refl
   ends_well leaves still none (Err why) new h waits =
       let emptying = ap (λ (s : StackWorld). is_emptying_at (slice_get s.instances i.0)) tidies.stack ∙ comes_to_end k i old mid late sound rests mid_rests leaves starts completes in
-      absurd (finishes k i tidy still (rests_on k late tidy (by_tidying late tidy tidies) late_rests) (none (ap is_idle late_rests.idle)) emptying why new h waits)
+      let calm = rests_on k late tidy (by_tidying late tidy tidies) late_rests in
+      absurd (finishes k i tidy still calm (none (ap is_idle calm.idle)) emptying why new h waits)

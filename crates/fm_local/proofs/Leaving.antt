@@ -29,6 +29,7 @@ use Rattle.fm_world.specs.World.{World}
 use Rattle.fm_world.specs.declared.worker.Worker.TheVariants as place
 use Rattle.fm_local.proofs.Resting.{CalmAfter, Undisturbed, both, by_tidying, calm_both, calm_finished, calm_same, calm_tidied, goes, happened, is_in, is_out, no_count, none_in, others_stay}
 use Rattle.fm_local.proofs.Resting.{refused_same, rests_on, stays_fewer, stops}
+use Rattle.fm_local.specs.Calls.{is_leaving, is_leaving_phase}
 use Rattle.fm_local.specs.Quietly.{AsksQuietly, StartsQuietly, CompletesQuietly, TearsDownQuietly, WasTold}
 use Rattle.fm_local.specs.Requests.{IsAtRest, Tidies}
 
@@ -85,6 +86,30 @@ module _ (k : WorkerId) (i : InstanceId) where
           fewer = λ j h. others_stay stack.stop_row old.stack.instances i.0 j (subst (λ (s : StackWorld). stops s j ≡ true) (tidies.stack ∙ is) h);
         }
 
+    -- it agreed, so its teardown is under way
+    agreed : (s : StackWorld) (allows : Bool) (t : StackWorld) → stack.QueryReturns s i allows (Ok tt) t → passes stack.is_in_use (slice_get s.instances i.0) ≡ true
+    unfolding stack.QueryReturns
+    agreed s allows t h = by_refusals (not allows) (passes stack.is_in_use (slice_get s.instances i.0)) h.0
+      where
+        by_refusals : (a b : Bool) → first_of ((a, status.DoNotDetach) ∷ (not b, status.DeletingObject) ∷ []) ≡ None → b ≡ true
+        by_refusals a b h = grind arith
+
+    stopped_row : (rows : List Instance) (n : ℕ) → passes stack.is_in_use (slice_get rows n) ≡ true
+        → is_leaving_phase (option_map (λ (row : Instance). row.phase) (slice_get (updated stack.stop_row rows n) n)) ≡ true
+    stopped_row [] n h = cc
+    stopped_row (x ∷ rows) zero h = refl
+    stopped_row (x ∷ rows) (suc n) h = stopped_row rows n h
+
+    pub agreed_leaving : (may : World → InstanceId → Bool → Type 0) (new : World) → AsksQuietly k i may old (Ok tt) new → is_leaving new i ≡ true
+    agreed_leaving may new (inl (err, h)) = cc
+    agreed_leaving may new (inr (asked, back, asks, (allows, answer, returns), tidies)) =
+        let from = asked_at asked asks in
+        let at = query_at asked from back allows (Ok tt) returns in
+        let is : back.stack ≡ stack.stopped old.stack i =
+        queried_stack asked.stack allows back.stack at.0 ∙ ap (λ (w : World). stack.stopped w.stack i) from in
+        ap (λ (s : StackWorld). is_leaving_phase (option_map (λ (row : Instance). row.phase) (slice_get s.instances i.0))) (tidies.stack ∙ is)
+        ∙ stopped_row old.stack.instances i.0 (ap (λ (w : World). passes stack.is_in_use (slice_get w.stack.instances i.0)) (sym from) ∙ agreed asked.stack allows back.stack at.0)
+
     pub declined_leaves : (may : World → InstanceId → Bool → Type 0) (why : Status) (new : World) → AsksQuietly k i may old (Err why) new → CalmAfter old new
     declined_leaves may why new (inl h) = calm_same old new (ask_refused why new h.1)
     declined_leaves may why new (inr (asked, back, asks, (allows, answer, returns), tidies)) =
@@ -115,12 +140,16 @@ module _ (k : WorkerId) (i : InstanceId) where
     from_start = is_in k old started (place.Start i) idle (ap (λ (w : World). w.workers) (starting_at old started starts))
 
     -- the callback returns, whatever else
-    pub start_ends : (why : Status) (back : World) → StartReturns started k (Err why) back → ⊥
+    start_ends : (why : Status) (back : World) → StartReturns started k (Err why) back → ⊥
     unfolding StartReturns
     start_ends why back h = refuses (subst (StartReturnsAt started k (Err why) back) from_start h)
       where
         refuses : StartReturnsAt started k (Err why) back (Some (place.Start i)) → ⊥
         refuses h = cc
+
+    pub start_ok : (result : Result (Unit {0}) Status) (back : World) → StartReturns started k result back → result ≡ Ok tt
+    start_ok (Ok done) back h = refl
+    start_ok (Err why) back h = absurd (start_ends why back h)
 
     start_at : (back : World) → StartReturns started k (Ok tt) back → StartReturnsAt started k (Ok tt) back (Some (place.Start i))
     unfolding StartReturns
@@ -254,12 +283,16 @@ module _ (k : WorkerId) (i : InstanceId) where
     from_complete : worker_at completing.workers k ≡ Some (place.Complete i)
     from_complete = is_in k old completing (place.Complete i) idle (ap (λ (w : World). w.workers) (completing_at old completing completes))
 
-    pub complete_ends : (why : Status) (back : World) → CompleteReturns completing k (Err why) back → ⊥
+    complete_ends : (why : Status) (back : World) → CompleteReturns completing k (Err why) back → ⊥
     unfolding CompleteReturns
     complete_ends why back h = refuses (subst (CompleteReturnsAt completing k (Err why) back) from_complete h)
       where
         refuses : CompleteReturnsAt completing k (Err why) back (Some (place.Complete i)) → ⊥
         refuses h = cc
+
+    pub complete_ok : (result : Result (Unit {0}) Status) (back : World) → CompleteReturns completing k result back → result ≡ Ok tt
+    complete_ok (Ok done) back h = refl
+    complete_ok (Err why) back h = absurd (complete_ends why back h)
 
     complete_at : (back : World) → CompleteReturns completing k (Ok tt) back → CompleteReturnsAt completing k (Ok tt) back (Some (place.Complete i))
     unfolding CompleteReturns

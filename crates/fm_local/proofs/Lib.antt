@@ -27,4 +27,5 @@ pub mod Leaving
 pub mod Readied
 pub mod Cleaning
 pub mod Emptied
+pub mod NoneDue
 pub mod Unloaded

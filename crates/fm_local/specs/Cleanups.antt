@@ -42,6 +42,10 @@ module _ {F : Type 0} (may : F → ContextKind → List ℕ → ℕ → Type 0) 
   abbrev pub CleansAll : World → World → Type 0
   CleansAll old new = (n : ℕ) × CleansMany n old new
 
--- nothing is due any more, where the worker was idle
+-- nothing is due, unless the worker is in a callback
+abbrev pub HasNoneDue : WorkerId → World → Type 0
+HasNoneDue k w = is_idle (worker_at w.workers k) ≡ true → w.contexts.due ≡ []
+
+-- where that was so it is so again
 abbrev pub LeavesNoneDue : WorkerId → World → World → Type 0
-LeavesNoneDue k old new = is_idle (worker_at old.workers k) ≡ true → new.contexts.due ≡ []
+LeavesNoneDue k old new = HasNoneDue k old → HasNoneDue k new

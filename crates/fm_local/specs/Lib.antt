@@ -6,6 +6,7 @@ pub mod Cleanups
 pub mod Folds
 pub mod Functions
 pub mod Left
+pub mod Lending
 pub mod Managers
 pub mod Ports
 pub mod Quietly

@@ -1,6 +1,6 @@
 -- What a manager's calls make of its state where its filters are plain: the events that they name, one after the other, with cleanups and nothing else
 -- in between; and that the manager is ready again.
-use Rattle.std.specs.Prelude.{◌≡◌, ◌⊎◌, ◌&&◌, ℕ, zero, suc, Bool, true, false, List, [], length, Option, Some, None, Result, Ok, Err, IsErr, slice_get}
+use Rattle.std.specs.Prelude.{◌≡◌, ◌⊎◌, ◌&&◌, ℕ, zero, suc, Bool, true, false, List, [], length, Option, Some, None, Result, Ok, Err, IsErr, IsOk, slice_get}
 use Rattle.fm_base.specs.Folders.{Folder}
 use Rattle.fm_types.specs.declared.ids.FilterId.{FilterId}
 use Rattle.fm_types.specs.declared.ids.VolumeId.{VolumeId}
@@ -60,11 +60,11 @@ module _ (k : WorkerId) (i : InstanceId) where
       (started completed tidy : World) × StartsQuietly old started × CompletesQuietly started completed × Tidies completed tidy × Finishes tidy i result new
 
   abbrev pub DetachesQuietlyBy : Bool → (World → InstanceId → Bool → Type 0) → World → Result (Unit {0}) Status → World → Type 0
-  DetachesQuietlyBy true may old result new = TearsDownQuietly old result new
+  DetachesQuietlyBy true may old result new = IsOk result × TearsDownQuietly old result new
   DetachesQuietlyBy false may old result new =
-      (IsErr result × AsksQuietly may old result new) ⊎ ((asked : World) × AsksQuietly may old (Ok tt) asked × TearsDownQuietly asked result new)
+      (IsErr result × AsksQuietly may old result new) ⊎ ((asked : World) × AsksQuietly may old (Ok tt) asked × IsOk result × TearsDownQuietly asked result new)
 
-  -- a detach asks where no teardown is under way
+  -- a detach asks where no teardown is under way; one that was agreed to, or is under way, isn't refused
   abbrev pub DetachesQuietly : (World → InstanceId → Bool → Type 0) → World → Result (Unit {0}) Status → World → Type 0
   DetachesQuietly may old result new = DetachesQuietlyBy (is_leaving old i) may old result new
 

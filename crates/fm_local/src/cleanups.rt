@@ -1,7 +1,7 @@
 //! Cleaning up contexts that nobody refers to any more.
 
 ghost use Rattle.std.specs.Prelude.{◌≡◌, []};
-ghost use Rattle.fm_local.specs.Cleanups.{CleansAll, CleansSome, LeavesNoneDue, MayReturn, cleaner_of};
+ghost use Rattle.fm_local.specs.Cleanups.{CleansAll, CleansSome, HasNoneDue, MayReturn, cleaner_of};
 ghost use Rattle.fm_local.specs.Managers.{numbered};
 ghost use Rattle.fm_local.specs.Requests.{Tidies};
 
@@ -16,7 +16,7 @@ impl<F: Minifilter, B: Base> LocalManager<F, B> {
     pub(crate) fn clean_up(&mut self)
         ensures cleans { CleansAll F.cleanup_may (numbered self.old.filters) WORKER self.old.desk.state self.new.desk.state }
         ensures tidies { Tidies self.old.desk.state self.new.desk.state }
-        ensures none { LeavesNoneDue WORKER self.old.desk.state self.new.desk.state }
+        ensures none { HasNoneDue WORKER self.new.desk.state }
         ensures kept { self.new ≡ record self.old { desk = record self.old.desk { state = self.new.desk.state } } }
     {
         clean_all(&mut self.desk.state, &self.filters);
@@ -28,7 +28,7 @@ impl<F: Minifilter, B: Base> LocalManager<F, B> {
 fn clean_all<F: Minifilter>(state: &mut State, filters: &Filters<F>)
     ensures cleans { CleansAll F.cleanup_may (numbered filters.now) WORKER state.old state.new }
     ensures tidies { Tidies state.old state.new }
-    ensures none { LeavesNoneDue WORKER state.old state.new }
+    ensures none { HasNoneDue WORKER state.new }
 {
     while clean_next(state, filters) {}
 }

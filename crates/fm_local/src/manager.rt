@@ -1,8 +1,12 @@
 //! The manager, and what begins in it.
 
 ghost use Rattle.std.specs.Prelude.{◌≡◌, ◌++◌, ◌∷◌, [], IfErr, IfOk, length, slice_get};
+ghost use Rattle.std.specs.Borrow.{sem};
+ghost use Rattle.std.specs.List.{IsItemAtMut};
 ghost use Rattle.fm_local.specs.Actions.{ArePlainFilters, IsReady};
 ghost use Rattle.fm_local.specs.Calls.{LoadsAs, MountsAs};
+ghost use Rattle.fm_local.specs.Cleanups.{HasNoneDue, LeavesNoneDue};
+ghost use Rattle.fm_local.specs.Lending.{LendsBase};
 ghost use Rattle.fm_local.specs.Managers.{handed_in};
 ghost use Rattle.fm_world.specs.World.{empty_world};
 
@@ -30,7 +34,8 @@ const IN_HAND: usize = 16;
 const KEPT: usize = 1024;
 
 /// A filter manager on one thread: filters as code, one file system of a type for each volume, and the manager's state, of which each thing that happens
-/// is one event. A call runs every callback that it leads to, carries on what these resume, and cleans up the contexts that are due before it returns.
+/// is one event. A call runs every callback that it leads to, carries on what these resume, and cleans up the contexts that are due before it returns: behind
+/// it none is, unless the worker is inside a callback still.
 #[derive(Drop)]
 pub struct LocalManager<F, B> {
     pub(crate) alloc: Global,
@@ -44,10 +49,11 @@ pub struct LocalManager<F, B> {
 }
 
 impl<F: Minifilter, B: Base> LocalManager<F, B> {
-    /// A manager that has these filters, each under its name, and none of them loaded: it is ready. Refused with 1.
+    /// A manager that has these filters, each under its name, and none of them loaded: it is ready, and nothing is due. Refused with 1.
     pub fn new(alloc: Global, filters: Vec<(Name, F)>) -> Result<LocalManager<F, B>, Status>
         ensures empty { IfOk result (λ manager. (manager.desk.state ≡ empty_world) × (manager.filters.all ≡ filters) × (manager.bases.items ≡ [])) }
         ensures ready { IfOk result (λ manager. IsReady F.pre_may F.post_may F.is_quiet B.folder B.faults WORKER manager) }
+        ensures none_due { IfOk result (λ manager. HasNoneDue WORKER manager.desk.state) }
         ensures memory { IfErr result (λ status. status ≡ Status.NoMemory) }
     {
         let resumed = Bounded::new(alloc, UNDER_WAY)?;
@@ -75,8 +81,11 @@ impl<F: Minifilter, B: Base> LocalManager<F, B> {
         &self.desk.state
     }
 
-    /// The file system of a volume, if it is mounted.
-    pub fn base(&mut self, volume: VolumeId) -> Option<&mut B> {
+    /// The file system of a volume, if it is mounted. What is written to it is written there, and nothing else of the manager changes.
+    pub fn base(&mut self, volume: VolumeId) -> Option<&mut B>
+        ensures* writes_back { sem 𝓛 (LendsBase F.row B.row self.entry volume result) }
+        ensures item { IsItemAtMut self.old.bases.items volume.0 result }
+    {
         self.bases.get_mut(usize::from(volume.0))
     }
 
@@ -113,6 +122,7 @@ impl<F: Minifilter, B: Base> LocalManager<F, B> {
     pub fn load(&mut self, name: &Name) -> Result<FilterId, Status>
         ensures event { LoadsAs F.registers self.old.filters self.old.desk.state name.now result self.new.desk.state }
         ensures ready { ArePlainFilters F.pre_may F.post_may F.is_quiet (handed_in self.old.filters) → IsReady F.pre_may F.post_may F.is_quiet B.folder B.faults WORKER self.old → IsReady F.pre_may F.post_may F.is_quiet B.folder B.faults WORKER self.new }
+        ensures none_due { LeavesNoneDue WORKER self.old.desk.state self.new.desk.state }
         ensures kept { (self.new.filters.all ≡ self.old.filters.all) × (self.new.bases ≡ self.old.bases) }
     {
         let place = self.filters.place(name)?;
@@ -133,6 +143,7 @@ impl<F: Minifilter, B: Base> LocalManager<F, B> {
         ensures base { IfOk result (λ _. self.new.bases.items ≡ self.old.bases.items ++ base ∷ []) }
         ensures refused { IfErr result (λ _. self.new.bases.items ≡ self.old.bases.items) }
         ensures ready { IsReady F.pre_may F.post_may F.is_quiet B.folder B.faults WORKER self.old → IsReady F.pre_may F.post_may F.is_quiet B.folder B.faults WORKER self.new }
+        ensures none_due { LeavesNoneDue WORKER self.old.desk.state self.new.desk.state }
         ensures kept { self.new.filters ≡ self.old.filters }
     {
         self.bases.reserve(1)?;

@@ -8,6 +8,7 @@ ghost use Rattle.fm_flow.specs.Answered.{bare_answer};
 ghost use Rattle.fm_flow.specs.declared.action.FlowAction.TheVariants as step;
 ghost use Rattle.fm_local.specs.Actions.{Acts, AnswersIn, ArePlainFilters, CarriesIn, GivesFinished, IsBegun, IsDoneAt, IsReady, PerformsIn, ResumesNone, RunsIn, TurnsAs, WaitsAtEnd, closed_handle, goes_on, reply_of, replied};
 ghost use Rattle.fm_local.specs.Bases.{BasesCarry};
+ghost use Rattle.fm_local.specs.Cleanups.{HasNoneDue, LeavesNoneDue};
 ghost use Rattle.fm_local.specs.Managers.{numbered};
 ghost use Rattle.fm_local.specs.Requests.{Tidies};
 ghost use Rattle.fm_local.specs.Turns.{Does};
@@ -49,6 +50,7 @@ impl<F: Minifilter, B: Base> LocalManager<F, B> {
     /// filters over its file systems, never with `Held`, and is ready again.
     pub fn answer(&mut self, request: Request) -> Reply
         ensures fold { IsReady F.pre_may F.post_may F.is_quiet B.folder B.faults WORKER self.old → AnswersIn F.pre_may F.post_may F.is_quiet B.folder B.faults WORKER request self.old result self.new }
+        ensures none_due { LeavesNoneDue WORKER self.old.desk.state self.new.desk.state }
     {
         self.desk.state.laws();
         match closed_handle(&request) {
@@ -60,6 +62,7 @@ impl<F: Minifilter, B: Base> LocalManager<F, B> {
     /// The reply of an operation that was held, in the order in which they ended.
     pub fn finished(&mut self) -> Option<(OpId, Reply)>
         ensures first { GivesFinished self.old result self.new }
+        ensures none_due { LeavesNoneDue WORKER self.old.desk.state self.new.desk.state }
         ensures kept { (self.new.filters ≡ self.old.filters) × (self.new.bases ≡ self.old.bases) × (self.new.desk.resumed ≡ self.old.desk.resumed) }
     {
         let operation = self.finished.take()?;
@@ -69,6 +72,7 @@ impl<F: Minifilter, B: Base> LocalManager<F, B> {
     // A cleanup, and then the close.
     fn close(&mut self, handle: HandleId) -> Reply
         ensures fold { IsReady F.pre_may F.post_may F.is_quiet B.folder B.faults WORKER self.old → AnswersIn F.pre_may F.post_may F.is_quiet B.folder B.faults WORKER (client.OnHandle handle asked.Close) self.old result self.new }
+        ensures none_due { LeavesNoneDue WORKER self.old.desk.state self.new.desk.state }
     {
         self.desk.state.laws();
         let cleanup = self.perform(Request::OnHandle {
@@ -86,7 +90,8 @@ impl<F: Minifilter, B: Base> LocalManager<F, B> {
 
     // One operation, from its beginning to its reply, with all that its callbacks resumed.
     fn perform(&mut self, request: Request) -> Reply
-        ensures { IsReady F.pre_may F.post_may F.is_quiet B.folder B.faults WORKER self.old → PerformsIn F.pre_may F.post_may F.is_quiet B.folder B.faults WORKER request self.old result self.new }
+        ensures does { IsReady F.pre_may F.post_may F.is_quiet B.folder B.faults WORKER self.old → PerformsIn F.pre_may F.post_may F.is_quiet B.folder B.faults WORKER request self.old result self.new }
+        ensures none_due { LeavesNoneDue WORKER self.old.desk.state self.new.desk.state }
     {
         self.desk.state.laws();
         match self.desk.state.begin(request) {
@@ -97,7 +102,8 @@ impl<F: Minifilter, B: Base> LocalManager<F, B> {
 
     // An operation that began, to its reply, with all that its callbacks resumed.
     fn run(&mut self, operation: OpId) -> Reply
-        ensures { ArePlainFilters F.pre_may F.post_may F.is_quiet (numbered self.old.filters) → IsBegun WORKER operation self.old.desk.state → self.old.desk.resumed.items.items ≡ [] → RunsIn F.pre_may F.post_may F.is_quiet B.folder B.faults WORKER operation self.old result self.new }
+        ensures runs { ArePlainFilters F.pre_may F.post_may F.is_quiet (numbered self.old.filters) → IsBegun WORKER operation self.old.desk.state → self.old.desk.resumed.items.items ≡ [] → RunsIn F.pre_may F.post_may F.is_quiet B.folder B.faults WORKER operation self.old result self.new }
+        ensures none_due { HasNoneDue WORKER self.new.desk.state }
     {
         let ended = self.carry(operation);
         let reply = self.reply_after(operation, ended);
@@ -236,6 +242,7 @@ impl<F: Minifilter, B: Base> LocalManager<F, B> {
         ensures tidies { self.old.desk.resumed.items.items ≡ [] → Tidies self.old.desk.state self.new.desk.state }
         ensures carries_on { (o : OpId) → WaitsAtEnd F.pre_may F.post_may F.is_quiet B.folder B.faults WORKER o self.old → self.new.finished.items.items ≡ self.old.finished.items.items ++ o ∷ [] }
         ensures kept { self.old.desk.resumed.items.items ≡ [] → (self.new.bases ≡ self.old.bases) × (self.new.filters ≡ self.old.filters) × (self.new.desk.resumed.items.items ≡ []) }
+        ensures none_due { HasNoneDue WORKER self.new.desk.state }
     {
         self.carry_on_resumed();
         self.clean_up();

@@ -3,6 +3,7 @@
 ghost use Rattle.std.specs.Prelude.{◌≡◌, ◌⊎◌, false, true, [], Err, IfErr, IsOk, length, slice_get};
 ghost use Rattle.fm_local.specs.Actions.{ArePlainFilters, IsReady};
 ghost use Rattle.fm_local.specs.Calls.{AgreesAt, Asks, AsksToUnload, AttachesAs, DetachesAs, FilterEnds, MayAgree, SetupEnds, TornDown, UnloadsAs, is_leaving, is_unloading};
+ghost use Rattle.fm_local.specs.Cleanups.{HasNoneDue, LeavesNoneDue};
 ghost use Rattle.fm_local.specs.Managers.{numbered};
 ghost use Rattle.fm_local.specs.Quietly.{AsksQuietly, AttachesQuietly, CompletesQuietly, DetachesQuietly, EndsQuietly, IsSettled, LeavesReady, SetUpQuietly, StartsQuietly, TearsDownFirst, TearsDownIf, TearsDownQuietly, UnloadsQuietly, WasTold, is_to_go};
 ghost use Rattle.fm_local.specs.Requests.{IsAtRest};
@@ -35,6 +36,7 @@ impl<F: Minifilter, B: Base> LocalManager<F, B> {
         ensures events { AttachesAs (AgreesAt F.setup_may self.old.filters) self.old.desk.state WORKER filter volume name altitude result self.new.desk.state }
         ensures quiet { IsReady F.pre_may F.post_may F.is_quiet B.folder B.faults WORKER self.old → AttachesQuietly (AgreesAt F.setup_may self.old.filters) self.old.desk.state WORKER filter volume name altitude result self.new.desk.state }
         ensures ready { IsReady F.pre_may F.post_may F.is_quiet B.folder B.faults WORKER self.old → LeavesReady F.pre_may F.post_may F.is_quiet B.folder B.faults WORKER self.old self.new }
+        ensures none_due { LeavesNoneDue WORKER self.old.desk.state self.new.desk.state }
     {
         let instance = self
             .desk
@@ -50,6 +52,7 @@ impl<F: Minifilter, B: Base> LocalManager<F, B> {
     fn set_up(&mut self, instance: InstanceId) -> Result<(), Status>
         ensures ends { SetupEnds (AgreesAt F.setup_may self.old.filters self.old.desk.state instance) WORKER result }
         ensures quiet { ArePlainFilters F.pre_may F.post_may F.is_quiet (numbered self.old.filters) → self.old.desk.resumed.items.items ≡ [] → SetUpQuietly WORKER instance (AgreesAt F.setup_may self.old.filters self.old.desk.state instance) self.old.desk.state result self.new.desk.state × IsSettled self.old self.new }
+        ensures none_due { HasNoneDue WORKER self.new.desk.state }
     {
         let accepted = self.setup(instance);
         self.settle();
@@ -62,11 +65,13 @@ impl<F: Minifilter, B: Base> LocalManager<F, B> {
     /// Detaches an instance (`FltDetachVolume`): asks its filter, tells it that the teardown starts, drains what it still waits for, and once nothing is in
     /// flight at it any more tells it that the teardown is complete, and cleans up its contexts. Refused as the events of the state are, of which it makes
     /// one after the other; with 34 and their number while operations are in flight at it, or contexts of it aren't cleaned. Called again, it goes on where
-    /// it stopped. A manager that is ready makes these events and no others, but for cleanups, and is ready again.
+    /// it stopped. A manager that is ready makes these events and no others, but for cleanups, and is ready again; there a detach is refused before its
+    /// filter has agreed, and not behind that.
     pub fn detach(&mut self, instance: InstanceId) -> Result<(), Status>
         ensures events { DetachesAs (AgreesAt F.query_may self.old.filters) self.old.desk.state WORKER instance result self.new.desk.state }
         ensures quiet { IsReady F.pre_may F.post_may F.is_quiet B.folder B.faults WORKER self.old → DetachesQuietly WORKER instance (AgreesAt F.query_may self.old.filters) self.old.desk.state result self.new.desk.state }
         ensures ready { IsReady F.pre_may F.post_may F.is_quiet B.folder B.faults WORKER self.old → LeavesReady F.pre_may F.post_may F.is_quiet B.folder B.faults WORKER self.old self.new }
+        ensures none_due { LeavesNoneDue WORKER self.old.desk.state self.new.desk.state }
     {
         if self.is_leaving(instance) {
             return self.tear_down(instance);
@@ -82,6 +87,7 @@ impl<F: Minifilter, B: Base> LocalManager<F, B> {
         ensures events { UnloadsAs F.unload_may self.old.filters self.old.desk.state WORKER filter result self.new.desk.state }
         ensures quiet { IsReady F.pre_may F.post_may F.is_quiet B.folder B.faults WORKER self.old → UnloadsQuietly WORKER filter (MayAgree F.unload_may (numbered self.old.filters filter.0)) self.old.desk.state result self.new.desk.state }
         ensures ready { IsReady F.pre_may F.post_may F.is_quiet B.folder B.faults WORKER self.old → LeavesReady F.pre_may F.post_may F.is_quiet B.folder B.faults WORKER self.old self.new }
+        ensures none_due { LeavesNoneDue WORKER self.old.desk.state self.new.desk.state }
     {
         if self.is_unloading(filter) {
             return self.end(filter);
@@ -94,6 +100,7 @@ impl<F: Minifilter, B: Base> LocalManager<F, B> {
     fn ask_to_unload(&mut self, filter: FilterId) -> Result<(), Status>
         ensures asks { AsksToUnload (MayAgree F.unload_may (numbered self.old.filters filter.0)) self.old.desk.state WORKER filter result self.new.desk.state }
         ensures kept { self.new ≡ record self.old { desk = record self.old.desk { state = self.new.desk.state } } }
+        ensures none_due { LeavesNoneDue WORKER self.old.desk.state self.new.desk.state }
     {
         self.desk.state.ask_unload(WORKER, filter)?;
         self.unloading(filter)
@@ -103,6 +110,7 @@ impl<F: Minifilter, B: Base> LocalManager<F, B> {
     fn end(&mut self, filter: FilterId) -> Result<(), Status>
         ensures ends { FilterEnds WORKER filter result self.new.desk.state }
         ensures quiet { ArePlainFilters F.pre_may F.post_may F.is_quiet (numbered self.old.filters) → IsAtRest WORKER self.old.desk.state → self.old.desk.resumed.items.items ≡ [] → EndsQuietly WORKER filter self.old.desk.state result self.new.desk.state × IsSettled self.old self.new }
+        ensures none_due { LeavesNoneDue WORKER self.old.desk.state self.new.desk.state }
     {
         self.tear_down_all(filter)?;
         self.desk.state.empty_filter(filter)?;
@@ -114,6 +122,7 @@ impl<F: Minifilter, B: Base> LocalManager<F, B> {
     fn ask(&mut self, instance: InstanceId) -> Result<(), Status>
         ensures asks { Asks (AgreesAt F.query_may self.old.filters) self.old.desk.state WORKER instance result }
         ensures quiet { ArePlainFilters F.pre_may F.post_may F.is_quiet (numbered self.old.filters) → self.old.desk.resumed.items.items ≡ [] → AsksQuietly WORKER instance (AgreesAt F.query_may self.old.filters) self.old.desk.state result self.new.desk.state × IsSettled self.old self.new }
+        ensures none_due { LeavesNoneDue WORKER self.old.desk.state self.new.desk.state }
     {
         self.desk.state.ask_detach(WORKER, instance)?;
         let allowed = self.query(instance);
@@ -152,6 +161,7 @@ impl<F: Minifilter, B: Base> LocalManager<F, B> {
     fn tear_down_all(&mut self, filter: FilterId) -> Result<(), Status>
         ensures stops { IfErr result (λ status. (i : InstanceId) × TornDown WORKER i (Err status) self.new.desk.state) }
         ensures quiet { ArePlainFilters F.pre_may F.post_may F.is_quiet (numbered self.old.filters) → IsAtRest WORKER self.old.desk.state → self.old.desk.resumed.items.items ≡ [] → IsOk result × TearsDownFirst WORKER filter (length self.old.desk.state.stack.instances) self.old.desk.state self.new.desk.state × IsSettled self.old self.new }
+        ensures none_due { LeavesNoneDue WORKER self.old.desk.state self.new.desk.state }
     {
         self.desk.state.laws();
         for at in 0..u16::try_from(self.desk.state.instances()).unwrap_or(u16::MAX) {
@@ -164,6 +174,7 @@ impl<F: Minifilter, B: Base> LocalManager<F, B> {
     fn tear_down_if(&mut self, filter: FilterId, instance: InstanceId) -> Result<(), Status>
         ensures stops { IfErr result (λ status. TornDown WORKER instance (Err status) self.new.desk.state) }
         ensures quiet { ArePlainFilters F.pre_may F.post_may F.is_quiet (numbered self.old.filters) → IsAtRest WORKER self.old.desk.state → self.old.desk.resumed.items.items ≡ [] → IsOk result × TearsDownIf WORKER filter (is_to_go filter self.old.desk.state instance) instance self.old.desk.state self.new.desk.state × IsSettled self.old self.new }
+        ensures none_due { LeavesNoneDue WORKER self.old.desk.state self.new.desk.state }
     {
         if self.is_to_go(filter, instance) {
             return self.tear_down(instance);
@@ -186,6 +197,7 @@ impl<F: Minifilter, B: Base> LocalManager<F, B> {
         ensures ends { TornDown WORKER instance result self.new.desk.state }
         ensures quiet { ArePlainFilters F.pre_may F.post_may F.is_quiet (numbered self.old.filters) → IsAtRest WORKER self.old.desk.state → self.old.desk.resumed.items.items ≡ [] → TearsDownQuietly WORKER instance self.old.desk.state result self.new.desk.state × IsSettled self.old self.new }
         ensures goes { ArePlainFilters F.pre_may F.post_may F.is_quiet (numbered self.old.filters) → IsAtRest WORKER self.old.desk.state → self.old.desk.resumed.items.items ≡ [] → is_leaving self.old.desk.state instance ≡ true → IsOk result }
+        ensures none_due { LeavesNoneDue WORKER self.old.desk.state self.new.desk.state }
     {
         self.desk.state.laws();
         self.begin_teardown(instance)?;
@@ -199,26 +211,32 @@ impl<F: Minifilter, B: Base> LocalManager<F, B> {
     fn begin_teardown(&mut self, instance: InstanceId) -> Result<(), Status>
         ensures stops { IfErr result (λ status. (before after : World) × StartReturns before WORKER (Err status) after) }
         ensures quiet { ArePlainFilters F.pre_may F.post_may F.is_quiet (numbered self.old.filters) → IsAtRest WORKER self.old.desk.state → self.old.desk.resumed.items.items ≡ [] → IsOk result × StartsQuietly WORKER instance self.old.desk.state self.new.desk.state × IsSettled self.old self.new }
+        ensures none_due { LeavesNoneDue WORKER self.old.desk.state self.new.desk.state }
     {
-        if let Ok(()) = self.desk.state.start_teardown(WORKER, instance) {
-            self.start(instance)?;
-            self.drain_all(instance);
-            self.settle();
+        match self.desk.state.start_teardown(WORKER, instance) {
+            Ok(()) => {
+                let started = self.start(instance);
+                self.drain_all(instance);
+                self.settle();
+                started
+            }
+            Err(_) => Ok(()),
         }
-        Ok(())
     }
 
     // The completion of an instance's teardown, where it is stopping.
     fn end_teardown(&mut self, instance: InstanceId) -> Result<(), Status>
         ensures stops { IfErr result (λ status. ((before : World) × CompletesTeardown before WORKER instance (Err status) self.new.desk.state) ⊎ ((before after : World) × CompleteReturns before WORKER (Err status) after)) }
         ensures quiet { ArePlainFilters F.pre_may F.post_may F.is_quiet (numbered self.old.filters) → IsAtRest WORKER self.old.desk.state → self.old.desk.resumed.items.items ≡ [] → WasTold instance self.old.desk.state.stack → IsOk result × CompletesQuietly WORKER instance self.old.desk.state self.new.desk.state × IsSettled self.old self.new }
+        ensures none_due { LeavesNoneDue WORKER self.old.desk.state self.new.desk.state }
     {
-        if self.is_stopping(instance) {
-            self.desk.state.complete_teardown(WORKER, instance)?;
-            self.complete(instance)?;
-            self.settle();
+        if !self.is_stopping(instance) {
+            return Ok(());
         }
-        Ok(())
+        self.desk.state.complete_teardown(WORKER, instance)?;
+        let completed = self.complete(instance);
+        self.settle();
+        completed
     }
 
     // Has a stopping instance let go of all that it waits for.

@@ -3,9 +3,7 @@ use Rattle.fm_local.proofs.Answering.{answers_one}
 use Rattle.fm_local.proofs.manager.LocalManager.answer.Goals as goal
 use Rattle.fm_local.specs.declared.manager.TheConstants.{WORKER}
 
-pub returns-in-None : goal.returns-in-None
-returns-in-None g c = record {
-  fold = λ ready.
-      answers_one g.F.Minifilter.pre_may g.F.Minifilter.post_may g.F.Minifilter.is_quiet g.B.Base.folder g.B.Base.faults WORKER c.args.self.now ready c.laws.ensures c.args.request
-      (sym c.closed_handle.ensures ∙ c.in-None.is) c.perform.result c.perform.new.self (c.perform.ensures ready);
-}
+pub returns-in-None-clause-fold : goal.returns-in-None-clause-fold
+returns-in-None-clause-fold g c ready =
+    answers_one g.F.Minifilter.pre_may g.F.Minifilter.post_may g.F.Minifilter.is_quiet g.B.Base.folder g.B.Base.faults WORKER c.args.self.now ready c.laws.ensures c.args.request
+    (sym c.closed_handle.ensures ∙ c.in-None.is) c.perform.result c.perform.new.self (c.perform.ensures.does ready)

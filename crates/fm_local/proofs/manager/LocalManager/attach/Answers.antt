@@ -1,4 +1,5 @@
 use Rattle.std.specs.Prelude.{Err, Ok}
+use Rattle.fm_local.proofs.NoneDue.{none_attached}
 use Rattle.fm_local.proofs.Readied.{attach_leaves, attach_leaves_none}
 use Rattle.fm_local.proofs.manager.LocalManager.attach.Goals as goal
 use Rattle.fm_local.specs.Calls.{AgreesAt}
@@ -24,3 +25,7 @@ returns-in-Err-clause-ready g c ready =
     attach_leaves g.F.Minifilter.pre_may g.F.Minifilter.post_may g.F.Minifilter.is_quiet g.B.Base.folder g.B.Base.faults WORKER c.args.self.now ready c.args.filter c.args.volume
     c.args.name c.args.altitude i born (AgreesAt g.F.Minifilter.setup_may c.args.self.now.filters born i) (Err c.in-Err.status) c.set_up.new.self c.in_ok-instance.ensures.event
     (c.in-Err.ensures.quiet ready.plain ready.settled)
+
+pub returns-in_err-instance-clause-none_due : goal.returns-in_err-instance-clause-none_due
+returns-in_err-instance-clause-none_due g c =
+    none_attached WORKER c.args.self.now.desk.state c.args.filter c.args.volume c.args.name c.args.altitude c.in_err-instance.field-0.0 c.attach.new.self c.in_err-instance.ensures.event

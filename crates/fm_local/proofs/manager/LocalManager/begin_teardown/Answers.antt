@@ -1,25 +1,37 @@
-use Rattle.std.proofs.Common.{inr, refl, ap, subst, ◌∙◌}
-use Rattle.fm_local.proofs.Leaving.{start_ends, start_flow}
-use Rattle.fm_local.proofs.Readied.{settled_after}
+use Rattle.fm_local.proofs.NoneDue.{none_started}
+use Rattle.std.specs.Prelude.{IsOk, Result}
+use Rattle.std.proofs.Common.{inr, refl, sym, ap, subst, ◌∙◌}
+use Rattle.fm_types.specs.declared.status.Status.{Status}
+use Rattle.fm_local.proofs.Leaving.{start_flow, start_ok}
+use Rattle.fm_local.proofs.Readied.{settled_after, start_stops}
 use Rattle.fm_local.proofs.manager.LocalManager.begin_teardown.Goals as goal
 use Rattle.fm_local.specs.Requests.{Tidies}
 use Rattle.fm_local.specs.declared.manager.TheConstants.{WORKER}
+use Rattle.fm_world.specs.Teardowns.{StartReturns}
 use Rattle.fm_world.specs.World.{World}
 
-pub returns-in_err-start-clause-quiet : goal.returns-in_err-start-clause-quiet
-returns-in_err-start-clause-quiet g c plain rests settled =
-    absurd (start_ends WORKER c.args.instance c.args.self.now.desk.state rests.idle c.start_teardown.new.self c.in-Ok.ensures.event c.in_err-start.field-0.0
-    c.start.new.self.desk.state (c.in_err-start.ensures.quiet plain).0)
+pub returns-in-Ok-clause-stops : goal.returns-in-Ok-clause-stops
+returns-in-Ok-clause-stops g c = start_stops WORKER c.start-started.result c.start-started.new.self.desk.state c.start-started.ensures.ends
 
-pub returns-in_ok-start-clause-quiet : goal.returns-in_ok-start-clause-quiet
-returns-in_ok-start-clause-quiet g c plain rests settled =
+pub returns-in-Ok-clause-quiet : goal.returns-in-Ok-clause-quiet
+returns-in-Ok-clause-quiet g c plain rests settled =
     let old = c.args.self.now in
-    let quiet = c.in_ok-start.ensures.quiet plain in
-    let kept = c.in_ok-start.ensures.kept in
-    let flow = start_flow WORKER c.args.instance old.desk.state rests.idle c.start_teardown.new.self c.in-Ok.ensures.event c.start.new.self.desk.state quiet.0 in
+    let started = c.start_teardown.new.self in
+    let back = c.start-started.new.self.desk.state in
+    let quiet = c.start-started.ensures.quiet plain in
+    let kept = c.start-started.ensures.kept in
+    let ok = start_ok WORKER c.args.instance old.desk.state rests.idle started c.in-Ok.ensures.event c.start-started.result back quiet.0 in
+    let returns = subst (λ (r : Result (Unit {0}) Status). StartReturns started WORKER r back) ok quiet.0 in
+    let flow = start_flow WORKER c.args.instance old.desk.state rests.idle started c.in-Ok.ensures.event back returns in
     let same = c.drain_all.ensures.none (ap (λ f. f.operations) flow ∙ rests.operations) in
     let after =
     settled_after old c.drain_all.new.self c.settle.new.self (ap (λ m. m.desk.resumed) same ∙ quiet.1) (ap (λ m. m.bases) same ∙ ap (λ m. m.bases) kept)
     (ap (λ m. m.filters) same ∙ ap (λ m. m.filters) kept) settled c.settle.ensures.tidies c.settle.ensures.kept in
     let tidies = subst (λ (w : World). Tidies w c.settle.new.self.desk.state) (ap (λ m. m.desk.state) same) after.0 in
-    (refl, inr (c.start_teardown.new.self, c.start.new.self.desk.state, c.in-Ok.ensures.event, quiet.0, tidies), after.1)
+    (subst (λ (r : Result (Unit {0}) Status). IsOk r) (sym ok) refl, inr (started, back, c.in-Ok.ensures.event, returns, tidies), after.1)
+
+pub returns-in-Ok-clause-none_due : goal.returns-in-Ok-clause-none_due
+returns-in-Ok-clause-none_due g c before = c.settle.ensures.none_due
+
+pub returns-in-Err-clause-none_due : goal.returns-in-Err-clause-none_due
+returns-in-Err-clause-none_due g c = none_started WORKER c.args.self.now.desk.state c.args.instance c.in-Err.field-0 c.start_teardown.new.self c.in-Err.ensures.event

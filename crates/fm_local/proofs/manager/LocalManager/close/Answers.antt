@@ -5,20 +5,16 @@ use Rattle.fm_local.proofs.Answering.{ready_after, answers_close, answers_cleanu
 use Rattle.fm_local.proofs.manager.LocalManager.close.Goals as goal
 use Rattle.fm_local.specs.declared.manager.TheConstants.{WORKER}
 
-pub returns-then-not-goes_on : goal.returns-then-not-goes_on
-returns-then-not-goes_on g c = record {
-  fold = λ ready.
-      answers_cleanup g.F.Minifilter.pre_may g.F.Minifilter.post_may g.F.Minifilter.is_quiet g.B.Base.folder g.B.Base.faults WORKER c.args.self.now ready c.laws.ensures c.args.handle
-      c.perform-cleanup.result c.perform-cleanup.new.self (c.perform-cleanup.ensures ready) (sym c.goes_on.ensures ∙ c.if-not-goes_on.true);
-}
+pub returns-then-not-goes_on-clause-fold : goal.returns-then-not-goes_on-clause-fold
+returns-then-not-goes_on-clause-fold g c ready =
+    answers_cleanup g.F.Minifilter.pre_may g.F.Minifilter.post_may g.F.Minifilter.is_quiet g.B.Base.folder g.B.Base.faults WORKER c.args.self.now ready c.laws.ensures c.args.handle
+    c.perform-cleanup.result c.perform-cleanup.new.self (c.perform-cleanup.ensures.does ready) (sym c.goes_on.ensures ∙ c.if-not-goes_on.true)
 
-pub returns : goal.returns
-returns g c = record {
-  fold = λ ready.
-      let first = c.perform-cleanup.ensures ready in
-      let again =
-      ready_after g.F.Minifilter.pre_may g.F.Minifilter.post_may g.F.Minifilter.is_quiet g.B.Base.folder g.B.Base.faults WORKER c.args.self.now ready c.laws.ensures
-      (request.OnHandle c.args.handle asked.Cleanup) c.perform-cleanup.result c.perform-cleanup.new.self first in
-      answers_close g.F.Minifilter.pre_may g.F.Minifilter.post_may g.F.Minifilter.is_quiet g.B.Base.folder g.B.Base.faults WORKER c.args.self.now ready c.laws.ensures c.args.handle
-      c.perform-cleanup.result c.perform-cleanup.new.self first (sym c.goes_on.ensures ∙ c.if-not-goes_on.false) c.perform.result c.perform.new.self (c.perform.ensures again);
-}
+pub returns-clause-fold : goal.returns-clause-fold
+returns-clause-fold g c ready =
+    let first = c.perform-cleanup.ensures.does ready in
+    let again =
+    ready_after g.F.Minifilter.pre_may g.F.Minifilter.post_may g.F.Minifilter.is_quiet g.B.Base.folder g.B.Base.faults WORKER c.args.self.now ready c.laws.ensures
+    (request.OnHandle c.args.handle asked.Cleanup) c.perform-cleanup.result c.perform-cleanup.new.self first in
+    answers_close g.F.Minifilter.pre_may g.F.Minifilter.post_may g.F.Minifilter.is_quiet g.B.Base.folder g.B.Base.faults WORKER c.args.self.now ready c.laws.ensures c.args.handle
+    c.perform-cleanup.result c.perform-cleanup.new.self first (sym c.goes_on.ensures ∙ c.if-not-goes_on.false) c.perform.result c.perform.new.self (c.perform.ensures.does again)

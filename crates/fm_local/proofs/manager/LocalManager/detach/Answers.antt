@@ -1,5 +1,6 @@
 use Rattle.std.specs.Prelude.{Bool}
 use Rattle.std.proofs.Common.{inr, sym, subst, ◌∙◌}
+use Rattle.fm_local.proofs.Leaving.{agreed_leaving}
 use Rattle.fm_local.proofs.Readied.{asked_rests, detached_leaves, kept_leaves, plain_still, torn_leaves_ready}
 use Rattle.fm_local.proofs.manager.LocalManager.detach.Goals as goal
 use Rattle.fm_local.specs.Calls.{AgreesAt}
@@ -10,6 +11,13 @@ pub returns-then-is_leaving-clause-ready : goal.returns-then-is_leaving-clause-r
 returns-then-is_leaving-clause-ready g c ready =
     torn_leaves_ready g.F.Minifilter.pre_may g.F.Minifilter.post_may g.F.Minifilter.is_quiet g.B.Base.folder g.B.Base.faults WORKER c.args.instance c.args.self.now ready c.tear_down.result
     c.tear_down.new.self (c.tear_down.ensures.quiet ready.plain ready.rests ready.settled)
+
+pub returns-then-is_leaving-clause-quiet : goal.returns-then-is_leaving-clause-quiet
+returns-then-is_leaving-clause-quiet g c ready =
+    let old = c.args.self.now.desk.state in
+    let leaves = sym c.is_leaving.ensures ∙ c.if-is_leaving.true in
+    subst (λ (b : Bool). DetachesQuietlyBy WORKER c.args.instance b (AgreesAt g.F.Minifilter.query_may c.args.self.now.filters) old c.tear_down.result c.tear_down.new.self.desk.state) (sym leaves)
+    (c.tear_down.ensures.goes ready.plain ready.rests ready.settled leaves, (c.tear_down.ensures.quiet ready.plain ready.rests ready.settled).0)
 
 pub returns-in_err-ask-clause-ready : goal.returns-in_err-ask-clause-ready
 returns-in_err-ask-clause-ready g c ready =
@@ -24,8 +32,10 @@ returns-clause-quiet g c ready =
     let rests = asked_rests g.F.Minifilter.pre_may g.F.Minifilter.post_may g.F.Minifilter.is_quiet g.B.Base.folder g.B.Base.faults WORKER c.args.instance old ready may c.ask.new.self asks in
     let plain = plain_still g.F.Minifilter.pre_may g.F.Minifilter.post_may g.F.Minifilter.is_quiet g.B.Base.folder g.B.Base.faults WORKER old c.ask.new.self asks.1 ready.plain in
     let tears = c.tear_down-2.ensures.quiet plain rests asks.1.settled in
+    let leaves = agreed_leaving WORKER c.args.instance old.desk.state ready.rests.idle may c.ask.new.self.desk.state asks.0 in
+    let ok = c.tear_down-2.ensures.goes plain rests asks.1.settled leaves in
     subst (λ (b : Bool). DetachesQuietlyBy WORKER c.args.instance b may old.desk.state c.tear_down-2.result c.tear_down-2.new.self.desk.state)
-    (sym (sym c.is_leaving.ensures ∙ c.if-is_leaving.false)) (inr (c.ask.new.self.desk.state, asks.0, tears.0))
+    (sym (sym c.is_leaving.ensures ∙ c.if-is_leaving.false)) (inr (c.ask.new.self.desk.state, asks.0, ok, tears.0))
 
 pub returns-clause-ready : goal.returns-clause-ready
 returns-clause-ready g c ready =

@@ -1,0 +1,12 @@
+use Rattle.fm_local.proofs.NoneDue.{none_emptied, none_ended}
+use Rattle.fm_local.proofs.manager.LocalManager.end.Goals as goal
+use Rattle.fm_local.specs.declared.manager.TheConstants.{WORKER}
+
+pub returns-in_err-empty_filter-clause-none_due : goal.returns-in_err-empty_filter-clause-none_due
+returns-in_err-empty_filter-clause-none_due g c before =
+    none_emptied WORKER c.tear_down_all.new.self.desk.state c.args.filter c.in_err-empty_filter.field-0.0 c.empty_filter.new.self c.in_err-empty_filter.ensures.event
+    (c.in_ok-tear_down_all.ensures.none_due before)
+
+pub returns-clause-none_due : goal.returns-clause-none_due
+returns-clause-none_due g c before =
+    none_ended WORKER c.clean_up.new.self.desk.state c.args.filter c.finish_filter.result c.finish_filter.new.self c.finish_filter.ensures.event c.clean_up.ensures.none

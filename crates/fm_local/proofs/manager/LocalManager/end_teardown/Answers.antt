@@ -1,22 +1,38 @@
-use Rattle.std.proofs.Common.{inr, refl, sym, ap, ◌∙◌}
-use Rattle.fm_local.proofs.Leaving.{completes, complete_ends}
-use Rattle.fm_local.proofs.Readied.{settled_after}
+use Rattle.fm_local.proofs.NoneDue.{none_completed}
+use Rattle.std.specs.Prelude.{IsOk, Result}
+use Rattle.std.proofs.Common.{inr, refl, sym, ap, subst, ◌∙◌}
+use Rattle.fm_types.specs.declared.status.Status.{Status}
+use Rattle.fm_local.proofs.Leaving.{completes, complete_ok}
+use Rattle.fm_local.proofs.Readied.{complete_stops, settled_after}
 use Rattle.fm_local.proofs.manager.LocalManager.end_teardown.Goals as goal
 use Rattle.fm_local.specs.declared.manager.TheConstants.{WORKER}
+use Rattle.fm_world.specs.Teardowns.{CompleteReturns}
 
 pub returns-in_err-complete_teardown-clause-quiet : goal.returns-in_err-complete_teardown-clause-quiet
 returns-in_err-complete_teardown-clause-quiet g c plain rests settled was =
     absurd (completes WORKER c.args.instance c.args.self.now.desk.state c.in_err-complete_teardown.field-0.0 c.complete_teardown.new.self rests was
-    (sym c.is_stopping.ensures ∙ c.if-is_stopping.true) c.in_err-complete_teardown.ensures.event)
+    (sym c.is_stopping.ensures ∙ c.if-not-is_stopping.false) c.in_err-complete_teardown.ensures.event)
 
-pub returns-in_err-complete-clause-quiet : goal.returns-in_err-complete-clause-quiet
-returns-in_err-complete-clause-quiet g c plain rests settled was =
-    absurd (complete_ends WORKER c.args.instance c.args.self.now.desk.state rests.idle c.complete_teardown.new.self c.in_ok-complete_teardown.ensures.event c.in_err-complete.field-0.0
-    c.complete.new.self.desk.state (c.in_err-complete.ensures.quiet plain).0)
+pub returns-clause-stops : goal.returns-clause-stops
+returns-clause-stops g c = complete_stops WORKER c.args.instance c.complete-completed.result c.complete-completed.new.self.desk.state c.settle.new.self.desk.state c.complete-completed.ensures.ends
 
-pub returns-in_ok-complete-clause-quiet : goal.returns-in_ok-complete-clause-quiet
-returns-in_ok-complete-clause-quiet g c plain rests settled was =
-    let quiet = c.in_ok-complete.ensures.quiet plain in
-    let kept = c.in_ok-complete.ensures.kept in
-    let after = settled_after c.args.self.now c.complete.new.self c.settle.new.self quiet.1 (ap (λ m. m.bases) kept) (ap (λ m. m.filters) kept) settled c.settle.ensures.tidies c.settle.ensures.kept in
-    (refl, inr (c.complete_teardown.new.self, c.complete.new.self.desk.state, c.in_ok-complete_teardown.ensures.event, quiet.0, after.0), after.1)
+pub returns-clause-quiet : goal.returns-clause-quiet
+returns-clause-quiet g c plain rests settled was =
+    let old = c.args.self.now in
+    let completing = c.complete_teardown.new.self in
+    let back = c.complete-completed.new.self.desk.state in
+    let quiet = c.complete-completed.ensures.quiet plain in
+    let kept = c.complete-completed.ensures.kept in
+    let event = c.in_ok-complete_teardown.ensures.event in
+    let ok = complete_ok WORKER c.args.instance old.desk.state rests.idle completing event c.complete-completed.result back quiet.0 in
+    let returns = subst (λ (r : Result (Unit {0}) Status). CompleteReturns completing WORKER r back) ok quiet.0 in
+    let after =
+    settled_after old c.complete-completed.new.self c.settle.new.self quiet.1 (ap (λ m. m.bases) kept) (ap (λ m. m.filters) kept) settled c.settle.ensures.tidies c.settle.ensures.kept in
+    (subst (λ (r : Result (Unit {0}) Status). IsOk r) (sym ok) refl, inr (completing, back, event, returns, after.0), after.1)
+
+pub returns-clause-none_due : goal.returns-clause-none_due
+returns-clause-none_due g c before = c.settle.ensures.none_due
+
+pub returns-in_err-complete_teardown-clause-none_due : goal.returns-in_err-complete_teardown-clause-none_due
+returns-in_err-complete_teardown-clause-none_due g c =
+    none_completed WORKER c.args.self.now.desk.state c.args.instance c.in_err-complete_teardown.field-0.0 c.complete_teardown.new.self c.in_err-complete_teardown.ensures.event

@@ -1,3 +1,4 @@
+use Rattle.fm_local.proofs.NoneDue.{none_registered}
 use Rattle.std.specs.Prelude.{Err, Ok}
 use Rattle.std.proofs.Common.{refl, ◌∙◌}
 use Rattle.fm_local.proofs.Readied.{loaded_ready}
@@ -26,3 +27,11 @@ returns-clause-ready g c plain ready =
     loaded_ready g.F.Minifilter.pre_may g.F.Minifilter.post_may g.F.Minifilter.is_quiet g.B.Base.folder g.B.Base.faults WORKER old
     (record old { filters = c.note.new.self; desk = record old.desk { state = state } }) ready plain (c.note.ensures.all ∙ c.in_ok-reserve.ensures.same.0) refl
     (registered_calm old.desk.state c.args.name.now c.registration-registration.result (Ok c.in_ok-number.number) state c.in_ok-number.ensures.event)
+
+pub returns-in_err-number-clause-none_due : goal.returns-in_err-number-clause-none_due
+returns-in_err-number-clause-none_due g c =
+    none_registered WORKER c.args.self.now.desk.state c.args.name.now c.registration-registration.result (Err c.in_err-number.field-0.0) c.register.new.self c.in_err-number.ensures.event
+
+pub returns-clause-none_due : goal.returns-clause-none_due
+returns-clause-none_due g c =
+    none_registered WORKER c.args.self.now.desk.state c.args.name.now c.registration-registration.result (Ok c.in_ok-number.number) c.register.new.self c.in_ok-number.ensures.event

@@ -1,3 +1,4 @@
+use Rattle.fm_local.proofs.NoneDue.{none_mounted}
 use Rattle.std.specs.Prelude.{Err, Ok}
 use Rattle.std.proofs.Common.{refl}
 use Rattle.fm_local.proofs.Readied.{mounted_ready}
@@ -20,3 +21,10 @@ returns-clause-ready g c ready =
     mounted_ready g.F.Minifilter.pre_may g.F.Minifilter.post_may g.F.Minifilter.is_quiet g.B.Base.folder g.B.Base.faults WORKER old
     (record old { bases = c.push_reserved.new.self; desk = record old.desk { state = state } }) ready refl refl
     (mounted_calm old.desk.state c.args.name (Ok c.in_ok-volume.volume) state c.in_ok-volume.ensures.event)
+
+pub returns-in_err-volume-clause-none_due : goal.returns-in_err-volume-clause-none_due
+returns-in_err-volume-clause-none_due g c =
+    none_mounted WORKER c.args.self.now.desk.state c.args.name (Err c.in_err-volume.field-0.0) c.mount.new.self c.in_err-volume.ensures.event
+
+pub returns-clause-none_due : goal.returns-clause-none_due
+returns-clause-none_due g c = none_mounted WORKER c.args.self.now.desk.state c.args.name (Ok c.in_ok-volume.volume) c.mount.new.self c.in_ok-volume.ensures.event

@@ -1,3 +1,4 @@
+use Rattle.fm_local.proofs.NoneDue.{none_begun}
 use Rattle.std.proofs.Common.{sym, subst}
 use Rattle.fm_data.specs.declared.request.Reply.{Reply}
 use Rattle.fm_local.proofs.Performing.{performs_begun, performs_refused}
@@ -5,15 +6,18 @@ use Rattle.fm_local.proofs.manager.LocalManager.perform.Goals as goal
 use Rattle.fm_local.specs.Actions.{PerformsIn}
 use Rattle.fm_local.specs.declared.manager.TheConstants.{WORKER}
 
-pub returns-in-Ok : goal.returns-in-Ok
-returns-in-Ok g c ready =
+pub returns-in-Ok-clause-does : goal.returns-in-Ok-clause-does
+returns-in-Ok-clause-does g c ready =
     performs_begun g.F.Minifilter.pre_may g.F.Minifilter.post_may g.F.Minifilter.is_quiet g.B.Base.folder g.B.Base.faults WORKER c.args.request c.args.self.now ready c.begin.new.self
-    c.in-Ok.operation c.run.result c.run.new.self c.laws.ensures c.in-Ok.ensures.event c.run.ensures
+    c.in-Ok.operation c.run.result c.run.new.self c.laws.ensures c.in-Ok.ensures.event c.run.ensures.runs
 
-pub returns-in-Err : goal.returns-in-Err
-returns-in-Err g c ready =
+pub returns-in-Err-clause-does : goal.returns-in-Err-clause-does
+returns-in-Err-clause-does g c ready =
     let refused =
     performs_refused g.F.Minifilter.pre_may g.F.Minifilter.post_may g.F.Minifilter.is_quiet g.B.Base.folder g.B.Base.faults WORKER c.args.request c.args.self.now ready c.begin.new.self
     c.in-Err.status c.in-Err.ensures.event in
     subst (λ (said : Reply). PerformsIn g.F.Minifilter.pre_may g.F.Minifilter.post_may g.F.Minifilter.is_quiet g.B.Base.folder g.B.Base.faults WORKER c.args.request c.args.self.now said
     (record c.args.self.now { desk = record c.args.self.now.desk { state = c.begin.new.self } })) (sym c.refusal.ensures) refused
+
+pub returns-in-Err-clause-none_due : goal.returns-in-Err-clause-none_due
+returns-in-Err-clause-none_due g c = none_begun WORKER c.args.self.now.desk.state c.args.request c.in-Err.status c.begin.new.self c.in-Err.ensures.event

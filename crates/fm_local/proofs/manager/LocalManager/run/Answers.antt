@@ -2,8 +2,8 @@ use Rattle.fm_local.proofs.Performing.{runs}
 use Rattle.fm_local.proofs.manager.LocalManager.run.Goals as goal
 use Rattle.fm_local.specs.declared.manager.TheConstants.{WORKER}
 
-pub returns : goal.returns
-returns g c =
+pub returns-clause-runs : goal.returns-clause-runs
+returns-clause-runs g c =
     runs g.F.Minifilter.pre_may g.F.Minifilter.post_may g.F.Minifilter.is_quiet g.B.Base.folder g.B.Base.faults WORKER c.args.operation c.args.self.now c.carry-ended.new.self c.reply_after-reply.new.self
     c.settle.new.self c.carry-ended.result c.reply_after-reply.result c.carry-ended.ensures.carried c.carry-ended.ensures.quiet c.carry-ended.ensures.kept c.reply_after-reply.ensures.answer c.reply_after-reply.ensures.kept
     c.settle.ensures.tidies c.settle.ensures.kept

@@ -1,3 +1,4 @@
+use Rattle.fm_local.proofs.NoneDue.{none_finished}
 use Rattle.std.proofs.Common.{ap, ◌∙◌}
 use Rattle.fm_local.proofs.Emptied.{ends_well}
 use Rattle.fm_local.proofs.Readied.{not_ok, plain_still, rests_still, told_still}
@@ -53,3 +54,7 @@ returns-clause-goes g c plain rests settled leaves =
     let then = c.in_ok-end_teardown.ensures.quiet still calm first.2.settled told in
     ends_well WORKER c.args.instance old.desk.state mid.desk.state c.end_teardown.new.self.desk.state c.clean_up.new.self.desk.state c.laws.ensures rests first.1 then.1 c.clean_up.ensures.tidies
     leaves c.laws-2.ensures c.clean_up.ensures.none c.finish.result c.finish.new.self c.finish.ensures.event c.finish.ensures.waiting
+
+pub returns-clause-none_due : goal.returns-clause-none_due
+returns-clause-none_due g c before =
+    none_finished WORKER c.clean_up.new.self.desk.state c.args.instance c.finish.result c.finish.new.self c.finish.ensures.event c.clean_up.ensures.none

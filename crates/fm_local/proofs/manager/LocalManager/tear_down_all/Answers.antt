@@ -6,18 +6,21 @@ pub returns-in_err-tear_down_if-clause-quiet : goal.returns-in_err-tear_down_if-
 returns-in_err-tear_down_if-clause-quiet g c plain rests settled =
     let old = c.args.self.now in
     let now = c.loop-at.self in
-    let first = c.loop-at.invariant plain rests settled in
+    let first = c.loop-at.invariant.0 plain rests settled in
     let calm = rests_first g.F.Minifilter.pre_may g.F.Minifilter.post_may g.F.Minifilter.is_quiet g.B.Base.folder g.B.Base.faults WORKER c.args.filter c.loop-at.at old.desk.state now.desk.state rests first.0 in
     let still = plain_still g.F.Minifilter.pre_may g.F.Minifilter.post_may g.F.Minifilter.is_quiet g.B.Base.folder g.B.Base.faults WORKER old now first.1 plain in
     absurd (not_ok c.in_err-tear_down_if.field-0.0 (c.in_err-tear_down_if.ensures.quiet still calm first.1.settled).0)
 
 pub loop-at-preserved : goal.loop-at-preserved
-loop-at-preserved g c plain rests settled =
-    let old = c.args.self.now in
-    let now = c.loop-at.self in
-    let new = c.tear_down_if.new.self in
-    let first = c.loop-at.invariant plain rests settled in
-    let calm = rests_first g.F.Minifilter.pre_may g.F.Minifilter.post_may g.F.Minifilter.is_quiet g.B.Base.folder g.B.Base.faults WORKER c.args.filter c.loop-at.at old.desk.state now.desk.state rests first.0 in
-    let still = plain_still g.F.Minifilter.pre_may g.F.Minifilter.post_may g.F.Minifilter.is_quiet g.B.Base.folder g.B.Base.faults WORKER old now first.1 plain in
-    let step = c.in_ok-tear_down_if.ensures.quiet still calm first.1.settled in
-    (torn_first WORKER c.args.filter c.loop-at.at old.desk.state now.desk.state new.desk.state first.0 step.1, settled_both old now new first.1 step.2)
+loop-at-preserved g c = (
+  λ plain rests settled.
+      let old = c.args.self.now in
+      let now = c.loop-at.self in
+      let new = c.tear_down_if.new.self in
+      let first = c.loop-at.invariant.0 plain rests settled in
+      let calm = rests_first g.F.Minifilter.pre_may g.F.Minifilter.post_may g.F.Minifilter.is_quiet g.B.Base.folder g.B.Base.faults WORKER c.args.filter c.loop-at.at old.desk.state now.desk.state rests first.0 in
+      let still = plain_still g.F.Minifilter.pre_may g.F.Minifilter.post_may g.F.Minifilter.is_quiet g.B.Base.folder g.B.Base.faults WORKER old now first.1 plain in
+      let step = c.in_ok-tear_down_if.ensures.quiet still calm first.1.settled in
+      (torn_first WORKER c.args.filter c.loop-at.at old.desk.state now.desk.state new.desk.state first.0 step.1, settled_both old now new first.1 step.2),
+  λ before. c.in_ok-tear_down_if.ensures.none_due (c.loop-at.invariant.1 before),
+)

@@ -1,0 +1,14 @@
+use Rattle.fm_local.proofs.NoneDue.{none_agreed, none_refused}
+use Rattle.fm_local.specs.Calls.{MayAgree}
+use Rattle.fm_local.specs.Managers.{numbered}
+use Rattle.fm_local.proofs.manager.LocalManager.ask_to_unload.Goals as goal
+use Rattle.fm_local.specs.declared.manager.TheConstants.{WORKER}
+
+pub returns-in_err-ask_unload-clause-none_due : goal.returns-in_err-ask_unload-clause-none_due
+returns-in_err-ask_unload-clause-none_due g c =
+    none_refused WORKER c.args.self.now.desk.state c.args.filter c.in_err-ask_unload.field-0.0 c.ask_unload.new.self c.in_err-ask_unload.ensures.event
+
+pub returns-clause-none_due : goal.returns-clause-none_due
+returns-clause-none_due g c =
+    none_agreed WORKER (MayAgree g.F.Minifilter.unload_may (numbered c.args.self.now.filters c.args.filter.0)) c.args.self.now.desk.state c.args.filter c.ask_unload.new.self c.in_ok-ask_unload.ensures.event
+    c.unloading.result c.unloading.new.self.desk.state c.unloading.ensures.event

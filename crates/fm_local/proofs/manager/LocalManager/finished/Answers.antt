@@ -1,0 +1,8 @@
+use Rattle.fm_local.proofs.NoneDue.{none_collected}
+use Rattle.fm_local.proofs.manager.LocalManager.finished.Goals as goal
+use Rattle.fm_local.specs.declared.manager.TheConstants.{WORKER}
+
+pub returns-clause-none_due : goal.returns-clause-none_due
+returns-clause-none_due g c =
+    let (collected, collects, is) = c.reply.ensures.answer in
+    none_collected WORKER c.args.self.now.desk.state c.in_ok-operation.operation collected c.reply.new.self.desk.state collects

@@ -28,4 +28,5 @@ pub mod Readied
 pub mod Cleaning
 pub mod Emptied
 pub mod NoneDue
+pub mod Refusing
 pub mod Unloaded

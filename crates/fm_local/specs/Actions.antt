@@ -1,5 +1,5 @@
 -- What a manager does of what its state says is next: how a turn of an operation ends, and where turn after turn leads.
-use Rattle.std.specs.Prelude.{◌≡◌, ◌<◌, ℕ, zero, suc, Bool, true, false, List, [], ◌∷◌, length, map, Option, Some, None, Result, Ok, Err}
+use Rattle.std.specs.Prelude.{◌≡◌, ◌<◌, ℕ, zero, suc, Bool, true, false, not, List, [], ◌∷◌, length, map, Option, Some, None, Result, Ok, Err}
 use Rattle.std.specs.VecDeque.{deque_capacity}
 use Rattle.fm_types.specs.declared.ids.HandleId.{HandleId}
 use Rattle.fm_types.specs.declared.status.Status.{Status}
@@ -20,7 +20,7 @@ use Rattle.fm_flow.specs.Answered.{bare_answer}
 use Rattle.fm_flow.specs.declared.action.FlowAction.{FlowAction}
 use Rattle.fm_flow.specs.declared.action.FlowAction.TheVariants as action
 use Rattle.fm_filter.specs.Plain.{IsPlainFilter}
-use Rattle.fm_world.specs.Events.{Nexts, Begins, Collects}
+use Rattle.fm_world.specs.Events.{Nexts, Begins, Collects, begin_refused}
 use Rattle.fm_world.specs.Sound.{IsSound}
 use Rattle.fm_world.specs.Words.{OpId, WorkerId}
 use Rattle.fm_world.specs.World.{World}
@@ -97,6 +97,25 @@ is_over _ = false
 abbrev pub goes_on : Reply → Bool
 goes_on (reply.Done why information bytes) = is_over why
 goes_on (reply.Held o) = false
+
+-- what a request begins with: a close with its cleanup
+abbrev pub first_begun : Request → Request
+first_begun (request.OnHandle h asked.Close) = request.OnHandle h asked.Cleanup
+first_begun what = what
+
+-- whether a refusal of that ends the request: of a close not where its cleanup began before
+abbrev pub ends_with : Request → Status → Bool
+ends_with (request.OnHandle h asked.Close) why = not (is_over why)
+ends_with what why = true
+
+-- a request that is refused is answered with the refusal, and nothing changes
+abbrev pub RefusesIn : {F B : Type 0} → Request → LocalManager F B → Reply → LocalManager F B → Type 0
+RefusesIn what old said new =
+    (why : Status) → begin_refused old.desk.state (first_begun what) ≡ Some why → ends_with what why ≡ true → (said ≡ replied (bare_answer why)) × (new ≡ old)
+
+-- so of one that isn't a close
+abbrev pub RefusesOne : {F B : Type 0} → Request → LocalManager F B → Reply → LocalManager F B → Type 0
+RefusesOne what old said new = (why : Status) → begin_refused old.desk.state what ≡ Some why → (said ≡ replied (bare_answer why)) × (new ≡ old)
 
 -- ---- of a manager
 module _ {F B : Type 0} (pre : F → Data → PreVerdict → Data → Type 0) (post : F → Data → Completion → PostVerdict → Data → Type 0) (is_quiet : F → Type 0)

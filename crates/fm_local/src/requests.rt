@@ -6,7 +6,7 @@ ghost use Rattle.fm_data.specs.declared.request.FileRequest.TheVariants as asked
 ghost use Rattle.fm_data.specs.declared.request.Request.TheVariants as client;
 ghost use Rattle.fm_flow.specs.Answered.{bare_answer};
 ghost use Rattle.fm_flow.specs.declared.action.FlowAction.TheVariants as step;
-ghost use Rattle.fm_local.specs.Actions.{Acts, AnswersIn, ArePlainFilters, CarriesIn, GivesFinished, IsBegun, IsDoneAt, IsReady, PerformsIn, ResumesNone, RunsIn, TurnsAs, WaitsAtEnd, closed_handle, goes_on, reply_of, replied};
+ghost use Rattle.fm_local.specs.Actions.{Acts, AnswersIn, ArePlainFilters, CarriesIn, GivesFinished, IsBegun, IsDoneAt, IsReady, PerformsIn, RefusesIn, RefusesOne, ResumesNone, RunsIn, TurnsAs, WaitsAtEnd, closed_handle, goes_on, reply_of, replied};
 ghost use Rattle.fm_local.specs.Bases.{BasesCarry};
 ghost use Rattle.fm_local.specs.Cleanups.{HasNoneDue, LeavesNoneDue};
 ghost use Rattle.fm_local.specs.Managers.{numbered};
@@ -50,6 +50,7 @@ impl<F: Minifilter, B: Base> LocalManager<F, B> {
     /// filters over its file systems, never with `Held`, and is ready again.
     pub fn answer(&mut self, request: Request) -> Reply
         ensures fold { IsReady F.pre_may F.post_may F.is_quiet B.folder B.faults WORKER self.old → AnswersIn F.pre_may F.post_may F.is_quiet B.folder B.faults WORKER request self.old result self.new }
+        ensures refused { RefusesIn request self.old result self.new }
         ensures none_due { LeavesNoneDue WORKER self.old.desk.state self.new.desk.state }
     {
         self.desk.state.laws();
@@ -72,6 +73,7 @@ impl<F: Minifilter, B: Base> LocalManager<F, B> {
     // A cleanup, and then the close.
     fn close(&mut self, handle: HandleId) -> Reply
         ensures fold { IsReady F.pre_may F.post_may F.is_quiet B.folder B.faults WORKER self.old → AnswersIn F.pre_may F.post_may F.is_quiet B.folder B.faults WORKER (client.OnHandle handle asked.Close) self.old result self.new }
+        ensures refused { RefusesIn (client.OnHandle handle asked.Close) self.old result self.new }
         ensures none_due { LeavesNoneDue WORKER self.old.desk.state self.new.desk.state }
     {
         self.desk.state.laws();
@@ -91,6 +93,7 @@ impl<F: Minifilter, B: Base> LocalManager<F, B> {
     // One operation, from its beginning to its reply, with all that its callbacks resumed.
     fn perform(&mut self, request: Request) -> Reply
         ensures does { IsReady F.pre_may F.post_may F.is_quiet B.folder B.faults WORKER self.old → PerformsIn F.pre_may F.post_may F.is_quiet B.folder B.faults WORKER request self.old result self.new }
+        ensures refused { RefusesOne request self.old result self.new }
         ensures none_due { LeavesNoneDue WORKER self.old.desk.state self.new.desk.state }
     {
         self.desk.state.laws();

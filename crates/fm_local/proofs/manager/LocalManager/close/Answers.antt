@@ -1,3 +1,4 @@
+use Rattle.fm_local.proofs.Refusing.{refuses_cleanup, refuses_close}
 use Rattle.std.proofs.Common.{sym, ◌∙◌}
 use Rattle.fm_data.specs.declared.request.FileRequest.TheVariants as asked
 use Rattle.fm_data.specs.declared.request.Request.TheVariants as request
@@ -18,3 +19,11 @@ returns-clause-fold g c ready =
     (request.OnHandle c.args.handle asked.Cleanup) c.perform-cleanup.result c.perform-cleanup.new.self first in
     answers_close g.F.Minifilter.pre_may g.F.Minifilter.post_may g.F.Minifilter.is_quiet g.B.Base.folder g.B.Base.faults WORKER c.args.self.now ready c.laws.ensures c.args.handle
     c.perform-cleanup.result c.perform-cleanup.new.self first (sym c.goes_on.ensures ∙ c.if-not-goes_on.false) c.perform.result c.perform.new.self (c.perform.ensures.does again)
+
+pub returns-then-not-goes_on-clause-refused : goal.returns-then-not-goes_on-clause-refused
+returns-then-not-goes_on-clause-refused g c = refuses_cleanup c.args.self.now c.args.handle c.perform-cleanup.result c.perform-cleanup.new.self c.perform-cleanup.ensures.refused
+
+pub returns-clause-refused : goal.returns-clause-refused
+returns-clause-refused g c =
+    refuses_close c.args.self.now c.args.handle c.perform-cleanup.result c.perform-cleanup.new.self c.perform-cleanup.ensures.refused (sym c.goes_on.ensures ∙ c.if-not-goes_on.false) c.perform.result
+    c.perform.new.self

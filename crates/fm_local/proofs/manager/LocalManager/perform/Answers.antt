@@ -1,3 +1,4 @@
+use Rattle.fm_local.proofs.Refusing.{not_begun, refuses_one}
 use Rattle.fm_local.proofs.NoneDue.{none_begun}
 use Rattle.std.proofs.Common.{sym, subst}
 use Rattle.fm_data.specs.declared.request.Reply.{Reply}
@@ -21,3 +22,9 @@ returns-in-Err-clause-does g c ready =
 
 pub returns-in-Err-clause-none_due : goal.returns-in-Err-clause-none_due
 returns-in-Err-clause-none_due g c = none_begun WORKER c.args.self.now.desk.state c.args.request c.in-Err.status c.begin.new.self c.in-Err.ensures.event
+
+pub returns-in-Ok-clause-refused : goal.returns-in-Ok-clause-refused
+returns-in-Ok-clause-refused g c why refused = absurd (not_begun c.args.self.now.desk.state c.args.request c.in-Ok.operation c.begin.new.self c.in-Ok.ensures.event why refused)
+
+pub returns-in-Err-clause-refused : goal.returns-in-Err-clause-refused
+returns-in-Err-clause-refused g c = refuses_one c.args.self.now c.args.request c.in-Err.status c.begin.new.self c.in-Err.ensures.event c.refusal.result c.refusal.ensures

@@ -1,0 +1,53 @@
+-- A request that is refused is answered with its refusal, and nothing changes.
+use Rattle.std.specs.Prelude.{◌≡◌, Bool, true, false, not, Some, None, Ok, Err}
+use Rattle.std.proofs.Common.{sym, ap, subst, ◌∙◌}
+use Rattle.std.proofs.lemmas.Option.{none-some}
+use Rattle.fm_types.specs.Refusals.{IsRefusalOrMemory}
+use Rattle.fm_types.specs.declared.ids.HandleId.{HandleId}
+use Rattle.fm_types.specs.declared.status.Status.{Status}
+use Rattle.fm_data.specs.declared.request.FileRequest.TheVariants as asked
+use Rattle.fm_data.specs.declared.request.Reply.{Reply}
+use Rattle.fm_data.specs.declared.request.Request.{Request}
+use Rattle.fm_data.specs.declared.request.Request.TheVariants as request
+use Rattle.fm_flow.specs.Answered.{bare_answer}
+use Rattle.fm_world.specs.Events.{Begins, begin_refused}
+use Rattle.fm_world.specs.Words.{OpId}
+use Rattle.fm_world.specs.World.{World}
+use Rattle.fm_local.specs.Actions.{RefusesIn, RefusesOne, closed_handle, goes_on, is_over, replied}
+use Rattle.fm_local.specs.declared.manager.LocalManager.{LocalManager}
+
+-- what is refused doesn't begin
+pub not_begun : (old : World) (what : Request) (o : OpId) (new : World) → Begins old what (Ok o) new → (why : Status) → begin_refused old what ≡ Some why → ⊥
+unfolding Begins
+not_begun old what o new h why refused = none-some why (sym h.0 ∙ refused)
+
+-- and is told that refusal
+pub refused_as : (old : World) (what : Request) (status : Status) (new : World) → Begins old what (Err status) new → (why : Status) → begin_refused old what ≡ Some why → (status ≡ why) × (new ≡ old)
+unfolding Begins
+refused_as old what status new h why refused = (subst (λ m. IsRefusalOrMemory m status) refused h.0, h.1)
+
+module _ {F B : Type 0} (old : LocalManager F B) where
+  pub refuses_one : (what : Request) (status : Status) (new : World) → Begins old.desk.state what (Err status) new → (said : Reply) → said ≡ replied (bare_answer status)
+      → RefusesOne what old said (record old { desk = record old.desk { state = new } })
+  refuses_one what status new h said says why refused =
+      let (is, same) = refused_as old.desk.state what status new h why refused in
+      (says ∙ ap (λ s. replied (bare_answer s)) is, ap (λ (w : World). record old { desk = record old.desk { state = w } }) same)
+
+  -- a request that is no close
+  pub refuses_in : (what : Request) → closed_handle what ≡ None → (said : Reply) (new : LocalManager F B) → RefusesOne what old said new → RefusesIn what old said new
+  refuses_in (request.List v) no_close said new h why refused ends = h why refused
+  refuses_in (request.Create v path mode) no_close said new h why refused ends = h why refused
+  refuses_in (request.OnHandle x asked.Close) no_close said new h why refused ends = cc
+  refuses_in (request.OnHandle x _) no_close said new h why refused ends = h why refused
+
+  -- a close: its cleanup's refusal is the answer, or it goes on
+  module _ (x : HandleId) (cleaned : Reply) (mid : LocalManager F B) (h : RefusesOne (request.OnHandle x asked.Cleanup) old cleaned mid) where
+    pub refuses_cleanup : RefusesIn (request.OnHandle x asked.Close) old cleaned mid
+    refuses_cleanup why refused ends = h why refused
+
+    pub refuses_close : goes_on cleaned ≡ true → (said : Reply) (new : LocalManager F B) → RefusesIn (request.OnHandle x asked.Close) old said new
+    refuses_close over said new why refused ends = absurd (not_over (is_over why) (sym (ap goes_on (h why refused).0) ∙ over) ends)
+      where
+        not_over : (b : Bool) → b ≡ true → not b ≡ true → ⊥
+        not_over true is not = cc
+        not_over false is not = cc

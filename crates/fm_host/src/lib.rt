@@ -10,8 +10,3 @@ mod names;
 mod paths;
 
 pub use crate::host_base::HostBase;
-
-#[cfg(test)]
-mod slow_host;
-#[cfg(test)]
-mod tests;

@@ -1,5 +1,5 @@
 //! What no stored script can say: texts and frames by hand, lists of events with what each is told, an operation through instances that change what is
-//! written, limits, readers and writers that fail, and refused memory; and the tests of bases, of the job queue and of the volume gate. There is nothing
+//! written, limits, readers and writers that fail, and refused memory; and the tests of bases, over a real folder and over a host that fails, of the job queue and of the volume gate. There is nothing
 //! here but tests, so that what they call is proved once, in its own crate. Stored scripts stand in the crate `examples`.
 #![tactic(auto)]
 
@@ -15,6 +15,8 @@ mod events;
 mod frame_tests;
 #[cfg(test)]
 mod hold_lists;
+#[cfg(test)]
+mod host_tests;
 #[cfg(test)]
 mod limit_tests;
 #[cfg(test)]
@@ -33,6 +35,8 @@ mod rundown_tests;
 mod script_tests;
 #[cfg(test)]
 mod seen_tests;
+#[cfg(test)]
+mod slow_host;
 #[cfg(test)]
 mod teardown_lists;
 #[cfg(test)]

@@ -1,8 +1,8 @@
 //! Bases over a real folder, and over a host that is slow, fails in mid-stream or has strange names.
 
-use super::*;
 use crate::slow_host::{Names, SlowHost};
 use fm_base::{Base, FailNth};
+use fm_host::HostBase;
 use fm_types::{Bytes, CreateMode, RelPath, Status};
 use std::alloc::Global;
 use std::rt::Files;

@@ -28,5 +28,6 @@ pub mod Readied
 pub mod Cleaning
 pub mod Emptied
 pub mod NoneDue
+pub mod Drained
 pub mod Refusing
 pub mod Unloaded

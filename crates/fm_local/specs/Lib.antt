@@ -3,6 +3,7 @@ pub mod Bases
 pub mod Calls
 pub mod Chains
 pub mod Cleanups
+pub mod Drains
 pub mod Folds
 pub mod Functions
 pub mod Left

@@ -7,6 +7,7 @@ ghost use Rattle.fm_local.specs.Bases.{BasesCarry};
 ghost use Rattle.fm_local.specs.Chains.{filter_in, PreMay, PostMay};
 ghost use Rattle.fm_local.specs.Managers.{numbered, IsQuietIn};
 ghost use Rattle.fm_local.specs.Turns.{Does};
+ghost use Rattle.fm_world.specs.EarlyDrains.{DrainReturns};
 ghost use Rattle.fm_world.specs.Events.{PreReturns, PostReturns};
 ghost use Rattle.fm_local.specs.Calls.{MayAgree, QueriesWith, QueryEnds, SetsUpWith, SetupEnds, UnloadsWith};
 ghost use Rattle.fm_world.specs.Teardowns.{CompleteReturns, StartReturns};
@@ -219,7 +220,9 @@ impl<F: Minifilter, B: Base> LocalManager<F, B> {
         operation: OpId,
         instance: InstanceId,
         completion: Completion,
-    ) -> Result<(), Status> {
+    ) -> Result<(), Status>
+        ensures ends { (before : World) × DrainReturns before WORKER result self.new.desk.state }
+    {
         self.drain(operation, instance, completion);
         let before = look_at_hand(&self.desk.state, &mut self.hand);
         let ended = self.desk.state.drain_done(WORKER);

@@ -1,6 +1,6 @@
 use Rattle.fm_local.proofs.NoneDue.{none_started}
 use Rattle.std.specs.Prelude.{IsOk, Result}
-use Rattle.std.proofs.Common.{inr, refl, sym, ap, subst, ◌∙◌}
+use Rattle.std.proofs.Common.{inl, inr, refl, sym, ap, subst, ◌∙◌}
 use Rattle.fm_types.specs.declared.status.Status.{Status}
 use Rattle.fm_local.proofs.Leaving.{start_flow, start_ok}
 use Rattle.fm_local.proofs.Readied.{settled_after, start_stops}
@@ -35,3 +35,11 @@ returns-in-Ok-clause-none_due g c before = c.settle.ensures.none_due
 
 pub returns-in-Err-clause-none_due : goal.returns-in-Err-clause-none_due
 returns-in-Err-clause-none_due g c = none_started WORKER c.args.self.now.desk.state c.args.instance c.in-Err.field-0 c.start_teardown.new.self c.in-Err.ensures.event
+
+pub returns-in-Ok-clause-drains : goal.returns-in-Ok-clause-drains
+returns-in-Ok-clause-drains g c =
+    let (before, returns) = c.start-started.ensures.ends in
+    inr (c.start_teardown.new.self, before, c.start-started.new.self.desk.state, c.drain_all.new.self.desk.state, c.start-started.result, c.in-Ok.ensures.event, returns, c.drain_all.ensures.drains)
+
+pub returns-in-Err-clause-drains : goal.returns-in-Err-clause-drains
+returns-in-Err-clause-drains g c = inl (c.in-Err.field-0, c.start_teardown.new.self, c.in-Err.ensures.event)

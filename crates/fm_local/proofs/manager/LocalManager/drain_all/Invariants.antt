@@ -1,6 +1,9 @@
 use Rattle.std.specs.Prelude.{◌≡◌, []}
 use Rattle.fm_local.proofs.manager.LocalManager.drain_all.Given as goal
+use Rattle.fm_local.specs.Drains.{DrainsMany}
+use Rattle.fm_local.specs.declared.manager.TheConstants.{WORKER}
 
--- where nothing is under way nothing is drained
-abbrev pub invariant-loop : goal.invariant-loop
-invariant-loop g l = l.fn.self.desk.state.flow.operations ≡ [] → l.self ≡ l.fn.self
+-- where nothing is under way nothing is drained, and else so many were
+abbrev pub invariant-loop-made : goal.invariant-loop-made
+invariant-loop-made g l =
+    (l.fn.self.desk.state.flow.operations ≡ [] → l.self ≡ l.fn.self) × DrainsMany WORKER l.instance l._made l.fn.self.desk.state l.self.desk.state

@@ -1,34 +1,41 @@
 use Rattle.std.specs.Prelude.{Ok, Err}
 use Rattle.std.proofs.Common.{refl, sym, ap, ◌∙◌}
 use Rattle.std.proofs.lemmas.Option.{none-some}
+use Rattle.fm_local.proofs.Drained.{drains_none, drains_one, drains_refused}
 use Rattle.fm_local.proofs.Leaving.{drain_same, drained_none}
 use Rattle.fm_local.proofs.manager.LocalManager.drain_first.Goals as goal
 use Rattle.fm_local.specs.declared.manager.TheConstants.{WORKER}
 use Rattle.fm_world.specs.World.{World}
 
-pub returns-in-Ok-Some : goal.returns-in-Ok-Some
-returns-in-Ok-Some g c = record {
-  none = λ none.
-      let is = drained_none WORKER c.args.instance c.args.self.now.desk.state c.in-Ok-Some.field-0 c.drain_take.new.self none c.in-Ok-Some.ensures.event in
-      absurd (none-some _ (sym is ∙ c.in-Ok-Some.field-0-is));
-}
+pub returns-in-Ok-Some-clause-drains : goal.returns-in-Ok-Some-clause-drains
+returns-in-Ok-Some-clause-drains g c =
+    drains_one WORKER c.args.instance c.args.self.now.desk.state c.in-Ok-Some.field-0 c.drain_take.new.self c.in-Ok-Some.ensures.event c.in-Ok-Some.operation c.in-Ok-Some.completion c.in-Ok-Some.field-0-is
+    c.drain_early.result c.drain_early.new.self.desk.state c.drain_early.ensures.ends
 
-pub returns-in-Ok-None : goal.returns-in-Ok-None
-returns-in-Ok-None g c = record {
-  none = λ none.
-      let old = c.args.self.now in (
-        refl,
-        ap (λ (w : World). record old { desk = record old.desk { state = w } })
-            (drain_same WORKER c.args.instance old.desk.state (Ok c.in-Ok-None.field-0) c.drain_take.new.self none c.in-Ok-None.ensures.event),
-      );
-}
+pub returns-in-Ok-Some-clause-none : goal.returns-in-Ok-Some-clause-none
+returns-in-Ok-Some-clause-none g c none =
+    let is = drained_none WORKER c.args.instance c.args.self.now.desk.state c.in-Ok-Some.field-0 c.drain_take.new.self none c.in-Ok-Some.ensures.event in
+    absurd (none-some _ (sym is ∙ c.in-Ok-Some.field-0-is))
 
-pub returns-in-Err : goal.returns-in-Err
-returns-in-Err g c = record {
-  none = λ none.
-      let old = c.args.self.now in (
-        refl,
-        ap (λ (w : World). record old { desk = record old.desk { state = w } })
-            (drain_same WORKER c.args.instance old.desk.state (Err c.in-Err.field-0) c.drain_take.new.self none c.in-Err.ensures.event),
-      );
-}
+pub returns-in-Ok-None-clause-drains : goal.returns-in-Ok-None-clause-drains
+returns-in-Ok-None-clause-drains g c =
+    drains_none WORKER c.args.instance c.args.self.now.desk.state c.in-Ok-None.field-0 c.drain_take.new.self c.in-Ok-None.ensures.event c.in-Ok-None.field-0-is
+
+pub returns-in-Ok-None-clause-none : goal.returns-in-Ok-None-clause-none
+returns-in-Ok-None-clause-none g c none =
+    let old = c.args.self.now in (
+      refl,
+      ap (λ (w : World). record old { desk = record old.desk { state = w } })
+          (drain_same WORKER c.args.instance old.desk.state (Ok c.in-Ok-None.field-0) c.drain_take.new.self none c.in-Ok-None.ensures.event),
+    )
+
+pub returns-in-Err-clause-drains : goal.returns-in-Err-clause-drains
+returns-in-Err-clause-drains g c = drains_refused WORKER c.args.instance c.args.self.now.desk.state c.in-Err.field-0 c.drain_take.new.self c.in-Err.ensures.event
+
+pub returns-in-Err-clause-none : goal.returns-in-Err-clause-none
+returns-in-Err-clause-none g c none =
+    let old = c.args.self.now in (
+      refl,
+      ap (λ (w : World). record old { desk = record old.desk { state = w } })
+          (drain_same WORKER c.args.instance old.desk.state (Err c.in-Err.field-0) c.drain_take.new.self none c.in-Err.ensures.event),
+    )

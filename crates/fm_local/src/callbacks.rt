@@ -1,6 +1,6 @@
 //! The callbacks of filters, each between the event that enters it and the one that ends it.
 
-ghost use Rattle.std.specs.Prelude.{◌≡◌};
+ghost use Rattle.std.specs.Prelude.{◌≡◌, None};
 ghost use Rattle.fm_flow.specs.declared.action.FlowAction.TheVariants as step;
 ghost use Rattle.fm_local.specs.Actions.{ArePlainFilters};
 ghost use Rattle.fm_local.specs.Bases.{BasesCarry};
@@ -206,6 +206,7 @@ impl<F: Minifilter, B: Base> LocalManager<F, B> {
         instance: InstanceId,
         completion: Completion,
     ) -> Result<(), Status>
+        ensures ends { (before : World) × PostReturns before WORKER PostVerdict.Finished None result self.new.desk.state }
         ensures quiet { ArePlainFilters F.pre_may F.post_may F.is_quiet (numbered self.old.filters) → self.new.desk.resumed ≡ self.old.desk.resumed }
         ensures kept { self.new ≡ record self.old { desk = self.new.desk; trace = self.new.trace; hand = self.new.hand; leaks = self.new.leaks } }
     {

@@ -53,15 +53,24 @@ pub fn named(rt: &impl Abort, text: &[u8]) -> Name {
 
 /// A manager that has these filters, each loaded, with one instance each on the volume, attached in the order of the rows.
 pub fn with(rt: &impl Abort, alloc: Global, rows: &[Row]) -> Samples {
+    let mut manager = LocalManager::new(alloc, filters_of(rt, alloc, rows)).expect(rt, "a manager");
+    attach_all(rt, alloc, &mut manager, rows);
+    manager
+}
+
+fn filters_of(rt: &impl Abort, alloc: Global, rows: &[Row]) -> Vec<(Name, Sample)> {
     let mut filters = Vec::new(alloc);
     for (name, filter, _) in rows {
         filters
             .push((named(rt, name), *filter))
             .expect(rt, "memory");
     }
-    let mut manager = LocalManager::new(alloc, filters).expect(rt, "a manager");
-    let base = MemoryBase::new(alloc);
-    assert!(rt; manager.mount(named(rt, b"v"), base) == Ok(VOLUME));
+    filters
+}
+
+// What owns a manager is proved dearly, so all that makes several calls of one borrows it.
+fn attach_all(rt: &impl Abort, alloc: Global, manager: &mut Samples, rows: &[Row]) {
+    mount(rt, manager, MemoryBase::new(alloc));
     for (name, _, altitude) in rows {
         let name = named(rt, name);
         let filter = manager.load(&name).expect(rt, "a filter");
@@ -70,7 +79,15 @@ pub fn with(rt: &impl Abort, alloc: Global, rows: &[Row]) -> Samples {
             .attach(filter, VOLUME, name, altitude)
             .expect(rt, "an instance");
     }
-    manager
+}
+
+/// Mounts the volume of all requests.
+pub fn mount<F: Minifilter>(
+    rt: &impl Abort,
+    manager: &mut LocalManager<F, MemoryBase>,
+    base: MemoryBase,
+) {
+    assert!(rt; manager.mount(named(rt, b"v"), base) == Ok(VOLUME));
 }
 
 fn request_of(rt: &impl Abort, alloc: Global, ask: Ask) -> Request {
@@ -144,6 +161,12 @@ pub fn see_finished(rt: &impl Abort, manager: &mut Samples, wanted: &[(u64, Told
         see(rt, &reply, *told);
     }
     assert!(rt; manager.finished().is_none());
+}
+
+/// How many contexts were born and cleaned up, and how many references were left behind.
+pub fn lives<F: Minifilter>(manager: &LocalManager<F, MemoryBase>) -> (u64, u64, u64) {
+    let state = manager.state();
+    (state.born(), state.cleaned_count(), state.leaks())
 }
 
 /// The first instance, and the first filter.

@@ -1,6 +1,6 @@
 //! What the manager tells of a filter that forgets to release what it took: each leak with its text, and the steps of a read.
 
-use crate::asked::{Ask, DONE, FILTER, INSTANCE, Line, Told, VOLUME, ask_all, named};
+use crate::asked::{Ask, DONE, FILTER, INSTANCE, Line, Told, VOLUME, ask_all, lives, mount, named};
 use crate::forgets::Forgets;
 use fm_altitude::Altitude;
 use fm_base::MemoryBase;
@@ -12,19 +12,24 @@ use std::test::Fail;
 
 type Manager = LocalManager<Forgets, MemoryBase>;
 
-// A manager with one instance of the filter on the volume.
+// A manager with one instance of the filter on the volume, which has answered the requests.
 fn with_forgets(rt: &impl Abort, alloc: Global) -> Manager {
-    let name = named(rt, b"forgets");
     let mut filters = Vec::new(alloc);
     filters
-        .push((name, Forgets::new(alloc)))
+        .push((named(rt, b"forgets"), Forgets::new(alloc)))
         .expect(rt, "memory");
     let mut manager = LocalManager::new(alloc, filters).expect(rt, "a manager");
-    assert!(rt; manager.mount(named(rt, b"v"), MemoryBase::new(alloc)) == Ok(VOLUME));
+    forget(rt, alloc, &mut manager);
+    manager
+}
+
+fn forget(rt: &impl Abort, alloc: Global, manager: &mut Manager) {
+    let name = named(rt, b"forgets");
+    mount(rt, manager, MemoryBase::new(alloc));
     assert!(rt; manager.load(&name) == Ok(FILTER));
     let altitude = Altitude::read(b"100").expect(rt, "an altitude");
     assert!(rt; manager.attach(FILTER, VOLUME, name, altitude) == Ok(INSTANCE));
-    manager
+    ask_all(rt, alloc, manager, &LINES);
 }
 
 // A context by its slot, and by how many lay there before.
@@ -40,79 +45,65 @@ const LINES: [Line; 4] = [
     (Ask::Read(0, 1, 1), Told::Done(Status::Success, 1, b"b")),
 ];
 
-// The context of the first read is cleaned up when that is done, so that the second one's lies in its slot.
-#[test]
-fn leaks_by_callback(rt: HostRuntime) -> Result<(), Fail> {
-    let alloc = rt.alloc();
-    let mut manager = with_forgets(&rt, alloc);
-    ask_all(&rt, alloc, &mut manager, &LINES);
-    let leak = |kind, context, callback, operation| Leak {
+// A leak of the instance.
+const fn leak(
+    context: CtxId,
+    kind: ContextKind,
+    callback: Callback,
+    operation: Option<OpId>,
+) -> Leak {
+    Leak {
         context,
         kind: Some(kind),
         instance: INSTANCE,
         callback,
         operation,
-    };
+    }
+}
+
+// The context of the first read is cleaned up when that is done, so that the second one's lies in its slot.
+#[test]
+fn leaks_by_callback(rt: HostRuntime) -> Result<(), Fail> {
+    let manager = with_forgets(&rt, rt.alloc());
+    see_leaks(&rt, rt.alloc(), &manager)
+}
+
+fn see_leaks(rt: &impl Abort, alloc: Global, manager: &Manager) -> Result<(), Fail> {
+    let (instance, stream) = (ContextKind::Instance, ContextKind::Stream);
+    let (first, second) = (Some(OpId(2)), Some(OpId(3)));
     let wanted = [
-        (
-            leak(ContextKind::Instance, context(0, 0), Callback::Setup, None),
-            "leak c0 instance i0 setup",
-        ),
-        (
-            leak(
-                ContextKind::Stream,
-                context(1, 0),
-                Callback::Pre,
-                Some(OpId(2)),
-            ),
-            "leak c1 stream i0 pre o2",
-        ),
-        (
-            leak(
-                ContextKind::Stream,
-                context(1, 0),
-                Callback::Post,
-                Some(OpId(2)),
-            ),
-            "leak c1 stream i0 post o2",
-        ),
-        (
-            leak(
-                ContextKind::Stream,
-                context(1, 1),
-                Callback::Pre,
-                Some(OpId(3)),
-            ),
-            "leak c1.1 stream i0 pre o3",
-        ),
-        (
-            leak(
-                ContextKind::Stream,
-                context(1, 1),
-                Callback::Post,
-                Some(OpId(3)),
-            ),
-            "leak c1.1 stream i0 post o3",
-        ),
+        leak(context(0, 0), instance, Callback::Setup, None),
+        leak(context(1, 0), stream, Callback::Pre, first),
+        leak(context(1, 0), stream, Callback::Post, first),
+        leak(context(1, 1), stream, Callback::Pre, second),
+        leak(context(1, 1), stream, Callback::Post, second),
+    ];
+    let texts = [
+        "leak c0 instance i0 setup",
+        "leak c1 stream i0 pre o2",
+        "leak c1 stream i0 post o2",
+        "leak c1.1 stream i0 pre o3",
+        "leak c1.1 stream i0 post o3",
     ];
     assert_eq!(rt; manager.leaked(), wanted.len());
-    for (place, (leak, text)) in wanted.iter().enumerate() {
-        let told = manager.leak(place).expect(&rt, "one more leak");
+    for (place, (leak, text)) in wanted.iter().zip(texts).enumerate() {
+        let told = manager.leak(place).expect(rt, "one more leak");
         assert_eq!(rt; told, *leak);
         let line = format!(in alloc; "{told}")?;
-        assert_eq!(rt; line.as_str(), *text);
+        assert_eq!(rt; line.as_str(), text);
     }
-    assert_eq!(rt; manager.state().leaks(), 5);
-    assert_eq!(rt; manager.state().born(), 3);
+    assert_eq!(rt; lives(manager), (3, 2, 5));
     assert_eq!(rt; manager.state().total(FILTER), 2);
     Ok(())
 }
 
 #[test]
 fn steps_of_a_read(rt: HostRuntime) -> Result<(), Fail> {
-    let alloc = rt.alloc();
-    let mut manager = with_forgets(&rt, alloc);
-    ask_all(&rt, alloc, &mut manager, &LINES);
+    let manager = with_forgets(&rt, rt.alloc());
+    see_steps(&rt, rt.alloc(), &manager)
+}
+
+fn see_steps(rt: &impl Abort, alloc: Global, manager: &Manager) -> Result<(), Fail> {
     let wanted = [
         "o0 base 0",
         "o0 reply 0",
@@ -129,7 +120,7 @@ fn steps_of_a_read(rt: HostRuntime) -> Result<(), Fail> {
     ];
     assert_eq!(rt; manager.traced(), wanted.len());
     for (place, text) in wanted.iter().enumerate() {
-        let step = manager.trace(place).expect(&rt, "one more step");
+        let step = manager.trace(place).expect(rt, "one more step");
         let line = format!(in alloc; "{step}")?;
         assert_eq!(rt; line.as_str(), *text);
     }

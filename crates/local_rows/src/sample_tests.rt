@@ -1,9 +1,12 @@
 //! What requests are answered through samples that nothing holds up.
 
-use crate::asked::{Ask, DONE, Line, Told, VOLUME, ask_all, with};
+use crate::asked::{
+    Ask, DONE, FILTER, INSTANCE, Line, Samples, Told, VOLUME, ask_all, lives, with,
+};
 use fm_base::Base;
 use fm_samples::{Carry, Guard, Meter, Sample, Shift};
-use fm_types::{FilterId, HandleId, InstanceId, RelPath, Status};
+use fm_types::{RelPath, Status};
+use std::alloc::Global;
 use std::process::Abort;
 
 fn refused(status: Status) -> Told<'static> {
@@ -11,7 +14,7 @@ fn refused(status: Status) -> Told<'static> {
 }
 
 // What the file of a volume holds.
-fn holds(rt: &impl Abort, manager: &mut crate::asked::Samples, path: &[u8], wanted: &[u8]) {
+fn holds(rt: &impl Abort, manager: &mut Samples, path: &[u8], wanted: &[u8]) {
     let path = RelPath::read(path).expect(rt, "a path");
     let base = manager.base(VOLUME).expect(rt, "the base");
     let bytes = base.read(&path, 0, 100).expect(rt, "its bytes");
@@ -21,11 +24,16 @@ fn holds(rt: &impl Abort, manager: &mut crate::asked::Samples, path: &[u8], want
 #[test]
 fn shift_local(rt: HostRuntime) {
     let alloc = rt.alloc();
-    let mut manager = with(
-        &rt,
-        alloc,
-        &[(b"shift", Sample::Shift(Shift::new(alloc)), b"100")],
-    );
+    let rows = [(
+        b"shift".as_slice(),
+        Sample::Shift(Shift::new(alloc)),
+        b"100".as_slice(),
+    )];
+    let mut manager = with(&rt, alloc, &rows);
+    shifted(&rt, alloc, &mut manager);
+}
+
+fn shifted(rt: &impl Abort, alloc: Global, manager: &mut Samples) {
     let written: [Line; 2] = [
         (Ask::Create(b"x"), DONE),
         (
@@ -33,8 +41,8 @@ fn shift_local(rt: HostRuntime) {
             Told::Done(Status::Success, 3, b""),
         ),
     ];
-    ask_all(&rt, alloc, &mut manager, &written);
-    holds(&rt, &mut manager, b"x", b"bc\x00");
+    ask_all(rt, alloc, manager, &written);
+    holds(rt, manager, b"x", b"bc\x00");
     let seen: [Line; 5] = [
         (
             Ask::Read(0, 0, 5),
@@ -45,7 +53,7 @@ fn shift_local(rt: HostRuntime) {
         (Ask::Read(0, 0, 32_769), refused(Status::BadRequest)),
         (Ask::SetSize(0, (1 << 40) + 1), refused(Status::BadRequest)),
     ];
-    ask_all(&rt, alloc, &mut manager, &seen);
+    ask_all(rt, alloc, manager, &seen);
 }
 
 // The guard lies above both shifts, of which each adds 1.
@@ -59,6 +67,10 @@ fn samples_above_each_other(rt: HostRuntime) {
         (b"high", shift, b"100.5"),
     ];
     let mut manager = with(&rt, alloc, &rows);
+    guarded(&rt, alloc, &mut manager);
+}
+
+fn guarded(rt: &impl Abort, alloc: Global, manager: &mut Samples) {
     let lines: [Line; 8] = [
         (Ask::Create(b"deny/x"), refused(Status::AccessDenied)),
         (Ask::Create(b"y"), DONE),
@@ -69,8 +81,8 @@ fn samples_above_each_other(rt: HostRuntime) {
         (Ask::Close(0), DONE),
         (Ask::Close(0), refused(Status::NoHandle)),
     ];
-    ask_all(&rt, alloc, &mut manager, &lines);
-    holds(&rt, &mut manager, b"y", b"cd");
+    ask_all(rt, alloc, manager, &lines);
+    holds(rt, manager, b"y", b"cd");
 }
 
 // The numbers of a stream's reads and writes come with its cleanup, which the close of the last handle makes due. Each callback allocates a context, of
@@ -78,46 +90,52 @@ fn samples_above_each_other(rt: HostRuntime) {
 #[test]
 fn meter_total(rt: HostRuntime) {
     let alloc = rt.alloc();
-    let mut manager = with(
-        &rt,
-        alloc,
-        &[(b"meter", Sample::Meter(Meter::new(alloc)), b"100")],
-    );
-    ask_all(&rt, alloc, &mut manager, &[(Ask::Create(b"x"), DONE)]);
+    let rows = [(
+        b"meter".as_slice(),
+        Sample::Meter(Meter::new(alloc)),
+        b"100".as_slice(),
+    )];
+    let mut manager = with(&rt, alloc, &rows);
+    metered(&rt, alloc, &mut manager);
+}
+
+fn metered(rt: &impl Abort, alloc: Global, manager: &mut Samples) {
+    let lines: [Line; 2] = [
+        (Ask::Write(0, 0, b"a"), Told::Done(Status::Success, 1, b"")),
+        (Ask::Read(0, 0, 0), DONE),
+    ];
+    ask_all(rt, alloc, manager, &[(Ask::Create(b"x"), DONE)]);
     for _ in 0..50 {
-        let lines: [Line; 2] = [
-            (Ask::Write(0, 0, b"a"), Told::Done(Status::Success, 1, b"")),
-            (Ask::Read(0, 0, 0), DONE),
-        ];
-        ask_all(&rt, alloc, &mut manager, &lines);
+        ask_all(rt, alloc, manager, &lines);
     }
-    assert_eq!(rt; manager.state().total(FilterId(0)), 0);
-    ask_all(&rt, alloc, &mut manager, &[(Ask::Close(0), DONE)]);
-    assert_eq!(rt; manager.state().total(FilterId(0)), 100);
-    assert_eq!(rt; manager.state().born(), 100);
-    assert_eq!(rt; manager.state().cleaned_count(), 100);
-    assert_eq!(rt; manager.leaked(), 0);
-    assert!(rt; manager.detach(InstanceId(0)) == Ok(()));
-    assert!(rt; manager.unload(FilterId(0)) == Ok(()));
+    assert_eq!(rt; manager.state().total(FILTER), 0);
+    ask_all(rt, alloc, manager, &[(Ask::Close(0), DONE)]);
+    assert_eq!(rt; manager.state().total(FILTER), 100);
+    assert_eq!(rt; lives(manager), (100, 100, 0));
+    assert!(rt; manager.detach(INSTANCE) == Ok(()));
+    assert!(rt; manager.unload(FILTER) == Ok(()));
 }
 
 // The first read makes a context of its handle, the second one finds it; both send it along, and it comes back to be released. The close is its end.
 #[test]
 fn carried_reads(rt: HostRuntime) {
     let alloc = rt.alloc();
-    let mut manager = with(
-        &rt,
-        alloc,
-        &[(b"carry", Sample::Carry(Carry::new(alloc)), b"100")],
-    );
+    let rows = [(
+        b"carry".as_slice(),
+        Sample::Carry(Carry::new(alloc)),
+        b"100".as_slice(),
+    )];
+    let mut manager = with(&rt, alloc, &rows);
+    carried(&rt, alloc, &mut manager);
+}
+
+fn carried(rt: &impl Abort, alloc: Global, manager: &mut Samples) {
     let lines: [Line; 4] = [
         (Ask::Create(b"x"), DONE),
         (Ask::Read(0, 0, 0), DONE),
         (Ask::Read(0, 0, 0), DONE),
         (Ask::Close(0), DONE),
     ];
-    ask_all(&rt, alloc, &mut manager, &lines);
-    assert_eq!(rt; manager.state().born(), 1);
-    assert_eq!(rt; manager.state().cleaned_count(), 1);
-    assert_eq!(rt; manager.state().leaks(), 0);
+    ask_all(rt, alloc, manager, &lines);
+    assert_eq!(rt; lives(manager), (1, 1, 0));
 }

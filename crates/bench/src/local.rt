@@ -25,18 +25,20 @@ const DEPTHS: [u8; 4] = [0, 1, 8, 32];
 
 type Shifts = LocalManager<Sample, MemoryBase>;
 
-// A manager whose volume has so many instances of shift.
-fn with_shifts(alloc: Global, depth: u8) -> Result<Shifts, Status> {
-    let name = Name::read(b"shift")?;
+fn filters(alloc: Global) -> Result<Vec<(Name, Sample)>, Status> {
     let mut filters = Vec::new(alloc);
-    filters.push((name, Sample::Shift(Shift::new(alloc))))?;
-    let mut manager = LocalManager::new(alloc, filters)?;
+    filters.push((Name::read(b"shift")?, Sample::Shift(Shift::new(alloc))))?;
+    Ok(filters)
+}
+
+// Mounts the volume, and attaches so many instances of shift. (What owns a manager is proved dearly, so all that makes several calls of one borrows it.)
+fn attach_all(alloc: Global, manager: &mut Shifts, depth: u8) -> Result<(), Status> {
     let volume = manager.mount(Name::read(b"disk")?, MemoryBase::new(alloc))?;
-    let filter = manager.load(&name)?;
+    let filter = manager.load(&Name::read(b"shift")?)?;
     for place in 0..depth {
-        attach(&mut manager, filter, volume, place)?;
+        attach(manager, filter, volume, place)?;
     }
-    Ok(manager)
+    Ok(())
 }
 
 // One more instance, under a name and at an altitude of its own.
@@ -107,14 +109,20 @@ fn write_and_read(alloc: Global, manager: &mut Shifts, handle: HandleId) -> Resu
     Ok(bytes.len() as u64)
 }
 
-fn by_requests(alloc: Global, depth: u8, rounds: u64) -> Result<u64, Status> {
-    let mut manager = with_shifts(alloc, depth)?;
-    let handle = create(alloc, &mut manager)?;
+// So many rounds; the answer is how many bytes were read.
+fn ask_all(alloc: Global, manager: &mut Shifts, depth: u8, rounds: u64) -> Result<u64, Status> {
+    attach_all(alloc, manager, depth)?;
+    let handle = create(alloc, manager)?;
     let mut read = 0u64;
     for _ in 0..rounds {
-        read = read.wrapping_add(write_and_read(alloc, &mut manager, handle)?);
+        read = read.wrapping_add(write_and_read(alloc, manager, handle)?);
     }
     Ok(read)
+}
+
+fn by_requests(alloc: Global, depth: u8, rounds: u64) -> Result<u64, Status> {
+    let mut manager = LocalManager::new(alloc, filters(alloc)?)?;
+    ask_all(alloc, &mut manager, depth, rounds)
 }
 
 fn raised(alloc: Global, bytes: &[u8]) -> Result<Bytes, AllocError> {
@@ -156,15 +164,19 @@ fn call_and_call(
     Ok(bytes.len() as u64)
 }
 
-fn by_calls(alloc: Global, depth: u8, rounds: u64) -> Result<u64, Status> {
-    let mut base = MemoryBase::new(alloc);
+fn call_all(alloc: Global, base: &mut MemoryBase, depth: u8, rounds: u64) -> Result<u64, Status> {
     let path = RelPath::read(b"file")?;
     base.create(&path, CreateMode::New)?;
     let mut read = 0u64;
     for _ in 0..rounds {
-        read = read.wrapping_add(call_and_call(alloc, &mut base, &path, depth)?);
+        read = read.wrapping_add(call_and_call(alloc, base, &path, depth)?);
     }
     Ok(read)
+}
+
+fn by_calls(alloc: Global, depth: u8, rounds: u64) -> Result<u64, Status> {
+    let mut base = MemoryBase::new(alloc);
+    call_all(alloc, &mut base, depth, rounds)
 }
 
 fn failed(_status: Status) -> io::Error {

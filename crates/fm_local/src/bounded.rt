@@ -15,7 +15,8 @@ pub struct Bounded<T> {
 impl<T: Copy> Bounded<T> {
     /// An empty queue for at most `limit` items. It fails where there is no memory for them.
     pub fn new(alloc: Global, limit: usize) -> Result<Bounded<T>, AllocError>
-        ensures { IfOk result (λ queue. queue.items.items ≡ []) }
+        ensures empty { IfOk result (λ queue. queue.items.items ≡ []) }
+        ensures room { IfOk result (λ queue. limit ≤ deque_capacity queue.items) }
     {
         let items = VecDeque::with_capacity(alloc, limit)?;
         Ok(Bounded { items })

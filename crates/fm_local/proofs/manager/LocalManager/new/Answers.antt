@@ -6,4 +6,4 @@ use Rattle.fm_local.specs.declared.manager.TheConstants.{WORKER}
 pub returns-clause-ready : goal.returns-clause-ready
 returns-clause-ready g c =
     new_ready g.F.Minifilter.pre_may g.F.Minifilter.post_may g.F.Minifilter.is_quiet g.B.Base.folder g.B.Base.faults WORKER _ refl c.in_ok-state.ensures.empty c.new-7.ensures.none
-    c.in_ok-resumed.ensures
+    c.in_ok-resumed.ensures.empty

@@ -9,7 +9,7 @@ use fm_types::{Bytes, ContextKind, ContextMask, CtxId, OpMask, Registration};
 use std::alloc::Global;
 
 /// Leaves references in its callbacks' hands. Its setup sets a context on the new instance and keeps its reference. The preoperation of a read takes two
-/// references to a new context, sends one along and keeps the other; the postoperation keeps the one that comes back.
+/// references to a new context, sends one along and keeps the other; the postoperation keeps the one that comes back, and the end of a teardown one more.
 #[derive(Clone, Copy)]
 pub struct Forgets {
     alloc: Global,
@@ -87,7 +87,9 @@ impl Minifilter for Forgets {
 
     fn teardown_start<P: Port>(&self, _port: &mut P) {}
 
-    fn teardown_complete<P: Port>(&self, _port: &mut P) {}
+    fn teardown_complete<P: Port>(&self, port: &mut P) {
+        let _ = self.new_context(ContextKind::Stream, port);
+    }
 
     fn unload(&self) -> bool {
         true

@@ -98,6 +98,21 @@ fn see_leaks(rt: &impl Abort, alloc: Global, manager: &Manager) -> Result<(), Fa
 }
 
 #[test]
+fn leak_of_a_teardown(rt: HostRuntime) -> Result<(), Fail> {
+    let mut manager = with_forgets(&rt, rt.alloc());
+    see_teardown(&rt, rt.alloc(), &mut manager)
+}
+
+fn see_teardown(rt: &impl Abort, alloc: Global, manager: &mut Manager) -> Result<(), Fail> {
+    assert!(rt; manager.detach(INSTANCE) == Ok(()));
+    let told = manager.leak(5).expect(rt, "one more leak");
+    let line = format!(in alloc; "{told}")?;
+    assert_eq!(rt; line.as_str(), "leak c1.2 stream i0 complete");
+    assert_eq!(rt; lives(manager), (4, 4, 6));
+    Ok(())
+}
+
+#[test]
 fn steps_of_a_read(rt: HostRuntime) -> Result<(), Fail> {
     let manager = with_forgets(&rt, rt.alloc());
     see_steps(&rt, rt.alloc(), &manager)

@@ -9,8 +9,8 @@ use fm_types::{ContextKind, Registration};
 /// A minifilter: what it registers for, and its callbacks (`FLT_REGISTRATION`). The manager calls them
 /// with none of its locks held, and several may run at once.
 ///
-/// Each callback has a relation, a ghost member, of what it may answer and how it may change the data.
-/// It gets a port for what it may call of the manager; a filter that is quiet calls nothing that changes
+/// Each callback has a relation, a ghost member: of what it may answer and how it may change the data, or,
+/// where it answers nothing, of what holds once it was called. It gets a port for what it may call of the manager; a filter that is quiet calls nothing that changes
 /// the manager. No callback changes what it received, nor swaps the port for another one.
 pub trait Minifilter: Send + Sync + Drop {
     ghost use Rattle.std.specs.Prelude.{ℕ, Bool, List};
@@ -42,6 +42,15 @@ pub trait Minifilter: Send + Sync + Drop {
 
     /// Which number the cleanup of a context of a kind, with that body, may return.
     ghost cleanup_may: { Self → ContextKind → List ℕ → ℕ → Type 0 };
+
+    /// What holds once its drain has let go of what a completion names.
+    ghost drained: { Self → Completion → Type 0 };
+
+    /// What holds once it was told that an instance's teardown begins.
+    ghost started: { Self → Type 0 };
+
+    /// What holds once it was told that an instance's teardown is complete.
+    ghost completed: { Self → Type 0 };
 
     /// Whether none of its callbacks changes its port.
     ghost is_quiet: { Self → Type 0 };
@@ -90,6 +99,7 @@ pub trait Minifilter: Send + Sync + Drop {
     /// (`PFLT_POST_OPERATION_CALLBACK` with `FLTFL_POST_OPERATION_DRAINING`): there is no data, and the
     /// callback only lets go of what its completion names.
     fn drain<P: Port>(&self, completion: Completion, port: &mut P)
+        ensures told { drained self.now completion }
         ensures quiet { is_quiet self.now → port.new ≡ port.old }
         ensures far { P.kept port.new ≡ P.kept port.old }
         ensures same { P.name port.new ≡ P.name port.old };
@@ -105,6 +115,7 @@ pub trait Minifilter: Send + Sync + Drop {
     /// The instance's teardown begins (`PFLT_INSTANCE_TEARDOWN_CALLBACK`, `InstanceTeardownStartCallback`):
     /// no operation comes to it any more, and it resumes what it holds.
     fn teardown_start<P: Port>(&self, port: &mut P)
+        ensures told { started self.now }
         ensures quiet { is_quiet self.now → port.new ≡ port.old }
         ensures far { P.kept port.new ≡ P.kept port.old }
         ensures same { P.name port.new ≡ P.name port.old };
@@ -112,6 +123,7 @@ pub trait Minifilter: Send + Sync + Drop {
     /// Nothing is in flight at the instance any more (`PFLT_INSTANCE_TEARDOWN_CALLBACK`,
     /// `InstanceTeardownCompleteCallback`). Its contexts lose their links after it.
     fn teardown_complete<P: Port>(&self, port: &mut P)
+        ensures told { completed self.now }
         ensures quiet { is_quiet self.now → port.new ≡ port.old }
         ensures far { P.kept port.new ≡ P.kept port.old }
         ensures same { P.name port.new ≡ P.name port.old };

@@ -8,7 +8,8 @@ use Rattle.fm_world.specs.Owners.{row_at}
 use Rattle.fm_world.specs.Words.{InstanceId, OpId, WorkerId}
 use Rattle.fm_world.specs.World.{World}
 use Rattle.fm_local.proofs.Resting.{happened, refused_same}
-use Rattle.fm_local.specs.Drains.{DrainsAll, DrainsMany, DrainsSome, OwesNone}
+use Rattle.fm_local.specs.Chains.{filter_in}
+use Rattle.fm_local.specs.Drains.{DrainsAll, DrainsMany, DrainsSome, OwesNone, WasDrained}
 
 module _ (k : WorkerId) (i : InstanceId) where
   -- ---- one drain
@@ -25,34 +26,36 @@ module _ (k : WorkerId) (i : InstanceId) where
   unfolding TakesDrain
   taken_refused old why new h = refused_same (Option (OpId × Completion)) old k why new _ h (λ event. event.1)
 
-  pub drains_none : (old : World) (m : Option (OpId × Completion)) (new : World) → TakesDrain old k i (Ok m) new → m ≡ None → DrainsSome k i false old new
+module _ {F : Type 0} (drained : F → Completion → Type 0) (filters : ℕ → Option F) (k : WorkerId) (i : InstanceId) where
+  pub drains_none : (old : World) (m : Option (OpId × Completion)) (new : World) → TakesDrain old k i (Ok m) new → m ≡ None → DrainsSome drained filters k i false old new
   drains_none old m new h none =
       let event = subst (λ (m : Option (OpId × Completion)). TakesDrain old k i (Ok m) new) none h in
-      let same = taken_none old new event in
+      let same = taken_none k i old new event in
       (same, inl (subst (λ (w : World). TakesDrain old k i (Ok None) w) same event))
 
-  pub drains_refused : (old : World) (why : Status) (new : World) → TakesDrain old k i (Err why) new → DrainsSome k i false old new
+  pub drains_refused : (old : World) (why : Status) (new : World) → TakesDrain old k i (Err why) new → DrainsSome drained filters k i false old new
   drains_refused old why new h =
-      let same = taken_refused old why new h in
+      let same = taken_refused k i old why new h in
       (same, inr (why, subst (λ (w : World). TakesDrain old k i (Err why) w) same h))
 
   pub drains_one : (old : World) (m : Option (OpId × Completion)) (mid : World) → TakesDrain old k i (Ok m) mid → (o : OpId) (completion : Completion) → m ≡ Some (o, completion)
-      → (ended : Result (Unit {0}) Status) (new : World) → ((before : World) × DrainReturns before k ended new) → DrainsSome k i true old new
-  drains_one old m mid h o completion is ended new (before, returns) =
-      (o, completion, mid, before, ended, subst (λ (m : Option (OpId × Completion)). TakesDrain old k i (Ok m) mid) is h, returns)
+      → WasDrained drained (filter_in filters mid.stack i.0) completion
+      → (ended : Result (Unit {0}) Status) (new : World) → ((before : World) × DrainReturns before k ended new) → DrainsSome drained filters k i true old new
+  drains_one old m mid h o completion is called ended new (before, returns) =
+      (o, completion, mid, before, ended, subst (λ (m : Option (OpId × Completion)). TakesDrain old k i (Ok m) mid) is h, called, returns)
 
   -- ---- one after the other
 
-  pub drains_more : (n : ℕ) (old mid new : World) → DrainsMany k i n old mid → (b : Bool) → b ≡ true → DrainsSome k i b mid new → DrainsMany k i (n + 1) old new
-  drains_more n old mid new many true is step = subst (λ (m : ℕ). DrainsMany k i m old new) (one_more n) (mid, many, step)
+  pub drains_more : (n : ℕ) (old mid new : World) → DrainsMany drained filters k i n old mid → (b : Bool) → b ≡ true → DrainsSome drained filters k i b mid new → DrainsMany drained filters k i (n + 1) old new
+  drains_more n old mid new many true is step = subst (λ (m : ℕ). DrainsMany drained filters k i m old new) (one_more n) (mid, many, step)
     where
       one_more : (n : ℕ) → suc n ≡ n + 1
       one_more n = omega arith
   drains_more n old mid new many false is step = cc
 
-  pub drains_end : (most n : ℕ) (old mid new : World) → DrainsMany k i n old mid → (b : Bool) → b ≡ false → DrainsSome k i b mid new → DrainsAll k i most old new
+  pub drains_end : (most n : ℕ) (old mid new : World) → DrainsMany drained filters k i n old mid → (b : Bool) → b ≡ false → DrainsSome drained filters k i b mid new → DrainsAll drained filters k i most old new
   drains_end most n old mid new many true is step = cc
-  drains_end most n old mid new many false is (same, none) = (n, subst (DrainsMany k i n old) (sym same) many, inl (subst (OwesNone k i) (sym same) none))
+  drains_end most n old mid new many false is (same, none) = (n, subst (DrainsMany drained filters k i n old) (sym same) many, inl (subst (OwesNone k i) (sym same) none))
 
-  pub drains_most : (most n : ℕ) (old new : World) → DrainsMany k i n old new → most ≤ n → DrainsAll k i most old new
+  pub drains_most : (most n : ℕ) (old new : World) → DrainsMany drained filters k i n old new → most ≤ n → DrainsAll drained filters k i most old new
   drains_most most n old new many far = (n, many, inr far)

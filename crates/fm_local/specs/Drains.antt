@@ -1,28 +1,46 @@
--- How a stopping instance lets go of what it is owed: one operation after the other, until nothing is owed to it.
-use Rattle.std.specs.Prelude.{◌≡◌, ◌⊎◌, ◌≤◌, ℕ, zero, suc, Bool, true, false, Some, None, Result, Ok, Err}
+-- What an instance's filter is told while it is torn down, and how it lets go of what it is owed: one operation after the other, until nothing is owed to it.
+use Rattle.std.specs.Prelude.{◌≡◌, ◌⊎◌, ◌≤◌, ⊤, ℕ, zero, suc, Bool, true, false, Option, Some, None, Result, Ok, Err}
 use Rattle.fm_types.specs.declared.ids.InstanceId.{InstanceId}
 use Rattle.fm_types.specs.declared.ids.OpId.{OpId}
 use Rattle.fm_types.specs.declared.status.Status.{Status}
 use Rattle.fm_data.specs.declared.verdict.Completion.{Completion}
 use Rattle.fm_world.specs.EarlyDrains.{TakesDrain, DrainReturns}
-use Rattle.fm_world.specs.Teardowns.{StartsTeardown, StartReturns}
+use Rattle.fm_world.specs.Teardowns.{CompletesTeardown, StartsTeardown, StartReturns}
 use Rattle.fm_world.specs.Words.{WorkerId}
 use Rattle.fm_world.specs.World.{World}
+use Rattle.fm_local.specs.Chains.{filter_in}
+
+-- what holds once a callback that answers nothing was called, where there is a filter
+abbrev pub WasCalled : {F : Type 0} → (F → Type 0) → Option F → Type 0
+WasCalled holds None = ⊤
+WasCalled holds (Some f) = holds f
+
+abbrev pub WasDrained : {F : Type 0} → (F → Completion → Type 0) → Option F → Completion → Type 0
+WasDrained drained None completion = ⊤
+WasDrained drained (Some f) completion = drained f completion
 
 module _ (k : WorkerId) (i : InstanceId) where
   -- who asks for a drain gets none
   abbrev pub OwesNone : World → Type 0
   OwesNone w = TakesDrain w k i (Ok None) w ⊎ ((why : Status) × TakesDrain w k i (Err why) w)
 
-  -- a drain is taken, and ends
+  -- a teardown's end is told, unless it can't come yet
+  abbrev pub TellsEnd : {F : Type 0} → (F → Type 0) → (ℕ → Option F) → Bool → World → Type 0
+  TellsEnd completed filters false old = ⊤
+  TellsEnd completed filters true old =
+      ((why : Status) × (new : World) × CompletesTeardown old k i (Err why) new)
+      ⊎ ((completing : World) × CompletesTeardown old k i (Ok tt) completing × WasCalled completed (filter_in filters completing.stack i.0))
+
+module _ {F : Type 0} (drained : F → Completion → Type 0) (filters : ℕ → Option F) (k : WorkerId) (i : InstanceId) where
+  -- a drain is taken, the filter is called, and the drain ends
   abbrev pub DrainsOne : World → World → Type 0
   DrainsOne old new =
       (o : OpId) × (completion : Completion) × (mid before : World) × (ended : Result (Unit {0}) Status) × TakesDrain old k i (Ok (Some (o, completion))) mid
-      × DrainReturns before k ended new
+      × WasDrained drained (filter_in filters mid.stack i.0) completion × DrainReturns before k ended new
 
   abbrev pub DrainsSome : Bool → World → World → Type 0
   DrainsSome true old new = DrainsOne old new
-  DrainsSome false old new = (new ≡ old) × OwesNone old
+  DrainsSome false old new = (new ≡ old) × OwesNone k i old
 
   -- so many, one after the other
   abbrev pub DrainsMany : ℕ → World → World → Type 0
@@ -31,10 +49,11 @@ module _ (k : WorkerId) (i : InstanceId) where
 
   -- until there is none, or as many as there can be
   abbrev pub DrainsAll : ℕ → World → World → Type 0
-  DrainsAll most old new = (n : ℕ) × DrainsMany n old new × (OwesNone new ⊎ (most ≤ n))
+  DrainsAll most old new = (n : ℕ) × DrainsMany n old new × (OwesNone k i new ⊎ (most ≤ n))
 
-  -- a teardown starts: behind the callback that says so all that is owed is let go of, before anything else
-  abbrev pub StartsAndDrains : ℕ → World → Type 0
-  StartsAndDrains most old =
+  -- a teardown starts: the filter is told, and behind that all that is owed is let go of
+  abbrev pub StartsAndDrains : (F → Type 0) → ℕ → World → Type 0
+  StartsAndDrains begins most old =
       ((why : Status) × (new : World) × StartsTeardown old k i (Err why) new)
-      ⊎ ((started before returned drained : World) × (ended : Result (Unit {0}) Status) × StartsTeardown old k i (Ok tt) started × StartReturns before k ended returned × DrainsAll most returned drained)
+      ⊎ ((started before returned done : World) × (ended : Result (Unit {0}) Status) × StartsTeardown old k i (Ok tt) started
+      × WasCalled begins (filter_in filters started.stack i.0) × StartReturns before k ended returned × DrainsAll most returned done)

@@ -5,6 +5,7 @@ ghost use Rattle.fm_flow.specs.declared.action.FlowAction.TheVariants as step;
 ghost use Rattle.fm_local.specs.Actions.{ArePlainFilters};
 ghost use Rattle.fm_local.specs.Bases.{BasesCarry};
 ghost use Rattle.fm_local.specs.Chains.{filter_in, PreMay, PostMay};
+ghost use Rattle.fm_local.specs.Drains.{WasCalled, WasDrained};
 ghost use Rattle.fm_local.specs.Managers.{numbered, IsQuietIn};
 ghost use Rattle.fm_local.specs.Turns.{Does};
 ghost use Rattle.fm_world.specs.EarlyDrains.{DrainReturns};
@@ -206,6 +207,7 @@ impl<F: Minifilter, B: Base> LocalManager<F, B> {
         instance: InstanceId,
         completion: Completion,
     ) -> Result<(), Status>
+        ensures called { WasDrained F.drained (filter_in (numbered self.old.filters) self.old.desk.state.stack instance.0) completion }
         ensures ends { (before : World) × PostReturns before WORKER PostVerdict.Finished None result self.new.desk.state }
         ensures quiet { ArePlainFilters F.pre_may F.post_may F.is_quiet (numbered self.old.filters) → self.new.desk.resumed ≡ self.old.desk.resumed }
         ensures kept { self.new ≡ record self.old { desk = self.new.desk; trace = self.new.trace; hand = self.new.hand; leaks = self.new.leaks } }
@@ -222,7 +224,9 @@ impl<F: Minifilter, B: Base> LocalManager<F, B> {
         instance: InstanceId,
         completion: Completion,
     ) -> Result<(), Status>
+        ensures called { WasDrained F.drained (filter_in (numbered self.old.filters) self.old.desk.state.stack instance.0) completion }
         ensures ends { (before : World) × DrainReturns before WORKER result self.new.desk.state }
+        ensures filters { self.new.filters ≡ self.old.filters }
     {
         self.drain(operation, instance, completion);
         let before = look_at_hand(&self.desk.state, &mut self.hand);
@@ -234,6 +238,7 @@ impl<F: Minifilter, B: Base> LocalManager<F, B> {
 
     // Has the filter of an instance let go, and notes it.
     fn drain(&mut self, operation: OpId, instance: InstanceId, completion: Completion)
+        ensures called { WasDrained F.drained (filter_in (numbered self.old.filters) self.old.desk.state.stack instance.0) completion }
         ensures quiet { IsQuietIn F.is_quiet (filter_in (numbered self.old.filters) self.old.desk.state.stack instance.0) → self.new.desk ≡ self.old.desk }
         ensures same { self.new ≡ record self.old { desk = self.new.desk; trace = self.new.trace } }
     {
@@ -242,6 +247,7 @@ impl<F: Minifilter, B: Base> LocalManager<F, B> {
     }
 
     fn tell_drain(&mut self, instance: InstanceId, completion: Completion)
+        ensures called { WasDrained F.drained (filter_in (numbered self.old.filters) self.old.desk.state.stack instance.0) completion }
         ensures quiet { IsQuietIn F.is_quiet (filter_in (numbered self.old.filters) self.old.desk.state.stack instance.0) → self.new.desk ≡ self.old.desk }
         ensures same { self.new ≡ record self.old { desk = self.new.desk } }
     {
@@ -290,6 +296,7 @@ impl<F: Minifilter, B: Base> LocalManager<F, B> {
 
     /// Calls the callback that says that an instance's teardown starts.
     pub(crate) fn start(&mut self, instance: InstanceId) -> Result<(), Status>
+        ensures called { WasCalled F.started (filter_in (numbered self.old.filters) self.old.desk.state.stack instance.0) }
         ensures ends { (before : World) × StartReturns before WORKER result self.new.desk.state }
         ensures quiet { ArePlainFilters F.pre_may F.post_may F.is_quiet (numbered self.old.filters) → StartReturns self.old.desk.state WORKER result self.new.desk.state × (self.new.desk.resumed ≡ self.old.desk.resumed) }
         ensures kept { self.new ≡ record self.old { desk = self.new.desk; hand = self.new.hand; leaks = self.new.leaks } }
@@ -302,6 +309,7 @@ impl<F: Minifilter, B: Base> LocalManager<F, B> {
     }
 
     fn tell_start(&mut self, instance: InstanceId)
+        ensures called { WasCalled F.started (filter_in (numbered self.old.filters) self.old.desk.state.stack instance.0) }
         ensures quiet { IsQuietIn F.is_quiet (filter_in (numbered self.old.filters) self.old.desk.state.stack instance.0) → self.new.desk ≡ self.old.desk }
         ensures same { self.new ≡ record self.old { desk = self.new.desk } }
     {
@@ -319,6 +327,7 @@ impl<F: Minifilter, B: Base> LocalManager<F, B> {
 
     /// Calls the callback that says that an instance's teardown is complete.
     pub(crate) fn complete(&mut self, instance: InstanceId) -> Result<(), Status>
+        ensures called { WasCalled F.completed (filter_in (numbered self.old.filters) self.old.desk.state.stack instance.0) }
         ensures ends { (before : World) × CompleteReturns before WORKER result self.new.desk.state }
         ensures quiet { ArePlainFilters F.pre_may F.post_may F.is_quiet (numbered self.old.filters) → CompleteReturns self.old.desk.state WORKER result self.new.desk.state × (self.new.desk.resumed ≡ self.old.desk.resumed) }
         ensures kept { self.new ≡ record self.old { desk = self.new.desk; hand = self.new.hand; leaks = self.new.leaks } }
@@ -331,6 +340,7 @@ impl<F: Minifilter, B: Base> LocalManager<F, B> {
     }
 
     fn tell_complete(&mut self, instance: InstanceId)
+        ensures called { WasCalled F.completed (filter_in (numbered self.old.filters) self.old.desk.state.stack instance.0) }
         ensures quiet { IsQuietIn F.is_quiet (filter_in (numbered self.old.filters) self.old.desk.state.stack instance.0) → self.new.desk ≡ self.old.desk }
         ensures same { self.new ≡ record self.old { desk = self.new.desk } }
     {

@@ -4,7 +4,7 @@ ghost use Rattle.std.specs.Prelude.{◌≡◌, ◌⊎◌, false, true, [], Err, 
 ghost use Rattle.fm_local.specs.Actions.{ArePlainFilters, IsReady};
 ghost use Rattle.fm_local.specs.Calls.{AgreesAt, Asks, AsksToUnload, AttachesAs, DetachesAs, FilterEnds, MayAgree, SetupEnds, TornDown, UnloadsAs, is_leaving, is_unloading};
 ghost use Rattle.fm_local.specs.Cleanups.{HasNoneDue, LeavesNoneDue};
-ghost use Rattle.fm_local.specs.Drains.{DrainsAll, DrainsSome, StartsAndDrains};
+ghost use Rattle.fm_local.specs.Drains.{DrainsAll, DrainsSome, StartsAndDrains, TellsEnd};
 ghost use Rattle.fm_local.specs.Managers.{numbered};
 ghost use Rattle.fm_local.specs.Quietly.{AsksQuietly, AttachesQuietly, CompletesQuietly, DetachesQuietly, EndsQuietly, IsSettled, LeavesReady, SetUpQuietly, StartsQuietly, TearsDownFirst, TearsDownIf, TearsDownQuietly, UnloadsQuietly, WasTold, is_to_go};
 ghost use Rattle.fm_local.specs.Requests.{IsAtRest};
@@ -211,7 +211,7 @@ impl<F: Minifilter, B: Base> LocalManager<F, B> {
     // The start of an instance's teardown, unless it was made before.
     fn begin_teardown(&mut self, instance: InstanceId) -> Result<(), Status>
         ensures stops { IfErr result (λ status. (before after : World) × StartReturns before WORKER (Err status) after) }
-        ensures drains { StartsAndDrains WORKER instance DRAINED self.old.desk.state }
+        ensures drains { StartsAndDrains F.drained (numbered self.old.filters) WORKER instance F.started DRAINED self.old.desk.state }
         ensures quiet { ArePlainFilters F.pre_may F.post_may F.is_quiet (numbered self.old.filters) → IsAtRest WORKER self.old.desk.state → self.old.desk.resumed.items.items ≡ [] → IsOk result × StartsQuietly WORKER instance self.old.desk.state self.new.desk.state × IsSettled self.old self.new }
         ensures none_due { LeavesNoneDue WORKER self.old.desk.state self.new.desk.state }
     {
@@ -229,6 +229,7 @@ impl<F: Minifilter, B: Base> LocalManager<F, B> {
     // The completion of an instance's teardown, where it is stopping.
     fn end_teardown(&mut self, instance: InstanceId) -> Result<(), Status>
         ensures stops { IfErr result (λ status. ((before : World) × CompletesTeardown before WORKER instance (Err status) self.new.desk.state) ⊎ ((before after : World) × CompleteReturns before WORKER (Err status) after)) }
+        ensures tells { TellsEnd WORKER instance F.completed (numbered self.old.filters) (is_stopping_row (slice_get self.old.desk.state.stack.instances instance.0)) self.old.desk.state }
         ensures quiet { ArePlainFilters F.pre_may F.post_may F.is_quiet (numbered self.old.filters) → IsAtRest WORKER self.old.desk.state → self.old.desk.resumed.items.items ≡ [] → WasTold instance self.old.desk.state.stack → IsOk result × CompletesQuietly WORKER instance self.old.desk.state self.new.desk.state × IsSettled self.old self.new }
         ensures none_due { LeavesNoneDue WORKER self.old.desk.state self.new.desk.state }
     {
@@ -243,7 +244,7 @@ impl<F: Minifilter, B: Base> LocalManager<F, B> {
 
     // Has a stopping instance let go of all that it waits for.
     fn drain_all(&mut self, instance: InstanceId)
-        ensures drains { DrainsAll WORKER instance DRAINED self.old.desk.state self.new.desk.state }
+        ensures drains { DrainsAll F.drained (numbered self.old.filters) WORKER instance DRAINED self.old.desk.state self.new.desk.state }
         ensures none { self.old.desk.state.flow.operations ≡ [] → self.new ≡ self.old }
     {
         for _made in 0..DRAINED {
@@ -255,7 +256,8 @@ impl<F: Minifilter, B: Base> LocalManager<F, B> {
 
     // Has it let go of what the first operation owes it; false where none does.
     fn drain_first(&mut self, instance: InstanceId) -> bool
-        ensures drains { DrainsSome WORKER instance result self.old.desk.state self.new.desk.state }
+        ensures drains { DrainsSome F.drained (numbered self.old.filters) WORKER instance result self.old.desk.state self.new.desk.state }
+        ensures filters { self.new.filters ≡ self.old.filters }
         ensures none { self.old.desk.state.flow.operations ≡ [] → (result ≡ false) × (self.new ≡ self.old) }
     {
         match self.desk.state.drain_take(WORKER, instance) {

@@ -55,6 +55,7 @@ fn release<P: Port>(completion: Completion, port: &mut P)
 }
 
 impl Minifilter for Carry {
+    ghost use Rattle.std.specs.Prelude.{⊤};
     ghost use Rattle.fm_samples.specs.Carry.{carry_registers, CarriesPre};
     ghost use Rattle.fm_samples.specs.Common.{Agrees, IsBarePost, CountsNothing};
 
@@ -71,6 +72,12 @@ impl Minifilter for Carry {
     ghost unload_may = { λ _. Agrees };
 
     ghost cleanup_may = { λ _. CountsNothing };
+
+    ghost drained = { λ _ _. ⊤ };
+
+    ghost started = { λ _. ⊤ };
+
+    ghost completed = { λ _. ⊤ };
 
     ghost is_quiet = { λ _. ⊥ };
 

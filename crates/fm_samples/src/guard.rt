@@ -47,6 +47,12 @@ impl Minifilter for Guard {
 
     ghost cleanup_may = { λ _. CountsNothing };
 
+    ghost drained = { λ _ _. ⊤ };
+
+    ghost started = { λ _. ⊤ };
+
+    ghost completed = { λ _. ⊤ };
+
     ghost is_quiet = { λ _. ⊤ };
 
     fn registration(&self) -> Registration {

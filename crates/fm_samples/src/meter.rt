@@ -60,6 +60,7 @@ fn counted_in(body: &[u8]) -> u64
 }
 
 impl Minifilter for Meter {
+    ghost use Rattle.std.specs.Prelude.{⊤};
     ghost use Rattle.fm_samples.specs.Meter.{meter_registers, MetersCleanup};
     ghost use Rattle.fm_samples.specs.Common.{Agrees, IsBarePre, IsBarePost};
 
@@ -76,6 +77,12 @@ impl Minifilter for Meter {
     ghost unload_may = { λ _. Agrees };
 
     ghost cleanup_may = { λ _. MetersCleanup };
+
+    ghost drained = { λ _ _. ⊤ };
+
+    ghost started = { λ _. ⊤ };
+
+    ghost completed = { λ _. ⊤ };
 
     ghost is_quiet = { λ _. ⊥ };
 

@@ -29,6 +29,7 @@ pub enum Sample {
 }
 
 impl Minifilter for Sample {
+    ghost use Rattle.std.specs.Prelude.{⊤};
     ghost use Rattle.fm_samples.specs.Common.{Agrees};
     ghost use Rattle.fm_samples.specs.Sample.{sample_registers, SamplesPre, SamplesPost, SamplesCleanup, IsQuietSample};
 
@@ -45,6 +46,12 @@ impl Minifilter for Sample {
     ghost unload_may = { λ _. Agrees };
 
     ghost cleanup_may = { SamplesCleanup };
+
+    ghost drained = { λ _ _. ⊤ };
+
+    ghost started = { λ _. ⊤ };
+
+    ghost completed = { λ _. ⊤ };
 
     ghost is_quiet = { IsQuietSample };
 

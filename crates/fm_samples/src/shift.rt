@@ -67,6 +67,12 @@ impl Minifilter for Shift {
 
     ghost cleanup_may = { λ _. CountsNothing };
 
+    ghost drained = { λ _ _. ⊤ };
+
+    ghost started = { λ _. ⊤ };
+
+    ghost completed = { λ _. ⊤ };
+
     ghost is_quiet = { λ _. ⊤ };
 
     fn registration(&self) -> Registration {

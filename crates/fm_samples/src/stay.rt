@@ -29,6 +29,7 @@ fn resume_all<P: Port>(port: &mut P)
 }
 
 impl Minifilter for Stay {
+    ghost use Rattle.std.specs.Prelude.{⊤};
     ghost use Rattle.fm_samples.specs.Stay.{stay_registers, StaysPre, StaysPost};
     ghost use Rattle.fm_samples.specs.Common.{Agrees, CountsNothing};
 
@@ -45,6 +46,12 @@ impl Minifilter for Stay {
     ghost unload_may = { λ _. Agrees };
 
     ghost cleanup_may = { λ _. CountsNothing };
+
+    ghost drained = { λ _ _. ⊤ };
+
+    ghost started = { λ _. ⊤ };
+
+    ghost completed = { λ _. ⊤ };
 
     ghost is_quiet = { λ _. ⊥ };
 

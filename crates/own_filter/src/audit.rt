@@ -57,6 +57,12 @@ impl Minifilter for Audit {
 
     ghost cleanup_may = { λ _ _ _ _. ⊤ };
 
+    ghost drained = { λ _ _. ⊤ };
+
+    ghost started = { λ _. ⊤ };
+
+    ghost completed = { λ _. ⊤ };
+
     ghost is_quiet = { λ _. ⊥ };
 
     fn registration(&self) -> Registration {

@@ -5,8 +5,11 @@ use Rattle.fm_types.specs.declared.status.Status.{Status}
 use Rattle.fm_local.proofs.Leaving.{start_flow, start_ok}
 use Rattle.fm_local.proofs.Readied.{settled_after, start_stops}
 use Rattle.fm_local.proofs.manager.LocalManager.begin_teardown.Goals as goal
+use Rattle.fm_local.specs.Drains.{DrainsAll}
+use Rattle.fm_local.specs.Managers.{numbered}
 use Rattle.fm_local.specs.Requests.{Tidies}
 use Rattle.fm_local.specs.declared.manager.TheConstants.{WORKER}
+use Rattle.fm_local.specs.declared.teardowns.TheConstants.{DRAINED}
 use Rattle.fm_world.specs.Teardowns.{StartReturns}
 use Rattle.fm_world.specs.World.{World}
 
@@ -39,7 +42,10 @@ returns-in-Err-clause-none_due g c = none_started WORKER c.args.self.now.desk.st
 pub returns-in-Ok-clause-drains : goal.returns-in-Ok-clause-drains
 returns-in-Ok-clause-drains g c =
     let (before, returns) = c.start-started.ensures.ends in
-    inr (c.start_teardown.new.self, before, c.start-started.new.self.desk.state, c.drain_all.new.self.desk.state, c.start-started.result, c.in-Ok.ensures.event, returns, c.drain_all.ensures.drains)
+    let here = c.start-started.new.self in
+    let drains =
+    subst (λ fs. DrainsAll g.F.Minifilter.drained (numbered fs) WORKER c.args.instance DRAINED here.desk.state c.drain_all.new.self.desk.state) (ap (λ m. m.filters) c.start-started.ensures.kept) c.drain_all.ensures.drains in
+    inr (c.start_teardown.new.self, before, here.desk.state, c.drain_all.new.self.desk.state, c.start-started.result, c.in-Ok.ensures.event, c.start-started.ensures.called, returns, drains)
 
 pub returns-in-Err-clause-drains : goal.returns-in-Err-clause-drains
 returns-in-Err-clause-drains g c = inl (c.in-Err.field-0, c.start_teardown.new.self, c.in-Err.ensures.event)

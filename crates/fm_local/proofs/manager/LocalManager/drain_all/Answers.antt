@@ -1,6 +1,8 @@
-use Rattle.std.proofs.Common.{true≢false, sym, ap, ◌∙◌}
+use Rattle.std.proofs.Common.{true≢false, sym, ap, subst, ◌∙◌}
 use Rattle.fm_local.proofs.Drained.{drains_end, drains_more, drains_most}
 use Rattle.fm_local.proofs.manager.LocalManager.drain_all.Goals as goal
+use Rattle.fm_local.specs.Drains.{DrainsSome}
+use Rattle.fm_local.specs.Managers.{numbered}
 use Rattle.fm_local.specs.declared.manager.TheConstants.{WORKER}
 use Rattle.fm_local.specs.declared.teardowns.TheConstants.{DRAINED}
 
@@ -12,14 +14,17 @@ loop-made-preserved g c =
       λ none.
           let still = ap (λ m. m.desk.state.flow.operations) (c.loop-made.invariant.0 none) ∙ none in
           absurd (true≢false (sym told ∙ (c.drain_first.ensures.none still).0)),
-      drains_more WORKER c.args.instance c.loop-made._made old.desk.state now.desk.state c.drain_first.new.self.desk.state c.loop-made.invariant.1 c.drain_first.result told c.drain_first.ensures.drains,
+      drains_more g.F.Minifilter.drained (numbered c.args.self.now.filters) WORKER c.args.instance c.loop-made._made old.desk.state now.desk.state c.drain_first.new.self.desk.state c.loop-made.invariant.1 c.drain_first.result told
+          (subst (λ fs. DrainsSome g.F.Minifilter.drained (numbered fs) WORKER c.args.instance c.drain_first.result now.desk.state c.drain_first.new.self.desk.state) c.loop-made.invariant.2 c.drain_first.ensures.drains),
+      c.drain_first.ensures.filters ∙ c.loop-made.invariant.2,
     )
 
 pub returns-then-not-drain_first-clause-drains : goal.returns-then-not-drain_first-clause-drains
 returns-then-not-drain_first-clause-drains g c =
-    drains_end WORKER c.args.instance DRAINED c.loop-made._made c.args.self.now.desk.state c.loop-made.self.desk.state c.drain_first.new.self.desk.state c.loop-made.invariant.1 c.drain_first.result
-    c.if-not-drain_first.true c.drain_first.ensures.drains
+    drains_end g.F.Minifilter.drained (numbered c.args.self.now.filters) WORKER c.args.instance DRAINED c.loop-made._made c.args.self.now.desk.state c.loop-made.self.desk.state c.drain_first.new.self.desk.state c.loop-made.invariant.1 c.drain_first.result
+    c.if-not-drain_first.true
+    (subst (λ fs. DrainsSome g.F.Minifilter.drained (numbered fs) WORKER c.args.instance c.drain_first.result c.loop-made.self.desk.state c.drain_first.new.self.desk.state) c.loop-made.invariant.2 c.drain_first.ensures.drains)
 
 pub returns-clause-drains : goal.returns-clause-drains
 returns-clause-drains g c =
-    drains_most WORKER c.args.instance DRAINED c.loop-made._made c.args.self.now.desk.state c.loop-made.self.desk.state c.loop-made.invariant.1 c.loop-made-test.false
+    drains_most g.F.Minifilter.drained (numbered c.args.self.now.filters) WORKER c.args.instance DRAINED c.loop-made._made c.args.self.now.desk.state c.loop-made.self.desk.state c.loop-made.invariant.1 c.loop-made-test.false

@@ -4,12 +4,9 @@ use Rattle.fm_local.specs.declared.manager.TheConstants.{WORKER}
 use Rattle.fm_world.specs.EarlyDrains.{DrainReturns}
 use Rattle.fm_world.specs.World.{World}
 
-pub returns : goal.returns
-returns g c =
-    let before = c.drain.new.self.desk.state in
-    record {
-      ends = (
-        before,
-        subst (λ (w : World). DrainReturns before WORKER c.drain_done-ended.result w) (sym (ap (λ m. m.desk.state) c.note_left.ensures)) c.drain_done-ended.ensures.event,
-      );
-    }
+pub returns-clause-ends : goal.returns-clause-ends
+returns-clause-ends g c =
+    let before = c.drain.new.self.desk.state in (
+      before,
+      subst (λ (w : World). DrainReturns before WORKER c.drain_done-ended.result w) (sym (ap (λ m. m.desk.state) c.note_left.ensures)) c.drain_done-ended.ensures.event,
+    )

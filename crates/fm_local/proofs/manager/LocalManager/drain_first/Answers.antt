@@ -4,13 +4,14 @@ use Rattle.std.proofs.lemmas.Option.{none-some}
 use Rattle.fm_local.proofs.Drained.{drains_none, drains_one, drains_refused}
 use Rattle.fm_local.proofs.Leaving.{drain_same, drained_none}
 use Rattle.fm_local.proofs.manager.LocalManager.drain_first.Goals as goal
+use Rattle.fm_local.specs.Managers.{numbered}
 use Rattle.fm_local.specs.declared.manager.TheConstants.{WORKER}
 use Rattle.fm_world.specs.World.{World}
 
 pub returns-in-Ok-Some-clause-drains : goal.returns-in-Ok-Some-clause-drains
 returns-in-Ok-Some-clause-drains g c =
-    drains_one WORKER c.args.instance c.args.self.now.desk.state c.in-Ok-Some.field-0 c.drain_take.new.self c.in-Ok-Some.ensures.event c.in-Ok-Some.operation c.in-Ok-Some.completion c.in-Ok-Some.field-0-is
-    c.drain_early.result c.drain_early.new.self.desk.state c.drain_early.ensures.ends
+    drains_one g.F.Minifilter.drained (numbered c.args.self.now.filters) WORKER c.args.instance c.args.self.now.desk.state c.in-Ok-Some.field-0 c.drain_take.new.self c.in-Ok-Some.ensures.event c.in-Ok-Some.operation c.in-Ok-Some.completion c.in-Ok-Some.field-0-is
+    c.drain_early.ensures.called c.drain_early.result c.drain_early.new.self.desk.state c.drain_early.ensures.ends
 
 pub returns-in-Ok-Some-clause-none : goal.returns-in-Ok-Some-clause-none
 returns-in-Ok-Some-clause-none g c none =
@@ -19,7 +20,7 @@ returns-in-Ok-Some-clause-none g c none =
 
 pub returns-in-Ok-None-clause-drains : goal.returns-in-Ok-None-clause-drains
 returns-in-Ok-None-clause-drains g c =
-    drains_none WORKER c.args.instance c.args.self.now.desk.state c.in-Ok-None.field-0 c.drain_take.new.self c.in-Ok-None.ensures.event c.in-Ok-None.field-0-is
+    drains_none g.F.Minifilter.drained (numbered c.args.self.now.filters) WORKER c.args.instance c.args.self.now.desk.state c.in-Ok-None.field-0 c.drain_take.new.self c.in-Ok-None.ensures.event c.in-Ok-None.field-0-is
 
 pub returns-in-Ok-None-clause-none : goal.returns-in-Ok-None-clause-none
 returns-in-Ok-None-clause-none g c none =
@@ -30,7 +31,8 @@ returns-in-Ok-None-clause-none g c none =
     )
 
 pub returns-in-Err-clause-drains : goal.returns-in-Err-clause-drains
-returns-in-Err-clause-drains g c = drains_refused WORKER c.args.instance c.args.self.now.desk.state c.in-Err.field-0 c.drain_take.new.self c.in-Err.ensures.event
+returns-in-Err-clause-drains g c =
+    drains_refused g.F.Minifilter.drained (numbered c.args.self.now.filters) WORKER c.args.instance c.args.self.now.desk.state c.in-Err.field-0 c.drain_take.new.self c.in-Err.ensures.event
 
 pub returns-in-Err-clause-none : goal.returns-in-Err-clause-none
 returns-in-Err-clause-none g c none =

@@ -1,10 +1,12 @@
 use Rattle.fm_local.proofs.NoneDue.{none_completed}
 use Rattle.std.specs.Prelude.{IsOk, Result}
-use Rattle.std.proofs.Common.{inr, refl, sym, ap, subst, ◌∙◌}
+use Rattle.std.proofs.Common.{inl, inr, refl, sym, ap, subst, ◌∙◌}
 use Rattle.fm_types.specs.declared.status.Status.{Status}
 use Rattle.fm_local.proofs.Leaving.{completes, complete_ok}
 use Rattle.fm_local.proofs.Readied.{complete_stops, settled_after}
 use Rattle.fm_local.proofs.manager.LocalManager.end_teardown.Goals as goal
+use Rattle.fm_local.specs.Drains.{TellsEnd}
+use Rattle.fm_local.specs.Managers.{numbered}
 use Rattle.fm_local.specs.declared.manager.TheConstants.{WORKER}
 use Rattle.fm_world.specs.Teardowns.{CompleteReturns}
 
@@ -36,3 +38,17 @@ returns-clause-none_due g c before = c.settle.ensures.none_due
 pub returns-in_err-complete_teardown-clause-none_due : goal.returns-in_err-complete_teardown-clause-none_due
 returns-in_err-complete_teardown-clause-none_due g c =
     none_completed WORKER c.args.self.now.desk.state c.args.instance c.in_err-complete_teardown.field-0.0 c.complete_teardown.new.self c.in_err-complete_teardown.ensures.event
+
+pub returns-then-not-is_stopping-clause-tells : goal.returns-then-not-is_stopping-clause-tells
+returns-then-not-is_stopping-clause-tells g c =
+    subst (λ b. TellsEnd WORKER c.args.instance g.F.Minifilter.completed (numbered c.args.self.now.filters) b c.args.self.now.desk.state) (sym (sym c.is_stopping.ensures ∙ c.if-not-is_stopping.true)) tt
+
+pub returns-in_err-complete_teardown-clause-tells : goal.returns-in_err-complete_teardown-clause-tells
+returns-in_err-complete_teardown-clause-tells g c =
+    subst (λ b. TellsEnd WORKER c.args.instance g.F.Minifilter.completed (numbered c.args.self.now.filters) b c.args.self.now.desk.state) (sym (sym c.is_stopping.ensures ∙ c.if-not-is_stopping.false))
+    (inl (c.in_err-complete_teardown.field-0.0, c.complete_teardown.new.self, c.in_err-complete_teardown.ensures.event))
+
+pub returns-clause-tells : goal.returns-clause-tells
+returns-clause-tells g c =
+    subst (λ b. TellsEnd WORKER c.args.instance g.F.Minifilter.completed (numbered c.args.self.now.filters) b c.args.self.now.desk.state) (sym (sym c.is_stopping.ensures ∙ c.if-not-is_stopping.false))
+    (inr (c.complete_teardown.new.self, c.in_ok-complete_teardown.ensures.event, c.complete-completed.ensures.called))

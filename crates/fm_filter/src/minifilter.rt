@@ -10,8 +10,9 @@ use fm_types::{ContextKind, Registration};
 /// with none of its locks held, and several may run at once.
 ///
 /// Each callback has a relation, a ghost member: of what it may answer and how it may change the data, or,
-/// where it answers nothing, of what holds once it was called. It gets a port for what it may call of the manager; a filter that is quiet calls nothing that changes
-/// the manager. No callback changes what it received, nor swaps the port for another one.
+/// where it answers nothing, of what holds once it was called. It gets a port for what it may call of the
+/// manager; a filter that is quiet calls nothing that changes the manager. No callback changes what it
+/// received, nor swaps the port for another one, nor does any change what the port keeps.
 pub trait Minifilter: Send + Sync + Drop {
     ghost use Rattle.std.specs.Prelude.{ℕ, Bool, List};
     ghost use Rattle.fm_types.specs.declared.context_kind.ContextKind.{ContextKind};

@@ -26,6 +26,7 @@ pub trait Port {
     ghost use Rattle.fm_ctx.specs.declared.set_reply.SetMode.{SetMode};
     ghost use Rattle.fm_flow.specs.declared.hold.Hold.{Hold};
     ghost use Rattle.fm_world.specs.declared.set_answer.SetAnswer.{SetAnswer};
+    ghost use Rattle.fm_filter.specs.Standing.{Standing};
 
     /// How `allocate` may answer, and what it makes of the port.
     ghost allocates: { Self → ContextKind → List ℕ → Result CtxId Status → Self → Type 0 };
@@ -63,8 +64,8 @@ pub trait Port {
     /// The same of `resume_post`.
     ghost resumes_post: { Self → OpId → Result (Unit {0}) Status → Self → Type 0 };
 
-    /// What no call changes, so that a loop over callbacks ends: how far all operations have come.
-    ghost kept: { Self → ℕ };
+    /// What no call changes of the manager behind the port: its instances, where its workers are, and what its operations are on.
+    ghost kept: { Self → Standing };
 
     /// The borrow behind the port, which no call swaps for another one.
     ghost name: { Self → GName };

@@ -31,3 +31,4 @@ pub mod NoneDue
 pub mod Drained
 pub mod Refusing
 pub mod Unloaded
+pub mod Standing

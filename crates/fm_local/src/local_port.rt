@@ -26,6 +26,7 @@ pub struct LocalPort<'a> {
 impl<'a> Port for LocalPort<'a> {
     ghost use Rattle.fm_world.specs.ContextEvents.{Allocates, Sets, Gets, Deletes, References, Releases, ReadsBody, WritesBody, Bumps};
     ghost use Rattle.fm_world.specs.Events.{FindsHeld};
+    ghost use Rattle.fm_filter.specs.Standing.{standing_of};
     ghost use Rattle.fm_local.specs.Ports.{ResumesPreIn, ResumesPostIn};
 
     ghost allocates = { λ old kind body result new. Allocates old.desk.now.state old.worker kind body result new.desk.now.state };
@@ -52,50 +53,61 @@ impl<'a> Port for LocalPort<'a> {
 
     ghost resumes_post = { λ old operation result new. ResumesPostIn old.desk.now old.worker operation result new.desk.now };
 
-    ghost kept = { λ _. 0 };
+    ghost kept = { λ port. standing_of port.desk.now.state };
 
     ghost name = { λ port. port.desk.ghost_name };
 
+    #[tactic(auto, using(crate::proofs::Standing::allocate_stands))]
     fn allocate(&mut self, kind: ContextKind, body: Bytes) -> Result<CtxId, Status> {
         self.desk.state.allocate(self.worker, kind, body)
     }
 
+    #[tactic(auto, using(crate::proofs::Standing::set_stands))]
     fn set(&mut self, context: CtxId, mode: SetMode, wants_old: bool) -> SetAnswer {
         self.desk.state.set(self.worker, context, mode, wants_old)
     }
 
+    #[tactic(auto, using(crate::proofs::Standing::get_stands))]
     fn get(&mut self, kind: ContextKind) -> Result<CtxId, Status> {
         self.desk.state.get(self.worker, kind)
     }
 
+    #[tactic(auto, using(crate::proofs::Standing::delete_stands))]
     fn delete(&mut self, kind: ContextKind, wants_old: bool) -> Result<Option<CtxId>, Status> {
         self.desk.state.delete(self.worker, kind, wants_old)
     }
 
+    #[tactic(auto, using(crate::proofs::Standing::reference_stands))]
     fn reference(&mut self, context: CtxId) -> Result<(), Status> {
         self.desk.state.reference(self.worker, context)
     }
 
+    #[tactic(auto, using(crate::proofs::Standing::release_stands))]
     fn release(&mut self, context: CtxId) -> Result<(), Status> {
         self.desk.state.release(self.worker, context)
     }
 
+    #[tactic(auto, using(crate::proofs::Standing::read_stands))]
     fn read_body(&mut self, context: CtxId) -> Result<Bytes, Status> {
         self.desk.state.read_body(self.worker, context)
     }
 
+    #[tactic(auto, using(crate::proofs::Standing::write_stands))]
     fn write_body(&mut self, context: CtxId, bytes: &[u8]) -> Result<(), Status> {
         self.desk.state.write_body(self.worker, context, bytes)
     }
 
+    #[tactic(auto, using(crate::proofs::Standing::bump_stands))]
     fn bump(&mut self, context: CtxId, place: u64, by: u64) -> Result<u64, Status> {
         self.desk.state.bump(self.worker, context, place, by)
     }
 
+    #[tactic(auto, using(crate::proofs::Standing::held_stands))]
     fn first_held(&mut self, hold: Hold) -> Result<Option<OpId>, Status> {
         self.desk.state.first_held(self.worker, hold)
     }
 
+    #[tactic(auto, using(crate::proofs::Standing::resume_pre_stands))]
     fn resume_pre(&mut self, operation: OpId, verdict: PreVerdict) -> Result<(), Status> {
         if self.desk.resumed.is_full() {
             return Err(Status::TooMany);
@@ -105,6 +117,7 @@ impl<'a> Port for LocalPort<'a> {
         Ok(())
     }
 
+    #[tactic(auto, using(crate::proofs::Standing::resume_post_stands))]
     fn resume_post(&mut self, operation: OpId) -> Result<(), Status> {
         if self.desk.resumed.is_full() {
             return Err(Status::TooMany);

@@ -1,0 +1,22 @@
+-- What stands while a callback runs, whatever it calls: the instances, where workers are, and what the operations under way are on.
+use Rattle.std.specs.Prelude.{ℕ, List, map, Option}
+use Rattle.fm_world.specs.Words.{FlowRecord, OpId, Operation, StackWorld}
+use Rattle.fm_world.specs.World.{World}
+use Rattle.fm_world.specs.declared.worker.Worker.{Worker}
+
+-- what an operation is
+pub record Shape : Type 0 where
+  pub number : OpId
+  pub operation : Operation
+  pub path : Option (List ℕ)
+
+abbrev pub shape_of : FlowRecord → Shape
+shape_of r = record { number = r.number; operation = r.operation; path = r.path }
+
+pub record Standing : Type 0 where
+  pub stack : StackWorld
+  pub workers : List Worker
+  pub operations : List Shape
+
+abbrev pub standing_of : World → Standing
+standing_of w = record { stack = w.stack; workers = w.workers; operations = map shape_of w.flow.operations }

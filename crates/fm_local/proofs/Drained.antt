@@ -9,7 +9,8 @@ use Rattle.fm_world.specs.Words.{InstanceId, OpId, WorkerId}
 use Rattle.fm_world.specs.World.{World}
 use Rattle.fm_local.proofs.Resting.{happened, refused_same}
 use Rattle.fm_local.specs.Chains.{filter_in}
-use Rattle.fm_local.specs.Drains.{DrainsAll, DrainsMany, DrainsSome, OwesNone, WasDrained}
+use Rattle.fm_local.specs.Drains.{DrainsAll, DrainsMany, DrainsSome, OwesNone, WasCalled}
+use Rattle.fm_local.specs.Places.{EndsFrom}
 
 module _ (k : WorkerId) (i : InstanceId) where
   -- ---- one drain
@@ -39,10 +40,10 @@ module _ {F : Type 0} (drained : F → Completion → Type 0) (filters : ℕ →
       (same, inr (why, subst (λ (w : World). TakesDrain old k i (Err why) w) same h))
 
   pub drains_one : (old : World) (m : Option (OpId × Completion)) (mid : World) → TakesDrain old k i (Ok m) mid → (o : OpId) (completion : Completion) → m ≡ Some (o, completion)
-      → WasDrained drained (filter_in filters mid.stack i.0) completion
-      → (ended : Result (Unit {0}) Status) (new : World) → ((before : World) × DrainReturns before k ended new) → DrainsSome drained filters k i true old new
-  drains_one old m mid h o completion is called ended new (before, returns) =
-      (o, completion, mid, before, ended, subst (λ (m : Option (OpId × Completion)). TakesDrain old k i (Ok m) mid) is h, called, returns)
+      → WasCalled (λ f. drained f completion) (filter_in filters mid.stack i.0)
+      → (ended : Result (Unit {0}) Status) (new : World) → EndsFrom mid (λ before. DrainReturns before k ended new) → DrainsSome drained filters k i true old new
+  drains_one old m mid h o completion is called ended new ends =
+      (o, completion, mid, ended, subst (λ (m : Option (OpId × Completion)). TakesDrain old k i (Ok m) mid) is h, called, ends)
 
   -- ---- one after the other
 

@@ -9,6 +9,7 @@ use Rattle.fm_types.specs.declared.operation.Operation.{Operation}
 use Rattle.fm_data.specs.Data.{Data, IsData, change_passes, data_fits}
 use Rattle.fm_data.specs.Params.{operation_of, path_of, is_within_limits, same_operation, same_path, are_on, are_for, fit, may_replace, call_fits}
 use Rattle.fm_data.specs.declared.answer.Answer.{Answer}
+use Rattle.fm_data.specs.declared.base_call.BaseCall.{BaseCall}
 use Rattle.fm_data.specs.declared.params.Params.{Params}
 use Rattle.fm_data.specs.declared.params.Params.TheVariants as params
 use Rattle.fm_flow.specs.Record.{FlowRecord}
@@ -55,9 +56,13 @@ same_itself : (path : Option (List ℕ)) → same_path path path ≡ true
 same_itself None = refl
 same_itself (Some path) = (bytes_decides path path).1 refl
 
--- the call that the base was given, with an answer that isn't too long
+-- the call that the base was given, and a call with an answer that isn't too long
+pub call_fitting : (r : FlowRecord) (p : Params) → fit r.operation r.path p ≡ true → call_fits r.operation r.volume r.path (call_of r p) ≡ true
+call_fitting r p fits =
+    and_from (r.volume.0 == r.volume.0) (same_path r.path r.path && fit r.operation r.path p) (eq-eqb r.volume.0 r.volume.0 refl) (and_from (same_path r.path r.path) (fit r.operation r.path p) (same_itself r.path) fits)
+
+pub call_answered : (r : FlowRecord) (call : BaseCall) (answer : Answer) → call_fits r.operation r.volume r.path call ≡ true → length answer.bytes ≤ 32768 → base_fits call answer r ≡ true
+call_answered r call answer fits size = and_from (call_fits r.operation r.volume r.path call) (nat_le (length answer.bytes) 32768) fits (short (length answer.bytes) size)
+
 pub call_back : (r : FlowRecord) (p : Params) (answer : Answer) → fit r.operation r.path p ≡ true → length answer.bytes ≤ 32768 → base_fits (call_of r p) answer r ≡ true
-call_back r p answer fits size =
-    and_from (call_fits r.operation r.volume r.path (call_of r p)) (nat_le (length answer.bytes) 32768)
-    (and_from (r.volume.0 == r.volume.0) (same_path r.path r.path && fit r.operation r.path p) (eq-eqb r.volume.0 r.volume.0 refl) (and_from (same_path r.path r.path) (fit r.operation r.path p) (same_itself r.path) fits))
-    (short (length answer.bytes) size)
+call_back r p answer fits size = call_answered r (call_of r p) answer (call_fitting r p fits) size

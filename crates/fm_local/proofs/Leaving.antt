@@ -27,7 +27,7 @@ use Rattle.fm_world.specs.Words.{InstanceId, OpId, WorkerId, one}
 use Rattle.fm_world.specs.Workers.{Desk, AtSetup, AtStart, AtComplete, after_entering, is_at, is_idle, is_queried, is_in_query, put, worker_at}
 use Rattle.fm_world.specs.World.{World}
 use Rattle.fm_world.specs.declared.worker.Worker.TheVariants as place
-use Rattle.fm_local.proofs.Resting.{CalmAfter, Undisturbed, both, by_tidying, calm_both, calm_finished, calm_same, calm_tidied, goes, happened, is_in, is_out, no_count, none_in, others_stay}
+use Rattle.fm_local.proofs.Resting.{CalmAfter, Undisturbed, ask_refused, both, by_tidying, calm_both, calm_finished, calm_same, calm_tidied, goes, happened, is_in, is_out, no_count, none_in, others_stay}
 use Rattle.fm_local.proofs.Resting.{refused_same, rests_on, stays_fewer, stops}
 use Rattle.fm_local.specs.Calls.{is_leaving, is_leaving_phase}
 use Rattle.fm_local.specs.Quietly.{AsksQuietly, StartsQuietly, CompletesQuietly, TearsDownQuietly, WasTold}
@@ -45,10 +45,6 @@ module _ (k : WorkerId) (i : InstanceId) where
     asked_at : (asked : World) → AsksDetach old k i (Ok tt) asked → asked ≡ record old { workers = put old.workers k (place.Query i) }
     unfolding AsksDetach
     asked_at asked h = (happened old k tt asked _ h).1
-
-    ask_refused : (why : Status) (new : World) → AsksDetach old k i (Err why) new → new ≡ old
-    unfolding AsksDetach
-    ask_refused why new h = refused_same (Unit {0}) old k why new _ h (λ event. event.1)
 
     module _ (asked : World) (asks : asked ≡ record old { workers = put old.workers k (place.Query i) }) (back : World) (allows : Bool) (ended : Result (Unit {0}) Status)
         (returns : QueryReturns asked k allows ended back) where
@@ -111,7 +107,7 @@ module _ (k : WorkerId) (i : InstanceId) where
         ∙ stopped_row old.stack.instances i.0 (ap (λ (w : World). passes stack.is_in_use (slice_get w.stack.instances i.0)) (sym from) ∙ agreed asked.stack allows back.stack at.0)
 
     pub declined_leaves : (may : World → InstanceId → Bool → Type 0) (why : Status) (new : World) → AsksQuietly k i may old (Err why) new → CalmAfter old new
-    declined_leaves may why new (inl h) = calm_same old new (ask_refused why new h.1)
+    declined_leaves may why new (inl h) = calm_same old new (ask_refused old k i why new h.1)
     declined_leaves may why new (inr (asked, back, asks, (allows, answer, returns), tidies)) =
         let from = asked_at asked asks in
         let at = query_at asked from back allows (Err why) returns in
@@ -138,18 +134,6 @@ module _ (k : WorkerId) (i : InstanceId) where
   module _ (old : World) (idle : worker_at old.workers k ≡ Some place.Idle) (started : World) (starts : StartsTeardown old k i (Ok tt) started) where
     from_start : worker_at started.workers k ≡ Some (place.Start i)
     from_start = is_in k old started (place.Start i) idle (ap (λ (w : World). w.workers) (starting_at old started starts))
-
-    -- the callback returns, whatever else
-    start_ends : (why : Status) (back : World) → StartReturns started k (Err why) back → ⊥
-    unfolding StartReturns
-    start_ends why back h = refuses (subst (StartReturnsAt started k (Err why) back) from_start h)
-      where
-        refuses : StartReturnsAt started k (Err why) back (Some (place.Start i)) → ⊥
-        refuses h = cc
-
-    pub start_ok : (result : Result (Unit {0}) Status) (back : World) → StartReturns started k result back → result ≡ Ok tt
-    start_ok (Ok done) back h = refl
-    start_ok (Err why) back h = absurd (start_ends why back h)
 
     start_at : (back : World) → StartReturns started k (Ok tt) back → StartReturnsAt started k (Ok tt) back (Some (place.Start i))
     unfolding StartReturns
@@ -282,17 +266,6 @@ module _ (k : WorkerId) (i : InstanceId) where
   module _ (old : World) (idle : worker_at old.workers k ≡ Some place.Idle) (completing : World) (completes : CompletesTeardown old k i (Ok tt) completing) where
     from_complete : worker_at completing.workers k ≡ Some (place.Complete i)
     from_complete = is_in k old completing (place.Complete i) idle (ap (λ (w : World). w.workers) (completing_at old completing completes))
-
-    complete_ends : (why : Status) (back : World) → CompleteReturns completing k (Err why) back → ⊥
-    unfolding CompleteReturns
-    complete_ends why back h = refuses (subst (CompleteReturnsAt completing k (Err why) back) from_complete h)
-      where
-        refuses : CompleteReturnsAt completing k (Err why) back (Some (place.Complete i)) → ⊥
-        refuses h = cc
-
-    pub complete_ok : (result : Result (Unit {0}) Status) (back : World) → CompleteReturns completing k result back → result ≡ Ok tt
-    complete_ok (Ok done) back h = refl
-    complete_ok (Err why) back h = absurd (complete_ends why back h)
 
     complete_at : (back : World) → CompleteReturns completing k (Ok tt) back → CompleteReturnsAt completing k (Ok tt) back (Some (place.Complete i))
     unfolding CompleteReturns

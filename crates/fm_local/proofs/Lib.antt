@@ -32,3 +32,5 @@ pub mod Drained
 pub mod Refusing
 pub mod Unloaded
 pub mod Standing
+pub mod Lent
+pub mod Places

@@ -5,7 +5,6 @@ use Rattle.fm_types.specs.declared.registration.Registration.{Registration}
 use Rattle.fm_types.specs.declared.status.Status.{Status}
 use Rattle.fm_data.specs.declared.answer.Answer.{Answer}
 use Rattle.fm_data.specs.declared.request.Request.{Request}
-use Rattle.fm_stack.specs.Detaching as stack
 use Rattle.fm_stack.specs.StackWorld.{StackWorld}
 use Rattle.fm_world.proofs.Events.{idle_by}
 use Rattle.fm_world.specs.ContextEvents.{Finishes}
@@ -16,7 +15,7 @@ use Rattle.fm_world.specs.Workers.{is_idle, put, worker_at}
 use Rattle.fm_world.specs.World.{World, empty_world}
 use Rattle.fm_world.specs.declared.worker.Worker.TheVariants as place
 use Rattle.fm_local.proofs.Leaving.{start_refused}
-use Rattle.fm_local.proofs.Resting.{attach_refused, happened, is_in, is_out, refused_same}
+use Rattle.fm_local.proofs.Resting.{ask_refused, attach_refused, complete_refused, happened, is_in, is_out, ask_unload_refused}
 use Rattle.fm_local.specs.Calls.{UnloadsWith}
 use Rattle.fm_local.specs.Cleanups.{HasNoneDue, LeavesNoneDue}
 
@@ -24,7 +23,7 @@ module _ (k : WorkerId) where
   pub none_still : (old new : World) → new.workers ≡ old.workers → new.contexts ≡ old.contexts → LeavesNoneDue k old new
   none_still old new workers contexts none idle = ap (λ t. t.due) contexts ∙ none (ap (λ ws. is_idle (worker_at ws k)) (sym workers) ∙ idle)
 
-  none_same : (old new : World) → new ≡ old → LeavesNoneDue k old new
+  pub none_same : (old new : World) → new ≡ old → LeavesNoneDue k old new
   none_same old new same = none_still old new (ap (λ (w : World). w.workers) same) (ap (λ (w : World). w.contexts) same)
 
   only_stack : (old new : World) (s : StackWorld) → new ≡ record old { stack = s } → LeavesNoneDue k old new
@@ -70,16 +69,13 @@ module _ (k : WorkerId) where
   none_attached old f v name altitude why new h = none_same old new (attach_refused old k f v name altitude why new h)
 
   pub none_asked : (old : World) (i : InstanceId) (why : Status) (new : World) → AsksDetach old k i (Err why) new → LeavesNoneDue k old new
-  unfolding AsksDetach
-  none_asked old i why new h = none_same old new (refused_same (Unit {0}) old k why new _ h (λ event. event.1))
+  none_asked old i why new h = none_same old new (ask_refused old k i why new h)
 
   pub none_started : (old : World) (i : InstanceId) (why : Status) (new : World) → StartsTeardown old k i (Err why) new → LeavesNoneDue k old new
   none_started old i why new h = none_same old new (start_refused k i old why new h)
 
   pub none_completed : (old : World) (i : InstanceId) (why : Status) (new : World) → CompletesTeardown old k i (Err why) new → LeavesNoneDue k old new
-  unfolding CompletesTeardown stack.CompletesTeardown
-  none_completed old i why new h =
-      none_same old new (refused_same (Unit {0}) old k why new _ h (λ event. event.1 ∙ ap (λ (s : StackWorld). record old { stack = s }) event.0.1))
+  none_completed old i why new h = none_same old new (complete_refused old k i why new h)
 
   -- ---- a filter is asked whether it may be unloaded, which leaves no reference
 
@@ -102,8 +98,7 @@ module _ (k : WorkerId) where
       none_still old new (is_out k old asked new (place.Unload f) idle enters (ap (λ (w : World). w.workers) at.1)) (ap (λ (w : World). w.contexts) at.1 ∙ ap (λ (w : World). w.contexts) from)
 
   pub none_refused : (old : World) (f : FilterId) (why : Status) (new : World) → AsksUnload old k f (Err why) new → LeavesNoneDue k old new
-  unfolding AsksUnload
-  none_refused old f why new h = none_same old new (refused_same (Unit {0}) old k why new _ h (λ event. event.1))
+  none_refused old f why new h = none_same old new (ask_unload_refused old k f why new h)
 
   pub none_agreed : (may : Bool → Type 0) (old : World) (f : FilterId) (asked : World) → AsksUnload old k f (Ok tt) asked → (result : Result (Unit {0}) Status) (new : World)
       → UnloadsWith may k asked result new → LeavesNoneDue k old new

@@ -1,5 +1,5 @@
 -- A manager that was ready is ready again behind a call that makes the events that it names.
-use Rattle.std.specs.Prelude.{◌≡◌, ◌+◌, ◌&&◌, ◌⊎◌, ℕ, zero, suc, Bool, true, List, [], Option, Some, None, option_and_then, option_map, replicate, Result, Ok, Err, IfErr, IsOk, slice_get, refl}
+use Rattle.std.specs.Prelude.{◌≡◌, ◌+◌, ◌&&◌, ℕ, zero, suc, Bool, true, List, [], Option, Some, None, option_and_then, option_map, replicate, Result, Ok, Err, IsOk, slice_get, refl}
 use Rattle.std.proofs.Common.{inr, sym, ap, subst, ◌∙◌, arith}
 use Rattle.std.proofs.lemmas.Option.{none-some, same_Some}
 use Rattle.fm_base.specs.Folders.{Folder}
@@ -14,7 +14,7 @@ use Rattle.fm_data.specs.declared.verdict.PreVerdict.{PreVerdict}
 use Rattle.fm_data.specs.declared.verdict.PostVerdict.{PostVerdict}
 use Rattle.fm_world.specs.Events.{Attaches}
 use Rattle.fm_world.specs.Sound.{IsSound}
-use Rattle.fm_world.specs.Teardowns.{AsksDetach, CompletesTeardown, CompleteReturns, StartReturns}
+use Rattle.fm_world.specs.Teardowns.{AsksDetach}
 use Rattle.fm_world.specs.Words.{WorkerId}
 use Rattle.fm_world.specs.Workers.{worker_at}
 use Rattle.fm_world.specs.World.{World, empty_world}
@@ -36,7 +36,7 @@ settled_both old mid new a b = record { bases = b.bases ∙ a.bases; filters = b
 
 -- a detach asks the filter, and that ends so
 pub asks_by : (may : World → InstanceId → Bool → Type 0) (old : World) (k : WorkerId) (i : InstanceId) (result : Result (Unit {0}) Status) (asked : World)
-    → AsksDetach old k i (Ok tt) asked → QueryEnds (may asked i) k result → Asks may old k i result
+    → AsksDetach old k i (Ok tt) asked → QueryEnds (may asked i) k asked result → Asks may old k i result
 asks_by may old k i (Err why) asked asks ends = inr (asked, asks, ends)
 asks_by may old k i (Ok done) asked asks ends = (asked, asks, ends)
 
@@ -200,17 +200,6 @@ torn_first k f n old mid new first step = subst (λ (m : ℕ). TearsDownFirst k 
   where
     one_more : (n : ℕ) → suc n ≡ n + 1
     one_more n = omega arith
-
--- a refusal behind a callback of a teardown is that of its end
-pub start_stops : (k : WorkerId) (result : Result (Unit {0}) Status) (new : World) → ((before : World) × StartReturns before k result new)
-    → IfErr result (λ status. (before after : World) × StartReturns before k (Err status) after)
-start_stops k (Ok done) new h = tt
-start_stops k (Err why) new (before, returns) = (before, new, returns)
-
-pub complete_stops : (k : WorkerId) (i : InstanceId) (result : Result (Unit {0}) Status) (back new : World) → ((before : World) × CompleteReturns before k result back)
-    → IfErr result (λ status. ((before : World) × CompletesTeardown before k i (Err status) new) ⊎ ((before after : World) × CompleteReturns before k (Err status) after))
-complete_stops k i (Ok done) back new h = tt
-complete_stops k i (Err why) back new (before, returns) = inr (before, back, returns)
 
 -- what is settled behind a callback that resumed nothing
 pub settled_after : {F B : Type 0} (old mid new : LocalManager F B) → mid.desk.resumed ≡ old.desk.resumed → mid.bases ≡ old.bases → mid.filters ≡ old.filters

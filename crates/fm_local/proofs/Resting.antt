@@ -5,6 +5,7 @@ use Rattle.std.specs.List.{list_any}
 use Rattle.fm_types.specs.Lists.{updated}
 use Rattle.fm_types.specs.declared.status.Status.{Status}
 use Rattle.fm_types.specs.declared.status.Status.TheVariants as status
+use Rattle.fm_stack.specs.Detaching as stack
 use Rattle.fm_stack.specs.Events as setting
 use Rattle.fm_stack.specs.StackWorld.{StackWorld}
 use Rattle.fm_stack.specs.declared.instance.Instance.{Instance}
@@ -12,6 +13,7 @@ use Rattle.fm_world.proofs.Cases.{by_option, none_any}
 use Rattle.fm_world.specs.ContextEvents.{Finishes}
 use Rattle.fm_types.specs.declared.registration.Registration.{Registration}
 use Rattle.fm_world.specs.Events.{Attaches, Mounts, Registers, SetsUp, SetsUpAt, Unless, is_stopping_phase, is_stopping_row}
+use Rattle.fm_world.specs.Teardowns.{AsksDetach, AsksUnload, CompletesTeardown}
 use Rattle.fm_world.specs.Words.{FilterId, VolumeId, InstanceId, WorkerId}
 use Rattle.fm_world.specs.Workers.{is_idle, put, worker_at}
 use Rattle.fm_world.specs.World.{World}
@@ -209,6 +211,18 @@ pub attach_refused : (old : World) (k : WorkerId) (f : FilterId) (v : VolumeId) 
 unfolding Attaches setting.Attaches
 attach_refused old k f v name altitude why new h =
     refused_same (InstanceId) old k why new _ h (λ event. event.1 ∙ ap (λ (s : StackWorld). record old { stack = s }) event.0.1)
+
+pub ask_refused : (old : World) (k : WorkerId) (i : InstanceId) (why : Status) (new : World) → AsksDetach old k i (Err why) new → new ≡ old
+unfolding AsksDetach
+ask_refused old k i why new h = refused_same (Unit {0}) old k why new _ h (λ event. event.1)
+
+pub complete_refused : (old : World) (k : WorkerId) (i : InstanceId) (why : Status) (new : World) → CompletesTeardown old k i (Err why) new → new ≡ old
+unfolding CompletesTeardown stack.CompletesTeardown
+complete_refused old k i why new h = refused_same (Unit {0}) old k why new _ h (λ event. event.1 ∙ ap (λ (s : StackWorld). record old { stack = s }) event.0.1)
+
+pub ask_unload_refused : (old : World) (k : WorkerId) (f : FilterId) (why : Status) (new : World) → AsksUnload old k f (Err why) new → new ≡ old
+unfolding AsksUnload
+ask_unload_refused old k f why new h = refused_same (Unit {0}) old k why new _ h (λ event. event.1)
 
 -- ---- filters and volumes that are new
 

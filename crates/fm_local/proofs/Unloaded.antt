@@ -21,7 +21,7 @@ use Rattle.fm_world.specs.Workers.{put, worker_at}
 use Rattle.fm_world.specs.World.{World}
 use Rattle.fm_world.specs.declared.worker.Worker.TheVariants as place
 use Rattle.fm_local.proofs.Leaving.{complete_stack, start_refused, start_stack, starts_leaves, torn_leaves}
-use Rattle.fm_local.proofs.Resting.{CalmAfter, Undisturbed, both, calm_both, calm_same, calm_tidied, happened, is_in, is_out, refused_same, rests_on, stops}
+use Rattle.fm_local.proofs.Resting.{CalmAfter, Undisturbed, ask_unload_refused, both, calm_both, calm_same, calm_tidied, happened, is_in, is_out, rests_on, stops}
 use Rattle.fm_local.specs.Calls.{AsksToUnload, is_leaving, is_leaving_phase}
 use Rattle.fm_local.specs.Quietly.{StartsQuietly, CompletesQuietly, TearsDownQuietly, TearsDownIf, TearsDownFirst, EndsQuietly, is_of_row, is_to_go}
 use Rattle.fm_local.specs.Requests.{IsAtRest, Tidies}
@@ -218,10 +218,6 @@ module _ (f : FilterId) where
       unfolding AsksUnload
       asked_at asked h = (happened old k tt asked _ h).1
 
-      ask_refused : (why : Status) (new : World) → AsksUnload old k f (Err why) new → new ≡ old
-      unfolding AsksUnload
-      ask_refused why new h = refused_same (Unit {0}) old k why new _ h (λ event. event.1)
-
       module _ (asked : World) (asks : asked ≡ record old { workers = put old.workers k (place.Unload f) }) (allows : Bool) (ended : Result (Unit {0}) Status) (back : World)
           (returns : UnloadReturns asked k allows ended back) where
         enters : asked.workers ≡ put old.workers k (place.Unload f)
@@ -247,7 +243,7 @@ module _ (f : FilterId) where
       declined_stack s allows why t h = h.1
 
       pub unload_refused : (may : Bool → Type 0) (why : Status) (new : World) → AsksToUnload may old k f (Err why) new → CalmAfter old new
-      unload_refused may why new (inl h) = calm_same old new (ask_refused why new h)
+      unload_refused may why new (inl h) = calm_same old new (ask_unload_refused old k f why new h)
       unload_refused may why new (inr (asked, asks, (allows, answer, returns))) =
           let from = asked_at asked asks in
           let at = unload_at asked from allows (Err why) new returns in

@@ -17,10 +17,11 @@ use Rattle.fm_stack.specs.declared.instance.Phase.TheVariants as phase
 use Rattle.fm_local.specs.declared.filters.Filters.{Filters}
 use Rattle.fm_local.specs.Chains.{filter_in}
 use Rattle.fm_local.specs.Managers.{handed_in, numbered}
+use Rattle.fm_local.specs.Places.{EndsFrom}
 use Rattle.fm_world.specs.World.{World}
 use Rattle.fm_world.specs.Events.{Registers, Mounts, Attaches, SetsUp}
 use Rattle.fm_world.specs.ContextEvents.{Finishes}
-use Rattle.fm_world.specs.Teardowns.{AsksDetach, QueryReturns, StartReturns, CompletesTeardown, CompleteReturns, AsksUnload, UnloadReturns, EmptiesFilter, FinishesFilter}
+use Rattle.fm_world.specs.Teardowns.{AsksDetach, QueryReturns, CompletesTeardown, AsksUnload, UnloadReturns, EmptiesFilter, FinishesFilter}
 
 -- the place of the filter of that name
 abbrev pub place_called : {F : Type 0} → List ℕ → List (List ℕ × F) → Option ℕ
@@ -52,30 +53,28 @@ AgreesAt may filters w i agrees = MayAgree may (filter_in (numbered filters) w.s
 abbrev pub SetsUpWith : (Bool → Type 0) → WorkerId → World → Result (Unit {0}) Status → World → Type 0
 SetsUpWith may k before ended after = (accepts : Bool) × may accepts × SetsUp before k accepts ended after
 
-abbrev pub SetupEnds : (Bool → Type 0) → WorkerId → Result (Unit {0}) Status → Type 0
-SetupEnds may k ended = (before after : World) × SetsUpWith may k before ended after
+-- it runs, and ends so
+abbrev pub SetupEnds : (Bool → Type 0) → WorkerId → World → Result (Unit {0}) Status → Type 0
+SetupEnds may k born ended = (after : World) × EndsFrom born (λ before. SetsUpWith may k before ended after)
 
 -- an instance is attached: that is refused at once, or its setup callback is called, and then its end refuses it or not
 abbrev pub AttachesAs : (World → InstanceId → Bool → Type 0) → World → WorkerId → FilterId → VolumeId → List ℕ → List ℕ → Result InstanceId Status → World → Type 0
 AttachesAs may old k f v name altitude (Err status) new =
     Attaches old k f v name altitude (Err status) new
-    ⊎ ((i : InstanceId) × (born : World) × Attaches old k f v name altitude (Ok i) born × SetupEnds (may born i) k (Err status))
-AttachesAs may old k f v name altitude (Ok i) new = (born : World) × Attaches old k f v name altitude (Ok i) born × SetupEnds (may born i) k (Ok tt)
+    ⊎ ((i : InstanceId) × (born : World) × Attaches old k f v name altitude (Ok i) born × SetupEnds (may born i) k born (Err status))
+AttachesAs may old k f v name altitude (Ok i) new = (born : World) × Attaches old k f v name altitude (Ok i) born × SetupEnds (may born i) k born (Ok tt)
 
 -- the end of a query callback, with an answer that its filter may give
 abbrev pub QueriesWith : (Bool → Type 0) → WorkerId → World → Result (Unit {0}) Status → World → Type 0
 QueriesWith may k before ended after = (allows : Bool) × may allows × QueryReturns before k allows ended after
 
-abbrev pub QueryEnds : (Bool → Type 0) → WorkerId → Result (Unit {0}) Status → Type 0
-QueryEnds may k ended = (before after : World) × QueriesWith may k before ended after
+-- it runs, and ends so
+abbrev pub QueryEnds : (Bool → Type 0) → WorkerId → World → Result (Unit {0}) Status → Type 0
+QueryEnds may k asked ended = (after : World) × EndsFrom asked (λ before. QueriesWith may k before ended after)
 
 -- the teardown of an instance stopped with the first event that was refused, or ended with its last one
 abbrev pub TornDown : WorkerId → InstanceId → Result (Unit {0}) Status → World → Type 0
-TornDown k i (Err status) new =
-    ((before after : World) × StartReturns before k (Err status) after)
-    ⊎ (((before : World) × CompletesTeardown before k i (Err status) new)
-    ⊎ (((before after : World) × CompleteReturns before k (Err status) after)
-    ⊎ ((before : World) × Finishes before i (Err status) new)))
+TornDown k i (Err status) new = ((before : World) × CompletesTeardown before k i (Err status) new) ⊎ ((before : World) × Finishes before i (Err status) new)
 TornDown k i (Ok done) new = (before : World) × Finishes before i (Ok done) new
 
 -- whether a teardown is under way
@@ -92,8 +91,8 @@ is_leaving w i = is_leaving_phase (option_map (λ (row : Instance). row.phase) (
 abbrev pub Asks : (World → InstanceId → Bool → Type 0) → World → WorkerId → InstanceId → Result (Unit {0}) Status → Type 0
 Asks may old k i (Err status) =
     ((new : World) × AsksDetach old k i (Err status) new)
-    ⊎ ((asked : World) × AsksDetach old k i (Ok tt) asked × QueryEnds (may asked i) k (Err status))
-Asks may old k i (Ok done) = (asked : World) × AsksDetach old k i (Ok tt) asked × QueryEnds (may asked i) k (Ok tt)
+    ⊎ ((asked : World) × AsksDetach old k i (Ok tt) asked × QueryEnds (may asked i) k asked (Err status))
+Asks may old k i (Ok done) = (asked : World) × AsksDetach old k i (Ok tt) asked × QueryEnds (may asked i) k asked (Ok tt)
 
 -- a detach asks where no teardown is under way, and then the teardown says how it ends
 abbrev pub DetachesBy : Bool → (World → InstanceId → Bool → Type 0) → World → WorkerId → InstanceId → Result (Unit {0}) Status → World → Type 0

@@ -5,19 +5,16 @@ use Rattle.fm_types.specs.declared.ids.OpId.{OpId}
 use Rattle.fm_types.specs.declared.status.Status.{Status}
 use Rattle.fm_data.specs.declared.verdict.Completion.{Completion}
 use Rattle.fm_world.specs.EarlyDrains.{TakesDrain, DrainReturns}
-use Rattle.fm_world.specs.Teardowns.{CompletesTeardown, StartsTeardown, StartReturns}
+use Rattle.fm_world.specs.Teardowns.{CompletesTeardown, CompleteReturns, StartsTeardown, StartReturns}
 use Rattle.fm_world.specs.Words.{WorkerId}
 use Rattle.fm_world.specs.World.{World}
 use Rattle.fm_local.specs.Chains.{filter_in}
+use Rattle.fm_local.specs.Places.{EndsFrom}
 
 -- what holds once a callback that answers nothing was called, where there is a filter
 abbrev pub WasCalled : {F : Type 0} → (F → Type 0) → Option F → Type 0
 WasCalled holds None = ⊤
 WasCalled holds (Some f) = holds f
-
-abbrev pub WasDrained : {F : Type 0} → (F → Completion → Type 0) → Option F → Completion → Type 0
-WasDrained drained None completion = ⊤
-WasDrained drained (Some f) completion = drained f completion
 
 module _ (k : WorkerId) (i : InstanceId) where
   -- who asks for a drain gets none
@@ -29,14 +26,15 @@ module _ (k : WorkerId) (i : InstanceId) where
   TellsEnd completed filters false old = ⊤
   TellsEnd completed filters true old =
       ((why : Status) × (new : World) × CompletesTeardown old k i (Err why) new)
-      ⊎ ((completing : World) × CompletesTeardown old k i (Ok tt) completing × WasCalled completed (filter_in filters completing.stack i.0))
+      ⊎ ((completing returned : World) × CompletesTeardown old k i (Ok tt) completing × WasCalled completed (filter_in filters completing.stack i.0)
+      × EndsFrom completing (λ before. CompleteReturns before k (Ok tt) returned))
 
 module _ {F : Type 0} (drained : F → Completion → Type 0) (filters : ℕ → Option F) (k : WorkerId) (i : InstanceId) where
   -- a drain is taken, the filter is called, and the drain ends
   abbrev pub DrainsOne : World → World → Type 0
   DrainsOne old new =
-      (o : OpId) × (completion : Completion) × (mid before : World) × (ended : Result (Unit {0}) Status) × TakesDrain old k i (Ok (Some (o, completion))) mid
-      × WasDrained drained (filter_in filters mid.stack i.0) completion × DrainReturns before k ended new
+      (o : OpId) × (completion : Completion) × (mid : World) × (ended : Result (Unit {0}) Status) × TakesDrain old k i (Ok (Some (o, completion))) mid
+      × WasCalled (λ f. drained f completion) (filter_in filters mid.stack i.0) × EndsFrom mid (λ before. DrainReturns before k ended new)
 
   abbrev pub DrainsSome : Bool → World → World → Type 0
   DrainsSome true old new = DrainsOne old new
@@ -51,9 +49,9 @@ module _ {F : Type 0} (drained : F → Completion → Type 0) (filters : ℕ →
   abbrev pub DrainsAll : ℕ → World → World → Type 0
   DrainsAll most old new = (n : ℕ) × DrainsMany n old new × (OwesNone k i new ⊎ (most ≤ n))
 
-  -- a teardown starts: the filter is told, and behind that all that is owed is let go of
-  abbrev pub StartsAndDrains : (F → Type 0) → ℕ → World → Type 0
-  StartsAndDrains begins most old =
-      ((why : Status) × (new : World) × StartsTeardown old k i (Err why) new)
-      ⊎ ((started before returned done : World) × (ended : Result (Unit {0}) Status) × StartsTeardown old k i (Ok tt) started
-      × WasCalled begins (filter_in filters started.stack i.0) × StartReturns before k ended returned × DrainsAll most returned done)
+  -- a teardown starts, unless it can't: the filter is told, and behind that all that is owed is let go of
+  abbrev pub StartsAndDrains : (F → Type 0) → ℕ → Bool → World → World → Type 0
+  StartsAndDrains begins most true old new =
+      (started returned : World) × StartsTeardown old k i (Ok tt) started × WasCalled begins (filter_in filters started.stack i.0)
+      × EndsFrom started (λ before. StartReturns before k (Ok tt) returned) × DrainsAll most returned new
+  StartsAndDrains begins most false old new = (why : Status) × StartsTeardown old k i (Err why) new

@@ -9,6 +9,7 @@ pub mod Functions
 pub mod Left
 pub mod Lending
 pub mod Managers
+pub mod Places
 pub mod Ports
 pub mod Quietly
 pub mod Requests

@@ -119,6 +119,15 @@ pub record IsSettled {F B : Type 0} (old new : LocalManager F B) : Type 0 where
   pub filters : new.filters ≡ old.filters
   pub settled : new.desk.resumed.items.items ≡ []
 
+-- a teardown starts, and that is all
+pub record StartsAlone {F B : Type 0} (k : WorkerId) (i : InstanceId) (old new : LocalManager F B) : Type 0 where
+  pub started : World
+  pub starts : StartsTeardown old.desk.state k i (Ok tt) started
+  pub returns : StartReturns started k (Ok tt) new.desk.state
+  pub bases : new.bases ≡ old.bases
+  pub filters : new.filters ≡ old.filters
+  pub resumed : new.desk.resumed ≡ old.desk.resumed
+
 -- and the manager is ready again
 pub record LeavesReady {F B : Type 0} (pre : F → Data → PreVerdict → Data → Type 0) (post : F → Data → Completion → PostVerdict → Data → Type 0) (is_quiet : F → Type 0)
     (folder : B → Option Folder) (faults : B → ℕ) (k : WorkerId) (old new : LocalManager F B) : Type 0 where

@@ -1,18 +1,20 @@
 //! The callbacks of filters, each between the event that enters it and the one that ends it.
 
-ghost use Rattle.std.specs.Prelude.{◌≡◌, None};
+ghost use Rattle.std.specs.Prelude.{◌≡◌, None, Ok};
+ghost use Rattle.fm_filter.specs.Standing.{standing_of};
 ghost use Rattle.fm_flow.specs.declared.action.FlowAction.TheVariants as step;
 ghost use Rattle.fm_local.specs.Actions.{ArePlainFilters};
 ghost use Rattle.fm_local.specs.Bases.{BasesCarry};
 ghost use Rattle.fm_local.specs.Chains.{filter_in, PreMay, PostMay};
-ghost use Rattle.fm_local.specs.Drains.{WasCalled, WasDrained};
+ghost use Rattle.fm_local.specs.Drains.{WasCalled};
 ghost use Rattle.fm_local.specs.Managers.{numbered, IsQuietIn};
+ghost use Rattle.fm_local.specs.Places.{EndsFrom, EndsOut, IsIn};
 ghost use Rattle.fm_local.specs.Turns.{Does};
 ghost use Rattle.fm_world.specs.EarlyDrains.{DrainReturns};
 ghost use Rattle.fm_world.specs.Events.{PreReturns, PostReturns};
-ghost use Rattle.fm_local.specs.Calls.{MayAgree, QueriesWith, QueryEnds, SetsUpWith, SetupEnds, UnloadsWith};
+ghost use Rattle.fm_local.specs.Calls.{MayAgree, QueriesWith, SetsUpWith, UnloadsWith};
 ghost use Rattle.fm_world.specs.Teardowns.{CompleteReturns, StartReturns};
-ghost use Rattle.fm_world.specs.World.{World};
+ghost use Rattle.fm_world.specs.declared.worker.Worker.TheVariants as place;
 
 use crate::bounded::Bounded;
 use crate::leak::{Callback, Leak};
@@ -48,7 +50,7 @@ fn sent_by(verdict: PreVerdict) -> Option<CtxId> {
 impl<F: Minifilter, B: Base> LocalManager<F, B> {
     /// Calls the setup callback of a new instance. Refused as the end of that callback is.
     pub(crate) fn setup(&mut self, instance: InstanceId) -> Result<(), Status>
-        ensures ends { SetupEnds (MayAgree F.setup_may (filter_in (numbered self.old.filters) self.old.desk.state.stack instance.0)) WORKER result }
+        ensures ends { EndsFrom self.old.desk.state (λ before. SetsUpWith (MayAgree F.setup_may (filter_in (numbered self.old.filters) self.old.desk.state.stack instance.0)) WORKER before result self.new.desk.state) }
         ensures quiet { ArePlainFilters F.pre_may F.post_may F.is_quiet (numbered self.old.filters) → SetsUpWith (MayAgree F.setup_may (filter_in (numbered self.old.filters) self.old.desk.state.stack instance.0)) WORKER self.old.desk.state result self.new.desk.state × (self.new.desk.resumed ≡ self.old.desk.resumed) }
         ensures kept { self.new ≡ record self.old { desk = self.new.desk; hand = self.new.hand; leaks = self.new.leaks } }
     {
@@ -63,6 +65,7 @@ impl<F: Minifilter, B: Base> LocalManager<F, B> {
     fn ask_setup(&mut self, instance: InstanceId) -> bool
         ensures said { MayAgree F.setup_may (filter_in (numbered self.old.filters) self.old.desk.state.stack instance.0) result }
         ensures quiet { IsQuietIn F.is_quiet (filter_in (numbered self.old.filters) self.old.desk.state.stack instance.0) → self.new.desk ≡ self.old.desk }
+        ensures far { standing_of self.new.desk.state ≡ standing_of self.old.desk.state }
         ensures same { self.new ≡ record self.old { desk = self.new.desk } }
     {
         match self.filters.of(self.desk.state.filter_of(instance)) {
@@ -86,6 +89,7 @@ impl<F: Minifilter, B: Base> LocalManager<F, B> {
     ) -> Result<(), Status>
         ensures does { ArePlainFilters F.pre_may F.post_may F.is_quiet (numbered self.old.filters) → Does F.pre_may F.post_may (BasesCarry B.folder B.faults) (numbered self.old.filters) WORKER operation (Ok (step.Pre instance lent)) self.old.desk.state self.old.bases.items self.new.desk.state self.new.bases.items }
         ensures quiet { ArePlainFilters F.pre_may F.post_may F.is_quiet (numbered self.old.filters) → self.new.desk.resumed ≡ self.old.desk.resumed }
+        ensures out { EndsOut WORKER operation (Ok (step.Pre instance lent)) self.old.desk.state self.new.desk.state }
         ensures kept { self.new ≡ record self.old { desk = self.new.desk; trace = self.new.trace; hand = self.new.hand; leaks = self.new.leaks } }
     {
         let verdict = self.ask_pre(instance, &mut lent);
@@ -124,6 +128,7 @@ impl<F: Minifilter, B: Base> LocalManager<F, B> {
         ensures said { PreMay F.pre_may (filter_in (numbered self.old.filters) self.old.desk.state.stack instance.0) lent.old result lent.new }
         ensures kept { lent.new.received ≡ lent.old.received }
         ensures quiet { IsQuietIn F.is_quiet (filter_in (numbered self.old.filters) self.old.desk.state.stack instance.0) → self.new.desk ≡ self.old.desk }
+        ensures far { standing_of self.new.desk.state ≡ standing_of self.old.desk.state }
         ensures same { self.new ≡ record self.old { desk = self.new.desk } }
     {
         match self.filters.of(self.desk.state.filter_of(instance)) {
@@ -148,6 +153,7 @@ impl<F: Minifilter, B: Base> LocalManager<F, B> {
     ) -> Result<(), Status>
         ensures does { ArePlainFilters F.pre_may F.post_may F.is_quiet (numbered self.old.filters) → Does F.pre_may F.post_may (BasesCarry B.folder B.faults) (numbered self.old.filters) WORKER operation (Ok (step.Post instance lent completion)) self.old.desk.state self.old.bases.items self.new.desk.state self.new.bases.items }
         ensures quiet { ArePlainFilters F.pre_may F.post_may F.is_quiet (numbered self.old.filters) → self.new.desk.resumed ≡ self.old.desk.resumed }
+        ensures out { EndsOut WORKER operation (Ok (step.Post instance lent completion)) self.old.desk.state self.new.desk.state }
         ensures kept { self.new ≡ record self.old { desk = self.new.desk; trace = self.new.trace; hand = self.new.hand; leaks = self.new.leaks } }
     {
         let verdict = self.ask_post(instance, &mut lent, completion);
@@ -186,6 +192,7 @@ impl<F: Minifilter, B: Base> LocalManager<F, B> {
         ensures said { PostMay F.post_may (filter_in (numbered self.old.filters) self.old.desk.state.stack instance.0) lent.old completion result lent.new }
         ensures kept { lent.new.received ≡ lent.old.received }
         ensures quiet { IsQuietIn F.is_quiet (filter_in (numbered self.old.filters) self.old.desk.state.stack instance.0) → self.new.desk ≡ self.old.desk }
+        ensures far { standing_of self.new.desk.state ≡ standing_of self.old.desk.state }
         ensures same { self.new ≡ record self.old { desk = self.new.desk } }
     {
         match self.filters.of(self.desk.state.filter_of(instance)) {
@@ -207,8 +214,8 @@ impl<F: Minifilter, B: Base> LocalManager<F, B> {
         instance: InstanceId,
         completion: Completion,
     ) -> Result<(), Status>
-        ensures called { WasDrained F.drained (filter_in (numbered self.old.filters) self.old.desk.state.stack instance.0) completion }
-        ensures ends { (before : World) × PostReturns before WORKER PostVerdict.Finished None result self.new.desk.state }
+        ensures called { WasCalled (λ f. F.drained f completion) (filter_in (numbered self.old.filters) self.old.desk.state.stack instance.0) }
+        ensures ends { EndsFrom self.old.desk.state (λ before. PostReturns before WORKER PostVerdict.Finished None result self.new.desk.state) }
         ensures quiet { ArePlainFilters F.pre_may F.post_may F.is_quiet (numbered self.old.filters) → self.new.desk.resumed ≡ self.old.desk.resumed }
         ensures kept { self.new ≡ record self.old { desk = self.new.desk; trace = self.new.trace; hand = self.new.hand; leaks = self.new.leaks } }
     {
@@ -224,8 +231,8 @@ impl<F: Minifilter, B: Base> LocalManager<F, B> {
         instance: InstanceId,
         completion: Completion,
     ) -> Result<(), Status>
-        ensures called { WasDrained F.drained (filter_in (numbered self.old.filters) self.old.desk.state.stack instance.0) completion }
-        ensures ends { (before : World) × DrainReturns before WORKER result self.new.desk.state }
+        ensures called { WasCalled (λ f. F.drained f completion) (filter_in (numbered self.old.filters) self.old.desk.state.stack instance.0) }
+        ensures ends { EndsFrom self.old.desk.state (λ before. DrainReturns before WORKER result self.new.desk.state) }
         ensures filters { self.new.filters ≡ self.old.filters }
     {
         self.drain(operation, instance, completion);
@@ -238,8 +245,9 @@ impl<F: Minifilter, B: Base> LocalManager<F, B> {
 
     // Has the filter of an instance let go, and notes it.
     fn drain(&mut self, operation: OpId, instance: InstanceId, completion: Completion)
-        ensures called { WasDrained F.drained (filter_in (numbered self.old.filters) self.old.desk.state.stack instance.0) completion }
+        ensures called { WasCalled (λ f. F.drained f completion) (filter_in (numbered self.old.filters) self.old.desk.state.stack instance.0) }
         ensures quiet { IsQuietIn F.is_quiet (filter_in (numbered self.old.filters) self.old.desk.state.stack instance.0) → self.new.desk ≡ self.old.desk }
+        ensures far { standing_of self.new.desk.state ≡ standing_of self.old.desk.state }
         ensures same { self.new ≡ record self.old { desk = self.new.desk; trace = self.new.trace } }
     {
         self.tell_drain(instance, completion);
@@ -247,8 +255,9 @@ impl<F: Minifilter, B: Base> LocalManager<F, B> {
     }
 
     fn tell_drain(&mut self, instance: InstanceId, completion: Completion)
-        ensures called { WasDrained F.drained (filter_in (numbered self.old.filters) self.old.desk.state.stack instance.0) completion }
+        ensures called { WasCalled (λ f. F.drained f completion) (filter_in (numbered self.old.filters) self.old.desk.state.stack instance.0) }
         ensures quiet { IsQuietIn F.is_quiet (filter_in (numbered self.old.filters) self.old.desk.state.stack instance.0) → self.new.desk ≡ self.old.desk }
+        ensures far { standing_of self.new.desk.state ≡ standing_of self.old.desk.state }
         ensures same { self.new ≡ record self.old { desk = self.new.desk } }
     {
         match self.filters.of(self.desk.state.filter_of(instance)) {
@@ -265,7 +274,7 @@ impl<F: Minifilter, B: Base> LocalManager<F, B> {
 
     /// Calls the query callback of an instance. Refused as the end of that callback is.
     pub(crate) fn query(&mut self, instance: InstanceId) -> Result<(), Status>
-        ensures ends { QueryEnds (MayAgree F.query_may (filter_in (numbered self.old.filters) self.old.desk.state.stack instance.0)) WORKER result }
+        ensures ends { EndsFrom self.old.desk.state (λ before. QueriesWith (MayAgree F.query_may (filter_in (numbered self.old.filters) self.old.desk.state.stack instance.0)) WORKER before result self.new.desk.state) }
         ensures quiet { ArePlainFilters F.pre_may F.post_may F.is_quiet (numbered self.old.filters) → QueriesWith (MayAgree F.query_may (filter_in (numbered self.old.filters) self.old.desk.state.stack instance.0)) WORKER self.old.desk.state result self.new.desk.state × (self.new.desk.resumed ≡ self.old.desk.resumed) }
         ensures kept { self.new ≡ record self.old { desk = self.new.desk; hand = self.new.hand; leaks = self.new.leaks } }
     {
@@ -280,6 +289,7 @@ impl<F: Minifilter, B: Base> LocalManager<F, B> {
     fn ask_query(&mut self, instance: InstanceId) -> bool
         ensures said { MayAgree F.query_may (filter_in (numbered self.old.filters) self.old.desk.state.stack instance.0) result }
         ensures quiet { IsQuietIn F.is_quiet (filter_in (numbered self.old.filters) self.old.desk.state.stack instance.0) → self.new.desk ≡ self.old.desk }
+        ensures far { standing_of self.new.desk.state ≡ standing_of self.old.desk.state }
         ensures same { self.new ≡ record self.old { desk = self.new.desk } }
     {
         match self.filters.of(self.desk.state.filter_of(instance)) {
@@ -294,23 +304,24 @@ impl<F: Minifilter, B: Base> LocalManager<F, B> {
         }
     }
 
-    /// Calls the callback that says that an instance's teardown starts.
-    pub(crate) fn start(&mut self, instance: InstanceId) -> Result<(), Status>
+    /// Calls the callback that says that an instance's teardown starts, which the worker has entered.
+    pub(crate) fn start(&mut self, instance: InstanceId)
         ensures called { WasCalled F.started (filter_in (numbered self.old.filters) self.old.desk.state.stack instance.0) }
-        ensures ends { (before : World) × StartReturns before WORKER result self.new.desk.state }
-        ensures quiet { ArePlainFilters F.pre_may F.post_may F.is_quiet (numbered self.old.filters) → StartReturns self.old.desk.state WORKER result self.new.desk.state × (self.new.desk.resumed ≡ self.old.desk.resumed) }
+        ensures ends { IsIn WORKER (place.Start instance) self.old.desk.state → EndsFrom self.old.desk.state (λ before. StartReturns before WORKER (Ok tt) self.new.desk.state) }
+        ensures quiet { ArePlainFilters F.pre_may F.post_may F.is_quiet (numbered self.old.filters) → IsIn WORKER (place.Start instance) self.old.desk.state → StartReturns self.old.desk.state WORKER (Ok tt) self.new.desk.state × (self.new.desk.resumed ≡ self.old.desk.resumed) }
         ensures kept { self.new ≡ record self.old { desk = self.new.desk; hand = self.new.hand; leaks = self.new.leaks } }
     {
         self.tell_start(instance);
         let before = look_at_hand(&self.desk.state, &mut self.hand);
-        let ended = self.desk.state.start_returned(WORKER);
+        // The worker is in the callback, so that its end isn't refused.
+        let _ = self.desk.state.start_returned(WORKER);
         self.note_left(before, Returning::of(Callback::Start, instance));
-        ended
     }
 
     fn tell_start(&mut self, instance: InstanceId)
         ensures called { WasCalled F.started (filter_in (numbered self.old.filters) self.old.desk.state.stack instance.0) }
         ensures quiet { IsQuietIn F.is_quiet (filter_in (numbered self.old.filters) self.old.desk.state.stack instance.0) → self.new.desk ≡ self.old.desk }
+        ensures far { standing_of self.new.desk.state ≡ standing_of self.old.desk.state }
         ensures same { self.new ≡ record self.old { desk = self.new.desk } }
     {
         match self.filters.of(self.desk.state.filter_of(instance)) {
@@ -325,23 +336,24 @@ impl<F: Minifilter, B: Base> LocalManager<F, B> {
         }
     }
 
-    /// Calls the callback that says that an instance's teardown is complete.
-    pub(crate) fn complete(&mut self, instance: InstanceId) -> Result<(), Status>
+    /// Calls the callback that says that an instance's teardown is complete, which the worker has entered.
+    pub(crate) fn complete(&mut self, instance: InstanceId)
         ensures called { WasCalled F.completed (filter_in (numbered self.old.filters) self.old.desk.state.stack instance.0) }
-        ensures ends { (before : World) × CompleteReturns before WORKER result self.new.desk.state }
-        ensures quiet { ArePlainFilters F.pre_may F.post_may F.is_quiet (numbered self.old.filters) → CompleteReturns self.old.desk.state WORKER result self.new.desk.state × (self.new.desk.resumed ≡ self.old.desk.resumed) }
+        ensures ends { IsIn WORKER (place.Complete instance) self.old.desk.state → EndsFrom self.old.desk.state (λ before. CompleteReturns before WORKER (Ok tt) self.new.desk.state) }
+        ensures quiet { ArePlainFilters F.pre_may F.post_may F.is_quiet (numbered self.old.filters) → IsIn WORKER (place.Complete instance) self.old.desk.state → CompleteReturns self.old.desk.state WORKER (Ok tt) self.new.desk.state × (self.new.desk.resumed ≡ self.old.desk.resumed) }
         ensures kept { self.new ≡ record self.old { desk = self.new.desk; hand = self.new.hand; leaks = self.new.leaks } }
     {
         self.tell_complete(instance);
         let before = look_at_hand(&self.desk.state, &mut self.hand);
-        let ended = self.desk.state.complete_returned(WORKER);
+        // The worker is in the callback, so that its end isn't refused.
+        let _ = self.desk.state.complete_returned(WORKER);
         self.note_left(before, Returning::of(Callback::Complete, instance));
-        ended
     }
 
     fn tell_complete(&mut self, instance: InstanceId)
         ensures called { WasCalled F.completed (filter_in (numbered self.old.filters) self.old.desk.state.stack instance.0) }
         ensures quiet { IsQuietIn F.is_quiet (filter_in (numbered self.old.filters) self.old.desk.state.stack instance.0) → self.new.desk ≡ self.old.desk }
+        ensures far { standing_of self.new.desk.state ≡ standing_of self.old.desk.state }
         ensures same { self.new ≡ record self.old { desk = self.new.desk } }
     {
         match self.filters.of(self.desk.state.filter_of(instance)) {

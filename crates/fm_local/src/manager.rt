@@ -8,6 +8,7 @@ ghost use Rattle.fm_local.specs.Calls.{LoadsAs, MountsAs};
 ghost use Rattle.fm_local.specs.Cleanups.{HasNoneDue, LeavesNoneDue};
 ghost use Rattle.fm_local.specs.Lending.{LendsBase};
 ghost use Rattle.fm_local.specs.Managers.{handed_in};
+ghost use Rattle.fm_local.specs.Places.{IsOut, StaysOut};
 ghost use Rattle.fm_world.specs.World.{empty_world};
 
 use crate::bounded::Bounded;
@@ -35,7 +36,7 @@ const KEPT: usize = 1024;
 
 /// A filter manager on one thread: filters as code, one file system of a type for each volume, and the manager's state, of which each thing that happens
 /// is one event. A call runs every callback that it leads to, carries on what these resume, and cleans up the contexts that are due before it returns: behind
-/// it none is, unless the worker is inside a callback still.
+/// it none is, and the worker is inside no callback.
 #[derive(Drop)]
 pub struct LocalManager<F, B> {
     pub(crate) alloc: Global,
@@ -54,6 +55,7 @@ impl<F: Minifilter, B: Base> LocalManager<F, B> {
         ensures empty { IfOk result (λ manager. (manager.desk.state ≡ empty_world) × (manager.filters.all ≡ filters) × (manager.bases.items ≡ [])) }
         ensures ready { IfOk result (λ manager. IsReady F.pre_may F.post_may F.is_quiet B.folder B.faults WORKER manager) }
         ensures none_due { IfOk result (λ manager. HasNoneDue WORKER manager.desk.state) }
+        ensures out { IfOk result (λ manager. IsOut WORKER manager.desk.state) }
         ensures memory { IfErr result (λ status. status ≡ Status.NoMemory) }
     {
         let resumed = Bounded::new(alloc, UNDER_WAY)?;
@@ -123,6 +125,7 @@ impl<F: Minifilter, B: Base> LocalManager<F, B> {
         ensures event { LoadsAs F.registers self.old.filters self.old.desk.state name.now result self.new.desk.state }
         ensures ready { ArePlainFilters F.pre_may F.post_may F.is_quiet (handed_in self.old.filters) → IsReady F.pre_may F.post_may F.is_quiet B.folder B.faults WORKER self.old → IsReady F.pre_may F.post_may F.is_quiet B.folder B.faults WORKER self.new }
         ensures none_due { LeavesNoneDue WORKER self.old.desk.state self.new.desk.state }
+        ensures out { StaysOut WORKER self.old.desk.state self.new.desk.state }
         ensures kept { (self.new.filters.all ≡ self.old.filters.all) × (self.new.bases ≡ self.old.bases) }
     {
         let place = self.filters.place(name)?;
@@ -144,6 +147,7 @@ impl<F: Minifilter, B: Base> LocalManager<F, B> {
         ensures refused { IfErr result (λ _. self.new.bases.items ≡ self.old.bases.items) }
         ensures ready { IsReady F.pre_may F.post_may F.is_quiet B.folder B.faults WORKER self.old → IsReady F.pre_may F.post_may F.is_quiet B.folder B.faults WORKER self.new }
         ensures none_due { LeavesNoneDue WORKER self.old.desk.state self.new.desk.state }
+        ensures out { StaysOut WORKER self.old.desk.state self.new.desk.state }
         ensures kept { self.new.filters ≡ self.old.filters }
     {
         self.bases.reserve(1)?;

@@ -10,6 +10,7 @@ ghost use Rattle.fm_local.specs.Actions.{Acts, AnswersIn, ArePlainFilters, Carri
 ghost use Rattle.fm_local.specs.Bases.{BasesCarry};
 ghost use Rattle.fm_local.specs.Cleanups.{HasNoneDue, LeavesNoneDue};
 ghost use Rattle.fm_local.specs.Managers.{numbered};
+ghost use Rattle.fm_local.specs.Places.{EndsOut, StaysOut};
 ghost use Rattle.fm_local.specs.Requests.{Tidies};
 ghost use Rattle.fm_local.specs.Turns.{Does};
 ghost use Rattle.fm_world.specs.Events.{BaseReturns, Collects};
@@ -52,6 +53,7 @@ impl<F: Minifilter, B: Base> LocalManager<F, B> {
         ensures fold { IsReady F.pre_may F.post_may F.is_quiet B.folder B.faults WORKER self.old → AnswersIn F.pre_may F.post_may F.is_quiet B.folder B.faults WORKER request self.old result self.new }
         ensures refused { RefusesIn request self.old result self.new }
         ensures none_due { LeavesNoneDue WORKER self.old.desk.state self.new.desk.state }
+        ensures out { StaysOut WORKER self.old.desk.state self.new.desk.state }
     {
         self.desk.state.laws();
         match closed_handle(&request) {
@@ -64,6 +66,7 @@ impl<F: Minifilter, B: Base> LocalManager<F, B> {
     pub fn finished(&mut self) -> Option<(OpId, Reply)>
         ensures first { GivesFinished self.old result self.new }
         ensures none_due { LeavesNoneDue WORKER self.old.desk.state self.new.desk.state }
+        ensures out { StaysOut WORKER self.old.desk.state self.new.desk.state }
         ensures kept { (self.new.filters ≡ self.old.filters) × (self.new.bases ≡ self.old.bases) × (self.new.desk.resumed ≡ self.old.desk.resumed) }
     {
         let operation = self.finished.take()?;
@@ -75,6 +78,7 @@ impl<F: Minifilter, B: Base> LocalManager<F, B> {
         ensures fold { IsReady F.pre_may F.post_may F.is_quiet B.folder B.faults WORKER self.old → AnswersIn F.pre_may F.post_may F.is_quiet B.folder B.faults WORKER (client.OnHandle handle asked.Close) self.old result self.new }
         ensures refused { RefusesIn (client.OnHandle handle asked.Close) self.old result self.new }
         ensures none_due { LeavesNoneDue WORKER self.old.desk.state self.new.desk.state }
+        ensures out { StaysOut WORKER self.old.desk.state self.new.desk.state }
     {
         self.desk.state.laws();
         let cleanup = self.perform(Request::OnHandle {
@@ -95,6 +99,7 @@ impl<F: Minifilter, B: Base> LocalManager<F, B> {
         ensures does { IsReady F.pre_may F.post_may F.is_quiet B.folder B.faults WORKER self.old → PerformsIn F.pre_may F.post_may F.is_quiet B.folder B.faults WORKER request self.old result self.new }
         ensures refused { RefusesOne request self.old result self.new }
         ensures none_due { LeavesNoneDue WORKER self.old.desk.state self.new.desk.state }
+        ensures out { StaysOut WORKER self.old.desk.state self.new.desk.state }
     {
         self.desk.state.laws();
         match self.desk.state.begin(request) {
@@ -107,6 +112,7 @@ impl<F: Minifilter, B: Base> LocalManager<F, B> {
     fn run(&mut self, operation: OpId) -> Reply
         ensures runs { ArePlainFilters F.pre_may F.post_may F.is_quiet (numbered self.old.filters) → IsBegun WORKER operation self.old.desk.state → self.old.desk.resumed.items.items ≡ [] → RunsIn F.pre_may F.post_may F.is_quiet B.folder B.faults WORKER operation self.old result self.new }
         ensures none_due { HasNoneDue WORKER self.new.desk.state }
+        ensures out { StaysOut WORKER self.old.desk.state self.new.desk.state }
     {
         let ended = self.carry(operation);
         let reply = self.reply_after(operation, ended);
@@ -118,6 +124,7 @@ impl<F: Minifilter, B: Base> LocalManager<F, B> {
     fn reply_after(&mut self, operation: OpId, ended: Turn) -> Reply
         ensures answer { ended ≡ Turn.Done → (collected : Result Answer Status) × Collects self.old.desk.state operation collected self.new.desk.state × (result ≡ reply_of collected) }
         ensures kept { self.new ≡ record self.old { desk = record self.old.desk { state = self.new.desk.state }; trace = self.new.trace } }
+        ensures out { StaysOut WORKER self.old.desk.state self.new.desk.state }
     {
         match ended {
             Turn::Done => self.reply(operation),
@@ -140,6 +147,7 @@ impl<F: Minifilter, B: Base> LocalManager<F, B> {
     fn reply(&mut self, operation: OpId) -> Reply
         ensures answer { (collected : Result Answer Status) × Collects self.old.desk.state operation collected self.new.desk.state × (result ≡ reply_of collected) }
         ensures kept { self.new ≡ record self.old { desk = record self.old.desk { state = self.new.desk.state }; trace = self.new.trace } }
+        ensures out { StaysOut WORKER self.old.desk.state self.new.desk.state }
     {
         match self.desk.state.collect(operation) {
             Ok(
@@ -166,6 +174,7 @@ impl<F: Minifilter, B: Base> LocalManager<F, B> {
         ensures quiet { ResumesNone F.pre_may F.post_may F.is_quiet B.folder B.faults WORKER self.old self.new }
         ensures kept { self.new ≡ record self.old { desk = self.new.desk; bases = self.new.bases; trace = self.new.trace; hand = self.new.hand; leaks = self.new.leaks } }
         ensures at_once { IsDoneAt WORKER operation self.old.desk.state → (result ≡ Turn.Done) × (self.new ≡ self.old) }
+        ensures out { StaysOut WORKER self.old.desk.state self.new.desk.state }
     {
         for _made in 0..TURNS {
             match self.turn(operation) {
@@ -182,7 +191,9 @@ impl<F: Minifilter, B: Base> LocalManager<F, B> {
         ensures quiet { ArePlainFilters F.pre_may F.post_may F.is_quiet (numbered self.old.filters) → self.new.desk.resumed ≡ self.old.desk.resumed }
         ensures kept { self.new ≡ record self.old { desk = self.new.desk; bases = self.new.bases; trace = self.new.trace; hand = self.new.hand; leaks = self.new.leaks } }
         ensures at_once { IsDoneAt WORKER operation self.old.desk.state → (result ≡ Turn.Done) × (self.new ≡ self.old) }
+        ensures out { StaysOut WORKER self.old.desk.state self.new.desk.state }
     {
+        self.desk.state.laws();
         let said = self.desk.state.next(WORKER, operation);
         self.act(operation, said)
     }
@@ -193,6 +204,7 @@ impl<F: Minifilter, B: Base> LocalManager<F, B> {
         ensures quiet { ArePlainFilters F.pre_may F.post_may F.is_quiet (numbered self.old.filters) → self.new.desk.resumed ≡ self.old.desk.resumed }
         ensures kept { self.new ≡ record self.old { desk = self.new.desk; bases = self.new.bases; trace = self.new.trace; hand = self.new.hand; leaks = self.new.leaks } }
         ensures at_once { said ≡ Ok step.Done → (result ≡ Turn.Done) × (self.new ≡ self.old) }
+        ensures out { EndsOut WORKER operation said self.old.desk.state self.new.desk.state }
     {
         match said {
             Ok(Action::Pre(instance, data)) => {
@@ -223,6 +235,7 @@ impl<F: Minifilter, B: Base> LocalManager<F, B> {
         ensures does { Does F.pre_may F.post_may (BasesCarry B.folder B.faults) (numbered self.old.filters) WORKER operation (Ok (step.Base call)) self.old.desk.state self.old.bases.items self.new.desk.state self.new.bases.items }
         ensures quiet { self.new.desk.resumed ≡ self.old.desk.resumed }
         ensures kept { self.new ≡ record self.old { desk = self.new.desk; bases = self.new.bases; trace = self.new.trace } }
+        ensures out { EndsOut WORKER operation (Ok (step.Base call)) self.old.desk.state self.new.desk.state }
     {
         let answer = call_on(self.alloc, &mut self.bases, &call);
         self.note(operation, Visit::Base(answer.status));
@@ -246,6 +259,7 @@ impl<F: Minifilter, B: Base> LocalManager<F, B> {
         ensures carries_on { (o : OpId) → WaitsAtEnd F.pre_may F.post_may F.is_quiet B.folder B.faults WORKER o self.old → self.new.finished.items.items ≡ self.old.finished.items.items ++ o ∷ [] }
         ensures kept { self.old.desk.resumed.items.items ≡ [] → (self.new.bases ≡ self.old.bases) × (self.new.filters ≡ self.old.filters) × (self.new.desk.resumed.items.items ≡ []) }
         ensures none_due { HasNoneDue WORKER self.new.desk.state }
+        ensures out { StaysOut WORKER self.old.desk.state self.new.desk.state }
     {
         self.carry_on_resumed();
         self.clean_up();
@@ -255,6 +269,7 @@ impl<F: Minifilter, B: Base> LocalManager<F, B> {
     fn carry_on_resumed(&mut self)
         ensures none { self.old.desk.resumed.items.items ≡ [] → self.new ≡ self.old }
         ensures one { (o : OpId) → WaitsAtEnd F.pre_may F.post_may F.is_quiet B.folder B.faults WORKER o self.old → self.new.finished.items.items ≡ self.old.finished.items.items ++ o ∷ [] }
+        ensures out { StaysOut WORKER self.old.desk.state self.new.desk.state }
     {
         if self.desk.resumed.is_empty() {
             return;
@@ -269,7 +284,8 @@ impl<F: Minifilter, B: Base> LocalManager<F, B> {
 
     // Carries on an operation that was resumed, and notes its end.
     fn carry_on(&mut self, operation: OpId)
-        ensures { IsDoneAt WORKER operation self.old.desk.state → length self.old.finished.items.items < deque_capacity self.old.finished.items → (self.new.desk ≡ self.old.desk) × (self.new.finished.items.items ≡ self.old.finished.items.items ++ operation ∷ []) }
+        ensures at_end { IsDoneAt WORKER operation self.old.desk.state → length self.old.finished.items.items < deque_capacity self.old.finished.items → (self.new.desk ≡ self.old.desk) × (self.new.finished.items.items ≡ self.old.finished.items.items ++ operation ∷ []) }
+        ensures out { StaysOut WORKER self.old.desk.state self.new.desk.state }
     {
         if let Turn::Done = self.carry(operation) {
             self.finished.put(operation);

@@ -1,16 +1,18 @@
 //! How instances come and go, with all callbacks in between.
 
-ghost use Rattle.std.specs.Prelude.{◌≡◌, ◌⊎◌, false, true, [], Err, IfErr, IsOk, length, slice_get};
+ghost use Rattle.std.specs.Prelude.{◌≡◌, Bool, false, true, [], Err, IfErr, IsOk, length, slice_get};
 ghost use Rattle.fm_local.specs.Actions.{ArePlainFilters, IsReady};
 ghost use Rattle.fm_local.specs.Calls.{AgreesAt, Asks, AsksToUnload, AttachesAs, DetachesAs, FilterEnds, MayAgree, SetupEnds, TornDown, UnloadsAs, is_leaving, is_unloading};
 ghost use Rattle.fm_local.specs.Cleanups.{HasNoneDue, LeavesNoneDue};
 ghost use Rattle.fm_local.specs.Drains.{DrainsAll, DrainsSome, StartsAndDrains, TellsEnd};
 ghost use Rattle.fm_local.specs.Managers.{numbered};
-ghost use Rattle.fm_local.specs.Quietly.{AsksQuietly, AttachesQuietly, CompletesQuietly, DetachesQuietly, EndsQuietly, IsSettled, LeavesReady, SetUpQuietly, StartsQuietly, TearsDownFirst, TearsDownIf, TearsDownQuietly, UnloadsQuietly, WasTold, is_to_go};
+ghost use Rattle.fm_local.specs.Places.{ComesOut, StaysOut};
+ghost use Rattle.fm_local.specs.Quietly.{AsksQuietly, AttachesQuietly, CompletesQuietly, DetachesQuietly, EndsQuietly, IsSettled, LeavesReady, SetUpQuietly, StartsAlone, StartsQuietly, TearsDownFirst, TearsDownIf, TearsDownQuietly, UnloadsQuietly, WasTold, is_to_go};
 ghost use Rattle.fm_local.specs.Requests.{IsAtRest};
 ghost use Rattle.fm_world.specs.Events.{is_stopping_row};
-ghost use Rattle.fm_world.specs.Teardowns.{CompleteReturns, CompletesTeardown, StartReturns};
+ghost use Rattle.fm_world.specs.Teardowns.{CompletesTeardown};
 ghost use Rattle.fm_world.specs.World.{World};
+ghost use Rattle.fm_world.specs.declared.worker.Worker.TheVariants as place;
 ghost use Rattle.fm_types.specs.declared.ids.InstanceId.{InstanceId};
 
 use crate::manager::{LocalManager, WORKER};
@@ -38,6 +40,7 @@ impl<F: Minifilter, B: Base> LocalManager<F, B> {
         ensures quiet { IsReady F.pre_may F.post_may F.is_quiet B.folder B.faults WORKER self.old → AttachesQuietly (AgreesAt F.setup_may self.old.filters) self.old.desk.state WORKER filter volume name altitude result self.new.desk.state }
         ensures ready { IsReady F.pre_may F.post_may F.is_quiet B.folder B.faults WORKER self.old → LeavesReady F.pre_may F.post_may F.is_quiet B.folder B.faults WORKER self.old self.new }
         ensures none_due { LeavesNoneDue WORKER self.old.desk.state self.new.desk.state }
+        ensures out { StaysOut WORKER self.old.desk.state self.new.desk.state }
     {
         let instance = self
             .desk
@@ -51,9 +54,10 @@ impl<F: Minifilter, B: Base> LocalManager<F, B> {
 
     // The setup of a new instance, which is detached again where that is refused.
     fn set_up(&mut self, instance: InstanceId) -> Result<(), Status>
-        ensures ends { SetupEnds (AgreesAt F.setup_may self.old.filters self.old.desk.state instance) WORKER result }
+        ensures ends { SetupEnds (AgreesAt F.setup_may self.old.filters self.old.desk.state instance) WORKER self.old.desk.state result }
         ensures quiet { ArePlainFilters F.pre_may F.post_may F.is_quiet (numbered self.old.filters) → self.old.desk.resumed.items.items ≡ [] → SetUpQuietly WORKER instance (AgreesAt F.setup_may self.old.filters self.old.desk.state instance) self.old.desk.state result self.new.desk.state × IsSettled self.old self.new }
         ensures none_due { HasNoneDue WORKER self.new.desk.state }
+        ensures out { ComesOut WORKER (place.Setup instance) self.old.desk.state self.new.desk.state }
     {
         let accepted = self.setup(instance);
         self.settle();
@@ -73,6 +77,7 @@ impl<F: Minifilter, B: Base> LocalManager<F, B> {
         ensures quiet { IsReady F.pre_may F.post_may F.is_quiet B.folder B.faults WORKER self.old → DetachesQuietly WORKER instance (AgreesAt F.query_may self.old.filters) self.old.desk.state result self.new.desk.state }
         ensures ready { IsReady F.pre_may F.post_may F.is_quiet B.folder B.faults WORKER self.old → LeavesReady F.pre_may F.post_may F.is_quiet B.folder B.faults WORKER self.old self.new }
         ensures none_due { LeavesNoneDue WORKER self.old.desk.state self.new.desk.state }
+        ensures out { StaysOut WORKER self.old.desk.state self.new.desk.state }
     {
         if self.is_leaving(instance) {
             return self.tear_down(instance);
@@ -89,6 +94,7 @@ impl<F: Minifilter, B: Base> LocalManager<F, B> {
         ensures quiet { IsReady F.pre_may F.post_may F.is_quiet B.folder B.faults WORKER self.old → UnloadsQuietly WORKER filter (MayAgree F.unload_may (numbered self.old.filters filter.0)) self.old.desk.state result self.new.desk.state }
         ensures ready { IsReady F.pre_may F.post_may F.is_quiet B.folder B.faults WORKER self.old → LeavesReady F.pre_may F.post_may F.is_quiet B.folder B.faults WORKER self.old self.new }
         ensures none_due { LeavesNoneDue WORKER self.old.desk.state self.new.desk.state }
+        ensures out { StaysOut WORKER self.old.desk.state self.new.desk.state }
     {
         if self.is_unloading(filter) {
             return self.end(filter);
@@ -102,6 +108,7 @@ impl<F: Minifilter, B: Base> LocalManager<F, B> {
         ensures asks { AsksToUnload (MayAgree F.unload_may (numbered self.old.filters filter.0)) self.old.desk.state WORKER filter result self.new.desk.state }
         ensures kept { self.new ≡ record self.old { desk = record self.old.desk { state = self.new.desk.state } } }
         ensures none_due { LeavesNoneDue WORKER self.old.desk.state self.new.desk.state }
+        ensures out { StaysOut WORKER self.old.desk.state self.new.desk.state }
     {
         self.desk.state.ask_unload(WORKER, filter)?;
         self.unloading(filter)
@@ -112,6 +119,7 @@ impl<F: Minifilter, B: Base> LocalManager<F, B> {
         ensures ends { FilterEnds WORKER filter result self.new.desk.state }
         ensures quiet { ArePlainFilters F.pre_may F.post_may F.is_quiet (numbered self.old.filters) → IsAtRest WORKER self.old.desk.state → self.old.desk.resumed.items.items ≡ [] → EndsQuietly WORKER filter self.old.desk.state result self.new.desk.state × IsSettled self.old self.new }
         ensures none_due { LeavesNoneDue WORKER self.old.desk.state self.new.desk.state }
+        ensures out { StaysOut WORKER self.old.desk.state self.new.desk.state }
     {
         self.tear_down_all(filter)?;
         self.desk.state.empty_filter(filter)?;
@@ -124,6 +132,7 @@ impl<F: Minifilter, B: Base> LocalManager<F, B> {
         ensures asks { Asks (AgreesAt F.query_may self.old.filters) self.old.desk.state WORKER instance result }
         ensures quiet { ArePlainFilters F.pre_may F.post_may F.is_quiet (numbered self.old.filters) → self.old.desk.resumed.items.items ≡ [] → AsksQuietly WORKER instance (AgreesAt F.query_may self.old.filters) self.old.desk.state result self.new.desk.state × IsSettled self.old self.new }
         ensures none_due { LeavesNoneDue WORKER self.old.desk.state self.new.desk.state }
+        ensures out { StaysOut WORKER self.old.desk.state self.new.desk.state }
     {
         self.desk.state.ask_detach(WORKER, instance)?;
         let allowed = self.query(instance);
@@ -163,6 +172,7 @@ impl<F: Minifilter, B: Base> LocalManager<F, B> {
         ensures stops { IfErr result (λ status. (i : InstanceId) × TornDown WORKER i (Err status) self.new.desk.state) }
         ensures quiet { ArePlainFilters F.pre_may F.post_may F.is_quiet (numbered self.old.filters) → IsAtRest WORKER self.old.desk.state → self.old.desk.resumed.items.items ≡ [] → IsOk result × TearsDownFirst WORKER filter (length self.old.desk.state.stack.instances) self.old.desk.state self.new.desk.state × IsSettled self.old self.new }
         ensures none_due { LeavesNoneDue WORKER self.old.desk.state self.new.desk.state }
+        ensures out { StaysOut WORKER self.old.desk.state self.new.desk.state }
     {
         self.desk.state.laws();
         for at in 0..u16::try_from(self.desk.state.instances()).unwrap_or(u16::MAX) {
@@ -176,6 +186,7 @@ impl<F: Minifilter, B: Base> LocalManager<F, B> {
         ensures stops { IfErr result (λ status. TornDown WORKER instance (Err status) self.new.desk.state) }
         ensures quiet { ArePlainFilters F.pre_may F.post_may F.is_quiet (numbered self.old.filters) → IsAtRest WORKER self.old.desk.state → self.old.desk.resumed.items.items ≡ [] → IsOk result × TearsDownIf WORKER filter (is_to_go filter self.old.desk.state instance) instance self.old.desk.state self.new.desk.state × IsSettled self.old self.new }
         ensures none_due { LeavesNoneDue WORKER self.old.desk.state self.new.desk.state }
+        ensures out { StaysOut WORKER self.old.desk.state self.new.desk.state }
     {
         if self.is_to_go(filter, instance) {
             return self.tear_down(instance);
@@ -199,53 +210,67 @@ impl<F: Minifilter, B: Base> LocalManager<F, B> {
         ensures quiet { ArePlainFilters F.pre_may F.post_may F.is_quiet (numbered self.old.filters) → IsAtRest WORKER self.old.desk.state → self.old.desk.resumed.items.items ≡ [] → TearsDownQuietly WORKER instance self.old.desk.state result self.new.desk.state × IsSettled self.old self.new }
         ensures goes { ArePlainFilters F.pre_may F.post_may F.is_quiet (numbered self.old.filters) → IsAtRest WORKER self.old.desk.state → self.old.desk.resumed.items.items ≡ [] → is_leaving self.old.desk.state instance ≡ true → IsOk result }
         ensures none_due { LeavesNoneDue WORKER self.old.desk.state self.new.desk.state }
+        ensures out { StaysOut WORKER self.old.desk.state self.new.desk.state }
     {
         self.desk.state.laws();
-        self.begin_teardown(instance)?;
+        self.begin_teardown(instance);
         self.end_teardown(instance)?;
         self.clean_up();
         self.desk.state.laws();
         self.desk.state.finish(instance)
     }
 
-    // The start of an instance's teardown, unless it was made before.
-    fn begin_teardown(&mut self, instance: InstanceId) -> Result<(), Status>
-        ensures stops { IfErr result (λ status. (before after : World) × StartReturns before WORKER (Err status) after) }
-        ensures drains { StartsAndDrains F.drained (numbered self.old.filters) WORKER instance F.started DRAINED self.old.desk.state }
-        ensures quiet { ArePlainFilters F.pre_may F.post_may F.is_quiet (numbered self.old.filters) → IsAtRest WORKER self.old.desk.state → self.old.desk.resumed.items.items ≡ [] → IsOk result × StartsQuietly WORKER instance self.old.desk.state self.new.desk.state × IsSettled self.old self.new }
+    // The start of an instance's teardown, unless it was made before, with all that its callbacks resumed.
+    fn begin_teardown(&mut self, instance: InstanceId)
+        ensures drains { (starts : Bool) × (drained : World) × StartsAndDrains F.drained (numbered self.old.filters) WORKER instance F.started DRAINED starts self.old.desk.state drained }
+        ensures quiet { ArePlainFilters F.pre_may F.post_may F.is_quiet (numbered self.old.filters) → IsAtRest WORKER self.old.desk.state → self.old.desk.resumed.items.items ≡ [] → StartsQuietly WORKER instance self.old.desk.state self.new.desk.state × IsSettled self.old self.new }
         ensures none_due { LeavesNoneDue WORKER self.old.desk.state self.new.desk.state }
+        ensures out { StaysOut WORKER self.old.desk.state self.new.desk.state }
+    {
+        if self.start_and_drain(instance) {
+            self.settle();
+        }
+    }
+
+    // The start alone: the filter is told, and lets go of all that it waits for. False where it can't start, or did before.
+    fn start_and_drain(&mut self, instance: InstanceId) -> bool
+        ensures drains { StartsAndDrains F.drained (numbered self.old.filters) WORKER instance F.started DRAINED result self.old.desk.state self.new.desk.state }
+        ensures quiet { ArePlainFilters F.pre_may F.post_may F.is_quiet (numbered self.old.filters) → IsAtRest WORKER self.old.desk.state → result ≡ true → StartsAlone WORKER instance self.old self.new }
+        ensures none { result ≡ false → self.new ≡ self.old }
+        ensures out { StaysOut WORKER self.old.desk.state self.new.desk.state }
     {
         match self.desk.state.start_teardown(WORKER, instance) {
             Ok(()) => {
-                let started = self.start(instance);
+                self.start(instance);
                 self.drain_all(instance);
-                self.settle();
-                started
+                true
             }
-            Err(_) => Ok(()),
+            Err(_) => false,
         }
     }
 
     // The completion of an instance's teardown, where it is stopping.
     fn end_teardown(&mut self, instance: InstanceId) -> Result<(), Status>
-        ensures stops { IfErr result (λ status. ((before : World) × CompletesTeardown before WORKER instance (Err status) self.new.desk.state) ⊎ ((before after : World) × CompleteReturns before WORKER (Err status) after)) }
+        ensures stops { IfErr result (λ status. CompletesTeardown self.old.desk.state WORKER instance (Err status) self.new.desk.state) }
         ensures tells { TellsEnd WORKER instance F.completed (numbered self.old.filters) (is_stopping_row (slice_get self.old.desk.state.stack.instances instance.0)) self.old.desk.state }
         ensures quiet { ArePlainFilters F.pre_may F.post_may F.is_quiet (numbered self.old.filters) → IsAtRest WORKER self.old.desk.state → self.old.desk.resumed.items.items ≡ [] → WasTold instance self.old.desk.state.stack → IsOk result × CompletesQuietly WORKER instance self.old.desk.state self.new.desk.state × IsSettled self.old self.new }
         ensures none_due { LeavesNoneDue WORKER self.old.desk.state self.new.desk.state }
+        ensures out { StaysOut WORKER self.old.desk.state self.new.desk.state }
     {
         if !self.is_stopping(instance) {
             return Ok(());
         }
         self.desk.state.complete_teardown(WORKER, instance)?;
-        let completed = self.complete(instance);
+        self.complete(instance);
         self.settle();
-        completed
+        Ok(())
     }
 
     // Has a stopping instance let go of all that it waits for.
     fn drain_all(&mut self, instance: InstanceId)
         ensures drains { DrainsAll F.drained (numbered self.old.filters) WORKER instance DRAINED self.old.desk.state self.new.desk.state }
         ensures none { self.old.desk.state.flow.operations ≡ [] → self.new ≡ self.old }
+        ensures out { StaysOut WORKER self.old.desk.state self.new.desk.state }
     {
         for _made in 0..DRAINED {
             if !self.drain_first(instance) {
@@ -259,6 +284,7 @@ impl<F: Minifilter, B: Base> LocalManager<F, B> {
         ensures drains { DrainsSome F.drained (numbered self.old.filters) WORKER instance result self.old.desk.state self.new.desk.state }
         ensures filters { self.new.filters ≡ self.old.filters }
         ensures none { self.old.desk.state.flow.operations ≡ [] → (result ≡ false) × (self.new ≡ self.old) }
+        ensures out { StaysOut WORKER self.old.desk.state self.new.desk.state }
     {
         match self.desk.state.drain_take(WORKER, instance) {
             Ok(Some((operation, completion))) => {

@@ -1,3 +1,5 @@
+use Rattle.fm_local.proofs.Resting.{ask_unload_refused}
+use Rattle.fm_local.proofs.Places.{same_out, unload_out, unloading_in}
 use Rattle.fm_local.proofs.NoneDue.{none_agreed, none_refused}
 use Rattle.fm_local.specs.Calls.{MayAgree}
 use Rattle.fm_local.specs.Managers.{numbered}
@@ -12,3 +14,13 @@ pub returns-clause-none_due : goal.returns-clause-none_due
 returns-clause-none_due g c =
     none_agreed WORKER (MayAgree g.F.Minifilter.unload_may (numbered c.args.self.now.filters c.args.filter.0)) c.args.self.now.desk.state c.args.filter c.ask_unload.new.self c.in_ok-ask_unload.ensures.event
     c.unloading.result c.unloading.new.self.desk.state c.unloading.ensures.event
+
+pub returns-in_err-ask_unload-clause-out : goal.returns-in_err-ask_unload-clause-out
+returns-in_err-ask_unload-clause-out g c =
+    same_out WORKER c.args.self.now.desk.state c.ask_unload.new.self
+    (ask_unload_refused c.args.self.now.desk.state WORKER c.args.filter c.in_err-ask_unload.field-0.0 c.ask_unload.new.self c.in_err-ask_unload.ensures.event)
+
+pub returns-clause-out : goal.returns-clause-out
+returns-clause-out g c out =
+    unload_out WORKER c.ask_unload.new.self c.unloading.new.self.desk.state c.unloading.result (MayAgree g.F.Minifilter.unload_may (numbered c.args.self.now.filters c.args.filter.0)) c.args.filter
+    (unloading_in WORKER c.args.self.now.desk.state c.args.filter c.ask_unload.new.self c.in_ok-ask_unload.ensures.event) c.unloading.ensures.event

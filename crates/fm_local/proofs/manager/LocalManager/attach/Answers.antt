@@ -1,6 +1,8 @@
+use Rattle.fm_local.proofs.Places.{attached_in, same_out}
 use Rattle.std.specs.Prelude.{Err, Ok}
 use Rattle.fm_local.proofs.NoneDue.{none_attached}
 use Rattle.fm_local.proofs.Readied.{attach_leaves, attach_leaves_none}
+use Rattle.fm_local.proofs.Resting.{attach_refused}
 use Rattle.fm_local.proofs.manager.LocalManager.attach.Goals as goal
 use Rattle.fm_local.specs.Calls.{AgreesAt}
 use Rattle.fm_local.specs.declared.manager.TheConstants.{WORKER}
@@ -29,3 +31,16 @@ returns-in-Err-clause-ready g c ready =
 pub returns-in_err-instance-clause-none_due : goal.returns-in_err-instance-clause-none_due
 returns-in_err-instance-clause-none_due g c =
     none_attached WORKER c.args.self.now.desk.state c.args.filter c.args.volume c.args.name c.args.altitude c.in_err-instance.field-0.0 c.attach.new.self c.in_err-instance.ensures.event
+
+pub returns-in_err-instance-clause-out : goal.returns-in_err-instance-clause-out
+returns-in_err-instance-clause-out g c =
+    same_out WORKER c.args.self.now.desk.state c.attach.new.self
+    (attach_refused c.args.self.now.desk.state WORKER c.args.filter c.args.volume c.args.name c.args.altitude c.in_err-instance.field-0.0 c.attach.new.self c.in_err-instance.ensures.event)
+
+pub returns-in-Ok-clause-out : goal.returns-in-Ok-clause-out
+returns-in-Ok-clause-out g c out =
+    c.set_up.ensures.out (attached_in WORKER c.args.self.now.desk.state c.args.filter c.args.volume c.args.name c.args.altitude c.in_ok-instance.instance c.attach.new.self c.in_ok-instance.ensures.event)
+
+pub returns-in-Err-clause-out : goal.returns-in-Err-clause-out
+returns-in-Err-clause-out g c out =
+    c.set_up.ensures.out (attached_in WORKER c.args.self.now.desk.state c.args.filter c.args.volume c.args.name c.args.altitude c.in_ok-instance.instance c.attach.new.self c.in_ok-instance.ensures.event)

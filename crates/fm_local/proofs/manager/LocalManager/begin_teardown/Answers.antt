@@ -1,51 +1,40 @@
-use Rattle.fm_local.proofs.NoneDue.{none_started}
-use Rattle.std.specs.Prelude.{IsOk, Result}
-use Rattle.std.proofs.Common.{inl, inr, refl, sym, ap, subst, ◌∙◌}
-use Rattle.fm_types.specs.declared.status.Status.{Status}
-use Rattle.fm_local.proofs.Leaving.{start_flow, start_ok}
-use Rattle.fm_local.proofs.Readied.{settled_after, start_stops}
+use Rattle.std.proofs.Common.{inl, inr, ap, subst, ◌∙◌}
+use Rattle.fm_local.proofs.NoneDue.{none_same}
+use Rattle.fm_local.proofs.Readied.{settled_after}
 use Rattle.fm_local.proofs.manager.LocalManager.begin_teardown.Goals as goal
-use Rattle.fm_local.specs.Drains.{DrainsAll}
+use Rattle.fm_local.specs.Drains.{StartsAndDrains}
 use Rattle.fm_local.specs.Managers.{numbered}
-use Rattle.fm_local.specs.Requests.{Tidies}
 use Rattle.fm_local.specs.declared.manager.TheConstants.{WORKER}
 use Rattle.fm_local.specs.declared.teardowns.TheConstants.{DRAINED}
-use Rattle.fm_world.specs.Teardowns.{StartReturns}
-use Rattle.fm_world.specs.World.{World}
 
-pub returns-in-Ok-clause-stops : goal.returns-in-Ok-clause-stops
-returns-in-Ok-clause-stops g c = start_stops WORKER c.start-started.result c.start-started.new.self.desk.state c.start-started.ensures.ends
+pub returns-then-start_and_drain-clause-drains : goal.returns-then-start_and_drain-clause-drains
+returns-then-start_and_drain-clause-drains g c = (c.start_and_drain.result, c.start_and_drain.new.self.desk.state, c.start_and_drain.ensures.drains)
 
-pub returns-in-Ok-clause-quiet : goal.returns-in-Ok-clause-quiet
-returns-in-Ok-clause-quiet g c plain rests settled =
-    let old = c.args.self.now in
-    let started = c.start_teardown.new.self in
-    let back = c.start-started.new.self.desk.state in
-    let quiet = c.start-started.ensures.quiet plain in
-    let kept = c.start-started.ensures.kept in
-    let ok = start_ok WORKER c.args.instance old.desk.state rests.idle started c.in-Ok.ensures.event c.start-started.result back quiet.0 in
-    let returns = subst (λ (r : Result (Unit {0}) Status). StartReturns started WORKER r back) ok quiet.0 in
-    let flow = start_flow WORKER c.args.instance old.desk.state rests.idle started c.in-Ok.ensures.event back returns in
-    let same = c.drain_all.ensures.none (ap (λ f. f.operations) flow ∙ rests.operations) in
+pub returns-else-start_and_drain-clause-drains : goal.returns-else-start_and_drain-clause-drains
+returns-else-start_and_drain-clause-drains g c = (c.start_and_drain.result, c.start_and_drain.new.self.desk.state, c.start_and_drain.ensures.drains)
+
+pub returns-then-start_and_drain-clause-quiet : goal.returns-then-start_and_drain-clause-quiet
+returns-then-start_and_drain-clause-quiet g c plain rests settled =
+    let alone = c.start_and_drain.ensures.quiet plain rests c.if-start_and_drain.true in
     let after =
-    settled_after old c.drain_all.new.self c.settle.new.self (ap (λ m. m.desk.resumed) same ∙ quiet.1) (ap (λ m. m.bases) same ∙ ap (λ m. m.bases) kept)
-    (ap (λ m. m.filters) same ∙ ap (λ m. m.filters) kept) settled c.settle.ensures.tidies c.settle.ensures.kept in
-    let tidies = subst (λ (w : World). Tidies w c.settle.new.self.desk.state) (ap (λ m. m.desk.state) same) after.0 in
-    (subst (λ (r : Result (Unit {0}) Status). IsOk r) (sym ok) refl, inr (started, back, c.in-Ok.ensures.event, returns, tidies), after.1)
+    settled_after c.args.self.now c.start_and_drain.new.self c.settle.new.self alone.resumed alone.bases alone.filters settled c.settle.ensures.tidies c.settle.ensures.kept in
+    (inr (alone.started, c.start_and_drain.new.self.desk.state, alone.starts, alone.returns, after.0), after.1)
 
-pub returns-in-Ok-clause-none_due : goal.returns-in-Ok-clause-none_due
-returns-in-Ok-clause-none_due g c before = c.settle.ensures.none_due
+pub returns-else-start_and_drain-clause-quiet : goal.returns-else-start_and_drain-clause-quiet
+returns-else-start_and_drain-clause-quiet g c plain rests settled =
+    let not = c.if-start_and_drain.false in
+    let same = c.start_and_drain.ensures.none not in
+    let refused =
+    subst (λ b. StartsAndDrains g.F.Minifilter.drained (numbered c.args.self.now.filters) WORKER c.args.instance g.F.Minifilter.started DRAINED b c.args.self.now.desk.state c.start_and_drain.new.self.desk.state)
+    not c.start_and_drain.ensures.drains in
+    (inl refused, record { bases = ap (λ m. m.bases) same; filters = ap (λ m. m.filters) same; settled = ap (λ m. m.desk.resumed.items.items) same ∙ settled })
 
-pub returns-in-Err-clause-none_due : goal.returns-in-Err-clause-none_due
-returns-in-Err-clause-none_due g c = none_started WORKER c.args.self.now.desk.state c.args.instance c.in-Err.field-0 c.start_teardown.new.self c.in-Err.ensures.event
+pub returns-then-start_and_drain-clause-none_due : goal.returns-then-start_and_drain-clause-none_due
+returns-then-start_and_drain-clause-none_due g c before = c.settle.ensures.none_due
 
-pub returns-in-Ok-clause-drains : goal.returns-in-Ok-clause-drains
-returns-in-Ok-clause-drains g c =
-    let (before, returns) = c.start-started.ensures.ends in
-    let here = c.start-started.new.self in
-    let drains =
-    subst (λ fs. DrainsAll g.F.Minifilter.drained (numbered fs) WORKER c.args.instance DRAINED here.desk.state c.drain_all.new.self.desk.state) (ap (λ m. m.filters) c.start-started.ensures.kept) c.drain_all.ensures.drains in
-    inr (c.start_teardown.new.self, before, here.desk.state, c.drain_all.new.self.desk.state, c.start-started.result, c.in-Ok.ensures.event, c.start-started.ensures.called, returns, drains)
+pub returns-else-start_and_drain-clause-none_due : goal.returns-else-start_and_drain-clause-none_due
+returns-else-start_and_drain-clause-none_due g c =
+    none_same WORKER c.args.self.now.desk.state c.start_and_drain.new.self.desk.state (ap (λ m. m.desk.state) (c.start_and_drain.ensures.none c.if-start_and_drain.false))
 
-pub returns-in-Err-clause-drains : goal.returns-in-Err-clause-drains
-returns-in-Err-clause-drains g c = inl (c.in-Err.field-0, c.start_teardown.new.self, c.in-Err.ensures.event)
+pub returns-then-start_and_drain-clause-out : goal.returns-then-start_and_drain-clause-out
+returns-then-start_and_drain-clause-out g c out = c.settle.ensures.out (c.start_and_drain.ensures.out out)

@@ -3,39 +3,45 @@ use Rattle.fm_local.proofs.manager.LocalManager.carry.Goals as goal
 use Rattle.fm_local.specs.declared.manager.TheConstants.{WORKER}
 
 pub loop-made-init : goal.loop-made-init
-loop-made-init g c = gone_none g.F.Minifilter.pre_may g.F.Minifilter.post_may g.F.Minifilter.is_quiet g.B.Base.folder g.B.Base.faults WORKER c.args.operation c.args.self.now
+loop-made-init g c = (gone_none g.F.Minifilter.pre_may g.F.Minifilter.post_may g.F.Minifilter.is_quiet g.B.Base.folder g.B.Base.faults WORKER c.args.operation c.args.self.now, λ out. out)
 
 pub returns-in_default : goal.returns-in_default
 returns-in_default g c =
     let turned = c.turn.ensures in
     record {
       carried = gone_to_end g.F.Minifilter.pre_may g.F.Minifilter.post_may g.F.Minifilter.is_quiet g.B.Base.folder g.B.Base.faults WORKER c.args.operation c.args.self.now c.loop-made.self
-          c.turn.new.self c.loop-made._made c.loop-made.invariant c.turn.result turned.turned turned.quiet turned.kept turned.at_once c.in_default.not-Goes;
+          c.turn.new.self c.loop-made._made c.loop-made.invariant.0 c.turn.result turned.turned turned.quiet turned.kept turned.at_once c.in_default.not-Goes;
       quiet = calm_both g.F.Minifilter.pre_may g.F.Minifilter.post_may g.F.Minifilter.is_quiet g.B.Base.folder g.B.Base.faults WORKER c.args.operation c.args.self.now c.loop-made.self
-          c.turn.new.self c.loop-made._made c.loop-made.invariant c.turn.result turned.turned turned.quiet turned.kept turned.at_once;
+          c.turn.new.self c.loop-made._made c.loop-made.invariant.0 c.turn.result turned.turned turned.quiet turned.kept turned.at_once;
       kept = kept_both g.F.Minifilter.pre_may g.F.Minifilter.post_may g.F.Minifilter.is_quiet g.B.Base.folder g.B.Base.faults WORKER c.args.operation c.args.self.now c.loop-made.self
-          c.turn.new.self c.loop-made._made c.loop-made.invariant c.turn.result turned.turned turned.quiet turned.kept turned.at_once;
+          c.turn.new.self c.loop-made._made c.loop-made.invariant.0 c.turn.result turned.turned turned.quiet turned.kept turned.at_once;
       at_once = done_at_once g.F.Minifilter.pre_may g.F.Minifilter.post_may g.F.Minifilter.is_quiet g.B.Base.folder g.B.Base.faults WORKER c.args.operation c.args.self.now c.loop-made.self
-          c.turn.new.self c.loop-made._made c.loop-made.invariant c.turn.result turned.turned turned.quiet turned.kept turned.at_once;
+          c.turn.new.self c.loop-made._made c.loop-made.invariant.0 c.turn.result turned.turned turned.quiet turned.kept turned.at_once;
+      out = λ out. turned.out (c.loop-made.invariant.1 out);
     }
 
 pub loop-made-preserved : goal.loop-made-preserved
-loop-made-preserved g c =
-    gone_more g.F.Minifilter.pre_may g.F.Minifilter.post_may g.F.Minifilter.is_quiet g.B.Base.folder g.B.Base.faults WORKER c.args.operation c.args.self.now c.loop-made.self c.turn.new.self
-    c.loop-made._made c.loop-made.invariant c.turn.result c.turn.ensures.turned c.turn.ensures.quiet c.turn.ensures.kept c.turn.ensures.at_once c.in-Goes.is
+loop-made-preserved g c = (
+  gone_more g.F.Minifilter.pre_may g.F.Minifilter.post_may g.F.Minifilter.is_quiet g.B.Base.folder g.B.Base.faults WORKER c.args.operation c.args.self.now c.loop-made.self c.turn.new.self
+      c.loop-made._made c.loop-made.invariant.0 c.turn.result c.turn.ensures.turned c.turn.ensures.quiet c.turn.ensures.kept c.turn.ensures.at_once c.in-Goes.is,
+  λ out. c.turn.ensures.out (c.loop-made.invariant.1 out),
+)
 
 pub returns-clause-carried : goal.returns-clause-carried
 returns-clause-carried g c =
     gone_too_far g.F.Minifilter.pre_may g.F.Minifilter.post_may g.F.Minifilter.is_quiet g.B.Base.folder g.B.Base.faults WORKER c.args.operation c.args.self.now c.loop-made.self
-    c.loop-made._made c.loop-made.invariant c.loop-made-test.false
+    c.loop-made._made c.loop-made.invariant.0 c.loop-made-test.false
 
 pub returns-clause-quiet : goal.returns-clause-quiet
-returns-clause-quiet g c = c.loop-made.invariant.calm
+returns-clause-quiet g c = c.loop-made.invariant.0.calm
 
 pub returns-clause-kept : goal.returns-clause-kept
-returns-clause-kept g c = c.loop-made.invariant.kept
+returns-clause-kept g c = c.loop-made.invariant.0.kept
 
 pub returns-clause-at_once : goal.returns-clause-at_once
 returns-clause-at_once g c =
     far_not_done g.F.Minifilter.pre_may g.F.Minifilter.post_may g.F.Minifilter.is_quiet g.B.Base.folder g.B.Base.faults WORKER c.args.operation c.args.self.now c.loop-made.self
-    c.loop-made._made c.loop-made.invariant c.loop-made-test.false
+    c.loop-made._made c.loop-made.invariant.0 c.loop-made-test.false
+
+pub returns-clause-out : goal.returns-clause-out
+returns-clause-out g c = c.loop-made.invariant.1

@@ -27,3 +27,6 @@ pub returns-clause-refused : goal.returns-clause-refused
 returns-clause-refused g c =
     refuses_close c.args.self.now c.args.handle c.perform-cleanup.result c.perform-cleanup.new.self c.perform-cleanup.ensures.refused (sym c.goes_on.ensures ∙ c.if-not-goes_on.false) c.perform.result
     c.perform.new.self
+
+pub returns-clause-out : goal.returns-clause-out
+returns-clause-out g c out = c.perform.ensures.out (c.perform-cleanup.ensures.out out)

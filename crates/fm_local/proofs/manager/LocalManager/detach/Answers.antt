@@ -46,3 +46,6 @@ returns-clause-ready g c ready =
     let plain = plain_still g.F.Minifilter.pre_may g.F.Minifilter.post_may g.F.Minifilter.is_quiet g.B.Base.folder g.B.Base.faults WORKER old c.ask.new.self asks.1 ready.plain in
     detached_leaves g.F.Minifilter.pre_may g.F.Minifilter.post_may g.F.Minifilter.is_quiet g.B.Base.folder g.B.Base.faults WORKER c.args.instance old ready may c.ask.new.self asks c.tear_down-2.result
     c.tear_down-2.new.self (c.tear_down-2.ensures.quiet plain rests asks.1.settled)
+
+pub returns-clause-out : goal.returns-clause-out
+returns-clause-out g c out = c.tear_down-2.ensures.out (c.in_ok-ask.ensures.out out)

@@ -17,6 +17,7 @@ loop-made-preserved g c =
       drains_more g.F.Minifilter.drained (numbered c.args.self.now.filters) WORKER c.args.instance c.loop-made._made old.desk.state now.desk.state c.drain_first.new.self.desk.state c.loop-made.invariant.1 c.drain_first.result told
           (subst (λ fs. DrainsSome g.F.Minifilter.drained (numbered fs) WORKER c.args.instance c.drain_first.result now.desk.state c.drain_first.new.self.desk.state) c.loop-made.invariant.2 c.drain_first.ensures.drains),
       c.drain_first.ensures.filters ∙ c.loop-made.invariant.2,
+      λ out. c.drain_first.ensures.out (c.loop-made.invariant.3 out),
     )
 
 pub returns-then-not-drain_first-clause-drains : goal.returns-then-not-drain_first-clause-drains
@@ -28,3 +29,9 @@ returns-then-not-drain_first-clause-drains g c =
 pub returns-clause-drains : goal.returns-clause-drains
 returns-clause-drains g c =
     drains_most g.F.Minifilter.drained (numbered c.args.self.now.filters) WORKER c.args.instance DRAINED c.loop-made._made c.args.self.now.desk.state c.loop-made.self.desk.state c.loop-made.invariant.1 c.loop-made-test.false
+
+pub returns-then-not-drain_first-clause-out : goal.returns-then-not-drain_first-clause-out
+returns-then-not-drain_first-clause-out g c out = c.drain_first.ensures.out (c.loop-made.invariant.3 out)
+
+pub returns-clause-out : goal.returns-clause-out
+returns-clause-out g c = c.loop-made.invariant.3

@@ -2,10 +2,11 @@ use Rattle.std.specs.Prelude.{◌≡◌, []}
 use Rattle.fm_local.proofs.manager.LocalManager.drain_all.Given as goal
 use Rattle.fm_local.specs.Drains.{DrainsMany}
 use Rattle.fm_local.specs.Managers.{numbered}
+use Rattle.fm_local.specs.Places.{StaysOut}
 use Rattle.fm_local.specs.declared.manager.TheConstants.{WORKER}
 
--- where nothing is under way nothing is drained, and else so many were
+-- where nothing is under way nothing is drained, and else so many were; and the worker is idle still
 abbrev pub invariant-loop-made : goal.invariant-loop-made
 invariant-loop-made g l =
     (l.fn.self.desk.state.flow.operations ≡ [] → l.self ≡ l.fn.self) × DrainsMany g.F.Minifilter.drained (numbered l.fn.self.filters) WORKER l.instance l._made l.fn.self.desk.state l.self.desk.state
-    × (l.self.filters ≡ l.fn.self.filters)
+    × (l.self.filters ≡ l.fn.self.filters) × StaysOut WORKER l.fn.self.desk.state l.self.desk.state

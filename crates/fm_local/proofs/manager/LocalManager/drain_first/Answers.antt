@@ -1,5 +1,9 @@
-use Rattle.std.specs.Prelude.{Ok, Err}
-use Rattle.std.proofs.Common.{refl, sym, ap, ◌∙◌}
+use Rattle.fm_local.proofs.Places.{drained_out, draining_in, same_out}
+use Rattle.std.specs.Prelude.{Option, Ok, Err}
+use Rattle.std.proofs.Common.{refl, sym, ap, subst, ◌∙◌}
+use Rattle.fm_data.specs.declared.verdict.Completion.{Completion}
+use Rattle.fm_world.specs.EarlyDrains.{TakesDrain}
+use Rattle.fm_world.specs.Words.{OpId}
 use Rattle.std.proofs.lemmas.Option.{none-some}
 use Rattle.fm_local.proofs.Drained.{drains_none, drains_one, drains_refused}
 use Rattle.fm_local.proofs.Leaving.{drain_same, drained_none}
@@ -41,3 +45,19 @@ returns-in-Err-clause-none g c none =
       ap (λ (w : World). record old { desk = record old.desk { state = w } })
           (drain_same WORKER c.args.instance old.desk.state (Err c.in-Err.field-0) c.drain_take.new.self none c.in-Err.ensures.event),
     )
+
+pub returns-in-Ok-Some-clause-out : goal.returns-in-Ok-Some-clause-out
+returns-in-Ok-Some-clause-out g c out =
+    let taken = subst (λ (m : Option (OpId × Completion)). TakesDrain c.args.self.now.desk.state WORKER c.args.instance (Ok m) c.drain_take.new.self) c.in-Ok-Some.field-0-is c.in-Ok-Some.ensures.event in
+    drained_out WORKER c.drain_take.new.self c.drain_early.new.self.desk.state c.drain_early.result c.in-Ok-Some.operation c.args.instance
+    (draining_in WORKER c.args.self.now.desk.state c.args.instance c.drain_take.new.self c.in-Ok-Some.operation c.in-Ok-Some.completion taken) c.drain_early.ensures.ends
+
+pub returns-in-Ok-None-clause-out : goal.returns-in-Ok-None-clause-out
+returns-in-Ok-None-clause-out g c =
+    same_out WORKER c.args.self.now.desk.state c.drain_take.new.self
+    (drains_none g.F.Minifilter.drained (numbered c.args.self.now.filters) WORKER c.args.instance c.args.self.now.desk.state c.in-Ok-None.field-0 c.drain_take.new.self c.in-Ok-None.ensures.event c.in-Ok-None.field-0-is).0
+
+pub returns-in-Err-clause-out : goal.returns-in-Err-clause-out
+returns-in-Err-clause-out g c =
+    same_out WORKER c.args.self.now.desk.state c.drain_take.new.self
+    (drains_refused g.F.Minifilter.drained (numbered c.args.self.now.filters) WORKER c.args.instance c.args.self.now.desk.state c.in-Err.field-0 c.drain_take.new.self c.in-Err.ensures.event).0

@@ -1,3 +1,5 @@
+use Rattle.std.specs.Prelude.{Err, Ok}
+use Rattle.fm_local.proofs.Places.{emptied_out, ended_out, still_out}
 use Rattle.fm_local.proofs.NoneDue.{none_emptied, none_ended}
 use Rattle.fm_local.proofs.manager.LocalManager.end.Goals as goal
 use Rattle.fm_local.specs.declared.manager.TheConstants.{WORKER}
@@ -10,3 +12,13 @@ returns-in_err-empty_filter-clause-none_due g c before =
 pub returns-clause-none_due : goal.returns-clause-none_due
 returns-clause-none_due g c before =
     none_ended WORKER c.clean_up.new.self.desk.state c.args.filter c.finish_filter.result c.finish_filter.new.self c.finish_filter.ensures.event c.clean_up.ensures.none
+
+pub returns-in_err-empty_filter-clause-out : goal.returns-in_err-empty_filter-clause-out
+returns-in_err-empty_filter-clause-out g c out =
+    emptied_out WORKER c.tear_down_all.new.self.desk.state c.args.filter (Err c.in_err-empty_filter.field-0.0) c.empty_filter.new.self c.in_err-empty_filter.ensures.event (c.in_ok-tear_down_all.ensures.out out)
+
+pub returns-clause-out : goal.returns-clause-out
+returns-clause-out g c out =
+    let emptied = emptied_out WORKER c.tear_down_all.new.self.desk.state c.args.filter (Ok tt) c.empty_filter.new.self c.in_ok-empty_filter.ensures.event (c.in_ok-tear_down_all.ensures.out out) in
+    let tidied = still_out WORKER c.empty_filter.new.self c.clean_up.new.self.desk.state c.clean_up.ensures.tidies.workers emptied in
+    ended_out WORKER c.clean_up.new.self.desk.state c.args.filter c.finish_filter.result c.finish_filter.new.self c.finish_filter.ensures.event tidied

@@ -1,3 +1,4 @@
+use Rattle.fm_local.proofs.Places.{registered_out}
 use Rattle.fm_local.proofs.NoneDue.{none_registered}
 use Rattle.std.specs.Prelude.{Err, Ok}
 use Rattle.std.proofs.Common.{refl, ◌∙◌}
@@ -35,3 +36,11 @@ returns-in_err-number-clause-none_due g c =
 pub returns-clause-none_due : goal.returns-clause-none_due
 returns-clause-none_due g c =
     none_registered WORKER c.args.self.now.desk.state c.args.name.now c.registration-registration.result (Ok c.in_ok-number.number) c.register.new.self c.in_ok-number.ensures.event
+
+pub returns-in_err-number-clause-out : goal.returns-in_err-number-clause-out
+returns-in_err-number-clause-out g c =
+    registered_out WORKER c.args.self.now.desk.state c.args.name.now c.registration-registration.result (Err c.in_err-number.field-0.0) c.register.new.self c.in_err-number.ensures.event
+
+pub returns-clause-out : goal.returns-clause-out
+returns-clause-out g c =
+    registered_out WORKER c.args.self.now.desk.state c.args.name.now c.registration-registration.result (Ok c.in_ok-number.number) c.register.new.self c.in_ok-number.ensures.event

@@ -1,3 +1,4 @@
+use Rattle.fm_local.proofs.Places.{mounted_out}
 use Rattle.fm_local.proofs.NoneDue.{none_mounted}
 use Rattle.std.specs.Prelude.{Err, Ok}
 use Rattle.std.proofs.Common.{refl}
@@ -28,3 +29,10 @@ returns-in_err-volume-clause-none_due g c =
 
 pub returns-clause-none_due : goal.returns-clause-none_due
 returns-clause-none_due g c = none_mounted WORKER c.args.self.now.desk.state c.args.name (Ok c.in_ok-volume.volume) c.mount.new.self c.in_ok-volume.ensures.event
+
+pub returns-in_err-volume-clause-out : goal.returns-in_err-volume-clause-out
+returns-in_err-volume-clause-out g c =
+    mounted_out WORKER c.args.self.now.desk.state c.args.name (Err c.in_err-volume.field-0.0) c.mount.new.self c.in_err-volume.ensures.event
+
+pub returns-clause-out : goal.returns-clause-out
+returns-clause-out g c = mounted_out WORKER c.args.self.now.desk.state c.args.name (Ok c.in_ok-volume.volume) c.mount.new.self c.in_ok-volume.ensures.event

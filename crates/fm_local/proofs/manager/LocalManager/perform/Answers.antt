@@ -1,5 +1,7 @@
+use Rattle.fm_local.proofs.Places.{begun_out}
 use Rattle.fm_local.proofs.Refusing.{not_begun, refuses_one}
 use Rattle.fm_local.proofs.NoneDue.{none_begun}
+use Rattle.std.specs.Prelude.{Err, Ok}
 use Rattle.std.proofs.Common.{sym, subst}
 use Rattle.fm_data.specs.declared.request.Reply.{Reply}
 use Rattle.fm_local.proofs.Performing.{performs_begun, performs_refused}
@@ -28,3 +30,9 @@ returns-in-Ok-clause-refused g c why refused = absurd (not_begun c.args.self.now
 
 pub returns-in-Err-clause-refused : goal.returns-in-Err-clause-refused
 returns-in-Err-clause-refused g c = refuses_one c.args.self.now c.args.request c.in-Err.status c.begin.new.self c.in-Err.ensures.event c.refusal.result c.refusal.ensures
+
+pub returns-in-Ok-clause-out : goal.returns-in-Ok-clause-out
+returns-in-Ok-clause-out g c out = c.run.ensures.out (begun_out WORKER c.args.self.now.desk.state c.args.request (Ok c.in-Ok.operation) c.begin.new.self c.in-Ok.ensures.event out)
+
+pub returns-in-Err-clause-out : goal.returns-in-Err-clause-out
+returns-in-Err-clause-out g c = begun_out WORKER c.args.self.now.desk.state c.args.request (Err c.in-Err.status) c.begin.new.self c.in-Err.ensures.event

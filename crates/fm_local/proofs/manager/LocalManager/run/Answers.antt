@@ -7,3 +7,6 @@ returns-clause-runs g c =
     runs g.F.Minifilter.pre_may g.F.Minifilter.post_may g.F.Minifilter.is_quiet g.B.Base.folder g.B.Base.faults WORKER c.args.operation c.args.self.now c.carry-ended.new.self c.reply_after-reply.new.self
     c.settle.new.self c.carry-ended.result c.reply_after-reply.result c.carry-ended.ensures.carried c.carry-ended.ensures.quiet c.carry-ended.ensures.kept c.reply_after-reply.ensures.answer c.reply_after-reply.ensures.kept
     c.settle.ensures.tidies c.settle.ensures.kept
+
+pub returns-clause-out : goal.returns-clause-out
+returns-clause-out g c out = c.settle.ensures.out (c.reply_after-reply.ensures.out (c.carry-ended.ensures.out out))

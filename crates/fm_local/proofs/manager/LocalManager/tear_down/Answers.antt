@@ -1,3 +1,4 @@
+use Rattle.fm_local.proofs.Places.{finished_out, still_out}
 use Rattle.fm_local.proofs.NoneDue.{none_finished}
 use Rattle.std.proofs.Common.{ap, ◌∙◌}
 use Rattle.fm_local.proofs.Emptied.{ends_well}
@@ -9,26 +10,26 @@ pub returns-in_err-end_teardown-clause-quiet : goal.returns-in_err-end_teardown-
 returns-in_err-end_teardown-clause-quiet g c plain rests settled =
     let old = c.args.self.now in
     let mid = c.begin_teardown.new.self in
-    let first = c.in_ok-begin_teardown.ensures.quiet plain rests settled in
-    let still = plain_still g.F.Minifilter.pre_may g.F.Minifilter.post_may g.F.Minifilter.is_quiet g.B.Base.folder g.B.Base.faults WORKER old mid first.2 plain in
-    let calm = rests_still g.F.Minifilter.pre_may g.F.Minifilter.post_may g.F.Minifilter.is_quiet g.B.Base.folder g.B.Base.faults WORKER c.args.instance old c.laws.ensures plain rests mid first.1 first.2 in
-    let told = told_still g.F.Minifilter.pre_may g.F.Minifilter.post_may g.F.Minifilter.is_quiet g.B.Base.folder g.B.Base.faults WORKER c.args.instance old c.laws.ensures plain rests mid first.1 first.2 in
-    absurd (not_ok c.in_err-end_teardown.field-0.0 (c.in_err-end_teardown.ensures.quiet still calm first.2.settled told).0)
+    let first = c.begin_teardown.ensures.quiet plain rests settled in
+    let still = plain_still g.F.Minifilter.pre_may g.F.Minifilter.post_may g.F.Minifilter.is_quiet g.B.Base.folder g.B.Base.faults WORKER old mid first.1 plain in
+    let calm = rests_still g.F.Minifilter.pre_may g.F.Minifilter.post_may g.F.Minifilter.is_quiet g.B.Base.folder g.B.Base.faults WORKER c.args.instance old c.laws.ensures plain rests mid first.0 first.1 in
+    let told = told_still g.F.Minifilter.pre_may g.F.Minifilter.post_may g.F.Minifilter.is_quiet g.B.Base.folder g.B.Base.faults WORKER c.args.instance old c.laws.ensures plain rests mid first.0 first.1 in
+    absurd (not_ok c.in_err-end_teardown.field-0.0 (c.in_err-end_teardown.ensures.quiet still calm first.1.settled told).0)
 
 pub returns-clause-quiet : goal.returns-clause-quiet
 returns-clause-quiet g c plain rests settled =
     let old = c.args.self.now in
     let mid = c.begin_teardown.new.self in
-    let first = c.in_ok-begin_teardown.ensures.quiet plain rests settled in
-    let still = plain_still g.F.Minifilter.pre_may g.F.Minifilter.post_may g.F.Minifilter.is_quiet g.B.Base.folder g.B.Base.faults WORKER old mid first.2 plain in
-    let calm = rests_still g.F.Minifilter.pre_may g.F.Minifilter.post_may g.F.Minifilter.is_quiet g.B.Base.folder g.B.Base.faults WORKER c.args.instance old c.laws.ensures plain rests mid first.1 first.2 in
-    let told = told_still g.F.Minifilter.pre_may g.F.Minifilter.post_may g.F.Minifilter.is_quiet g.B.Base.folder g.B.Base.faults WORKER c.args.instance old c.laws.ensures plain rests mid first.1 first.2 in
-    let then = c.in_ok-end_teardown.ensures.quiet still calm first.2.settled told in
+    let first = c.begin_teardown.ensures.quiet plain rests settled in
+    let still = plain_still g.F.Minifilter.pre_may g.F.Minifilter.post_may g.F.Minifilter.is_quiet g.B.Base.folder g.B.Base.faults WORKER old mid first.1 plain in
+    let calm = rests_still g.F.Minifilter.pre_may g.F.Minifilter.post_may g.F.Minifilter.is_quiet g.B.Base.folder g.B.Base.faults WORKER c.args.instance old c.laws.ensures plain rests mid first.0 first.1 in
+    let told = told_still g.F.Minifilter.pre_may g.F.Minifilter.post_may g.F.Minifilter.is_quiet g.B.Base.folder g.B.Base.faults WORKER c.args.instance old c.laws.ensures plain rests mid first.0 first.1 in
+    let then = c.in_ok-end_teardown.ensures.quiet still calm first.1.settled told in
     let kept = c.clean_up.ensures.kept in (
-      (mid.desk.state, c.end_teardown.new.self.desk.state, c.clean_up.new.self.desk.state, first.1, then.1, c.clean_up.ensures.tidies, c.finish.ensures.event),
+      (mid.desk.state, c.end_teardown.new.self.desk.state, c.clean_up.new.self.desk.state, first.0, then.1, c.clean_up.ensures.tidies, c.finish.ensures.event),
       record {
-        bases = ap (λ m. m.bases) kept ∙ then.2.bases ∙ first.2.bases;
-        filters = ap (λ m. m.filters) kept ∙ then.2.filters ∙ first.2.filters;
+        bases = ap (λ m. m.bases) kept ∙ then.2.bases ∙ first.1.bases;
+        filters = ap (λ m. m.filters) kept ∙ then.2.filters ∙ first.1.filters;
         settled = ap (λ m. m.desk.resumed.items.items) kept ∙ then.2.settled;
       },
     )
@@ -37,24 +38,32 @@ pub returns-in_err-end_teardown-clause-goes : goal.returns-in_err-end_teardown-c
 returns-in_err-end_teardown-clause-goes g c plain rests settled leaves =
     let old = c.args.self.now in
     let mid = c.begin_teardown.new.self in
-    let first = c.in_ok-begin_teardown.ensures.quiet plain rests settled in
-    let still = plain_still g.F.Minifilter.pre_may g.F.Minifilter.post_may g.F.Minifilter.is_quiet g.B.Base.folder g.B.Base.faults WORKER old mid first.2 plain in
-    let calm = rests_still g.F.Minifilter.pre_may g.F.Minifilter.post_may g.F.Minifilter.is_quiet g.B.Base.folder g.B.Base.faults WORKER c.args.instance old c.laws.ensures plain rests mid first.1 first.2 in
-    let told = told_still g.F.Minifilter.pre_may g.F.Minifilter.post_may g.F.Minifilter.is_quiet g.B.Base.folder g.B.Base.faults WORKER c.args.instance old c.laws.ensures plain rests mid first.1 first.2 in
-    absurd (not_ok c.in_err-end_teardown.field-0.0 (c.in_err-end_teardown.ensures.quiet still calm first.2.settled told).0)
+    let first = c.begin_teardown.ensures.quiet plain rests settled in
+    let still = plain_still g.F.Minifilter.pre_may g.F.Minifilter.post_may g.F.Minifilter.is_quiet g.B.Base.folder g.B.Base.faults WORKER old mid first.1 plain in
+    let calm = rests_still g.F.Minifilter.pre_may g.F.Minifilter.post_may g.F.Minifilter.is_quiet g.B.Base.folder g.B.Base.faults WORKER c.args.instance old c.laws.ensures plain rests mid first.0 first.1 in
+    let told = told_still g.F.Minifilter.pre_may g.F.Minifilter.post_may g.F.Minifilter.is_quiet g.B.Base.folder g.B.Base.faults WORKER c.args.instance old c.laws.ensures plain rests mid first.0 first.1 in
+    absurd (not_ok c.in_err-end_teardown.field-0.0 (c.in_err-end_teardown.ensures.quiet still calm first.1.settled told).0)
 
 pub returns-clause-goes : goal.returns-clause-goes
 returns-clause-goes g c plain rests settled leaves =
     let old = c.args.self.now in
     let mid = c.begin_teardown.new.self in
-    let first = c.in_ok-begin_teardown.ensures.quiet plain rests settled in
-    let still = plain_still g.F.Minifilter.pre_may g.F.Minifilter.post_may g.F.Minifilter.is_quiet g.B.Base.folder g.B.Base.faults WORKER old mid first.2 plain in
-    let calm = rests_still g.F.Minifilter.pre_may g.F.Minifilter.post_may g.F.Minifilter.is_quiet g.B.Base.folder g.B.Base.faults WORKER c.args.instance old c.laws.ensures plain rests mid first.1 first.2 in
-    let told = told_still g.F.Minifilter.pre_may g.F.Minifilter.post_may g.F.Minifilter.is_quiet g.B.Base.folder g.B.Base.faults WORKER c.args.instance old c.laws.ensures plain rests mid first.1 first.2 in
-    let then = c.in_ok-end_teardown.ensures.quiet still calm first.2.settled told in
-    ends_well WORKER c.args.instance old.desk.state mid.desk.state c.end_teardown.new.self.desk.state c.clean_up.new.self.desk.state c.laws.ensures rests first.1 then.1 c.clean_up.ensures.tidies
+    let first = c.begin_teardown.ensures.quiet plain rests settled in
+    let still = plain_still g.F.Minifilter.pre_may g.F.Minifilter.post_may g.F.Minifilter.is_quiet g.B.Base.folder g.B.Base.faults WORKER old mid first.1 plain in
+    let calm = rests_still g.F.Minifilter.pre_may g.F.Minifilter.post_may g.F.Minifilter.is_quiet g.B.Base.folder g.B.Base.faults WORKER c.args.instance old c.laws.ensures plain rests mid first.0 first.1 in
+    let told = told_still g.F.Minifilter.pre_may g.F.Minifilter.post_may g.F.Minifilter.is_quiet g.B.Base.folder g.B.Base.faults WORKER c.args.instance old c.laws.ensures plain rests mid first.0 first.1 in
+    let then = c.in_ok-end_teardown.ensures.quiet still calm first.1.settled told in
+    ends_well WORKER c.args.instance old.desk.state mid.desk.state c.end_teardown.new.self.desk.state c.clean_up.new.self.desk.state c.laws.ensures rests first.0 then.1 c.clean_up.ensures.tidies
     leaves c.laws-2.ensures c.clean_up.ensures.none c.finish.result c.finish.new.self c.finish.ensures.event c.finish.ensures.waiting
 
 pub returns-clause-none_due : goal.returns-clause-none_due
 returns-clause-none_due g c before =
     none_finished WORKER c.clean_up.new.self.desk.state c.args.instance c.finish.result c.finish.new.self c.finish.ensures.event c.clean_up.ensures.none
+
+pub returns-in_err-end_teardown-clause-out : goal.returns-in_err-end_teardown-clause-out
+returns-in_err-end_teardown-clause-out g c out = c.in_err-end_teardown.ensures.out (c.begin_teardown.ensures.out out)
+
+pub returns-clause-out : goal.returns-clause-out
+returns-clause-out g c out =
+    let tidied = still_out WORKER c.end_teardown.new.self.desk.state c.clean_up.new.self.desk.state c.clean_up.ensures.tidies.workers (c.in_ok-end_teardown.ensures.out (c.begin_teardown.ensures.out out)) in
+    finished_out WORKER c.clean_up.new.self.desk.state c.args.instance c.finish.result c.finish.new.self c.finish.ensures.event tidied

@@ -23,4 +23,8 @@ loop-at-preserved g c = (
       let step = c.in_ok-tear_down_if.ensures.quiet still calm first.1.settled in
       (torn_first WORKER c.args.filter c.loop-at.at old.desk.state now.desk.state new.desk.state first.0 step.1, settled_both old now new first.1 step.2),
   λ before. c.in_ok-tear_down_if.ensures.none_due (c.loop-at.invariant.1 before),
+  λ out. c.in_ok-tear_down_if.ensures.out (c.loop-at.invariant.2 out),
 )
+
+pub returns-in_err-tear_down_if-clause-out : goal.returns-in_err-tear_down_if-clause-out
+returns-in_err-tear_down_if-clause-out g c out = c.in_err-tear_down_if.ensures.out (c.loop-at.invariant.2 out)

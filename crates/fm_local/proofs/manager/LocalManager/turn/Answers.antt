@@ -2,6 +2,7 @@ use Rattle.std.proofs.Common.{ap, ◌∙◌}
 use Rattle.fm_world.specs.Workers.{gives_nothing}
 use Rattle.fm_world.specs.World.{World}
 use Rattle.fm_local.proofs.Ending.{says_done}
+use Rattle.fm_local.proofs.Lent.{lent}
 use Rattle.fm_local.proofs.manager.LocalManager.turn.Goals as goal
 use Rattle.fm_local.specs.declared.manager.TheConstants.{WORKER}
 
@@ -11,3 +12,7 @@ returns-clause-at_once g c done =
     let is = says_done old.desk.state WORKER c.args.operation c.next-said.result c.next-said.new.self done c.next-said.ensures.event in
     let acts = c.act.ensures.at_once is in
     (acts.0, acts.1 ∙ ap (λ (w : World). record old { desk = record old.desk { state = w } }) (c.next-said.ensures.nothing (ap gives_nothing is)))
+
+pub returns-clause-out : goal.returns-clause-out
+returns-clause-out g c out =
+    c.act.ensures.out (lent WORKER c.args.operation c.args.self.now.desk.state c.laws.ensures out c.next-said.result c.next-said.new.self c.next-said.ensures.event)

@@ -45,3 +45,6 @@ returns-clause-ready g c ready =
     let plain = plain_still g.F.Minifilter.pre_may g.F.Minifilter.post_may g.F.Minifilter.is_quiet g.B.Base.folder g.B.Base.faults WORKER old asked settles ready.plain in
     unloaded_leaves g.F.Minifilter.pre_may g.F.Minifilter.post_may g.F.Minifilter.is_quiet g.B.Base.folder g.B.Base.faults WORKER c.args.filter old ready may asked asks settles c.end-2.result c.end-2.new.self
     (c.end-2.ensures.quiet plain rests settles.settled)
+
+pub returns-clause-out : goal.returns-clause-out
+returns-clause-out g c out = c.end-2.ensures.out (c.in_ok-ask_to_unload.ensures.out out)

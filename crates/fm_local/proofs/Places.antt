@@ -1,0 +1,276 @@
+-- Where the worker is while a callback runs, and that the event that ends it has it idle again.
+use Rattle.std.specs.Prelude.{◌≡◌, ◌==◌, ◌≤◌, ℕ, Bool, true, false, List, [], ◌∷◌, length, map, Option, Some, None, option_map, unwrap_or, Result, Ok, Err, IsOk, find, slice_get, refl}
+use Rattle.std.proofs.Common.{sym, ap, subst, ◌∙◌, inl, inr}
+use Rattle.std.proofs.lemmas.Bool.{cases_Bool}
+use Rattle.std.proofs.lemmas.Option.{none-some}
+use Rattle.fm_types.specs.declared.registration.Registration.{Registration}
+use Rattle.fm_types.specs.declared.status.Status.TheVariants as status
+use Rattle.fm_data.specs.Data.{Data, data_fits}
+use Rattle.fm_data.specs.Params.{call_fits, fit}
+use Rattle.fm_data.specs.Requests.{params_of}
+use Rattle.fm_data.specs.declared.answer.Answer.{Answer}
+use Rattle.fm_data.specs.declared.base_call.BaseCall.{BaseCall}
+use Rattle.fm_data.specs.declared.params.Params.{Params}
+use Rattle.fm_data.specs.declared.request.Request.{Request}
+use Rattle.fm_data.specs.declared.verdict.Completion.{Completion}
+use Rattle.fm_data.specs.declared.verdict.PreVerdict.{PreVerdict}
+use Rattle.fm_data.specs.declared.verdict.PostVerdict.{PostVerdict}
+use Rattle.fm_data.specs.declared.request.Request.TheVariants as request
+use Rattle.fm_filter.specs.Standing.{Shape, shape_of, standing_of}
+use Rattle.fm_flow.specs.Record.{FlowRecord}
+use Rattle.fm_flow.specs.Steps.{base_fits, post_returned_of}
+use Rattle.fm_flow.specs.Table.{is_number, told}
+use Rattle.fm_world.proofs.Events.{idle_by}
+use Rattle.fm_stack.specs.StackWorld.{StackWorld}
+use Rattle.fm_stack.specs.declared.instance.Instance.{Instance}
+use Rattle.fm_world.specs.ContextEvents.{Finishes}
+use Rattle.fm_world.specs.EarlyDrains.{DrainReturns, DrainReturnsAt, DrainsWhere, TakesDrain, is_stopping_at}
+use Rattle.fm_world.specs.Events.{Attaches, BaseReturns, BaseReturnsAt, Begins, Collects, Mounts, PostReturns, PostReturnsAt, PreReturns, PreReturnsAt, Registers, SetsUp, SetsUpAt, Unless, after_begin}
+use Rattle.fm_world.specs.Events.{PreReturnsOver, ReturnsFrom, base_returned, begun_at, begun_on, pre_step, state_at}
+use Rattle.fm_world.specs.Files.{handle_at, stream_at}
+use Rattle.fm_world.specs.Links.{LosesLinks}
+use Rattle.fm_world.specs.Owners.{row_at}
+use Rattle.fm_world.specs.Teardowns.{AsksDetach, AsksUnload, CompletesTeardown, CompleteReturns, CompleteReturnsAt, EmptiesFilter, FinishesFilter}
+use Rattle.fm_world.specs.Teardowns.{QueryReturns, QueryReturnsAt, StartsTeardown, StartReturns, StartReturnsAt, UnloadReturns, UnloadReturnsAt}
+use Rattle.fm_world.specs.Words.{FilterId, InstanceId, OpId, Status, VolumeId, WorkerId}
+use Rattle.fm_world.specs.Workers.{is_idle, put, worker_at}
+use Rattle.fm_world.specs.World.{World}
+use Rattle.fm_world.specs.declared.file.FileHandle.{FileHandle}
+use Rattle.fm_world.specs.declared.file.FileStream.{FileStream}
+use Rattle.fm_world.specs.declared.worker.Worker.{Worker}
+use Rattle.fm_world.specs.declared.worker.Worker.TheVariants as place
+use Rattle.fm_local.proofs.Events.{by_links, placed}
+use Rattle.fm_local.proofs.Fitting.{call_answered, fits_back}
+use Rattle.fm_local.proofs.Resting.{is_in}
+use Rattle.fm_local.specs.Actions.{ArePlainFilters}
+use Rattle.fm_local.specs.Chains.{filter_in, filter_in_row}
+use Rattle.fm_local.specs.Managers.{IsQuietIn}
+use Rattle.fm_local.specs.Calls.{QueriesWith, SetsUpWith, UnloadsWith}
+use Rattle.fm_local.specs.Places.{EndsFrom, IsIn, IsOut, StaysOut, is_on}
+use Rattle.fm_local.specs.Turns.{HandsBack}
+
+-- ---- what stands
+
+-- of the operation with a number, what it is on
+abbrev on_shapes : OpId → Params → List Shape → Bool
+on_shapes o p shapes = unwrap_or (option_map (λ s. fit s.operation s.path p) (find (λ s. s.number.0 == o.0) shapes)) false
+
+on_records : (o : OpId) (p : Params) (rs : List FlowRecord) → unwrap_or (option_map (λ r. fit r.operation r.path p) (find (is_number o) rs)) false ≡ on_shapes o p (map shape_of rs)
+on_records o p [] = refl
+on_records o p (r ∷ rs) = elim (cases_Bool (is_number o r)) [ inl e ↦ rw e refl | inr e ↦ rw e (on_records o p rs) ]
+
+on_still : (old before : World) (o : OpId) (p : Params) → standing_of before ≡ standing_of old → is_on before o p ≡ is_on old o p
+on_still old before o p far = on_records o p before.flow.operations ∙ ap (λ s. on_shapes o p s.operations) far ∙ sym (on_records o p old.flow.operations)
+
+module _ (k : WorkerId) where
+  pub in_still : (a : Worker) (old before : World) → standing_of before ≡ standing_of old → IsIn k a old → IsIn k a before
+  in_still a old before far there = ap (λ s. worker_at s.workers k) far ∙ there
+
+  pub still_out : (old new : World) → new.workers ≡ old.workers → StaysOut k old new
+  still_out old new workers out = ap (λ ws. worker_at ws k) workers ∙ out
+
+  pub same_out : (old new : World) → new ≡ old → StaysOut k old new
+  same_out old new same = still_out old new (ap (λ (w : World). w.workers) same)
+
+  left : (a : Worker) (old new : World) → IsIn k a old → new.workers ≡ put old.workers k place.Idle → IsOut k new
+  left a old new there leaves = ap (λ ws. worker_at ws k) leaves ∙ placed old.workers k a place.Idle there
+
+  -- ---- an idle worker enters a callback
+
+  entered : {T : Type 0} (old : World) (v : T) (new : World) (a : Worker) (Event : Type 0) → Unless status.WrongStep (is_idle (worker_at old.workers k)) (Ok v) old new Event
+      → (Event → new.workers ≡ put old.workers k a) → IsIn k a new
+  entered old v new a Event h goes = idle_by (λ result new. IsOk result → IsIn k a new) k (Ok v) old new Event h (λ why ok. cc) (λ idle event ok. is_in k old new a idle (goes event)) refl
+
+  pub attached_in : (old : World) (f : FilterId) (v : VolumeId) (name altitude : List ℕ) (i : InstanceId) (born : World) → Attaches old k f v name altitude (Ok i) born → IsIn k (place.Setup i) born
+  unfolding Attaches
+  attached_in old f v name altitude i born h = entered old i born (place.Setup i) _ h (λ event. ap (λ (w : World). w.workers) event.1)
+
+  module _ (old : World) (i : InstanceId) (new : World) where
+    pub asked_in : AsksDetach old k i (Ok tt) new → IsIn k (place.Query i) new
+    unfolding AsksDetach
+    asked_in h = entered old tt new (place.Query i) _ h (λ event. ap (λ (w : World). w.workers) event.1)
+
+    pub started_in : StartsTeardown old k i (Ok tt) new → IsIn k (place.Start i) new
+    unfolding StartsTeardown
+    started_in h = entered old tt new (place.Start i) _ h (λ event. ap (λ (w : World). w.workers) event.1)
+
+    pub completing_in : CompletesTeardown old k i (Ok tt) new → IsIn k (place.Complete i) new
+    unfolding CompletesTeardown
+    completing_in h = entered old tt new (place.Complete i) _ h (λ event. ap (λ (w : World). w.workers) event.1)
+
+    pub draining_in : (o : OpId) (completion : Completion) → TakesDrain old k i (Ok (Some (o, completion))) new → IsIn k (place.EarlyDrain o i) new
+    unfolding TakesDrain
+    draining_in o completion h = entered old (Some (o, completion)) new (place.EarlyDrain o i) _ h (λ event. by_stopping (is_stopping_at (row_at old.stack i)) event.1)
+      where
+        by_stopping : (b : Bool) → DrainsWhere b old k i (Some (o, completion)) new → new.workers ≡ put old.workers k (place.EarlyDrain o i)
+        by_stopping true d = ap (λ (w : World). w.workers) d.1
+        by_stopping false d = absurd (none-some (o, completion) (sym d.0))
+
+  pub unloading_in : (old : World) (f : FilterId) (asked : World) → AsksUnload old k f (Ok tt) asked → IsIn k (place.Unload f) asked
+  unfolding AsksUnload
+  unloading_in old f asked h = entered old tt asked (place.Unload f) _ h (λ event. ap (λ (w : World). w.workers) event.1)
+
+  -- ---- and comes out of it, with the event that ends it
+
+  module _ (old new : World) (ended : Result (Unit {0}) Status) where
+    pub setup_out : (may : Bool → Type 0) (i : InstanceId) → IsIn k (place.Setup i) old → EndsFrom old (λ before. SetsUpWith may k before ended new) → IsOut k new
+    unfolding SetsUp
+    setup_out may i there (before, far, (accepts, answer, sets)) =
+        let still = in_still (place.Setup i) old before far there in
+        let at : SetsUpAt before k accepts ended new (Some (place.Setup i)) = subst (SetsUpAt before k accepts ended new) still sets in
+        left (place.Setup i) before new still (ap (λ (w : World). w.workers) at.4)
+
+    pub query_out : (may : Bool → Type 0) (i : InstanceId) → IsIn k (place.Query i) old → EndsFrom old (λ before. QueriesWith may k before ended new) → IsOut k new
+    unfolding QueryReturns
+    query_out may i there (before, far, (allows, answer, returns)) =
+        let still = in_still (place.Query i) old before far there in
+        let at : QueryReturnsAt before k allows ended new (Some (place.Query i)) = subst (QueryReturnsAt before k allows ended new) still returns in
+        left (place.Query i) before new still (ap (λ (w : World). w.workers) at.2)
+
+    pub unload_out : (may : Bool → Type 0) (f : FilterId) → IsIn k (place.Unload f) old → UnloadsWith may k old ended new → IsOut k new
+    unfolding UnloadReturns
+    unload_out may f there (allows, answer, returns) =
+        let at : UnloadReturnsAt old k allows ended new (Some (place.Unload f)) = subst (UnloadReturnsAt old k allows ended new) there returns in
+        left (place.Unload f) old new there (ap (λ (w : World). w.workers) at.1)
+
+    pub drained_out : (o : OpId) (i : InstanceId) → IsIn k (place.EarlyDrain o i) old → EndsFrom old (λ before. DrainReturns before k ended new) → IsOut k new
+    unfolding DrainReturns
+    drained_out o i there (before, far, returns) =
+        let still = in_still (place.EarlyDrain o i) old before far there in
+        let at : DrainReturnsAt before k ended new (Some (place.EarlyDrain o i)) = subst (DrainReturnsAt before k ended new) still returns in
+        left (place.EarlyDrain o i) before new still (ap (λ (w : World). w.workers) at.2)
+
+    -- the callbacks of a teardown can't be refused their end
+    pub start_ends : (i : InstanceId) → IsIn k (place.Start i) old → StartReturns old k ended new → StartReturns old k (Ok tt) new
+    unfolding StartReturns
+    start_ends i there h = subst (λ (r : Result (Unit {0}) Status). StartReturnsAt old k r new (worker_at old.workers k)) (subst (StartReturnsAt old k ended new) there h).0 h
+
+    pub complete_ends : (i : InstanceId) → IsIn k (place.Complete i) old → CompleteReturns old k ended new → CompleteReturns old k (Ok tt) new
+    unfolding CompleteReturns
+    complete_ends i there h = subst (λ (r : Result (Unit {0}) Status). CompleteReturnsAt old k r new (worker_at old.workers k)) (subst (CompleteReturnsAt old k ended new) there h).0 h
+
+  pub start_out : (old new : World) (i : InstanceId) → IsIn k (place.Start i) old → EndsFrom old (λ before. StartReturns before k (Ok tt) new) → IsOut k new
+  unfolding StartReturns
+  start_out old new i there (before, far, returns) =
+      let still = in_still (place.Start i) old before far there in
+      let at : StartReturnsAt before k (Ok tt) new (Some (place.Start i)) = subst (StartReturnsAt before k (Ok tt) new) still returns in
+      left (place.Start i) before new still (ap (λ (w : World). w.workers) at.2)
+
+  pub complete_out : (old new : World) (i : InstanceId) → IsIn k (place.Complete i) old → EndsFrom old (λ before. CompleteReturns before k (Ok tt) new) → IsOut k new
+  unfolding CompleteReturns
+  complete_out old new i there (before, far, returns) =
+      let still = in_still (place.Complete i) old before far there in
+      let at : CompleteReturnsAt before k (Ok tt) new (Some (place.Complete i)) = subst (CompleteReturnsAt before k (Ok tt) new) still returns in
+      left (place.Complete i) before new still (ap (λ (w : World). w.workers) at.4)
+
+  -- ---- callbacks of an operation, and the call of its file system
+
+  -- data that is the operation's is taken back
+  back_fits : (w : World) (o : OpId) (lent back : Data) → is_on w o lent.received ≡ true → HandsBack lent back → told (λ r. data_fits r.operation r.path back) false o w.flow ≡ true
+  back_fits w o lent back on hands = by_record (find (is_number o) w.flow.operations) on
+    where
+      by_record : (m : Option FlowRecord) → unwrap_or (option_map (λ r. fit r.operation r.path lent.received) m) false ≡ true → unwrap_or (option_map (λ r. data_fits r.operation r.path back) m) false ≡ true
+      by_record None on = cc
+      by_record (Some r) on = fits_back r.operation r.path lent.received back on hands.received hands.laws
+
+  module _ (o : OpId) (i : InstanceId) (old before new : World) (far : standing_of before ≡ standing_of old) (ended : Result (Unit {0}) Status) where
+    pub pre_out : (lent back : Data) (given : PreVerdict) → IsIn k (place.Pre o i) old × (is_on old o lent.received ≡ true) → HandsBack lent back → PreReturns before k given back ended new → IsOut k new
+    unfolding PreReturns
+    pre_out lent back given (there, on) hands h =
+        let still = in_still (place.Pre o i) old before far there in
+        let at : PreReturnsAt before k given back ended new (Some (place.Pre o i)) = subst (PreReturnsAt before k given back ended new) still h in
+        let fits = back_fits before o lent back (on_still old before o lent.received far ∙ on) hands in
+        let over = subst (λ (b : Bool). Unless status.BadRequest b ended before new ((ended ≡ Ok tt) × PreReturnsOver before k o (pre_step before k o i given back) (state_at before k o i given) new)) fits at in
+        left (place.Pre o i) before new still ((by_links over.1.0 new over.1.2).workers ∙ ap (λ (w : World). w.workers) over.1.1.1)
+
+    pub post_out : (lent back : Data) (given : PostVerdict) → IsIn k (place.Post o i) old × (is_on old o lent.received ≡ true) → HandsBack lent back → PostReturns before k given (Some back) ended new
+        → IsOut k new
+    unfolding PostReturns
+    post_out lent back given (there, on) hands h =
+        let still = in_still (place.Post o i) old before far there in
+        let at : PostReturnsAt before k given (Some back) ended new (Some (place.Post o i)) = subst (PostReturnsAt before k given (Some back) ended new) still h in
+        let fits = back_fits before o lent back (on_still old before o lent.received far ∙ on) hands in
+        let over = subst (λ (b : Bool). Unless status.BadRequest b ended before new ((ended ≡ Ok tt) × ReturnsFrom before k o (post_returned_of given back) before.contexts new)) fits at in
+        left (place.Post o i) before new still (ap (λ (w : World). w.workers) over.1.1)
+
+    pub drain_out : (given : PostVerdict) → IsIn k (place.Drain o i) old → PostReturns before k given None ended new → IsOut k new
+    unfolding PostReturns
+    drain_out given there h =
+        let still = in_still (place.Drain o i) old before far there in
+        let at : PostReturnsAt before k given None ended new (Some (place.Drain o i)) = subst (PostReturnsAt before k given None ended new) still h in
+        left (place.Drain o i) before new still (ap (λ (w : World). w.workers) at.1.1)
+
+  call_fits_back : (w : World) (o : OpId) (call : BaseCall) (answer : Answer) → told (λ r. call_fits r.operation r.volume r.path call) false o w.flow ≡ true → length answer.bytes ≤ 32768
+      → told (base_fits call answer) false o w.flow ≡ true
+  call_fits_back w o call answer fits size = by_record (find (is_number o) w.flow.operations) fits
+    where
+      by_record : (m : Option FlowRecord) → unwrap_or (option_map (λ r. call_fits r.operation r.volume r.path call) m) false ≡ true → unwrap_or (option_map (base_fits call answer) m) false ≡ true
+      by_record None fits = cc
+      by_record (Some r) fits = call_answered r call answer fits size
+
+  pub call_out : (o : OpId) (old new : World) (call : BaseCall) (answer : Answer) (ended : Result (Unit {0}) Status)
+      → IsIn k (place.Base o) old × (told (λ r. call_fits r.operation r.volume r.path call) false o old.flow ≡ true) → length answer.bytes ≤ 32768 → BaseReturns old k call answer ended new → IsOut k new
+  unfolding BaseReturns
+  call_out o old new call answer ended (there, on) size h =
+      let at : BaseReturnsAt old k call answer ended new (Some (place.Base o)) = subst (BaseReturnsAt old k call answer ended new) there h in
+      let over = subst (λ (b : Bool). Unless status.BadRequest b ended old new ((ended ≡ Ok tt) × LosesLinks (base_returned old k o call answer) new)) (call_fits_back old o call answer on size) at in
+      left (place.Base o) old new there (by_links (base_returned old k o call answer) new over.1).workers
+
+  -- ---- events that move no worker
+
+  pub registered_out : (old : World) (name : List ℕ) (registration : Registration) (result : Result FilterId Status) (new : World) → Registers old name registration result new → StaysOut k old new
+  unfolding Registers
+  registered_out old name registration result new h = still_out old new (ap (λ (w : World). w.workers) h.1)
+
+  pub mounted_out : (old : World) (name : List ℕ) (result : Result VolumeId Status) (new : World) → Mounts old name result new → StaysOut k old new
+  unfolding Mounts
+  mounted_out old name result new h = still_out old new (ap (λ (w : World). w.workers) h.1)
+
+  pub collected_out : (old : World) (o : OpId) (result : Result Answer Status) (new : World) → Collects old o result new → StaysOut k old new
+  unfolding Collects
+  collected_out old o result new h = still_out old new (ap (λ (w : World). w.workers) h.1)
+
+  begun_stays : (w : World) (what : Request) → (after_begin w what).workers ≡ w.workers
+  begun_stays w (request.List v) = refl
+  begun_stays w (request.Create v path mode) = refl
+  begun_stays w (request.OnHandle h asked) = by_handle (handle_at h w.files)
+    where
+      by_stream : (x : FileHandle) (m : Option FileStream) → (begun_on w h (params_of asked) x m).workers ≡ w.workers
+      by_stream x None = refl
+      by_stream x (Some y) = refl
+
+      by_handle : (m : Option FileHandle) → (begun_at w h (params_of asked) m).workers ≡ w.workers
+      by_handle None = refl
+      by_handle (Some x) = by_stream x (stream_at x.stream w.files)
+
+  pub begun_out : (old : World) (what : Request) (result : Result OpId Status) (new : World) → Begins old what result new → StaysOut k old new
+  unfolding Begins
+  begun_out old what (Err why) new h = same_out old new h.1
+  begun_out old what (Ok o) new h = still_out old new (ap (λ (w : World). w.workers) h.1.1 ∙ begun_stays old what)
+
+  pub finished_out : (old : World) (i : InstanceId) (result : Result (Unit {0}) Status) (new : World) → Finishes old i result new → StaysOut k old new
+  unfolding Finishes
+  finished_out old i (Err why) new h = same_out old new h.1
+  finished_out old i (Ok done) new h = still_out old new (ap (λ (w : World). w.workers) h.1)
+
+  pub emptied_out : (old : World) (f : FilterId) (result : Result (Unit {0}) Status) (new : World) → EmptiesFilter old f result new → StaysOut k old new
+  unfolding EmptiesFilter
+  emptied_out old f result new h = still_out old new (ap (λ (w : World). w.workers) h.2)
+
+  pub ended_out : (old : World) (f : FilterId) (result : Result (Unit {0}) Status) (new : World) → FinishesFilter old f result new → StaysOut k old new
+  unfolding FinishesFilter
+  ended_out old f result new h = still_out old new (ap (λ (w : World). w.workers) h.1)
+
+-- ---- where all filters are plain a callback calls nothing
+
+pub quiet_in : {F : Type 0} (pre : F → Data → PreVerdict → Data → Type 0) (post : F → Data → Completion → PostVerdict → Data → Type 0) (is_quiet : F → Type 0) (filters : ℕ → Option F)
+    (s : StackWorld) (i : InstanceId) → ArePlainFilters pre post is_quiet filters → IsQuietIn is_quiet (filter_in filters s i.0)
+quiet_in {F} pre post is_quiet filters s i plain = by_row (slice_get s.instances i.0)
+  where
+    by_filter : (n : ℕ) (m : Option F) → filters n ≡ m → IsQuietIn is_quiet m
+    by_filter n None at = tt
+    by_filter n (Some f) at = (plain n f at).quiet
+
+    by_row : (m : Option Instance) → IsQuietIn is_quiet (filter_in_row filters m)
+    by_row None = tt
+    by_row (Some row) = by_filter row.filter.0 (filters row.filter.0) refl

@@ -1,0 +1,13 @@
+use Rattle.std.specs.Prelude.{Err, Ok}
+use Rattle.std.proofs.Common.{ap}
+use Rattle.fm_local.proofs.Places.{collected_out, still_out}
+use Rattle.fm_local.proofs.manager.LocalManager.reply.Goals as goal
+use Rattle.fm_local.specs.declared.manager.TheConstants.{WORKER}
+
+pub returns-in-Ok-clause-out : goal.returns-in-Ok-clause-out
+returns-in-Ok-clause-out g c out =
+    still_out WORKER c.collect.new.self c.note.new.self.desk.state (ap (λ m. m.desk.state.workers) c.note.ensures)
+    (collected_out WORKER c.args.self.now.desk.state c.args.operation (Ok c.in-Ok.field-0) c.collect.new.self c.in-Ok.ensures.event out)
+
+pub returns-in-Err-clause-out : goal.returns-in-Err-clause-out
+returns-in-Err-clause-out g c = collected_out WORKER c.args.self.now.desk.state c.args.operation (Err c.in-Err.status) c.collect.new.self c.in-Err.ensures.event

@@ -1,0 +1,7 @@
+use Rattle.fm_local.proofs.Places.{still_out}
+use Rattle.fm_local.proofs.manager.LocalManager.settle.Goals as goal
+use Rattle.fm_local.specs.declared.manager.TheConstants.{WORKER}
+
+pub returns-clause-out : goal.returns-clause-out
+returns-clause-out g c out =
+    still_out WORKER c.carry_on_resumed.new.self.desk.state c.clean_up.new.self.desk.state c.clean_up.ensures.tidies.workers (c.carry_on_resumed.ensures.out out)

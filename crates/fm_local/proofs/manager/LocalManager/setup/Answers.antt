@@ -1,0 +1,17 @@
+use Rattle.std.proofs.Common.{sym, ap, subst}
+use Rattle.fm_local.proofs.manager.LocalManager.setup.Goals as goal
+use Rattle.fm_local.specs.declared.manager.TheConstants.{WORKER}
+use Rattle.fm_world.specs.Events.{SetsUp}
+use Rattle.fm_world.specs.World.{World}
+
+pub returns-clause-ends : goal.returns-clause-ends
+returns-clause-ends g c =
+    let before = c.ask_setup-accepts.new.self.desk.state in (
+      before,
+      c.ask_setup-accepts.ensures.far,
+      (
+        c.ask_setup-accepts.result,
+        c.ask_setup-accepts.ensures.said,
+        subst (λ (w : World). SetsUp before WORKER c.ask_setup-accepts.result c.setup_done-ended.result w) (sym (ap (λ m. m.desk.state) c.note_left.ensures)) c.setup_done-ended.ensures.event,
+      ),
+    )

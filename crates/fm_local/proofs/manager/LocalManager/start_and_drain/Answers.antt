@@ -1,0 +1,58 @@
+use Rattle.std.specs.Prelude.{Ok}
+use Rattle.std.proofs.Common.{sym, ap, subst, ◌∙◌}
+use Rattle.fm_local.proofs.Leaving.{start_flow, start_refused}
+use Rattle.fm_local.proofs.Places.{same_out, start_out, started_in}
+use Rattle.fm_local.proofs.manager.LocalManager.start_and_drain.Goals as goal
+use Rattle.fm_local.specs.Drains.{DrainsAll}
+use Rattle.fm_local.specs.Managers.{numbered}
+use Rattle.fm_local.specs.declared.manager.TheConstants.{WORKER}
+use Rattle.fm_local.specs.declared.teardowns.TheConstants.{DRAINED}
+use Rattle.fm_world.specs.Teardowns.{StartReturns}
+use Rattle.fm_world.specs.World.{World}
+
+pub returns-in-Ok-clause-drains : goal.returns-in-Ok-clause-drains
+returns-in-Ok-clause-drains g c =
+    let started = c.start_teardown.new.self in
+    let here = c.start.new.self in
+    let there = started_in WORKER c.args.self.now.desk.state c.args.instance started c.in-Ok.ensures.event in
+    let drains =
+    subst (λ fs. DrainsAll g.F.Minifilter.drained (numbered fs) WORKER c.args.instance DRAINED here.desk.state c.drain_all.new.self.desk.state) (ap (λ m. m.filters) c.start.ensures.kept) c.drain_all.ensures.drains in
+    (started, here.desk.state, c.in-Ok.ensures.event, c.start.ensures.called, c.start.ensures.ends there, drains)
+
+pub returns-in-Err-clause-drains : goal.returns-in-Err-clause-drains
+returns-in-Err-clause-drains g c = (c.in-Err.field-0, c.in-Err.ensures.event)
+
+pub returns-in-Ok-clause-quiet : goal.returns-in-Ok-clause-quiet
+returns-in-Ok-clause-quiet g c plain rests is =
+    let old = c.args.self.now in
+    let started = c.start_teardown.new.self in
+    let back = c.start.new.self.desk.state in
+    let event = c.in-Ok.ensures.event in
+    let quiet = c.start.ensures.quiet plain (started_in WORKER old.desk.state c.args.instance started event) in
+    let kept = c.start.ensures.kept in
+    let flow = start_flow WORKER c.args.instance old.desk.state rests.idle started event back quiet.0 in
+    let same = c.drain_all.ensures.none (ap (λ f. f.operations) flow ∙ rests.operations) in
+    record {
+      started = started;
+      starts = event;
+      returns = subst (λ (w : World). StartReturns started WORKER (Ok tt) w) (sym (ap (λ m. m.desk.state) same)) quiet.0;
+      bases = ap (λ m. m.bases) same ∙ ap (λ m. m.bases) kept;
+      filters = ap (λ m. m.filters) same ∙ ap (λ m. m.filters) kept;
+      resumed = ap (λ m. m.desk.resumed) same ∙ quiet.1;
+    }
+
+pub returns-in-Err-clause-none : goal.returns-in-Err-clause-none
+returns-in-Err-clause-none g c is =
+    let old = c.args.self.now in
+    ap (λ (w : World). record old { desk = record old.desk { state = w } }) (start_refused WORKER c.args.instance old.desk.state c.in-Err.field-0 c.start_teardown.new.self c.in-Err.ensures.event)
+
+pub returns-in-Ok-clause-out : goal.returns-in-Ok-clause-out
+returns-in-Ok-clause-out g c out =
+    let started = c.start_teardown.new.self in
+    let there = started_in WORKER c.args.self.now.desk.state c.args.instance started c.in-Ok.ensures.event in
+    c.drain_all.ensures.out (start_out WORKER started c.start.new.self.desk.state c.args.instance there (c.start.ensures.ends there))
+
+pub returns-in-Err-clause-out : goal.returns-in-Err-clause-out
+returns-in-Err-clause-out g c =
+    let old = c.args.self.now.desk.state in
+    same_out WORKER old c.start_teardown.new.self (start_refused WORKER c.args.instance old c.in-Err.field-0 c.start_teardown.new.self c.in-Err.ensures.event)

@@ -1,0 +1,47 @@
+-- Where the worker is: inside a callback while that runs, whatever it calls, and idle once it has returned.
+use Rattle.std.specs.Prelude.{◌≡◌, Bool, true, false, Some, Result, Ok}
+use Rattle.fm_data.specs.Params.{call_fits, fit}
+use Rattle.fm_data.specs.declared.params.Params.{Params}
+use Rattle.fm_filter.specs.Standing.{standing_of}
+use Rattle.fm_flow.specs.Table.{told}
+use Rattle.fm_flow.specs.declared.action.FlowAction.{FlowAction}
+use Rattle.fm_flow.specs.declared.action.FlowAction.TheVariants as action
+use Rattle.fm_world.specs.Words.{OpId, Status, WorkerId}
+use Rattle.fm_world.specs.Workers.{worker_at}
+use Rattle.fm_world.specs.World.{World}
+use Rattle.fm_world.specs.declared.worker.Worker.{Worker}
+use Rattle.fm_world.specs.declared.worker.Worker.TheVariants as place
+
+abbrev pub IsIn : WorkerId → Worker → World → Type 0
+IsIn k a w = worker_at w.workers k ≡ Some a
+
+abbrev pub IsOut : WorkerId → World → Type 0
+IsOut k w = IsIn k place.Idle w
+
+-- a worker that was there is idle
+abbrev pub ComesOut : WorkerId → Worker → World → World → Type 0
+ComesOut k a old new = IsIn k a old → IsOut k new
+
+-- an idle worker is idle again
+abbrev pub StaysOut : WorkerId → World → World → Type 0
+StaysOut k old new = IsOut k old → IsOut k new
+
+-- a callback runs, which leaves what stands, and then the event comes that ends it
+abbrev pub EndsFrom : World → (World → Type 0) → Type 0
+EndsFrom old Ends = (before : World) × (standing_of before ≡ standing_of old) × Ends before
+
+-- whether such parameters are of the operation
+abbrev pub is_on : World → OpId → Params → Bool
+is_on w o p = told (λ r. fit r.operation r.path p) false o w.flow
+
+-- the worker is inside what an operation is to do next, with data that is of the operation; and idle where there is nothing to do
+abbrev pub IsLent : WorkerId → OpId → Result FlowAction Status → World → Type 0
+IsLent k o (Ok (action.Pre i lent)) w = IsIn k (place.Pre o i) w × (is_on w o lent.received ≡ true)
+IsLent k o (Ok (action.Base call)) w = IsIn k (place.Base o) w × (told (λ r. call_fits r.operation r.volume r.path call) false o w.flow ≡ true)
+IsLent k o (Ok (action.Post i lent completion)) w = IsIn k (place.Post o i) w × (is_on w o lent.received ≡ true)
+IsLent k o (Ok (action.Drain i completion)) w = IsIn k (place.Drain o i) w
+IsLent k o _ w = IsOut k w
+
+-- once that is done the worker is idle
+abbrev pub EndsOut : WorkerId → OpId → Result FlowAction Status → World → World → Type 0
+EndsOut k o said old new = IsLent k o said old → IsOut k new

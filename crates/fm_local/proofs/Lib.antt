@@ -34,3 +34,4 @@ pub mod Unloaded
 pub mod Standing
 pub mod Lent
 pub mod Places
+pub mod GoingOn

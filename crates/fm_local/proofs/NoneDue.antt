@@ -1,5 +1,5 @@
 -- What is due stays none through the events that a call makes besides cleanups.
-use Rattle.std.specs.Prelude.{◌≡◌, ℕ, Bool, List, Some, Result, Ok, Err, IsOk, refl}
+use Rattle.std.specs.Prelude.{◌≡◌, ℕ, Bool, List, Some, Result, Ok, Err, IfErr, IsOk, refl}
 use Rattle.std.proofs.Common.{sym, ap, subst, ◌∙◌}
 use Rattle.fm_types.specs.declared.registration.Registration.{Registration}
 use Rattle.fm_types.specs.declared.status.Status.{Status}
@@ -16,7 +16,7 @@ use Rattle.fm_world.specs.World.{World, empty_world}
 use Rattle.fm_world.specs.declared.worker.Worker.TheVariants as place
 use Rattle.fm_local.proofs.Leaving.{start_refused}
 use Rattle.fm_local.proofs.Resting.{ask_refused, attach_refused, complete_refused, happened, is_in, is_out, ask_unload_refused}
-use Rattle.fm_local.specs.Calls.{UnloadsWith}
+use Rattle.fm_local.specs.Calls.{EndsTidily, UnloadsWith}
 use Rattle.fm_local.specs.Cleanups.{HasNoneDue, LeavesNoneDue}
 
 module _ (k : WorkerId) where
@@ -103,3 +103,9 @@ module _ (k : WorkerId) where
   pub none_agreed : (may : Bool → Type 0) (old : World) (f : FilterId) (asked : World) → AsksUnload old k f (Ok tt) asked → (result : Result (Unit {0}) Status) (new : World)
       → UnloadsWith may k asked result new → LeavesNoneDue k old new
   none_agreed may old f asked asks result new (allows, answer, returns) = none_unload old asked f allows result new asks returns
+
+  -- ---- an instance that was refused ends
+
+  pub ends_tidily : (i : InstanceId) (accepted : Result (Unit {0}) Status) (new : World) → EndsTidily k i new → IfErr accepted (λ _. EndsTidily k i new)
+  ends_tidily i (Ok done) new ends = tt
+  ends_tidily i (Err why) new ends = ends

@@ -15,11 +15,14 @@ use Rattle.fm_data.specs.declared.request.Request.{Request}
 use Rattle.fm_data.specs.declared.verdict.Completion.{Completion}
 use Rattle.fm_data.specs.declared.verdict.PreVerdict.{PreVerdict}
 use Rattle.fm_data.specs.declared.verdict.PostVerdict.{PostVerdict}
+use Rattle.fm_data.specs.declared.verdict.PostVerdict.TheVariants.{Finished}
 use Rattle.fm_data.specs.declared.request.Request.TheVariants as request
 use Rattle.fm_filter.specs.Standing.{Shape, shape_of, standing_of}
 use Rattle.fm_flow.specs.Record.{FlowRecord}
 use Rattle.fm_flow.specs.Steps.{base_fits, post_returned_of}
 use Rattle.fm_flow.specs.Table.{is_number, told}
+use Rattle.fm_flow.specs.declared.action.FlowAction.{FlowAction}
+use Rattle.fm_flow.specs.declared.action.FlowAction.TheVariants as action
 use Rattle.fm_world.proofs.Events.{idle_by}
 use Rattle.fm_stack.specs.StackWorld.{StackWorld}
 use Rattle.fm_stack.specs.declared.instance.Instance.{Instance}
@@ -42,11 +45,11 @@ use Rattle.fm_world.specs.declared.worker.Worker.TheVariants as place
 use Rattle.fm_local.proofs.Events.{by_links, placed}
 use Rattle.fm_local.proofs.Fitting.{call_answered, fits_back}
 use Rattle.fm_local.proofs.Resting.{is_in}
-use Rattle.fm_local.specs.Actions.{ArePlainFilters}
+use Rattle.fm_local.specs.Actions.{ArePlainFilters, Makes}
 use Rattle.fm_local.specs.Chains.{filter_in, filter_in_row}
 use Rattle.fm_local.specs.Managers.{IsQuietIn}
 use Rattle.fm_local.specs.Calls.{QueriesWith, SetsUpWith, UnloadsWith}
-use Rattle.fm_local.specs.Places.{EndsFrom, IsIn, IsOut, StaysOut, is_on}
+use Rattle.fm_local.specs.Places.{EndsFrom, IsIn, IsLent, IsOut, StaysOut, is_on}
 use Rattle.fm_local.specs.Turns.{HandsBack}
 
 -- ---- what stands
@@ -215,6 +218,19 @@ module _ (k : WorkerId) where
       let at : BaseReturnsAt old k call answer ended new (Some (place.Base o)) = subst (BaseReturnsAt old k call answer ended new) there h in
       let over = subst (λ (b : Bool). Unless status.BadRequest b ended old new ((ended ≡ Ok tt) × LosesLinks (base_returned old k o call answer) new)) (call_fits_back old o call answer on size) at in
       left (place.Base o) old new there (by_links (base_returned old k o call answer) new over.1).workers
+
+  -- whatever was next, the worker is idle once it is done
+  module _ {F D : Type 0} (pre : F → Data → PreVerdict → Data → Type 0) (post : F → Data → Completion → PostVerdict → Data → Type 0) (drained : F → Completion → Type 0)
+      (carries : D → BaseCall → Answer → D → Type 0) (filters : ℕ → Option F) where
+    pub makes_out : (o : OpId) (said : Result FlowAction Status) (mid : World) (d : D) (new : World) (e : D) → IsLent k o said mid → Makes pre post drained carries filters k o said mid d new e → IsOut k new
+    makes_out o (Ok (action.Pre i lent)) mid d new e is (verdict, back, result, may, hands, (before, far, event), same) = pre_out o i mid before new far result lent back verdict is hands event
+    makes_out o (Ok (action.Base call)) mid d new e is (answer, result, carried, size, event) = call_out o mid new call answer result is size event
+    makes_out o (Ok (action.Post i lent completion)) mid d new e is (verdict, back, result, may, hands, (before, far, event), same) = post_out o i mid before new far result lent back verdict is hands event
+    makes_out o (Ok (action.Drain i completion)) mid d new e is (result, called, (before, far, event), same) = drain_out o i mid before new far result Finished is event
+    makes_out o (Ok action.Moved) mid d new e is (same, bases) = same_out mid new same is
+    makes_out o (Ok action.Held) mid d new e is (same, bases) = same_out mid new same is
+    makes_out o (Ok action.Done) mid d new e is (same, bases) = same_out mid new same is
+    makes_out o (Err why) mid d new e is (same, bases) = same_out mid new same is
 
   -- ---- events that move no worker
 

@@ -1,7 +1,9 @@
 -- What a manager does of what its state says is next: how a turn of an operation ends, and where turn after turn leads.
-use Rattle.std.specs.Prelude.{◌≡◌, ◌<◌, ℕ, zero, suc, Bool, true, false, not, List, [], ◌∷◌, length, map, Option, Some, None, Result, Ok, Err}
+use Rattle.std.specs.Prelude.{◌≡◌, ◌<◌, ◌≤◌, ◌⊎◌, ◌++◌, ℕ, zero, suc, Bool, true, false, not, List, [], ◌∷◌, length, map, Option, Some, None, Result, Ok, Err, IsErr}
 use Rattle.std.specs.VecDeque.{deque_capacity}
+use Rattle.fm_types.specs.declared.context_kind.ContextKind.{ContextKind}
 use Rattle.fm_types.specs.declared.ids.HandleId.{HandleId}
+use Rattle.fm_types.specs.declared.ids.InstanceId.{InstanceId}
 use Rattle.fm_types.specs.declared.status.Status.{Status}
 use Rattle.fm_types.specs.declared.status.Status.TheVariants as status
 use Rattle.fm_data.specs.declared.answer.Answer.{Answer}
@@ -14,23 +16,31 @@ use Rattle.fm_data.specs.declared.request.Request.TheVariants as request
 use Rattle.fm_data.specs.declared.verdict.Completion.{Completion}
 use Rattle.fm_data.specs.declared.verdict.PreVerdict.{PreVerdict}
 use Rattle.fm_data.specs.declared.verdict.PostVerdict.{PostVerdict}
+use Rattle.fm_data.specs.declared.verdict.PostVerdict.TheVariants.{Finished}
 use Rattle.fm_data.specs.Data.{Data}
 use Rattle.fm_base.specs.Folders.{Folder}
 use Rattle.fm_flow.specs.Answered.{bare_answer}
 use Rattle.fm_flow.specs.declared.action.FlowAction.{FlowAction}
 use Rattle.fm_flow.specs.declared.action.FlowAction.TheVariants as action
 use Rattle.fm_filter.specs.Plain.{IsPlainFilter}
-use Rattle.fm_world.specs.Events.{Nexts, Begins, Collects, begin_refused}
+use Rattle.fm_world.specs.Events.{Nexts, Begins, Collects, PreReturns, PostReturns, begin_refused}
 use Rattle.fm_world.specs.Sound.{IsSound}
+use Rattle.fm_world.specs.ContextEvents.{Finishes}
+use Rattle.fm_world.specs.Teardowns.{AsksDetach, CompletesTeardown, CompleteReturns, StartsTeardown}
 use Rattle.fm_world.specs.Words.{OpId, WorkerId}
 use Rattle.fm_world.specs.World.{World}
 use Rattle.fm_local.specs.declared.requests.Turn.{Turn}
 use Rattle.fm_local.specs.declared.requests.Turn.TheVariants as turn
 use Rattle.fm_local.specs.declared.manager.LocalManager.{LocalManager}
 use Rattle.fm_local.specs.Bases.{BasesCarry}
+use Rattle.fm_local.specs.Calls.{QueriesWith, SetsUpWith}
 use Rattle.fm_local.specs.Managers.{numbered}
 use Rattle.fm_local.specs.Requests.{under, NoneStops, IsAtRest, AnswersOne, AnswersAll, DoesTidily, Tidies}
-use Rattle.fm_local.specs.Turns.{Does, Turns, Carries}
+use Rattle.fm_local.specs.Chains.{PreMay, PostMay, filter_in}
+use Rattle.fm_local.specs.Cleanups.{CleansAll}
+use Rattle.fm_local.specs.Drains.{StartsAndDrains, WasCalled}
+use Rattle.fm_local.specs.Places.{EndsFrom}
+use Rattle.fm_local.specs.Turns.{Does, HandsBack, Turns, Carries}
 
 -- all filters are plain
 abbrev pub ArePlainFilters : {F : Type 0} → (F → Data → PreVerdict → Data → Type 0) → (F → Data → Completion → PostVerdict → Data → Type 0) → (F → Type 0) → (ℕ → Option F) → Type 0
@@ -54,6 +64,45 @@ module _ {F D : Type 0} (pre : F → Data → PreVerdict → Data → Type 0) (p
   abbrev pub HasTurned : ℕ → World → D → World → D → Type 0
   HasTurned zero old d new e = (new ≡ old) × (e ≡ d)
   HasTurned (suc n) old d new e = (mid : World) × (between : D) × HasTurned n old d mid between × Turns pre post carries filters k o mid between new e
+
+-- how a turn ends, by what it found to be next
+abbrev pub ends_turn : Result FlowAction Status → Turn
+ends_turn (Ok action.Done) = turn.Done
+ends_turn (Ok action.Held) = turn.Held
+ends_turn (Err why) = turn.Held
+ends_turn said = turn.Goes
+
+-- ---- by filters of any kind
+module _ {F D : Type 0} (pre : F → Data → PreVerdict → Data → Type 0) (post : F → Data → Completion → PostVerdict → Data → Type 0) (drained : F → Completion → Type 0)
+    (carries : D → BaseCall → Answer → D → Type 0) (filters : ℕ → Option F) (k : WorkerId) (o : OpId) where
+  -- what is next is done: the callback of the instance that is named runs, and then the event comes that ends it; or the call of the device; or nothing
+  abbrev pub Makes : Result FlowAction Status → World → D → World → D → Type 0
+  Makes (Ok (action.Pre i lent)) mid d new e =
+      (verdict : PreVerdict) × (back : Data) × (result : Result (Unit {0}) Status) × PreMay pre (filter_in filters mid.stack i.0) lent verdict back × HandsBack lent back
+      × EndsFrom mid (λ before. PreReturns before k verdict back result new) × (e ≡ d)
+  Makes (Ok (action.Base call)) mid d new e = Does pre post carries filters k o (Ok (action.Base call)) mid d new e
+  Makes (Ok (action.Post i lent completion)) mid d new e =
+      (verdict : PostVerdict) × (back : Data) × (result : Result (Unit {0}) Status) × PostMay post (filter_in filters mid.stack i.0) lent completion verdict back
+      × HandsBack lent back × EndsFrom mid (λ before. PostReturns before k verdict (Some back) result new) × (e ≡ d)
+  Makes (Ok (action.Drain i completion)) mid d new e =
+      (result : Result (Unit {0}) Status) × WasCalled (λ f. drained f completion) (filter_in filters mid.stack i.0)
+      × EndsFrom mid (λ before. PostReturns before k Finished None result new) × (e ≡ d)
+  Makes said mid d new e = (new ≡ mid) × (e ≡ d)
+
+  -- a turn: the state says what is next, and that is done
+  abbrev pub TakesTurn : Turn → World → D → World → D → Type 0
+  TakesTurn ended old d new e = (said : Result FlowAction Status) × (mid : World) × Nexts old k o said mid × (ended ≡ ends_turn said) × Makes said mid d new e
+
+  -- so many, behind each of which there is more to do
+  abbrev pub TakesTurns : ℕ → World → D → World → D → Type 0
+  TakesTurns zero old d new e = (new ≡ old) × (e ≡ d)
+  TakesTurns (suc n) old d new e = (mid : World) × (between : D) × TakesTurns n old d mid between × TakesTurn turn.Goes mid between new e
+
+  -- turn after turn, until one ends otherwise, or as many as there can be
+  abbrev pub GoesOn : ℕ → Turn → World → D → World → D → Type 0
+  GoesOn most ended old d new e =
+      (n : ℕ) × (mid : World) × (between : D) × TakesTurns n old d mid between
+      × (TakesTurn ended mid between new e ⊎ ((most ≤ n) × (ended ≡ turn.Held) × (new ≡ mid) × (e ≡ between)))
 
 -- the operation began, in a state that is sound, while no other was under way and no instance was being torn down
 pub record IsBegun (k : WorkerId) (o : OpId) (begun : World) : Type 0 where
@@ -117,7 +166,108 @@ RefusesIn what old said new =
 abbrev pub RefusesOne : {F B : Type 0} → Request → LocalManager F B → Reply → LocalManager F B → Type 0
 RefusesOne what old said new = (why : Status) → begin_refused old.desk.state what ≡ Some why → (said ≡ replied (bare_answer why)) × (new ≡ old)
 
+-- an operation whose turns end so is answered, or held
+abbrev pub RepliesWith : {F B : Type 0} → Turn → OpId → LocalManager F B → Reply → LocalManager F B → Type 0
+RepliesWith turn.Done o old said new =
+    ((collected : Result Answer Status) × Collects old.desk.state o collected new.desk.state × (said ≡ reply_of collected))
+    × (new ≡ record old { desk = record old.desk { state = new.desk.state }; trace = new.trace })
+RepliesWith ended o old said new = (said ≡ reply.Held o) × (new ≡ old)
+
 -- ---- of a manager
+module _ {F B : Type 0} (pre : F → Data → PreVerdict → Data → Type 0) (post : F → Data → Completion → PostVerdict → Data → Type 0) (drained : F → Completion → Type 0)
+    (folder : B → Option Folder) (faults : B → ℕ) (k : WorkerId) where
+  -- an operation that ended waits with its reply, behind those that ended before it, where there is room; of any other nothing is noted
+  abbrev pub NotesEnd : Turn → OpId → LocalManager F B → LocalManager F B → Type 0
+  NotesEnd turn.Done o old new = length old.finished.items.items < deque_capacity old.finished.items → new.finished.items.items ≡ old.finished.items.items ++ o ∷ []
+  NotesEnd ended o old new = new.finished ≡ old.finished
+
+  -- an operation that was resumed goes on, until it ends or is held again
+  abbrev pub CarriesOn : ℕ → OpId → LocalManager F B → LocalManager F B → Type 0
+  CarriesOn most o old new =
+      (ended : Turn) × GoesOn pre post drained (BasesCarry folder faults) (numbered old.filters) k o most ended old.desk.state old.bases.items new.desk.state new.bases.items
+      × NotesEnd ended o old new
+
+  -- so the one that was resumed first, which doesn't wait any more
+  abbrev pub CarriesOnFirst : ℕ → LocalManager F B → LocalManager F B → Type 0
+  CarriesOnFirst most old new =
+      (o : OpId) × (taken : LocalManager F B) × (old.desk.resumed.items.items ≡ o ∷ taken.desk.resumed.items.items)
+      × (taken ≡ record old { desk = record old.desk { resumed = taken.desk.resumed } }) × CarriesOn most o taken new
+
+  -- the same, but for where the queue keeps what waits
+  abbrev pub WaitsAlike : LocalManager F B → LocalManager F B → Type 0
+  WaitsAlike old new =
+      (new ≡ record old { desk = record old.desk { resumed = new.desk.resumed } }) × (new.desk.resumed.items.items ≡ old.desk.resumed.items.items)
+
+  -- so many, one after the other
+  abbrev pub CarriesOnMany : ℕ → ℕ → LocalManager F B → LocalManager F B → Type 0
+  CarriesOnMany most zero old new = new ≡ old
+  CarriesOnMany most (suc n) old new = (mid : LocalManager F B) × CarriesOnMany most n old mid × CarriesOnFirst most mid new
+
+  -- until none waits, or as many as there can be
+  abbrev pub CarriesOnAll : ℕ → ℕ → LocalManager F B → LocalManager F B → Type 0
+  CarriesOnAll most limit old new =
+      (n : ℕ) × (mid : LocalManager F B) × CarriesOnMany most n old mid × WaitsAlike mid new × ((new.desk.resumed.items.items ≡ []) ⊎ (limit ≤ n))
+
+  -- and then what is due is cleaned up
+  abbrev pub Settles : (F → ContextKind → List ℕ → ℕ → Type 0) → ℕ → ℕ → LocalManager F B → LocalManager F B → Type 0
+  Settles cleanup most limit old new =
+      (carried : LocalManager F B) × CarriesOnAll most limit old carried × CleansAll cleanup (numbered carried.filters) k carried.desk.state new.desk.state
+
+  module _ (cleanup : F → ContextKind → List ℕ → ℕ → Type 0) (most limit : ℕ) where
+    -- an operation that began goes on, and is answered; then what was resumed is carried on, and what is due cleaned up
+    abbrev pub RunsOn : OpId → LocalManager F B → Reply → LocalManager F B → Type 0
+    RunsOn o old said new =
+        (ended : Turn) × (carried answered : LocalManager F B)
+        × GoesOn pre post drained (BasesCarry folder faults) (numbered old.filters) k o most ended old.desk.state old.bases.items carried.desk.state carried.bases.items
+        × (carried ≡ record old { desk = carried.desk; bases = carried.bases; trace = carried.trace; hand = carried.hand; leaks = carried.leaks })
+        × RepliesWith ended o carried said answered × Settles cleanup most limit answered new
+
+    -- the start of a teardown is refused; or it starts and drains, and behind that what was resumed is carried on
+    abbrev pub StartsThenSettles : (F → Type 0) → ℕ → InstanceId → LocalManager F B → LocalManager F B → Type 0
+    StartsThenSettles begins drains i old new =
+        ((why : Status) × StartsTeardown old.desk.state k i (Err why) new.desk.state)
+        ⊎ ((told : LocalManager F B) × StartsAndDrains drained (numbered old.filters) k i begins drains true old.desk.state told.desk.state × Settles cleanup most limit told new)
+
+    -- an instance is set up; then what was resumed is carried on, and one that was refused ends
+    abbrev pub EndsIfRefused : Result (Unit {0}) Status → InstanceId → LocalManager F B → LocalManager F B → Type 0
+    EndsIfRefused (Ok done) i old new = new ≡ old
+    EndsIfRefused (Err why) i old new = (finished : Result (Unit {0}) Status) × Finishes old.desk.state i finished new.desk.state
+
+    abbrev pub SetsUpThenSettles : (Bool → Type 0) → InstanceId → LocalManager F B → Result (Unit {0}) Status → LocalManager F B → Type 0
+    SetsUpThenSettles may i old result new =
+        (told settled : LocalManager F B) × EndsFrom old.desk.state (λ before. SetsUpWith may k before result told.desk.state) × Settles cleanup most limit told settled × EndsIfRefused result i settled new
+
+    -- its filter is asked whether it may be detached, unless that is refused; then what was resumed is carried on
+    abbrev pub AsksThenSettles : (World → InstanceId → Bool → Type 0) → InstanceId → LocalManager F B → Result (Unit {0}) Status → LocalManager F B → Type 0
+    AsksThenSettles may i old result new =
+        (IsErr result × AsksDetach old.desk.state k i result new.desk.state)
+        ⊎ ((asked : World) × (told : LocalManager F B) × AsksDetach old.desk.state k i (Ok tt) asked × EndsFrom asked (λ before. QueriesWith (may asked i) k before result told.desk.state)
+        × Settles cleanup most limit told new)
+
+    -- the end of a teardown, where it is stopping: that is refused, or the filter is told, and then what was resumed is carried on
+    abbrev pub TellsThenSettles : (F → Type 0) → Bool → InstanceId → LocalManager F B → Result (Unit {0}) Status → LocalManager F B → Type 0
+    TellsThenSettles completed false i old result new = (result ≡ Ok tt) × (new ≡ old)
+    TellsThenSettles completed true i old result new =
+        (IsErr result × CompletesTeardown old.desk.state k i result new.desk.state)
+        ⊎ ((completing : World) × (told : LocalManager F B) × CompletesTeardown old.desk.state k i (Ok tt) completing × WasCalled completed (filter_in (numbered old.filters) completing.stack i.0)
+        × EndsFrom completing (λ before. CompleteReturns before k (Ok tt) told.desk.state) × Settles cleanup most limit told new × (result ≡ Ok tt))
+
+    -- a request begins an operation, unless that is refused
+    abbrev pub RequestsOne : Request → LocalManager F B → Reply → LocalManager F B → Type 0
+    RequestsOne what old said new =
+        ((why : Status) × Begins old.desk.state what (Err why) new.desk.state × (said ≡ replied (bare_answer why)))
+        ⊎ ((o : OpId) × (begun : World) × Begins old.desk.state what (Ok o) begun × RunsOn o (record old { desk = record old.desk { state = begun } }) said new)
+
+    -- a close comes after its cleanup, where that doesn't end it
+    abbrev pub ClosesThen : Bool → HandleId → LocalManager F B → Reply → Reply → LocalManager F B → Type 0
+    ClosesThen true h mid cleaned said new = RequestsOne (request.OnHandle h asked.Close) mid said new
+    ClosesThen false h mid cleaned said new = (said ≡ cleaned) × (new ≡ mid)
+
+    abbrev pub Requests : Request → LocalManager F B → Reply → LocalManager F B → Type 0
+    Requests (request.OnHandle h asked.Close) old said new =
+        (cleaned : Reply) × (mid : LocalManager F B) × RequestsOne (request.OnHandle h asked.Cleanup) old cleaned mid × ClosesThen (goes_on cleaned) h mid cleaned said new
+    Requests what old said new = RequestsOne what old said new
+
 module _ {F B : Type 0} (pre : F → Data → PreVerdict → Data → Type 0) (post : F → Data → Completion → PostVerdict → Data → Type 0) (is_quiet : F → Type 0)
     (folder : B → Option Folder) (faults : B → ℕ) (k : WorkerId) where
   -- ready for a request: all filters are plain, nothing is under way or torn down, and nothing that was resumed waits

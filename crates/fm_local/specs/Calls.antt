@@ -16,6 +16,7 @@ use Rattle.fm_stack.specs.declared.instance.Phase.{Phase}
 use Rattle.fm_stack.specs.declared.instance.Phase.TheVariants as phase
 use Rattle.fm_local.specs.declared.filters.Filters.{Filters}
 use Rattle.fm_local.specs.Chains.{filter_in}
+use Rattle.fm_local.specs.Cleanups.{HasNoneDue}
 use Rattle.fm_local.specs.Managers.{handed_in, numbered}
 use Rattle.fm_local.specs.Places.{EndsFrom}
 use Rattle.fm_world.specs.World.{World}
@@ -57,11 +58,15 @@ SetsUpWith may k before ended after = (accepts : Bool) × may accepts × SetsUp 
 abbrev pub SetupEnds : (Bool → Type 0) → WorkerId → World → Result (Unit {0}) Status → Type 0
 SetupEnds may k born ended = (after : World) × EndsFrom born (λ before. SetsUpWith may k before ended after)
 
+-- once nothing is due any more an instance that was refused ends
+abbrev pub EndsTidily : WorkerId → InstanceId → World → Type 0
+EndsTidily k i new = (tidy : World) × (finished : Result (Unit {0}) Status) × HasNoneDue k tidy × Finishes tidy i finished new
+
 -- an instance is attached: that is refused at once, or its setup callback is called, and then its end refuses it or not
 abbrev pub AttachesAs : (World → InstanceId → Bool → Type 0) → World → WorkerId → FilterId → VolumeId → List ℕ → List ℕ → Result InstanceId Status → World → Type 0
 AttachesAs may old k f v name altitude (Err status) new =
     Attaches old k f v name altitude (Err status) new
-    ⊎ ((i : InstanceId) × (born : World) × Attaches old k f v name altitude (Ok i) born × SetupEnds (may born i) k born (Err status))
+    ⊎ ((i : InstanceId) × (born : World) × Attaches old k f v name altitude (Ok i) born × SetupEnds (may born i) k born (Err status) × EndsTidily k i new)
 AttachesAs may old k f v name altitude (Ok i) new = (born : World) × Attaches old k f v name altitude (Ok i) born × SetupEnds (may born i) k born (Ok tt)
 
 -- the end of a query callback, with an answer that its filter may give

@@ -5,7 +5,7 @@ use Rattle.fm_types.specs.declared.ids.OpId.{OpId}
 use Rattle.fm_types.specs.declared.status.Status.{Status}
 use Rattle.fm_data.specs.declared.verdict.Completion.{Completion}
 use Rattle.fm_world.specs.EarlyDrains.{TakesDrain, DrainReturns}
-use Rattle.fm_world.specs.Teardowns.{CompletesTeardown, CompleteReturns, StartsTeardown, StartReturns}
+use Rattle.fm_world.specs.Teardowns.{StartsTeardown, StartReturns}
 use Rattle.fm_world.specs.Words.{WorkerId}
 use Rattle.fm_world.specs.World.{World}
 use Rattle.fm_local.specs.Chains.{filter_in}
@@ -20,14 +20,6 @@ module _ (k : WorkerId) (i : InstanceId) where
   -- who asks for a drain gets none
   abbrev pub OwesNone : World → Type 0
   OwesNone w = TakesDrain w k i (Ok None) w ⊎ ((why : Status) × TakesDrain w k i (Err why) w)
-
-  -- a teardown's end is told, unless it can't come yet
-  abbrev pub TellsEnd : {F : Type 0} → (F → Type 0) → (ℕ → Option F) → Bool → World → Type 0
-  TellsEnd completed filters false old = ⊤
-  TellsEnd completed filters true old =
-      ((why : Status) × (new : World) × CompletesTeardown old k i (Err why) new)
-      ⊎ ((completing returned : World) × CompletesTeardown old k i (Ok tt) completing × WasCalled completed (filter_in filters completing.stack i.0)
-      × EndsFrom completing (λ before. CompleteReturns before k (Ok tt) returned))
 
 module _ {F : Type 0} (drained : F → Completion → Type 0) (filters : ℕ → Option F) (k : WorkerId) (i : InstanceId) where
   -- a drain is taken, the filter is called, and the drain ends

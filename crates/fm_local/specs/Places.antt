@@ -41,7 +41,3 @@ IsLent k o (Ok (action.Base call)) w = IsIn k (place.Base o) w × (told (λ r. c
 IsLent k o (Ok (action.Post i lent completion)) w = IsIn k (place.Post o i) w × (is_on w o lent.received ≡ true)
 IsLent k o (Ok (action.Drain i completion)) w = IsIn k (place.Drain o i) w
 IsLent k o _ w = IsOut k w
-
--- once that is done the worker is idle
-abbrev pub EndsOut : WorkerId → OpId → Result FlowAction Status → World → World → Type 0
-EndsOut k o said old new = IsLent k o said old → IsOut k new

@@ -1,5 +1,5 @@
 -- What a callback's resumptions through its port may answer beyond what the events say.
-use Rattle.std.specs.Prelude.{Bool, not, length, nat_le, Result}
+use Rattle.std.specs.Prelude.{◌≡◌, ◌++◌, ◌∷◌, Bool, not, List, [], length, nat_le, Result, Ok, Err}
 use Rattle.std.specs.VecDeque.{deque_capacity}
 use Rattle.fm_types.specs.declared.ids.OpId.{OpId}
 use Rattle.fm_types.specs.declared.ids.WorkerId.{WorkerId}
@@ -7,15 +7,27 @@ use Rattle.fm_types.specs.declared.status.Status.{Status}
 use Rattle.fm_types.specs.declared.status.Status.TheVariants.{TooMany}
 use Rattle.fm_data.specs.declared.verdict.PreVerdict.{PreVerdict}
 use Rattle.fm_world.specs.Events.{Unless, ResumesPre, ResumesPost}
+use Rattle.fm_world.specs.World.{World}
 use Rattle.fm_local.specs.declared.local_port.Desk.{Desk}
 
 -- whether there is room to note one more resumed operation
 abbrev pub has_room : Desk → Bool
 has_room desk = not (nat_le (deque_capacity desk.resumed.items) (length desk.resumed.items.items))
 
+-- an event, by which nothing that waits to be carried on changes
+abbrev pub OnState : (World → World → Type 0) → Desk → Desk → Type 0
+OnState Event old new = Event old.state new.state × (new.resumed ≡ old.resumed)
+
+-- what waits after a resumption: that operation behind the others
+abbrev pub queued : OpId → Result (Unit {0}) Status → List OpId → List OpId
+queued o (Ok done) waiting = waiting ++ o ∷ []
+queued o (Err why) waiting = waiting
+
 -- refused where there is no room, and else the event
 abbrev pub ResumesPreIn : Desk → WorkerId → OpId → PreVerdict → Result (Unit {0}) Status → Desk → Type 0
-ResumesPreIn old k o verdict result new = Unless TooMany (has_room old) result old.state new.state (ResumesPre old.state k o verdict result new.state)
+ResumesPreIn old k o verdict result new =
+    Unless TooMany (has_room old) result old.state new.state (ResumesPre old.state k o verdict result new.state) × (new.resumed.items.items ≡ queued o result old.resumed.items.items)
 
 abbrev pub ResumesPostIn : Desk → WorkerId → OpId → Result (Unit {0}) Status → Desk → Type 0
-ResumesPostIn old k o result new = Unless TooMany (has_room old) result old.state new.state (ResumesPost old.state k o result new.state)
+ResumesPostIn old k o result new =
+    Unless TooMany (has_room old) result old.state new.state (ResumesPost old.state k o result new.state) × (new.resumed.items.items ≡ queued o result old.resumed.items.items)

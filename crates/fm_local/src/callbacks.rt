@@ -3,12 +3,12 @@
 ghost use Rattle.std.specs.Prelude.{◌≡◌, None, Ok};
 ghost use Rattle.fm_filter.specs.Standing.{standing_of};
 ghost use Rattle.fm_flow.specs.declared.action.FlowAction.TheVariants as step;
-ghost use Rattle.fm_local.specs.Actions.{ArePlainFilters};
+ghost use Rattle.fm_local.specs.Actions.{ArePlainFilters, Makes};
 ghost use Rattle.fm_local.specs.Bases.{BasesCarry};
 ghost use Rattle.fm_local.specs.Chains.{filter_in, PreMay, PostMay};
 ghost use Rattle.fm_local.specs.Drains.{WasCalled};
 ghost use Rattle.fm_local.specs.Managers.{numbered, IsQuietIn};
-ghost use Rattle.fm_local.specs.Places.{EndsFrom, EndsOut, IsIn};
+ghost use Rattle.fm_local.specs.Places.{EndsFrom, IsIn};
 ghost use Rattle.fm_local.specs.Turns.{Does};
 ghost use Rattle.fm_world.specs.EarlyDrains.{DrainReturns};
 ghost use Rattle.fm_world.specs.Events.{PreReturns, PostReturns};
@@ -89,7 +89,7 @@ impl<F: Minifilter, B: Base> LocalManager<F, B> {
     ) -> Result<(), Status>
         ensures does { ArePlainFilters F.pre_may F.post_may F.is_quiet (numbered self.old.filters) → Does F.pre_may F.post_may (BasesCarry B.folder B.faults) (numbered self.old.filters) WORKER operation (Ok (step.Pre instance lent)) self.old.desk.state self.old.bases.items self.new.desk.state self.new.bases.items }
         ensures quiet { ArePlainFilters F.pre_may F.post_may F.is_quiet (numbered self.old.filters) → self.new.desk.resumed ≡ self.old.desk.resumed }
-        ensures out { EndsOut WORKER operation (Ok (step.Pre instance lent)) self.old.desk.state self.new.desk.state }
+        ensures makes { Makes F.pre_may F.post_may F.drained (BasesCarry B.folder B.faults) (numbered self.old.filters) WORKER operation (Ok (step.Pre instance lent)) self.old.desk.state self.old.bases.items self.new.desk.state self.new.bases.items }
         ensures kept { self.new ≡ record self.old { desk = self.new.desk; trace = self.new.trace; hand = self.new.hand; leaks = self.new.leaks } }
     {
         let verdict = self.ask_pre(instance, &mut lent);
@@ -153,7 +153,7 @@ impl<F: Minifilter, B: Base> LocalManager<F, B> {
     ) -> Result<(), Status>
         ensures does { ArePlainFilters F.pre_may F.post_may F.is_quiet (numbered self.old.filters) → Does F.pre_may F.post_may (BasesCarry B.folder B.faults) (numbered self.old.filters) WORKER operation (Ok (step.Post instance lent completion)) self.old.desk.state self.old.bases.items self.new.desk.state self.new.bases.items }
         ensures quiet { ArePlainFilters F.pre_may F.post_may F.is_quiet (numbered self.old.filters) → self.new.desk.resumed ≡ self.old.desk.resumed }
-        ensures out { EndsOut WORKER operation (Ok (step.Post instance lent completion)) self.old.desk.state self.new.desk.state }
+        ensures makes { Makes F.pre_may F.post_may F.drained (BasesCarry B.folder B.faults) (numbered self.old.filters) WORKER operation (Ok (step.Post instance lent completion)) self.old.desk.state self.old.bases.items self.new.desk.state self.new.bases.items }
         ensures kept { self.new ≡ record self.old { desk = self.new.desk; trace = self.new.trace; hand = self.new.hand; leaks = self.new.leaks } }
     {
         let verdict = self.ask_post(instance, &mut lent, completion);

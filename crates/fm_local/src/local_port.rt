@@ -1,7 +1,5 @@
 //! The port of a callback of the one-thread manager.
 
-ghost use Rattle.std.specs.Prelude.{◌≡◌};
-
 use crate::bounded::Bounded;
 use fm_core::{Hold, SetAnswer, SetMode, State};
 use fm_data::PreVerdict;
@@ -27,27 +25,27 @@ impl<'a> Port for LocalPort<'a> {
     ghost use Rattle.fm_world.specs.ContextEvents.{Allocates, Sets, Gets, Deletes, References, Releases, ReadsBody, WritesBody, Bumps};
     ghost use Rattle.fm_world.specs.Events.{FindsHeld};
     ghost use Rattle.fm_filter.specs.Standing.{standing_of};
-    ghost use Rattle.fm_local.specs.Ports.{ResumesPreIn, ResumesPostIn};
+    ghost use Rattle.fm_local.specs.Ports.{OnState, ResumesPreIn, ResumesPostIn};
 
-    ghost allocates = { λ old kind body result new. Allocates old.desk.now.state old.worker kind body result new.desk.now.state };
+    ghost allocates = { λ old kind body result new. OnState (λ before after. Allocates before old.worker kind body result after) old.desk.now new.desk.now };
 
-    ghost sets = { λ old context mode wants_old result new. Sets old.desk.now.state old.worker context mode wants_old result new.desk.now.state };
+    ghost sets = { λ old context mode wants_old result new. OnState (λ before after. Sets before old.worker context mode wants_old result after) old.desk.now new.desk.now };
 
-    ghost gets = { λ old kind result new. Gets old.desk.now.state old.worker kind result new.desk.now.state };
+    ghost gets = { λ old kind result new. OnState (λ before after. Gets before old.worker kind result after) old.desk.now new.desk.now };
 
-    ghost deletes = { λ old kind wants_old result new. Deletes old.desk.now.state old.worker kind wants_old result new.desk.now.state };
+    ghost deletes = { λ old kind wants_old result new. OnState (λ before after. Deletes before old.worker kind wants_old result after) old.desk.now new.desk.now };
 
-    ghost references = { λ old context result new. References old.desk.now.state old.worker context result new.desk.now.state };
+    ghost references = { λ old context result new. OnState (λ before after. References before old.worker context result after) old.desk.now new.desk.now };
 
-    ghost releases = { λ old context result new. Releases old.desk.now.state old.worker context result new.desk.now.state };
+    ghost releases = { λ old context result new. OnState (λ before after. Releases before old.worker context result after) old.desk.now new.desk.now };
 
-    ghost reads_body = { λ old context result new. ReadsBody old.desk.now.state old.worker context result new.desk.now.state };
+    ghost reads_body = { λ old context result new. OnState (λ before after. ReadsBody before old.worker context result after) old.desk.now new.desk.now };
 
-    ghost writes_body = { λ old context bytes result new. WritesBody old.desk.now.state old.worker context bytes result new.desk.now.state };
+    ghost writes_body = { λ old context bytes result new. OnState (λ before after. WritesBody before old.worker context bytes result after) old.desk.now new.desk.now };
 
-    ghost bumps = { λ old context place by result new. Bumps old.desk.now.state old.worker context place by result new.desk.now.state };
+    ghost bumps = { λ old context place by result new. OnState (λ before after. Bumps before old.worker context place by result after) old.desk.now new.desk.now };
 
-    ghost finds_held = { λ old hold result new. FindsHeld old.desk.now.state old.worker hold result new.desk.now.state };
+    ghost finds_held = { λ old hold result new. OnState (λ before after. FindsHeld before old.worker hold result after) old.desk.now new.desk.now };
 
     ghost resumes_pre = { λ old operation verdict result new. ResumesPreIn old.desk.now old.worker operation verdict result new.desk.now };
 

@@ -6,11 +6,11 @@ ghost use Rattle.fm_data.specs.declared.request.FileRequest.TheVariants as asked
 ghost use Rattle.fm_data.specs.declared.request.Request.TheVariants as client;
 ghost use Rattle.fm_flow.specs.Answered.{bare_answer};
 ghost use Rattle.fm_flow.specs.declared.action.FlowAction.TheVariants as step;
-ghost use Rattle.fm_local.specs.Actions.{Acts, AnswersIn, ArePlainFilters, CarriesIn, GivesFinished, IsBegun, IsDoneAt, IsReady, PerformsIn, RefusesIn, RefusesOne, ResumesNone, RunsIn, TurnsAs, WaitsAtEnd, closed_handle, goes_on, reply_of, replied};
+ghost use Rattle.fm_local.specs.Actions.{Acts, AnswersIn, ArePlainFilters, CarriesIn, CarriesOn, CarriesOnAll, GivesFinished, GoesOn, IsBegun, IsDoneAt, IsReady, Makes, PerformsIn, RefusesIn, RefusesOne, RepliesWith, Requests, RequestsOne, ResumesNone, RunsIn, RunsOn, Settles, TakesTurn, TurnsAs, WaitsAtEnd, closed_handle, ends_turn, goes_on, reply_of, replied};
 ghost use Rattle.fm_local.specs.Bases.{BasesCarry};
 ghost use Rattle.fm_local.specs.Cleanups.{HasNoneDue, LeavesNoneDue};
 ghost use Rattle.fm_local.specs.Managers.{numbered};
-ghost use Rattle.fm_local.specs.Places.{EndsOut, StaysOut};
+ghost use Rattle.fm_local.specs.Places.{StaysOut};
 ghost use Rattle.fm_local.specs.Requests.{Tidies};
 ghost use Rattle.fm_local.specs.Turns.{Does};
 ghost use Rattle.fm_world.specs.Events.{BaseReturns, Collects};
@@ -27,10 +27,10 @@ use std::alloc::Global;
 
 /// How many turns an operation takes at most, from where it begins or is resumed to where it ends or is held: 32 instances on the way down, the file
 /// system, 32 on the way up, and its end.
-const TURNS: usize = 66;
+pub(crate) const TURNS: usize = 66;
 
 /// How many resumptions there are at most, while no request begins: 64 for each operation.
-const RESUMPTIONS: usize = UNDER_WAY * 64;
+pub(crate) const RESUMPTIONS: usize = UNDER_WAY * 64;
 
 /// How a turn of an operation leaves it.
 #[derive(Clone, Copy, PartialEq, Eq)]
@@ -47,11 +47,13 @@ impl<F: Minifilter, B: Base> LocalManager<F, B> {
     /// Answers a request: the operation goes down through the instances of its volume to the file system and back up. `Held` says that a filter holds it:
     /// its reply comes from `finished`, once a callback has resumed it. Close is a cleanup, unless that began before, and then the close itself; where the
     /// cleanup is held it is the one that `Held` names, and the request is to be made again. A request that can't begin is answered with the status of its
-    /// refusal, and changes nothing. A manager that is ready (all its filters plain, nothing under way or being torn down) answers with the fold of its
-    /// filters over its file systems, never with `Held`, and is ready again.
+    /// refusal, and changes nothing. Whatever the filters, each of their callbacks runs between the event that enters it and the one that ends it, what they
+    /// resumed goes on in the order of the resumptions, and what is due is cleaned up. A manager that is ready (all its filters plain, nothing under way or
+    /// being torn down) answers with the fold of its filters over its file systems, never with `Held`, and is ready again.
     pub fn answer(&mut self, request: Request) -> Reply
         ensures fold { IsReady F.pre_may F.post_may F.is_quiet B.folder B.faults WORKER self.old → AnswersIn F.pre_may F.post_may F.is_quiet B.folder B.faults WORKER request self.old result self.new }
         ensures refused { RefusesIn request self.old result self.new }
+        ensures requests { Requests F.pre_may F.post_may F.drained B.folder B.faults WORKER F.cleanup_may TURNS RESUMPTIONS request self.old result self.new }
         ensures none_due { LeavesNoneDue WORKER self.old.desk.state self.new.desk.state }
         ensures out { StaysOut WORKER self.old.desk.state self.new.desk.state }
     {
@@ -77,6 +79,7 @@ impl<F: Minifilter, B: Base> LocalManager<F, B> {
     fn close(&mut self, handle: HandleId) -> Reply
         ensures fold { IsReady F.pre_may F.post_may F.is_quiet B.folder B.faults WORKER self.old → AnswersIn F.pre_may F.post_may F.is_quiet B.folder B.faults WORKER (client.OnHandle handle asked.Close) self.old result self.new }
         ensures refused { RefusesIn (client.OnHandle handle asked.Close) self.old result self.new }
+        ensures requests { Requests F.pre_may F.post_may F.drained B.folder B.faults WORKER F.cleanup_may TURNS RESUMPTIONS (client.OnHandle handle asked.Close) self.old result self.new }
         ensures none_due { LeavesNoneDue WORKER self.old.desk.state self.new.desk.state }
         ensures out { StaysOut WORKER self.old.desk.state self.new.desk.state }
     {
@@ -98,6 +101,7 @@ impl<F: Minifilter, B: Base> LocalManager<F, B> {
     fn perform(&mut self, request: Request) -> Reply
         ensures does { IsReady F.pre_may F.post_may F.is_quiet B.folder B.faults WORKER self.old → PerformsIn F.pre_may F.post_may F.is_quiet B.folder B.faults WORKER request self.old result self.new }
         ensures refused { RefusesOne request self.old result self.new }
+        ensures requests { RequestsOne F.pre_may F.post_may F.drained B.folder B.faults WORKER F.cleanup_may TURNS RESUMPTIONS request self.old result self.new }
         ensures none_due { LeavesNoneDue WORKER self.old.desk.state self.new.desk.state }
         ensures out { StaysOut WORKER self.old.desk.state self.new.desk.state }
     {
@@ -111,6 +115,7 @@ impl<F: Minifilter, B: Base> LocalManager<F, B> {
     // An operation that began, to its reply, with all that its callbacks resumed.
     fn run(&mut self, operation: OpId) -> Reply
         ensures runs { ArePlainFilters F.pre_may F.post_may F.is_quiet (numbered self.old.filters) → IsBegun WORKER operation self.old.desk.state → self.old.desk.resumed.items.items ≡ [] → RunsIn F.pre_may F.post_may F.is_quiet B.folder B.faults WORKER operation self.old result self.new }
+        ensures goes { RunsOn F.pre_may F.post_may F.drained B.folder B.faults WORKER F.cleanup_may TURNS RESUMPTIONS operation self.old result self.new }
         ensures none_due { HasNoneDue WORKER self.new.desk.state }
         ensures out { StaysOut WORKER self.old.desk.state self.new.desk.state }
     {
@@ -123,6 +128,7 @@ impl<F: Minifilter, B: Base> LocalManager<F, B> {
     // The answer of an operation whose turns ended so.
     fn reply_after(&mut self, operation: OpId, ended: Turn) -> Reply
         ensures answer { ended ≡ Turn.Done → (collected : Result Answer Status) × Collects self.old.desk.state operation collected self.new.desk.state × (result ≡ reply_of collected) }
+        ensures replies { RepliesWith ended operation self.old result self.new }
         ensures kept { self.new ≡ record self.old { desk = record self.old.desk { state = self.new.desk.state }; trace = self.new.trace } }
         ensures out { StaysOut WORKER self.old.desk.state self.new.desk.state }
     {
@@ -174,6 +180,7 @@ impl<F: Minifilter, B: Base> LocalManager<F, B> {
         ensures quiet { ResumesNone F.pre_may F.post_may F.is_quiet B.folder B.faults WORKER self.old self.new }
         ensures kept { self.new ≡ record self.old { desk = self.new.desk; bases = self.new.bases; trace = self.new.trace; hand = self.new.hand; leaks = self.new.leaks } }
         ensures at_once { IsDoneAt WORKER operation self.old.desk.state → (result ≡ Turn.Done) × (self.new ≡ self.old) }
+        ensures goes { GoesOn F.pre_may F.post_may F.drained (BasesCarry B.folder B.faults) (numbered self.old.filters) WORKER operation TURNS result self.old.desk.state self.old.bases.items self.new.desk.state self.new.bases.items }
         ensures out { StaysOut WORKER self.old.desk.state self.new.desk.state }
     {
         for _made in 0..TURNS {
@@ -191,6 +198,7 @@ impl<F: Minifilter, B: Base> LocalManager<F, B> {
         ensures quiet { ArePlainFilters F.pre_may F.post_may F.is_quiet (numbered self.old.filters) → self.new.desk.resumed ≡ self.old.desk.resumed }
         ensures kept { self.new ≡ record self.old { desk = self.new.desk; bases = self.new.bases; trace = self.new.trace; hand = self.new.hand; leaks = self.new.leaks } }
         ensures at_once { IsDoneAt WORKER operation self.old.desk.state → (result ≡ Turn.Done) × (self.new ≡ self.old) }
+        ensures takes { TakesTurn F.pre_may F.post_may F.drained (BasesCarry B.folder B.faults) (numbered self.old.filters) WORKER operation result self.old.desk.state self.old.bases.items self.new.desk.state self.new.bases.items }
         ensures out { StaysOut WORKER self.old.desk.state self.new.desk.state }
     {
         self.desk.state.laws();
@@ -204,7 +212,8 @@ impl<F: Minifilter, B: Base> LocalManager<F, B> {
         ensures quiet { ArePlainFilters F.pre_may F.post_may F.is_quiet (numbered self.old.filters) → self.new.desk.resumed ≡ self.old.desk.resumed }
         ensures kept { self.new ≡ record self.old { desk = self.new.desk; bases = self.new.bases; trace = self.new.trace; hand = self.new.hand; leaks = self.new.leaks } }
         ensures at_once { said ≡ Ok step.Done → (result ≡ Turn.Done) × (self.new ≡ self.old) }
-        ensures out { EndsOut WORKER operation said self.old.desk.state self.new.desk.state }
+        ensures ends { result ≡ ends_turn said }
+        ensures makes { Makes F.pre_may F.post_may F.drained (BasesCarry B.folder B.faults) (numbered self.old.filters) WORKER operation said self.old.desk.state self.old.bases.items self.new.desk.state self.new.bases.items }
     {
         match said {
             Ok(Action::Pre(instance, data)) => {
@@ -235,7 +244,6 @@ impl<F: Minifilter, B: Base> LocalManager<F, B> {
         ensures does { Does F.pre_may F.post_may (BasesCarry B.folder B.faults) (numbered self.old.filters) WORKER operation (Ok (step.Base call)) self.old.desk.state self.old.bases.items self.new.desk.state self.new.bases.items }
         ensures quiet { self.new.desk.resumed ≡ self.old.desk.resumed }
         ensures kept { self.new ≡ record self.old { desk = self.new.desk; bases = self.new.bases; trace = self.new.trace } }
-        ensures out { EndsOut WORKER operation (Ok (step.Base call)) self.old.desk.state self.new.desk.state }
     {
         let answer = call_on(self.alloc, &mut self.bases, &call);
         self.note(operation, Visit::Base(answer.status));
@@ -259,32 +267,38 @@ impl<F: Minifilter, B: Base> LocalManager<F, B> {
         ensures carries_on { (o : OpId) → WaitsAtEnd F.pre_may F.post_may F.is_quiet B.folder B.faults WORKER o self.old → self.new.finished.items.items ≡ self.old.finished.items.items ++ o ∷ [] }
         ensures kept { self.old.desk.resumed.items.items ≡ [] → (self.new.bases ≡ self.old.bases) × (self.new.filters ≡ self.old.filters) × (self.new.desk.resumed.items.items ≡ []) }
         ensures none_due { HasNoneDue WORKER self.new.desk.state }
+        ensures all { Settles F.pre_may F.post_may F.drained B.folder B.faults WORKER F.cleanup_may TURNS RESUMPTIONS self.old self.new }
+        ensures filters { self.new.filters ≡ self.old.filters }
         ensures out { StaysOut WORKER self.old.desk.state self.new.desk.state }
     {
         self.carry_on_resumed();
         self.clean_up();
     }
 
-    // Carries on what callbacks resumed; where they resumed nothing, nothing changes. One that waits alone, of which nothing is left to do, is finished.
+    // Carries on what callbacks resumed, in the order of the resumptions; where they resumed nothing, nothing changes.
     fn carry_on_resumed(&mut self)
         ensures none { self.old.desk.resumed.items.items ≡ [] → self.new ≡ self.old }
         ensures one { (o : OpId) → WaitsAtEnd F.pre_may F.post_may F.is_quiet B.folder B.faults WORKER o self.old → self.new.finished.items.items ≡ self.old.finished.items.items ++ o ∷ [] }
+        ensures all { CarriesOnAll F.pre_may F.post_may F.drained B.folder B.faults WORKER TURNS RESUMPTIONS self.old self.new }
+        ensures filters { self.new.filters ≡ self.old.filters }
         ensures out { StaysOut WORKER self.old.desk.state self.new.desk.state }
     {
         if self.desk.resumed.is_empty() {
             return;
         }
         for _made in 0..RESUMPTIONS {
-            let Some(operation) = self.desk.resumed.take() else {
-                return;
-            };
-            self.carry_on(operation);
+            match self.desk.resumed.take() {
+                Some(operation) => self.carry_on(operation),
+                None => return,
+            }
         }
     }
 
     // Carries on an operation that was resumed, and notes its end.
     fn carry_on(&mut self, operation: OpId)
         ensures at_end { IsDoneAt WORKER operation self.old.desk.state → length self.old.finished.items.items < deque_capacity self.old.finished.items → (self.new.desk ≡ self.old.desk) × (self.new.finished.items.items ≡ self.old.finished.items.items ++ operation ∷ []) }
+        ensures goes { CarriesOn F.pre_may F.post_may F.drained B.folder B.faults WORKER TURNS operation self.old self.new }
+        ensures filters { self.new.filters ≡ self.old.filters }
         ensures out { StaysOut WORKER self.old.desk.state self.new.desk.state }
     {
         if let Turn::Done = self.carry(operation) {

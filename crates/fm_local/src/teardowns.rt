@@ -1,21 +1,21 @@
 //! How instances come and go, with all callbacks in between.
 
-ghost use Rattle.std.specs.Prelude.{◌≡◌, Bool, false, true, [], Err, IfErr, IsOk, length, slice_get};
-ghost use Rattle.fm_local.specs.Actions.{ArePlainFilters, IsReady};
-ghost use Rattle.fm_local.specs.Calls.{AgreesAt, Asks, AsksToUnload, AttachesAs, DetachesAs, FilterEnds, MayAgree, SetupEnds, TornDown, UnloadsAs, is_leaving, is_unloading};
+ghost use Rattle.std.specs.Prelude.{◌≡◌, false, true, [], Err, IfErr, IsOk, length, slice_get};
+ghost use Rattle.fm_local.specs.Actions.{ArePlainFilters, AsksThenSettles, IsReady, SetsUpThenSettles, StartsThenSettles, TellsThenSettles};
+ghost use Rattle.fm_local.specs.Calls.{AgreesAt, Asks, AsksToUnload, AttachesAs, DetachesAs, EndsTidily, FilterEnds, MayAgree, SetupEnds, TornDown, UnloadsAs, is_leaving, is_unloading};
 ghost use Rattle.fm_local.specs.Cleanups.{HasNoneDue, LeavesNoneDue};
-ghost use Rattle.fm_local.specs.Drains.{DrainsAll, DrainsSome, StartsAndDrains, TellsEnd};
+ghost use Rattle.fm_local.specs.Drains.{DrainsAll, DrainsSome, StartsAndDrains};
 ghost use Rattle.fm_local.specs.Managers.{numbered};
 ghost use Rattle.fm_local.specs.Places.{ComesOut, StaysOut};
 ghost use Rattle.fm_local.specs.Quietly.{AsksQuietly, AttachesQuietly, CompletesQuietly, DetachesQuietly, EndsQuietly, IsSettled, LeavesReady, SetUpQuietly, StartsAlone, StartsQuietly, TearsDownFirst, TearsDownIf, TearsDownQuietly, UnloadsQuietly, WasTold, is_to_go};
 ghost use Rattle.fm_local.specs.Requests.{IsAtRest};
 ghost use Rattle.fm_world.specs.Events.{is_stopping_row};
 ghost use Rattle.fm_world.specs.Teardowns.{CompletesTeardown};
-ghost use Rattle.fm_world.specs.World.{World};
 ghost use Rattle.fm_world.specs.declared.worker.Worker.TheVariants as place;
 ghost use Rattle.fm_types.specs.declared.ids.InstanceId.{InstanceId};
 
 use crate::manager::{LocalManager, WORKER};
+use crate::requests::{RESUMPTIONS, TURNS};
 use fm_altitude::Altitude;
 use fm_base::Base;
 use fm_core::{FilterPhase, Phase};
@@ -55,6 +55,8 @@ impl<F: Minifilter, B: Base> LocalManager<F, B> {
     // The setup of a new instance, which is detached again where that is refused.
     fn set_up(&mut self, instance: InstanceId) -> Result<(), Status>
         ensures ends { SetupEnds (AgreesAt F.setup_may self.old.filters self.old.desk.state instance) WORKER self.old.desk.state result }
+        ensures tidily { IfErr result (λ _. EndsTidily WORKER instance self.new.desk.state) }
+        ensures settles { SetsUpThenSettles F.pre_may F.post_may F.drained B.folder B.faults WORKER F.cleanup_may TURNS RESUMPTIONS (AgreesAt F.setup_may self.old.filters self.old.desk.state instance) instance self.old result self.new }
         ensures quiet { ArePlainFilters F.pre_may F.post_may F.is_quiet (numbered self.old.filters) → self.old.desk.resumed.items.items ≡ [] → SetUpQuietly WORKER instance (AgreesAt F.setup_may self.old.filters self.old.desk.state instance) self.old.desk.state result self.new.desk.state × IsSettled self.old self.new }
         ensures none_due { HasNoneDue WORKER self.new.desk.state }
         ensures out { ComesOut WORKER (place.Setup instance) self.old.desk.state self.new.desk.state }
@@ -130,6 +132,7 @@ impl<F: Minifilter, B: Base> LocalManager<F, B> {
     // Asks an instance's filter whether it may be detached.
     fn ask(&mut self, instance: InstanceId) -> Result<(), Status>
         ensures asks { Asks (AgreesAt F.query_may self.old.filters) self.old.desk.state WORKER instance result }
+        ensures settles { AsksThenSettles F.pre_may F.post_may F.drained B.folder B.faults WORKER F.cleanup_may TURNS RESUMPTIONS (AgreesAt F.query_may self.old.filters) instance self.old result self.new }
         ensures quiet { ArePlainFilters F.pre_may F.post_may F.is_quiet (numbered self.old.filters) → self.old.desk.resumed.items.items ≡ [] → AsksQuietly WORKER instance (AgreesAt F.query_may self.old.filters) self.old.desk.state result self.new.desk.state × IsSettled self.old self.new }
         ensures none_due { LeavesNoneDue WORKER self.old.desk.state self.new.desk.state }
         ensures out { StaysOut WORKER self.old.desk.state self.new.desk.state }
@@ -222,7 +225,7 @@ impl<F: Minifilter, B: Base> LocalManager<F, B> {
 
     // The start of an instance's teardown, unless it was made before, with all that its callbacks resumed.
     fn begin_teardown(&mut self, instance: InstanceId)
-        ensures drains { (starts : Bool) × (drained : World) × StartsAndDrains F.drained (numbered self.old.filters) WORKER instance F.started DRAINED starts self.old.desk.state drained }
+        ensures drains { StartsThenSettles F.pre_may F.post_may F.drained B.folder B.faults WORKER F.cleanup_may TURNS RESUMPTIONS F.started DRAINED instance self.old self.new }
         ensures quiet { ArePlainFilters F.pre_may F.post_may F.is_quiet (numbered self.old.filters) → IsAtRest WORKER self.old.desk.state → self.old.desk.resumed.items.items ≡ [] → StartsQuietly WORKER instance self.old.desk.state self.new.desk.state × IsSettled self.old self.new }
         ensures none_due { LeavesNoneDue WORKER self.old.desk.state self.new.desk.state }
         ensures out { StaysOut WORKER self.old.desk.state self.new.desk.state }
@@ -252,7 +255,7 @@ impl<F: Minifilter, B: Base> LocalManager<F, B> {
     // The completion of an instance's teardown, where it is stopping.
     fn end_teardown(&mut self, instance: InstanceId) -> Result<(), Status>
         ensures stops { IfErr result (λ status. CompletesTeardown self.old.desk.state WORKER instance (Err status) self.new.desk.state) }
-        ensures tells { TellsEnd WORKER instance F.completed (numbered self.old.filters) (is_stopping_row (slice_get self.old.desk.state.stack.instances instance.0)) self.old.desk.state }
+        ensures tells { TellsThenSettles F.pre_may F.post_may F.drained B.folder B.faults WORKER F.cleanup_may TURNS RESUMPTIONS F.completed (is_stopping_row (slice_get self.old.desk.state.stack.instances instance.0)) instance self.old result self.new }
         ensures quiet { ArePlainFilters F.pre_may F.post_may F.is_quiet (numbered self.old.filters) → IsAtRest WORKER self.old.desk.state → self.old.desk.resumed.items.items ≡ [] → WasTold instance self.old.desk.state.stack → IsOk result × CompletesQuietly WORKER instance self.old.desk.state self.new.desk.state × IsSettled self.old self.new }
         ensures none_due { LeavesNoneDue WORKER self.old.desk.state self.new.desk.state }
         ensures out { StaysOut WORKER self.old.desk.state self.new.desk.state }

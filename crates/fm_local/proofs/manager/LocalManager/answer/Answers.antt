@@ -1,6 +1,10 @@
 use Rattle.fm_local.proofs.Refusing.{refuses_in}
-use Rattle.std.proofs.Common.{sym, ◌∙◌}
+use Rattle.std.proofs.Common.{sym, subst, ◌∙◌}
 use Rattle.fm_local.proofs.Answering.{answers_one}
+use Rattle.fm_local.proofs.GoingOn.{is_close, requests_close, requests_one}
+use Rattle.fm_local.specs.Actions.{AnswersIn, RefusesIn}
+use Rattle.fm_data.specs.declared.request.Request.{Request}
+use Rattle.fm_local.specs.declared.requests.TheConstants.{RESUMPTIONS, TURNS}
 use Rattle.fm_local.proofs.manager.LocalManager.answer.Goals as goal
 use Rattle.fm_local.specs.declared.manager.TheConstants.{WORKER}
 
@@ -12,3 +16,22 @@ returns-in-None-clause-fold g c ready =
 pub returns-in-None-clause-refused : goal.returns-in-None-clause-refused
 returns-in-None-clause-refused g c =
     refuses_in c.args.self.now c.args.request (sym c.closed_handle.ensures ∙ c.in-None.is) c.perform.result c.perform.new.self c.perform.ensures.refused
+
+pub returns-in-Some-clause-requests : goal.returns-in-Some-clause-requests
+returns-in-Some-clause-requests g c =
+    requests_close g.F.Minifilter.pre_may g.F.Minifilter.post_may g.F.Minifilter.drained g.B.Base.folder g.B.Base.faults WORKER g.F.Minifilter.cleanup_may TURNS RESUMPTIONS c.args.self.now c.close.result
+    c.close.new.self c.args.request c.in-Some.handle (sym c.closed_handle.ensures ∙ c.in-Some.is) c.close.ensures.requests
+
+pub returns-in-None-clause-requests : goal.returns-in-None-clause-requests
+returns-in-None-clause-requests g c =
+    requests_one g.F.Minifilter.pre_may g.F.Minifilter.post_may g.F.Minifilter.drained g.B.Base.folder g.B.Base.faults WORKER g.F.Minifilter.cleanup_may TURNS RESUMPTIONS c.args.self.now c.perform.result
+    c.perform.new.self c.args.request (sym c.closed_handle.ensures ∙ c.in-None.is) c.perform.ensures.requests
+
+pub returns-in-Some-clause-fold : goal.returns-in-Some-clause-fold
+returns-in-Some-clause-fold g c ready =
+    subst (λ (what : Request). AnswersIn g.F.Minifilter.pre_may g.F.Minifilter.post_may g.F.Minifilter.is_quiet g.B.Base.folder g.B.Base.faults WORKER what c.args.self.now c.close.result c.close.new.self)
+    (is_close c.args.request c.in-Some.handle (sym c.closed_handle.ensures ∙ c.in-Some.is)) (c.close.ensures.fold ready)
+
+pub returns-in-Some-clause-refused : goal.returns-in-Some-clause-refused
+returns-in-Some-clause-refused g c =
+    subst (λ (what : Request). RefusesIn what c.args.self.now c.close.result c.close.new.self) (is_close c.args.request c.in-Some.handle (sym c.closed_handle.ensures ∙ c.in-Some.is)) c.close.ensures.refused

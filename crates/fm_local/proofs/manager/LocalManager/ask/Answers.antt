@@ -1,3 +1,4 @@
+use Rattle.std.proofs.Common.{inr}
 use Rattle.fm_local.proofs.Resting.{ask_refused}
 use Rattle.fm_local.proofs.Places.{asked_in, query_out, same_out}
 use Rattle.fm_local.proofs.NoneDue.{none_asked}
@@ -25,3 +26,6 @@ returns-clause-out g c out =
     let asked = c.ask_detach.new.self in
     c.settle.ensures.out (query_out WORKER asked c.query-allowed.new.self.desk.state c.query-allowed.result (AgreesAt g.F.Minifilter.query_may c.args.self.now.filters asked c.args.instance) c.args.instance
     (asked_in WORKER c.args.self.now.desk.state c.args.instance asked c.in_ok-ask_detach.ensures.event) c.query-allowed.ensures.ends)
+
+pub returns-clause-settles : goal.returns-clause-settles
+returns-clause-settles g c = inr (c.ask_detach.new.self, c.query-allowed.new.self, c.in_ok-ask_detach.ensures.event, c.query-allowed.ensures.ends, c.settle.ensures.all)

@@ -8,10 +8,17 @@ use Rattle.fm_local.specs.declared.manager.TheConstants.{WORKER}
 use Rattle.fm_local.specs.declared.teardowns.TheConstants.{DRAINED}
 
 pub returns-then-start_and_drain-clause-drains : goal.returns-then-start_and_drain-clause-drains
-returns-then-start_and_drain-clause-drains g c = (c.start_and_drain.result, c.start_and_drain.new.self.desk.state, c.start_and_drain.ensures.drains)
+returns-then-start_and_drain-clause-drains g c =
+    let told = c.start_and_drain.new.self in
+    let drains =
+    subst (λ b. StartsAndDrains g.F.Minifilter.drained (numbered c.args.self.now.filters) WORKER c.args.instance g.F.Minifilter.started DRAINED b c.args.self.now.desk.state told.desk.state)
+    c.if-start_and_drain.true c.start_and_drain.ensures.drains in
+    inr (told, drains, c.settle.ensures.all)
 
 pub returns-else-start_and_drain-clause-drains : goal.returns-else-start_and_drain-clause-drains
-returns-else-start_and_drain-clause-drains g c = (c.start_and_drain.result, c.start_and_drain.new.self.desk.state, c.start_and_drain.ensures.drains)
+returns-else-start_and_drain-clause-drains g c =
+    inl (subst (λ b. StartsAndDrains g.F.Minifilter.drained (numbered c.args.self.now.filters) WORKER c.args.instance g.F.Minifilter.started DRAINED b c.args.self.now.desk.state c.start_and_drain.new.self.desk.state)
+    c.if-start_and_drain.false c.start_and_drain.ensures.drains)
 
 pub returns-then-start_and_drain-clause-quiet : goal.returns-then-start_and_drain-clause-quiet
 returns-then-start_and_drain-clause-quiet g c plain rests settled =

@@ -1,9 +1,12 @@
+use Rattle.std.proofs.Common.{refl, ap}
+use Rattle.fm_local.proofs.GoingOn.{goes_to_end, goes_too_far, turns_more}
 use Rattle.fm_local.proofs.CarriedOn.{gone_none, gone_more, gone_to_end, gone_too_far, far_not_done, done_at_once, kept_both, calm_both}
 use Rattle.fm_local.proofs.manager.LocalManager.carry.Goals as goal
 use Rattle.fm_local.specs.declared.manager.TheConstants.{WORKER}
+use Rattle.fm_local.specs.declared.requests.TheConstants.{TURNS}
 
 pub loop-made-init : goal.loop-made-init
-loop-made-init g c = (gone_none g.F.Minifilter.pre_may g.F.Minifilter.post_may g.F.Minifilter.is_quiet g.B.Base.folder g.B.Base.faults WORKER c.args.operation c.args.self.now, λ out. out)
+loop-made-init g c = (gone_none g.F.Minifilter.pre_may g.F.Minifilter.post_may g.F.Minifilter.is_quiet g.B.Base.folder g.B.Base.faults WORKER c.args.operation c.args.self.now, λ out. out, (refl, refl))
 
 pub returns-in_default : goal.returns-in_default
 returns-in_default g c =
@@ -18,6 +21,8 @@ returns-in_default g c =
       at_once = done_at_once g.F.Minifilter.pre_may g.F.Minifilter.post_may g.F.Minifilter.is_quiet g.B.Base.folder g.B.Base.faults WORKER c.args.operation c.args.self.now c.loop-made.self
           c.turn.new.self c.loop-made._made c.loop-made.invariant.0 c.turn.result turned.turned turned.quiet turned.kept turned.at_once;
       out = λ out. turned.out (c.loop-made.invariant.1 out);
+      goes = goes_to_end g.F.Minifilter.pre_may g.F.Minifilter.post_may g.F.Minifilter.drained g.B.Base.folder g.B.Base.faults WORKER c.args.operation c.args.self.now c.loop-made.self c.turn.new.self (ap (λ m. m.filters) c.loop-made.invariant.0.kept) c.loop-made._made c.loop-made.invariant.2
+          c.turn.result turned.takes TURNS;
     }
 
 pub loop-made-preserved : goal.loop-made-preserved
@@ -25,6 +30,8 @@ loop-made-preserved g c = (
   gone_more g.F.Minifilter.pre_may g.F.Minifilter.post_may g.F.Minifilter.is_quiet g.B.Base.folder g.B.Base.faults WORKER c.args.operation c.args.self.now c.loop-made.self c.turn.new.self
       c.loop-made._made c.loop-made.invariant.0 c.turn.result c.turn.ensures.turned c.turn.ensures.quiet c.turn.ensures.kept c.turn.ensures.at_once c.in-Goes.is,
   λ out. c.turn.ensures.out (c.loop-made.invariant.1 out),
+  turns_more g.F.Minifilter.pre_may g.F.Minifilter.post_may g.F.Minifilter.drained g.B.Base.folder g.B.Base.faults WORKER c.args.operation c.args.self.now c.loop-made.self c.turn.new.self (ap (λ m. m.filters) c.loop-made.invariant.0.kept) c.loop-made._made c.loop-made.invariant.2
+      c.turn.result c.turn.ensures.takes c.in-Goes.is,
 )
 
 pub returns-clause-carried : goal.returns-clause-carried
@@ -45,3 +52,6 @@ returns-clause-at_once g c =
 
 pub returns-clause-out : goal.returns-clause-out
 returns-clause-out g c = c.loop-made.invariant.1
+
+pub returns-clause-goes : goal.returns-clause-goes
+returns-clause-goes g c = goes_too_far g.F.Minifilter.pre_may g.F.Minifilter.post_may g.F.Minifilter.drained g.B.Base.folder g.B.Base.faults WORKER c.args.operation c.args.self.now c.loop-made.self c.loop-made._made TURNS c.loop-made.invariant.2 c.loop-made-test.false

@@ -1,4 +1,5 @@
 use Rattle.fm_local.proofs.CarriedOn.{HasGone}
+use Rattle.fm_local.proofs.GoingOn.{Turns}
 use Rattle.fm_local.proofs.manager.LocalManager.carry.Given as goal
 use Rattle.fm_local.specs.Places.{StaysOut}
 use Rattle.fm_local.specs.declared.manager.TheConstants.{WORKER}
@@ -6,4 +7,6 @@ use Rattle.fm_local.specs.declared.manager.TheConstants.{WORKER}
 -- so many turns were made, and the worker is idle still
 abbrev pub invariant-loop-made : goal.invariant-loop-made
 invariant-loop-made g l =
-    HasGone g.F.Minifilter.pre_may g.F.Minifilter.post_may g.F.Minifilter.is_quiet g.B.Base.folder g.B.Base.faults WORKER l.operation l.fn.self l._made l.self × StaysOut WORKER l.fn.self.desk.state l.self.desk.state
+    HasGone g.F.Minifilter.pre_may g.F.Minifilter.post_may g.F.Minifilter.is_quiet g.B.Base.folder g.B.Base.faults WORKER l.operation l.fn.self l._made l.self
+    × StaysOut WORKER l.fn.self.desk.state l.self.desk.state
+    × Turns g.F.Minifilter.pre_may g.F.Minifilter.post_may g.F.Minifilter.drained g.B.Base.folder g.B.Base.faults WORKER l.operation l.fn.self l._made l.self

@@ -1,5 +1,8 @@
 use Rattle.fm_local.proofs.Refusing.{refuses_cleanup, refuses_close}
-use Rattle.std.proofs.Common.{sym, ◌∙◌}
+use Rattle.std.specs.Prelude.{Bool, refl}
+use Rattle.std.proofs.Common.{sym, subst, ◌∙◌}
+use Rattle.fm_local.specs.Actions.{ClosesThen}
+use Rattle.fm_local.specs.declared.requests.TheConstants.{RESUMPTIONS, TURNS}
 use Rattle.fm_data.specs.declared.request.FileRequest.TheVariants as asked
 use Rattle.fm_data.specs.declared.request.Request.TheVariants as request
 use Rattle.fm_local.proofs.Answering.{ready_after, answers_close, answers_cleanup}
@@ -30,3 +33,25 @@ returns-clause-refused g c =
 
 pub returns-clause-out : goal.returns-clause-out
 returns-clause-out g c out = c.perform.ensures.out (c.perform-cleanup.ensures.out out)
+
+pub returns-then-not-goes_on-clause-requests : goal.returns-then-not-goes_on-clause-requests
+returns-then-not-goes_on-clause-requests g c =
+    let cleaned = c.perform-cleanup.result in
+    let mid = c.perform-cleanup.new.self in (
+      cleaned,
+      mid,
+      c.perform-cleanup.ensures.requests,
+      subst (λ (b : Bool). ClosesThen g.F.Minifilter.pre_may g.F.Minifilter.post_may g.F.Minifilter.drained g.B.Base.folder g.B.Base.faults WORKER g.F.Minifilter.cleanup_may
+          TURNS RESUMPTIONS b c.args.handle mid cleaned cleaned mid) (sym (sym c.goes_on.ensures ∙ c.if-not-goes_on.true)) (refl, refl),
+    )
+
+pub returns-clause-requests : goal.returns-clause-requests
+returns-clause-requests g c =
+    let cleaned = c.perform-cleanup.result in
+    let mid = c.perform-cleanup.new.self in (
+      cleaned,
+      mid,
+      c.perform-cleanup.ensures.requests,
+      subst (λ (b : Bool). ClosesThen g.F.Minifilter.pre_may g.F.Minifilter.post_may g.F.Minifilter.drained g.B.Base.folder g.B.Base.faults WORKER g.F.Minifilter.cleanup_may
+          TURNS RESUMPTIONS b c.args.handle mid cleaned c.perform.result c.perform.new.self) (sym (sym c.goes_on.ensures ∙ c.if-not-goes_on.false)) c.perform.ensures.requests,
+    )

@@ -1,5 +1,6 @@
-use Rattle.std.specs.Prelude.{Bool}
-use Rattle.std.proofs.Common.{inr, sym, subst, ◌∙◌}
+use Rattle.std.proofs.lemmas.Result.{err_from_is_err_and}
+use Rattle.std.specs.Prelude.{Bool, Err}
+use Rattle.std.proofs.Common.{inl, inr, refl, sym, subst, ◌∙◌}
 use Rattle.fm_local.proofs.Leaving.{agreed_leaving}
 use Rattle.fm_local.proofs.Readied.{asked_rests, detached_leaves, kept_leaves, plain_still, torn_leaves_ready}
 use Rattle.fm_local.proofs.manager.LocalManager.detach.Goals as goal
@@ -49,3 +50,11 @@ returns-clause-ready g c ready =
 
 pub returns-clause-out : goal.returns-clause-out
 returns-clause-out g c out = c.tear_down-2.ensures.out (c.in_ok-ask.ensures.out out)
+
+pub returns-in_err-ask-clause-quiet : goal.returns-in_err-ask-clause-quiet
+returns-in_err-ask-clause-quiet g c ready =
+    let old = c.args.self.now in
+    let exit = err_from_is_err_and c.from_residual.result c.from_residual.ensures.1 in
+    rw (exit.1, exit.2)
+    (subst (λ (b : Bool). DetachesQuietlyBy WORKER c.args.instance b (AgreesAt g.F.Minifilter.query_may old.filters) old.desk.state (Err c.in_err-ask.field-0.0) c.ask.new.self.desk.state)
+    (sym (sym c.is_leaving.ensures ∙ c.if-is_leaving.false)) (inl (refl, (c.in_err-ask.ensures.quiet ready.plain ready.settled).0)))

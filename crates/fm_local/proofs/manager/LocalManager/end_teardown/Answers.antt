@@ -1,13 +1,14 @@
+use Rattle.std.specs.Prelude.{Ok}
 use Rattle.fm_local.proofs.NoneDue.{none_completed}
-use Rattle.std.proofs.Common.{inl, inr, refl, sym, ap, subst, ◌∙◌}
+use Rattle.std.proofs.Common.{inr, refl, sym, ap, subst, ◌∙◌}
 use Rattle.fm_local.proofs.Leaving.{completes}
 use Rattle.fm_local.proofs.Places.{complete_out, completing_in, same_out}
 use Rattle.fm_local.proofs.Readied.{settled_after}
 use Rattle.fm_local.proofs.Resting.{complete_refused}
 use Rattle.fm_local.proofs.manager.LocalManager.end_teardown.Goals as goal
-use Rattle.fm_local.specs.Drains.{TellsEnd}
-use Rattle.fm_local.specs.Managers.{numbered}
+use Rattle.fm_local.specs.Actions.{TellsThenSettles}
 use Rattle.fm_local.specs.declared.manager.TheConstants.{WORKER}
+use Rattle.fm_local.specs.declared.requests.TheConstants.{RESUMPTIONS, TURNS}
 
 pub returns-in_err-complete_teardown-clause-quiet : goal.returns-in_err-complete_teardown-clause-quiet
 returns-in_err-complete_teardown-clause-quiet g c plain rests settled was =
@@ -34,23 +35,17 @@ returns-in_err-complete_teardown-clause-none_due g c =
 
 pub returns-then-not-is_stopping-clause-tells : goal.returns-then-not-is_stopping-clause-tells
 returns-then-not-is_stopping-clause-tells g c =
-    subst (λ b. TellsEnd WORKER c.args.instance g.F.Minifilter.completed (numbered c.args.self.now.filters) b c.args.self.now.desk.state) (sym (sym c.is_stopping.ensures ∙ c.if-not-is_stopping.true)) tt
-
-pub returns-in_err-complete_teardown-clause-tells : goal.returns-in_err-complete_teardown-clause-tells
-returns-in_err-complete_teardown-clause-tells g c =
-    subst (λ b. TellsEnd WORKER c.args.instance g.F.Minifilter.completed (numbered c.args.self.now.filters) b c.args.self.now.desk.state) (sym (sym c.is_stopping.ensures ∙ c.if-not-is_stopping.false))
-    (inl (c.in_err-complete_teardown.field-0.0, c.complete_teardown.new.self, c.in_err-complete_teardown.ensures.event))
+    subst (λ b. TellsThenSettles g.F.Minifilter.pre_may g.F.Minifilter.post_may g.F.Minifilter.drained g.B.Base.folder g.B.Base.faults WORKER g.F.Minifilter.cleanup_may TURNS RESUMPTIONS
+    g.F.Minifilter.completed b c.args.instance c.args.self.now (Ok tt) c.args.self.now) (sym (sym c.is_stopping.ensures ∙ c.if-not-is_stopping.true)) (refl, refl)
 
 pub returns-clause-tells : goal.returns-clause-tells
 returns-clause-tells g c =
-    subst (λ b. TellsEnd WORKER c.args.instance g.F.Minifilter.completed (numbered c.args.self.now.filters) b c.args.self.now.desk.state) (sym (sym c.is_stopping.ensures ∙ c.if-not-is_stopping.false))
-    (inr (
-      c.complete_teardown.new.self,
-      c.complete.new.self.desk.state,
-      c.in_ok-complete_teardown.ensures.event,
-      c.complete.ensures.called,
-      c.complete.ensures.ends (completing_in WORKER c.args.self.now.desk.state c.args.instance c.complete_teardown.new.self c.in_ok-complete_teardown.ensures.event),
-    ))
+    let old = c.args.self.now in
+    let completing = c.complete_teardown.new.self in
+    let event = c.in_ok-complete_teardown.ensures.event in
+    subst (λ b. TellsThenSettles g.F.Minifilter.pre_may g.F.Minifilter.post_may g.F.Minifilter.drained g.B.Base.folder g.B.Base.faults WORKER g.F.Minifilter.cleanup_may TURNS RESUMPTIONS
+    g.F.Minifilter.completed b c.args.instance old (Ok tt) c.settle.new.self) (sym (sym c.is_stopping.ensures ∙ c.if-not-is_stopping.false))
+    (inr (completing, c.complete.new.self, event, c.complete.ensures.called, c.complete.ensures.ends (completing_in WORKER old.desk.state c.args.instance completing event), c.settle.ensures.all, refl))
 
 pub returns-in_err-complete_teardown-clause-out : goal.returns-in_err-complete_teardown-clause-out
 returns-in_err-complete_teardown-clause-out g c =

@@ -2,7 +2,7 @@ use Rattle.fm_local.proofs.Places.{begun_out}
 use Rattle.fm_local.proofs.Refusing.{not_begun, refuses_one}
 use Rattle.fm_local.proofs.NoneDue.{none_begun}
 use Rattle.std.specs.Prelude.{Err, Ok}
-use Rattle.std.proofs.Common.{sym, subst}
+use Rattle.std.proofs.Common.{inl, inr, sym, subst}
 use Rattle.fm_data.specs.declared.request.Reply.{Reply}
 use Rattle.fm_local.proofs.Performing.{performs_begun, performs_refused}
 use Rattle.fm_local.proofs.manager.LocalManager.perform.Goals as goal
@@ -36,3 +36,9 @@ returns-in-Ok-clause-out g c out = c.run.ensures.out (begun_out WORKER c.args.se
 
 pub returns-in-Err-clause-out : goal.returns-in-Err-clause-out
 returns-in-Err-clause-out g c = begun_out WORKER c.args.self.now.desk.state c.args.request (Err c.in-Err.status) c.begin.new.self c.in-Err.ensures.event
+
+pub returns-in-Ok-clause-requests : goal.returns-in-Ok-clause-requests
+returns-in-Ok-clause-requests g c = inr (c.in-Ok.operation, c.begin.new.self, c.in-Ok.ensures.event, c.run.ensures.goes)
+
+pub returns-in-Err-clause-requests : goal.returns-in-Err-clause-requests
+returns-in-Err-clause-requests g c = inl (c.in-Err.status, c.in-Err.ensures.event, c.refusal.ensures)

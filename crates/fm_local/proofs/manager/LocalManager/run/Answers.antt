@@ -10,3 +10,14 @@ returns-clause-runs g c =
 
 pub returns-clause-out : goal.returns-clause-out
 returns-clause-out g c out = c.settle.ensures.out (c.reply_after-reply.ensures.out (c.carry-ended.ensures.out out))
+
+pub returns-clause-goes : goal.returns-clause-goes
+returns-clause-goes g c = (
+  c.carry-ended.result,
+  c.carry-ended.new.self,
+  c.reply_after-reply.new.self,
+  c.carry-ended.ensures.goes,
+  c.carry-ended.ensures.kept,
+  c.reply_after-reply.ensures.replies,
+  c.settle.ensures.all,
+)

@@ -1,5 +1,8 @@
+use Rattle.std.proofs.Common.{sym, ◌∙◌}
+use Rattle.fm_local.specs.declared.requests.TheConstants.{RESUMPTIONS, TURNS}
 use Rattle.fm_local.proofs.Places.{finished_out, setup_out}
-use Rattle.fm_local.proofs.NoneDue.{none_finished}
+use Rattle.fm_local.proofs.NoneDue.{ends_tidily, none_finished}
+use Rattle.fm_local.proofs.GoingOn.{ends_accepted, ends_refused}
 use Rattle.fm_local.proofs.manager.LocalManager.set_up.Goals as goal
 use Rattle.fm_local.specs.Calls.{AgreesAt}
 use Rattle.fm_local.specs.declared.manager.TheConstants.{WORKER}
@@ -23,3 +26,26 @@ pub returns-else-is_err-clause-out : goal.returns-else-is_err-clause-out
 returns-else-is_err-clause-out g c there =
     c.settle.ensures.out (setup_out WORKER c.args.self.now.desk.state c.setup-accepted.new.self.desk.state c.setup-accepted.result
     (AgreesAt g.F.Minifilter.setup_may c.args.self.now.filters c.args.self.now.desk.state c.args.instance) c.args.instance there c.setup-accepted.ensures.ends)
+
+pub returns-then-is_err-clause-tidily : goal.returns-then-is_err-clause-tidily
+returns-then-is_err-clause-tidily g c = ends_tidily WORKER c.args.instance c.setup-accepted.result c.finish.new.self (c.settle.new.self.desk.state, c.finish.result, c.settle.ensures.none_due, c.finish.ensures.event)
+
+pub returns-then-is_err-clause-settles : goal.returns-then-is_err-clause-settles
+returns-then-is_err-clause-settles g c = (
+  c.setup-accepted.new.self,
+  c.settle.new.self,
+  c.setup-accepted.ensures.ends,
+  c.settle.ensures.all,
+  ends_refused g.F.Minifilter.pre_may g.F.Minifilter.post_may g.F.Minifilter.drained g.B.Base.folder g.B.Base.faults WORKER g.F.Minifilter.cleanup_may TURNS RESUMPTIONS c.args.instance c.settle.new.self _ c.setup-accepted.result
+      (sym c.is_err.ensures.value ∙ c.if-is_err.true) (c.finish.result, c.finish.ensures.event),
+)
+
+pub returns-else-is_err-clause-settles : goal.returns-else-is_err-clause-settles
+returns-else-is_err-clause-settles g c = (
+  c.setup-accepted.new.self,
+  c.settle.new.self,
+  c.setup-accepted.ensures.ends,
+  c.settle.ensures.all,
+  ends_accepted g.F.Minifilter.pre_may g.F.Minifilter.post_may g.F.Minifilter.drained g.B.Base.folder g.B.Base.faults WORKER g.F.Minifilter.cleanup_may TURNS RESUMPTIONS c.args.instance c.settle.new.self c.setup-accepted.result
+      (sym c.is_err.ensures.value ∙ c.if-is_err.false),
+)

@@ -3,6 +3,9 @@ use Rattle.fm_world.specs.Workers.{gives_nothing}
 use Rattle.fm_world.specs.World.{World}
 use Rattle.fm_local.proofs.Ending.{says_done}
 use Rattle.fm_local.proofs.Lent.{lent}
+use Rattle.fm_local.proofs.Places.{makes_out}
+use Rattle.fm_local.specs.Bases.{BasesCarry}
+use Rattle.fm_local.specs.Managers.{numbered}
 use Rattle.fm_local.proofs.manager.LocalManager.turn.Goals as goal
 use Rattle.fm_local.specs.declared.manager.TheConstants.{WORKER}
 
@@ -13,6 +16,13 @@ returns-clause-at_once g c done =
     let acts = c.act.ensures.at_once is in
     (acts.0, acts.1 ∙ ap (λ (w : World). record old { desk = record old.desk { state = w } }) (c.next-said.ensures.nothing (ap gives_nothing is)))
 
+pub returns-clause-takes : goal.returns-clause-takes
+returns-clause-takes g c = (c.next-said.result, c.next-said.new.self, c.next-said.ensures.event, c.act.ensures.ends, c.act.ensures.makes)
+
 pub returns-clause-out : goal.returns-clause-out
 returns-clause-out g c out =
-    c.act.ensures.out (lent WORKER c.args.operation c.args.self.now.desk.state c.laws.ensures out c.next-said.result c.next-said.new.self c.next-said.ensures.event)
+    let old = c.args.self.now in
+    let mid = c.next-said.new.self in
+    let lends = lent WORKER c.args.operation old.desk.state c.laws.ensures out c.next-said.result mid c.next-said.ensures.event in
+    makes_out WORKER g.F.Minifilter.pre_may g.F.Minifilter.post_may g.F.Minifilter.drained (BasesCarry g.B.Base.folder g.B.Base.faults) (numbered old.filters) c.args.operation c.next-said.result mid old.bases.items
+    c.act.new.self.desk.state c.act.new.self.bases.items lends c.act.ensures.makes

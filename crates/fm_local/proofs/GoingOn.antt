@@ -1,0 +1,144 @@
+-- A manager that makes turn after turn of an operation goes on with it, whatever its filters.
+use Rattle.std.specs.Prelude.{◌≡◌, ◌+◌, ◌<◌, ◌≤◌, ◌⊎◌, ◌++◌, ◌∷◌, ℕ, suc, List, [], drop, length, true, false, Option, Some, None, Result, Ok, Err, slice_get, refl}
+use Rattle.std.specs.Result.{is_err}
+use Rattle.std.specs.VecDeque.{deque_capacity}
+use Rattle.std.proofs.Common.{inl, inr, sym, ap, ap₂, subst, ◌∙◌, arith}
+use Rattle.std.proofs.lemmas.Option.{none-some, same_Some}
+use Rattle.fm_base.specs.Folders.{Folder}
+use Rattle.fm_types.specs.declared.context_kind.ContextKind.{ContextKind}
+use Rattle.fm_types.specs.declared.ids.HandleId.{HandleId}
+use Rattle.fm_types.specs.declared.ids.InstanceId.{InstanceId}
+use Rattle.fm_types.specs.declared.status.Status.{Status}
+use Rattle.fm_data.specs.Data.{Data}
+use Rattle.fm_data.specs.declared.request.FileRequest.TheVariants as asked
+use Rattle.fm_data.specs.declared.request.Reply.{Reply}
+use Rattle.fm_data.specs.declared.request.Request.{Request}
+use Rattle.fm_data.specs.declared.request.Request.TheVariants as request
+use Rattle.fm_data.specs.declared.verdict.Completion.{Completion}
+use Rattle.fm_data.specs.declared.verdict.PreVerdict.{PreVerdict}
+use Rattle.fm_data.specs.declared.verdict.PostVerdict.{PostVerdict}
+use Rattle.fm_world.specs.ContextEvents.{Finishes}
+use Rattle.fm_world.specs.Words.{OpId, WorkerId}
+use Rattle.fm_world.specs.World.{World}
+use Rattle.fm_local.specs.Actions.{CarriesOn, CarriesOnAll, CarriesOnMany, EndsIfRefused, GoesOn, IsDoneAt, Requests, RequestsOne, TakesTurn, TakesTurns, WaitsAtEnd, closed_handle}
+use Rattle.fm_local.specs.Bases.{BasesCarry}
+use Rattle.fm_local.specs.Managers.{numbered}
+use Rattle.fm_local.specs.declared.bounded.Bounded.{Bounded}
+use Rattle.fm_local.specs.declared.filters.Filters.{Filters}
+use Rattle.fm_local.specs.declared.manager.LocalManager.{LocalManager}
+use Rattle.fm_local.specs.declared.requests.Turn.{Turn}
+use Rattle.fm_local.specs.declared.requests.Turn.TheVariants as turn
+
+module _ {F B : Type 0} (pre : F → Data → PreVerdict → Data → Type 0) (post : F → Data → Completion → PostVerdict → Data → Type 0) (drained : F → Completion → Type 0)
+    (folder : B → Option Folder) (faults : B → ℕ) (k : WorkerId) (o : OpId) where
+  -- of the filters that there were at first
+  abbrev pub Turns : LocalManager F B → ℕ → LocalManager F B → Type 0
+  Turns old n now = TakesTurns pre post drained (BasesCarry folder faults) (numbered old.filters) k o n old.desk.state old.bases.items now.desk.state now.bases.items
+
+  abbrev Turned : Filters F → Turn → LocalManager F B → LocalManager F B → Type 0
+  Turned filters ended old new = TakesTurn pre post drained (BasesCarry folder faults) (numbered filters) k o ended old.desk.state old.bases.items new.desk.state new.bases.items
+
+  abbrev Goes : ℕ → Turn → LocalManager F B → LocalManager F B → Type 0
+  Goes most ended old new = GoesOn pre post drained (BasesCarry folder faults) (numbered old.filters) k o most ended old.desk.state old.bases.items new.desk.state new.bases.items
+
+  module _ (old now new : LocalManager F B) (same : now.filters ≡ old.filters) (n : ℕ) (taken : Turns old n now) (ended : Turn) (takes : Turned now.filters ended now new) where
+    one : Turned old.filters ended now new
+    one = subst (λ (fs : Filters F). Turned fs ended now new) same takes
+
+    pub turns_more : ended ≡ turn.Goes → Turns old (n + 1) new
+    turns_more is =
+        let more : suc n ≡ n + 1 = omega arith in
+        subst (λ (j : ℕ). Turns old j new) more (now.desk.state, now.bases.items, taken, subst (λ (t : Turn). Turned old.filters t now new) is one)
+
+    pub goes_to_end : (most : ℕ) → Goes most ended old new
+    goes_to_end most = (n, now.desk.state, now.bases.items, taken, inl one)
+
+  pub goes_too_far : (old now : LocalManager F B) (n most : ℕ) → Turns old n now → most ≤ n → Goes most turn.Held old now
+  goes_too_far old now n most taken many = (n, now.desk.state, now.bases.items, taken, inr (many, refl, refl, refl))
+
+-- ---- what was resumed, one after the other
+
+head : (o : OpId) (xs ys : List OpId) → slice_get xs 0 ≡ Some o → ys ≡ drop 1 xs → xs ≡ o ∷ ys
+head o [] ys first rest = absurd (none-some o first)
+head o (x ∷ xs) ys first rest = ap₂ (λ (z : OpId) (zs : List OpId). z ∷ zs) (same_Some x o first) (sym rest)
+
+none_left : (xs ys : List OpId) → slice_get xs 0 ≡ None → ys ≡ drop 1 xs → (xs ≡ []) × (ys ≡ [])
+none_left [] ys none rest = (refl, rest)
+none_left (x ∷ xs) ys none rest = absurd (none-some x (sym none))
+
+module _ {F B : Type 0} (pre : F → Data → PreVerdict → Data → Type 0) (post : F → Data → Completion → PostVerdict → Data → Type 0) (drained : F → Completion → Type 0)
+    (folder : B → Option Folder) (faults : B → ℕ) (k : WorkerId) (most : ℕ) (old now : LocalManager F B) (n : ℕ) (many : CarriesOnMany pre post drained folder faults k most n old now) where
+  pub carries_more : (o : OpId) (taken new : LocalManager F B) → slice_get now.desk.resumed.items.items 0 ≡ Some o → taken.desk.resumed.items.items ≡ drop 1 now.desk.resumed.items.items
+      → taken ≡ record now { desk = record now.desk { resumed = taken.desk.resumed } } → CarriesOn pre post drained folder faults k most o taken new
+      → CarriesOnMany pre post drained folder faults k most (n + 1) old new
+  carries_more o taken new first rest is carries =
+      let more : suc n ≡ n + 1 = omega arith in
+      subst (λ (j : ℕ). CarriesOnMany pre post drained folder faults k most j old new) more
+      (now, many, (o, taken, head o now.desk.resumed.items.items taken.desk.resumed.items.items first rest, is, carries))
+
+  pub carries_all : (limit : ℕ) (new : LocalManager F B) → slice_get now.desk.resumed.items.items 0 ≡ None → new.desk.resumed.items.items ≡ drop 1 now.desk.resumed.items.items
+      → new ≡ record now { desk = record now.desk { resumed = new.desk.resumed } } → CarriesOnAll pre post drained folder faults k most limit old new
+  carries_all limit new none rest is =
+      let empty = none_left now.desk.resumed.items.items new.desk.resumed.items.items none rest in
+      (n, now, many, (is, empty.1 ∙ sym empty.0), inl empty.1)
+
+  pub carries_most : (limit : ℕ) → limit ≤ n → CarriesOnAll pre post drained folder faults k most limit old now
+  carries_most limit far = (n, now, many, (refl, refl), inr far)
+
+-- one that waits alone, of which nothing is left to do, is finished by the first of these
+module _ {F B : Type 0} (pre : F → Data → PreVerdict → Data → Type 0) (post : F → Data → Completion → PostVerdict → Data → Type 0) (is_quiet : F → Type 0)
+    (folder : B → Option Folder) (faults : B → ℕ) (k : WorkerId) (old now taken new : LocalManager F B) (n : ℕ) where
+  abbrev pub HasEnded : OpId → ℕ → LocalManager F B → Type 0
+  HasEnded o m then = ((m ≡ 0) × (then ≡ old)) ⊎ ((then.finished.items.items ≡ old.finished.items.items ++ o ∷ []) × (then.desk.resumed.items.items ≡ []))
+
+  pub ends_first : (o p : OpId) → WaitsAtEnd pre post is_quiet folder faults k o old → HasEnded o n now → slice_get now.desk.resumed.items.items 0 ≡ Some p
+      → taken.desk.resumed.items.items ≡ drop 1 now.desk.resumed.items.items → taken ≡ record now { desk = record now.desk { resumed = taken.desk.resumed } }
+      → (IsDoneAt k p taken.desk.state → length taken.finished.items.items < deque_capacity taken.finished.items
+      → (new.desk ≡ taken.desk) × (new.finished.items.items ≡ taken.finished.items.items ++ p ∷ [])) → HasEnded o (n + 1) new
+  ends_first o p waits (inl (none, same)) first rest is ends =
+      let at : o ∷ [] ≡ p ∷ taken.desk.resumed.items.items =
+      sym waits.waits ∙ ap (λ (m : LocalManager F B). m.desk.resumed.items.items) (sym same) ∙ head p now.desk.resumed.items.items taken.desk.resumed.items.items first rest in
+      let it : o ≡ p = same_Some o p (ap (λ (xs : List OpId). slice_get xs 0) at) in
+      let gone : taken.desk.resumed.items.items ≡ [] = sym (ap (λ (xs : List OpId). drop 1 xs) at) in
+      let state : taken.desk.state ≡ old.desk.state = ap (λ (m : LocalManager F B). m.desk.state) is ∙ ap (λ (m : LocalManager F B). m.desk.state) same in
+      let finished : taken.finished ≡ old.finished = ap (λ (m : LocalManager F B). m.finished) is ∙ ap (λ (m : LocalManager F B). m.finished) same in
+      let done : IsDoneAt k p taken.desk.state = subst (λ (w : World). IsDoneAt k p w) (sym state) (subst (λ (q : OpId). IsDoneAt k q old.desk.state) it waits.done) in
+      let over = ends done (subst (λ (f : Bounded OpId). length f.items.items < deque_capacity f.items) (sym finished) waits.room) in
+      inr (
+        over.1 ∙ ap (λ (f : Bounded OpId). f.items.items ++ p ∷ []) finished ∙ ap (λ (q : OpId). old.finished.items.items ++ q ∷ []) (sym it),
+        ap (λ d. d.resumed.items.items) over.0 ∙ gone,
+      )
+  ends_first o p waits (inr (finished, empty)) first rest is ends = absurd (none-some p (ap (λ (xs : List OpId). slice_get xs 0) (sym empty) ∙ first))
+
+-- ---- requests
+
+pub is_close : (what : Request) (h : HandleId) → closed_handle what ≡ Some h → request.OnHandle h asked.Close ≡ what
+is_close (request.OnHandle own asked.Close) h is = ap (λ (x : HandleId). request.OnHandle x asked.Close) (sym (same_Some own h is))
+is_close _ h is = absurd (none-some h is)
+
+module _ {F B : Type 0} (pre : F → Data → PreVerdict → Data → Type 0) (post : F → Data → Completion → PostVerdict → Data → Type 0) (drained : F → Completion → Type 0)
+    (folder : B → Option Folder) (faults : B → ℕ) (k : WorkerId) (cleanup : F → ContextKind → List ℕ → ℕ → Type 0) (most limit : ℕ) (old : LocalManager F B) (said : Reply) (new : LocalManager F B) where
+  abbrev Asks : Request → Type 0
+  Asks what = Requests pre post drained folder faults k cleanup most limit what old said new
+
+  pub requests_close : (what : Request) (h : HandleId) → closed_handle what ≡ Some h → Asks (request.OnHandle h asked.Close) → Asks what
+  requests_close what h is asks = subst Asks (is_close what h is) asks
+
+  pub requests_one : (what : Request) → closed_handle what ≡ None → RequestsOne pre post drained folder faults k cleanup most limit what old said new → Asks what
+  requests_one (request.OnHandle h asked.Close) none one = cc
+  requests_one _ none one = one
+
+-- ---- an instance that was set up
+
+module _ {F B : Type 0} (pre : F → Data → PreVerdict → Data → Type 0) (post : F → Data → Completion → PostVerdict → Data → Type 0) (drained : F → Completion → Type 0)
+    (folder : B → Option Folder) (faults : B → ℕ) (k : WorkerId) (cleanup : F → ContextKind → List ℕ → ℕ → Type 0) (most limit : ℕ) (i : InstanceId) (settled : LocalManager F B) where
+  abbrev Ends : Result (Unit {0}) Status → LocalManager F B → Type 0
+  Ends result new = EndsIfRefused pre post drained folder faults k cleanup most limit result i settled new
+
+  pub ends_refused : (new : LocalManager F B) (result : Result (Unit {0}) Status) → is_err result ≡ true → ((finished : Result (Unit {0}) Status) × Finishes settled.desk.state i finished new.desk.state) → Ends result new
+  ends_refused new (Err why) is ends = ends
+  ends_refused new (Ok done) is ends = cc
+
+  pub ends_accepted : (result : Result (Unit {0}) Status) → is_err result ≡ false → Ends result settled
+  ends_accepted (Ok done) is = refl
+  ends_accepted (Err why) is = cc

@@ -1,0 +1,35 @@
+use Rattle.std.proofs.Common.{inl, refl, sym, ◌∙◌}
+use Rattle.fm_local.proofs.GoingOn.{carries_all, carries_more, carries_most, ends_first}
+use Rattle.fm_local.proofs.manager.LocalManager.carry_on_resumed.Goals as goal
+use Rattle.fm_local.specs.declared.manager.TheConstants.{WORKER}
+use Rattle.fm_local.specs.declared.requests.TheConstants.{RESUMPTIONS, TURNS}
+
+pub returns-then-is_empty-clause-all : goal.returns-then-is_empty-clause-all
+returns-then-is_empty-clause-all g c = (0, c.args.self.now, refl, (refl, refl), inl (c.is_empty.ensures.0 c.if-is_empty.true))
+
+pub returns-in-None-clause-all : goal.returns-in-None-clause-all
+returns-in-None-clause-all g c =
+    let now = c.loop-made.self in
+    let new = record now { desk = record now.desk { resumed = c.take.new.self } } in
+    carries_all g.F.Minifilter.pre_may g.F.Minifilter.post_may g.F.Minifilter.drained g.B.Base.folder g.B.Base.faults WORKER TURNS c.args.self.now now c.loop-made._made c.loop-made.invariant.2 RESUMPTIONS new
+    (sym c.take.ensures.first ∙ c.in-None.is) c.take.ensures.rest refl
+
+pub loop-made-preserved : goal.loop-made-preserved
+loop-made-preserved g c =
+    let old = c.args.self.now in
+    let now = c.loop-made.self in
+    let taken = record now { desk = record now.desk { resumed = c.take.new.self } } in
+    let first = sym c.take.ensures.first ∙ c.in-Some.is in (
+      λ o waits.
+          ends_first g.F.Minifilter.pre_may g.F.Minifilter.post_may g.F.Minifilter.is_quiet g.B.Base.folder g.B.Base.faults WORKER old now taken c.carry_on.new.self c.loop-made._made o c.in-Some.operation waits
+          (c.loop-made.invariant.0 o waits) first c.take.ensures.rest refl c.carry_on.ensures.at_end,
+      λ out. c.carry_on.ensures.out (c.loop-made.invariant.1 out),
+      carries_more g.F.Minifilter.pre_may g.F.Minifilter.post_may g.F.Minifilter.drained g.B.Base.folder g.B.Base.faults WORKER TURNS old now c.loop-made._made c.loop-made.invariant.2 c.in-Some.operation taken
+          c.carry_on.new.self first c.take.ensures.rest refl c.carry_on.ensures.goes,
+      c.carry_on.ensures.filters ∙ c.loop-made.invariant.3,
+    )
+
+pub returns-clause-all : goal.returns-clause-all
+returns-clause-all g c =
+    carries_most g.F.Minifilter.pre_may g.F.Minifilter.post_may g.F.Minifilter.drained g.B.Base.folder g.B.Base.faults WORKER TURNS c.args.self.now c.loop-made.self c.loop-made._made c.loop-made.invariant.2
+    RESUMPTIONS c.loop-made-test.false

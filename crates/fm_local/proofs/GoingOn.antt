@@ -20,7 +20,7 @@ use Rattle.fm_data.specs.declared.verdict.PostVerdict.{PostVerdict}
 use Rattle.fm_world.specs.ContextEvents.{Finishes}
 use Rattle.fm_world.specs.Words.{OpId, WorkerId}
 use Rattle.fm_world.specs.World.{World}
-use Rattle.fm_local.specs.Actions.{CarriesOn, CarriesOnAll, CarriesOnMany, EndsIfRefused, GoesOn, IsDoneAt, Requests, RequestsOne, TakesTurn, TakesTurns, WaitsAtEnd, closed_handle}
+use Rattle.fm_local.specs.Actions.{CallsBack, CarriesOn, CarriesOnAll, CarriesOnMany, EndsIfRefused, GoesOn, IsDoneAt, OnlyState, Requests, RequestsOne, TakesTurn, TakesTurns, WaitsAtEnd, closed_handle}
 use Rattle.fm_local.specs.Bases.{BasesCarry}
 use Rattle.fm_local.specs.Managers.{numbered}
 use Rattle.fm_local.specs.declared.bounded.Bounded.{Bounded}
@@ -55,6 +55,14 @@ module _ {F B : Type 0} (pre : F → Data → PreVerdict → Data → Type 0) (p
 
   pub goes_too_far : (old now : LocalManager F B) (n most : ℕ) → Turns old n now → most ≤ n → Goes most turn.Held old now
   goes_too_far old now n most taken many = (n, now.desk.state, now.bases.items, taken, inr (many, refl, refl, refl))
+
+-- ---- what callbacks leave as it was
+
+pub calls_both : {F B : Type 0} (old mid new : LocalManager F B) → CallsBack old mid → CallsBack mid new → CallsBack old new
+calls_both {F} {B} old mid new one other = other ∙ ap (λ (m : LocalManager F B). record m { desk = new.desk; trace = new.trace; hand = new.hand; leaks = new.leaks }) one
+
+pub calls_untraced : {F B : Type 0} (old new : LocalManager F B) → new ≡ record old { desk = new.desk; hand = new.hand; leaks = new.leaks } → CallsBack old new
+calls_untraced old new kept = kept ∙ ap (λ t. record old { desk = new.desk; trace = t; hand = new.hand; leaks = new.leaks }) (sym (ap (λ m. m.trace) kept))
 
 -- ---- what was resumed, one after the other
 
@@ -135,7 +143,7 @@ module _ {F B : Type 0} (pre : F → Data → PreVerdict → Data → Type 0) (p
   abbrev Ends : Result (Unit {0}) Status → LocalManager F B → Type 0
   Ends result new = EndsIfRefused pre post drained folder faults k cleanup most limit result i settled new
 
-  pub ends_refused : (new : LocalManager F B) (result : Result (Unit {0}) Status) → is_err result ≡ true → ((finished : Result (Unit {0}) Status) × Finishes settled.desk.state i finished new.desk.state) → Ends result new
+  pub ends_refused : (new : LocalManager F B) (result : Result (Unit {0}) Status) → is_err result ≡ true → ((finished : Result (Unit {0}) Status) × Finishes settled.desk.state i finished new.desk.state × OnlyState settled new) → Ends result new
   ends_refused new (Err why) is ends = ends
   ends_refused new (Ok done) is ends = cc
 

@@ -35,3 +35,4 @@ pub mod Standing
 pub mod Lent
 pub mod Places
 pub mod GoingOn
+pub mod TornDown

@@ -24,9 +24,9 @@ use Rattle.fm_local.proofs.Leaving.{asked_leaves, declined_leaves, one_goes, sta
 use Rattle.fm_local.proofs.Unloaded.{agreed_leaves, ends_leaves, first_gone, own_go, unload_refused}
 use Rattle.fm_local.proofs.Resting.{CalmAfter, attach_refused, calm_none, calm_same, rests_on, set_up_leaves}
 use Rattle.fm_local.specs.Actions.{ArePlainFilters, IsReady}
-use Rattle.fm_local.specs.Calls.{Asks, AsksToUnload, QueryEnds, is_leaving}
+use Rattle.fm_local.specs.Calls.{Asks, AsksToUnload, QueryEnds, is_leaving, is_of_row, is_to_go}
 use Rattle.fm_local.specs.Managers.{handed_in, numbered}
-use Rattle.fm_local.specs.Quietly.{AsksQuietly, EndsQuietly, IsSettled, LeavesReady, SetUpQuietly, StartsQuietly, TearsDownFirst, TearsDownIf, TearsDownQuietly, WasTold, is_of_row, is_to_go}
+use Rattle.fm_local.specs.Quietly.{AsksQuietly, EndsQuietly, IsSettled, LeavesReady, SetUpQuietly, StartsQuietly, TearsDownFirst, TearsDownIf, TearsDownQuietly, WasTold}
 use Rattle.fm_local.specs.Requests.{IsAtRest, NoneStops, Tidies}
 use Rattle.fm_local.specs.declared.filters.Filters.{Filters}
 use Rattle.fm_local.specs.declared.manager.LocalManager.{LocalManager}

@@ -1,16 +1,14 @@
 -- What stands while a callback runs: no event of its port changes it.
-use Rattle.std.specs.Prelude.{◌≡◌, ℕ, Bool, true, false, List, [], ◌∷◌, map, Option, Some, None, Result, Ok, Err, refl}
-use Rattle.std.proofs.Common.{sym, ap, ap₂, ◌∙◌, inl, inr}
+use Rattle.std.specs.Prelude.{◌≡◌, ℕ, Bool, List, [], ◌∷◌, map, Option, Some, None, Result, Ok, Err, refl}
+use Rattle.std.proofs.Common.{ap, ◌∙◌, inl, inr}
 use Rattle.std.proofs.lemmas.Bool.{cases_Bool}
 use Rattle.fm_types.specs.Lists.{change_first}
-use Rattle.fm_types.specs.Refusals.{Answers}
 use Rattle.fm_types.specs.declared.context_kind.ContextKind.{ContextKind}
 use Rattle.fm_types.specs.declared.ids.CtxId.{CtxId}
 use Rattle.fm_types.specs.declared.ids.InstanceId.{InstanceId}
 use Rattle.fm_types.specs.declared.ids.OpId.{OpId}
 use Rattle.fm_types.specs.declared.ids.WorkerId.{WorkerId}
 use Rattle.fm_types.specs.declared.status.Status.{Status}
-use Rattle.fm_types.specs.declared.status.Status.TheVariants.{TooMany}
 use Rattle.fm_data.specs.declared.verdict.PreVerdict.{PreVerdict}
 use Rattle.fm_ctx.specs.declared.object.Object.{Object}
 use Rattle.fm_ctx.specs.declared.set_reply.SetMode.{SetMode}
@@ -25,7 +23,7 @@ use Rattle.fm_flow.specs.Table.{is_number}
 use Rattle.fm_world.proofs.Events.{asked_by, taken_by}
 use Rattle.fm_world.specs.ContextEvents.{Allocates, Sets, Gets, Deletes, References, Releases, ReadsBody, WritesBody, Bumps}
 use Rattle.fm_world.specs.ContextEvents.{Callback, SetsIn, SetsUnless, SetsOn, callback_of, object_for, set_refused}
-use Rattle.fm_world.specs.Events.{FindsHeld, FindsHeldAt, ResumesPost, ResumesPostAt, ResumesPre, ResumesPreAt, Unless, resume_post_refused, resume_pre_refused, state_at}
+use Rattle.fm_world.specs.Events.{FindsHeld, FindsHeldAt, ResumesPost, ResumesPostAt, ResumesPre, ResumesPreAt, state_at}
 use Rattle.fm_world.specs.Owners.{place_in}
 use Rattle.fm_world.specs.Workers.{worker_at}
 use Rattle.fm_world.specs.World.{World}

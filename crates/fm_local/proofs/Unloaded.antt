@@ -22,8 +22,8 @@ use Rattle.fm_world.specs.World.{World}
 use Rattle.fm_world.specs.declared.worker.Worker.TheVariants as place
 use Rattle.fm_local.proofs.Leaving.{complete_stack, start_refused, start_stack, starts_leaves, torn_leaves}
 use Rattle.fm_local.proofs.Resting.{CalmAfter, Undisturbed, ask_unload_refused, both, calm_both, calm_same, calm_tidied, happened, is_in, is_out, rests_on, stops}
-use Rattle.fm_local.specs.Calls.{AsksToUnload, is_leaving, is_leaving_phase}
-use Rattle.fm_local.specs.Quietly.{StartsQuietly, CompletesQuietly, TearsDownQuietly, TearsDownIf, TearsDownFirst, EndsQuietly, is_of_row, is_to_go}
+use Rattle.fm_local.specs.Calls.{AsksToUnload, is_leaving, is_leaving_phase, is_of_row, is_to_go}
+use Rattle.fm_local.specs.Quietly.{StartsQuietly, CompletesQuietly, TearsDownQuietly, TearsDownIf, TearsDownFirst, EndsQuietly}
 use Rattle.fm_local.specs.Requests.{IsAtRest, Tidies}
 
 -- ---- rows

@@ -1,9 +1,11 @@
 -- What a manager does of what its state says is next: how a turn of an operation ends, and where turn after turn leads.
-use Rattle.std.specs.Prelude.{◌≡◌, ◌<◌, ◌≤◌, ◌⊎◌, ◌++◌, ℕ, zero, suc, Bool, true, false, not, List, [], ◌∷◌, length, map, Option, Some, None, Result, Ok, Err, IsErr}
+use Rattle.std.specs.Prelude.{◌≡◌, ◌<◌, ◌≤◌, ◌⊎◌, ◌++◌, ℕ, zero, suc, Bool, true, false, not, List, [], ◌∷◌, length, map, Option, Some, None, Result, Ok, Err, IsErr, slice_get}
 use Rattle.std.specs.VecDeque.{deque_capacity}
 use Rattle.fm_types.specs.declared.context_kind.ContextKind.{ContextKind}
+use Rattle.fm_types.specs.declared.ids.FilterId.{FilterId}
 use Rattle.fm_types.specs.declared.ids.HandleId.{HandleId}
 use Rattle.fm_types.specs.declared.ids.InstanceId.{InstanceId}
+use Rattle.fm_types.specs.declared.ids.VolumeId.{VolumeId}
 use Rattle.fm_types.specs.declared.status.Status.{Status}
 use Rattle.fm_types.specs.declared.status.Status.TheVariants as status
 use Rattle.fm_data.specs.declared.answer.Answer.{Answer}
@@ -23,17 +25,17 @@ use Rattle.fm_flow.specs.Answered.{bare_answer}
 use Rattle.fm_flow.specs.declared.action.FlowAction.{FlowAction}
 use Rattle.fm_flow.specs.declared.action.FlowAction.TheVariants as action
 use Rattle.fm_filter.specs.Plain.{IsPlainFilter}
-use Rattle.fm_world.specs.Events.{Nexts, Begins, Collects, PreReturns, PostReturns, begin_refused}
+use Rattle.fm_world.specs.Events.{Attaches, Nexts, Begins, Collects, PreReturns, PostReturns, begin_refused, is_stopping_row}
 use Rattle.fm_world.specs.Sound.{IsSound}
 use Rattle.fm_world.specs.ContextEvents.{Finishes}
-use Rattle.fm_world.specs.Teardowns.{AsksDetach, CompletesTeardown, CompleteReturns, StartsTeardown}
+use Rattle.fm_world.specs.Teardowns.{AsksDetach, CompletesTeardown, CompleteReturns, EmptiesFilter, FinishesFilter, StartsTeardown}
 use Rattle.fm_world.specs.Words.{OpId, WorkerId}
 use Rattle.fm_world.specs.World.{World}
 use Rattle.fm_local.specs.declared.requests.Turn.{Turn}
 use Rattle.fm_local.specs.declared.requests.Turn.TheVariants as turn
 use Rattle.fm_local.specs.declared.manager.LocalManager.{LocalManager}
 use Rattle.fm_local.specs.Bases.{BasesCarry}
-use Rattle.fm_local.specs.Calls.{QueriesWith, SetsUpWith}
+use Rattle.fm_local.specs.Calls.{AsksToUnload, QueriesWith, SetsUpWith, is_to_go}
 use Rattle.fm_local.specs.Managers.{numbered}
 use Rattle.fm_local.specs.Requests.{under, NoneStops, IsAtRest, AnswersOne, AnswersAll, DoesTidily, Tidies}
 use Rattle.fm_local.specs.Chains.{PreMay, PostMay, filter_in}
@@ -166,6 +168,14 @@ RefusesIn what old said new =
 abbrev pub RefusesOne : {F B : Type 0} → Request → LocalManager F B → Reply → LocalManager F B → Type 0
 RefusesOne what old said new = (why : Status) → begin_refused old.desk.state what ≡ Some why → (said ≡ replied (bare_answer why)) × (new ≡ old)
 
+-- nothing changes but the state
+abbrev pub OnlyState : {F B : Type 0} → LocalManager F B → LocalManager F B → Type 0
+OnlyState old new = new ≡ record old { desk = record old.desk { state = new.desk.state } }
+
+-- callbacks ran: the filters, the file systems and what has ended are as before
+abbrev pub CallsBack : {F B : Type 0} → LocalManager F B → LocalManager F B → Type 0
+CallsBack old new = new ≡ record old { desk = new.desk; trace = new.trace; hand = new.hand; leaks = new.leaks }
+
 -- an operation whose turns end so is answered, or held
 abbrev pub RepliesWith : {F B : Type 0} → Turn → OpId → LocalManager F B → Reply → LocalManager F B → Type 0
 RepliesWith turn.Done o old said new =
@@ -185,7 +195,7 @@ module _ {F B : Type 0} (pre : F → Data → PreVerdict → Data → Type 0) (p
   abbrev pub CarriesOn : ℕ → OpId → LocalManager F B → LocalManager F B → Type 0
   CarriesOn most o old new =
       (ended : Turn) × GoesOn pre post drained (BasesCarry folder faults) (numbered old.filters) k o most ended old.desk.state old.bases.items new.desk.state new.bases.items
-      × NotesEnd ended o old new
+      × NotesEnd ended o old new × (new.filters ≡ old.filters)
 
   -- so the one that was resumed first, which doesn't wait any more
   abbrev pub CarriesOnFirst : ℕ → LocalManager F B → LocalManager F B → Type 0
@@ -212,6 +222,7 @@ module _ {F B : Type 0} (pre : F → Data → PreVerdict → Data → Type 0) (p
   abbrev pub Settles : (F → ContextKind → List ℕ → ℕ → Type 0) → ℕ → ℕ → LocalManager F B → LocalManager F B → Type 0
   Settles cleanup most limit old new =
       (carried : LocalManager F B) × CarriesOnAll most limit old carried × CleansAll cleanup (numbered carried.filters) k carried.desk.state new.desk.state
+      × OnlyState carried new
 
   module _ (cleanup : F → ContextKind → List ℕ → ℕ → Type 0) (most limit : ℕ) where
     -- an operation that began goes on, and is answered; then what was resumed is carried on, and what is due cleaned up
@@ -225,32 +236,94 @@ module _ {F B : Type 0} (pre : F → Data → PreVerdict → Data → Type 0) (p
     -- the start of a teardown is refused; or it starts and drains, and behind that what was resumed is carried on
     abbrev pub StartsThenSettles : (F → Type 0) → ℕ → InstanceId → LocalManager F B → LocalManager F B → Type 0
     StartsThenSettles begins drains i old new =
-        ((why : Status) × StartsTeardown old.desk.state k i (Err why) new.desk.state)
-        ⊎ ((told : LocalManager F B) × StartsAndDrains drained (numbered old.filters) k i begins drains true old.desk.state told.desk.state × Settles cleanup most limit told new)
+        ((why : Status) × StartsTeardown old.desk.state k i (Err why) new.desk.state × (new ≡ old))
+        ⊎ ((told : LocalManager F B) × StartsAndDrains drained (numbered old.filters) k i begins drains true old.desk.state told.desk.state × CallsBack old told
+        × Settles cleanup most limit told new)
 
     -- an instance is set up; then what was resumed is carried on, and one that was refused ends
     abbrev pub EndsIfRefused : Result (Unit {0}) Status → InstanceId → LocalManager F B → LocalManager F B → Type 0
     EndsIfRefused (Ok done) i old new = new ≡ old
-    EndsIfRefused (Err why) i old new = (finished : Result (Unit {0}) Status) × Finishes old.desk.state i finished new.desk.state
+    EndsIfRefused (Err why) i old new = (finished : Result (Unit {0}) Status) × Finishes old.desk.state i finished new.desk.state × OnlyState old new
 
     abbrev pub SetsUpThenSettles : (Bool → Type 0) → InstanceId → LocalManager F B → Result (Unit {0}) Status → LocalManager F B → Type 0
     SetsUpThenSettles may i old result new =
-        (told settled : LocalManager F B) × EndsFrom old.desk.state (λ before. SetsUpWith may k before result told.desk.state) × Settles cleanup most limit told settled × EndsIfRefused result i settled new
+        (told settled : LocalManager F B) × EndsFrom old.desk.state (λ before. SetsUpWith may k before result told.desk.state) × CallsBack old told
+        × Settles cleanup most limit told settled × EndsIfRefused result i settled new
 
     -- its filter is asked whether it may be detached, unless that is refused; then what was resumed is carried on
     abbrev pub AsksThenSettles : (World → InstanceId → Bool → Type 0) → InstanceId → LocalManager F B → Result (Unit {0}) Status → LocalManager F B → Type 0
     AsksThenSettles may i old result new =
-        (IsErr result × AsksDetach old.desk.state k i result new.desk.state)
+        (IsErr result × AsksDetach old.desk.state k i result new.desk.state × OnlyState old new)
         ⊎ ((asked : World) × (told : LocalManager F B) × AsksDetach old.desk.state k i (Ok tt) asked × EndsFrom asked (λ before. QueriesWith (may asked i) k before result told.desk.state)
-        × Settles cleanup most limit told new)
+        × CallsBack old told × Settles cleanup most limit told new)
 
     -- the end of a teardown, where it is stopping: that is refused, or the filter is told, and then what was resumed is carried on
     abbrev pub TellsThenSettles : (F → Type 0) → Bool → InstanceId → LocalManager F B → Result (Unit {0}) Status → LocalManager F B → Type 0
     TellsThenSettles completed false i old result new = (result ≡ Ok tt) × (new ≡ old)
     TellsThenSettles completed true i old result new =
-        (IsErr result × CompletesTeardown old.desk.state k i result new.desk.state)
+        (IsErr result × CompletesTeardown old.desk.state k i result new.desk.state × OnlyState old new)
         ⊎ ((completing : World) × (told : LocalManager F B) × CompletesTeardown old.desk.state k i (Ok tt) completing × WasCalled completed (filter_in (numbered old.filters) completing.stack i.0)
-        × EndsFrom completing (λ before. CompleteReturns before k (Ok tt) told.desk.state) × Settles cleanup most limit told new × (result ≡ Ok tt))
+        × EndsFrom completing (λ before. CompleteReturns before k (Ok tt) told.desk.state) × CallsBack old told × Settles cleanup most limit told new × (result ≡ Ok tt))
+
+    -- an attach, with the setup of the new instance
+    abbrev pub AttachesThenSettles : (World → InstanceId → Bool → Type 0) → FilterId → VolumeId → List ℕ → List ℕ → LocalManager F B → Result InstanceId Status → LocalManager F B → Type 0
+    AttachesThenSettles may f v name altitude old (Ok i) new =
+        (born : World) × Attaches old.desk.state k f v name altitude (Ok i) born × SetsUpThenSettles (may born i) i (record old { desk = record old.desk { state = born } }) (Ok tt) new
+    AttachesThenSettles may f v name altitude old (Err why) new =
+        (Attaches old.desk.state k f v name altitude (Err why) new.desk.state × OnlyState old new)
+        ⊎ ((i : InstanceId) × (born : World) × Attaches old.desk.state k f v name altitude (Ok i) born
+        × SetsUpThenSettles (may born i) i (record old { desk = record old.desk { state = born } }) (Err why) new)
+
+    module _ (begins : F → Type 0) (drains : ℕ) (completed : F → Type 0) where
+      -- the end of a teardown: once the filter was told, what is due is cleaned up, and the instance ends
+      abbrev pub EndsTeardown : InstanceId → LocalManager F B → Result (Unit {0}) Status → LocalManager F B → Type 0
+      EndsTeardown i old result new =
+          (IsErr result × TellsThenSettles completed (is_stopping_row (slice_get old.desk.state.stack.instances i.0)) i old result new)
+          ⊎ ((told : LocalManager F B) × (tidy : World) × TellsThenSettles completed (is_stopping_row (slice_get old.desk.state.stack.instances i.0)) i old (Ok tt) told
+          × CleansAll cleanup (numbered told.filters) k told.desk.state tidy × Finishes tidy i result new.desk.state
+          × OnlyState told new)
+
+      -- a teardown, from where it is to its end, or to the first event that is refused
+      abbrev pub TearsDownFully : InstanceId → LocalManager F B → Result (Unit {0}) Status → LocalManager F B → Type 0
+      TearsDownFully i old result new = (begun : LocalManager F B) × StartsThenSettles begins drains i old begun × EndsTeardown i begun result new
+
+      -- a detach asks where no teardown is under way; the teardown of one that is agreed to goes on to its end
+      abbrev pub DetachesThenSettles : Bool → (World → InstanceId → Bool → Type 0) → InstanceId → LocalManager F B → Result (Unit {0}) Status → LocalManager F B → Type 0
+      DetachesThenSettles true may i old result new = TearsDownFully i old result new
+      DetachesThenSettles false may i old result new =
+          (IsErr result × AsksThenSettles may i old result new) ⊎ ((asked : LocalManager F B) × AsksThenSettles may i old (Ok tt) asked × TearsDownFully i asked result new)
+
+      module _ (f : FilterId) where
+        abbrev pub TearsDownWhere : Bool → InstanceId → LocalManager F B → Result (Unit {0}) Status → LocalManager F B → Type 0
+        TearsDownWhere true i old result new = TearsDownFully i old result new
+        TearsDownWhere false i old result new = (result ≡ Ok tt) × (new ≡ old)
+
+        -- of the first instances, those of the filter that are to go are torn down, one after the other
+        abbrev pub TearsDownEach : ℕ → LocalManager F B → LocalManager F B → Type 0
+        TearsDownEach zero old new = new ≡ old
+        TearsDownEach (suc n) old new =
+            (mid : LocalManager F B) × TearsDownEach n old mid × TearsDownWhere (is_to_go f mid.desk.state (record { 0 = n })) (record { 0 = n }) mid (Ok tt) new
+
+        -- all that there are, or to the first whose teardown stops
+        abbrev pub TearsDownAll : LocalManager F B → Result (Unit {0}) Status → LocalManager F B → Type 0
+        TearsDownAll old (Ok done) new = TearsDownEach (length old.desk.state.stack.instances) old new
+        TearsDownAll old (Err why) new = (n : ℕ) × (mid : LocalManager F B) × TearsDownEach n old mid × TearsDownFully (record { 0 = n }) mid (Err why) new
+
+        -- the end of a filter: its instances are torn down, then its volume contexts go, what is due is cleaned up, and it ends
+        abbrev pub EndsFully : LocalManager F B → Result (Unit {0}) Status → LocalManager F B → Type 0
+        EndsFully old result new =
+            (IsErr result × TearsDownAll old result new)
+            ⊎ ((torn : LocalManager F B) × TearsDownAll old (Ok tt) torn
+            × ((IsErr result × EmptiesFilter torn.desk.state f result new.desk.state × OnlyState torn new)
+            ⊎ ((emptied tidy : World) × EmptiesFilter torn.desk.state f (Ok tt) emptied × CleansAll cleanup (numbered torn.filters) k emptied tidy
+            × FinishesFilter tidy f result new.desk.state × OnlyState torn new)))
+
+        -- an unload asks where no end is under way
+        abbrev pub UnloadsThenSettles : Bool → (Bool → Type 0) → LocalManager F B → Result (Unit {0}) Status → LocalManager F B → Type 0
+        UnloadsThenSettles true may old result new = EndsFully old result new
+        UnloadsThenSettles false may old result new =
+            (IsErr result × AsksToUnload may old.desk.state k f result new.desk.state × OnlyState old new)
+            ⊎ ((asked : World) × AsksToUnload may old.desk.state k f (Ok tt) asked × EndsFully (record old { desk = record old.desk { state = asked } }) result new)
 
     -- a request begins an operation, unless that is refused
     abbrev pub RequestsOne : Request → LocalManager F B → Reply → LocalManager F B → Type 0

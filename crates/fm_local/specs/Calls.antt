@@ -1,5 +1,5 @@
 -- What a manager's calls answer, by the events of its state that they make.
-use Rattle.std.specs.Prelude.{◌≡◌, ◌⊎◌, ℕ, Bool, true, false, List, Option, Some, None, Result, Ok, Err, IsErr, option_and_then, option_map, position, slice_get}
+use Rattle.std.specs.Prelude.{◌≡◌, ◌⊎◌, ◌&&◌, ℕ, Bool, true, false, List, Option, Some, None, Result, Ok, Err, IsErr, option_and_then, option_map, position, slice_get}
 use Rattle.fm_types.specs.declared.ids.FilterId.{FilterId}
 use Rattle.fm_types.specs.declared.ids.VolumeId.{VolumeId}
 use Rattle.fm_types.specs.declared.ids.InstanceId.{InstanceId}
@@ -8,6 +8,7 @@ use Rattle.fm_types.specs.declared.registration.Registration.{Registration}
 use Rattle.fm_types.specs.declared.status.Status.{Status}
 use Rattle.fm_types.specs.declared.status.Status.TheVariants.{NoMemory, NoFilter}
 use Rattle.fm_stack.specs.Instances.{same_name}
+use Rattle.fm_stack.specs.Unloading.{is_of}
 use Rattle.fm_stack.specs.declared.filter.Filter.{Filter}
 use Rattle.fm_stack.specs.declared.filter.FilterPhase.{FilterPhase}
 use Rattle.fm_stack.specs.declared.filter.FilterPhase.TheVariants as end
@@ -91,6 +92,15 @@ is_leaving_phase _ = false
 
 abbrev pub is_leaving : World → InstanceId → Bool
 is_leaving w i = is_leaving_phase (option_map (λ (row : Instance). row.phase) (slice_get w.stack.instances i.0))
+
+module _ (f : FilterId) where
+  abbrev pub is_of_row : Option Instance → Bool
+  is_of_row None = false
+  is_of_row (Some row) = is_of f row
+
+  -- an instance of the filter whose teardown is under way
+  abbrev pub is_to_go : World → InstanceId → Bool
+  is_to_go w i = is_of_row (slice_get w.stack.instances i.0) && is_leaving w i
 
 -- a detach asks first: that is refused at once, or the query callback is called, and then its end refuses it or not
 abbrev pub Asks : (World → InstanceId → Bool → Type 0) → World → WorkerId → InstanceId → Result (Unit {0}) Status → Type 0

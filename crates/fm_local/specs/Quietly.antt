@@ -1,6 +1,6 @@
 -- What a manager's calls make of its state where its filters are plain: the events that they name, one after the other, with cleanups and nothing else
 -- in between; and that the manager is ready again.
-use Rattle.std.specs.Prelude.{◌≡◌, ◌⊎◌, ◌&&◌, ℕ, zero, suc, Bool, true, false, List, [], length, Option, Some, None, Result, Ok, Err, IsErr, IsOk, slice_get}
+use Rattle.std.specs.Prelude.{◌≡◌, ◌⊎◌, ℕ, zero, suc, Bool, true, false, List, [], length, Option, Result, Ok, Err, IsErr, IsOk, slice_get}
 use Rattle.fm_base.specs.Folders.{Folder}
 use Rattle.fm_types.specs.declared.ids.FilterId.{FilterId}
 use Rattle.fm_types.specs.declared.ids.VolumeId.{VolumeId}
@@ -13,15 +13,13 @@ use Rattle.fm_data.specs.declared.verdict.PostVerdict.{PostVerdict}
 use Rattle.fm_stack.specs.Detaching.{is_to_complete}
 use Rattle.fm_stack.specs.Instances.{passes}
 use Rattle.fm_stack.specs.StackWorld.{StackWorld}
-use Rattle.fm_stack.specs.Unloading.{is_of}
-use Rattle.fm_stack.specs.declared.instance.Instance.{Instance}
 use Rattle.fm_world.specs.ContextEvents.{Finishes}
 use Rattle.fm_world.specs.Events.{Attaches, is_stopping_row}
 use Rattle.fm_world.specs.Teardowns.{AsksDetach, StartsTeardown, StartReturns, CompletesTeardown, CompleteReturns, EmptiesFilter, FinishesFilter}
 use Rattle.fm_world.specs.Words.{WorkerId}
 use Rattle.fm_world.specs.World.{World}
 use Rattle.fm_local.specs.Actions.{IsReady}
-use Rattle.fm_local.specs.Calls.{SetsUpWith, QueriesWith, AsksToUnload, is_leaving, is_unloading}
+use Rattle.fm_local.specs.Calls.{SetsUpWith, QueriesWith, AsksToUnload, is_leaving, is_to_go, is_unloading}
 use Rattle.fm_local.specs.Requests.{Tidies}
 use Rattle.fm_local.specs.declared.manager.LocalManager.{LocalManager}
 
@@ -74,15 +72,6 @@ AttachesQuietly may old k f v name altitude (Ok i) new = (born : World) × Attac
 AttachesQuietly may old k f v name altitude (Err why) new =
     Attaches old k f v name altitude (Err why) new
     ⊎ ((i : InstanceId) × (born : World) × Attaches old k f v name altitude (Ok i) born × SetUpQuietly k i (may born i) born (Err why) new)
-
-module _ (f : FilterId) where
-  abbrev pub is_of_row : Option Instance → Bool
-  is_of_row None = false
-  is_of_row (Some row) = is_of f row
-
-  -- an instance of the filter whose teardown is under way
-  abbrev pub is_to_go : World → InstanceId → Bool
-  is_to_go w i = is_of_row (slice_get w.stack.instances i.0) && is_leaving w i
 
 module _ (k : WorkerId) (f : FilterId) where
   abbrev pub TearsDownIf : Bool → InstanceId → World → World → Type 0

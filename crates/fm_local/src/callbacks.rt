@@ -3,7 +3,7 @@
 ghost use Rattle.std.specs.Prelude.{◌≡◌, None, Ok};
 ghost use Rattle.fm_filter.specs.Standing.{standing_of};
 ghost use Rattle.fm_flow.specs.declared.action.FlowAction.TheVariants as step;
-ghost use Rattle.fm_local.specs.Actions.{ArePlainFilters, Makes};
+ghost use Rattle.fm_local.specs.Actions.{ArePlainFilters, CallsBack, Makes, OnlyState};
 ghost use Rattle.fm_local.specs.Bases.{BasesCarry};
 ghost use Rattle.fm_local.specs.Chains.{filter_in, PreMay, PostMay};
 ghost use Rattle.fm_local.specs.Drains.{WasCalled};
@@ -90,7 +90,7 @@ impl<F: Minifilter, B: Base> LocalManager<F, B> {
         ensures does { ArePlainFilters F.pre_may F.post_may F.is_quiet (numbered self.old.filters) → Does F.pre_may F.post_may (BasesCarry B.folder B.faults) (numbered self.old.filters) WORKER operation (Ok (step.Pre instance lent)) self.old.desk.state self.old.bases.items self.new.desk.state self.new.bases.items }
         ensures quiet { ArePlainFilters F.pre_may F.post_may F.is_quiet (numbered self.old.filters) → self.new.desk.resumed ≡ self.old.desk.resumed }
         ensures makes { Makes F.pre_may F.post_may F.drained (BasesCarry B.folder B.faults) (numbered self.old.filters) WORKER operation (Ok (step.Pre instance lent)) self.old.desk.state self.old.bases.items self.new.desk.state self.new.bases.items }
-        ensures kept { self.new ≡ record self.old { desk = self.new.desk; trace = self.new.trace; hand = self.new.hand; leaks = self.new.leaks } }
+        ensures kept { CallsBack self.old self.new }
     {
         let verdict = self.ask_pre(instance, &mut lent);
         lent.laws();
@@ -154,7 +154,7 @@ impl<F: Minifilter, B: Base> LocalManager<F, B> {
         ensures does { ArePlainFilters F.pre_may F.post_may F.is_quiet (numbered self.old.filters) → Does F.pre_may F.post_may (BasesCarry B.folder B.faults) (numbered self.old.filters) WORKER operation (Ok (step.Post instance lent completion)) self.old.desk.state self.old.bases.items self.new.desk.state self.new.bases.items }
         ensures quiet { ArePlainFilters F.pre_may F.post_may F.is_quiet (numbered self.old.filters) → self.new.desk.resumed ≡ self.old.desk.resumed }
         ensures makes { Makes F.pre_may F.post_may F.drained (BasesCarry B.folder B.faults) (numbered self.old.filters) WORKER operation (Ok (step.Post instance lent completion)) self.old.desk.state self.old.bases.items self.new.desk.state self.new.bases.items }
-        ensures kept { self.new ≡ record self.old { desk = self.new.desk; trace = self.new.trace; hand = self.new.hand; leaks = self.new.leaks } }
+        ensures kept { CallsBack self.old self.new }
     {
         let verdict = self.ask_post(instance, &mut lent, completion);
         lent.laws();
@@ -217,7 +217,7 @@ impl<F: Minifilter, B: Base> LocalManager<F, B> {
         ensures called { WasCalled (λ f. F.drained f completion) (filter_in (numbered self.old.filters) self.old.desk.state.stack instance.0) }
         ensures ends { EndsFrom self.old.desk.state (λ before. PostReturns before WORKER PostVerdict.Finished None result self.new.desk.state) }
         ensures quiet { ArePlainFilters F.pre_may F.post_may F.is_quiet (numbered self.old.filters) → self.new.desk.resumed ≡ self.old.desk.resumed }
-        ensures kept { self.new ≡ record self.old { desk = self.new.desk; trace = self.new.trace; hand = self.new.hand; leaks = self.new.leaks } }
+        ensures kept { CallsBack self.old self.new }
     {
         self.drain(operation, instance, completion);
         let returning = Returning::for_operation(Callback::Drain, instance, operation);
@@ -233,7 +233,7 @@ impl<F: Minifilter, B: Base> LocalManager<F, B> {
     ) -> Result<(), Status>
         ensures called { WasCalled (λ f. F.drained f completion) (filter_in (numbered self.old.filters) self.old.desk.state.stack instance.0) }
         ensures ends { EndsFrom self.old.desk.state (λ before. DrainReturns before WORKER result self.new.desk.state) }
-        ensures filters { self.new.filters ≡ self.old.filters }
+        ensures kept { CallsBack self.old self.new }
     {
         self.drain(operation, instance, completion);
         let before = look_at_hand(&self.desk.state, &mut self.hand);
@@ -371,7 +371,7 @@ impl<F: Minifilter, B: Base> LocalManager<F, B> {
     /// Calls the unload callback of a filter. Refused as the end of that callback is.
     pub(crate) fn unloading(&mut self, filter: FilterId) -> Result<(), Status>
         ensures event { UnloadsWith (MayAgree F.unload_may (numbered self.old.filters filter.0)) WORKER self.old.desk.state result self.new.desk.state }
-        ensures kept { self.new ≡ record self.old { desk = record self.old.desk { state = self.new.desk.state } } }
+        ensures kept { OnlyState self.old self.new }
     {
         let allows = match self.filters.of(Some(filter)) {
             Some(filter) => filter.unload(),

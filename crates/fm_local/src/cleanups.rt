@@ -1,6 +1,7 @@
 //! Cleaning up contexts that nobody refers to any more.
 
 ghost use Rattle.std.specs.Prelude.{◌≡◌, []};
+ghost use Rattle.fm_local.specs.Actions.{OnlyState};
 ghost use Rattle.fm_local.specs.Cleanups.{CleansAll, CleansSome, HasNoneDue, MayReturn, cleaner_of};
 ghost use Rattle.fm_local.specs.Managers.{numbered};
 ghost use Rattle.fm_local.specs.Requests.{Tidies};
@@ -17,7 +18,7 @@ impl<F: Minifilter, B: Base> LocalManager<F, B> {
         ensures cleans { CleansAll F.cleanup_may (numbered self.old.filters) WORKER self.old.desk.state self.new.desk.state }
         ensures tidies { Tidies self.old.desk.state self.new.desk.state }
         ensures none { HasNoneDue WORKER self.new.desk.state }
-        ensures kept { self.new ≡ record self.old { desk = record self.old.desk { state = self.new.desk.state } } }
+        ensures kept { OnlyState self.old self.new }
     {
         clean_all(&mut self.desk.state, &self.filters);
     }

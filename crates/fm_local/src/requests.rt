@@ -6,7 +6,7 @@ ghost use Rattle.fm_data.specs.declared.request.FileRequest.TheVariants as asked
 ghost use Rattle.fm_data.specs.declared.request.Request.TheVariants as client;
 ghost use Rattle.fm_flow.specs.Answered.{bare_answer};
 ghost use Rattle.fm_flow.specs.declared.action.FlowAction.TheVariants as step;
-ghost use Rattle.fm_local.specs.Actions.{Acts, AnswersIn, ArePlainFilters, CarriesIn, CarriesOn, CarriesOnAll, GivesFinished, GoesOn, IsBegun, IsDoneAt, IsReady, Makes, PerformsIn, RefusesIn, RefusesOne, RepliesWith, Requests, RequestsOne, ResumesNone, RunsIn, RunsOn, Settles, TakesTurn, TurnsAs, WaitsAtEnd, closed_handle, ends_turn, goes_on, reply_of, replied};
+ghost use Rattle.fm_local.specs.Actions.{Acts, AnswersIn, ArePlainFilters, CarriesIn, CarriesOn, CarriesOnAll, GivesFinished, GoesOn, IsBegun, IsDoneAt, IsReady, Makes, OnlyState, PerformsIn, RefusesIn, RefusesOne, RepliesWith, Requests, RequestsOne, ResumesNone, RunsIn, RunsOn, Settles, TakesTurn, TurnsAs, WaitsAtEnd, closed_handle, ends_turn, goes_on, replied, reply_of};
 ghost use Rattle.fm_local.specs.Bases.{BasesCarry};
 ghost use Rattle.fm_local.specs.Cleanups.{HasNoneDue, LeavesNoneDue};
 ghost use Rattle.fm_local.specs.Managers.{numbered};
@@ -253,7 +253,7 @@ impl<F: Minifilter, B: Base> LocalManager<F, B> {
     // The end of a call of the file system.
     fn end_call(&mut self, call: BaseCall, answer: Answer) -> Result<(), Status>
         ensures event { BaseReturns self.old.desk.state WORKER call answer result self.new.desk.state }
-        ensures kept { self.new ≡ record self.old { desk = record self.old.desk { state = self.new.desk.state } } }
+        ensures kept { OnlyState self.old self.new }
     {
         match self.desk.state.base_returned(WORKER, call, answer) {
             Ok(()) => Ok(()),

@@ -1,4 +1,5 @@
 use Rattle.std.proofs.Common.{inr}
+use Rattle.fm_local.proofs.GoingOn.{calls_untraced}
 use Rattle.fm_local.proofs.Resting.{ask_refused}
 use Rattle.fm_local.proofs.Places.{asked_in, query_out, same_out}
 use Rattle.fm_local.proofs.NoneDue.{none_asked}
@@ -28,4 +29,4 @@ returns-clause-out g c out =
     (asked_in WORKER c.args.self.now.desk.state c.args.instance asked c.in_ok-ask_detach.ensures.event) c.query-allowed.ensures.ends)
 
 pub returns-clause-settles : goal.returns-clause-settles
-returns-clause-settles g c = inr (c.ask_detach.new.self, c.query-allowed.new.self, c.in_ok-ask_detach.ensures.event, c.query-allowed.ensures.ends, c.settle.ensures.all)
+returns-clause-settles g c = inr (c.ask_detach.new.self, c.query-allowed.new.self, c.in_ok-ask_detach.ensures.event, c.query-allowed.ensures.ends, calls_untraced c.args.self.now c.query-allowed.new.self c.query-allowed.ensures.kept, c.settle.ensures.all)

@@ -6,6 +6,8 @@ use Rattle.fm_local.proofs.Resting.{attach_refused}
 use Rattle.fm_local.proofs.manager.LocalManager.attach.Goals as goal
 use Rattle.fm_local.specs.Calls.{AgreesAt}
 use Rattle.fm_local.specs.declared.manager.TheConstants.{WORKER}
+use Rattle.std.proofs.Common.{inl, inr, refl}
+use Rattle.std.proofs.lemmas.Result.{err_from_is_err_and}
 
 pub returns-in_err-instance-clause-ready : goal.returns-in_err-instance-clause-ready
 returns-in_err-instance-clause-ready g c ready =
@@ -44,3 +46,14 @@ returns-in-Ok-clause-out g c out =
 pub returns-in-Err-clause-out : goal.returns-in-Err-clause-out
 returns-in-Err-clause-out g c out =
     c.set_up.ensures.out (attached_in WORKER c.args.self.now.desk.state c.args.filter c.args.volume c.args.name c.args.altitude c.in_ok-instance.instance c.attach.new.self c.in_ok-instance.ensures.event)
+
+pub returns-in_err-instance-clause-settles : goal.returns-in_err-instance-clause-settles
+returns-in_err-instance-clause-settles g c =
+    let exit = err_from_is_err_and c.from_residual.result c.from_residual.ensures.1 in
+    rw (exit.1, exit.2) (inl (c.in_err-instance.ensures.event, refl))
+
+pub returns-in-Ok-clause-settles : goal.returns-in-Ok-clause-settles
+returns-in-Ok-clause-settles g c = (c.attach.new.self, c.in_ok-instance.ensures.event, c.in-Ok.ensures.settles)
+
+pub returns-in-Err-clause-settles : goal.returns-in-Err-clause-settles
+returns-in-Err-clause-settles g c = inr (c.in_ok-instance.instance, c.attach.new.self, c.in_ok-instance.ensures.event, c.in-Err.ensures.settles)

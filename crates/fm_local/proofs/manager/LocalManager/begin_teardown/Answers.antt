@@ -13,12 +13,15 @@ returns-then-start_and_drain-clause-drains g c =
     let drains =
     subst (λ b. StartsAndDrains g.F.Minifilter.drained (numbered c.args.self.now.filters) WORKER c.args.instance g.F.Minifilter.started DRAINED b c.args.self.now.desk.state told.desk.state)
     c.if-start_and_drain.true c.start_and_drain.ensures.drains in
-    inr (told, drains, c.settle.ensures.all)
+    inr (told, drains, c.start_and_drain.ensures.kept, c.settle.ensures.all)
 
 pub returns-else-start_and_drain-clause-drains : goal.returns-else-start_and_drain-clause-drains
 returns-else-start_and_drain-clause-drains g c =
-    inl (subst (λ b. StartsAndDrains g.F.Minifilter.drained (numbered c.args.self.now.filters) WORKER c.args.instance g.F.Minifilter.started DRAINED b c.args.self.now.desk.state c.start_and_drain.new.self.desk.state)
-    c.if-start_and_drain.false c.start_and_drain.ensures.drains)
+    let not = c.if-start_and_drain.false in
+    let refused =
+    subst (λ b. StartsAndDrains g.F.Minifilter.drained (numbered c.args.self.now.filters) WORKER c.args.instance g.F.Minifilter.started DRAINED b c.args.self.now.desk.state c.start_and_drain.new.self.desk.state)
+    not c.start_and_drain.ensures.drains in
+    inl (refused.0, refused.1, c.start_and_drain.ensures.none not)
 
 pub returns-then-start_and_drain-clause-quiet : goal.returns-then-start_and_drain-clause-quiet
 returns-then-start_and_drain-clause-quiet g c plain rests settled =

@@ -7,6 +7,9 @@ use Rattle.fm_local.proofs.manager.LocalManager.detach.Goals as goal
 use Rattle.fm_local.specs.Calls.{AgreesAt}
 use Rattle.fm_local.specs.Quietly.{DetachesQuietlyBy}
 use Rattle.fm_local.specs.declared.manager.TheConstants.{WORKER}
+use Rattle.fm_local.specs.Actions.{DetachesThenSettles}
+use Rattle.fm_local.specs.declared.requests.TheConstants.{RESUMPTIONS, TURNS}
+use Rattle.fm_local.specs.declared.teardowns.TheConstants.{DRAINED}
 
 pub returns-then-is_leaving-clause-ready : goal.returns-then-is_leaving-clause-ready
 returns-then-is_leaving-clause-ready g c ready =
@@ -58,3 +61,23 @@ returns-in_err-ask-clause-quiet g c ready =
     rw (exit.1, exit.2)
     (subst (λ (b : Bool). DetachesQuietlyBy WORKER c.args.instance b (AgreesAt g.F.Minifilter.query_may old.filters) old.desk.state (Err c.in_err-ask.field-0.0) c.ask.new.self.desk.state)
     (sym (sym c.is_leaving.ensures ∙ c.if-is_leaving.false)) (inl (refl, (c.in_err-ask.ensures.quiet ready.plain ready.settled).0)))
+
+pub returns-then-is_leaving-clause-settles : goal.returns-then-is_leaving-clause-settles
+returns-then-is_leaving-clause-settles g c =
+    let old = c.args.self.now in
+    subst (λ (b : Bool). DetachesThenSettles g.F.Minifilter.pre_may g.F.Minifilter.post_may g.F.Minifilter.drained g.B.Base.folder g.B.Base.faults WORKER g.F.Minifilter.cleanup_may TURNS RESUMPTIONS g.F.Minifilter.started DRAINED g.F.Minifilter.completed b (AgreesAt g.F.Minifilter.query_may old.filters) c.args.instance old c.tear_down.result c.tear_down.new.self)
+    (sym (sym c.is_leaving.ensures ∙ c.if-is_leaving.true)) c.tear_down.ensures.tears
+
+pub returns-in_err-ask-clause-settles : goal.returns-in_err-ask-clause-settles
+returns-in_err-ask-clause-settles g c =
+    let old = c.args.self.now in
+    let exit = err_from_is_err_and c.from_residual.result c.from_residual.ensures.1 in
+    rw (exit.1, exit.2)
+    (subst (λ (b : Bool). DetachesThenSettles g.F.Minifilter.pre_may g.F.Minifilter.post_may g.F.Minifilter.drained g.B.Base.folder g.B.Base.faults WORKER g.F.Minifilter.cleanup_may TURNS RESUMPTIONS g.F.Minifilter.started DRAINED g.F.Minifilter.completed b (AgreesAt g.F.Minifilter.query_may old.filters) c.args.instance old (Err c.in_err-ask.field-0.0) c.ask.new.self)
+    (sym (sym c.is_leaving.ensures ∙ c.if-is_leaving.false)) (inl (refl, c.in_err-ask.ensures.settles)))
+
+pub returns-clause-settles : goal.returns-clause-settles
+returns-clause-settles g c =
+    let old = c.args.self.now in
+    subst (λ (b : Bool). DetachesThenSettles g.F.Minifilter.pre_may g.F.Minifilter.post_may g.F.Minifilter.drained g.B.Base.folder g.B.Base.faults WORKER g.F.Minifilter.cleanup_may TURNS RESUMPTIONS g.F.Minifilter.started DRAINED g.F.Minifilter.completed b (AgreesAt g.F.Minifilter.query_may old.filters) c.args.instance old c.tear_down-2.result c.tear_down-2.new.self)
+    (sym (sym c.is_leaving.ensures ∙ c.if-is_leaving.false)) (inr (c.ask.new.self, c.in_ok-ask.ensures.settles, c.tear_down-2.ensures.tears))

@@ -1,5 +1,6 @@
 use Rattle.std.specs.Prelude.{◌≡◌, []}
 use Rattle.fm_local.proofs.manager.LocalManager.drain_all.Given as goal
+use Rattle.fm_local.specs.Actions.{CallsBack}
 use Rattle.fm_local.specs.Drains.{DrainsMany}
 use Rattle.fm_local.specs.Managers.{numbered}
 use Rattle.fm_local.specs.Places.{StaysOut}
@@ -9,4 +10,4 @@ use Rattle.fm_local.specs.declared.manager.TheConstants.{WORKER}
 abbrev pub invariant-loop-made : goal.invariant-loop-made
 invariant-loop-made g l =
     (l.fn.self.desk.state.flow.operations ≡ [] → l.self ≡ l.fn.self) × DrainsMany g.F.Minifilter.drained (numbered l.fn.self.filters) WORKER l.instance l._made l.fn.self.desk.state l.self.desk.state
-    × (l.self.filters ≡ l.fn.self.filters) × StaysOut WORKER l.fn.self.desk.state l.self.desk.state
+    × CallsBack l.fn.self l.self × StaysOut WORKER l.fn.self.desk.state l.self.desk.state

@@ -1,6 +1,7 @@
 use Rattle.std.specs.Prelude.{Ok}
 use Rattle.fm_local.proofs.NoneDue.{none_completed}
 use Rattle.std.proofs.Common.{inr, refl, sym, ap, subst, ◌∙◌}
+use Rattle.fm_local.proofs.GoingOn.{calls_untraced}
 use Rattle.fm_local.proofs.Leaving.{completes}
 use Rattle.fm_local.proofs.Places.{complete_out, completing_in, same_out}
 use Rattle.fm_local.proofs.Readied.{settled_after}
@@ -45,7 +46,7 @@ returns-clause-tells g c =
     let event = c.in_ok-complete_teardown.ensures.event in
     subst (λ b. TellsThenSettles g.F.Minifilter.pre_may g.F.Minifilter.post_may g.F.Minifilter.drained g.B.Base.folder g.B.Base.faults WORKER g.F.Minifilter.cleanup_may TURNS RESUMPTIONS
     g.F.Minifilter.completed b c.args.instance old (Ok tt) c.settle.new.self) (sym (sym c.is_stopping.ensures ∙ c.if-not-is_stopping.false))
-    (inr (completing, c.complete.new.self, event, c.complete.ensures.called, c.complete.ensures.ends (completing_in WORKER old.desk.state c.args.instance completing event), c.settle.ensures.all, refl))
+    (inr (completing, c.complete.new.self, event, c.complete.ensures.called, c.complete.ensures.ends (completing_in WORKER old.desk.state c.args.instance completing event), calls_untraced old c.complete.new.self c.complete.ensures.kept, c.settle.ensures.all, refl))
 
 pub returns-in_err-complete_teardown-clause-out : goal.returns-in_err-complete_teardown-clause-out
 returns-in_err-complete_teardown-clause-out g c =

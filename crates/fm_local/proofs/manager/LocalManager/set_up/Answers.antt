@@ -1,8 +1,8 @@
-use Rattle.std.proofs.Common.{sym, ◌∙◌}
+use Rattle.std.proofs.Common.{refl, sym, ◌∙◌}
 use Rattle.fm_local.specs.declared.requests.TheConstants.{RESUMPTIONS, TURNS}
 use Rattle.fm_local.proofs.Places.{finished_out, setup_out}
 use Rattle.fm_local.proofs.NoneDue.{ends_tidily, none_finished}
-use Rattle.fm_local.proofs.GoingOn.{ends_accepted, ends_refused}
+use Rattle.fm_local.proofs.GoingOn.{calls_untraced, ends_accepted, ends_refused}
 use Rattle.fm_local.proofs.manager.LocalManager.set_up.Goals as goal
 use Rattle.fm_local.specs.Calls.{AgreesAt}
 use Rattle.fm_local.specs.declared.manager.TheConstants.{WORKER}
@@ -35,9 +35,10 @@ returns-then-is_err-clause-settles g c = (
   c.setup-accepted.new.self,
   c.settle.new.self,
   c.setup-accepted.ensures.ends,
+  calls_untraced c.args.self.now c.setup-accepted.new.self c.setup-accepted.ensures.kept,
   c.settle.ensures.all,
   ends_refused g.F.Minifilter.pre_may g.F.Minifilter.post_may g.F.Minifilter.drained g.B.Base.folder g.B.Base.faults WORKER g.F.Minifilter.cleanup_may TURNS RESUMPTIONS c.args.instance c.settle.new.self _ c.setup-accepted.result
-      (sym c.is_err.ensures.value ∙ c.if-is_err.true) (c.finish.result, c.finish.ensures.event),
+      (sym c.is_err.ensures.value ∙ c.if-is_err.true) (c.finish.result, c.finish.ensures.event, refl),
 )
 
 pub returns-else-is_err-clause-settles : goal.returns-else-is_err-clause-settles
@@ -45,6 +46,7 @@ returns-else-is_err-clause-settles g c = (
   c.setup-accepted.new.self,
   c.settle.new.self,
   c.setup-accepted.ensures.ends,
+  calls_untraced c.args.self.now c.setup-accepted.new.self c.setup-accepted.ensures.kept,
   c.settle.ensures.all,
   ends_accepted g.F.Minifilter.pre_may g.F.Minifilter.post_may g.F.Minifilter.drained g.B.Base.folder g.B.Base.faults WORKER g.F.Minifilter.cleanup_may TURNS RESUMPTIONS c.args.instance c.settle.new.self c.setup-accepted.result
       (sym c.is_err.ensures.value ∙ c.if-is_err.false),

@@ -1,5 +1,6 @@
 use Rattle.std.specs.Prelude.{Ok}
-use Rattle.std.proofs.Common.{sym, ap, subst, ◌∙◌}
+use Rattle.std.proofs.Common.{refl, sym, ap, subst, ◌∙◌}
+use Rattle.fm_local.proofs.GoingOn.{calls_both, calls_untraced}
 use Rattle.fm_local.proofs.Leaving.{start_flow, start_refused}
 use Rattle.fm_local.proofs.Places.{same_out, start_out, started_in}
 use Rattle.fm_local.proofs.manager.LocalManager.start_and_drain.Goals as goal
@@ -56,3 +57,11 @@ pub returns-in-Err-clause-out : goal.returns-in-Err-clause-out
 returns-in-Err-clause-out g c =
     let old = c.args.self.now.desk.state in
     same_out WORKER old c.start_teardown.new.self (start_refused WORKER c.args.instance old c.in-Err.field-0 c.start_teardown.new.self c.in-Err.ensures.event)
+
+pub returns-in-Ok-clause-kept : goal.returns-in-Ok-clause-kept
+returns-in-Ok-clause-kept g c =
+    let old = c.args.self.now in
+    calls_both old c.start.new.self c.drain_all.new.self (calls_untraced old c.start.new.self c.start.ensures.kept) c.drain_all.ensures.kept
+
+pub returns-in-Err-clause-kept : goal.returns-in-Err-clause-kept
+returns-in-Err-clause-kept g c = refl

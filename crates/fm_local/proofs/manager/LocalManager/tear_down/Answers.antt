@@ -5,6 +5,9 @@ use Rattle.fm_local.proofs.Emptied.{ends_well}
 use Rattle.fm_local.proofs.Readied.{not_ok, plain_still, rests_still, told_still}
 use Rattle.fm_local.proofs.manager.LocalManager.tear_down.Goals as goal
 use Rattle.fm_local.specs.declared.manager.TheConstants.{WORKER}
+use Rattle.std.proofs.Common.{inl, inr, refl}
+use Rattle.std.proofs.lemmas.Result.{err_from_is_err_and}
+use Rattle.fm_local.specs.declared.manager.LocalManager.{LocalManager}
 
 pub returns-in_err-end_teardown-clause-quiet : goal.returns-in_err-end_teardown-clause-quiet
 returns-in_err-end_teardown-clause-quiet g c plain rests settled =
@@ -67,3 +70,17 @@ pub returns-clause-out : goal.returns-clause-out
 returns-clause-out g c out =
     let tidied = still_out WORKER c.end_teardown.new.self.desk.state c.clean_up.new.self.desk.state c.clean_up.ensures.tidies.workers (c.in_ok-end_teardown.ensures.out (c.begin_teardown.ensures.out out)) in
     finished_out WORKER c.clean_up.new.self.desk.state c.args.instance c.finish.result c.finish.new.self c.finish.ensures.event tidied
+
+pub returns-in_err-end_teardown-clause-tears : goal.returns-in_err-end_teardown-clause-tears
+returns-in_err-end_teardown-clause-tears g c =
+    let exit = err_from_is_err_and c.from_residual.result c.from_residual.ensures.1 in
+    rw (exit.1, exit.2) (c.begin_teardown.new.self, c.begin_teardown.ensures.drains, inl (refl, c.in_err-end_teardown.ensures.tells))
+
+pub returns-clause-tears : goal.returns-clause-tears
+returns-clause-tears g c =
+    let ended = c.finish.new.self in
+    let kept = ap (λ (m : LocalManager g.row.F.Denot g.row.B.Denot). record m { desk = record m.desk { state = ended } }) c.clean_up.ensures.kept in (
+      c.begin_teardown.new.self,
+      c.begin_teardown.ensures.drains,
+      inr (c.end_teardown.new.self, c.clean_up.new.self.desk.state, c.in_ok-end_teardown.ensures.tells, c.clean_up.ensures.cleans, c.finish.ensures.event, kept),
+    )

@@ -1,12 +1,14 @@
 use Rattle.std.specs.Prelude.{◌≡◌, []}
 use Rattle.fm_local.proofs.manager.LocalManager.tear_down_all.Given as goal
-use Rattle.fm_local.specs.Actions.{ArePlainFilters}
+use Rattle.fm_local.specs.Actions.{ArePlainFilters, TearsDownEach}
 use Rattle.fm_local.specs.Cleanups.{LeavesNoneDue}
 use Rattle.fm_local.specs.Managers.{numbered}
 use Rattle.fm_local.specs.Places.{StaysOut}
 use Rattle.fm_local.specs.Quietly.{IsSettled, TearsDownFirst}
 use Rattle.fm_local.specs.Requests.{IsAtRest}
 use Rattle.fm_local.specs.declared.manager.TheConstants.{WORKER}
+use Rattle.fm_local.specs.declared.requests.TheConstants.{RESUMPTIONS, TURNS}
+use Rattle.fm_local.specs.declared.teardowns.TheConstants.{DRAINED}
 
 -- the filter's instances so far are torn down, where nothing was under way; nothing is due, and the worker is idle still
 abbrev pub invariant-loop-at : goal.invariant-loop-at
@@ -14,3 +16,4 @@ invariant-loop-at g l =
     (ArePlainFilters g.F.Minifilter.pre_may g.F.Minifilter.post_may g.F.Minifilter.is_quiet (numbered l.fn.self.filters) → IsAtRest WORKER l.fn.self.desk.state
     → l.fn.self.desk.resumed.items.items ≡ [] → TearsDownFirst WORKER l.filter l.at l.fn.self.desk.state l.self.desk.state × IsSettled l.fn.self l.self)
     × LeavesNoneDue WORKER l.fn.self.desk.state l.self.desk.state × StaysOut WORKER l.fn.self.desk.state l.self.desk.state
+    × TearsDownEach g.F.Minifilter.pre_may g.F.Minifilter.post_may g.F.Minifilter.drained g.B.Base.folder g.B.Base.faults WORKER g.F.Minifilter.cleanup_may TURNS RESUMPTIONS g.F.Minifilter.started DRAINED g.F.Minifilter.completed l.filter l.at l.fn.self l.self

@@ -4,6 +4,10 @@ use Rattle.fm_local.proofs.Readied.{goes_on_leaving, torn_ok}
 use Rattle.fm_local.proofs.manager.LocalManager.tear_down_if.Goals as goal
 use Rattle.fm_local.specs.Quietly.{TearsDownIf}
 use Rattle.fm_local.specs.declared.manager.TheConstants.{WORKER}
+use Rattle.std.specs.Prelude.{Ok, refl}
+use Rattle.fm_local.specs.Actions.{TearsDownWhere}
+use Rattle.fm_local.specs.declared.requests.TheConstants.{RESUMPTIONS, TURNS}
+use Rattle.fm_local.specs.declared.teardowns.TheConstants.{DRAINED}
 
 pub returns-then-is_to_go-clause-quiet : goal.returns-then-is_to_go-clause-quiet
 returns-then-is_to_go-clause-quiet g c plain rests settled =
@@ -16,3 +20,13 @@ returns-then-is_to_go-clause-quiet g c plain rests settled =
       subst (λ (b : Bool). TearsDownIf WORKER c.args.filter b c.args.instance old new) (sym goes) (torn_ok WORKER c.args.instance old c.tear_down.result new ok tears.0),
       tears.1,
     )
+
+pub returns-then-is_to_go-clause-tears : goal.returns-then-is_to_go-clause-tears
+returns-then-is_to_go-clause-tears g c =
+    subst (λ (b : Bool). TearsDownWhere g.F.Minifilter.pre_may g.F.Minifilter.post_may g.F.Minifilter.drained g.B.Base.folder g.B.Base.faults WORKER g.F.Minifilter.cleanup_may TURNS RESUMPTIONS g.F.Minifilter.started DRAINED g.F.Minifilter.completed c.args.filter b c.args.instance c.args.self.now c.tear_down.result c.tear_down.new.self)
+    (sym (sym c.is_to_go.ensures ∙ c.if-is_to_go.true)) c.tear_down.ensures.tears
+
+pub returns-clause-tears : goal.returns-clause-tears
+returns-clause-tears g c =
+    subst (λ (b : Bool). TearsDownWhere g.F.Minifilter.pre_may g.F.Minifilter.post_may g.F.Minifilter.drained g.B.Base.folder g.B.Base.faults WORKER g.F.Minifilter.cleanup_may TURNS RESUMPTIONS g.F.Minifilter.started DRAINED g.F.Minifilter.completed c.args.filter b c.args.instance c.args.self.now (Ok tt) c.args.self.now)
+    (sym (sym c.is_to_go.ensures ∙ c.if-is_to_go.false)) (refl, refl)

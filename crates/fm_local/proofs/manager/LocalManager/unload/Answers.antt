@@ -1,4 +1,4 @@
-use Rattle.std.specs.Prelude.{Bool}
+use Rattle.std.specs.Prelude.{Bool, Err}
 use Rattle.std.proofs.Common.{inr, sym, ap, subst, ◌∙◌}
 use Rattle.fm_local.proofs.Readied.{agreed_rests, ends_ready, loaded_leaves, plain_still, unloaded_leaves}
 use Rattle.fm_local.proofs.manager.LocalManager.unload.Goals as goal
@@ -6,6 +6,11 @@ use Rattle.fm_local.specs.Calls.{MayAgree}
 use Rattle.fm_local.specs.Managers.{numbered}
 use Rattle.fm_local.specs.Quietly.{IsSettled, UnloadsQuietlyBy}
 use Rattle.fm_local.specs.declared.manager.TheConstants.{WORKER}
+use Rattle.std.proofs.Common.{inl, refl}
+use Rattle.std.proofs.lemmas.Result.{err_from_is_err_and}
+use Rattle.fm_local.specs.Actions.{EndsFully, UnloadsThenSettles}
+use Rattle.fm_local.specs.declared.requests.TheConstants.{RESUMPTIONS, TURNS}
+use Rattle.fm_local.specs.declared.teardowns.TheConstants.{DRAINED}
 
 pub returns-then-is_unloading-clause-ready : goal.returns-then-is_unloading-clause-ready
 returns-then-is_unloading-clause-ready g c ready =
@@ -48,3 +53,25 @@ returns-clause-ready g c ready =
 
 pub returns-clause-out : goal.returns-clause-out
 returns-clause-out g c out = c.end-2.ensures.out (c.in_ok-ask_to_unload.ensures.out out)
+
+pub returns-then-is_unloading-clause-settles : goal.returns-then-is_unloading-clause-settles
+returns-then-is_unloading-clause-settles g c =
+    let old = c.args.self.now in
+    subst (λ (b : Bool). UnloadsThenSettles g.F.Minifilter.pre_may g.F.Minifilter.post_may g.F.Minifilter.drained g.B.Base.folder g.B.Base.faults WORKER g.F.Minifilter.cleanup_may TURNS RESUMPTIONS g.F.Minifilter.started DRAINED g.F.Minifilter.completed c.args.filter b (MayAgree g.F.Minifilter.unload_may (numbered old.filters c.args.filter.0)) old c.end.result c.end.new.self)
+    (sym (sym c.is_unloading.ensures ∙ c.if-is_unloading.true)) c.end.ensures.settles
+
+pub returns-in_err-ask_to_unload-clause-settles : goal.returns-in_err-ask_to_unload-clause-settles
+returns-in_err-ask_to_unload-clause-settles g c =
+    let old = c.args.self.now in
+    let exit = err_from_is_err_and c.from_residual.result c.from_residual.ensures.1 in
+    rw (exit.1, exit.2)
+    (subst (λ (b : Bool). UnloadsThenSettles g.F.Minifilter.pre_may g.F.Minifilter.post_may g.F.Minifilter.drained g.B.Base.folder g.B.Base.faults WORKER g.F.Minifilter.cleanup_may TURNS RESUMPTIONS g.F.Minifilter.started DRAINED g.F.Minifilter.completed c.args.filter b (MayAgree g.F.Minifilter.unload_may (numbered old.filters c.args.filter.0)) old (Err c.in_err-ask_to_unload.field-0.0)
+    c.ask_to_unload.new.self) (sym (sym c.is_unloading.ensures ∙ c.if-is_unloading.false)) (inl (refl, c.in_err-ask_to_unload.ensures.asks, c.in_err-ask_to_unload.ensures.kept)))
+
+pub returns-clause-settles : goal.returns-clause-settles
+returns-clause-settles g c =
+    let old = c.args.self.now in
+    let may = MayAgree g.F.Minifilter.unload_may (numbered old.filters c.args.filter.0) in
+    let ends = subst (λ m. EndsFully g.F.Minifilter.pre_may g.F.Minifilter.post_may g.F.Minifilter.drained g.B.Base.folder g.B.Base.faults WORKER g.F.Minifilter.cleanup_may TURNS RESUMPTIONS g.F.Minifilter.started DRAINED g.F.Minifilter.completed c.args.filter m c.end-2.result c.end-2.new.self) c.in_ok-ask_to_unload.ensures.kept c.end-2.ensures.settles in
+    subst (λ (b : Bool). UnloadsThenSettles g.F.Minifilter.pre_may g.F.Minifilter.post_may g.F.Minifilter.drained g.B.Base.folder g.B.Base.faults WORKER g.F.Minifilter.cleanup_may TURNS RESUMPTIONS g.F.Minifilter.started DRAINED g.F.Minifilter.completed c.args.filter b may old c.end-2.result c.end-2.new.self)
+    (sym (sym c.is_unloading.ensures ∙ c.if-is_unloading.false)) (inr (c.ask_to_unload.new.self.desk.state, c.in_ok-ask_to_unload.ensures.asks, ends))

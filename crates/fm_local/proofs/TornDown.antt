@@ -1,0 +1,38 @@
+-- The instances of a filter are torn down one after the other.
+use Rattle.std.specs.Prelude.{◌≡◌, ◌+◌, ℕ, suc, List, Bool, true, false, Option, Result, Ok, Err}
+use Rattle.std.proofs.Common.{subst, arith}
+use Rattle.fm_base.specs.Folders.{Folder}
+use Rattle.fm_types.specs.declared.context_kind.ContextKind.{ContextKind}
+use Rattle.fm_types.specs.declared.ids.FilterId.{FilterId}
+use Rattle.fm_types.specs.declared.ids.InstanceId.{InstanceId}
+use Rattle.fm_types.specs.declared.status.Status.{Status}
+use Rattle.fm_data.specs.Data.{Data}
+use Rattle.fm_data.specs.declared.verdict.Completion.{Completion}
+use Rattle.fm_data.specs.declared.verdict.PreVerdict.{PreVerdict}
+use Rattle.fm_data.specs.declared.verdict.PostVerdict.{PostVerdict}
+use Rattle.fm_world.specs.Words.{WorkerId}
+use Rattle.fm_local.specs.Actions.{TearsDownEach, TearsDownFully, TearsDownWhere}
+use Rattle.fm_local.specs.Calls.{is_to_go}
+use Rattle.fm_local.specs.declared.manager.LocalManager.{LocalManager}
+
+not_done : (why : Status) (done : Unit {0}) → Err why ≡ Ok done → ⊥
+not_done why done h = cc
+
+module _ {F B : Type 0} (pre : F → Data → PreVerdict → Data → Type 0) (post : F → Data → Completion → PostVerdict → Data → Type 0) (drained : F → Completion → Type 0)
+    (folder : B → Option Folder) (faults : B → ℕ) (k : WorkerId) (cleanup : F → ContextKind → List ℕ → ℕ → Type 0) (most limit : ℕ)
+    (begins : F → Type 0) (drains : ℕ) (completed : F → Type 0) (f : FilterId) where
+  abbrev Where : Bool → InstanceId → LocalManager F B → Result (Unit {0}) Status → LocalManager F B → Type 0
+  Where b i old result new = TearsDownWhere pre post drained folder faults k cleanup most limit begins drains completed f b i old result new
+
+  abbrev Each : ℕ → LocalManager F B → LocalManager F B → Type 0
+  Each n old new = TearsDownEach pre post drained folder faults k cleanup most limit begins drains completed f n old new
+
+  pub tears_more : (n : ℕ) (old now new : LocalManager F B) → Each n old now → Where (is_to_go f now.desk.state (record { 0 = n })) (record { 0 = n }) now (Ok tt) new → Each (n + 1) old new
+  tears_more n old now new each tears =
+      let more : suc n ≡ n + 1 = omega arith in
+      subst (λ (j : ℕ). Each j old new) more (now, each, tears)
+
+  pub stops_there : (b : Bool) (i : InstanceId) (now : LocalManager F B) (why : Status) (new : LocalManager F B) → Where b i now (Err why) new
+      → TearsDownFully pre post drained folder faults k cleanup most limit begins drains completed i now (Err why) new
+  stops_there true i now why new tears = tears
+  stops_there false i now why new tears = absurd (not_done why tt tears.0)

@@ -15,9 +15,6 @@ use Rattle.fm_local.specs.Actions.{TearsDownEach, TearsDownFully, TearsDownWhere
 use Rattle.fm_local.specs.Calls.{is_to_go}
 use Rattle.fm_local.specs.declared.manager.LocalManager.{LocalManager}
 
-not_done : (why : Status) (done : Unit {0}) → Err why ≡ Ok done → ⊥
-not_done why done h = cc
-
 module _ {F B : Type 0} (pre : F → Data → PreVerdict → Data → Type 0) (post : F → Data → Completion → PostVerdict → Data → Type 0) (drained : F → Completion → Type 0)
     (folder : B → Option Folder) (faults : B → ℕ) (k : WorkerId) (cleanup : F → ContextKind → List ℕ → ℕ → Type 0) (most limit : ℕ)
     (begins : F → Type 0) (drains : ℕ) (completed : F → Type 0) (f : FilterId) where
@@ -31,8 +28,3 @@ module _ {F B : Type 0} (pre : F → Data → PreVerdict → Data → Type 0) (p
   tears_more n old now new each tears =
       let more : suc n ≡ n + 1 = omega arith in
       subst (λ (j : ℕ). Each j old new) more (now, each, tears)
-
-  pub stops_there : (b : Bool) (i : InstanceId) (now : LocalManager F B) (why : Status) (new : LocalManager F B) → Where b i now (Err why) new
-      → TearsDownFully pre post drained folder faults k cleanup most limit begins drains completed i now (Err why) new
-  stops_there true i now why new tears = tears
-  stops_there false i now why new tears = absurd (not_done why tt tears.0)

@@ -307,7 +307,7 @@ module _ {F B : Type 0} (pre : F → Data → PreVerdict → Data → Type 0) (p
         -- all that there are, or to the first whose teardown stops
         abbrev pub TearsDownAll : LocalManager F B → Result (Unit {0}) Status → LocalManager F B → Type 0
         TearsDownAll old (Ok done) new = TearsDownEach (length old.desk.state.stack.instances) old new
-        TearsDownAll old (Err why) new = (n : ℕ) × (mid : LocalManager F B) × TearsDownEach n old mid × TearsDownFully (record { 0 = n }) mid (Err why) new
+        TearsDownAll old (Err why) new = (n : ℕ) × (mid : LocalManager F B) × TearsDownEach n old mid × TearsDownWhere (is_to_go f mid.desk.state (record { 0 = n })) (record { 0 = n }) mid (Err why) new
 
         -- the end of a filter: its instances are torn down, then its volume contexts go, what is due is cleaned up, and it ends
         abbrev pub EndsFully : LocalManager F B → Result (Unit {0}) Status → LocalManager F B → Type 0

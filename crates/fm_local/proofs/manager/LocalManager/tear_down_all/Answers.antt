@@ -2,7 +2,7 @@ use Rattle.fm_local.proofs.Readied.{not_ok, plain_still, rests_first, settled_bo
 use Rattle.fm_local.proofs.manager.LocalManager.tear_down_all.Goals as goal
 use Rattle.fm_local.specs.declared.manager.TheConstants.{WORKER}
 use Rattle.std.proofs.lemmas.Result.{err_from_is_err_and}
-use Rattle.fm_local.proofs.TornDown.{stops_there, tears_more}
+use Rattle.fm_local.proofs.TornDown.{tears_more}
 use Rattle.fm_local.specs.Calls.{is_to_go}
 use Rattle.fm_local.specs.declared.requests.TheConstants.{RESUMPTIONS, TURNS}
 use Rattle.fm_local.specs.declared.teardowns.TheConstants.{DRAINED}
@@ -37,12 +37,5 @@ returns-in_err-tear_down_if-clause-out g c out = c.in_err-tear_down_if.ensures.o
 
 pub returns-in_err-tear_down_if-clause-tears : goal.returns-in_err-tear_down_if-clause-tears
 returns-in_err-tear_down_if-clause-tears g c =
-    let now = c.loop-at.self in
     let exit = err_from_is_err_and c.from_residual.result c.from_residual.ensures.1 in
-    rw (exit.1, exit.2) (
-      c.loop-at.at,
-      now,
-      c.loop-at.invariant.3,
-      stops_there g.F.Minifilter.pre_may g.F.Minifilter.post_may g.F.Minifilter.drained g.B.Base.folder g.B.Base.faults WORKER g.F.Minifilter.cleanup_may TURNS RESUMPTIONS g.F.Minifilter.started DRAINED g.F.Minifilter.completed c.args.filter (is_to_go c.args.filter now.desk.state (record { 0 = c.loop-at.at })) (record { 0 = c.loop-at.at }) now c.in_err-tear_down_if.field-0.0 c.tear_down_if.new.self
-          c.in_err-tear_down_if.ensures.tears,
-    )
+    rw (exit.1, exit.2) (c.loop-at.at, c.loop-at.self, c.loop-at.invariant.3, c.in_err-tear_down_if.ensures.tears)

@@ -20,7 +20,7 @@ use Rattle.fm_script.specs.declared.task.Task.{Task}
 use Rattle.fm_script.specs.declared.task.Task.TheVariants as task
 use Rattle.fm_script.specs.Reading.{◌>>=◌}
 use Rattle.fm_script.specs.Ids.{filter_in, volume_in, operation_in, worker_in}
-use Rattle.fm_script.specs.Tasks.{filter_id, volume_id, worker_id, turn_ids, turn_in, one_id, only_instance, only_volume, only_worker, answered_read, event}
+use Rattle.fm_script.specs.Tasks.{volume_id, worker_id, place_ids, turn_ids, turn_in, one_id, only_instance, only_volume, only_worker, answered_read, event}
 use Rattle.fm_script.specs.ContextCommands.{context_read, allocate_read, write_body_read}
 use Rattle.fm_script.specs.FileCommands.{file_read, write_read}
 use Rattle.fm_script.specs.TeardownCommands.{teardown_read}
@@ -157,9 +157,6 @@ abbrev pub Placed : {T : Type 0} → Result T Status → List ℕ → List ℕ �
 Placed (Ok ids) name altitude next result =
     (read : Result (List ℕ × List ℕ) Status) × ReadsPlace name altitude read × (result ≡ (read >>= λ place. next ids place))
 Placed (Err status) name altitude next result = result ≡ Err status
-
-unfoldable pub place_ids : List ℕ → List ℕ → Result (ℕ × ℕ) Status
-place_ids filter volume = filter_id filter >>= λ f. volume_id volume >>= λ v. Ok (f, v)
 
 unfoldable pub setup_ids : List ℕ → List ℕ → List ℕ → Result (ℕ × ℕ × ℕ) Status
 setup_ids worker filter volume = worker_id worker >>= λ k. place_ids filter volume >>= λ ids. Ok (k, ids.0, ids.1)

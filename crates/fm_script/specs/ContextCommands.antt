@@ -15,7 +15,7 @@ use Rattle.fm_script.specs.declared.task.Task.{Task}
 use Rattle.fm_script.specs.declared.task.Task.TheVariants as task
 use Rattle.fm_script.specs.Reading.{◌>>=◌}
 use Rattle.fm_script.specs.Ids.{context_in, worker_in}
-use Rattle.fm_script.specs.Tasks.{context_id, worker_id, one_id, only_worker, held_in, numbers_read, event}
+use Rattle.fm_script.specs.Tasks.{worker_id, one_id, only_worker, held_ids, held_in, numbers_read, event}
 
 -- ---- words
 
@@ -33,10 +33,6 @@ abbrev pub old_read : List (List ℕ) → Result Bool Status
 old_read [] = Ok false
 old_read (word ∷ []) = cond (bytes_eq word (codes "old")) (Ok true) (Err BadRequest)
 old_read _ = Err BadRequest
-
--- the numbers of a worker and a context
-unfoldable pub held_ids : List ℕ → List ℕ → Result (ℕ × ℕ) Status
-held_ids worker context = worker_id worker >>= λ k. context_id context >>= λ c. Ok (k, c)
 
 -- a worker and a context, as the only words
 abbrev pub held_read : List CtxId → List (List ℕ) → Result (WorkerId × CtxId) Status

@@ -20,21 +20,12 @@ abbrev pub or_bad : {T : Type 0} → Option T → Result T Status
 or_bad None = Err BadRequest
 or_bad (Some x) = Ok x
 
--- the number of an id behind its letter: c, f, h, i, o, v or w
-abbrev pub context_id : List ℕ → Result ℕ Status
-context_id word = or_bad (id_read 99 word)
-
-abbrev pub filter_id : List ℕ → Result ℕ Status
-filter_id word = or_bad (id_read 102 word)
-
+-- the number of an id behind its letter: h, i, v or w
 abbrev pub handle_id : List ℕ → Result ℕ Status
 handle_id word = or_bad (id_read 104 word)
 
 abbrev pub instance_id : List ℕ → Result ℕ Status
 instance_id word = or_bad (id_read 105 word)
-
-abbrev pub operation_id : List ℕ → Result ℕ Status
-operation_id word = or_bad (id_read 111 word)
 
 abbrev pub volume_id : List ℕ → Result ℕ Status
 volume_id word = or_bad (id_read 118 word)
@@ -71,9 +62,25 @@ answered_read _ = Err BadRequest
 abbrev pub held_in : List CtxId → ℕ → ℕ → Result (WorkerId × CtxId) Status
 held_in contexts k c = context_in contexts c >>= λ own. worker_in k >>= λ w. Ok (w, own)
 
--- the numbers of a worker and an operation
-unfoldable pub turn_ids : List ℕ → List ℕ → Result (ℕ × ℕ) Status
-turn_ids worker operation = worker_id worker >>= λ k. operation_id operation >>= λ o. Ok (k, o)
+-- the numbers of two ids, each behind its letter
+unfoldable pub ids_read : ℕ → List ℕ → ℕ → List ℕ → Result (ℕ × ℕ) Status
+ids_read first one second other = or_bad (id_read first one) >>= λ m. or_bad (id_read second other) >>= λ n. Ok (m, n)
+
+-- of a worker and an operation, a context, an instance or a filter, and of a filter and a volume
+abbrev pub turn_ids : List ℕ → List ℕ → Result (ℕ × ℕ) Status
+turn_ids worker operation = ids_read 119 worker 111 operation
+
+abbrev pub held_ids : List ℕ → List ℕ → Result (ℕ × ℕ) Status
+held_ids worker context = ids_read 119 worker 99 context
+
+abbrev pub instance_ids : List ℕ → List ℕ → Result (ℕ × ℕ) Status
+instance_ids worker instance = ids_read 119 worker 105 instance
+
+abbrev pub filter_ids : List ℕ → List ℕ → Result (ℕ × ℕ) Status
+filter_ids worker filter = ids_read 119 worker 102 filter
+
+abbrev pub place_ids : List ℕ → List ℕ → Result (ℕ × ℕ) Status
+place_ids filter volume = ids_read 102 filter 118 volume
 
 -- an operation and the worker that takes a turn with it
 abbrev pub turn_in : World → ℕ → ℕ → Result (WorkerId × OpId) Status

@@ -14,8 +14,8 @@ use Rattle.fm_script.specs.declared.task.Task.{Task}
 use Rattle.fm_script.specs.declared.task.Task.TheVariants as task
 use Rattle.fm_script.specs.Numbers.{number_read}
 use Rattle.fm_script.specs.Reading.{◌>>=◌, Either}
-use Rattle.fm_script.specs.Ids.{instance_in, context_in, worker_in}
-use Rattle.fm_script.specs.Tasks.{context_id, instance_id, worker_id, turn_ids, turn_in, event}
+use Rattle.fm_script.specs.Ids.{instance_in, worker_in}
+use Rattle.fm_script.specs.Tasks.{instance_id, worker_id, held_ids, held_in, turn_ids, turn_in, event}
 
 -- ---- verdicts
 
@@ -75,7 +75,7 @@ sends_context _ = false
 
 abbrev pub pre_with_read : List CtxId → List (List ℕ) → Result Task Status
 pre_with_read contexts (worker ∷ word ∷ context ∷ []) =
-    worker_id worker >>= λ k. context_id context >>= λ c. context_in contexts c >>= λ own. worker_in k >>= λ by. Ok (task.Pre by (carrying own))
+    held_ids worker context >>= λ ids. held_in contexts ids.0 ids.1 >>= λ both. Ok (task.Pre both.0 (carrying both.1))
 pre_with_read contexts _ = Err BadRequest
 
 abbrev pub AnswersBare : List (List ℕ) → Result Task Status → Type 0

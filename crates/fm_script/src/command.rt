@@ -3,10 +3,10 @@
 //! that wasn't given is refused: 6, 7, 8, 14, 30 and 25 in this order, and 30 for a worker last.
 
 ghost use Rattle.std.specs.Prelude.{◌≡◌, map};
-ghost use Rattle.fm_script.specs.Commands.{Attaches, Creates, Loads, Mounts, ReadsAs, ReadsPlace, SetsUp, attach_at, base_read, collect_read, create_ids, create_mode_read, go_read, is_of_contexts, is_of_teardowns, list_read, next_read, option_read, phase_read, place_ids, registration_read, resume_post_read, setup_at, setup_done_read, setup_ids, takes_bytes, turn_read, with_bytes_read};
+ghost use Rattle.fm_script.specs.Commands.{Attaches, Creates, Loads, Mounts, ReadsAs, ReadsPlace, SetsUp, attach_at, base_read, collect_read, create_ids, create_mode_read, go_read, is_of_contexts, is_of_teardowns, list_read, next_read, option_read, phase_read, registration_read, resume_post_read, setup_at, setup_done_read, setup_ids, takes_bytes, turn_read, with_bytes_read};
 ghost use Rattle.fm_script.specs.Lines.{OrMemory};
 ghost use Rattle.fm_script.specs.Numbers.{id_read, number_read};
-ghost use Rattle.fm_script.specs.Tasks.{answered_read, numbers_read, one_id, only_instance, only_volume, only_worker, or_bad, turn_ids, turn_in, yes_or_no};
+ghost use Rattle.fm_script.specs.Tasks.{answered_read, ids_read, numbers_read, one_id, only_instance, only_volume, only_worker, or_bad, turn_in, yes_or_no};
 
 use crate::context_command::{read_allocate, read_context_command, read_write_body};
 use crate::file_command::{read_file_command, read_write};
@@ -253,7 +253,7 @@ fn read_attach(state: &State, words: &[&[u8]]) -> Result<Task, Status>
     let [filter, volume, name, altitude] = words else {
         return Err(Status::BadRequest);
     };
-    let (filter, volume) = place_ids(filter, volume)?;
+    let (filter, volume) = two_ids(b'f', filter, b'v', volume)?;
     let (name, altitude) = read_place(name, altitude)?;
     attach_at(state, filter, volume, name, altitude)
 }
@@ -312,21 +312,13 @@ fn setup_at(
     }))
 }
 
-// The numbers of a filter and a volume.
-#[tactic(auto, unfolding(crate::specs::Commands::place_ids))]
-fn place_ids(filter: &[u8], volume: &[u8]) -> Result<(u64, u64), Status>
-    ensures { result ≡ place_ids filter.now volume.now }
-{
-    Ok((id(b'f', filter)?, id(b'v', volume)?))
-}
-
-// The same behind that of a worker.
+// The numbers of a worker, a filter and a volume.
 #[tactic(auto, unfolding(crate::specs::Commands::setup_ids))]
 fn setup_ids(worker: &[u8], filter: &[u8], volume: &[u8]) -> Result<(u64, u64, u64), Status>
     ensures { result ≡ setup_ids worker.now filter.now volume.now }
 {
     let worker = id(b'w', worker)?;
-    let (filter, volume) = place_ids(filter, volume)?;
+    let (filter, volume) = two_ids(b'f', filter, b'v', volume)?;
     Ok((worker, filter, volume))
 }
 
@@ -415,16 +407,16 @@ fn read_turn(state: &State, words: &[&[u8]]) -> Result<(WorkerId, OpId), Status>
     let [worker, operation] = words else {
         return Err(Status::BadRequest);
     };
-    let (worker, operation) = turn_ids(worker, operation)?;
+    let (worker, operation) = two_ids(b'w', worker, b'o', operation)?;
     turn_in(state, worker, operation)
 }
 
-/// The numbers of a worker and an operation.
-#[tactic(auto, unfolding(crate::specs::Tasks::turn_ids))]
-pub(crate) fn turn_ids(worker: &[u8], operation: &[u8]) -> Result<(u64, u64), Status>
-    ensures { result ≡ turn_ids worker.now operation.now }
+/// The numbers of two ids, each behind its letter.
+#[tactic(auto, unfolding(crate::specs::Tasks::ids_read))]
+pub(crate) fn two_ids(first: u8, one: &[u8], second: u8, other: &[u8]) -> Result<(u64, u64), Status>
+    ensures { result ≡ ids_read first one.now second other.now }
 {
-    Ok((id(b'w', worker)?, id(b'o', operation)?))
+    Ok((id(first, one)?, id(second, other)?))
 }
 
 /// An operation and the worker that takes a turn with it.

@@ -1,11 +1,11 @@
 //! The commands on contexts. A context is meant by its number in the order of allocation.
 
 ghost use Rattle.std.specs.Prelude.{◌≡◌, [], map};
-ghost use Rattle.fm_script.specs.ContextCommands.{allocate_read, bump_as, bump_at, bump_read, context_read, delete_as, delete_read, held_ids, held_read, kind_of_read, kind_read, leaks_read, manner_read, mode_read, old_read, set_as, set_read, write_body_read};
+ghost use Rattle.fm_script.specs.ContextCommands.{allocate_read, bump_as, bump_at, bump_read, context_read, delete_as, delete_read, held_read, kind_of_read, kind_read, leaks_read, manner_read, mode_read, old_read, set_as, set_read, write_body_read};
 ghost use Rattle.fm_script.specs.Tasks.{held_in};
 ghost use Rattle.fm_script.specs.declared.keyword.Keyword.TheVariants as key;
 
-use crate::command::{id, numbers, one_id, only_worker};
+use crate::command::{id, numbers, one_id, only_worker, two_ids};
 use crate::ids::{context_in, worker_in};
 use crate::keyword::Keyword;
 use crate::task::Task;
@@ -92,8 +92,12 @@ fn read_count(contexts: &[CtxId], words: &[&[u8]]) -> Result<Task, Status>
     Ok(Task::Count(context_in(contexts, context)?))
 }
 
-// A context and the worker that says it holds it.
-fn held_by(contexts: &[CtxId], worker: u64, context: u64) -> Result<(WorkerId, CtxId), Status>
+/// A context and the worker that says it holds it.
+pub(crate) fn held_by(
+    contexts: &[CtxId],
+    worker: u64,
+    context: u64,
+) -> Result<(WorkerId, CtxId), Status>
     ensures { result ≡ held_in contexts.now worker context }
 {
     let context = context_in(contexts, context)?;
@@ -108,16 +112,8 @@ fn read_held(contexts: &[CtxId], words: &[&[u8]]) -> Result<(WorkerId, CtxId), S
     let [worker, context] = words else {
         return Err(Status::BadRequest);
     };
-    let (worker, context) = held_ids(worker, context)?;
+    let (worker, context) = two_ids(b'w', worker, b'c', context)?;
     held_by(contexts, worker, context)
-}
-
-// The numbers of a worker and a context.
-#[tactic(auto, unfolding(crate::specs::ContextCommands::held_ids))]
-fn held_ids(worker: &[u8], context: &[u8]) -> Result<(u64, u64), Status>
-    ensures { result ≡ held_ids worker.now context.now }
-{
-    Ok((id(b'w', worker)?, id(b'c', context)?))
 }
 
 // A worker and a kind of contexts, as the only words: `get W KIND`.
@@ -180,7 +176,7 @@ fn set_as(
 ) -> Result<Task, Status>
     ensures { result ≡ set_as contexts.now worker.now context.now mode.now (map (λ word. word.now) rest.now) }
 {
-    let (worker, context) = held_ids(worker, context)?;
+    let (worker, context) = two_ids(b'w', worker, b'c', context)?;
     let (mode, wants_old) = read_manner(mode, rest)?;
     let (worker, context) = held_by(contexts, worker, context)?;
     Ok(Task::Event(Step::Set {
@@ -243,7 +239,7 @@ fn bump_as(
 ) -> Result<Task, Status>
     ensures { result ≡ bump_as contexts.now worker.now context.now place.now by.now }
 {
-    let ids = held_ids(worker, context)?;
+    let ids = two_ids(b'w', worker, b'c', context)?;
     let numbers = numbers(place, by)?;
     bump_at(contexts, ids, numbers)
 }

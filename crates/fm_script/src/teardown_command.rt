@@ -1,9 +1,9 @@
 //! The commands by which instances are detached, filters unloaded and volumes dismounted, and what is in flight at an instance.
 
 ghost use Rattle.std.specs.Prelude.{◌≡◌, map};
-ghost use Rattle.fm_script.specs.TeardownCommands.{asked_filter, asked_instance, only_filter, teardown_read};
+ghost use Rattle.fm_script.specs.TeardownCommands.{asked_at, asked_filter, asked_instance, asked_of, only_filter, teardown_read};
 
-use crate::command::{id, one_id, only_instance, only_volume, only_worker, read_answered};
+use crate::command::{one_id, only_instance, only_volume, only_worker, read_answered, two_ids};
 use crate::ids::{filter_in, instance_in, worker_in};
 use crate::keyword::Keyword;
 use crate::task::Task;
@@ -82,30 +82,42 @@ pub(crate) fn read_teardown_command(
     }
 }
 
-// A worker and the instance whose callback it enters, as the only words.
+// A worker and the instance whose callback it enters.
+fn asked_at(state: &State, worker: u64, instance: u64) -> Result<(WorkerId, InstanceId), Status>
+    ensures { result ≡ asked_at state.now worker instance }
+{
+    let instance = instance_in(state, instance)?;
+    Ok((worker_in(worker)?, instance))
+}
+
+// The same, as the only words.
 fn read_asked_instance(state: &State, words: &[&[u8]]) -> Result<(WorkerId, InstanceId), Status>
     ensures { result ≡ asked_instance state.now (map (λ word. word.now) words.now) }
 {
     let [worker, instance] = words else {
         return Err(Status::BadRequest);
     };
-    let worker = id(b'w', worker)?;
-    let instance = id(b'i', instance)?;
-    let instance = instance_in(state, instance)?;
-    Ok((worker_in(worker)?, instance))
+    let (worker, instance) = two_ids(b'w', worker, b'i', instance)?;
+    asked_at(state, worker, instance)
 }
 
-// A worker and the filter whose callback it enters, as the only words.
+// A worker and the filter whose callback it enters.
+fn asked_of(state: &State, worker: u64, filter: u64) -> Result<(WorkerId, FilterId), Status>
+    ensures { result ≡ asked_of state.now worker filter }
+{
+    let filter = filter_in(state, filter)?;
+    Ok((worker_in(worker)?, filter))
+}
+
+// The same, as the only words.
 fn read_asked_filter(state: &State, words: &[&[u8]]) -> Result<(WorkerId, FilterId), Status>
     ensures { result ≡ asked_filter state.now (map (λ word. word.now) words.now) }
 {
     let [worker, filter] = words else {
         return Err(Status::BadRequest);
     };
-    let worker = id(b'w', worker)?;
-    let filter = id(b'f', filter)?;
-    let filter = filter_in(state, filter)?;
-    Ok((worker_in(worker)?, filter))
+    let (worker, filter) = two_ids(b'w', worker, b'f', filter)?;
+    asked_of(state, worker, filter)
 }
 
 // The filter that is the only word.

@@ -3,8 +3,9 @@
 ghost use Rattle.std.specs.Prelude.{◌≡◌, map};
 ghost use Rattle.fm_script.specs.VerdictCommands.{AnswersBare, AnswersPre, Plans, ReadsAnswer, ReadsComplete, ReadsVerdict, Resumes, bare_verdict, done_or_more, own_verdict, post_read, pre_with_read, sends_context};
 
-use crate::command::{id, turn_ids, turn_in};
-use crate::ids::{context_in, instance_in, worker_in};
+use crate::command::{id, turn_in, two_ids};
+use crate::context_command::held_by;
+use crate::ids::{instance_in, worker_in};
 use crate::number::read_status;
 use crate::task::Task;
 use fm_core::{State, Step};
@@ -51,10 +52,9 @@ fn read_pre_with(contexts: &[CtxId], words: &[&[u8]]) -> Result<Task, Status>
     let [worker, _, context] = words else {
         return Err(Status::BadRequest);
     };
-    let worker = id(b'w', worker)?;
-    let context = id(b'c', context)?;
-    let context = Some(context_in(contexts, context)?);
-    let worker = worker_in(worker)?;
+    let (worker, context) = two_ids(b'w', worker, b'c', context)?;
+    let (worker, context) = held_by(contexts, worker, context)?;
+    let context = Some(context);
     let verdict = PreVerdict::WithCallback(Completion { number: 0, context });
     Ok(Task::Pre { worker, verdict })
 }
@@ -105,7 +105,7 @@ pub(crate) fn read_resume(state: &State, words: &[&[u8]]) -> Result<Task, Status
     let [worker, operation, verdict @ ..] = words else {
         return Err(Status::BadRequest);
     };
-    let (worker, operation) = turn_ids(worker, operation)?;
+    let (worker, operation) = two_ids(b'w', worker, b'o', operation)?;
     let verdict = read_verdict(verdict)?;
     let (worker, operation) = turn_in(state, worker, operation)?;
     Ok(Task::Event(Step::ResumePre {

@@ -4,4 +4,5 @@ pub mod Kept
 pub mod Going
 pub mod Running
 pub mod Rows
+pub mod Newest
 pub mod Cuts

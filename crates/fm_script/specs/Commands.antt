@@ -193,10 +193,12 @@ ReadsPath path read = MatchResult read (λ r. IsPath path × (r ≡ path)) (λ s
 abbrev pub create_ids : List ℕ → List ℕ → Result (ℕ × CreateMode) Status
 create_ids volume mode = volume_id volume >>= λ v. create_mode_read mode >>= λ m. Ok (v, m)
 
+abbrev pub create_at : World → ℕ × CreateMode → List ℕ → Result Task Status
+create_at w ids path = volume_in w ids.0 >>= λ at. event (step.Begin (request.Create at path ids.1))
+
 abbrev pub CreatesAs : World → Result (ℕ × CreateMode) Status → List ℕ → Result Task Status → Type 0
 CreatesAs w (Ok ids) path result =
-    (read : Result (List ℕ) Status) × ReadsPath path read
-    × (result ≡ (read >>= λ p. volume_in w ids.0 >>= λ at. event (step.Begin (request.Create at p ids.1))))
+    (read : Result (List ℕ) Status) × ReadsPath path read × (result ≡ (read >>= create_at w ids))
 CreatesAs w (Err status) path result = result ≡ Err status
 
 abbrev pub Creates : World → List (List ℕ) → Result Task Status → Type 0

@@ -15,7 +15,7 @@ use Rattle.fm_script.specs.declared.task.Task.{Task}
 use Rattle.fm_script.specs.declared.task.Task.TheVariants as task
 use Rattle.fm_script.specs.Reading.{◌>>=◌}
 use Rattle.fm_script.specs.Ids.{context_in, worker_in}
-use Rattle.fm_script.specs.Tasks.{worker_id, one_id, only_worker, held_ids, held_in, numbers_read, event}
+use Rattle.fm_script.specs.Tasks.{worker_id, one_id, only_worker, with_worker, held_ids, held_in, numbers_read, event}
 
 -- ---- words
 
@@ -41,7 +41,7 @@ held_read contexts _ = Err BadRequest
 
 -- a worker and a kind, as the only words
 abbrev pub kind_of_read : List (List ℕ) → Result (WorkerId × ContextKind) Status
-kind_of_read (worker ∷ kind' ∷ []) = worker_id worker >>= λ k. kind_read kind' >>= λ of. worker_in k >>= λ w. Ok (w, of)
+kind_of_read (worker ∷ kind' ∷ []) = with_worker worker (kind_read kind')
 kind_of_read _ = Err BadRequest
 
 -- ---- commands

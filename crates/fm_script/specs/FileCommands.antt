@@ -17,6 +17,10 @@ use Rattle.fm_script.specs.Reading.{◌>>=◌}
 use Rattle.fm_script.specs.Ids.{handle_in}
 use Rattle.fm_script.specs.Tasks.{or_bad, handle_id, numbers_read, event}
 
+-- a handle, and what is read behind it
+unfoldable pub with_handle : {T : Type 0} → World → List ℕ → Result T Status → Result (HandleId × T) Status
+with_handle w handle read = handle_id handle >>= λ h. read >>= λ it. handle_in w h >>= λ own. Ok (own, it)
+
 -- a request on a handle begins
 abbrev pub asked : World → ℕ → FileRequest → Result Task Status
 asked w h what = handle_in w h >>= λ own. event (step.Begin (request.OnHandle own what))
@@ -37,7 +41,7 @@ read_read w _ = Err BadRequest
 
 -- a handle and a number, as the only words
 abbrev pub handle_and_number : World → List (List ℕ) → Result (HandleId × ℕ) Status
-handle_and_number w (handle ∷ word ∷ []) = handle_id handle >>= λ h. or_bad (number_read word) >>= λ n. handle_in w h >>= λ own. Ok (own, n)
+handle_and_number w (handle ∷ word ∷ []) = with_handle w handle (or_bad (number_read word))
 handle_and_number w _ = Err BadRequest
 
 abbrev pub set_size_read : World → List (List ℕ) → Result Task Status

@@ -5,6 +5,7 @@ pub mod Words
 pub mod Numbers
 pub mod Hexadecimal
 pub mod ContextCommands
+pub mod ContextLists
 pub mod FileCommands
 pub mod Devices
 pub mod Ends

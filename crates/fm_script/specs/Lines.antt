@@ -26,12 +26,12 @@ Spells word (Err status) = (status ≡ BadRequest) × IsNoHexadecimal word
 abbrev pub ReadsBytes : Keyword → List (List ℕ) → Interpreter → Result Task Status → Type 0
 ReadsBytes k (one ∷ other ∷ hex ∷ []) i r =
     (brought : Result (List ℕ) Status) × Spells hex brought
-    × (r ≡ (brought >>= λ bytes. with_bytes_read i.session.world i.contexts.items k (one ∷ other ∷ []) bytes))
+    × (r ≡ (brought >>= λ bytes. with_bytes_read i.session.world i.contexts.ids k (one ∷ other ∷ []) bytes))
 ReadsBytes k _ i r = r ≡ Err BadRequest
 
 abbrev pub ReadsBehind : Option Keyword → List (List ℕ) → Interpreter → Result Task Status → Type 0
 ReadsBehind None words i r = r ≡ Err BadRequest
-ReadsBehind (Some k) words i r = Either (takes_bytes k) (ReadsBytes k words i r) (ReadsAs i.session.world i.contexts.items k words r)
+ReadsBehind (Some k) words i r = Either (takes_bytes k) (ReadsBytes k words i r) (ReadsAs i.session.world i.contexts.ids k words r)
 
 -- what the words of a line have to be done, or the refusal
 abbrev pub ReadsTask : List (List ℕ) → Interpreter → Result Task Status → Type 0

@@ -42,7 +42,7 @@ pub record KeepsManager (old new : Interpreter) : Type 0 where
 -- the script's own lists stay
 pub record KeepsLists (old new : Interpreter) : Type 0 where
   pub plans : new.plans.items ≡ old.plans.items
-  pub contexts : new.contexts.items ≡ old.contexts.items
+  pub contexts : new.contexts.ids ≡ old.contexts.ids
 
 abbrev pub Stays : Interpreter → Interpreter → Type 0
 Stays old new = KeepsManager old new × KeepsLists old new
@@ -64,7 +64,7 @@ pub record MakesEvent (old : Interpreter) (s : Step) (r : StepReply) (new : Inte
   pub lent : new.session.lent ≡ old.session.lent
   pub devices : new.devices ≡ old.devices
   pub plans : new.plans.items ≡ old.plans.items
-  pub contexts : new.contexts.items ≡ noted (is_allocation s) old.contexts.items r
+  pub contexts : new.contexts.ids ≡ noted (is_allocation s) old.contexts.ids r
 
 -- an attach by worker 0, which accepts the setup where there is one
 abbrev pub worker_0 : WorkerId
@@ -120,7 +120,7 @@ planned plans i = slice_index_or plans i.0 with_callback
 -- the plan of one instance changes
 pub record Plans (old : Interpreter) (i : InstanceId) (answer : PreVerdict) (new : Interpreter) : Type 0 where
   pub manager : KeepsManager old new
-  pub contexts : new.contexts.items ≡ old.contexts.items
+  pub contexts : new.contexts.ids ≡ old.contexts.ids
   pub plan : planned new.plans.items i ≡ answer
   pub others : (other : InstanceId) → (other.0 == i.0) ≡ false → planned new.plans.items other ≡ planned old.plans.items other
 

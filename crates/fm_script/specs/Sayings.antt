@@ -1,5 +1,5 @@
 -- What a script prints: which line for which answer, and the bytes of each line.
-use Rattle.std.specs.Prelude.{ℕ, ◌==◌, ◌&&◌, ◌++◌, Bool, List, [], ◌∷◌, Option, Some, None, ◌+◌, ◌-◌, length, option_map, reverse, position, codes, decimal, Result, Ok, Err}
+use Rattle.std.specs.Prelude.{ℕ, ◌++◌, List, [], ◌∷◌, Option, Some, None, codes, decimal, Result, Ok, Err}
 use Rattle.fm_types.specs.declared.ids.CtxId.{CtxId}
 use Rattle.fm_types.specs.declared.ids.HandleId.{HandleId}
 use Rattle.fm_types.specs.declared.ids.OpId.{OpId}
@@ -26,21 +26,15 @@ use Rattle.fm_script.specs.declared.said.Word.{Word}
 use Rattle.fm_script.specs.declared.said.Word.TheVariants as word
 use Rattle.fm_script.specs.declared.said.Said.{Said}
 use Rattle.fm_script.specs.declared.said.Said.TheVariants.{Plain, Id, Number, Refused, Defined, Told, Replied, Answered, Based}
+use Rattle.fm_script.specs.ContextLists.{number_in}
 use Rattle.fm_script.specs.Hexadecimal.{hex_of}
 
 -- ---- which line
 
 -- the letters of ids: c, f, h, i, o, v
-abbrev pub is_context : CtxId → CtxId → Bool
-is_context c own = (own.slot == c.slot) && (own.generation == c.generation)
-
 abbrev pub said_at : (ℕ → Said) → Option ℕ → Said
 said_at make (Some n) = make n
 said_at make None = Refused NotHeld
-
--- the number of a context in the order of allocation: of the last of that id, and no id is given twice
-abbrev pub number_in : CtxId → List CtxId → Option ℕ
-number_in c contexts = option_map (λ newer. length contexts - (newer + 1)) (position (is_context c) (reverse contexts))
 
 -- a context, by its number in the order of allocation
 abbrev pub said_context : (ℕ → Said) → List CtxId → CtxId → Said

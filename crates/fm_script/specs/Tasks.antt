@@ -33,6 +33,10 @@ volume_id word = or_bad (id_read 118 word)
 abbrev pub worker_id : List ℕ → Result ℕ Status
 worker_id word = or_bad (id_read 119 word)
 
+-- a worker, and what is read behind it
+unfoldable pub with_worker : {T : Type 0} → List ℕ → Result T Status → Result (WorkerId × T) Status
+with_worker worker read = worker_id worker >>= λ k. read >>= λ it. worker_in k >>= λ by. Ok (by, it)
+
 -- the id that is the only word
 abbrev pub one_id : ℕ → List (List ℕ) → Result ℕ Status
 one_id letter (word ∷ []) = or_bad (id_read letter word)
@@ -55,7 +59,7 @@ yes_or_no word = cond (bytes_eq word (codes "yes")) (Ok true) (cond (bytes_eq wo
 
 -- a worker, and whether its callback agrees, as the only words
 abbrev pub answered_read : List (List ℕ) → Result (WorkerId × Bool) Status
-answered_read (worker ∷ word ∷ []) = worker_id worker >>= λ k. yes_or_no word >>= λ agrees. worker_in k >>= λ by. Ok (by, agrees)
+answered_read (worker ∷ word ∷ []) = with_worker worker (yes_or_no word)
 answered_read _ = Err BadRequest
 
 -- a context and the worker that says it holds it

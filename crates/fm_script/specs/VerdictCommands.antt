@@ -15,7 +15,7 @@ use Rattle.fm_script.specs.declared.task.Task.TheVariants as task
 use Rattle.fm_script.specs.Numbers.{number_read}
 use Rattle.fm_script.specs.Reading.{◌>>=◌, Either}
 use Rattle.fm_script.specs.Ids.{instance_in, worker_in}
-use Rattle.fm_script.specs.Tasks.{instance_id, worker_id, held_ids, held_in, turn_ids, turn_in, event}
+use Rattle.fm_script.specs.Tasks.{instance_id, worker_id, with_worker, held_ids, held_in, turn_ids, turn_in, event}
 
 -- ---- verdicts
 
@@ -92,7 +92,7 @@ Plans w (instance ∷ words) result =
 Plans w _ result = result ≡ Err BadRequest
 
 abbrev pub post_read : List (List ℕ) → Result Task Status
-post_read (worker ∷ word ∷ []) = worker_id worker >>= λ k. done_or_more word >>= λ answer. worker_in k >>= λ by. Ok (task.Post by answer)
+post_read (worker ∷ word ∷ []) = with_worker worker (done_or_more word) >>= λ both. Ok (task.Post both.0 both.1)
 post_read _ = Err BadRequest
 
 -- a held operation goes on

@@ -3,10 +3,10 @@
 //! that wasn't given is refused: 6, 7, 8, 14, 30 and 25 in this order, and 30 for a worker last.
 
 ghost use Rattle.std.specs.Prelude.{◌≡◌, map};
-ghost use Rattle.fm_script.specs.Commands.{Attaches, Creates, Loads, Mounts, ReadsAs, ReadsPlace, SetsUp, attach_at, base_read, collect_read, create_ids, create_mode_read, go_read, is_of_contexts, is_of_teardowns, list_read, next_read, option_read, phase_read, registration_read, resume_post_read, setup_at, setup_done_read, setup_ids, takes_bytes, turn_read, with_bytes_read};
+ghost use Rattle.fm_script.specs.Commands.{Attaches, Creates, Loads, Mounts, ReadsAs, ReadsPlace, SetsUp, attach_at, base_read, collect_read, create_at, create_ids, create_mode_read, go_read, is_of_contexts, is_of_teardowns, list_read, next_read, option_read, phase_read, registration_read, resume_post_read, setup_at, setup_done_read, setup_ids, takes_bytes, turn_read, with_bytes_read};
 ghost use Rattle.fm_script.specs.Lines.{OrMemory};
 ghost use Rattle.fm_script.specs.Numbers.{id_read, number_read};
-ghost use Rattle.fm_script.specs.Tasks.{answered_read, ids_read, numbers_read, one_id, only_instance, only_volume, only_worker, or_bad, turn_in, yes_or_no};
+ghost use Rattle.fm_script.specs.Tasks.{answered_read, ids_read, numbers_read, one_id, only_instance, only_volume, only_worker, or_bad, turn_in, with_worker, yes_or_no};
 
 use crate::context_command::{read_allocate, read_context_command, read_write_body};
 use crate::file_command::{read_file_command, read_write};
@@ -335,13 +335,23 @@ fn read_place(name: &[u8], altitude: &[u8]) -> Result<(Name, Altitude), Status>
 pub(crate) fn read_answered(words: &[&[u8]]) -> Result<(WorkerId, bool), Status>
     ensures { result ≡ answered_read (map (λ word. word.now) words.now) }
 {
-    let [worker, answer] = words else {
-        return Err(Status::BadRequest);
-    };
+    match words {
+        [worker, answer] => with_worker(worker, yes_or_no(answer)),
+        _ => Err(Status::BadRequest),
+    }
+}
+
+/// A worker, and what was read behind it.
+#[tactic(auto, unfolding(crate::specs::Tasks::with_worker))]
+pub(crate) fn with_worker<T: Copy>(
+    worker: &[u8],
+    read: Result<T, Status>,
+) -> Result<(WorkerId, T), Status>
+    ensures { result ≡ with_worker worker.now read }
+{
     let worker = id(b'w', worker)?;
-    let agrees = yes_or_no(answer)?;
-    let worker = worker_in(worker)?;
-    Ok((worker, agrees))
+    let it = read?;
+    Ok((worker_in(worker)?, it))
 }
 
 fn yes_or_no(word: &[u8]) -> Result<bool, Status>
@@ -363,8 +373,21 @@ fn read_create(alloc: Global, state: &State, words: &[&[u8]]) -> Result<Task, St
     let [volume, path, mode] = words else {
         return Err(Status::BadRequest);
     };
-    let (volume, mode) = create_ids(volume, mode)?;
+    let ids = create_ids(volume, mode)?;
     let path = RelPath::read(path)?;
+    create_at(alloc, state, ids, path)
+}
+
+// A create of a path that was read, on a volume that may not be there.
+fn create_at(
+    alloc: Global,
+    state: &State,
+    ids: (u64, CreateMode),
+    path: RelPath,
+) -> Result<Task, Status>
+    ensures { OrMemory result (result ≡ create_at state.now ids path) }
+{
+    let (volume, mode) = ids;
     let volume = volume_in(state, volume)?;
     let path = SharedPath::new(alloc, path)?;
     Ok(Task::Event(Step::Begin(Request::Create { volume, path, mode })))

@@ -5,7 +5,7 @@ ghost use Rattle.fm_script.specs.ContextCommands.{allocate_read, bump_as, bump_a
 ghost use Rattle.fm_script.specs.Tasks.{held_in};
 ghost use Rattle.fm_script.specs.declared.keyword.Keyword.TheVariants as key;
 
-use crate::command::{id, numbers, one_id, only_worker, two_ids};
+use crate::command::{id, numbers, one_id, only_worker, two_ids, with_worker};
 use crate::ids::{context_in, worker_in};
 use crate::keyword::Keyword;
 use crate::task::Task;
@@ -120,12 +120,10 @@ fn read_held(contexts: &[CtxId], words: &[&[u8]]) -> Result<(WorkerId, CtxId), S
 fn read_kind_of(words: &[&[u8]]) -> Result<(WorkerId, ContextKind), Status>
     ensures { result ≡ kind_of_read (map (λ word. word.now) words.now) }
 {
-    let [worker, kind] = words else {
-        return Err(Status::BadRequest);
-    };
-    let worker = id(b'w', worker)?;
-    let kind = read_kind(kind)?;
-    Ok((worker_in(worker)?, kind))
+    match words {
+        [worker, kind] => with_worker(worker, read_kind(kind)),
+        _ => Err(Status::BadRequest),
+    }
 }
 
 /// `alloc W KIND HEX`: a context is allocated, with those bytes as its body.

@@ -1,7 +1,7 @@
 //! The commands on files and on the device.
 
 ghost use Rattle.std.specs.Prelude.{◌≡◌, map};
-ghost use Rattle.fm_script.specs.FileCommands.{asked, fail_read, failures_read, file_read, handle_and_number, length_asked, only_asked, read_read, set_size_read, write_read};
+ghost use Rattle.fm_script.specs.FileCommands.{asked, fail_read, failures_read, file_read, handle_and_number, length_asked, only_asked, read_read, set_size_read, with_handle, write_read};
 
 use crate::command::{id, number, numbers};
 use crate::ids::handle_in;
@@ -46,16 +46,28 @@ fn read_read(state: &State, words: &[&[u8]]) -> Result<Task, Status>
     asked(state, handle, FileRequest::Read { offset, len })
 }
 
+// A handle, and what was read behind it.
+#[tactic(auto, unfolding(crate::specs::FileCommands::with_handle))]
+fn with_handle<T: Copy>(
+    state: &State,
+    handle: &[u8],
+    read: Result<T, Status>,
+) -> Result<(HandleId, T), Status>
+    ensures { result ≡ with_handle state.now handle.now read }
+{
+    let handle = id(b'h', handle)?;
+    let it = read?;
+    Ok((handle_in(state, handle)?, it))
+}
+
 // A handle and a number, as the only words.
 fn handle_and_number(state: &State, words: &[&[u8]]) -> Result<(HandleId, u64), Status>
     ensures { result ≡ handle_and_number state.now (map (λ word. word.now) words.now) }
 {
-    let [handle, word] = words else {
-        return Err(Status::BadRequest);
-    };
-    let handle = id(b'h', handle)?;
-    let number = number(word)?;
-    Ok((handle_in(state, handle)?, number))
+    match words {
+        [handle, word] => with_handle(state, handle, number(word)),
+        _ => Err(Status::BadRequest),
+    }
 }
 
 // `setsize H N`.

@@ -7,13 +7,14 @@ ghost use Rattle.fm_session.specs.Sessions.{LendsNext, LentPreReturns, LentPostR
 ghost use Rattle.fm_script.specs.Devices.{Calls};
 ghost use Rattle.fm_script.specs.Runs.{AttachesAndAccepts, Fails, KeepsLists, MakesEvent, Plans, Stays, BySession, is_allocation, planned};
 
+use crate::context_list::ContextList;
 use crate::devices::Devices;
 use crate::verdict_command::WITH;
 use fm_altitude::Altitude;
 use fm_core::{Entry, State, Step, StepReply};
 use fm_data::{PostVerdict, PreVerdict};
 use fm_session::{Given, Session};
-use fm_types::{CtxId, FilterId, InstanceId, Name, OpId, Status, VolumeId, WorkerId};
+use fm_types::{FilterId, InstanceId, Name, OpId, Status, VolumeId, WorkerId};
 use std::alloc::{AllocError, Global};
 
 /// The worker that attaches for the command `attach`.
@@ -25,7 +26,7 @@ pub struct Interpreter {
     session: Session,
     devices: Devices,
     plans: Vec<PreVerdict>,
-    contexts: Vec<CtxId>,
+    contexts: ContextList,
 }
 
 impl Interpreter {
@@ -35,7 +36,7 @@ impl Interpreter {
             session: Session::new(alloc)?,
             devices: Devices::new(alloc)?,
             plans: Vec::new(alloc),
-            contexts: Vec::new(alloc),
+            contexts: ContextList::new(alloc),
         })
     }
 
@@ -47,10 +48,10 @@ impl Interpreter {
     }
 
     /// The contexts in the order of their allocation.
-    pub fn contexts(&self) -> &[CtxId]
-        ensures { result.now ≡ self.now.contexts.items }
+    pub fn contexts(&self) -> &ContextList
+        ensures { result.now ≡ self.now.contexts }
     {
-        self.contexts.as_slice()
+        &self.contexts
     }
 
     /// How many device calls failed.
@@ -67,10 +68,10 @@ impl Interpreter {
         if !is_allocation(&step) {
             return Ok(self.session.step(step));
         }
-        self.contexts.try_reserve(1)?;
+        self.contexts.reserve()?;
         let reply = self.session.step(step);
         if let StepReply::Context(Ok(context)) = &reply {
-            self.contexts.push_reserved(*context);
+            self.contexts.push(*context);
         }
         Ok(reply)
     }

@@ -4,6 +4,7 @@
 
 mod command;
 mod context_command;
+mod context_list;
 mod devices;
 mod file_command;
 mod hexadecimal;

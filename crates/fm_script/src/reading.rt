@@ -81,6 +81,20 @@ fn run_all<R: Read, W: Write + Drop>(
     Err(ScriptEnd::ReadFault)
 }
 
+// Runs what the reader gives, and hands over what is still held back, how ever that ended.
+fn run_to_end<R: Read, W: Write + Drop>(
+    alloc: Global,
+    reader: &mut R,
+    lines: &mut Lines<W>,
+) -> ScriptEnd {
+    let outcome = run_all(alloc, reader, lines);
+    let flushed = lines.runner.flush();
+    match outcome.and(flushed) {
+        Ok(()) => ScriptEnd::Ended,
+        Err(end) => end,
+    }
+}
+
 /// Runs a script: reads commands from the reader, one a line, and prints to the writer what they answer. What was printed is handed to the
 /// writer before each read and at the end, so that a script can be driven line by line. Lines end with 0x0A, which the last may lack; one above
 /// 4,096 bytes is refused and skipped. It ends with ReadFault where the reader fails, at the 100,001st line, and after 2^32 - 1 reads.
@@ -98,10 +112,5 @@ pub fn script<R: Read + Drop, W: Write + Drop>(
         line: Line::new(alloc),
         count: 0,
     };
-    let outcome = run_all(alloc, &mut reader, &mut lines);
-    let flushed = lines.runner.flush();
-    match (outcome, flushed) {
-        (Ok(()), Ok(())) => ScriptEnd::Ended,
-        (Err(end), _) | (_, Err(end)) => end,
-    }
+    run_to_end(alloc, &mut reader, &mut lines)
 }

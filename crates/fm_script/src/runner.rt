@@ -111,7 +111,7 @@ impl<W: Write + Drop> Runner<W> {
             read_command(
                 self.alloc,
                 state,
-                self.interpreter.contexts(),
+                self.interpreter.contexts().as_slice(),
                 keyword,
                 words,
             )
@@ -127,7 +127,7 @@ impl<W: Write + Drop> Runner<W> {
         };
         let bytes = self.bytes_of(word)?;
         let state = self.interpreter.state();
-        let contexts = self.interpreter.contexts();
+        let contexts = self.interpreter.contexts().as_slice();
         read_with_bytes(state, contexts, keyword, &[*one, *other], bytes)
     }
 

@@ -1,21 +1,18 @@
 //! The lines that a script prints: which one for which answer, and the bytes of each.
 
-ghost use Rattle.std.specs.Prelude.{◌≡◌, ◌≤◌, ◌<◌, ◌++◌, ◌∷◌, [], IfOk, decimal, position, reverse};
-ghost use Rattle.std.specs.List.{position_or_len};
-ghost use Rattle.fm_script.specs.Sayings.{is_context, number_in, phase_word, refused_text, reply_text, said_context, said_count, said_done, said_drained, said_dropped, said_due, said_given, said_held, said_new, said_of, said_old, said_set, text_with, verdict_text, word_text};
+ghost use Rattle.std.specs.Prelude.{◌≡◌, ◌≤◌, ◌<◌, ◌++◌, ◌∷◌, [], IfOk, decimal};
+ghost use Rattle.fm_script.specs.Sayings.{phase_word, refused_text, reply_text, said_context, said_count, said_done, said_drained, said_dropped, said_due, said_given, said_held, said_new, said_of, said_old, said_set, text_with, verdict_text, word_text};
 ghost use Rattle.fm_script.specs.declared.said.Said.TheVariants as SaidOf;
 ghost use Rattle.fm_script.specs.declared.said.Word.TheVariants as WordOf;
 ghost use Rattle.fm_session.specs.Sessions.{given_after_next};
 
+use crate::context_list::ContextList;
 use crate::hexadecimal::write_hex;
 use fm_core::{Action, Count, Due, Phase, SetAnswer, StepReply};
 use fm_data::{Answer, Completion, PreVerdict};
 use fm_session::Given;
 use fm_types::{Bytes, CtxId, HandleId, InstanceId, OpId, Status};
 use std::alloc::AllocError;
-
-/// How many contexts are compared in a row, without a look whether there are more.
-const ROW: usize = 8;
 
 /// The words that lines begin with.
 #[derive(Clone, Copy)]
@@ -70,8 +67,8 @@ pub enum Said {
 }
 
 /// The line for what an event answered, by the contexts in the order of their allocation.
-pub fn said_of(contexts: &[CtxId], reply: StepReply) -> Said
-    ensures { result ≡ said_of contexts.now reply }
+pub fn said_of(contexts: &ContextList, reply: StepReply) -> Said
+    ensures { result ≡ said_of contexts.now.ids reply }
 {
     match reply {
         StepReply::Filter(Ok(filter)) => Said::Id(Word::Ok, b'f', u64::from(filter.0)),
@@ -147,57 +144,18 @@ pub fn said_done(answer: Result<(), Status>) -> Said
     }
 }
 
-// How many of a row of contexts were allocated after it, if it is among them.
-fn newer_in_row(row: &[CtxId], context: CtxId) -> Option<usize>
-    ensures { result ≡ position (is_context context) (reverse row.now) }
-{
-    row.iter().rev().position(|own| own.slot == context.slot
-        && own.generation == context.generation)
-}
-
-// How many contexts were allocated after it: all where it isn't among them. The newest is the one that is mostly spoken of.
-fn newer_than(contexts: &[CtxId], context: CtxId) -> usize
-    ensures { result ≡ position_or_len (is_context context) (reverse contexts.now) }
-{
-    let mut newer = 0;
-    let mut rest = contexts;
-    while let Some((older, row)) = rest.split_last_chunk::<ROW>() {
-        if let Some(place) = newer_in_row(row, context) {
-            return newer + place;
-        }
-        newer += ROW;
-        rest = older;
-    }
-    match newer_in_row(rest, context) {
-        Some(place) => newer + place,
-        None => contexts.len(),
-    }
-}
-
-// The number of a context in the order of allocation.
-fn number_of(contexts: &[CtxId], context: CtxId) -> Option<usize>
-    ensures { result ≡ number_in context contexts.now }
-{
-    let newer = newer_than(contexts, context);
-    if newer < contexts.len() {
-        Some(contexts.len() - (newer + 1))
-    } else {
-        None
-    }
-}
-
 // A word and a context.
-fn said_context(word: Word, contexts: &[CtxId], context: CtxId) -> Said
-    ensures { result ≡ said_context (SaidOf.Id word 99) contexts.now context }
+fn said_context(word: Word, contexts: &ContextList, context: CtxId) -> Said
+    ensures { result ≡ said_context (SaidOf.Id word 99) contexts.now.ids context }
 {
-    match number_of(contexts, context) {
+    match contexts.number_of(context) {
         Some(number) => Said::Id(word, b'c', number as u64),
         None => Said::Refused(Status::NotHeld),
     }
 }
 
-fn said_set(contexts: &[CtxId], answer: SetAnswer) -> Said
-    ensures { result ≡ said_set contexts.now answer }
+fn said_set(contexts: &ContextList, answer: SetAnswer) -> Said
+    ensures { result ≡ said_set contexts.now.ids answer }
 {
     match answer {
         SetAnswer::Linked(None) => Said::Plain(Word::Ok),
@@ -209,17 +167,17 @@ fn said_set(contexts: &[CtxId], answer: SetAnswer) -> Said
 }
 
 // Another context is set already.
-fn said_defined(contexts: &[CtxId], context: CtxId) -> Said
-    ensures { result ≡ said_context SaidOf.Defined contexts.now context }
+fn said_defined(contexts: &ContextList, context: CtxId) -> Said
+    ensures { result ≡ said_context SaidOf.Defined contexts.now.ids context }
 {
-    match number_of(contexts, context) {
+    match contexts.number_of(context) {
         Some(number) => Said::Defined(number as u64),
         None => Said::Refused(Status::NotHeld),
     }
 }
 
-fn said_old(contexts: &[CtxId], answer: Result<Option<CtxId>, Status>) -> Said
-    ensures { result ≡ said_old contexts.now answer }
+fn said_old(contexts: &ContextList, answer: Result<Option<CtxId>, Status>) -> Said
+    ensures { result ≡ said_old contexts.now.ids answer }
 {
     match answer {
         Ok(None) => Said::Plain(Word::Ok),
@@ -228,8 +186,8 @@ fn said_old(contexts: &[CtxId], answer: Result<Option<CtxId>, Status>) -> Said
     }
 }
 
-fn said_due(contexts: &[CtxId], answer: Result<Option<Due>, Status>) -> Said
-    ensures { result ≡ said_due contexts.now answer }
+fn said_due(contexts: &ContextList, answer: Result<Option<Due>, Status>) -> Said
+    ensures { result ≡ said_due contexts.now.ids answer }
 {
     match answer {
         Ok(None) => Said::Plain(Word::None),

@@ -3,7 +3,7 @@
 ghost use Rattle.std.specs.Prelude.{◌≡◌, map};
 ghost use Rattle.fm_script.specs.VerdictCommands.{AnswersBare, AnswersPre, Plans, ReadsAnswer, ReadsComplete, ReadsVerdict, Resumes, bare_verdict, done_or_more, own_verdict, post_read, pre_with_read, sends_context};
 
-use crate::command::{id, turn_in, two_ids};
+use crate::command::{id, turn_in, two_ids, with_worker};
 use crate::context_command::held_by;
 use crate::ids::{instance_in, worker_in};
 use crate::number::read_status;
@@ -92,9 +92,7 @@ pub(crate) fn read_post(words: &[&[u8]]) -> Result<Task, Status>
     let [worker, verdict] = words else {
         return Err(Status::BadRequest);
     };
-    let worker = id(b'w', worker)?;
-    let verdict = done_or_more(verdict)?;
-    let worker = worker_in(worker)?;
+    let (worker, verdict) = with_worker(worker, done_or_more(verdict))?;
     Ok(Task::Post { worker, verdict })
 }
 

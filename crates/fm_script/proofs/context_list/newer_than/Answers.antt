@@ -1,9 +1,9 @@
 use Rattle.std.proofs.Common.{◌≡◌, ◌+◌, ◌-◌, ℕ, Some, None, ap, drop, take, length, position, reverse, sym, ◌∙◌, arith}
 use Rattle.std.proofs.lemmas.List.{length-drop, length-reverse}
 use Rattle.std.specs.List.{position_or_len}
-use Rattle.fm_script.specs.Sayings.{is_context}
+use Rattle.fm_script.specs.ContextLists.{is_context}
 use Rattle.fm_script.proofs.Rows.{in_row, none_passes, past_row}
-use Rattle.fm_script.proofs.said.newer_than.Goals as goal
+use Rattle.fm_script.proofs.context_list.newer_than.Goals as goal
 
 pub returns-in-Some-newer_in_row : goal.returns-in-Some-newer_in_row
 returns-in-Some-newer_in_row c =

@@ -1,7 +1,7 @@
 use Rattle.std.proofs.Common.{◌≡◌, ◌+◌, length, reverse}
 use Rattle.std.specs.List.{position_or_len}
-use Rattle.fm_script.specs.Sayings.{is_context}
-use Rattle.fm_script.proofs.said.newer_than.Given as goal
+use Rattle.fm_script.specs.ContextLists.{is_context}
+use Rattle.fm_script.proofs.context_list.newer_than.Given as goal
 
 abbrev pub invariant-loop-older : goal.invariant-loop-older
 invariant-loop-older l =

@@ -1,4 +1,5 @@
 mod Parts
+mod Heads
 mod Writes
 pub mod Lists
 pub mod Firsts

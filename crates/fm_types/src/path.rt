@@ -8,6 +8,7 @@ ghost use Rattle.std.specs.Cmp.{partial_equiv_from_equiv};
 ghost use Rattle.std.specs.Cmp.Rules.{hashing};
 ghost use Rattle.std.proofs.Common.{rules};
 ghost use Rattle.fm_types.specs.Paths.{IsPath, IsPathByte, IsPathPart, parts_of};
+ghost use Rattle.fm_types.specs.Texts.{head_of};
 
 use crate::status::Status;
 use crate::text::padded_copy;
@@ -17,6 +18,9 @@ use std::hash::{Hash, Hasher};
 use std::marker::Model;
 
 const PATH_ROOM: usize = 255;
+
+/// How many bytes of two paths are compared at first, whatever their lengths.
+const HEAD: usize = 8;
 
 /// The path of a file on a volume: 1 to 255 characters, each from the space to `~`, whose parts are
 /// divided by `/`, no part being empty, `.` or `..`. Contracts see its text. Paths are compared byte
@@ -91,6 +95,14 @@ impl RelPath {
     {
         &self.buffer[..self.len as usize]
     }
+
+    // Its first bytes, and zeros behind a shorter text: each is below the bytes of a path, so that these decide where they differ.
+    fn head(&self) -> &[u8]
+        ensures value { result.now ≡ head_of 8 self.now }
+        ensures characters { All IsPathByte self.now }
+    {
+        &self.buffer[..HEAD]
+    }
 }
 
 impl Clone for RelPath {
@@ -135,7 +147,10 @@ impl Ord for RelPath {
     ghost matches_eq = { texts_ties };
 
     fn cmp(&self, other: &RelPath) -> Ordering {
-        self.text().cmp(other.text())
+        match self.head().cmp(other.head()) {
+            Ordering::Equal => self.text().cmp(other.text()),
+            decided => decided,
+        }
     }
 }
 

@@ -26,6 +26,7 @@ use Rattle.fm_flow.proofs.Flows.{Found, IsKept, Follows, either_way, through, it
 use Rattle.fm_flow.proofs.Requests.{flow_removed}
 use Rattle.fm_flow.proofs.Calm.{done_calm, done_flies}
 use Rattle.fm_flow.proofs.Tallied.{count_removed, done_uncreating, total_removed}
+use Rattle.fm_flow.proofs.Follows.{Leaves}
 
 -- ---- one operation gives a drain
 
@@ -453,3 +454,6 @@ drain_done_drains t o p i r j at runs flow =
     (λ done out none.
     let left : drain_opens j r.entries ≡ one (i.0 == j) = omega (arith, drains_over i r j runs, none_running j (early_over i r).entries none) in
     omega (arith, told_gone read t o p r at flow.ascending, ap (λ n. cond (o.0 == p.0) n 0) left))
+
+pub over_leaves : (i : InstanceId) (r : FlowRecord) {s : FlowRecord} → RunsEarly i (Some r) → s ≡ early_over i r → Leaves (Some i) r s
+over_leaves i r runs is j = omega (arith, ap (flight j) is, flies_over i r j runs)

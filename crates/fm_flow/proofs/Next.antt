@@ -19,6 +19,11 @@ use Rattle.fm_flow.proofs.Course.{bare_ask_of, owed_bare, owed_answered, owed_fi
 use Rattle.fm_flow.proofs.Course.{course_post, course_drain, drains_push}
 use Rattle.fm_flow.proofs.Counting.{opens_push}
 use Rattle.fm_flow.proofs.Soundness.{Stays, stays_so, at_stage, sound_moved, sound_pushed}
+use Rattle.fm_flow.proofs.Follows.{Leaves, number_of}
+use Rattle.fm_flow.specs.Tallied.{entered}
+use Rattle.fm_flow.specs.Counts.{enters, leaves_at}
+use Rattle.fm_flow.specs.declared.action.Below.TheVariants as below
+use Rattle.fm_flow.specs.declared.action.FlowAction.TheVariants as action
 
 -- ---- down
 
@@ -309,3 +314,15 @@ next_flies j worker lies stops r may h = ((did worker lies stops r).laws may h).
 pub next_owes : (P : Ask → Type 0) (worker : WorkerId) (lies : Below) (stops : Bool) (r : FlowRecord)
     → (r.stage ≡ Descending → MayLieBelow lies r.entries × MayAsk P worker lies r) → IsSound r → All P (owed r.entries) → Owes P (next_of worker lies stops r)
 next_owes P worker lies stops r may h = ((did worker lies stops r).laws (λ e. (may e).0) h).owing.owes P (λ e. (may e).1)
+
+enters_there : (j : ℕ) (lies : Below) (reply : Result FlowAction Status) → enters j lies reply ≡ leaves_at j (number_of (entered lies reply)) 1
+enters_there j lies (Ok (action.Pre i lent)) = refl
+enters_there j (below.Instance i called) (Ok action.Moved) = refl
+enters_there j lies reply = grind arith
+
+-- `next` brings an operation where its answer says
+pub next_comes : (worker : WorkerId) (lies : Below) (stops : Bool) (r : FlowRecord) {s : FlowRecord} {reply : Result FlowAction Status} {at : Option InstanceId} → MayLieBelow lies r.entries → IsSound r
+    → s ≡ (next_of worker lies stops r).after → reply ≡ (next_of worker lies stops r).reply → at ≡ entered lies reply → Leaves at s r
+next_comes worker lies stops r {s} {reply} may sound is told comes j =
+    let here = enters_there j lies reply ∙ ap (λ at. leaves_at j (number_of at) 1) (sym comes) in
+    omega (arith, ap (flight j) is, ap (enters j lies) told, here, next_flies j worker lies stops r (λ e. may) sound)

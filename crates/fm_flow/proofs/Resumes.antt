@@ -11,6 +11,12 @@ use Rattle.fm_flow.proofs.Settled.{the_open_pre, settles_pre, settles_post, cour
 use Rattle.fm_flow.proofs.Counting.{flight_pre_settled, carried_pre_settled, flight_post_settled, owed_post_settled}
 use Rattle.fm_flow.proofs.Soundness.{at_stage, sound_moved}
 use Rattle.fm_flow.proofs.Returns.{returned}
+use Rattle.fm_flow.proofs.Follows.{Leaves, number_of, leaves_pre}
+use Rattle.fm_flow.specs.Tallied.{left_pre}
+use Rattle.fm_flow.proofs.Words.{Option, InstanceId}
+use Rattle.fm_flow.specs.Counts.{leaves_at, leaves_by}
+use Rattle.fm_flow.specs.Steps.{pre_settled, post_settled}
+use Rattle.fm_flow.specs.declared.entry.PostState.TheVariants as post
 
 -- ---- a preoperation
 
@@ -45,3 +51,15 @@ post_resumed_flies j r st h = flight_post_settled PostHeld r.entries post.Finish
 -- it doesn't answer a create
 pub post_resumed_uncreated : (r s : FlowRecord) → r.stage ≡ PostHeld → s ≡ post_settled post.Finished r → is_creating s ≡ is_creating r
 post_resumed_uncreated r s st is = ap is_creating is ∙ ap (λ stage. is_create r.operation && is_unanswered stage) (sym st)
+
+-- ---- the number that is kept of its instance follows
+
+pub resumed_pre_leaves : (state : PreState) (r : FlowRecord) (at : Option InstanceId) {s : FlowRecord} {gone : Option InstanceId} → r.stage ≡ PreHeld → IsSound r
+    → number_of at ≡ last_visited r.entries → s ≡ pre_settled state r → gone ≡ left_pre state at → Leaves gone r s
+resumed_pre_leaves state r at st sound last is goes j =
+    let same = ap (λ l. leaves_at j l (leaves_by state)) (sym last) ∙ leaves_pre j state at ∙ ap (λ at. leaves_at j (number_of at) 1) (sym goes) in
+    omega (arith, pre_resumed_flies j state r st sound, same, ap (flight j) is)
+
+pub resumed_post_leaves : (r : FlowRecord) (at : Option InstanceId) {s : FlowRecord} → r.stage ≡ PostHeld → IsSound r → number_of at ≡ last_posted r.entries
+    → s ≡ post_settled post.Finished r → Leaves at r s
+resumed_post_leaves r at st sound last is j = omega (arith, post_resumed_flies j r st sound, ap (λ l. leaves_at j l 1) last, ap (flight j) is)

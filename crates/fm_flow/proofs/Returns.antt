@@ -24,6 +24,11 @@ use Rattle.fm_flow.proofs.Settled.{course_drain_settled}
 use Rattle.fm_flow.proofs.Counting.{opens_push, flight_pre_settled, carried_pre_settled, flight_post_settled, owed_post_settled}
 use Rattle.fm_flow.proofs.Counting.{owed_drain_settled, opens_drain_settled}
 use Rattle.fm_flow.proofs.Soundness.{at_stage, sound_moved, sound_pushed}
+use Rattle.fm_flow.proofs.Follows.{Leaves, number_of, leaves_pre, leaves_post, taken_leaves}
+use Rattle.fm_flow.specs.Tallied.{if_taken, left_pre, left_post}
+use Rattle.fm_flow.specs.Counts.{leaves_at, leaves_by, post_leaves_by}
+use Rattle.fm_flow.proofs.Words.{base_after, data_reply, pre_after, ⊤}
+use Rattle.std.proofs.Common.{Result}
 
 -- the data fits, so what was received, what it was changed to and what came out do
 fits_parts : (operation : Operation) (path : Option (List ℕ)) (d : Data) → data_fits operation path d ≡ true
@@ -161,3 +166,26 @@ post_uncreated v d r s st is =
 
 pub drain_uncreated : (i : InstanceId) (r s : FlowRecord) → r.stage ≡ InDrain i → s ≡ drain_returned_of i r → is_creating s ≡ is_creating r
 drain_uncreated i r s st is = ap is_creating is ∙ ap (λ stage. is_create r.operation && is_unanswered stage) (sym st)
+
+-- ---- the number that is kept of its instance follows
+
+-- an answer of the base
+pub base_flies : (j : ℕ) (call : BaseCall) (answer : Answer) (handle : HandleId) (r s : FlowRecord) → s ≡ base_after call answer handle r → flight j s ≡ flight j r
+base_flies j call answer handle r s is =
+    ap (flight j) is ∙ either_way (λ x. flight j x ≡ flight j r) (base_fits call answer r) (λ e. base_returned_flies j call answer handle r) (λ e. refl)
+
+pub pre_leaves : (state : PreState) (lent : Data) (r : FlowRecord) (at : Option InstanceId) {s : FlowRecord} {reply : Result ⊤ Data} {gone : Option InstanceId} → r.stage ≡ PreRunning
+    → IsSound r → number_of at ≡ last_visited r.entries → s ≡ pre_after state lent r → reply ≡ data_reply lent r → gone ≡ if_taken reply (left_pre state at) → Leaves gone r s
+pre_leaves state lent r at st sound last is told goes =
+    taken_leaves lent (data_fits r.operation r.path lent) r (pre_returned_of state lent r) (left_pre state at) is told goes
+    (λ j. omega (arith, pre_returned_flies j state lent r st sound, leaves_pre j state at, ap (λ l. leaves_at j l (leaves_by state)) last))
+
+pub post_leaves : (verdict : PostVerdict) (lent : Data) (r : FlowRecord) (at : Option InstanceId) {s : FlowRecord} {reply : Result ⊤ Data} {gone : Option InstanceId} → r.stage ≡ PostRunning
+    → IsSound r → number_of at ≡ last_posted r.entries → s ≡ post_after verdict lent r → reply ≡ data_reply lent r → gone ≡ if_taken reply (left_post (post_state verdict) at) → Leaves gone r s
+post_leaves verdict lent r at st sound last is told goes =
+    let state = post_state verdict in
+    taken_leaves lent (data_fits r.operation r.path lent) r (post_returned_of verdict lent r) (left_post state at) is told goes
+    (λ j. omega (arith, post_returned_flies j verdict lent r st sound, leaves_post j state at, ap (λ l. leaves_at j l (post_leaves_by state)) last))
+
+pub drain_leaves : (i : InstanceId) (r : FlowRecord) {s : FlowRecord} → r.stage ≡ InDrain i → IsSound r → s ≡ drain_returned_of i r → Leaves (Some i) r s
+drain_leaves i r st sound is j = omega (arith, ap (flight j) is, drain_returned_flies j i r st sound)

@@ -7,7 +7,7 @@ ghost use Rattle.fm_flow.specs.Counts.{is_running_drain, is_running_drain_of, is
 ghost use Rattle.fm_flow.specs.Drains.{is_some_of};
 ghost use Rattle.fm_flow.specs.Flights.{is_at};
 
-use crate::entry::{Ask, DrainVisit, Entry, PostState, PostVisit, PreState, PreVisit};
+use crate::entry::{Ask, Entry, PostState, PreState, PreVisit};
 use crate::owed_stack::OwedStack;
 use fm_data::Completion;
 use fm_types::InstanceId;
@@ -81,42 +81,33 @@ pub(crate) fn asks(state: PreState) -> bool
     matches!(state, PreState::Asked(_) | PreState::Synchronized(_))
 }
 
-fn settled_pre(entry: Entry, state: PreState) -> Entry
-    ensures { result ≡ settle_pre state entry }
+fn end_pre(entry: &mut Entry, state: PreState)
+    ensures { entry.new ≡ settle_pre state entry.old }
 {
-    match entry {
-        Entry::Pre(visit) => match visit.state {
-            PreState::Running | PreState::Held => Entry::Pre(PreVisit { state, ..visit }),
-            _ => Entry::Pre(visit),
-        },
-        other => other,
-    }
-}
-
-fn settled_post(entry: Entry, state: PostState) -> Entry
-    ensures { result ≡ settle_post state entry }
-{
-    match entry {
-        Entry::Post(visit) => match visit.state {
-            PostState::Running | PostState::Held => Entry::Post(PostVisit { state, ..visit }),
-            PostState::Finished => Entry::Post(visit),
-        },
-        other => other,
-    }
-}
-
-fn settled_drain(entry: Entry, instance: InstanceId) -> Entry
-    ensures { result ≡ settle_drain instance.0 entry }
-{
-    match entry {
-        Entry::Drain(visit) => {
-            let is_running = visit.instance.0 != instance.0 && visit.is_running;
-            Entry::Drain(DrainVisit {
-                instance: visit.instance,
-                is_running,
-            })
+    if let Entry::Pre(visit) = entry {
+        if matches!(visit.state, PreState::Running | PreState::Held) {
+            visit.state = state;
         }
-        other => other,
+    }
+}
+
+fn end_post(entry: &mut Entry, state: PostState)
+    ensures { entry.new ≡ settle_post state entry.old }
+{
+    if let Entry::Post(visit) = entry {
+        if matches!(visit.state, PostState::Running | PostState::Held) {
+            visit.state = state;
+        }
+    }
+}
+
+fn end_drain(entry: &mut Entry, instance: InstanceId)
+    ensures { entry.new ≡ settle_drain instance.0 entry.old }
+{
+    if let Entry::Drain(visit) = entry {
+        if visit.instance.0 == instance.0 {
+            visit.is_running = false;
+        }
     }
 }
 
@@ -128,13 +119,13 @@ enum Ending {
     Drain(InstanceId),
 }
 
-fn settled(entry: Entry, ending: Ending) -> Entry
-    ensures { result ≡ settle ending entry }
+fn end(entry: &mut Entry, ending: Ending)
+    ensures { entry.new ≡ settle ending entry.old }
 {
     match ending {
-        Ending::Pre(state) => settled_pre(entry, state),
-        Ending::Post(state) => settled_post(entry, state),
-        Ending::Drain(instance) => settled_drain(entry, instance),
+        Ending::Pre(state) => end_pre(entry, state),
+        Ending::Post(state) => end_post(entry, state),
+        Ending::Drain(instance) => end_drain(entry, instance),
     }
 }
 
@@ -198,8 +189,7 @@ fn settle_due(entries: &mut Vec<Entry>, ending: Ending) -> usize
     ensures capacity { vec_capacity entries.new ≡ vec_capacity entries.old }
 {
     let place = due_place(entries, ending);
-    let entry = entries[place];
-    entries[place] = settled(entry, ending);
+    end(&mut entries[place], ending);
     place
 }
 

@@ -6,5 +6,5 @@ use Rattle.fm_flow.proofs.entries.settle_due.Goals as goal
 pub returns-clause-items : goal.returns-clause-items
 returns-clause-items c =
     let there = ap (λ es. option_map (is_due c.args.ending) (slice_get es c.due_place-place.result)) (sym c.deref.ensures.value) ∙ c.due_place-place.ensures in
-    ap (set c.args.entries.now.items c.due_place-place.result) (c.settled.ensures ∙ ap (settle c.args.ending) c.index-entry.ensures)
+    ap (set c.args.entries.now.items c.due_place-place.result) (c.end.ensures ∙ ap (settle c.args.ending) c.index_mut.ensures.value)
     ∙ changed_at (is_due c.args.ending) (settle c.args.ending) c.args.entries.now.items c.due_place-place.result _ (due_alone c.args.ending) c.requires there

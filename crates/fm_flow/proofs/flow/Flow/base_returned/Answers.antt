@@ -1,8 +1,8 @@
 use Rattle.fm_flow.proofs.Words.{refl, sym, Err, ap, one, arith, FlowRecord, StandsAt, InBase, base_fits, base_reply, base_after, base_returned_of}
 use Rattle.fm_flow.proofs.Flows.{may_recount, found, told_some, changed_some, said_there, kept_took, stands_some}
 use Rattle.fm_flow.proofs.Soundness.{stays_so, unspent}
-use Rattle.fm_flow.proofs.Returns.{sound_base}
-use Rattle.fm_flow.proofs.Follows.{follows_same, base_flies}
+use Rattle.fm_flow.proofs.Returns.{sound_base, base_flies}
+use Rattle.fm_flow.proofs.Follows.{follows_same}
 use Rattle.fm_flow.proofs.flow.Flow.base_returned.Goals as goal
 
 pub standing-place-requires : goal.standing-place-requires

@@ -2,8 +2,8 @@ use Rattle.fm_flow.proofs.Words.{refl, sym, ap, is_spent, Some}
 use Rattle.std.proofs.Common.{◌∙◌}
 use Rattle.fm_flow.specs.Drains.{RunsEarly, early_over}
 use Rattle.fm_flow.proofs.Flows.{uncounted, found, itself, said_there, kept_set}
-use Rattle.fm_flow.proofs.Drains.{sound_over, stays_over, over_uncreated, done_stays, done_goes, kept_gone}
-use Rattle.fm_flow.proofs.Follows.{Leaves, follows_less, may_leave, over_leaves}
+use Rattle.fm_flow.proofs.Drains.{sound_over, stays_over, over_uncreated, done_stays, done_goes, kept_gone, over_leaves}
+use Rattle.fm_flow.proofs.Follows.{Leaves, follows_less, may_leave}
 use Rattle.fm_flow.proofs.flow.Flow.drain_done.Goals.{After-early_over}
 use Rattle.fm_flow.proofs.flow.Flow.drain_done.Goals as goal
 

@@ -1,8 +1,8 @@
 use Rattle.fm_flow.proofs.Words.{refl, sym, Some, StandsAt, InDrain, drain_returned_of}
 use Rattle.fm_flow.proofs.Flows.{uncounted, found, changed_some, said_there, kept_set, stands_some, sound_now}
-use Rattle.fm_flow.proofs.Follows.{Leaves, follows_less, may_leave, drain_leaves}
+use Rattle.fm_flow.proofs.Follows.{Leaves, follows_less, may_leave}
 use Rattle.fm_flow.proofs.Soundness.{stays_so, unspent}
-use Rattle.fm_flow.proofs.Returns.{sound_drain_returned, drain_uncreated}
+use Rattle.fm_flow.proofs.Returns.{sound_drain_returned, drain_uncreated, drain_leaves}
 use Rattle.fm_flow.proofs.flow.Flow.drain_returned.Goals.{After-drain_returned}
 use Rattle.fm_flow.proofs.flow.Flow.drain_returned.Goals as goal
 

@@ -1,9 +1,9 @@
 use Rattle.fm_flow.proofs.Words.{Err, ap, one, arith, FlowRecord, WrongStep, next_of, MayLieBelowOf}
 use Rattle.fm_flow.proofs.Flows.{may_recount, missing, told_none, changed_none, found, told_some, changed_some, said_there, kept_set, sound_now}
 use Rattle.std.proofs.Common.{◌∙◌}
-use Rattle.fm_flow.proofs.Follows.{Leaves, follows_more, next_comes, may_enter}
+use Rattle.fm_flow.proofs.Follows.{Leaves, follows_more, may_enter}
 use Rattle.fm_flow.proofs.Words.{subst, sym, IsSound}
-use Rattle.fm_flow.proofs.Next.{next_needed, next_stays, sound_next}
+use Rattle.fm_flow.proofs.Next.{next_needed, next_stays, sound_next, next_comes}
 use Rattle.fm_flow.proofs.flow.Flow.next.Goals.{After-entered}
 use Rattle.fm_flow.proofs.flow.Flow.next.Goals as goal
 

@@ -2,9 +2,9 @@ use Rattle.fm_flow.proofs.Words.{refl, sym, ap, Err, FlowRecord, StandsAt, PostR
 use Rattle.fm_flow.proofs.Flows.{uncounted, found, told_some, changed_some, said_there, kept_took, stands_some, sound_now}
 use Rattle.std.proofs.Common.{◌∙◌}
 use Rattle.fm_flow.specs.Tallied.{if_taken, left_post}
-use Rattle.fm_flow.proofs.Follows.{Leaves, follows_less, may_leave, post_leaves}
+use Rattle.fm_flow.proofs.Follows.{Leaves, follows_less, may_leave}
 use Rattle.fm_flow.proofs.Soundness.{stays_so, unspent}
-use Rattle.fm_flow.proofs.Returns.{sound_post_returned, post_uncreated}
+use Rattle.fm_flow.proofs.Returns.{sound_post_returned, post_uncreated, post_leaves}
 use Rattle.fm_flow.proofs.flow.Flow.post_returned.Goals.{After-if_taken}
 use Rattle.fm_flow.proofs.flow.Flow.post_returned.Goals as goal
 

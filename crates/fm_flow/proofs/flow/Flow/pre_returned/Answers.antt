@@ -2,9 +2,9 @@ use Rattle.fm_flow.proofs.Words.{refl, sym, Err, ap, one, arith, FlowRecord, Sta
 use Rattle.fm_flow.proofs.Flows.{may_recount, found, told_some, changed_some, said_there, kept_took, stands_some, sound_now}
 use Rattle.std.proofs.Common.{◌∙◌}
 use Rattle.fm_flow.specs.Tallied.{if_taken}
-use Rattle.fm_flow.proofs.Follows.{Leaves, follows_less, may_leave, pre_leaves}
+use Rattle.fm_flow.proofs.Follows.{Leaves, follows_less, may_leave}
 use Rattle.fm_flow.proofs.Soundness.{stays_so, unspent}
-use Rattle.fm_flow.proofs.Returns.{sound_pre_returned}
+use Rattle.fm_flow.proofs.Returns.{sound_pre_returned, pre_leaves}
 use Rattle.fm_flow.proofs.flow.Flow.pre_returned.Goals.{After-if_taken}
 use Rattle.fm_flow.proofs.flow.Flow.pre_returned.Goals as goal
 

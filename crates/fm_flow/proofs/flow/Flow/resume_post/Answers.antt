@@ -2,9 +2,9 @@ use Rattle.fm_flow.proofs.Words.{refl, sym, StandsAt, PostHeld}
 use Rattle.fm_flow.specs.Steps.{post_settled}
 use Rattle.fm_flow.specs.declared.entry.PostState.TheVariants as post
 use Rattle.fm_flow.proofs.Flows.{uncounted, found, changed_some, said_there, kept_set, stands_some, sound_now}
-use Rattle.fm_flow.proofs.Follows.{Leaves, follows_less, may_leave, resumed_post_leaves}
+use Rattle.fm_flow.proofs.Follows.{Leaves, follows_less, may_leave}
 use Rattle.fm_flow.proofs.Soundness.{stays_so, unspent}
-use Rattle.fm_flow.proofs.Resumes.{sound_post_resumed, post_resumed_uncreated}
+use Rattle.fm_flow.proofs.Resumes.{sound_post_resumed, post_resumed_uncreated, resumed_post_leaves}
 use Rattle.fm_flow.proofs.flow.Flow.resume_post.Goals.{After-resume_post}
 use Rattle.fm_flow.proofs.flow.Flow.resume_post.Goals as goal
 

@@ -1,9 +1,9 @@
 use Rattle.fm_flow.proofs.Words.{refl, sym, ap, one, arith, StandsAt, PreHeld}
 use Rattle.fm_flow.specs.Steps.{pre_settled}
 use Rattle.fm_flow.proofs.Flows.{may_recount, found, changed_some, said_there, kept_set, stands_some, sound_now}
-use Rattle.fm_flow.proofs.Follows.{Leaves, follows_less, may_leave, resumed_pre_leaves}
+use Rattle.fm_flow.proofs.Follows.{Leaves, follows_less, may_leave}
 use Rattle.fm_flow.proofs.Soundness.{stays_so, unspent}
-use Rattle.fm_flow.proofs.Resumes.{sound_pre_resumed}
+use Rattle.fm_flow.proofs.Resumes.{sound_pre_resumed, resumed_pre_leaves}
 use Rattle.fm_flow.proofs.flow.Flow.resume_pre.Goals.{After-left_pre}
 use Rattle.fm_flow.proofs.flow.Flow.resume_pre.Goals as goal
 

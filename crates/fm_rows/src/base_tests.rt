@@ -12,10 +12,14 @@ fn long_name(number: u8) -> Result<RelPath, Status> {
     RelPath::read(name.as_slice())
 }
 
+fn create_long(base: &mut MemoryBase, number: u8) -> Result<(), Status> {
+    base.create(&long_name(number)?, CreateMode::New)
+}
+
 // Makes 128 files of such names.
 fn fill(base: &mut MemoryBase) -> Result<(), Status> {
     for number in 0..128 {
-        base.create(&long_name(number)?, CreateMode::New)?;
+        create_long(base, number)?;
     }
     Ok(())
 }

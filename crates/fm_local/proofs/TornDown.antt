@@ -1,5 +1,5 @@
 -- The instances of a filter are torn down one after the other.
-use Rattle.std.specs.Prelude.{◌≡◌, ◌+◌, ℕ, suc, List, Bool, true, false, Option, Result, Ok, Err}
+use Rattle.std.specs.Prelude.{◌≡◌, ◌+◌, ℕ, suc, List, Bool, Option, Result, Ok}
 use Rattle.std.proofs.Common.{subst, arith}
 use Rattle.fm_base.specs.Folders.{Folder}
 use Rattle.fm_types.specs.declared.context_kind.ContextKind.{ContextKind}
@@ -11,7 +11,7 @@ use Rattle.fm_data.specs.declared.verdict.Completion.{Completion}
 use Rattle.fm_data.specs.declared.verdict.PreVerdict.{PreVerdict}
 use Rattle.fm_data.specs.declared.verdict.PostVerdict.{PostVerdict}
 use Rattle.fm_world.specs.Words.{WorkerId}
-use Rattle.fm_local.specs.Actions.{TearsDownEach, TearsDownFully, TearsDownWhere}
+use Rattle.fm_local.specs.Actions.{TearsDownEach, TearsDownWhere}
 use Rattle.fm_local.specs.Calls.{is_to_go}
 use Rattle.fm_local.specs.declared.manager.LocalManager.{LocalManager}
 

@@ -36,7 +36,8 @@ use Rattle.fm_local.specs.declared.requests.Turn.TheVariants as turn
 use Rattle.fm_local.specs.declared.manager.LocalManager.{LocalManager}
 use Rattle.fm_local.specs.Bases.{BasesCarry}
 use Rattle.fm_local.specs.Calls.{AsksToUnload, QueriesWith, SetsUpWith, is_to_go}
-use Rattle.fm_local.specs.Managers.{numbered}
+use Rattle.fm_filter.specs.Standing.{standing_of}
+use Rattle.fm_local.specs.Managers.{IsQuietIn, numbered}
 use Rattle.fm_local.specs.Requests.{under, NoneStops, IsAtRest, AnswersOne, AnswersAll, DoesTidily, Tidies}
 use Rattle.fm_local.specs.Chains.{PreMay, PostMay, filter_in}
 use Rattle.fm_local.specs.Cleanups.{CleansAll}
@@ -171,6 +172,16 @@ RefusesOne what old said new = (why : Status) → begin_refused old.desk.state w
 -- nothing changes but the state
 abbrev pub OnlyState : {F B : Type 0} → LocalManager F B → LocalManager F B → Type 0
 OnlyState old new = new ≡ record old { desk = record old.desk { state = new.desk.state } }
+
+-- the filter of an instance
+abbrev pub filter_at : {F B : Type 0} → LocalManager F B → InstanceId → Option F
+filter_at m i = filter_in (numbered m.filters) m.desk.state.stack i.0
+
+-- what a callback of an instance's filter leaves: a quiet one all, and any one where the instances and the workers stand, and what isn't behind its port
+pub record CallsOnly {F B : Type 0} (is_quiet : F → Type 0) (i : InstanceId) (old new : LocalManager F B) : Type 0 where
+  pub quiet : IsQuietIn is_quiet (filter_at old i) → new.desk ≡ old.desk
+  pub far : standing_of new.desk.state ≡ standing_of old.desk.state
+  pub same : new ≡ record old { desk = new.desk }
 
 -- callbacks ran: the filters, the file systems and what has ended are as before
 abbrev pub CallsBack : {F B : Type 0} → LocalManager F B → LocalManager F B → Type 0

@@ -3,9 +3,9 @@
 ghost use Rattle.std.specs.Prelude.{◌≡◌, None, Ok};
 ghost use Rattle.fm_filter.specs.Standing.{standing_of};
 ghost use Rattle.fm_flow.specs.declared.action.FlowAction.TheVariants as step;
-ghost use Rattle.fm_local.specs.Actions.{ArePlainFilters, CallsBack, Makes, OnlyState};
+ghost use Rattle.fm_local.specs.Actions.{ArePlainFilters, CallsBack, CallsOnly, Makes, OnlyState, filter_at};
 ghost use Rattle.fm_local.specs.Bases.{BasesCarry};
-ghost use Rattle.fm_local.specs.Chains.{filter_in, PreMay, PostMay};
+ghost use Rattle.fm_local.specs.Chains.{PreMay, PostMay};
 ghost use Rattle.fm_local.specs.Drains.{WasCalled};
 ghost use Rattle.fm_local.specs.Managers.{numbered, IsQuietIn};
 ghost use Rattle.fm_local.specs.Places.{EndsFrom, IsIn};
@@ -50,8 +50,8 @@ fn sent_by(verdict: PreVerdict) -> Option<CtxId> {
 impl<F: Minifilter, B: Base> LocalManager<F, B> {
     /// Calls the setup callback of a new instance. Refused as the end of that callback is.
     pub(crate) fn setup(&mut self, instance: InstanceId) -> Result<(), Status>
-        ensures ends { EndsFrom self.old.desk.state (λ before. SetsUpWith (MayAgree F.setup_may (filter_in (numbered self.old.filters) self.old.desk.state.stack instance.0)) WORKER before result self.new.desk.state) }
-        ensures quiet { ArePlainFilters F.pre_may F.post_may F.is_quiet (numbered self.old.filters) → SetsUpWith (MayAgree F.setup_may (filter_in (numbered self.old.filters) self.old.desk.state.stack instance.0)) WORKER self.old.desk.state result self.new.desk.state × (self.new.desk.resumed ≡ self.old.desk.resumed) }
+        ensures ends { EndsFrom self.old.desk.state (λ before. SetsUpWith (MayAgree F.setup_may (filter_at self.old instance)) WORKER before result self.new.desk.state) }
+        ensures quiet { ArePlainFilters F.pre_may F.post_may F.is_quiet (numbered self.old.filters) → SetsUpWith (MayAgree F.setup_may (filter_at self.old instance)) WORKER self.old.desk.state result self.new.desk.state × (self.new.desk.resumed ≡ self.old.desk.resumed) }
         ensures kept { self.new ≡ record self.old { desk = self.new.desk; hand = self.new.hand; leaks = self.new.leaks } }
     {
         let accepts = self.ask_setup(instance);
@@ -63,10 +63,8 @@ impl<F: Minifilter, B: Base> LocalManager<F, B> {
 
     // Whether the filter of a new instance takes it.
     fn ask_setup(&mut self, instance: InstanceId) -> bool
-        ensures said { MayAgree F.setup_may (filter_in (numbered self.old.filters) self.old.desk.state.stack instance.0) result }
-        ensures quiet { IsQuietIn F.is_quiet (filter_in (numbered self.old.filters) self.old.desk.state.stack instance.0) → self.new.desk ≡ self.old.desk }
-        ensures far { standing_of self.new.desk.state ≡ standing_of self.old.desk.state }
-        ensures same { self.new ≡ record self.old { desk = self.new.desk } }
+        ensures said { MayAgree F.setup_may (filter_at self.old instance) result }
+        ensures rest { CallsOnly F.is_quiet instance self.old self.new }
     {
         match self.filters.of(self.desk.state.filter_of(instance)) {
             Some(filter) => {
@@ -125,11 +123,9 @@ impl<F: Minifilter, B: Base> LocalManager<F, B> {
 
     // What the filter of an instance says of the data on its way down.
     fn ask_pre(&mut self, instance: InstanceId, lent: &mut CallbackData) -> PreVerdict
-        ensures said { PreMay F.pre_may (filter_in (numbered self.old.filters) self.old.desk.state.stack instance.0) lent.old result lent.new }
+        ensures said { PreMay F.pre_may (filter_at self.old instance) lent.old result lent.new }
         ensures kept { lent.new.received ≡ lent.old.received }
-        ensures quiet { IsQuietIn F.is_quiet (filter_in (numbered self.old.filters) self.old.desk.state.stack instance.0) → self.new.desk ≡ self.old.desk }
-        ensures far { standing_of self.new.desk.state ≡ standing_of self.old.desk.state }
-        ensures same { self.new ≡ record self.old { desk = self.new.desk } }
+        ensures rest { CallsOnly F.is_quiet instance self.old self.new }
     {
         match self.filters.of(self.desk.state.filter_of(instance)) {
             Some(filter) => {
@@ -189,11 +185,9 @@ impl<F: Minifilter, B: Base> LocalManager<F, B> {
         lent: &mut CallbackData,
         completion: Completion,
     ) -> PostVerdict
-        ensures said { PostMay F.post_may (filter_in (numbered self.old.filters) self.old.desk.state.stack instance.0) lent.old completion result lent.new }
+        ensures said { PostMay F.post_may (filter_at self.old instance) lent.old completion result lent.new }
         ensures kept { lent.new.received ≡ lent.old.received }
-        ensures quiet { IsQuietIn F.is_quiet (filter_in (numbered self.old.filters) self.old.desk.state.stack instance.0) → self.new.desk ≡ self.old.desk }
-        ensures far { standing_of self.new.desk.state ≡ standing_of self.old.desk.state }
-        ensures same { self.new ≡ record self.old { desk = self.new.desk } }
+        ensures rest { CallsOnly F.is_quiet instance self.old self.new }
     {
         match self.filters.of(self.desk.state.filter_of(instance)) {
             Some(filter) => {
@@ -214,7 +208,7 @@ impl<F: Minifilter, B: Base> LocalManager<F, B> {
         instance: InstanceId,
         completion: Completion,
     ) -> Result<(), Status>
-        ensures called { WasCalled (λ f. F.drained f completion) (filter_in (numbered self.old.filters) self.old.desk.state.stack instance.0) }
+        ensures called { WasCalled (λ f. F.drained f completion) (filter_at self.old instance) }
         ensures ends { EndsFrom self.old.desk.state (λ before. PostReturns before WORKER PostVerdict.Finished None result self.new.desk.state) }
         ensures quiet { ArePlainFilters F.pre_may F.post_may F.is_quiet (numbered self.old.filters) → self.new.desk.resumed ≡ self.old.desk.resumed }
         ensures kept { CallsBack self.old self.new }
@@ -231,7 +225,7 @@ impl<F: Minifilter, B: Base> LocalManager<F, B> {
         instance: InstanceId,
         completion: Completion,
     ) -> Result<(), Status>
-        ensures called { WasCalled (λ f. F.drained f completion) (filter_in (numbered self.old.filters) self.old.desk.state.stack instance.0) }
+        ensures called { WasCalled (λ f. F.drained f completion) (filter_at self.old instance) }
         ensures ends { EndsFrom self.old.desk.state (λ before. DrainReturns before WORKER result self.new.desk.state) }
         ensures kept { CallsBack self.old self.new }
     {
@@ -245,8 +239,8 @@ impl<F: Minifilter, B: Base> LocalManager<F, B> {
 
     // Has the filter of an instance let go, and notes it.
     fn drain(&mut self, operation: OpId, instance: InstanceId, completion: Completion)
-        ensures called { WasCalled (λ f. F.drained f completion) (filter_in (numbered self.old.filters) self.old.desk.state.stack instance.0) }
-        ensures quiet { IsQuietIn F.is_quiet (filter_in (numbered self.old.filters) self.old.desk.state.stack instance.0) → self.new.desk ≡ self.old.desk }
+        ensures called { WasCalled (λ f. F.drained f completion) (filter_at self.old instance) }
+        ensures quiet { IsQuietIn F.is_quiet (filter_at self.old instance) → self.new.desk ≡ self.old.desk }
         ensures far { standing_of self.new.desk.state ≡ standing_of self.old.desk.state }
         ensures same { self.new ≡ record self.old { desk = self.new.desk; trace = self.new.trace } }
     {
@@ -255,10 +249,8 @@ impl<F: Minifilter, B: Base> LocalManager<F, B> {
     }
 
     fn tell_drain(&mut self, instance: InstanceId, completion: Completion)
-        ensures called { WasCalled (λ f. F.drained f completion) (filter_in (numbered self.old.filters) self.old.desk.state.stack instance.0) }
-        ensures quiet { IsQuietIn F.is_quiet (filter_in (numbered self.old.filters) self.old.desk.state.stack instance.0) → self.new.desk ≡ self.old.desk }
-        ensures far { standing_of self.new.desk.state ≡ standing_of self.old.desk.state }
-        ensures same { self.new ≡ record self.old { desk = self.new.desk } }
+        ensures called { WasCalled (λ f. F.drained f completion) (filter_at self.old instance) }
+        ensures rest { CallsOnly F.is_quiet instance self.old self.new }
     {
         match self.filters.of(self.desk.state.filter_of(instance)) {
             Some(filter) => {
@@ -274,8 +266,8 @@ impl<F: Minifilter, B: Base> LocalManager<F, B> {
 
     /// Calls the query callback of an instance. Refused as the end of that callback is.
     pub(crate) fn query(&mut self, instance: InstanceId) -> Result<(), Status>
-        ensures ends { EndsFrom self.old.desk.state (λ before. QueriesWith (MayAgree F.query_may (filter_in (numbered self.old.filters) self.old.desk.state.stack instance.0)) WORKER before result self.new.desk.state) }
-        ensures quiet { ArePlainFilters F.pre_may F.post_may F.is_quiet (numbered self.old.filters) → QueriesWith (MayAgree F.query_may (filter_in (numbered self.old.filters) self.old.desk.state.stack instance.0)) WORKER self.old.desk.state result self.new.desk.state × (self.new.desk.resumed ≡ self.old.desk.resumed) }
+        ensures ends { EndsFrom self.old.desk.state (λ before. QueriesWith (MayAgree F.query_may (filter_at self.old instance)) WORKER before result self.new.desk.state) }
+        ensures quiet { ArePlainFilters F.pre_may F.post_may F.is_quiet (numbered self.old.filters) → QueriesWith (MayAgree F.query_may (filter_at self.old instance)) WORKER self.old.desk.state result self.new.desk.state × (self.new.desk.resumed ≡ self.old.desk.resumed) }
         ensures kept { self.new ≡ record self.old { desk = self.new.desk; hand = self.new.hand; leaks = self.new.leaks } }
     {
         let allows = self.ask_query(instance);
@@ -287,10 +279,8 @@ impl<F: Minifilter, B: Base> LocalManager<F, B> {
 
     // Whether the filter of an instance lets it be detached.
     fn ask_query(&mut self, instance: InstanceId) -> bool
-        ensures said { MayAgree F.query_may (filter_in (numbered self.old.filters) self.old.desk.state.stack instance.0) result }
-        ensures quiet { IsQuietIn F.is_quiet (filter_in (numbered self.old.filters) self.old.desk.state.stack instance.0) → self.new.desk ≡ self.old.desk }
-        ensures far { standing_of self.new.desk.state ≡ standing_of self.old.desk.state }
-        ensures same { self.new ≡ record self.old { desk = self.new.desk } }
+        ensures said { MayAgree F.query_may (filter_at self.old instance) result }
+        ensures rest { CallsOnly F.is_quiet instance self.old self.new }
     {
         match self.filters.of(self.desk.state.filter_of(instance)) {
             Some(filter) => {
@@ -306,7 +296,7 @@ impl<F: Minifilter, B: Base> LocalManager<F, B> {
 
     /// Calls the callback that says that an instance's teardown starts, which the worker has entered.
     pub(crate) fn start(&mut self, instance: InstanceId)
-        ensures called { WasCalled F.started (filter_in (numbered self.old.filters) self.old.desk.state.stack instance.0) }
+        ensures called { WasCalled F.started (filter_at self.old instance) }
         ensures ends { IsIn WORKER (place.Start instance) self.old.desk.state → EndsFrom self.old.desk.state (λ before. StartReturns before WORKER (Ok tt) self.new.desk.state) }
         ensures quiet { ArePlainFilters F.pre_may F.post_may F.is_quiet (numbered self.old.filters) → IsIn WORKER (place.Start instance) self.old.desk.state → StartReturns self.old.desk.state WORKER (Ok tt) self.new.desk.state × (self.new.desk.resumed ≡ self.old.desk.resumed) }
         ensures kept { self.new ≡ record self.old { desk = self.new.desk; hand = self.new.hand; leaks = self.new.leaks } }
@@ -319,10 +309,8 @@ impl<F: Minifilter, B: Base> LocalManager<F, B> {
     }
 
     fn tell_start(&mut self, instance: InstanceId)
-        ensures called { WasCalled F.started (filter_in (numbered self.old.filters) self.old.desk.state.stack instance.0) }
-        ensures quiet { IsQuietIn F.is_quiet (filter_in (numbered self.old.filters) self.old.desk.state.stack instance.0) → self.new.desk ≡ self.old.desk }
-        ensures far { standing_of self.new.desk.state ≡ standing_of self.old.desk.state }
-        ensures same { self.new ≡ record self.old { desk = self.new.desk } }
+        ensures called { WasCalled F.started (filter_at self.old instance) }
+        ensures rest { CallsOnly F.is_quiet instance self.old self.new }
     {
         match self.filters.of(self.desk.state.filter_of(instance)) {
             Some(filter) => {
@@ -338,7 +326,7 @@ impl<F: Minifilter, B: Base> LocalManager<F, B> {
 
     /// Calls the callback that says that an instance's teardown is complete, which the worker has entered.
     pub(crate) fn complete(&mut self, instance: InstanceId)
-        ensures called { WasCalled F.completed (filter_in (numbered self.old.filters) self.old.desk.state.stack instance.0) }
+        ensures called { WasCalled F.completed (filter_at self.old instance) }
         ensures ends { IsIn WORKER (place.Complete instance) self.old.desk.state → EndsFrom self.old.desk.state (λ before. CompleteReturns before WORKER (Ok tt) self.new.desk.state) }
         ensures quiet { ArePlainFilters F.pre_may F.post_may F.is_quiet (numbered self.old.filters) → IsIn WORKER (place.Complete instance) self.old.desk.state → CompleteReturns self.old.desk.state WORKER (Ok tt) self.new.desk.state × (self.new.desk.resumed ≡ self.old.desk.resumed) }
         ensures kept { self.new ≡ record self.old { desk = self.new.desk; hand = self.new.hand; leaks = self.new.leaks } }
@@ -351,10 +339,8 @@ impl<F: Minifilter, B: Base> LocalManager<F, B> {
     }
 
     fn tell_complete(&mut self, instance: InstanceId)
-        ensures called { WasCalled F.completed (filter_in (numbered self.old.filters) self.old.desk.state.stack instance.0) }
-        ensures quiet { IsQuietIn F.is_quiet (filter_in (numbered self.old.filters) self.old.desk.state.stack instance.0) → self.new.desk ≡ self.old.desk }
-        ensures far { standing_of self.new.desk.state ≡ standing_of self.old.desk.state }
-        ensures same { self.new ≡ record self.old { desk = self.new.desk } }
+        ensures called { WasCalled F.completed (filter_at self.old instance) }
+        ensures rest { CallsOnly F.is_quiet instance self.old self.new }
     {
         match self.filters.of(self.desk.state.filter_of(instance)) {
             Some(filter) => {

@@ -17,8 +17,8 @@ returns-clause-makes g c =
       record { received = asked.ensures.kept; laws = c.laws.ensures },
       (
         before,
-        asked.ensures.far,
+        asked.ensures.rest.far,
         subst (λ (w : World). PostReturns w WORKER asked.result (Some back) c.end_post.result c.end_post.new.self.desk.state) (ap (λ m. m.desk.state) c.note.ensures) c.end_post.ensures.event,
       ),
-      ap (λ m. m.bases.items) c.end_post.ensures.kept ∙ ap (λ m. m.bases.items) c.note.ensures ∙ ap (λ m. m.bases.items) asked.ensures.same,
+      ap (λ m. m.bases.items) c.end_post.ensures.kept ∙ ap (λ m. m.bases.items) c.note.ensures ∙ ap (λ m. m.bases.items) asked.ensures.rest.same,
     )

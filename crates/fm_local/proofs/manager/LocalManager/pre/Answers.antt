@@ -16,8 +16,8 @@ returns-clause-makes g c =
       record { received = asked.ensures.kept; laws = c.laws.ensures },
       (
         before,
-        asked.ensures.far,
+        asked.ensures.rest.far,
         subst (λ (w : World). PreReturns w WORKER asked.result back c.end_pre.result c.end_pre.new.self.desk.state) (ap (λ m. m.desk.state) c.note.ensures) c.end_pre.ensures.event,
       ),
-      ap (λ m. m.bases.items) c.end_pre.ensures.kept ∙ ap (λ m. m.bases.items) c.note.ensures ∙ ap (λ m. m.bases.items) asked.ensures.same,
+      ap (λ m. m.bases.items) c.end_pre.ensures.kept ∙ ap (λ m. m.bases.items) c.note.ensures ∙ ap (λ m. m.bases.items) asked.ensures.rest.same,
     )

@@ -8,7 +8,7 @@ pub returns-clause-ends : goal.returns-clause-ends
 returns-clause-ends g c =
     let before = c.ask_query-allows.new.self.desk.state in (
       before,
-      c.ask_query-allows.ensures.far,
+      c.ask_query-allows.ensures.rest.far,
       (
         c.ask_query-allows.result,
         c.ask_query-allows.ensures.said,

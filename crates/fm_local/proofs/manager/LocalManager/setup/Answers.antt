@@ -8,7 +8,7 @@ pub returns-clause-ends : goal.returns-clause-ends
 returns-clause-ends g c =
     let before = c.ask_setup-accepts.new.self.desk.state in (
       before,
-      c.ask_setup-accepts.ensures.far,
+      c.ask_setup-accepts.ensures.rest.far,
       (
         c.ask_setup-accepts.result,
         c.ask_setup-accepts.ensures.said,

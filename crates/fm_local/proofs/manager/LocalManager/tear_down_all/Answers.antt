@@ -3,7 +3,6 @@ use Rattle.fm_local.proofs.manager.LocalManager.tear_down_all.Goals as goal
 use Rattle.fm_local.specs.declared.manager.TheConstants.{WORKER}
 use Rattle.std.proofs.lemmas.Result.{err_from_is_err_and}
 use Rattle.fm_local.proofs.TornDown.{tears_more}
-use Rattle.fm_local.specs.Calls.{is_to_go}
 use Rattle.fm_local.specs.declared.requests.TheConstants.{RESUMPTIONS, TURNS}
 use Rattle.fm_local.specs.declared.teardowns.TheConstants.{DRAINED}
 

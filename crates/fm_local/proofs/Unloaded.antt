@@ -47,6 +47,9 @@ split a b h is = grind arith
 not_both : (a b : Bool) → (a ≡ true → b ≡ true) → b ≡ false → a ≡ false
 not_both a b h none = grind arith
 
+by_place : (n j : ℕ) → j < suc n → (P : ℕ → Type 0) → P n → (j < n → P j) → P j
+by_place n j less P here others = grind (arith, common_steps)
+
 module _ (f : FilterId) where
   -- whose instance it is stays
   same_filter : (g : Instance → Instance) → ((row : Instance) → (g row).filter ≡ row.filter) → (rows : List Instance) (i j : ℕ)
@@ -158,16 +161,10 @@ module _ (f : FilterId) where
               owners = owners_both old mid new before.owners (owners_by mid new (ap (λ (w : World). w.stack) same));
               gone = λ j less own.
                   ap (λ (w : World). stops w.stack j) same
-                  ∙ by_place' n j less (λ m. owns old m ≡ true → stops mid.stack m ≡ false)
+                  ∙ by_place n j less (λ m. owns old m ≡ true → stops mid.stack m ≡ false)
                   (λ own. stopping_leaves (slice_get mid.stack.instances n) (split (owns mid n) (is_leaving mid (record { 0 = n })) goes (before.owners.same n ∙ own)))
                   (λ fewer own. before.gone j fewer own) own;
             }) step
-          where
-            by_place : (n j : ℕ) → j < suc n → (P : ℕ → Type 0) → P n → (j < n → P j) → P j
-            by_place n j less P here others = grind (arith, common_steps)
-
-            by_place' : (n j : ℕ) → j < suc n → (P : ℕ → Type 0) → P n → (j < n → P j) → P j
-            by_place' n j less P here others = grind (arith, common_steps)
 
     -- ---- its own end
 

@@ -25,7 +25,7 @@ pub use Rattle.fm_ctx.specs.declared.owner.Owner.{Owner}
 pub use Rattle.fm_data.specs.Data.{Data, data_fits}
 pub use Rattle.fm_data.specs.Params.{operation_of}
 pub use Rattle.fm_data.specs.declared.answer.Answer.{Answer}
-pub use Rattle.fm_data.specs.declared.base_call.BaseCall.{BaseCall}
+pub use Rattle.fm_data.specs.Calls.{BaseCall}
 pub use Rattle.fm_flow.specs.Answered.{is_success}
 pub use Rattle.fm_flow.specs.Counts.{carried_by, handed}
 pub use Rattle.fm_flow.specs.Record.{FlowRecord}

@@ -1,5 +1,5 @@
 -- Callback data as its callers see it.
-use Rattle.std.specs.Prelude.{ℕ, ◌≤◌, ◌&&◌, Bool, true, List, [], length, Option, Some, None, unwrap_or, nat_le, IsTrue}
+use Rattle.std.specs.Prelude.{ℕ, ◌≤◌, ◌&&◌, Bool, true, List, [], length, Option, Some, None, option_map, unwrap_or, nat_le, IsTrue}
 use Rattle.fm_types.specs.declared.operation.Operation.{Operation}
 use Rattle.fm_types.specs.declared.status.Status.{Status}
 use Rattle.fm_types.specs.declared.status.Status.TheVariants.{Success}
@@ -32,6 +32,10 @@ fresh_data p = record { received = p; changed = None; status = Success; informat
 -- what a callback on the way up is given: the answer so far
 abbrev pub answered_data : Params → Answer → Data
 answered_data p answer = record { received = p; changed = None; status = answer.status; information = answer.information; out = answer.bytes }
+
+-- what a callback received that it put something else in place of
+abbrev pub replaced_in : Data → Option Params
+replaced_in d = option_map (λ p. d.received) d.changed
 
 -- a change passes a test, where there is one
 abbrev pub change_passes : (Params → Bool) → Option Params → Bool

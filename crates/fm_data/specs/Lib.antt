@@ -1,3 +1,4 @@
+pub mod Calls
 pub mod Params
 pub mod Requests
 pub mod Data

@@ -5,7 +5,7 @@ use Rattle.fm_types.specs.Masks.{operation_bit}
 use Rattle.fm_types.specs.declared.operation.Operation.{Operation}
 use Rattle.fm_types.specs.declared.operation.Operation.TheVariants as kind
 use Rattle.fm_types.specs.declared.ids.VolumeId.{VolumeId}
-use Rattle.fm_data.specs.declared.base_call.BaseCall.{BaseCall}
+use Rattle.fm_data.specs.Calls.{BaseCall}
 use Rattle.fm_data.specs.declared.params.Params.{Params}
 use Rattle.fm_data.specs.declared.params.Params.TheVariants as params
 

@@ -2,7 +2,7 @@
 
 ghost use Rattle.std.specs.Prelude.{◌≡◌, ℕ, ◌<◌, ◌≤◌, ◌↔◌, Option, Some, None, List, [], length, IsOk, IfOk, OnOk, OnErr, IsTrue, IsSome, slice_set};
 ghost use Rattle.fm_data.specs.Params.{is_within_limits, fit, may_replace};
-ghost use Rattle.fm_data.specs.Data.{IsData, current_of, fresh_data, answered_data, change_passes, data_fits};
+ghost use Rattle.fm_data.specs.Data.{IsData, current_of, fresh_data, change_passes, data_fits, replaced_in};
 
 use crate::answer::Answer;
 use crate::params::{MAX_TRANSFER, Params};
@@ -29,31 +29,22 @@ impl Model for CallbackData {
     ghost invariant = { λ d. IsData (data_of d.parts.value) };
 }
 
-/// What callback data consists of, each part a value of its own.
+// What callback data consists of: what the callback received, what it put in its place, and the answer.
 #[derive(Drop)]
-pub struct Parts {
-    /// What the callback received.
-    pub received: Params,
-    /// What it put in its place, if anything.
-    pub changed: Option<Params>,
-    /// The answer as the callback left it.
-    pub answer: Answer,
+struct Parts {
+    received: Params,
+    changed: Option<Params>,
+    answer: Answer,
 }
 
-// Those parameters, and nothing answered.
-fn fresh(alloc: Global, params: Params) -> Parts
-    ensures received { result.received ≡ params }
-    ensures changed { result.changed ≡ None }
-    ensures answer { result.answer ≡ record { status = Status.Success; information = 0; bytes = [] } }
+// Nothing answered.
+fn no_answer(alloc: Global) -> Answer
+    ensures { result ≡ record { status = Status.Success; information = 0; bytes = [] } }
 {
-    Parts {
-        received: params,
-        changed: None,
-        answer: Answer {
-            status: Status::Success,
-            information: 0,
-            bytes: Bytes::new(alloc),
-        },
+    Answer {
+        status: Status::Success,
+        information: 0,
+        bytes: Bytes::new(alloc),
     }
 }
 
@@ -65,32 +56,14 @@ impl CallbackData {
         requires { IsTrue (is_within_limits params) }
         ensures { IfOk result (λ fresh. fresh ≡ fresh_data params) }
     {
-        let parts = Box::new(alloc, fresh(alloc, params))?;
-        Ok(CallbackData { parts })
-    }
-
-    /// The same with data that was used (`FltReuseCallbackData`); what it held is dropped.
-    pub fn reuse(mut self, alloc: Global, params: Params) -> Self
-        requires { IsTrue (is_within_limits params) }
-        ensures { result ≡ fresh_data params }
-    {
-        *self.parts = fresh(alloc, params);
-        self
-    }
-
-    /// The data for a postoperation callback, with data that was used: these parameters and the answer
-    /// so far, of at most 32,768 bytes.
-    pub fn reuse_answered(mut self, params: Params, answer: Answer) -> Self
-        requires limits { IsTrue (is_within_limits params) }
-        requires size { length answer.bytes ≤ 32768 }
-        ensures { result ≡ answered_data params answer }
-    {
-        *self.parts = Parts {
+        let parts = Parts {
             received: params,
             changed: None,
-            answer,
+            answer: no_answer(alloc),
         };
-        self
+        Ok(CallbackData {
+            parts: Box::new(alloc, parts)?,
+        })
     }
 
     /// The parameters as they are now: the changed ones, or else those received.
@@ -210,14 +183,41 @@ impl CallbackData {
         }
     }
 
-    /// Takes out what the data consists of, as the filter manager does with what a callback returned.
-    /// What is left is good for `reuse` alone.
-    pub fn take_parts(&mut self, alloc: Global) -> Parts
-        ensures received { result.received ≡ self.old.received }
-        ensures changed { result.changed ≡ self.old.changed }
-        ensures answer { result.answer ≡ record { status = self.old.status; information = self.old.information; bytes = self.old.out } }
+    /// What a preoperation callback put in place of what it received is what the next one receives, and nothing is answered any more
+    /// (`FltReuseCallbackData`). Gives what it received, where it put something in its place.
+    pub fn settle(&mut self, alloc: Global) -> Option<Params>
+        ensures replaced { result ≡ replaced_in self.old }
+        ensures after { self.new ≡ fresh_data (current_of self.old) }
     {
-        mem::replace(&mut *self.parts, fresh(alloc, Params::Flush))
+        self.parts.answer = no_answer(alloc);
+        let params = self.parts.changed.take()?;
+        Some(mem::replace(&mut self.parts.received, params))
+    }
+
+    /// Takes the answer out, and drops what a postoperation callback put in place of what it received.
+    pub fn take_answer(&mut self, alloc: Global) -> Answer
+        ensures answer { result ≡ record { status = self.old.status; information = self.old.information; bytes = self.old.out } }
+        ensures after { self.new ≡ fresh_data self.old.received }
+    {
+        self.parts.changed = None;
+        mem::replace(&mut self.parts.answer, no_answer(alloc))
+    }
+
+    /// Puts an answer in, of at most 32,768 bytes, for a postoperation callback.
+    pub fn put_answer(&mut self, answer: Answer)
+        requires { length answer.bytes ≤ 32768 }
+        ensures { self.new ≡ record self.old { status = answer.status; information = answer.information; out = answer.bytes } }
+    {
+        self.parts.answer = answer;
+    }
+
+    /// Puts back what an earlier callback received, for the next callback. Data that a callback changed isn't given other parameters so.
+    pub fn receive(&mut self, params: Params)
+        requires limits { IsTrue (is_within_limits params) }
+        requires bare { self.old.changed ≡ None }
+        ensures { self.new ≡ record self.old { received = params } }
+    {
+        self.parts.received = params;
     }
 
     /// The laws of all callback data, for callers that rest on them. It does nothing.

@@ -20,11 +20,11 @@ pub fn call_base<B: Base>(alloc: Global, base: &mut B, call: &BaseCall) -> Answe
     ensures fault { result ≡ bare status.DeviceFault → B.faults base.new ≡ min (B.faults base.old + 1) (2 ^ 64 - 1) }
     ensures within { length result.bytes ≤ 32768 }
 {
-    if is_listing(&call.params) {
+    if is_listing(call.params()) {
         return told(alloc, base.list());
     }
-    match &call.path {
-        Some(path) => on_file(alloc, base, path.path(), &call.params),
+    match call.path() {
+        Some(path) => on_file(alloc, base, path.path(), call.params()),
         None => refused(alloc, Status::BadRequest),
     }
 }

@@ -55,7 +55,7 @@ impl Device for MemoryDevices {
     /// other is answered, and changes its volume's folder, as that folder says, unless memory is wanting, when it changes nothing. All other volumes stay.
     fn call(&mut self, call: &BaseCall) -> Answer {
         let alloc = self.alloc;
-        match self.folders.get_mut(usize::from(call.volume.0)) {
+        match self.folders.get_mut(usize::from(call.volume().0)) {
             Some(base) => call_base(alloc, base, call),
             None => refused(alloc, Status::NoVolume),
         }

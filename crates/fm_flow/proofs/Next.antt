@@ -5,10 +5,10 @@ use Rattle.fm_flow.proofs.Words.{Status, WrongStep, Params, Answer, Below, Stage
 use Rattle.fm_flow.proofs.Words.{PreHeld, PostHeld, InDrain, Ask, Entry, Base, Drain, one, times, visited, owed, instances, ask_of, answers}
 use Rattle.fm_flow.proofs.Words.{opens, drain_opens, FlowRecord, Turned, turn, pre_entry, post_entry, bare_ask, with_visit, with_base, with_drain}
 use Rattle.fm_flow.proofs.Words.{call_pre, call_base, call_post, give_post, unwound_to, unwound, descend, ascend, may_take, next_at, next_of}
-use Rattle.fm_flow.proofs.Words.{MayLieBelow, bare_answer, left_answer, done_at, is_spent, IsSound, All, CtxId, FlowAction, cases_Bool, inl, inr}
-use Rattle.std.proofs.Common.{◌≡◌, ◌+◌, ◌<◌, ◌≤◌, ◌==◌, ◌∷◌, ◌++◌, ◌∙◌, Result}
+use Rattle.fm_flow.proofs.Words.{MayLieBelow, bare_answer, left_answer, done_at, is_spent, IsSound, All, CtxId, FlowAction, and_parts, cases_Bool, inl, inr}
+use Rattle.std.proofs.Common.{◌≡◌, ◌+◌, ◌<◌, ◌≤◌, ◌==◌, ◌∷◌, ◌++◌, ◌∙◌, IsTrue, Result}
 use Rattle.fm_types.specs.declared.operation.Operation.{Operation}
-use Rattle.fm_data.specs.Params.{fit}
+use Rattle.fm_data.specs.Params.{are_for, fit, is_within_limits}
 use Rattle.fm_flow.specs.declared.action.Below.TheVariants as below
 use Rattle.fm_flow.specs.declared.action.FlowAction.TheVariants as action
 use Rattle.fm_flow.specs.declared.entry.PreState.TheVariants as pre
@@ -22,8 +22,6 @@ use Rattle.fm_flow.proofs.Soundness.{Stays, stays_so, at_stage, sound_moved, sou
 use Rattle.fm_flow.proofs.Follows.{Leaves, number_of}
 use Rattle.fm_flow.specs.Tallied.{entered}
 use Rattle.fm_flow.specs.Counts.{enters, leaves_at}
-use Rattle.fm_flow.specs.declared.action.Below.TheVariants as below
-use Rattle.fm_flow.specs.declared.action.FlowAction.TheVariants as action
 
 -- ---- down
 
@@ -74,6 +72,12 @@ unwinds place r (Some p) at st = record {
     collected = h.collected;
   };
 }
+
+-- what a callback received is within the limits
+pub kept_within : (r : FlowRecord) (place : ℕ) (p : Params) → IsSound r → slice_get r.kept place ≡ Some p → IsTrue (is_within_limits p)
+kept_within r place p h at =
+    let own = all_at (λ q. fit r.operation r.path q ≡ true) r.kept place p h.kept at in
+    (and_parts (are_for r.operation r.path p) (is_within_limits p) own).1
 
 left_short : (operation : Operation) (answer : Answer) → length answer.bytes ≤ 32768 → length (left_answer operation answer).bytes ≤ 32768
 left_short operation answer h = grind (arith, h)

@@ -3,7 +3,7 @@ use Rattle.fm_flow.proofs.Words.{ℕ, true, false, cond, not, List, [], length, 
 use Rattle.fm_flow.proofs.Words.{length-append, InstanceId, HandleId, BaseCall, Params, Answer, PostVerdict, Data, data_fits, PreRunning, InBase}
 use Rattle.fm_flow.proofs.Words.{Ascending, PostRunning, InDrain, PreState, PostState, Base, one, times, last_visited, owed, instances}
 use Rattle.fm_flow.proofs.Words.{settle_pre, settle_post, settle_drain, last_posted, FlowRecord, pre_leads, post_leads, pre_returned_of, base_fits}
-use Rattle.fm_flow.proofs.Words.{base_returned_of, post_state, post_returned_of, drain_returned_of, IsSound, HasPath, is_called, All, nat_le, unwrap_or}
+use Rattle.fm_flow.proofs.Words.{base_returned_of, post_state, post_returned_of, drain_returned_of, IsSound, HasPath, All, nat_le, unwrap_or}
 use Rattle.fm_flow.proofs.Words.{All-append, All-nil, All-push, change_passes, current_of, base_counted}
 use Rattle.fm_flow.proofs.Words.{handle_given, returned_answer, kept_of, answer_after, lends, keeps_more, and_parts, CtxId}
 use Rattle.std.proofs.Common.{◌≡◌, ◌+◌, ◌≤◌, ◌==◌, ◌&&◌, ◌++◌, ◌∙◌}
@@ -11,7 +11,6 @@ use Rattle.fm_types.specs.declared.operation.Operation.{Operation}
 use Rattle.fm_data.specs.Params.{same_path, fit, call_fits}
 use Rattle.fm_flow.specs.declared.entry.PreState.TheVariants as pre
 use Rattle.fm_flow.specs.declared.entry.PostState.TheVariants as post
-use Rattle.fm_data.specs.declared.verdict.PostVerdict.TheVariants as verdict
 use Rattle.fm_flow.specs.Verdict.{is_counted}
 use Rattle.fm_flow.specs.Creates.{is_create, is_unanswered}
 use Rattle.fm_flow.proofs.Words.{Bool, is_creating, post_after}
@@ -71,11 +70,6 @@ pre_returned_carries c state d r st h = carried_pre_settled PreRunning r.entries
 pub pre_returned_flies : (j : ℕ) (state : PreState) (d : Data) (r : FlowRecord) → r.stage ≡ PreRunning → IsSound r → flight j r ≡ flight j (pre_returned_of state d r) + leaves_at j (last_visited r.entries) (leaves_by state)
 pre_returned_flies j state d r st h = flight_pre_settled PreRunning r.entries state j refl (at_stage r PreRunning st h).0
 
--- a verdict that counts leaves the data with no callback
-pub free_down : (state : PreState) → is_counted state ≡ true → true ≡ not (is_called (pre_leads state))
-free_down pre.Running counts = sym counts
-free_down state counts = refl
-
 -- the path for the base's call is at hand until the call
 pub path_down : (state : PreState) (path given : Option (List ℕ)) → given ≡ path → HasPath (pre_leads state) path given
 path_down (pre.Completed status) path given h = tt
@@ -131,10 +125,6 @@ post_returned_flies j v d r st h = flight_post_settled PostRunning r.entries (po
 pub path_up : (state : PostState) (path given : Option (List ℕ)) → HasPath (post_leads state) path given
 path_up post.Running path given = tt
 path_up state path given = tt
-
-pub free_up : (v : PostVerdict) → true ≡ not (is_called (post_leads (post_state v)))
-free_up verdict.Finished = refl
-free_up verdict.MoreProcessing = refl
 
 -- ---- a drain is over
 

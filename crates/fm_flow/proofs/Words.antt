@@ -1,7 +1,7 @@
 -- The words that the proofs share.
 pub use Rattle.fm_data.specs.Data.{Data, answered_data, change_passes, current_of, data_fits}
 pub use Rattle.fm_data.specs.declared.answer.Answer.{Answer}
-pub use Rattle.fm_data.specs.declared.base_call.BaseCall.{BaseCall}
+pub use Rattle.fm_data.specs.Calls.{BaseCall}
 pub use Rattle.fm_data.specs.declared.params.Params.{Params}
 pub use Rattle.fm_data.specs.declared.verdict.PostVerdict.{PostVerdict}
 pub use Rattle.fm_flow.specs.Answered.{bare_answer, base_counted, handle_given}
@@ -11,7 +11,7 @@ pub use Rattle.fm_flow.specs.Entries.{last_posted, last_visited, one, owed, post
 pub use Rattle.fm_flow.specs.Entries.{undrained, visit_of, visited, without}
 pub use Rattle.fm_flow.specs.Noted.{IsNoted}
 pub use Rattle.fm_flow.specs.Record.{FlowRecord}
-pub use Rattle.fm_flow.specs.Sound.{HasItsDrain, HasPath, IsCourse, IsSound, MadeAsAsked, after, answer_count, is_called, keeps_more, lends, slack, walk, way_of}
+pub use Rattle.fm_flow.specs.Sound.{HasItsDrain, HasPath, IsCourse, IsSound, MadeAsAsked, after, answer_count, keeps_more, lends, slack, walk, way_of}
 pub use Rattle.fm_flow.specs.Steps.{MayLieBelow, Turned, answer_after, ascend, bare_ask, base_after, base_fits, base_reply}
 pub use Rattle.fm_flow.specs.Steps.{base_returned_of, call_base, call_post, call_pre, data_reply, descend, done_at, drain_returned_of}
 pub use Rattle.fm_flow.specs.Steps.{give_post, is_done, kept_of, left_answer, lent_answer, may_take, next_at, next_of, post_after}

@@ -112,9 +112,3 @@ HasPath Descending path given = given ≡ path
 HasPath PreRunning path given = given ≡ path
 HasPath PreHeld path given = given ≡ path
 HasPath _ path given = ⊤
-
--- a callback has the data
-abbrev pub is_called : Stage → Bool
-is_called PreRunning = true
-is_called PostRunning = true
-is_called _ = false

@@ -1,11 +1,12 @@
 //! What a postoperation callback is lent: the parameters as its own preoperation received them, and
 //! the answer so far.
 
-ghost use Rattle.std.specs.Prelude.{◌≡◌, ◌<◌, ◌++◌, length, slice_get, take, vec_capacity, unwrap_or, if◌then◌else◌};
+ghost use Rattle.std.specs.Prelude.{◌≡◌, ◌<◌, ◌++◌, length, slice_get, take, vec_capacity, if◌then◌else◌};
+ghost use Rattle.fm_data.specs.Data.{current_of, fresh_data};
 ghost use Rattle.fm_flow.specs.Steps.{stands, lent_answer, left_answer, kept_of, answer_after};
 
 use crate::entry::PreState;
-use fm_data::{Answer, Params};
+use fm_data::{Answer, CallbackData, Params};
 use fm_types::{Bytes, Operation};
 use std::alloc::Global;
 use std::mem;
@@ -50,20 +51,15 @@ pub(crate) fn unwind(kept: &mut Vec<Params>, place: usize) -> Option<Params>
     kept.pop()
 }
 
-/// Takes back what a preoperation callback received, and keeps it where the callback put something
-/// in its place. Gives the parameters as they are from now on.
-pub(crate) fn keep(kept: &mut Vec<Params>, received: Params, changed: Option<Params>) -> Params
+/// Makes the data that a preoperation callback returned ready for the next one, and keeps what it received where it put something in its place.
+pub(crate) fn keep(alloc: Global, kept: &mut Vec<Params>, lent: &mut CallbackData)
     requires { length kept.old.items < vec_capacity kept.old }
-    ensures current { result ≡ unwrap_or changed received }
-    ensures items { kept.new.items ≡ kept.old.items ++ kept_of received changed }
+    ensures data { lent.new ≡ fresh_data (current_of lent.old) }
+    ensures items { kept.new.items ≡ kept.old.items ++ kept_of lent.old.received lent.old.changed }
     ensures capacity { vec_capacity kept.new ≡ vec_capacity kept.old }
 {
-    match changed {
-        Some(params) => {
-            kept.push_reserved(received);
-            params
-        }
-        None => received,
+    if let Some(received) = lent.settle(alloc) {
+        kept.push_reserved(received);
     }
 }
 

@@ -23,9 +23,7 @@ use crate::hold::Hold;
 use crate::owed_stack::OwedStack;
 use crate::stage::Stage;
 use crate::{entries, lent};
-use fm_data::{
-    Answer, BaseCall, CallbackData, Completion, MAX_TRANSFER, Params, Parts, PostVerdict,
-};
+use fm_data::{Answer, BaseCall, CallbackData, Completion, MAX_TRANSFER, Params, PostVerdict};
 use fm_types::{
     Bytes, HandleId, InstanceId, OpId, Operation, SharedPath, Status, StreamId, VolumeId, WorkerId,
 };
@@ -50,11 +48,10 @@ pub struct OperationRecord {
     handle: Option<HandleId>,
     born: u64,
     path: Option<SharedPath>,
-    // the same path, for the base's call, and the data, while no callback has it: so that `next` takes
-    // no memory
+    // the same path, for the base's call, so that `next` takes no memory
     lent_path: Option<SharedPath>,
-    spare: Option<CallbackData>,
-    params: Option<Params>,
+    // the parameters, in the data that the next callback or the base is lent
+    data: Option<CallbackData>,
     answer: Answer,
     stage: Stage,
     entries: Vec<Entry>,
@@ -66,19 +63,19 @@ pub struct OperationRecord {
 }
 
 impl Model for OperationRecord {
-    ghost use Rattle.std.specs.Prelude.{◌≡◌, ◌≤◌, is_some, not, vec_capacity};
+    ghost use Rattle.std.specs.Prelude.{◌≤◌, vec_capacity};
     ghost use Rattle.fm_flow.specs.Record.{FlowRecord};
 
     ghost Value = { FlowRecord };
 
     ghost use Rattle.fm_flow.specs.Answered.{bare_answer};
     ghost use Rattle.fm_flow.specs.Creates.{is_creating, is_unanswered};
-    ghost use Rattle.fm_flow.specs.Sound.{IsSound, HasPath, is_called};
-    ghost use Rattle.fm_flow.specs.Noted.{IsNoted};
+    ghost use Rattle.fm_flow.specs.Sound.{IsSound, HasPath};
+    ghost use Rattle.fm_flow.specs.Noted.{IsBare, IsNoted, received_in};
 
-    ghost view = { λ o. record { number = o.number; operation = o.operation; volume = o.volume; stream = o.stream; handle = o.handle; born = o.born; path = o.path; params = o.params; answer = o.answer; stage = o.stage; entries = o.entries.items; kept = o.kept.items; collected = o.is_collected } };
+    ghost view = { λ o. record { number = o.number; operation = o.operation; volume = o.volume; stream = o.stream; handle = o.handle; born = o.born; path = o.path; params = received_in o.data; answer = o.answer; stage = o.stage; entries = o.entries.items; kept = o.kept.items; collected = o.is_collected } };
 
-    ghost invariant = { λ o. IsSound (record { number = o.number; operation = o.operation; volume = o.volume; stream = o.stream; handle = o.handle; born = o.born; path = o.path; params = o.params; answer = o.answer; stage = o.stage; entries = o.entries.items; kept = o.kept.items; collected = o.is_collected }) × ((65 ≤ vec_capacity o.entries) × ((32 ≤ vec_capacity o.kept) × (HasPath o.stage o.path o.lent_path × ((is_some o.spare ≡ not (is_called o.stage)) × IsNoted o.owed o.last o.entries.items)))) };
+    ghost invariant = { λ o. IsSound (record { number = o.number; operation = o.operation; volume = o.volume; stream = o.stream; handle = o.handle; born = o.born; path = o.path; params = received_in o.data; answer = o.answer; stage = o.stage; entries = o.entries.items; kept = o.kept.items; collected = o.is_collected }) × ((65 ≤ vec_capacity o.entries) × ((32 ≤ vec_capacity o.kept) × (HasPath o.stage o.path o.lent_path × (IsBare o.data × IsNoted o.owed o.last o.entries.items)))) };
 }
 
 impl OperationRecord {
@@ -97,22 +94,22 @@ impl OperationRecord {
         requires file { are_on path params ≡ true }
         ensures { IfOk result (λ r. r ≡ begun_record number.0 volume stream handle born path params) }
     {
+        let operation = params.operation();
         let lent_path = shared(&path)?;
-        let spare = CallbackData::new(alloc, Params::Flush)?;
+        let data = CallbackData::new(alloc, params)?;
         let entries = Vec::with_capacity(alloc, MAX_ENTRIES)?;
         let kept = Vec::with_capacity(alloc, MAX_VISITS)?;
         Ok(OperationRecord {
             alloc,
             number,
-            operation: params.operation(),
+            operation,
             volume,
             stream,
             handle,
             born,
             path,
             lent_path,
-            spare: Some(spare),
-            params: Some(params),
+            data: Some(data),
             answer: bare_answer(alloc, Status::Success),
             stage: Stage::Descending,
             entries,
@@ -330,10 +327,7 @@ impl OperationRecord {
         ensures reply { Ok result ≡ (call_pre worker instance self.old self.old.params).reply }
         ensures after { self.new ≡ (call_pre worker instance self.old self.old.params).after }
     {
-        let Some(params) = self.params.take() else {
-            unreachable!();
-        };
-        let Some(data) = self.spare.take() else {
+        let Some(data) = self.data.take() else {
             unreachable!();
         };
         let place = self.kept.len() as u8;
@@ -346,7 +340,7 @@ impl OperationRecord {
         }));
         self.last = Some(instance);
         self.stage = Stage::PreRunning;
-        FlowAction::Pre(instance, data.reuse(self.alloc, params))
+        FlowAction::Pre(instance, data)
     }
 
     // an instance whose filter has no preoperation callback asks for its postoperation
@@ -376,15 +370,11 @@ impl OperationRecord {
         ensures reply { Ok result ≡ (call_base self.old self.old.params).reply }
         ensures after { self.new ≡ (call_base self.old self.old.params).after }
     {
-        let Some(params) = self.params.take() else {
+        let Some(data) = self.data.take() else {
             unreachable!();
         };
         self.stage = Stage::InBase;
-        FlowAction::Base(BaseCall {
-            volume: self.volume,
-            path: self.lent_path.take(),
-            params,
-        })
+        FlowAction::Base(BaseCall::new(self.volume, self.lent_path.take(), data))
     }
 
     fn answer_known(&mut self, status: Status)
@@ -446,7 +436,10 @@ impl OperationRecord {
         let Some(params) = lent::unwind(&mut self.kept, place as usize) else {
             return;
         };
-        self.params = Some(params);
+        let Some(data) = &mut self.data else {
+            unreachable!();
+        };
+        data.receive(params);
     }
 
     fn give_post(&mut self, worker: WorkerId, ask: Ask) -> FlowAction
@@ -456,13 +449,10 @@ impl OperationRecord {
         ensures reply { Ok result ≡ (give_post worker ask self.old self.old.params).reply }
         ensures after { self.new ≡ (give_post worker ask self.old self.old.params).after }
     {
-        let Some(params) = self.params.take() else {
+        let Some(mut data) = self.data.take() else {
             unreachable!();
         };
-        let Some(data) = self.spare.take() else {
-            unreachable!();
-        };
-        let answer = lent::lend_answer(self.alloc, self.operation, &mut self.answer);
+        data.put_answer(lent::lend_answer(self.alloc, self.operation, &mut self.answer));
         let post = Entry::Post(PostVisit {
             instance: ask.instance,
             worker,
@@ -470,11 +460,7 @@ impl OperationRecord {
         });
         entries::answer(&mut self.entries, &mut self.owed, post);
         self.stage = Stage::PostRunning;
-        FlowAction::Post(
-            ask.instance,
-            data.reuse_answered(params, answer),
-            ask.completion,
-        )
+        FlowAction::Post(ask.instance, data, ask.completion)
     }
 
     /// A preoperation callback returns its data with the verdict that counts. Data that isn't of this
@@ -502,13 +488,8 @@ impl OperationRecord {
         requires fits { data_fits self.old.operation self.old.path lent ≡ true }
         ensures { self.new ≡ pre_returned_of state lent self.old }
     {
-        let Parts {
-            received,
-            changed,
-            answer: _,
-        } = lent.take_parts(self.alloc);
-        self.spare = Some(lent);
-        self.params = Some(lent::keep(&mut self.kept, received, changed));
+        lent::keep(self.alloc, &mut self.kept, &mut lent);
+        self.data = Some(lent);
         lent::complete(self.alloc, state, &mut self.answer);
         let place = entries::settle_pre(&mut self.entries, state);
         self.owed.note(entries::asks(state), place);
@@ -546,11 +527,11 @@ impl OperationRecord {
         requires fits { base_fits call answer self.old ≡ true }
         ensures { self.new ≡ base_returned_of call answer handle self.old }
     {
-        self.handle = handle_given(&call.params, answer.status, handle, self.handle);
-        let answer = base_counted(self.alloc, &call.params, answer, handle);
+        self.handle = handle_given(call.params(), answer.status, handle, self.handle);
+        let answer = base_counted(self.alloc, call.params(), answer, handle);
         self.entries
             .push_reserved(Entry::Base(answer.status, answer.information));
-        self.params = Some(call.params);
+        self.data = Some(call.into_data());
         self.answer = answer;
         self.stage = Stage::Ascending;
     }
@@ -578,13 +559,8 @@ impl OperationRecord {
         requires fits { data_fits self.old.operation self.old.path lent ≡ true }
         ensures { self.new ≡ post_returned_of verdict lent self.old }
     {
-        let Parts {
-            received,
-            changed: _,
-            answer,
-        } = lent.take_parts(self.alloc);
-        self.spare = Some(lent);
-        self.params = Some(received);
+        let answer = lent.take_answer(self.alloc);
+        self.data = Some(lent);
         lent::take_answer(self.operation, &mut self.answer, answer);
         let state = post_state(verdict);
         entries::settle_post(&mut self.entries, state);

@@ -6,7 +6,7 @@ use Rattle.std.proofs.lemmas.Option.{slice_get_past, slice_get_read, slice_get_w
 use Rattle.fm_types.proofs.Lists.{slice_get-set_same, slice_get-set_other}
 use Rattle.fm_types.specs.declared.status.Status.TheVariants.{NoVolume, DeviceFault}
 use Rattle.fm_data.specs.declared.answer.Answer.{Answer}
-use Rattle.fm_data.specs.declared.base_call.BaseCall.{BaseCall}
+use Rattle.fm_data.specs.Calls.{BaseCall}
 use Rattle.fm_base.specs.Folders.{Folder}
 use Rattle.fm_device.specs.Devices.{bare, CarriesAny, KnownAs}
 use Rattle.fm_local.specs.Bases.{BasesCarry, BaseCarries}

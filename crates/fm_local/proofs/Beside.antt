@@ -5,7 +5,7 @@ use Rattle.fm_types.proofs.Lists.{slice_get-set_other}
 use Rattle.fm_types.specs.declared.status.Status.TheVariants as status
 use Rattle.fm_data.specs.Data.{Data, data_fits}
 use Rattle.fm_data.specs.declared.answer.Answer.{Answer}
-use Rattle.fm_data.specs.declared.base_call.BaseCall.{BaseCall}
+use Rattle.fm_data.specs.Calls.{BaseCall}
 use Rattle.fm_data.specs.declared.verdict.Completion.{Completion}
 use Rattle.fm_data.specs.declared.verdict.PreVerdict.{PreVerdict}
 use Rattle.fm_data.specs.declared.verdict.PostVerdict.{PostVerdict}

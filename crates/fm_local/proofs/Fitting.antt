@@ -9,7 +9,7 @@ use Rattle.fm_types.specs.declared.operation.Operation.{Operation}
 use Rattle.fm_data.specs.Data.{Data, IsData, change_passes, data_fits}
 use Rattle.fm_data.specs.Params.{operation_of, path_of, is_within_limits, same_operation, same_path, are_on, are_for, fit, may_replace, call_fits}
 use Rattle.fm_data.specs.declared.answer.Answer.{Answer}
-use Rattle.fm_data.specs.declared.base_call.BaseCall.{BaseCall}
+use Rattle.fm_data.specs.Calls.{BaseCall}
 use Rattle.fm_data.specs.declared.params.Params.{Params}
 use Rattle.fm_data.specs.declared.params.Params.TheVariants as params
 use Rattle.fm_flow.specs.Record.{FlowRecord}

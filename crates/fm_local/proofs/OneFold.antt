@@ -2,7 +2,7 @@
 use Rattle.std.specs.Prelude.{◌≡◌, ℕ, Bool, true, false, List, [], ◌∷◌}
 use Rattle.std.proofs.Common.{sym, subst, ◌∙◌}
 use Rattle.fm_data.specs.declared.answer.Answer.{Answer}
-use Rattle.fm_data.specs.declared.base_call.BaseCall.{BaseCall}
+use Rattle.fm_data.specs.Calls.{BaseCall}
 use Rattle.fm_data.specs.declared.params.Params.{Params}
 use Rattle.fm_data.specs.declared.verdict.Completion.{Completion}
 use Rattle.fm_data.specs.declared.verdict.PreVerdict.{PreVerdict}

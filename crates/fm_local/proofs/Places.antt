@@ -9,7 +9,7 @@ use Rattle.fm_data.specs.Data.{Data, data_fits}
 use Rattle.fm_data.specs.Params.{call_fits, fit}
 use Rattle.fm_data.specs.Requests.{params_of}
 use Rattle.fm_data.specs.declared.answer.Answer.{Answer}
-use Rattle.fm_data.specs.declared.base_call.BaseCall.{BaseCall}
+use Rattle.fm_data.specs.Calls.{BaseCall}
 use Rattle.fm_data.specs.declared.params.Params.{Params}
 use Rattle.fm_data.specs.declared.request.Request.{Request}
 use Rattle.fm_data.specs.declared.verdict.Completion.{Completion}

@@ -7,7 +7,7 @@ use Rattle.fm_types.specs.declared.status.Status.{Status}
 use Rattle.fm_types.specs.declared.status.Status.TheVariants.{Success, NoMemory, NoHandle, BadRequest, DeviceFault}
 use Rattle.fm_data.specs.Params.{is_within_limits}
 use Rattle.fm_data.specs.declared.answer.Answer.{Answer}
-use Rattle.fm_data.specs.declared.base_call.BaseCall.{BaseCall}
+use Rattle.fm_data.specs.Calls.{BaseCall}
 use Rattle.fm_data.specs.declared.params.Params.{Params}
 use Rattle.fm_flow.specs.Answered.{bare_answer, base_counted, is_success, success_of}
 use Rattle.fm_base.specs.Folders.{Folder}

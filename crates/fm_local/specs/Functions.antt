@@ -6,7 +6,7 @@ use Rattle.fm_data.specs.declared.verdict.Completion.{Completion}
 use Rattle.fm_data.specs.declared.verdict.PreVerdict.{PreVerdict}
 use Rattle.fm_data.specs.declared.verdict.PostVerdict.{PostVerdict}
 use Rattle.fm_data.specs.Data.{Data}
-use Rattle.fm_data.specs.declared.base_call.BaseCall.{BaseCall}
+use Rattle.fm_data.specs.Calls.{BaseCall}
 use Rattle.fm_stack.specs.StackWorld.{StackWorld}
 use Rattle.fm_local.specs.Folds.{Chain, Folds}
 use Rattle.fm_local.specs.Chains.{Under, Subject, chain_of}

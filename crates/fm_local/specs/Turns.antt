@@ -1,7 +1,7 @@
 -- How an operation is carried from its beginning to its end: turn after turn, by one worker.
 use Rattle.std.specs.Prelude.{◌≡◌, ◌≤◌, ℕ, length, zero, suc, Option, Some, Result, Ok}
 use Rattle.fm_data.specs.declared.answer.Answer.{Answer}
-use Rattle.fm_data.specs.declared.base_call.BaseCall.{BaseCall}
+use Rattle.fm_data.specs.Calls.{BaseCall}
 use Rattle.fm_data.specs.declared.verdict.Completion.{Completion}
 use Rattle.fm_data.specs.declared.verdict.PreVerdict.{PreVerdict}
 use Rattle.fm_data.specs.declared.verdict.PostVerdict.{PostVerdict}

@@ -335,7 +335,7 @@ fn call_on<B: Base>(alloc: Global, bases: &mut Vec<B>, call: &BaseCall) -> Answe
     ensures carried { BasesCarry B.folder B.faults bases.old.items call.now result bases.new.items }
     ensures within { length result.bytes ≤ 32768 }
 {
-    match bases.get_mut(usize::from(call.volume.0)) {
+    match bases.get_mut(usize::from(call.volume().0)) {
         Some(base) => call_base(alloc, base, call),
         None => Answer {
             status: Status::NoVolume,

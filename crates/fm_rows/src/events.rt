@@ -1,6 +1,9 @@
 //! Events as values without texts and bytes, so that a list of them is data, and the steps that they stand for: all of one filter with an instance or two on
 //! one volume, and of one file there with its first handle.
 
+ghost use Rattle.std.specs.Prelude.{◌≡◌, IfOk};
+ghost use Rattle.fm_data.specs.Data.{fresh_data};
+
 use fm_altitude::Altitude;
 use fm_ctx::SetMode;
 use fm_data::{
@@ -137,7 +140,9 @@ fn params(alloc: Global, operation: Operation) -> Result<Params, Status> {
 }
 
 // The data that a callback brings back.
-fn data(alloc: Global, operation: Operation) -> Result<CallbackData, Status> {
+fn data(alloc: Global, operation: Operation) -> Result<CallbackData, Status>
+    ensures { IfOk result (λ lent. lent ≡ fresh_data lent.received) }
+{
     let params = params(alloc, operation)?;
     if !params.is_within_limits() {
         return Err(Status::BadRequest);
@@ -151,11 +156,7 @@ fn call(alloc: Global, operation: Operation) -> Result<BaseCall, Status> {
         Operation::List => None,
         _ => Some(path(alloc)?),
     };
-    Ok(BaseCall {
-        volume: VOLUME,
-        path,
-        params: params(alloc, operation)?,
-    })
+    Ok(BaseCall::new(VOLUME, path, data(alloc, operation)?))
 }
 
 // So many zeros; memory that is refused is asked for again.

@@ -271,8 +271,8 @@ impl Run {
 
     // The device makes the call.
     fn base(&mut self, rt: &impl Abort, call: BaseCall) {
-        let path = call.path.as_ref().expect(rt, "a path").path();
-        let answer = call_base(rt, self.alloc, &mut self.base, path, &call.params);
+        let path = call.path().as_ref().expect(rt, "a path").path();
+        let answer = call_base(rt, self.alloc, &mut self.base, path, call.params());
         self.way.push(DEVICE).expect(rt, "memory");
         let taken = self.state.base_returned(WORKER, call, answer);
         assert!(rt; taken.is_ok());

@@ -65,7 +65,7 @@ fn ask_base(rt: &impl Abort, alloc: Global, state: &mut State) -> u32 {
     let Ok(Action::Base(call)) = state.next(OTHER, SECOND) else {
         panic!(rt; "the base comes next");
     };
-    let len = len_of(&call.params);
+    let len = len_of(call.params());
     let answer = Answer {
         status: Status::Success,
         information: 0,

@@ -6,7 +6,7 @@ use Rattle.fm_types.specs.declared.status.Status.{Status}
 use Rattle.fm_types.specs.declared.status.Status.TheVariants.{WrongStep}
 use Rattle.fm_data.specs.Data.{Data}
 use Rattle.fm_data.specs.declared.answer.Answer.{Answer}
-use Rattle.fm_data.specs.declared.base_call.BaseCall.{BaseCall}
+use Rattle.fm_data.specs.Calls.{BaseCall}
 use Rattle.fm_data.specs.declared.verdict.PreVerdict.{PreVerdict}
 use Rattle.fm_data.specs.declared.verdict.PostVerdict.{PostVerdict}
 use Rattle.fm_flow.specs.declared.action.FlowAction.{FlowAction}

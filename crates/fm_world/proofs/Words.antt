@@ -25,7 +25,7 @@ pub use Rattle.fm_types.proofs.Lists.{pair_at, slice_get-kept, slice_get-push}
 pub use Rattle.fm_types.specs.declared.operation.CreateMode.{CreateMode}
 pub use Rattle.fm_data.specs.Data.{Data, data_fits}
 pub use Rattle.fm_data.specs.Params.{operation_of, are_on, is_within_limits}
-pub use Rattle.fm_data.specs.declared.base_call.BaseCall.{BaseCall}
+pub use Rattle.fm_data.specs.Calls.{BaseCall}
 pub use Rattle.fm_data.specs.declared.verdict.PostVerdict.{PostVerdict}
 pub use Rattle.fm_data.specs.declared.verdict.PreVerdict.{PreVerdict}
 pub use Rattle.fm_stack.specs.Events.{finish_row, refuse_row, accept_row}

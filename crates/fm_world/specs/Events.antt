@@ -7,7 +7,7 @@ use Rattle.fm_world.specs.Words.{Params, Answer, Instance, Phase, StackWorld, Is
 use Rattle.fm_world.specs.Words.{handed_on, Leaves, Sweeps, is_linked_of, FlowAction, Ask, PreState, Descending, FlowRecord, owed, last_visited, creates}
 use Rattle.fm_world.specs.Words.{has_create_on, is_create, FlowTable, carried, operation_at, changed, told, begun, is_full, collect_reply, collected_of}
 use Rattle.fm_types.specs.declared.registration.Registration.{Registration}
-use Rattle.fm_data.specs.declared.base_call.BaseCall.{BaseCall}
+use Rattle.fm_data.specs.Calls.{BaseCall}
 use Rattle.fm_data.specs.declared.verdict.PreVerdict.{PreVerdict}
 use Rattle.fm_data.specs.declared.verdict.PostVerdict.{PostVerdict}
 use Rattle.fm_data.specs.declared.verdict.Completion.{Completion}

@@ -1,4 +1,4 @@
-use Rattle.fm_flow.proofs.Words.{ap, not, is_called, arith, FlowRecord}
+use Rattle.fm_flow.proofs.Words.{ap, arith, FlowRecord}
 use Rattle.std.proofs.Common.{◌∙◌}
 use Rattle.fm_flow.proofs.Next.{sound_known}
 use Rattle.fm_flow.proofs.Noted.{noted_base}
@@ -14,7 +14,7 @@ invariant_of-self c =
           omega arith,
           (
             tt,
-            (c.self.invariant.1.1.1.1.0 ∙ ap (λ s. not (is_called s)) stage, rw c.push_reserved.ensures.items (noted_base _ c.self.invariant.1.1.1.1.1 _ _)),
+            (c.self.invariant.1.1.1.1.0, rw c.push_reserved.ensures.items (noted_base _ c.self.invariant.1.1.1.1.1 _ _)),
           ),
         ),
       ),

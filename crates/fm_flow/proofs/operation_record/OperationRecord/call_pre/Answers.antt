@@ -1,5 +1,5 @@
 use Rattle.fm_flow.proofs.Words.{length, ap, subst, arith, times, visited, FlowRecord, HasPath}
-use Rattle.std.proofs.Common.{◌≡◌, ◌<◌, ◌∙◌, is_some, rules}
+use Rattle.std.proofs.Common.{◌≡◌, ◌<◌, ◌∙◌, rules}
 use Rattle.fm_flow.proofs.Next.{sound_call_pre}
 use Rattle.fm_flow.proofs.Noted.{noted_visit}
 use Rattle.fm_flow.proofs.operation_record.OperationRecord.call_pre.Goals as goal
@@ -13,14 +13,14 @@ invariant_of-self c =
     let few : length (visited c.self.inside.entries.items) < 32 = omega (arith, visits, c.requires.few) in
     let place : c.len-place.result ≡ length c.self.inside.kept.items = search rules in (
       rw (c.push_reserved.ensures.items, place, c.take.ensures.after)
-          (sound_call_pre c.args.worker c.args.instance _ c.in-Some.params stage fresh few c.self.invariant.0),
+          (sound_call_pre c.args.worker c.args.instance _ c.in-Some.data.received stage fresh few c.self.invariant.0),
       (
         omega arith,
         (
           omega arith,
           (
             path,
-            (ap is_some c.take-2.ensures.after, rw c.push_reserved.ensures.items (noted_visit _ c.self.invariant.1.1.1.1.1 _ _ _)),
+            (rw c.take.ensures.after tt, rw c.push_reserved.ensures.items (noted_visit _ c.self.invariant.1.1.1.1.1 _ _ _)),
           ),
         ),
       ),

@@ -1,4 +1,4 @@
-use Rattle.fm_flow.proofs.Words.{ap, not, is_called, arith, InDrain, FlowRecord}
+use Rattle.fm_flow.proofs.Words.{ap, arith, InDrain, FlowRecord}
 use Rattle.std.proofs.Common.{◌∙◌}
 use Rattle.fm_flow.proofs.Returns.{sound_drain_returned}
 use Rattle.fm_flow.proofs.Noted.{noted_drain, drain_lone}
@@ -15,7 +15,7 @@ invariant_of-self c =
           omega arith,
           (
             tt,
-            (c.self.invariant.1.1.1.1.0 ∙ ap (λ s. not (is_called s)) stage, rw c.settle_drain.ensures.items (noted_drain _ _ c.self.invariant.1.1.1.1.1)),
+            (c.self.invariant.1.1.1.1.0, rw c.settle_drain.ensures.items (noted_drain _ _ c.self.invariant.1.1.1.1.1)),
           ),
         ),
       ),

@@ -1,4 +1,4 @@
-use Rattle.fm_flow.proofs.Words.{ap, not, is_called, arith, refl, owed, Ascending, FlowRecord, slice_get}
+use Rattle.fm_flow.proofs.Words.{ap, arith, refl, owed, Ascending, FlowRecord, slice_get}
 use Rattle.std.proofs.Common.{◌∙◌}
 use Rattle.fm_flow.proofs.Next.{sound_drain, head_of}
 use Rattle.fm_flow.proofs.Noted.{noted_answer}
@@ -18,7 +18,7 @@ invariant_of-self c =
           (
             tt,
             (
-              c.self.invariant.1.1.1.1.0 ∙ ap (λ s. not (is_called s)) stage,
+              c.self.invariant.1.1.1.1.0,
               rw (c.answer.ensures.items, c.answer.ensures.owed) (noted_answer _ c.self.invariant.1.1.1.1.1 Ascending _ c.args.ask _ course next refl refl
                   (λ j. refl)),
             ),

@@ -1,5 +1,5 @@
 use Rattle.fm_flow.proofs.Words.{ap, arith, refl, owed, Ascending, FlowRecord, slice_get}
-use Rattle.std.proofs.Common.{◌∙◌, is_some}
+use Rattle.std.proofs.Common.{◌∙◌}
 use Rattle.fm_flow.proofs.Next.{sound_give_post, head_of}
 use Rattle.fm_flow.proofs.Noted.{noted_answer}
 use Rattle.fm_flow.proofs.Soundness.{at_stage}
@@ -10,8 +10,8 @@ invariant_of-self c =
     let stage = ap (λ (r : FlowRecord). r.stage) c.self.view_is ∙ c.requires.stage in
     let next = head_of _ c.args.ask (ap (λ (r : FlowRecord). slice_get (owed r.entries) 0) c.self.view_is ∙ c.requires.next) in
     let course = (at_stage _ Ascending stage c.self.invariant.0).0 in (
-      rw (c.answer.ensures.items, c.take.ensures.after, c.lend_answer-answer.ensures.left)
-          (sound_give_post c.args.worker c.args.ask _ _ c.in-Some.params stage next c.requires.may c.self.invariant.0),
+      rw (c.answer.ensures.items, c.take.ensures.after, c.lend_answer.ensures.left)
+          (sound_give_post c.args.worker c.args.ask _ _ c.in-Some.data.received stage next c.requires.may c.self.invariant.0),
       (
         omega arith,
         (
@@ -19,7 +19,7 @@ invariant_of-self c =
           (
             tt,
             (
-              ap is_some c.take-2.ensures.after,
+              rw c.take.ensures.after tt,
               rw (c.answer.ensures.items, c.answer.ensures.owed)
                   (noted_answer _ c.self.invariant.1.1.1.1.1 Ascending _ c.args.ask _ course next refl refl (λ j. refl)),
             ),

@@ -1,4 +1,4 @@
-use Rattle.fm_flow.proofs.Words.{ap, not, refl, arith, is_called, PostHeld, FlowRecord}
+use Rattle.fm_flow.proofs.Words.{ap, refl, arith, PostHeld, FlowRecord}
 use Rattle.std.proofs.Common.{◌∙◌}
 use Rattle.fm_flow.proofs.Resumes.{sound_post_resumed}
 use Rattle.fm_flow.proofs.Noted.{noted_post, open_lone}
@@ -17,7 +17,7 @@ invariant_of-self c =
           (
             tt,
             (
-              c.self.invariant.1.1.1.1.0 ∙ ap (λ s. not (is_called s)) stage,
+              c.self.invariant.1.1.1.1.0,
               rw c.settle_post.ensures.items (noted_post PostHeld _ _ refl course c.self.invariant.1.1.1.1.1),
             ),
           ),

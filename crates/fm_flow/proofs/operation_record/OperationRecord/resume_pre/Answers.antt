@@ -1,6 +1,6 @@
-use Rattle.fm_flow.proofs.Words.{ap, not, subst, refl, arith, is_called, is_open, PreHeld, FlowRecord, HasPath}
+use Rattle.fm_flow.proofs.Words.{ap, subst, refl, arith, is_open, PreHeld, FlowRecord, HasPath}
 use Rattle.std.proofs.Common.{◌∙◌}
-use Rattle.fm_flow.proofs.Returns.{path_down, free_down}
+use Rattle.fm_flow.proofs.Returns.{path_down}
 use Rattle.fm_flow.proofs.Resumes.{sound_pre_resumed}
 use Rattle.fm_flow.proofs.Noted.{noted_pre, open_lone, owed_few, due_inside}
 use Rattle.fm_flow.proofs.Soundness.{at_stage}
@@ -19,7 +19,7 @@ invariant_of-self c =
           (
             rw c.pre_leads-self-inside.ensures (path_down c.args.state c.self.inside.path c.self.inside.lent_path path),
             (
-              rw c.pre_leads-self-inside.ensures (c.self.invariant.1.1.1.1.0 ∙ ap (λ s. not (is_called s)) stage ∙ free_down c.args.state c.requires.counted),
+              c.self.invariant.1.1.1.1.0,
               rw (c.note.ensures, c.asks.ensures, c.settle_pre-place.ensures.items)
                   (noted_pre PreHeld _ c.args.state _ refl course c.settle_pre-place.ensures.place c.self.invariant.1.1.1.1.1),
             ),

@@ -1,4 +1,4 @@
-use Rattle.fm_flow.proofs.Words.{ap, not, is_called, arith, FlowRecord, base_fits}
+use Rattle.fm_flow.proofs.Words.{ap, refl, arith, FlowRecord, base_fits}
 use Rattle.std.proofs.Common.{◌∙◌}
 use Rattle.fm_flow.proofs.Returns.{sound_base}
 use Rattle.fm_flow.proofs.Noted.{noted_base}
@@ -8,7 +8,7 @@ pub invariant_of-self : goal.invariant_of-self
 invariant_of-self c =
     let stage = ap (λ (r : FlowRecord). r.stage) c.self.view_is ∙ c.requires.stage in
     let fits = ap (λ (r : FlowRecord). base_fits c.args.call c.args.answer r) c.self.view_is ∙ c.requires.fits in (
-      rw (c.push_reserved.ensures.items, c.base_counted-answer.ensures, c.handle_given-self-inside.ensures)
+      rw (c.push_reserved.ensures.items, c.base_counted-answer.ensures, c.handle_given-self-inside.ensures, c.into_data.ensures, c.params.ensures, c.params-2.ensures)
           (sound_base c.args.call c.args.answer c.args.handle _ stage fits c.self.invariant.0),
       (
         omega arith,
@@ -16,7 +16,7 @@ invariant_of-self c =
           omega arith,
           (
             tt,
-            (c.self.invariant.1.1.1.1.0 ∙ ap (λ s. not (is_called s)) stage, rw c.push_reserved.ensures.items (noted_base _ c.self.invariant.1.1.1.1.1 _ _)),
+            (rw c.into_data.ensures refl, rw c.push_reserved.ensures.items (noted_base _ c.self.invariant.1.1.1.1.1 _ _)),
           ),
         ),
       ),

@@ -1,6 +1,6 @@
 use Rattle.fm_flow.proofs.Words.{ap, subst, refl, arith, is_open, PreRunning, FlowRecord, HasPath, data_fits}
 use Rattle.std.proofs.Common.{◌∙◌}
-use Rattle.fm_flow.proofs.Returns.{path_down, free_down}
+use Rattle.fm_flow.proofs.Returns.{path_down}
 use Rattle.fm_flow.proofs.Returns.{sound_pre_returned}
 use Rattle.fm_flow.proofs.Noted.{noted_pre, open_lone, owed_few, due_inside}
 use Rattle.fm_flow.proofs.Soundness.{at_stage}
@@ -12,7 +12,7 @@ invariant_of-self c =
     let path = subst (λ s. HasPath s c.self.inside.path c.self.inside.lent_path) stage c.self.invariant.1.1.1.0 in
     let fits = ap (λ (r : FlowRecord). data_fits r.operation r.path c.args.lent) c.self.view_is ∙ c.requires.fits in
     let course = (at_stage _ PreRunning stage c.self.invariant.0).0 in (
-      rw (c.settle_pre-place.ensures.items, c.pre_leads-self-inside.ensures, c.complete.ensures, c.keep.ensures.items, c.keep.ensures.current, c.take_parts-received.ensures.received, c.take_parts-received.ensures.changed)
+      rw (c.settle_pre-place.ensures.items, c.pre_leads-self-inside.ensures, c.complete.ensures, c.keep.ensures.items, c.keep.ensures.data)
           (sound_pre_returned c.args.state c.args.lent _ stage c.requires.counted fits c.self.invariant.0),
       (
         omega arith,
@@ -21,7 +21,7 @@ invariant_of-self c =
           (
             rw c.pre_leads-self-inside.ensures (path_down c.args.state c.self.inside.path c.self.inside.lent_path path),
             (
-              rw c.pre_leads-self-inside.ensures (free_down c.args.state c.requires.counted),
+              rw c.keep.ensures.data refl,
               rw (c.note.ensures, c.asks.ensures, c.settle_pre-place.ensures.items)
                   (noted_pre PreRunning _ c.args.state _ refl course c.settle_pre-place.ensures.place c.self.invariant.1.1.1.1.1),
             ),

@@ -2,8 +2,10 @@
 //! its callbacks may make of the manager.
 #![tactic(auto)]
 
+mod agreeable;
 mod minifilter;
 mod port;
 
+pub use crate::agreeable::Agreeable;
 pub use crate::minifilter::Minifilter;
 pub use crate::port::Port;

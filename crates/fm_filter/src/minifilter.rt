@@ -13,6 +13,8 @@ use fm_types::{ContextKind, Registration};
 /// where it answers nothing, of what holds once it was called. It gets a port for what it may call of the
 /// manager; a filter that is quiet calls nothing that changes the manager. No callback changes what it
 /// received, nor swaps the port for another one, nor does any change what the port keeps.
+///
+/// A filter that refuses no attach, detach or unload is written as an `Agreeable`, without the callbacks that do nothing.
 pub trait Minifilter: Send + Sync + Drop {
     ghost use Rattle.std.specs.Prelude.{ℕ, Bool, List};
     ghost use Rattle.fm_types.specs.declared.context_kind.ContextKind.{ContextKind};

@@ -1,5 +1,5 @@
 -- What the sample filters have in common.
-use Rattle.std.specs.Prelude.{◌≡◌, ℕ, Bool, true, List, None}
+use Rattle.std.specs.Prelude.{◌≡◌, ℕ, List, None}
 use Rattle.fm_types.specs.declared.context_kind.ContextKind.{ContextKind}
 use Rattle.fm_data.specs.Data.{Data}
 use Rattle.fm_data.specs.declared.verdict.Completion.{Completion}
@@ -7,10 +7,6 @@ use Rattle.fm_data.specs.declared.verdict.PreVerdict.{PreVerdict}
 use Rattle.fm_data.specs.declared.verdict.PreVerdict.TheVariants.{NoCallback}
 use Rattle.fm_data.specs.declared.verdict.PostVerdict.{PostVerdict}
 use Rattle.fm_data.specs.declared.verdict.PostVerdict.TheVariants.{Finished}
-
--- a setup, a query or an unload that agrees
-abbrev pub Agrees : Bool → Type 0
-Agrees answer = answer ≡ true
 
 -- a postoperation that leaves the data as it is, and lets it go on
 abbrev pub IsBarePost : Data → Completion → PostVerdict → Data → Type 0

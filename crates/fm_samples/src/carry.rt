@@ -4,7 +4,7 @@ ghost use Rattle.std.specs.Prelude.{◌≡◌, ◌∷◌, [], IfOk};
 
 use crate::common::set_unless_there;
 use fm_data::{CallbackData, Completion, Params, PostVerdict, PreVerdict};
-use fm_filter::{Minifilter, Port};
+use fm_filter::{Agreeable, Port};
 use fm_types::{Bytes, ContextKind, ContextMask, CtxId, OpMask, Registration};
 use std::alloc::{AllocError, Global};
 
@@ -54,30 +54,17 @@ fn release<P: Port>(completion: Completion, port: &mut P)
     }
 }
 
-impl Minifilter for Carry {
-    ghost use Rattle.std.specs.Prelude.{⊤};
+impl Agreeable for Carry {
     ghost use Rattle.fm_samples.specs.Carry.{carry_registers, CarriesPre};
-    ghost use Rattle.fm_samples.specs.Common.{Agrees, IsBarePost, CountsNothing};
+    ghost use Rattle.fm_samples.specs.Common.{IsBarePost, CountsNothing};
 
     ghost registers = { λ _. carry_registers };
-
-    ghost setup_may = { λ _. Agrees };
 
     ghost pre_may = { λ _. CarriesPre };
 
     ghost post_may = { λ _. IsBarePost };
 
-    ghost query_may = { λ _. Agrees };
-
-    ghost unload_may = { λ _. Agrees };
-
     ghost cleanup_may = { λ _. CountsNothing };
-
-    ghost drained = { λ _ _. ⊤ };
-
-    ghost started = { λ _. ⊤ };
-
-    ghost completed = { λ _. ⊤ };
 
     ghost is_quiet = { λ _. ⊥ };
 
@@ -89,10 +76,6 @@ impl Minifilter for Carry {
             query: true,
             unload: true,
         }
-    }
-
-    fn setup<P: Port>(&self, _port: &mut P) -> bool {
-        true
     }
 
     fn pre<P: Port>(&self, lent: &mut CallbackData, port: &mut P) -> PreVerdict {
@@ -120,18 +103,6 @@ impl Minifilter for Carry {
 
     fn drain<P: Port>(&self, completion: Completion, port: &mut P) {
         release(completion, port);
-    }
-
-    fn query_teardown<P: Port>(&self, _port: &mut P) -> bool {
-        true
-    }
-
-    fn teardown_start<P: Port>(&self, _port: &mut P) {}
-
-    fn teardown_complete<P: Port>(&self, _port: &mut P) {}
-
-    fn unload(&self) -> bool {
-        true
     }
 
     fn cleanup(&self, _kind: ContextKind, _body: &[u8]) -> u64 {

@@ -4,7 +4,7 @@ ghost use Rattle.std.specs.Prelude.{◌≡◌};
 ghost use Rattle.fm_samples.specs.Guard.{is_below_deny, is_denied};
 
 use fm_data::{CallbackData, Completion, Params, PostVerdict, PreVerdict};
-use fm_filter::{Minifilter, Port};
+use fm_filter::{Agreeable, Port};
 use fm_types::{ContextKind, ContextMask, OpMask, Registration, Status};
 
 /// Denies each create of a path below the folder `deny`, and lets every other one go on (what an access
@@ -28,30 +28,18 @@ fn is_denied(params: &Params) -> bool
     }
 }
 
-impl Minifilter for Guard {
+impl Agreeable for Guard {
     ghost use Rattle.std.specs.Prelude.{⊤};
     ghost use Rattle.fm_samples.specs.Guard.{GuardsPre, guard_registers};
-    ghost use Rattle.fm_samples.specs.Common.{Agrees, IsBarePost, CountsNothing};
+    ghost use Rattle.fm_samples.specs.Common.{IsBarePost, CountsNothing};
 
     ghost registers = { λ _. guard_registers };
-
-    ghost setup_may = { λ _. Agrees };
 
     ghost pre_may = { λ _. GuardsPre };
 
     ghost post_may = { λ _. IsBarePost };
 
-    ghost query_may = { λ _. Agrees };
-
-    ghost unload_may = { λ _. Agrees };
-
     ghost cleanup_may = { λ _. CountsNothing };
-
-    ghost drained = { λ _ _. ⊤ };
-
-    ghost started = { λ _. ⊤ };
-
-    ghost completed = { λ _. ⊤ };
 
     ghost is_quiet = { λ _. ⊤ };
 
@@ -63,10 +51,6 @@ impl Minifilter for Guard {
             query: true,
             unload: true,
         }
-    }
-
-    fn setup<P: Port>(&self, _port: &mut P) -> bool {
-        true
     }
 
     fn pre<P: Port>(&self, lent: &mut CallbackData, _port: &mut P) -> PreVerdict {
@@ -84,20 +68,6 @@ impl Minifilter for Guard {
         _port: &mut P,
     ) -> PostVerdict {
         PostVerdict::Finished
-    }
-
-    fn drain<P: Port>(&self, _completion: Completion, _port: &mut P) {}
-
-    fn query_teardown<P: Port>(&self, _port: &mut P) -> bool {
-        true
-    }
-
-    fn teardown_start<P: Port>(&self, _port: &mut P) {}
-
-    fn teardown_complete<P: Port>(&self, _port: &mut P) {}
-
-    fn unload(&self) -> bool {
-        true
     }
 
     fn cleanup(&self, _kind: ContextKind, _body: &[u8]) -> u64 {

@@ -4,7 +4,7 @@ ghost use Rattle.std.specs.Prelude.{◌≡◌};
 
 use crate::common::MOST_HELD;
 use fm_data::{CallbackData, Completion, Params, PostVerdict, PreVerdict};
-use fm_filter::{Minifilter, Port};
+use fm_filter::{Agreeable, Port};
 use fm_flow::Hold as Held;
 use fm_types::{ContextKind, ContextMask, OpMask, Registration};
 
@@ -28,30 +28,17 @@ fn resume_all<P: Port>(port: &mut P)
     }
 }
 
-impl Minifilter for Hold {
-    ghost use Rattle.std.specs.Prelude.{⊤};
+impl Agreeable for Hold {
     ghost use Rattle.fm_samples.specs.Hold.{hold_registers, HoldsPre};
-    ghost use Rattle.fm_samples.specs.Common.{Agrees, IsBarePost, CountsNothing};
+    ghost use Rattle.fm_samples.specs.Common.{IsBarePost, CountsNothing};
 
     ghost registers = { λ _. hold_registers };
-
-    ghost setup_may = { λ _. Agrees };
 
     ghost pre_may = { λ _. HoldsPre };
 
     ghost post_may = { λ _. IsBarePost };
 
-    ghost query_may = { λ _. Agrees };
-
-    ghost unload_may = { λ _. Agrees };
-
     ghost cleanup_may = { λ _. CountsNothing };
-
-    ghost drained = { λ _ _. ⊤ };
-
-    ghost started = { λ _. ⊤ };
-
-    ghost completed = { λ _. ⊤ };
 
     ghost is_quiet = { λ _. ⊥ };
 
@@ -63,10 +50,6 @@ impl Minifilter for Hold {
             query: true,
             unload: true,
         }
-    }
-
-    fn setup<P: Port>(&self, _port: &mut P) -> bool {
-        true
     }
 
     fn pre<P: Port>(&self, lent: &mut CallbackData, port: &mut P) -> PreVerdict {
@@ -89,20 +72,8 @@ impl Minifilter for Hold {
         PostVerdict::Finished
     }
 
-    fn drain<P: Port>(&self, _completion: Completion, _port: &mut P) {}
-
-    fn query_teardown<P: Port>(&self, _port: &mut P) -> bool {
-        true
-    }
-
     fn teardown_start<P: Port>(&self, port: &mut P) {
         resume_all(port);
-    }
-
-    fn teardown_complete<P: Port>(&self, _port: &mut P) {}
-
-    fn unload(&self) -> bool {
-        true
     }
 
     fn cleanup(&self, _kind: ContextKind, _body: &[u8]) -> u64 {

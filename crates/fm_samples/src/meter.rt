@@ -5,7 +5,7 @@ ghost use Rattle.fm_samples.specs.Meter.{counted_in};
 
 use crate::common::set_unless_there;
 use fm_data::{CallbackData, Completion, Params, PostVerdict, PreVerdict};
-use fm_filter::{Minifilter, Port};
+use fm_filter::{Agreeable, Port};
 use fm_types::{Bytes, ContextKind, ContextMask, OpMask, Registration};
 use std::alloc::{AllocError, Global};
 
@@ -59,30 +59,17 @@ fn counted_in(body: &[u8]) -> u64
     u64::from_be_bytes(*reads).wrapping_add(u64::from_be_bytes(*writes))
 }
 
-impl Minifilter for Meter {
-    ghost use Rattle.std.specs.Prelude.{⊤};
+impl Agreeable for Meter {
     ghost use Rattle.fm_samples.specs.Meter.{meter_registers, MetersCleanup};
-    ghost use Rattle.fm_samples.specs.Common.{Agrees, IsBarePre, IsBarePost};
+    ghost use Rattle.fm_samples.specs.Common.{IsBarePre, IsBarePost};
 
     ghost registers = { λ _. meter_registers };
-
-    ghost setup_may = { λ _. Agrees };
 
     ghost pre_may = { λ _. IsBarePre };
 
     ghost post_may = { λ _. IsBarePost };
 
-    ghost query_may = { λ _. Agrees };
-
-    ghost unload_may = { λ _. Agrees };
-
     ghost cleanup_may = { λ _. MetersCleanup };
-
-    ghost drained = { λ _ _. ⊤ };
-
-    ghost started = { λ _. ⊤ };
-
-    ghost completed = { λ _. ⊤ };
 
     ghost is_quiet = { λ _. ⊥ };
 
@@ -94,10 +81,6 @@ impl Minifilter for Meter {
             query: true,
             unload: true,
         }
-    }
-
-    fn setup<P: Port>(&self, _port: &mut P) -> bool {
-        true
     }
 
     fn pre<P: Port>(&self, lent: &mut CallbackData, port: &mut P) -> PreVerdict {
@@ -116,20 +99,6 @@ impl Minifilter for Meter {
         _port: &mut P,
     ) -> PostVerdict {
         PostVerdict::Finished
-    }
-
-    fn drain<P: Port>(&self, _completion: Completion, _port: &mut P) {}
-
-    fn query_teardown<P: Port>(&self, _port: &mut P) -> bool {
-        true
-    }
-
-    fn teardown_start<P: Port>(&self, _port: &mut P) {}
-
-    fn teardown_complete<P: Port>(&self, _port: &mut P) {}
-
-    fn unload(&self) -> bool {
-        true
     }
 
     fn cleanup(&self, _kind: ContextKind, body: &[u8]) -> u64 {

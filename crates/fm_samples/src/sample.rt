@@ -7,7 +7,7 @@ use crate::meter::Meter;
 use crate::shift::Shift;
 use crate::stay::Stay;
 use fm_data::{CallbackData, Completion, PostVerdict, PreVerdict};
-use fm_filter::{Minifilter, Port};
+use fm_filter::{Agreeable, Port};
 use fm_types::{ContextKind, Registration};
 
 /// One of the sample filters, so that a manager of filters of one type can have them all. Each call is that
@@ -28,30 +28,16 @@ pub enum Sample {
     Stay(Stay),
 }
 
-impl Minifilter for Sample {
-    ghost use Rattle.std.specs.Prelude.{⊤};
-    ghost use Rattle.fm_samples.specs.Common.{Agrees};
+impl Agreeable for Sample {
     ghost use Rattle.fm_samples.specs.Sample.{sample_registers, SamplesPre, SamplesPost, SamplesCleanup, IsQuietSample};
 
     ghost registers = { sample_registers };
-
-    ghost setup_may = { λ _. Agrees };
 
     ghost pre_may = { SamplesPre };
 
     ghost post_may = { SamplesPost };
 
-    ghost query_may = { λ _. Agrees };
-
-    ghost unload_may = { λ _. Agrees };
-
     ghost cleanup_may = { SamplesCleanup };
-
-    ghost drained = { λ _ _. ⊤ };
-
-    ghost started = { λ _. ⊤ };
-
-    ghost completed = { λ _. ⊤ };
 
     ghost is_quiet = { IsQuietSample };
 
@@ -63,17 +49,6 @@ impl Minifilter for Sample {
             Sample::Hold(filter) => filter.registration(),
             Sample::Carry(filter) => filter.registration(),
             Sample::Stay(filter) => filter.registration(),
-        }
-    }
-
-    fn setup<P: Port>(&self, port: &mut P) -> bool {
-        match self {
-            Sample::Guard(filter) => filter.setup(port),
-            Sample::Meter(filter) => filter.setup(port),
-            Sample::Shift(filter) => filter.setup(port),
-            Sample::Hold(filter) => filter.setup(port),
-            Sample::Carry(filter) => filter.setup(port),
-            Sample::Stay(filter) => filter.setup(port),
         }
     }
 
@@ -115,17 +90,6 @@ impl Minifilter for Sample {
         }
     }
 
-    fn query_teardown<P: Port>(&self, port: &mut P) -> bool {
-        match self {
-            Sample::Guard(filter) => filter.query_teardown(port),
-            Sample::Meter(filter) => filter.query_teardown(port),
-            Sample::Shift(filter) => filter.query_teardown(port),
-            Sample::Hold(filter) => filter.query_teardown(port),
-            Sample::Carry(filter) => filter.query_teardown(port),
-            Sample::Stay(filter) => filter.query_teardown(port),
-        }
-    }
-
     fn teardown_start<P: Port>(&self, port: &mut P) {
         match self {
             Sample::Guard(filter) => filter.teardown_start(port),
@@ -134,28 +98,6 @@ impl Minifilter for Sample {
             Sample::Hold(filter) => filter.teardown_start(port),
             Sample::Carry(filter) => filter.teardown_start(port),
             Sample::Stay(filter) => filter.teardown_start(port),
-        }
-    }
-
-    fn teardown_complete<P: Port>(&self, port: &mut P) {
-        match self {
-            Sample::Guard(filter) => filter.teardown_complete(port),
-            Sample::Meter(filter) => filter.teardown_complete(port),
-            Sample::Shift(filter) => filter.teardown_complete(port),
-            Sample::Hold(filter) => filter.teardown_complete(port),
-            Sample::Carry(filter) => filter.teardown_complete(port),
-            Sample::Stay(filter) => filter.teardown_complete(port),
-        }
-    }
-
-    fn unload(&self) -> bool {
-        match self {
-            Sample::Guard(filter) => filter.unload(),
-            Sample::Meter(filter) => filter.unload(),
-            Sample::Shift(filter) => filter.unload(),
-            Sample::Hold(filter) => filter.unload(),
-            Sample::Carry(filter) => filter.unload(),
-            Sample::Stay(filter) => filter.unload(),
         }
     }
 

@@ -5,7 +5,7 @@ ghost use Rattle.fm_samples.specs.Shift.{raised, lowered, ShiftsPre};
 
 use crate::common::plain_completion;
 use fm_data::{CallbackData, Completion, Params, PostVerdict, PreVerdict};
-use fm_filter::{Minifilter, Port};
+use fm_filter::{Agreeable, Port};
 use fm_types::{Bytes, ContextKind, ContextMask, OpMask, Registration, Status};
 use std::alloc::{AllocError, Global};
 
@@ -48,30 +48,18 @@ fn lower(lent: &mut CallbackData)
     }
 }
 
-impl Minifilter for Shift {
+impl Agreeable for Shift {
     ghost use Rattle.std.specs.Prelude.{⊤};
     ghost use Rattle.fm_samples.specs.Shift.{ShiftsPre, ShiftsPost, shift_registers};
-    ghost use Rattle.fm_samples.specs.Common.{Agrees, CountsNothing};
+    ghost use Rattle.fm_samples.specs.Common.{CountsNothing};
 
     ghost registers = { λ _. shift_registers };
-
-    ghost setup_may = { λ _. Agrees };
 
     ghost pre_may = { λ _. ShiftsPre };
 
     ghost post_may = { λ _. ShiftsPost };
 
-    ghost query_may = { λ _. Agrees };
-
-    ghost unload_may = { λ _. Agrees };
-
     ghost cleanup_may = { λ _. CountsNothing };
-
-    ghost drained = { λ _ _. ⊤ };
-
-    ghost started = { λ _. ⊤ };
-
-    ghost completed = { λ _. ⊤ };
 
     ghost is_quiet = { λ _. ⊤ };
 
@@ -83,10 +71,6 @@ impl Minifilter for Shift {
             query: true,
             unload: true,
         }
-    }
-
-    fn setup<P: Port>(&self, _port: &mut P) -> bool {
-        true
     }
 
     fn pre<P: Port>(&self, lent: &mut CallbackData, _port: &mut P) -> PreVerdict {
@@ -113,20 +97,6 @@ impl Minifilter for Shift {
     ) -> PostVerdict {
         lower(lent);
         PostVerdict::Finished
-    }
-
-    fn drain<P: Port>(&self, _completion: Completion, _port: &mut P) {}
-
-    fn query_teardown<P: Port>(&self, _port: &mut P) -> bool {
-        true
-    }
-
-    fn teardown_start<P: Port>(&self, _port: &mut P) {}
-
-    fn teardown_complete<P: Port>(&self, _port: &mut P) {}
-
-    fn unload(&self) -> bool {
-        true
     }
 
     fn cleanup(&self, _kind: ContextKind, _body: &[u8]) -> u64 {

@@ -4,7 +4,7 @@ ghost use Rattle.std.specs.Prelude.{◌≡◌};
 
 use fm_core::SetMode;
 use fm_data::{CallbackData, Completion, PostVerdict, PreVerdict};
-use fm_filter::{Minifilter, Port};
+use fm_filter::{Agreeable, Port};
 use fm_types::{Bytes, ContextKind, ContextMask, CtxId, OpMask, Registration};
 use std::alloc::Global;
 
@@ -31,28 +31,16 @@ impl Forgets {
     }
 }
 
-impl Minifilter for Forgets {
+impl Agreeable for Forgets {
     ghost use Rattle.std.specs.Prelude.{⊤, true};
 
     ghost registers = { λ _. record { pre = record { 0 = 2 }; post = record { 0 = 2 }; contexts = record { 0 = 6 }; query = true; unload = true } };
-
-    ghost setup_may = { λ _ _. ⊤ };
 
     ghost pre_may = { λ _ _ _ _. ⊤ };
 
     ghost post_may = { λ _ _ _ _ _. ⊤ };
 
-    ghost query_may = { λ _ _. ⊤ };
-
-    ghost unload_may = { λ _ _. ⊤ };
-
     ghost cleanup_may = { λ _ _ _ _. ⊤ };
-
-    ghost drained = { λ _ _. ⊤ };
-
-    ghost started = { λ _. ⊤ };
-
-    ghost completed = { λ _. ⊤ };
 
     ghost is_quiet = { λ _. ⊥ };
 
@@ -85,20 +73,8 @@ impl Minifilter for Forgets {
         PostVerdict::Finished
     }
 
-    fn drain<P: Port>(&self, _completion: Completion, _port: &mut P) {}
-
-    fn query_teardown<P: Port>(&self, _port: &mut P) -> bool {
-        true
-    }
-
-    fn teardown_start<P: Port>(&self, _port: &mut P) {}
-
     fn teardown_complete<P: Port>(&self, port: &mut P) {
         let _ = self.new_context(ContextKind::Stream, port);
-    }
-
-    fn unload(&self) -> bool {
-        true
     }
 
     fn cleanup(&self, _kind: ContextKind, _body: &[u8]) -> u64 {

@@ -4,7 +4,7 @@ ghost use Rattle.std.specs.Prelude.{◌≡◌};
 
 use fm_core::{SetAnswer, SetMode};
 use fm_data::{CallbackData, Completion, Params, PostVerdict, PreVerdict};
-use fm_filter::{Minifilter, Port};
+use fm_filter::{Agreeable, Port};
 use fm_types::{Bytes, ContextKind, ContextMask, CtxId, OpMask, Registration, Status};
 use std::alloc::Global;
 
@@ -40,28 +40,16 @@ impl Audit {
     }
 }
 
-impl Minifilter for Audit {
+impl Agreeable for Audit {
     ghost use Rattle.std.specs.Prelude.{⊤, true};
 
     ghost registers = { λ _. record { pre = record { 0 = 132 }; post = record { 0 = 0 }; contexts = record { 0 = 4 }; query = true; unload = true } };
-
-    ghost setup_may = { λ _ _. ⊤ };
 
     ghost pre_may = { λ _ _ _ _. ⊤ };
 
     ghost post_may = { λ _ _ _ _ _. ⊤ };
 
-    ghost query_may = { λ _ _. ⊤ };
-
-    ghost unload_may = { λ _ _. ⊤ };
-
     ghost cleanup_may = { λ _ _ _ _. ⊤ };
-
-    ghost drained = { λ _ _. ⊤ };
-
-    ghost started = { λ _. ⊤ };
-
-    ghost completed = { λ _. ⊤ };
 
     ghost is_quiet = { λ _. ⊥ };
 
@@ -73,10 +61,6 @@ impl Minifilter for Audit {
             query: true,
             unload: true,
         }
-    }
-
-    fn setup<P: Port>(&self, _port: &mut P) -> bool {
-        true
     }
 
     fn pre<P: Port>(&self, lent: &mut CallbackData, port: &mut P) -> PreVerdict {
@@ -92,20 +76,6 @@ impl Minifilter for Audit {
 
     fn post<P: Port>(&self, _: &mut CallbackData, _: Completion, _: &mut P) -> PostVerdict {
         PostVerdict::Finished
-    }
-
-    fn drain<P: Port>(&self, _completion: Completion, _port: &mut P) {}
-
-    fn query_teardown<P: Port>(&self, _port: &mut P) -> bool {
-        true
-    }
-
-    fn teardown_start<P: Port>(&self, _port: &mut P) {}
-
-    fn teardown_complete<P: Port>(&self, _port: &mut P) {}
-
-    fn unload(&self) -> bool {
-        true
     }
 
     fn cleanup(&self, _kind: ContextKind, body: &[u8]) -> u64 {

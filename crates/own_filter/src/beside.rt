@@ -2,7 +2,7 @@
 
 use crate::audit::Audit;
 use fm_data::{CallbackData, Completion, PostVerdict, PreVerdict};
-use fm_filter::{Minifilter, Port};
+use fm_filter::{Agreeable, Port};
 use fm_samples::Sample;
 use fm_types::{ContextKind, Registration};
 
@@ -37,40 +37,21 @@ impl Beside {
     }
 }
 
-impl Minifilter for Beside {
+impl Agreeable for Beside {
     ghost use Rattle.std.specs.Prelude.{⊤};
 
     ghost registers = { λ beside. beside.registration };
-
-    ghost setup_may = { λ _ _. ⊤ };
 
     ghost pre_may = { λ _ _ _ _. ⊤ };
 
     ghost post_may = { λ _ _ _ _ _. ⊤ };
 
-    ghost query_may = { λ _ _. ⊤ };
-
-    ghost unload_may = { λ _ _. ⊤ };
-
     ghost cleanup_may = { λ _ _ _ _. ⊤ };
-
-    ghost drained = { λ _ _. ⊤ };
-
-    ghost started = { λ _. ⊤ };
-
-    ghost completed = { λ _. ⊤ };
 
     ghost is_quiet = { λ _. ⊥ };
 
     fn registration(&self) -> Registration {
         self.registration
-    }
-
-    fn setup<P: Port>(&self, port: &mut P) -> bool {
-        match &self.filter {
-            Filter::Audit(audit) => audit.setup(port),
-            Filter::Sample(sample) => sample.setup(port),
-        }
     }
 
     fn pre<P: Port>(&self, lent: &mut CallbackData, port: &mut P) -> PreVerdict {
@@ -99,31 +80,10 @@ impl Minifilter for Beside {
         }
     }
 
-    fn query_teardown<P: Port>(&self, port: &mut P) -> bool {
-        match &self.filter {
-            Filter::Audit(audit) => audit.query_teardown(port),
-            Filter::Sample(sample) => sample.query_teardown(port),
-        }
-    }
-
     fn teardown_start<P: Port>(&self, port: &mut P) {
         match &self.filter {
             Filter::Audit(audit) => audit.teardown_start(port),
             Filter::Sample(sample) => sample.teardown_start(port),
-        }
-    }
-
-    fn teardown_complete<P: Port>(&self, port: &mut P) {
-        match &self.filter {
-            Filter::Audit(audit) => audit.teardown_complete(port),
-            Filter::Sample(sample) => sample.teardown_complete(port),
-        }
-    }
-
-    fn unload(&self) -> bool {
-        match &self.filter {
-            Filter::Audit(audit) => audit.unload(),
-            Filter::Sample(sample) => sample.unload(),
         }
     }
 

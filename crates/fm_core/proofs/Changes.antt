@@ -14,3 +14,9 @@ pub change_same : (test : FlowRecord → Bool) (f : FlowRecord → FlowRecord) (
     → change_first test f rs ≡ rs
 change_same test f [] h = refl
 change_same test f (x ∷ rs) h = grind (arith, h, change_same test f rs)
+
+-- one change after another, as one
+pub change_twice : (test : FlowRecord → Bool) (f g h : FlowRecord → FlowRecord) (rs : List FlowRecord) → ((r : FlowRecord) → test (f r) ≡ test r)
+    → ((r : FlowRecord) → find test rs ≡ Some r → g (f r) ≡ h r) → change_first test g (change_first test f rs) ≡ change_first test h rs
+change_twice test f g h [] same whole = refl
+change_twice test f g h (x ∷ rs) same whole = grind (arith, same x, whole, change_twice test f g h rs same)

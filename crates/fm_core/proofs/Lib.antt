@@ -4,6 +4,7 @@ pub mod Changes
 pub mod Counted
 pub mod Attached
 pub mod Operated
+pub mod Passed
 pub mod Resumed
 pub mod Torn
 pub mod Drained

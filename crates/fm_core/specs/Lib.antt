@@ -9,3 +9,4 @@ pub mod Targets
 pub mod FilesKept
 pub mod Begun
 pub mod Lost
+pub mod Passing

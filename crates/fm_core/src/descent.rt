@@ -11,7 +11,7 @@ use fm_stack::{Phase, Stack};
 use fm_types::{HandleId, InstanceId, Operation, Role, Status, StreamId};
 
 /// Whether the filter of an instance has a callback before the operation.
-fn has_pre(stack: &Stack, instance: InstanceId, operation: Operation) -> bool
+pub(crate) fn has_pre(stack: &Stack, instance: InstanceId, operation: Operation) -> bool
     ensures { result ≡ has_pre stack.now (slice_get stack.now.instances instance.0) operation }
 {
     match stack.registration_of(instance) {
@@ -152,7 +152,7 @@ pub(crate) fn lies_below(
 }
 
 /// Whether the instance that asked is being torn down.
-fn is_stopping(stack: &Stack, ask: Option<Ask>) -> bool
+pub(crate) fn is_stopping(stack: &Stack, ask: Option<Ask>) -> bool
     ensures { result ≡ is_stopping_ask stack.now ask }
 {
     match ask {

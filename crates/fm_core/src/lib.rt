@@ -15,6 +15,7 @@ mod files;
 mod holds;
 mod instances;
 mod operations;
+mod passing;
 mod readers;
 mod references;
 mod requests;

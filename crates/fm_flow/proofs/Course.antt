@@ -1,12 +1,13 @@
 -- The laws of entries are kept by each step.
 use Rattle.fm_flow.proofs.Words.{ℕ, Bool, true, false, not, List, [], length, reverse, filter, Option, Some, None, option_to_list}
 use Rattle.fm_flow.proofs.Words.{refl, sym, ap, arith, append-nil, length-append, nat_tests, Stage, common_steps}
-use Rattle.fm_flow.proofs.Words.{Descending, PreRunning, InBase, Ascending, PostRunning, Status, InstanceId, WorkerId}
-use Rattle.fm_flow.proofs.Words.{bare_ask, drain_opens, Ask, Entry, Pre, Base, Drain, one, times, ask_of, is_drained, is_answered}
+use Rattle.fm_flow.proofs.Words.{Descending, PreRunning, InBase, Ascending, PostState, Status, InstanceId, WorkerId}
+use Rattle.fm_flow.proofs.Words.{post_leads, drain_opens, Ask, Entry, Pre, Base, Drain, one, times, ask_of, is_drained, is_answered}
 use Rattle.fm_flow.proofs.Words.{visited, asked, posted, owed, instances, without, walk, way_of, answer_count, IsCourse, answers, visit_of}
 use Rattle.fm_flow.proofs.Words.{post_of, post_entry, ⊤, filter-append, filter_agree, undrained, drains, after, slack, list_any}
 use Rattle.fm_flow.proofs.Words.{HasItsDrain, MadeAsAsked, All, All-nil, All-push, ap₂, subst, may_take}
 use Rattle.std.proofs.Common.{◌≡◌, ◌+◌, ◌*◌, ◌<◌, ◌≤◌, ◌==◌, ◌&&◌, ◌∷◌, ◌++◌, ◌∙◌, append_assoc}
+use Rattle.fm_data.specs.declared.verdict.Completion.{Completion}
 use Rattle.fm_flow.specs.declared.entry.PreState.TheVariants as pre
 use Rattle.fm_flow.specs.declared.entry.PostState.TheVariants as post
 use Rattle.fm_flow.specs.Counts.{drain_opens_at}
@@ -35,14 +36,17 @@ posted_among i (e ∷ es) = grind (arith, nat_tests, posted_among i es)
 pub unvisited : (s : Stage) (es : List Entry) (i : ℕ) → IsCourse s es → times i (visited es) ≡ 0 → answer_count i es ≡ 0
 unvisited s es i h none = omega (arith, asked_among i es, h.once i, none)
 
--- the ask of an instance that is passed without a call
-abbrev pub bare_ask_of : WorkerId → InstanceId → ℕ → Ask
-bare_ask_of worker i place = record { instance = i; worker = worker; completion = record { number = 0; context = None }; is_synchronized = false; place = place }
+-- what a visit asks for, and what an instance does that is passed without a call
+abbrev pub ask_from : WorkerId → InstanceId → Completion → ℕ → Ask
+ask_from worker i completion place = record { instance = i; worker = worker; completion = completion; is_synchronized = false; place = place }
 
-pub owed_bare : (es : List Entry) (worker : WorkerId) (i : InstanceId) (place : ℕ) → IsCourse Descending es → times i.0 (visited es) ≡ 0
-    → owed (es ++ Pre (record { instance = i; worker = worker; state = bare_ask; place = place }) ∷ []) ≡ bare_ask_of worker i place ∷ owed es
-owed_bare es worker i place c fresh =
-    left_push_ask answers es (Pre (record { instance = i; worker = worker; state = bare_ask; place = place })) (bare_ask_of worker i place) refl (λ j. refl) (unanswered i.0 es (unvisited Descending es i.0 c fresh))
+abbrev pub bare_ask_of : WorkerId → InstanceId → ℕ → Ask
+bare_ask_of worker i place = ask_from worker i (record { number = 0; context = None }) place
+
+pub owed_visit : (es : List Entry) (worker : WorkerId) (i : InstanceId) (completion : Completion) (place : ℕ) → IsCourse Descending es → times i.0 (visited es) ≡ 0
+    → owed (es ++ Pre (record { instance = i; worker = worker; state = pre.Asked completion; place = place }) ∷ []) ≡ ask_from worker i completion place ∷ owed es
+owed_visit es worker i completion place c fresh =
+    left_push_ask answers es (Pre (record { instance = i; worker = worker; state = pre.Asked completion; place = place })) (ask_from worker i completion place) refl (λ j. refl) (unanswered i.0 es (unvisited Descending es i.0 c fresh))
 
 -- ---- entries that were settled
 
@@ -145,11 +149,11 @@ module _ (es : List Entry) (worker : WorkerId) (i : InstanceId) (place : ℕ) (c
       (omega (arith, few)) (omega (arith, ap length o)) (none_made_push es e (no_posts Descending es Descending c.order refl) refl) tt
 
   -- that asks at once
-  pub course_visit_ask : IsCourse Descending (es ++ Pre (record { instance = i; worker = worker; state = bare_ask; place = place }) ∷ [])
-  course_visit_ask =
-      let e : Entry = Pre (record { instance = i; worker = worker; state = bare_ask; place = place }) in
-      let o = owed_bare es worker i place c fresh in
-      let u = left_push_ask drains es e (bare_ask_of worker i place) refl (λ j. refl) (not_drained i.0 es (unvisited Descending es i.0 c fresh)) in
+  pub course_visit_ask : (completion : Completion) → IsCourse Descending (es ++ Pre (record { instance = i; worker = worker; state = pre.Asked completion; place = place }) ∷ [])
+  course_visit_ask completion =
+      let e : Entry = Pre (record { instance = i; worker = worker; state = pre.Asked completion; place = place }) in
+      let o = owed_visit es worker i completion place c fresh in
+      let u = left_push_ask drains es e (ask_from worker i completion place) refl (λ j. refl) (not_drained i.0 es (unvisited Descending es i.0 c fresh)) in
       let n = no_posts Descending es Descending c.order refl in let h = c.ascent in
       course_push Descending Descending es e c refl (λ j. apart_more j i.0 (visited es) fresh (c.apart j)) (λ j. omega (arith, ap (λ xs. times j (instances xs)) o))
       (rw (o, u, n) (ap (λ xs. i.0 ∷ xs) (rw n at h))) (omega (arith, few)) (omega (arith, ap length o)) (none_made_push es e n refl) tt
@@ -196,16 +200,23 @@ made_push es e asks h here =
     (All-push (MadeAsAsked (asked es)) es e h here)
 
 -- the postoperation that comes next, by a worker that may make it
-pub course_post : (es : List Entry) (worker : WorkerId) (ask : Ask) (rest : List Ask) → owed es ≡ ask ∷ rest → may_take worker ask ≡ true → IsCourse Ascending es
-    → IsCourse PostRunning (es ++ post_entry worker ask.instance post.Running ∷ [])
-course_post es worker ask rest next may c =
-    let e = post_entry worker ask.instance post.Running in
+pub course_post : (state : PostState) (es : List Entry) (worker : WorkerId) (ask : Ask) (rest : List Ask) → owed es ≡ ask ∷ rest → may_take worker ask ≡ true → IsCourse Ascending es
+    → IsCourse (post_leads state) (es ++ post_entry worker ask.instance state ∷ [])
+course_post state es worker ask rest next may c =
+    let e = post_entry worker ask.instance state in
+    let leads : after Ascending e ≡ Some (way_of (post_leads state)) = grind arith in
+    let room : slack (post_leads state) ≡ 0 = grind arith in
     let r = owed_answered Ascending es e ask rest c next refl (λ j. refl) in
     let u = left_push_none drains es e refl (λ j. refl) in
     let h = c.ascent in
-    course_push Ascending PostRunning es e c refl (λ j. omega (arith, c.apart j)) (answered_once es e ask.instance.0 refl (λ j. refl) (owed_first Ascending es ask rest c next))
-    (rw (r, u) (sym (ap (λ xs. posted es ++ instances xs) next) ∙ h)) (omega (arith, c.few)) (omega (arith, ap length r, ap length next))
-    (made_push es e refl c.synchronized (made_next worker post.Running es ask rest next (omega (arith, asked_among ask.instance.0 es, c.apart ask.instance.0)) may)) tt
+    course_push Ascending (post_leads state) es e c leads (λ j. omega (arith, c.apart j)) (answered_once es e ask.instance.0 refl (λ j. refl) (owed_first Ascending es ask rest c next))
+    (rw (r, u) (sym (ap (λ xs. posted es ++ instances xs) next) ∙ h)) (omega (arith, c.few)) (omega (arith, ap length r, ap length next, room))
+    (made_push es e refl c.synchronized (made_next worker state es ask rest next (omega (arith, asked_among ask.instance.0 es, c.apart ask.instance.0)) may))
+    (no_drain state (es ++ e ∷ []))
+  where
+    no_drain : (state : PostState) (es : List Entry) → HasItsDrain (post_leads state) es
+    no_drain post.Running es = tt
+    no_drain state es = tt
 
 drains_among : (i : ℕ) (es : List Entry) → drain_opens i es ≤ answer_count i es
 drains_among i [] = omega arith

@@ -18,6 +18,7 @@ pub mod Drains
 pub mod Tallied
 pub mod Flows
 mod Follows
+pub mod Passing
 pub mod Requests
 mod Seeing
 mod Turns

@@ -3,19 +3,20 @@ use Rattle.fm_flow.proofs.Words.{ℕ, Bool, true, false, cond, List, [], length,
 use Rattle.fm_flow.proofs.Words.{subst, arith, nat_tests, length-take, All-take, all_at, All-cons, All-head, All-tail, InstanceId, WorkerId}
 use Rattle.fm_flow.proofs.Words.{Status, WrongStep, Params, Answer, Below, Stage, Descending, PreRunning, InBase, Ascending, PostRunning}
 use Rattle.fm_flow.proofs.Words.{PreHeld, PostHeld, InDrain, Ask, Entry, Base, Drain, one, times, visited, owed, instances, ask_of, answers}
-use Rattle.fm_flow.proofs.Words.{opens, drain_opens, FlowRecord, Turned, turn, pre_entry, post_entry, bare_ask, with_visit, with_base, with_drain}
+use Rattle.fm_flow.proofs.Words.{opens, drain_opens, FlowRecord, Turned, turn, pre_entry, post_entry, bare_ask, with_entry, with_visit, with_base, with_drain}
 use Rattle.fm_flow.proofs.Words.{call_pre, call_base, call_post, give_post, unwound_to, unwound, descend, ascend, may_take, next_at, next_of}
 use Rattle.fm_flow.proofs.Words.{MayLieBelow, bare_answer, left_answer, done_at, is_spent, IsSound, All, CtxId, FlowAction, and_parts, cases_Bool, inl, inr}
 use Rattle.std.proofs.Common.{◌≡◌, ◌+◌, ◌<◌, ◌≤◌, ◌==◌, ◌∷◌, ◌++◌, ◌∙◌, IsTrue, Result}
 use Rattle.fm_types.specs.declared.operation.Operation.{Operation}
 use Rattle.fm_data.specs.Params.{are_for, fit, is_within_limits}
+use Rattle.fm_data.specs.declared.verdict.Completion.{Completion}
 use Rattle.fm_flow.specs.declared.action.Below.TheVariants as below
 use Rattle.fm_flow.specs.declared.action.FlowAction.TheVariants as action
 use Rattle.fm_flow.specs.declared.entry.PreState.TheVariants as pre
 use Rattle.fm_flow.specs.declared.entry.PostState.TheVariants as post
 use Rattle.fm_flow.specs.Counts.{carried_in, carried_among, carried_by, handed, opens_at, drain_opens_at, flight, enters}
 use Rattle.fm_flow.proofs.Owed.{owed_push_none}
-use Rattle.fm_flow.proofs.Course.{bare_ask_of, owed_bare, owed_answered, owed_first, course_visit, course_visit_ask, course_in_base, course_base}
+use Rattle.fm_flow.proofs.Course.{bare_ask_of, owed_visit, owed_answered, owed_first, course_visit, course_visit_ask, course_in_base, course_base}
 use Rattle.fm_flow.proofs.Course.{course_post, course_drain, drains_push}
 use Rattle.fm_flow.proofs.Counting.{opens_push}
 use Rattle.fm_flow.proofs.Soundness.{Stays, stays_so, at_stage, sound_moved, sound_pushed}
@@ -30,9 +31,10 @@ sound_call_pre worker i r p st fresh few h =
     sound_pushed r Descending PreRunning (pre_entry worker i pre.Running r) None r.answer r.handle st h (rw st refl) (course_visit r.entries worker i (length r.kept) (at_stage r Descending st h).0 fresh few)
     refl tt (omega arith) h.bytes
 
-pub sound_bare : (worker : WorkerId) (i : InstanceId) (r : FlowRecord) → r.stage ≡ Descending → times i.0 (visited r.entries) ≡ 0 → length (visited r.entries) < 32 → IsSound r → IsSound (with_visit worker i bare_ask r)
-sound_bare worker i r st fresh few h =
-    sound_pushed r Descending Descending (pre_entry worker i bare_ask r) r.params r.answer r.handle st h (rw st refl) (course_visit_ask r.entries worker i (length r.kept) (at_stage r Descending st h).0 fresh few)
+pub sound_visit : (worker : WorkerId) (i : InstanceId) (completion : Completion) (r : FlowRecord) → r.stage ≡ Descending → times i.0 (visited r.entries) ≡ 0 → length (visited r.entries) < 32 → IsSound r
+    → IsSound (with_visit worker i (pre.Asked completion) r)
+sound_visit worker i completion r st fresh few h =
+    sound_pushed r Descending Descending (pre_entry worker i (pre.Asked completion) r) r.params r.answer r.handle st h (rw st refl) (course_visit_ask r.entries worker i (length r.kept) (at_stage r Descending st h).0 fresh few completion)
     (at_stage r Descending st h).1 h.params (omega arith) h.bytes
 
 pub sound_call_base : (r : FlowRecord) (p : Params) → r.stage ≡ Descending → IsSound r → IsSound ((call_base r (Some p)).after)
@@ -85,7 +87,13 @@ left_short operation answer h = grind (arith, h)
 pub sound_give_post : (worker : WorkerId) (ask : Ask) (rest : List Ask) (r : FlowRecord) (p : Params) → r.stage ≡ Ascending → owed r.entries ≡ ask ∷ rest → may_take worker ask ≡ true → IsSound r → IsSound ((give_post worker ask r (Some p)).after)
 sound_give_post worker ask rest r p st next may h =
     sound_pushed r Ascending PostRunning (post_entry worker ask.instance post.Running) None (left_answer r.operation r.answer) r.handle st h (ap₂ done_at st next)
-    (course_post r.entries worker ask rest next may (at_stage r Ascending st h).0) refl tt (omega arith) (left_short r.operation r.answer h.bytes)
+    (course_post post.Running r.entries worker ask rest next may (at_stage r Ascending st h).0) refl tt (omega arith) (left_short r.operation r.answer h.bytes)
+
+pub sound_passed_up : (worker : WorkerId) (ask : Ask) (rest : List Ask) (r : FlowRecord) → r.stage ≡ Ascending → owed r.entries ≡ ask ∷ rest → may_take worker ask ≡ true → IsSound r
+    → IsSound (with_entry (post_entry worker ask.instance post.Finished) Ascending r)
+sound_passed_up worker ask rest r st next may h =
+    sound_pushed r Ascending Ascending (post_entry worker ask.instance post.Finished) r.params r.answer r.handle st h (ap₂ done_at st next)
+    (course_post post.Finished r.entries worker ask rest next may (at_stage r Ascending st h).0) (at_stage r Ascending st h).1 h.params (omega arith) h.bytes
 
 pub sound_drain : (ask : Ask) (rest : List Ask) (r : FlowRecord) → r.stage ≡ Ascending → owed r.entries ≡ ask ∷ rest → IsSound r → IsSound (with_drain ask.instance (InDrain ask.instance) r)
 sound_drain ask rest r st next h =
@@ -199,12 +207,15 @@ did_call {worker} i r (Some p) st =
     did_more e (call_pre worker i r (Some p)).after (call_pre worker i r (Some p)).reply refl (stays_so refl refl) (λ j. refl) (λ j apart. ap one (apart st i true refl))
     (λ may h. (sound_call_pre worker i r p st (may st).0 (may st).1 h, owing_same o (λ c. refl) (λ P. tt), λ j. grind (arith, nat_tests, ap (λ xs. times j (instances xs)) o)))
 
+abbrev bare_completion : Completion
+bare_completion = record { number = 0; context = None }
+
 did_pass : {worker : WorkerId} (i : InstanceId) (r : FlowRecord) → r.stage ≡ Descending → Did worker (below.Instance i false) r (turn (Ok action.Moved) (with_visit worker i bare_ask r))
 did_pass {worker} i r st =
     did_more (pre_entry worker i bare_ask r) (with_visit worker i bare_ask r) (Ok action.Moved) refl (stays_so refl refl) (λ j. refl) (λ j apart. ap one (apart st i false refl))
     (λ may h.
-    let o = owed_bare r.entries worker i (length r.kept) (at_stage r Descending st h).0 (may st).0 in (
-      sound_bare worker i r st (may st).0 (may st).1 h,
+    let o = owed_visit r.entries worker i bare_completion (length r.kept) (at_stage r Descending st h).0 (may st).0 in (
+      sound_visit worker i bare_completion r st (may st).0 (may st).1 h,
       record {
         carries = λ c. omega (arith, ap (carried_among c) o);
         owes = λ P ask all. record { owes = subst (All P) (sym o) (All-cons P (bare_ask_of worker i (length r.kept)) (owed r.entries) (ask st) all); hands = tt };
@@ -230,7 +241,7 @@ did_down worker below.Call r st = did_base r r.params st
 did_down worker (below.Known status) r st = did_know status r st
 
 -- an answer to the one that is owed next leaves the others
-answered_owed : {r : FlowRecord} (ask : Ask) (rest : List Ask) (s : FlowRecord) (e : Entry) → r.stage ≡ Ascending → owed r.entries ≡ ask ∷ rest → Unwinds r s → ask_of e ≡ None
+pub answered_owed : {r : FlowRecord} (ask : Ask) (rest : List Ask) (s : FlowRecord) (e : Entry) → r.stage ≡ Ascending → owed r.entries ≡ ask ∷ rest → Unwinds r s → ask_of e ≡ None
     → ((j : ℕ) → answers j e ≡ (ask.instance.0 == j)) → IsSound r → owed (s.entries ++ e ∷ []) ≡ rest
 answered_owed ask rest s e st next back asks answers' h = owed_answered Ascending s.entries e ask rest (at_stage s Ascending (back.stage ∙ st) (back.sound h)).0 (ap owed back.entries ∙ next) asks answers'
 

@@ -2,7 +2,7 @@
 use Rattle.fm_flow.proofs.Words.{ℕ, Bool, true, false, cond, List, [], length, map, drop, get_or, Option, Some, None, option_map, option_to_list, reverse}
 use Rattle.fm_flow.proofs.Words.{refl, sym, ap, ap₂, arith, nat_tests, same_Some, slice_get, count_by, length-map, slack}
 use Rattle.fm_flow.proofs.Words.{InstanceId, WorkerId, Status, Stage, Descending, PreState, PostState, PreVisit, Ask, Entry, Pre, Base, one, times}
-use Rattle.fm_flow.proofs.Words.{ask_in, ask_of, ask_at, asks, visit_of, answers, Drain, visited, last_visited, owed, bare_ask, walk, way_of, is_open, is_pre_open}
+use Rattle.fm_flow.proofs.Words.{ask_in, ask_of, ask_at, asks, visit_of, answers, Drain, visited, last_visited, owed, walk, way_of, is_open, is_pre_open}
 use Rattle.fm_flow.proofs.Words.{settle, is_due, settle_pre, settle_post, settle_drain, IsCourse, IsNoted, is_running_drain_of, drain_opens, after}
 use Rattle.fm_flow.specs.Counts.{drain_opens_at}
 use Rattle.std.proofs.Common.{◌≡◌, ◌+◌, ◌-◌, ◌<◌, ◌≤◌, ◌==◌, ◌∷◌, ◌++◌, ◌∙◌, zero, suc, set, remove, position, option_and_then}
@@ -11,6 +11,7 @@ use Rattle.fm_flow.proofs.Words.{take, take_more, post_of, last_posted}
 use Rattle.std.specs.List.{filter_map}
 use Rattle.std.proofs.lemmas.Option.{slice_get-map}
 use Rattle.std.specs.Option.{is_some}
+use Rattle.fm_data.specs.declared.verdict.Completion.{Completion}
 use Rattle.fm_flow.specs.declared.entry.PreState.TheVariants as pre
 use Rattle.fm_flow.specs.declared.entries.Ending.{Ending}
 use Rattle.fm_flow.specs.declared.entries.Ending.TheVariants as ending
@@ -20,7 +21,7 @@ use Rattle.fm_flow.proofs.Owed.{filter_map-push, owed_push_none, left_push_answe
 use Rattle.fm_flow.specs.Drains.{is_of}
 use Rattle.fm_flow.proofs.Depths.{left_there, removed_alone}
 use Rattle.fm_flow.proofs.Walks.{is_callback, is_pre, is_post, walk_parts, last_with, settling_pre, settling_post}
-use Rattle.fm_flow.proofs.Course.{owed_bare, owed_answered, owed_once}
+use Rattle.fm_flow.proofs.Course.{owed_visit, owed_answered, owed_once}
 use Rattle.fm_flow.proofs.Settled.{with_state, settles_pre, settles_post, settles_drain, the_open_pre, walks_to}
 use Rattle.fm_flow.proofs.Counting.{owed_asked, owed_post_settled, owed_drain_settled}
 
@@ -58,7 +59,7 @@ the_lone p (y ∷ front) x back (suc k) here lone at =
 
 -- ---- at most one callback is open
 
-open_count : (s : Stage) (es : List Entry) (t : Stage) → walk s es ≡ Some t → count_by is_open es + one (is_callback s) ≡ one (is_callback t)
+pub open_count : (s : Stage) (es : List Entry) (t : Stage) → walk s es ≡ Some t → count_by is_open es + one (is_callback s) ≡ one (is_callback t)
 open_count s [] t w = omega (arith, ap (λ u. one (is_callback u)) (same_Some s t w))
 open_count s (e ∷ es) t w =
     let k = walk_parts s e es t w in
@@ -147,11 +148,11 @@ module _ {places : List ℕ} {latest : Option InstanceId} (es : List Entry) (n :
       let e : Entry = Pre (record { instance = i; worker = worker; state = pre.Running; place = place }) in
       record { asks = pushed e ∙ ap (map Some) (sym (owed_push_none es e refl (λ j. refl))); last = sym (last_push es e) }
 
-  pub noted_bare : (worker : WorkerId) (i : InstanceId) (place : ℕ) → IsCourse Descending es → times i.0 (visited es) ≡ 0
-      → IsNoted (length es ∷ places) (Some i) (es ++ Pre (record { instance = i; worker = worker; state = bare_ask; place = place }) ∷ [])
-  noted_bare worker i place c fresh =
-      let e : Entry = Pre (record { instance = i; worker = worker; state = bare_ask; place = place }) in
-      record { asks = ap₂ (λ x xs. x ∷ xs) (ask_at_end es e) (pushed e) ∙ ap (map Some) (sym (owed_bare es worker i place c fresh)); last = sym (last_push es e) }
+  pub noted_ask : (worker : WorkerId) (i : InstanceId) (completion : Completion) (place : ℕ) → IsCourse Descending es → times i.0 (visited es) ≡ 0
+      → IsNoted (length es ∷ places) (Some i) (es ++ Pre (record { instance = i; worker = worker; state = pre.Asked completion; place = place }) ∷ [])
+  noted_ask worker i completion place c fresh =
+      let e : Entry = Pre (record { instance = i; worker = worker; state = pre.Asked completion; place = place }) in
+      record { asks = ap₂ (λ x xs. x ∷ xs) (ask_at_end es e) (pushed e) ∙ ap (map Some) (sym (owed_visit es worker i completion place c fresh)); last = sym (last_push es e) }
 
   -- an answer to the one that is owed next
   pub noted_answer : (s : Stage) (e : Entry) (ask : Ask) (rest : List Ask) → IsCourse s es → owed es ≡ ask ∷ rest → ask_of e ≡ None → visit_of e ≡ None

@@ -130,6 +130,10 @@ give_post worker ask r None = turn (Err WrongStep) r
 abbrev pub call_post : WorkerId → Ask → FlowRecord → Turned
 call_post worker ask r = give_post worker ask (unwound ask.place r) (unwound ask.place r).params
 
+-- the operation passes on its way up: a postoperation is made, and is over
+abbrev pub passed_up : WorkerId → Ask → FlowRecord → FlowRecord
+passed_up worker ask r = with_entry (post_entry worker ask.instance post.Finished) Ascending (unwound ask.place r)
+
 -- a drain of an instance, which may come at any stage
 abbrev pub with_drain : InstanceId → Stage → FlowRecord → FlowRecord
 with_drain i stage r = with_entry (Drain (record { instance = i; is_running = true })) stage r

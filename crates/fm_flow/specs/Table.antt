@@ -1,5 +1,5 @@
 -- All operations.
-use Rattle.std.specs.Prelude.{◌≡◌, ℕ, ◌+◌, ◌-◌, ◌^◌, ◌<◌, ◌≤◌, ◌==◌, ◌&&◌, ◌||◌, Bool, true, false, cond, not, List, [], ◌∷◌, ◌++◌, All, AllPairs, count_by, find, Option, Some, None, option_map, unwrap_or, Result, Ok, Err, nat_le, ⊤}
+use Rattle.std.specs.Prelude.{◌≡◌, ℕ, ◌+◌, ◌-◌, ◌^◌, ◌<◌, ◌≤◌, ◌==◌, ◌&&◌, ◌||◌, Bool, true, false, cond, not, List, [], ◌∷◌, ◌++◌, All, AllPairs, count_by, find, Option, Some, None, option_map, unwrap_or, Result, Ok, Err, nat_le, slice_get, ⊤}
 use Rattle.std.specs.List.{list_any}
 pub use Rattle.fm_types.specs.Lists.{change_first, without_first}
 use Rattle.fm_types.specs.declared.ids.OpId.{OpId}
@@ -13,9 +13,11 @@ use Rattle.fm_data.specs.declared.params.Params.{Params}
 use Rattle.fm_data.specs.declared.answer.Answer.{Answer}
 use Rattle.fm_data.specs.Params.{operation_of}
 use Rattle.fm_flow.specs.declared.stage.Stage.{Stage}
-use Rattle.fm_flow.specs.declared.stage.Stage.TheVariants.{Descending}
+use Rattle.fm_flow.specs.declared.stage.Stage.TheVariants.{Ascending, Descending}
+use Rattle.fm_flow.specs.declared.entry.Ask.{Ask}
 use Rattle.fm_flow.specs.declared.action.Below.{Below}
 use Rattle.fm_flow.specs.Counts.{carried_by, flight, is_running_drain}
+use Rattle.fm_flow.specs.Entries.{owed}
 use Rattle.fm_flow.specs.Record.{FlowRecord}
 use Rattle.fm_flow.specs.Answered.{bare_answer}
 use Rattle.fm_flow.specs.Steps.{is_done, MayLieBelow}
@@ -136,3 +138,8 @@ MayLieBelowOf lies_below (Some r) = MayLieBelow lies_below r.entries
 abbrev pub StandsAt : Stage → Option FlowRecord → Type 0
 StandsAt stage None = ⊥
 StandsAt stage (Some r) = r.stage ≡ stage
+
+-- it is on its way up, and owed that postoperation next
+abbrev pub OwesNext : Ask → Option FlowRecord → Type 0
+OwesNext ask None = ⊥
+OwesNext ask (Some r) = (r.stage ≡ Ascending) × (slice_get (owed r.entries) 0 ≡ Some ask)

@@ -5,18 +5,18 @@ ghost use Rattle.std.specs.List.{list_any};
 ghost use Rattle.fm_types.specs.Refusals.{AnswersOrMemory, first_of};
 ghost use Rattle.fm_data.specs.Params.{is_within_limits, are_on};
 ghost use Rattle.fm_flow.specs.Verdict.{is_counted};
-ghost use Rattle.fm_flow.specs.Steps.{next_of, data_reply, pre_after, base_reply, base_after, post_after, pre_settled, post_settled, drain_returned_of};
+ghost use Rattle.fm_flow.specs.Steps.{next_of, may_take, passed_up, with_visit, data_reply, pre_after, base_reply, base_after, post_after, pre_settled, post_settled, drain_returned_of};
 ghost use Rattle.fm_flow.specs.Holds.{is_held, IsFirstHeld};
 ghost use Rattle.fm_flow.specs.Creates.{is_creating, is_on_stream, has_create_on, creates, is_over};
 ghost use Rattle.fm_flow.specs.Tallied.{IsAscending, entered, left_pre, left_post, if_taken};
 ghost use Rattle.fm_flow.specs.Drains.{owes, DrainTaken, RunsEarly, drain_done_of};
 ghost use Rattle.fm_flow.specs.Flights.{flies};
 ghost use Rattle.fm_flow.specs.OnVolumes.{is_left_on, left_on};
-ghost use Rattle.fm_flow.specs.Table.{in_flight, IsFlow, MayLieBelowOf, StandsAt, empty_table, is_number, operation_at, changed, told, is_full, is_collectable, begun, collect_reply, collected_of, is_spent};
+ghost use Rattle.fm_flow.specs.Table.{in_flight, IsFlow, MayLieBelowOf, OwesNext, StandsAt, empty_table, is_number, operation_at, changed, told, is_full, is_collectable, begun, collect_reply, collected_of, is_spent};
 
 use crate::action::{Below, FlowAction};
 use crate::boxed_record::BoxedRecord;
-use crate::entry::{PostState, PreState};
+use crate::entry::{Ask, PostState, PreState};
 use crate::flights::{Flights, INSTANCES};
 use crate::hold::Hold;
 use crate::operation_record::{OperationRecord, post_state};
@@ -329,6 +329,43 @@ impl Flow {
         self.creates = recounted(self.creates, was_creating, operation.is_creating());
         self.flights.enters(entered(below, &reply), count);
         reply
+    }
+
+    /// An operation passes the next instance on its way down: in one step what `next` and
+    /// `pre_returned` make of it where the instance's preoperation changes nothing of its data and asks for
+    /// its postoperation with that completion. The operation has to be on its way down, and the instance has
+    /// to lie below it. All other operations stay. It takes no memory.
+    pub fn pass_down(
+        &mut self,
+        number: OpId,
+        worker: WorkerId,
+        instance: InstanceId,
+        completion: Completion,
+    )
+        requires stage { StandsAt Stage.Descending (operation_at number self.old) }
+        requires lies { MayLieBelowOf (Below.Instance instance true) (operation_at number self.old) }
+        ensures { self.new ≡ changed number (with_visit worker instance (PreState.Asked completion)) self.old }
+    {
+        let place = standing(&self.operations, number);
+        let count = self.operations.len();
+        let operation = self.operations[place].as_mut();
+        operation.pass_down(worker, instance, completion);
+        self.flights.enters(Some(instance), count);
+    }
+
+    /// An operation passes the instance that is owed its next postoperation: in one step what `next` and
+    /// `post_returned` make of it where that postoperation changes nothing of the answer and finishes. The
+    /// operation has to owe it next, and the worker has to be one that may make it. All other operations
+    /// stay. It takes no memory.
+    pub fn pass_up(&mut self, number: OpId, worker: WorkerId, ask: Ask)
+        requires owes { OwesNext ask (operation_at number self.old) }
+        requires may { may_take worker ask ≡ true }
+        ensures { self.new ≡ changed number (passed_up worker ask) self.old }
+    {
+        let place = standing(&self.operations, number);
+        let operation = self.operations[place].as_mut();
+        operation.pass_up(worker, ask);
+        self.flights.leaves(Some(ask.instance));
     }
 
     /// Begins an operation, with all the memory that it will need (`FLT_CALLBACK_DATA` is made for a

@@ -22,6 +22,6 @@ pub use crate::action::{Below, FlowAction};
 pub use crate::entry::{Ask, DrainVisit, Entry, PostState, PostVisit, PreState, PreVisit};
 pub use crate::flow::Flow;
 pub use crate::hold::Hold;
-pub use crate::operation_record::OperationRecord;
+pub use crate::operation_record::{OperationRecord, may_take};
 pub use crate::stage::Stage;
 pub use crate::verdict::counted;

@@ -7,7 +7,7 @@ ghost use Rattle.fm_data.specs.Data.{data_fits};
 ghost use Rattle.fm_flow.specs.Entries.{times, visited, last_visited, last_posted, owed};
 ghost use Rattle.fm_flow.specs.Verdict.{is_counted};
 ghost use Rattle.fm_flow.specs.Counts.{is_running_drain};
-ghost use Rattle.fm_flow.specs.Steps.{bare_ask, with_visit, with_base, with_drain, call_pre, call_base, call_post, give_post, descend, ascend, unwound, may_take, next_of, MayLieBelow, pre_settled, pre_returned_of, base_returned_of, post_state, post_settled, post_returned_of, drain_returned_of, is_done, data_reply, pre_after, base_fits, base_reply, base_after, post_after, pre_leads, post_leads};
+ghost use Rattle.fm_flow.specs.Steps.{with_entry, with_visit, with_base, with_drain, post_entry, passed_up, call_pre, call_base, call_post, give_post, descend, ascend, unwound, may_take, next_of, MayLieBelow, pre_settled, pre_returned_of, base_returned_of, post_state, post_settled, post_returned_of, drain_returned_of, is_done, data_reply, pre_after, base_fits, base_reply, base_after, post_after, pre_leads, post_leads};
 ghost use Rattle.fm_flow.specs.Answered.{bare_answer};
 ghost use Rattle.fm_flow.specs.Creates.{is_creating, is_unanswered};
 ghost use Rattle.fm_flow.specs.Sound.{IsSound};
@@ -36,6 +36,12 @@ const MAX_ENTRIES: usize = 65;
 
 /// How many instances an operation visits at most.
 const MAX_VISITS: usize = 32;
+
+/// What an instance asks for whose filter has no preoperation callback.
+const BARE: Completion = Completion {
+    number: 0,
+    context: None,
+};
 
 /// An operation on its way: what it is, what happened to it so far, and where it stands.
 #[derive(Drop)]
@@ -308,7 +314,7 @@ impl OperationRecord {
                 if is_called {
                     self.call_pre(worker, instance)
                 } else {
-                    self.visit_bare(worker, instance);
+                    self.pass_down(worker, instance, BARE);
                     FlowAction::Moved
                 }
             }
@@ -343,18 +349,20 @@ impl OperationRecord {
         FlowAction::Pre(instance, data)
     }
 
-    // an instance whose filter has no preoperation callback asks for its postoperation
-    fn visit_bare(&mut self, worker: WorkerId, instance: InstanceId)
+    /// It passes an instance on its way down, which asks at once for its postoperation.
+    pub(crate) fn pass_down(
+        &mut self,
+        worker: WorkerId,
+        instance: InstanceId,
+        completion: Completion,
+    )
         requires stage { self.old.stage ≡ Stage.Descending }
         requires fresh { times instance.0 (visited self.old.entries) ≡ 0 }
         requires few { length (visited self.old.entries) < 32 }
-        ensures { self.new ≡ with_visit worker instance bare_ask self.old }
+        ensures { self.new ≡ with_visit worker instance (PreState.Asked completion) self.old }
     {
         let place = self.kept.len() as u8;
-        let state = PreState::Asked(Completion {
-            number: 0,
-            context: None,
-        });
+        let state = PreState::Asked(completion);
         self.owed.note(true, self.entries.len());
         self.entries.push_reserved(Entry::Pre(PreVisit {
             instance,
@@ -426,6 +434,31 @@ impl OperationRecord {
     {
         self.unwind(ask.place);
         self.give_post(worker, ask)
+    }
+
+    /// It passes an instance on its way up: the postoperation that is owed next is made, and is over.
+    pub(crate) fn pass_up(&mut self, worker: WorkerId, ask: Ask)
+        requires stage { self.old.stage ≡ Stage.Ascending }
+        requires next { slice_get (owed self.old.entries) 0 ≡ Some ask }
+        requires may { may_take worker ask ≡ true }
+        ensures { self.new ≡ passed_up worker ask self.old }
+    {
+        self.unwind(ask.place);
+        self.note_post(worker, ask);
+    }
+
+    fn note_post(&mut self, worker: WorkerId, ask: Ask)
+        requires stage { self.old.stage ≡ Stage.Ascending }
+        requires next { slice_get (owed self.old.entries) 0 ≡ Some ask }
+        requires may { may_take worker ask ≡ true }
+        ensures { self.new ≡ with_entry (post_entry worker ask.instance PostState.Finished) Stage.Ascending self.old }
+    {
+        let post = Entry::Post(PostVisit {
+            instance: ask.instance,
+            worker,
+            state: PostState::Finished,
+        });
+        entries::answer(&mut self.entries, &mut self.owed, post);
     }
 
     // what callbacks from that place on changed is put back
@@ -704,7 +737,8 @@ fn is_that(instance: InstanceId, other: Option<InstanceId>) -> bool
     }
 }
 
-fn may_take(worker: WorkerId, ask: Ask) -> bool
+/// Whether a worker may make that postoperation: one that is synchronized is its preoperation's worker's alone.
+pub fn may_take(worker: WorkerId, ask: Ask) -> bool
     ensures { result ≡ may_take worker ask }
 {
     !ask.is_synchronized || ask.worker.0 == worker.0

@@ -1,5 +1,10 @@
 -- The turns of a `go`, one after the other.
-use Rattle.std.proofs.Common.{◌≡◌, List, [], ◌∷◌, ◌++◌, Result, refl, sym, subst}
+use Rattle.std.proofs.Common.{◌≡◌, List, [], ◌∷◌, ◌++◌, Result, Ok, Option, Some, None, refl, sym, subst}
+use Rattle.std.specs.Prelude.{IfNone, IfSome}
+use Rattle.fm_types.specs.declared.ids.InstanceId.{InstanceId}
+use Rattle.fm_data.specs.declared.verdict.Completion.{Completion}
+use Rattle.fm_data.specs.declared.verdict.PreVerdict.TheVariants.{WithCallback}
+use Rattle.fm_session.specs.declared.lent.Given.TheVariants as given
 use Rattle.fm_types.specs.declared.ids.OpId.{OpId}
 use Rattle.fm_types.specs.declared.ids.WorkerId.{WorkerId}
 use Rattle.fm_types.specs.declared.status.Status.{Status}
@@ -10,7 +15,7 @@ use Rattle.fm_world.specs.Events.{Collects}
 use Rattle.fm_world.specs.declared.step.Step.TheVariants as step
 use Rattle.fm_world.specs.declared.step.StepReply.TheVariants as reply
 use Rattle.fm_session.specs.declared.lent.Given.{Given}
-use Rattle.fm_session.specs.Sessions.{LendsNext, LentPreReturns, LentPostReturns, LentBaseReturns}
+use Rattle.fm_session.specs.Sessions.{Lending, LendsNext, LentBaseReturns, LentPassesDown, LentPassesUp, LentPostReturns, LentPreReturns}
 use Rattle.fm_script.specs.Devices.{Calls}
 use Rattle.fm_script.specs.Runs.{Acts, BySession, Goes, IsTurn, KeepsLists, Turns}
 use Rattle.fm_script.specs.declared.interpreter.Interpreter.{Interpreter}
@@ -56,3 +61,23 @@ pub goes_collect : (k : WorkerId) (o : OpId) (r : Result Answer Status) (old new
 goes_collect k o r old new event lent rest =
     one k o (task.Event (step.Collect o)) old new refl
     (reply.Answer r, record { event = event; lent = lent; devices = rest.0; plans = rest.1.plans; contexts = rest.1.contexts })
+
+-- ---- two at once
+
+pub goes_down : (k : WorkerId) (o : OpId) (i : InstanceId) (completion : Completion) (old new : Interpreter)
+    → LentPassesDown old.session k o i completion new.session → BySession old new → Goes k o old new
+goes_down k o i completion old new (mid, nexts, returns) rest =
+    let between : Interpreter = record old { session = mid } in
+    goes_then k o old between new (goes_next k o (Ok (given.Pre i)) old between nexts (refl, record { plans = refl; contexts = refl }))
+    (goes_pre k o (WithCallback completion) (Ok tt) between new returns (rest.0, record { plans = rest.1.plans; contexts = rest.1.contexts }))
+
+goes_up : (k : WorkerId) (o : OpId) (i : InstanceId) (old new : Interpreter) → LentPassesUp old.session k o i new.session → BySession old new → Goes k o old new
+goes_up k o i old new (completion, mid, nexts, returns) rest =
+    let between : Interpreter = record old { session = mid } in
+    goes_then k o old between new (goes_next k o (Ok (given.Post i completion)) old between nexts (refl, record { plans = refl; contexts = refl }))
+    (goes_post k o (Ok tt) between new returns (rest.0, record { plans = rest.1.plans; contexts = rest.1.contexts }))
+
+pub goes_up_or : (k : WorkerId) (o : OpId) (m : Option InstanceId) (old : Interpreter) (s : Lending) → IfSome m (λ i. LentPassesUp old.session k o i s) → IfNone m (s ≡ old.session)
+    → Goes k o old (record old { session = s })
+goes_up_or k o None old s some none = subst (λ (x : Lending). Goes k o old (record old { session = x })) (sym none) (goes_none k o old)
+goes_up_or k o (Some i) old s some none = goes_up k o i old (record old { session = s }) some (refl, record { plans = refl; contexts = refl })

@@ -1,5 +1,6 @@
 -- A state with what each worker was lent, and what the events that lend and take back make of both.
-use Rattle.std.specs.Prelude.{◌≡◌, List, Option, Some, None, Result, Ok, Err, slice_index_or, slice_set}
+use Rattle.std.specs.Prelude.{◌≡◌, ◌<◌, List, Option, Some, None, Result, Ok, Err, length, slice_index_or, slice_set}
+use Rattle.fm_types.specs.declared.ids.InstanceId.{InstanceId}
 use Rattle.fm_types.specs.declared.ids.OpId.{OpId}
 use Rattle.fm_types.specs.declared.ids.WorkerId.{WorkerId}
 use Rattle.fm_types.specs.declared.status.Status.{Status}
@@ -8,9 +9,13 @@ use Rattle.fm_data.specs.Data.{Data}
 use Rattle.fm_data.specs.declared.answer.Answer.{Answer}
 use Rattle.fm_data.specs.Calls.{BaseCall}
 use Rattle.fm_data.specs.declared.verdict.PreVerdict.{PreVerdict}
+use Rattle.fm_data.specs.declared.verdict.PreVerdict.TheVariants.{WithCallback}
 use Rattle.fm_data.specs.declared.verdict.PostVerdict.{PostVerdict}
+use Rattle.fm_data.specs.declared.verdict.PostVerdict.TheVariants.{Finished}
+use Rattle.fm_data.specs.declared.verdict.Completion.{Completion}
 use Rattle.fm_flow.specs.declared.action.FlowAction.{FlowAction}
 use Rattle.fm_flow.specs.declared.action.FlowAction.TheVariants as action
+use Rattle.fm_core.specs.Passing.{ComesDown}
 use Rattle.fm_world.specs.World.{World}
 use Rattle.fm_world.specs.Events.{Nexts, PreReturns, BaseReturns, PostReturns}
 use Rattle.fm_session.specs.declared.lent.Lent.{Lent}
@@ -132,3 +137,18 @@ ReturnsBase carries old below k result new after (Some call) =
 
 abbrev pub LentBaseReturns : {D : Type 0} → (D → BaseCall → Answer → D → Type 0) → Lending → D → WorkerId → Result Status Status → Lending → D → Type 0
 LentBaseReturns carries old below k result new after = ReturnsBase carries old below k result new after (base_in (lent_to old.lent k))
+
+-- ---- callbacks that answer where they are called
+
+-- the worker has room for what it is lent, and the operation comes to that instance
+abbrev pub MayPassDown : Lending → WorkerId → OpId → InstanceId → Type 0
+MayPassDown w k o i = (k.0 < length w.lent) × ComesDown w.world k o i
+
+-- the operation passes an instance on its way down, and on its way up: the step is taken, and what was lent is given back
+abbrev pub LentPassesDown : Lending → WorkerId → OpId → InstanceId → Completion → Lending → Type 0
+LentPassesDown old k o i completion new =
+    (mid : Lending) × LendsNext old k o (Ok (given.Pre i)) mid × LentPreReturns mid k (WithCallback completion) (Ok tt) new
+
+abbrev pub LentPassesUp : Lending → WorkerId → OpId → InstanceId → Lending → Type 0
+LentPassesUp old k o i new =
+    (completion : Completion) × (mid : Lending) × LendsNext old k o (Ok (given.Post i completion)) mid × LentPostReturns mid k Finished (Ok tt) new

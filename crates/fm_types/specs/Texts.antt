@@ -1,5 +1,5 @@
 -- Texts in arrays of fixed size.
-use Rattle.std.specs.Prelude.{◌≡◌, ℕ, zero, suc, ◌-◌, List, [], ◌∷◌, ◌++◌, length, replicate}
+use Rattle.std.specs.Prelude.{◌≡◌, ℕ, zero, suc, ◌-◌, List, [], ◌∷◌, ◌++◌, length, replicate, slice_index, drop}
 
 -- a text with zeros behind it, up to a size
 abbrev pub padded : ℕ → List ℕ → List ℕ
@@ -13,5 +13,4 @@ pub record IsPadded (size : ℕ) (buffer text : List ℕ) (len : ℕ) : Type 0 w
 -- the first bytes of a text with zeros behind it
 abbrev pub head_of : ℕ → List ℕ → List ℕ
 head_of zero text = []
-head_of (suc n) [] = 0 ∷ head_of n []
-head_of (suc n) (byte ∷ text) = byte ∷ head_of n text
+head_of (suc n) text = slice_index text 0 ∷ head_of n (drop 1 text)

@@ -3,6 +3,7 @@
 ghost use Rattle.std.specs.Prelude.{◌≡◌, ◌↔◌, All, IsOk, IfOk, IfErr, IsTrue, Some, nat_eq, refl};
 ghost use Rattle.std.specs.Ordering.{nat_cmp};
 ghost use Rattle.std.specs.Hash as fed;
+ghost use Rattle.std.specs.Slice.Scan.{big_endian};
 ghost use Rattle.std.specs.Cmp.Lexicographic.{pointwise, slice_cmp, nat_list_eq_equiv, nat_list_cmp_total, texts_ties, texts_po};
 ghost use Rattle.std.specs.Cmp.{partial_equiv_from_equiv};
 ghost use Rattle.std.specs.Cmp.Rules.{hashing};
@@ -18,9 +19,6 @@ use std::hash::{Hash, Hasher};
 use std::marker::Model;
 
 const PATH_ROOM: usize = 255;
-
-/// How many bytes of two paths are compared at first, whatever their lengths.
-const HEAD: usize = 8;
 
 /// The path of a file on a volume: 1 to 255 characters, each from the space to `~`, whose parts are
 /// divided by `/`, no part being empty, `.` or `..`. Contracts see its text. Paths are compared byte
@@ -96,12 +94,22 @@ impl RelPath {
         &self.buffer[..self.len as usize]
     }
 
-    // Its first bytes, and zeros behind a shorter text: each is below the bytes of a path, so that these decide where they differ.
-    fn head(&self) -> &[u8]
-        ensures value { result.now ≡ head_of 8 self.now }
+    // Its first eight bytes as one number, the first of which weighs most. Zeros stand behind a shorter text: each is below
+    // the bytes of a path, so that two such numbers lie as the paths do where they differ.
+    fn head(&self) -> u64
+        ensures value { result ≡ big_endian 0 (head_of 8 self.now) }
         ensures characters { All IsPathByte self.now }
     {
-        &self.buffer[..HEAD]
+        u64::from_be_bytes([
+            self.buffer[0],
+            self.buffer[1],
+            self.buffer[2],
+            self.buffer[3],
+            self.buffer[4],
+            self.buffer[5],
+            self.buffer[6],
+            self.buffer[7],
+        ])
     }
 }
 
@@ -147,7 +155,7 @@ impl Ord for RelPath {
     ghost matches_eq = { texts_ties };
 
     fn cmp(&self, other: &RelPath) -> Ordering {
-        match self.head().cmp(other.head()) {
+        match self.head().cmp(&other.head()) {
             Ordering::Equal => self.text().cmp(other.text()),
             decided => decided,
         }

@@ -1,13 +1,14 @@
 //! The turns of the command `go`: a worker takes one step of an operation, and answers it.
 
-ghost use Rattle.std.specs.Prelude.{◌≡◌};
+ghost use Rattle.std.specs.Prelude.{◌≡◌, IfSome};
+ghost use Rattle.fm_core.specs.Passing.{numbered};
 ghost use Rattle.fm_script.specs.Runs.{Goes};
 
 use super::Interpreter;
 use crate::output::Output;
 use crate::said::{Said, Word, said_given};
 use crate::script_end::ScriptEnd;
-use fm_data::{PostVerdict, PreVerdict};
+use fm_data::{Completion, PostVerdict, PreVerdict};
 use fm_session::Given;
 use fm_types::{InstanceId, OpId, Status, WorkerId};
 use std::io::Write;
@@ -16,7 +17,39 @@ impl Interpreter {
     /// A worker takes the operation's next step, and answers it: a preoperation callback as it is planned, a base call by the devices, a
     /// postoperation callback and a drain by finishing them, and a done operation by collecting its reply. It prints what happened, and
     /// says whether the operation goes on.
+    #[tactic(auto, using(crate::proofs::Going::goes_then))]
     pub fn turn<W: Write + Drop>(
+        &mut self,
+        worker: WorkerId,
+        operation: OpId,
+        output: &mut Output<W>,
+    ) -> Result<bool, ScriptEnd>
+        ensures { Goes worker operation self.old self.new }
+    {
+        if let Some((instance, verdict)) = self.pass_down(worker, operation) {
+            return say_answered(output, instance, verdict, Ok(()));
+        }
+        self.climb(worker, operation, output)
+    }
+
+    // The same of one that passes no instance on its way down.
+    #[tactic(auto, using(crate::proofs::Going::goes_then))]
+    fn climb<W: Write + Drop>(
+        &mut self,
+        worker: WorkerId,
+        operation: OpId,
+        output: &mut Output<W>,
+    ) -> Result<bool, ScriptEnd>
+        ensures { Goes worker operation self.old self.new }
+    {
+        if let Some(instance) = self.pass_up(worker, operation) {
+            return say_back(output, Word::Post, instance, Ok(()));
+        }
+        self.step(worker, operation, output)
+    }
+
+    // And of one that passes none at all.
+    fn step<W: Write + Drop>(
         &mut self,
         worker: WorkerId,
         operation: OpId,
@@ -26,6 +59,24 @@ impl Interpreter {
     {
         let given = self.next(worker, operation);
         self.answer(worker, operation, given, output)
+    }
+
+    // The operation passes an instance on its way down, in one event, where it is planned to go on and come back.
+    fn pass_down(&mut self, worker: WorkerId, operation: OpId) -> Option<(InstanceId, PreVerdict)>
+        ensures { Goes worker operation self.old self.new }
+    {
+        let instance = self.session.comes_down(worker, operation)?;
+        let verdict = self.planned(instance);
+        let number = number_alone(verdict)?;
+        self.session.pass_down(worker, operation, instance, number);
+        Some((instance, verdict))
+    }
+
+    // And on its way up.
+    fn pass_up(&mut self, worker: WorkerId, operation: OpId) -> Option<InstanceId>
+        ensures { Goes worker operation self.old self.new }
+    {
+        self.session.pass_up(worker, operation)
     }
 
     // Each line is made where it is printed, and nowhere else: what any arm here makes has its room cleared at every turn.
@@ -104,6 +155,21 @@ impl Interpreter {
             Ok(answer) => ends(output, &Said::Replied(answer)),
             Err(status) => refuses(output, status),
         }
+    }
+}
+
+// The number that an instance which is planned to go on and come back hands on, with no context.
+fn number_alone(verdict: PreVerdict) -> Option<u64>
+    ensures { IfSome result (λ n. verdict ≡ PreVerdict.WithCallback (numbered n)) }
+{
+    match verdict {
+        PreVerdict::WithCallback(
+            Completion {
+                number,
+                context: None,
+            },
+        ) => Some(number),
+        _ => None,
     }
 }
 

@@ -1,9 +1,9 @@
 use Rattle.fm_flow.proofs.Words.{length, ap, arith, times, visited, Descending, FlowRecord}
 use Rattle.std.proofs.Common.{◌≡◌, ◌<◌, ◌∙◌, rules}
-use Rattle.fm_flow.proofs.Next.{sound_bare}
-use Rattle.fm_flow.proofs.Noted.{noted_bare, owed_few}
+use Rattle.fm_flow.proofs.Next.{sound_visit}
+use Rattle.fm_flow.proofs.Noted.{noted_ask, owed_few}
 use Rattle.fm_flow.proofs.Soundness.{at_stage}
-use Rattle.fm_flow.proofs.operation_record.OperationRecord.visit_bare.Goals as goal
+use Rattle.fm_flow.proofs.operation_record.OperationRecord.pass_down.Goals as goal
 
 pub invariant_of-self : goal.invariant_of-self
 invariant_of-self c =
@@ -14,7 +14,7 @@ invariant_of-self c =
     let place : c.len-place.result ≡ length c.self.inside.kept.items = search rules in
     let end : c.len.result ≡ length c.self.inside.entries.items = search rules in
     let course = (at_stage _ Descending stage c.self.invariant.0).0 in (
-      rw (c.push_reserved.ensures.items, place, stage) (sound_bare c.args.worker c.args.instance _ stage fresh few c.self.invariant.0),
+      rw (c.push_reserved.ensures.items, place, stage) (sound_visit c.args.worker c.args.instance c.args.completion _ stage fresh few c.self.invariant.0),
       (
         omega arith,
         (
@@ -23,7 +23,7 @@ invariant_of-self c =
             c.self.invariant.1.1.1.0,
             (
               c.self.invariant.1.1.1.1.0,
-              rw (c.push_reserved.ensures.items, c.note.ensures, end) (noted_bare _ c.self.invariant.1.1.1.1.1 c.args.worker c.args.instance _ course fresh),
+              rw (c.push_reserved.ensures.items, c.note.ensures, end) (noted_ask _ c.self.invariant.1.1.1.1.1 c.args.worker c.args.instance c.args.completion _ course fresh),
             ),
           ),
         ),

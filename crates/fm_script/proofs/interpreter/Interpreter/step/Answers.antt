@@ -1,5 +1,5 @@
 use Rattle.fm_script.proofs.Going.{goes_next, goes_then}
-use Rattle.fm_script.proofs.interpreter.Interpreter.turn.Goals as goal
+use Rattle.fm_script.proofs.interpreter.Interpreter.step.Goals as goal
 
 pub returns : goal.returns
 returns g c =

@@ -1,0 +1,348 @@
+-- An operation passes an instance in one event, which is two of the model: `next`, and the return of the callback that it calls.
+use Rattle.fm_core.proofs.Words.{arith, nat_tests, Bool, true, false, Option, Some, None, Ok, Err, refl, ap, sym, subst, inl, inr, length, is_some}
+use Rattle.fm_core.proofs.Words.{false≢true, cases_Bool, same_Some, slice_get_within, All, InstanceId, WorkerId, FlowAction, PreState, Data, data_fits}
+use Rattle.fm_core.proofs.Words.{FlowRecord, FlowTable, pre_returned_of, post_returned_of, operation_at, changed, Worker, World, worker_at, is_idle, put, state_at}
+use Rattle.fm_core.proofs.Words.{hand_of, ContextsKept, Context, Slot, IsState, IsTied, Ends, Sweeping, is_lost_of, kept_brought, FileTable, Target}
+use Rattle.std.proofs.Common.{◌≡◌, ℕ, ◌<◌, ◌≤◌, ◌==◌, ◌∙◌, cond, List, [], ◌∷◌, zero, suc}
+use Rattle.std.specs.Prelude.{option_map, slice_get, slice_set, IfSome, nat_le}
+use Rattle.std.proofs.lemmas.List.Elements.{All-weaker}
+use Rattle.fm_types.specs.declared.ids.OpId.{OpId}
+use Rattle.fm_types.specs.declared.status.Status.TheVariants as status
+use Rattle.fm_types.proofs.Firsts.{find_changed, found_holds}
+use Rattle.fm_types.proofs.Lists.{slice_get-set_same}
+use Rattle.fm_data.specs.declared.params.Params.{Params}
+use Rattle.fm_data.specs.declared.verdict.PreVerdict.{PreVerdict}
+use Rattle.fm_data.specs.declared.verdict.PreVerdict.TheVariants as verdict
+use Rattle.fm_data.specs.declared.verdict.PostVerdict.TheVariants as over
+use Rattle.fm_data.specs.Data.{answered_data, fresh_data}
+use Rattle.fm_data.specs.Params.{fit}
+use Rattle.fm_flow.specs.declared.action.Below.{Below}
+use Rattle.fm_flow.specs.declared.action.Below.TheVariants as below
+use Rattle.fm_flow.specs.declared.action.FlowAction.TheVariants as action
+use Rattle.fm_flow.specs.declared.entry.Ask.{Ask}
+use Rattle.fm_flow.specs.declared.entry.PreState.TheVariants as pre
+use Rattle.fm_flow.specs.declared.stage.Stage.TheVariants.{Ascending, Descending}
+use Rattle.fm_flow.specs.Entries.{owed}
+use Rattle.fm_flow.specs.Sound as flow
+use Rattle.fm_flow.specs.Steps.{Turned, ascend, call_post, call_pre, done_at, give_post, is_done, lent_answer, next_at, next_of, passed_up, stands, turn, unwound, with_visit}
+use Rattle.fm_flow.specs.Table.{is_number, told}
+use Rattle.fm_flow.proofs.Next.{Unwinds, next_stays, unwinds}
+use Rattle.fm_flow.proofs.Passing.{down_whole, up_whole, undone}
+use Rattle.fm_flow.proofs.Soundness.{at_stage}
+use Rattle.fm_world.specs.declared.worker.Worker.TheVariants as place
+use Rattle.fm_world.specs.Events.{Nexts, PostReturns, PreReturns, drains_at, drains_next, flow_after_next, is_stopping_ask, state_given}
+use Rattle.fm_world.specs.Hands.{OnlyHandOf}
+use Rattle.fm_world.specs.Links.{names_there}
+use Rattle.fm_world.specs.Workers.{after_next}
+use Rattle.fm_world.proofs.Events.{idle_there}
+use Rattle.fm_world.proofs.Operations.{told_there}
+use Rattle.fm_world.proofs.Returns.{post_does, pre_does}
+use Rattle.fm_world.proofs.Turns.{next_does}
+use Rattle.fm_core.specs.Passing.{ComesDown, ComesUp, PassesDown, PassesUp, numbered}
+use Rattle.fm_core.specs.Descent.{FindsAt}
+use Rattle.fm_core.specs.Hands.{back_in}
+use Rattle.fm_core.specs.Targets.{known_in, target_in}
+use Rattle.fm_core.proofs.Changes.{change_twice}
+use Rattle.fm_core.proofs.Holding.{tied_ends}
+use Rattle.fm_core.proofs.Losing.{Agrees, sweeps_none}
+use Rattle.fm_core.proofs.Operated.{Goes, next_leads, next_tied, post_returns, post_tied, pre_returns, pre_tied}
+
+-- ---- workers
+
+-- a worker that goes somewhere and comes back is where it was
+put_back : (workers : List Worker) (k : ℕ) (a b : Worker) → slice_get workers k ≡ Some a → workers ≡ slice_set (slice_set workers k b) k a
+put_back [] k a b at = cc
+put_back (x ∷ workers) zero a b at = let e : x ≡ a = cc in ap (λ (y : Worker). y ∷ workers) e
+put_back (x ∷ workers) (suc k) a b at = ap (λ (ws : List Worker). x ∷ ws) (put_back workers k a b at)
+
+-- ---- operations
+
+here_some : {A : Type 0} (m : Option A) → is_some m ≡ true → (a : A) × (m ≡ Some a)
+here_some None h = absurd (false≢true h)
+here_some (Some a) h = (a, refl)
+
+-- one that isn't done wasn't collected
+uncollected : (r : FlowRecord) → flow.IsSound r → is_done r ≡ false → r.collected ≡ false
+uncollected r h undone = elim (cases_Bool r.collected) [
+  | inl out ↦ absurd (false≢true (sym undone ∙ h.collected out))
+  | inr kept ↦ kept
+]
+
+own_params : (r : FlowRecord) (p : Params) → r.params ≡ Some p → flow.IsSound r → fit r.operation r.path p ≡ true
+own_params r p has h = subst (λ m. IfSome m (λ q. fit r.operation r.path q ≡ true)) has h.params
+
+-- data that holds what it received, with a short answer
+fits_plain : (r : FlowRecord) (d : Data) → fit r.operation r.path d.received ≡ true → d.changed ≡ None → length d.out < 32769 → data_fits r.operation r.path d ≡ true
+fits_plain r d own same short =
+    let e : nat_le (length d.out) 32768 ≡ true = grind (arith, nat_tests, short) in
+    rw (own, same, e) refl
+
+number_kept : (o : OpId) (k : WorkerId) (lies : Below) (stops : Bool) (r : FlowRecord) → is_number o (next_of k lies stops r).after ≡ is_number o r
+number_kept o k lies stops r = ap (λ n. n == o.0) (next_stays k lies stops r).number
+
+-- two steps of one operation are one
+whole_change : (t : FlowTable) (o : OpId) (r : FlowRecord) (f g h : FlowRecord → FlowRecord) → operation_at o t ≡ Some r → ((x : FlowRecord) → is_number o (f x) ≡ is_number o x)
+    → g (f r) ≡ h r → changed o h t ≡ changed o g (changed o f t)
+whole_change t o r f g h at same whole =
+    ap (λ (rs : List FlowRecord). record t { operations = rs })
+    (sym (change_twice (is_number o) f g h t.operations same (λ x is. subst (λ (y : FlowRecord). g (f y) ≡ h y) (same_Some r x (sym at ∙ is)) whole)))
+
+-- ---- links
+
+-- nothing that links name is gone, so a look for what is gone changes nothing
+nothing_swept : (f : FileTable) (x : Target) (kept : ContextsKept) → All (λ (s : Slot). names_there f s.context ≡ true) kept.table.slots → Sweeping (is_lost_of f x) kept kept
+nothing_swept f x kept links = record {
+  sweeps = sweeps_none _ (is_lost_of f x) kept.table
+      (All-weaker (λ (s : Slot). names_there f s.context ≡ true) (Agrees (λ y. false) (is_lost_of f x)) (λ s there y is. here y (sym (ap (names_there f) is) ∙ there)) kept.table.slots links);
+  carried = refl;
+}
+  where
+    here : (y : Context) → names_there f (Some y) ≡ true → false ≡ is_lost_of f x y
+    here y there = grind (arith, there)
+
+-- ---- the first of the two
+
+-- `next` calls a callback for an idle worker, and nothing comes back with it
+record Calls (old : World) (kept : ContextsKept) (k : WorkerId) (o : OpId) (r : FlowRecord) (lies : Below) (a : FlowAction) (called : FlowRecord) : Type 0 where
+  pub state : IsState old kept
+  pub same : old.contexts ≡ kept.table
+  pub matched : length kept.carried ≡ length kept.table.slots
+  pub idle : is_idle (worker_at old.workers k) ≡ true
+  pub there : operation_at o old.flow ≡ Some r
+  pub finds : FindsAt old.stack old.files old.flow r lies
+  pub turns : next_of k lies (drains_at old o) r ≡ turn (Ok a) called
+  pub brings : kept ≡ kept_brought kept k.0 (back_in a)
+  pub unknown : known_in a lies ≡ None
+
+module _ {old : World} {kept : ContextsKept} {k : WorkerId} {o : OpId} {r : FlowRecord} {lies : Below} {a : FlowAction} {called : FlowRecord} (h : Calls old kept k o r lies a called) where
+  abbrev flow_between : FlowTable
+  flow_between = flow_after_next old k o lies
+
+  goes_on : Goes old k o r lies (Ok a) flow_between
+  goes_on = record {
+    at = h.there;
+    finds = h.finds;
+    reply = sym (told_there (λ (x : FlowRecord). (next_of k lies (drains_at old o) x).reply) (Err status.WrongStep) o old.flow r h.there ∙ ap (λ (t : Turned). t.reply) h.turns);
+    after = refl;
+  }
+
+  abbrev between : World
+  between = record old { flow = flow_between; workers = after_next old.workers k o (Ok a); contexts = kept.table }
+
+  nexts : Nexts old k o (Ok a) between
+  nexts = next_leads k o r lies a flow_between (after_next old.workers k o (Ok a)) kept h.state refl h.idle goes_on refl h.same h.brings h.unknown
+
+  state_between : IsState between kept
+  state_between = record { sound = (next_does _ _ _ _ _ nexts).0.sound h.state.sound; tied = next_tied k o r lies a flow_between kept h.state goes_on h.matched h.brings }
+
+  there_between : operation_at o flow_between ≡ Some called
+  there_between =
+      find_changed (is_number o) (λ x. (next_of k lies (drains_at old o) x).after) old.flow.operations (number_kept o k lies (drains_at old o))
+      ∙ ap (option_map (λ (x : FlowRecord). (next_of k lies (drains_at old o) x).after)) h.there ∙ ap (λ (t : Turned). Some t.after) h.turns
+
+  -- what the callback's return makes of the operation then, as one step from before
+  flow_whole : (step whole : FlowRecord → FlowRecord) → step called ≡ whole r → changed o whole old.flow ≡ changed o step flow_between
+  flow_whole step whole is =
+      whole_change old.flow o r (λ x. (next_of k lies (drains_at old o) x).after) step whole h.there (number_kept o k lies (drains_at old o)) (ap (λ (t : Turned). step t.after) h.turns ∙ is)
+
+  -- where the worker is
+  within : k.0 < length old.workers
+  within = slice_get_within old.workers k.0 place.Idle (idle_there old.workers k h.idle)
+
+-- ---- on the way down
+
+module _ {old : World} {kept : ContextsKept} (k : WorkerId) (o : OpId) (i : InstanceId) (n : ℕ) (s : IsState old kept) (same : old.contexts ≡ kept.table)
+    (matched : length kept.carried ≡ length kept.table.slots) (d : ComesDown old k o i) where
+  sound_down : flow.IsSound d.operation
+  sound_down = found_holds flow.IsSound (is_number o) old.flow.operations d.operation s.sound.under_way.flow.sound d.there
+
+  has_down : (p : Params) × (d.operation.params ≡ Some p)
+  has_down = here_some d.operation.params (at_stage d.operation Descending d.next.stage sound_down).1
+
+  abbrev lent_down : Data
+  lent_down = fresh_data has_down.0
+
+  abbrev called_down : FlowRecord
+  called_down = (call_pre k i d.operation (Some has_down.0)).after
+
+  calls_pre : (stops : Bool) → next_of k (below.Instance i true) stops d.operation ≡ call_pre k i d.operation (Some has_down.0)
+  calls_pre stops =
+      let r = d.operation in
+      let undone : is_done r ≡ false = ap (λ st. done_at st (owed r.entries)) d.next.stage in
+      ap (λ c. cond c (turn (Err status.WrongStep) r) (next_at k (below.Instance i true) stops r r.stage)) (uncollected r sound_down undone)
+      ∙ ap (next_at k (below.Instance i true) stops r) d.next.stage ∙ ap (call_pre k i r) has_down.1
+
+  calls_down : Calls old kept k o d.operation (below.Instance i true) (action.Pre i lent_down) called_down
+  calls_down = record {
+    state = s;
+    same = same;
+    matched = matched;
+    idle = d.idle;
+    there = d.there;
+    finds = λ e. (d.next.lies, tt);
+    turns = calls_pre (drains_at old o);
+    brings = refl;
+    unknown = refl;
+  }
+
+  at_down : worker_at (between calls_down).workers k ≡ Some (place.Pre o i)
+  at_down = slice_get-set_same old.workers k.0 (place.Pre o i) (within calls_down)
+
+  abbrev asked_down : PreState
+  asked_down = pre.Asked (numbered n)
+
+  abbrev given_down : PreVerdict
+  given_down = verdict.WithCallback (numbered n)
+
+  counts_down : asked_down ≡ state_at (between calls_down) k o i given_down
+  counts_down =
+      sym (told_there (state_given old.stack (hand_of kept.table.hands k.0) i given_down) pre.Passed o (flow_between calls_down) called_down (there_between calls_down)
+      ∙ ap (λ has. cond has asked_down pre.Passed) d.next.asks)
+
+  abbrev step_down : FlowRecord → FlowRecord
+  step_down = pre_returned_of asked_down lent_down
+
+  fits_down : told (λ (y : FlowRecord). data_fits y.operation y.path lent_down) false o (flow_between calls_down) ≡ true
+  fits_down =
+      told_there (λ (y : FlowRecord). data_fits y.operation y.path lent_down) false o (flow_between calls_down) called_down (there_between calls_down)
+      ∙ fits_plain d.operation lent_down (own_params d.operation has_down.0 has_down.1 sound_down) refl (omega arith)
+
+  whole_down : changed o (with_visit k i asked_down) old.flow ≡ changed o step_down (flow_between calls_down)
+  whole_down = flow_whole calls_down step_down (with_visit k i asked_down) (down_whole k i (numbered n) d.operation has_down.0 d.next.stage has_down.1 sound_down)
+
+  tied_down : IsTied kept (changed o step_down (flow_between calls_down))
+  tied_down = pre_tied k o i given_down lent_down asked_down None (state_between calls_down) at_down counts_down refl refl matched
+
+  module _ {now : World} {t : FlowTable} {after : ContextsKept} (now_is : old ≡ now) (flow_is : t ≡ changed o (with_visit k i asked_down) old.flow) (ends : Ends kept after k.0) where
+    abbrev new_down : World
+    new_down = record old { flow = t; contexts = after.table }
+
+    returns_down : PreReturns (between calls_down) k given_down lent_down (Ok tt) new_down
+    returns_down =
+        let workers = put_back old.workers k.0 place.Idle (place.Pre o i) (idle_there old.workers k d.idle) in
+        let flow = flow_is ∙ whole_down in
+        let links = subst (λ (slots : List Slot). All (λ (x : Slot). names_there old.files x.context ≡ true) slots) (sym ends.leaves.slots) (state_between calls_down).sound.links in
+        let new_is : ◌≡◌ {A = World} (record (between calls_down) {
+          flow = changed o step_down (flow_between calls_down);
+          workers = put (between calls_down).workers k place.Idle;
+          contexts = after.table;
+          files = old.files;
+        }) new_down = cc in
+        subst (PreReturns (between calls_down) k given_down lent_down (Ok tt)) new_is
+        (pre_returns k o i called_down given_down lent_down asked_down None (changed o step_down (flow_between calls_down)) (put (between calls_down).workers k place.Idle) after after
+        old.files (target_in called_down) (state_between calls_down) refl at_down (there_between calls_down) counts_down refl (fits_down, refl) refl refl ends tied_down refl refl
+        (nothing_swept old.files (target_in called_down) after links))
+
+    pub passes_down : PassesDown now k o i (numbered n) new_down
+    passes_down = subst (λ (w : World). PassesDown w k o i (numbered n) new_down) now_is (lent_down, between calls_down, nexts calls_down, returns_down)
+
+    pub passed_down_hand : OnlyHandOf k.0 now new_down
+    passed_down_hand =
+        let goes = ((next_does _ _ _ _ _ (nexts calls_down)).1 s.sound).0 in
+        let comes = (pre_does _ _ _ _ _ _ returns_down).1.0 in
+        subst (λ (w : World). OnlyHandOf k.0 w new_down) now_is (omega (arith, goes, comes))
+
+    pub passed_down_state : IsState new_down after
+    passed_down_state = record {
+      sound = (pre_does _ _ _ _ _ _ returns_down).0.sound (state_between calls_down).sound;
+      tied = subst (IsTied after) (sym (flow_is ∙ whole_down)) (tied_ends kept after k.0 (changed o step_down (flow_between calls_down)) ends tied_down);
+    }
+
+-- ---- on the way up
+
+module _ {old : World} {kept : ContextsKept} (k : WorkerId) (o : OpId) (ask : Ask) (s : IsState old kept) (same : old.contexts ≡ kept.table)
+    (matched : length kept.carried ≡ length kept.table.slots) (d : ComesUp old k o ask) where
+  sound_up : flow.IsSound d.operation
+  sound_up = found_holds flow.IsSound (is_number o) old.flow.operations d.operation s.sound.under_way.flow.sound d.there
+
+  -- with its parameters put back
+  abbrev back_up : FlowRecord
+  back_up = unwound ask.place d.operation
+
+  unwinds_up : Unwinds d.operation back_up
+  unwinds_up = unwinds ask.place d.operation (slice_get d.operation.kept ask.place) refl d.next.stage
+
+  has_up : (p : Params) × (back_up.params ≡ Some p)
+  has_up = here_some back_up.params (at_stage back_up Ascending (unwinds_up.stage ∙ d.next.stage) (unwinds_up.sound sound_up)).1
+
+  abbrev lent_up : Data
+  lent_up = answered_data has_up.0 (lent_answer back_up.operation back_up.answer)
+
+  abbrev called_up : FlowRecord
+  called_up = (give_post k ask back_up (Some has_up.0)).after
+
+  calls_post : next_of k below.Call (drains_at old o) d.operation ≡ give_post k ask back_up (Some has_up.0)
+  calls_post =
+      let r = d.operation in
+      let stops : drains_at old o ≡ false =
+      told_there (drains_next old.stack) false o old.flow r d.there ∙ ap (is_stopping_ask old.stack) d.next.owes ∙ d.next.runs in
+      ap (λ c. cond c (turn (Err status.WrongStep) r) (next_at k below.Call (drains_at old o) r r.stage)) (uncollected r sound_up (undone k ask r d.next.stage d.next.owes))
+      ∙ ap (next_at k below.Call (drains_at old o) r) d.next.stage ∙ ap (ascend k (drains_at old o) r) d.next.owes ∙ ap (λ b. ascend k b r (Some ask)) stops
+      ∙ ap (λ b. cond b (call_post k ask r) (turn (Err status.WrongStep) r)) d.next.may ∙ ap (give_post k ask back_up) has_up.1
+
+  calls_up : Calls old kept k o d.operation below.Call (action.Post ask.instance lent_up ask.completion) called_up
+  calls_up = record {
+    state = s;
+    same = same;
+    matched = matched;
+    idle = d.idle;
+    there = d.there;
+    finds = λ e. let up = d.next.stage in cc;
+    turns = calls_post;
+    brings = sym (ap (kept_brought kept k.0) d.next.bare);
+    unknown = refl;
+  }
+
+  at_up : worker_at (between calls_up).workers k ≡ Some (place.Post o ask.instance)
+  at_up = slice_get-set_same old.workers k.0 (place.Post o ask.instance) (within calls_up)
+
+  abbrev step_up : FlowRecord → FlowRecord
+  step_up = post_returned_of over.Finished lent_up
+
+  short_up : length (lent_answer back_up.operation back_up.answer).bytes < 32769
+  short_up = let h = (unwinds_up.sound sound_up).bytes in by_test (stands back_up.operation) h
+    where
+      by_test : (b : Bool) → length back_up.answer.bytes ≤ 32768 → length (cond b (record back_up.answer { bytes = [] }) back_up.answer).bytes < 32769
+      by_test true h = omega arith
+      by_test false h = omega (arith, h)
+
+  fits_up : told (λ (y : FlowRecord). data_fits y.operation y.path lent_up) false o (flow_between calls_up) ≡ true
+  fits_up =
+      told_there (λ (y : FlowRecord). data_fits y.operation y.path lent_up) false o (flow_between calls_up) called_up (there_between calls_up)
+      ∙ fits_plain back_up lent_up (own_params back_up has_up.0 has_up.1 (unwinds_up.sound sound_up)) refl short_up
+
+  whole_up : changed o (passed_up k ask) old.flow ≡ changed o step_up (flow_between calls_up)
+  whole_up = flow_whole calls_up step_up (passed_up k ask) (up_whole k ask back_up has_up.0 (unwinds_up.stage ∙ d.next.stage) has_up.1 (unwinds_up.sound sound_up))
+
+  module _ {now : World} {t : FlowTable} {after : ContextsKept} (now_is : old ≡ now) (flow_is : t ≡ changed o (passed_up k ask) old.flow) (ends : Ends kept after k.0) where
+    abbrev new_up : World
+    new_up = record old { flow = t; contexts = after.table }
+
+    returns_up : PostReturns (between calls_up) k over.Finished (Some lent_up) (Ok tt) new_up
+    returns_up =
+        let workers = put_back old.workers k.0 place.Idle (place.Post o ask.instance) (idle_there old.workers k d.idle) in
+        let flow = flow_is ∙ whole_up in
+        let new_is : ◌≡◌ {A = World} (record (between calls_up) {
+          flow = changed o step_up (flow_between calls_up);
+          workers = put (between calls_up).workers k place.Idle;
+          contexts = after.table;
+        }) new_up = cc in
+        subst (PostReturns (between calls_up) k over.Finished (Some lent_up) (Ok tt)) new_is
+        (post_returns k o ask.instance over.Finished lent_up (changed o step_up (flow_between calls_up)) (put (between calls_up).workers k place.Idle) after (state_between calls_up) refl
+        at_up (fits_up, refl) refl refl ends)
+
+    pub passes_up : PassesUp now k o ask.instance new_up
+    passes_up = subst (λ (w : World). PassesUp w k o ask.instance new_up) now_is (lent_up, ask.completion, between calls_up, nexts calls_up, returns_up)
+
+    pub passed_up_hand : OnlyHandOf k.0 now new_up
+    passed_up_hand =
+        let goes = ((next_does _ _ _ _ _ (nexts calls_up)).1 s.sound).0 in
+        let comes = (post_does _ _ _ _ _ _ returns_up).1.0 in
+        subst (λ (w : World). OnlyHandOf k.0 w new_up) now_is (omega (arith, goes, comes))
+
+    pub passed_up_state : IsState new_up after
+    passed_up_state = record {
+      sound = (post_does _ _ _ _ _ _ returns_up).0.sound (state_between calls_up).sound;
+      tied = subst (IsTied after) (sym (flow_is ∙ whole_up))
+          (tied_ends kept after k.0 (changed o step_up (flow_between calls_up)) ends (post_tied k o ask.instance over.Finished lent_up (state_between calls_up) at_up));
+    }

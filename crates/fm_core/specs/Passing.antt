@@ -1,0 +1,66 @@
+-- Callbacks that answer where they are called: `next`, and the return of the callback that it calls, in one.
+use Rattle.std.specs.Prelude.{◌≡◌, ℕ, true, false, Some, None, Ok, slice_get}
+use Rattle.fm_types.specs.declared.ids.InstanceId.{InstanceId}
+use Rattle.fm_types.specs.declared.ids.OpId.{OpId}
+use Rattle.fm_types.specs.declared.ids.WorkerId.{WorkerId}
+use Rattle.fm_data.specs.Data.{Data}
+use Rattle.fm_data.specs.declared.verdict.Completion.{Completion}
+use Rattle.fm_data.specs.declared.verdict.PreVerdict.TheVariants.{WithCallback}
+use Rattle.fm_data.specs.declared.verdict.PostVerdict.TheVariants.{Finished}
+use Rattle.fm_flow.specs.declared.action.Below.TheVariants as below
+use Rattle.fm_flow.specs.declared.action.FlowAction.TheVariants as action
+use Rattle.fm_flow.specs.declared.entry.Ask.{Ask}
+use Rattle.fm_flow.specs.declared.stage.Stage.TheVariants.{Ascending, Descending}
+use Rattle.fm_flow.specs.Entries.{owed}
+use Rattle.fm_flow.specs.Record.{FlowRecord}
+use Rattle.fm_flow.specs.Steps.{may_take}
+use Rattle.fm_flow.specs.Table.{operation_at}
+use Rattle.fm_stack.specs.StackWorld.{StackWorld}
+use Rattle.fm_world.specs.Events.{LiesBelow, Nexts, PostReturns, PreReturns, has_post, is_stopping_ask}
+use Rattle.fm_world.specs.Workers.{is_idle, worker_at}
+use Rattle.fm_world.specs.World.{World}
+
+-- what a filter hands on that hands on a number alone
+abbrev pub numbered : ℕ → Completion
+numbered n = record { number = n; context = None }
+
+-- ---- the events
+
+-- an operation passes an instance on its way down: its preoperation is called, and asks at once for its postoperation
+abbrev pub PassesDown : World → WorkerId → OpId → InstanceId → Completion → World → Type 0
+PassesDown old k o i completion new =
+    (lent : Data) × (mid : World) × Nexts old k o (Ok (action.Pre i lent)) mid × PreReturns mid k (WithCallback completion) lent (Ok tt) new
+
+-- and on its way up: its postoperation is called, and finishes at once
+abbrev pub PassesUp : World → WorkerId → OpId → InstanceId → World → Type 0
+PassesUp old k o i new =
+    (lent : Data) × (completion : Completion) × (mid : World) × Nexts old k o (Ok (action.Post i lent completion)) mid × PostReturns mid k Finished (Some lent) (Ok tt) new
+
+-- ---- when there is such a callback
+
+-- on its way down an operation comes to that instance, whose filter has a callback before it and one after it
+pub record LiesNext (s : StackWorld) (r : FlowRecord) (i : InstanceId) : Type 0 where
+  pub stage : r.stage ≡ Descending
+  pub lies : LiesBelow s r (below.Instance i true)
+  pub asks : has_post s (slice_get s.instances i.0) r.operation ≡ true
+
+-- on its way up it owes that postoperation next; it isn't drained, the worker may make it, and no context comes back with it
+pub record OwesPlain (s : StackWorld) (r : FlowRecord) (k : WorkerId) (ask : Ask) : Type 0 where
+  pub stage : r.stage ≡ Ascending
+  pub owes : slice_get (owed r.entries) 0 ≡ Some ask
+  pub runs : is_stopping_ask s (Some ask) ≡ false
+  pub may : may_take k ask ≡ true
+  pub bare : ask.completion.context ≡ None
+
+-- the worker is idle, and the operation there
+pub record ComesDown (w : World) (k : WorkerId) (o : OpId) (i : InstanceId) : Type 0 where
+  pub idle : is_idle (worker_at w.workers k) ≡ true
+  pub operation : FlowRecord
+  pub there : operation_at o w.flow ≡ Some operation
+  pub next : LiesNext w.stack operation i
+
+pub record ComesUp (w : World) (k : WorkerId) (o : OpId) (ask : Ask) : Type 0 where
+  pub idle : is_idle (worker_at w.workers k) ≡ true
+  pub operation : FlowRecord
+  pub there : operation_at o w.flow ≡ Some operation
+  pub next : OwesPlain w.stack operation k ask

@@ -1,19 +1,16 @@
 -- The events on filters, volumes and instances, from what their parts did.
-use Rattle.fm_core.proofs.Words.{Bool, true, Option, Some, Result, Ok, Err, ap, sym, subst, FilterId, VolumeId}
-use Rattle.fm_core.proofs.Words.{InstanceId, WorkerId, Status, Instance, StackWorld, Worker, World, carries, worker_at, put, is_idle}
-use Rattle.fm_core.proofs.Words.{Unless, FlowTable, ContextsKept, carried_of, Leaves, leaves_alike, sweeps_alike, carried_equal, IsTied}
-use Rattle.fm_core.proofs.Words.{setup_of, arith}
-use Rattle.std.proofs.Common.{◌≡◌, ℕ, List, ◌∙◌}
-use Rattle.fm_types.specs.declared.status.Status.TheVariants as status
+use Rattle.fm_core.proofs.Words.{IsTied, setup_of, leaves_alike, sweeps_alike, carried_equal, ContextsKept, carried_of, Leaves, is_linked_of, FlowTable}
+use Rattle.fm_core.proofs.Words.{StackWorld, Instance, FilterId, InstanceId, VolumeId, WorkerId, Status, Unless, is_idle, put, worker_at, World, carries}
+use Rattle.fm_core.proofs.Words.{Worker, Bool, Err, List, Ok, Option, Result, Some, ap, arith, subst, sym, true, ℕ, ◌∙◌, ◌≡◌}
 use Rattle.fm_stack.specs.Instances.{is_setup}
-use Rattle.fm_stack.specs.Events as stack
-use Rattle.fm_world.specs.declared.worker.Worker.TheVariants as place
 use Rattle.fm_world.specs.Workers.{after_attach}
 use Rattle.fm_world.specs.Events.{Attaches, SetsUp, SetsUpAt, EmptiesUnless}
-use Rattle.fm_ctx.specs.declared.owner.Owner.TheVariants as owner
-use Rattle.fm_ctx.specs.Settling.{is_linked_of}
 use Rattle.fm_core.specs.Hands.{SweepsUnless}
 use Rattle.fm_core.proofs.Losing.{sweeping_tied}
+use Rattle.fm_types.specs.declared.status.Status.TheVariants as status
+use Rattle.fm_stack.specs.Events as stack
+use Rattle.fm_world.specs.declared.worker.Worker.TheVariants as place
+use Rattle.fm_ctx.specs.declared.owner.Owner.TheVariants as owner
 
 pub attaches : {old now : World} (k : WorkerId) (f : FilterId) (v : VolumeId) (name altitude : List ℕ) (result : Result InstanceId Status) (t : StackWorld)
     (ws : List Worker)

@@ -1,12 +1,9 @@
 -- The events of callbacks on contexts, from what the layer of contexts did.
-use Rattle.fm_core.proofs.Words.{Bool, true, not, length, Option, Some, None, Result, Ok, Err, is_some, refl, ap, sym, subst, none-some}
-use Rattle.fm_core.proofs.Words.{same_Some, ContextKind, CtxId, WorkerId, Status, Answers, AnswersOrMemory, IsRefusalOrMemory, FlowTable}
-use Rattle.fm_core.proofs.Words.{Owner, new_context, allocate_refusal, ContextsKept, carried_of, grabbed, Context, ContextTable, context_at}
-use Rattle.fm_core.proofs.Words.{there_changed, World, carries, row_at, object_by, Callback, callback_of, with_contexts, before, Caller}
-use Rattle.fm_core.proofs.Words.{caller_of, owner_for, has_kind_at, IsTied, IsState, IsSound}
-use Rattle.std.proofs.Common.{◌≡◌, ℕ, List, option_map, slice_get, ◌∙◌}
-use Rattle.fm_types.specs.declared.context_kind.ContextKind.TheVariants as kind
-use Rattle.fm_types.specs.declared.status.Status.TheVariants as status
+use Rattle.fm_core.proofs.Words.{caller_of, has_kind_at, owner_for, IsState, IsTied, Caller, there_changed, allocate_refusal, new_context, ContextsKept}
+use Rattle.fm_core.proofs.Words.{carried_of, grabbed, Context, ContextTable, context_at, Owner, FlowTable, Answers, AnswersOrMemory, IsRefusalOrMemory}
+use Rattle.fm_core.proofs.Words.{ContextKind, CtxId, WorkerId, Status, reference_does, release_does, Callback, before, callback_of, with_contexts, object_by}
+use Rattle.fm_core.proofs.Words.{row_at, IsSound, World, carries, Bool, Err, List, None, Ok, Option, Result, Some, ap, is_some, length, not, option_map, refl}
+use Rattle.fm_core.proofs.Words.{slice_get, subst, sym, true, ℕ, ◌∙◌, ◌≡◌, none-some, same_Some}
 use Rattle.fm_ctx.specs.Births.{IsNew, allocated, kept_allocated}
 use Rattle.fm_ctx.specs.Bodies.{body_at, rewritten, with_body, write_refusal, bump_refusal, bumped, raised}
 use Rattle.fm_ctx.specs.References.{released, reference_refusal, release_refusal}
@@ -14,9 +11,11 @@ use Rattle.fm_ctx.proofs.Alike.{released_alike}
 use Rattle.fm_ctx.proofs.Carried.{carried_allocated}
 use Rattle.fm_world.specs.Owners.{has_kind, owner_by}
 use Rattle.fm_world.specs.ContextEvents.{InCallback, InCallbackOf, context_by, allocate_refused, Allocates, References, Releases, WritesBody, Bumps}
-use Rattle.fm_world.proofs.Callbacks.{callback_parts, reference_does, release_does, write_body_does, bump_does}
-use Rattle.fm_core.specs.Callers as caller
+use Rattle.fm_world.proofs.Callbacks.{callback_parts, write_body_does, bump_does}
 use Rattle.fm_core.proofs.Holding.{tied_table}
+use Rattle.fm_types.specs.declared.context_kind.ContextKind.TheVariants as kind
+use Rattle.fm_types.specs.declared.status.Status.TheVariants as status
+use Rattle.fm_core.specs.Callers as caller
 
 -- ---- whose callback it is
 

@@ -1,29 +1,25 @@
 -- Cleaning contexts up and ending an instance, from what their parts did.
-use Rattle.fm_core.proofs.Words.{true, false, not, Option, Some, None, Result, Ok, is_some, refl, ap, sym, subst, arith, option_and_then}
-use Rattle.fm_core.proofs.Words.{CtxId, FilterId, InstanceId, WorkerId, Status, first_of, FlowTable}
-use Rattle.fm_core.proofs.Words.{carried, Instance, StackWorld, Owner, ContextsKept, carried_of, IsLawful, Context, ContextTable}
-use Rattle.fm_core.proofs.Words.{context_at, there_changed, Worker, World, worker_at, put, is_idle, cleanup_in, Unless, totalled_for}
-use Rattle.fm_core.proofs.Words.{row_at, refused_in, IsTied}
-use Rattle.std.proofs.Common.{◌≡◌, ℕ, ◌<◌, ◌≤◌, cond, List, [], ◌∷◌, option_map, nat_lt, slice_get, ◌∙◌}
+use Rattle.fm_core.proofs.Words.{refused_in, IsTied, there_changed, open_of, ContextsKept, carried_of, IsLawful, Context, ContextTable, context_at, Owner}
+use Rattle.fm_core.proofs.Words.{FlowTable, carried, StackWorld, Instance, first_of, CtxId, FilterId, InstanceId, WorkerId, Status, headline_from, is_gone_at}
+use Rattle.fm_core.proofs.Words.{totalled_for, Unless, row_at, IsSound, cleanup_in, is_idle, put, worker_at, World, Worker, List, None, Ok, Option, Result}
+use Rattle.fm_core.proofs.Words.{Some, [], ap, arith, cond, false, is_some, nat_lt, not, option_map, refl, slice_get, subst, sym, true, ℕ, ◌<◌, ◌∙◌, ◌∷◌, ◌≡◌}
+use Rattle.fm_core.proofs.Words.{◌≤◌, option_and_then}
 use Rattle.std.proofs.lemmas.Bool.{le-ltb}
-use Rattle.fm_types.specs.declared.status.Status.TheVariants as status
 use Rattle.fm_stack.specs.declared.instance.Phase.{Phase}
 use Rattle.fm_stack.specs.Events.{is_emptying_at, finished}
 use Rattle.fm_ctx.specs.declared.due.Due.{Due}
-use Rattle.fm_ctx.specs.declared.owner.Owner.TheVariants as owner
 use Rattle.fm_ctx.specs.Bags.{cleaning_of}
 use Rattle.fm_ctx.specs.Cleanup.{due_of, due_reply, emptied, taken_of, after_take_due, cleaned}
-use Rattle.fm_ctx.specs.Counting.{open_of}
 use Rattle.fm_ctx.proofs.Carried.{carried_cleaned}
 use Rattle.fm_ctx.proofs.Lives.{count_cleaning}
-use Rattle.fm_world.specs.declared.worker.Worker.TheVariants as place
-use Rattle.fm_world.specs.ContextEvents.{TakesDue, after_due, Cleans, CleansAt, filter_of, Finishes, is_gone_at, finish_refused, OwnsOnlyWaiting}
+use Rattle.fm_world.specs.ContextEvents.{TakesDue, after_due, Cleans, CleansAt, filter_of, Finishes, finish_refused, OwnsOnlyWaiting}
 use Rattle.fm_world.specs.Owners.{keeps_links_by}
-use Rattle.fm_world.specs.Sound.{IsSound}
-use Rattle.fm_world.proofs.Runs.{headline_from}
 use Rattle.fm_world.proofs.Waiting.{waits}
 use Rattle.fm_core.specs.Callers.{filter_at}
 use Rattle.fm_core.proofs.Called.{table_tied}
+use Rattle.fm_types.specs.declared.status.Status.TheVariants as status
+use Rattle.fm_ctx.specs.declared.owner.Owner.TheVariants as owner
+use Rattle.fm_world.specs.declared.worker.Worker.TheVariants as place
 
 -- ---- take_due
 

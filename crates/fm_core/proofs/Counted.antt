@@ -1,21 +1,17 @@
 -- How many handles are open on each stream, through the changes of both lists.
-use Rattle.fm_core.proofs.Words.{None, Option, Some, All, All-head, All-tail, Bool, FileHandle, FileStream, HandleId}
-use Rattle.fm_core.proofs.Words.{StreamId, ap, arith, cases_Bool, false, false≢true, inl, inr}
-use Rattle.fm_core.proofs.Words.{is_handle, is_stream, length, none-some, position, refl, same_Some, stands_there, subst, sym, true}
-use Rattle.std.proofs.Common.{◌≡◌, ℕ, ◌+◌, ◌-◌, ◌<◌, ◌≤◌, ◌==◌, ◌&&◌, ◌||◌, ◌∙◌, List, [], ◌∷◌, ◌++◌, suc, not, cond, find, get_or, map, nat_lt, option_map}
-use Rattle.std.specs.Prelude.{AllPairs, IfSome, count_by}
+use Rattle.fm_core.proofs.Words.{AreCounted, IsBefore, IsOlder, changed_at, is_own, count-cons, stands_there, change_first, without_first, HandleId, StreamId}
+use Rattle.fm_core.proofs.Words.{FileTable, has_handle_on, is_handle, is_on, is_stream, with_mark, with_phase, FileHandle, FileStream, HandlePhase, All}
+use Rattle.fm_core.proofs.Words.{AllPairs, Bool, IfSome, List, None, Option, Some, [], ap, arith, cond, count_by, false, find, inl, inr, length, map, nat_lt}
+use Rattle.fm_core.proofs.Words.{not, option_map, position, refl, subst, suc, sym, true, ℕ, ◌&&◌, ◌++◌, ◌+◌, ◌-◌, ◌<◌, ◌==◌, ◌||◌, ◌∙◌, ◌∷◌, ◌≡◌, ◌≤◌}
+use Rattle.fm_core.proofs.Words.{cases_Bool, false≢true, nat_tests, All-cons, All-head, All-nil, All-tail, count_by-le-length, none-some, same_Some}
+use Rattle.std.proofs.Common.{get_or}
 use Rattle.std.specs.List.{list_any, position_or_len}
-use Rattle.std.proofs.lemmas.Bool.Decides.{nat_tests}
-use Rattle.std.proofs.lemmas.List.Sums.{count_by-le-length, sum_by_push}
-use Rattle.fm_types.specs.Lists.{change_first, without_first}
-use Rattle.fm_types.proofs.Firsts.{count-cons, found_counts, found_passes}
+use Rattle.std.proofs.lemmas.List.Sums.{sum_by_push}
+use Rattle.fm_types.proofs.Firsts.{found_counts, found_passes}
 use Rattle.std.proofs.lemmas.List.{get_or-map, map-append}
-use Rattle.std.proofs.lemmas.List.Elements.{All-cons, All-nil}
-use Rattle.fm_world.specs.declared.file.HandlePhase.{HandlePhase}
 use Rattle.std.proofs.lemmas.List.Folds.{list_any_none}
 use Rattle.fm_world.specs.FileLaws.{has_stream}
-use Rattle.fm_world.specs.Files.{FileTable, has_handle_on, is_on, with_mark, with_phase}
-use Rattle.fm_core.specs.FilesKept.{AreCounted, IsBefore, IsOlder, changed_at, is_own, open_on, without_at}
+use Rattle.fm_core.specs.FilesKept.{open_on, without_at}
 
 -- ---- places
 

@@ -1,19 +1,16 @@
 -- The events by which a volume is dismounted, from what their parts did.
-use Rattle.fm_core.proofs.Words.{Some, None, Result, Ok, refl, ap, sym, subst, FileHandle, FileTable, Status, StackWorld, World, ContextsKept}
-use Rattle.fm_core.proofs.Words.{IsState, IsTied, LosesLinks, Sweeping, VolumeId, Target, ContextTable, answered, first_of, is_lost_of}
-use Rattle.std.proofs.lemmas.List.Sums.{count_by-le-length}
-use Rattle.std.proofs.Common.{◌≡◌, ◌<◌, ◌^◌, ℕ, arith, ◌∙◌}
-use Rattle.fm_types.specs.declared.status.Status.TheVariants as status
-use Rattle.fm_stack.specs.Dismounting as volumes
-use Rattle.fm_flow.specs.OnVolumes as operations
+use Rattle.fm_core.proofs.Words.{IsState, IsTied, SweptWhere, Sweeping, is_lost_of, answered, Target, ContextsKept, is_linked_to, ContextTable, StackWorld}
+use Rattle.fm_core.proofs.Words.{first_of, VolumeId, Status, FileTable, LosesLinks, World, FileHandle, None, Ok, Result, Some, ap, arith, refl, subst, sym, ℕ}
+use Rattle.fm_core.proofs.Words.{◌<◌, ◌^◌, ◌∙◌, ◌≡◌, count_by-le-length}
 use Rattle.fm_ctx.specs.Counting.{open_on}
-use Rattle.fm_ctx.specs.Settling.{is_linked_to}
-use Rattle.fm_ctx.specs.declared.object.Object.TheVariants as object
 use Rattle.fm_world.specs.Dismounts.{StartsDismount, DropsHandle, EmptiesVolume, FinishesVolume, dropped, handles_on, is_handle_on, lowest_on}
-use Rattle.fm_core.specs.Hands.{SweptWhere}
 use Rattle.fm_core.specs.Targets.{close_on}
 use Rattle.fm_core.proofs.Losing.{answer_gone, loses}
 use Rattle.fm_core.proofs.Torn.{where_swept}
+use Rattle.fm_types.specs.declared.status.Status.TheVariants as status
+use Rattle.fm_stack.specs.Dismounting as volumes
+use Rattle.fm_flow.specs.OnVolumes as operations
+use Rattle.fm_ctx.specs.declared.object.Object.TheVariants as object
 
 pub starts_dismount : {old now : World} (v : VolumeId) (n : ℕ) (result : Result (Unit {0}) Status) (t : StackWorld) → old ≡ now → n ≡ operations.left_on v old.flow
     → volumes.StartsDismount old.stack v n result t → StartsDismount now v result (record old { stack = t })

@@ -1,28 +1,20 @@
 -- Drains that are taken before their turn, from what their parts did.
-use Rattle.fm_core.proofs.Words.{arith, Bool, true, false, Option, Some, None, Ok, Err, refl, ap, sym, subst, CtxId, InstanceId, WorkerId, Status, Worker, World, slice_get_within}
-use Rattle.fm_types.specs.declared.ids.OpId.{OpId}
-use Rattle.fm_flow.specs.Counts.{carried_in}
-use Rattle.fm_core.proofs.Words.{FlowTable, worker_at, put, is_idle, ContextsKept, ContextTable, carried_of, carried, Leaves, IsTied, IsState, row_at, operation_at}
-use Rattle.std.proofs.Common.{◌≡◌, List, [], ◌∷◌, ◌+◌, ◌<◌, ◌∙◌, length}
-use Rattle.fm_types.specs.Refusals as refusals
-use Rattle.fm_types.specs.declared.status.Status.TheVariants as status
+use Rattle.fm_core.proofs.Words.{IsState, IsTied, MayBring, kept_brought, drains_in, early_drain_of, hand_of, ContextsKept, carried_of, Leaves, ContextTable}
+use Rattle.fm_core.proofs.Words.{carried_in, DrainTaken, FlowTable, carried, operation_at, Instance, CtxId, InstanceId, OpId, WorkerId, Status, idle_there}
+use Rattle.fm_core.proofs.Words.{empty_hand, is_gone_at, row_at, is_idle, put, worker_at, World, Worker, Bool, Err, List, None, Ok, Option, Some, [], ap, arith}
+use Rattle.fm_core.proofs.Words.{false, length, refl, subst, sym, true, ◌+◌, ◌<◌, ◌∙◌, ◌∷◌, ◌≡◌, slice_get_within}
 use Rattle.fm_data.specs.declared.verdict.Completion.{Completion}
-use Rattle.fm_flow.specs.Drains.{DrainTaken, RunsEarly, drain_done_of}
+use Rattle.fm_flow.specs.Drains.{RunsEarly, drain_done_of}
 use Rattle.fm_flow.proofs.Drains.{early_carried, drain_done_carried}
-use Rattle.fm_stack.specs.declared.instance.Instance.{Instance}
 use Rattle.fm_core.proofs.Cleaned.{phase_in}
-use Rattle.fm_ctx.specs.Bags.{hand_of}
-use Rattle.fm_world.specs.declared.worker.Worker.TheVariants as place
-use Rattle.fm_world.specs.ContextEvents.{is_gone_at}
 use Rattle.fm_world.specs.Events.{brought}
 use Rattle.fm_world.specs.EarlyDrains.{TakesDrain, DrainReturns, DrainReturnsAt, DrainsWhere, is_stopping_at}
 use Rattle.fm_world.proofs.Draining.{early_there}
-use Rattle.fm_world.proofs.Events.{idle_there}
-use Rattle.fm_world.proofs.Owning.{empty_hand}
-use Rattle.fm_core.specs.Hands.{MayBring, kept_brought}
-use Rattle.fm_core.specs.Places.{drains_in, early_drain_of}
 use Rattle.fm_core.proofs.Holding.{may_bring, tied_brought}
 use Rattle.fm_core.proofs.Torn.{idles, leaks, left_tied}
+use Rattle.fm_types.specs.Refusals as refusals
+use Rattle.fm_types.specs.declared.status.Status.TheVariants as status
+use Rattle.fm_world.specs.declared.worker.Worker.TheVariants as place
 
 -- ---- a drain is taken
 

@@ -1,24 +1,25 @@
 -- Setting, getting and deleting contexts, from what the layer of contexts did.
-use Rattle.fm_core.proofs.Words.{Bool, true, false, not, Option, Some, None, Result, Err, is_some, refl, ap, sym, subst, option_and_then}
-use Rattle.fm_core.proofs.Words.{arith, none-some, same_Some, ContextKind, CtxId, WorkerId, Status, first_of, Answers, FlowTable, Object, Owner}
-use Rattle.fm_core.proofs.Words.{holds, hand_of, ContextsKept, carried_of, holder, with_link, grabbed, Context, Slot, ContextTable}
-use Rattle.fm_core.proofs.Words.{context_at, there_changed, World, carries, is_there, object_by, Callback, callback_of, with_contexts}
-use Rattle.fm_core.proofs.Words.{before, Caller, caller_of, owner_for, has_kind_at, is_closing_at, IsTied}
-use Rattle.std.proofs.Common.{◌≡◌, ℕ, ◌&&◌, ◌||◌, cond, List, [], ◌∷◌, is_none, option_map, slice_get, ◌∙◌}
-use Rattle.fm_types.specs.declared.status.Status.TheVariants as status
+use Rattle.fm_core.proofs.Words.{caller_of, has_kind_at, owner_for, IsTied, Caller, there_changed, hand_of, holds, ContextsKept, carried_of, holder, grabbed}
+use Rattle.fm_core.proofs.Words.{Context, ContextTable, Slot, context_at, Object, Owner, FlowTable, Answers, first_of, ContextKind, CtxId, WorkerId, Status}
+use Rattle.fm_core.proofs.Words.{Callback, before, callback_of, with_contexts, is_there, object_by, World, carries, Bool, Err, List, None, Option, Result, Some}
+use Rattle.fm_core.proofs.Words.{[], ap, arith, cond, false, is_some, not, option_map, refl, slice_get, subst, sym, true, ℕ, ◌&&◌, ◌||◌, ◌∙◌, ◌∷◌, ◌≡◌}
+use Rattle.fm_core.proofs.Words.{none-some, same_Some, option_and_then}
+use Rattle.fm_ctx.specs.Links.{with_link, set_reply, set_after, set_mode_after, unlinked_for, linked, get_refusal, delete_reply, delete_after, delete_refusal}
+use Rattle.fm_core.specs.Callers.{is_closing_at}
+use Rattle.std.proofs.Common.{is_none}
 use Rattle.fm_ctx.specs.declared.set_reply.SetMode.{SetMode}
 use Rattle.fm_ctx.specs.declared.set_reply.SetMode.TheVariants.{Keep, Replace}
 use Rattle.fm_ctx.specs.declared.set_reply.SetReply.{SetReply}
 use Rattle.fm_ctx.specs.Bags.{is_hand_full}
-use Rattle.fm_ctx.specs.Links.{set_reply, set_after, set_mode_after, unlinked_for, linked, get_refusal, delete_reply, delete_after, delete_refusal}
 use Rattle.fm_ctx.specs.Table.{link_at}
 use Rattle.fm_ctx.proofs.Alike.{set_alike, delete_alike}
 use Rattle.fm_ctx.proofs.Sets.{unlinked_slots}
 use Rattle.fm_world.specs.declared.set_answer.SetAnswer.{SetAnswer}
 use Rattle.fm_world.specs.ContextEvents.{object_for, set_refused, set_answer, SetsOn, SetsUnless, SetsIn, Sets, there_at, object_refused, Gets, Deletes}
-use Rattle.fm_core.specs.Callers as caller
 use Rattle.fm_core.specs.Setting.{is_past_at, object_of, set_refusal, find_refusal, IsSettable, IsFound}
 use Rattle.fm_core.proofs.Called.{called_in, owner_same, object_same, callback_row, in_callback, answers_up, answers_tied, table_tied}
+use Rattle.fm_types.specs.declared.status.Status.TheVariants as status
+use Rattle.fm_core.specs.Callers as caller
 
 -- ---- get and delete
 

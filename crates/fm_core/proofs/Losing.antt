@@ -1,28 +1,24 @@
 -- Links that go with what they name: what the code unlinks is all that is gone.
-use Rattle.fm_core.proofs.Words.{Bool, true, false, Option, Some, None, is_some, refl, ap, sym, subst, inl, inr, All, false≢true}
-use Rattle.fm_core.proofs.Words.{cases_Bool, All-head, All-tail, CtxId, HandleId, StreamId, Operation, Status, PreState}
-use Rattle.fm_core.proofs.Words.{FlowTable, Object, ContextsKept, carried_of, Context, Slot, ContextTable, context_at}
-use Rattle.fm_core.proofs.Words.{sweeps_alike, carried_there, FileTable, is_stream, is_handle, with_mark, after_pre, is_there, is_on_gone}
-use Rattle.fm_core.proofs.Words.{LosesLinks, World, carries, is_created_on, IsTied, Sweeping, handle_lost, stream_lost, is_named, is_lost}
-use Rattle.fm_core.proofs.Words.{arith, nat_tests, is_lost_of, IsSound, answered, decided, Target}
-use Rattle.std.proofs.Common.{◌≡◌, ℕ, List, [], ◌∷◌, map, find, ◌∙◌}
-use Rattle.std.specs.Prelude.{◌==◌, ◌||◌}
-use Rattle.std.proofs.lemmas.List.Elements.{All-nil, All-cons, All-weaker}
-use Rattle.fm_types.specs.Lists.{without_first}
-use Rattle.fm_types.specs.declared.operation.Operation.TheVariants as kind
-use Rattle.fm_flow.specs.declared.entry.PreState.TheVariants as state
-use Rattle.fm_ctx.specs.declared.object.Object.TheVariants as object
+use Rattle.fm_core.proofs.Words.{IsTied, Sweeping, handle_lost, is_lost, is_lost_of, stream_lost, answered, decided, Target, sweeps_alike, carried_there}
+use Rattle.fm_core.proofs.Words.{ContextsKept, carried_of, Sweeps, Context, ContextTable, Slot, context_at, Object, FlowTable, PreState, without_first, CtxId}
+use Rattle.fm_core.proofs.Words.{HandleId, StreamId, Operation, Status, is_created_on, FileTable, after_pre, fresh_handle, is_handle, is_stream, with_mark}
+use Rattle.fm_core.proofs.Words.{LosesLinks, is_there, names_there, IsSound, World, carries, All, Bool, List, None, Option, Some, [], ap, arith, false, find}
+use Rattle.fm_core.proofs.Words.{inl, inr, is_some, map, refl, subst, sym, true, ℕ, ◌==◌, ◌||◌, ◌∙◌, ◌∷◌, ◌≡◌, cases_Bool, false≢true, nat_tests, All-cons}
+use Rattle.fm_core.proofs.Words.{All-head, All-nil, All-tail, All-weaker}
+use Rattle.fm_world.specs.Links.{is_on_gone}
+use Rattle.fm_core.specs.Lost.{is_named, handle_lost_by, stream_lost_by, GoneAlone}
 use Rattle.fm_ctx.specs.Objects.{is_to}
-use Rattle.fm_ctx.specs.Settling.{Sweeps, swept, swept_slot}
+use Rattle.fm_ctx.specs.Settling.{swept, swept_slot}
 use Rattle.fm_ctx.proofs.Alike.{settles_alike}
 use Rattle.fm_ctx.proofs.Carried.{carried_numbers}
 use Rattle.fm_ctx.proofs.Objects.{same_object-same}
 use Rattle.fm_ctx.proofs.Leaving.{settles_none, settles_both, context_at-swept}
-use Rattle.fm_world.specs.Files.{marked, fresh_handle, opened, closed, torn_down, left, after_base}
-use Rattle.fm_world.specs.Links.{names_there}
+use Rattle.fm_world.specs.Files.{marked, opened, closed, torn_down, left, after_base}
 use Rattle.fm_world.proofs.Belonging.{AllPass}
 use Rattle.fm_world.proofs.Losing.{found_before, found_changed}
-use Rattle.fm_core.specs.Lost.{handle_lost_by, stream_lost_by, GoneAlone}
+use Rattle.fm_types.specs.declared.operation.Operation.TheVariants as kind
+use Rattle.fm_flow.specs.declared.entry.PreState.TheVariants as state
+use Rattle.fm_ctx.specs.declared.object.Object.TheVariants as object
 
 -- ---- sweeps
 

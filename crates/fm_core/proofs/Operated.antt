@@ -1,62 +1,56 @@
 -- The events on operations, from what their parts did.
-use Rattle.fm_core.proofs.Words.{arith, Bool, true, false, Option, Some, None, Result, Ok, Err, refl, ap, sym, subst, inl, inr, length}
-use Rattle.fm_core.proofs.Words.{is_ok, and_parts, none-some, same_Some, slice_get_within, InstanceId, VolumeId, WorkerId, CtxId, Status}
-use Rattle.fm_core.proofs.Words.{BaseCall, Answer, Data, data_fits, first_of, AnswersOrMemory, IsRefusalOrMemory, FlowAction, PreState}
-use Rattle.fm_core.proofs.Words.{PreRunning, InBase, PostRunning, InDrain, FlowRecord, pre_returned_of, base_after, base_fits}
-use Rattle.fm_core.proofs.Words.{post_returned_of, drain_returned_of, Operation, FlowTable, operation_at, changed, is_full, carried, Worker}
-use Rattle.fm_core.proofs.Words.{World, carries, worker_at, put, is_idle, LosesLinks, base_step, Unless, received, sent, state_at}
-use Rattle.fm_core.proofs.Words.{is_created_on, volume_refusals, has_no_handle_left, moved_on, asked_refused, IsSound, idle_there, hand_of}
-use Rattle.fm_core.proofs.Words.{holds, ContextsKept, Leaves, ContextTable, IsLawful, leaves_alike, carried_by, handed, IsTied, IsState}
-use Rattle.fm_core.proofs.Words.{back_in, MayBring, MaySend, kept_brought, kept_sent, Ends, Sweeping, is_lost_of, pre_of, base_of, post_of}
-use Rattle.fm_core.proofs.Words.{drain_of, HandleId, StreamId, operation_of, is_success, FileHandle, FileStream, Request, FileTable}
-use Rattle.fm_core.proofs.Words.{stream_for, created, after_pre, phase_refusal, answered, decided, Target, IsAsked}
-use Rattle.std.proofs.Common.{◌≡◌, ℕ, ◌+◌, ◌<◌, ◌==◌, ◌&&◌, cond, List, [], ◌∷◌, ◌∙◌, nat_eq, ◌^◌}
-use Rattle.std.specs.Prelude.{option_map, unwrap_or, slice_get, ◌||◌}
+use Rattle.fm_core.proofs.Words.{IsAsked, FindsAt, IsState, IsTied, Ends, MayBring, MaySend, back_in, kept_brought, kept_sent, Sweeping, is_lost_of, base_of}
+use Rattle.fm_core.proofs.Words.{drain_of, post_of, pre_of, answered, decided, known_in, target_in, Target, leaves_alike, within_hands, hand_of, holds}
+use Rattle.fm_core.proofs.Words.{ContextsKept, IsLawful, Leaves, ContextTable, BaseCall, Data, data_fits, operation_of, Answer, Params, Request, PreVerdict}
+use Rattle.fm_core.proofs.Words.{carried_by, handed, FlowRecord, base_after, base_fits, drain_returned_of, next_of, post_returned_of, pre_returned_of}
+use Rattle.fm_core.proofs.Words.{FlowTable, StandsAt, carried, changed, is_full, is_number, operation_at, told, Below, FlowAction, PreState, InBase, InDrain}
+use Rattle.fm_core.proofs.Words.{PostRunning, PreRunning, found_holds, AnswersOrMemory, IsRefusalOrMemory, first_of, CtxId, HandleId, InstanceId, OpId}
+use Rattle.fm_core.proofs.Words.{StreamId, VolumeId, WorkerId, Operation, Status, idle_there, told_there, empty_hand, sent_is_held, Unless, asked_refused}
+use Rattle.fm_core.proofs.Words.{base_step, drains_at, drains_next, filed_pre, flow_after_next, has_no_handle_left, is_created_on, moved_on, received, sent}
+use Rattle.fm_core.proofs.Words.{sent_in, state_at, state_given, volume_refusals, FileTable, after_pre, created, handle_at, stream_for, LosesLinks}
+use Rattle.fm_core.proofs.Words.{phase_refusal, IsSound, after_next, is_idle, put, worker_at, World, carries, FileHandle, FileStream, Worker, Bool, Err, List}
+use Rattle.fm_core.proofs.Words.{None, Ok, Option, Result, Some, [], ap, arith, cond, false, inl, inr, is_ok, length, option_map, refl, slice_get, subst, sym}
+use Rattle.fm_core.proofs.Words.{true, ℕ, ◌&&◌, ◌+◌, ◌<◌, ◌==◌, ◌^◌, ◌||◌, ◌∙◌, ◌∷◌, ◌≡◌, and_parts, none-some, same_Some, slice_get_within}
+use Rattle.fm_flow.specs.Answered.{is_success}
+use Rattle.std.proofs.Common.{nat_eq, unwrap_or}
 use Rattle.std.proofs.lemmas.Bool.{eq-eqb, and_from, or_parts}
-use Rattle.fm_types.specs.declared.ids.OpId.{OpId}
-use Rattle.fm_types.specs.declared.status.Status.TheVariants as status
-use Rattle.fm_data.specs.declared.params.Params.{Params}
-use Rattle.fm_data.specs.declared.params.Params.TheVariants as params
-use Rattle.fm_data.specs.declared.verdict.PreVerdict.{PreVerdict}
 use Rattle.fm_data.specs.declared.verdict.PostVerdict.{PostVerdict}
-use Rattle.fm_flow.specs.declared.action.Below.{Below}
-use Rattle.fm_flow.specs.declared.action.Below.TheVariants as below
-use Rattle.fm_flow.specs.declared.action.FlowAction.TheVariants as action
-use Rattle.fm_flow.specs.declared.entry.PreState.TheVariants as pre
 use Rattle.fm_flow.specs.declared.stage.Stage.{Stage}
 use Rattle.fm_flow.specs.declared.entry.Entry.{Entry}
-use Rattle.fm_flow.specs.Steps.{next_of, base_returned_of, MayLieBelow}
+use Rattle.fm_flow.specs.Steps.{base_returned_of, MayLieBelow}
 use Rattle.fm_flow.specs.Verdict.{verdict_counted}
-use Rattle.fm_flow.specs.Table.{told, is_number, StandsAt, MayLieBelowOf, begun, begun_record, collect_reply, collected_of}
-use Rattle.fm_data.specs.declared.request.Request.TheVariants as request
-use Rattle.fm_world.specs.declared.worker.Worker.TheVariants as place
-use Rattle.fm_world.specs.Workers.{after_next}
-use Rattle.fm_world.specs.Events.{LosesByKnown, flow_after_next, drains_next, pre_step, Begins, Nexts, NextsAt, FindsBelow, PreReturnsOver, base_returned, PreReturns, PreReturnsAt, BaseReturns, BaseReturnsAt, PostReturns, PostReturnsAt, Collects, drains_at, ReturnsFrom, sent_in, of_hand, carries_after, state_given, has_post, returned, filed_record, filed_next, filed_base, filed_pre, begin_refused, asked_begun, refused_at, refused_on, begun_at, begun_on, or_else}
+use Rattle.fm_flow.specs.Table.{MayLieBelowOf, begun, begun_record, collect_reply, collected_of}
+use Rattle.fm_world.specs.Events.{LosesByKnown, pre_step, Begins, Nexts, NextsAt, FindsBelow, PreReturnsOver, base_returned, PreReturns, PreReturnsAt}
+use Rattle.fm_world.specs.Events.{BaseReturns, BaseReturnsAt, PostReturns, PostReturnsAt, Collects, ReturnsFrom, of_hand, carries_after, has_post, returned}
+use Rattle.fm_world.specs.Events.{filed_record, filed_next, filed_base, begin_refused, asked_begun, refused_at, refused_on, begun_at, begun_on, or_else}
 use Rattle.fm_world.specs.Headline.{Spot, AtPre, AtBase, AtPost, AtDrain, is_in_at, is_spot, spot_at}
 use Rattle.fm_world.specs.Sound.{IsAmong}
-use Rattle.fm_types.proofs.Firsts.{found_holds}
 use Rattle.fm_core.proofs.Changes.{change_agrees, change_same}
 use Rattle.fm_world.proofs.Ties.{tied_there, spot_pre, spot_base, spot_post, spot_drain}
-use Rattle.fm_world.proofs.Operations.{told_there}
 use Rattle.fm_world.proofs.Turns.{may_visit, unchanged_flow, next_balance, was_known}
 use Rattle.fm_world.proofs.Requests.{full_from, none_else, asked_within, total_push, collect_balance, asked_sound}
-use Rattle.fm_world.proofs.Returns.{pre_balance, post_balance, drain_balance, sent_is_held}
-use Rattle.fm_ctx.proofs.Moves.{within_hands}
-use Rattle.fm_world.proofs.Owning.{empty_hand}
+use Rattle.fm_world.proofs.Returns.{pre_balance, post_balance, drain_balance}
 use Rattle.fm_flow.proofs.Returns.{base_returned_carries}
 use Rattle.fm_flow.proofs.Flows.{total_changed}
 use Rattle.fm_core.proofs.Holding.{ends_leaves, tied_ends, next_table, brought_slots, sent_slots, may_bring, tied_brought, handed_balance, may_send, tied_sent}
 use Rattle.fm_core.proofs.Losing.{loses, answer_gone, verdict_gone}
-use Rattle.fm_core.specs.Descent.{FindsAt, IsDownOrCall}
+use Rattle.fm_core.specs.Descent.{IsDownOrCall}
 use Rattle.fm_types.specs.declared.operation.CreateMode.{CreateMode}
 use Rattle.fm_data.specs.Params.{is_within_limits}
 use Rattle.fm_flow.specs.Creates.{is_create, is_unanswered}
 use Rattle.fm_data.specs.declared.request.FileRequest.{FileRequest}
-use Rattle.fm_world.specs.Files.{stream_at, handle_at}
+use Rattle.fm_world.specs.Files.{stream_at}
 use Rattle.fm_data.specs.Requests.{params_of}
 use Rattle.fm_world.proofs.Filing.{room_for}
-use Rattle.fm_core.specs.Targets.{target_in, known_in, HasRoom}
+use Rattle.fm_core.specs.Targets.{HasRoom}
 use Rattle.fm_core.specs.Begun.{Asks}
+use Rattle.fm_types.specs.declared.status.Status.TheVariants as status
+use Rattle.fm_data.specs.declared.params.Params.TheVariants as params
+use Rattle.fm_flow.specs.declared.action.Below.TheVariants as below
+use Rattle.fm_flow.specs.declared.action.FlowAction.TheVariants as action
+use Rattle.fm_flow.specs.declared.entry.PreState.TheVariants as pre
+use Rattle.fm_data.specs.declared.request.Request.TheVariants as request
+use Rattle.fm_world.specs.declared.worker.Worker.TheVariants as place
 
 -- ---- next
 

@@ -1,51 +1,38 @@
 -- An operation passes an instance in one event, which is two of the model: `next`, and the return of the callback that it calls.
-use Rattle.fm_core.proofs.Words.{arith, nat_tests, Bool, true, false, Option, Some, None, Ok, Err, refl, ap, sym, subst, inl, inr, length, is_some}
-use Rattle.fm_core.proofs.Words.{false≢true, cases_Bool, same_Some, slice_get_within, All, InstanceId, WorkerId, FlowAction, PreState, Data, data_fits}
-use Rattle.fm_core.proofs.Words.{FlowRecord, FlowTable, pre_returned_of, post_returned_of, operation_at, changed, Worker, World, worker_at, is_idle, put, state_at}
-use Rattle.fm_core.proofs.Words.{hand_of, ContextsKept, Context, Slot, IsState, IsTied, Ends, Sweeping, is_lost_of, kept_brought, FileTable, Target}
-use Rattle.std.proofs.Common.{◌≡◌, ℕ, ◌<◌, ◌≤◌, ◌==◌, ◌∙◌, cond, List, [], ◌∷◌, zero, suc}
-use Rattle.std.specs.Prelude.{option_map, slice_get, slice_set, IfSome, nat_le}
-use Rattle.std.proofs.lemmas.List.Elements.{All-weaker}
-use Rattle.fm_types.specs.declared.ids.OpId.{OpId}
-use Rattle.fm_types.specs.declared.status.Status.TheVariants as status
-use Rattle.fm_types.proofs.Firsts.{find_changed, found_holds}
+use Rattle.fm_core.proofs.Words.{FindsAt, IsState, IsTied, Ends, back_in, kept_brought, Sweeping, is_lost_of, ComesDown, ComesUp, known_in, target_in, Target}
+use Rattle.fm_core.proofs.Words.{hand_of, ContextsKept, Context, Slot, Data, data_fits, Params, PreVerdict, owed, FlowRecord, next_of, post_returned_of}
+use Rattle.fm_core.proofs.Words.{pre_returned_of, FlowTable, changed, is_number, operation_at, told, Below, FlowAction, Ask, PreState, found_holds, InstanceId}
+use Rattle.fm_core.proofs.Words.{OpId, WorkerId, idle_there, told_there, post_does, pre_does, next_does, Nexts, PostReturns, PreReturns, drains_at, drains_next}
+use Rattle.fm_core.proofs.Words.{flow_after_next, state_at, state_given, FileTable, names_there, after_next, is_idle, put, worker_at, World, Worker, All, Bool}
+use Rattle.fm_core.proofs.Words.{Err, IfSome, List, None, Ok, Option, Some, [], ap, arith, cond, false, inl, inr, is_some, length, option_map, refl, slice_get}
+use Rattle.fm_core.proofs.Words.{slice_set, subst, suc, sym, true, ℕ, ◌<◌, ◌==◌, ◌∙◌, ◌∷◌, ◌≡◌, ◌≤◌, cases_Bool, false≢true, nat_tests, All-weaker, same_Some}
+use Rattle.fm_core.proofs.Words.{slice_get_within}
+use Rattle.std.proofs.Common.{zero, nat_le}
+use Rattle.fm_types.proofs.Firsts.{find_changed}
 use Rattle.fm_types.proofs.Lists.{slice_get-set_same}
-use Rattle.fm_data.specs.declared.params.Params.{Params}
-use Rattle.fm_data.specs.declared.verdict.PreVerdict.{PreVerdict}
-use Rattle.fm_data.specs.declared.verdict.PreVerdict.TheVariants as verdict
-use Rattle.fm_data.specs.declared.verdict.PostVerdict.TheVariants as over
 use Rattle.fm_data.specs.Data.{answered_data, fresh_data}
 use Rattle.fm_data.specs.Params.{fit}
-use Rattle.fm_flow.specs.declared.action.Below.{Below}
-use Rattle.fm_flow.specs.declared.action.Below.TheVariants as below
-use Rattle.fm_flow.specs.declared.action.FlowAction.TheVariants as action
-use Rattle.fm_flow.specs.declared.entry.Ask.{Ask}
-use Rattle.fm_flow.specs.declared.entry.PreState.TheVariants as pre
 use Rattle.fm_flow.specs.declared.stage.Stage.TheVariants.{Ascending, Descending}
-use Rattle.fm_flow.specs.Entries.{owed}
-use Rattle.fm_flow.specs.Sound as flow
-use Rattle.fm_flow.specs.Steps.{Turned, ascend, call_post, call_pre, done_at, give_post, is_done, lent_answer, next_at, next_of, passed_up, stands, turn, unwound, with_visit}
-use Rattle.fm_flow.specs.Table.{is_number, told}
+use Rattle.fm_flow.specs.Steps.{Turned, ascend, call_post, call_pre, done_at, give_post, is_done, lent_answer, next_at, passed_up, stands, turn, unwound}
+use Rattle.fm_flow.specs.Steps.{with_visit}
 use Rattle.fm_flow.proofs.Next.{Unwinds, next_stays, unwinds}
 use Rattle.fm_flow.proofs.Passing.{down_whole, up_whole, undone}
 use Rattle.fm_flow.proofs.Soundness.{at_stage}
-use Rattle.fm_world.specs.declared.worker.Worker.TheVariants as place
-use Rattle.fm_world.specs.Events.{Nexts, PostReturns, PreReturns, drains_at, drains_next, flow_after_next, is_stopping_ask, state_given}
+use Rattle.fm_world.specs.Events.{is_stopping_ask}
 use Rattle.fm_world.specs.Hands.{OnlyHandOf}
-use Rattle.fm_world.specs.Links.{names_there}
-use Rattle.fm_world.specs.Workers.{after_next}
-use Rattle.fm_world.proofs.Events.{idle_there}
-use Rattle.fm_world.proofs.Operations.{told_there}
-use Rattle.fm_world.proofs.Returns.{post_does, pre_does}
-use Rattle.fm_world.proofs.Turns.{next_does}
-use Rattle.fm_core.specs.Passing.{ComesDown, ComesUp, PassesDown, PassesUp, numbered}
-use Rattle.fm_core.specs.Descent.{FindsAt}
-use Rattle.fm_core.specs.Hands.{back_in}
-use Rattle.fm_core.specs.Targets.{known_in, target_in}
+use Rattle.fm_core.specs.Passing.{PassesDown, PassesUp, numbered}
 use Rattle.fm_core.proofs.Changes.{change_twice}
 use Rattle.fm_core.proofs.Holding.{tied_ends}
 use Rattle.fm_core.proofs.Losing.{Agrees, sweeps_none}
 use Rattle.fm_core.proofs.Operated.{Goes, next_leads, next_tied, post_returns, post_tied, pre_returns, pre_tied}
+use Rattle.fm_types.specs.declared.status.Status.TheVariants as status
+use Rattle.fm_data.specs.declared.verdict.PreVerdict.TheVariants as verdict
+use Rattle.fm_data.specs.declared.verdict.PostVerdict.TheVariants as over
+use Rattle.fm_flow.specs.declared.action.Below.TheVariants as below
+use Rattle.fm_flow.specs.declared.action.FlowAction.TheVariants as action
+use Rattle.fm_flow.specs.declared.entry.PreState.TheVariants as pre
+use Rattle.fm_flow.specs.Sound as flow
+use Rattle.fm_world.specs.declared.worker.Worker.TheVariants as place
 
 -- ---- workers
 

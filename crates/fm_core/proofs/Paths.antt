@@ -1,10 +1,9 @@
 -- A stream that is found by its path is at that path.
-use Rattle.fm_core.proofs.Words.{None, Option, Some, refl, sym, ap, inl, inr, cases_Bool, and_parts, none-some, same_Some, VolumeId, FileStream}
-use Rattle.std.proofs.Common.{Bor, ◌≡◌, ℕ, ◌==◌, cond, List, [], ◌∷◌, ◌∙◌}
-use Rattle.std.specs.Prelude.{IfSome, find, option_copied, option_map}
+use Rattle.fm_core.proofs.Words.{stream_or, VolumeId, is_at_path, FileStream, IfSome, List, None, Option, Some, [], ap, cond, find, inl, inr, option_map, refl}
+use Rattle.fm_core.proofs.Words.{sym, ℕ, ◌==◌, ◌∙◌, ◌∷◌, ◌≡◌, and_parts, cases_Bool, none-some, same_Some}
+use Rattle.std.proofs.Common.{Bor, option_copied}
 use Rattle.std.specs.Cmp.Lexicographic.{pointwise, bytes_decides}
-use Rattle.fm_world.specs.Files.{is_at_path, number_or}
-use Rattle.fm_core.specs.FilesKept.{stream_or}
+use Rattle.fm_world.specs.Files.{number_or}
 
 pub found_path : (v : VolumeId) (path : List ℕ) (rows : List FileStream) (x : FileStream) → find (is_at_path v path) rows ≡ Some x → x.path ≡ path
 found_path v path [] x found = absurd (none-some x found)

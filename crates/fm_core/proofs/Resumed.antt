@@ -1,30 +1,22 @@
 -- The events on held operations, from what their parts did.
-use Rattle.fm_core.proofs.Words.{arith, true, false, Option, Some, None, Ok, refl, ap, sym, subst, length, InstanceId, WorkerId, CtxId}
-use Rattle.fm_core.proofs.Words.{first_of, PreState, FlowRecord, FlowTable, operation_at, changed, World, carries, worker_at, LosesLinks, sent, state_at}
-use Rattle.fm_core.proofs.Words.{FileTable, is_created_on, hand_of, holds, ContextsKept, ContextTable, IsLawful, IsTied, IsState, MaySend, kept_sent, Sweeping, is_lost_of, after_pre, decided, Target}
-use Rattle.std.proofs.Common.{◌≡◌, ◌<◌, not, [], ◌∷◌, ◌∙◌}
-use Rattle.fm_types.specs.declared.ids.OpId.{OpId}
-use Rattle.fm_types.specs.declared.status.Status.TheVariants as status
-use Rattle.fm_types.proofs.Firsts.{found_holds}
-use Rattle.fm_data.specs.declared.verdict.PreVerdict.{PreVerdict}
+use Rattle.fm_core.proofs.Words.{IsState, IsTied, MaySend, kept_sent, Sweeping, is_lost_of, decided, target_in, Target, within_hands, hand_of, holds}
+use Rattle.fm_core.proofs.Words.{ContextsKept, IsLawful, ContextTable, PreVerdict, FlowRecord, pre_settled, FlowTable, IsFlow, StandsAt, changed, is_number}
+use Rattle.fm_core.proofs.Words.{operation_at, PreState, found_holds, first_of, CtxId, InstanceId, OpId, WorkerId, told_there, placed_below, sent_is_held}
+use Rattle.fm_core.proofs.Words.{filed_pre, is_created_on, sent, sent_in, state_at, FileTable, after_pre, LosesLinks, place_in, worker_at, World, carries, None}
+use Rattle.fm_core.proofs.Words.{Ok, Option, Some, [], ap, arith, false, length, not, refl, subst, sym, true, ◌<◌, ◌∙◌, ◌∷◌, ◌≡◌}
 use Rattle.fm_flow.specs.declared.hold.Hold.{Hold}
-use Rattle.fm_flow.specs.declared.hold.Hold.TheVariants as hold
-use Rattle.fm_flow.specs.declared.entry.PostState.TheVariants as post
 use Rattle.fm_flow.specs.declared.stage.Stage.TheVariants.{PreHeld, PostHeld}
 use Rattle.fm_flow.specs.Holds.{is_held}
-use Rattle.fm_flow.specs.Sound as flow
-use Rattle.fm_flow.specs.Steps.{pre_settled, post_settled}
-use Rattle.fm_flow.specs.Table.{IsFlow, StandsAt, is_number}
+use Rattle.fm_flow.specs.Steps.{post_settled}
 use Rattle.fm_flow.proofs.Holds.{held_pre, held_post}
-use Rattle.fm_ctx.proofs.Moves.{within_hands}
-use Rattle.fm_world.specs.Events.{ResumesPost, ResumesPostAt, ResumesPre, ResumesPreAt, filed_pre, is_held_by, lets_go, pre_resumed, sent_in}
-use Rattle.fm_world.specs.Owners.{place_in}
-use Rattle.fm_world.proofs.Operations.{told_there}
-use Rattle.fm_world.proofs.Resumes.{placed_below, post_resumed_balance, resumed_balance}
-use Rattle.fm_world.proofs.Returns.{sent_is_held}
-use Rattle.fm_core.specs.Targets.{target_in}
+use Rattle.fm_world.specs.Events.{ResumesPost, ResumesPostAt, ResumesPre, ResumesPreAt, is_held_by, lets_go, pre_resumed}
+use Rattle.fm_world.proofs.Resumes.{post_resumed_balance, resumed_balance}
 use Rattle.fm_core.proofs.Holding.{may_send, sent_slots, tied_sent}
 use Rattle.fm_core.proofs.Losing.{loses, verdict_gone}
+use Rattle.fm_types.specs.declared.status.Status.TheVariants as status
+use Rattle.fm_flow.specs.declared.hold.Hold.TheVariants as hold
+use Rattle.fm_flow.specs.declared.entry.PostState.TheVariants as post
+use Rattle.fm_flow.specs.Sound as flow
 
 -- ---- the operation that is held
 

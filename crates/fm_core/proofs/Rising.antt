@@ -1,14 +1,11 @@
 -- Streams and handles stay in the order of their numbers.
-use Rattle.fm_core.proofs.Words.{subst, sym, All, FileHandle, FileStream, HandleId, StreamId, is_handle, is_stream, with_mark}
-use Rattle.std.proofs.Common.{◌≡◌, ℕ, ◌+◌, ◌<◌, List, [], ◌∷◌, ◌++◌, AllPairs, arith}
+use Rattle.fm_core.proofs.Words.{IsBefore, IsOlder, change_first, without_first, HandleId, StreamId, is_handle, is_stream, with_mark, with_phase, FileHandle}
+use Rattle.fm_core.proofs.Words.{FileStream, HandlePhase, All, AllPairs, List, [], arith, subst, sym, ℕ, ◌++◌, ◌+◌, ◌<◌, ◌∷◌, ◌≡◌}
 use Rattle.std.proofs.lemmas.List.Elements.{All-push}
 use Rattle.std.proofs.lemmas.List.Quantifiers.{all_pairs_push}
-use Rattle.fm_world.specs.declared.file.HandlePhase.{HandlePhase}
-use Rattle.fm_types.specs.Lists.{change_first, without_first}
 use Rattle.fm_types.proofs.Firsts.{all_without}
-use Rattle.fm_world.specs.Files.{with_phase}
 use Rattle.fm_world.proofs.Streams.{all_kept, pairs_change, pairs_without}
-use Rattle.fm_core.specs.FilesKept.{AreRising, IsBefore, IsOlder}
+use Rattle.fm_core.specs.FilesKept.{AreRising}
 
 pub created_rising : (x : FileStream) (xs ys : List FileStream) (hs : List FileHandle) (n : ℕ) → ys ≡ xs ++ x ∷ []
     → All (λ (y : FileStream). y.number.0 < x.number.0) xs

@@ -1,23 +1,18 @@
 -- The events by which instances are detached and filters unloaded, from what their parts did.
-use Rattle.fm_core.proofs.Words.{arith, Bool, true, Option, Some, Result, Ok, Err, refl, ap, sym, subst, FilterId, InstanceId, WorkerId, Status, StackWorld, Worker, World}
-use Rattle.fm_core.proofs.Words.{FlowTable, worker_at, put, is_idle, Unless, carries, ContextsKept, carried_of, Leaves, leaves_alike, sweeps_alike, carried_equal, IsTied}
-use Rattle.std.proofs.Common.{◌≡◌, ℕ, List, ◌∙◌}
-use Rattle.fm_types.specs.Refusals.{first_of, Answers}
+use Rattle.fm_core.proofs.Words.{IsTied, SweptWhere, complete_of, query_of, start_of, unload_of, leaves_alike, sweeps_alike, carried_equal, open_of}
+use Rattle.fm_core.proofs.Words.{ContextsKept, carried_of, Leaves, Sweeps, is_linked_of, Context, FlowTable, StackWorld, Answers, first_of, FilterId}
+use Rattle.fm_core.proofs.Words.{InstanceId, WorkerId, Status, Unless, is_idle, put, worker_at, World, carries, Worker, Bool, Err, List, Ok, Option, Result}
+use Rattle.fm_core.proofs.Words.{Some, ap, arith, refl, subst, sym, true, ℕ, ◌∙◌, ◌≡◌}
+use Rattle.fm_flow.specs.Table.{in_flight}
+use Rattle.fm_world.specs.Workers.{after_entering, is_queried, is_asked_to_unload}
+use Rattle.fm_world.specs.Teardowns.{AsksDetach, QueryReturns, QueryReturnsAt, StartsTeardown, StartReturns, StartReturnsAt, CompletesTeardown, CompleteReturns}
+use Rattle.fm_world.specs.Teardowns.{CompleteReturnsAt, AsksUnload, UnloadReturns, UnloadReturnsAt, ForcesUnload, EmptiesFilter, SweepsWhere, FinishesFilter}
+use Rattle.fm_core.proofs.Losing.{sweeping_tied}
 use Rattle.fm_types.specs.declared.status.Status.TheVariants as status
 use Rattle.fm_stack.specs.Detaching as stack
 use Rattle.fm_stack.specs.Unloading as filters
-use Rattle.fm_flow.specs.Table.{in_flight}
-use Rattle.fm_ctx.specs.Counting.{open_of}
-use Rattle.fm_ctx.specs.Settling.{Sweeps, is_linked_of}
-use Rattle.fm_ctx.specs.Table.{Context}
 use Rattle.fm_ctx.specs.declared.owner.Owner.TheVariants as owner
 use Rattle.fm_world.specs.declared.worker.Worker.TheVariants as place
-use Rattle.fm_world.specs.Workers.{after_entering, is_queried, is_asked_to_unload}
-use Rattle.fm_world.specs.Teardowns.{AsksDetach, QueryReturns, QueryReturnsAt, StartsTeardown, StartReturns, StartReturnsAt, CompletesTeardown, CompleteReturns, CompleteReturnsAt}
-use Rattle.fm_world.specs.Teardowns.{AsksUnload, UnloadReturns, UnloadReturnsAt, ForcesUnload, EmptiesFilter, SweepsWhere, FinishesFilter}
-use Rattle.fm_core.specs.Hands.{SweptWhere}
-use Rattle.fm_core.specs.Places.{complete_of, query_of, start_of, unload_of}
-use Rattle.fm_core.proofs.Losing.{sweeping_tied}
 
 -- ---- an idle worker enters a callback
 

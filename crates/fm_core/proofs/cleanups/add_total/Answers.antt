@@ -1,7 +1,6 @@
-use Rattle.std.proofs.Common.{◌+◌, ◌%◌, ◌^◌, sym, ◌∙◌, ap}
+use Rattle.fm_core.proofs.Words.{totalled_for, ap, sym, ◌%◌, ◌+◌, ◌^◌, ◌∙◌}
 use Rattle.std.proofs.lemmas.Option.{slice_get_past}
 use Rattle.fm_types.proofs.Lists.{updated_none}
-use Rattle.fm_world.specs.ContextEvents.{totalled_for}
 use Rattle.fm_core.proofs.cleanups.add_total.Goals as goal
 
 pub returns-else-at-totals : goal.returns-else-at-totals

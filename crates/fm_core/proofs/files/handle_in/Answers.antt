@@ -1,5 +1,4 @@
-use Rattle.fm_core.proofs.Words.{sym, is_handle, stands_there}
-use Rattle.std.proofs.Common.{◌∙◌}
+use Rattle.fm_core.proofs.Words.{stands_there, is_handle, sym, ◌∙◌}
 use Rattle.fm_core.proofs.files.handle_in.Goals as goal
 
 pub returns-in-Some : goal.returns-in-Some

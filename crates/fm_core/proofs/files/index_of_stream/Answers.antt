@@ -1,6 +1,4 @@
-use Rattle.fm_core.proofs.Words.{arith, length, FileStream}
-use Rattle.std.proofs.Common.{◌-◌}
-use Rattle.fm_types.proofs.Rising.{stands_rising}
+use Rattle.fm_core.proofs.Words.{stands_rising, FileStream, arith, length, ◌-◌}
 use Rattle.fm_core.proofs.files.index_of_stream.Goals as goal
 
 pub returns-then-streams-count : goal.returns-then-streams-count

@@ -1,5 +1,4 @@
-use Rattle.fm_core.proofs.Words.{position, ap, sym, slice_set, stands_there, absent, change_none, FileStream, is_stream, with_mark}
-use Rattle.std.proofs.Common.{◌∙◌}
+use Rattle.fm_core.proofs.Words.{absent, change_none, stands_there, is_stream, with_mark, FileStream, ap, position, slice_set, sym, ◌∙◌}
 use Rattle.fm_core.proofs.files.mark_in.Goals as goal
 
 pub returns-in-Some : goal.returns-in-Some

@@ -1,5 +1,4 @@
-use Rattle.fm_core.proofs.Words.{sym}
-use Rattle.std.proofs.Common.{◌∙◌}
+use Rattle.fm_core.proofs.Words.{sym, ◌∙◌}
 use Rattle.fm_core.proofs.Counted.{counted_there}
 use Rattle.fm_core.proofs.files.opens_on.Goals as goal
 

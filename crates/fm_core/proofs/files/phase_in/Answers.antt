@@ -1,6 +1,4 @@
-use Rattle.fm_core.proofs.Words.{position, ap, sym, slice_set, stands_there, absent, change_none, FileHandle, is_handle}
-use Rattle.std.proofs.Common.{◌∙◌}
-use Rattle.fm_world.specs.Files.{with_phase}
+use Rattle.fm_core.proofs.Words.{absent, change_none, stands_there, is_handle, with_phase, FileHandle, ap, position, slice_set, sym, ◌∙◌}
 use Rattle.fm_core.proofs.files.phase_in.Goals as goal
 
 pub returns-in-Some-clause-items : goal.returns-in-Some-clause-items

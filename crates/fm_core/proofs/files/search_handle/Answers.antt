@@ -1,7 +1,4 @@
-use Rattle.fm_core.proofs.Words.{FileHandle}
-use Rattle.std.proofs.Common.{◌∙◌, rules}
-use Rattle.std.proofs.lemmas.List.Sorted.{answers_always}
-use Rattle.fm_types.proofs.Rising.{found_rising}
+use Rattle.fm_core.proofs.Words.{found_rising, FileHandle, rules, ◌∙◌, answers_always}
 use Rattle.fm_core.proofs.files.search_handle.Goals as goal
 
 pub returns : goal.returns

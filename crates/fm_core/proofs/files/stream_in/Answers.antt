@@ -1,6 +1,4 @@
-use Rattle.fm_core.proofs.Words.{sym, is_stream}
-use Rattle.std.proofs.Common.{◌∙◌}
-use Rattle.fm_types.proofs.Firsts.{found_read}
+use Rattle.fm_core.proofs.Words.{found_read, is_stream, sym, ◌∙◌}
 use Rattle.fm_core.proofs.files.stream_in.Goals as goal
 
 pub returns-in-Some : goal.returns-in-Some

@@ -1,5 +1,4 @@
-use Rattle.fm_core.proofs.Words.{sym, subst, empty_world, RunThrough, Headline}
-use Rattle.std.proofs.Common.{List, [], ◌∷◌, ◌++◌}
+use Rattle.fm_core.proofs.Words.{Headline, RunThrough, empty_world, List, [], subst, sym, ◌++◌, ◌∷◌}
 use Rattle.fm_world.specs.declared.step.StepReply.{StepReply}
 use Rattle.fm_world.proofs.Runs.{run_more}
 use Rattle.fm_core.proofs.runs.run.Goals as goal

@@ -1,4 +1,4 @@
-use Rattle.fm_core.proofs.Words.{empty_world, RunThrough, Headline}
+use Rattle.fm_core.proofs.Words.{Headline, RunThrough, empty_world}
 use Rattle.fm_core.proofs.runs.run.Given as goal
 
 abbrev pub invariant-loop-step : goal.invariant-loop-step

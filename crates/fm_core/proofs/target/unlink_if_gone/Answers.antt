@@ -1,5 +1,4 @@
-use Rattle.std.proofs.Common.{Some, None, refl, sym, ◌∙◌, subst}
-use Rattle.fm_core.specs.Lost.{Sweeping, is_lost}
+use Rattle.fm_core.proofs.Words.{Sweeping, is_lost, None, Some, refl, subst, sym, ◌∙◌}
 use Rattle.fm_core.proofs.Losing.{sweeping_none, nothing_lost}
 use Rattle.fm_core.proofs.target.unlink_if_gone.Goals as goal
 

@@ -1,5 +1,4 @@
-use Rattle.fm_core.proofs.Words.{subst, arith, Sweeping, handle_lost, stream_lost, is_lost, is_lost_of}
-use Rattle.std.specs.Prelude.{◌||◌}
+use Rattle.fm_core.proofs.Words.{Sweeping, handle_lost, is_lost, is_lost_of, stream_lost, arith, subst, ◌||◌}
 use Rattle.fm_core.proofs.Losing.{sweeping_as, sweeping_both}
 use Rattle.fm_core.proofs.target.unlink_lost.Goals as goal
 

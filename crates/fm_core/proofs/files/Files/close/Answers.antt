@@ -1,9 +1,6 @@
-use Rattle.fm_core.proofs.Words.{ap, subst, sym, is_handle, is_stream, position, without_none}
-use Rattle.std.proofs.Common.{◌≤◌, ◌-◌, ◌∙◌, List}
-use Rattle.std.specs.Prelude.{IfSome, slice_index_or}
-use Rattle.fm_world.specs.declared.file.FileHandle.{FileHandle}
-use Rattle.fm_world.specs.declared.file.FileStream.{FileStream}
-use Rattle.fm_core.specs.FilesKept.{AreCounted, changed_at}
+use Rattle.fm_core.proofs.Words.{AreCounted, changed_at, without_none, is_handle, is_stream, FileHandle, FileStream, IfSome, List, ap, position, subst, sym}
+use Rattle.fm_core.proofs.Words.{◌-◌, ◌∙◌, ◌≤◌}
+use Rattle.std.proofs.Common.{slice_index_or}
 use Rattle.fm_core.proofs.Counted.{closed_counted, closing_counts}
 use Rattle.fm_core.proofs.Rising.{closed_rising}
 use Rattle.fm_core.proofs.files.Files.close.Goals as goal

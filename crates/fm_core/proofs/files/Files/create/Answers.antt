@@ -1,7 +1,4 @@
-use Rattle.fm_core.proofs.Words.{All, FileStream, false, subst, sym}
-use Rattle.std.proofs.Common.{◌≡◌, ◌<◌}
-use Rattle.fm_world.specs.Files.{has_handle_on}
-use Rattle.fm_core.specs.FilesKept.{FilesKept}
+use Rattle.fm_core.proofs.Words.{FilesKept, has_handle_on, FileStream, All, false, subst, sym, ◌<◌, ◌≡◌}
 use Rattle.fm_core.proofs.Counted.{created_counted}
 use Rattle.fm_core.proofs.Rising.{created_rising}
 use Rattle.fm_core.proofs.files.Files.create.Goals as goal

@@ -1,9 +1,4 @@
-use Rattle.fm_core.proofs.Words.{ap, subst}
-use Rattle.std.proofs.Common.{◌≡◌, ◌∙◌, ℕ, Option, cond, nat_lt}
-use Rattle.std.specs.Prelude.{AllPairs, count_by}
-use Rattle.fm_world.specs.declared.file.FileHandle.{FileHandle}
-use Rattle.fm_world.specs.Files.{handle_at, is_on}
-use Rattle.fm_core.specs.FilesKept.{FilesKept, IsOlder, is_own}
+use Rattle.fm_core.proofs.Words.{FilesKept, IsOlder, is_own, handle_at, is_on, FileHandle, AllPairs, Option, ap, cond, count_by, nat_lt, subst, ℕ, ◌∙◌, ◌≡◌}
 use Rattle.fm_core.proofs.Counted.{others_counted}
 use Rattle.fm_core.proofs.files.Files.has_other_handle.Goals as goal
 

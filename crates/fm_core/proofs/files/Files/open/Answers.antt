@@ -1,7 +1,5 @@
-use Rattle.fm_core.proofs.Words.{FileHandle, FileStream, ap, is_stream, length, position, refl, subst, sym}
-use Rattle.std.proofs.Common.{◌≡◌, ◌<◌, ◌≤◌, ◌+◌, ◌∙◌, List, [], ◌∷◌, ◌++◌}
-use Rattle.fm_core.specs.FilesKept.{AreCounted, FilesKept, changed_at}
-use Rattle.fm_world.specs.Files.{fresh_handle}
+use Rattle.fm_core.proofs.Words.{AreCounted, FilesKept, changed_at, fresh_handle, is_stream, FileHandle, FileStream, List, [], ap, length, position, refl}
+use Rattle.fm_core.proofs.Words.{subst, sym, ◌++◌, ◌+◌, ◌<◌, ◌∙◌, ◌∷◌, ◌≡◌, ◌≤◌}
 use Rattle.fm_core.proofs.Counted.{few_counted, opened_counted}
 use Rattle.fm_core.proofs.Rising.{opened_rising}
 use Rattle.fm_core.proofs.files.Files.open.Goals as goal

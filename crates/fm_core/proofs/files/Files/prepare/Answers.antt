@@ -1,5 +1,4 @@
-use Rattle.std.proofs.Common.{find, ap, ◌∙◌}
-use Rattle.fm_world.specs.Files.{is_at_path}
+use Rattle.fm_core.proofs.Words.{is_at_path, ap, find, ◌∙◌}
 use Rattle.fm_core.proofs.Paths.{found_there}
 use Rattle.fm_core.proofs.files.Files.prepare.Goals as goal
 

@@ -1,5 +1,4 @@
-use Rattle.fm_core.proofs.Words.{subst, sym}
-use Rattle.std.proofs.Common.{◌≤◌}
+use Rattle.fm_core.proofs.Words.{subst, sym, ◌≤◌}
 use Rattle.fm_core.proofs.Counted.{phased_counted}
 use Rattle.fm_core.proofs.Rising.{phased_rising}
 use Rattle.fm_core.proofs.files.Files.set_phase.Goals as goal

@@ -1,12 +1,10 @@
-use Rattle.fm_core.proofs.Words.{Result, Some, refl, ap, sym, subst, same_Some, Answer, BaseCall, InBase, FlowRecord, base_fits, base_after}
-use Rattle.fm_core.proofs.Words.{changed, worker_at, base_step, IsSound, IsTied, base_of, the_view}
-use Rattle.std.proofs.Common.{◌≡◌, ℕ, ◌∙◌}
-use Rattle.std.specs.Option.{option_copied}
-use Rattle.fm_world.specs.declared.worker.Worker.TheVariants as place
+use Rattle.fm_core.proofs.Words.{IsTied, base_of, the_view, BaseCall, Answer, FlowRecord, base_after, base_fits, changed, InBase, base_step, IsSound, worker_at}
+use Rattle.fm_core.proofs.Words.{Result, Some, ap, refl, subst, sym, ℕ, ◌∙◌, ◌≡◌, same_Some, option_copied}
 use Rattle.fm_world.proofs.Returns.{base_does}
 use Rattle.fm_core.proofs.Losing.{sweeping_tied}
 use Rattle.fm_core.proofs.Operated.{Comes, comes, base_is, base_returns, base_room, base_strange, base_tied, in_base, placed, stands_from, there_from}
 use Rattle.fm_core.proofs.state.State.base_returned.Goals.{In-Some, After-base_returned}
+use Rattle.fm_world.specs.declared.worker.Worker.TheVariants as place
 use Rattle.fm_core.proofs.state.State.base_returned.Goals as goal
 
 at : (c : In-Some) → worker_at (the_view c.self.inside).workers c.args.worker ≡ Some (place.Base c.in-Some.operation)

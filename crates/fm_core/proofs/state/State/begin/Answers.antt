@@ -1,8 +1,6 @@
-use Rattle.fm_core.proofs.Words.{sym, subst, Request, Begins}
-use Rattle.fm_core.specs.Begun.{Asks}
+use Rattle.fm_core.proofs.Words.{Asks, Request, begin_does, Begins, subst, sym}
 use Rattle.fm_core.proofs.Operated.{asks_begins}
 use Rattle.fm_core.proofs.state.State.begin.Goals as goal
-use Rattle.fm_world.proofs.Requests.{begin_does}
 
 pub returns-in-OnHandle-clause-event : goal.returns-in-OnHandle-clause-event
 returns-in-OnHandle-clause-event c =

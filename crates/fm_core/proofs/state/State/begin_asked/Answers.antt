@@ -1,6 +1,5 @@
-use Rattle.fm_core.proofs.Words.{Option, Some, ap, sym, subst, is_ok, operation_of, FileStream, World, IsSound, IsAsked, moved_on, the_view}
-use Rattle.std.proofs.Common.{ℕ, List, ◌∙◌}
-use Rattle.std.specs.Prelude.{cond, option_map}
+use Rattle.fm_core.proofs.Words.{IsAsked, the_view, operation_of, moved_on, IsSound, World, FileStream, List, Option, Some, ap, cond, is_ok, option_map, subst}
+use Rattle.fm_core.proofs.Words.{sym, ℕ, ◌∙◌}
 use Rattle.fm_core.proofs.Operated.{Took, asks, asks_sound, begin_tied}
 use Rattle.fm_core.proofs.state.State.begin_asked.Goals as goal
 

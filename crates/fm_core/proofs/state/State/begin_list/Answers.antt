@@ -1,7 +1,6 @@
-use Rattle.fm_core.proofs.Words.{None, sym, subst, first_of, volume_refusals, IsSound, begin_does}
-use Rattle.std.proofs.Common.{◌≡◌, ℕ, ◌∙◌}
-use Rattle.fm_data.specs.declared.params.Params.TheVariants as params
+use Rattle.fm_core.proofs.Words.{first_of, begin_does, volume_refusals, IsSound, None, subst, sym, ℕ, ◌∙◌, ◌≡◌}
 use Rattle.fm_core.proofs.Operated.{Took, lists, begin_tied}
+use Rattle.fm_data.specs.declared.params.Params.TheVariants as params
 use Rattle.fm_core.proofs.state.State.begin_list.Goals as goal
 
 pub returns : goal.returns

@@ -1,5 +1,4 @@
-use Rattle.fm_core.proofs.Words.{sym, the_view}
-use Rattle.std.proofs.Common.{◌∙◌}
+use Rattle.fm_core.proofs.Words.{the_view, sym, ◌∙◌}
 use Rattle.fm_core.proofs.Called.{body_bumped, bump_keeps}
 use Rattle.fm_core.proofs.state.State.bump.Goals as goal
 

@@ -1,5 +1,4 @@
-use Rattle.fm_core.proofs.Words.{Some, ap, subst, worker_at, cleanup_in, IsSound, the_view}
-use Rattle.std.proofs.Common.{◌≡◌, ◌∙◌}
+use Rattle.fm_core.proofs.Words.{the_view, IsSound, cleanup_in, worker_at, Some, ap, subst, ◌∙◌, ◌≡◌}
 use Rattle.fm_world.specs.declared.worker.Worker.TheVariants.{Cleanup}
 use Rattle.fm_world.proofs.Cleanups.{cleaned_does}
 use Rattle.fm_core.proofs.Cleaned.{cleanup_is, cleans, clean_tied}

@@ -1,12 +1,11 @@
-use Rattle.fm_core.proofs.Words.{Some, ap, refl, subst, worker_at, IsSound, complete_of, the_view}
-use Rattle.std.proofs.Common.{◌≡◌, ◌∙◌}
+use Rattle.fm_core.proofs.Words.{complete_of, the_view, IsSound, worker_at, Some, ap, refl, subst, ◌∙◌, ◌≡◌}
 use Rattle.fm_stack.specs.Detaching.{is_in_complete}
 use Rattle.fm_stack.specs.Instances.{passes}
-use Rattle.fm_world.specs.declared.worker.Worker.TheVariants as place
 use Rattle.fm_world.proofs.Detaching.{complete_place, complete_returned_does}
 use Rattle.fm_core.proofs.Operated.{placed, within_at}
 use Rattle.fm_core.proofs.Torn.{complete_is, complete_returns, swept_tied}
 use Rattle.fm_core.proofs.state.State.complete_returned.Goals.{In-Some}
+use Rattle.fm_world.specs.declared.worker.Worker.TheVariants as place
 use Rattle.fm_core.proofs.state.State.complete_returned.Goals as goal
 
 at : (c : In-Some) → worker_at (the_view c.self.inside).workers c.args.worker ≡ Some (place.Complete c.in-Some.instance)

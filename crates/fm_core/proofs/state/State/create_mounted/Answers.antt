@@ -1,16 +1,14 @@
-use Rattle.fm_core.proofs.Words.{Some, None, Err, ap, sym, subst, false, is_ok, first_of, StreamId, is_full, World, FileTable, created, stream_for}
-use Rattle.fm_core.proofs.Words.{Begins, volume_refusals, has_no_handle_left, IsSound, begin_does, the_view}
-use Rattle.std.proofs.Common.{◌≡◌, ℕ, List, ◌∙◌}
-use Rattle.std.specs.Prelude.{◌||◌, cond}
+use Rattle.fm_core.proofs.Words.{stream_or, the_view, is_full, first_of, StreamId, begin_does, Begins, has_no_handle_left, volume_refusals, FileTable, created}
+use Rattle.fm_core.proofs.Words.{has_handle_on, stream_for, IsSound, World, Err, List, None, Some, ap, cond, false, is_ok, subst, sym, ℕ, ◌||◌, ◌∙◌, ◌≡◌}
 use Rattle.fm_types.specs.declared.status.Status.TheVariants.{NoMemory}
-use Rattle.fm_data.specs.declared.params.Params.TheVariants as params
-use Rattle.fm_core.specs.FilesKept.{found_at, paths_of, stream_or}
+use Rattle.fm_core.specs.FilesKept.{found_at, paths_of}
 use Rattle.fm_core.proofs.Paths.{found_number}
 use Rattle.fm_core.specs.declared.files.CreatePaths.{CreatePaths}
-use Rattle.fm_data.specs.declared.request.Request.TheVariants as request
 use Rattle.fm_core.proofs.Counted.{unused_number}
-use Rattle.fm_world.specs.Files.{has_handle_on, stream_of_path}
+use Rattle.fm_world.specs.Files.{stream_of_path}
 use Rattle.fm_core.proofs.Operated.{Took, creates, begin_tied, begin_wants}
+use Rattle.fm_data.specs.declared.params.Params.TheVariants as params
+use Rattle.fm_data.specs.declared.request.Request.TheVariants as request
 use Rattle.fm_core.proofs.state.State.create_mounted.Goals as goal
 
 pub returns : goal.returns

@@ -1,11 +1,9 @@
-use Rattle.fm_core.proofs.Words.{Some, refl, subst, worker_at, IsSound, the_view}
-use Rattle.std.proofs.Common.{◌≡◌}
-use Rattle.fm_world.specs.declared.worker.Worker.TheVariants as place
+use Rattle.fm_core.proofs.Words.{early_drain_of, the_view, IsSound, worker_at, Some, refl, subst, ◌≡◌}
 use Rattle.fm_world.proofs.Draining.{drain_done_does}
-use Rattle.fm_core.specs.Places.{early_drain_of}
 use Rattle.fm_core.proofs.Operated.{placed, within_at}
 use Rattle.fm_core.proofs.Drained.{early_is, early_returns, early_tied, runs_early}
 use Rattle.fm_core.proofs.state.State.drain_done.Goals.{In-Some}
+use Rattle.fm_world.specs.declared.worker.Worker.TheVariants as place
 use Rattle.fm_core.proofs.state.State.drain_done.Goals as goal
 
 at : (c : In-Some) → worker_at (the_view c.self.inside).workers c.args.worker ≡ Some (place.EarlyDrain c.in-Some.operation c.in-Some.instance)

@@ -1,7 +1,7 @@
-use Rattle.fm_core.proofs.Words.{refl, sym, subst, InDrain, drain_returned_of, changed, IsSound, post_does, IsTied, drain_of}
-use Rattle.fm_world.specs.declared.worker.Worker.TheVariants as place
+use Rattle.fm_core.proofs.Words.{IsTied, drain_of, drain_returned_of, changed, InDrain, post_does, IsSound, refl, subst, sym}
 use Rattle.fm_core.proofs.Holding.{tied_ends}
 use Rattle.fm_core.proofs.Operated.{drain_is, drain_returns, drain_tied, in_drain, located, stands_from, within_at}
+use Rattle.fm_world.specs.declared.worker.Worker.TheVariants as place
 use Rattle.fm_core.proofs.state.State.drain_returned.Goals as goal
 
 pub drain_returned-requires : goal.drain_returned-requires

@@ -1,8 +1,5 @@
-use Rattle.fm_core.proofs.Words.{true, Some, Ok, refl, ap, sym, subst, is_idle, worker_at, row_at, IsSound, the_view}
-use Rattle.std.proofs.Common.{◌≡◌, ◌∙◌}
-use Rattle.fm_flow.specs.Drains.{DrainTaken}
+use Rattle.fm_core.proofs.Words.{drains_in, the_view, DrainTaken, row_at, IsSound, is_idle, worker_at, Ok, Some, ap, refl, subst, sym, true, ◌∙◌, ◌≡◌}
 use Rattle.fm_world.proofs.Draining.{drain_take_does}
-use Rattle.fm_core.specs.Places.{drains_in}
 use Rattle.fm_core.proofs.Cleaned.{phase_in}
 use Rattle.fm_core.proofs.Drained.{take_brings, take_tied, takes_one}
 use Rattle.fm_core.proofs.state.State.drain_take.Goals.{In-Some}

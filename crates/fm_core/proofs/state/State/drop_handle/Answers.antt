@@ -1,5 +1,4 @@
-use Rattle.fm_core.proofs.Words.{refl, sym, subst, IsSound}
-use Rattle.std.proofs.Common.{◌∙◌}
+use Rattle.fm_core.proofs.Words.{IsSound, refl, subst, sym, ◌∙◌}
 use Rattle.fm_world.proofs.Dismounting.{drop_handle_does}
 use Rattle.fm_core.proofs.Dismounted.{drops}
 use Rattle.fm_core.proofs.Losing.{sweeping_tied}

@@ -1,8 +1,7 @@
-use Rattle.fm_core.proofs.Words.{refl, subst, IsSound}
-use Rattle.fm_ctx.specs.Settling.{is_linked_of}
-use Rattle.fm_ctx.specs.declared.owner.Owner.TheVariants as owner
+use Rattle.fm_core.proofs.Words.{is_linked_of, IsSound, refl, subst}
 use Rattle.fm_world.proofs.Unloading.{empty_filter_does}
 use Rattle.fm_core.proofs.Torn.{empties, where_tied}
+use Rattle.fm_ctx.specs.declared.owner.Owner.TheVariants as owner
 use Rattle.fm_core.proofs.state.State.empty_filter.Goals as goal
 
 pub returns-clause-event : goal.returns-clause-event

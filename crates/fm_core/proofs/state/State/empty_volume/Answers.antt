@@ -1,9 +1,8 @@
-use Rattle.fm_core.proofs.Words.{refl, subst, IsSound}
-use Rattle.fm_ctx.specs.Settling.{is_linked_to}
-use Rattle.fm_ctx.specs.declared.object.Object.TheVariants as object
+use Rattle.fm_core.proofs.Words.{is_linked_to, IsSound, refl, subst}
 use Rattle.fm_world.proofs.Dismounting.{empty_volume_does}
 use Rattle.fm_core.proofs.Dismounted.{empties_volume, few_on}
 use Rattle.fm_core.proofs.Torn.{where_tied}
+use Rattle.fm_ctx.specs.declared.object.Object.TheVariants as object
 use Rattle.fm_core.proofs.state.State.empty_volume.Goals as goal
 
 pub empty_volume-result-requires : goal.empty_volume-result-requires

@@ -1,5 +1,4 @@
-use Rattle.fm_core.proofs.Words.{sym, ap, subst, IsSound, refused_in}
-use Rattle.std.proofs.Common.{◌∙◌}
+use Rattle.fm_core.proofs.Words.{refused_in, IsSound, ap, subst, sym, ◌∙◌}
 use Rattle.fm_world.proofs.Cleanups.{finish_does}
 use Rattle.fm_core.proofs.Cleaned.{finishes, only_waiting}
 use Rattle.fm_core.proofs.state.State.finish.Goals as goal

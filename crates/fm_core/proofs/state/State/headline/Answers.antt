@@ -1,4 +1,4 @@
-use Rattle.fm_world.proofs.Runs.{headline_from}
+use Rattle.fm_core.proofs.Words.{headline_from}
 use Rattle.fm_core.proofs.state.State.headline.Goals as goal
 
 pub returns : goal.returns

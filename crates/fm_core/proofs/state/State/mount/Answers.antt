@@ -1,4 +1,4 @@
-use Rattle.fm_core.proofs.Words.{refl, the_view}
+use Rattle.fm_core.proofs.Words.{the_view, refl}
 use Rattle.fm_world.specs.Events.{Mounts}
 use Rattle.fm_world.proofs.Owning.{mount_does}
 use Rattle.fm_core.proofs.state.State.mount.Goals as goal

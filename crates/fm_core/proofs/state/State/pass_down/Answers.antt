@@ -1,12 +1,9 @@
-use Rattle.fm_core.proofs.Words.{true, refl, sym, subst, World, the_view}
-use Rattle.fm_flow.specs.declared.action.Below.TheVariants as below
-use Rattle.fm_world.specs.declared.worker.Worker.TheVariants as place
-use Rattle.fm_world.proofs.Events.{idle_there}
-use Rattle.std.proofs.Common.{inl}
-use Rattle.fm_core.specs.Passing.{ComesDown}
+use Rattle.fm_core.proofs.Words.{ComesDown, the_view, idle_there, World, inl, refl, subst, sym, true}
 use Rattle.fm_core.proofs.Operated.{next_requires, within_at}
 use Rattle.fm_core.proofs.Passed.{passed_down_hand, passed_down_state, passes_down}
 use Rattle.fm_core.proofs.state.State.pass_down.Goals.{After-laws}
+use Rattle.fm_flow.specs.declared.action.Below.TheVariants as below
+use Rattle.fm_world.specs.declared.worker.Worker.TheVariants as place
 use Rattle.fm_core.proofs.state.State.pass_down.Goals as goal
 
 -- what is asked, of the fields

@@ -1,10 +1,9 @@
-use Rattle.fm_core.proofs.Words.{Result, Some, refl, sym, subst, Data, data_fits, PostRunning, FlowRecord, post_returned_of, changed}
-use Rattle.fm_core.proofs.Words.{worker_at, IsSound, post_does, IsTied, post_of, the_view}
-use Rattle.std.proofs.Common.{◌≡◌}
-use Rattle.fm_world.specs.declared.worker.Worker.TheVariants as place
+use Rattle.fm_core.proofs.Words.{IsTied, post_of, the_view, Data, data_fits, FlowRecord, post_returned_of, changed, PostRunning, post_does, IsSound, worker_at}
+use Rattle.fm_core.proofs.Words.{Result, Some, refl, subst, sym, ◌≡◌}
 use Rattle.fm_core.proofs.Holding.{tied_ends}
 use Rattle.fm_core.proofs.Operated.{Comes, comes, in_post, located, post_is, post_returns, post_strange, post_tied, stands_from, within_at}
 use Rattle.fm_core.proofs.state.State.post_data_returned.Goals.{After-post_returned}
+use Rattle.fm_world.specs.declared.worker.Worker.TheVariants as place
 use Rattle.fm_core.proofs.state.State.post_data_returned.Goals as goal
 
 pub post_returned-requires : goal.post_returned-requires

@@ -1,5 +1,5 @@
+use Rattle.fm_core.proofs.Words.{post_does}
 use Rattle.fm_core.proofs.state.State.post_returned.Goals as goal
-use Rattle.fm_world.proofs.Returns.{post_does}
 
 pub returns-in-Some-clause-hand : goal.returns-in-Some-clause-hand
 returns-in-Some-clause-hand c = (post_does _ _ _ _ _ _ c.post_data_returned.ensures.event).1.0

@@ -1,13 +1,11 @@
-use Rattle.fm_core.proofs.Words.{Result, Some, refl, ap, sym, subst, Data, data_fits, PreRunning, FlowRecord, pre_returned_of, changed}
-use Rattle.fm_core.proofs.Words.{worker_at, state_at, IsSound, IsTied, pre_of, the_view}
-use Rattle.std.proofs.Common.{◌≡◌, ◌∙◌}
-use Rattle.std.specs.Option.{option_copied}
-use Rattle.fm_world.specs.declared.worker.Worker.TheVariants as place
-use Rattle.fm_world.proofs.Returns.{pre_does}
+use Rattle.fm_core.proofs.Words.{IsTied, pre_of, the_view, Data, data_fits, FlowRecord, pre_returned_of, changed, PreRunning, pre_does, state_at, IsSound}
+use Rattle.fm_core.proofs.Words.{worker_at, Result, Some, ap, refl, subst, sym, ◌∙◌, ◌≡◌, option_copied}
 use Rattle.fm_core.proofs.Holding.{tied_ends}
 use Rattle.fm_core.proofs.Losing.{sweeping_tied}
-use Rattle.fm_core.proofs.Operated.{Comes, comes, in_pre, placed, pre_is, pre_returns, pre_sends, pre_state, pre_strange, pre_tied, stands_from, there_from, within_at}
+use Rattle.fm_core.proofs.Operated.{Comes, comes, in_pre, placed, pre_is, pre_returns, pre_sends, pre_state, pre_strange, pre_tied, stands_from, there_from}
+use Rattle.fm_core.proofs.Operated.{within_at}
 use Rattle.fm_core.proofs.state.State.pre_returned.Goals.{In-Some, After-pre_returned}
+use Rattle.fm_world.specs.declared.worker.Worker.TheVariants as place
 use Rattle.fm_core.proofs.state.State.pre_returned.Goals as goal
 
 at : (c : In-Some) → worker_at (the_view c.self.inside).workers c.args.worker ≡ Some (place.Pre c.in-Some.operation c.in-Some.instance)

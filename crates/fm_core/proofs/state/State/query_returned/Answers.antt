@@ -1,10 +1,9 @@
-use Rattle.fm_core.proofs.Words.{Some, refl, subst, worker_at, IsSound, query_of, the_view}
-use Rattle.std.proofs.Common.{◌≡◌}
-use Rattle.fm_world.specs.declared.worker.Worker.TheVariants as place
+use Rattle.fm_core.proofs.Words.{query_of, the_view, IsSound, worker_at, Some, refl, subst, ◌≡◌}
 use Rattle.fm_world.proofs.Detaching.{query_does}
 use Rattle.fm_core.proofs.Operated.{placed, within_at}
 use Rattle.fm_core.proofs.Torn.{left_tied, query_is, query_returns}
 use Rattle.fm_core.proofs.state.State.query_returned.Goals.{In-Some}
+use Rattle.fm_world.specs.declared.worker.Worker.TheVariants as place
 use Rattle.fm_core.proofs.state.State.query_returned.Goals as goal
 
 at : (c : In-Some) → worker_at (the_view c.self.inside).workers c.args.worker ≡ Some (place.Query c.in-Some.instance)

@@ -1,6 +1,4 @@
-use Rattle.fm_core.proofs.Words.{sym, subst, IsSound, the_view}
-use Rattle.std.proofs.Common.{◌∙◌}
-use Rattle.fm_world.proofs.Callbacks.{reference_does}
+use Rattle.fm_core.proofs.Words.{the_view, reference_does, IsSound, subst, sym, ◌∙◌}
 use Rattle.fm_core.proofs.Called.{referenced, reference_keeps}
 use Rattle.fm_core.proofs.state.State.reference.Goals as goal
 

@@ -1,6 +1,4 @@
-use Rattle.fm_core.proofs.Words.{sym, subst, IsSound, the_view}
-use Rattle.std.proofs.Common.{◌∙◌}
-use Rattle.fm_world.proofs.Callbacks.{release_does}
+use Rattle.fm_core.proofs.Words.{the_view, release_does, IsSound, subst, sym, ◌∙◌}
 use Rattle.fm_core.proofs.Called.{released_up, release_keeps}
 use Rattle.fm_core.proofs.state.State.release.Goals as goal
 

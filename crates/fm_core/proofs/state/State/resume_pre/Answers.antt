@@ -1,15 +1,11 @@
-use Rattle.fm_core.proofs.Words.{Some, refl, ap, sym, subst, changed, kept_sent, state_at, worker_at, IsSound, IsTied, the_view}
-use Rattle.std.proofs.Common.{◌≡◌, ◌∙◌}
-use Rattle.fm_flow.specs.declared.hold.Hold.TheVariants as hold
-use Rattle.fm_flow.specs.Steps.{pre_settled}
-use Rattle.fm_world.specs.Owners.{place_in}
-use Rattle.fm_world.proofs.Resumes.{placed_below, resume_pre_does}
-use Rattle.fm_core.specs.Lost.{Sweeping, is_lost_of}
-use Rattle.fm_ctx.specs.Kept.{ContextsKept}
+use Rattle.fm_core.proofs.Words.{IsTied, kept_sent, Sweeping, is_lost_of, the_view, ContextsKept, pre_settled, changed, placed_below, state_at, place_in}
+use Rattle.fm_core.proofs.Words.{IsSound, worker_at, Some, ap, refl, subst, sym, ◌∙◌, ◌≡◌}
+use Rattle.fm_world.proofs.Resumes.{resume_pre_does}
 use Rattle.fm_core.proofs.Losing.{sweeping_tied}
 use Rattle.fm_core.proofs.Operated.{pre_state}
 use Rattle.fm_core.proofs.Resumed.{by_that, placed_so, pre_resumes, resume_sends, resume_tied, stands_pre_held}
 use Rattle.fm_core.proofs.state.State.resume_pre.Goals.{In-Some, After-counted-state, After-sent_in}
+use Rattle.fm_flow.specs.declared.hold.Hold.TheVariants as hold
 use Rattle.fm_core.proofs.state.State.resume_pre.Goals as goal
 
 at : (c : In-Some) → place_in (worker_at (the_view c.self.inside).workers c.args.worker) ≡ Some c.in-Some.instance

@@ -1,12 +1,10 @@
-use Rattle.fm_core.proofs.Words.{Some, refl, subst, worker_at, IsSound, setup_of, the_view}
-use Rattle.std.proofs.Common.{◌≡◌}
-use Rattle.std.specs.Prelude.{slice_get}
-use Rattle.fm_world.specs.declared.worker.Worker.TheVariants as place
+use Rattle.fm_core.proofs.Words.{setup_of, the_view, IsSound, worker_at, Some, refl, slice_get, subst, ◌≡◌}
 use Rattle.fm_world.proofs.Keeps.{setup_place}
 use Rattle.fm_world.proofs.Owning.{setup_does}
 use Rattle.fm_core.proofs.Attached.{sets_up, setup_tied, setup_is, setup_at}
 use Rattle.fm_core.proofs.Operated.{placed, within_at}
 use Rattle.fm_core.proofs.state.State.setup_done.Goals.{In-Some}
+use Rattle.fm_world.specs.declared.worker.Worker.TheVariants as place
 use Rattle.fm_core.proofs.state.State.setup_done.Goals as goal
 
 at : (c : In-Some) → worker_at (the_view c.self.inside).workers c.args.worker ≡ Some (place.Setup c.in-Some.instance)

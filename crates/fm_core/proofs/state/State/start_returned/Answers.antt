@@ -1,10 +1,9 @@
-use Rattle.fm_core.proofs.Words.{Some, refl, slice_get_within, subst, worker_at, IsSound, start_of, the_view}
-use Rattle.std.proofs.Common.{◌≡◌}
-use Rattle.fm_world.specs.declared.worker.Worker.TheVariants as place
+use Rattle.fm_core.proofs.Words.{start_of, the_view, IsSound, worker_at, Some, refl, subst, ◌≡◌, slice_get_within}
 use Rattle.fm_world.proofs.Detaching.{start_place, start_returned_does}
 use Rattle.fm_core.proofs.Operated.{placed, within_at}
 use Rattle.fm_core.proofs.Torn.{left_tied, start_is, start_returns}
 use Rattle.fm_core.proofs.state.State.start_returned.Goals.{In-Some}
+use Rattle.fm_world.specs.declared.worker.Worker.TheVariants as place
 use Rattle.fm_core.proofs.state.State.start_returned.Goals as goal
 
 at : (c : In-Some) → worker_at (the_view c.self.inside).workers c.args.worker ≡ Some (place.Start c.in-Some.instance)

@@ -1,10 +1,9 @@
-use Rattle.fm_core.proofs.Words.{Some, subst, worker_at, IsSound, unload_of, the_view}
-use Rattle.std.proofs.Common.{◌≡◌}
-use Rattle.fm_world.specs.declared.worker.Worker.TheVariants as place
+use Rattle.fm_core.proofs.Words.{unload_of, the_view, IsSound, worker_at, Some, subst, ◌≡◌}
 use Rattle.fm_world.proofs.Unloading.{unload_does}
 use Rattle.fm_core.proofs.Operated.{placed}
 use Rattle.fm_core.proofs.Torn.{unload_is, unload_returns}
 use Rattle.fm_core.proofs.state.State.unload_returned.Goals.{In-Some}
+use Rattle.fm_world.specs.declared.worker.Worker.TheVariants as place
 use Rattle.fm_core.proofs.state.State.unload_returned.Goals as goal
 
 at : (c : In-Some) → worker_at (the_view c.self.inside).workers c.args.worker ≡ Some (place.Unload c.in-Some.filter)

@@ -1,5 +1,5 @@
 -- The events on filters, volumes and instances, from what their parts did.
-use Rattle.fm_core.proofs.Words.{IsTied, setup_of, leaves_alike, sweeps_alike, carried_equal, ContextsKept, carried_of, Leaves, is_linked_of, FlowTable}
+use Rattle.fm_core.proofs.Words.{IsTied, setup_of, leaves_alike, sweeps_alike, carried_equal, ContextsKept, carried_of, Leaves, is_linked_of, Owner, FlowTable}
 use Rattle.fm_core.proofs.Words.{StackWorld, Instance, FilterId, InstanceId, VolumeId, WorkerId, Status, Unless, is_idle, put, worker_at, World, carries}
 use Rattle.fm_core.proofs.Words.{Worker, Bool, Err, List, Ok, Option, Result, Some, ap, arith, subst, sym, true, ℕ, ◌∙◌, ◌≡◌}
 use Rattle.fm_stack.specs.Instances.{is_setup}
@@ -7,10 +7,7 @@ use Rattle.fm_world.specs.Workers.{after_attach}
 use Rattle.fm_world.specs.Events.{Attaches, SetsUp, SetsUpAt, EmptiesUnless}
 use Rattle.fm_core.specs.Hands.{SweepsUnless}
 use Rattle.fm_core.proofs.Losing.{sweeping_tied}
-use Rattle.fm_types.specs.declared.status.Status.TheVariants as status
 use Rattle.fm_stack.specs.Events as stack
-use Rattle.fm_world.specs.declared.worker.Worker.TheVariants as place
-use Rattle.fm_ctx.specs.declared.owner.Owner.TheVariants as owner
 
 pub attaches : {old now : World} (k : WorkerId) (f : FilterId) (v : VolumeId) (name altitude : List ℕ) (result : Result InstanceId Status) (t : StackWorld)
     (ws : List Worker)
@@ -21,13 +18,13 @@ attaches {old} {now} k f v name altitude result t ws same idle event workers =
     let new : World = record old { stack = t; workers = ws } in
     let idle' = subst (λ (w : World). is_idle (worker_at w.workers k) ≡ true) (sym same) idle in
     subst (λ (w : World). Attaches w k f v name altitude result new) same
-    (subst (λ b. Unless status.WrongStep b result old new
+    (subst (λ b. Unless Status.WrongStep b result old new
     (stack.Attaches old.stack f v name altitude result t × (new ≡ record old { stack = t; workers = after_attach old.workers k result }))) (sym idle')
     (event, ap (λ x. record old { stack = t; workers = x }) workers))
 
 pub sets_up : {old now : World} (k : WorkerId) (i : InstanceId) (accept : Bool) (result : Result (Unit {0}) Status) (t : StackWorld) (ws : List Worker)
     (kept left after : ContextsKept)
-    → old ≡ now → worker_at old.workers k ≡ Some (place.Setup i) → stack.SetsUp old.stack i accept result t → ws ≡ put old.workers k place.Idle
+    → old ≡ now → worker_at old.workers k ≡ Some (Worker.Setup i) → stack.SetsUp old.stack i accept result t → ws ≡ put old.workers k Worker.Idle
     → old.contexts ≡ kept.table → Leaves (carried_of kept) kept.table left.table k.0 → left.carried ≡ kept.carried → SweepsUnless result i left after
     → IsTied kept old.flow
     → SetsUp now k accept result (record old { stack = t; workers = ws; contexts = after.table })
@@ -57,10 +54,10 @@ setup_tied kept left after i w result f leaves carried empties tied = swept_tied
 
     swept_tied : (r : Result (Unit {0}) Status) → SweepsUnless r i left after → IsTied after f
     swept_tied (Ok done) e = subst (λ x. IsTied x f) (sym e) tied_left
-    swept_tied (Err why) e = sweeping_tied (is_linked_of (owner.Instance i)) left after f e tied_left
+    swept_tied (Err why) e = sweeping_tied (is_linked_of (Owner.Instance i)) left after f e tied_left
 
 -- a place that is the setup callback of an instance, or isn't
-pub setup_is : (m : Option Worker) (i : InstanceId) → setup_of m ≡ Some i → m ≡ Some (place.Setup i)
+pub setup_is : (m : Option Worker) (i : InstanceId) → setup_of m ≡ Some i → m ≡ Some (Worker.Setup i)
 setup_is m i h = grind (arith, h)
 
 pub setup_at : (row : Option Instance) → (x : Instance) × (row ≡ Some x) × (is_setup x.phase ≡ true) → stack.is_setup_at row ≡ true

@@ -14,7 +14,6 @@ use Rattle.fm_world.specs.ContextEvents.{InCallback, InCallbackOf, context_by, a
 use Rattle.fm_world.proofs.Callbacks.{callback_parts, write_body_does, bump_does}
 use Rattle.fm_core.proofs.Holding.{tied_table}
 use Rattle.fm_types.specs.declared.context_kind.ContextKind.TheVariants as kind
-use Rattle.fm_types.specs.declared.status.Status.TheVariants as status
 use Rattle.fm_core.specs.Callers as caller
 
 -- ---- whose callback it is
@@ -186,8 +185,8 @@ allocated_up w k what body x owner' result kept after now_is is h own event =
         ap (λ o. new_context what o x.volume body) (own ∙ ap (λ (y : Caller). owner_for y what) (sym at.2) ∙ owner_same at.0 what)
         ∙ ap (λ (y : Caller). new_context what (owner_by at.0.row at.0.instance what) y.volume body) (sym at.2)
 
-    free : (r : Option Status) → before (not (has_kind w.stack at.0.row what)) status.NotRegistered r ≡ r
-    free r = ap (λ b. before (not b) status.NotRegistered r) kind'
+    free : (r : Option Status) → before (not (has_kind w.stack at.0.row what)) Status.NotRegistered r ≡ r
+    free r = ap (λ b. before (not b) Status.NotRegistered r) kind'
 
     by_result : (r : Result CtxId Status)
         → AnswersOrMemory (allocate_refusal kept.table k.0 body) r kept after (λ (c : CtxId). IsNew kept.table.slots c × (after ≡ kept_allocated kept k.0 c (new_context what owner' x.volume body)))

@@ -17,9 +17,6 @@ use Rattle.fm_world.specs.Owners.{keeps_links_by}
 use Rattle.fm_world.proofs.Waiting.{waits}
 use Rattle.fm_core.specs.Callers.{filter_at}
 use Rattle.fm_core.proofs.Called.{table_tied}
-use Rattle.fm_types.specs.declared.status.Status.TheVariants as status
-use Rattle.fm_ctx.specs.declared.owner.Owner.TheVariants as owner
-use Rattle.fm_world.specs.declared.worker.Worker.TheVariants as place
 
 -- ---- take_due
 
@@ -43,7 +40,7 @@ due_taken w k kept after ws result same idle_now there reply step workers =
     let answer : Result (Option Due) Status = Ok result in
     let idle = subst (λ (v : World). is_idle (worker_at v.workers k) ≡ true) (sym same) idle_now in
     subst (λ (v : World). TakesDue v k answer new) same
-    (subst (λ b. Unless status.WrongStep b answer old new ((answer ≡ Ok (due_reply kept.table))
+    (subst (λ b. Unless Status.WrongStep b answer old new ((answer ≡ Ok (due_reply kept.table))
     × (new ≡ record old { workers = after_due w.workers k (slice_get kept.table.due 0); contexts = after_take_due kept.table k.0 }))) (sym idle) (
       ap Ok reply,
       ap (λ x. record w { workers = x; contexts = after.table }) (workers ∙ ap (after_due w.workers k) told)
@@ -60,7 +57,7 @@ due_tied kept after f k e tied = table_tied kept after (after_take_due kept.tabl
 
 -- ---- cleaned
 
-pub cleanup_is : (m : Option Worker) (c : CtxId) → cleanup_in m ≡ Some c → m ≡ Some (place.Cleanup c)
+pub cleanup_is : (m : Option Worker) (c : CtxId) → cleanup_in m ≡ Some c → m ≡ Some (Worker.Cleanup c)
 cleanup_is m c h = grind (arith, h)
 
 filter_same : (s : StackWorld) (m : Option Context) → filter_at s (option_map (λ (x : Context). x.owner) m) ≡ filter_of s m
@@ -68,9 +65,9 @@ filter_same s m = grind arith
 
 pub cleans : (w : World) {now : World} (k : WorkerId) (number : ℕ) (c : CtxId) (kept after : ContextsKept) (own : Option Owner) (f : Option FilterId)
     (ws : List Worker) (ts : List ℕ)
-    → record w { contexts = kept.table } ≡ now → worker_at w.workers k ≡ Some (place.Cleanup c)
+    → record w { contexts = kept.table } ≡ now → worker_at w.workers k ≡ Some (Worker.Cleanup c)
     → own ≡ option_map (λ (x : Context). x.owner) (context_at kept.table.slots c) → f ≡ filter_at w.stack own
-    → ts ≡ totalled_for f number w.totals → after ≡ record kept { table = cleaned kept.table k.0 c } → ws ≡ put w.workers k place.Idle
+    → ts ≡ totalled_for f number w.totals → after ≡ record kept { table = cleaned kept.table k.0 c } → ws ≡ put w.workers k Worker.Idle
     → Cleans now k number (Ok tt) (record w { workers = ws; contexts = after.table; totals = ts })
 unfolding Cleans
 cleans w k number c kept after own f ws ts now_is at owned filter totals step workers =
@@ -80,8 +77,8 @@ cleans w k number c kept after own f ws ts now_is at owned filter totals step wo
     (subst (CleansAt old k number (Ok tt) (record w { workers = ws; contexts = after.table; totals = ts })) (sym at) (
       refl,
       ap (λ x. record w { workers = x; contexts = after.table; totals = ts }) workers
-          ∙ ap (λ (x : ContextsKept). record w { workers = put w.workers k place.Idle; contexts = x.table; totals = ts }) step
-          ∙ ap (λ x. record w { workers = put w.workers k place.Idle; contexts = cleaned kept.table k.0 c; totals = x })
+          ∙ ap (λ (x : ContextsKept). record w { workers = put w.workers k Worker.Idle; contexts = x.table; totals = ts }) step
+          ∙ ap (λ x. record w { workers = put w.workers k Worker.Idle; contexts = cleaned kept.table k.0 c; totals = x })
           (totals ∙ ap (λ x. totalled_for x number w.totals) same),
     ))
 
@@ -103,15 +100,15 @@ pub may_end : (m : Option Instance) → refused_in (phase_in m) ≡ None → (is
 may_end m h = (grind (arith, h), grind (arith, h))
 
 -- what is tested last, of an instance that may end
-finish_last : (w : World) (i : InstanceId) (n : ℕ) → refused_in (phase_in (row_at w.stack i)) ≡ None → n ≡ open_of w.contexts.slots (owner.Instance i)
-    → finish_refused w i ≡ cond (nat_lt 0 n) (Some (status.Busy n)) None
+finish_last : (w : World) (i : InstanceId) (n : ℕ) → refused_in (phase_in (row_at w.stack i)) ≡ None → n ≡ open_of w.contexts.slots (Owner.Instance i)
+    → finish_refused w i ≡ cond (nat_lt 0 n) (Some (Status.Busy n)) None
 finish_last w i n h count =
-    let open' = open_of w.contexts.slots (owner.Instance i) in
+    let open' = open_of w.contexts.slots (Owner.Instance i) in
     let ends = may_end (row_at w.stack i) h in
-    ap (λ b. cond b (Some status.NoInstance) (first_of ((not (is_emptying_at (row_at w.stack i)), status.WrongStep) ∷ (nat_lt 0 open', status.Busy open')
+    ap (λ b. cond b (Some Status.NoInstance) (first_of ((not (is_emptying_at (row_at w.stack i)), Status.WrongStep) ∷ (nat_lt 0 open', Status.Busy open')
     ∷ []))) ends.0
-    ∙ ap (λ b. cond (not b) (Some status.WrongStep) (first_of ((nat_lt 0 open', status.Busy open') ∷ []))) ends.1
-    ∙ ap (λ m. cond (nat_lt 0 m) (Some (status.Busy m)) None) (sym count)
+    ∙ ap (λ b. cond (not b) (Some Status.WrongStep) (first_of ((nat_lt 0 open', Status.Busy open') ∷ []))) ends.1
+    ∙ ap (λ m. cond (nat_lt 0 m) (Some (Status.Busy m)) None) (sym count)
 
 emptying_keeps_none : (row : Option Instance) → refused_in (phase_in row) ≡ None → keeps_links_by row ≡ false
 emptying_keeps_none None h = refl
@@ -123,8 +120,8 @@ only_waiting {w} {now} i same h sound =
     waits now i (headline_from now sound) (subst (λ (v : World). keeps_links_by (row_at v.stack i) ≡ false) same (emptying_keeps_none (row_at w.stack i) h))
 
 pub finishes : {w now : World} (i : InstanceId) (n : ℕ) (s : StackWorld) → w ≡ now → refused_in (phase_in (row_at w.stack i)) ≡ None
-    → n ≡ open_of w.contexts.slots (owner.Instance i) → n ≤ 0 → s ≡ finished w.stack i → Finishes now i (Ok tt) (record w { stack = s })
+    → n ≡ open_of w.contexts.slots (Owner.Instance i) → n ≤ 0 → s ≡ finished w.stack i → Finishes now i (Ok tt) (record w { stack = s })
 unfolding Finishes
 finishes {w} i n s same h count none step =
     subst (λ (v : World). Finishes v i (Ok tt) (record w { stack = s })) same
-    (finish_last w i n h count ∙ ap (λ b. cond b (Some (status.Busy n)) None) (le-ltb 0 n none), ap (λ x. record w { stack = x }) step)
+    (finish_last w i n h count ∙ ap (λ b. cond b (Some (Status.Busy n)) None) (le-ltb 0 n none), ap (λ x. record w { stack = x }) step)

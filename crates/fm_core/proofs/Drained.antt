@@ -13,17 +13,15 @@ use Rattle.fm_world.proofs.Draining.{early_there}
 use Rattle.fm_core.proofs.Holding.{may_bring, tied_brought}
 use Rattle.fm_core.proofs.Torn.{idles, leaks, left_tied}
 use Rattle.fm_types.specs.Refusals as refusals
-use Rattle.fm_types.specs.declared.status.Status.TheVariants as status
-use Rattle.fm_world.specs.declared.worker.Worker.TheVariants as place
 
 -- ---- a drain is taken
 
 -- what the phase says of it
-refuses : (row : Option Instance) (why : Status) → drains_in (phase_in row) ≡ Err why → refusals.first_of ((is_gone_at row, status.NoInstance) ∷ []) ≡ Some why
+refuses : (row : Option Instance) (why : Status) → drains_in (phase_in row) ≡ Err why → refusals.first_of ((is_gone_at row, Status.NoInstance) ∷ []) ≡ Some why
 refuses None why h = grind arith
 refuses (Some row) why h = grind arith
 
-frees : (row : Option Instance) (b : Bool) → drains_in (phase_in row) ≡ Ok b → (refusals.first_of ((is_gone_at row, status.NoInstance) ∷ []) ≡ None) × (is_stopping_at row ≡ b)
+frees : (row : Option Instance) (b : Bool) → drains_in (phase_in row) ≡ Ok b → (refusals.first_of ((is_gone_at row, Status.NoInstance) ∷ []) ≡ None) × (is_stopping_at row ≡ b)
 frees None b h = grind arith
 frees (Some row) b h = grind arith
 
@@ -60,7 +58,7 @@ brought_table kept k (Some c) = refl
 
 pub takes_one : {old now : World} (k : WorkerId) (i : InstanceId) (o : OpId) (completion : Completion) (t : FlowTable) (ws : List Worker) (kept after : ContextsKept) → old ≡ now
     → is_idle (worker_at now.workers k) ≡ true → drains_in (phase_in (row_at old.stack i)) ≡ Ok true → DrainTaken i old.flow (Some (o, completion)) t
-    → ws ≡ put old.workers k (place.EarlyDrain o i) → old.contexts ≡ kept.table → after ≡ kept_brought kept k.0 completion.context
+    → ws ≡ put old.workers k (Worker.EarlyDrain o i) → old.contexts ≡ kept.table → after ≡ kept_brought kept k.0 completion.context
     → TakesDrain now k i (Ok (Some (o, completion))) (record old { flow = t; workers = ws; contexts = after.table })
 unfolding TakesDrain
 takes_one {old} k i o completion t ws kept after same idle stands taken workers contexts brings =
@@ -68,9 +66,9 @@ takes_one {old} k i o completion t ws kept after same idle stands taken workers 
     let free = frees (row_at old.stack i) true stands in
     let table : after.table ≡ brought old.contexts k completion.context =
     ap (λ (x : ContextsKept). x.table) brings ∙ brought_table kept k completion.context ∙ ap (λ (x : ContextTable). brought x k completion.context) (sym contexts) in
-    let whole : new ≡ record old { flow = t; workers = put old.workers k (place.EarlyDrain o i); contexts = brought old.contexts k completion.context } =
+    let whole : new ≡ record old { flow = t; workers = put old.workers k (Worker.EarlyDrain o i); contexts = brought old.contexts k completion.context } =
     ap (λ (x : List Worker). record old { flow = t; workers = x; contexts = after.table }) workers
-    ∙ ap (λ (x : ContextTable). record old { flow = t; workers = put old.workers k (place.EarlyDrain o i); contexts = x }) table in
+    ∙ ap (λ (x : ContextTable). record old { flow = t; workers = put old.workers k (Worker.EarlyDrain o i); contexts = x }) table in
     subst (λ (w : World). TakesDrain w k i (Ok (Some (o, completion))) new) same
     (idles k (Ok (Some (o, completion))) new _ same idle (free.0, subst (λ b. DrainsWhere b old k i (Some (o, completion)) new) (sym free.1) (taken, whole)))
 
@@ -84,8 +82,8 @@ pub take_brings : {old now : World} {kept : ContextsKept} (k : WorkerId) (i : In
     → is_idle (worker_at now.workers k) ≡ true → old.contexts ≡ kept.table → DrainTaken i old.flow (Some (o, completion)) t → MayBring kept k.0 completion.context
 take_brings {old} {now} {kept} k i o completion t s same idle contexts taken =
     let at = idle_there old.workers k (subst (λ (w : World). is_idle (worker_at w.workers k) ≡ true) (sym same) idle) in
-    may_bring kept k completion.context old.flow t (subst (λ n. k.0 < n) s.sound.under_way.hands (slice_get_within old.workers k.0 place.Idle at))
-    (sym (ap (λ (x : ContextTable). hand_of x.hands k.0) contexts) ∙ empty_hand old k place.Idle at refl s.sound.owned)
+    may_bring kept k completion.context old.flow t (subst (λ n. k.0 < n) s.sound.under_way.hands (slice_get_within old.workers k.0 Worker.Idle at))
+    (sym (ap (λ (x : ContextTable). hand_of x.hands k.0) contexts) ∙ empty_hand old k Worker.Idle at refl s.sound.owned)
     (given old i o completion t taken kept s) s.tied
 
 pub take_tied : {old : World} {kept : ContextsKept} (k : WorkerId) (i : InstanceId) (o : OpId) (completion : Completion) (t : FlowTable) (after : ContextsKept) → IsState old kept
@@ -95,24 +93,24 @@ take_tied {old} {kept} k i o completion t after s taken matched brings =
 
 -- ---- it returns
 
-pub early_is : (m : Option Worker) (p : OpId × InstanceId) → early_drain_of m ≡ Some p → m ≡ Some (place.EarlyDrain p.0 p.1)
+pub early_is : (m : Option Worker) (p : OpId × InstanceId) → early_drain_of m ≡ Some p → m ≡ Some (Worker.EarlyDrain p.0 p.1)
 early_is m p h = grind (arith, h)
 
-pub runs_early : {old : World} {kept : ContextsKept} (k : WorkerId) (o : OpId) (i : InstanceId) → IsState old kept → worker_at old.workers k ≡ Some (place.EarlyDrain o i)
+pub runs_early : {old : World} {kept : ContextsKept} (k : WorkerId) (o : OpId) (i : InstanceId) → IsState old kept → worker_at old.workers k ≡ Some (Worker.EarlyDrain o i)
     → RunsEarly i (operation_at o old.flow)
 runs_early {old} k o i s at = let there = early_there old k o i at s.sound.under_way in subst (RunsEarly i) (sym there.1) there.2
 
 pub early_returns : {old now : World} (k : WorkerId) (o : OpId) (i : InstanceId) (t : FlowTable) (ws : List Worker) (kept left : ContextsKept) → old ≡ now
-    → worker_at old.workers k ≡ Some (place.EarlyDrain o i) → t ≡ drain_done_of o i old.flow → ws ≡ put old.workers k place.Idle → old.contexts ≡ kept.table
+    → worker_at old.workers k ≡ Some (Worker.EarlyDrain o i) → t ≡ drain_done_of o i old.flow → ws ≡ put old.workers k Worker.Idle → old.contexts ≡ kept.table
     → Leaves (carried_of kept) kept.table left.table k.0 → IsTied kept old.flow → DrainReturns now k (Ok tt) (record old { flow = t; workers = ws; contexts = left.table })
 unfolding DrainReturns
 early_returns {old} k o i t ws kept left same at over workers contexts leaves tied =
     let new : World = record old { flow = t; workers = ws; contexts = left.table } in
-    let whole : new ≡ record old { flow = drain_done_of o i old.flow; workers = put old.workers k place.Idle; contexts = left.table } = cc in
+    let whole : new ≡ record old { flow = drain_done_of o i old.flow; workers = put old.workers k Worker.Idle; contexts = left.table } = cc in
     subst (λ (w : World). DrainReturns w k (Ok tt) new) same (subst (DrainReturnsAt old k (Ok tt) new) (sym at) (refl, leaks old k kept left contexts leaves tied, whole))
 
 pub early_tied : {old : World} {kept : ContextsKept} (k : WorkerId) (o : OpId) (i : InstanceId) (t : FlowTable) (left : ContextsKept) → IsState old kept
-    → worker_at old.workers k ≡ Some (place.EarlyDrain o i) → t ≡ drain_done_of o i old.flow → Leaves (carried_of kept) kept.table left.table k.0 → left.carried ≡ kept.carried → IsTied left t
+    → worker_at old.workers k ≡ Some (Worker.EarlyDrain o i) → t ≡ drain_done_of o i old.flow → Leaves (carried_of kept) kept.table left.table k.0 → left.carried ≡ kept.carried → IsTied left t
 early_tied {old} {kept} k o i t left s at over leaves same c =
     let there = early_there old k o i at s.sound.under_way in
     left_tied kept left k.0 old.flow leaves same s.tied c ∙ sym (drain_done_carried old.flow o i there.0 there.1 there.2 c s.sound.under_way.flow) ∙ ap (carried c) (sym over)

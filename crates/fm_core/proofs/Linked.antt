@@ -18,26 +18,25 @@ use Rattle.fm_world.specs.declared.set_answer.SetAnswer.{SetAnswer}
 use Rattle.fm_world.specs.ContextEvents.{object_for, set_refused, set_answer, SetsOn, SetsUnless, SetsIn, Sets, there_at, object_refused, Gets, Deletes}
 use Rattle.fm_core.specs.Setting.{is_past_at, object_of, set_refusal, find_refusal, IsSettable, IsFound}
 use Rattle.fm_core.proofs.Called.{called_in, owner_same, object_same, callback_row, in_callback, answers_up, answers_tied, table_tied}
-use Rattle.fm_types.specs.declared.status.Status.TheVariants as status
 use Rattle.fm_core.specs.Callers as caller
 
 -- ---- get and delete
 
 -- the same tests
 find_same : (w : World) (k : WorkerId) (at : Callback) (what : ContextKind) (others : Option Status) → callback_of w k ≡ Some at
-    → cond (not (has_kind_at w.stack (slice_get w.stack.instances at.instance.0) what)) (Some status.NotRegistered)
-    (cond (is_none (object_by at.row at.instance at.file what)) (Some status.NoObject) others) ≡ object_refused w what at others
+    → cond (not (has_kind_at w.stack (slice_get w.stack.instances at.instance.0) what)) (Some Status.NotRegistered)
+    (cond (is_none (object_by at.row at.instance at.file what)) (Some Status.NoObject) others) ≡ object_refused w what at others
 find_same w k at what others is =
-    ap (λ m. cond (not (has_kind_at w.stack m what)) (Some status.NotRegistered) (cond (is_none (object_by at.row at.instance at.file what))
-    (Some status.NoObject) others))
+    ap (λ m. cond (not (has_kind_at w.stack m what)) (Some Status.NotRegistered) (cond (is_none (object_by at.row at.instance at.file what))
+    (Some Status.NoObject) others))
     (callback_row w k at is)
 
 find_of : (w : World) (k : WorkerId) (at : Callback) (x : Caller) (what : ContextKind) (m : Option Status) → caller_of at ≡ x → find_refusal w x what ≡ m
-    → cond (not (has_kind_at w.stack (slice_get w.stack.instances at.instance.0) what)) (Some status.NotRegistered)
-    (cond (is_none (object_by at.row at.instance at.file what)) (Some status.NoObject) None) ≡ m
+    → cond (not (has_kind_at w.stack (slice_get w.stack.instances at.instance.0) what)) (Some Status.NotRegistered)
+    (cond (is_none (object_by at.row at.instance at.file what)) (Some Status.NoObject) None) ≡ m
 find_of w k at x what m e h =
-    ap (λ o. cond (not (has_kind_at w.stack (slice_get w.stack.instances at.instance.0) what)) (Some status.NotRegistered)
-    (cond (is_none o) (Some status.NoObject) None))
+    ap (λ o. cond (not (has_kind_at w.stack (slice_get w.stack.instances at.instance.0) what)) (Some Status.NotRegistered)
+    (cond (is_none o) (Some Status.NoObject) None))
     (sym (object_same at what))
     ∙ ap (λ (y : Caller). find_refusal w y what) e ∙ h
 
@@ -63,12 +62,12 @@ found_there w at x what o e h =
 get_free : (w : World) (k : WorkerId) (at : Callback) (x : Caller) (what : ContextKind) (o : Owner × Object) (others : Option Status) (b : Bool)
     → callback_of w k ≡ Some at → caller_of at ≡ x
     → IsFound w x what o → is_there w.files (Some o.1) ≡ b
-    → object_refused w what at (before (not (is_there w.files (object_by at.row at.instance at.file what))) status.DeletingObject others) ≡ before (not b) status.DeletingObject others
+    → object_refused w what at (before (not (is_there w.files (object_by at.row at.instance at.file what))) Status.DeletingObject others) ≡ before (not b) Status.DeletingObject others
 get_free w k at x what o others b is e found here =
     let object' : object_by at.row at.instance at.file what ≡ Some o.1 = sym (object_same at what) ∙ ap (λ (y : Caller). caller.object_for y what) e ∙
     found.object in
-    found_free w k at x what (before (not (is_there w.files (object_by at.row at.instance at.file what))) status.DeletingObject others) is e found.free
-    ∙ ap (λ c. before (not c) status.DeletingObject others) (ap (is_there w.files) object' ∙ here)
+    found_free w k at x what (before (not (is_there w.files (object_by at.row at.instance at.file what))) Status.DeletingObject others) is e found.free
+    ∙ ap (λ c. before (not c) Status.DeletingObject others) (ap (is_there w.files) object' ∙ here)
 
 pub get_refused : (w : World) (k : WorkerId) (what : ContextKind) (x : Caller) (why : Status) → option_map caller_of (callback_of w k) ≡ Some x
     → find_refusal w x what ≡ Some why
@@ -167,11 +166,11 @@ set_same : (w : World) (k : WorkerId) (c : CtxId) (at : Callback) (x : Caller) �
     → set_refusal w k c x ≡ set_refused w k c at
 set_same w k c at x is e =
     ap (set_refusal w k c) (sym e)
-    ∙ ap (λ o. first_of ((not (holds (hand_of w.contexts.hands k.0) c), status.NotHeld) ∷ (is_some (link_at w.contexts.slots c), status.AlreadyLinked)
-    ∷ (is_none o, status.NoObject) ∷ (is_past_at w (caller_of at) o, status.DeletingObject) ∷ [])) (object_here at (context_at w.contexts.slots c))
-    ∙ ap (λ m. first_of ((not (holds (hand_of w.contexts.hands k.0) c), status.NotHeld) ∷ (is_some (link_at w.contexts.slots c), status.AlreadyLinked)
-    ∷ (is_none (object_for at (context_at w.contexts.slots c)), status.NoObject)
-    ∷ (is_closing_at w.stack m || not (is_there w.files (object_for at (context_at w.contexts.slots c))), status.DeletingObject) ∷ [])) (callback_row w k at is)
+    ∙ ap (λ o. first_of ((not (holds (hand_of w.contexts.hands k.0) c), Status.NotHeld) ∷ (is_some (link_at w.contexts.slots c), Status.AlreadyLinked)
+    ∷ (is_none o, Status.NoObject) ∷ (is_past_at w (caller_of at) o, Status.DeletingObject) ∷ [])) (object_here at (context_at w.contexts.slots c))
+    ∙ ap (λ m. first_of ((not (holds (hand_of w.contexts.hands k.0) c), Status.NotHeld) ∷ (is_some (link_at w.contexts.slots c), Status.AlreadyLinked)
+    ∷ (is_none (object_for at (context_at w.contexts.slots c)), Status.NoObject)
+    ∷ (is_closing_at w.stack m || not (is_there w.files (object_for at (context_at w.contexts.slots c))), Status.DeletingObject) ∷ [])) (callback_row w k at is)
 
 -- the context is there, with its owner
 there_with : (m : Option Context) (own : Owner) → option_map (λ (x : Context). x.owner) m ≡ Some own → (x : Context) × (m ≡ Some x) × (x.owner ≡ own)

@@ -18,7 +18,6 @@ use Rattle.fm_world.proofs.Belonging.{AllPass}
 use Rattle.fm_world.proofs.Losing.{found_before, found_changed}
 use Rattle.fm_types.specs.declared.operation.Operation.TheVariants as kind
 use Rattle.fm_flow.specs.declared.entry.PreState.TheVariants as state
-use Rattle.fm_ctx.specs.declared.object.Object.TheVariants as object
 
 -- ---- sweeps
 
@@ -122,33 +121,33 @@ found_without : {A : Type 0} (test other : A → Bool) → ((x : A) → test x �
 found_without test other apart [] h = absurd (false≢true h)
 found_without test other apart (x ∷ xs) h = grind (arith, apart x, h, found_without test other apart xs)
 
-torn_keeps : (s : StreamId) (f : FileTable) (a : Option Object) → KeepsBut f (torn_down s f) a (Some (object.Stream s))
-torn_keeps s f a (Some (object.Handle g)) h = grind (arith, h)
-torn_keeps s f a (Some (object.Stream r)) h = elim (cases_Bool (s.0 == r.0)) [
+torn_keeps : (s : StreamId) (f : FileTable) (a : Option Object) → KeepsBut f (torn_down s f) a (Some (Object.Stream s))
+torn_keeps s f a (Some (Object.Handle g)) h = grind (arith, h)
+torn_keeps s f a (Some (Object.Stream r)) h = elim (cases_Bool (s.0 == r.0)) [
   | inl is ↦ grind (arith, is)
   | inr is ↦ grind (arith, found_without (is_stream r) (is_stream s) (λ x here. grind (arith, nat_tests, here, is)) f.streams h)
 ]
 torn_keeps s f a l h = refl
 
-closed_keeps : (g : HandleId) (f : FileTable) (b : Option Object) → KeepsBut f (closed g f) (Some (object.Handle g)) b
-closed_keeps g f b (Some (object.Stream s)) h = grind (arith, h)
-closed_keeps g f b (Some (object.Handle r)) h = elim (cases_Bool (g.0 == r.0)) [
+closed_keeps : (g : HandleId) (f : FileTable) (b : Option Object) → KeepsBut f (closed g f) (Some (Object.Handle g)) b
+closed_keeps g f b (Some (Object.Stream s)) h = grind (arith, h)
+closed_keeps g f b (Some (Object.Handle r)) h = elim (cases_Bool (g.0 == r.0)) [
   | inl is ↦ grind (arith, is)
   | inr is ↦ grind (arith, found_without (is_handle r) (is_handle g) (λ x here. grind (arith, nat_tests, here, is)) f.handles h)
 ]
 closed_keeps g f b l h = refl
 
-left_keeps : (s : StreamId) (c : Bool) (f : FileTable) (a : Option Object) → KeepsBut f (left s c f) a (Some (object.Stream s))
+left_keeps : (s : StreamId) (c : Bool) (f : FileTable) (a : Option Object) → KeepsBut f (left s c f) a (Some (Object.Stream s))
 left_keeps s c f a l h = grind (arith, h, torn_keeps s f a l h)
 
 opened_keeps : (s : StreamId) (f : FileTable) (l : Option Object) → is_there f l ≡ true → is_there (opened s f) l ≡ true
-opened_keeps s f (Some (object.Stream r)) h = h
-opened_keeps s f (Some (object.Handle g)) h = found_before (is_handle g) f.handles (fresh_handle s f.next ∷ []) h
+opened_keeps s f (Some (Object.Stream r)) h = h
+opened_keeps s f (Some (Object.Handle g)) h = found_before (is_handle g) f.handles (fresh_handle s f.next ∷ []) h
 opened_keeps s f l h = refl
 
 marked_keeps : (s : StreamId) (f : FileTable) (l : Option Object) → is_there f l ≡ true → is_there (marked s f) l ≡ true
-marked_keeps s f (Some (object.Stream r)) h = found_changed (is_stream r) (is_stream s) with_mark (λ x. refl) f.streams h
-marked_keeps s f (Some (object.Handle g)) h = h
+marked_keeps s f (Some (Object.Stream r)) h = found_changed (is_stream r) (is_stream s) with_mark (λ x. refl) f.streams h
+marked_keeps s f (Some (Object.Handle g)) h = h
 marked_keeps s f l h = refl
 
 -- the base's answer takes away a close's handle at most, and the stream of a close or a create
@@ -158,8 +157,8 @@ base_keeps : (k : Operation) (s : Option StreamId) (h : Option HandleId) (why : 
 base_keeps kind.Create (Some s) h why c f = λ l there. grind (arith, there, opened_keeps s f l there, left_keeps s c f None l there)
 base_keeps kind.SetDelete (Some s) h why c f = λ l there. grind (arith, there, marked_keeps s f l there)
 base_keeps kind.Close (Some s) (Some h) why c f =
-    keeps_then f (closed h f) (left s c (closed h f)) (Some (object.Handle h)) (Some (object.Stream s)) (closed_keeps h f (Some (object.Stream s)))
-    (left_keeps s c (closed h f) (Some (object.Handle h)))
+    keeps_then f (closed h f) (left s c (closed h f)) (Some (Object.Handle h)) (Some (Object.Stream s)) (closed_keeps h f (Some (Object.Stream s)))
+    (left_keeps s c (closed h f) (Some (Object.Handle h)))
 base_keeps k s h why c f =
     keeps_same f (handle_lost_by k (record { operation = k; stream = s; handle = h })) (stream_lost_by k (record { operation = k; stream = s; handle = h }))
 

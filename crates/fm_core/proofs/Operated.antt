@@ -44,13 +44,6 @@ use Rattle.fm_data.specs.Requests.{params_of}
 use Rattle.fm_world.proofs.Filing.{room_for}
 use Rattle.fm_core.specs.Targets.{HasRoom}
 use Rattle.fm_core.specs.Begun.{Asks}
-use Rattle.fm_types.specs.declared.status.Status.TheVariants as status
-use Rattle.fm_data.specs.declared.params.Params.TheVariants as params
-use Rattle.fm_flow.specs.declared.action.Below.TheVariants as below
-use Rattle.fm_flow.specs.declared.action.FlowAction.TheVariants as action
-use Rattle.fm_flow.specs.declared.entry.PreState.TheVariants as pre
-use Rattle.fm_data.specs.declared.request.Request.TheVariants as request
-use Rattle.fm_world.specs.declared.worker.Worker.TheVariants as place
 
 -- ---- next
 
@@ -65,19 +58,19 @@ next_requires {old} o lies r s at finds down = subst (MayLieBelowOf lies) (sym a
 pub record Goes (old : World) (k : WorkerId) (o : OpId) (r : FlowRecord) (lies : Below) (result : Result FlowAction Status) (t : FlowTable) : Type 0 where
   pub at : operation_at o old.flow ≡ Some r
   pub finds : FindsAt old.stack old.files old.flow r lies
-  pub reply : result ≡ told (λ r. (next_of k lies (drains_at old o) r).reply) (Err status.WrongStep) o old.flow
+  pub reply : result ≡ told (λ r. (next_of k lies (drains_at old o) r).reply) (Err Status.WrongStep) o old.flow
   pub after : t ≡ flow_after_next old k o lies
 
 pub goes : (old : World) (k : WorkerId) (o : OpId) (r : FlowRecord) (lies : Below) (drains : Bool) (result : Result FlowAction Status) (t : FlowTable)
     → operation_at o old.flow ≡ Some r
     → FindsAt old.stack old.files old.flow r lies → drains ≡ drains_next old.stack r
-    → result ≡ told (λ r. (next_of k lies drains r).reply) (Err status.WrongStep) o old.flow
+    → result ≡ told (λ r. (next_of k lies drains r).reply) (Err Status.WrongStep) o old.flow
     → t ≡ changed o (λ r. (next_of k lies drains r).after) old.flow → Goes old k o r lies result t
 goes old k o r lies drains result t at finds same reply after =
     let drains' : drains ≡ drains_at old o = same ∙ sym (told_there (drains_next old.stack) false o old.flow r at) in record {
       at = at;
       finds = finds;
-      reply = subst (λ d. result ≡ told (λ r. (next_of k lies d r).reply) (Err status.WrongStep) o old.flow) drains' reply;
+      reply = subst (λ d. result ≡ told (λ r. (next_of k lies d r).reply) (Err Status.WrongStep) o old.flow) drains' reply;
       after = subst (λ d. t ≡ changed o (λ r. (next_of k lies d r).after) old.flow) drains' after;
     }
 
@@ -100,21 +93,21 @@ nexts old k o r lies result t ws cs fs new idle g workers contexts files loses =
     } = cc in
     let finds : FindsBelow old.stack old.files old.flow (operation_at o old.flow) lies = subst (λ m. FindsBelow old.stack old.files old.flow m lies) (sym g.at)
     g.finds in
-    subst (λ b. Unless status.WrongStep b result old new (NextsAt old k o result new)) (sym idle) (lies, finds, mid, (g.reply, whole), loses)
+    subst (λ b. Unless Status.WrongStep b result old new (NextsAt old k o result new)) (sym idle) (lies, finds, mid, (g.reply, whole), loses)
 
 -- there is no such operation
 pub next_unknown : (old : World) (k : WorkerId) (o : OpId) → is_idle (worker_at old.workers k) ≡ true → operation_at o old.flow ≡ None
-    → Nexts old k o (Err status.WrongStep) old
+    → Nexts old k o (Err Status.WrongStep) old
 unfolding Nexts
 next_unknown old k o idle none =
-    let result : Result FlowAction Status = Err status.WrongStep in
-    let f = λ (r : FlowRecord). (next_of k below.Call (drains_at old o) r) in
+    let result : Result FlowAction Status = Err Status.WrongStep in
+    let f = λ (r : FlowRecord). (next_of k Below.Call (drains_at old o) r) in
     let reply : result ≡ told (λ r. (f r).reply) result o old.flow = sym (ap (λ m. unwrap_or (option_map (λ r. (f r).reply) m) result) none) in
     let after : old ≡ record old { flow = changed o (λ r. (f r).after) old.flow } = ap (λ t. record old { flow = t })
     (sym (unchanged_flow old.flow o (λ r. (f r).after) none)) in
-    let finds : FindsBelow old.stack old.files old.flow (operation_at o old.flow) below.Call = subst (λ m. FindsBelow old.stack old.files old.flow m below.Call)
+    let finds : FindsBelow old.stack old.files old.flow (operation_at o old.flow) Below.Call = subst (λ m. FindsBelow old.stack old.files old.flow m Below.Call)
     (sym none) tt in
-    subst (λ b. Unless status.WrongStep b result old old (NextsAt old k o result old)) (sym idle) (below.Call, finds, old, (reply, after), refl)
+    subst (λ b. Unless Status.WrongStep b result old old (NextsAt old k o result old)) (sym idle) (Below.Call, finds, old, (reply, after), refl)
 
 pub next_errs : {old now : World} (k : WorkerId) (o : OpId) (r : FlowRecord) (lies : Below) (why : Status) (t : FlowTable) → old ≡ now
     → is_idle (worker_at old.workers k) ≡ true
@@ -137,7 +130,7 @@ next_leads {old} {now} {kept} k o r lies a t ws brought s now_is idle g workers 
     (λ (x : ContextTable). received x k (Ok a)) (sym same)) still.0 still.1)
   where
     by_action : (a : FlowAction) (lies : Below) (w : World) → known_in a lies ≡ None → (old.files ≡ filed_next old o t (Ok a) lies) × LosesByKnown (Ok a) lies w w
-    by_action action.Moved (below.Known why) w unknown = absurd (none-some why (sym unknown))
+    by_action FlowAction.Moved (Below.Known why) w unknown = absurd (none-some why (sym unknown))
     by_action a lies w unknown = (refl, refl)
 
 -- with one, the operation is answered
@@ -163,7 +156,7 @@ next_answers {old} {now} {kept} k o r lies a t ws brought after fs x why s now_i
   where
     by_action : (a : FlowAction) (lies : Below) (m n : World) → known_in a lies ≡ Some why
         → (filed_next old o t (Ok a) lies ≡ filed_base old o t why) × (LosesLinks m n → LosesByKnown (Ok a) lies m n)
-    by_action action.Moved (below.Known st) m n known = (ap (filed_base old o t) (same_Some st why known), λ h. h)
+    by_action FlowAction.Moved (Below.Known st) m n known = (ap (filed_base old o t) (same_Some st why known), λ h. h)
     by_action a lies m n known = absurd (none-some why known)
 
 -- a handle that an answer gives has its room
@@ -179,10 +172,10 @@ pub next_room : {old : World} {kept : ContextsKept} (k : WorkerId) (o : OpId) (r
     (why : Status) → IsState old kept
     → old.flow.next < 2 ^ 64 → Goes old k o r lies (Ok a) t → known_in a lies ≡ Some why → x ≡ target_in r → HasRoom old.files x why
 next_room {old} k o r lies a t x why s small g known is = subst (λ y. HasRoom old.files y why) (sym is) (has_room old o why r g.at small s.sound
-    (by_action a lies known (g.reply ∙ told_there (λ (y : FlowRecord). (next_of k lies (drains_at old o) y).reply) (Err status.WrongStep) o old.flow r g.at)))
+    (by_action a lies known (g.reply ∙ told_there (λ (y : FlowRecord). (next_of k lies (drains_at old o) y).reply) (Err Status.WrongStep) o old.flow r g.at)))
   where
     by_action : (a : FlowAction) (lies : Below) → known_in a lies ≡ Some why → Ok a ≡ (next_of k lies (drains_at old o) r).reply → is_unanswered r.stage ≡ true
-    by_action action.Moved (below.Known st) known reply = (was_known k st (drains_at old o) r reply).unanswered
+    by_action FlowAction.Moved (Below.Known st) known reply = (was_known k st (drains_at old o) r reply).unanswered
     by_action a lies known reply = absurd (none-some why known)
 
 -- what `next` hands out
@@ -192,15 +185,15 @@ next_carried : (old : World) (k : WorkerId) (o : OpId) (r : FlowRecord) (lies : 
 next_carried old k o r lies result t s g c =
     let balance = next_balance old o k lies (drains_at old o) r g.at (λ e. (g.finds e).0) s c in
     let here = ap (λ (x : FlowTable). carried c x) g.after in
-    let out = ap (handed c) (g.reply ∙ told_there (λ (x : FlowRecord). (next_of k lies (drains_at old o) x).reply) (Err status.WrongStep) o old.flow r g.at) in
+    let out = ap (handed c) (g.reply ∙ told_there (λ (x : FlowRecord). (next_of k lies (drains_at old o) x).reply) (Err Status.WrongStep) o old.flow r g.at) in
     omega (arith, balance, here, out)
 
 pub next_brings : {old : World} {kept : ContextsKept} (k : WorkerId) (o : OpId) (r : FlowRecord) (lies : Below) (a : FlowAction) (t : FlowTable) → IsState old kept
     → is_idle (worker_at old.workers k) ≡ true → Goes old k o r lies (Ok a) t → old.contexts ≡ kept.table → MayBring kept k.0 (back_in a)
 next_brings {old} {kept} k o r lies a t s idle g contexts =
     let at = idle_there old.workers k idle in
-    may_bring kept k (back_in a) old.flow t (subst (λ n. k.0 < n) s.sound.under_way.hands (slice_get_within old.workers k.0 place.Idle at))
-    (sym (ap (λ (x : ContextTable). hand_of x.hands k.0) contexts) ∙ empty_hand old k place.Idle at refl s.sound.owned)
+    may_bring kept k (back_in a) old.flow t (subst (λ n. k.0 < n) s.sound.under_way.hands (slice_get_within old.workers k.0 Worker.Idle at))
+    (sym (ap (λ (x : ContextTable). hand_of x.hands k.0) contexts) ∙ empty_hand old k Worker.Idle at refl s.sound.owned)
     (handed_balance old.flow t a (next_carried old k o r lies (Ok a) t s.sound g)) s.tied
 
 pub next_tied : {old : World} {kept : ContextsKept} (k : WorkerId) (o : OpId) (r : FlowRecord) (lies : Below) (a : FlowAction) (t : FlowTable)
@@ -220,7 +213,7 @@ next_stays {old} k o r lies why t s g c = let k = next_carried old k o r lies (E
 -- the table of operations took one more, or wanted memory for it
 abbrev pub Took : FlowTable → VolumeId → Option StreamId → Option HandleId → ℕ → Option (List ℕ) → Params → Result OpId Status → FlowTable → Type 0
 Took f v stream handle b path p result g =
-    AnswersOrMemory (first_of ((is_full f, status.TooMany) ∷ [])) result f g (λ (o : OpId). (o.0 ≡ f.next) × (g ≡ begun v stream handle b path p f))
+    AnswersOrMemory (first_of ((is_full f, Status.TooMany) ∷ [])) result f g (λ (o : OpId). (o.0 ≡ f.next) × (g ≡ begun v stream handle b path p f))
 
 pub begin_tied : (kept : ContextsKept) (v : VolumeId) (stream : Option StreamId) (handle : Option HandleId) (path : Option (List ℕ)) (p : Params)
     (result : Result OpId Status)
@@ -252,16 +245,16 @@ collect_tied kept o f g e tied = subst (IsTied kept) (sym e) (λ c. tied c ∙ c
 
 -- ---- where the worker is
 
-pub pre_is : (m : Option Worker) (p : OpId × InstanceId) → pre_of m ≡ Some p → m ≡ Some (place.Pre p.0 p.1)
+pub pre_is : (m : Option Worker) (p : OpId × InstanceId) → pre_of m ≡ Some p → m ≡ Some (Worker.Pre p.0 p.1)
 pre_is m p h = grind (arith, h)
 
-pub base_is : (m : Option Worker) (p : OpId) → base_of m ≡ Some p → m ≡ Some (place.Base p)
+pub base_is : (m : Option Worker) (p : OpId) → base_of m ≡ Some p → m ≡ Some (Worker.Base p)
 base_is m p h = grind (arith, h)
 
-pub post_is : (m : Option Worker) (p : OpId × InstanceId) → post_of m ≡ Some p → m ≡ Some (place.Post p.0 p.1)
+pub post_is : (m : Option Worker) (p : OpId × InstanceId) → post_of m ≡ Some p → m ≡ Some (Worker.Post p.0 p.1)
 post_is m p h = grind (arith, h)
 
-pub drain_is : (m : Option Worker) (p : OpId × InstanceId) → drain_of m ≡ Some p → m ≡ Some (place.Drain p.0 p.1)
+pub drain_is : (m : Option Worker) (p : OpId × InstanceId) → drain_of m ≡ Some p → m ≡ Some (Worker.Drain p.0 p.1)
 drain_is m p h = grind (arith, h)
 
 -- as the code reads it
@@ -289,21 +282,21 @@ stands_in old k a o s wanted sound at inside is =
 both : (o : OpId) (i : InstanceId) → ((o.0 == o.0) && (i.0 == i.0)) ≡ true
 both o i = and_from (nat_eq o.0 o.0) (nat_eq i.0 i.0) (eq-eqb o.0 o.0 refl) (eq-eqb i.0 i.0 refl)
 
-pub in_pre : (old : World) (k : WorkerId) (o : OpId) (i : InstanceId) → IsSound old → worker_at old.workers k ≡ Some (place.Pre o i)
+pub in_pre : (old : World) (k : WorkerId) (o : OpId) (i : InstanceId) → IsSound old → worker_at old.workers k ≡ Some (Worker.Pre o i)
     → (r : FlowRecord) × (operation_at o old.flow ≡ Some r) × (r.stage ≡ PreRunning)
-in_pre old k o i s at = stands_in old k (place.Pre o i) o (AtPre i.0) PreRunning s at (both o i) (λ stage entries h. (spot_pre i.0 stage entries h).0)
+in_pre old k o i s at = stands_in old k (Worker.Pre o i) o (AtPre i.0) PreRunning s at (both o i) (λ stage entries h. (spot_pre i.0 stage entries h).0)
 
-pub in_base : (old : World) (k : WorkerId) (o : OpId) → IsSound old → worker_at old.workers k ≡ Some (place.Base o)
+pub in_base : (old : World) (k : WorkerId) (o : OpId) → IsSound old → worker_at old.workers k ≡ Some (Worker.Base o)
     → (r : FlowRecord) × (operation_at o old.flow ≡ Some r) × (r.stage ≡ InBase)
-in_base old k o s at = stands_in old k (place.Base o) o AtBase InBase s at (eq-eqb o.0 o.0 refl) spot_base
+in_base old k o s at = stands_in old k (Worker.Base o) o AtBase InBase s at (eq-eqb o.0 o.0 refl) spot_base
 
-pub in_post : (old : World) (k : WorkerId) (o : OpId) (i : InstanceId) → IsSound old → worker_at old.workers k ≡ Some (place.Post o i)
+pub in_post : (old : World) (k : WorkerId) (o : OpId) (i : InstanceId) → IsSound old → worker_at old.workers k ≡ Some (Worker.Post o i)
     → (r : FlowRecord) × (operation_at o old.flow ≡ Some r) × (r.stage ≡ PostRunning)
-in_post old k o i s at = stands_in old k (place.Post o i) o (AtPost i.0) PostRunning s at (both o i) (λ stage entries h. (spot_post i.0 stage entries h).0)
+in_post old k o i s at = stands_in old k (Worker.Post o i) o (AtPost i.0) PostRunning s at (both o i) (λ stage entries h. (spot_post i.0 stage entries h).0)
 
-pub in_drain : (old : World) (k : WorkerId) (o : OpId) (i : InstanceId) → IsSound old → worker_at old.workers k ≡ Some (place.Drain o i)
+pub in_drain : (old : World) (k : WorkerId) (o : OpId) (i : InstanceId) → IsSound old → worker_at old.workers k ≡ Some (Worker.Drain o i)
     → (r : FlowRecord) × (operation_at o old.flow ≡ Some r) × (r.stage ≡ InDrain i)
-in_drain old k o i s at = stands_in old k (place.Drain o i) o (AtDrain i.0) (InDrain i) s at (both o i) (spot_drain i)
+in_drain old k o i s at = stands_in old k (Worker.Drain o i) o (AtDrain i.0) (InDrain i) s at (both o i) (spot_drain i)
 
 pub stands_from : (o : OpId) (t : FlowTable) (wanted : Stage) → (r : FlowRecord) × (operation_at o t ≡ Some r) × (r.stage ≡ wanted)
     → StandsAt wanted (operation_at o t)
@@ -349,16 +342,16 @@ comes t o r fits step lent answer a f at reply after is =
 
 -- what is strange is refused, and nothing changes
 strange_refused : (old : World) (f : FlowTable) (fits : Bool) (Event : Type 0) → fits ≡ false → f ≡ old.flow
-    → Unless {T = Unit {0}} status.BadRequest fits (Err status.BadRequest) old (record old { flow = f }) Event
+    → Unless {T = Unit {0}} Status.BadRequest fits (Err Status.BadRequest) old (record old { flow = f }) Event
 strange_refused old f fits Event e same =
-    subst (λ b. Unless {T = Unit {0}} status.BadRequest b (Err status.BadRequest) old (record old { flow = f }) Event) (sym e)
+    subst (λ b. Unless {T = Unit {0}} Status.BadRequest b (Err Status.BadRequest) old (record old { flow = f }) Event) (sym e)
     (refl, ap (λ t. record old { flow = t }) same)
 
 -- what fits is taken
 fits_taken : (old new : World) (fits : Bool) (Event : Type 0) → fits ≡ true → Event
-    → Unless {T = Unit {0}} status.BadRequest fits (Ok (tt {0})) old new (◌≡◌ {A = Result (Unit {0}) Status} (Ok (tt {0})) (Ok (tt {0})) × Event)
+    → Unless {T = Unit {0}} Status.BadRequest fits (Ok (tt {0})) old new (◌≡◌ {A = Result (Unit {0}) Status} (Ok (tt {0})) (Ok (tt {0})) × Event)
 fits_taken old new fits Event e h =
-    subst (λ b. Unless {T = Unit {0}} status.BadRequest b (Ok (tt {0})) old new (◌≡◌ {A = Result (Unit {0}) Status} (Ok (tt {0})) (Ok (tt {0})) × Event))
+    subst (λ b. Unless {T = Unit {0}} Status.BadRequest b (Ok (tt {0})) old new (◌≡◌ {A = Result (Unit {0}) Status} (Ok (tt {0})) (Ok (tt {0})) × Event))
     (sym e) (refl, h)
 
 -- ---- a preoperation's end
@@ -372,12 +365,12 @@ pre_state old k o i r given counted has state operation at is has_is counted_is 
     let hand = hand_of old.contexts.hands k.0 in
     state_is ∙ ap (λ v. verdict_counted v operation has) counted_is ∙ ap (verdict_counted (of_hand hand given) operation) has_is
     ∙ ap (λ p. verdict_counted (of_hand hand given) p (has_post old.stack (slice_get old.stack.instances i.0) p)) is
-    ∙ sym (told_there (state_given old.stack hand i given) pre.Passed o old.flow r at)
+    ∙ sym (told_there (state_given old.stack hand i given) PreState.Passed o old.flow r at)
 
 -- the context that it sends along is in the hand, and few are carried
 pub pre_sends : {old : World} {kept : ContextsKept} (k : WorkerId) (o : OpId) (i : InstanceId) (given : PreVerdict) (state : PreState) (m : Option CtxId)
     → IsState old kept
-    → worker_at old.workers k ≡ Some (place.Pre o i) → state ≡ state_at old k o i given → m ≡ sent_in state → old.contexts ≡ kept.table → MaySend kept k.0 m
+    → worker_at old.workers k ≡ Some (Worker.Pre o i) → state ≡ state_at old k o i given → m ≡ sent_in state → old.contexts ≡ kept.table → MaySend kept k.0 m
 pre_sends {old} {kept} k o i given state m s at same sends contexts =
     may_send kept k m old.flow s.sound.under_way.flow s.tied
     (λ d e. subst (λ (t : ContextTable). holds (hand_of t.hands k.0) d ≡ true) contexts
@@ -386,7 +379,7 @@ pre_sends {old} {kept} k o i given state m s at same sends contexts =
 -- and completions carry it then
 pub pre_tied : {old : World} {kept : ContextsKept} (k : WorkerId) (o : OpId) (i : InstanceId) (given : PreVerdict) (lent : Data) (state : PreState)
     (m : Option CtxId) → IsState old kept
-    → worker_at old.workers k ≡ Some (place.Pre o i) → state ≡ state_at old k o i given → m ≡ sent_in state → old.contexts ≡ kept.table
+    → worker_at old.workers k ≡ Some (Worker.Pre o i) → state ≡ state_at old k o i given → m ≡ sent_in state → old.contexts ≡ kept.table
     → length kept.carried ≡ length kept.table.slots
     → IsTied (kept_sent kept k.0 m) (changed o (pre_returned_of state lent) old.flow)
 pre_tied {old} {kept} k o i given lent state m s at same sends contexts matched =
@@ -394,7 +387,7 @@ pre_tied {old} {kept} k o i given lent state m s at same sends contexts matched 
     (tied_sent kept k (sent_in state) old.flow (changed o (pre_returned_of state lent) old.flow) (subst (IsLawful (carries old)) contexts s.sound.owned.lawful)
     matched
     (subst (λ (t : ContextTable). k.0 < length t.hands) contexts
-    (within_hands k.0 s.sound.owned.lawful (subst (λ n. k.0 < n) s.sound.under_way.hands (slice_get_within old.workers k.0 (place.Pre o i) at))))
+    (within_hands k.0 s.sound.owned.lawful (subst (λ n. k.0 < n) s.sound.under_way.hands (slice_get_within old.workers k.0 (Worker.Pre o i) at))))
     (λ d e. subst (λ (t : ContextTable). holds (hand_of t.hands k.0) d ≡ true) contexts (sent_is_held old k o i given d
     (sym (ap sent_in same) ∙ e)))
     (pre_balance old k o i state lent at s.sound.under_way) s.tied)
@@ -402,9 +395,9 @@ pre_tied {old} {kept} k o i given lent state m s at same sends contexts matched 
 pub pre_returns : {old now : World} {kept : ContextsKept} (k : WorkerId) (o : OpId) (i : InstanceId) (r : FlowRecord) (given : PreVerdict) (lent : Data)
     (state : PreState) (m : Option CtxId) (t : FlowTable)
     (ws : List Worker) (left after : ContextsKept) (fs : FileTable) (x : Target) → IsState old kept → old ≡ now → worker_at old.workers k ≡ Some
-    (place.Pre o i) → operation_at o old.flow ≡ Some r
+    (Worker.Pre o i) → operation_at o old.flow ≡ Some r
     → state ≡ state_at old k o i given → m ≡ sent_in state
-    → Comes old.flow o (λ y. data_fits y.operation y.path lent) (pre_returned_of state lent) lent (Ok tt) t → ws ≡ put old.workers k place.Idle
+    → Comes old.flow o (λ y. data_fits y.operation y.path lent) (pre_returned_of state lent) lent (Ok tt) t → ws ≡ put old.workers k Worker.Idle
     → old.contexts ≡ kept.table → Ends (kept_sent kept k.0 m) left k.0 → IsTied (kept_sent kept k.0 m) (changed o (pre_returned_of state lent) old.flow)
     → x ≡ target_in r → fs ≡ decided t state x old.files
     → Sweeping (is_lost_of fs x) left after → PreReturns now k given lent (Ok tt) (record old { flow = t; workers = ws; contexts = after.table; files = fs })
@@ -436,20 +429,20 @@ pre_returns {old} {now} {kept} k o i r given lent state m t ws left after fs x s
 
 pub pre_strange : {old now : World} (k : WorkerId) (o : OpId) (i : InstanceId) (given : PreVerdict) (lent back : Data) (step : FlowRecord → FlowRecord)
     (t : FlowTable) → old ≡ now
-    → worker_at old.workers k ≡ Some (place.Pre o i) → Comes old.flow o (λ y. data_fits y.operation y.path lent) step lent (Err back) t
-    → PreReturns now k given lent (Err status.BadRequest) (record old { flow = t })
+    → worker_at old.workers k ≡ Some (Worker.Pre o i) → Comes old.flow o (λ y. data_fits y.operation y.path lent) step lent (Err back) t
+    → PreReturns now k given lent (Err Status.BadRequest) (record old { flow = t })
 unfolding PreReturns
 pre_strange {old} k o i given lent back step t now_is at come =
-    subst (λ (w : World). PreReturns w k given lent (Err status.BadRequest) (record old { flow = t })) now_is
-    (subst (PreReturnsAt old k given lent (Err status.BadRequest) (record old { flow = t })) (sym at)
+    subst (λ (w : World). PreReturns w k given lent (Err Status.BadRequest) (record old { flow = t })) now_is
+    (subst (PreReturnsAt old k given lent (Err Status.BadRequest) (record old { flow = t })) (sym at)
     (strange_refused old t (told (λ y. data_fits y.operation y.path lent) false o old.flow) _ come.0 come.1))
 
 -- ---- the base's answer
 
 pub base_returns : {old now : World} {kept : ContextsKept} (k : WorkerId) (o : OpId) (r : FlowRecord) (call : BaseCall) (given : Answer) (t : FlowTable)
     (ws : List Worker) (after : ContextsKept)
-    (fs : FileTable) (x : Target) → IsState old kept → old ≡ now → worker_at old.workers k ≡ Some (place.Base o) → operation_at o old.flow ≡ Some r
-    → Comes {T = BaseCall × Answer} old.flow o (base_fits call given) (base_step old call given) (call, given) (Ok tt) t → ws ≡ put old.workers k place.Idle
+    (fs : FileTable) (x : Target) → IsState old kept → old ≡ now → worker_at old.workers k ≡ Some (Worker.Base o) → operation_at o old.flow ≡ Some r
+    → Comes {T = BaseCall × Answer} old.flow o (base_fits call given) (base_step old call given) (call, given) (Ok tt) t → ws ≡ put old.workers k Worker.Idle
     → old.contexts ≡ kept.table → IsTied kept t
     → x ≡ target_in r → fs ≡ answered t given.status x old.files → Sweeping (is_lost_of fs x) kept after
     → BaseReturns now k call given (Ok tt) (record old { flow = t; workers = ws; contexts = after.table; files = fs })
@@ -472,12 +465,12 @@ base_returns {old} {now} {kept} k o r call given t ws after fs x s now_is at her
 
 pub base_strange : {old now : World} (k : WorkerId) (o : OpId) (call : BaseCall) (given : Answer) (back : BaseCall × Answer) (step : FlowRecord → FlowRecord)
     (t : FlowTable)
-    → old ≡ now → worker_at old.workers k ≡ Some (place.Base o) → Comes {T = BaseCall × Answer} old.flow o (base_fits call given) step (call, given) (Err back) t
-    → BaseReturns now k call given (Err status.BadRequest) (record old { flow = t })
+    → old ≡ now → worker_at old.workers k ≡ Some (Worker.Base o) → Comes {T = BaseCall × Answer} old.flow o (base_fits call given) step (call, given) (Err back) t
+    → BaseReturns now k call given (Err Status.BadRequest) (record old { flow = t })
 unfolding BaseReturns
 base_strange {old} k o call given back step t now_is at come =
-    subst (λ (w : World). BaseReturns w k call given (Err status.BadRequest) (record old { flow = t })) now_is
-    (subst (BaseReturnsAt old k call given (Err status.BadRequest) (record old { flow = t })) (sym at)
+    subst (λ (w : World). BaseReturns w k call given (Err Status.BadRequest) (record old { flow = t })) now_is
+    (subst (BaseReturnsAt old k call given (Err Status.BadRequest) (record old { flow = t })) (sym at)
     (strange_refused old t (told (base_fits call given) false o old.flow) _ come.0 come.1))
 
 -- a create at the base has room for its handle
@@ -491,7 +484,7 @@ base_room {old} o why r x s at stage small is = subst (λ y. HasRoom old.files y
 -- the event of a callback that is over
 over : (old : World) (k : WorkerId) (o : OpId) (step : FlowRecord → FlowRecord) (t : FlowTable) (ws : List Worker) (kept after : ContextsKept)
     → t ≡ changed o step old.flow
-    → ws ≡ put old.workers k place.Idle → old.contexts ≡ kept.table → Ends kept after k.0 → IsTied kept (changed o step old.flow)
+    → ws ≡ put old.workers k Worker.Idle → old.contexts ≡ kept.table → Ends kept after k.0 → IsTied kept (changed o step old.flow)
     → ReturnsFrom old k o step old.contexts (record old { flow = t; workers = ws; contexts = after.table })
 over old k o step t ws kept after flow workers contexts ends tied = (
   subst (λ x. Leaves (carries_after old o step) x after.table k.0) (sym contexts) (leaves_alike tied ends.leaves),
@@ -500,19 +493,19 @@ over old k o step t ws kept after flow workers contexts ends tied = (
 )
 
 pub post_tied : {old : World} {kept : ContextsKept} (k : WorkerId) (o : OpId) (i : InstanceId) (given : PostVerdict) (lent : Data) → IsState old kept
-    → worker_at old.workers k ≡ Some (place.Post o i)
+    → worker_at old.workers k ≡ Some (Worker.Post o i)
     → IsTied kept (changed o (post_returned_of given lent) old.flow)
 post_tied {old} k o i given lent s at c = s.tied c ∙ sym (post_balance old k o i given lent at s.sound.under_way c)
 
-pub drain_tied : {old : World} {kept : ContextsKept} (k : WorkerId) (o : OpId) (i : InstanceId) → IsState old kept → worker_at old.workers k ≡ Some (place.Drain o i)
+pub drain_tied : {old : World} {kept : ContextsKept} (k : WorkerId) (o : OpId) (i : InstanceId) → IsState old kept → worker_at old.workers k ≡ Some (Worker.Drain o i)
     → IsTied kept (changed o (drain_returned_of i) old.flow)
 drain_tied {old} k o i s at c = s.tied c ∙ sym (drain_balance old k o i at s.sound.under_way c)
 
 pub post_returns : {old now : World} {kept : ContextsKept} (k : WorkerId) (o : OpId) (i : InstanceId) (given : PostVerdict) (lent : Data) (t : FlowTable)
     (ws : List Worker) (after : ContextsKept)
-    → IsState old kept → old ≡ now → worker_at old.workers k ≡ Some (place.Post o i)
+    → IsState old kept → old ≡ now → worker_at old.workers k ≡ Some (Worker.Post o i)
     → Comes old.flow o (λ y. data_fits y.operation y.path lent) (post_returned_of given lent) lent (Ok tt) t
-    → ws ≡ put old.workers k place.Idle → old.contexts ≡ kept.table → Ends kept after k.0
+    → ws ≡ put old.workers k Worker.Idle → old.contexts ≡ kept.table → Ends kept after k.0
     → PostReturns now k given (Some lent) (Ok tt) (record old { flow = t; workers = ws; contexts = after.table })
 unfolding PostReturns
 post_returns {old} {now} {kept} k o i given lent t ws after s now_is at come workers contexts ends =
@@ -524,18 +517,18 @@ post_returns {old} {now} {kept} k o i given lent t ws after s now_is at come wor
 
 pub post_strange : {old now : World} (k : WorkerId) (o : OpId) (i : InstanceId) (given : PostVerdict) (lent back : Data) (step : FlowRecord → FlowRecord)
     (t : FlowTable)
-    → old ≡ now → worker_at old.workers k ≡ Some (place.Post o i) → Comes old.flow o (λ y. data_fits y.operation y.path lent) step lent (Err back) t
-    → PostReturns now k given (Some lent) (Err status.BadRequest) (record old { flow = t })
+    → old ≡ now → worker_at old.workers k ≡ Some (Worker.Post o i) → Comes old.flow o (λ y. data_fits y.operation y.path lent) step lent (Err back) t
+    → PostReturns now k given (Some lent) (Err Status.BadRequest) (record old { flow = t })
 unfolding PostReturns
 post_strange {old} k o i given lent back step t now_is at come =
-    subst (λ (w : World). PostReturns w k given (Some lent) (Err status.BadRequest) (record old { flow = t })) now_is
-    (subst (PostReturnsAt old k given (Some lent) (Err status.BadRequest) (record old { flow = t })) (sym at)
+    subst (λ (w : World). PostReturns w k given (Some lent) (Err Status.BadRequest) (record old { flow = t })) now_is
+    (subst (PostReturnsAt old k given (Some lent) (Err Status.BadRequest) (record old { flow = t })) (sym at)
     (strange_refused old t (told (λ y. data_fits y.operation y.path lent) false o old.flow) _ come.0 come.1))
 
 pub drain_returns : {old now : World} {kept : ContextsKept} (k : WorkerId) (o : OpId) (i : InstanceId) (given : PostVerdict) (t : FlowTable) (ws : List Worker)
     (after : ContextsKept)
-    → IsState old kept → old ≡ now → worker_at old.workers k ≡ Some (place.Drain o i) → t ≡ changed o (drain_returned_of i) old.flow
-    → ws ≡ put old.workers k place.Idle
+    → IsState old kept → old ≡ now → worker_at old.workers k ≡ Some (Worker.Drain o i) → t ≡ changed o (drain_returned_of i) old.flow
+    → ws ≡ put old.workers k Worker.Idle
     → old.contexts ≡ kept.table → Ends kept after k.0 → PostReturns now k given None (Ok tt) (record old { flow = t; workers = ws; contexts = after.table })
 unfolding PostReturns
 drain_returns {old} {now} {kept} k o i given t ws after s now_is at step workers contexts ends =
@@ -565,45 +558,45 @@ begun_as old refusal v stream handle path p (Ok o) t f g free room h files = (
   ),
 )
 begun_as old refusal v stream handle path p (Err why) t f g free room h files =
-    let memory : why ≡ status.NoMemory = subst (λ b. IsRefusalOrMemory (cond b (Some status.TooMany) None) why) room h.0 in
+    let memory : why ≡ Status.NoMemory = subst (λ b. IsRefusalOrMemory (cond b (Some Status.TooMany) None) why) room h.0 in
     (subst (λ r. IsRefusalOrMemory r why) (sym free) memory, ap (λ x. record old { flow = x; files = f }) h.1 ∙ ap (λ x. record old { files = x }) files)
 
 -- ---- a create begins
 
 pub creates : {old now : World} (v : VolumeId) (path : List ℕ) (mode : CreateMode) (result : Result OpId Status) (t : FlowTable) (f : FileTable)
     → old ≡ now → first_of (volume_refusals now v (is_full now.flow || has_no_handle_left now)) ≡ None
-    → Took old.flow v (Some (stream_for v path old.flow.next old.files)) None old.stack.births (Some path) (params.Create path mode) result t
+    → Took old.flow v (Some (stream_for v path old.flow.next old.files)) None old.stack.births (Some path) (Params.Create path mode) result t
     → f ≡ cond (is_ok result) (created v path old.flow.next old.files) old.files
-    → Begins now (request.Create v path mode) result (record old { flow = t; files = f })
+    → Begins now (Request.Create v path mode) result (record old { flow = t; files = f })
 unfolding Begins
 creates {old} v path mode result t f same free_now h files =
     let free = subst (λ (w : World). first_of (volume_refusals w v (is_full w.flow || has_no_handle_left w)) ≡ None) (sym same) free_now in
-    subst (λ (w : World). Begins w (request.Create v path mode) result (record old { flow = t; files = f })) same
+    subst (λ (w : World). Begins w (Request.Create v path mode) result (record old { flow = t; files = f })) same
     (begun_as old (first_of (volume_refusals old v (is_full old.flow || has_no_handle_left old))) v (Some (stream_for v path old.flow.next old.files)) None
     (Some path)
-    (params.Create path mode) result t f (created v path old.flow.next old.files) free (or_parts (is_full old.flow) (has_no_handle_left old)
+    (Params.Create path mode) result t f (created v path old.flow.next old.files) free (or_parts (is_full old.flow) (has_no_handle_left old)
     (full_from _ _ (is_full old.flow || has_no_handle_left old) free)).0 h files)
 
 pub lists : {old now : World} (v : VolumeId) (result : Result OpId Status) (t : FlowTable) → old ≡ now → first_of (volume_refusals now v (is_full old.flow)) ≡ None
-    → Took old.flow v None None old.stack.births None params.List result t → Begins now (request.List v) result (record old { flow = t })
+    → Took old.flow v None None old.stack.births None Params.List result t → Begins now (Request.List v) result (record old { flow = t })
 unfolding Begins
-lists {old} v result t same free_now h = subst (λ (w : World). Begins w (request.List v) result (record old { flow = t })) same (by_result result h)
+lists {old} v result t same free_now h = subst (λ (w : World). Begins w (Request.List v) result (record old { flow = t })) same (by_result result h)
   where
     free : first_of (volume_refusals old v (is_full old.flow)) ≡ None
     free = subst (λ (w : World). first_of (volume_refusals w v (is_full old.flow)) ≡ None) (sym same) free_now
 
-    by_result : (result : Result OpId Status) → Took old.flow v None None old.stack.births None params.List result t
+    by_result : (result : Result OpId Status) → Took old.flow v None None old.stack.births None Params.List result t
         → AnswersOrMemory (first_of (volume_refusals old v (is_full old.flow))) result old (record old { flow = t })
         (λ (o : OpId). (o.0 ≡ old.flow.next) × (◌≡◌ {A = World} (record old { flow = t }) (record old
-        { flow = begun v None None old.stack.births None params.List old.flow })))
+        { flow = begun v None None old.stack.births None Params.List old.flow })))
     by_result (Ok o) h = (free, (h.1.0, ap (λ x. record old { flow = x }) h.1.1))
     by_result (Err why) h =
-        let memory : why ≡ status.NoMemory = subst (λ b. IsRefusalOrMemory (cond b (Some status.TooMany) None) why) (full_from _ _ (is_full old.flow) free) h.0 in
+        let memory : why ≡ Status.NoMemory = subst (λ b. IsRefusalOrMemory (cond b (Some Status.TooMany) None) why) (full_from _ _ (is_full old.flow) free) h.0 in
         (subst (λ r. IsRefusalOrMemory r why) (sym free) memory, ap (λ x. record old { flow = x }) h.1)
 
-pub begin_wants : (old : World) (what : Request) → begin_refused old what ≡ None → Begins old what (Err status.NoMemory) old
+pub begin_wants : (old : World) (what : Request) → begin_refused old what ≡ None → Begins old what (Err Status.NoMemory) old
 unfolding Begins
-begin_wants old what h = (subst (λ r. IsRefusalOrMemory r status.NoMemory) (sym h) refl, refl)
+begin_wants old what h = (subst (λ r. IsRefusalOrMemory r Status.NoMemory) (sym h) refl, refl)
 
 -- ---- an operation on a handle begins
 
@@ -634,7 +627,7 @@ asks_sound old h p (Ok o) new e none s = subst IsSound (sym e.1.1) (asked_sound 
 
 -- which the event is of, for a request
 pub asks_begins : (old : World) (h : HandleId) (asked : FileRequest) (result : Result OpId Status) (new : World) → Asks old h (params_of asked) result new
-    → Begins old (request.OnHandle h asked) result new
+    → Begins old (Request.OnHandle h asked) result new
 unfolding Asks Begins
 asks_begins old h asked result new e = e
 
@@ -642,7 +635,7 @@ pub asked_phase : (w : World) (h : HandleId) (p : Params) (x : FileHandle) (v : 
     → option_map (λ (y : FileStream). y.volume) (stream_at x.stream w.files) ≡ Some v → phase_refusal w.flow (operation_of p) x.phase ≡ Some why
     → asked_refused w h p ≡ Some why
 asked_phase w h p x v why within open' there refuses =
-    ap (λ b. cond b (refused_at w p (handle_at h w.files)) (Some status.BadRequest)) within ∙ ap (refused_at w p) open' ∙ by_stream (stream_at x.stream w.files)
+    ap (λ b. cond b (refused_at w p (handle_at h w.files)) (Some Status.BadRequest)) within ∙ ap (refused_at w p) open' ∙ by_stream (stream_at x.stream w.files)
     there
   where
     by_stream : (m : Option FileStream) → option_map (λ (y : FileStream). y.volume) m ≡ Some v → refused_on w p x m ≡ Some why
@@ -652,7 +645,7 @@ asked_phase w h p x v why within open' there refuses =
 -- ---- collect
 
 pub collects : {old now : World} (o : OpId) (result : Result Answer Status) (t : FlowTable) → old ≡ now
-    → result ≡ told collect_reply (Err status.WrongStep) o old.flow
+    → result ≡ told collect_reply (Err Status.WrongStep) o old.flow
     → t ≡ collected_of o old.flow → Collects now o result (record old { flow = t })
 unfolding Collects
 collects {old} o result t same reply after =

@@ -2,11 +2,11 @@
 use Rattle.fm_core.proofs.Words.{FindsAt, IsState, IsTied, Ends, back_in, kept_brought, Sweeping, is_lost_of, ComesDown, ComesUp, known_in, target_in, Target}
 use Rattle.fm_core.proofs.Words.{hand_of, ContextsKept, Context, Slot, Data, data_fits, Params, PreVerdict, owed, FlowRecord, next_of, post_returned_of}
 use Rattle.fm_core.proofs.Words.{pre_returned_of, FlowTable, changed, is_number, operation_at, told, Below, FlowAction, Ask, PreState, found_holds, InstanceId}
-use Rattle.fm_core.proofs.Words.{OpId, WorkerId, idle_there, told_there, post_does, pre_does, next_does, Nexts, PostReturns, PreReturns, drains_at, drains_next}
-use Rattle.fm_core.proofs.Words.{flow_after_next, state_at, state_given, FileTable, names_there, after_next, is_idle, put, worker_at, World, Worker, All, Bool}
-use Rattle.fm_core.proofs.Words.{Err, IfSome, List, None, Ok, Option, Some, [], ap, arith, cond, false, inl, inr, is_some, length, option_map, refl, slice_get}
-use Rattle.fm_core.proofs.Words.{slice_set, subst, suc, sym, true, ℕ, ◌<◌, ◌==◌, ◌∙◌, ◌∷◌, ◌≡◌, ◌≤◌, cases_Bool, false≢true, nat_tests, All-weaker, same_Some}
-use Rattle.fm_core.proofs.Words.{slice_get_within}
+use Rattle.fm_core.proofs.Words.{OpId, WorkerId, Status, idle_there, told_there, post_does, pre_does, next_does, Nexts, PostReturns, PreReturns, drains_at}
+use Rattle.fm_core.proofs.Words.{drains_next, flow_after_next, state_at, state_given, FileTable, names_there, after_next, is_idle, put, worker_at, World}
+use Rattle.fm_core.proofs.Words.{Worker, All, Bool, Err, IfSome, List, None, Ok, Option, Some, [], ap, arith, cond, false, inl, inr, is_some, length}
+use Rattle.fm_core.proofs.Words.{option_map, refl, slice_get, slice_set, subst, suc, sym, true, ℕ, ◌<◌, ◌==◌, ◌∙◌, ◌∷◌, ◌≡◌, ◌≤◌, cases_Bool, false≢true}
+use Rattle.fm_core.proofs.Words.{nat_tests, All-weaker, same_Some, slice_get_within}
 use Rattle.std.proofs.Common.{zero, nat_le}
 use Rattle.fm_types.proofs.Firsts.{find_changed}
 use Rattle.fm_types.proofs.Lists.{slice_get-set_same}
@@ -25,14 +25,8 @@ use Rattle.fm_core.proofs.Changes.{change_twice}
 use Rattle.fm_core.proofs.Holding.{tied_ends}
 use Rattle.fm_core.proofs.Losing.{Agrees, sweeps_none}
 use Rattle.fm_core.proofs.Operated.{Goes, next_leads, next_tied, post_returns, post_tied, pre_returns, pre_tied}
-use Rattle.fm_types.specs.declared.status.Status.TheVariants as status
-use Rattle.fm_data.specs.declared.verdict.PreVerdict.TheVariants as verdict
 use Rattle.fm_data.specs.declared.verdict.PostVerdict.TheVariants as over
-use Rattle.fm_flow.specs.declared.action.Below.TheVariants as below
-use Rattle.fm_flow.specs.declared.action.FlowAction.TheVariants as action
-use Rattle.fm_flow.specs.declared.entry.PreState.TheVariants as pre
 use Rattle.fm_flow.specs.Sound as flow
-use Rattle.fm_world.specs.declared.worker.Worker.TheVariants as place
 
 -- ---- workers
 
@@ -109,7 +103,7 @@ module _ {old : World} {kept : ContextsKept} {k : WorkerId} {o : OpId} {r : Flow
   goes_on = record {
     at = h.there;
     finds = h.finds;
-    reply = sym (told_there (λ (x : FlowRecord). (next_of k lies (drains_at old o) x).reply) (Err status.WrongStep) o old.flow r h.there ∙ ap (λ (t : Turned). t.reply) h.turns);
+    reply = sym (told_there (λ (x : FlowRecord). (next_of k lies (drains_at old o) x).reply) (Err Status.WrongStep) o old.flow r h.there ∙ ap (λ (t : Turned). t.reply) h.turns);
     after = refl;
   }
 
@@ -134,7 +128,7 @@ module _ {old : World} {kept : ContextsKept} {k : WorkerId} {o : OpId} {r : Flow
 
   -- where the worker is
   within : k.0 < length old.workers
-  within = slice_get_within old.workers k.0 place.Idle (idle_there old.workers k h.idle)
+  within = slice_get_within old.workers k.0 Worker.Idle (idle_there old.workers k h.idle)
 
 -- ---- on the way down
 
@@ -152,14 +146,14 @@ module _ {old : World} {kept : ContextsKept} (k : WorkerId) (o : OpId) (i : Inst
   abbrev called_down : FlowRecord
   called_down = (call_pre k i d.operation (Some has_down.0)).after
 
-  calls_pre : (stops : Bool) → next_of k (below.Instance i true) stops d.operation ≡ call_pre k i d.operation (Some has_down.0)
+  calls_pre : (stops : Bool) → next_of k (Below.Instance i true) stops d.operation ≡ call_pre k i d.operation (Some has_down.0)
   calls_pre stops =
       let r = d.operation in
       let undone : is_done r ≡ false = ap (λ st. done_at st (owed r.entries)) d.next.stage in
-      ap (λ c. cond c (turn (Err status.WrongStep) r) (next_at k (below.Instance i true) stops r r.stage)) (uncollected r sound_down undone)
-      ∙ ap (next_at k (below.Instance i true) stops r) d.next.stage ∙ ap (call_pre k i r) has_down.1
+      ap (λ c. cond c (turn (Err Status.WrongStep) r) (next_at k (Below.Instance i true) stops r r.stage)) (uncollected r sound_down undone)
+      ∙ ap (next_at k (Below.Instance i true) stops r) d.next.stage ∙ ap (call_pre k i r) has_down.1
 
-  calls_down : Calls old kept k o d.operation (below.Instance i true) (action.Pre i lent_down) called_down
+  calls_down : Calls old kept k o d.operation (Below.Instance i true) (FlowAction.Pre i lent_down) called_down
   calls_down = record {
     state = s;
     same = same;
@@ -172,19 +166,19 @@ module _ {old : World} {kept : ContextsKept} (k : WorkerId) (o : OpId) (i : Inst
     unknown = refl;
   }
 
-  at_down : worker_at (between calls_down).workers k ≡ Some (place.Pre o i)
-  at_down = slice_get-set_same old.workers k.0 (place.Pre o i) (within calls_down)
+  at_down : worker_at (between calls_down).workers k ≡ Some (Worker.Pre o i)
+  at_down = slice_get-set_same old.workers k.0 (Worker.Pre o i) (within calls_down)
 
   abbrev asked_down : PreState
-  asked_down = pre.Asked (numbered n)
+  asked_down = PreState.Asked (numbered n)
 
   abbrev given_down : PreVerdict
-  given_down = verdict.WithCallback (numbered n)
+  given_down = PreVerdict.WithCallback (numbered n)
 
   counts_down : asked_down ≡ state_at (between calls_down) k o i given_down
   counts_down =
-      sym (told_there (state_given old.stack (hand_of kept.table.hands k.0) i given_down) pre.Passed o (flow_between calls_down) called_down (there_between calls_down)
-      ∙ ap (λ has. cond has asked_down pre.Passed) d.next.asks)
+      sym (told_there (state_given old.stack (hand_of kept.table.hands k.0) i given_down) PreState.Passed o (flow_between calls_down) called_down (there_between calls_down)
+      ∙ ap (λ has. cond has asked_down PreState.Passed) d.next.asks)
 
   abbrev step_down : FlowRecord → FlowRecord
   step_down = pre_returned_of asked_down lent_down
@@ -206,17 +200,17 @@ module _ {old : World} {kept : ContextsKept} (k : WorkerId) (o : OpId) (i : Inst
 
     returns_down : PreReturns (between calls_down) k given_down lent_down (Ok tt) new_down
     returns_down =
-        let workers = put_back old.workers k.0 place.Idle (place.Pre o i) (idle_there old.workers k d.idle) in
+        let workers = put_back old.workers k.0 Worker.Idle (Worker.Pre o i) (idle_there old.workers k d.idle) in
         let flow = flow_is ∙ whole_down in
         let links = subst (λ (slots : List Slot). All (λ (x : Slot). names_there old.files x.context ≡ true) slots) (sym ends.leaves.slots) (state_between calls_down).sound.links in
         let new_is : ◌≡◌ {A = World} (record (between calls_down) {
           flow = changed o step_down (flow_between calls_down);
-          workers = put (between calls_down).workers k place.Idle;
+          workers = put (between calls_down).workers k Worker.Idle;
           contexts = after.table;
           files = old.files;
         }) new_down = cc in
         subst (PreReturns (between calls_down) k given_down lent_down (Ok tt)) new_is
-        (pre_returns k o i called_down given_down lent_down asked_down None (changed o step_down (flow_between calls_down)) (put (between calls_down).workers k place.Idle) after after
+        (pre_returns k o i called_down given_down lent_down asked_down None (changed o step_down (flow_between calls_down)) (put (between calls_down).workers k Worker.Idle) after after
         old.files (target_in called_down) (state_between calls_down) refl at_down (there_between calls_down) counts_down refl (fits_down, refl) refl refl ends tied_down refl refl
         (nothing_swept old.files (target_in called_down) after links))
 
@@ -258,16 +252,16 @@ module _ {old : World} {kept : ContextsKept} (k : WorkerId) (o : OpId) (ask : As
   abbrev called_up : FlowRecord
   called_up = (give_post k ask back_up (Some has_up.0)).after
 
-  calls_post : next_of k below.Call (drains_at old o) d.operation ≡ give_post k ask back_up (Some has_up.0)
+  calls_post : next_of k Below.Call (drains_at old o) d.operation ≡ give_post k ask back_up (Some has_up.0)
   calls_post =
       let r = d.operation in
       let stops : drains_at old o ≡ false =
       told_there (drains_next old.stack) false o old.flow r d.there ∙ ap (is_stopping_ask old.stack) d.next.owes ∙ d.next.runs in
-      ap (λ c. cond c (turn (Err status.WrongStep) r) (next_at k below.Call (drains_at old o) r r.stage)) (uncollected r sound_up (undone k ask r d.next.stage d.next.owes))
-      ∙ ap (next_at k below.Call (drains_at old o) r) d.next.stage ∙ ap (ascend k (drains_at old o) r) d.next.owes ∙ ap (λ b. ascend k b r (Some ask)) stops
-      ∙ ap (λ b. cond b (call_post k ask r) (turn (Err status.WrongStep) r)) d.next.may ∙ ap (give_post k ask back_up) has_up.1
+      ap (λ c. cond c (turn (Err Status.WrongStep) r) (next_at k Below.Call (drains_at old o) r r.stage)) (uncollected r sound_up (undone k ask r d.next.stage d.next.owes))
+      ∙ ap (next_at k Below.Call (drains_at old o) r) d.next.stage ∙ ap (ascend k (drains_at old o) r) d.next.owes ∙ ap (λ b. ascend k b r (Some ask)) stops
+      ∙ ap (λ b. cond b (call_post k ask r) (turn (Err Status.WrongStep) r)) d.next.may ∙ ap (give_post k ask back_up) has_up.1
 
-  calls_up : Calls old kept k o d.operation below.Call (action.Post ask.instance lent_up ask.completion) called_up
+  calls_up : Calls old kept k o d.operation Below.Call (FlowAction.Post ask.instance lent_up ask.completion) called_up
   calls_up = record {
     state = s;
     same = same;
@@ -280,8 +274,8 @@ module _ {old : World} {kept : ContextsKept} (k : WorkerId) (o : OpId) (ask : As
     unknown = refl;
   }
 
-  at_up : worker_at (between calls_up).workers k ≡ Some (place.Post o ask.instance)
-  at_up = slice_get-set_same old.workers k.0 (place.Post o ask.instance) (within calls_up)
+  at_up : worker_at (between calls_up).workers k ≡ Some (Worker.Post o ask.instance)
+  at_up = slice_get-set_same old.workers k.0 (Worker.Post o ask.instance) (within calls_up)
 
   abbrev step_up : FlowRecord → FlowRecord
   step_up = post_returned_of over.Finished lent_up
@@ -307,15 +301,15 @@ module _ {old : World} {kept : ContextsKept} (k : WorkerId) (o : OpId) (ask : As
 
     returns_up : PostReturns (between calls_up) k over.Finished (Some lent_up) (Ok tt) new_up
     returns_up =
-        let workers = put_back old.workers k.0 place.Idle (place.Post o ask.instance) (idle_there old.workers k d.idle) in
+        let workers = put_back old.workers k.0 Worker.Idle (Worker.Post o ask.instance) (idle_there old.workers k d.idle) in
         let flow = flow_is ∙ whole_up in
         let new_is : ◌≡◌ {A = World} (record (between calls_up) {
           flow = changed o step_up (flow_between calls_up);
-          workers = put (between calls_up).workers k place.Idle;
+          workers = put (between calls_up).workers k Worker.Idle;
           contexts = after.table;
         }) new_up = cc in
         subst (PostReturns (between calls_up) k over.Finished (Some lent_up) (Ok tt)) new_is
-        (post_returns k o ask.instance over.Finished lent_up (changed o step_up (flow_between calls_up)) (put (between calls_up).workers k place.Idle) after (state_between calls_up) refl
+        (post_returns k o ask.instance over.Finished lent_up (changed o step_up (flow_between calls_up)) (put (between calls_up).workers k Worker.Idle) after (state_between calls_up) refl
         at_up (fits_up, refl) refl refl ends)
 
     pub passes_up : PassesUp now k o ask.instance new_up

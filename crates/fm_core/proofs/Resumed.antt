@@ -1,9 +1,9 @@
 -- The events on held operations, from what their parts did.
 use Rattle.fm_core.proofs.Words.{IsState, IsTied, MaySend, kept_sent, Sweeping, is_lost_of, decided, target_in, Target, within_hands, hand_of, holds}
 use Rattle.fm_core.proofs.Words.{ContextsKept, IsLawful, ContextTable, PreVerdict, FlowRecord, pre_settled, FlowTable, IsFlow, StandsAt, changed, is_number}
-use Rattle.fm_core.proofs.Words.{operation_at, PreState, found_holds, first_of, CtxId, InstanceId, OpId, WorkerId, told_there, placed_below, sent_is_held}
-use Rattle.fm_core.proofs.Words.{filed_pre, is_created_on, sent, sent_in, state_at, FileTable, after_pre, LosesLinks, place_in, worker_at, World, carries, None}
-use Rattle.fm_core.proofs.Words.{Ok, Option, Some, [], ap, arith, false, length, not, refl, subst, sym, true, ◌<◌, ◌∙◌, ◌∷◌, ◌≡◌}
+use Rattle.fm_core.proofs.Words.{operation_at, PreState, found_holds, first_of, CtxId, InstanceId, OpId, WorkerId, Status, told_there, placed_below}
+use Rattle.fm_core.proofs.Words.{sent_is_held, filed_pre, is_created_on, sent, sent_in, state_at, FileTable, after_pre, LosesLinks, place_in, worker_at, World}
+use Rattle.fm_core.proofs.Words.{carries, None, Ok, Option, Some, [], ap, arith, false, length, not, refl, subst, sym, true, ◌<◌, ◌∙◌, ◌∷◌, ◌≡◌}
 use Rattle.fm_flow.specs.declared.hold.Hold.{Hold}
 use Rattle.fm_flow.specs.declared.stage.Stage.TheVariants.{PreHeld, PostHeld}
 use Rattle.fm_flow.specs.Holds.{is_held}
@@ -13,7 +13,6 @@ use Rattle.fm_world.specs.Events.{ResumesPost, ResumesPostAt, ResumesPre, Resume
 use Rattle.fm_world.proofs.Resumes.{post_resumed_balance, resumed_balance}
 use Rattle.fm_core.proofs.Holding.{may_send, sent_slots, tied_sent}
 use Rattle.fm_core.proofs.Losing.{loses, verdict_gone}
-use Rattle.fm_types.specs.declared.status.Status.TheVariants as status
 use Rattle.fm_flow.specs.declared.hold.Hold.TheVariants as hold
 use Rattle.fm_flow.specs.declared.entry.PostState.TheVariants as post
 use Rattle.fm_flow.specs.Sound as flow
@@ -81,7 +80,7 @@ pre_resumes {old} {now} {kept} k o i r given state m t after fs x s now_is place
     let whole : mid ≡ pre_resumed old k o state = cc in
     let lost : LosesLinks mid new = loses old mid left after x s.sound refl slots (subst (IsTied left) (sym flow) tied) (verdict_gone old.files fs t state x files) sweeps in
     let here = by_that old hold.Pre o i r held in
-    let free : first_of ((not (lets_go given), status.BadRequest) ∷ (not (is_held_by old hold.Pre o i), status.NotPended) ∷ []) ≡ None = grind (arith, goes, here) in
+    let free : first_of ((not (lets_go given), Status.BadRequest) ∷ (not (is_held_by old hold.Pre o i), Status.NotPended) ∷ []) ≡ None = grind (arith, goes, here) in
     subst (λ (w : World). ResumesPre w k o given (Ok tt) new) now_is
     (subst (ResumesPreAt old k o given (Ok tt) new) (sym place)
     (free, subst (λ y. LosesLinks (pre_resumed old k o y) new) same (subst (λ (w : World). LosesLinks w new) whole lost)))
@@ -97,6 +96,6 @@ pub post_resumes : {old now : World} (k : WorkerId) (o : OpId) (i : InstanceId) 
     → is_held_by old hold.Post o i ≡ true → t ≡ changed o (post_settled post.Finished) old.flow → ResumesPost now k o (Ok tt) (record old { flow = t })
 unfolding ResumesPost
 post_resumes {old} k o i t now_is place held flow =
-    let free : first_of ((not (is_held_by old hold.Post o i), status.NotPended) ∷ []) ≡ None = grind (arith, held) in
+    let free : first_of ((not (is_held_by old hold.Post o i), Status.NotPended) ∷ []) ≡ None = grind (arith, held) in
     subst (λ (w : World). ResumesPost w k o (Ok tt) (record old { flow = t })) now_is
     (subst (ResumesPostAt old o (Ok tt) (record old { flow = t })) (sym place) (free, ap (λ x. record old { flow = x }) flow))

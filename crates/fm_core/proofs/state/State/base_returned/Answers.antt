@@ -1,15 +1,14 @@
 use Rattle.fm_core.proofs.Words.{IsTied, base_of, the_view, BaseCall, Answer, FlowRecord, base_after, base_fits, changed, InBase, base_step, IsSound, worker_at}
-use Rattle.fm_core.proofs.Words.{Result, Some, ap, refl, subst, sym, ℕ, ◌∙◌, ◌≡◌, same_Some, option_copied}
+use Rattle.fm_core.proofs.Words.{Worker, Result, Some, ap, refl, subst, sym, ℕ, ◌∙◌, ◌≡◌, same_Some, option_copied}
 use Rattle.fm_world.proofs.Returns.{base_does}
 use Rattle.fm_core.proofs.Losing.{sweeping_tied}
 use Rattle.fm_core.proofs.Operated.{Comes, comes, base_is, base_returns, base_room, base_strange, base_tied, in_base, placed, stands_from, there_from}
 use Rattle.fm_core.proofs.state.State.base_returned.Goals.{In-Some, After-base_returned}
-use Rattle.fm_world.specs.declared.worker.Worker.TheVariants as place
 use Rattle.fm_core.proofs.state.State.base_returned.Goals as goal
 
-at : (c : In-Some) → worker_at (the_view c.self.inside).workers c.args.worker ≡ Some (place.Base c.in-Some.operation)
+at : (c : In-Some) → worker_at (the_view c.self.inside).workers c.args.worker ≡ Some (Worker.Base c.in-Some.operation)
 at c =
-    placed base_of place.Base c.args.worker c.in-Some.operation c.place.result c.base_of.result base_is c.self.view_is c.place.ensures c.base_of.ensures c.in-Some.is
+    placed base_of Worker.Base c.args.worker c.in-Some.operation c.place.result c.base_of.result base_is c.self.view_is c.place.ensures c.base_of.ensures c.in-Some.is
 
 pub unreachable-requires : goal.unreachable-requires
 unreachable-requires c =

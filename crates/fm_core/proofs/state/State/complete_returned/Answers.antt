@@ -1,15 +1,14 @@
-use Rattle.fm_core.proofs.Words.{complete_of, the_view, IsSound, worker_at, Some, ap, refl, subst, ◌∙◌, ◌≡◌}
+use Rattle.fm_core.proofs.Words.{complete_of, the_view, IsSound, worker_at, Worker, Some, ap, refl, subst, ◌∙◌, ◌≡◌}
 use Rattle.fm_stack.specs.Detaching.{is_in_complete}
 use Rattle.fm_stack.specs.Instances.{passes}
 use Rattle.fm_world.proofs.Detaching.{complete_place, complete_returned_does}
 use Rattle.fm_core.proofs.Operated.{placed, within_at}
 use Rattle.fm_core.proofs.Torn.{complete_is, complete_returns, swept_tied}
 use Rattle.fm_core.proofs.state.State.complete_returned.Goals.{In-Some}
-use Rattle.fm_world.specs.declared.worker.Worker.TheVariants as place
 use Rattle.fm_core.proofs.state.State.complete_returned.Goals as goal
 
-at : (c : In-Some) → worker_at (the_view c.self.inside).workers c.args.worker ≡ Some (place.Complete c.in-Some.instance)
-at c = placed complete_of place.Complete c.args.worker c.in-Some.instance c.place.result c.complete_of.result complete_is c.self.view_is c.place.ensures c.complete_of.ensures c.in-Some.is
+at : (c : In-Some) → worker_at (the_view c.self.inside).workers c.args.worker ≡ Some (Worker.Complete c.in-Some.instance)
+at c = placed complete_of Worker.Complete c.args.worker c.in-Some.instance c.place.result c.complete_of.result complete_is c.self.view_is c.place.ensures c.complete_of.ensures c.in-Some.is
 
 pub leave-requires : goal.leave-requires
 leave-requires c = within_at c.args.worker _ c.self.invariant (at (goal.at.leave-requires c).In-Some)

@@ -1,5 +1,6 @@
-use Rattle.fm_core.proofs.Words.{stream_or, the_view, is_full, first_of, StreamId, begin_does, Begins, has_no_handle_left, volume_refusals, FileTable, created}
-use Rattle.fm_core.proofs.Words.{has_handle_on, stream_for, IsSound, World, Err, List, None, Some, ap, cond, false, is_ok, subst, sym, ℕ, ◌||◌, ◌∙◌, ◌≡◌}
+use Rattle.fm_core.proofs.Words.{stream_or, the_view, Params, Request, is_full, first_of, StreamId, begin_does, Begins, has_no_handle_left, volume_refusals}
+use Rattle.fm_core.proofs.Words.{FileTable, created, has_handle_on, stream_for, IsSound, World, Err, List, None, Some, ap, cond, false, is_ok, subst, sym, ℕ}
+use Rattle.fm_core.proofs.Words.{◌||◌, ◌∙◌, ◌≡◌}
 use Rattle.fm_types.specs.declared.status.Status.TheVariants.{NoMemory}
 use Rattle.fm_core.specs.FilesKept.{found_at, paths_of}
 use Rattle.fm_core.proofs.Paths.{found_number}
@@ -7,8 +8,6 @@ use Rattle.fm_core.specs.declared.files.CreatePaths.{CreatePaths}
 use Rattle.fm_core.proofs.Counted.{unused_number}
 use Rattle.fm_world.specs.Files.{stream_of_path}
 use Rattle.fm_core.proofs.Operated.{Took, creates, begin_tied, begin_wants}
-use Rattle.fm_data.specs.declared.params.Params.TheVariants as params
-use Rattle.fm_data.specs.declared.request.Request.TheVariants as request
 use Rattle.fm_core.proofs.state.State.create_mounted.Goals as goal
 
 pub returns : goal.returns
@@ -16,16 +15,16 @@ returns c =
     let old = the_view c.self.inside in
     let given : c.in-Ok.paths ≡ paths_of c.args.path (found_at c.args.volume c.args.path old.files) = c.in-Ok.ensures.paths in
     let event = subst (λ (b : ℕ). Took old.flow c.args.volume (Some c.stream_for-stream.result) None b (Some c.args.path)
-    (params.Create c.args.path c.args.mode) c.begin-begun.result c.begin-begun.new.self)
+    (Params.Create c.args.path c.args.mode) c.begin-begun.result c.begin-begun.new.self)
     c.births-born.ensures
     (subst (λ (q : CreatePaths). Took old.flow c.args.volume (Some c.stream_for-stream.result) None c.births-born.result (Some q.operation)
-    (params.Create q.params c.args.mode) c.begin-begun.result c.begin-begun.new.self)
+    (Params.Create q.params c.args.mode) c.begin-begun.result c.begin-begun.new.self)
     given c.begin-begun.ensures) in
     let stream : c.stream_for-stream.result ≡ stream_for c.args.volume c.args.path old.flow.next old.files = c.stream_for-stream.ensures
     ∙ ap (λ (q : CreatePaths). stream_or c.next_number-number.result q.found) given
     ∙ found_number c.next_number-number.result (stream_of_path c.args.volume c.args.path old.files)
     ∙ ap (λ (n : ℕ). stream_for c.args.volume c.args.path n old.files) c.next_number-number.ensures.result in
-    let begins = subst (λ (s : StreamId). Took old.flow c.args.volume (Some s) None old.stack.births (Some c.args.path) (params.Create c.args.path c.args.mode)
+    let begins = subst (λ (s : StreamId). Took old.flow c.args.volume (Some s) None old.stack.births (Some c.args.path) (Params.Create c.args.path c.args.mode)
     c.begin-begun.result c.begin-begun.new.self) stream event in
     let files = c.note_create.ensures
     ∙ ap (λ (q : CreatePaths). cond c.is_ok.result (created c.args.volume q.stream c.next_number-number.result c.prepare.new.self.table)
@@ -39,18 +38,18 @@ pub invariant_of-self-2 : goal.invariant_of-self-2
 invariant_of-self-2 c = record {
   sound = (begin_does _ _ _ _ (returns c)).0.sound (subst IsSound c.self.view_is c.self.invariant.sound);
   tied = begin_tied c.self.inside.contexts c.args.volume (Some c.stream_for-stream.result) None (Some c.in-Ok.paths.operation)
-      (params.Create c.in-Ok.paths.params c.args.mode) c.begin-begun.result c.self.inside.flow c.begin-begun.new.self c.births-born.result c.begin-begun.ensures
+      (Params.Create c.in-Ok.paths.params c.args.mode) c.begin-begun.result c.self.inside.flow c.begin-begun.new.self c.births-born.result c.begin-begun.ensures
       c.self.invariant.tied;
 }
 
 pub returns-in_default : goal.returns-in_default
 returns-in_default c =
     let old = the_view c.self.inside in
-    subst (λ (w : World). Begins w (request.Create c.args.volume c.args.path c.args.mode) (Err NoMemory) (record old { files = c.prepare.new.self.table }))
+    subst (λ (w : World). Begins w (Request.Create c.args.volume c.args.path c.args.mode) (Err NoMemory) (record old { files = c.prepare.new.self.table }))
     c.self.view_is
-    (subst (λ (f : FileTable). Begins old (request.Create c.args.volume c.args.path c.args.mode) (Err NoMemory) (record old { files = f }))
+    (subst (λ (f : FileTable). Begins old (Request.Create c.args.volume c.args.path c.args.mode) (Err NoMemory) (record old { files = f }))
     (sym c.prepare.ensures.table)
-    (begin_wants old (request.Create c.args.volume c.args.path c.args.mode)
+    (begin_wants old (Request.Create c.args.volume c.args.path c.args.mode)
     (subst (λ (w : World). first_of (volume_refusals w c.args.volume (is_full w.flow || has_no_handle_left w)) ≡ None) (sym c.self.view_is) c.requires)))
 
 pub note_create-requires-clause-unused : goal.note_create-requires-clause-unused

@@ -1,25 +1,24 @@
-use Rattle.fm_core.proofs.Words.{IsTied, drain_of, drain_returned_of, changed, InDrain, post_does, IsSound, refl, subst, sym}
+use Rattle.fm_core.proofs.Words.{IsTied, drain_of, drain_returned_of, changed, InDrain, post_does, IsSound, Worker, refl, subst, sym}
 use Rattle.fm_core.proofs.Holding.{tied_ends}
 use Rattle.fm_core.proofs.Operated.{drain_is, drain_returns, drain_tied, in_drain, located, stands_from, within_at}
-use Rattle.fm_world.specs.declared.worker.Worker.TheVariants as place
 use Rattle.fm_core.proofs.state.State.drain_returned.Goals as goal
 
 pub drain_returned-requires : goal.drain_returned-requires
 drain_returned-requires c =
     stands_from c.args.operation c.self.inside.flow (InDrain c.args.instance)
-    (in_drain _ c.args.worker c.args.operation c.args.instance c.self.invariant.sound (located drain_of (λ p. place.Drain p.0 p.1) c.args.worker
+    (in_drain _ c.args.worker c.args.operation c.args.instance c.self.invariant.sound (located drain_of (λ p. Worker.Drain p.0 p.1) c.args.worker
     (c.args.operation, c.args.instance) drain_is c.self.view_is c.requires))
 
 pub end_callback-requires-clause-within : goal.end_callback-requires-clause-within
 end_callback-requires-clause-within c =
-    within_at c.args.worker _ c.self.invariant (located drain_of (λ p. place.Drain p.0 p.1) c.args.worker (c.args.operation, c.args.instance) drain_is
+    within_at c.args.worker _ c.self.invariant (located drain_of (λ p. Worker.Drain p.0 p.1) c.args.worker (c.args.operation, c.args.instance) drain_is
     c.self.view_is c.requires)
 
 pub returns : goal.returns
 returns c =
     drain_returns c.args.worker c.args.operation c.args.instance c.args._verdict c.drain_returned.new.self c.put.new.workers c.end_callback.new.contexts
     c.self.invariant c.self.view_is
-    (located drain_of (λ p. place.Drain p.0 p.1) c.args.worker (c.args.operation, c.args.instance) drain_is c.self.view_is c.requires) c.drain_returned.ensures
+    (located drain_of (λ p. Worker.Drain p.0 p.1) c.args.worker (c.args.operation, c.args.instance) drain_is c.self.view_is c.requires) c.drain_returned.ensures
     c.put.ensures refl c.end_callback.ensures
 
 pub invariant_of-self : goal.invariant_of-self
@@ -28,6 +27,6 @@ invariant_of-self c = record {
   tied = subst (IsTied c.end_callback.new.contexts) (sym c.drain_returned.ensures)
       (tied_ends c.self.inside.contexts c.end_callback.new.contexts c.args.worker.0 (changed c.args.operation (drain_returned_of c.args.instance)
       c.self.inside.flow) c.end_callback.ensures
-      (drain_tied c.args.worker c.args.operation c.args.instance c.self.invariant (located drain_of (λ p. place.Drain p.0 p.1) c.args.worker
+      (drain_tied c.args.worker c.args.operation c.args.instance c.self.invariant (located drain_of (λ p. Worker.Drain p.0 p.1) c.args.worker
       (c.args.operation, c.args.instance) drain_is c.self.view_is c.requires)));
 }

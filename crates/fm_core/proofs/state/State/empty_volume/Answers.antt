@@ -1,8 +1,7 @@
-use Rattle.fm_core.proofs.Words.{is_linked_to, IsSound, refl, subst}
+use Rattle.fm_core.proofs.Words.{is_linked_to, Object, IsSound, refl, subst}
 use Rattle.fm_world.proofs.Dismounting.{empty_volume_does}
 use Rattle.fm_core.proofs.Dismounted.{empties_volume, few_on}
 use Rattle.fm_core.proofs.Torn.{where_tied}
-use Rattle.fm_ctx.specs.declared.object.Object.TheVariants as object
 use Rattle.fm_core.proofs.state.State.empty_volume.Goals as goal
 
 pub empty_volume-result-requires : goal.empty_volume-result-requires
@@ -16,7 +15,7 @@ returns-clause-event c =
 pub invariant_of-self : goal.invariant_of-self
 invariant_of-self c = record {
   sound = (empty_volume_does _ _ _ _ (returns-clause-event c)).0.sound (subst IsSound c.self.view_is c.self.invariant.sound);
-  tied = where_tied (is_linked_to (object.Volume c.args.volume)) c.empty_volume-result.result c.self.inside.contexts c.unlink_where.new.contexts c.self.inside.flow c.unlink_where.ensures
+  tied = where_tied (is_linked_to (Object.Volume c.args.volume)) c.empty_volume-result.result c.self.inside.contexts c.unlink_where.new.contexts c.self.inside.flow c.unlink_where.ensures
       c.self.invariant.tied;
 }
 

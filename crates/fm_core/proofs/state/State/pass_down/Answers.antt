@@ -1,9 +1,7 @@
-use Rattle.fm_core.proofs.Words.{ComesDown, the_view, idle_there, World, inl, refl, subst, sym, true}
+use Rattle.fm_core.proofs.Words.{ComesDown, the_view, Below, idle_there, World, Worker, inl, refl, subst, sym, true}
 use Rattle.fm_core.proofs.Operated.{next_requires, within_at}
 use Rattle.fm_core.proofs.Passed.{passed_down_hand, passed_down_state, passes_down}
 use Rattle.fm_core.proofs.state.State.pass_down.Goals.{After-laws}
-use Rattle.fm_flow.specs.declared.action.Below.TheVariants as below
-use Rattle.fm_world.specs.declared.worker.Worker.TheVariants as place
 use Rattle.fm_core.proofs.state.State.pass_down.Goals as goal
 
 -- what is asked, of the fields
@@ -13,11 +11,11 @@ comes c = subst (λ (w : World). ComesDown w c.args.worker c.args.operation c.ar
 pub pass_down-requires-clause-lies : goal.pass_down-requires-clause-lies
 pass_down-requires-clause-lies c =
     let d = comes (goal.at.pass_down-requires-clause-lies c).After-laws in
-    next_requires c.args.operation (below.Instance c.args.instance true) d.operation c.self.invariant d.there (λ e. (d.next.lies, tt)) (inl d.next.stage)
+    next_requires c.args.operation (Below.Instance c.args.instance true) d.operation c.self.invariant d.there (λ e. (d.next.lies, tt)) (inl d.next.stage)
 
 pub end_callback-requires-clause-within : goal.end_callback-requires-clause-within
 end_callback-requires-clause-within c =
-    let d = comes (goal.at.end_callback-requires-clause-within c).After-laws in within_at c.args.worker place.Idle c.self.invariant (idle_there _ c.args.worker d.idle)
+    let d = comes (goal.at.end_callback-requires-clause-within c).After-laws in within_at c.args.worker Worker.Idle c.self.invariant (idle_there _ c.args.worker d.idle)
 
 pub invariant_of-self : goal.invariant_of-self
 invariant_of-self c =

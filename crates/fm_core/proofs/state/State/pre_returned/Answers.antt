@@ -1,16 +1,15 @@
 use Rattle.fm_core.proofs.Words.{IsTied, pre_of, the_view, Data, data_fits, FlowRecord, pre_returned_of, changed, PreRunning, pre_does, state_at, IsSound}
-use Rattle.fm_core.proofs.Words.{worker_at, Result, Some, ap, refl, subst, sym, ◌∙◌, ◌≡◌, option_copied}
+use Rattle.fm_core.proofs.Words.{worker_at, Worker, Result, Some, ap, refl, subst, sym, ◌∙◌, ◌≡◌, option_copied}
 use Rattle.fm_core.proofs.Holding.{tied_ends}
 use Rattle.fm_core.proofs.Losing.{sweeping_tied}
 use Rattle.fm_core.proofs.Operated.{Comes, comes, in_pre, placed, pre_is, pre_returns, pre_sends, pre_state, pre_strange, pre_tied, stands_from, there_from}
 use Rattle.fm_core.proofs.Operated.{within_at}
 use Rattle.fm_core.proofs.state.State.pre_returned.Goals.{In-Some, After-pre_returned}
-use Rattle.fm_world.specs.declared.worker.Worker.TheVariants as place
 use Rattle.fm_core.proofs.state.State.pre_returned.Goals as goal
 
-at : (c : In-Some) → worker_at (the_view c.self.inside).workers c.args.worker ≡ Some (place.Pre c.in-Some.operation c.in-Some.instance)
+at : (c : In-Some) → worker_at (the_view c.self.inside).workers c.args.worker ≡ Some (Worker.Pre c.in-Some.operation c.in-Some.instance)
 at c =
-    placed pre_of (λ p. place.Pre p.0 p.1) c.args.worker (c.in-Some.operation, c.in-Some.instance) c.place.result c.pre_of.result pre_is c.self.view_is
+    placed pre_of (λ p. Worker.Pre p.0 p.1) c.args.worker (c.in-Some.operation, c.in-Some.instance) c.place.result c.pre_of.result pre_is c.self.view_is
     c.place.ensures c.pre_of.ensures c.in-Some.is
 
 pub unreachable-requires : goal.unreachable-requires

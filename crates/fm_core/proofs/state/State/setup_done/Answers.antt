@@ -1,15 +1,14 @@
-use Rattle.fm_core.proofs.Words.{setup_of, the_view, IsSound, worker_at, Some, refl, slice_get, subst, ◌≡◌}
+use Rattle.fm_core.proofs.Words.{setup_of, the_view, IsSound, worker_at, Worker, Some, refl, slice_get, subst, ◌≡◌}
 use Rattle.fm_world.proofs.Keeps.{setup_place}
 use Rattle.fm_world.proofs.Owning.{setup_does}
 use Rattle.fm_core.proofs.Attached.{sets_up, setup_tied, setup_is, setup_at}
 use Rattle.fm_core.proofs.Operated.{placed, within_at}
 use Rattle.fm_core.proofs.state.State.setup_done.Goals.{In-Some}
-use Rattle.fm_world.specs.declared.worker.Worker.TheVariants as place
 use Rattle.fm_core.proofs.state.State.setup_done.Goals as goal
 
-at : (c : In-Some) → worker_at (the_view c.self.inside).workers c.args.worker ≡ Some (place.Setup c.in-Some.instance)
+at : (c : In-Some) → worker_at (the_view c.self.inside).workers c.args.worker ≡ Some (Worker.Setup c.in-Some.instance)
 at c =
-    placed setup_of place.Setup c.args.worker c.in-Some.instance c.place.result c.setup_of.result setup_is c.self.view_is c.place.ensures c.setup_of.ensures
+    placed setup_of Worker.Setup c.args.worker c.in-Some.instance c.place.result c.setup_of.result setup_is c.self.view_is c.place.ensures c.setup_of.ensures
     c.in-Some.is
 
 pub leave-requires : goal.leave-requires

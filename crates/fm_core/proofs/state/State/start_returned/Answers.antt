@@ -1,13 +1,12 @@
-use Rattle.fm_core.proofs.Words.{start_of, the_view, IsSound, worker_at, Some, refl, subst, ◌≡◌, slice_get_within}
+use Rattle.fm_core.proofs.Words.{start_of, the_view, IsSound, worker_at, Worker, Some, refl, subst, ◌≡◌, slice_get_within}
 use Rattle.fm_world.proofs.Detaching.{start_place, start_returned_does}
 use Rattle.fm_core.proofs.Operated.{placed, within_at}
 use Rattle.fm_core.proofs.Torn.{left_tied, start_is, start_returns}
 use Rattle.fm_core.proofs.state.State.start_returned.Goals.{In-Some}
-use Rattle.fm_world.specs.declared.worker.Worker.TheVariants as place
 use Rattle.fm_core.proofs.state.State.start_returned.Goals as goal
 
-at : (c : In-Some) → worker_at (the_view c.self.inside).workers c.args.worker ≡ Some (place.Start c.in-Some.instance)
-at c = placed start_of place.Start c.args.worker c.in-Some.instance c.place.result c.start_of.result start_is c.self.view_is c.place.ensures c.start_of.ensures c.in-Some.is
+at : (c : In-Some) → worker_at (the_view c.self.inside).workers c.args.worker ≡ Some (Worker.Start c.in-Some.instance)
+at c = placed start_of Worker.Start c.args.worker c.in-Some.instance c.place.result c.start_of.result start_is c.self.view_is c.place.ensures c.start_of.ensures c.in-Some.is
 
 pub leave-requires : goal.leave-requires
 leave-requires c = within_at c.args.worker _ c.self.invariant (at (goal.at.leave-requires c).In-Some)

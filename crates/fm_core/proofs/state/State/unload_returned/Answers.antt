@@ -1,13 +1,12 @@
-use Rattle.fm_core.proofs.Words.{unload_of, the_view, IsSound, worker_at, Some, subst, ◌≡◌}
+use Rattle.fm_core.proofs.Words.{unload_of, the_view, IsSound, worker_at, Worker, Some, subst, ◌≡◌}
 use Rattle.fm_world.proofs.Unloading.{unload_does}
 use Rattle.fm_core.proofs.Operated.{placed}
 use Rattle.fm_core.proofs.Torn.{unload_is, unload_returns}
 use Rattle.fm_core.proofs.state.State.unload_returned.Goals.{In-Some}
-use Rattle.fm_world.specs.declared.worker.Worker.TheVariants as place
 use Rattle.fm_core.proofs.state.State.unload_returned.Goals as goal
 
-at : (c : In-Some) → worker_at (the_view c.self.inside).workers c.args.worker ≡ Some (place.Unload c.in-Some.filter)
-at c = placed unload_of place.Unload c.args.worker c.in-Some.filter c.place.result c.unload_of.result unload_is c.self.view_is c.place.ensures c.unload_of.ensures c.in-Some.is
+at : (c : In-Some) → worker_at (the_view c.self.inside).workers c.args.worker ≡ Some (Worker.Unload c.in-Some.filter)
+at c = placed unload_of Worker.Unload c.args.worker c.in-Some.filter c.place.result c.unload_of.result unload_is c.self.view_is c.place.ensures c.unload_of.ensures c.in-Some.is
 
 pub returns-clause-event : goal.returns-clause-event
 returns-clause-event c =

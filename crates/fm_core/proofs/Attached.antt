@@ -1,10 +1,8 @@
 -- The events on filters, volumes and instances, from what their parts did.
-use Rattle.fm_core.proofs.Words.{IsTied, setup_of, leaves_alike, sweeps_alike, carried_equal, ContextsKept, carried_of, Leaves, is_linked_of, Owner, FlowTable}
-use Rattle.fm_core.proofs.Words.{StackWorld, Instance, FilterId, InstanceId, VolumeId, WorkerId, Status, Unless, is_idle, put, worker_at, World, carries}
-use Rattle.fm_core.proofs.Words.{Worker, Bool, Err, List, Ok, Option, Result, Some, ap, arith, subst, sym, true, ℕ, ◌∙◌, ◌≡◌}
-use Rattle.fm_stack.specs.Instances.{is_setup}
-use Rattle.fm_world.specs.Workers.{after_attach}
-use Rattle.fm_world.specs.Events.{Attaches, SetsUp, SetsUpAt, EmptiesUnless}
+use Rattle.fm_core.proofs.Words.{IsTied, setup_of, leaves_alike, sweeps_alike, carried_equal, ContextsKept, carried_of, Worker, Bool, Err, List, Ok, Option}
+use Rattle.fm_core.proofs.Words.{Result, Some, ap, arith, subst, sym, true, ℕ, ◌∙◌, ◌≡◌, Leaves, is_linked_of, Owner, FlowTable, StackWorld, Instance, FilterId}
+use Rattle.fm_core.proofs.Words.{InstanceId, VolumeId, WorkerId, Status, Unless, is_idle, put, worker_at, World, carries}
+use Rattle.fm_world.proofs.Words.{is_setup, Attaches, EmptiesUnless, SetsUp, SetsUpAt, after_attach}
 use Rattle.fm_core.specs.Hands.{SweepsUnless}
 use Rattle.fm_core.proofs.Losing.{sweeping_tied}
 use Rattle.fm_stack.specs.Events as stack

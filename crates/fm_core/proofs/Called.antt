@@ -1,18 +1,18 @@
 -- The events of callbacks on contexts, from what the layer of contexts did.
-use Rattle.fm_core.proofs.Words.{caller_of, has_kind_at, owner_for, IsState, IsTied, Caller, there_changed, allocate_refusal, new_context, ContextsKept}
-use Rattle.fm_core.proofs.Words.{carried_of, grabbed, Context, ContextTable, context_at, Owner, FlowTable, Answers, AnswersOrMemory, IsRefusalOrMemory}
-use Rattle.fm_core.proofs.Words.{ContextKind, CtxId, WorkerId, Status, reference_does, release_does, Callback, before, callback_of, with_contexts, object_by}
-use Rattle.fm_core.proofs.Words.{row_at, IsSound, World, carries, Bool, Err, List, None, Ok, Option, Result, Some, ap, is_some, length, not, option_map, refl}
-use Rattle.fm_core.proofs.Words.{slice_get, subst, sym, true, ℕ, ◌∙◌, ◌≡◌, none-some, same_Some}
-use Rattle.fm_ctx.specs.Births.{IsNew, allocated, kept_allocated}
-use Rattle.fm_ctx.specs.Bodies.{body_at, rewritten, with_body, write_refusal, bump_refusal, bumped, raised}
-use Rattle.fm_ctx.specs.References.{released, reference_refusal, release_refusal}
+use Rattle.fm_core.proofs.Words.{caller_of, has_kind_at, owner_for, IsState, IsTied, Caller, there_changed, new_context, ContextsKept, carried_of}
+use Rattle.fm_core.proofs.Words.{IsRefusalOrMemory, reference_does, release_does, Bool, Err, List, None, Ok, Option, Result, Some, ap, is_some, not, refl}
+use Rattle.fm_core.proofs.Words.{subst, sym, true, ℕ, ◌∙◌, ◌≡◌, allocate_refusal, grabbed, Context, ContextTable, context_at, Owner, FlowTable, Answers}
+use Rattle.fm_core.proofs.Words.{AnswersOrMemory, ContextKind, CtxId, WorkerId, Status, Callback, before, callback_of, with_contexts, object_by, row_at}
+use Rattle.fm_core.proofs.Words.{IsSound, World, carries, length, option_map, slice_get, none-some, same_Some}
+use Rattle.fm_ctx.specs.Births.{kept_allocated, IsNew, allocated}
+use Rattle.fm_ctx.specs.Bodies.{body_at, write_refusal, bump_refusal, bumped, raised, rewritten, with_body}
+use Rattle.fm_ctx.specs.References.{reference_refusal, release_refusal, released}
 use Rattle.fm_ctx.proofs.Alike.{released_alike}
 use Rattle.fm_ctx.proofs.Carried.{carried_allocated}
-use Rattle.fm_world.specs.Owners.{has_kind, owner_by}
-use Rattle.fm_world.specs.ContextEvents.{InCallback, InCallbackOf, context_by, allocate_refused, Allocates, References, Releases, WritesBody, Bumps}
+use Rattle.fm_world.specs.ContextEvents.{InCallbackOf, allocate_refused, InCallback, context_by, Allocates, References, Releases, WritesBody, Bumps}
 use Rattle.fm_world.proofs.Callbacks.{callback_parts, write_body_does, bump_does}
 use Rattle.fm_core.proofs.Holding.{tied_table}
+use Rattle.fm_world.specs.Owners.{has_kind, owner_by}
 use Rattle.fm_types.specs.declared.context_kind.ContextKind.TheVariants as kind
 use Rattle.fm_core.specs.Callers as caller
 

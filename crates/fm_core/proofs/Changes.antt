@@ -1,5 +1,5 @@
 -- Changes of one operation of the table.
-use Rattle.fm_core.proofs.Words.{FlowRecord, Bool, List, Some, [], arith, find, refl, ◌∷◌, ◌≡◌}
+use Rattle.fm_core.proofs.Words.{Bool, List, Some, [], arith, refl, ◌∷◌, ◌≡◌, FlowRecord, find}
 use Rattle.fm_flow.specs.Table.{change_first}
 
 -- two changes that agree on the operation that is found, and one that leaves it as it is

@@ -1,19 +1,15 @@
 -- Cleaning contexts up and ending an instance, from what their parts did.
-use Rattle.fm_core.proofs.Words.{refused_in, IsTied, there_changed, open_of, ContextsKept, carried_of, IsLawful, Context, ContextTable, context_at, Owner}
-use Rattle.fm_core.proofs.Words.{FlowTable, carried, StackWorld, Instance, first_of, CtxId, FilterId, InstanceId, WorkerId, Status, headline_from, is_gone_at}
-use Rattle.fm_core.proofs.Words.{totalled_for, Unless, row_at, IsSound, cleanup_in, is_idle, put, worker_at, World, Worker, List, None, Ok, Option, Result}
-use Rattle.fm_core.proofs.Words.{Some, [], ap, arith, cond, false, is_some, nat_lt, not, option_map, refl, slice_get, subst, sym, true, ℕ, ◌<◌, ◌∙◌, ◌∷◌, ◌≡◌}
-use Rattle.fm_core.proofs.Words.{◌≤◌, option_and_then}
+use Rattle.fm_core.proofs.Words.{refused_in, IsTied, there_changed, ContextsKept, carried_of, headline_from, Worker, List, None, Ok, Option, Result, Some, []}
+use Rattle.fm_core.proofs.Words.{ap, arith, cond, false, is_some, nat_lt, not, refl, subst, sym, true, ℕ, ◌<◌, ◌∙◌, ◌∷◌, ◌≡◌, ◌≤◌, option_and_then, open_of}
+use Rattle.fm_core.proofs.Words.{IsLawful, Context, ContextTable, context_at, Owner, FlowTable, carried, StackWorld, Instance, first_of, CtxId, FilterId}
+use Rattle.fm_core.proofs.Words.{InstanceId, WorkerId, Status, is_gone_at, totalled_for, Unless, row_at, IsSound, cleanup_in, is_idle, put, worker_at, World}
+use Rattle.fm_core.proofs.Words.{option_map, slice_get}
+use Rattle.fm_world.proofs.Words.{count_cleaning, cleaning_of, cleaned, due_of, emptied, taken_of, Due, finished, is_emptying_at, Phase, Cleans, CleansAt}
+use Rattle.fm_world.proofs.Words.{Finishes, TakesDue, after_due, filter_of, keeps_links_by}
 use Rattle.std.proofs.lemmas.Bool.{le-ltb}
-use Rattle.fm_stack.specs.declared.instance.Phase.{Phase}
-use Rattle.fm_stack.specs.Events.{is_emptying_at, finished}
-use Rattle.fm_ctx.specs.declared.due.Due.{Due}
-use Rattle.fm_ctx.specs.Bags.{cleaning_of}
-use Rattle.fm_ctx.specs.Cleanup.{due_of, due_reply, emptied, taken_of, after_take_due, cleaned}
+use Rattle.fm_ctx.specs.Cleanup.{due_reply, after_take_due}
 use Rattle.fm_ctx.proofs.Carried.{carried_cleaned}
-use Rattle.fm_ctx.proofs.Lives.{count_cleaning}
-use Rattle.fm_world.specs.ContextEvents.{TakesDue, after_due, Cleans, CleansAt, filter_of, Finishes, finish_refused, OwnsOnlyWaiting}
-use Rattle.fm_world.specs.Owners.{keeps_links_by}
+use Rattle.fm_world.specs.ContextEvents.{finish_refused, OwnsOnlyWaiting}
 use Rattle.fm_world.proofs.Waiting.{waits}
 use Rattle.fm_core.specs.Callers.{filter_at}
 use Rattle.fm_core.proofs.Called.{table_tied}

@@ -1,16 +1,14 @@
 -- How many handles are open on each stream, through the changes of both lists.
-use Rattle.fm_core.proofs.Words.{AreCounted, IsBefore, IsOlder, changed_at, is_own, count-cons, stands_there, change_first, without_first, HandleId, StreamId}
-use Rattle.fm_core.proofs.Words.{FileTable, has_handle_on, is_handle, is_on, is_stream, with_mark, with_phase, FileHandle, FileStream, HandlePhase, All}
-use Rattle.fm_core.proofs.Words.{AllPairs, Bool, IfSome, List, None, Option, Some, [], ap, arith, cond, count_by, false, find, inl, inr, length, map, nat_lt}
-use Rattle.fm_core.proofs.Words.{not, option_map, position, refl, subst, suc, sym, true, ℕ, ◌&&◌, ◌++◌, ◌+◌, ◌-◌, ◌<◌, ◌==◌, ◌||◌, ◌∙◌, ◌∷◌, ◌≡◌, ◌≤◌}
-use Rattle.fm_core.proofs.Words.{cases_Bool, false≢true, nat_tests, All-cons, All-head, All-nil, All-tail, count_by-le-length, none-some, same_Some}
+use Rattle.fm_core.proofs.Words.{AreCounted, IsBefore, IsOlder, changed_at, is_own, stands_there, FileHandle, FileStream, HandlePhase, Bool, IfSome, List, None}
+use Rattle.fm_core.proofs.Words.{Option, Some, [], ap, arith, cond, false, inl, inr, map, nat_lt, not, position, refl, subst, suc, sym, true, ℕ, ◌&&◌, ◌++◌}
+use Rattle.fm_core.proofs.Words.{◌+◌, ◌-◌, ◌<◌, ◌==◌, ◌||◌, ◌∙◌, ◌∷◌, ◌≡◌, ◌≤◌, nat_tests, count_by-le-length, count-cons, change_first, without_first}
+use Rattle.fm_core.proofs.Words.{HandleId, StreamId, FileTable, has_handle_on, is_handle, is_on, is_stream, with_mark, with_phase, All, AllPairs, count_by}
+use Rattle.fm_core.proofs.Words.{find, length, option_map, cases_Bool, false≢true, All-cons, All-head, All-nil, All-tail, none-some, same_Some}
+use Rattle.fm_world.proofs.Words.{found_counts, found_passes, has_stream, sum_by_push, list_any}
 use Rattle.std.proofs.Common.{get_or}
-use Rattle.std.specs.List.{list_any, position_or_len}
-use Rattle.std.proofs.lemmas.List.Sums.{sum_by_push}
-use Rattle.fm_types.proofs.Firsts.{found_counts, found_passes}
+use Rattle.std.specs.List.{position_or_len}
 use Rattle.std.proofs.lemmas.List.{get_or-map, map-append}
 use Rattle.std.proofs.lemmas.List.Folds.{list_any_none}
-use Rattle.fm_world.specs.FileLaws.{has_stream}
 use Rattle.fm_core.specs.FilesKept.{open_on, without_at}
 
 -- ---- places

@@ -1,9 +1,9 @@
 -- The events by which a volume is dismounted, from what their parts did.
-use Rattle.fm_core.proofs.Words.{IsState, IsTied, SweptWhere, Sweeping, is_lost_of, answered, Target, ContextsKept, is_linked_to, ContextTable, Object}
-use Rattle.fm_core.proofs.Words.{StackWorld, first_of, VolumeId, Status, FileTable, LosesLinks, World, FileHandle, None, Ok, Result, Some, ap, arith, refl}
-use Rattle.fm_core.proofs.Words.{subst, sym, ℕ, ◌<◌, ◌^◌, ◌∙◌, ◌≡◌, count_by-le-length}
+use Rattle.fm_core.proofs.Words.{IsState, IsTied, SweptWhere, Sweeping, is_lost_of, answered, Target, ContextsKept, is_linked_to, FileHandle, None, Ok, Result}
+use Rattle.fm_core.proofs.Words.{Some, ap, arith, refl, subst, sym, ℕ, ◌<◌, ◌^◌, ◌∙◌, ◌≡◌, count_by-le-length, ContextTable, Object, StackWorld, first_of}
+use Rattle.fm_core.proofs.Words.{VolumeId, Status, FileTable, LosesLinks, World}
 use Rattle.fm_ctx.specs.Counting.{open_on}
-use Rattle.fm_world.specs.Dismounts.{StartsDismount, DropsHandle, EmptiesVolume, FinishesVolume, dropped, handles_on, is_handle_on, lowest_on}
+use Rattle.fm_world.specs.Dismounts.{handles_on, StartsDismount, DropsHandle, EmptiesVolume, FinishesVolume, dropped, is_handle_on, lowest_on}
 use Rattle.fm_core.specs.Targets.{close_on}
 use Rattle.fm_core.proofs.Losing.{answer_gone, loses}
 use Rattle.fm_core.proofs.Torn.{where_swept}

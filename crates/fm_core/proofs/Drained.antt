@@ -1,17 +1,17 @@
 -- Drains that are taken before their turn, from what their parts did.
-use Rattle.fm_core.proofs.Words.{IsState, IsTied, MayBring, kept_brought, drains_in, early_drain_of, hand_of, ContextsKept, carried_of, Leaves, ContextTable}
-use Rattle.fm_core.proofs.Words.{carried_in, DrainTaken, FlowTable, carried, operation_at, Instance, CtxId, InstanceId, OpId, WorkerId, Status, idle_there}
-use Rattle.fm_core.proofs.Words.{empty_hand, is_gone_at, row_at, is_idle, put, worker_at, World, Worker, Bool, Err, List, None, Ok, Option, Some, [], ap, arith}
-use Rattle.fm_core.proofs.Words.{false, length, refl, subst, sym, true, ◌+◌, ◌<◌, ◌∙◌, ◌∷◌, ◌≡◌, slice_get_within}
+use Rattle.fm_core.proofs.Words.{IsState, IsTied, MayBring, kept_brought, drains_in, early_drain_of, ContextsKept, carried_of, DrainTaken, idle_there}
+use Rattle.fm_core.proofs.Words.{empty_hand, Worker, Bool, Err, List, None, Ok, Option, Some, [], ap, arith, false, refl, subst, sym, true, ◌+◌, ◌<◌, ◌∙◌, ◌∷◌}
+use Rattle.fm_core.proofs.Words.{◌≡◌, hand_of, Leaves, ContextTable, carried_in, FlowTable, carried, operation_at, Instance, CtxId, InstanceId, OpId, WorkerId}
+use Rattle.fm_core.proofs.Words.{Status, is_gone_at, row_at, is_idle, put, worker_at, World, length, slice_get_within}
 use Rattle.fm_data.specs.declared.verdict.Completion.{Completion}
 use Rattle.fm_flow.specs.Drains.{RunsEarly, drain_done_of}
 use Rattle.fm_flow.proofs.Drains.{early_carried, drain_done_carried}
 use Rattle.fm_core.proofs.Cleaned.{phase_in}
-use Rattle.fm_world.specs.Events.{brought}
 use Rattle.fm_world.specs.EarlyDrains.{TakesDrain, DrainReturns, DrainReturnsAt, DrainsWhere, is_stopping_at}
 use Rattle.fm_world.proofs.Draining.{early_there}
 use Rattle.fm_core.proofs.Holding.{may_bring, tied_brought}
 use Rattle.fm_core.proofs.Torn.{idles, leaks, left_tied}
+use Rattle.fm_world.specs.Events.{brought}
 use Rattle.fm_types.specs.Refusals as refusals
 
 -- ---- a drain is taken

@@ -1,25 +1,22 @@
 -- What the layer of contexts keeps of references that completions carry stays what the operations' completions say.
 use Rattle.fm_core.proofs.Words.{IsState, IsTied, FilesKept, Ends, MayBring, MaySend, back_in, kept_brought, kept_sent, leaves_alike, carried_equal}
-use Rattle.fm_core.proofs.Words.{carried_there, hand_of, holds, ContextsKept, IsLawful, grabbed, Leaves, ContextTable, Slot, carried_by, carried_in, handed}
-use Rattle.fm_core.proofs.Words.{owed, FlowRecord, FlowTable, IsFlow, carried, FlowAction, Ask, StackWorld, count-cons, CtxId, WorkerId, received, sent}
-use Rattle.fm_core.proofs.Words.{empty_world, All, List, None, Ok, Option, Some, [], ap, arith, cond, inl, inr, is_some, length, not, refl, slice_get, subst}
-use Rattle.fm_core.proofs.Words.{sym, true, ℕ, ◌+◌, ◌<◌, ◌^◌, ◌∙◌, ◌∷◌, ◌≡◌, ◌≤◌, cases_Bool, false≢true, nat_tests, All-head, All-tail, slice_get_within}
-use Rattle.fm_core.proofs.Words.{option_and_then}
+use Rattle.fm_core.proofs.Words.{carried_there, ContextsKept, List, None, Ok, Option, Some, [], ap, arith, cond, inl, inr, is_some, not, refl, subst, sym, true}
+use Rattle.fm_core.proofs.Words.{ℕ, ◌+◌, ◌<◌, ◌^◌, ◌∙◌, ◌∷◌, ◌≡◌, ◌≤◌, nat_tests, option_and_then, hand_of, holds, IsLawful, grabbed, Leaves, ContextTable}
+use Rattle.fm_core.proofs.Words.{Slot, carried_by, carried_in, handed, owed, FlowRecord, FlowTable, IsFlow, carried, FlowAction, Ask, StackWorld, count-cons}
+use Rattle.fm_core.proofs.Words.{CtxId, WorkerId, received, sent, empty_world, All, length, slice_get, cases_Bool, false≢true, All-head, All-tail}
+use Rattle.fm_core.proofs.Words.{slice_get_within}
+use Rattle.fm_world.proofs.Words.{is_id-refl, is_id, one, context_at, context_in, carried_among, total, empty_files}
 use Rattle.std.proofs.Common.{◌*◌, slice_index}
-use Rattle.fm_ctx.specs.Bags.{one, is_id}
 use Rattle.fm_ctx.specs.Kept.{carried_of, nothing_kept}
 use Rattle.fm_ctx.specs.References.{handed_on}
-use Rattle.fm_ctx.specs.Table.{context_at, context_in, count_in}
-use Rattle.fm_ctx.proofs.Bags.{is_id-refl}
+use Rattle.fm_ctx.specs.Table.{count_in}
 use Rattle.fm_ctx.proofs.Carried.{carried_one_more, carried_one_fewer}
 use Rattle.fm_ctx.proofs.Counts.{count_held}
 use Rattle.fm_ctx.proofs.Slots.{none_from}
-use Rattle.fm_flow.specs.Counts.{carried_among}
-use Rattle.fm_flow.specs.Table.{total, under_way}
+use Rattle.fm_flow.specs.Table.{under_way}
 use Rattle.fm_world.proofs.Requests.{done_owes}
 use Rattle.fm_world.proofs.Runs.{empty_sound, nothing_carried}
 use Rattle.fm_core.specs.Fields.{world_of}
-use Rattle.fm_world.specs.Files.{empty_files}
 use Rattle.fm_flow.specs.Sound as flow
 
 -- ---- contexts that are there

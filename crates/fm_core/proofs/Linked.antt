@@ -1,21 +1,19 @@
 -- Setting, getting and deleting contexts, from what the layer of contexts did.
-use Rattle.fm_core.proofs.Words.{caller_of, has_kind_at, owner_for, IsTied, Caller, there_changed, hand_of, holds, ContextsKept, carried_of, holder, grabbed}
-use Rattle.fm_core.proofs.Words.{Context, ContextTable, Slot, context_at, Object, Owner, FlowTable, Answers, first_of, ContextKind, CtxId, WorkerId, Status}
-use Rattle.fm_core.proofs.Words.{Callback, before, callback_of, with_contexts, is_there, object_by, World, carries, Bool, Err, List, None, Option, Result, Some}
-use Rattle.fm_core.proofs.Words.{[], ap, arith, cond, false, is_some, not, option_map, refl, slice_get, subst, sym, true, ℕ, ◌&&◌, ◌||◌, ◌∙◌, ◌∷◌, ◌≡◌}
-use Rattle.fm_core.proofs.Words.{none-some, same_Some, option_and_then}
-use Rattle.fm_ctx.specs.Links.{with_link, set_reply, set_after, set_mode_after, unlinked_for, linked, get_refusal, delete_reply, delete_after, delete_refusal}
+use Rattle.fm_core.proofs.Words.{caller_of, has_kind_at, owner_for, IsTied, Caller, there_changed, ContextsKept, carried_of, Bool, Err, List, None, Option}
+use Rattle.fm_core.proofs.Words.{Result, Some, [], ap, arith, cond, false, is_some, not, refl, subst, sym, true, ℕ, ◌&&◌, ◌||◌, ◌∙◌, ◌∷◌, ◌≡◌, option_and_then}
+use Rattle.fm_core.proofs.Words.{hand_of, holds, holder, grabbed, Context, ContextTable, Slot, context_at, Object, Owner, FlowTable, Answers, first_of}
+use Rattle.fm_core.proofs.Words.{ContextKind, CtxId, WorkerId, Status, Callback, before, callback_of, with_contexts, is_there, object_by, World, carries}
+use Rattle.fm_core.proofs.Words.{option_map, slice_get, none-some, same_Some}
+use Rattle.fm_world.proofs.Words.{is_hand_full, delete_after, delete_refusal, delete_reply, get_refusal, linked, set_after, set_reply, unlinked_for, with_link}
+use Rattle.fm_world.proofs.Words.{link_at, SetMode, SetReply, Deletes, Gets, Sets, SetsIn, SetsOn, SetsUnless, object_for, object_refused, set_answer}
+use Rattle.fm_world.proofs.Words.{set_refused, there_at}
+use Rattle.fm_world.specs.declared.set_answer.SetAnswer.{SetAnswer}
+use Rattle.fm_ctx.specs.Links.{set_mode_after}
 use Rattle.fm_core.specs.Callers.{is_closing_at}
 use Rattle.std.proofs.Common.{is_none}
-use Rattle.fm_ctx.specs.declared.set_reply.SetMode.{SetMode}
 use Rattle.fm_ctx.specs.declared.set_reply.SetMode.TheVariants.{Keep, Replace}
-use Rattle.fm_ctx.specs.declared.set_reply.SetReply.{SetReply}
-use Rattle.fm_ctx.specs.Bags.{is_hand_full}
-use Rattle.fm_ctx.specs.Table.{link_at}
 use Rattle.fm_ctx.proofs.Alike.{set_alike, delete_alike}
 use Rattle.fm_ctx.proofs.Sets.{unlinked_slots}
-use Rattle.fm_world.specs.declared.set_answer.SetAnswer.{SetAnswer}
-use Rattle.fm_world.specs.ContextEvents.{object_for, set_refused, set_answer, SetsOn, SetsUnless, SetsIn, Sets, there_at, object_refused, Gets, Deletes}
 use Rattle.fm_core.specs.Setting.{is_past_at, object_of, set_refusal, find_refusal, IsSettable, IsFound}
 use Rattle.fm_core.proofs.Called.{called_in, owner_same, object_same, callback_row, in_callback, answers_up, answers_tied, table_tied}
 use Rattle.fm_core.specs.Callers as caller

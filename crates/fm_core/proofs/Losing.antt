@@ -1,19 +1,17 @@
 -- Links that go with what they name: what the code unlinks is all that is gone.
 use Rattle.fm_core.proofs.Words.{IsTied, Sweeping, handle_lost, is_lost, is_lost_of, stream_lost, answered, decided, Target, sweeps_alike, carried_there}
-use Rattle.fm_core.proofs.Words.{ContextsKept, carried_of, Sweeps, Context, ContextTable, Slot, context_at, Object, FlowTable, PreState, without_first, CtxId}
-use Rattle.fm_core.proofs.Words.{HandleId, StreamId, Operation, Status, is_created_on, FileTable, after_pre, fresh_handle, is_handle, is_stream, with_mark}
-use Rattle.fm_core.proofs.Words.{LosesLinks, is_there, names_there, IsSound, World, carries, All, Bool, List, None, Option, Some, [], ap, arith, false, find}
-use Rattle.fm_core.proofs.Words.{inl, inr, is_some, map, refl, subst, sym, true, ℕ, ◌==◌, ◌||◌, ◌∙◌, ◌∷◌, ◌≡◌, cases_Bool, false≢true, nat_tests, All-cons}
+use Rattle.fm_core.proofs.Words.{ContextsKept, carried_of, fresh_handle, Bool, List, None, Option, Some, [], ap, arith, false, inl, inr, is_some, map, refl}
+use Rattle.fm_core.proofs.Words.{subst, sym, true, ℕ, ◌==◌, ◌||◌, ◌∙◌, ◌∷◌, ◌≡◌, nat_tests, Sweeps, Context, ContextTable, Slot, context_at, Object, FlowTable}
+use Rattle.fm_core.proofs.Words.{PreState, without_first, CtxId, HandleId, StreamId, Operation, Status, is_created_on, FileTable, after_pre, is_handle}
+use Rattle.fm_core.proofs.Words.{is_stream, with_mark, LosesLinks, is_there, names_there, IsSound, World, carries, All, find, cases_Bool, false≢true, All-cons}
 use Rattle.fm_core.proofs.Words.{All-head, All-nil, All-tail, All-weaker}
-use Rattle.fm_world.specs.Links.{is_on_gone}
+use Rattle.fm_world.proofs.Words.{context_at-swept, is_to, swept, swept_slot, after_base, closed, left, opened, torn_down, is_on_gone}
 use Rattle.fm_core.specs.Lost.{is_named, handle_lost_by, stream_lost_by, GoneAlone}
-use Rattle.fm_ctx.specs.Objects.{is_to}
-use Rattle.fm_ctx.specs.Settling.{swept, swept_slot}
 use Rattle.fm_ctx.proofs.Alike.{settles_alike}
 use Rattle.fm_ctx.proofs.Carried.{carried_numbers}
 use Rattle.fm_ctx.proofs.Objects.{same_object-same}
-use Rattle.fm_ctx.proofs.Leaving.{settles_none, settles_both, context_at-swept}
-use Rattle.fm_world.specs.Files.{marked, opened, closed, torn_down, left, after_base}
+use Rattle.fm_ctx.proofs.Leaving.{settles_none, settles_both}
+use Rattle.fm_world.specs.Files.{marked}
 use Rattle.fm_world.proofs.Belonging.{AllPass}
 use Rattle.fm_world.proofs.Losing.{found_before, found_changed}
 use Rattle.fm_types.specs.declared.operation.Operation.TheVariants as kind

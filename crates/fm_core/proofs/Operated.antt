@@ -1,30 +1,24 @@
 -- The events on operations, from what their parts did.
 use Rattle.fm_core.proofs.Words.{IsAsked, FindsAt, IsState, IsTied, Ends, MayBring, MaySend, back_in, kept_brought, kept_sent, Sweeping, is_lost_of, base_of}
-use Rattle.fm_core.proofs.Words.{drain_of, post_of, pre_of, answered, decided, known_in, target_in, Target, leaves_alike, within_hands, hand_of, holds}
-use Rattle.fm_core.proofs.Words.{ContextsKept, IsLawful, Leaves, ContextTable, BaseCall, Data, data_fits, operation_of, Answer, Params, Request, PreVerdict}
-use Rattle.fm_core.proofs.Words.{carried_by, handed, FlowRecord, base_after, base_fits, drain_returned_of, next_of, post_returned_of, pre_returned_of}
-use Rattle.fm_core.proofs.Words.{FlowTable, StandsAt, carried, changed, is_full, is_number, operation_at, told, Below, FlowAction, PreState, InBase, InDrain}
-use Rattle.fm_core.proofs.Words.{PostRunning, PreRunning, found_holds, AnswersOrMemory, IsRefusalOrMemory, first_of, CtxId, HandleId, InstanceId, OpId}
-use Rattle.fm_core.proofs.Words.{StreamId, VolumeId, WorkerId, Operation, Status, idle_there, told_there, empty_hand, sent_is_held, Unless, asked_refused}
-use Rattle.fm_core.proofs.Words.{base_step, drains_at, drains_next, filed_pre, flow_after_next, has_no_handle_left, is_created_on, moved_on, received, sent}
-use Rattle.fm_core.proofs.Words.{sent_in, state_at, state_given, volume_refusals, FileTable, after_pre, created, handle_at, stream_for, LosesLinks}
-use Rattle.fm_core.proofs.Words.{phase_refusal, IsSound, after_next, is_idle, put, worker_at, World, carries, FileHandle, FileStream, Worker, Bool, Err, List}
-use Rattle.fm_core.proofs.Words.{None, Ok, Option, Result, Some, [], ap, arith, cond, false, inl, inr, is_ok, length, option_map, refl, slice_get, subst, sym}
-use Rattle.fm_core.proofs.Words.{true, ℕ, ◌&&◌, ◌+◌, ◌<◌, ◌==◌, ◌^◌, ◌||◌, ◌∙◌, ◌∷◌, ◌≡◌, and_parts, none-some, same_Some, slice_get_within}
-use Rattle.fm_flow.specs.Answered.{is_success}
-use Rattle.std.proofs.Common.{nat_eq, unwrap_or}
-use Rattle.std.proofs.lemmas.Bool.{eq-eqb, and_from, or_parts}
-use Rattle.fm_data.specs.declared.verdict.PostVerdict.{PostVerdict}
-use Rattle.fm_flow.specs.declared.stage.Stage.{Stage}
-use Rattle.fm_flow.specs.declared.entry.Entry.{Entry}
-use Rattle.fm_flow.specs.Steps.{base_returned_of, MayLieBelow}
-use Rattle.fm_flow.specs.Verdict.{verdict_counted}
-use Rattle.fm_flow.specs.Table.{MayLieBelowOf, begun, begun_record, collect_reply, collected_of}
-use Rattle.fm_world.specs.Events.{LosesByKnown, pre_step, Begins, Nexts, NextsAt, FindsBelow, PreReturnsOver, base_returned, PreReturns, PreReturnsAt}
-use Rattle.fm_world.specs.Events.{BaseReturns, BaseReturnsAt, PostReturns, PostReturnsAt, Collects, ReturnsFrom, of_hand, carries_after, has_post, returned}
-use Rattle.fm_world.specs.Events.{filed_record, filed_next, filed_base, begin_refused, asked_begun, refused_at, refused_on, begun_at, begun_on, or_else}
-use Rattle.fm_world.specs.Headline.{Spot, AtPre, AtBase, AtPost, AtDrain, is_in_at, is_spot, spot_at}
-use Rattle.fm_world.specs.Sound.{IsAmong}
+use Rattle.fm_core.proofs.Words.{drain_of, post_of, pre_of, answered, decided, known_in, target_in, Target, leaves_alike, ContextsKept, base_after, StandsAt}
+use Rattle.fm_core.proofs.Words.{IsRefusalOrMemory, idle_there, told_there, empty_hand, sent_is_held, drains_next, volume_refusals, phase_refusal, FileHandle}
+use Rattle.fm_core.proofs.Words.{FileStream, Worker, Bool, Err, List, None, Ok, Option, Result, Some, [], ap, arith, cond, false, inl, inr, is_ok, refl, subst}
+use Rattle.fm_core.proofs.Words.{sym, true, ℕ, ◌&&◌, ◌+◌, ◌<◌, ◌==◌, ◌^◌, ◌||◌, ◌∙◌, ◌∷◌, ◌≡◌, within_hands, hand_of, holds, IsLawful, Leaves, ContextTable}
+use Rattle.fm_core.proofs.Words.{BaseCall, Data, data_fits, operation_of, Answer, Params, Request, PreVerdict, carried_by, handed, FlowRecord, base_fits}
+use Rattle.fm_core.proofs.Words.{drain_returned_of, next_of, post_returned_of, pre_returned_of, FlowTable, carried, changed, is_full, is_number, operation_at}
+use Rattle.fm_core.proofs.Words.{told, Below, FlowAction, PreState, InBase, InDrain, PostRunning, PreRunning, found_holds, AnswersOrMemory, first_of, CtxId}
+use Rattle.fm_core.proofs.Words.{HandleId, InstanceId, OpId, StreamId, VolumeId, WorkerId, Operation, Status, Unless, asked_refused, base_step, drains_at}
+use Rattle.fm_core.proofs.Words.{filed_pre, flow_after_next, has_no_handle_left, is_created_on, moved_on, received, sent, sent_in, state_at, state_given}
+use Rattle.fm_core.proofs.Words.{FileTable, after_pre, created, handle_at, stream_for, LosesLinks, IsSound, after_next, is_idle, put, worker_at, World, carries}
+use Rattle.fm_core.proofs.Words.{length, option_map, slice_get, and_parts, none-some, same_Some, slice_get_within}
+use Rattle.fm_world.proofs.Words.{is_within_limits, PostVerdict, is_success, is_create, is_unanswered, MayLieBelow, base_returned_of, begun, begun_record}
+use Rattle.fm_world.proofs.Words.{collected_of, verdict_counted, Entry, Stage, CreateMode, BaseReturns, BaseReturnsAt, Begins, Collects, FindsBelow}
+use Rattle.fm_world.proofs.Words.{LosesByKnown, Nexts, NextsAt, PostReturns, PostReturnsAt, PreReturns, PreReturnsAt, asked_begun, base_returned, begin_refused}
+use Rattle.fm_world.proofs.Words.{begun_on, carries_after, filed_next, filed_record, has_post, of_hand, or_else, pre_step, returned, AtBase, AtDrain, AtPost}
+use Rattle.fm_world.proofs.Words.{AtPre, Spot, is_in_at, is_spot, spot_at, IsAmong, unwrap_or, and_from, eq-eqb, or_parts}
+use Rattle.std.proofs.Common.{nat_eq}
+use Rattle.fm_flow.specs.Table.{MayLieBelowOf, collect_reply}
+use Rattle.fm_world.specs.Events.{PreReturnsOver, ReturnsFrom, filed_base, refused_at, refused_on, begun_at}
 use Rattle.fm_core.proofs.Changes.{change_agrees, change_same}
 use Rattle.fm_world.proofs.Ties.{tied_there, spot_pre, spot_base, spot_post, spot_drain}
 use Rattle.fm_world.proofs.Turns.{may_visit, unchanged_flow, next_balance, was_known}
@@ -35,9 +29,6 @@ use Rattle.fm_flow.proofs.Flows.{total_changed}
 use Rattle.fm_core.proofs.Holding.{ends_leaves, tied_ends, next_table, brought_slots, sent_slots, may_bring, tied_brought, handed_balance, may_send, tied_sent}
 use Rattle.fm_core.proofs.Losing.{loses, answer_gone, verdict_gone}
 use Rattle.fm_core.specs.Descent.{IsDownOrCall}
-use Rattle.fm_types.specs.declared.operation.CreateMode.{CreateMode}
-use Rattle.fm_data.specs.Params.{is_within_limits}
-use Rattle.fm_flow.specs.Creates.{is_create, is_unanswered}
 use Rattle.fm_data.specs.declared.request.FileRequest.{FileRequest}
 use Rattle.fm_world.specs.Files.{stream_at}
 use Rattle.fm_data.specs.Requests.{params_of}

@@ -1,25 +1,22 @@
 -- An operation passes an instance in one event, which is two of the model: `next`, and the return of the callback that it calls.
 use Rattle.fm_core.proofs.Words.{FindsAt, IsState, IsTied, Ends, back_in, kept_brought, Sweeping, is_lost_of, ComesDown, ComesUp, known_in, target_in, Target}
-use Rattle.fm_core.proofs.Words.{hand_of, ContextsKept, Context, Slot, Data, data_fits, Params, PreVerdict, owed, FlowRecord, next_of, post_returned_of}
+use Rattle.fm_core.proofs.Words.{ContextsKept, idle_there, told_there, post_does, pre_does, next_does, drains_next, Worker, Bool, Err, IfSome, List, None, Ok}
+use Rattle.fm_core.proofs.Words.{Option, Some, [], ap, arith, cond, false, inl, inr, is_some, refl, subst, suc, sym, true, ℕ, ◌<◌, ◌==◌, ◌∙◌, ◌∷◌, ◌≡◌, ◌≤◌}
+use Rattle.fm_core.proofs.Words.{nat_tests, hand_of, Context, Slot, Data, data_fits, Params, PreVerdict, owed, FlowRecord, next_of, post_returned_of}
 use Rattle.fm_core.proofs.Words.{pre_returned_of, FlowTable, changed, is_number, operation_at, told, Below, FlowAction, Ask, PreState, found_holds, InstanceId}
-use Rattle.fm_core.proofs.Words.{OpId, WorkerId, Status, idle_there, told_there, post_does, pre_does, next_does, Nexts, PostReturns, PreReturns, drains_at}
-use Rattle.fm_core.proofs.Words.{drains_next, flow_after_next, state_at, state_given, FileTable, names_there, after_next, is_idle, put, worker_at, World}
-use Rattle.fm_core.proofs.Words.{Worker, All, Bool, Err, IfSome, List, None, Ok, Option, Some, [], ap, arith, cond, false, inl, inr, is_some, length}
-use Rattle.fm_core.proofs.Words.{option_map, refl, slice_get, slice_set, subst, suc, sym, true, ℕ, ◌<◌, ◌==◌, ◌∙◌, ◌∷◌, ◌≡◌, ◌≤◌, cases_Bool, false≢true}
-use Rattle.fm_core.proofs.Words.{nat_tests, All-weaker, same_Some, slice_get_within}
-use Rattle.std.proofs.Common.{zero, nat_le}
-use Rattle.fm_types.proofs.Firsts.{find_changed}
-use Rattle.fm_types.proofs.Lists.{slice_get-set_same}
+use Rattle.fm_core.proofs.Words.{OpId, WorkerId, Status, Nexts, PostReturns, PreReturns, drains_at, flow_after_next, state_at, state_given, FileTable}
+use Rattle.fm_core.proofs.Words.{names_there, after_next, is_idle, put, worker_at, World, All, length, option_map, slice_get, slice_set, cases_Bool, false≢true}
+use Rattle.fm_core.proofs.Words.{All-weaker, same_Some, slice_get_within}
+use Rattle.fm_world.proofs.Words.{Turned, ascend, call_post, call_pre, done_at, give_post, is_done, next_at, turn, with_visit, Ascending, Descending}
+use Rattle.fm_world.proofs.Words.{find_changed, slice_get-set_same, OnlyHandOf, nat_le}
+use Rattle.std.proofs.Common.{zero}
 use Rattle.fm_data.specs.Data.{answered_data, fresh_data}
 use Rattle.fm_data.specs.Params.{fit}
-use Rattle.fm_flow.specs.declared.stage.Stage.TheVariants.{Ascending, Descending}
-use Rattle.fm_flow.specs.Steps.{Turned, ascend, call_post, call_pre, done_at, give_post, is_done, lent_answer, next_at, passed_up, stands, turn, unwound}
-use Rattle.fm_flow.specs.Steps.{with_visit}
+use Rattle.fm_flow.specs.Steps.{lent_answer, passed_up, stands, unwound}
 use Rattle.fm_flow.proofs.Next.{Unwinds, next_stays, unwinds}
 use Rattle.fm_flow.proofs.Passing.{down_whole, up_whole, undone}
 use Rattle.fm_flow.proofs.Soundness.{at_stage}
 use Rattle.fm_world.specs.Events.{is_stopping_ask}
-use Rattle.fm_world.specs.Hands.{OnlyHandOf}
 use Rattle.fm_core.specs.Passing.{PassesDown, PassesUp, numbered}
 use Rattle.fm_core.proofs.Changes.{change_twice}
 use Rattle.fm_core.proofs.Holding.{tied_ends}

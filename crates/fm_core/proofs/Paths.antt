@@ -1,6 +1,6 @@
 -- A stream that is found by its path is at that path.
-use Rattle.fm_core.proofs.Words.{stream_or, VolumeId, is_at_path, FileStream, IfSome, List, None, Option, Some, [], ap, cond, find, inl, inr, option_map, refl}
-use Rattle.fm_core.proofs.Words.{sym, ℕ, ◌==◌, ◌∙◌, ◌∷◌, ◌≡◌, and_parts, cases_Bool, none-some, same_Some}
+use Rattle.fm_core.proofs.Words.{stream_or, FileStream, IfSome, List, None, Option, Some, [], ap, cond, inl, inr, refl, sym, ℕ, ◌==◌, ◌∙◌, ◌∷◌, ◌≡◌, VolumeId}
+use Rattle.fm_core.proofs.Words.{is_at_path, find, option_map, and_parts, cases_Bool, none-some, same_Some}
 use Rattle.std.proofs.Common.{Bor, option_copied}
 use Rattle.std.specs.Cmp.Lexicographic.{pointwise, bytes_decides}
 use Rattle.fm_world.specs.Files.{number_or}

@@ -1,15 +1,13 @@
 -- The events on held operations, from what their parts did.
-use Rattle.fm_core.proofs.Words.{IsState, IsTied, MaySend, kept_sent, Sweeping, is_lost_of, decided, target_in, Target, within_hands, hand_of, holds}
-use Rattle.fm_core.proofs.Words.{ContextsKept, IsLawful, ContextTable, PreVerdict, FlowRecord, pre_settled, FlowTable, IsFlow, StandsAt, changed, is_number}
-use Rattle.fm_core.proofs.Words.{operation_at, PreState, found_holds, first_of, CtxId, InstanceId, OpId, WorkerId, Status, told_there, placed_below}
-use Rattle.fm_core.proofs.Words.{sent_is_held, filed_pre, is_created_on, sent, sent_in, state_at, FileTable, after_pre, LosesLinks, place_in, worker_at, World}
-use Rattle.fm_core.proofs.Words.{carries, None, Ok, Option, Some, [], ap, arith, false, length, not, refl, subst, sym, true, ◌<◌, ◌∙◌, ◌∷◌, ◌≡◌}
+use Rattle.fm_core.proofs.Words.{IsState, IsTied, MaySend, kept_sent, Sweeping, is_lost_of, decided, target_in, Target, ContextsKept, StandsAt, told_there}
+use Rattle.fm_core.proofs.Words.{placed_below, sent_is_held, None, Ok, Option, Some, [], ap, arith, false, not, refl, subst, sym, true, ◌<◌, ◌∙◌, ◌∷◌, ◌≡◌}
+use Rattle.fm_core.proofs.Words.{within_hands, hand_of, holds, IsLawful, ContextTable, PreVerdict, FlowRecord, pre_settled, FlowTable, IsFlow, changed}
+use Rattle.fm_core.proofs.Words.{is_number, operation_at, PreState, found_holds, first_of, CtxId, InstanceId, OpId, WorkerId, Status, filed_pre, is_created_on}
+use Rattle.fm_core.proofs.Words.{sent, sent_in, state_at, FileTable, after_pre, LosesLinks, place_in, worker_at, World, carries, length}
+use Rattle.fm_world.proofs.Words.{post_settled, PostHeld, PreHeld, ResumesPost, ResumesPostAt, ResumesPre, ResumesPreAt, is_held_by, lets_go, pre_resumed}
 use Rattle.fm_flow.specs.declared.hold.Hold.{Hold}
-use Rattle.fm_flow.specs.declared.stage.Stage.TheVariants.{PreHeld, PostHeld}
 use Rattle.fm_flow.specs.Holds.{is_held}
-use Rattle.fm_flow.specs.Steps.{post_settled}
 use Rattle.fm_flow.proofs.Holds.{held_pre, held_post}
-use Rattle.fm_world.specs.Events.{ResumesPost, ResumesPostAt, ResumesPre, ResumesPreAt, is_held_by, lets_go, pre_resumed}
 use Rattle.fm_world.proofs.Resumes.{post_resumed_balance, resumed_balance}
 use Rattle.fm_core.proofs.Holding.{may_send, sent_slots, tied_sent}
 use Rattle.fm_core.proofs.Losing.{loses, verdict_gone}

@@ -1,9 +1,7 @@
 -- Streams and handles stay in the order of their numbers.
-use Rattle.fm_core.proofs.Words.{IsBefore, IsOlder, change_first, without_first, HandleId, StreamId, is_handle, is_stream, with_mark, with_phase, FileHandle}
-use Rattle.fm_core.proofs.Words.{FileStream, HandlePhase, All, AllPairs, List, [], arith, subst, sym, ℕ, ◌++◌, ◌+◌, ◌<◌, ◌∷◌, ◌≡◌}
-use Rattle.std.proofs.lemmas.List.Elements.{All-push}
-use Rattle.std.proofs.lemmas.List.Quantifiers.{all_pairs_push}
-use Rattle.fm_types.proofs.Firsts.{all_without}
+use Rattle.fm_core.proofs.Words.{IsBefore, IsOlder, FileHandle, FileStream, HandlePhase, List, [], arith, subst, sym, ℕ, ◌++◌, ◌+◌, ◌<◌, ◌∷◌, ◌≡◌, change_first}
+use Rattle.fm_core.proofs.Words.{without_first, HandleId, StreamId, is_handle, is_stream, with_mark, with_phase, All, AllPairs}
+use Rattle.fm_world.proofs.Words.{all_without, All-push, all_pairs_push}
 use Rattle.fm_world.proofs.Streams.{all_kept, pairs_change, pairs_without}
 use Rattle.fm_core.specs.FilesKept.{AreRising}
 

@@ -1,12 +1,11 @@
 -- The events by which instances are detached and filters unloaded, from what their parts did.
-use Rattle.fm_core.proofs.Words.{IsTied, SweptWhere, complete_of, query_of, start_of, unload_of, leaves_alike, sweeps_alike, carried_equal, open_of}
-use Rattle.fm_core.proofs.Words.{ContextsKept, carried_of, Leaves, Sweeps, is_linked_of, Context, Owner, FlowTable, StackWorld, Answers, first_of, FilterId}
-use Rattle.fm_core.proofs.Words.{InstanceId, WorkerId, Status, Unless, is_idle, put, worker_at, World, carries, Worker, Bool, Err, List, Ok, Option, Result}
-use Rattle.fm_core.proofs.Words.{Some, ap, arith, refl, subst, sym, true, ℕ, ◌∙◌, ◌≡◌}
-use Rattle.fm_flow.specs.Table.{in_flight}
-use Rattle.fm_world.specs.Workers.{after_entering, is_queried, is_asked_to_unload}
-use Rattle.fm_world.specs.Teardowns.{AsksDetach, QueryReturns, QueryReturnsAt, StartsTeardown, StartReturns, StartReturnsAt, CompletesTeardown, CompleteReturns}
-use Rattle.fm_world.specs.Teardowns.{CompleteReturnsAt, AsksUnload, UnloadReturns, UnloadReturnsAt, ForcesUnload, EmptiesFilter, SweepsWhere, FinishesFilter}
+use Rattle.fm_core.proofs.Words.{IsTied, SweptWhere, complete_of, query_of, start_of, unload_of, leaves_alike, sweeps_alike, carried_equal, ContextsKept}
+use Rattle.fm_core.proofs.Words.{carried_of, Worker, Bool, Err, List, Ok, Option, Result, Some, ap, arith, refl, subst, sym, true, ℕ, ◌∙◌, ◌≡◌, open_of, Leaves}
+use Rattle.fm_core.proofs.Words.{Sweeps, is_linked_of, Context, Owner, FlowTable, StackWorld, Answers, first_of, FilterId, InstanceId, WorkerId, Status, Unless}
+use Rattle.fm_core.proofs.Words.{is_idle, put, worker_at, World, carries}
+use Rattle.fm_world.proofs.Words.{in_flight, AsksDetach, AsksUnload, CompleteReturns, CompleteReturnsAt, CompletesTeardown, EmptiesFilter, FinishesFilter}
+use Rattle.fm_world.proofs.Words.{ForcesUnload, QueryReturns, QueryReturnsAt, StartReturns, StartReturnsAt, StartsTeardown, SweepsWhere, UnloadReturns}
+use Rattle.fm_world.proofs.Words.{UnloadReturnsAt, after_entering, is_asked_to_unload, is_queried}
 use Rattle.fm_core.proofs.Losing.{sweeping_tied}
 use Rattle.fm_stack.specs.Detaching as stack
 use Rattle.fm_stack.specs.Unloading as filters

@@ -1,4 +1,4 @@
-mod Words
+pub mod Words
 pub mod Cases
 pub mod Descents
 pub mod Ties

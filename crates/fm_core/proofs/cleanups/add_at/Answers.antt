@@ -1,6 +1,6 @@
 use Rattle.fm_core.proofs.Words.{sym, ◌%◌, ◌+◌, ◌^◌}
-use Rattle.std.proofs.lemmas.Option.{slice_get-get_or}
 use Rattle.fm_types.proofs.Lists.{updated_there}
+use Rattle.std.proofs.lemmas.Option.{slice_get-get_or}
 use Rattle.fm_core.proofs.cleanups.add_at.Goals as goal
 
 pub returns : goal.returns

@@ -1,4 +1,4 @@
-use Rattle.fm_core.proofs.Words.{totalled_for, ap, sym, ◌%◌, ◌+◌, ◌^◌, ◌∙◌}
+use Rattle.fm_core.proofs.Words.{ap, sym, ◌%◌, ◌+◌, ◌^◌, ◌∙◌, totalled_for}
 use Rattle.std.proofs.lemmas.Option.{slice_get_past}
 use Rattle.fm_types.proofs.Lists.{updated_none}
 use Rattle.fm_core.proofs.cleanups.add_total.Goals as goal

@@ -1,4 +1,4 @@
-use Rattle.fm_core.proofs.Words.{absent, found_read, stands_there, without_none, is_handle, ap, position, sym, ◌∙◌}
+use Rattle.fm_core.proofs.Words.{absent, found_read, stands_there, without_none, ap, position, sym, ◌∙◌, is_handle}
 use Rattle.fm_core.proofs.files.close_in.Goals as goal
 
 pub returns-in-Some-clause-found : goal.returns-in-Some-clause-found

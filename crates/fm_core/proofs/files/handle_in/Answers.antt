@@ -1,4 +1,4 @@
-use Rattle.fm_core.proofs.Words.{stands_there, is_handle, sym, ◌∙◌}
+use Rattle.fm_core.proofs.Words.{stands_there, sym, ◌∙◌, is_handle}
 use Rattle.fm_core.proofs.files.handle_in.Goals as goal
 
 pub returns-in-Some : goal.returns-in-Some

@@ -1,4 +1,4 @@
-use Rattle.fm_core.proofs.Words.{stands_rising, FileHandle, arith, length, ◌-◌}
+use Rattle.fm_core.proofs.Words.{stands_rising, FileHandle, arith, ◌-◌, length}
 use Rattle.fm_core.proofs.files.index_of_handle.Goals as goal
 
 pub returns-then-handles-count : goal.returns-then-handles-count

@@ -1,4 +1,4 @@
-use Rattle.fm_core.proofs.Words.{stands_rising, FileStream, arith, length, ◌-◌}
+use Rattle.fm_core.proofs.Words.{stands_rising, FileStream, arith, ◌-◌, length}
 use Rattle.fm_core.proofs.files.index_of_stream.Goals as goal
 
 pub returns-then-streams-count : goal.returns-then-streams-count

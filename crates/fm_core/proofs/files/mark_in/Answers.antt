@@ -1,4 +1,4 @@
-use Rattle.fm_core.proofs.Words.{absent, change_none, stands_there, is_stream, with_mark, FileStream, ap, position, slice_set, sym, ◌∙◌}
+use Rattle.fm_core.proofs.Words.{absent, stands_there, FileStream, ap, position, sym, ◌∙◌, change_none, is_stream, with_mark, slice_set}
 use Rattle.fm_core.proofs.files.mark_in.Goals as goal
 
 pub returns-in-Some : goal.returns-in-Some

@@ -1,4 +1,4 @@
-use Rattle.fm_core.proofs.Words.{absent, change_none, stands_there, is_handle, with_phase, FileHandle, ap, position, slice_set, sym, ◌∙◌}
+use Rattle.fm_core.proofs.Words.{absent, stands_there, FileHandle, ap, position, sym, ◌∙◌, change_none, is_handle, with_phase, slice_set}
 use Rattle.fm_core.proofs.files.phase_in.Goals as goal
 
 pub returns-in-Some-clause-items : goal.returns-in-Some-clause-items

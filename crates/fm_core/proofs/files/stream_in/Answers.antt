@@ -1,4 +1,4 @@
-use Rattle.fm_core.proofs.Words.{found_read, is_stream, sym, ◌∙◌}
+use Rattle.fm_core.proofs.Words.{found_read, sym, ◌∙◌, is_stream}
 use Rattle.fm_core.proofs.files.stream_in.Goals as goal
 
 pub returns-in-Some : goal.returns-in-Some

@@ -1,4 +1,4 @@
-use Rattle.fm_core.proofs.Words.{absent, stands_there, without_none, is_stream, ap, position, sym, ◌∙◌}
+use Rattle.fm_core.proofs.Words.{absent, stands_there, without_none, ap, position, sym, ◌∙◌, is_stream}
 use Rattle.fm_core.proofs.files.tear_in.Goals as goal
 
 pub returns-in-Some-clause-streams : goal.returns-in-Some-clause-streams

@@ -1,6 +1,6 @@
-use Rattle.fm_core.proofs.Words.{Headline, RunThrough, empty_world, List, [], subst, sym, ◌++◌, ◌∷◌}
-use Rattle.fm_world.specs.declared.step.StepReply.{StepReply}
+use Rattle.fm_core.proofs.Words.{List, [], subst, sym, ◌++◌, ◌∷◌, Headline, RunThrough, empty_world}
 use Rattle.fm_world.proofs.Runs.{run_more}
+use Rattle.fm_world.specs.declared.step.StepReply.{StepReply}
 use Rattle.fm_core.proofs.runs.run.Goals as goal
 
 pub loop-step-preserved : goal.loop-step-preserved

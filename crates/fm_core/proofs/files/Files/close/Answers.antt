@@ -1,5 +1,5 @@
-use Rattle.fm_core.proofs.Words.{AreCounted, changed_at, without_none, is_handle, is_stream, FileHandle, FileStream, IfSome, List, ap, position, subst, sym}
-use Rattle.fm_core.proofs.Words.{◌-◌, ◌∙◌, ◌≤◌}
+use Rattle.fm_core.proofs.Words.{AreCounted, changed_at, without_none, FileHandle, FileStream, IfSome, List, ap, position, subst, sym, ◌-◌, ◌∙◌, ◌≤◌, is_handle}
+use Rattle.fm_core.proofs.Words.{is_stream}
 use Rattle.std.proofs.Common.{slice_index_or}
 use Rattle.fm_core.proofs.Counted.{closed_counted, closing_counts}
 use Rattle.fm_core.proofs.Rising.{closed_rising}

@@ -1,4 +1,4 @@
-use Rattle.fm_core.proofs.Words.{FilesKept, has_handle_on, FileStream, All, false, subst, sym, ◌<◌, ◌≡◌}
+use Rattle.fm_core.proofs.Words.{FilesKept, FileStream, false, subst, sym, ◌<◌, ◌≡◌, has_handle_on, All}
 use Rattle.fm_core.proofs.Counted.{created_counted}
 use Rattle.fm_core.proofs.Rising.{created_rising}
 use Rattle.fm_core.proofs.files.Files.create.Goals as goal

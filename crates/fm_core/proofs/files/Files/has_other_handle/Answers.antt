@@ -1,4 +1,4 @@
-use Rattle.fm_core.proofs.Words.{FilesKept, IsOlder, is_own, handle_at, is_on, FileHandle, AllPairs, Option, ap, cond, count_by, nat_lt, subst, ℕ, ◌∙◌, ◌≡◌}
+use Rattle.fm_core.proofs.Words.{FilesKept, IsOlder, is_own, FileHandle, Option, ap, cond, nat_lt, subst, ℕ, ◌∙◌, ◌≡◌, handle_at, is_on, AllPairs, count_by}
 use Rattle.fm_core.proofs.Counted.{others_counted}
 use Rattle.fm_core.proofs.files.Files.has_other_handle.Goals as goal
 

@@ -1,5 +1,5 @@
-use Rattle.fm_core.proofs.Words.{AreCounted, FilesKept, changed_at, fresh_handle, is_stream, FileHandle, FileStream, List, [], ap, length, position, refl}
-use Rattle.fm_core.proofs.Words.{subst, sym, ◌++◌, ◌+◌, ◌<◌, ◌∙◌, ◌∷◌, ◌≡◌, ◌≤◌}
+use Rattle.fm_core.proofs.Words.{AreCounted, FilesKept, changed_at, fresh_handle, FileHandle, FileStream, List, [], ap, position, refl, subst, sym, ◌++◌, ◌+◌}
+use Rattle.fm_core.proofs.Words.{◌<◌, ◌∙◌, ◌∷◌, ◌≡◌, ◌≤◌, is_stream, length}
 use Rattle.fm_core.proofs.Counted.{few_counted, opened_counted}
 use Rattle.fm_core.proofs.Rising.{opened_rising}
 use Rattle.fm_core.proofs.files.Files.open.Goals as goal

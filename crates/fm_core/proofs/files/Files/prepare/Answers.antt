@@ -1,4 +1,4 @@
-use Rattle.fm_core.proofs.Words.{is_at_path, ap, find, ◌∙◌}
+use Rattle.fm_core.proofs.Words.{ap, ◌∙◌, is_at_path, find}
 use Rattle.fm_core.proofs.Paths.{found_there}
 use Rattle.fm_core.proofs.files.Files.prepare.Goals as goal
 

@@ -1,4 +1,4 @@
-use Rattle.fm_core.proofs.Words.{the_view, allocate_refusal, new_context, IsSound, subst, sym, ◌∙◌}
+use Rattle.fm_core.proofs.Words.{the_view, new_context, subst, sym, ◌∙◌, allocate_refusal, IsSound}
 use Rattle.fm_world.proofs.Linking.{allocate_does}
 use Rattle.fm_core.proofs.Called.{allocate_tied, allocated_up}
 use Rattle.fm_core.proofs.state.State.allocate.Goals as goal

@@ -1,4 +1,4 @@
-use Rattle.fm_core.proofs.Words.{IsSound, subst, sym, ◌∙◌}
+use Rattle.fm_core.proofs.Words.{subst, sym, ◌∙◌, IsSound}
 use Rattle.fm_world.proofs.Detaching.{ask_detach_does}
 use Rattle.fm_core.proofs.Torn.{asks_detach}
 use Rattle.fm_core.proofs.state.State.ask_detach.Goals as goal

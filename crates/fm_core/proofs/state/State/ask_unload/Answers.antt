@@ -1,4 +1,4 @@
-use Rattle.fm_core.proofs.Words.{IsSound, subst, sym, ◌∙◌}
+use Rattle.fm_core.proofs.Words.{subst, sym, ◌∙◌, IsSound}
 use Rattle.fm_world.proofs.Unloading.{ask_unload_does}
 use Rattle.fm_core.proofs.Torn.{asks_unload}
 use Rattle.fm_core.proofs.state.State.ask_unload.Goals as goal

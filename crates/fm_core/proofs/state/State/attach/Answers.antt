@@ -1,4 +1,4 @@
-use Rattle.fm_core.proofs.Words.{IsSound, subst, sym, ◌∙◌}
+use Rattle.fm_core.proofs.Words.{subst, sym, ◌∙◌, IsSound}
 use Rattle.fm_world.proofs.Owning.{attach_does}
 use Rattle.fm_core.proofs.Attached.{attaches}
 use Rattle.fm_core.proofs.state.State.attach.Goals as goal

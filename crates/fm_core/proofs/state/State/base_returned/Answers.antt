@@ -1,5 +1,5 @@
-use Rattle.fm_core.proofs.Words.{IsTied, base_of, the_view, BaseCall, Answer, FlowRecord, base_after, base_fits, changed, InBase, base_step, IsSound, worker_at}
-use Rattle.fm_core.proofs.Words.{Worker, Result, Some, ap, refl, subst, sym, ℕ, ◌∙◌, ◌≡◌, same_Some, option_copied}
+use Rattle.fm_core.proofs.Words.{IsTied, base_of, the_view, base_after, Worker, Result, Some, ap, refl, subst, sym, ℕ, ◌∙◌, ◌≡◌, option_copied, BaseCall}
+use Rattle.fm_core.proofs.Words.{Answer, FlowRecord, base_fits, changed, InBase, base_step, IsSound, worker_at, same_Some}
 use Rattle.fm_world.proofs.Returns.{base_does}
 use Rattle.fm_core.proofs.Losing.{sweeping_tied}
 use Rattle.fm_core.proofs.Operated.{Comes, comes, base_is, base_returns, base_room, base_strange, base_tied, in_base, placed, stands_from, there_from}

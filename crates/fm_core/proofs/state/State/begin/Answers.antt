@@ -1,4 +1,4 @@
-use Rattle.fm_core.proofs.Words.{Asks, Request, begin_does, Begins, subst, sym}
+use Rattle.fm_core.proofs.Words.{Asks, begin_does, subst, sym, Request, Begins}
 use Rattle.fm_core.proofs.Operated.{asks_begins}
 use Rattle.fm_core.proofs.state.State.begin.Goals as goal
 

@@ -1,5 +1,5 @@
-use Rattle.fm_core.proofs.Words.{IsAsked, the_view, operation_of, moved_on, IsSound, World, FileStream, List, Option, Some, ap, cond, is_ok, option_map, subst}
-use Rattle.fm_core.proofs.Words.{sym, ℕ, ◌∙◌}
+use Rattle.fm_core.proofs.Words.{IsAsked, the_view, FileStream, List, Option, Some, ap, cond, is_ok, subst, sym, ℕ, ◌∙◌, operation_of, moved_on, IsSound, World}
+use Rattle.fm_core.proofs.Words.{option_map}
 use Rattle.fm_core.proofs.Operated.{Took, asks, asks_sound, begin_tied}
 use Rattle.fm_core.proofs.state.State.begin_asked.Goals as goal
 

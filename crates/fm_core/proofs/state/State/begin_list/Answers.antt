@@ -1,4 +1,4 @@
-use Rattle.fm_core.proofs.Words.{Params, first_of, begin_does, volume_refusals, IsSound, None, subst, sym, ℕ, ◌∙◌, ◌≡◌}
+use Rattle.fm_core.proofs.Words.{begin_does, volume_refusals, None, subst, sym, ℕ, ◌∙◌, ◌≡◌, Params, first_of, IsSound}
 use Rattle.fm_core.proofs.Operated.{Took, lists, begin_tied}
 use Rattle.fm_core.proofs.state.State.begin_list.Goals as goal
 

@@ -1,4 +1,4 @@
-use Rattle.fm_core.proofs.Words.{the_view, IsSound, cleanup_in, worker_at, Some, ap, subst, ◌∙◌, ◌≡◌}
+use Rattle.fm_core.proofs.Words.{the_view, Some, ap, subst, ◌∙◌, ◌≡◌, IsSound, cleanup_in, worker_at}
 use Rattle.fm_world.specs.declared.worker.Worker.TheVariants.{Cleanup}
 use Rattle.fm_world.proofs.Cleanups.{cleaned_does}
 use Rattle.fm_core.proofs.Cleaned.{cleanup_is, cleans, clean_tied}

@@ -1,4 +1,4 @@
-use Rattle.fm_core.proofs.Words.{IsSound, subst}
+use Rattle.fm_core.proofs.Words.{subst, IsSound}
 use Rattle.fm_world.proofs.Requests.{collect_does}
 use Rattle.fm_core.proofs.Operated.{collects, collect_tied}
 use Rattle.fm_core.proofs.state.State.collect.Goals as goal

@@ -1,4 +1,4 @@
-use Rattle.fm_core.proofs.Words.{complete_of, the_view, IsSound, worker_at, Worker, Some, ap, refl, subst, ◌∙◌, ◌≡◌}
+use Rattle.fm_core.proofs.Words.{complete_of, the_view, Worker, Some, ap, refl, subst, ◌∙◌, ◌≡◌, IsSound, worker_at}
 use Rattle.fm_stack.specs.Detaching.{is_in_complete}
 use Rattle.fm_stack.specs.Instances.{passes}
 use Rattle.fm_world.proofs.Detaching.{complete_place, complete_returned_does}

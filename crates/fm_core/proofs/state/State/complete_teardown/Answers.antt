@@ -1,4 +1,4 @@
-use Rattle.fm_core.proofs.Words.{IsSound, subst, sym, ◌∙◌}
+use Rattle.fm_core.proofs.Words.{subst, sym, ◌∙◌, IsSound}
 use Rattle.fm_world.proofs.Detaching.{complete_teardown_does}
 use Rattle.fm_core.proofs.Torn.{completes}
 use Rattle.fm_core.proofs.state.State.complete_teardown.Goals as goal

@@ -1,13 +1,13 @@
-use Rattle.fm_core.proofs.Words.{stream_or, the_view, Params, Request, is_full, first_of, StreamId, begin_does, Begins, has_no_handle_left, volume_refusals}
-use Rattle.fm_core.proofs.Words.{FileTable, created, has_handle_on, stream_for, IsSound, World, Err, List, None, Some, ap, cond, false, is_ok, subst, sym, ℕ}
-use Rattle.fm_core.proofs.Words.{◌||◌, ◌∙◌, ◌≡◌}
+use Rattle.fm_core.proofs.Words.{stream_or, the_view, begin_does, volume_refusals, Err, List, None, Some, ap, cond, false, is_ok, subst, sym, ℕ, ◌||◌, ◌∙◌, ◌≡◌}
+use Rattle.fm_core.proofs.Words.{Params, Request, is_full, first_of, StreamId, Begins, has_no_handle_left, FileTable, created, has_handle_on, stream_for}
+use Rattle.fm_core.proofs.Words.{IsSound, World}
 use Rattle.fm_types.specs.declared.status.Status.TheVariants.{NoMemory}
 use Rattle.fm_core.specs.FilesKept.{found_at, paths_of}
 use Rattle.fm_core.proofs.Paths.{found_number}
 use Rattle.fm_core.specs.declared.files.CreatePaths.{CreatePaths}
 use Rattle.fm_core.proofs.Counted.{unused_number}
-use Rattle.fm_world.specs.Files.{stream_of_path}
 use Rattle.fm_core.proofs.Operated.{Took, creates, begin_tied, begin_wants}
+use Rattle.fm_world.specs.Files.{stream_of_path}
 use Rattle.fm_core.proofs.state.State.create_mounted.Goals as goal
 
 pub returns : goal.returns

@@ -1,4 +1,4 @@
-use Rattle.fm_core.proofs.Words.{the_view, holder, IsSound, subst, sym, ◌∙◌}
+use Rattle.fm_core.proofs.Words.{the_view, subst, sym, ◌∙◌, holder, IsSound}
 use Rattle.fm_world.proofs.Linking.{delete_does}
 use Rattle.fm_core.proofs.Linked.{delete_refused, delete_tied, deleted}
 use Rattle.fm_core.proofs.state.State.delete.Goals as goal

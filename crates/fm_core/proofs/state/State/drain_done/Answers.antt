@@ -1,4 +1,4 @@
-use Rattle.fm_core.proofs.Words.{early_drain_of, the_view, IsSound, worker_at, Worker, Some, refl, subst, ◌≡◌}
+use Rattle.fm_core.proofs.Words.{early_drain_of, the_view, Worker, Some, refl, subst, ◌≡◌, IsSound, worker_at}
 use Rattle.fm_world.proofs.Draining.{drain_done_does}
 use Rattle.fm_core.proofs.Operated.{placed, within_at}
 use Rattle.fm_core.proofs.Drained.{early_is, early_returns, early_tied, runs_early}

@@ -1,4 +1,4 @@
-use Rattle.fm_core.proofs.Words.{IsTied, drain_of, drain_returned_of, changed, InDrain, post_does, IsSound, Worker, refl, subst, sym}
+use Rattle.fm_core.proofs.Words.{IsTied, drain_of, post_does, Worker, refl, subst, sym, drain_returned_of, changed, InDrain, IsSound}
 use Rattle.fm_core.proofs.Holding.{tied_ends}
 use Rattle.fm_core.proofs.Operated.{drain_is, drain_returns, drain_tied, in_drain, located, stands_from, within_at}
 use Rattle.fm_core.proofs.state.State.drain_returned.Goals as goal

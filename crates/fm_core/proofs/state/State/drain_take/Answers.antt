@@ -1,4 +1,4 @@
-use Rattle.fm_core.proofs.Words.{drains_in, the_view, DrainTaken, row_at, IsSound, is_idle, worker_at, Ok, Some, ap, refl, subst, sym, true, ◌∙◌, ◌≡◌}
+use Rattle.fm_core.proofs.Words.{drains_in, the_view, DrainTaken, Ok, Some, ap, refl, subst, sym, true, ◌∙◌, ◌≡◌, row_at, IsSound, is_idle, worker_at}
 use Rattle.fm_world.proofs.Draining.{drain_take_does}
 use Rattle.fm_core.proofs.Cleaned.{phase_in}
 use Rattle.fm_core.proofs.Drained.{take_brings, take_tied, takes_one}

@@ -1,4 +1,4 @@
-use Rattle.fm_core.proofs.Words.{IsSound, refl, subst, sym, ◌∙◌}
+use Rattle.fm_core.proofs.Words.{refl, subst, sym, ◌∙◌, IsSound}
 use Rattle.fm_world.proofs.Dismounting.{drop_handle_does}
 use Rattle.fm_core.proofs.Dismounted.{drops}
 use Rattle.fm_core.proofs.Losing.{sweeping_tied}

@@ -1,4 +1,4 @@
-use Rattle.fm_core.proofs.Words.{is_linked_of, Owner, IsSound, refl, subst}
+use Rattle.fm_core.proofs.Words.{refl, subst, is_linked_of, Owner, IsSound}
 use Rattle.fm_world.proofs.Unloading.{empty_filter_does}
 use Rattle.fm_core.proofs.Torn.{empties, where_tied}
 use Rattle.fm_core.proofs.state.State.empty_filter.Goals as goal

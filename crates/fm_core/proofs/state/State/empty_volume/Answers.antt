@@ -1,4 +1,4 @@
-use Rattle.fm_core.proofs.Words.{is_linked_to, Object, IsSound, refl, subst}
+use Rattle.fm_core.proofs.Words.{is_linked_to, refl, subst, Object, IsSound}
 use Rattle.fm_world.proofs.Dismounting.{empty_volume_does}
 use Rattle.fm_core.proofs.Dismounted.{empties_volume, few_on}
 use Rattle.fm_core.proofs.Torn.{where_tied}

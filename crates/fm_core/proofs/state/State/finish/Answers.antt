@@ -1,4 +1,4 @@
-use Rattle.fm_core.proofs.Words.{refused_in, IsSound, ap, subst, sym, ◌∙◌}
+use Rattle.fm_core.proofs.Words.{refused_in, ap, subst, sym, ◌∙◌, IsSound}
 use Rattle.fm_world.proofs.Cleanups.{finish_does}
 use Rattle.fm_core.proofs.Cleaned.{finishes, only_waiting}
 use Rattle.fm_core.proofs.state.State.finish.Goals as goal

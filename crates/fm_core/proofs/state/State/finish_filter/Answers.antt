@@ -1,4 +1,4 @@
-use Rattle.fm_core.proofs.Words.{IsSound, subst}
+use Rattle.fm_core.proofs.Words.{subst, IsSound}
 use Rattle.fm_world.proofs.Unloading.{finish_filter_does}
 use Rattle.fm_core.proofs.Torn.{ends_filter}
 use Rattle.fm_core.proofs.state.State.finish_filter.Goals as goal

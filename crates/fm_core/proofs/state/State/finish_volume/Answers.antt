@@ -1,4 +1,4 @@
-use Rattle.fm_core.proofs.Words.{IsSound, subst}
+use Rattle.fm_core.proofs.Words.{subst, IsSound}
 use Rattle.fm_world.proofs.Dismounting.{finish_volume_does}
 use Rattle.fm_core.proofs.Dismounted.{ends_volume}
 use Rattle.fm_core.proofs.state.State.finish_volume.Goals as goal

@@ -1,4 +1,4 @@
-use Rattle.fm_core.proofs.Words.{IsSound, subst}
+use Rattle.fm_core.proofs.Words.{subst, IsSound}
 use Rattle.fm_world.proofs.Unloading.{force_unload_does}
 use Rattle.fm_core.proofs.Torn.{forces}
 use Rattle.fm_core.proofs.state.State.force_unload.Goals as goal

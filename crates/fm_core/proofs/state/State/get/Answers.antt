@@ -1,4 +1,4 @@
-use Rattle.fm_core.proofs.Words.{the_view, holder, IsSound, subst, sym, ◌∙◌}
+use Rattle.fm_core.proofs.Words.{the_view, subst, sym, ◌∙◌, holder, IsSound}
 use Rattle.fm_world.proofs.Linking.{get_does}
 use Rattle.fm_core.proofs.Linked.{get_refused, get_tied, gotten}
 use Rattle.fm_core.proofs.state.State.get.Goals as goal

@@ -1,6 +1,6 @@
 use Rattle.fm_core.proofs.Words.{the_view, refl}
-use Rattle.fm_world.specs.Events.{Mounts}
 use Rattle.fm_world.proofs.Owning.{mount_does}
+use Rattle.fm_world.specs.Events.{Mounts}
 use Rattle.fm_core.proofs.state.State.mount.Goals as goal
 
 pub invariant_of-self : goal.invariant_of-self

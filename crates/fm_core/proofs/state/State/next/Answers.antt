@@ -1,5 +1,5 @@
-use Rattle.fm_core.proofs.Words.{the_view, operation_at, FlowAction, Status, next_does, IsSound, is_idle, worker_at, World, None, Result, ap, refl, subst, sym}
-use Rattle.fm_core.proofs.Words.{true, ◌∙◌, ◌≡◌, option_copied}
+use Rattle.fm_core.proofs.Words.{the_view, next_does, None, Result, ap, refl, subst, sym, true, ◌∙◌, ◌≡◌, option_copied, operation_at, FlowAction, Status}
+use Rattle.fm_core.proofs.Words.{IsSound, is_idle, worker_at, World}
 use Rattle.fm_core.proofs.Losing.{sweeping_tied}
 use Rattle.fm_core.proofs.Operated.{Goes, goes, next_answers, next_brings, next_errs, next_leads, next_requires, next_room, next_stays, next_tied, next_unknown}
 use Rattle.fm_core.proofs.state.State.next.Goals.{After-next}

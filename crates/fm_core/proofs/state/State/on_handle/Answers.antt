@@ -1,4 +1,4 @@
-use Rattle.fm_core.proofs.Words.{the_view, asked_refused, phase_refusal, World, Some, ap, subst, sym, ◌∙◌, ◌≡◌}
+use Rattle.fm_core.proofs.Words.{the_view, phase_refusal, Some, ap, subst, sym, ◌∙◌, ◌≡◌, asked_refused, World}
 use Rattle.fm_core.proofs.Operated.{asked_phase}
 use Rattle.fm_core.proofs.state.State.on_handle.Goals as goal
 

@@ -1,4 +1,4 @@
-use Rattle.fm_core.proofs.Words.{ComesUp, the_view, World, refl, subst, sym}
+use Rattle.fm_core.proofs.Words.{ComesUp, the_view, refl, subst, sym, World}
 use Rattle.fm_core.proofs.Passed.{passed_up_hand, passed_up_state, passes_up}
 use Rattle.fm_core.proofs.state.State.pass_up.Goals.{After-laws}
 use Rattle.fm_core.proofs.state.State.pass_up.Goals as goal

@@ -1,5 +1,5 @@
-use Rattle.fm_core.proofs.Words.{IsTied, post_of, the_view, Data, data_fits, FlowRecord, post_returned_of, changed, PostRunning, post_does, IsSound, worker_at}
-use Rattle.fm_core.proofs.Words.{Worker, Result, Some, refl, subst, sym, ◌≡◌}
+use Rattle.fm_core.proofs.Words.{IsTied, post_of, the_view, post_does, Worker, Result, Some, refl, subst, sym, ◌≡◌, Data, data_fits, FlowRecord}
+use Rattle.fm_core.proofs.Words.{post_returned_of, changed, PostRunning, IsSound, worker_at}
 use Rattle.fm_core.proofs.Holding.{tied_ends}
 use Rattle.fm_core.proofs.Operated.{Comes, comes, in_post, located, post_is, post_returns, post_strange, post_tied, stands_from, within_at}
 use Rattle.fm_core.proofs.state.State.post_data_returned.Goals.{After-post_returned}

@@ -1,5 +1,5 @@
-use Rattle.fm_core.proofs.Words.{IsTied, pre_of, the_view, Data, data_fits, FlowRecord, pre_returned_of, changed, PreRunning, pre_does, state_at, IsSound}
-use Rattle.fm_core.proofs.Words.{worker_at, Worker, Result, Some, ap, refl, subst, sym, ◌∙◌, ◌≡◌, option_copied}
+use Rattle.fm_core.proofs.Words.{IsTied, pre_of, the_view, pre_does, Worker, Result, Some, ap, refl, subst, sym, ◌∙◌, ◌≡◌, option_copied, Data, data_fits}
+use Rattle.fm_core.proofs.Words.{FlowRecord, pre_returned_of, changed, PreRunning, state_at, IsSound, worker_at}
 use Rattle.fm_core.proofs.Holding.{tied_ends}
 use Rattle.fm_core.proofs.Losing.{sweeping_tied}
 use Rattle.fm_core.proofs.Operated.{Comes, comes, in_pre, placed, pre_is, pre_returns, pre_sends, pre_state, pre_strange, pre_tied, stands_from, there_from}

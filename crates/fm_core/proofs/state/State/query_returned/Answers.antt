@@ -1,4 +1,4 @@
-use Rattle.fm_core.proofs.Words.{query_of, the_view, IsSound, worker_at, Worker, Some, refl, subst, ◌≡◌}
+use Rattle.fm_core.proofs.Words.{query_of, the_view, Worker, Some, refl, subst, ◌≡◌, IsSound, worker_at}
 use Rattle.fm_world.proofs.Detaching.{query_does}
 use Rattle.fm_core.proofs.Operated.{placed, within_at}
 use Rattle.fm_core.proofs.Torn.{left_tied, query_is, query_returns}

@@ -1,4 +1,4 @@
-use Rattle.fm_core.proofs.Words.{the_view, reference_does, IsSound, subst, sym, ◌∙◌}
+use Rattle.fm_core.proofs.Words.{the_view, reference_does, subst, sym, ◌∙◌, IsSound}
 use Rattle.fm_core.proofs.Called.{referenced, reference_keeps}
 use Rattle.fm_core.proofs.state.State.reference.Goals as goal
 

@@ -1,6 +1,6 @@
 use Rattle.fm_core.proofs.Words.{the_view, refl}
-use Rattle.fm_world.specs.Events.{Registers}
 use Rattle.fm_world.proofs.Owning.{register_does}
+use Rattle.fm_world.specs.Events.{Registers}
 use Rattle.fm_core.proofs.state.State.register.Goals as goal
 
 pub invariant_of-self : goal.invariant_of-self

@@ -1,4 +1,4 @@
-use Rattle.fm_core.proofs.Words.{the_view, release_does, IsSound, subst, sym, ◌∙◌}
+use Rattle.fm_core.proofs.Words.{the_view, release_does, subst, sym, ◌∙◌, IsSound}
 use Rattle.fm_core.proofs.Called.{released_up, release_keeps}
 use Rattle.fm_core.proofs.state.State.release.Goals as goal
 

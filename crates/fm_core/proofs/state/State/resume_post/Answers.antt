@@ -1,4 +1,4 @@
-use Rattle.fm_core.proofs.Words.{the_view, IsSound, subst}
+use Rattle.fm_core.proofs.Words.{the_view, subst, IsSound}
 use Rattle.fm_world.proofs.Resumes.{resume_post_does}
 use Rattle.fm_core.proofs.Resumed.{by_that, placed_so, post_resume_tied, post_resumes, stands_post_held}
 use Rattle.fm_flow.specs.declared.hold.Hold.TheVariants as hold

@@ -1,5 +1,5 @@
-use Rattle.fm_core.proofs.Words.{IsTied, kept_sent, Sweeping, is_lost_of, the_view, ContextsKept, pre_settled, changed, placed_below, state_at, place_in}
-use Rattle.fm_core.proofs.Words.{IsSound, worker_at, Some, ap, refl, subst, sym, ◌∙◌, ◌≡◌}
+use Rattle.fm_core.proofs.Words.{IsTied, kept_sent, Sweeping, is_lost_of, the_view, ContextsKept, placed_below, Some, ap, refl, subst, sym, ◌∙◌, ◌≡◌}
+use Rattle.fm_core.proofs.Words.{pre_settled, changed, state_at, place_in, IsSound, worker_at}
 use Rattle.fm_world.proofs.Resumes.{resume_pre_does}
 use Rattle.fm_core.proofs.Losing.{sweeping_tied}
 use Rattle.fm_core.proofs.Operated.{pre_state}

@@ -1,4 +1,4 @@
-use Rattle.fm_core.proofs.Words.{the_view, holder, IsSound, subst, sym, ◌∙◌}
+use Rattle.fm_core.proofs.Words.{the_view, subst, sym, ◌∙◌, holder, IsSound}
 use Rattle.fm_world.proofs.Linking.{set_does}
 use Rattle.fm_core.proofs.Linked.{set_tied, set_up}
 use Rattle.fm_core.proofs.state.State.set.Goals as goal

@@ -1,4 +1,4 @@
-use Rattle.fm_core.proofs.Words.{setup_of, the_view, IsSound, worker_at, Worker, Some, refl, slice_get, subst, ◌≡◌}
+use Rattle.fm_core.proofs.Words.{setup_of, the_view, Worker, Some, refl, subst, ◌≡◌, IsSound, worker_at, slice_get}
 use Rattle.fm_world.proofs.Keeps.{setup_place}
 use Rattle.fm_world.proofs.Owning.{setup_does}
 use Rattle.fm_core.proofs.Attached.{sets_up, setup_tied, setup_is, setup_at}

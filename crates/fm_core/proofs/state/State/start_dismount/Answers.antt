@@ -1,4 +1,4 @@
-use Rattle.fm_core.proofs.Words.{IsSound, subst}
+use Rattle.fm_core.proofs.Words.{subst, IsSound}
 use Rattle.fm_world.proofs.Dismounting.{start_dismount_does}
 use Rattle.fm_core.proofs.Dismounted.{starts_dismount}
 use Rattle.fm_core.proofs.state.State.start_dismount.Goals as goal

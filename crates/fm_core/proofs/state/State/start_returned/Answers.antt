@@ -1,4 +1,4 @@
-use Rattle.fm_core.proofs.Words.{start_of, the_view, IsSound, worker_at, Worker, Some, refl, subst, ◌≡◌, slice_get_within}
+use Rattle.fm_core.proofs.Words.{start_of, the_view, Worker, Some, refl, subst, ◌≡◌, IsSound, worker_at, slice_get_within}
 use Rattle.fm_world.proofs.Detaching.{start_place, start_returned_does}
 use Rattle.fm_core.proofs.Operated.{placed, within_at}
 use Rattle.fm_core.proofs.Torn.{left_tied, start_is, start_returns}

@@ -1,4 +1,4 @@
-use Rattle.fm_core.proofs.Words.{IsSound, subst, sym, ◌∙◌}
+use Rattle.fm_core.proofs.Words.{subst, sym, ◌∙◌, IsSound}
 use Rattle.fm_world.proofs.Detaching.{start_teardown_does}
 use Rattle.fm_core.proofs.Torn.{starts}
 use Rattle.fm_core.proofs.state.State.start_teardown.Goals as goal

@@ -1,4 +1,4 @@
-use Rattle.fm_core.proofs.Words.{the_view, idle_there, IsSound, is_idle, worker_at, World, subst, sym, true, ◌∙◌, ◌≡◌}
+use Rattle.fm_core.proofs.Words.{the_view, idle_there, subst, sym, true, ◌∙◌, ◌≡◌, IsSound, is_idle, worker_at, World}
 use Rattle.fm_ctx.proofs.Lives.{due_there}
 use Rattle.fm_world.proofs.Cleanups.{take_due_does}
 use Rattle.fm_core.proofs.Cleaned.{due_taken, due_tied}

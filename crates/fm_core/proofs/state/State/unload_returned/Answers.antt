@@ -1,4 +1,4 @@
-use Rattle.fm_core.proofs.Words.{unload_of, the_view, IsSound, worker_at, Worker, Some, subst, ◌≡◌}
+use Rattle.fm_core.proofs.Words.{unload_of, the_view, Worker, Some, subst, ◌≡◌, IsSound, worker_at}
 use Rattle.fm_world.proofs.Unloading.{unload_does}
 use Rattle.fm_core.proofs.Operated.{placed}
 use Rattle.fm_core.proofs.Torn.{unload_is, unload_returns}

@@ -1,12 +1,12 @@
 -- What each step of an operation leaves of its place among the instances.
-use Rattle.std.proofs.Common.{Bool, List, None, Option, Some, [], ap, arith, count_by, false, length, map, option_and_then, refl, subst, sym, true, ℕ, ◌++◌, ◌<◌, ◌||◌, ◌∙◌, ◌∷◌, ◌≡◌, ◌≤◌}
+use Rattle.fm_world.proofs.Words.{is_base, post_of, settle_drain, settle_post, settle_pre, visit_of, after, if_down, walk, way_of, Base, Drain, Post, Pre}
+use Rattle.fm_world.proofs.Words.{PostState, PostVisit, PreVisit, Ascending, PostHeld, Follows, IsHighest, IsStack, HasRoom, IsDescent, last_of, IsAmongAt}
+use Rattle.fm_world.proofs.Words.{NoneLeft, Descending, Entry, InBase, Operation, PostRunning, PreState, StackWorld, Stage, Status, VolumeId, has_base}
+use Rattle.fm_world.proofs.Words.{is_candidate, is_to_visit, last_posted, last_visited, posted, visited, All, Bool, List, None, Option, Some, [], ap, arith}
+use Rattle.fm_world.proofs.Words.{count_by, false, filter_map, length, map, option_and_then, refl, subst, sym, true, ℕ, ◌++◌, ◌<◌, ◌||◌, ◌∙◌, ◌∷◌, ◌≡◌, ◌≤◌}
+use Rattle.fm_world.proofs.Words.{append-nil, All-head, All-push, All-tail, All-weaker, filter_map-append, list_any-append, none-some, same_Some}
+use Rattle.fm_world.proofs.Words.{slice_get_within, cons_option}
 use Rattle.fm_flow.specs.declared.entry.DrainVisit.{DrainVisit}
-use Rattle.fm_world.proofs.Words.{All, All-head, All-push, All-tail, All-weaker, Ascending, Base, Descending, Drain, Entry, Follows, HasRoom, InBase}
-use Rattle.fm_world.proofs.Words.{IsAmongAt, IsDescent, IsHighest, IsStack, NoneLeft, Operation, Post, PostHeld, PostRunning, PostState}
-use Rattle.fm_world.proofs.Words.{PostVisit, Pre, PreState, PreVisit, StackWorld, Stage, Status, VolumeId, after, append-nil, cons_option}
-use Rattle.fm_world.proofs.Words.{filter_map, filter_map-append, has_base, if_down, is_base, is_candidate, is_to_visit, last_of, last_posted}
-use Rattle.fm_world.proofs.Words.{last_visited, list_any-append, none-some, post_of, posted, same_Some, settle_drain, settle_post, settle_pre}
-use Rattle.fm_world.proofs.Words.{slice_get_within, visit_of, visited, walk, way_of}
 use Rattle.fm_world.proofs.Descents.{descent_follows, descent_reaches, descent_visits, last_of-cons, last_of-push, none_follows, room_follows, room_visits}
 
 -- ---- an operation on its way down has no base entry

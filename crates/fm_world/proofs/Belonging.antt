@@ -1,13 +1,12 @@
 -- Who may hold what, and what a context names is there: what changes of contexts, instances and workers leave of both.
-use Rattle.std.proofs.Common.{Bool, List, None, Option, Some, [], ap, arith, cond, false, get_or, inl, inr, is_some, length, map, option_and_then, option_map, refl, slice_get, subst, sym, true, ℕ, ◌<◌, ◌==◌, ◌||◌, ◌∙◌, ◌∷◌, ◌≡◌, ◌≢◌, ◌≤◌}
-use Rattle.fm_world.proofs.Words.{All, All-cons, All-head, All-map, All-nil, All-tail, All-updated, AskCarries, Context, ContextKind, CtxId}
-use Rattle.fm_world.proofs.Words.{FlowRecord, HoldsIn, Instance, InstanceId, IsNew, Object, Owner, Slot, StackWorld, Worker, WorkerId, belongs}
-use Rattle.fm_world.proofs.Words.{by_id, cases_eq, change_context, changed_slot, context_at, context_at-here, context_at-other}
-use Rattle.fm_world.proofs.Words.{context_at-placed_other, context_at-swept, context_in, false≢true, fits, hand_of, holds, holds_links_by, is_id}
-use Rattle.fm_world.proofs.Words.{is_id-same, is_left_by, keeps_links_by, length, link_fits, may_link, new_absent, none-some, owed, owner_fits}
-use Rattle.fm_world.proofs.Words.{place_in, placed, row_at, same_owner, slice_set, swept, swept_slot, updated, updated-other, updated-same}
-use Rattle.fm_world.proofs.Words.{with_link, without, worker_at}
-use Rattle.std.proofs.lemmas.Grind.{common_steps}
+use Rattle.fm_world.proofs.Words.{by_id, is_id-same, context_at-swept, context_at-here, context_at-other, context_at-placed_other, new_absent, holds, is_id}
+use Rattle.fm_world.proofs.Words.{without, IsNew, placed, with_link, same_owner, swept, swept_slot, change_context, changed_slot, context_at, context_in}
+use Rattle.fm_world.proofs.Words.{All-updated, updated-other, updated-same, AskCarries, HoldsIn, belongs, fits, holds_links_by, is_left_by, keeps_links_by}
+use Rattle.fm_world.proofs.Words.{link_fits, may_link, owner_fits, place_in, row_at, Context, ContextKind, CtxId, FlowRecord, Instance, InstanceId, Object}
+use Rattle.fm_world.proofs.Words.{Owner, Slot, StackWorld, WorkerId, hand_of, owed, updated, worker_at, Worker, All, Bool, List, None, Option, Some, [], ap}
+use Rattle.fm_world.proofs.Words.{arith, cond, false, get_or, inl, inr, is_some, length, map, option_and_then, option_map, refl, slice_get, slice_set, subst}
+use Rattle.fm_world.proofs.Words.{sym, true, ℕ, ◌<◌, ◌==◌, ◌||◌, ◌∙◌, ◌∷◌, ◌≡◌, ◌≢◌, ◌≤◌, cases_eq, false≢true, common_steps, All-cons, All-head, All-map}
+use Rattle.fm_world.proofs.Words.{All-nil, All-tail, none-some}
 use Rattle.fm_world.proofs.Cases.{by_bool, by_option}
 
 -- ---- contexts keep their kind and owner

@@ -1,19 +1,18 @@
 -- What holds of a worker in a callback, and what its events on references and bodies do.
-use Rattle.std.proofs.Common.{Bool, List, None, Ok, Option, Result, Some, [], ap, arith, cond, false, find, get_or, length, not, option_map, refl, subst, sym, true, ℕ, ◌++◌, ◌+◌, ◌<◌, ◌∙◌, ◌∷◌, ◌≡◌, ◌≢◌, ◌≤◌, ◌⊎◌}
-use Rattle.fm_world.proofs.Words.{All, All-push, AreOwned, Bumps, Callback, ContextTable, CtxId, FileObject, FlowRecord, FlowTable, HoldsIn}
-use Rattle.fm_world.proofs.Words.{HoldsFewer, HoldsMore, Instance, InstanceId, IsCourse, IsLawful, IsOwned, IsPlaced, IsSound, IsUnderWay}
-use Rattle.fm_world.proofs.Words.{OpId, Phase, PostRunning, PostState, PreRunning, PreState, ReadsBody, References, Releases, StackWorld, Status}
-use Rattle.fm_world.proofs.Words.{Worker, WorkerId, World, WritesBody, all_at, belongs, body_keeps, callback_in, callback_of, carried, carries}
-use Rattle.fm_world.proofs.Words.{cleaning_of, cleanup_in, drains_open, eq-eqb, file_of, fits, flight, flight_post_settled, flight_pre_settled}
-use Rattle.fm_world.proofs.Words.{get_or-set_same, given_with, grabbed, hand_len, hand_of, holds, in_flight, is_detached, is_flown, is_flown_by}
-use Rattle.fm_world.proofs.Words.{is_hand_full, is_in_drain, is_left_by, is_number, is_setup, keeps_links, keeps_links_by, last_posted}
-use Rattle.fm_world.proofs.Words.{last_visited, leaves_at, leb-false, length-without, names_there, none-some, none_refuses, place_in}
-use Rattle.fm_world.proofs.Words.{reference_keeps, release_keeps, released, rewritten, row_at, same_Some, set-get_or, slice_get, slice_set}
-use Rattle.fm_world.proofs.Words.{total, with_body, with_contexts, within_hands, without, worker_at}
-use Rattle.fm_world.proofs.Words.{AtComplete, AtQuery, AtSetup, AtStart, Desk, is_at, is_completing, most_at}
+use Rattle.fm_world.proofs.Words.{length-without, body_keeps, reference_keeps, release_keeps, within_hands, holds, is_hand_full, without, rewritten, with_body}
+use Rattle.fm_world.proofs.Words.{drains_open, flight_post_settled, flight_pre_settled, flight, leaves_at, IsCourse, is_number, total, PostState, IsPlaced}
+use Rattle.fm_world.proofs.Words.{all_at, none_refuses, Bumps, Callback, ReadsBody, References, Releases, WritesBody, callback_in, callback_of, with_contexts}
+use Rattle.fm_world.proofs.Words.{HoldsFewer, HoldsMore, given_with, hand_len, is_in_drain, names_there, HoldsIn, belongs, file_of, fits, is_flown, is_flown_by}
+use Rattle.fm_world.proofs.Words.{is_left_by, keeps_links, keeps_links_by, place_in, row_at, AreOwned, IsOwned, IsSound, IsUnderWay, most_at, ContextTable}
+use Rattle.fm_world.proofs.Words.{CtxId, FlowRecord, FlowTable, Instance, InstanceId, IsLawful, OpId, Phase, PostRunning, PreRunning, PreState, StackWorld}
+use Rattle.fm_world.proofs.Words.{Status, WorkerId, carried, cleaning_of, grabbed, hand_of, in_flight, is_completing, is_detached, is_setup, last_posted}
+use Rattle.fm_world.proofs.Words.{last_visited, released, AtComplete, AtQuery, AtSetup, AtStart, Desk, cleanup_in, is_at, worker_at, World, carries, FileObject}
+use Rattle.fm_world.proofs.Words.{Worker, All, Bool, List, None, Ok, Option, Result, Some, [], ap, arith, cond, false, find, get_or, length, not, option_map}
+use Rattle.fm_world.proofs.Words.{refl, slice_get, slice_set, subst, sym, true, ℕ, ◌++◌, ◌+◌, ◌<◌, ◌∙◌, ◌∷◌, ◌≡◌, ◌≢◌, ◌≤◌, ◌⊎◌, eq-eqb, leb-false}
+use Rattle.fm_world.proofs.Words.{common_steps, get_or-set_same, set-get_or, All-push, none-some, same_Some}
 use Rattle.fm_ctx.proofs.Counts.{count_held}
-use Rattle.std.proofs.lemmas.Grind.{common_steps}
-use Rattle.fm_world.proofs.Belonging.{AllCarry, AllFit, AllHold, AllPass, BelongsStill, OwnersStay, all_carry_still, all_hold, all_without, belongs_still, filters_same, held_has, owners_changed, owners_same, passes_changed}
+use Rattle.fm_world.proofs.Belonging.{AllCarry, AllFit, AllHold, AllPass, BelongsStill, OwnersStay, all_carry_still, all_hold, all_without, belongs_still}
+use Rattle.fm_world.proofs.Belonging.{filters_same, held_has, owners_changed, owners_same, passes_changed}
 use Rattle.fm_world.proofs.Events.{asked_by, taken_by}
 use Rattle.fm_world.proofs.Keeps.{desk_place, worker_below}
 use Rattle.fm_world.proofs.Operations.{both_same, inside_post, inside_pre}

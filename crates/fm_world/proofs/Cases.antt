@@ -1,8 +1,7 @@
 -- Proofs by cases: on a test, on what a look-up finds, and on the places of a list; and counts over two lists, element by element.
-use Rattle.std.proofs.Common.{Bool, List, None, Option, Some, [], ap, arith, cond, count_by, false, length, refl, slice_get, suc, true, zero, ℕ, ◌+◌, ◌<◌, ◌∙◌, ◌∷◌, ◌≡◌, ◌≢◌, ◌≤◌}
-use Rattle.fm_world.proofs.Words.{All, cases_eq, count-cons, list_any, none-some, or_parts, same_Some, slice_get, slice_get-set_other, slice_get-set_same, slice_set}
-use Rattle.fm_world.proofs.Words.{updated, updated-other, updated-same}
-use Rattle.std.proofs.lemmas.Grind.{common_steps}
+use Rattle.fm_world.proofs.Words.{count-cons, slice_get-set_other, slice_get-set_same, updated-other, updated-same, updated, All, Bool, List, None, Option}
+use Rattle.fm_world.proofs.Words.{Some, [], ap, arith, cond, count_by, false, length, refl, slice_get, slice_set, suc, true, zero, ℕ, ◌+◌, ◌<◌, ◌∙◌, ◌∷◌, ◌≡◌}
+use Rattle.fm_world.proofs.Words.{◌≢◌, ◌≤◌, cases_eq, or_parts, common_steps, none-some, same_Some, list_any}
 
 pub by_bool : (P : Bool → Type 0) (b : Bool) → (b ≡ true → P true) → (b ≡ false → P false) → P b
 by_bool P b passes fails = grind arith

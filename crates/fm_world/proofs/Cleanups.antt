@@ -1,19 +1,17 @@
 -- What the events of cleanups, and the end of an instance, do.
-use Rattle.std.proofs.Common.{Bool, Err, List, None, Ok, Option, Result, Some, [], ap, arith, false, get_or, inl, length, nat_lt, not, option_map, refl, slice_get, subst, sym, true, ℕ, ◌<◌, ◌∙◌, ◌∷◌, ◌≡◌}
-use Rattle.fm_world.proofs.Words.{All, All-cons, All-nil, Ask, AskCarries, CarriesIn, Cleans, CleansAt, Context, ContextTable, CtxId, Due}
-use Rattle.fm_world.proofs.Words.{FilterId, Finishes, FlowRecord, HoldsIn, InstanceId, IsOwned, IsSound, IsUnderWay, Owner, Phase, Slot}
-use Rattle.fm_world.proofs.Words.{StackWorld, Status, TakesDue, Worker, WorkerId, World, after_due, and_from, and_parts, belongs, carried_among}
-use Rattle.fm_world.proofs.Words.{carried_by, carried_in, cases_eq, change_context, cleaned, cleaned_keeps, cleaning_of, cleanup_in, context_at}
-use Rattle.fm_world.proofs.Words.{context_at-here, context_at-other, count_cleaning, emptied, eq-eqb, filter_of, finish_row, finished, fits}
-use Rattle.fm_world.proofs.Words.{get_or-set_other, get_or-set_same, hand_counted, hand_of, held, is_emptying, is_emptying_at, is_flown}
-use Rattle.fm_world.proofs.Words.{is_flown_by, is_gone_at, is_id, is_open, length-updated, ltb-false, ltb-true}
-use Rattle.fm_world.proofs.Words.{names_there, none-some, none_refuses, one, open_of, owed, place_in, put, references, references_cons}
-use Rattle.fm_world.proofs.Words.{references_none, row_at, slice_get_within, slice_set, take_due_keeps, taken_due, taken_of, total}
-use Rattle.fm_world.proofs.Words.{totalled_for, updated-other, worker_at}
-use Rattle.fm_world.proofs.Words.{Desk, Instance, IsStaffed}
+use Rattle.fm_world.proofs.Words.{hand_counted, references_cons, references_none, cleaned_keeps, count_cleaning, take_due_keeps, context_at-here}
+use Rattle.fm_world.proofs.Words.{context_at-other, held, is_id, references, cleaned, emptied, taken_due, taken_of, is_open, change_context, context_at}
+use Rattle.fm_world.proofs.Words.{carried_among, carried_by, carried_in, total, finish_row, is_emptying, length-updated, updated-other, none_refuses, Cleans}
+use Rattle.fm_world.proofs.Words.{CleansAt, Finishes, TakesDue, after_due, filter_of, is_gone_at, totalled_for, names_there, AskCarries, CarriesIn, HoldsIn}
+use Rattle.fm_world.proofs.Words.{belongs, fits, is_flown, is_flown_by, place_in, row_at, IsOwned, IsSound, IsStaffed, IsUnderWay, Ask, Context, ContextTable}
+use Rattle.fm_world.proofs.Words.{CtxId, Due, FilterId, FlowRecord, Instance, InstanceId, Owner, Phase, Slot, StackWorld, Status, WorkerId, cleaning_of}
+use Rattle.fm_world.proofs.Words.{finished, hand_of, is_emptying_at, one, open_of, owed, Desk, cleanup_in, put, worker_at, World, Worker, All, Bool, Err, List}
+use Rattle.fm_world.proofs.Words.{None, Ok, Option, Result, Some, [], ap, arith, false, get_or, inl, length, nat_lt, not, option_map, refl, slice_get}
+use Rattle.fm_world.proofs.Words.{slice_set, subst, sym, true, ℕ, ◌<◌, ◌∙◌, ◌∷◌, ◌≡◌, and_from, and_parts, cases_eq, eq-eqb, ltb-false, ltb-true, common_steps}
+use Rattle.fm_world.proofs.Words.{get_or-set_other, get_or-set_same, All-cons, All-nil, none-some, slice_get_within}
 use Rattle.fm_stack.proofs.Finishing.{emptying_row, finished_follows, finished_keeps}
-use Rattle.std.proofs.lemmas.Grind.{common_steps}
-use Rattle.fm_world.proofs.Belonging.{all_carry_still, all_hold_still, belongs_still, filters_same, filters_updated, link_stays, others_link, owner_stays, owners_changed, owners_same, passes_changed}
+use Rattle.fm_world.proofs.Belonging.{all_carry_still, all_hold_still, belongs_still, filters_same, filters_updated, link_stays, others_link, owner_stays}
+use Rattle.fm_world.proofs.Belonging.{owners_changed, owners_same, passes_changed}
 use Rattle.fm_world.proofs.Callbacks.{not_false, same_hands}
 use Rattle.fm_world.proofs.Cases.{at_updated, at_written, none_pass}
 use Rattle.fm_world.proofs.Events.{idle_by}

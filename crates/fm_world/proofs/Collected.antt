@@ -1,14 +1,11 @@
 -- Records that stay after their answers were handed out: each has a drain that runs, and that a worker is in, so that they are no more than workers.
-use Rattle.std.proofs.Common.{Bool, List, None, Option, Some, [], ap, arith, count_by, false, get_or, inl, inr, length, refl, suc, sym, true, ℕ, ◌+◌, ◌<◌, ◌==◌, ◌∷◌, ◌≡◌, ◌≤◌}
-use Rattle.fm_world.proofs.Words.{All, All-head, All-tail, Entry, FlowRecord, FlowTable, IsFlow, OpId, Worker, cases_Bool, collected_records, count-cons}
-use Rattle.fm_world.proofs.Words.{drain_opens, drains_running, is_in_drain, is_number, is_running_drain, list_any, nat_le, one, operation_at, option_map, unwrap_or}
-use Rattle.std.proofs.lemmas.Bool.Decides.{nat_tests}
-use Rattle.std.specs.Prelude.{AllPairs}
+use Rattle.fm_world.proofs.Words.{drain_opens, is_running_drain, is_number, is_spent, Base, Drain, Post, Pre, count-cons, collected_records, drains_running}
+use Rattle.fm_world.proofs.Words.{is_in_drain, Entry, FlowRecord, FlowTable, IsFlow, OpId, one, operation_at, Worker, All, AllPairs, Bool, List, None, Option}
+use Rattle.fm_world.proofs.Words.{Some, [], ap, arith, count_by, false, get_or, inl, inr, length, nat_le, option_map, refl, suc, sym, true, unwrap_or, ℕ, ◌+◌}
+use Rattle.fm_world.proofs.Words.{◌<◌, ◌==◌, ◌∷◌, ◌≡◌, ◌≤◌, cases_Bool, nat_tests, All-head, All-tail, list_any}
 use Rattle.fm_types.proofs.Firsts.{stands_there}
 use Rattle.fm_types.proofs.Rising.{stands_rising}
 use Rattle.fm_flow.specs.Counts.{drain_opens_at}
-use Rattle.fm_flow.specs.Table.{is_spent}
-use Rattle.fm_flow.specs.declared.entry.Entry.TheVariants.{Pre, Base, Post, Drain}
 
 -- the operation that a worker is in a drain of
 abbrev drain_number : Worker → Option ℕ

@@ -1,14 +1,14 @@
 -- A visit of the next instance, the call of the base, and every event of the stack keep an operation's descent.
-use Rattle.std.proofs.Common.{Bool, List, None, Option, Ordering, Some, [], ap, arith, false, get_or, inl, inr, length, not, refl, subst, suc, sym, true, zero, ℕ, ◌&&◌, ◌++◌, ◌<◌, ◌==◌, ◌||◌, ◌∙◌, ◌∷◌, ◌≡◌, ◌≤◌}
-use Rattle.fm_world.proofs.Words.{AllPairs, Follows, HasRoom, Instance, IsDescent, IsHighest, IsStack, NonePasses, Operation, StackWorld}
-use Rattle.fm_world.proofs.Words.{VolumeId, all_pairs_push, altitude_at, and_from, and_parts, and_right, cases_order, clashes, eq-eqb}
-use Rattle.fm_world.proofs.Words.{false≢true, is_among, is_below_cursor, is_candidate, is_detached, is_live_on, is_lower, is_lower_at}
-use Rattle.fm_world.proofs.Words.{is_lower_option, is_to_visit, last_of, ne_eqb, option_map, or_parts, pair_at, reverse-append, same_altitude}
-use Rattle.fm_world.proofs.Words.{same_name, slice_get, slice_get-get_or}
+use Rattle.fm_world.proofs.Words.{Follows, altitude_at, is_live_on, is_lower, is_lower_option, same_altitude, same_name, IsHighest, IsStack, pair_at, HasRoom}
+use Rattle.fm_world.proofs.Words.{IsDescent, is_among, last_of, Instance, NonePasses, Operation, StackWorld, VolumeId, clashes, is_below_cursor, is_candidate}
+use Rattle.fm_world.proofs.Words.{is_detached, is_lower_at, is_to_visit, AllPairs, Bool, List, None, Option, Some, [], ap, arith, false, get_or, inl, inr}
+use Rattle.fm_world.proofs.Words.{length, not, option_map, refl, slice_get, subst, suc, sym, true, zero, ℕ, ◌&&◌, ◌++◌, ◌<◌, ◌==◌, ◌||◌, ◌∙◌, ◌∷◌, ◌≡◌, ◌≤◌}
+use Rattle.fm_world.proofs.Words.{and_from, and_parts, and_right, cases_order, eq-eqb, false≢true, ne_eqb, or_parts, common_steps, reverse-append}
+use Rattle.fm_world.proofs.Words.{all_pairs_push, slice_get-get_or}
+use Rattle.std.proofs.Common.{Ordering}
 use Rattle.fm_altitude.specs.Order.{altitude_cmp}
 use Rattle.fm_altitude.specs.Total.{altitude_total}
 use Rattle.std.proofs.lemmas.Cmp.{tied_itself}
-use Rattle.std.proofs.lemmas.Grind.{common_steps}
 use Rattle.std.specs.Ordering.{is_eq, is_lt, ordering_reverse}
 use Rattle.std.specs.declared.cmp.Ordering.TheVariants.{Less}
 use Rattle.fm_world.proofs.Cases.{by_bool, count-le, count-lt, count-some}

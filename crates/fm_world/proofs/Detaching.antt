@@ -1,14 +1,13 @@
 -- What the events by which an instance is detached do: its filter is asked, its teardown starts and is completed.
-use Rattle.std.proofs.Common.{Bool, Err, List, None, Ok, Option, Result, Some, ap, arith, count_by, false, inr, length, not, refl, slice_get, subst, sym, true, ℕ, ◌&&◌, ◌+◌, ◌∙◌, ◌≡◌}
-use Rattle.fm_world.proofs.Words.{AtComplete, AtQuery, AtSetup, AtStart, Desk, Instance, InstanceId, IsSound, IsStaffed, IsUnderWay, Leaves, Phase, StackWorld}
-use Rattle.fm_world.proofs.Words.{Status, Worker, WorkerId, World, carries, cleanup_in, eq-eqb, hand_len, in_flight, is_at, is_attached, is_completing, is_flown, is_made, is_queried, is_stopping}
-use Rattle.fm_world.proofs.Words.{left_by, ltb-false, none_refuses, one, or_parts, put, row_at, worker_at}
-use Rattle.fm_world.proofs.Words.{Volume, after_entering, holds_links_by, true≢false}
-use Rattle.fm_world.proofs.Words.{AsksDetach, QueryReturns, QueryReturnsAt, StartsTeardown, StartReturns, StartReturnsAt, CompletesTeardown, CompleteReturns, CompleteReturnsAt}
-use Rattle.fm_stack.proofs.GoingOn.{goes_on_follows, goes_on_keeps, passes_row}
+use Rattle.fm_world.proofs.Words.{goes_on_follows, goes_on_keeps, Filter, Volume, none_refuses, hand_len, left_by, holds_links_by, is_flown, row_at, IsSound}
+use Rattle.fm_world.proofs.Words.{IsStaffed, IsUnderWay, is_made, AsksDetach, CompleteReturns, CompleteReturnsAt, CompletesTeardown, QueryReturns}
+use Rattle.fm_world.proofs.Words.{QueryReturnsAt, StartReturns, StartReturnsAt, StartsTeardown, Instance, InstanceId, Leaves, Phase, StackWorld, Status}
+use Rattle.fm_world.proofs.Words.{WorkerId, in_flight, is_attached, is_completing, is_stopping, one, AtComplete, AtQuery, AtSetup, AtStart, Desk}
+use Rattle.fm_world.proofs.Words.{after_entering, cleanup_in, is_at, is_queried, put, worker_at, World, carries, Worker, Bool, Err, List, None, Ok, Option}
+use Rattle.fm_world.proofs.Words.{Result, Some, ap, arith, count_by, false, inr, length, not, refl, slice_get, subst, sym, true, ℕ, ◌&&◌, ◌+◌, ◌∙◌, ◌≡◌, eq-eqb}
+use Rattle.fm_world.proofs.Words.{ltb-false, or_parts, true≢false}
+use Rattle.fm_stack.proofs.GoingOn.{passes_row}
 use Rattle.fm_stack.proofs.Teardowns.{completing_goes_on, emptying_goes_on, started_goes_on, starting_goes_on, stopped_goes_on}
-use Rattle.fm_stack.specs.declared.filter.Filter.{Filter}
-use Rattle.fm_stack.specs.Detaching as stack
 use Rattle.fm_stack.specs.Instances.{passes}
 use Rattle.fm_stack.specs.declared.instance.StartMark.{StartMark}
 use Rattle.fm_world.proofs.Callbacks.{not_false}
@@ -17,6 +16,7 @@ use Rattle.fm_world.proofs.Events.{answers_by, idle_by}
 use Rattle.fm_world.proofs.Keeps.{Restaffs, desk_enters, desk_place, desk_returns, follows_same, row_stays, row_updated}
 use Rattle.fm_world.proofs.Owning.{GoesOnAt, RowsGoOn, emptied_owned, goes_owned, goes_same, returns_owned, row_goes, rows_same}
 use Rattle.fm_world.proofs.Staying.{Does, SlotsStay, hand_emptied, lasts, makes, nothing, slots_swept, still, table_after, table_same, unchanged}
+use Rattle.fm_stack.specs.Detaching as stack
 
 -- ---- the instance whose callback a worker is in
 

@@ -1,12 +1,11 @@
 -- What the events by which a volume is dismounted do: its instances are stopped, its handles close, and it is emptied and finished.
-use Rattle.std.proofs.Common.{Err, List, Ok, Option, Result, Some, ap, arith, false, inl, inr, length, refl, slice_get, subst, sym, true, ℕ, ◌∙◌, ◌≡◌}
-use Rattle.fm_world.proofs.Words.{Context, ContextTable, CtxId, DropsHandle, Drops, EmptiesVolume, FileHandle, FinishesVolume, HandleId, IsOwned, IsSound, KeepsHands}
-use Rattle.fm_world.proofs.Words.{LosesLinks, Object, OnlyHandOf, StackWorld, StartsDismount, Status, Sweeps, Volume, VolumeId, World, carries, cases_eq, dropped, false≢true, fits, hand_of}
-use Rattle.fm_world.proofs.Words.{holds_links_by, is_handle_on, lowest_on, none_refuses, pairs_in, swept, updated, updated-other, updated-same}
+use Rattle.fm_world.proofs.Words.{swept, goes_on_follows, goes_on_keeps, Volume, updated-other, updated-same, none_refuses, Drops, DropsHandle, EmptiesVolume}
+use Rattle.fm_world.proofs.Words.{FinishesVolume, StartsDismount, dropped, is_handle_on, lowest_on, KeepsHands, OnlyHandOf, pairs_in, LosesLinks, fits}
+use Rattle.fm_world.proofs.Words.{holds_links_by, IsOwned, IsSound, Context, ContextTable, CtxId, HandleId, Object, StackWorld, Status, Sweeps, VolumeId}
+use Rattle.fm_world.proofs.Words.{hand_of, updated, World, carries, FileHandle, Err, List, Ok, Option, Result, Some, ap, arith, false, inl, inr, length, refl}
+use Rattle.fm_world.proofs.Words.{slice_get, subst, sym, true, ℕ, ◌∙◌, ◌≡◌, cases_eq, false≢true}
 use Rattle.fm_ctx.specs.Settling.{is_linked_to}
 use Rattle.fm_stack.proofs.Dismounts.{dismounted_goes_on, dismounting_goes_on, volume_emptied_goes_on}
-use Rattle.fm_stack.proofs.GoingOn.{goes_on_follows, goes_on_keeps}
-use Rattle.fm_stack.specs.Dismounting as volumes
 use Rattle.fm_stack.specs.declared.volume.VolumePhase.{VolumePhase}
 use Rattle.fm_world.proofs.Belonging.{AllFit, passes_swept}
 use Rattle.fm_world.proofs.Callbacks.{not_false}
@@ -17,6 +16,7 @@ use Rattle.fm_world.proofs.Losing.{loses_sound, sweeps_named, sweeps_owned}
 use Rattle.fm_world.proofs.Owning.{rows_same}
 use Rattle.fm_world.proofs.Staying.{Does, SlotsStay, lasts, loses_lasts, slots_swept, still, unchanged}
 use Rattle.fm_world.proofs.Unloading.{goes_does, stops_go, stops_staff}
+use Rattle.fm_stack.specs.Dismounting as volumes
 
 -- ---- its start
 

@@ -1,18 +1,18 @@
 -- Drains that are taken before their turn, and that return.
-use Rattle.std.proofs.Common.{Bool, Err, List, None, Ok, Option, Result, Some, [], ap, arith, cond, count_by, false, option_map, refl, slice_get, subst, suc, sym, true, zero, ℕ, ◌+◌, ◌<◌, ◌==◌, ◌∙◌, ◌∷◌, ◌≡◌, ◌≤◌}
-use Rattle.fm_world.proofs.Words.{AskCarries, AtDrain, CarriesIn, ContextTable, CtxId, Entry, FlowRecord, FlowTable, HoldsMore, InDrain, InstanceId, IsAmong, IsSound, IsUnderWay, Leaves, OnlyHandOf, OpId}
-use Rattle.fm_world.proofs.Words.{Spot, Stage, Status, Worker, WorkerId, World, carried_by, carries, carries_after, count-cons, changed, drain_opens, drains_running, find_changed}
-use Rattle.fm_world.proofs.Words.{found_holds, is_in_at, is_in_drain, is_number, is_spot, last_posted, last_visited, lawful_alike, names_there, one, operation_at, owed, put, removed}
-use Rattle.fm_world.proofs.Words.{row_at, same_Some, slice_get_within, spot_at, spot_of, stands_at, worker_at, drains_open, unwrap_or, is_running_drain, list_any, is_done, done_at, HoldsNone}
-use Rattle.fm_data.specs.declared.verdict.Completion.{Completion}
+use Rattle.fm_world.proofs.Words.{lawful_alike, Completion, drains_open, carried_by, drain_opens, is_running_drain, done_at, is_done, is_number, is_spent}
+use Rattle.fm_world.proofs.Words.{removed, count-cons, find_changed, found_holds, brought, carries_after, HoldsMore, HoldsNone, OnlyHandOf, AtDrain, Spot}
+use Rattle.fm_world.proofs.Words.{drains_running, is_in_at, is_in_drain, is_spot, spot_at, spot_of, stands_at, names_there, AskCarries, CarriesIn, row_at}
+use Rattle.fm_world.proofs.Words.{IsAmong, IsSound, IsUnderWay, ContextTable, CtxId, Entry, FlowRecord, FlowTable, InDrain, InstanceId, Leaves, OpId, Stage}
+use Rattle.fm_world.proofs.Words.{Status, WorkerId, changed, last_posted, last_visited, one, operation_at, owed, put, worker_at, World, carries, Worker, Bool}
+use Rattle.fm_world.proofs.Words.{Err, List, None, Ok, Option, Result, Some, [], ap, arith, cond, count_by, false, option_map, refl, slice_get, subst, suc, sym}
+use Rattle.fm_world.proofs.Words.{true, unwrap_or, zero, ℕ, ◌+◌, ◌<◌, ◌==◌, ◌∙◌, ◌∷◌, ◌≡◌, ◌≤◌, same_Some, slice_get_within, list_any}
 use Rattle.fm_ctx.proofs.Alike.{leaves_alike}
 use Rattle.fm_flow.specs.Drains.{DrainTaken, RunsEarly, drain_done_of, drained_early, early_over, owed_to}
-use Rattle.fm_flow.specs.Sound as flow
 use Rattle.fm_flow.proofs.Drains.{carries_early, carries_over, done_carries, drain_done_by, drains_early, drains_over, early_uncreated, flies_early, flies_over}
-use Rattle.fm_flow.proofs.Drains.{goes_after, handed_early, over_uncreated, owed_over, owed_so, owes_early, owing_there, flow_over, needed_early, sound_early, stays_early, stays_over}
+use Rattle.fm_flow.proofs.Drains.{goes_after, handed_early, over_uncreated, owed_over, owed_so, owes_early, owing_there, flow_over, needed_early, sound_early}
+use Rattle.fm_flow.proofs.Drains.{stays_early, stays_over}
 use Rattle.fm_flow.proofs.Counting.{flight_few}
 use Rattle.fm_world.specs.EarlyDrains.{DrainReturns, DrainReturnsAt, DrainsWhere, GivesDrain, TakesDrain, is_stopping_at}
-use Rattle.fm_world.specs.Events.{brought}
 use Rattle.fm_world.specs.Hands.{given_by_drain}
 use Rattle.fm_world.proofs.Amongs.{among_drain, among_over, drain_unseen, over_unseen}
 use Rattle.fm_world.proofs.Belonging.{AllPass}
@@ -23,12 +23,13 @@ use Rattle.fm_world.proofs.Flowing.{asks_of, carried_changed, quieter}
 use Rattle.fm_world.proofs.Keeps.{worker_below}
 use Rattle.fm_world.proofs.Operations.{AreInStep, both_same, step_keeps, step_moves, with_laws}
 use Rattle.fm_flow.proofs.Requests.{flow_removed}
-use Rattle.fm_flow.specs.Table.{IsFlow, is_spent}
+use Rattle.fm_flow.specs.Table.{IsFlow}
 use Rattle.fm_world.proofs.Requests.{file_gone, goes_keeps, goes_owned, total_without}
 use Rattle.fm_world.proofs.Returns.{AreKept, returned_kept}
 use Rattle.fm_world.proofs.Staying.{Does, Gives, TableStays, hand_emptied, hand_given, makes, nothing, table_same}
 use Rattle.fm_world.proofs.Ties.{BalancesSpots, InDrains, at_none, drained_there, drains_balance, in_no_drain, standing}
 use Rattle.fm_world.proofs.Turns.{brought_owned}
+use Rattle.fm_flow.specs.Sound as flow
 
 -- ---- spots: a worker in such a drain is at none, and the operation's stays where it was
 

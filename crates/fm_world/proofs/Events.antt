@@ -1,7 +1,6 @@
 -- An event was refused, and nothing changed, or it came to pass. Of both, P is asked: of the answer, and of the World after it.
-use Rattle.std.proofs.Common.{Bool, Err, List, None, Ok, Option, Result, Some, arith, subst, sym, true, ◌≡◌}
-use Rattle.fm_world.proofs.Words.{Answers, AnswersOrMemory, Callback, InCallback, Status, Unless, Worker, WorkerId, World, callback_of, is_idle}
-use Rattle.fm_world.proofs.Words.{worker_at}
+use Rattle.fm_world.proofs.Words.{Callback, InCallback, callback_of, Unless, Answers, AnswersOrMemory, Status, WorkerId, is_idle, worker_at, World, Worker}
+use Rattle.fm_world.proofs.Words.{Bool, Err, List, None, Ok, Option, Result, Some, arith, subst, sym, true, ◌≡◌}
 
 -- ---- refusals
 

@@ -1,14 +1,13 @@
 -- What holds of streams and handles is kept by every step of an operation.
-use Rattle.std.proofs.Common.{Bool, List, None, Option, Some, ap, arith, cond, false, find, inl, inr, refl, subst, sym, true, ℕ, ◌<◌, ◌==◌, ◌||◌, ◌∙◌, ◌≡◌, ◌⊎◌}
-use Rattle.fm_world.proofs.Words.{All, FileHandle, FileTable, FlowRecord, FlowTable, HandleId, IsCreatedOn, IsFileSound, IsFiled, IsOnHandle}
-use Rattle.fm_world.proofs.Words.{OpId, Operation, Status, StreamId, after_base, all_change, and_from, cases_Bool, change_first, changed, closed}
-use Rattle.fm_world.proofs.Words.{empty_files, empty_table, false≢true, found_holds, has_create_on, has_handle_on, has_stream_of, is_create, is_created_on}
-use Rattle.fm_world.proofs.Words.{is_creating, is_number, is_on, is_success, is_unanswered, left, list_any, opened, operation_at, or_left}
-use Rattle.fm_world.proofs.Words.{same_Some}
-use Rattle.std.proofs.lemmas.Grind.{common_steps}
+use Rattle.fm_world.proofs.Words.{is_success, is_unanswered, is_number, all_change, found_holds, is_created_on, IsCreatedOn, IsOnHandle, has_stream_of}
+use Rattle.fm_world.proofs.Words.{FileTable, after_base, closed, empty_files, has_handle_on, is_on, left, opened, IsFileSound, IsFiled, FlowRecord, FlowTable}
+use Rattle.fm_world.proofs.Words.{HandleId, OpId, Operation, Status, StreamId, change_first, changed, empty_table, has_create_on, is_create, is_creating}
+use Rattle.fm_world.proofs.Words.{operation_at, FileHandle, All, Bool, List, None, Option, Some, ap, arith, cond, false, find, inl, inr, refl, subst, sym, true}
+use Rattle.fm_world.proofs.Words.{ℕ, ◌<◌, ◌==◌, ◌||◌, ◌∙◌, ◌≡◌, ◌⊎◌, and_from, cases_Bool, false≢true, or_left, common_steps, same_Some, list_any}
 use Rattle.fm_world.proofs.Cases.{by_bool}
 use Rattle.fm_world.proofs.Filing.{answered_none, filed_answered, filed_closed, filed_step, shrinks_same}
-use Rattle.fm_world.proofs.Streams.{IsOn, Stands, any_pushed, creating_ended, creating_same, is_creating_on, none_out, on_found, same_number, stands_among, stands_closed, stands_left, stands_marked, stands_opened, that, uses}
+use Rattle.fm_world.proofs.Streams.{IsOn, Stands, any_pushed, creating_ended, creating_same, is_creating_on, none_out, on_found, same_number, stands_among}
+use Rattle.fm_world.proofs.Streams.{stands_closed, stands_left, stands_marked, stands_opened, that, uses}
 use Rattle.fm_world.specs.Files as files
 
 -- ---- the parts

@@ -1,9 +1,8 @@
 -- Streams and handles through the events: there is a number and room for the handle of each create under way.
-use Rattle.std.proofs.Common.{Bool, Option, Some, ap, arith, cond, false, length, refl, sym, true, ◌&&◌, ◌<◌, ◌∙◌, ◌≡◌, ◌≤◌}
-use Rattle.fm_world.proofs.Words.{FileTable, FlowRecord, FlowTable, HandleId, IsFiled, OpId, Operation, Status, StreamId, after_base, changed}
-use Rattle.fm_world.proofs.Words.{closed, count_changed, false≢true, found_counts, is_create, is_creating, is_handle, is_number, is_success}
-use Rattle.fm_world.proofs.Words.{is_unanswered, left, length_without, opened, operation_at}
-use Rattle.std.proofs.lemmas.Grind.{common_steps}
+use Rattle.fm_world.proofs.Words.{is_success, is_unanswered, is_number, count_changed, found_counts, length_without, FileTable, after_base, closed, is_handle}
+use Rattle.fm_world.proofs.Words.{left, opened, IsFiled, FlowRecord, FlowTable, HandleId, OpId, Operation, Status, StreamId, changed, is_create, is_creating}
+use Rattle.fm_world.proofs.Words.{operation_at, Bool, Option, Some, ap, arith, cond, false, length, refl, sym, true, ◌&&◌, ◌<◌, ◌∙◌, ◌≡◌, ◌≤◌, false≢true}
+use Rattle.fm_world.proofs.Words.{common_steps}
 use Rattle.fm_world.proofs.Cases.{one-le}
 use Rattle.fm_world.specs.Files as files
 

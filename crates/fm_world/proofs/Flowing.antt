@@ -1,9 +1,8 @@
 -- What a step of one operation leaves of who owns what.
-use Rattle.std.proofs.Common.{List, None, Some, [], arith, false, refl, subst, sym, ℕ, ◌+◌, ◌<◌, ◌∙◌, ◌≡◌, ◌≤◌}
-use Rattle.fm_world.proofs.Words.{All, All-nil, AskCarries, ContextTable, CtxId, FlowRecord, FlowTable, HoldsIn, InstanceId, IsLawful, IsOwned}
-use Rattle.fm_world.proofs.Words.{Leaves, OpId, Slot, StackWorld, Worker, WorkerId, World, all_change, carried, carried_by, carries_after}
-use Rattle.fm_world.proofs.Words.{changed, cleanup_in, flight, found_holds, in_flight, is_flown_by, is_number, leave_keeps, operation_at, owed}
-use Rattle.fm_world.proofs.Words.{place_in, put, returned, row_at, same_Some, slice_set, worker_at}
+use Rattle.fm_world.proofs.Words.{leave_keeps, carried_by, flight, is_number, all_change, found_holds, carries_after, returned, AskCarries, HoldsIn}
+use Rattle.fm_world.proofs.Words.{is_flown_by, place_in, row_at, IsOwned, ContextTable, CtxId, FlowRecord, FlowTable, InstanceId, IsLawful, Leaves, OpId, Slot}
+use Rattle.fm_world.proofs.Words.{StackWorld, WorkerId, carried, changed, in_flight, operation_at, owed, cleanup_in, put, worker_at, World, Worker, All, List}
+use Rattle.fm_world.proofs.Words.{None, Some, [], arith, false, refl, slice_set, subst, sym, ℕ, ◌+◌, ◌<◌, ◌∙◌, ◌≡◌, ◌≤◌, All-nil, same_Some}
 use Rattle.fm_flow.proofs.Flows.{total_changed}
 use Rattle.fm_world.proofs.Belonging.{AllCarry, AllFit, filters_same, owners_same}
 use Rattle.fm_world.proofs.Owning.{cleaning_stays, owned_moves}

@@ -1,10 +1,9 @@
 -- The events on filters, volumes and instances keep what is under way.
-use Rattle.std.proofs.Common.{Bool, Err, List, None, Ok, Option, Result, Some, [], ap, arith, count_by, false, inl, inr, length, length-set, refl, subst, suc, sym, true, zero, ℕ, ◌++◌, ◌+◌, ◌<◌, ◌∙◌, ◌∷◌, ◌≡◌, ◌≢◌, ◌≤◌}
-use Rattle.fm_world.proofs.Words.{AtSetup, Desk, IsStaffed, cases_eq, is_at, most_at, slice_get-push, updated-other, updated-same}
-use Rattle.fm_world.proofs.Words.{FilterId, Follows, Instance, InstanceId, IsFileSound, IsStack, IsUnderWay, OpId, Spot}
-use Rattle.fm_world.proofs.Words.{StackWorld, Status, VolumeId, Worker, WorkerId, World, accept_row, eq-eqb, first_of, is_in_at, is_in_drain}
-use Rattle.fm_world.proofs.Words.{is_setup, ne_eqb, one, put, refuse_row, slice_get, slice_get_within, updated}
-use Rattle.fm_world.proofs.Words.{worker_at}
+use Rattle.fm_world.proofs.Words.{accept_row, refuse_row, Follows, IsStack, slice_get-push, updated-other, updated-same, Spot, is_in_at, is_in_drain}
+use Rattle.fm_world.proofs.Words.{IsFileSound, IsStaffed, IsUnderWay, most_at, FilterId, Instance, InstanceId, OpId, StackWorld, Status, VolumeId, WorkerId}
+use Rattle.fm_world.proofs.Words.{first_of, is_setup, one, updated, AtSetup, Desk, is_at, put, worker_at, World, Worker, Bool, Err, List, None, Ok, Option}
+use Rattle.fm_world.proofs.Words.{Result, Some, [], ap, arith, count_by, false, inl, inr, length, length-set, refl, slice_get, subst, suc, sym, true, zero, ℕ}
+use Rattle.fm_world.proofs.Words.{◌++◌, ◌+◌, ◌<◌, ◌∙◌, ◌∷◌, ◌≡◌, ◌≢◌, ◌≤◌, cases_eq, eq-eqb, ne_eqb, slice_get_within}
 use Rattle.fm_stack.proofs.Attaching.{attached_follows, attached_keeps}
 use Rattle.fm_stack.proofs.SettingUp.{accepted_follows, accepted_keeps, refused_follows, refused_keeps}
 use Rattle.fm_world.proofs.Amongs.{among_follows}

@@ -1,10 +1,10 @@
 -- Over lists of events: an id that was given isn't given again, and what was cleaned stays cleaned.
-use Rattle.std.proofs.Common.{Err, List, None, Ok, Option, Result, Some, [], ap, arith, inl, inr, length, option_and_then, option_map, refl, slice_get, subst, suc, sym, zero, ℕ, ◌<◌, ◌∙◌, ◌∷◌, ◌≡◌, ◌⊎◌}
-use Rattle.fm_world.proofs.Words.{Allocates, Context, ContextKind, ContextTable, CtxId, Due, IfOk, IsNew, IsSound, Run, Slot, Status, Step}
-use Rattle.fm_world.proofs.Words.{StepReply, Steps, TakesDue, Worker, WorkerId, World, cleaning_of, context_at, due_of, emptied, empty_world}
-use Rattle.fm_world.proofs.Words.{first_placed, get_or-set_same, is_id-refl, none-some, places_cleaned, same_Some, slice_get_within, taken_due}
-use Rattle.fm_world.proofs.Words.{taken_of}
-use Rattle.fm_world.specs.Lasting.{Comes, ContextsLast, IsGone, due_by, given_by}
+use Rattle.fm_world.proofs.Words.{first_placed, is_id-refl, places_cleaned, IsNew, due_of, emptied, taken_due, taken_of, context_at, Allocates, TakesDue}
+use Rattle.fm_world.proofs.Words.{IsGone, IsSound, Run, Steps, Context, ContextKind, ContextTable, CtxId, Due, Slot, Status, WorkerId, cleaning_of, World}
+use Rattle.fm_world.proofs.Words.{empty_world, Step, StepReply, Worker, Err, IfOk, List, None, Ok, Option, Result, Some, [], ap, arith, inl, inr, length}
+use Rattle.fm_world.proofs.Words.{option_and_then, option_map, refl, slice_get, subst, suc, sym, zero, ℕ, ◌<◌, ◌∙◌, ◌∷◌, ◌≡◌, ◌⊎◌, get_or-set_same, none-some}
+use Rattle.fm_world.proofs.Words.{same_Some, slice_get_within}
+use Rattle.fm_world.specs.Lasting.{Comes, ContextsLast, due_by, given_by}
 use Rattle.fm_world.proofs.Cases.{by_option}
 use Rattle.fm_world.proofs.Events.{idle_by, taken_by}
 use Rattle.fm_world.proofs.Runs.{empty_sound, run_keeps, step_does, step_keeps}

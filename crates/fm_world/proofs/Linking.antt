@@ -1,20 +1,22 @@
 -- What allocating, setting, getting and deleting contexts do.
-use Rattle.std.proofs.Common.{Bool, List, None, Option, Result, Some, [], ap, arith, false, is_none, is_some, length, nat_lt, not, option_and_then, option_map, refl, slice_get, subst, sym, true, ℕ, ◌&&◌, ◌++◌, ◌<◌, ◌||◌, ◌∙◌, ◌∷◌, ◌≡◌}
-use Rattle.fm_world.proofs.Words.{Allocates, Callback, Context, ContextKind, ContextTable, CtxId, Deletes, Gets, HoldsMore, Instance, InstanceId}
-use Rattle.fm_world.proofs.Words.{IsLawful, IsOwned, IsSound, IsUnlinkedOf, Object, OnlyHandOf, Owner, SetAnswer, SetMode, SetReply, Sets}
-use Rattle.fm_world.proofs.Words.{SetsIn, SetsOn, SetsUnless, Slot, StackWorld, Status, WorkerId, World, all_at, allocate_keeps}
-use Rattle.fm_world.proofs.Words.{allocate_refusal, allocated, and_from, and_parts, before, belongs, belongs_by, callback_of, carries}
-use Rattle.fm_world.proofs.Words.{change_context, context_at, context_at-placed, context_by, delete_after, delete_refusal, delete_reply, fits}
-use Rattle.fm_world.proofs.Words.{get_refusal, given_by_set, given_with, grabbed, hand_of, has_kind, holder, holds, is_attached, is_closing}
-use Rattle.fm_world.proofs.Words.{is_hand_full, is_mounted, is_out_of_slots, is_past, is_setup, is_there, is_to, leb-false, link_at, link_fits}
-use Rattle.fm_world.proofs.Words.{linked, lt-ltb, names_there, none_refuses, object_by, object_for, object_refused, or_parts, owner_by}
-use Rattle.fm_world.proofs.Words.{owner_fits, same_Some, same_owner, set_after, set_answer, set_refused, set_reply, there_at, unlinked_for}
-use Rattle.fm_world.proofs.Words.{wanted, with_contexts, with_link}
+use Rattle.fm_world.proofs.Words.{allocate_keeps, context_at-placed, holds, is_hand_full, allocate_refusal, allocated, is_out_of_slots, IsUnlinkedOf}
+use Rattle.fm_world.proofs.Words.{delete_after, delete_refusal, delete_reply, get_refusal, holder, linked, set_after, set_reply, unlinked_for, wanted}
+use Rattle.fm_world.proofs.Words.{with_link, is_to, same_owner, change_context, context_at, SetMode, SetReply, all_at, none_refuses, Allocates, Callback}
+use Rattle.fm_world.proofs.Words.{Deletes, Gets, Sets, SetsIn, SetsOn, SetsUnless, before, callback_of, context_by, is_past, object_for, object_refused}
+use Rattle.fm_world.proofs.Words.{set_answer, set_refused, there_at, with_contexts, HoldsMore, OnlyHandOf, given_by_set, given_with, is_there, names_there}
+use Rattle.fm_world.proofs.Words.{belongs, belongs_by, fits, has_kind, is_closing, link_fits, object_by, owner_by, owner_fits, IsOwned, IsSound, Context}
+use Rattle.fm_world.proofs.Words.{ContextKind, ContextTable, CtxId, Instance, InstanceId, IsLawful, Object, Owner, Slot, StackWorld, Status, WorkerId, grabbed}
+use Rattle.fm_world.proofs.Words.{hand_of, is_attached, is_mounted, is_setup, link_at, World, carries, SetAnswer, Bool, List, None, Option, Result, Some, []}
+use Rattle.fm_world.proofs.Words.{ap, arith, false, is_some, length, nat_lt, not, option_and_then, option_map, refl, slice_get, subst, sym, true, ℕ, ◌&&◌, ◌++◌}
+use Rattle.fm_world.proofs.Words.{◌<◌, ◌||◌, ◌∙◌, ◌∷◌, ◌≡◌, and_from, and_parts, leb-false, lt-ltb, or_parts, same_Some}
+use Rattle.std.proofs.Common.{is_none}
 use Rattle.fm_ctx.proofs.Holders.{holder_context, holder_linked, holder_some}
 use Rattle.fm_ctx.proofs.Objects.{same_owner-same}
 use Rattle.fm_ctx.proofs.Sets.{delete_keeps, get_keeps, room_if_wanted, set_keeps, still_there}
-use Rattle.fm_world.proofs.Belonging.{AllFit, AllPass, OwnersStay, belongs_still, filters_same, fits_linked, fits_unlinked, owners_changed, owners_placed, passes_changed, passes_placed}
-use Rattle.fm_world.proofs.Callbacks.{Brings, IsIn, Makes, brings, callback_left, contexts_sound, grabbed_makes, hands_out, in_hand, none_of, not_false, one_more, same_hand, same_hands}
+use Rattle.fm_world.proofs.Belonging.{AllFit, AllPass, OwnersStay, belongs_still, filters_same, fits_linked, fits_unlinked, owners_changed, owners_placed}
+use Rattle.fm_world.proofs.Belonging.{passes_changed, passes_placed}
+use Rattle.fm_world.proofs.Callbacks.{Brings, IsIn, Makes, brings, callback_left, contexts_sound, grabbed_makes, hands_out, in_hand, none_of, not_false}
+use Rattle.fm_world.proofs.Callbacks.{one_more, same_hand, same_hands}
 use Rattle.fm_world.proofs.Cases.{by_option}
 use Rattle.fm_world.proofs.Events.{asked_by, taken_by}
 use Rattle.fm_world.proofs.Staying.{Does, HandMore, SlotsStay, nothing, slots_changed, slots_placed, still, table_after}

@@ -1,9 +1,8 @@
 -- Links that go with what they name leave a World sound.
-use Rattle.std.proofs.Common.{Bool, List, None, Option, Some, [], ap, arith, cond, false, find, is_some, map, not, refl, subst, sym, true, ℕ, ◌++◌, ◌∙◌, ◌∷◌, ◌≡◌}
-use Rattle.fm_world.proofs.Words.{ContextTable, Sweeps, carries, with_contexts}
-use Rattle.fm_world.proofs.Words.{Context, FileTable, HandleId, HandlePhase, IsOwned, IsSound, IsUnderWay, LosesLinks, Object, Operation, Slot}
-use Rattle.fm_world.proofs.Words.{VolumeId, WorkerId, World, change_first, created, false≢true, fits, hand_of, is_on_gone, is_there, moved_on}
-use Rattle.fm_world.proofs.Words.{names_there, phased, sweep_keeps, swept, swept_slot, with_link}
+use Rattle.fm_world.proofs.Words.{sweep_keeps, with_link, swept, swept_slot, with_contexts, moved_on, FileTable, created, phased, LosesLinks, is_on_gone}
+use Rattle.fm_world.proofs.Words.{is_there, names_there, fits, IsOwned, IsSound, IsUnderWay, Context, ContextTable, HandleId, Object, Operation, Slot, Sweeps}
+use Rattle.fm_world.proofs.Words.{VolumeId, WorkerId, change_first, hand_of, World, carries, HandlePhase, Bool, List, None, Option, Some, [], ap, arith, cond}
+use Rattle.fm_world.proofs.Words.{false, find, is_some, map, not, refl, subst, sym, true, ℕ, ◌++◌, ◌∙◌, ◌∷◌, ◌≡◌, false≢true}
 use Rattle.fm_world.proofs.Belonging.{AllPass, fits_unlinked, owners_after, owners_same, owners_swept, passes_swept}
 use Rattle.fm_world.proofs.Callbacks.{contexts_owned, same_hand, same_hands}
 use Rattle.fm_world.proofs.Cases.{by_bool}

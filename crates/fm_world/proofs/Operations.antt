@@ -1,15 +1,13 @@
 -- What a step of one operation leaves of what is under way; and the operation that a worker is inside of.
-use Rattle.std.proofs.Common.{List, Some, ap, arith, count_by, false, length, length-set, refl, subst, sym, true, ℕ, ◌&&◌, ◌+◌, ◌<◌, ◌==◌, ◌∙◌, ◌≡◌}
-use Rattle.fm_world.proofs.Words.{AtBase, AtDrain, AtPost, AtPre, FlowRecord, FlowTable, InBase, InDrain, InstanceId, IsAmong, IsUnderWay, OpId}
-use Rattle.fm_world.proofs.Words.{PostRunning, PreRunning, Spot, Stage, Worker, WorkerId, World, all_change, and_from, changed, drain_opens}
-use Rattle.fm_world.proofs.Words.{All, AllPairs, AreUnderWay, Desk, IsFlow, IsStaffed, StackWorld, done_at, drains_running, is_at, is_done, owed, stands_at}
-use Rattle.fm_world.proofs.Words.{eq-eqb, false≢true, found_holds, is_in_at, is_in_drain, is_number, is_spot, last_posted}
-use Rattle.fm_world.proofs.Words.{last_visited, operation_at, option_map, put, returned, same_Some, slice_get, spot_of, told, unwrap_or, worker_at}
-use Rattle.fm_flow.proofs.Soundness.{Stays, unspent}
-use Rattle.fm_flow.proofs.Flows.{flow_changes, still_ascends}
-use Rattle.fm_flow.specs.Table.{is_spent}
-use Rattle.fm_stack.specs.Stacks.{IsStack}
-use Rattle.fm_world.proofs.Ties.{AtNoDesk, at_none, staffed_still, BalancesDrains, BalancesSpots, InDrains, Matches, drains_balance, in_no_drain, is_running, matches_idle, spot_base, spot_drain, spot_post, spot_pre, spots_balance, standing, tied_moves, tied_there}
+use Rattle.fm_world.proofs.Words.{flow_changes, Stays, unspent, drain_opens, done_at, is_done, is_number, is_spent, IsStack, all_change, found_holds, returned}
+use Rattle.fm_world.proofs.Words.{AtBase, AtDrain, AtPost, AtPre, Spot, drains_running, is_in_at, is_in_drain, is_spot, spot_of, stands_at, AreUnderWay}
+use Rattle.fm_world.proofs.Words.{IsAmong, IsStaffed, IsUnderWay, FlowRecord, FlowTable, InBase, InDrain, InstanceId, IsFlow, OpId, PostRunning, PreRunning}
+use Rattle.fm_world.proofs.Words.{StackWorld, Stage, WorkerId, changed, last_posted, last_visited, operation_at, owed, told, Desk, is_at, put, worker_at, World}
+use Rattle.fm_world.proofs.Words.{Worker, All, AllPairs, List, Some, ap, arith, count_by, false, length, length-set, option_map, refl, slice_get, subst, sym}
+use Rattle.fm_world.proofs.Words.{true, unwrap_or, ℕ, ◌&&◌, ◌+◌, ◌<◌, ◌==◌, ◌∙◌, ◌≡◌, and_from, eq-eqb, false≢true, same_Some}
+use Rattle.fm_flow.proofs.Flows.{still_ascends}
+use Rattle.fm_world.proofs.Ties.{AtNoDesk, at_none, staffed_still, BalancesDrains, BalancesSpots, InDrains, Matches, drains_balance, in_no_drain, is_running}
+use Rattle.fm_world.proofs.Ties.{matches_idle, spot_base, spot_drain, spot_post, spot_pre, spots_balance, standing, tied_moves, tied_there}
 use Rattle.fm_flow.specs.Sound as flow
 
 -- ---- one operation changes

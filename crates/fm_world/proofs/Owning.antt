@@ -1,13 +1,13 @@
 -- What the events on filters, volumes and instances do.
-use Rattle.std.proofs.Common.{Bool, Err, List, None, Ok, Option, Result, Some, [], ap, arith, false, inl, inr, length, map, not, refl, slice_get, subst, sym, true, ℕ, ◌++◌, ◌<◌, ◌∙◌, ◌∷◌, ◌≡◌, ◌≤◌, ◌⊎◌}
-use Rattle.fm_world.proofs.Words.{All, All-head, All-nil, Attaches, Context, ContextTable, CtxId, EmptiesUnless, FilterId, FlowTable, Follows}
-use Rattle.fm_world.proofs.Words.{HoldsIn, Instance, InstanceId, IsLawful, IsOwned, IsSound, IsStack, IsStaffed, Leaves, Mounts, Owner, Phase, Registers}
-use Rattle.fm_world.proofs.Words.{SetsUp, SetsUpAt, Slot, StackWorld, Status, Volume, VolumeId, Worker, WorkerId, World, accept_row}
-use Rattle.fm_world.proofs.Words.{Sweeps, after_attach, and_from, and_parts, carried, carries, cases_eq, cleaning_of, cleanup_in, fits, hand_len, hand_of}
-use Rattle.fm_world.proofs.Words.{holds_links_by, in_flight, is_detached, is_flown, is_flown_by, is_left_by, is_linked_of, is_setup, keeps_links}
-use Rattle.fm_world.proofs.Words.{keeps_links_by, leave_keeps, left_by_setup, length-append, names_there, place_in, put, refuse_row, row_at}
-use Rattle.fm_world.proofs.Words.{same_Some, slice_get-kept, slice_get-set_other, slice_get-set_same, slice_get_within, slice_set, sweep_keeps}
-use Rattle.fm_world.proofs.Words.{swept, swept_slot, updated-other, worker_at}
+use Rattle.fm_world.proofs.Words.{leave_keeps, sweep_keeps, swept, swept_slot, accept_row, refuse_row, Follows, IsStack, Volume, slice_get-kept}
+use Rattle.fm_world.proofs.Words.{slice_get-set_other, slice_get-set_same, updated-other, Attaches, EmptiesUnless, Mounts, Registers, SetsUp, SetsUpAt}
+use Rattle.fm_world.proofs.Words.{hand_len, left_by_setup, names_there, HoldsIn, fits, holds_links_by, is_flown, is_flown_by, is_left_by, keeps_links}
+use Rattle.fm_world.proofs.Words.{keeps_links_by, place_in, row_at, IsOwned, IsSound, IsStaffed, Context, ContextTable, CtxId, FilterId, FlowTable, Instance}
+use Rattle.fm_world.proofs.Words.{InstanceId, IsLawful, Leaves, Owner, Phase, Slot, StackWorld, Status, Sweeps, VolumeId, WorkerId, carried, cleaning_of}
+use Rattle.fm_world.proofs.Words.{hand_of, in_flight, is_detached, is_linked_of, is_setup, after_attach, cleanup_in, put, worker_at, World, carries, Worker}
+use Rattle.fm_world.proofs.Words.{All, Bool, Err, List, None, Ok, Option, Result, Some, [], ap, arith, false, inl, inr, length, map, not, refl, slice_get}
+use Rattle.fm_world.proofs.Words.{slice_set, subst, sym, true, ℕ, ◌++◌, ◌<◌, ◌∙◌, ◌∷◌, ◌≡◌, ◌≤◌, ◌⊎◌, and_from, and_parts, cases_eq, length-append, All-head}
+use Rattle.fm_world.proofs.Words.{All-nil, same_Some, slice_get_within}
 use Rattle.fm_stack.proofs.Registering.{mounted_follows, mounted_keeps, registered_follows, registered_keeps}
 use Rattle.fm_types.specs.declared.registration.Registration.{Registration}
 use Rattle.fm_world.proofs.Belonging.{AllCarry, AllFit, AllPass, FiltersStay, OwnersStay, VolumesStay, all_carry_still, all_hold_still, belongs_still}

@@ -1,20 +1,19 @@
 -- What the events that begin an operation and collect one do.
-use Rattle.std.proofs.Common.{Bool, List, None, Option, Result, Some, [], ap, arith, cond, false, find, get_or, inl, inr, length, refl, subst, suc, sym, true, ℕ, ◌&&◌, ◌++◌, ◌+◌, ◌-◌, ◌<◌, ◌==◌, ◌^◌, ◌||◌, ◌∙◌, ◌∷◌, ◌≡◌, ◌≤◌}
-use Rattle.fm_world.proofs.Words.{IsOwned}
-use Rattle.fm_world.proofs.Words.{All, All-head, All-nil, All-push, All-tail, AllPairs, Answer, Ask, AskCarries, Request, Begins, Collects}
-use Rattle.fm_world.proofs.Words.{CreateMode, CtxId, Descending, FileHandle, FileStream, FileTable, FlowRecord, FlowTable, HandleId, HandlePhase}
-use Rattle.fm_world.proofs.Words.{IsAmong, IsCreatedOn, IsFileSound, IsFiled, IsFlow, IsLawful, IsSound, IsUnderWay, KeepsHands, OpId, Operation}
-use Rattle.fm_world.proofs.Words.{Params, Stage, Status, StreamId, VolumeId, World, after_begin, all_change, all_without, and_from, are_on}
-use Rattle.fm_world.proofs.Words.{asked_begun, asked_refused, begin_refused, begun, begun_on, begun_record, carried, carried_by, cases_eq}
-use Rattle.fm_world.proofs.Words.{changed, collected_in, collected_of, count_by, count_changed, count_without, created, created_begun, creates}
-use Rattle.fm_world.proofs.Words.{done_at, drain_opens, eq-eqb, eqb-true, find, find_without, first_of, flight, found_holds, handle_at}
-use Rattle.fm_world.proofs.Words.{has_handle_on, has_no_handle_left, is_create, is_creating, is_done, is_full, is_number, is_on_stream}
-use Rattle.fm_world.proofs.Words.{is_running_drain, is_within_limits, lawful_alike, length_change, list_any, marked, moved_on, names_there}
-use Rattle.fm_world.proofs.Words.{nat_le, ne_eqb, none-some, none_running, one, operation_at, operation_of, option_map, or_else, or_parts}
-use Rattle.fm_world.proofs.Words.{or_right, owed, removed, same_Some, stream_for, sum_by_push, told, total, unwrap_or, without_first}
+use Rattle.fm_world.proofs.Words.{lawful_alike, are_on, is_within_limits, operation_of, Request, none_running, carried_by, drain_opens, flight}
+use Rattle.fm_world.proofs.Words.{is_running_drain, done_at, is_done, begun_record, collected_in, is_number, marked, removed, total, all_change, all_without}
+use Rattle.fm_world.proofs.Words.{count_changed, count_without, find_without, found_holds, length_change, CreateMode, Begins, Collects, after_begin}
+use Rattle.fm_world.proofs.Words.{asked_begun, asked_refused, begin_refused, begun_on, created_begun, has_no_handle_left, moved_on, or_else, IsCreatedOn}
+use Rattle.fm_world.proofs.Words.{FileTable, created, handle_at, has_handle_on, stream_for, KeepsHands, names_there, AskCarries, IsAmong, IsFileSound, IsFiled}
+use Rattle.fm_world.proofs.Words.{IsOwned, IsSound, IsUnderWay, Answer, Ask, CtxId, Descending, FlowRecord, FlowTable, HandleId, IsFlow, IsLawful, OpId}
+use Rattle.fm_world.proofs.Words.{Operation, Params, Stage, Status, StreamId, VolumeId, begun, carried, changed, collected_of, creates, first_of, is_create}
+use Rattle.fm_world.proofs.Words.{is_creating, is_full, is_on_stream, one, operation_at, owed, told, without_first, World, FileHandle, FileStream, HandlePhase}
+use Rattle.fm_world.proofs.Words.{All, AllPairs, Bool, List, None, Option, Result, Some, [], ap, arith, cond, count_by, false, find, get_or, inl, inr, length}
+use Rattle.fm_world.proofs.Words.{nat_le, option_map, refl, subst, suc, sym, true, unwrap_or, ℕ, ◌&&◌, ◌++◌, ◌+◌, ◌<◌, ◌==◌, ◌||◌, ◌∙◌, ◌∷◌, ◌≡◌, ◌≤◌, and_from}
+use Rattle.fm_world.proofs.Words.{cases_eq, eq-eqb, eqb-true, ne_eqb, or_parts, or_right, common_steps, All-head, All-nil, All-push, All-tail, sum_by_push}
+use Rattle.fm_world.proofs.Words.{none-some, same_Some, list_any}
+use Rattle.std.proofs.Common.{◌-◌, ◌^◌}
 use Rattle.fm_flow.proofs.Requests.{flow_begins, flow_collects}
 use Rattle.fm_stack.proofs.Visits.{is_to_visit_few}
-use Rattle.std.proofs.lemmas.Grind.{common_steps}
 use Rattle.std.specs.Cmp.Lexicographic.{bytes_decides}
 use Rattle.fm_world.proofs.Amongs.{among_begins}
 use Rattle.fm_world.proofs.Belonging.{AllPass}
@@ -26,7 +25,8 @@ use Rattle.fm_world.proofs.Flowing.{asks_of, carried_changed, carry_changed, flo
 use Rattle.fm_world.proofs.Losing.{created_there, moved_there, named_more}
 use Rattle.fm_world.proofs.Operations.{AreInStep, in_step}
 use Rattle.fm_world.proofs.Staying.{Does, contexts_in, makes, nothing, still}
-use Rattle.fm_world.proofs.Streams.{IsOn, Stands, any_pushed, any_without, fresh_there, is_creating_on, none_out, on_open, stands_among, stands_created, stands_phased, uses}
+use Rattle.fm_world.proofs.Streams.{IsOn, Stands, any_pushed, any_without, fresh_there, is_creating_on, none_out, on_open, stands_among, stands_created}
+use Rattle.fm_world.proofs.Streams.{stands_phased, uses}
 use Rattle.fm_world.proofs.Ties.{is_running, quiet_is_none, standing, told_same}
 
 -- ---- what begins

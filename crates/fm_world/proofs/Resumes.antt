@@ -1,20 +1,18 @@
 -- What lets held operations go on: a callback of the instance that holds one resumes it.
-use Rattle.std.proofs.Common.{[], not, ◌∷◌, Err, List, None, Ok, Option, Result, Some, ap, arith, cond, false, length, option_map, refl, slice_get, slice_set, subst, sym, true, ℕ, ◌+◌, ◌<◌, ◌∙◌, ◌≡◌}
-use Rattle.fm_world.proofs.Words.{All, AskCarries, ContextTable, CtxId, FlowRecord, HoldsFewer, HoldsIn, InstanceId, IsAmong, IsCourse, IsFileSound}
-use Rattle.fm_world.proofs.Words.{IsSound, IsUnderWay, LosesLinks, OnlyHandOf, OpId, PreHeld, PostHeld, PreState, PreVerdict, Spot, Status, WorkerId, World}
-use Rattle.fm_world.proofs.Words.{Ascending, CarriesIn, FileTable, all_change, cleaning_of, is_created_on, lets_go, none_refuses, after_pre, carried_in, carries, carries_after, changed, drain_opens, drains_post_settled, drains_pre_settled, given_with, hand_of, has_post}
-use Rattle.fm_world.proofs.Words.{holds, is_done, is_held_by, is_number, is_unanswered, lawful_alike, length-without, none-some, of_hand, operation_at, owed, owed_pre_settled, owed_post_settled}
-use Rattle.fm_world.proofs.Words.{place_in, post_settled, pre_leads, pre_resumed, pre_settled, same_Some, sent, sent_in, settle_post, settle_pre, state_at, state_given, unwrap_or, without, worker_at}
-use Rattle.fm_world.proofs.Words.{FindsHeld, FindsHeldAt, ResumesPost, ResumesPostAt, ResumesPre, ResumesPreAt, resume_pre_refused, resume_post_refused, taken_by_resume, found_holds}
+use Rattle.fm_world.proofs.Words.{lawful_alike, length-without, holds, without, PreVerdict, drains_post_settled, drains_pre_settled, owed_post_settled}
+use Rattle.fm_world.proofs.Words.{owed_pre_settled, flow_changes, Stays, unspent, carried_in, drain_opens, is_unanswered, settle_post, settle_pre, IsCourse}
+use Rattle.fm_world.proofs.Words.{is_done, post_settled, pre_leads, pre_settled, is_number, is_spent, Ascending, PostHeld, PreHeld, all_change, found_holds}
+use Rattle.fm_world.proofs.Words.{none_refuses, FindsHeld, FindsHeldAt, ResumesPost, ResumesPostAt, ResumesPre, ResumesPreAt, carries_after, has_post}
+use Rattle.fm_world.proofs.Words.{is_created_on, is_held_by, lets_go, of_hand, pre_resumed, resume_post_refused, resume_pre_refused, sent, sent_in, state_at}
+use Rattle.fm_world.proofs.Words.{state_given, FileTable, after_pre, HoldsFewer, OnlyHandOf, given_with, taken_by_resume, Spot, LosesLinks, AskCarries}
+use Rattle.fm_world.proofs.Words.{CarriesIn, HoldsIn, place_in, IsAmong, IsFileSound, IsSound, IsUnderWay, ContextTable, CtxId, FlowRecord, InstanceId, OpId}
+use Rattle.fm_world.proofs.Words.{PreState, Status, WorkerId, changed, cleaning_of, hand_of, operation_at, owed, worker_at, World, carries, All, Err, List}
+use Rattle.fm_world.proofs.Words.{None, Ok, Option, Result, Some, [], ap, arith, cond, false, length, not, option_map, refl, slice_get, slice_set, subst, sym}
+use Rattle.fm_world.proofs.Words.{true, unwrap_or, ℕ, ◌+◌, ◌<◌, ◌∙◌, ◌∷◌, ◌≡◌, none-some, same_Some}
 use Rattle.fm_flow.specs.declared.hold.Hold.{Hold}
-use Rattle.fm_flow.specs.declared.entry.PostState.TheVariants as post
 use Rattle.fm_flow.specs.Holds.{is_held}
-use Rattle.fm_flow.specs.Sound as flow
-use Rattle.fm_flow.proofs.Flows.{flow_changes}
 use Rattle.fm_flow.proofs.Holds.{held_pre, held_post}
 use Rattle.fm_flow.proofs.Resumes.{sound_pre_resumed, pre_resumed_carries, pre_resumed_flies, sound_post_resumed, post_resumed_carries, post_resumed_flies}
-use Rattle.fm_flow.proofs.Soundness.{Stays, unspent}
-use Rattle.fm_flow.specs.Table.{is_spent}
 use Rattle.fm_world.proofs.Amongs.{among_settles, settle_post_keeps, settle_pre_keeps}
 use Rattle.fm_world.proofs.Belonging.{AllCarry, AllFit, all_without, belongs_still, filters_same, owners_same}
 use Rattle.fm_world.proofs.Callbacks.{not_false, owned_with, same_hands}
@@ -27,6 +25,8 @@ use Rattle.fm_world.proofs.Operations.{not_base_of, told_there, undone_at}
 use Rattle.fm_world.proofs.Returns.{asked_carries, counted_from, counted_quiet, file_decided, sent_is_held, sent_lawful, sent_owned, sent_rests, taken_sent}
 use Rattle.fm_world.proofs.Staying.{Does, hand_written, loses_lasts, makes, nothing, still, table_same, unchanged}
 use Rattle.fm_world.proofs.Ties.{is_running, quiet_is_none, standing, told_same}
+use Rattle.fm_flow.specs.declared.entry.PostState.TheVariants as post
+use Rattle.fm_flow.specs.Sound as flow
 
 -- ---- the operation that is held
 

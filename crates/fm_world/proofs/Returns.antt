@@ -1,29 +1,29 @@
 -- What the ends of callbacks and of base calls of operations do.
-use Rattle.std.proofs.Common.{Bool, Err, List, None, Ok, Option, Result, Some, [], ap, arith, cond, false, option_to_list, refl, slice_get, subst, sym, true, ℕ, ◌++◌, ◌+◌, ◌<◌, ◌==◌, ◌∙◌, ◌≡◌, ◌≤◌}
-use Rattle.fm_world.proofs.Words.{InBase, InDrain, IsOwned}
-use Rattle.fm_world.proofs.Words.{All, All-nil, Answer, Ascending, Ask, AskCarries, AtPost, AtPre, Base, BaseCall, BaseReturns, BaseReturnsAt}
-use Rattle.fm_world.proofs.Words.{CarriesIn, ContextTable, CtxId, Data, FileTable, FlowRecord, FlowTable, HandleId, HoldsIn, HoldsNone}
-use Rattle.fm_world.proofs.Words.{InstanceId, IsCourse, IsFileSound, IsLawful, IsSound, IsUnderWay, Leaves, LosesLinks, OnlyHandOf, OpId}
-use Rattle.fm_world.proofs.Words.{Operation, PostReturns, PostReturnsAt, PostRunning, PostVerdict, PreReturns, PreReturnsAt, PreRunning}
-use Rattle.fm_world.proofs.Words.{PreState, PreVerdict, PreVisit, Slot, StackWorld, Status, StreamId, Worker, WorkerId, World, after_pre}
-use Rattle.fm_world.proofs.Words.{and_from, ask_in, base_counted, base_fits, base_returned, base_returned_of, base_step, carried_in, carries}
-use Rattle.fm_world.proofs.Words.{carries_after, carry_keeps, changed, cleanup_in, data_fits, drain_opens, drain_returned_of}
-use Rattle.fm_world.proofs.Words.{drains_drain_settled, drains_post_settled, drains_pre_settled, drains_push, filed_pre, filed_record, fits}
-use Rattle.fm_world.proofs.Words.{flight, hand_of, has_post, holds, is_counted, is_create, is_created_on, is_number, is_unanswered, lawful_alike}
-use Rattle.fm_world.proofs.Words.{names_there, of_hand, one, operation_at, operation_of, option_map, owed, owed_drain_settled, owed_post_settled}
-use Rattle.fm_world.proofs.Words.{owed_pre_settled, place_in, post_leads, post_returned_of, post_state, pre_leads, pre_returned_of, pre_step}
-use Rattle.fm_world.proofs.Words.{returned, same_Some, sent, sent_in, set-set, settle_drain, settle_post, settle_pre, slice_set, spot_at}
-use Rattle.fm_world.proofs.Words.{state_at, state_given, taken_by, told, verdict_counted, way_of, worker_at}
-use Rattle.fm_flow.proofs.Returns.{base_returned_carries, base_returned_flies, drain_returned_carries, drain_returned_flies, post_returned_carries, post_returned_flies, pre_returned_carries, pre_returned_flies}
+use Rattle.fm_world.proofs.Words.{lawful_alike, carry_keeps, holds, BaseCall, Data, data_fits, operation_of, PostVerdict, PreVerdict, drains_drain_settled}
+use Rattle.fm_world.proofs.Words.{drains_post_settled, drains_pre_settled, owed_drain_settled, owed_post_settled, owed_pre_settled, drains_push, base_counted}
+use Rattle.fm_world.proofs.Words.{carried_in, drain_opens, flight, taken_by, is_unanswered, ask_in, settle_drain, settle_post, settle_pre, IsCourse, way_of}
+use Rattle.fm_world.proofs.Words.{base_fits, base_returned_of, drain_returned_of, post_leads, post_returned_of, post_state, pre_leads, pre_returned_of}
+use Rattle.fm_world.proofs.Words.{is_number, is_counted, verdict_counted, Base, PreVisit, Ascending, BaseReturns, BaseReturnsAt, PostReturns, PostReturnsAt}
+use Rattle.fm_world.proofs.Words.{PreReturns, PreReturnsAt, base_returned, base_step, carries_after, filed_pre, filed_record, has_post, is_created_on, of_hand}
+use Rattle.fm_world.proofs.Words.{pre_step, returned, sent, sent_in, state_at, state_given, FileTable, after_pre, HoldsNone, OnlyHandOf, AtPost, AtPre, spot_at}
+use Rattle.fm_world.proofs.Words.{LosesLinks, names_there, AskCarries, CarriesIn, HoldsIn, fits, place_in, IsFileSound, IsOwned, IsSound, IsUnderWay, Answer}
+use Rattle.fm_world.proofs.Words.{Ask, ContextTable, CtxId, FlowRecord, FlowTable, HandleId, InBase, InDrain, InstanceId, IsLawful, Leaves, OpId, Operation}
+use Rattle.fm_world.proofs.Words.{PostRunning, PreRunning, PreState, Slot, StackWorld, Status, StreamId, WorkerId, changed, hand_of, is_create, one}
+use Rattle.fm_world.proofs.Words.{operation_at, owed, told, cleanup_in, worker_at, World, carries, Worker, All, Bool, Err, List, None, Ok, Option, Result, Some}
+use Rattle.fm_world.proofs.Words.{[], ap, arith, cond, false, option_map, refl, slice_get, slice_set, subst, sym, true, ℕ, ◌++◌, ◌+◌, ◌<◌, ◌==◌, ◌∙◌, ◌≡◌, ◌≤◌}
+use Rattle.fm_world.proofs.Words.{and_from, common_steps, set-set, All-nil, same_Some}
+use Rattle.std.proofs.Common.{option_to_list}
+use Rattle.fm_flow.proofs.Returns.{base_returned_carries, base_returned_flies, drain_returned_carries, drain_returned_flies, post_returned_carries}
+use Rattle.fm_flow.proofs.Returns.{post_returned_flies, pre_returned_carries, pre_returned_flies, sound_base, sound_drain_returned, sound_post_returned}
+use Rattle.fm_flow.proofs.Returns.{sound_pre_returned}
 use Rattle.fm_flow.proofs.Owed.{owed_push_none}
-use Rattle.fm_flow.proofs.Returns.{sound_base, sound_drain_returned, sound_post_returned, sound_pre_returned}
 use Rattle.fm_world.specs.Events.{ReturnsFrom}
-use Rattle.std.proofs.lemmas.Grind.{common_steps}
 use Rattle.fm_world.proofs.Amongs.{among_base, among_settles, is_up, no_base, settle_drain_keeps, settle_post_keeps, settle_pre_keeps}
 use Rattle.fm_world.proofs.Belonging.{AllPass, held_has}
 use Rattle.fm_world.proofs.Callbacks.{same_hands}
 use Rattle.fm_world.proofs.Events.{refused_by, unless_by}
-use Rattle.fm_world.proofs.Filed.{IsAnswered, SameFile, answered_same, create_on_none, file_answered, file_step, sound_from, stands_ended, stands_in, stands_same}
+use Rattle.fm_world.proofs.Filed.{IsAnswered, SameFile, answered_same, create_on_none, file_answered, file_step, sound_from, stands_ended, stands_in}
+use Rattle.fm_world.proofs.Filed.{stands_same}
 use Rattle.fm_world.proofs.Filing.{Shrinks, answered_none, filed_step, not_more_same}
 use Rattle.fm_world.proofs.Flowing.{asks_of, carried_changed, left_owned, quieter, step_owned}
 use Rattle.fm_world.proofs.Keeps.{worker_below}

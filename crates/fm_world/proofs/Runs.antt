@@ -1,14 +1,14 @@
 -- The empty World is sound, each event keeps a World sound, and a sound World keeps the Headline.
-use Rattle.std.proofs.Common.{Bool, List, None, Option, Some, [], ap, arith, cond, false, get_or, is_some, option_and_then, option_map, refl, replicate, slice_get, subst, suc, sym, true, ℕ, ◌++◌, ◌==◌, ◌∙◌, ◌∷◌, ◌≡◌}
-use Rattle.fm_world.proofs.Words.{All, All-head, All-nil, All-tail, All-weaker, Ask, AskCarries, CarriesIn, Context, CtxId, DescendsIn}
-use Rattle.fm_world.proofs.Words.{FlowRecord, Headline, HoldsIn, Instance, InstanceId, IsAmong, IsAscent, IsInOrder, IsSound, IsSynchronized, Object, Owner}
-use Rattle.fm_world.proofs.Words.{RulesKeepHeadline, Run, RunThrough, Slot, StackWorld, Step, StepReply, Steps, Worker, WorkerId, World, all_at}
-use Rattle.fm_world.proofs.Words.{and_parts, belongs, belongs_by, carried_among, carried_by, carried_in, cleanup_in, context_at, context_in}
-use Rattle.fm_world.proofs.Words.{count-cons, empty_files, empty_stack, empty_world, eq-eqb, fits, flight, hand_of, held, holds, instances}
-use Rattle.fm_world.proofs.Words.{is_flown_by, is_id, is_id-same, is_left_by, is_open, keeps_links_by, lawful_alike, length-replicate}
-use Rattle.fm_world.proofs.Words.{link_count, link_fits, may_link, names_there, none-some, none_if_not_held, one, open_of, owed, owner_at}
-use Rattle.fm_world.proofs.Words.{owner_fits, place_in, reference_count, references, row_at, same_Some, sum_by-cons, times, total, true≢false}
-use Rattle.fm_world.proofs.Words.{worker_at}
+use Rattle.fm_world.proofs.Words.{lawful_alike, is_id-same, none_if_not_held, held, holds, is_id, references, is_open, context_at, context_in, link_count}
+use Rattle.fm_world.proofs.Words.{carried_among, carried_by, carried_in, flight, times, total, count-cons, all_at, empty_files, DescendsIn, Headline, IsAscent}
+use Rattle.fm_world.proofs.Words.{IsInOrder, IsSynchronized, RulesKeepHeadline, names_there, AskCarries, CarriesIn, HoldsIn, belongs, belongs_by, fits}
+use Rattle.fm_world.proofs.Words.{is_flown_by, is_left_by, keeps_links_by, link_fits, may_link, owner_fits, place_in, row_at, IsAmong, IsSound, Run, RunThrough}
+use Rattle.fm_world.proofs.Words.{Steps, Ask, Context, CtxId, FlowRecord, Instance, InstanceId, Object, Owner, Slot, StackWorld, WorkerId, hand_of, instances}
+use Rattle.fm_world.proofs.Words.{one, open_of, owed, owner_at, cleanup_in, worker_at, World, empty_stack, empty_world, reference_count, Step, StepReply}
+use Rattle.fm_world.proofs.Words.{Worker, All, Bool, List, None, Option, Some, [], ap, arith, cond, false, get_or, is_some, option_and_then, option_map, refl}
+use Rattle.fm_world.proofs.Words.{slice_get, subst, suc, sym, true, ℕ, ◌++◌, ◌==◌, ◌∙◌, ◌∷◌, ◌≡◌, and_parts, eq-eqb, true≢false, length-replicate, All-head}
+use Rattle.fm_world.proofs.Words.{All-nil, All-tail, All-weaker, sum_by-cons, none-some, same_Some}
+use Rattle.std.proofs.Common.{replicate}
 use Rattle.fm_ctx.proofs.Opening.{lawful_empty}
 use Rattle.fm_ctx.specs.Kept.{carried_of, nothing_kept}
 use Rattle.fm_world.proofs.Belonging.{AllCarry, AllPass, held_has}

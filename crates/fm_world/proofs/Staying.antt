@@ -1,13 +1,10 @@
 -- What an event does: a sound World stays sound, slots stay as they are, or of a later generation, and hands change by what is handed out.
-use Rattle.std.proofs.Common.{Bool, List, None, Option, Some, [], ap, arith, cond, false, inl, inr, length, map, refl, slice_get, subst, suc, sym, true, zero, ℕ, ◌++◌, ◌+◌, ◌<◌, ◌∙◌, ◌∷◌, ◌≡◌, ◌⊎◌}
-use Rattle.fm_world.proofs.Words.{Context, ContextTable, CtxId, IsNew, IsSound, LosesLinks, OnlyHandOf, Slot, World, by_id, change_context}
-use Rattle.fm_world.proofs.Words.{changed_slot, cleaning_of, context_at, context_at-here, context_at-other, context_at-placed_other}
-use Rattle.fm_world.proofs.Words.{context_at-swept, eq-eqb, given_with, hand_len, hand_of, is_id-same, nat_le, ne_eqb, new_slot}
-use Rattle.fm_world.proofs.Words.{placed, slice_get-kept, slice_get-map, slice_get-push, slice_get-set_same, slice_get_within, slice_set}
-use Rattle.fm_world.proofs.Words.{swept_slot, updated}
-use Rattle.fm_world.specs.Lasting.{IsGone}
+use Rattle.fm_world.proofs.Words.{by_id, is_id-same, context_at-swept, context_at-here, context_at-other, context_at-placed_other, IsNew, new_slot, placed}
+use Rattle.fm_world.proofs.Words.{swept_slot, change_context, changed_slot, context_at, slice_get-kept, slice_get-push, slice_get-set_same, OnlyHandOf}
+use Rattle.fm_world.proofs.Words.{given_with, hand_len, IsGone, LosesLinks, IsSound, Context, ContextTable, CtxId, Slot, cleaning_of, hand_of, updated, World}
+use Rattle.fm_world.proofs.Words.{Bool, List, None, Option, Some, [], ap, arith, cond, false, inl, inr, length, map, nat_le, refl, slice_get, slice_set, subst}
+use Rattle.fm_world.proofs.Words.{suc, sym, true, zero, ℕ, ◌++◌, ◌+◌, ◌<◌, ◌∙◌, ◌∷◌, ◌≡◌, ◌⊎◌, eq-eqb, ne_eqb, common_steps, slice_get-map, slice_get_within}
 use Rattle.std.proofs.lemmas.Bool.{le-leb, leb-true}
-use Rattle.std.proofs.lemmas.Grind.{common_steps}
 use Rattle.fm_world.proofs.Cases.{at_written, some_of}
 
 -- ---- ids

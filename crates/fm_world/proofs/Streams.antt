@@ -1,12 +1,11 @@
 -- Streams, handles and operations on them through the events: whose stream is whose, and no stream without use.
-use Rattle.std.proofs.Common.{Bool, List, None, Option, Some, [], ap, arith, cond, false, find, get_or, refl, subst, suc, sym, true, ℕ, ◌&&◌, ◌++◌, ◌+◌, ◌<◌, ◌==◌, ◌||◌, ◌∙◌, ◌∷◌, ◌≡◌, ◌≤◌}
-use Rattle.fm_world.proofs.Words.{All, All-cons, All-head, All-nil, All-push, All-tail, AllPairs, FileHandle, FileStream, FileTable, FlowRecord}
-use Rattle.fm_world.proofs.Words.{HandleId, HandlePhase, IsCreatedOn, IsOnHandle, StreamId, VolumeId, all_change, all_pairs_push, all_without}
-use Rattle.fm_world.proofs.Words.{and_right, change_first, closed, created, created_in, eq-eqb, eqb-true, false≢true, found_holds, found_passes}
-use Rattle.fm_world.proofs.Words.{fresh_stream, handle_at, has_handle_on, has_stream, is_at_path, is_creating, is_handle, is_on, is_on_stream}
-use Rattle.fm_world.proofs.Words.{is_stream, left, list_any, list_any-append, ne_eqb, none-some, opened, or_left, or_parts, or_right, phased}
-use Rattle.fm_world.proofs.Words.{same_Some, stream_for, stream_of_path, torn_down, true≢false, with_mark, with_phase, without_first}
-use Rattle.std.proofs.lemmas.Grind.{common_steps}
+use Rattle.fm_world.proofs.Words.{all_change, all_without, found_holds, found_passes, IsCreatedOn, IsOnHandle, has_stream, FileTable, closed, created}
+use Rattle.fm_world.proofs.Words.{created_in, fresh_stream, handle_at, has_handle_on, is_at_path, is_handle, is_on, is_stream, left, opened, phased, stream_for}
+use Rattle.fm_world.proofs.Words.{stream_of_path, torn_down, with_mark, with_phase, FlowRecord, HandleId, StreamId, VolumeId, change_first, is_creating}
+use Rattle.fm_world.proofs.Words.{is_on_stream, without_first, FileHandle, FileStream, HandlePhase, All, AllPairs, Bool, List, None, Option, Some, [], ap}
+use Rattle.fm_world.proofs.Words.{arith, cond, false, find, get_or, refl, subst, suc, sym, true, ℕ, ◌&&◌, ◌++◌, ◌+◌, ◌<◌, ◌==◌, ◌||◌, ◌∙◌, ◌∷◌, ◌≡◌, ◌≤◌}
+use Rattle.fm_world.proofs.Words.{and_right, eq-eqb, eqb-true, false≢true, ne_eqb, or_left, or_parts, or_right, true≢false, common_steps, All-cons, All-head}
+use Rattle.fm_world.proofs.Words.{All-nil, All-push, All-tail, list_any-append, all_pairs_push, none-some, same_Some, list_any}
 use Rattle.std.proofs.lemmas.List.Kept.{AllPairs-cons}
 use Rattle.fm_world.proofs.Cases.{by_bool, by_option}
 use Rattle.fm_world.specs.Files as files

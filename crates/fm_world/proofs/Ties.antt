@@ -1,12 +1,10 @@
 -- Workers and operations stay tied: a worker goes into an operation or leaves it as the operation's stage and its drains say.
-use Rattle.std.proofs.Common.{Bool, List, None, Option, Some, ap, arith, cond, count_by, false, inl, inr, refl, subst, sym, true, ℕ, ◌&&◌, ◌+◌, ◌==◌, ◌∙◌, ◌≡◌, ◌≤◌}
-use Rattle.fm_world.proofs.Words.{AtBase, AtDrain, AtPost, AtPre, Entry, FlowRecord, FlowTable, InBase, InDrain, InstanceId, OpId, PostRunning}
-use Rattle.fm_world.proofs.Words.{PreRunning, Spot, Stage, Worker, WorkerId, and_right, cases_eq, changed, drain_opens, drains_running, eq-eqb}
-use Rattle.fm_world.proofs.Words.{eqb-true, find, find_changed, find_unchanged, get_or_from_slice_get, is_in_at, is_in_drain, is_number, is_spot}
-use Rattle.fm_world.proofs.Words.{last_posted, last_visited, ne_eqb, one, one_of_and, operation_at, option_map, put, same_either}
-use Rattle.fm_world.proofs.Words.{Desk, is_at, IsStaffed, Instance}
-use Rattle.fm_world.proofs.Words.{slice_get_within, spot_at, spot_of, stands_at, sum_by-set, told, unwrap_or, worker_at}
-use Rattle.std.proofs.lemmas.Bool.Decides.{nat_tests}
+use Rattle.fm_world.proofs.Words.{one_of_and, same_either, drain_opens, is_number, find_changed, find_unchanged, AtBase, AtDrain, AtPost, AtPre, Spot}
+use Rattle.fm_world.proofs.Words.{drains_running, is_in_at, is_in_drain, is_spot, spot_at, spot_of, stands_at, IsStaffed, Entry, FlowRecord, FlowTable, InBase}
+use Rattle.fm_world.proofs.Words.{InDrain, Instance, InstanceId, OpId, PostRunning, PreRunning, Stage, WorkerId, changed, last_posted, last_visited, one}
+use Rattle.fm_world.proofs.Words.{operation_at, told, Desk, is_at, put, worker_at, Worker, Bool, List, None, Option, Some, ap, arith, cond, count_by, false}
+use Rattle.fm_world.proofs.Words.{find, inl, inr, option_map, refl, subst, sym, true, unwrap_or, ℕ, ◌&&◌, ◌+◌, ◌==◌, ◌∙◌, ◌≡◌, ◌≤◌, and_right, cases_eq, eq-eqb}
+use Rattle.fm_world.proofs.Words.{eqb-true, ne_eqb, nat_tests, sum_by-set, get_or_from_slice_get, slice_get_within}
 use Rattle.fm_world.proofs.Cases.{count-some, one_true}
 
 -- ---- counts

@@ -1,23 +1,18 @@
 -- What `next` does.
-use Rattle.std.proofs.Common.{Bool, Err, List, None, Ok, Option, Result, Some, [], ap, arith, cond, false, find, length, refl, slice_get, subst, sym, true, ℕ, ◌&&◌, ◌++◌, ◌+◌, ◌<◌, ◌==◌, ◌∙◌, ◌∷◌, ◌≡◌}
-use Rattle.fm_world.proofs.Words.{All, All-cons, All-nil, AreUnderWay, Ascending, Ask, AskCarries, AtPost, AtPre, Below, CarriesIn, ContextTable}
-use Rattle.fm_world.proofs.Words.{CtxId, Descending, Drain, FileTable, FindsBelow, FlowAction, FlowRecord, FlowTable, HoldsIn, HoldsMore, InBase}
-use Rattle.fm_world.proofs.Words.{InDrain, InstanceId, IsAmong, IsFileSound, IsOwned, IsSound, IsStack, IsUnderWay, LiesBelow, LosesByKnown}
-use Rattle.fm_world.proofs.Words.{LosesLinks, MayLieBelow, Nexts, NextsAt, NextsOver, OnlyHandOf, OpId, Params, Post, PostHeld, PostRunning}
-use Rattle.fm_world.proofs.Words.{PostState, PostVisit, PreHeld, PreRunning, PreState, PreVisit, Slot, Spot, StackWorld, Stage, Status, Turned}
-use Rattle.fm_world.proofs.Words.{Worker, WorkerId, World, after_next, ascend, bare_answer, bare_ask, bring_keeps, brought, call_base, call_post}
-use Rattle.fm_world.proofs.Words.{call_pre, carried_in, carries, carries_after, change_first, change_none, changed, cleanup_in, descend}
-use Rattle.fm_world.proofs.Words.{drains_at, drains_given, false≢true, filed_next, flow_after_next, found_holds, get_or_from_slice_get}
-use Rattle.fm_world.proofs.Words.{give_post, given_by_next, given_with, gives_nothing, grabbed, hand_of, handed, has_base, in_flight, is_among}
-use Rattle.fm_world.proofs.Words.{is_create, is_creating, is_flown_by, is_in_at, is_number, is_spot, is_unanswered, lawful_alike}
-use Rattle.fm_world.proofs.Words.{may_take, next_at, next_drains, next_of, none-some, one, operation_at, option_map, owed, place_in, put}
-use Rattle.fm_world.proofs.Words.{received, row_at, set-get_or, slice_get_within, slice_set, spot_of, take, times, turn, unwound_to, unwrap_or}
-use Rattle.fm_world.proofs.Words.{visited, way_of, with_base, with_drain, with_visit, worker_at}
-use Rattle.fm_data.specs.declared.verdict.Completion.{Completion}
-use Rattle.fm_flow.proofs.Next.{next_carries, next_enters, next_flies}
-use Rattle.fm_flow.proofs.Next.{next_needed, next_stays, sound_next}
-use Rattle.fm_flow.specs.Table.{is_spent}
-use Rattle.fm_flow.proofs.Next.{MayAsk, WasOwed, next_owes}
+use Rattle.fm_world.proofs.Words.{lawful_alike, bring_keeps, Completion, drains_given, next_drains, bare_answer, carried_in, handed, is_unanswered, times}
+use Rattle.fm_world.proofs.Words.{way_of, MayLieBelow, Turned, ascend, bare_ask, call_base, call_post, call_pre, descend, give_post, may_take, next_at, next_of}
+use Rattle.fm_world.proofs.Words.{turn, unwound_to, with_base, with_drain, with_visit, is_number, is_spent, Below, Drain, Post, PostState, PostVisit, PreVisit}
+use Rattle.fm_world.proofs.Words.{Ascending, PostHeld, PreHeld, IsStack, change_none, found_holds, is_among, FindsBelow, LiesBelow, LosesByKnown, Nexts}
+use Rattle.fm_world.proofs.Words.{NextsAt, NextsOver, brought, carries_after, drains_at, filed_next, flow_after_next, received, FileTable, HoldsMore}
+use Rattle.fm_world.proofs.Words.{OnlyHandOf, given_by_next, given_with, AtPost, AtPre, Spot, is_in_at, is_spot, spot_of, LosesLinks, AskCarries, CarriesIn}
+use Rattle.fm_world.proofs.Words.{HoldsIn, is_flown_by, place_in, row_at, AreUnderWay, IsAmong, IsFileSound, IsOwned, IsSound, IsUnderWay, Ask, ContextTable}
+use Rattle.fm_world.proofs.Words.{CtxId, Descending, FlowAction, FlowRecord, FlowTable, InBase, InDrain, InstanceId, OpId, Params, PostRunning, PreRunning}
+use Rattle.fm_world.proofs.Words.{PreState, Slot, StackWorld, Stage, Status, WorkerId, change_first, changed, grabbed, hand_of, has_base, in_flight, is_create}
+use Rattle.fm_world.proofs.Words.{is_creating, one, operation_at, owed, visited, after_next, cleanup_in, gives_nothing, put, worker_at, World, carries, Worker}
+use Rattle.fm_world.proofs.Words.{All, Bool, Err, List, None, Ok, Option, Result, Some, [], ap, arith, cond, false, find, length, option_map, refl, slice_get}
+use Rattle.fm_world.proofs.Words.{slice_set, subst, sym, take, true, unwrap_or, ℕ, ◌&&◌, ◌++◌, ◌+◌, ◌<◌, ◌==◌, ◌∙◌, ◌∷◌, ◌≡◌, false≢true, set-get_or, All-cons}
+use Rattle.fm_world.proofs.Words.{All-nil, get_or_from_slice_get, none-some, slice_get_within}
+use Rattle.fm_flow.proofs.Next.{next_carries, next_enters, next_flies, next_needed, next_stays, sound_next, MayAsk, WasOwed, next_owes}
 use Rattle.fm_world.proofs.Amongs.{among_base, among_other, among_visits, is_up, no_base, post_last, visit_last}
 use Rattle.fm_world.proofs.Callbacks.{same_hands}
 use Rattle.fm_world.proofs.Cases.{by_option}
@@ -30,7 +25,8 @@ use Rattle.fm_world.proofs.Losing.{loses_sound}
 use Rattle.fm_world.proofs.Operations.{step_keeps, told_there}
 use Rattle.fm_world.proofs.Owning.{empty_hand}
 use Rattle.fm_world.proofs.Staying.{Does, Gives, HandMore, hand_given, loses_lasts, nothing, table_same}
-use Rattle.fm_world.proofs.Ties.{AtNoDesk, at_none, BalancesSpots, InDrains, Matches, drains_balance, in_a_drain, in_no_drain, is_running, matches_drain, matches_idle, matches_post, matches_pre, quiet_is_nowhere, spots_balance, standing}
+use Rattle.fm_world.proofs.Ties.{AtNoDesk, at_none, BalancesSpots, InDrains, Matches, drains_balance, in_a_drain, in_no_drain, is_running, matches_drain}
+use Rattle.fm_world.proofs.Ties.{matches_idle, matches_post, matches_pre, quiet_is_nowhere, spots_balance, standing}
 use Rattle.fm_flow.specs.Sound as flow
 
 -- ---- what it makes of an operation, decided once

@@ -1,15 +1,12 @@
 -- What the events by which a filter is unloaded do: it is asked or forced, its instances are stopped, and it is emptied and finished.
-use Rattle.std.proofs.Common.{Bool, Err, List, None, Ok, Option, Result, Some, ap, arith, cond, inl, inr, length, map, refl, slice_get, subst, sym, true, ℕ, ◌&&◌, ◌∙◌, ◌≡◌, ◌≤◌}
-use Rattle.fm_stack.specs.declared.filter.Filter.{Filter}
-use Rattle.fm_world.proofs.Words.{CtxId, Follows, OnlyHandOf, hand_of, option_map, updated, with_contexts}
-use Rattle.fm_world.proofs.Words.{AsksUnload, Desk, EmptiesFilter, FilterId, FinishesFilter, ForcesUnload, Instance, IsSound, IsStack, IsStaffed, IsUnderWay, KeepsHands}
-use Rattle.fm_world.proofs.Words.{Owner, StackWorld, Status, UnloadReturns, UnloadReturnsAt, Worker, WorkerId, World, and_parts, cases_Bool}
-use Rattle.fm_world.proofs.Words.{is_attached, is_linked_of, length-updated, pairs_in, put, slice_get-map, worker_at}
-use Rattle.fm_stack.proofs.GoingOn.{StackGoesOn, goes_on_follows, goes_on_keeps}
+use Rattle.fm_world.proofs.Words.{goes_on_follows, goes_on_keeps, Follows, IsStack, Filter, length-updated, with_contexts, KeepsHands, OnlyHandOf, pairs_in}
+use Rattle.fm_world.proofs.Words.{IsSound, IsStaffed, IsUnderWay, AsksUnload, EmptiesFilter, FinishesFilter, ForcesUnload, UnloadReturns, UnloadReturnsAt}
+use Rattle.fm_world.proofs.Words.{CtxId, FilterId, Instance, Owner, StackWorld, Status, WorkerId, hand_of, is_attached, is_linked_of, updated, Desk, put}
+use Rattle.fm_world.proofs.Words.{worker_at, World, Worker, Bool, Err, List, None, Ok, Option, Result, Some, ap, arith, cond, inl, inr, length, map, option_map}
+use Rattle.fm_world.proofs.Words.{refl, slice_get, subst, sym, true, ℕ, ◌&&◌, ◌∙◌, ◌≡◌, ◌≤◌, and_parts, cases_Bool, slice_get-map}
+use Rattle.fm_stack.proofs.GoingOn.{StackGoesOn}
 use Rattle.fm_stack.proofs.Unloads.{filter_emptied_goes_on, unloaded_goes_on, unloading_goes_on}
 use Rattle.fm_stack.specs.Detaching.{stop_row}
-use Rattle.fm_stack.specs.Unloading as filters
-use Rattle.fm_stack.specs.declared.filter.FilterPhase.TheVariants as phase
 use Rattle.fm_world.proofs.Belonging.{VolumesStay}
 use Rattle.fm_world.proofs.Cases.{by_option}
 use Rattle.fm_world.proofs.Detaching.{stop_goes}
@@ -19,6 +16,8 @@ use Rattle.fm_world.proofs.Losing.{sweeps_named, sweeps_owned}
 use Rattle.fm_world.proofs.Owning.{GoesOnAt, RowsGoOn, goes_owned, goes_same, rows_same, stack_owned}
 use Rattle.fm_world.proofs.Staying.{Does, SlotsStay, lasts, makes, nothing, slots_swept, still, unchanged}
 use Rattle.fm_world.proofs.Ties.{at_none, desk_of, staffed_still}
+use Rattle.fm_stack.specs.Unloading as filters
+use Rattle.fm_stack.specs.declared.filter.FilterPhase.TheVariants as phase
 
 -- ---- a worker goes into an unload callback, or comes out of it
 

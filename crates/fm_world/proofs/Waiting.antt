@@ -1,6 +1,6 @@
 -- What keeps an instance from its end waits for its cleanup.
-use Rattle.std.proofs.Common.{◌≡◌, true, false, Some, arith, ap, ◌∙◌, is_some}
-use Rattle.fm_world.proofs.Words.{InstanceId, World, Headline, Owner, keeps_links_by, row_at, owner_at, one, reference_count, carries}
+use Rattle.fm_world.proofs.Words.{Headline, keeps_links_by, row_at, InstanceId, Owner, one, owner_at, World, carries, reference_count, Some, ap, arith, false}
+use Rattle.fm_world.proofs.Words.{is_some, true, ◌∙◌, ◌≡◌}
 use Rattle.fm_world.specs.Words.{is_waiting}
 use Rattle.fm_world.specs.ContextEvents.{OwnsOnlyWaiting}
 

@@ -1,13 +1,11 @@
 -- Cleaning contexts up and ending an instance, from what their parts did.
-use Rattle.fm_core.proofs.Words.{refused_in, IsTied, there_changed, ContextsKept, carried_of, headline_from, Worker, List, None, Ok, Option, Result, Some, []}
-use Rattle.fm_core.proofs.Words.{ap, arith, cond, false, is_some, nat_lt, not, refl, subst, sym, true, ℕ, ◌<◌, ◌∙◌, ◌∷◌, ◌≡◌, ◌≤◌, option_and_then, open_of}
-use Rattle.fm_core.proofs.Words.{IsLawful, Context, ContextTable, context_at, Owner, FlowTable, carried, StackWorld, Instance, first_of, CtxId, FilterId}
-use Rattle.fm_core.proofs.Words.{InstanceId, WorkerId, Status, is_gone_at, totalled_for, Unless, row_at, IsSound, cleanup_in, is_idle, put, worker_at, World}
-use Rattle.fm_core.proofs.Words.{option_map, slice_get}
-use Rattle.fm_world.proofs.Words.{count_cleaning, cleaning_of, cleaned, due_of, emptied, taken_of, Due, finished, is_emptying_at, Phase, Cleans, CleansAt}
-use Rattle.fm_world.proofs.Words.{Finishes, TakesDue, after_due, filter_of, keeps_links_by}
+use Rattle.fm_core.proofs.Words.{refused_in, IsTied, there_changed, ContextsKept, carried_of, headline_from, Worker, None, Option, Some, [], ap, arith, cond}
+use Rattle.fm_core.proofs.Words.{false, is_some, nat_lt, not, refl, subst, sym, true, ℕ, ◌<◌, ◌∙◌, ◌∷◌, ◌≡◌, ◌≤◌, option_and_then, open_of, IsLawful, Context}
+use Rattle.fm_core.proofs.Words.{ContextTable, context_at, Owner, FlowTable, carried, StackWorld, Instance, first_of, CtxId, InstanceId, WorkerId, Status}
+use Rattle.fm_core.proofs.Words.{is_gone_at, row_at, IsSound, cleanup_in, World, option_map, slice_get}
+use Rattle.fm_world.proofs.Words.{count_cleaning, cleaning_of, cleaned, due_of, emptied, taken_of, Due, is_emptying_at, Phase, filter_of, keeps_links_by}
 use Rattle.std.proofs.lemmas.Bool.{le-ltb}
-use Rattle.fm_ctx.specs.Cleanup.{due_reply, after_take_due}
+use Rattle.fm_ctx.specs.Cleanup.{after_take_due}
 use Rattle.fm_ctx.proofs.Carried.{carried_cleaned}
 use Rattle.fm_world.specs.ContextEvents.{finish_refused, OwnsOnlyWaiting}
 use Rattle.fm_world.proofs.Waiting.{waits}
@@ -17,31 +15,10 @@ use Rattle.fm_core.proofs.Called.{table_tied}
 -- ---- take_due
 
 -- the context that is due is there, so it is the one that is told
-due_told : (t : ContextTable) (m : Option CtxId) → slice_get t.due 0 ≡ m → ((c : CtxId) → slice_get t.due 0 ≡ Some c → is_some (context_at t.slots c) ≡ true)
+pub due_told : (t : ContextTable) (m : Option CtxId) → slice_get t.due 0 ≡ m → ((c : CtxId) → slice_get t.due 0 ≡ Some c → is_some (context_at t.slots c) ≡ true)
     → option_map (λ (d : Due). d.id) (option_and_then (λ c. option_map (due_of c) (context_at t.slots c)) m) ≡ m
 due_told t None is there = refl
 due_told t (Some c) is there = grind (arith, there c is)
-
-pub due_taken : (w : World) {now : World} (k : WorkerId) (kept after : ContextsKept) (ws : List Worker) (result : Option Due)
-    → record w { contexts = kept.table } ≡ now → is_idle (worker_at now.workers k) ≡ true
-    → ((c : CtxId) → slice_get kept.table.due 0 ≡ Some c → is_some (context_at kept.table.slots c) ≡ true)
-    → result ≡ due_reply kept.table → after ≡ record kept { table = after_take_due kept.table k.0 }
-    → ws ≡ after_due w.workers k (option_map (λ (d : Due). d.id) result)
-    → TakesDue now k (Ok result) (record w { workers = ws; contexts = after.table })
-unfolding TakesDue
-due_taken w k kept after ws result same idle_now there reply step workers =
-    let old : World = record w { contexts = kept.table } in
-    let new : World = record w { workers = ws; contexts = after.table } in
-    let told = ap (option_map (λ (d : Due). d.id)) reply ∙ due_told kept.table (slice_get kept.table.due 0) refl there in
-    let answer : Result (Option Due) Status = Ok result in
-    let idle = subst (λ (v : World). is_idle (worker_at v.workers k) ≡ true) (sym same) idle_now in
-    subst (λ (v : World). TakesDue v k answer new) same
-    (subst (λ b. Unless Status.WrongStep b answer old new ((answer ≡ Ok (due_reply kept.table))
-    × (new ≡ record old { workers = after_due w.workers k (slice_get kept.table.due 0); contexts = after_take_due kept.table k.0 }))) (sym idle) (
-      ap Ok reply,
-      ap (λ x. record w { workers = x; contexts = after.table }) (workers ∙ ap (after_due w.workers k) told)
-          ∙ ap (λ (x : ContextsKept). record w { workers = after_due w.workers k (slice_get kept.table.due 0); contexts = x.table }) step,
-    ))
 
 taken_there : (t : ContextTable) (w : ℕ) (m : Option CtxId) (c : CtxId) → is_some (context_at (taken_of t w m).slots c) ≡ is_some (context_at t.slots c)
 taken_there t w None c = refl
@@ -56,27 +33,8 @@ due_tied kept after f k e tied = table_tied kept after (after_take_due kept.tabl
 pub cleanup_is : (m : Option Worker) (c : CtxId) → cleanup_in m ≡ Some c → m ≡ Some (Worker.Cleanup c)
 cleanup_is m c h = grind (arith, h)
 
-filter_same : (s : StackWorld) (m : Option Context) → filter_at s (option_map (λ (x : Context). x.owner) m) ≡ filter_of s m
+pub filter_same : (s : StackWorld) (m : Option Context) → filter_at s (option_map (λ (x : Context). x.owner) m) ≡ filter_of s m
 filter_same s m = grind arith
-
-pub cleans : (w : World) {now : World} (k : WorkerId) (number : ℕ) (c : CtxId) (kept after : ContextsKept) (own : Option Owner) (f : Option FilterId)
-    (ws : List Worker) (ts : List ℕ)
-    → record w { contexts = kept.table } ≡ now → worker_at w.workers k ≡ Some (Worker.Cleanup c)
-    → own ≡ option_map (λ (x : Context). x.owner) (context_at kept.table.slots c) → f ≡ filter_at w.stack own
-    → ts ≡ totalled_for f number w.totals → after ≡ record kept { table = cleaned kept.table k.0 c } → ws ≡ put w.workers k Worker.Idle
-    → Cleans now k number (Ok tt) (record w { workers = ws; contexts = after.table; totals = ts })
-unfolding Cleans
-cleans w k number c kept after own f ws ts now_is at owned filter totals step workers =
-    let old : World = record w { contexts = kept.table } in
-    let same = filter ∙ ap (filter_at w.stack) owned ∙ filter_same w.stack (context_at kept.table.slots c) in
-    subst (λ (v : World). Cleans v k number (Ok tt) (record w { workers = ws; contexts = after.table; totals = ts })) now_is
-    (subst (CleansAt old k number (Ok tt) (record w { workers = ws; contexts = after.table; totals = ts })) (sym at) (
-      refl,
-      ap (λ x. record w { workers = x; contexts = after.table; totals = ts }) workers
-          ∙ ap (λ (x : ContextsKept). record w { workers = put w.workers k Worker.Idle; contexts = x.table; totals = ts }) step
-          ∙ ap (λ x. record w { workers = put w.workers k Worker.Idle; contexts = cleaned kept.table k.0 c; totals = x })
-          (totals ∙ ap (λ x. totalled_for x number w.totals) same),
-    ))
 
 pub clean_tied : (kept after : ContextsKept) (f : FlowTable) (k : WorkerId) (c : CtxId) → IsLawful (λ d. carried d f) kept.table → k.0 < 48
     → cleaning_of kept.table.cleaning k.0 ≡ Some c → after ≡ record kept { table = cleaned kept.table k.0 c } → IsTied kept f → IsTied after f
@@ -95,16 +53,16 @@ phase_in m = option_map (λ (row : Instance). row.phase) m
 pub may_end : (m : Option Instance) → refused_in (phase_in m) ≡ None → (is_gone_at m ≡ false) × (is_emptying_at m ≡ true)
 may_end m h = (grind (arith, h), grind (arith, h))
 
--- what is tested last, of an instance that may end
-finish_last : (w : World) (i : InstanceId) (n : ℕ) → refused_in (phase_in (row_at w.stack i)) ≡ None → n ≡ open_of w.contexts.slots (Owner.Instance i)
-    → finish_refused w i ≡ cond (nat_lt 0 n) (Some (Status.Busy n)) None
-finish_last w i n h count =
+-- an instance that may end and owns no context
+pub ends_free : (w : World) (i : InstanceId) (n : ℕ) → refused_in (phase_in (row_at w.stack i)) ≡ None → n ≡ open_of w.contexts.slots (Owner.Instance i) → n ≤ 0
+    → finish_refused w i ≡ None
+ends_free w i n h count none =
     let open' = open_of w.contexts.slots (Owner.Instance i) in
     let ends = may_end (row_at w.stack i) h in
     ap (λ b. cond b (Some Status.NoInstance) (first_of ((not (is_emptying_at (row_at w.stack i)), Status.WrongStep) ∷ (nat_lt 0 open', Status.Busy open')
     ∷ []))) ends.0
     ∙ ap (λ b. cond (not b) (Some Status.WrongStep) (first_of ((nat_lt 0 open', Status.Busy open') ∷ []))) ends.1
-    ∙ ap (λ m. cond (nat_lt 0 m) (Some (Status.Busy m)) None) (sym count)
+    ∙ ap (λ m. cond (nat_lt 0 m) (Some (Status.Busy m)) None) (sym count) ∙ ap (λ b. cond b (Some (Status.Busy n)) None) (le-ltb 0 n none)
 
 emptying_keeps_none : (row : Option Instance) → refused_in (phase_in row) ≡ None → keeps_links_by row ≡ false
 emptying_keeps_none None h = refl
@@ -114,10 +72,3 @@ emptying_keeps_none (Some row) h = grind arith
 pub only_waiting : {w now : World} (i : InstanceId) → w ≡ now → refused_in (phase_in (row_at w.stack i)) ≡ None → IsSound now → OwnsOnlyWaiting now i
 only_waiting {w} {now} i same h sound =
     waits now i (headline_from now sound) (subst (λ (v : World). keeps_links_by (row_at v.stack i) ≡ false) same (emptying_keeps_none (row_at w.stack i) h))
-
-pub finishes : {w now : World} (i : InstanceId) (n : ℕ) (s : StackWorld) → w ≡ now → refused_in (phase_in (row_at w.stack i)) ≡ None
-    → n ≡ open_of w.contexts.slots (Owner.Instance i) → n ≤ 0 → s ≡ finished w.stack i → Finishes now i (Ok tt) (record w { stack = s })
-unfolding Finishes
-finishes {w} i n s same h count none step =
-    subst (λ (v : World). Finishes v i (Ok tt) (record w { stack = s })) same
-    (finish_last w i n h count ∙ ap (λ b. cond b (Some (Status.Busy n)) None) (le-ltb 0 n none), ap (λ x. record w { stack = x }) step)

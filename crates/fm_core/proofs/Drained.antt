@@ -1,76 +1,28 @@
 -- Drains that are taken before their turn, from what their parts did.
 use Rattle.fm_core.proofs.Words.{IsState, IsTied, MayBring, kept_brought, drains_in, early_drain_of, ContextsKept, carried_of, DrainTaken, idle_there}
-use Rattle.fm_core.proofs.Words.{empty_hand, Worker, Bool, Err, List, None, Ok, Option, Some, [], ap, arith, false, refl, subst, sym, true, ◌+◌, ◌<◌, ◌∙◌, ◌∷◌}
-use Rattle.fm_core.proofs.Words.{◌≡◌, hand_of, Leaves, ContextTable, carried_in, FlowTable, carried, operation_at, Instance, CtxId, InstanceId, OpId, WorkerId}
-use Rattle.fm_core.proofs.Words.{Status, is_gone_at, row_at, is_idle, put, worker_at, World, length, slice_get_within}
+use Rattle.fm_core.proofs.Words.{empty_hand, Worker, Bool, None, Ok, Option, Some, [], ap, arith, refl, subst, sym, true, ◌+◌, ◌<◌, ◌∙◌, ◌∷◌, ◌≡◌, hand_of}
+use Rattle.fm_core.proofs.Words.{Leaves, ContextTable, carried_in, FlowTable, carried, operation_at, Instance, CtxId, InstanceId, OpId, WorkerId, Status}
+use Rattle.fm_core.proofs.Words.{is_gone_at, is_idle, worker_at, World, length, slice_get_within}
 use Rattle.fm_data.specs.declared.verdict.Completion.{Completion}
 use Rattle.fm_flow.specs.Drains.{RunsEarly, drain_done_of}
 use Rattle.fm_flow.proofs.Drains.{early_carried, drain_done_carried}
 use Rattle.fm_core.proofs.Cleaned.{phase_in}
-use Rattle.fm_world.specs.EarlyDrains.{TakesDrain, DrainReturns, DrainReturnsAt, DrainsWhere, is_stopping_at}
+use Rattle.fm_world.specs.EarlyDrains.{is_stopping_at}
 use Rattle.fm_world.proofs.Draining.{early_there}
 use Rattle.fm_core.proofs.Holding.{may_bring, tied_brought}
-use Rattle.fm_core.proofs.Torn.{idles, leaks, left_tied}
+use Rattle.fm_core.proofs.Torn.{left_tied}
 use Rattle.fm_world.specs.Events.{brought}
 use Rattle.fm_types.specs.Refusals as refusals
 
 -- ---- a drain is taken
 
--- what the phase says of it
-refuses : (row : Option Instance) (why : Status) → drains_in (phase_in row) ≡ Err why → refusals.first_of ((is_gone_at row, Status.NoInstance) ∷ []) ≡ Some why
-refuses None why h = grind arith
-refuses (Some row) why h = grind arith
-
-frees : (row : Option Instance) (b : Bool) → drains_in (phase_in row) ≡ Ok b → (refusals.first_of ((is_gone_at row, Status.NoInstance) ∷ []) ≡ None) × (is_stopping_at row ≡ b)
+pub frees : (row : Option Instance) (b : Bool) → drains_in (phase_in row) ≡ Ok b → (refusals.first_of ((is_gone_at row, Status.NoInstance) ∷ []) ≡ None) × (is_stopping_at row ≡ b)
 frees None b h = grind arith
 frees (Some row) b h = grind arith
 
-pub takes_err : {old now : World} (k : WorkerId) (i : InstanceId) (why : Status) → old ≡ now → is_idle (worker_at now.workers k) ≡ true
-    → drains_in (phase_in (row_at old.stack i)) ≡ Err why → TakesDrain now k i (Err why) old
-unfolding TakesDrain
-takes_err {old} k i why same idle refused =
-    subst (λ (w : World). TakesDrain w k i (Err why) old) same (idles k (Err why) old _ same idle (refuses (row_at old.stack i) why refused, refl))
-
--- nothing is owed, or the instance isn't stopping
-pub takes_none : {old now : World} (k : WorkerId) (i : InstanceId) → old ≡ now → is_idle (worker_at now.workers k) ≡ true
-    → drains_in (phase_in (row_at old.stack i)) ≡ Ok false → TakesDrain now k i (Ok None) old
-unfolding TakesDrain
-takes_none {old} k i same idle stands =
-    let free = frees (row_at old.stack i) false stands in
-    subst (λ (w : World). TakesDrain w k i (Ok None) old) same
-    (idles k (Ok None) old _ same idle (free.0, subst (λ b. DrainsWhere b old k i None old) (sym free.1) (refl, refl)))
-
-pub takes_nothing : {old now : World} (k : WorkerId) (i : InstanceId) (t : FlowTable) → old ≡ now → is_idle (worker_at now.workers k) ≡ true
-    → drains_in (phase_in (row_at old.stack i)) ≡ Ok true → DrainTaken i old.flow None t → TakesDrain now k i (Ok None) (record old { flow = t })
-unfolding TakesDrain
-takes_nothing {old} k i t same idle stands taken =
-    let free = frees (row_at old.stack i) true stands in
-    subst (λ (w : World). TakesDrain w k i (Ok None) (record old { flow = t })) same
-    (idles k (Ok None) (record old { flow = t }) _ same idle (
-      free.0,
-      subst (λ b. DrainsWhere b old k i None (record old { flow = t })) (sym free.1)
-          (taken, ap (λ (x : FlowTable). record old { flow = x }) taken.1),
-    ))
-
-brought_table : (kept : ContextsKept) (k : WorkerId) (m : Option CtxId) → (kept_brought kept k.0 m).table ≡ brought kept.table k m
+pub brought_table : (kept : ContextsKept) (k : WorkerId) (m : Option CtxId) → (kept_brought kept k.0 m).table ≡ brought kept.table k m
 brought_table kept k None = refl
 brought_table kept k (Some c) = refl
-
-pub takes_one : {old now : World} (k : WorkerId) (i : InstanceId) (o : OpId) (completion : Completion) (t : FlowTable) (ws : List Worker) (kept after : ContextsKept) → old ≡ now
-    → is_idle (worker_at now.workers k) ≡ true → drains_in (phase_in (row_at old.stack i)) ≡ Ok true → DrainTaken i old.flow (Some (o, completion)) t
-    → ws ≡ put old.workers k (Worker.EarlyDrain o i) → old.contexts ≡ kept.table → after ≡ kept_brought kept k.0 completion.context
-    → TakesDrain now k i (Ok (Some (o, completion))) (record old { flow = t; workers = ws; contexts = after.table })
-unfolding TakesDrain
-takes_one {old} k i o completion t ws kept after same idle stands taken workers contexts brings =
-    let new : World = record old { flow = t; workers = ws; contexts = after.table } in
-    let free = frees (row_at old.stack i) true stands in
-    let table : after.table ≡ brought old.contexts k completion.context =
-    ap (λ (x : ContextsKept). x.table) brings ∙ brought_table kept k completion.context ∙ ap (λ (x : ContextTable). brought x k completion.context) (sym contexts) in
-    let whole : new ≡ record old { flow = t; workers = put old.workers k (Worker.EarlyDrain o i); contexts = brought old.contexts k completion.context } =
-    ap (λ (x : List Worker). record old { flow = t; workers = x; contexts = after.table }) workers
-    ∙ ap (λ (x : ContextTable). record old { flow = t; workers = put old.workers k (Worker.EarlyDrain o i); contexts = x }) table in
-    subst (λ (w : World). TakesDrain w k i (Ok (Some (o, completion))) new) same
-    (idles k (Ok (Some (o, completion))) new _ same idle (free.0, subst (λ b. DrainsWhere b old k i (Some (o, completion)) new) (sym free.1) (taken, whole)))
 
 -- the completion's reference goes from those that are carried into the hand
 given : (old : World) (i : InstanceId) (o : OpId) (completion : Completion) (t : FlowTable) → DrainTaken i old.flow (Some (o, completion)) t → (kept : ContextsKept) → IsState old kept
@@ -99,15 +51,6 @@ early_is m p h = grind (arith, h)
 pub runs_early : {old : World} {kept : ContextsKept} (k : WorkerId) (o : OpId) (i : InstanceId) → IsState old kept → worker_at old.workers k ≡ Some (Worker.EarlyDrain o i)
     → RunsEarly i (operation_at o old.flow)
 runs_early {old} k o i s at = let there = early_there old k o i at s.sound.under_way in subst (RunsEarly i) (sym there.1) there.2
-
-pub early_returns : {old now : World} (k : WorkerId) (o : OpId) (i : InstanceId) (t : FlowTable) (ws : List Worker) (kept left : ContextsKept) → old ≡ now
-    → worker_at old.workers k ≡ Some (Worker.EarlyDrain o i) → t ≡ drain_done_of o i old.flow → ws ≡ put old.workers k Worker.Idle → old.contexts ≡ kept.table
-    → Leaves (carried_of kept) kept.table left.table k.0 → IsTied kept old.flow → DrainReturns now k (Ok tt) (record old { flow = t; workers = ws; contexts = left.table })
-unfolding DrainReturns
-early_returns {old} k o i t ws kept left same at over workers contexts leaves tied =
-    let new : World = record old { flow = t; workers = ws; contexts = left.table } in
-    let whole : new ≡ record old { flow = drain_done_of o i old.flow; workers = put old.workers k Worker.Idle; contexts = left.table } = cc in
-    subst (λ (w : World). DrainReturns w k (Ok tt) new) same (subst (DrainReturnsAt old k (Ok tt) new) (sym at) (refl, leaks old k kept left contexts leaves tied, whole))
 
 pub early_tied : {old : World} {kept : ContextsKept} (k : WorkerId) (o : OpId) (i : InstanceId) (t : FlowTable) (left : ContextsKept) → IsState old kept
     → worker_at old.workers k ≡ Some (Worker.EarlyDrain o i) → t ≡ drain_done_of o i old.flow → Leaves (carried_of kept) kept.table left.table k.0 → left.carried ≡ kept.carried → IsTied left t

@@ -12,12 +12,12 @@ use Rattle.fm_core.proofs.Words.{filed_pre, flow_after_next, has_no_handle_left,
 use Rattle.fm_core.proofs.Words.{FileTable, after_pre, created, handle_at, stream_for, LosesLinks, IsSound, after_next, is_idle, put, worker_at, World, carries}
 use Rattle.fm_core.proofs.Words.{length, option_map, slice_get, and_parts, none-some, same_Some, slice_get_within}
 use Rattle.fm_world.proofs.Words.{is_within_limits, PostVerdict, is_success, is_create, is_unanswered, MayLieBelow, base_returned_of, begun, begun_record}
-use Rattle.fm_world.proofs.Words.{collected_of, verdict_counted, Entry, Stage, CreateMode, BaseReturns, BaseReturnsAt, Begins, Collects, FindsBelow}
-use Rattle.fm_world.proofs.Words.{LosesByKnown, Nexts, NextsAt, PostReturns, PostReturnsAt, PreReturns, PreReturnsAt, asked_begun, base_returned, begin_refused}
-use Rattle.fm_world.proofs.Words.{begun_on, carries_after, filed_next, filed_record, has_post, of_hand, or_else, pre_step, returned, AtBase, AtDrain, AtPost}
-use Rattle.fm_world.proofs.Words.{AtPre, Spot, is_in_at, is_spot, spot_at, IsAmong, unwrap_or, and_from, eq-eqb, or_parts}
+use Rattle.fm_world.proofs.Words.{collected_of, verdict_counted, Entry, Stage, CreateMode, BaseReturns, BaseReturnsAt, Begins, FindsBelow, LosesByKnown, Nexts}
+use Rattle.fm_world.proofs.Words.{NextsAt, PostReturns, PostReturnsAt, PreReturns, PreReturnsAt, asked_begun, base_returned, begin_refused, begun_on}
+use Rattle.fm_world.proofs.Words.{carries_after, filed_next, filed_record, has_post, of_hand, or_else, pre_step, returned, AtBase, AtDrain, AtPost, AtPre, Spot}
+use Rattle.fm_world.proofs.Words.{is_in_at, is_spot, spot_at, IsAmong, unwrap_or, and_from, eq-eqb, or_parts}
 use Rattle.std.proofs.Common.{nat_eq}
-use Rattle.fm_flow.specs.Table.{MayLieBelowOf, collect_reply}
+use Rattle.fm_flow.specs.Table.{MayLieBelowOf}
 use Rattle.fm_world.specs.Events.{PreReturnsOver, ReturnsFrom, filed_base, refused_at, refused_on, begun_at}
 use Rattle.fm_core.proofs.Changes.{change_agrees, change_same}
 use Rattle.fm_world.proofs.Ties.{tied_there, spot_pre, spot_base, spot_post, spot_drain}
@@ -331,13 +331,6 @@ comes t o r fits step lent answer a f at reply after is =
     by_fit (Err back) false e is = (here ∙ e, after ∙ guarded t o r fits step false at e, let is' = is ∙ ap (λ b. cond b (Ok tt) (Err lent)) e in cc)
     by_fit a b e is = absurd (grind (arith, e, is))
 
--- what is strange is refused, and nothing changes
-strange_refused : (old : World) (f : FlowTable) (fits : Bool) (Event : Type 0) → fits ≡ false → f ≡ old.flow
-    → Unless {T = Unit {0}} Status.BadRequest fits (Err Status.BadRequest) old (record old { flow = f }) Event
-strange_refused old f fits Event e same =
-    subst (λ b. Unless {T = Unit {0}} Status.BadRequest b (Err Status.BadRequest) old (record old { flow = f }) Event) (sym e)
-    (refl, ap (λ t. record old { flow = t }) same)
-
 -- what fits is taken
 fits_taken : (old new : World) (fits : Bool) (Event : Type 0) → fits ≡ true → Event
     → Unless {T = Unit {0}} Status.BadRequest fits (Ok (tt {0})) old new (◌≡◌ {A = Result (Unit {0}) Status} (Ok (tt {0})) (Ok (tt {0})) × Event)
@@ -418,16 +411,6 @@ pre_returns {old} {now} {kept} k o i r given lent state m t ws left after fs x s
     (state_at old k o i given) new) come.0
     (subst (λ y. PreReturnsOver old k o (pre_returned_of y lent) y new) same over)))
 
-pub pre_strange : {old now : World} (k : WorkerId) (o : OpId) (i : InstanceId) (given : PreVerdict) (lent back : Data) (step : FlowRecord → FlowRecord)
-    (t : FlowTable) → old ≡ now
-    → worker_at old.workers k ≡ Some (Worker.Pre o i) → Comes old.flow o (λ y. data_fits y.operation y.path lent) step lent (Err back) t
-    → PreReturns now k given lent (Err Status.BadRequest) (record old { flow = t })
-unfolding PreReturns
-pre_strange {old} k o i given lent back step t now_is at come =
-    subst (λ (w : World). PreReturns w k given lent (Err Status.BadRequest) (record old { flow = t })) now_is
-    (subst (PreReturnsAt old k given lent (Err Status.BadRequest) (record old { flow = t })) (sym at)
-    (strange_refused old t (told (λ y. data_fits y.operation y.path lent) false o old.flow) _ come.0 come.1))
-
 -- ---- the base's answer
 
 pub base_returns : {old now : World} {kept : ContextsKept} (k : WorkerId) (o : OpId) (r : FlowRecord) (call : BaseCall) (given : Answer) (t : FlowTable)
@@ -453,16 +436,6 @@ base_returns {old} {now} {kept} k o r call given t ws after fs x s now_is at her
     (subst (BaseReturnsAt old k call given (Ok tt) new) (sym at)
     (fits_taken old new (told (base_fits call given) false o old.flow) (LosesLinks (base_returned old k o call given) new) come.0
     (subst (λ (w : World). LosesLinks w new) whole lost)))
-
-pub base_strange : {old now : World} (k : WorkerId) (o : OpId) (call : BaseCall) (given : Answer) (back : BaseCall × Answer) (step : FlowRecord → FlowRecord)
-    (t : FlowTable)
-    → old ≡ now → worker_at old.workers k ≡ Some (Worker.Base o) → Comes {T = BaseCall × Answer} old.flow o (base_fits call given) step (call, given) (Err back) t
-    → BaseReturns now k call given (Err Status.BadRequest) (record old { flow = t })
-unfolding BaseReturns
-base_strange {old} k o call given back step t now_is at come =
-    subst (λ (w : World). BaseReturns w k call given (Err Status.BadRequest) (record old { flow = t })) now_is
-    (subst (BaseReturnsAt old k call given (Err Status.BadRequest) (record old { flow = t })) (sym at)
-    (strange_refused old t (told (base_fits call given) false o old.flow) _ come.0 come.1))
 
 -- a create at the base has room for its handle
 pub base_room : {old : World} {kept : ContextsKept} (o : OpId) (why : Status) (r : FlowRecord) (x : Target) → IsState old kept
@@ -505,16 +478,6 @@ post_returns {old} {now} {kept} k o i given lent t ws after s now_is at come wor
     (subst (PostReturnsAt old k given (Some lent) (Ok tt) new) (sym at)
     (fits_taken old new (told (λ y. data_fits y.operation y.path lent) false o old.flow) (ReturnsFrom old k o (post_returned_of given lent) old.contexts new) come.0
     (over old k o (post_returned_of given lent) t ws kept after come.1 workers contexts ends (post_tied k o i given lent s at))))
-
-pub post_strange : {old now : World} (k : WorkerId) (o : OpId) (i : InstanceId) (given : PostVerdict) (lent back : Data) (step : FlowRecord → FlowRecord)
-    (t : FlowTable)
-    → old ≡ now → worker_at old.workers k ≡ Some (Worker.Post o i) → Comes old.flow o (λ y. data_fits y.operation y.path lent) step lent (Err back) t
-    → PostReturns now k given (Some lent) (Err Status.BadRequest) (record old { flow = t })
-unfolding PostReturns
-post_strange {old} k o i given lent back step t now_is at come =
-    subst (λ (w : World). PostReturns w k given (Some lent) (Err Status.BadRequest) (record old { flow = t })) now_is
-    (subst (PostReturnsAt old k given (Some lent) (Err Status.BadRequest) (record old { flow = t })) (sym at)
-    (strange_refused old t (told (λ y. data_fits y.operation y.path lent) false o old.flow) _ come.0 come.1))
 
 pub drain_returns : {old now : World} {kept : ContextsKept} (k : WorkerId) (o : OpId) (i : InstanceId) (given : PostVerdict) (t : FlowTable) (ws : List Worker)
     (after : ContextsKept)
@@ -634,10 +597,3 @@ asked_phase w h p x v why within open' there refuses =
     by_stream (Some y) e = ap (λ m. or_else m (first_of (volume_refusals w y.volume (is_full w.flow)))) refuses
 
 -- ---- collect
-
-pub collects : {old now : World} (o : OpId) (result : Result Answer Status) (t : FlowTable) → old ≡ now
-    → result ≡ told collect_reply (Err Status.WrongStep) o old.flow
-    → t ≡ collected_of o old.flow → Collects now o result (record old { flow = t })
-unfolding Collects
-collects {old} o result t same reply after =
-    subst (λ (w : World). Collects w o result (record old { flow = t })) same (reply, ap (λ x. record old { flow = x }) after)

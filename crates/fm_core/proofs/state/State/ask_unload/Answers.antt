@@ -1,12 +1,14 @@
-use Rattle.fm_core.proofs.Words.{subst, sym, ◌∙◌, IsSound}
+use Rattle.fm_core.proofs.Words.{the_view, Worker, subst, sym, ◌∙◌, IsSound}
+use Rattle.fm_world.proofs.Words.{AsksUnload}
 use Rattle.fm_world.proofs.Unloading.{ask_unload_does}
-use Rattle.fm_core.proofs.Torn.{asks_unload}
+use Rattle.fm_core.proofs.Torn.{entered}
 use Rattle.fm_core.proofs.state.State.ask_unload.Goals as goal
 
 pub returns-clause-event : goal.returns-clause-event
+unfolding AsksUnload
 returns-clause-event c =
-    asks_unload c.args.worker c.args.filter c.is_asked_to_unload-is_asked.result c.may_ask_unload-result.result c.note_entering.new.workers c.self.view_is
-    (sym c.is_idle.ensures ∙ c.if-not-is_idle.false) c.is_asked_to_unload-is_asked.ensures c.may_ask_unload-result.ensures c.note_entering.ensures
+    rw (sym c.is_idle.ensures ∙ c.if-not-is_idle.false, sym c.self.view_is, sym c.is_asked_to_unload-is_asked.ensures)
+    (entered (the_view c.self.inside) c.args.worker (Worker.Unload c.args.filter) _ c.may_ask_unload-result.result _ c.may_ask_unload-result.ensures c.note_entering.ensures)
 
 pub invariant_of-self : goal.invariant_of-self
 invariant_of-self c =

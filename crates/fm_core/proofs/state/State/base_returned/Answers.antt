@@ -1,8 +1,9 @@
 use Rattle.fm_core.proofs.Words.{IsTied, base_of, the_view, base_after, Worker, Result, Some, ap, refl, subst, sym, ℕ, ◌∙◌, ◌≡◌, option_copied, BaseCall}
 use Rattle.fm_core.proofs.Words.{Answer, FlowRecord, base_fits, changed, InBase, base_step, IsSound, worker_at, same_Some}
+use Rattle.fm_world.proofs.Words.{BaseReturns}
 use Rattle.fm_world.proofs.Returns.{base_does}
 use Rattle.fm_core.proofs.Losing.{sweeping_tied}
-use Rattle.fm_core.proofs.Operated.{Comes, comes, base_is, base_returns, base_room, base_strange, base_tied, in_base, placed, stands_from, there_from}
+use Rattle.fm_core.proofs.Operated.{Comes, comes, base_is, base_returns, base_room, base_tied, in_base, placed, stands_from, there_from}
 use Rattle.fm_core.proofs.state.State.base_returned.Goals.{In-Some, After-base_returned}
 use Rattle.fm_core.proofs.state.State.base_returned.Goals as goal
 
@@ -34,11 +35,11 @@ came c answer is =
     c.next_number.ensures.result c.base_returned.ensures.after) is
 
 pub returns-in-Err-clause-event : goal.returns-in-Err-clause-event
+unfolding BaseReturns
 returns-in-Err-clause-event c =
     let here = goal.at.returns-in-Err-clause-event c in
-    base_strange c.args.worker c.in-Some.operation c.args.call c.args.given c.in-Err.handed_back (base_step (the_view c.self.inside) c.args.call c.args.given)
-    c.base_returned.new.self c.self.view_is
-    (at here.In-Some) (came here.After-base_returned _ c.in-Err.is)
+    let strange = came here.After-base_returned _ c.in-Err.is in
+    rw (sym c.self.view_is, at here.In-Some, strange.0, strange.1) (refl, refl)
 
 pub returns-in-Err-clause-back : goal.returns-in-Err-clause-back
 returns-in-Err-clause-back c = (came (goal.at.returns-in-Err-clause-back c).After-base_returned _ c.in-Err.is).2

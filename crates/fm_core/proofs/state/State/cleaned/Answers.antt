@@ -1,7 +1,8 @@
-use Rattle.fm_core.proofs.Words.{the_view, Some, ap, subst, ◌∙◌, ◌≡◌, IsSound, cleanup_in, worker_at}
+use Rattle.fm_core.proofs.Words.{the_view, Some, ap, refl, subst, sym, ◌∙◌, ◌≡◌, context_at, IsSound, cleanup_in, worker_at}
+use Rattle.fm_world.proofs.Words.{Cleans}
 use Rattle.fm_world.specs.declared.worker.Worker.TheVariants.{Cleanup}
 use Rattle.fm_world.proofs.Cleanups.{cleaned_does}
-use Rattle.fm_core.proofs.Cleaned.{cleanup_is, cleans, clean_tied}
+use Rattle.fm_core.proofs.Cleaned.{cleanup_is, clean_tied, filter_same}
 use Rattle.fm_core.proofs.Operated.{placed, within_at}
 use Rattle.fm_core.proofs.state.State.cleaned.Goals.{In-Some}
 use Rattle.fm_core.proofs.state.State.cleaned.Goals as goal
@@ -12,11 +13,18 @@ at c =
     c.in-Some.is
 
 pub returns-clause-event : goal.returns-clause-event
+unfolding Cleans
 returns-clause-event c =
-    cleans (the_view c.self.inside) c.args.worker c.args.number c.in-Some.context c.self.inside.contexts c.cleaned.new.self c.owner_of.result
-    c.filter_of-filter.result c.put.new.workers
-    c.add_total.new.totals c.self.view_is (at (goal.at.returns-clause-event c).In-Some) c.owner_of.ensures c.filter_of-filter.ensures c.add_total.ensures
-    c.cleaned.ensures c.put.ensures
+    rw (
+      sym c.self.view_is,
+      at (goal.at.returns-clause-event c).In-Some,
+      c.put.ensures,
+      c.cleaned.ensures,
+      c.add_total.ensures,
+      c.filter_of-filter.ensures,
+      c.owner_of.ensures,
+      filter_same c.self.inside.stack (context_at c.self.inside.contexts.table.slots c.in-Some.context),
+    ) (refl, refl)
 
 pub invariant_of-self : goal.invariant_of-self
 invariant_of-self c =

@@ -1,10 +1,12 @@
-use Rattle.fm_core.proofs.Words.{subst, IsSound}
+use Rattle.fm_core.proofs.Words.{refl, subst, sym, IsSound}
+use Rattle.fm_world.proofs.Words.{Collects}
 use Rattle.fm_world.proofs.Requests.{collect_does}
-use Rattle.fm_core.proofs.Operated.{collects, collect_tied}
+use Rattle.fm_core.proofs.Operated.{collect_tied}
 use Rattle.fm_core.proofs.state.State.collect.Goals as goal
 
 pub returns-clause-event : goal.returns-clause-event
-returns-clause-event c = collects c.args.operation c.collect.result c.collect.new.self c.self.view_is c.collect.ensures.reply c.collect.ensures.after
+unfolding Collects
+returns-clause-event c = rw (sym c.self.view_is, c.collect.ensures.after) (c.collect.ensures.reply, refl)
 
 pub invariant_of-self : goal.invariant_of-self
 invariant_of-self c = record {

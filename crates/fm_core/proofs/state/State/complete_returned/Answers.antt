@@ -1,9 +1,10 @@
-use Rattle.fm_core.proofs.Words.{complete_of, the_view, Worker, Some, ap, refl, subst, ◌∙◌, ◌≡◌, IsSound, worker_at}
+use Rattle.fm_core.proofs.Words.{complete_of, the_view, leaves_alike, sweeps_alike, Worker, Some, ap, refl, subst, sym, ◌∙◌, ◌≡◌, IsSound, worker_at}
+use Rattle.fm_world.proofs.Words.{CompleteReturns}
 use Rattle.fm_stack.specs.Detaching.{is_in_complete}
 use Rattle.fm_stack.specs.Instances.{passes}
 use Rattle.fm_world.proofs.Detaching.{complete_place, complete_returned_does}
 use Rattle.fm_core.proofs.Operated.{placed, within_at}
-use Rattle.fm_core.proofs.Torn.{complete_is, complete_returns, swept_tied}
+use Rattle.fm_core.proofs.Torn.{complete_is, swept_tied, left_tied}
 use Rattle.fm_core.proofs.state.State.complete_returned.Goals.{In-Some}
 use Rattle.fm_core.proofs.state.State.complete_returned.Goals as goal
 
@@ -19,10 +20,11 @@ complete_returned-requires c =
     ap (passes is_in_complete) row.1 ∙ row.2
 
 pub returns-clause-event : goal.returns-clause-event
+unfolding CompleteReturns
 returns-clause-event c =
-    complete_returns c.args.worker c.in-Some.instance c.complete_returned.new.self c.put.new.workers c.self.inside.contexts c.leave.new.self c.unlink_owner.new.self
-    c.self.view_is (at (goal.at.returns-clause-event c).In-Some) c.complete_returned.ensures.event c.put.ensures refl c.leave.ensures.table c.leave.ensures.carried
-    c.unlink_owner.ensures.table c.self.invariant.tied
+    let tied = left_tied c.self.inside.contexts c.leave.new.self c.args.worker.0 c.self.inside.flow c.leave.ensures.table c.leave.ensures.carried c.self.invariant.tied in
+    rw (sym c.self.view_is, at (goal.at.returns-clause-event c).In-Some, c.put.ensures, c.complete_returned.ensures.event)
+    (refl, c.leave.new.self.table, leaves_alike c.self.invariant.tied c.leave.ensures.table, sweeps_alike tied c.unlink_owner.ensures.table, refl)
 
 pub invariant_of-self : goal.invariant_of-self
 invariant_of-self c = record {

@@ -1,8 +1,9 @@
-use Rattle.fm_core.proofs.Words.{early_drain_of, the_view, Worker, Some, refl, subst, ◌≡◌, IsSound, worker_at}
+use Rattle.fm_core.proofs.Words.{early_drain_of, the_view, leaves_alike, Worker, Some, refl, subst, sym, ◌≡◌, IsSound, worker_at}
 use Rattle.fm_world.proofs.Draining.{drain_done_does}
 use Rattle.fm_core.proofs.Operated.{placed, within_at}
-use Rattle.fm_core.proofs.Drained.{early_is, early_returns, early_tied, runs_early}
+use Rattle.fm_core.proofs.Drained.{early_is, early_tied, runs_early}
 use Rattle.fm_core.proofs.state.State.drain_done.Goals.{In-Some}
+use Rattle.fm_world.specs.EarlyDrains.{DrainReturns}
 use Rattle.fm_core.proofs.state.State.drain_done.Goals as goal
 
 at : (c : In-Some) → worker_at (the_view c.self.inside).workers c.args.worker ≡ Some (Worker.EarlyDrain c.in-Some.operation c.in-Some.instance)
@@ -17,9 +18,10 @@ pub drain_done-requires : goal.drain_done-requires
 drain_done-requires c = runs_early c.args.worker c.in-Some.operation c.in-Some.instance c.self.invariant (at (goal.at.drain_done-requires c).In-Some)
 
 pub returns-clause-event : goal.returns-clause-event
+unfolding DrainReturns
 returns-clause-event c =
-    early_returns c.args.worker c.in-Some.operation c.in-Some.instance c.drain_done.new.self c.put.new.workers c.self.inside.contexts c.leave.new.self
-    c.self.view_is (at (goal.at.returns-clause-event c).In-Some) c.drain_done.ensures c.put.ensures refl c.leave.ensures.table c.self.invariant.tied
+    rw (sym c.self.view_is, at (goal.at.returns-clause-event c).In-Some, c.put.ensures, c.drain_done.ensures)
+    (refl, leaves_alike c.self.invariant.tied c.leave.ensures.table, refl)
 
 pub invariant_of-self : goal.invariant_of-self
 invariant_of-self c = record {

@@ -1,8 +1,9 @@
 use Rattle.fm_core.proofs.Words.{drains_in, the_view, DrainTaken, Ok, Some, ap, refl, subst, sym, true, ◌∙◌, ◌≡◌, row_at, IsSound, is_idle, worker_at}
 use Rattle.fm_world.proofs.Draining.{drain_take_does}
 use Rattle.fm_core.proofs.Cleaned.{phase_in}
-use Rattle.fm_core.proofs.Drained.{take_brings, take_tied, takes_one}
+use Rattle.fm_core.proofs.Drained.{take_brings, take_tied, frees, brought_table}
 use Rattle.fm_core.proofs.state.State.drain_take.Goals.{In-Some}
+use Rattle.fm_world.specs.EarlyDrains.{TakesDrain}
 use Rattle.fm_core.proofs.state.State.drain_take.Goals as goal
 
 idle : (c : In-Some) → is_idle (worker_at c.args.self.now.workers c.args.worker) ≡ true
@@ -20,10 +21,12 @@ bring-requires c =
     take_brings c.args.worker c.args.instance c.in-Some.operation c.in-Some.completion c.drain_take.new.self c.self.invariant c.self.view_is (idle at) refl (taken at)
 
 pub returns-clause-event : goal.returns-clause-event
+unfolding TakesDrain
 returns-clause-event c =
     let at = (goal.at.returns-clause-event c).In-Some in
-    takes_one c.args.worker c.args.instance c.in-Some.operation c.in-Some.completion c.drain_take.new.self c.put.new.workers c.self.inside.contexts c.bring.new.contexts
-    c.self.view_is (idle at) (stands at) (taken at) c.put.ensures refl c.bring.ensures
+    let free = frees (row_at (the_view c.self.inside).stack c.args.instance) true (stands at) in
+    rw (idle at, sym c.self.view_is, free.1, c.put.ensures, c.bring.ensures, brought_table c.self.inside.contexts c.args.worker c.in-Some.completion.context)
+    (free.0, (taken at, refl))
 
 pub invariant_of-self-2 : goal.invariant_of-self-2
 invariant_of-self-2 c = record {

@@ -1,12 +1,14 @@
-use Rattle.fm_core.proofs.Words.{refl, subst, is_linked_of, Owner, IsSound}
+use Rattle.fm_core.proofs.Words.{the_view, refl, subst, sym, is_linked_of, Owner, IsSound}
+use Rattle.fm_world.proofs.Words.{EmptiesFilter}
 use Rattle.fm_world.proofs.Unloading.{empty_filter_does}
-use Rattle.fm_core.proofs.Torn.{empties, where_tied}
+use Rattle.fm_core.proofs.Torn.{where_tied, where_swept}
 use Rattle.fm_core.proofs.state.State.empty_filter.Goals as goal
 
 pub returns-clause-event : goal.returns-clause-event
+unfolding EmptiesFilter
 returns-clause-event c =
-    empties c.args.filter c.is_asked_to_unload-is_asked.result c.empty_filter-result.result c.empty_filter-result.new.self c.self.inside.contexts c.unlink_where.new.contexts
-    c.self.view_is c.is_asked_to_unload-is_asked.ensures c.empty_filter-result.ensures.event refl c.self.invariant.tied c.unlink_where.ensures
+    let swept = where_swept (the_view c.self.inside) _ _ c.self.inside.contexts c.unlink_where.new.contexts refl c.self.invariant.tied c.unlink_where.ensures in
+    rw (sym c.self.view_is, sym c.is_asked_to_unload-is_asked.ensures) (c.empty_filter-result.ensures.event, swept, refl)
 
 pub invariant_of-self : goal.invariant_of-self
 invariant_of-self c = record {

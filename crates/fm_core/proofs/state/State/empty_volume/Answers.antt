@@ -1,16 +1,18 @@
-use Rattle.fm_core.proofs.Words.{is_linked_to, refl, subst, Object, IsSound}
+use Rattle.fm_core.proofs.Words.{the_view, is_linked_to, refl, subst, sym, Object, IsSound}
+use Rattle.fm_world.proofs.Words.{EmptiesVolume}
 use Rattle.fm_world.proofs.Dismounting.{empty_volume_does}
-use Rattle.fm_core.proofs.Dismounted.{empties_volume, few_on}
-use Rattle.fm_core.proofs.Torn.{where_tied}
+use Rattle.fm_core.proofs.Dismounted.{few_on}
+use Rattle.fm_core.proofs.Torn.{where_tied, where_swept}
 use Rattle.fm_core.proofs.state.State.empty_volume.Goals as goal
 
 pub empty_volume-result-requires : goal.empty_volume-result-requires
 empty_volume-result-requires c = few_on c.args.volume c.handles_on-handles.result c.self.invariant c.handles_on-handles.ensures
 
 pub returns-clause-event : goal.returns-clause-event
+unfolding EmptiesVolume
 returns-clause-event c =
-    empties_volume c.args.volume c.handles_on-handles.result c.empty_volume-result.result c.empty_volume-result.new.self c.self.inside.contexts c.unlink_where.new.contexts
-    c.self.view_is c.handles_on-handles.ensures c.empty_volume-result.ensures.event refl c.self.invariant.tied c.unlink_where.ensures
+    let swept = where_swept (the_view c.self.inside) _ _ c.self.inside.contexts c.unlink_where.new.contexts refl c.self.invariant.tied c.unlink_where.ensures in
+    rw (sym c.self.view_is, sym c.handles_on-handles.ensures) (c.empty_volume-result.ensures.event, swept, refl)
 
 pub invariant_of-self : goal.invariant_of-self
 invariant_of-self c = record {

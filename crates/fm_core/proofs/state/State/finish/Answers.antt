@@ -1,13 +1,15 @@
-use Rattle.fm_core.proofs.Words.{refused_in, ap, subst, sym, ◌∙◌, IsSound}
+use Rattle.fm_core.proofs.Words.{refused_in, the_view, ap, refl, subst, sym, ◌∙◌, IsSound}
+use Rattle.fm_world.proofs.Words.{Finishes}
 use Rattle.fm_world.proofs.Cleanups.{finish_does}
-use Rattle.fm_core.proofs.Cleaned.{finishes, only_waiting}
+use Rattle.fm_core.proofs.Cleaned.{only_waiting, ends_free}
 use Rattle.fm_core.proofs.state.State.finish.Goals as goal
 
 pub returns-clause-event : goal.returns-clause-event
+unfolding Finishes
 returns-clause-event c =
-    finishes c.args.instance c.open_of-open.result c.finish.new.self c.self.view_is (ap refused_in (sym c.phase.ensures) ∙ sym c.refused_in.ensures ∙
-    c.in_default.is) c.open_of-open.ensures c.if-open-gt0.false
-    c.finish.ensures.event
+    let stays = ap refused_in (sym c.phase.ensures) ∙ sym c.refused_in.ensures ∙ c.in_default.is in
+    rw (sym c.self.view_is, c.finish.ensures.event)
+    (ends_free (the_view c.self.inside) c.args.instance c.open_of-open.result stays c.open_of-open.ensures c.if-open-gt0.false, refl)
 
 pub returns-then-open-gt0-clause-waiting : goal.returns-then-open-gt0-clause-waiting
 returns-then-open-gt0-clause-waiting c =

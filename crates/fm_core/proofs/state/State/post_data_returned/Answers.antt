@@ -1,7 +1,8 @@
 use Rattle.fm_core.proofs.Words.{IsTied, post_of, the_view, post_does, Worker, Result, Some, refl, subst, sym, ◌≡◌, Data, data_fits, FlowRecord}
 use Rattle.fm_core.proofs.Words.{post_returned_of, changed, PostRunning, IsSound, worker_at}
+use Rattle.fm_world.proofs.Words.{PostReturns}
 use Rattle.fm_core.proofs.Holding.{tied_ends}
-use Rattle.fm_core.proofs.Operated.{Comes, comes, in_post, located, post_is, post_returns, post_strange, post_tied, stands_from, within_at}
+use Rattle.fm_core.proofs.Operated.{Comes, comes, in_post, located, post_is, post_returns, post_tied, stands_from, within_at}
 use Rattle.fm_core.proofs.state.State.post_data_returned.Goals.{After-post_returned}
 use Rattle.fm_core.proofs.state.State.post_data_returned.Goals as goal
 
@@ -23,11 +24,11 @@ came c answer is =
     c.post_returned.ensures.reply c.post_returned.ensures.after is
 
 pub returns-in-Err-clause-event : goal.returns-in-Err-clause-event
+unfolding PostReturns
 returns-in-Err-clause-event c =
     let here = (goal.at.returns-in-Err-clause-event c).After-post_returned in
-    post_strange c.args.worker c.args.operation c.args.instance c.args.verdict c.args.lent c.in-Err.lent (post_returned_of c.args.verdict c.args.lent)
-    c.post_returned.new.self c.self.view_is (at here)
-    (came here _ c.in-Err.is)
+    let strange = came here _ c.in-Err.is in
+    rw (sym c.self.view_is, at here, strange.0, strange.1) (refl, refl)
 
 pub invariant_of-self : goal.invariant_of-self
 invariant_of-self c = record {

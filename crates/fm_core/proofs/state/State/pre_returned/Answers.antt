@@ -1,9 +1,9 @@
 use Rattle.fm_core.proofs.Words.{IsTied, pre_of, the_view, pre_does, Worker, Result, Some, ap, refl, subst, sym, ◌∙◌, ◌≡◌, option_copied, Data, data_fits}
 use Rattle.fm_core.proofs.Words.{FlowRecord, pre_returned_of, changed, PreRunning, state_at, IsSound, worker_at}
+use Rattle.fm_world.proofs.Words.{PreReturns}
 use Rattle.fm_core.proofs.Holding.{tied_ends}
 use Rattle.fm_core.proofs.Losing.{sweeping_tied}
-use Rattle.fm_core.proofs.Operated.{Comes, comes, in_pre, placed, pre_is, pre_returns, pre_sends, pre_state, pre_strange, pre_tied, stands_from, there_from}
-use Rattle.fm_core.proofs.Operated.{within_at}
+use Rattle.fm_core.proofs.Operated.{Comes, comes, in_pre, placed, pre_is, pre_returns, pre_sends, pre_state, pre_tied, stands_from, there_from, within_at}
 use Rattle.fm_core.proofs.state.State.pre_returned.Goals.{In-Some, After-pre_returned}
 use Rattle.fm_core.proofs.state.State.pre_returned.Goals as goal
 
@@ -35,10 +35,11 @@ came c answer is =
     (sym c.record.ensures ∙ ap option_copied c.in-Some-record.is) c.pre_returned.ensures.reply c.pre_returned.ensures.after is
 
 pub returns-in-Err-clause-event : goal.returns-in-Err-clause-event
+unfolding PreReturns
 returns-in-Err-clause-event c =
-    pre_strange c.args.worker c.in-Some.operation c.in-Some.instance c.args.verdict c.args.lent c.in-Err.handed_back
-    (pre_returned_of c.counted-state.result c.args.lent) c.pre_returned.new.self c.self.view_is
-    (at (goal.at.returns-in-Err-clause-event c).In-Some) (came (goal.at.returns-in-Err-clause-event c).After-pre_returned _ c.in-Err.is)
+    let here = goal.at.returns-in-Err-clause-event c in
+    let strange = came here.After-pre_returned _ c.in-Err.is in
+    rw (sym c.self.view_is, at here.In-Some, strange.0, strange.1) (refl, refl)
 
 pub invariant_of-self : goal.invariant_of-self
 invariant_of-self c = record {

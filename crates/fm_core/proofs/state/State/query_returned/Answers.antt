@@ -1,7 +1,8 @@
-use Rattle.fm_core.proofs.Words.{query_of, the_view, Worker, Some, refl, subst, ◌≡◌, IsSound, worker_at}
+use Rattle.fm_core.proofs.Words.{query_of, the_view, leaves_alike, Worker, Some, refl, subst, sym, ◌≡◌, IsSound, worker_at}
+use Rattle.fm_world.proofs.Words.{QueryReturns}
 use Rattle.fm_world.proofs.Detaching.{query_does}
 use Rattle.fm_core.proofs.Operated.{placed, within_at}
-use Rattle.fm_core.proofs.Torn.{left_tied, query_is, query_returns}
+use Rattle.fm_core.proofs.Torn.{left_tied, query_is}
 use Rattle.fm_core.proofs.state.State.query_returned.Goals.{In-Some}
 use Rattle.fm_core.proofs.state.State.query_returned.Goals as goal
 
@@ -12,9 +13,10 @@ pub leave-requires : goal.leave-requires
 leave-requires c = within_at c.args.worker _ c.self.invariant (at (goal.at.leave-requires c).In-Some)
 
 pub returns-clause-event : goal.returns-clause-event
+unfolding QueryReturns
 returns-clause-event c =
-    query_returns c.args.worker c.in-Some.instance c.args.allow c.query_returned.result c.query_returned.new.self c.put.new.workers c.self.inside.contexts c.leave.new.self
-    c.self.view_is (at (goal.at.returns-clause-event c).In-Some) c.query_returned.ensures.event c.put.ensures refl c.leave.ensures.table c.self.invariant.tied
+    rw (sym c.self.view_is, at (goal.at.returns-clause-event c).In-Some, c.put.ensures)
+    (c.query_returned.ensures.event, leaves_alike c.self.invariant.tied c.leave.ensures.table, refl)
 
 pub invariant_of-self : goal.invariant_of-self
 invariant_of-self c = record {

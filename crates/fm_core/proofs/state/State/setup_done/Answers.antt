@@ -1,9 +1,11 @@
-use Rattle.fm_core.proofs.Words.{setup_of, the_view, Worker, Some, refl, subst, ◌≡◌, IsSound, worker_at, slice_get}
+use Rattle.fm_core.proofs.Words.{setup_of, the_view, leaves_alike, Worker, Some, refl, subst, sym, ◌≡◌, IsSound, worker_at, slice_get}
+use Rattle.fm_world.proofs.Words.{SetsUp}
 use Rattle.fm_world.proofs.Keeps.{setup_place}
 use Rattle.fm_world.proofs.Owning.{setup_does}
-use Rattle.fm_core.proofs.Attached.{sets_up, setup_tied, setup_is, setup_at}
+use Rattle.fm_core.proofs.Attached.{setup_tied, setup_is, setup_at, emptied}
 use Rattle.fm_core.proofs.Operated.{placed, within_at}
 use Rattle.fm_core.proofs.state.State.setup_done.Goals.{In-Some}
+use Rattle.fm_core.proofs.Torn.{left_tied}
 use Rattle.fm_core.proofs.state.State.setup_done.Goals as goal
 
 at : (c : In-Some) → worker_at (the_view c.self.inside).workers c.args.worker ≡ Some (Worker.Setup c.in-Some.instance)
@@ -20,11 +22,16 @@ setup_done-result-requires c =
     (setup_place (the_view c.self.inside) c.args.worker c.in-Some.instance c.self.invariant.sound.under_way (at (goal.at.setup_done-result-requires c).In-Some))
 
 pub returns-clause-event : goal.returns-clause-event
+unfolding SetsUp
 returns-clause-event c =
-    sets_up c.args.worker c.in-Some.instance c.args.accept c.setup_done-result.result c.setup_done-result.new.self c.put.new.workers c.self.inside.contexts
-    c.leave.new.self c.unlink_unless.new.contexts
-    c.self.view_is (at (goal.at.returns-clause-event c).In-Some) c.setup_done-result.ensures.event c.put.ensures refl c.leave.ensures.table
-    c.leave.ensures.carried c.unlink_unless.ensures c.self.invariant.tied
+    let tied = left_tied c.self.inside.contexts c.leave.new.self c.args.worker.0 c.self.inside.flow c.leave.ensures.table c.leave.ensures.carried c.self.invariant.tied in
+    rw (sym c.self.view_is, at (goal.at.returns-clause-event c).In-Some, c.put.ensures) (
+      c.setup_done-result.ensures.event,
+      c.leave.new.self.table,
+      leaves_alike c.self.invariant.tied c.leave.ensures.table,
+      emptied (the_view c.self.inside) c.in-Some.instance c.setup_done-result.result c.leave.new.self c.unlink_unless.new.contexts c.unlink_unless.ensures tied,
+      refl,
+    )
 
 pub invariant_of-self : goal.invariant_of-self
 invariant_of-self c = record {

@@ -1,7 +1,8 @@
-use Rattle.fm_core.proofs.Words.{start_of, the_view, Worker, Some, refl, subst, ◌≡◌, IsSound, worker_at, slice_get_within}
+use Rattle.fm_core.proofs.Words.{start_of, the_view, leaves_alike, Worker, Some, refl, subst, sym, ◌≡◌, IsSound, worker_at, slice_get_within}
+use Rattle.fm_world.proofs.Words.{StartReturns}
 use Rattle.fm_world.proofs.Detaching.{start_place, start_returned_does}
 use Rattle.fm_core.proofs.Operated.{placed, within_at}
-use Rattle.fm_core.proofs.Torn.{left_tied, start_is, start_returns}
+use Rattle.fm_core.proofs.Torn.{left_tied, start_is}
 use Rattle.fm_core.proofs.state.State.start_returned.Goals.{In-Some}
 use Rattle.fm_core.proofs.state.State.start_returned.Goals as goal
 
@@ -17,9 +18,10 @@ start_returned-requires c =
     slice_get_within c.self.inside.stack.instances c.in-Some.instance.0 row.0 row.1
 
 pub returns-clause-event : goal.returns-clause-event
+unfolding StartReturns
 returns-clause-event c =
-    start_returns c.args.worker c.in-Some.instance c.start_returned.new.self c.put.new.workers c.self.inside.contexts c.leave.new.self
-    c.self.view_is (at (goal.at.returns-clause-event c).In-Some) c.start_returned.ensures.event c.put.ensures refl c.leave.ensures.table c.self.invariant.tied
+    rw (sym c.self.view_is, at (goal.at.returns-clause-event c).In-Some, c.put.ensures, c.start_returned.ensures.event)
+    (refl, leaves_alike c.self.invariant.tied c.leave.ensures.table, refl)
 
 pub invariant_of-self : goal.invariant_of-self
 invariant_of-self c = record {

@@ -1,8 +1,11 @@
-use Rattle.fm_core.proofs.Words.{the_view, idle_there, subst, sym, true, ◌∙◌, ◌≡◌, IsSound, is_idle, worker_at, World}
+use Rattle.fm_core.proofs.Words.{the_view, idle_there, Ok, ap, refl, subst, sym, true, ◌∙◌, ◌≡◌, IsSound, is_idle, worker_at, World, option_map, slice_get}
+use Rattle.fm_world.proofs.Words.{TakesDue, after_due}
 use Rattle.fm_ctx.proofs.Lives.{due_there}
 use Rattle.fm_world.proofs.Cleanups.{take_due_does}
-use Rattle.fm_core.proofs.Cleaned.{due_taken, due_tied}
+use Rattle.fm_core.proofs.Cleaned.{due_tied, due_told}
 use Rattle.fm_core.proofs.Operated.{within_at}
+use Rattle.fm_ctx.specs.declared.due.Due.{Due}
+use Rattle.fm_ctx.specs.Cleanup.{after_take_due}
 use Rattle.fm_core.proofs.state.State.take_due.Goals as goal
 
 pub take_due-due-requires-clause-within : goal.take_due-due-requires-clause-within
@@ -11,10 +14,15 @@ take_due-due-requires-clause-within c =
     (subst (λ (w : World). is_idle (worker_at w.workers c.args.worker) ≡ true) (sym c.self.view_is) (sym c.is_idle.ensures ∙ c.if-not-is_idle.false)))
 
 pub returns-clause-event : goal.returns-clause-event
+unfolding TakesDue
 returns-clause-event c =
-    due_taken (the_view c.self.inside) c.args.worker c.self.inside.contexts c.take_due-due.new.self c.note_due.new.workers c.take_due-due.result c.self.view_is
-    (sym c.is_idle.ensures ∙ c.if-not-is_idle.false) (λ d. due_there d c.self.invariant.sound.owned.lawful) c.take_due-due.ensures.reply
-    c.take_due-due.ensures.after c.note_due.ensures
+    let old = the_view c.self.inside in
+    let told = ap (option_map (λ (d : Due). d.id)) c.take_due-due.ensures.reply
+    ∙ due_told old.contexts (slice_get old.contexts.due 0) refl (λ d. due_there d c.self.invariant.sound.owned.lawful) in
+    rw (sym c.is_idle.ensures ∙ c.if-not-is_idle.false, sym c.self.view_is, c.note_due.ensures, c.take_due-due.ensures.after) (
+      ap Ok c.take_due-due.ensures.reply,
+      ap (λ m. record old { workers = after_due old.workers c.args.worker m; contexts = after_take_due old.contexts c.args.worker.0 }) told,
+    )
 
 pub invariant_of-self : goal.invariant_of-self
 invariant_of-self c = record {

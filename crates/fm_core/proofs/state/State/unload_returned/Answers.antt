@@ -1,7 +1,8 @@
-use Rattle.fm_core.proofs.Words.{unload_of, the_view, Worker, Some, subst, ◌≡◌, IsSound, worker_at}
+use Rattle.fm_core.proofs.Words.{unload_of, the_view, Worker, Some, refl, subst, sym, ◌≡◌, IsSound, worker_at}
+use Rattle.fm_world.proofs.Words.{UnloadReturns}
 use Rattle.fm_world.proofs.Unloading.{unload_does}
 use Rattle.fm_core.proofs.Operated.{placed}
-use Rattle.fm_core.proofs.Torn.{unload_is, unload_returns}
+use Rattle.fm_core.proofs.Torn.{unload_is}
 use Rattle.fm_core.proofs.state.State.unload_returned.Goals.{In-Some}
 use Rattle.fm_core.proofs.state.State.unload_returned.Goals as goal
 
@@ -9,9 +10,9 @@ at : (c : In-Some) → worker_at (the_view c.self.inside).workers c.args.worker 
 at c = placed unload_of Worker.Unload c.args.worker c.in-Some.filter c.place.result c.unload_of.result unload_is c.self.view_is c.place.ensures c.unload_of.ensures c.in-Some.is
 
 pub returns-clause-event : goal.returns-clause-event
+unfolding UnloadReturns
 returns-clause-event c =
-    unload_returns c.args.worker c.in-Some.filter c.args.allow c.unload_returned.result c.unload_returned.new.self c.put.new.workers c.self.view_is
-    (at (goal.at.returns-clause-event c).In-Some) c.unload_returned.ensures.event c.put.ensures
+    rw (sym c.self.view_is, at (goal.at.returns-clause-event c).In-Some, c.put.ensures) (c.unload_returned.ensures.event, refl)
 
 pub invariant_of-self : goal.invariant_of-self
 invariant_of-self c =

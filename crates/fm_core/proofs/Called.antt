@@ -1,16 +1,13 @@
 -- The events of callbacks on contexts, from what the layer of contexts did.
-use Rattle.fm_core.proofs.Words.{caller_of, has_kind_at, owner_for, IsState, IsTied, Caller, there_changed, new_context, ContextsKept, carried_of}
-use Rattle.fm_core.proofs.Words.{IsRefusalOrMemory, reference_does, release_does, Bool, Err, List, None, Ok, Option, Result, Some, ap, is_some, not, refl}
-use Rattle.fm_core.proofs.Words.{subst, sym, true, ℕ, ◌∙◌, ◌≡◌, allocate_refusal, grabbed, Context, ContextTable, context_at, Owner, FlowTable, Answers}
-use Rattle.fm_core.proofs.Words.{AnswersOrMemory, ContextKind, CtxId, WorkerId, Status, Callback, before, callback_of, with_contexts, object_by, row_at}
-use Rattle.fm_core.proofs.Words.{IsSound, World, carries, length, option_map, slice_get, none-some, same_Some}
+use Rattle.fm_core.proofs.Words.{caller_of, has_kind_at, owner_for, IsTied, Caller, there_changed, new_context, ContextsKept, IsRefusalOrMemory, Bool, Err}
+use Rattle.fm_core.proofs.Words.{List, None, Ok, Option, Result, Some, ap, is_some, not, refl, subst, sym, true, ℕ, ◌∙◌, ◌≡◌, allocate_refusal, Context}
+use Rattle.fm_core.proofs.Words.{ContextTable, context_at, Owner, FlowTable, Answers, AnswersOrMemory, ContextKind, CtxId, WorkerId, Status, Callback, before}
+use Rattle.fm_core.proofs.Words.{callback_of, with_contexts, object_by, row_at, World, length, option_map, slice_get, none-some, same_Some}
 use Rattle.fm_ctx.specs.Births.{kept_allocated, IsNew, allocated}
-use Rattle.fm_ctx.specs.Bodies.{body_at, write_refusal, bump_refusal, bumped, raised, rewritten, with_body}
-use Rattle.fm_ctx.specs.References.{reference_refusal, release_refusal, released}
-use Rattle.fm_ctx.proofs.Alike.{released_alike}
+use Rattle.fm_ctx.specs.Bodies.{rewritten, with_body}
 use Rattle.fm_ctx.proofs.Carried.{carried_allocated}
-use Rattle.fm_world.specs.ContextEvents.{InCallbackOf, allocate_refused, InCallback, context_by, Allocates, References, Releases, WritesBody, Bumps}
-use Rattle.fm_world.proofs.Callbacks.{callback_parts, write_body_does, bump_does}
+use Rattle.fm_world.specs.ContextEvents.{InCallbackOf, allocate_refused, InCallback, context_by, Allocates}
+use Rattle.fm_world.proofs.Callbacks.{callback_parts}
 use Rattle.fm_core.proofs.Holding.{tied_table}
 use Rattle.fm_world.specs.Owners.{has_kind, owner_by}
 use Rattle.fm_types.specs.declared.context_kind.ContextKind.TheVariants as kind
@@ -70,92 +67,10 @@ table_tied kept after t f there e tied = subst (λ x. IsTied x f) (sym e) (tied_
 
 -- ---- references
 
-pub referenced : (w : World) {now : World} (k : WorkerId) (c : CtxId) (result : Result (Unit {0}) Status) (kept after : ContextsKept) (x : Caller)
-    → with_contexts w kept.table ≡ now
-    → option_map caller_of (callback_of now k) ≡ Some x
-    → Answers (reference_refusal kept.table k.0 c) result kept after (λ _. after ≡ record kept { table = grabbed kept.table k.0 c })
-    → References now k c result (with_contexts w after.table)
-unfolding References
-referenced w k c result kept after x same is h =
-    let at = called_in k x same is in
-    subst (λ (v : World). References v k c result (with_contexts w after.table)) same
-    (in_callback (with_contexts w kept.table) k result (with_contexts w after.table) _ at.0 at.1
-    (answers_up w kept after (reference_refusal kept.table k.0 c) result _ _ (λ v e. ap (λ (x : ContextsKept). with_contexts w x.table) e) h))
-
-pub reference_keeps : (w : World) {now : World} (k : WorkerId) (c : CtxId) (result : Result (Unit {0}) Status) (kept after : ContextsKept) → with_contexts w kept.table ≡ now
-    → IsState (with_contexts w kept.table) kept → References now k c result (with_contexts w after.table)
-    → Answers (reference_refusal kept.table k.0 c) result kept after (λ _. after ≡ record kept { table = grabbed kept.table k.0 c }) → IsState (with_contexts w after.table) after
-reference_keeps w k c result kept after same s event h = record {
-  sound = (reference_does _ _ _ _ _ event).0.sound (subst IsSound same s.sound);
-  tied = answers_tied kept after w.flow (reference_refusal kept.table k.0 c) result _ (λ v e. table_tied kept after (grabbed kept.table k.0 c) w.flow (λ d. refl) e s.tied) h s.tied;
-}
-
-pub released_up : (w : World) {now : World} (k : WorkerId) (c : CtxId) (result : Result (Unit {0}) Status) (kept after : ContextsKept) (x : Caller)
-    → with_contexts w kept.table ≡ now
-    → option_map caller_of (callback_of now k) ≡ Some x
-    → IsTied kept w.flow
-    → Answers (release_refusal kept.table k.0 c) result kept after (λ _. after ≡ record kept { table = released (carried_of kept) kept.table k.0 c })
-    → Releases now k c result (with_contexts w after.table)
-unfolding Releases
-released_up w k c result kept after x same is tied h =
-    let at = called_in k x same is in
-    subst (λ (v : World). Releases v k c result (with_contexts w after.table)) same
-    (in_callback (with_contexts w kept.table) k result (with_contexts w after.table) _ at.0 at.1
-    (answers_up w kept after (release_refusal kept.table k.0 c) result _ _
-    (λ v e. ap (λ (x : ContextsKept). with_contexts w x.table) e ∙ ap (with_contexts w) (released_alike (carried_of kept) (carries w) kept.table k.0 c (tied c))) h))
-
-pub release_keeps : (w : World) {now : World} (k : WorkerId) (c : CtxId) (result : Result (Unit {0}) Status) (kept after : ContextsKept) → with_contexts w kept.table ≡ now
-    → IsState (with_contexts w kept.table) kept → Releases now k c result (with_contexts w after.table)
-    → Answers (release_refusal kept.table k.0 c) result kept after (λ _. after ≡ record kept { table = released (carried_of kept) kept.table k.0 c }) → IsState (with_contexts w after.table) after
-release_keeps w k c result kept after same s event h = record {
-  sound = (release_does _ _ _ _ _ event).0.sound (subst IsSound same s.sound);
-  tied = answers_tied kept after w.flow (release_refusal kept.table k.0 c) result _ (λ v e. table_tied kept after (released (carried_of kept) kept.table k.0 c) w.flow (λ d. refl) e s.tied) h s.tied;
-}
-
 -- ---- bodies
 
-rewritten_there : (t : ContextTable) (c : CtxId) (bytes : List ℕ) (d : CtxId) → is_some (context_at (rewritten t c bytes).slots d) ≡ is_some (context_at t.slots d)
+pub rewritten_there : (t : ContextTable) (c : CtxId) (bytes : List ℕ) (d : CtxId) → is_some (context_at (rewritten t c bytes).slots d) ≡ is_some (context_at t.slots d)
 rewritten_there t c bytes d = there_changed (with_body bytes) t.slots c d
-
-pub body_written : (w : World) {now : World} (k : WorkerId) (c : CtxId) (bytes : List ℕ) (result : Result (Unit {0}) Status) (kept after : ContextsKept)
-    (x : Caller) → with_contexts w kept.table ≡ now
-    → option_map caller_of (callback_of now k) ≡ Some x
-    → Answers (write_refusal kept.table k.0 c bytes) result kept after (λ _. after ≡ record kept { table = rewritten kept.table c bytes })
-    → WritesBody now k c bytes result (with_contexts w after.table)
-unfolding WritesBody
-body_written w k c bytes result kept after x same is h =
-    let at = called_in k x same is in
-    subst (λ (v : World). WritesBody v k c bytes result (with_contexts w after.table)) same
-    (in_callback (with_contexts w kept.table) k result (with_contexts w after.table) _ at.0 at.1
-    (answers_up w kept after (write_refusal kept.table k.0 c bytes) result _ _ (λ v e. ap (λ (x : ContextsKept). with_contexts w x.table) e) h))
-
-pub write_keeps : (w : World) {now : World} (k : WorkerId) (c : CtxId) (bytes : List ℕ) (result : Result (Unit {0}) Status) (kept after : ContextsKept) → with_contexts w kept.table ≡ now
-    → IsState (with_contexts w kept.table) kept → WritesBody now k c bytes result (with_contexts w after.table)
-    → Answers (write_refusal kept.table k.0 c bytes) result kept after (λ _. after ≡ record kept { table = rewritten kept.table c bytes }) → IsState (with_contexts w after.table) after
-write_keeps w k c bytes result kept after same s event h = record {
-  sound = (write_body_does _ _ _ _ _ _ event).sound (subst IsSound same s.sound);
-  tied = answers_tied kept after w.flow (write_refusal kept.table k.0 c bytes) result _ (λ v e. table_tied kept after (rewritten kept.table c bytes) w.flow (rewritten_there kept.table c bytes) e s.tied) h s.tied;
-}
-
-pub body_bumped : (w : World) {now : World} (k : WorkerId) (c : CtxId) (place by : ℕ) (result : Result ℕ Status) (kept after : ContextsKept) (x : Caller)
-    → with_contexts w kept.table ≡ now
-    → option_map caller_of (callback_of now k) ≡ Some x
-    → Answers (bump_refusal kept.table k.0 c place) result kept after (λ n. (n ≡ raised place by (body_at kept.table.slots c)) × (after ≡ record kept { table = bumped kept.table c place by }))
-    → Bumps now k c place by result (with_contexts w after.table)
-unfolding Bumps
-body_bumped w k c place by result kept after x same is h =
-    let at = called_in k x same is in
-    subst (λ (v : World). Bumps v k c place by result (with_contexts w after.table)) same
-    (in_callback (with_contexts w kept.table) k result (with_contexts w after.table) _ at.0 at.1
-    (answers_up w kept after (bump_refusal kept.table k.0 c place) result _ _ (λ v e. (e.0, ap (λ (x : ContextsKept). with_contexts w x.table) e.1)) h))
-
-pub bump_keeps : (w : World) {now : World} (k : WorkerId) (c : CtxId) (place by : ℕ) (result : Result ℕ Status) (kept after : ContextsKept) → with_contexts w kept.table ≡ now
-    → IsState (with_contexts w kept.table) kept → Bumps now k c place by result (with_contexts w after.table)
-    → Answers (bump_refusal kept.table k.0 c place) result kept after (λ n. (n ≡ raised place by (body_at kept.table.slots c)) × (after ≡ record kept { table = bumped kept.table c place by })) → IsState (with_contexts w after.table) after
-bump_keeps w k c place by result kept after same s event h = record {
-  sound = (bump_does _ _ _ _ _ _ _ event).sound (subst IsSound same s.sound);
-  tied = answers_tied kept after w.flow (bump_refusal kept.table k.0 c place) result _ (λ v e. table_tied kept after (bumped kept.table c place by) w.flow (rewritten_there kept.table c _) e.1 s.tied) h s.tied;
-}
 
 -- ---- allocate
 

@@ -1,21 +1,19 @@
 -- Setting, getting and deleting contexts, from what the layer of contexts did.
 use Rattle.fm_core.proofs.Words.{caller_of, has_kind_at, owner_for, IsTied, Caller, there_changed, ContextsKept, carried_of, Bool, Err, List, None, Option}
-use Rattle.fm_core.proofs.Words.{Result, Some, [], ap, arith, cond, false, is_some, not, refl, subst, sym, true, ℕ, ◌&&◌, ◌||◌, ◌∙◌, ◌∷◌, ◌≡◌, option_and_then}
-use Rattle.fm_core.proofs.Words.{hand_of, holds, holder, grabbed, Context, ContextTable, Slot, context_at, Object, Owner, FlowTable, Answers, first_of}
-use Rattle.fm_core.proofs.Words.{ContextKind, CtxId, WorkerId, Status, Callback, before, callback_of, with_contexts, is_there, object_by, World, carries}
-use Rattle.fm_core.proofs.Words.{option_map, slice_get, none-some, same_Some}
-use Rattle.fm_world.proofs.Words.{is_hand_full, delete_after, delete_refusal, delete_reply, get_refusal, linked, set_after, set_reply, unlinked_for, with_link}
-use Rattle.fm_world.proofs.Words.{link_at, SetMode, SetReply, Deletes, Gets, Sets, SetsIn, SetsOn, SetsUnless, object_for, object_refused, set_answer}
-use Rattle.fm_world.proofs.Words.{set_refused, there_at}
+use Rattle.fm_core.proofs.Words.{Some, [], ap, arith, cond, false, is_some, not, refl, subst, sym, true, ℕ, ◌&&◌, ◌||◌, ◌∙◌, ◌∷◌, ◌≡◌, option_and_then, hand_of}
+use Rattle.fm_core.proofs.Words.{holds, holder, grabbed, Context, ContextTable, Slot, context_at, Object, Owner, first_of, ContextKind, CtxId, WorkerId, Status}
+use Rattle.fm_core.proofs.Words.{Callback, before, callback_of, with_contexts, is_there, object_by, World, carries, option_map, slice_get, none-some, same_Some}
+use Rattle.fm_world.proofs.Words.{is_hand_full, delete_after, linked, set_after, set_reply, unlinked_for, with_link, link_at, SetMode, SetReply, Deletes, Gets}
+use Rattle.fm_world.proofs.Words.{Sets, SetsIn, SetsOn, SetsUnless, object_for, object_refused, set_answer, set_refused, there_at}
 use Rattle.fm_world.specs.declared.set_answer.SetAnswer.{SetAnswer}
 use Rattle.fm_ctx.specs.Links.{set_mode_after}
 use Rattle.fm_core.specs.Callers.{is_closing_at}
 use Rattle.std.proofs.Common.{is_none}
 use Rattle.fm_ctx.specs.declared.set_reply.SetMode.TheVariants.{Keep, Replace}
-use Rattle.fm_ctx.proofs.Alike.{set_alike, delete_alike}
+use Rattle.fm_ctx.proofs.Alike.{set_alike}
 use Rattle.fm_ctx.proofs.Sets.{unlinked_slots}
 use Rattle.fm_core.specs.Setting.{is_past_at, object_of, set_refusal, find_refusal, IsSettable, IsFound}
-use Rattle.fm_core.proofs.Called.{called_in, owner_same, object_same, callback_row, in_callback, answers_up, answers_tied, table_tied}
+use Rattle.fm_core.proofs.Called.{called_in, owner_same, object_same, callback_row, in_callback}
 use Rattle.fm_core.specs.Callers as caller
 
 -- ---- get and delete
@@ -49,7 +47,7 @@ pub found_free : (w : World) (k : WorkerId) (at : Callback) (x : Caller) (what :
 found_free w k at x what others is e h =
     sym (find_same w k at what others is) ∙ grind (arith, find_of w k at x what None e h)
 
-found_there : (w : World) (at : Callback) (x : Caller) (what : ContextKind) (o : Owner × Object) → caller_of at ≡ x → IsFound w x what o
+pub found_there : (w : World) (at : Callback) (x : Caller) (what : ContextKind) (o : Owner × Object) → caller_of at ≡ x → IsFound w x what o
     → there_at w what at ≡ holder w.contexts.slots o.0 o.1
 found_there w at x what o e h =
     ap (λ own. option_and_then (holder w.contexts.slots own) (object_by at.row at.instance at.file what))
@@ -57,7 +55,7 @@ found_there w at x what o e h =
     ∙ ap (option_and_then (holder w.contexts.slots o.0)) (sym (object_same at what) ∙ ap (λ (y : Caller). caller.object_for y what) e ∙ h.object)
 
 -- the tests of a get on an object of the callback's
-get_free : (w : World) (k : WorkerId) (at : Callback) (x : Caller) (what : ContextKind) (o : Owner × Object) (others : Option Status) (b : Bool)
+pub get_free : (w : World) (k : WorkerId) (at : Callback) (x : Caller) (what : ContextKind) (o : Owner × Object) (others : Option Status) (b : Bool)
     → callback_of w k ≡ Some at → caller_of at ≡ x
     → IsFound w x what o → is_there w.files (Some o.1) ≡ b
     → object_refused w what at (before (not (is_there w.files (object_by at.row at.instance at.file what))) Status.DeletingObject others) ≡ before (not b) Status.DeletingObject others
@@ -74,93 +72,29 @@ unfolding Gets
 get_refused w k what x why is h =
     let at = called_in {old = w} k x refl is in in_callback w k (Err why) w _ at.0 at.1 (refused_as w k at.0 x what _ why at.1 at.2 h, refl)
 
-pub gotten : (w : World) {now : World} (k : WorkerId) (what : ContextKind) (x : Caller) (o : Owner × Object) (result : Result CtxId Status)
-    (kept after : ContextsKept)
-    → with_contexts w kept.table ≡ now → option_map caller_of (callback_of now k) ≡ Some x → IsFound now x what o → is_there w.files (Some o.1) ≡ true
-    → Answers (get_refusal kept.table k.0 (holder kept.table.slots o.0 o.1)) result kept after
-    (λ id. (holder kept.table.slots o.0 o.1 ≡ Some id) × (after ≡ record kept { table = grabbed kept.table k.0 id }))
-    → Gets now k what result (with_contexts w after.table)
-unfolding Gets
-gotten w k what x o result kept after now_is is found_now here event =
-    let at = called_in k x now_is is in
-    let found = subst (λ (v : World). IsFound v x what o) (sym now_is) found_now in
-    let old = with_contexts w kept.table in
-    let there : there_at old what at.0 ≡ holder kept.table.slots o.0 o.1 = found_there old at.0 x what o at.2 found in
-    subst (λ (v : World). Gets v k what result (with_contexts w after.table)) now_is
-    (in_callback old k result (with_contexts w after.table) _ at.0 at.1
-    (subst (λ r. Answers r result old (with_contexts w after.table) (λ (c : CtxId). (there_at old what at.0 ≡ Some c) ×
-    (with_contexts w after.table ≡ with_contexts old (grabbed kept.table k.0 c))))
-    (sym (get_free old k at.0 x what o (get_refusal kept.table k.0 (there_at old what at.0)) true at.1 at.2 found here ∙ ap (get_refusal kept.table k.0) there))
-    (answers_up w kept after (get_refusal kept.table k.0 (holder kept.table.slots o.0 o.1)) result _ _
-    (λ c e. (there ∙ e.0, ap (λ (y : ContextsKept). with_contexts w y.table) e.1)) event)))
-
-pub get_tied : (kept after : ContextsKept) (f : FlowTable) (k : WorkerId) (there : Option CtxId) (result : Result CtxId Status)
-    → Answers (get_refusal kept.table k.0 there) result kept after (λ id. (there ≡ Some id) × (after ≡ record kept { table = grabbed kept.table k.0 id }))
-    → IsTied kept f → IsTied after f
-get_tied kept after f k there result h tied =
-    answers_tied kept after f (get_refusal kept.table k.0 there) result _ (λ c e. table_tied kept after (grabbed kept.table k.0 c) f (λ d. refl) e.1 tied) h tied
-
 pub delete_refused : (w : World) (k : WorkerId) (what : ContextKind) (wants : Bool) (x : Caller) (why : Status) → option_map caller_of (callback_of w k) ≡ Some x
     → find_refusal w x what ≡ Some why → Deletes w k what wants (Err why) w
 unfolding Deletes
 delete_refused w k what wants x why is h =
     let at = called_in {old = w} k x refl is in in_callback w k (Err why) w _ at.0 at.1 (refused_as w k at.0 x what _ why at.1 at.2 h, refl)
 
-pub deleted : (w : World) {now : World} (k : WorkerId) (what : ContextKind) (wants : Bool) (x : Caller) (o : Owner × Object)
-    (result : Result (Option CtxId) Status) (kept after : ContextsKept)
-    → with_contexts w kept.table ≡ now → option_map caller_of (callback_of now k) ≡ Some x → IsFound now x what o → IsTied kept w.flow
-    → Answers (delete_refusal kept.table k.0 wants (holder kept.table.slots o.0 o.1)) result kept after
-    (λ c. (c ≡ delete_reply wants (holder kept.table.slots o.0 o.1)) × (after ≡ record kept {
-      table = delete_after (carried_of kept) kept.table k.0 wants
-          (holder kept.table.slots o.0 o.1);
-    }))
-    → Deletes now k what wants result (with_contexts w after.table)
-unfolding Deletes
-deleted w k what wants x o result kept after now_is is found_now tied event =
-    let at = called_in k x now_is is in
-    let found = subst (λ (v : World). IsFound v x what o) (sym now_is) found_now in
-    let old = with_contexts w kept.table in
-    let there : there_at old what at.0 ≡ holder kept.table.slots o.0 o.1 = found_there old at.0 x what o at.2 found in
-    subst (λ (v : World). Deletes v k what wants result (with_contexts w after.table)) now_is
-    (in_callback old k result (with_contexts w after.table) _ at.0 at.1
-    (subst (λ r. Answers r result old (with_contexts w after.table) (λ (c : Option CtxId). (c ≡ delete_reply wants (there_at old what at.0))
-    × (with_contexts w after.table ≡ with_contexts old (delete_after (carries old) kept.table k.0 wants (there_at old what at.0)))))
-    (sym (found_free old k at.0 x what (delete_refusal kept.table k.0 wants (there_at old what at.0)) at.1 at.2 found.free ∙ ap
-    (delete_refusal kept.table k.0 wants) there))
-    (answers_up w kept after (delete_refusal kept.table k.0 wants (holder kept.table.slots o.0 o.1)) result _ _
-    (λ c e. (
-      e.0 ∙ ap (delete_reply wants) (sym there),
-      ap (λ (y : ContextsKept). with_contexts w y.table) e.1
-          ∙ ap (with_contexts w) (delete_alike (carried_of kept) (carries w) kept.table k.0 wants (holder kept.table.slots o.0 o.1) tied
-          ∙ ap (delete_after (carries w) kept.table k.0 wants) (sym there)),
-    )) event)))
-
 unlinked_there : (by : CtxId → ℕ) (t : ContextTable) (w : ℕ) (wants : Bool) (d : CtxId) (c : CtxId)
     → is_some (context_at (unlinked_for by t w wants d).slots c) ≡ is_some (context_at t.slots c)
 unlinked_there by t w wants d c =
     ap (λ (slots : List Slot). is_some (context_at slots c)) (unlinked_slots by t w wants d) ∙ there_changed (with_link None) t.slots d c
 
-deleted_there : (by : CtxId → ℕ) (t : ContextTable) (w : ℕ) (wants : Bool) (m : Option CtxId) (c : CtxId)
+pub deleted_there : (by : CtxId → ℕ) (t : ContextTable) (w : ℕ) (wants : Bool) (m : Option CtxId) (c : CtxId)
     → is_some (context_at (delete_after by t w wants m).slots c) ≡ is_some (context_at t.slots c)
 deleted_there by t w wants None c = refl
 deleted_there by t w wants (Some d) c = unlinked_there by t w wants d c
 
-pub delete_tied : (kept after : ContextsKept) (f : FlowTable) (k : WorkerId) (wants : Bool) (there : Option CtxId) (result : Result (Option CtxId) Status)
-    → Answers (delete_refusal kept.table k.0 wants there) result kept after
-    (λ c. (c ≡ delete_reply wants there) × (after ≡ record kept { table = delete_after (carried_of kept) kept.table k.0 wants there })) → IsTied kept f → IsTied
-    after f
-delete_tied kept after f k wants there result h tied =
-    answers_tied kept after f (delete_refusal kept.table k.0 wants there) result _
-    (λ c e. table_tied kept after (delete_after (carried_of kept) kept.table k.0 wants there) f (deleted_there (carried_of kept) kept.table k.0 wants there) e.1
-    tied) h tied
-
 -- ---- set
 
-object_here : (at : Callback) (m : Option Context) → object_of (caller_of at) m ≡ object_for at m
+pub object_here : (at : Callback) (m : Option Context) → object_of (caller_of at) m ≡ object_for at m
 object_here at None = refl
 object_here at (Some x) = object_same at x.kind
 
-set_same : (w : World) (k : WorkerId) (c : CtxId) (at : Callback) (x : Caller) → callback_of w k ≡ Some at → caller_of at ≡ x
+pub set_same : (w : World) (k : WorkerId) (c : CtxId) (at : Callback) (x : Caller) → callback_of w k ≡ Some at → caller_of at ≡ x
     → set_refusal w k c x ≡ set_refused w k c at
 set_same w k c at x is e =
     ap (set_refusal w k c) (sym e)
@@ -171,7 +105,7 @@ set_same w k c at x is e =
     ∷ (is_closing_at w.stack m || not (is_there w.files (object_for at (context_at w.contexts.slots c))), Status.DeletingObject) ∷ [])) (callback_row w k at is)
 
 -- the context is there, with its owner
-there_with : (m : Option Context) (own : Owner) → option_map (λ (x : Context). x.owner) m ≡ Some own → (x : Context) × (m ≡ Some x) × (x.owner ≡ own)
+pub there_with : (m : Option Context) (own : Owner) → option_map (λ (x : Context). x.owner) m ≡ Some own → (x : Context) × (m ≡ Some x) × (x.owner ≡ own)
 there_with None own h = absurd (none-some own h)
 there_with (Some x) own h = (x, refl, same_Some x.owner own h)
 
@@ -205,7 +139,7 @@ set_up w k c mode wants x o reply result kept after now_is is able tied answers 
 linked_there : (t : ContextTable) (c : CtxId) (o : Object) (d : CtxId) → is_some (context_at (linked t c o).slots d) ≡ is_some (context_at t.slots d)
 linked_there t c o d = there_changed (with_link (Some o)) t.slots c d
 
-set_there : (by : CtxId → ℕ) (t : ContextTable) (w : ℕ) (c : CtxId) (o : Object) (mode : SetMode) (wants : Bool) (m : Option CtxId) (d : CtxId)
+pub set_there : (by : CtxId → ℕ) (t : ContextTable) (w : ℕ) (c : CtxId) (o : Object) (mode : SetMode) (wants : Bool) (m : Option CtxId) (d : CtxId)
     → is_some (context_at (set_after by t w c o mode wants m).slots d) ≡ is_some (context_at t.slots d)
 set_there by t w c o mode wants None d = linked_there t c o d
 set_there by t w c o mode wants (Some e) d = by_room (wants && is_hand_full t.hands w)
@@ -217,8 +151,3 @@ set_there by t w c o mode wants (Some e) d = by_room (wants && is_hand_full t.ha
     by_room : (b : Bool) → is_some (context_at (cond b t (set_mode_after by t w c o mode wants e)).slots d) ≡ is_some (context_at t.slots d)
     by_room true = refl
     by_room false = by_mode mode
-
-pub set_tied : (kept after : ContextsKept) (f : FlowTable) (k : WorkerId) (c : CtxId) (o : Object) (mode : SetMode) (wants : Bool) (m : Option CtxId)
-    → after ≡ record kept { table = set_after (carried_of kept) kept.table k.0 c o mode wants m } → IsTied kept f → IsTied after f
-set_tied kept after f k c o mode wants m e tied =
-    table_tied kept after (set_after (carried_of kept) kept.table k.0 c o mode wants m) f (set_there (carried_of kept) kept.table k.0 c o mode wants m) e tied

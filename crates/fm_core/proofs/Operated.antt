@@ -479,17 +479,6 @@ post_returns {old} {now} {kept} k o i given lent t ws after s now_is at come wor
     (fits_taken old new (told (λ y. data_fits y.operation y.path lent) false o old.flow) (ReturnsFrom old k o (post_returned_of given lent) old.contexts new) come.0
     (over old k o (post_returned_of given lent) t ws kept after come.1 workers contexts ends (post_tied k o i given lent s at))))
 
-pub drain_returns : {old now : World} {kept : ContextsKept} (k : WorkerId) (o : OpId) (i : InstanceId) (given : PostVerdict) (t : FlowTable) (ws : List Worker)
-    (after : ContextsKept)
-    → IsState old kept → old ≡ now → worker_at old.workers k ≡ Some (Worker.Drain o i) → t ≡ changed o (drain_returned_of i) old.flow
-    → ws ≡ put old.workers k Worker.Idle
-    → old.contexts ≡ kept.table → Ends kept after k.0 → PostReturns now k given None (Ok tt) (record old { flow = t; workers = ws; contexts = after.table })
-unfolding PostReturns
-drain_returns {old} {now} {kept} k o i given t ws after s now_is at step workers contexts ends =
-    subst (λ (w : World). PostReturns w k given None (Ok tt) (record old { flow = t; workers = ws; contexts = after.table })) now_is
-    (subst (PostReturnsAt old k given None (Ok tt) (record old { flow = t; workers = ws; contexts = after.table })) (sym at)
-    (refl, over old k o (drain_returned_of i) t ws kept after step workers contexts ends (drain_tied k o i s at)))
-
 -- ---- begin
 
 -- an operation began, where nothing refused it but want of memory

@@ -4,7 +4,7 @@ use Rattle.fm_core.proofs.Words.{placed_below, sent_is_held, None, Ok, Option, S
 use Rattle.fm_core.proofs.Words.{within_hands, hand_of, holds, IsLawful, ContextTable, PreVerdict, FlowRecord, pre_settled, FlowTable, IsFlow, changed}
 use Rattle.fm_core.proofs.Words.{is_number, operation_at, PreState, found_holds, first_of, CtxId, InstanceId, OpId, WorkerId, Status, filed_pre, is_created_on}
 use Rattle.fm_core.proofs.Words.{sent, sent_in, state_at, FileTable, after_pre, LosesLinks, place_in, worker_at, World, carries, length}
-use Rattle.fm_world.proofs.Words.{post_settled, PostHeld, PreHeld, ResumesPost, ResumesPostAt, ResumesPre, ResumesPreAt, is_held_by, lets_go, pre_resumed}
+use Rattle.fm_world.proofs.Words.{post_settled, PostHeld, PreHeld, ResumesPre, ResumesPreAt, is_held_by, lets_go, pre_resumed}
 use Rattle.fm_flow.specs.declared.hold.Hold.{Hold}
 use Rattle.fm_flow.specs.Holds.{is_held}
 use Rattle.fm_flow.proofs.Holds.{held_pre, held_post}
@@ -89,11 +89,3 @@ pub post_resume_tied : {old : World} {kept : ContextsKept} (o : OpId) (i : Insta
     → t ≡ changed o (post_settled post.Finished) old.flow → IsTied kept t
 post_resume_tied {old} {kept} o i t s held flow =
     subst (IsTied kept) (sym flow) (λ c. s.tied c ∙ sym (post_resumed_balance old o i held s.sound.under_way c))
-
-pub post_resumes : {old now : World} (k : WorkerId) (o : OpId) (i : InstanceId) (t : FlowTable) → old ≡ now → place_in (worker_at old.workers k) ≡ Some i
-    → is_held_by old hold.Post o i ≡ true → t ≡ changed o (post_settled post.Finished) old.flow → ResumesPost now k o (Ok tt) (record old { flow = t })
-unfolding ResumesPost
-post_resumes {old} k o i t now_is place held flow =
-    let free : first_of ((not (is_held_by old hold.Post o i), Status.NotPended) ∷ []) ≡ None = grind (arith, held) in
-    subst (λ (w : World). ResumesPost w k o (Ok tt) (record old { flow = t })) now_is
-    (subst (ResumesPostAt old o (Ok tt) (record old { flow = t })) (sym place) (free, ap (λ x. record old { flow = x }) flow))

@@ -5,15 +5,16 @@ use Rattle.fm_world.proofs.Words.{all_without, All-push, all_pairs_push}
 use Rattle.fm_world.proofs.Streams.{all_kept, pairs_change, pairs_without}
 use Rattle.fm_core.specs.FilesKept.{AreRising}
 
+-- where the streams alone change
+with_streams : {xs ys : List FileStream} (hs : List FileHandle) (n : ℕ) → AllPairs IsBefore ys → AreRising (record { streams = xs; handles = hs; next = n })
+    → AreRising (record { streams = ys; handles = hs; next = n })
+with_streams hs n pairs rises = record { streams = pairs; handles = rises.handles; given = rises.given }
+
 pub created_rising : (x : FileStream) (xs ys : List FileStream) (hs : List FileHandle) (n : ℕ) → ys ≡ xs ++ x ∷ []
     → All (λ (y : FileStream). y.number.0 < x.number.0) xs
     → AreRising (record { streams = xs; handles = hs; next = n }) → AreRising (record { streams = ys; handles = hs; next = n })
 created_rising x xs ys hs n is fresh rises =
-    record {
-      streams = subst (AllPairs IsBefore) (sym is) (all_pairs_push IsBefore xs x rises.streams fresh);
-      handles = rises.handles;
-      given = rises.given;
-    }
+    with_streams hs n (subst (AllPairs IsBefore) (sym is) (all_pairs_push IsBefore xs x rises.streams fresh)) rises
 
 pub opened_rising : (h : FileHandle) (xs : List FileStream) (hs gs : List FileHandle) (n : ℕ) → gs ≡ hs ++ h ∷ [] → h.number.0 ≡ n
     → AreRising (record { streams = xs; handles = hs; next = n }) → AreRising (record { streams = xs; handles = gs; next = n + 1 })
@@ -28,20 +29,12 @@ opened_rising h xs hs gs n is last rises =
 pub marked_rising : (s : StreamId) (xs ys : List FileStream) (hs : List FileHandle) (n : ℕ) → ys ≡ change_first (is_stream s) with_mark xs
     → AreRising (record { streams = xs; handles = hs; next = n }) → AreRising (record { streams = ys; handles = hs; next = n })
 marked_rising s xs ys hs n is rises =
-    record {
-      streams = subst (AllPairs IsBefore) (sym is) (pairs_change IsBefore (is_stream s) with_mark xs (λ x y h. h) (λ x y h. h) rises.streams);
-      handles = rises.handles;
-      given = rises.given;
-    }
+    with_streams hs n (subst (AllPairs IsBefore) (sym is) (pairs_change IsBefore (is_stream s) with_mark xs (λ x y h. h) (λ x y h. h) rises.streams)) rises
 
 pub torn_rising : (s : StreamId) (xs ys : List FileStream) (hs : List FileHandle) (n : ℕ) → ys ≡ without_first (is_stream s) xs
     → AreRising (record { streams = xs; handles = hs; next = n }) → AreRising (record { streams = ys; handles = hs; next = n })
 torn_rising s xs ys hs n is rises =
-    record {
-      streams = subst (AllPairs IsBefore) (sym is) (pairs_without IsBefore (is_stream s) xs rises.streams);
-      handles = rises.handles;
-      given = rises.given;
-    }
+    with_streams hs n (subst (AllPairs IsBefore) (sym is) (pairs_without IsBefore (is_stream s) xs rises.streams)) rises
 
 pub phased_rising : (h : HandleId) (to : HandlePhase) (xs : List FileStream) (hs gs : List FileHandle) (n : ℕ) → gs ≡ change_first (is_handle h) (with_phase to) hs
     → AreRising (record { streams = xs; handles = hs; next = n }) → AreRising (record { streams = xs; handles = gs; next = n })

@@ -1,12 +1,20 @@
-use Rattle.fm_core.proofs.Words.{the_view, sym, ◌∙◌}
-use Rattle.fm_core.proofs.Called.{body_bumped, bump_keeps}
+use Rattle.fm_core.proofs.Words.{the_view, ContextsKept, ap, subst, sym, ◌∙◌, with_contexts, IsSound}
+use Rattle.fm_world.proofs.Words.{Bumps}
+use Rattle.fm_core.proofs.Called.{called_in, answers_up, answers_tied, table_tied, rewritten_there}
+use Rattle.fm_ctx.specs.Bodies.{bumped}
+use Rattle.fm_world.proofs.Callbacks.{bump_does}
 use Rattle.fm_core.proofs.state.State.bump.Goals as goal
 
 pub returns-clause-event : goal.returns-clause-event
+unfolding Bumps
 returns-clause-event c =
-    body_bumped (the_view c.self.inside) c.args.worker c.args.context c.args.place c.args.by c.bump.result c.self.inside.contexts c.bump.new.self
-    c.in-Some._caller c.self.view_is (sym c.caller.ensures.callback ∙ c.in-Some.is) c.bump.ensures
+    let at = called_in c.args.worker c.in-Some._caller c.self.view_is (sym c.caller.ensures.callback ∙ c.in-Some.is) in
+    rw (sym c.self.view_is, at.1)
+    (answers_up (the_view c.self.inside) c.self.inside.contexts c.bump.new.self _ c.bump.result _ _ (λ v e. (e.0, ap (λ (x : ContextsKept). with_contexts (the_view c.self.inside) x.table) e.1)) c.bump.ensures)
 
 pub invariant_of-self : goal.invariant_of-self
-invariant_of-self c =
-    bump_keeps (the_view c.self.inside) c.args.worker c.args.context c.args.place c.args.by _ _ _ c.self.view_is c.self.invariant (returns-clause-event c) c.bump.ensures
+invariant_of-self c = record {
+  sound = (bump_does _ _ _ _ _ _ _ (returns-clause-event c)).sound (subst IsSound c.self.view_is c.self.invariant.sound);
+  tied = answers_tied c.self.inside.contexts c.bump.new.self c.self.inside.flow _ c.bump.result _
+      (λ v e. table_tied c.self.inside.contexts c.bump.new.self (bumped c.self.inside.contexts.table c.args.context c.args.place c.args.by) c.self.inside.flow (rewritten_there c.self.inside.contexts.table c.args.context _) e.1 c.self.invariant.tied) c.bump.ensures c.self.invariant.tied;
+}

@@ -1,6 +1,7 @@
-use Rattle.fm_core.proofs.Words.{IsTied, drain_of, post_does, Worker, refl, subst, sym, drain_returned_of, changed, InDrain, IsSound}
+use Rattle.fm_core.proofs.Words.{IsTied, drain_of, leaves_alike, post_does, Worker, refl, subst, sym, drain_returned_of, changed, InDrain, IsSound}
+use Rattle.fm_world.proofs.Words.{PostReturns}
 use Rattle.fm_core.proofs.Holding.{tied_ends}
-use Rattle.fm_core.proofs.Operated.{drain_is, drain_returns, drain_tied, in_drain, located, stands_from, within_at}
+use Rattle.fm_core.proofs.Operated.{drain_is, drain_tied, in_drain, located, stands_from, within_at}
 use Rattle.fm_core.proofs.state.State.drain_returned.Goals as goal
 
 pub drain_returned-requires : goal.drain_returned-requires
@@ -15,11 +16,11 @@ end_callback-requires-clause-within c =
     c.self.view_is c.requires)
 
 pub returns : goal.returns
+unfolding PostReturns
 returns c =
-    drain_returns c.args.worker c.args.operation c.args.instance c.args._verdict c.drain_returned.new.self c.put.new.workers c.end_callback.new.contexts
-    c.self.invariant c.self.view_is
-    (located drain_of (λ p. Worker.Drain p.0 p.1) c.args.worker (c.args.operation, c.args.instance) drain_is c.self.view_is c.requires) c.drain_returned.ensures
-    c.put.ensures refl c.end_callback.ensures
+    let at = located drain_of (λ p. Worker.Drain p.0 p.1) c.args.worker (c.args.operation, c.args.instance) drain_is c.self.view_is c.requires in
+    rw (sym c.self.view_is, at, c.put.ensures, c.drain_returned.ensures)
+    (refl, (leaves_alike (drain_tied c.args.worker c.args.operation c.args.instance c.self.invariant at) c.end_callback.ensures.leaves, refl))
 
 pub invariant_of-self : goal.invariant_of-self
 invariant_of-self c = record {

@@ -1,15 +1,21 @@
-use Rattle.fm_core.proofs.Words.{the_view, reference_does, subst, sym, ◌∙◌, IsSound}
-use Rattle.fm_core.proofs.Called.{referenced, reference_keeps}
+use Rattle.fm_core.proofs.Words.{the_view, ContextsKept, reference_does, ap, refl, subst, sym, ◌∙◌, grabbed, with_contexts, IsSound}
+use Rattle.fm_world.proofs.Words.{References}
+use Rattle.fm_core.proofs.Called.{called_in, answers_up, answers_tied, table_tied}
 use Rattle.fm_core.proofs.state.State.reference.Goals as goal
 
 pub returns-clause-event : goal.returns-clause-event
+unfolding References
 returns-clause-event c =
-    referenced (the_view c.self.inside) c.args.worker c.args.context c.reference.result c.self.inside.contexts c.reference.new.self c.in-Some._caller
-    c.self.view_is (sym c.caller.ensures.callback ∙ c.in-Some.is) c.reference.ensures
+    let at = called_in c.args.worker c.in-Some._caller c.self.view_is (sym c.caller.ensures.callback ∙ c.in-Some.is) in
+    rw (sym c.self.view_is, at.1)
+    (answers_up (the_view c.self.inside) c.self.inside.contexts c.reference.new.self _ c.reference.result _ _ (λ v e. ap (λ (x : ContextsKept). with_contexts (the_view c.self.inside) x.table) e) c.reference.ensures)
 
 pub invariant_of-self : goal.invariant_of-self
-invariant_of-self c =
-    reference_keeps (the_view c.self.inside) c.args.worker c.args.context _ _ _ c.self.view_is c.self.invariant (returns-clause-event c) c.reference.ensures
+invariant_of-self c = record {
+  sound = (reference_does _ _ _ _ _ (returns-clause-event c)).0.sound (subst IsSound c.self.view_is c.self.invariant.sound);
+  tied = answers_tied c.self.inside.contexts c.reference.new.self c.self.inside.flow _ c.reference.result _
+      (λ v e. table_tied c.self.inside.contexts c.reference.new.self (grabbed c.self.inside.contexts.table c.args.worker.0 c.args.context) c.self.inside.flow (λ d. refl) e c.self.invariant.tied) c.reference.ensures c.self.invariant.tied;
+}
 
 pub returns-clause-held : goal.returns-clause-held
 returns-clause-held c = (reference_does _ _ _ _ _ (returns-clause-event c)).1 (subst IsSound c.self.view_is c.self.invariant.sound)

@@ -1,15 +1,23 @@
-use Rattle.fm_core.proofs.Words.{the_view, release_does, subst, sym, ◌∙◌, IsSound}
-use Rattle.fm_core.proofs.Called.{released_up, release_keeps}
+use Rattle.fm_core.proofs.Words.{the_view, ContextsKept, carried_of, release_does, ap, refl, subst, sym, ◌∙◌, with_contexts, IsSound, carries}
+use Rattle.fm_world.proofs.Words.{Releases, released}
+use Rattle.fm_core.proofs.Called.{called_in, answers_up, answers_tied, table_tied}
+use Rattle.fm_ctx.proofs.Alike.{released_alike}
 use Rattle.fm_core.proofs.state.State.release.Goals as goal
 
 pub returns-clause-event : goal.returns-clause-event
+unfolding Releases
 returns-clause-event c =
-    released_up (the_view c.self.inside) c.args.worker c.args.context c.release.result c.self.inside.contexts c.release.new.self c.in-Some._caller
-    c.self.view_is (sym c.caller.ensures.callback ∙ c.in-Some.is) c.self.invariant.tied c.release.ensures
+    let at = called_in c.args.worker c.in-Some._caller c.self.view_is (sym c.caller.ensures.callback ∙ c.in-Some.is) in
+    rw (sym c.self.view_is, at.1)
+    (answers_up (the_view c.self.inside) c.self.inside.contexts c.release.new.self _ c.release.result _ _ (λ v e. ap (λ (x : ContextsKept). with_contexts (the_view c.self.inside) x.table) e ∙ ap (with_contexts (the_view c.self.inside))
+    (released_alike (carried_of c.self.inside.contexts) (carries (the_view c.self.inside)) c.self.inside.contexts.table c.args.worker.0 c.args.context (c.self.invariant.tied c.args.context))) c.release.ensures)
 
 pub invariant_of-self : goal.invariant_of-self
-invariant_of-self c =
-    release_keeps (the_view c.self.inside) c.args.worker c.args.context _ _ _ c.self.view_is c.self.invariant (returns-clause-event c) c.release.ensures
+invariant_of-self c = record {
+  sound = (release_does _ _ _ _ _ (returns-clause-event c)).0.sound (subst IsSound c.self.view_is c.self.invariant.sound);
+  tied = answers_tied c.self.inside.contexts c.release.new.self c.self.inside.flow _ c.release.result _
+      (λ v e. table_tied c.self.inside.contexts c.release.new.self (released (carried_of c.self.inside.contexts) c.self.inside.contexts.table c.args.worker.0 c.args.context) c.self.inside.flow (λ d. refl) e c.self.invariant.tied) c.release.ensures c.self.invariant.tied;
+}
 
 pub returns-clause-held : goal.returns-clause-held
 returns-clause-held c = (release_does _ _ _ _ _ (returns-clause-event c)).1 (subst IsSound c.self.view_is c.self.invariant.sound)

@@ -1,12 +1,19 @@
-use Rattle.fm_core.proofs.Words.{the_view, sym, ◌∙◌}
-use Rattle.fm_core.proofs.Called.{body_written, write_keeps}
+use Rattle.fm_core.proofs.Words.{the_view, ContextsKept, ap, subst, sym, ◌∙◌, with_contexts, IsSound}
+use Rattle.fm_world.proofs.Words.{WritesBody, rewritten}
+use Rattle.fm_core.proofs.Called.{called_in, answers_up, answers_tied, table_tied, rewritten_there}
+use Rattle.fm_world.proofs.Callbacks.{write_body_does}
 use Rattle.fm_core.proofs.state.State.write_body.Goals as goal
 
 pub returns-clause-event : goal.returns-clause-event
+unfolding WritesBody
 returns-clause-event c =
-    body_written (the_view c.self.inside) c.args.worker c.args.context c.args.bytes.now c.write_body.result c.self.inside.contexts c.write_body.new.self
-    c.in-Some._caller c.self.view_is (sym c.caller.ensures.callback ∙ c.in-Some.is) c.write_body.ensures
+    let at = called_in c.args.worker c.in-Some._caller c.self.view_is (sym c.caller.ensures.callback ∙ c.in-Some.is) in
+    rw (sym c.self.view_is, at.1)
+    (answers_up (the_view c.self.inside) c.self.inside.contexts c.write_body.new.self _ c.write_body.result _ _ (λ v e. ap (λ (x : ContextsKept). with_contexts (the_view c.self.inside) x.table) e) c.write_body.ensures)
 
 pub invariant_of-self : goal.invariant_of-self
-invariant_of-self c =
-    write_keeps (the_view c.self.inside) c.args.worker c.args.context c.args.bytes.now _ _ _ c.self.view_is c.self.invariant (returns-clause-event c) c.write_body.ensures
+invariant_of-self c = record {
+  sound = (write_body_does _ _ _ _ _ _ (returns-clause-event c)).sound (subst IsSound c.self.view_is c.self.invariant.sound);
+  tied = answers_tied c.self.inside.contexts c.write_body.new.self c.self.inside.flow _ c.write_body.result _
+      (λ v e. table_tied c.self.inside.contexts c.write_body.new.self (rewritten c.self.inside.contexts.table c.args.context c.args.bytes.now) c.self.inside.flow (rewritten_there c.self.inside.contexts.table c.args.context c.args.bytes.now) e c.self.invariant.tied) c.write_body.ensures c.self.invariant.tied;
+}

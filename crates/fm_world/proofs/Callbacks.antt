@@ -76,11 +76,7 @@ open_at w k i row (Some (Worker.Pre o j)) s at is there = flown_row w i row s th
 open_at w k i row (Some (Worker.Post o j)) s at is there = flown_row w i row s there (flown_in w j i is (post_flies w k o j s.under_way at))
 open_at w k i row (Some (Worker.Drain o j)) s at is there = flown_row w i row s there (flown_in w j i is (drain_flies w k (Worker.Drain o j) o j s.under_way at (both_same o j)))
 open_at w k i row (Some (Worker.EarlyDrain o j)) s at is there = flown_row w i row s there (flown_in w j i is (drain_flies w k (Worker.EarlyDrain o j) o j s.under_way at (both_same o j)))
-open_at w k i row (Some Worker.Idle) s at is there = absurd (none-some i is)
-open_at w k i row (Some (Worker.Base o)) s at is there = absurd (none-some i is)
-open_at w k i row (Some (Worker.Cleanup c)) s at is there = absurd (none-some i is)
-open_at w k i row (Some (Worker.Unload f)) s at is there = absurd (none-some i is)
-open_at w k i row None s at is there = absurd (none-some i is)
+open_at w k i row d s at is there = absurd (none-some i is)
 
 open_is : (p : Phase) → IsOpen p → (not (is_detached p) ≡ true) × (keeps_links p ≡ true)
 open_is p h = grind arith

@@ -62,9 +62,7 @@ count_less p q (x ∷ ws) implies = omega (arith, one_less (p x) (q x) (implies 
 -- a drain that runs is some instance's
 runs_at : (e : Entry) → is_running_drain e ≡ true → (i : ℕ) × (drain_opens_at i e ≡ 1)
 runs_at (Drain visit) h = (visit.instance.0, grind (arith, nat_tests, h))
-runs_at (Pre visit) h = cc
-runs_at (Base status information) h = cc
-runs_at (Post visit) h = cc
+runs_at d h = cc
 
 some_running : (es : List Entry) → list_any is_running_drain es ≡ true → (i : ℕ) × (1 ≤ drain_opens i es)
 some_running [] h = cc

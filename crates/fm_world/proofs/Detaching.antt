@@ -48,9 +48,7 @@ asks_staffs : (i : InstanceId) (row : Instance) (d : Desk) (workers : List Worke
     → m + one (is_at d i.0 Worker.Idle) ≡ count_by (is_at d i.0) workers + one (is_at d i.0 (Worker.Query i)) → IsStaffed d (Some row) (count_by (is_at d i.0) workers)
     → IsStaffed d (Some row) m
 asks_staffs i row AtQuery workers m is none moves h = grind (arith, eq-eqb)
-asks_staffs i row AtSetup workers m is none moves h = grind arith
-asks_staffs i row AtStart workers m is none moves h = grind arith
-asks_staffs i row AtComplete workers m is none moves h = grind arith
+asks_staffs i row d workers m is none moves h = grind arith
 
 pub ask_detach_does : (old : World) (k : WorkerId) (i : InstanceId) (result : Result (Unit {0}) Status) (new : World) → AsksDetach old k i result new → Does old new
 unfolding AsksDetach
@@ -93,15 +91,11 @@ ends old new k a t at na leaves e filters volumes keeps = (
 
 query_staffs : (i : InstanceId) (row : Instance) → Restaffs i.0 (Worker.Query i) Worker.Idle (Some row) (Some row)
 query_staffs i row AtQuery n m moves h = grind (arith, eq-eqb)
-query_staffs i row AtSetup n m moves h = grind arith
-query_staffs i row AtStart n m moves h = grind arith
-query_staffs i row AtComplete n m moves h = grind arith
+query_staffs i row d n m moves h = grind arith
 
 stop_staffs : (i : InstanceId) (row : Instance) → is_attached row.phase ≡ true → Restaffs i.0 (Worker.Query i) Worker.Idle (Some row) (Some (stack.stop_row row))
 stop_staffs i row was AtQuery n m moves h = grind (arith, eq-eqb)
-stop_staffs i row was AtSetup n m moves h = grind arith
-stop_staffs i row was AtStart n m moves h = grind arith
-stop_staffs i row was AtComplete n m moves h = grind arith
+stop_staffs i row was d n m moves h = grind arith
 
 pub stop_goes : (w : World) (j : ℕ) (row : Instance) → GoesOnAt w j row (stack.stop_row row)
 stop_goes w j row = record { filter = refl; left = λ h. refl; keeps = λ h. refl; quiet = λ h. absurd (true≢false h) }
@@ -146,9 +140,7 @@ query_does old k allow result new h = by_place (worker_at old.workers k) refl h
 start_staffs : (i : InstanceId) (row : Instance) → stack.is_to_start row ≡ true → (d : Desk) (n m : ℕ) → m + one (is_at d i.0 Worker.Idle) ≡ n + one (is_at d i.0 (Worker.Start i))
     → IsStaffed d (Some row) n → IsStaffed d (Some (stack.with_start StartMark.Made row)) m
 start_staffs i row is AtStart n m moves h = grind (arith, eq-eqb)
-start_staffs i row is AtSetup n m moves h = grind arith
-start_staffs i row is AtQuery n m moves h = grind arith
-start_staffs i row is AtComplete n m moves h = grind arith
+start_staffs i row is d n m moves h = grind arith
 
 pub start_teardown_does : (old : World) (k : WorkerId) (i : InstanceId) (result : Result (Unit {0}) Status) (new : World) → StartsTeardown old k i result new → Does old new
 unfolding StartsTeardown stack.StartsTeardown
@@ -178,9 +170,7 @@ start_teardown_does old k i result new h =
 
 started_staffs : (i : InstanceId) (row : Instance) → Restaffs i.0 (Worker.Start i) Worker.Idle (Some row) (Some (stack.with_start StartMark.Returned row))
 started_staffs i row AtStart n m moves h = grind (arith, eq-eqb)
-started_staffs i row AtSetup n m moves h = grind arith
-started_staffs i row AtQuery n m moves h = grind arith
-started_staffs i row AtComplete n m moves h = grind arith
+started_staffs i row d n m moves h = grind arith
 
 pub start_returned_does : (old : World) (k : WorkerId) (result : Result (Unit {0}) Status) (new : World) → StartReturns old k result new
     → Does old new × (hand_len k.0 new ≡ left_by AtStart (worker_at old.workers k) (hand_len k.0 old))
@@ -209,9 +199,7 @@ complete_staffs : (i : InstanceId) (row : Instance) (d : Desk) (workers : List W
     → m + one (is_at d i.0 Worker.Idle) ≡ count_by (is_at d i.0) workers + one (is_at d i.0 (Worker.Complete i)) → IsStaffed d (Some row) (count_by (is_at d i.0) workers)
     → IsStaffed d (Some (stack.in_phase Phase.Completing row)) m
 complete_staffs i row AtComplete workers m is none moves h = grind (arith, eq-eqb)
-complete_staffs i row AtSetup workers m is none moves h = grind arith
-complete_staffs i row AtQuery workers m is none moves h = grind arith
-complete_staffs i row AtStart workers m is none moves h = grind arith
+complete_staffs i row d workers m is none moves h = grind arith
 
 -- nothing is in flight at it
 complete_goes : (w : World) (j : ℕ) (row : Instance) → in_flight j w.flow ≡ 0 → GoesOnAt w j row (stack.in_phase Phase.Completing row)
@@ -250,9 +238,7 @@ complete_teardown_does old k i result new h =
 
 empty_staffs : (i : InstanceId) (row : Instance) → is_completing row.phase ≡ true → Restaffs i.0 (Worker.Complete i) Worker.Idle (Some row) (Some (stack.in_phase Phase.Emptying row))
 empty_staffs i row is AtComplete n m moves h = grind (arith, eq-eqb)
-empty_staffs i row is AtSetup n m moves h = grind arith
-empty_staffs i row is AtQuery n m moves h = grind arith
-empty_staffs i row is AtStart n m moves h = grind arith
+empty_staffs i row is d n m moves h = grind arith
 
 completing_rests : (p : Phase) → is_completing p ≡ true → is_flown p ≡ false
 completing_rests p h = grind arith

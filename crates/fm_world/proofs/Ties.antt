@@ -176,9 +176,6 @@ pub drained_there : (workers : List Worker) (t : FlowTable) (k : WorkerId) (a : 
 drained_there workers t k a o i tied h inside =
     told_of (λ (x : FlowRecord). drain_opens i x.entries) o t (omega (arith, count-some (is_in_drain o i) workers k.0 a h inside, tied o i))
 
-mapped : (s : Spot) (f : ℕ → Spot) (m : Option ℕ) → is_spot s (option_map f m) ≡ true → (j : ℕ) × (m ≡ Some j) × (is_spot s (Some (f j)) ≡ true)
-mapped s f m h = grind arith
-
 pub spot_pre : (i : ℕ) (stage : Stage) (entries : List Entry) → is_spot (AtPre i) (spot_at stage entries) ≡ true → (stage ≡ PreRunning) × (last_visited entries ≡ Some i)
 spot_pre i stage entries h = grind arith
 

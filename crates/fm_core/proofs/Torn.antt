@@ -2,7 +2,8 @@
 use Rattle.fm_core.proofs.Words.{IsTied, SweptWhere, complete_of, query_of, start_of, unload_of, sweeps_alike, carried_equal, ContextsKept, carried_of, Worker}
 use Rattle.fm_core.proofs.Words.{Bool, Err, List, Ok, Option, Result, Some, ap, arith, subst, sym, ℕ, ◌∙◌, ◌≡◌, Leaves, Sweeps, is_linked_of, Context, Owner}
 use Rattle.fm_core.proofs.Words.{FlowTable, Answers, FilterId, InstanceId, WorkerId, Status, put, World, carries}
-use Rattle.fm_world.proofs.Words.{SweepsWhere, after_entering}
+use Rattle.fm_world.proofs.Words.{after_entering}
+use Rattle.fm_world.specs.Teardowns.{SweepsWhere}
 use Rattle.fm_core.proofs.Losing.{sweeping_tied}
 use Rattle.fm_stack.specs.Detaching as stack
 

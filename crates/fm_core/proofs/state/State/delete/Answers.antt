@@ -28,11 +28,14 @@ returns-clause-event c =
     (λ id e. (e.0, ap (λ (x : ContextsKept). with_contexts old x.table) e.1 ∙ ap (with_contexts old) alike)) c.delete.ensures)
 
 pub invariant_of-self : goal.invariant_of-self
-invariant_of-self c = record {
-  sound = (delete_does _ _ _ _ _ _ (returns-clause-event c)).0.sound (subst IsSound c.self.view_is c.self.invariant.sound);
-  tied = answers_tied c.self.inside.contexts c.delete.new.self c.self.inside.flow _ c.delete.result _
-      (λ id e. table_tied c.self.inside.contexts c.delete.new.self (delete_after (carried_of c.self.inside.contexts) c.self.inside.contexts.table c.args.worker.0 c.args.wants_old (holder c.self.inside.contexts.table.slots c.in-Ok.found.0 c.in-Ok.found.1)) c.self.inside.flow (deleted_there (carried_of c.self.inside.contexts) c.self.inside.contexts.table c.args.worker.0 c.args.wants_old (holder c.self.inside.contexts.table.slots c.in-Ok.found.0 c.in-Ok.found.1)) e.1 c.self.invariant.tied) c.delete.ensures c.self.invariant.tied;
-}
+invariant_of-self c =
+    let kept = c.self.inside.contexts in
+    let there = holder kept.table.slots c.in-Ok.found.0 c.in-Ok.found.1 in record {
+      sound = (delete_does _ _ _ _ _ _ (returns-clause-event c)).0.sound (subst IsSound c.self.view_is c.self.invariant.sound);
+      tied = answers_tied kept c.delete.new.self c.self.inside.flow _ c.delete.result _ (λ id e.
+          table_tied kept c.delete.new.self (delete_after (carried_of kept) kept.table c.args.worker.0 c.args.wants_old there) c.self.inside.flow
+          (deleted_there (carried_of kept) kept.table c.args.worker.0 c.args.wants_old there) e.1 c.self.invariant.tied) c.delete.ensures c.self.invariant.tied;
+    }
 
 pub returns-clause-hand : goal.returns-clause-hand
 returns-clause-hand c = ((delete_does _ _ _ _ _ _ (returns-clause-event c)).1 (subst IsSound c.self.view_is c.self.invariant.sound)).0

@@ -23,11 +23,13 @@ returns-clause-event c =
     (answers_up old c.self.inside.contexts c.get.new.self _ c.get.result _ _ (λ id e. (e.0, ap (λ (x : ContextsKept). with_contexts old x.table) e.1)) c.get.ensures)
 
 pub invariant_of-self : goal.invariant_of-self
-invariant_of-self c = record {
-  sound = (get_does _ _ _ _ _ (returns-clause-event c)).0.sound (subst IsSound c.self.view_is c.self.invariant.sound);
-  tied = answers_tied c.self.inside.contexts c.get.new.self c.self.inside.flow _ c.get.result _
-      (λ id e. table_tied c.self.inside.contexts c.get.new.self (grabbed c.self.inside.contexts.table c.args.worker.0 id) c.self.inside.flow (λ d. refl) e.1 c.self.invariant.tied) c.get.ensures c.self.invariant.tied;
-}
+invariant_of-self c =
+    let kept = c.self.inside.contexts in record {
+      sound = (get_does _ _ _ _ _ (returns-clause-event c)).0.sound (subst IsSound c.self.view_is c.self.invariant.sound);
+      tied = answers_tied kept c.get.new.self c.self.inside.flow _ c.get.result _ (λ id e.
+          table_tied kept c.get.new.self (grabbed kept.table c.args.worker.0 id) c.self.inside.flow
+          (λ d. refl) e.1 c.self.invariant.tied) c.get.ensures c.self.invariant.tied;
+    }
 
 pub returns-clause-held : goal.returns-clause-held
 returns-clause-held c = (get_does _ _ _ _ _ (returns-clause-event c)).1 (subst IsSound c.self.view_is c.self.invariant.sound)

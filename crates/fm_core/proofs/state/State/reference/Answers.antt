@@ -6,16 +6,19 @@ use Rattle.fm_core.proofs.state.State.reference.Goals as goal
 pub returns-clause-event : goal.returns-clause-event
 unfolding References
 returns-clause-event c =
+    let old = the_view c.self.inside in
     let at = called_in c.args.worker c.in-Some._caller c.self.view_is (sym c.caller.ensures.callback ∙ c.in-Some.is) in
     rw (sym c.self.view_is, at.1)
-    (answers_up (the_view c.self.inside) c.self.inside.contexts c.reference.new.self _ c.reference.result _ _ (λ v e. ap (λ (x : ContextsKept). with_contexts (the_view c.self.inside) x.table) e) c.reference.ensures)
+    (answers_up old c.self.inside.contexts c.reference.new.self _ c.reference.result _ _ (λ v e. ap (λ (x : ContextsKept). with_contexts old x.table) e) c.reference.ensures)
 
 pub invariant_of-self : goal.invariant_of-self
-invariant_of-self c = record {
-  sound = (reference_does _ _ _ _ _ (returns-clause-event c)).0.sound (subst IsSound c.self.view_is c.self.invariant.sound);
-  tied = answers_tied c.self.inside.contexts c.reference.new.self c.self.inside.flow _ c.reference.result _
-      (λ v e. table_tied c.self.inside.contexts c.reference.new.self (grabbed c.self.inside.contexts.table c.args.worker.0 c.args.context) c.self.inside.flow (λ d. refl) e c.self.invariant.tied) c.reference.ensures c.self.invariant.tied;
-}
+invariant_of-self c =
+    let kept = c.self.inside.contexts in record {
+      sound = (reference_does _ _ _ _ _ (returns-clause-event c)).0.sound (subst IsSound c.self.view_is c.self.invariant.sound);
+      tied = answers_tied kept c.reference.new.self c.self.inside.flow _ c.reference.result _ (λ v e.
+          table_tied kept c.reference.new.self (grabbed kept.table c.args.worker.0 c.args.context) c.self.inside.flow
+          (λ d. refl) e c.self.invariant.tied) c.reference.ensures c.self.invariant.tied;
+    }
 
 pub returns-clause-held : goal.returns-clause-held
 returns-clause-held c = (reference_does _ _ _ _ _ (returns-clause-event c)).1 (subst IsSound c.self.view_is c.self.invariant.sound)

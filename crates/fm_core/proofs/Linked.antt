@@ -1,10 +1,10 @@
 -- Setting, getting and deleting contexts, from what the layer of contexts did.
-use Rattle.fm_core.proofs.Words.{caller_of, has_kind_at, owner_for, IsTied, Caller, there_changed, ContextsKept, carried_of, Bool, Err, List, None, Option}
-use Rattle.fm_core.proofs.Words.{Some, [], ap, arith, cond, false, is_some, not, refl, subst, sym, true, ℕ, ◌&&◌, ◌||◌, ◌∙◌, ◌∷◌, ◌≡◌, option_and_then, hand_of}
-use Rattle.fm_core.proofs.Words.{holds, holder, grabbed, Context, ContextTable, Slot, context_at, Object, Owner, first_of, ContextKind, CtxId, WorkerId, Status}
+use Rattle.fm_core.proofs.Words.{caller_of, has_kind_at, owner_for, IsTied, Caller, there_changed, ContextsKept, carried_of, Bool, List, None, Option, Some, []}
+use Rattle.fm_core.proofs.Words.{ap, arith, cond, false, is_some, not, refl, subst, sym, true, ℕ, ◌&&◌, ◌||◌, ◌∙◌, ◌∷◌, ◌≡◌, option_and_then, hand_of, holds}
+use Rattle.fm_core.proofs.Words.{holder, grabbed, Context, ContextTable, Slot, context_at, Object, Owner, first_of, ContextKind, CtxId, WorkerId, Status}
 use Rattle.fm_core.proofs.Words.{Callback, before, callback_of, with_contexts, is_there, object_by, World, carries, option_map, slice_get, none-some, same_Some}
-use Rattle.fm_world.proofs.Words.{is_hand_full, delete_after, linked, set_after, set_reply, unlinked_for, with_link, link_at, SetMode, SetReply, Deletes, Gets}
-use Rattle.fm_world.proofs.Words.{Sets, SetsIn, SetsOn, SetsUnless, object_for, object_refused, set_answer, set_refused, there_at}
+use Rattle.fm_world.proofs.Words.{is_hand_full, delete_after, linked, set_after, set_reply, unlinked_for, with_link, link_at, SetMode, SetReply, Sets, SetsIn}
+use Rattle.fm_world.proofs.Words.{SetsOn, SetsUnless, object_for, object_refused, set_answer, set_refused, there_at}
 use Rattle.fm_world.specs.declared.set_answer.SetAnswer.{SetAnswer}
 use Rattle.fm_ctx.specs.Links.{set_mode_after}
 use Rattle.fm_core.specs.Callers.{is_closing_at}
@@ -13,7 +13,7 @@ use Rattle.fm_ctx.specs.declared.set_reply.SetMode.TheVariants.{Keep, Replace}
 use Rattle.fm_ctx.proofs.Alike.{set_alike}
 use Rattle.fm_ctx.proofs.Sets.{unlinked_slots}
 use Rattle.fm_core.specs.Setting.{is_past_at, object_of, set_refusal, find_refusal, IsSettable, IsFound}
-use Rattle.fm_core.proofs.Called.{called_in, owner_same, object_same, callback_row, in_callback}
+use Rattle.fm_core.proofs.Called.{called_in, owner_same, object_same, callback_row}
 use Rattle.fm_core.specs.Callers as caller
 
 -- ---- get and delete
@@ -64,19 +64,6 @@ get_free w k at x what o others b is e found here =
     found.object in
     found_free w k at x what (before (not (is_there w.files (object_by at.row at.instance at.file what))) Status.DeletingObject others) is e found.free
     ∙ ap (λ c. before (not c) Status.DeletingObject others) (ap (is_there w.files) object' ∙ here)
-
-pub get_refused : (w : World) (k : WorkerId) (what : ContextKind) (x : Caller) (why : Status) → option_map caller_of (callback_of w k) ≡ Some x
-    → find_refusal w x what ≡ Some why
-    → Gets w k what (Err why) w
-unfolding Gets
-get_refused w k what x why is h =
-    let at = called_in {old = w} k x refl is in in_callback w k (Err why) w _ at.0 at.1 (refused_as w k at.0 x what _ why at.1 at.2 h, refl)
-
-pub delete_refused : (w : World) (k : WorkerId) (what : ContextKind) (wants : Bool) (x : Caller) (why : Status) → option_map caller_of (callback_of w k) ≡ Some x
-    → find_refusal w x what ≡ Some why → Deletes w k what wants (Err why) w
-unfolding Deletes
-delete_refused w k what wants x why is h =
-    let at = called_in {old = w} k x refl is in in_callback w k (Err why) w _ at.0 at.1 (refused_as w k at.0 x what _ why at.1 at.2 h, refl)
 
 unlinked_there : (by : CtxId → ℕ) (t : ContextTable) (w : ℕ) (wants : Bool) (d : CtxId) (c : CtxId)
     → is_some (context_at (unlinked_for by t w wants d).slots c) ≡ is_some (context_at t.slots c)

@@ -66,7 +66,7 @@ goes old k o r lies drains result t at finds same reply after =
     }
 
 -- the event, and what links lose after it
-nexts : (old : World) (k : WorkerId) (o : OpId) (r : FlowRecord) (lies : Below) (result : Result FlowAction Status) (t : FlowTable) (ws : List Worker)
+pub nexts : (old : World) (k : WorkerId) (o : OpId) (r : FlowRecord) (lies : Below) (result : Result FlowAction Status) (t : FlowTable) (ws : List Worker)
     (cs : ContextTable) (fs : FileTable) (new : World)
     → is_idle (worker_at old.workers k) ≡ true → Goes old k o r lies result t → ws ≡ after_next old.workers k o result → cs ≡ received old.contexts k result
     → fs ≡ filed_next old o t result lies → LosesByKnown result lies (record old { flow = t; workers = ws; contexts = cs; files = fs }) new
@@ -99,13 +99,6 @@ next_unknown old k o idle none =
     let finds : FindsBelow old.stack old.files old.flow (operation_at o old.flow) Below.Call = subst (λ m. FindsBelow old.stack old.files old.flow m Below.Call)
     (sym none) tt in
     subst (λ b. Unless Status.WrongStep b result old old (NextsAt old k o result old)) (sym idle) (Below.Call, finds, old, (reply, after), refl)
-
-pub next_errs : {old now : World} (k : WorkerId) (o : OpId) (r : FlowRecord) (lies : Below) (why : Status) (t : FlowTable) → old ≡ now
-    → is_idle (worker_at old.workers k) ≡ true
-    → Goes old k o r lies (Err why) t → Nexts now k o (Err why) (record old { flow = t })
-next_errs {old} k o r lies why t same idle g =
-    subst (λ (w : World). Nexts w k o (Err why) (record old { flow = t })) same
-    (nexts old k o r lies (Err why) t old.workers old.contexts old.files (record old { flow = t }) idle g refl refl refl refl)
 
 -- without an answer that was known, streams, handles and links stay
 pub next_leads : {old now : World} {kept : ContextsKept} (k : WorkerId) (o : OpId) (r : FlowRecord) (lies : Below) (a : FlowAction) (t : FlowTable)
@@ -352,10 +345,9 @@ pre_state old k o i r given counted has state operation at is has_is counted_is 
     ∙ sym (told_there (state_given old.stack hand i given) PreState.Passed o old.flow r at)
 
 -- the context that it sends along is in the hand, and few are carried
-pub pre_sends : {old : World} {kept : ContextsKept} (k : WorkerId) (o : OpId) (i : InstanceId) (given : PreVerdict) (state : PreState) (m : Option CtxId)
-    → IsState old kept
-    → worker_at old.workers k ≡ Some (Worker.Pre o i) → state ≡ state_at old k o i given → m ≡ sent_in state → old.contexts ≡ kept.table → MaySend kept k.0 m
-pre_sends {old} {kept} k o i given state m s at same sends contexts =
+pub sends_held : {old : World} {kept : ContextsKept} (k : WorkerId) (o : OpId) (i : InstanceId) (given : PreVerdict) (state : PreState) (m : Option CtxId)
+    → IsState old kept → state ≡ state_at old k o i given → m ≡ sent_in state → old.contexts ≡ kept.table → MaySend kept k.0 m
+sends_held {old} {kept} k o i given state m s same sends contexts =
     may_send kept k m old.flow s.sound.under_way.flow s.tied
     (λ d e. subst (λ (t : ContextTable). holds (hand_of t.hands k.0) d ≡ true) contexts
     (sent_is_held old k o i given d (sym (sends ∙ ap sent_in same) ∙ e)))
@@ -523,19 +515,15 @@ creates {old} v path mode result t f same free_now h files =
 pub lists : {old now : World} (v : VolumeId) (result : Result OpId Status) (t : FlowTable) → old ≡ now → first_of (volume_refusals now v (is_full old.flow)) ≡ None
     → Took old.flow v None None old.stack.births None Params.List result t → Begins now (Request.List v) result (record old { flow = t })
 unfolding Begins
-lists {old} v result t same free_now h = subst (λ (w : World). Begins w (Request.List v) result (record old { flow = t })) same (by_result result h)
+lists {old} v result t same free_now h =
+    let free = subst (λ (w : World). first_of (volume_refusals w v (is_full old.flow)) ≡ None) (sym same) free_now in
+    subst (λ (w : World). Begins w (Request.List v) result (record old { flow = t })) same
+    (begun_as old (first_of (volume_refusals old v (is_full old.flow))) v None None None Params.List result t old.files old.files free
+    (full_from _ _ (is_full old.flow) free) h (files_kept (is_ok result)))
   where
-    free : first_of (volume_refusals old v (is_full old.flow)) ≡ None
-    free = subst (λ (w : World). first_of (volume_refusals w v (is_full old.flow)) ≡ None) (sym same) free_now
-
-    by_result : (result : Result OpId Status) → Took old.flow v None None old.stack.births None Params.List result t
-        → AnswersOrMemory (first_of (volume_refusals old v (is_full old.flow))) result old (record old { flow = t })
-        (λ (o : OpId). (o.0 ≡ old.flow.next) × (◌≡◌ {A = World} (record old { flow = t }) (record old
-        { flow = begun v None None old.stack.births None Params.List old.flow })))
-    by_result (Ok o) h = (free, (h.1.0, ap (λ x. record old { flow = x }) h.1.1))
-    by_result (Err why) h =
-        let memory : why ≡ Status.NoMemory = subst (λ b. IsRefusalOrMemory (cond b (Some Status.TooMany) None) why) (full_from _ _ (is_full old.flow) free) h.0 in
-        (subst (λ r. IsRefusalOrMemory r why) (sym free) memory, ap (λ x. record old { flow = x }) h.1)
+    files_kept : (b : Bool) → old.files ≡ cond b old.files old.files
+    files_kept true = refl
+    files_kept false = refl
 
 pub begin_wants : (old : World) (what : Request) → begin_refused old what ≡ None → Begins old what (Err Status.NoMemory) old
 unfolding Begins

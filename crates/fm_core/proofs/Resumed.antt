@@ -1,15 +1,15 @@
 -- The events on held operations, from what their parts did.
-use Rattle.fm_core.proofs.Words.{IsState, IsTied, MaySend, kept_sent, Sweeping, is_lost_of, decided, target_in, Target, ContextsKept, StandsAt, told_there}
-use Rattle.fm_core.proofs.Words.{placed_below, sent_is_held, None, Ok, Option, Some, [], ap, arith, false, not, refl, subst, sym, true, ◌<◌, ◌∙◌, ◌∷◌, ◌≡◌}
-use Rattle.fm_core.proofs.Words.{within_hands, hand_of, holds, IsLawful, ContextTable, PreVerdict, FlowRecord, pre_settled, FlowTable, IsFlow, changed}
-use Rattle.fm_core.proofs.Words.{is_number, operation_at, PreState, found_holds, first_of, CtxId, InstanceId, OpId, WorkerId, Status, filed_pre, is_created_on}
-use Rattle.fm_core.proofs.Words.{sent, sent_in, state_at, FileTable, after_pre, LosesLinks, place_in, worker_at, World, carries, length}
+use Rattle.fm_core.proofs.Words.{IsState, IsTied, kept_sent, Sweeping, is_lost_of, decided, target_in, Target, ContextsKept, StandsAt, told_there, placed_below}
+use Rattle.fm_core.proofs.Words.{sent_is_held, None, Ok, Option, Some, [], ap, arith, false, not, refl, subst, sym, true, ◌<◌, ◌∙◌, ◌∷◌, ◌≡◌, within_hands}
+use Rattle.fm_core.proofs.Words.{hand_of, holds, IsLawful, ContextTable, PreVerdict, FlowRecord, pre_settled, FlowTable, IsFlow, changed, is_number}
+use Rattle.fm_core.proofs.Words.{operation_at, PreState, found_holds, first_of, CtxId, InstanceId, OpId, WorkerId, Status, filed_pre, is_created_on, sent}
+use Rattle.fm_core.proofs.Words.{sent_in, state_at, FileTable, after_pre, LosesLinks, place_in, worker_at, World, carries, length}
 use Rattle.fm_world.proofs.Words.{post_settled, PostHeld, PreHeld, ResumesPre, ResumesPreAt, is_held_by, lets_go, pre_resumed}
 use Rattle.fm_flow.specs.declared.hold.Hold.{Hold}
 use Rattle.fm_flow.specs.Holds.{is_held}
 use Rattle.fm_flow.proofs.Holds.{held_pre, held_post}
 use Rattle.fm_world.proofs.Resumes.{post_resumed_balance, resumed_balance}
-use Rattle.fm_core.proofs.Holding.{may_send, sent_slots, tied_sent}
+use Rattle.fm_core.proofs.Holding.{sent_slots, tied_sent}
 use Rattle.fm_core.proofs.Losing.{loses, verdict_gone}
 use Rattle.fm_flow.specs.declared.hold.Hold.TheVariants as hold
 use Rattle.fm_flow.specs.declared.entry.PostState.TheVariants as post
@@ -34,13 +34,6 @@ pub placed_so : {old now : World} (k : WorkerId) (i : InstanceId) (m : Option In
 placed_so {old} k i m now_is place is = subst (λ (w : World). place_in (worker_at w.workers k) ≡ Some i) (sym now_is) (sym place ∙ is)
 
 -- ---- a preoperation
-
--- the context that it sends along is in the hand, and few are carried
-pub resume_sends : {old : World} {kept : ContextsKept} (k : WorkerId) (o : OpId) (i : InstanceId) (given : PreVerdict) (state : PreState) (m : Option CtxId) → IsState old kept
-    → state ≡ state_at old k o i given → m ≡ sent_in state → old.contexts ≡ kept.table → MaySend kept k.0 m
-resume_sends {old} {kept} k o i given state m s same sends contexts =
-    may_send kept k m old.flow s.sound.under_way.flow s.tied
-    (λ d e. subst (λ (t : ContextTable). holds (hand_of t.hands k.0) d ≡ true) contexts (sent_is_held old k o i given d (sym (sends ∙ ap sent_in same) ∙ e)))
 
 -- and completions carry it then
 pub resume_tied : {old : World} {kept : ContextsKept} (k : WorkerId) (o : OpId) (i : InstanceId) (given : PreVerdict) (state : PreState) (m : Option CtxId) → IsState old kept

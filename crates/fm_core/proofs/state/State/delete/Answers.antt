@@ -1,16 +1,17 @@
-use Rattle.fm_core.proofs.Words.{the_view, ContextsKept, carried_of, ap, subst, sym, ◌∙◌, holder, with_contexts, IsSound, World, carries}
+use Rattle.fm_core.proofs.Words.{the_view, ContextsKept, carried_of, ap, refl, subst, sym, ◌∙◌, holder, with_contexts, IsSound, World, carries}
 use Rattle.fm_world.proofs.Words.{Deletes, there_at, delete_refusal, delete_after}
 use Rattle.fm_world.proofs.Linking.{delete_does}
-use Rattle.fm_core.proofs.Linked.{delete_refused, found_there, found_free, deleted_there}
+use Rattle.fm_core.proofs.Linked.{found_there, found_free, deleted_there, refused_as}
 use Rattle.fm_ctx.proofs.Alike.{delete_alike}
 use Rattle.fm_core.specs.Setting.{IsFound}
 use Rattle.fm_core.proofs.Called.{called_in, answers_up, answers_tied, table_tied}
 use Rattle.fm_core.proofs.state.State.delete.Goals as goal
 
 pub returns-in-Err-clause-event : goal.returns-in-Err-clause-event
+unfolding Deletes
 returns-in-Err-clause-event c =
-    delete_refused c.args.self.now c.args.worker c.args.kind c.args.wants_old c.in-Some.caller c.in-Err.status (sym c.caller.ensures.callback ∙ c.in-Some.is)
-    c.in-Err.ensures
+    let at = called_in {old = c.args.self.now} c.args.worker c.in-Some.caller refl (sym c.caller.ensures.callback ∙ c.in-Some.is) in
+    rw at.1 (refused_as c.args.self.now c.args.worker at.0 c.in-Some.caller c.args.kind _ c.in-Err.status at.1 at.2 c.in-Err.ensures, refl)
 
 pub returns-clause-event : goal.returns-clause-event
 unfolding Deletes

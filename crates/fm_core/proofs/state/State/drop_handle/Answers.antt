@@ -1,14 +1,20 @@
-use Rattle.fm_core.proofs.Words.{refl, subst, sym, ◌∙◌, IsSound}
+use Rattle.fm_core.proofs.Words.{answered, the_view, ap, refl, subst, sym, ◌∙◌, Status, FileTable, LosesLinks, IsSound}
+use Rattle.fm_world.proofs.Words.{DropsHandle}
 use Rattle.fm_world.proofs.Dismounting.{drop_handle_does}
-use Rattle.fm_core.proofs.Dismounted.{drops}
-use Rattle.fm_core.proofs.Losing.{sweeping_tied}
+use Rattle.fm_core.proofs.Losing.{sweeping_tied, loses, answer_gone}
 use Rattle.fm_core.proofs.state.State.drop_handle.Goals as goal
 
 pub returns-clause-event : goal.returns-clause-event
+unfolding DropsHandle
 returns-clause-event c =
-    drops c.args.volume c.in-Some-copied.handle c.close_on.result c.note_answer.new.contexts c.note_answer.new.files.table c.self.view_is c.self.invariant refl
-    (sym c.unless_dismounting.ensures ∙ c.in_default.is) (sym c.lowest_on.ensures ∙ sym c.copied.ensures ∙ c.in-Some-copied.is)
-    c.close_on.ensures c.note_answer.ensures.files c.note_answer.ensures.links
+    let old = the_view c.self.inside in
+    let x = c.in-Some-copied.handle in
+    let files = c.note_answer.ensures.files in
+    let lost = loses old (record old { files = c.note_answer.new.files.table }) c.self.inside.contexts c.note_answer.new.contexts c.close_on.result c.self.invariant.sound
+    refl refl c.self.invariant.tied (answer_gone old.files c.note_answer.new.files.table old.flow Status.Success c.close_on.result files) c.note_answer.ensures.links in
+    let from = subst (λ (f : FileTable). LosesLinks (record old { files = f }) (record old { contexts = c.note_answer.new.contexts.table; files = c.note_answer.new.files.table }))
+    (files ∙ ap (λ t. answered old.flow Status.Success t old.files) c.close_on.ensures) lost in
+    rw (sym c.self.view_is, sym c.lowest_on.ensures ∙ sym c.copied.ensures ∙ c.in-Some-copied.is) (sym c.unless_dismounting.ensures ∙ c.in_default.is, (refl, from))
 
 pub invariant_of-self : goal.invariant_of-self
 invariant_of-self c = record {

@@ -1,14 +1,16 @@
 use Rattle.fm_core.proofs.Words.{the_view, ContextsKept, ap, refl, subst, sym, true, ◌∙◌, grabbed, with_contexts, IsSound, World}
 use Rattle.fm_world.proofs.Words.{Gets, there_at, get_refusal}
 use Rattle.fm_world.proofs.Linking.{get_does}
-use Rattle.fm_core.proofs.Linked.{get_refused, found_there, get_free}
+use Rattle.fm_core.proofs.Linked.{found_there, get_free, refused_as}
 use Rattle.fm_core.specs.Setting.{IsFound}
 use Rattle.fm_core.proofs.Called.{called_in, answers_up, answers_tied, table_tied}
 use Rattle.fm_core.proofs.state.State.get.Goals as goal
 
 pub returns-in-Err-clause-event : goal.returns-in-Err-clause-event
+unfolding Gets
 returns-in-Err-clause-event c =
-    get_refused c.args.self.now c.args.worker c.args.kind c.in-Some.caller c.in-Err.status (sym c.caller.ensures.callback ∙ c.in-Some.is) c.in-Err.ensures
+    let at = called_in {old = c.args.self.now} c.args.worker c.in-Some.caller refl (sym c.caller.ensures.callback ∙ c.in-Some.is) in
+    rw at.1 (refused_as c.args.self.now c.args.worker at.0 c.in-Some.caller c.args.kind _ c.in-Err.status at.1 at.2 c.in-Err.ensures, refl)
 
 pub returns-clause-event : goal.returns-clause-event
 unfolding Gets

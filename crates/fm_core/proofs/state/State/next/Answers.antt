@@ -1,7 +1,7 @@
-use Rattle.fm_core.proofs.Words.{the_view, next_does, None, Result, ap, refl, subst, sym, true, ◌∙◌, ◌≡◌, option_copied, operation_at, FlowAction, Status}
+use Rattle.fm_core.proofs.Words.{the_view, next_does, Err, None, Result, ap, refl, subst, sym, true, ◌∙◌, ◌≡◌, option_copied, operation_at, FlowAction, Status}
 use Rattle.fm_core.proofs.Words.{IsSound, is_idle, worker_at, World}
 use Rattle.fm_core.proofs.Losing.{sweeping_tied}
-use Rattle.fm_core.proofs.Operated.{Goes, goes, next_answers, next_brings, next_errs, next_leads, next_requires, next_room, next_stays, next_tied, next_unknown}
+use Rattle.fm_core.proofs.Operated.{Goes, goes, next_answers, next_brings, next_leads, next_requires, next_room, next_stays, next_tied, next_unknown, nexts}
 use Rattle.fm_core.proofs.state.State.next.Goals.{After-next}
 use Rattle.fm_core.proofs.state.State.next.Goals as goal
 
@@ -29,8 +29,9 @@ idle c = subst (λ (w : World). is_idle (worker_at w.workers c.args.worker) ≡ 
 pub returns-in-Err-clause-event : goal.returns-in-Err-clause-event
 returns-in-Err-clause-event c =
     let at = (goal.at.returns-in-Err-clause-event c).After-next in
-    next_errs c.args.worker c.args.operation c.in-Some.record.now c.lies_below-below.result c.in-Err.status c.next.new.self c.self.view_is (idle at)
-    (went at _ c.in-Err.is)
+    let old = the_view c.self.inside in
+    rw (sym c.self.view_is) (nexts old c.args.worker c.args.operation c.in-Some.record.now c.lies_below-below.result (Err c.in-Err.status) c.next.new.self old.workers old.contexts
+    old.files (record old { flow = c.next.new.self }) (idle at) (went at _ c.in-Err.is) refl refl refl refl)
 
 pub invariant_of-self : goal.invariant_of-self
 invariant_of-self c = record {

@@ -3,7 +3,7 @@ use Rattle.fm_core.proofs.Words.{FlowRecord, pre_returned_of, changed, PreRunnin
 use Rattle.fm_world.proofs.Words.{PreReturns}
 use Rattle.fm_core.proofs.Holding.{tied_ends}
 use Rattle.fm_core.proofs.Losing.{sweeping_tied}
-use Rattle.fm_core.proofs.Operated.{Comes, comes, in_pre, placed, pre_is, pre_returns, pre_sends, pre_state, pre_tied, stands_from, there_from, within_at}
+use Rattle.fm_core.proofs.Operated.{Comes, comes, in_pre, placed, pre_is, pre_returns, sends_held, pre_state, pre_tied, stands_from, there_from, within_at}
 use Rattle.fm_core.proofs.state.State.pre_returned.Goals.{In-Some, After-pre_returned}
 use Rattle.fm_core.proofs.state.State.pre_returned.Goals as goal
 
@@ -62,7 +62,7 @@ end_callback-requires-clause-within c = within_at c.args.worker _ c.self.invaria
 pub end_callback-requires-clause-sends : goal.end_callback-requires-clause-sends
 end_callback-requires-clause-sends c =
     let here = goal.at.end_callback-requires-clause-sends c in
-    pre_sends c.args.worker c.in-Some.operation c.in-Some.instance c.args.verdict c.counted-state.result c.sent_in.result c.self.invariant (at here.In-Some)
+    sends_held c.args.worker c.in-Some.operation c.in-Some.instance c.args.verdict c.counted-state.result c.sent_in.result c.self.invariant
     (state here.After-pre_returned) c.sent_in.ensures refl
 
 pub returns-clause-event : goal.returns-clause-event

@@ -2,8 +2,8 @@ use Rattle.fm_core.proofs.Words.{IsTied, kept_sent, Sweeping, is_lost_of, the_vi
 use Rattle.fm_core.proofs.Words.{pre_settled, changed, state_at, place_in, IsSound, worker_at}
 use Rattle.fm_world.proofs.Resumes.{resume_pre_does}
 use Rattle.fm_core.proofs.Losing.{sweeping_tied}
-use Rattle.fm_core.proofs.Operated.{pre_state}
-use Rattle.fm_core.proofs.Resumed.{by_that, placed_so, pre_resumes, resume_sends, resume_tied, stands_pre_held}
+use Rattle.fm_core.proofs.Operated.{pre_state, sends_held}
+use Rattle.fm_core.proofs.Resumed.{by_that, placed_so, pre_resumes, resume_tied, stands_pre_held}
 use Rattle.fm_core.proofs.state.State.resume_pre.Goals.{In-Some, After-counted-state, After-sent_in}
 use Rattle.fm_flow.specs.declared.hold.Hold.TheVariants as hold
 use Rattle.fm_core.proofs.state.State.resume_pre.Goals as goal
@@ -29,7 +29,7 @@ state c =
 
 pub send-requires-clause-sends : goal.send-requires-clause-sends
 send-requires-clause-sends c =
-    resume_sends c.args.worker c.args.operation c.in-Some.instance c.args.verdict c.counted-state.result c.sent_in.result c.self.invariant
+    sends_held c.args.worker c.args.operation c.in-Some.instance c.args.verdict c.counted-state.result c.sent_in.result c.self.invariant
     (state (goal.at.send-requires-clause-sends c).After-counted-state) c.sent_in.ensures refl
 
 -- completions carry what it sends along

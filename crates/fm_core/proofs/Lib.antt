@@ -2,13 +2,11 @@ mod Words
 pub mod Paths
 pub mod Changes
 pub mod Counted
-pub mod Attached
 pub mod Operated
 pub mod Passed
 pub mod Resumed
 pub mod Torn
 pub mod Drained
-pub mod Dismounted
 pub mod Holding
 pub mod Called
 pub mod Linked

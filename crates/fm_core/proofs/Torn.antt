@@ -1,10 +1,12 @@
--- The events by which instances are detached and filters unloaded, from what their parts did.
-use Rattle.fm_core.proofs.Words.{IsTied, SweptWhere, complete_of, query_of, start_of, unload_of, sweeps_alike, carried_equal, ContextsKept, carried_of, Worker}
-use Rattle.fm_core.proofs.Words.{Bool, Err, List, Ok, Option, Result, Some, ap, arith, subst, sym, ℕ, ◌∙◌, ◌≡◌, Leaves, Sweeps, is_linked_of, Context, Owner}
-use Rattle.fm_core.proofs.Words.{FlowTable, Answers, FilterId, InstanceId, WorkerId, Status, put, World, carries}
-use Rattle.fm_world.proofs.Words.{after_entering}
+-- The events on instances, filters and volumes, from what their parts did.
+use Rattle.fm_core.proofs.Words.{IsTied, SweptWhere, complete_of, query_of, setup_of, start_of, unload_of, sweeps_alike, carried_equal, ContextsKept}
+use Rattle.fm_core.proofs.Words.{carried_of, Worker, Bool, Err, List, Ok, Option, Result, Some, ap, arith, subst, sym, true, ℕ, ◌∙◌, ◌≡◌, Leaves, Sweeps}
+use Rattle.fm_core.proofs.Words.{is_linked_of, Context, Owner, FlowTable, Instance, Answers, FilterId, InstanceId, WorkerId, Status, put, World, carries}
+use Rattle.fm_world.proofs.Words.{after_entering, EmptiesUnless, is_setup}
 use Rattle.fm_world.specs.Teardowns.{SweepsWhere}
 use Rattle.fm_core.proofs.Losing.{sweeping_tied}
+use Rattle.fm_core.specs.Hands.{SweepsUnless}
+use Rattle.fm_stack.specs.Events.{is_setup_at}
 use Rattle.fm_stack.specs.Detaching as stack
 
 -- ---- an idle worker enters a callback
@@ -26,6 +28,16 @@ pub swept_tied : (kept left after : ContextsKept) (i : InstanceId) (w : ℕ) (f 
     → Sweeps (carried_of left) (is_linked_of (Owner.Instance i)) left.table after.table → after.carried ≡ left.carried → IsTied kept f → IsTied after f
 swept_tied kept left after i w f leaves carried sweeps same tied =
     sweeping_tied (is_linked_of (Owner.Instance i)) left after f (record { sweeps = sweeps; carried = same }) (left_tied kept left w f leaves carried tied)
+
+-- an instance that isn't attached loses its links
+pub emptied : (old : World) (i : InstanceId) (r : Result (Unit {0}) Status) (left after : ContextsKept) → SweepsUnless r i left after → IsTied left old.flow
+    → EmptiesUnless r i old left.table after.table
+emptied old i (Ok done) left after e tied = ap (λ (x : ContextsKept). x.table) e
+emptied old i (Err why) left after e tied = sweeps_alike tied e.sweeps
+
+pub unless_tied : (i : InstanceId) (r : Result (Unit {0}) Status) (left after : ContextsKept) (f : FlowTable) → SweepsUnless r i left after → IsTied left f → IsTied after f
+unless_tied i (Ok done) left after f e tied = subst (λ x. IsTied x f) (sym e) tied
+unless_tied i (Err why) left after f e tied = sweeping_tied (is_linked_of (Owner.Instance i)) left after f e tied
 
 -- ---- a filter goes
 
@@ -52,3 +64,9 @@ complete_is m i h = grind (arith, h)
 
 pub unload_is : (m : Option Worker) (f : FilterId) → unload_of m ≡ Some f → m ≡ Some (Worker.Unload f)
 unload_is m f h = grind (arith, h)
+
+pub setup_is : (m : Option Worker) (i : InstanceId) → setup_of m ≡ Some i → m ≡ Some (Worker.Setup i)
+setup_is m i h = grind (arith, h)
+
+pub setup_at : (row : Option Instance) → (x : Instance) × (row ≡ Some x) × (is_setup x.phase ≡ true) → is_setup_at row ≡ true
+setup_at row h = ap is_setup_at h.1 ∙ h.2

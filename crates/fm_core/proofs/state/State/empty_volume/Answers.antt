@@ -1,12 +1,17 @@
-use Rattle.fm_core.proofs.Words.{the_view, is_linked_to, refl, subst, sym, Object, IsSound}
-use Rattle.fm_world.proofs.Words.{EmptiesVolume}
+use Rattle.fm_core.proofs.Words.{IsState, the_view, ContextsKept, is_linked_to, arith, refl, subst, sym, ℕ, ◌<◌, ◌^◌, ◌≡◌, count_by-le-length, Object, VolumeId}
+use Rattle.fm_core.proofs.Words.{IsSound, World}
+use Rattle.fm_world.proofs.Words.{EmptiesVolume, is_handle_on}
 use Rattle.fm_world.proofs.Dismounting.{empty_volume_does}
-use Rattle.fm_core.proofs.Dismounted.{few_on}
 use Rattle.fm_core.proofs.Torn.{where_tied, where_swept}
+use Rattle.fm_world.specs.Dismounts.{handles_on}
 use Rattle.fm_core.proofs.state.State.empty_volume.Goals as goal
 
+-- handles are few
+few : {old : World} {kept : ContextsKept} (v : VolumeId) (n : ℕ) → IsState old kept → n ≡ handles_on v old.files → n < 2 ^ 63
+few {old} v n state is = omega (arith, is, count_by-le-length (is_handle_on v old.files) old.files.handles, state.sound.filed.room.few)
+
 pub empty_volume-result-requires : goal.empty_volume-result-requires
-empty_volume-result-requires c = few_on c.args.volume c.handles_on-handles.result c.self.invariant c.handles_on-handles.ensures
+empty_volume-result-requires c = few c.args.volume c.handles_on-handles.result c.self.invariant c.handles_on-handles.ensures
 
 pub returns-clause-event : goal.returns-clause-event
 unfolding EmptiesVolume

@@ -2,10 +2,9 @@ use Rattle.fm_core.proofs.Words.{setup_of, the_view, leaves_alike, Worker, Some,
 use Rattle.fm_world.proofs.Words.{SetsUp}
 use Rattle.fm_world.proofs.Keeps.{setup_place}
 use Rattle.fm_world.proofs.Owning.{setup_does}
-use Rattle.fm_core.proofs.Attached.{setup_tied, setup_is, setup_at, emptied}
+use Rattle.fm_core.proofs.Torn.{setup_is, setup_at, emptied, left_tied, unless_tied}
 use Rattle.fm_core.proofs.Operated.{placed, within_at}
 use Rattle.fm_core.proofs.state.State.setup_done.Goals.{In-Some}
-use Rattle.fm_core.proofs.Torn.{left_tied}
 use Rattle.fm_core.proofs.state.State.setup_done.Goals as goal
 
 at : (c : In-Some) → worker_at (the_view c.self.inside).workers c.args.worker ≡ Some (Worker.Setup c.in-Some.instance)
@@ -36,9 +35,8 @@ returns-clause-event c =
 pub invariant_of-self : goal.invariant_of-self
 invariant_of-self c = record {
   sound = (setup_does _ _ _ _ _ (returns-clause-event c)).0.sound (subst IsSound c.self.view_is c.self.invariant.sound);
-  tied = setup_tied c.self.inside.contexts c.leave.new.self c.unlink_unless.new.contexts c.in-Some.instance c.args.worker.0 c.setup_done-result.result
-      c.self.inside.flow
-      c.leave.ensures.table c.leave.ensures.carried c.unlink_unless.ensures c.self.invariant.tied;
+  tied = unless_tied c.in-Some.instance c.setup_done-result.result c.leave.new.self c.unlink_unless.new.contexts c.self.inside.flow c.unlink_unless.ensures
+      (left_tied c.self.inside.contexts c.leave.new.self c.args.worker.0 c.self.inside.flow c.leave.ensures.table c.leave.ensures.carried c.self.invariant.tied);
 }
 
 pub returns-clause-held : goal.returns-clause-held

@@ -53,6 +53,15 @@ pub answers_up : {T : Type 0} (w : World) (kept after : ContextsKept) (refusal :
 answers_up w kept after refusal (Ok v) E F f h = (h.0, f v h.1)
 answers_up w kept after refusal (Err why) E F f h = (h.0, ap (λ (x : ContextsKept). with_contexts w x.table) h.1)
 
+-- as an event in a callback
+pub comes_up : {T : Type 0} (w : World) {now : World} (k : WorkerId) (x : Caller) (kept after : ContextsKept) (refusal : Option Status) (result : Result T Status)
+    (E F : T → Type 0) → with_contexts w kept.table ≡ now → option_map caller_of (callback_of now k) ≡ Some x → ((v : T) → E v → F v)
+    → Answers refusal result kept after E
+    → InCallback (with_contexts w kept.table) k result (with_contexts w after.table) (λ _. Answers refusal result (with_contexts w kept.table) (with_contexts w after.table) F)
+comes_up w k x kept after refusal result E F same is f h =
+    let at = called_in k x same is in
+    in_callback (with_contexts w kept.table) k result (with_contexts w after.table) _ at.0 at.1 (answers_up w kept after refusal result E F f h)
+
 pub answers_tied : {T : Type 0} (kept after : ContextsKept) (f : FlowTable) (refusal : Option Status) (result : Result T Status) (E : T → Type 0)
     → ((v : T) → E v → IsTied after f)
     → Answers refusal result kept after E → IsTied kept f → IsTied after f

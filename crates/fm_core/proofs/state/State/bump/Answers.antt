@@ -1,6 +1,6 @@
 use Rattle.fm_core.proofs.Words.{the_view, ContextsKept, ap, subst, sym, ◌∙◌, with_contexts, IsSound}
 use Rattle.fm_world.proofs.Words.{Bumps}
-use Rattle.fm_core.proofs.Called.{called_in, answers_up, answers_tied, table_tied, rewritten_there}
+use Rattle.fm_core.proofs.Called.{answers_tied, table_tied, rewritten_there, comes_up}
 use Rattle.fm_ctx.specs.Bodies.{bumped}
 use Rattle.fm_world.proofs.Callbacks.{bump_does}
 use Rattle.fm_core.proofs.state.State.bump.Goals as goal
@@ -9,9 +9,8 @@ pub returns-clause-event : goal.returns-clause-event
 unfolding Bumps
 returns-clause-event c =
     let old = the_view c.self.inside in
-    let at = called_in c.args.worker c.in-Some._caller c.self.view_is (sym c.caller.ensures.callback ∙ c.in-Some.is) in
-    rw (sym c.self.view_is, at.1)
-    (answers_up old c.self.inside.contexts c.bump.new.self _ c.bump.result _ _ (λ v e. (e.0, ap (λ (x : ContextsKept). with_contexts old x.table) e.1)) c.bump.ensures)
+    rw (sym c.self.view_is) (comes_up old c.args.worker c.in-Some._caller c.self.inside.contexts c.bump.new.self _ c.bump.result _ _ c.self.view_is
+    (sym c.caller.ensures.callback ∙ c.in-Some.is) (λ v e. (e.0, ap (λ (x : ContextsKept). with_contexts old x.table) e.1)) c.bump.ensures)
 
 pub invariant_of-self : goal.invariant_of-self
 invariant_of-self c =

@@ -1,15 +1,14 @@
 use Rattle.fm_core.proofs.Words.{the_view, ContextsKept, reference_does, ap, refl, subst, sym, ◌∙◌, grabbed, with_contexts, IsSound}
 use Rattle.fm_world.proofs.Words.{References}
-use Rattle.fm_core.proofs.Called.{called_in, answers_up, answers_tied, table_tied}
+use Rattle.fm_core.proofs.Called.{answers_tied, table_tied, comes_up}
 use Rattle.fm_core.proofs.state.State.reference.Goals as goal
 
 pub returns-clause-event : goal.returns-clause-event
 unfolding References
 returns-clause-event c =
     let old = the_view c.self.inside in
-    let at = called_in c.args.worker c.in-Some._caller c.self.view_is (sym c.caller.ensures.callback ∙ c.in-Some.is) in
-    rw (sym c.self.view_is, at.1)
-    (answers_up old c.self.inside.contexts c.reference.new.self _ c.reference.result _ _ (λ v e. ap (λ (x : ContextsKept). with_contexts old x.table) e) c.reference.ensures)
+    rw (sym c.self.view_is) (comes_up old c.args.worker c.in-Some._caller c.self.inside.contexts c.reference.new.self _ c.reference.result _ _ c.self.view_is
+    (sym c.caller.ensures.callback ∙ c.in-Some.is) (λ v e. ap (λ (x : ContextsKept). with_contexts old x.table) e) c.reference.ensures)
 
 pub invariant_of-self : goal.invariant_of-self
 invariant_of-self c =

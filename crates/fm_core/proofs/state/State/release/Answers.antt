@@ -1,6 +1,6 @@
 use Rattle.fm_core.proofs.Words.{the_view, ContextsKept, carried_of, release_does, ap, refl, subst, sym, ◌∙◌, with_contexts, IsSound, carries}
 use Rattle.fm_world.proofs.Words.{Releases, released}
-use Rattle.fm_core.proofs.Called.{called_in, answers_up, answers_tied, table_tied}
+use Rattle.fm_core.proofs.Called.{answers_tied, table_tied, comes_up}
 use Rattle.fm_ctx.proofs.Alike.{released_alike}
 use Rattle.fm_core.proofs.state.State.release.Goals as goal
 
@@ -8,9 +8,8 @@ pub returns-clause-event : goal.returns-clause-event
 unfolding Releases
 returns-clause-event c =
     let old = the_view c.self.inside in
-    let at = called_in c.args.worker c.in-Some._caller c.self.view_is (sym c.caller.ensures.callback ∙ c.in-Some.is) in
-    rw (sym c.self.view_is, at.1)
-    (answers_up old c.self.inside.contexts c.release.new.self _ c.release.result _ _ (λ v e. ap (λ (x : ContextsKept). with_contexts old x.table) e
+    rw (sym c.self.view_is) (comes_up old c.args.worker c.in-Some._caller c.self.inside.contexts c.release.new.self _ c.release.result _ _ c.self.view_is
+    (sym c.caller.ensures.callback ∙ c.in-Some.is) (λ v e. ap (λ (x : ContextsKept). with_contexts old x.table) e
     ∙ ap (with_contexts old) (released_alike (carried_of c.self.inside.contexts) (carries old) old.contexts c.args.worker.0 c.args.context (c.self.invariant.tied c.args.context))) c.release.ensures)
 
 pub invariant_of-self : goal.invariant_of-self

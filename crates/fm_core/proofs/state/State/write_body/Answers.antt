@@ -1,6 +1,6 @@
 use Rattle.fm_core.proofs.Words.{the_view, ContextsKept, ap, subst, sym, ◌∙◌, with_contexts, IsSound}
 use Rattle.fm_world.proofs.Words.{WritesBody, rewritten}
-use Rattle.fm_core.proofs.Called.{called_in, answers_up, answers_tied, table_tied, rewritten_there}
+use Rattle.fm_core.proofs.Called.{answers_tied, table_tied, rewritten_there, comes_up}
 use Rattle.fm_world.proofs.Callbacks.{write_body_does}
 use Rattle.fm_core.proofs.state.State.write_body.Goals as goal
 
@@ -8,9 +8,8 @@ pub returns-clause-event : goal.returns-clause-event
 unfolding WritesBody
 returns-clause-event c =
     let old = the_view c.self.inside in
-    let at = called_in c.args.worker c.in-Some._caller c.self.view_is (sym c.caller.ensures.callback ∙ c.in-Some.is) in
-    rw (sym c.self.view_is, at.1)
-    (answers_up old c.self.inside.contexts c.write_body.new.self _ c.write_body.result _ _ (λ v e. ap (λ (x : ContextsKept). with_contexts old x.table) e) c.write_body.ensures)
+    rw (sym c.self.view_is) (comes_up old c.args.worker c.in-Some._caller c.self.inside.contexts c.write_body.new.self _ c.write_body.result _ _ c.self.view_is
+    (sym c.caller.ensures.callback ∙ c.in-Some.is) (λ v e. ap (λ (x : ContextsKept). with_contexts old x.table) e) c.write_body.ensures)
 
 pub invariant_of-self : goal.invariant_of-self
 invariant_of-self c =

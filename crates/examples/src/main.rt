@@ -8,7 +8,7 @@ use std::io::Read;
 use std::{fs, io};
 
 // The lengths of the pieces that a script is read in.
-const PIECES: [usize; 3] = [1, 7, 4096];
+const PIECES: [usize; 3] = [1, 7, 16384];
 
 // A reader that gives a script in pieces of at most that many bytes, and is interrupted before each.
 #[derive(Drop)]
@@ -85,7 +85,7 @@ fn run_in_pieces(alloc: Global, input: &[u8], output: &[u8]) -> Outcome {
             return outcome;
         }
     }
-    run(alloc, cut, output, 4096)
+    run(alloc, cut, output, 16384)
 }
 
 // Runs each script of a folder, and tells those that don't print what they should. Whether the folder has scripts, and there are no such.

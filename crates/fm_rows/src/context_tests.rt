@@ -2,12 +2,13 @@
 
 use crate::events::{CONTEXT, Event, WORKER};
 use crate::lines::Line::Does;
-use crate::lines::{Line, OTHER, other_line};
+use crate::lines::{Line, OTHER, go_through};
 use crate::told::Told;
 use fm_core::State;
 use fm_ctx::{Contexts, Count, Owner};
 use fm_types::{Bytes, ContextKind, CtxId, InstanceId, Status, VolumeId};
 use std::alloc::Global;
+use std::process::Abort;
 
 const OWNER: Owner = Owner::Instance(InstanceId(3));
 
@@ -36,11 +37,19 @@ fn lengths(
     Ok((refused, longest(alloc, contexts)?))
 }
 
+// The same in a new table.
+fn new_lengths(
+    rt: &impl Abort,
+    alloc: Global,
+) -> Result<(Option<Status>, (usize, u64, u64)), Status> {
+    let mut contexts = Contexts::new(alloc).expect(rt, "a table");
+    lengths(alloc, &mut contexts)
+}
+
 #[test]
 fn bodies_of_4096_bytes(rt: HostRuntime) {
-    let mut contexts = Contexts::new(rt.alloc()).expect(&rt, "a table");
-    let told = lengths(rt.alloc(), &mut contexts);
-    assert_eq!(rt; told, Ok((Some(Status::TooMany), (4096, 258, 257))));
+    let told = Ok((Some(Status::TooMany), (4096, 258, 257)));
+    assert!(rt; new_lengths(&rt, rt.alloc()) == told);
 }
 
 // Worker 0 is in the setup callback of an instance.
@@ -77,16 +86,24 @@ fn full(
     Ok((more, next, state.release(WORKER, CONTEXT).err()))
 }
 
+// The same behind the setup.
+fn new_full(
+    rt: &impl Abort,
+    alloc: Global,
+) -> Result<(Option<Status>, CtxId, Option<Status>), Status> {
+    let mut state = State::new(alloc).expect(rt, "a state");
+    go_through(rt, alloc, &mut state, &[SET_UP]);
+    full(alloc, &mut state)
+}
+
 #[test]
 fn slots_run_out(rt: HostRuntime) {
-    let mut state = State::new(rt.alloc()).expect(&rt, "a state");
-    assert_eq!(rt; other_line(rt.alloc(), &mut state, SET_UP), Ok(None));
     let next = CtxId {
         slot: CONTEXT.slot,
         generation: 1,
     };
     let told = (Some(Status::TooMany), next, Some(Status::NotHeld));
-    assert_eq!(rt; full(rt.alloc(), &mut state), Ok(told));
+    assert!(rt; new_full(&rt, rt.alloc()) == Ok(told));
 }
 
 // A context that comes and goes, with what is counted while it is due, and while it is cleaned up.
@@ -120,12 +137,17 @@ fn other_pass(alloc: Global, contexts: &mut Contexts) -> Result<Option<u32>, Sta
     Ok(None)
 }
 
+// The same in a new table, what is counted at its end, and how many there were.
+fn new_passes(rt: &impl Abort, alloc: Global) -> (Result<Option<u32>, Status>, Count, u64) {
+    let mut contexts = Contexts::new(alloc).expect(rt, "a table");
+    let other = other_pass(alloc, &mut contexts);
+    (other, contexts.count(CONTEXT), contexts.born())
+}
+
 #[test]
 fn slots_are_used_again(rt: HostRuntime) {
-    let mut contexts = Contexts::new(rt.alloc()).expect(&rt, "a table");
-    let other = other_pass(rt.alloc(), &mut contexts);
-    let end = (other, contexts.count(CONTEXT), contexts.born());
-    assert_eq!(rt; end, (Ok(None), Count::Cleaned, 70000));
+    let end = (Ok(None), Count::Cleaned, 70000);
+    assert!(rt; new_passes(&rt, rt.alloc()) == end);
 }
 
 // What can be read of the table, where one worker holds each context of the owner once.
@@ -169,19 +191,29 @@ fn allocated(alloc: Global, contexts: &mut Contexts) -> u64 {
     10
 }
 
-// For `rt try --test --fail-alloc N`: whichever allocation is refused, once, the call answers 1 and nothing can be seen to have changed; asked again it
-// succeeds, and the end is the same.
-#[test]
-fn each_refusal_of_memory(rt: HostRuntime) {
-    let mut contexts = match Contexts::new(rt.alloc()) {
+fn opened(rt: &impl Abort, alloc: Global) -> Contexts {
+    match Contexts::new(alloc) {
         Ok(contexts) => contexts,
-        Err(_) => Contexts::new(rt.alloc()).expect(&rt, "a table"),
-    };
+        Err(_) => Contexts::new(alloc).expect(rt, "a table"),
+    }
+}
+
+// How many came, whether the last one's body is read, its count, and what can be read at the end.
+fn ten(rt: &impl Abort, alloc: Global) -> (u64, bool, Count, [u64; 3]) {
+    let mut contexts = opened(rt, alloc);
     let id = CtxId {
         slot: 9,
         generation: 0,
     };
-    let count = allocated(rt.alloc(), &mut contexts);
-    let end = (is_read(&contexts, id), contexts.count(id), seen(&contexts));
-    assert_eq!(rt; (count, end), (10, (true, Count::Live(1), [10; 3])));
+    let count = allocated(alloc, &mut contexts);
+    let is_read = is_read(&contexts, id);
+    (count, is_read, contexts.count(id), seen(&contexts))
+}
+
+// For `rt try --test --fail-alloc N`: whichever allocation is refused, once, the call answers 1 and nothing can be seen to have changed; asked again it
+// succeeds, and the end is the same.
+#[test]
+fn each_refusal_of_memory(rt: HostRuntime) {
+    let end = (10, true, Count::Live(1), [10; 3]);
+    assert!(rt; ten(&rt, rt.alloc()) == end);
 }

@@ -13,231 +13,327 @@ use std::process::Abort;
 // The number of each frame here.
 const NUMBER: u32 = 0x0102_0304;
 
-const HANDLE: HandleId = HandleId(0x0506);
-
-// A list of volume 7.
-const LIST: [u8; 10] = [0, 0, 0, 6, 7, 1, 2, 3, 4, 7];
-
-fn on_handle(request: FileRequest) -> Body {
-    Body::Operation(Request::OnHandle {
-        handle: HANDLE,
-        request,
-    })
+// What a frame says, as data.
+enum Says {
+    /// A create of `a/b` on volume 3.
+    Creates(CreateMode),
+    /// A request on handle 0x0506.
+    Asks(Asked),
+    /// A list of volume 7.
+    Lists,
+    Manages(Managed),
+    Replies(Status, u64, &'static [u8]),
+    /// A reply of so many zeros.
+    RepliesZeros(usize),
+    /// Operation 0x0506 is held.
+    Holds,
+    Refuses,
 }
 
-fn create(rt: &impl Abort, alloc: Global, mode: CreateMode) -> Body {
+// What is asked of a file.
+enum Asked {
+    /// So many bytes.
+    Reads(u32),
+    Writes(&'static [u8]),
+    /// A write of so many zeros.
+    WritesZeros(usize),
+    QueriesSize,
+    SetsSize,
+    Flushes,
+    SetsDelete,
+    Cleans,
+    Closes,
+}
+
+// How filters are managed.
+enum Managed {
+    /// The filter `shift`.
+    Loads,
+    /// An instance `i0` of filter 2 on volume 1, at altitude 100.5.
+    Attaches,
+    /// Instance 0x0102.
+    Detaches,
+    /// Filter 3.
+    Unloads,
+    /// Volume 7.
+    Dismounts,
+    Stops,
+}
+
+use Asked::{
+    Cleans, Closes, Flushes, QueriesSize, Reads, SetsDelete, SetsSize, Writes, WritesZeros,
+};
+use Managed::{Attaches, Detaches, Dismounts, Loads, Stops, Unloads};
+use Says::{Asks, Creates, Holds, Lists, Manages, Refuses, Replies, RepliesZeros};
+
+fn copy(rt: &impl Abort, alloc: Global, bytes: &[u8]) -> Bytes {
+    Bytes::copy_of(alloc, bytes).expect(rt, "memory")
+}
+
+fn zeros(rt: &impl Abort, alloc: Global, len: usize) -> Bytes {
+    Bytes::from_vec(Vec::from_elem(alloc, 0, len).expect(rt, "memory"))
+}
+
+fn name(rt: &impl Abort, text: &[u8]) -> Name {
+    Name::read(text).expect(rt, "a name")
+}
+
+fn path(rt: &impl Abort, alloc: Global) -> SharedPath {
     let path = RelPath::read(b"a/b").expect(rt, "a path");
-    Body::Operation(Request::Create {
-        volume: VolumeId(3),
-        path: SharedPath::new(alloc, path).expect(rt, "memory"),
-        mode,
-    })
+    SharedPath::new(alloc, path).expect(rt, "memory")
 }
 
-fn write(rt: &impl Abort, alloc: Global, bytes: &[u8]) -> Body {
-    on_handle(FileRequest::Write {
+fn write(bytes: Bytes) -> FileRequest {
+    FileRequest::Write {
         offset: 1 << 32,
-        bytes: Bytes::copy_of(alloc, bytes).expect(rt, "memory"),
-    })
+        bytes,
+    }
 }
 
-fn reply(rt: &impl Abort, alloc: Global, status: Status, information: u64, bytes: &[u8]) -> Body {
+fn file_request(rt: &impl Abort, alloc: Global, asked: &Asked) -> FileRequest {
+    match asked {
+        Reads(len) => FileRequest::Read {
+            offset: 0x0003_0000,
+            len: *len,
+        },
+        Writes(bytes) => write(copy(rt, alloc, bytes)),
+        WritesZeros(len) => write(zeros(rt, alloc, *len)),
+        QueriesSize => FileRequest::QuerySize,
+        SetsSize => FileRequest::SetSize {
+            size: 0x0100_0000_0002,
+        },
+        Flushes => FileRequest::Flush,
+        SetsDelete => FileRequest::SetDelete,
+        Cleans => FileRequest::Cleanup,
+        Closes => FileRequest::Close,
+    }
+}
+
+fn control(rt: &impl Abort, managed: &Managed) -> Control {
+    match managed {
+        Loads => Control::Load {
+            name: name(rt, b"shift"),
+        },
+        Attaches => Control::Attach {
+            filter: FilterId(2),
+            volume: VolumeId(1),
+            name: name(rt, b"i0"),
+            altitude: Altitude::read(b"0100.50").expect(rt, "an altitude"),
+        },
+        Detaches => Control::Detach {
+            instance: InstanceId(0x0102),
+        },
+        Unloads => Control::Unload {
+            filter: FilterId(3),
+        },
+        Dismounts => Control::Dismount {
+            volume: VolumeId(7),
+        },
+        Stops => Control::Stop,
+    }
+}
+
+fn reply(status: Status, information: u64, bytes: Bytes) -> Body {
     Body::Reply(Reply::Done {
         status,
         information,
-        bytes: Bytes::copy_of(alloc, bytes).expect(rt, "memory"),
+        bytes,
     })
 }
 
-fn read(len: u32) -> Body {
-    on_handle(FileRequest::Read {
-        offset: 0x0003_0000,
-        len,
-    })
-}
-
-fn set_size() -> Body {
-    on_handle(FileRequest::SetSize {
-        size: 0x0100_0000_0002,
-    })
-}
-
-fn load(rt: &impl Abort) -> Control {
-    Control::Load {
-        name: Name::read(b"shift").expect(rt, "a name"),
+fn body(rt: &impl Abort, alloc: Global, says: &Says) -> Body {
+    match says {
+        Creates(mode) => Body::Operation(Request::Create {
+            volume: VolumeId(3),
+            path: path(rt, alloc),
+            mode: *mode,
+        }),
+        Asks(asked) => Body::Operation(Request::OnHandle {
+            handle: HandleId(0x0506),
+            request: file_request(rt, alloc, asked),
+        }),
+        Lists => Body::Operation(Request::List {
+            volume: VolumeId(7),
+        }),
+        Manages(managed) => Body::Control(control(rt, managed)),
+        Replies(status, information, bytes) => {
+            reply(*status, *information, copy(rt, alloc, bytes))
+        }
+        RepliesZeros(len) => reply(Status::Success, 0, zeros(rt, alloc, *len)),
+        Holds => Body::Reply(Reply::Held(OpId(0x0506))),
+        Refuses => Body::Refused(Status::BadPath),
     }
 }
 
-fn attach(rt: &impl Abort) -> Control {
-    Control::Attach {
-        filter: FilterId(2),
-        volume: VolumeId(1),
-        name: Name::read(b"i0").expect(rt, "a name"),
-        altitude: Altitude::read(b"0100.50").expect(rt, "an altitude"),
+// Feeds a piece, once more where memory is refused. One refusal in a row is met.
+fn fed(decoder: &mut Decoder, piece: &[u8]) -> Result<Vec<Frame>, Status> {
+    match decoder.feed(piece) {
+        Err(Status::NoMemory) => decoder.feed(piece),
+        answer => answer,
     }
 }
 
-// Creates by each mode.
-const CREATES: [[u8; 14]; 3] = [
-    [0, 0, 0, 10, 1, 1, 2, 3, 4, 3, 0, b'a', b'/', b'b'],
-    [0, 0, 0, 10, 1, 1, 2, 3, 4, 3, 1, b'a', b'/', b'b'],
-    [0, 0, 0, 10, 1, 1, 2, 3, 4, 3, 2, b'a', b'/', b'b'],
-];
-
-// A read of as many bytes as may be.
-const READ: [u8; 29] = [
-    0, 0, 0, 25, 2, 1, 2, 3, 4, 0, 0, 0, 0, 0, 0, 5, 6, 0, 0, 0, 0, 0, 3, 0, 0, 0, 0, 0x80, 0,
-];
-
-const WRITE: [u8; 28] = [
-    0, 0, 0, 24, 3, 1, 2, 3, 4, 0, 0, 0, 0, 0, 0, 5, 6, 0, 0, 0, 1, 0, 0, 0, 0, 0x61, 0x62, 0xff,
-];
-
-const QUERY_SIZE: [u8; 17] = [0, 0, 0, 13, 4, 1, 2, 3, 4, 0, 0, 0, 0, 0, 0, 5, 6];
-
-const SET_SIZE: [u8; 25] = [
-    0, 0, 0, 21, 5, 1, 2, 3, 4, 0, 0, 0, 0, 0, 0, 5, 6, 0, 0, 1, 0, 0, 0, 0, 2,
-];
-
-const FLUSH: [u8; 17] = [0, 0, 0, 13, 6, 1, 2, 3, 4, 0, 0, 0, 0, 0, 0, 5, 6];
-
-const SET_DELETE: [u8; 17] = [0, 0, 0, 13, 8, 1, 2, 3, 4, 0, 0, 0, 0, 0, 0, 5, 6];
-
-const CLOSE: [u8; 17] = [0, 0, 0, 13, 9, 1, 2, 3, 4, 0, 0, 0, 0, 0, 0, 5, 6];
-
-// What frames of operations say, beside their bytes.
-fn operation(rt: &impl Abort, alloc: Global, at: u8) -> Option<(Body, &'static [u8])> {
-    let row: (Body, &[u8]) = match at {
-        0 => (create(rt, alloc, CreateMode::Existing), &CREATES[0]),
-        1 => (create(rt, alloc, CreateMode::New), &CREATES[1]),
-        2 => (create(rt, alloc, CreateMode::Always), &CREATES[2]),
-        3 => (read(32_768), &READ),
-        4 => (write(rt, alloc, &[0x61, 0x62, 0xff]), &WRITE),
-        5 => (on_handle(FileRequest::QuerySize), &QUERY_SIZE),
-        6 => (set_size(), &SET_SIZE),
-        7 => (on_handle(FileRequest::Flush), &FLUSH),
-        8 => (
-            Body::Operation(Request::List {
-                volume: VolumeId(7),
-            }),
-            &LIST,
-        ),
-        9 => (on_handle(FileRequest::SetDelete), &SET_DELETE),
-        10 => (on_handle(FileRequest::Close), &CLOSE),
-        _ => return None,
-    };
-    Some(row)
+// Encodes a frame, once more where memory is refused.
+fn encoded(alloc: Global, frame: &Frame) -> Result<Bytes, Status> {
+    match encode(alloc, frame) {
+        Err(Status::NoMemory) => encode(alloc, frame),
+        answer => answer,
+    }
 }
 
-const LOAD: [u8; 14] = [0, 0, 0, 10, 16, 1, 2, 3, 4, b's', b'h', b'i', b'f', b't'];
-
-const ATTACH: [u8; 19] = [
-    0, 0, 0, 15, 17, 1, 2, 3, 4, 2, 1, 2, b'i', b'0', b'1', b'0', b'0', b'.', b'5',
-];
-
-// Replies: bare, with bytes, refused, and busy with 258 things.
-const REPLY: [u8; 18] = [0, 0, 0, 14, 128, 1, 2, 3, 4, 0, 0, 0, 0, 0, 0, 0, 0, 0];
-
-const BYTES: [u8; 21] = [
-    0, 0, 0, 17, 128, 1, 2, 3, 4, 0, 0, 0, 0, 0, 0, 0, 0, 3, 0x61, 0x62, 0xff,
-];
-
-const REFUSAL: [u8; 18] = [0, 0, 0, 14, 128, 1, 2, 3, 4, 32, 0, 0, 0, 0, 0, 0, 0, 0];
-
-const BUSY: [u8; 18] = [0, 0, 0, 14, 128, 1, 2, 3, 4, 34, 0, 0, 0, 0, 0, 0, 1, 2];
-
-const HELD: [u8; 17] = [0, 0, 0, 13, 129, 1, 2, 3, 4, 0, 0, 0, 0, 0, 0, 5, 6];
-
-// A frame that manages filters, beside its bytes.
-fn control(rt: &impl Abort, at: u8) -> Option<(Body, &'static [u8])> {
-    let (what, bytes): (Control, &[u8]) = match at {
-        0 => (load(rt), &LOAD),
-        1 => (attach(rt), &ATTACH),
-        2 => (
-            Control::Detach {
-                instance: InstanceId(0x0102),
-            },
-            &[0, 0, 0, 7, 18, 1, 2, 3, 4, 1, 2],
-        ),
-        3 => (
-            Control::Unload {
-                filter: FilterId(3),
-            },
-            &[0, 0, 0, 6, 19, 1, 2, 3, 4, 3],
-        ),
-        4 => (
-            Control::Dismount {
-                volume: VolumeId(7),
-            },
-            &[0, 0, 0, 6, 20, 1, 2, 3, 4, 7],
-        ),
-        5 => (Control::Stop, &[0, 0, 0, 5, 21, 1, 2, 3, 4]),
-        _ => return None,
-    };
-    Some((Body::Control(what), bytes))
+// Whether the frame has that one spelling.
+fn is_spelled(alloc: Global, frame: &Frame, bytes: &[u8]) -> bool {
+    match encoded(alloc, frame) {
+        Ok(text) => text.as_slice() == bytes,
+        Err(_) => false,
+    }
 }
 
-// What frames of replies say, beside their bytes.
-fn answer(rt: &impl Abort, alloc: Global, at: u8) -> Option<(Body, &'static [u8])> {
-    let row: (Body, &[u8]) = match at {
-        0 => (reply(rt, alloc, Status::Success, 0, &[]), &REPLY),
-        1 => (
-            reply(rt, alloc, Status::Success, 3, &[0x61, 0x62, 0xff]),
-            &BYTES,
-        ),
-        2 => (reply(rt, alloc, Status::BadRequest, 0, &[]), &REFUSAL),
-        3 => (reply(rt, alloc, Status::Busy(0x0102), 0x0102, &[]), &BUSY),
-        4 => (Body::Reply(Reply::Held(OpId(0x0506))), &HELD),
-        _ => return None,
-    };
-    Some(row)
+// How many frames end with the piece, all of which have that spelling.
+fn ended(
+    rt: &impl Abort,
+    alloc: Global,
+    decoder: &mut Decoder,
+    piece: &[u8],
+    bytes: &[u8],
+) -> usize {
+    let frames = fed(decoder, piece).expect(rt, "frames");
+    for frame in &frames {
+        assert!(rt; is_spelled(alloc, frame, bytes));
+    }
+    frames.len()
 }
 
-// Whether the bytes, fed one by one, are one frame that has them as its spelling.
-fn is_read(rt: &impl Abort, alloc: Global, bytes: &[u8]) -> bool {
+// How many frames the bytes are, fed one by one.
+fn one_by_one(rt: &impl Abort, alloc: Global, bytes: &[u8]) -> usize {
     let mut decoder = Decoder::new(alloc);
-    let mut count = 0u32;
+    let mut count = 0usize;
     for byte in bytes {
-        for frame in &decoder.feed(&[*byte]).expect(rt, "frames") {
-            if encode(alloc, frame).expect(rt, "a spelling").as_slice() == bytes {
-                count = count.saturating_add(1);
-            }
+        count = count.saturating_add(ended(rt, alloc, &mut decoder, &[*byte], bytes));
+    }
+    count
+}
+
+fn frame(rt: &impl Abort, alloc: Global, says: &Says) -> Frame {
+    Frame {
+        number: NUMBER,
+        body: body(rt, alloc, says),
+    }
+}
+
+// What frames say, beside their bytes.
+const SPELLED: &[(Says, &[u8])] = &[
+    (
+        Creates(CreateMode::Existing),
+        &[0, 0, 0, 10, 1, 1, 2, 3, 4, 3, 0, b'a', b'/', b'b'],
+    ),
+    (
+        Creates(CreateMode::New),
+        &[0, 0, 0, 10, 1, 1, 2, 3, 4, 3, 1, b'a', b'/', b'b'],
+    ),
+    (
+        Creates(CreateMode::Always),
+        &[0, 0, 0, 10, 1, 1, 2, 3, 4, 3, 2, b'a', b'/', b'b'],
+    ),
+    // as many bytes as may be
+    (
+        Asks(Reads(32_768)),
+        &[
+            0, 0, 0, 25, 2, 1, 2, 3, 4, 0, 0, 0, 0, 0, 0, 5, 6, 0, 0, 0, 0, 0, 3, 0, 0, 0, 0, 0x80,
+            0,
+        ],
+    ),
+    (
+        Asks(Writes(&[0x61, 0x62, 0xff])),
+        &[
+            0, 0, 0, 24, 3, 1, 2, 3, 4, 0, 0, 0, 0, 0, 0, 5, 6, 0, 0, 0, 1, 0, 0, 0, 0, 0x61, 0x62,
+            0xff,
+        ],
+    ),
+    (
+        Asks(QueriesSize),
+        &[0, 0, 0, 13, 4, 1, 2, 3, 4, 0, 0, 0, 0, 0, 0, 5, 6],
+    ),
+    (
+        Asks(SetsSize),
+        &[
+            0, 0, 0, 21, 5, 1, 2, 3, 4, 0, 0, 0, 0, 0, 0, 5, 6, 0, 0, 1, 0, 0, 0, 0, 2,
+        ],
+    ),
+    (
+        Asks(Flushes),
+        &[0, 0, 0, 13, 6, 1, 2, 3, 4, 0, 0, 0, 0, 0, 0, 5, 6],
+    ),
+    (Lists, LIST),
+    (
+        Asks(SetsDelete),
+        &[0, 0, 0, 13, 8, 1, 2, 3, 4, 0, 0, 0, 0, 0, 0, 5, 6],
+    ),
+    (
+        Asks(Closes),
+        &[0, 0, 0, 13, 9, 1, 2, 3, 4, 0, 0, 0, 0, 0, 0, 5, 6],
+    ),
+    (
+        Manages(Loads),
+        &[0, 0, 0, 10, 16, 1, 2, 3, 4, b's', b'h', b'i', b'f', b't'],
+    ),
+    (
+        Manages(Attaches),
+        &[
+            0, 0, 0, 15, 17, 1, 2, 3, 4, 2, 1, 2, b'i', b'0', b'1', b'0', b'0', b'.', b'5',
+        ],
+    ),
+    (Manages(Detaches), &[0, 0, 0, 7, 18, 1, 2, 3, 4, 1, 2]),
+    (Manages(Unloads), &[0, 0, 0, 6, 19, 1, 2, 3, 4, 3]),
+    (Manages(Dismounts), &[0, 0, 0, 6, 20, 1, 2, 3, 4, 7]),
+    (Manages(Stops), &[0, 0, 0, 5, 21, 1, 2, 3, 4]),
+    (
+        Replies(Status::Success, 0, &[]),
+        &[0, 0, 0, 14, 128, 1, 2, 3, 4, 0, 0, 0, 0, 0, 0, 0, 0, 0],
+    ),
+    (
+        Replies(Status::Success, 3, &[0x61, 0x62, 0xff]),
+        &[
+            0, 0, 0, 17, 128, 1, 2, 3, 4, 0, 0, 0, 0, 0, 0, 0, 0, 3, 0x61, 0x62, 0xff,
+        ],
+    ),
+    (
+        Replies(Status::BadRequest, 0, &[]),
+        &[0, 0, 0, 14, 128, 1, 2, 3, 4, 32, 0, 0, 0, 0, 0, 0, 0, 0],
+    ),
+    (
+        Replies(Status::Busy(0x0102), 0x0102, &[]),
+        &[0, 0, 0, 14, 128, 1, 2, 3, 4, 34, 0, 0, 0, 0, 0, 0, 1, 2],
+    ),
+    (
+        Holds,
+        &[0, 0, 0, 13, 129, 1, 2, 3, 4, 0, 0, 0, 0, 0, 0, 5, 6],
+    ),
+];
+
+// Whether what is said has those bytes as its spelling, and they are one frame that has it too.
+fn is_exact(rt: &impl Abort, alloc: Global, says: &Says, bytes: &[u8]) -> bool {
+    let frame = frame(rt, alloc, says);
+    is_spelled(alloc, &frame, bytes) && one_by_one(rt, alloc, bytes) == 1
+}
+
+// The number of the first row that isn't so.
+fn other_row(rt: &impl Abort, alloc: Global, rows: &[(Says, &[u8])]) -> Option<usize> {
+    for (number, (says, bytes)) in rows.iter().enumerate() {
+        if !is_exact(rt, alloc, says, bytes) {
+            return Some(number);
         }
     }
-    count == 1
-}
-
-// The body has that one spelling.
-fn is_spelled(rt: &impl Abort, alloc: Global, body: Body, bytes: &[u8]) -> bool {
-    let text = encode(
-        alloc,
-        &Frame {
-            number: NUMBER,
-            body,
-        },
-    )
-    .expect(rt, "a spelling");
-    text.as_slice() == bytes && is_read(rt, alloc, bytes)
+    None
 }
 
 #[test]
 fn frame_bytes(rt: HostRuntime) {
-    let alloc = rt.alloc();
-    for at in 0..11 {
-        if let Some((body, bytes)) = operation(&rt, alloc, at) {
-            assert!(rt; is_spelled(&rt, alloc, body, bytes), "operation {at}");
-        }
-        if let Some((body, bytes)) = control(&rt, at) {
-            assert!(rt; is_spelled(&rt, alloc, body, bytes), "control {at}");
-        }
-        if let Some((body, bytes)) = answer(&rt, alloc, at) {
-            assert!(rt; is_spelled(&rt, alloc, body, bytes), "answer {at}");
-        }
-    }
+    assert_eq!(rt; other_row(&rt, rt.alloc(), SPELLED), None);
 }
 
 // Bytes of frames that say nothing, with the number and the status that are told.
-const REFUSED: [(&[u8], u32, Status); 12] = [
+const REFUSED: &[(&[u8], u32, Status)] = &[
     (
         &[
             0, 0, 0, 25, 2, 0, 0, 0, 1, 0, 0, 0, 0, 0, 0, 0, 0, 0, 0, 0, 0, 0, 0, 0, 0, 0, 0, 0x80,
@@ -293,38 +389,48 @@ const REFUSED: [(&[u8], u32, Status); 12] = [
     (&[0, 0, 0, 5, 0x63, 0, 0, 0, 0], 0, Status::BadRequest),
 ];
 
-// How many frames the decoder gives for the bytes, all of which are so refused under that number.
-fn refusals(
+// Whether the decoder gives one frame for the bytes, so refused under that number.
+fn is_refused(
     decoder: &mut Decoder,
     bytes: &[u8],
     number: u32,
     status: Status,
-) -> Result<usize, Status> {
+) -> Result<bool, Status> {
     let frames = decoder.feed(bytes)?;
-    let refused = frames.iter().filter(|it| it.number == number
-        && matches!(it.body, Body::Refused(told) if told == status));
-    Ok(refused.count())
+    Ok(match frames.as_slice() {
+        [frame] => {
+            frame.number == number && matches!(frame.body, Body::Refused(told) if told == status)
+        }
+        _ => false,
+    })
+}
+
+// The first number under which one decoder doesn't refuse what the row has.
+fn other_refusal(alloc: Global, rows: &[(&[u8], u32, Status)]) -> Option<u32> {
+    let mut decoder = Decoder::new(alloc);
+    for (bytes, number, status) in rows {
+        if is_refused(&mut decoder, bytes, *number, *status) != Ok(true) {
+            return Some(*number);
+        }
+    }
+    None
 }
 
 #[test]
 fn serve_faults(rt: HostRuntime) {
-    let mut decoder = Decoder::new(rt.alloc());
-    for (bytes, number, status) in REFUSED {
-        assert_eq!(rt;
-            refusals(&mut decoder, bytes, number, status),
-            Ok(1),
-            "frame {number}"
-        );
-    }
+    assert_eq!(rt; other_refusal(rt.alloc(), REFUSED), None);
 }
 
+// The bytes of a list of volume 7.
+const LIST: &[u8] = &[0, 0, 0, 6, 7, 1, 2, 3, 4, 7];
+
 // Lengths that no frame has, whole and in pieces.
-const FAULTS: [&[&[u8]]; 5] = [
+const FAULTS: &[&[&[u8]]] = &[
     &[&[0, 0, 0, 0]],
     &[&[0, 0, 0, 0, 1]],
     &[&[0, 0, 0x80, 0xe9]],
     &[&[0, 0], &[0], &[4]],
-    &[&LIST, &LIST, &[0, 0, 0, 4]],
+    &[LIST, LIST, &[0, 0, 0, 4]],
 ];
 
 // What the decoder says of the last of the pieces, and of whatever comes behind it.
@@ -334,143 +440,122 @@ fn faults(alloc: Global, pieces: &[&[u8]]) -> [Option<Status>; 3] {
     for piece in pieces {
         told = decoder.feed(piece).err();
     }
-    [told, decoder.feed(&[]).err(), decoder.feed(&LIST).err()]
+    [told, decoder.feed(&[]).err(), decoder.feed(LIST).err()]
+}
+
+// Two lists, and a length that no frame has.
+const IN_FRONT: &[u8] = &[
+    0, 0, 0, 6, 7, 1, 2, 3, 4, 7, 0, 0, 0, 6, 7, 1, 2, 3, 4, 7, 0, 0, 0, 0, 1,
+];
+
+// How many frames there are in front of the fault, and what is said to an empty piece behind it.
+fn in_front(alloc: Global) -> (Result<usize, Status>, Option<Status>) {
+    let mut decoder = Decoder::new(alloc);
+    let count = match decoder.feed(IN_FRONT) {
+        Ok(frames) => Ok(frames.len()),
+        Err(status) => Err(status),
+    };
+    (count, decoder.feed(&[]).err())
+}
+
+// The number of the first of them of which something else is said than 32.
+fn other_fault(alloc: Global, rows: &[&[&[u8]]]) -> Option<usize> {
+    for (number, pieces) in rows.iter().enumerate() {
+        if faults(alloc, pieces) != [Some(Status::BadRequest); 3] {
+            return Some(number);
+        }
+    }
+    None
 }
 
 #[test]
 fn frame_faults(rt: HostRuntime) {
-    let alloc = rt.alloc();
-    for pieces in FAULTS {
-        assert_eq!(rt; faults(alloc, pieces), [Some(Status::BadRequest); 3]);
-    }
-    let mut stream = Vec::new(alloc);
-    for piece in [LIST.as_slice(), &LIST, &[0, 0, 0, 0, 1]] {
-        stream.extend_from_slice(piece).expect(&rt, "memory");
-    }
-    let mut decoder = Decoder::new(alloc);
-    assert_eq!(rt;
-        decoder.feed(stream.as_slice()).expect(&rt, "frames").len(),
-        2,
-        "the frames in front of the fault"
-    );
-    assert_eq!(rt;
-        decoder.feed(&[]).err(),
-        Some(Status::BadRequest),
-        "an empty piece"
-    );
+    assert_eq!(rt; other_fault(rt.alloc(), FAULTS), None);
+    assert_eq!(rt; in_front(rt.alloc()), (Ok(2), Some(Status::BadRequest)));
 }
 
 // What comes of a body of that length under an unknown code, behind its length.
-fn told_of(rt: &impl Abort, alloc: Global, len: u32) -> Result<usize, Status> {
+fn told_of(rt: &impl Abort, alloc: Global, len: u32) -> Result<bool, Status> {
     let mut bytes = Vec::new(alloc);
     bytes
         .extend_from_slice(&len.to_be_bytes())
         .expect(rt, "memory");
     bytes.push(0x63).expect(rt, "memory");
     bytes.resize(len as usize + 4, 0).expect(rt, "memory");
-    refusals(
-        &mut Decoder::new(alloc),
-        bytes.as_slice(),
-        0,
-        Status::BadRequest,
-    )
+    let mut decoder = Decoder::new(alloc);
+    is_refused(&mut decoder, bytes.as_slice(), 0, Status::BadRequest)
 }
+
+const LENGTHS: &[(u32, Result<bool, Status>)] = &[
+    (4, Err(Status::BadRequest)),
+    (5, Ok(true)),
+    (33_000, Ok(true)),
+    (33_001, Err(Status::BadRequest)),
+];
 
 #[test]
 fn longest_frame(rt: HostRuntime) {
-    let alloc = rt.alloc();
-    for (len, told) in [
-        (4, Err(Status::BadRequest)),
-        (5, Ok(1)),
-        (33_000, Ok(1)),
-        (33_001, Err(Status::BadRequest)),
-    ] {
-        assert_eq!(rt; told_of(&rt, alloc, len), told, "{len} bytes");
+    for (len, told) in LENGTHS {
+        assert_eq!(rt; told_of(&rt, rt.alloc(), *len), *told, "{len} bytes");
     }
 }
 
-// So many zeros.
-fn zeros(rt: &impl Abort, alloc: Global, len: usize) -> Vec<u8> {
-    Vec::from_elem(alloc, 0, len).expect(rt, "memory")
-}
-
-fn write_of(rt: &impl Abort, alloc: Global, len: usize) -> Body {
-    write(rt, alloc, zeros(rt, alloc, len).as_slice())
-}
-
-fn reply_of(rt: &impl Abort, alloc: Global, len: usize) -> Body {
-    let bytes = zeros(rt, alloc, len);
-    reply(rt, alloc, Status::Success, 0, bytes.as_slice())
-}
-
 // The spelling's length, or the refusal.
-fn spelled_len(alloc: Global, body: Body) -> Result<usize, Status> {
-    Ok(encode(alloc, &Frame { number: 1, body })?.len())
+fn spelled_len(alloc: Global, frame: &Frame) -> Result<usize, Status> {
+    match encode(alloc, frame) {
+        Ok(text) => Ok(text.len()),
+        Err(status) => Err(status),
+    }
 }
 
-// A body, and the length of its spelling, if it has one.
-fn limit(rt: &impl Abort, alloc: Global, at: u8) -> Option<(Body, Result<usize, Status>)> {
-    let row = match at {
-        0 => (write_of(rt, alloc, 32_768), Ok(32_793)),
-        1 => (write_of(rt, alloc, 32_769), Err(Status::BadRequest)),
-        2 => (reply_of(rt, alloc, 32_986), Ok(33_004)),
-        3 => (reply_of(rt, alloc, 32_987), Err(Status::BadRequest)),
-        4 => (read(32_769), Err(Status::BadRequest)),
-        5 => (reply(rt, alloc, Status::Busy(2), 2, &[]), Ok(18)),
-        6 => (
-            reply(rt, alloc, Status::Busy(2), 3, &[]),
-            Err(Status::BadRequest),
-        ),
-        7 => (reply(rt, alloc, Status::EndOfFile, 3, &[]), Ok(18)),
-        8 => (Body::Refused(Status::BadPath), Err(Status::BadRequest)),
-        9 => (on_handle(FileRequest::Cleanup), Err(Status::BadRequest)),
-        _ => return None,
-    };
-    Some(row)
-}
+const BAD: Result<usize, Status> = Err(Status::BadRequest);
+
+// What frames say, and the length of their spelling, if they have one.
+const LIMITS: &[(Says, Result<usize, Status>)] = &[
+    (Asks(WritesZeros(32_768)), Ok(32_793)),
+    (Asks(WritesZeros(32_769)), BAD),
+    (RepliesZeros(32_986), Ok(33_004)),
+    (RepliesZeros(32_987), BAD),
+    (Asks(Reads(32_769)), BAD),
+    (Replies(Status::Busy(2), 2, &[]), Ok(18)),
+    (Replies(Status::Busy(2), 3, &[]), BAD),
+    (Replies(Status::EndOfFile, 3, &[]), Ok(18)),
+    (Refuses, BAD),
+    (Asks(Cleans), BAD),
+];
 
 #[test]
 fn frames_without_a_spelling(rt: HostRuntime) {
     let alloc = rt.alloc();
-    for at in 0..9 {
-        if let Some((body, len)) = limit(&rt, alloc, at) {
-            assert_eq!(rt; spelled_len(alloc, body), len, "body {at}");
-        }
+    for (says, len) in LIMITS {
+        assert_eq!(rt; spelled_len(alloc, &frame(&rt, alloc, says)), *len);
     }
 }
 
-// Feeds a piece, once more where memory is refused. One refusal in a row is met.
-fn fed(decoder: &mut Decoder, piece: &[u8]) -> Result<Vec<Frame>, Status> {
-    match decoder.feed(piece) {
-        Err(Status::NoMemory) => decoder.feed(piece),
-        answer => answer,
-    }
-}
+// A write, in pieces and whole.
+const WRITE: &[u8] = &[
+    0, 0, 0, 24, 3, 0, 0, 0, 2, 0, 0, 0, 0, 0, 0, 0, 5, 0, 0, 0, 0, 0, 0, 0, 1, 0x61, 0x62, 0x63,
+];
 
-// Encodes a frame, once more where memory is refused.
-fn encoded(alloc: Global, frame: &Frame) -> Result<Bytes, Status> {
-    match encode(alloc, frame) {
-        Err(Status::NoMemory) => encode(alloc, frame),
-        answer => answer,
+const WRITE_IN_PIECES: &[&[u8]] = &[
+    &[0, 0, 0],
+    &[24, 3, 0, 0, 0, 2, 0, 0, 0, 0, 0, 0, 0, 5, 0, 0, 0],
+    &[0, 0, 0, 0, 1, 0x61, 0x62, 0x63],
+    WRITE,
+];
+
+// How many frames the pieces are, all of which have that spelling.
+fn count(rt: &impl Abort, alloc: Global, pieces: &[&[u8]], bytes: &[u8]) -> usize {
+    let mut decoder = Decoder::new(alloc);
+    let mut count = 0usize;
+    for piece in pieces {
+        count = count.saturating_add(ended(rt, alloc, &mut decoder, piece, bytes));
     }
+    count
 }
 
 // Says the same whichever one allocation of it is refused.
 #[test]
 fn refused_memory(rt: HostRuntime) {
-    let alloc = rt.alloc();
-    let write = [
-        0, 0, 0, 24, 3, 0, 0, 0, 2, 0, 0, 0, 0, 0, 0, 0, 5, 0, 0, 0, 0, 0, 0, 0, 1, 0x61, 0x62,
-        0x63,
-    ];
-    let mut decoder = Decoder::new(alloc);
-    let mut count = 0u32;
-    for piece in [&write[..3], &write[3..20], &write[20..], &write] {
-        for frame in &fed(&mut decoder, piece).expect(&rt, "frames") {
-            let bytes = encoded(alloc, frame).expect(&rt, "a spelling");
-            assert_eq!(rt; bytes.as_slice(), write.as_slice());
-            count = count.saturating_add(1);
-        }
-    }
-    assert_eq!(rt; count, 2);
+    assert_eq!(rt; count(&rt, rt.alloc(), WRITE_IN_PIECES, WRITE), 2);
 }

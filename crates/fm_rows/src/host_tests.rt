@@ -1,19 +1,23 @@
 //! Bases over a real folder, and over a host that is slow, fails in mid-stream or has strange names.
 
-use crate::slow_host::{Names, SlowHost};
+use crate::slow_host::{SlowHost, Way};
 use fm_base::{Base, FailNth};
 use fm_host::HostBase;
 use fm_types::{Bytes, CreateMode, RelPath, Status};
-use std::alloc::Global;
+use std::alloc::{AllocError, Global};
 use std::rt::Files;
-use std::test::Fail;
 use std::{env, fs};
 
 // The path of a folder of the host for one test.
-fn folder_for(rt: &HostRuntime, test: &str) -> Result<String, Fail> {
-    let place = env::temp_dir(rt)?;
+fn folder_for(rt: &HostRuntime, test: &str) -> Option<String> {
+    let place = env::temp_dir(rt).ok()?;
     let number = std::process::id(rt.process());
-    Ok(format!(in rt.alloc(); "{}/kazdrin-{test}-{number}", place.as_path().display())?)
+    format!(in rt.alloc(); "{}/kazdrin-{test}-{number}", place.as_path().display()).ok()
+}
+
+// The path of what is in a folder.
+fn inside(rt: &HostRuntime, folder: &str, name: &str) -> Result<String, AllocError> {
+    format!(in rt.alloc(); "{folder}/{name}")
 }
 
 // A call of a base.
@@ -70,62 +74,78 @@ fn is_number(told: Result<u64, Status>, answer: Answer) -> bool {
     }
 }
 
-// Makes the call, if it stays within 200 bytes; whether it is told that answer.
-fn is_told<B: Base>(base: &mut B, call: Call, answer: Answer) -> Result<bool, Status> {
-    Ok(match call {
-        Call::Create(path, mode) => is_done(base.create(&RelPath::read(path)?, mode), answer),
-        Call::Read(path, offset, len) => {
-            are_bytes(base.read(&RelPath::read(path)?, offset, len), answer)
-        }
-        Call::Write(path, offset, bytes) if offset < 100 && bytes.len() < 100 => {
-            is_done(base.write(&RelPath::read(path)?, offset, bytes), answer)
-        }
-        Call::Size(path) => is_number(base.size(&RelPath::read(path)?), answer),
-        Call::SetSize(path, size) if size < 100 => {
-            is_done(base.set_size(&RelPath::read(path)?, size), answer)
-        }
-        Call::Flush(path) => is_done(base.flush(&RelPath::read(path)?), answer),
-        Call::Unlink(path) => is_done(base.unlink(&RelPath::read(path)?), answer),
-        Call::List => are_bytes(base.list(), answer),
-        Call::Write(..) | Call::SetSize(..) => false,
-    })
+// The path that the call names; a list names none.
+fn path_of(call: Call) -> &'static [u8] {
+    match call {
+        Call::Create(path, _)
+        | Call::Read(path, _, _)
+        | Call::Write(path, _, _)
+        | Call::Size(path)
+        | Call::SetSize(path, _)
+        | Call::Flush(path)
+        | Call::Unlink(path) => path,
+        Call::List => b"-",
+    }
 }
 
+// Makes the call, if it stays within 200 bytes; whether it is told that answer.
+fn is_told<B: Base>(base: &mut B, path: &RelPath, call: Call, answer: Answer) -> bool {
+    match call {
+        Call::Create(_, mode) => is_done(base.create(path, mode), answer),
+        Call::Read(_, offset, len) => are_bytes(base.read(path, offset, len), answer),
+        Call::Write(_, offset, bytes) if offset < 100 && bytes.len() < 100 => {
+            is_done(base.write(path, offset, bytes), answer)
+        }
+        Call::Size(_) => is_number(base.size(path), answer),
+        Call::SetSize(_, size) if size < 100 => is_done(base.set_size(path, size), answer),
+        Call::Flush(_) => is_done(base.flush(path), answer),
+        Call::Unlink(_) => is_done(base.unlink(path), answer),
+        Call::List => are_bytes(base.list(), answer),
+        Call::Write(..) | Call::SetSize(..) => false,
+    }
+}
+
+// A call, and what it is told.
+type Row = (Call, Answer);
+
 // How many of the calls are left, from the first on that isn't told its answer: none where all are told theirs.
-fn left<B: Base>(base: &mut B, rows: &[(Call, Answer)]) -> Result<usize, Status> {
+fn left<B: Base>(base: &mut B, rows: &[Row]) -> usize {
     let mut left = rows.len();
     for (call, answer) in rows {
-        if !is_told(base, *call, *answer)? {
-            return Ok(left);
+        match RelPath::read(path_of(*call)) {
+            Ok(path) if is_told(base, &path, *call, *answer) => {}
+            _ => return left,
         }
         left = left.saturating_sub(1);
     }
-    Ok(left)
+    left
 }
 
 // How many calls are left, and how many faults of the host the base has counted.
 type Told = (usize, u64);
 
-// What a base over that folder is told.
+// What a base is told where the call of that number fails; none does where it is 0.
+fn told_by<B: Base + Drop>(base: B, fails: u64, rows: &[Row]) -> Told {
+    let mut base = FailNth::new(base, fails);
+    let left = left(&mut base, rows);
+    (left, base.failures())
+}
+
+// The same of a base over that folder.
 fn told_in<R: Files + AllocGlobal + Clone + Drop>(
     rt: &R,
     folder: &str,
-    rows: &[(Call, Answer)],
+    fails: u64,
+    rows: &[Row],
 ) -> Result<Told, Status> {
-    let mut base = HostBase::new(rt, folder)?;
-    let left = left(&mut base, rows)?;
-    Ok((left, base.failures()))
+    match HostBase::new(rt, folder) {
+        Ok(base) => Ok(told_by(base, fails, rows)),
+        Err(status) => Err(status),
+    }
 }
 
-// The same of a new folder, which is empty at the end.
-fn told_in_new(rt: &HostRuntime, folder: &str, rows: &[(Call, Answer)]) -> Result<Told, Fail> {
-    fs::create_dir(rt, folder)?;
-    let told = told_in(rt, folder, rows)?;
-    fs::remove_dir(rt, folder)?;
-    Ok(told)
-}
-
-const ROW: [(Call, Answer); 8] = [
+// A create keeps the bytes of a file that is there; `a` is no folder, and there is no folder `c`. The folder is empty at the end.
+const FILES: &[Row] = &[
     (Call::Create(b"a", CreateMode::New), Answer::Done),
     (
         Call::Create(b"a", CreateMode::New),
@@ -140,17 +160,6 @@ const ROW: [(Call, Answer); 8] = [
     (Call::List, Answer::Bytes(&[0x61, 0x0a])),
     (Call::Unlink(b"a"), Answer::Done),
     (Call::Size(b"a"), Answer::No(Status::FileNotFound)),
-];
-
-#[test]
-fn host_folder(rt: HostRuntime) -> Result<(), Fail> {
-    let folder = folder_for(&rt, "row")?;
-    assert_eq!(rt; told_in_new(&rt, folder.as_str(), &ROW)?, (0, 0));
-    Ok(())
-}
-
-// A create keeps the bytes of a file that is there; `a` is no folder, and there is no folder `c`.
-const FILES: [(Call, Answer); 17] = [
     (Call::Create(b"a", CreateMode::Always), Answer::Done),
     (Call::Write(b"a", 0, b"abc"), Answer::Done),
     (Call::Read(b"a", 0, 3), Answer::Bytes(b"abc")),
@@ -174,16 +183,6 @@ const FILES: [(Call, Answer); 17] = [
     ),
     (Call::Unlink(b"a"), Answer::Done),
     (Call::List, Answer::Bytes(b"")),
-];
-
-#[test]
-fn files_of_a_folder(rt: HostRuntime) -> Result<(), Fail> {
-    let folder = folder_for(&rt, "files")?;
-    assert_eq!(rt; told_in_new(&rt, folder.as_str(), &FILES)?, (0, 0));
-    Ok(())
-}
-
-const ABSENT: [(Call, Answer); 7] = [
     (Call::Read(b"a", 0, 0), Answer::No(Status::FileNotFound)),
     (Call::Write(b"a", 0, b""), Answer::No(Status::FileNotFound)),
     (Call::Write(b"a", 0, b"x"), Answer::No(Status::FileNotFound)),
@@ -194,15 +193,15 @@ const ABSENT: [(Call, Answer); 7] = [
 ];
 
 // Of a folder that is gone.
-const GONE: [(Call, Answer); 1] = [(Call::List, Answer::No(Status::FileNotFound))];
+const GONE: &[Row] = &[(Call::List, Answer::No(Status::FileNotFound))];
 
-// What a base is told before and after its folder goes.
-fn told_without_folder(rt: &HostRuntime, folder: &str) -> Result<(usize, Told), Fail> {
+// What a base is told before and after its folder, which is empty, goes.
+fn told_without_folder(rt: &HostRuntime, folder: &str) -> Result<(usize, bool, Told), Status> {
     let mut base = HostBase::new(rt, folder)?;
-    let there = left(&mut base, &ABSENT)?;
-    fs::remove_dir(rt, folder)?;
-    let gone = left(&mut base, &GONE)?;
-    Ok((there, (gone, base.failures())))
+    let there = left(&mut base, FILES);
+    let is_removed = fs::remove_dir(rt, folder).is_ok();
+    let gone = left(&mut base, GONE);
+    Ok((there, is_removed, (gone, base.failures())))
 }
 
 // What is said where there is no such folder.
@@ -211,17 +210,16 @@ fn refusal(rt: &HostRuntime, folder: &str) -> Option<Status> {
 }
 
 #[test]
-fn absent_files_and_folders(rt: HostRuntime) -> Result<(), Fail> {
-    let folder = folder_for(&rt, "absent")?;
-    fs::create_dir(&rt, folder.as_str())?;
-    let told = told_without_folder(&rt, folder.as_str())?;
-    assert_eq!(rt; told, (0, (0, 0)));
+fn files_of_a_folder(rt: HostRuntime) {
+    let folder = folder_for(&rt, "files").expect(&rt, "a path");
+    assert!(rt; fs::create_dir(&rt, folder.as_str()).is_ok());
+    let told = told_without_folder(&rt, folder.as_str());
+    assert_eq!(rt; told, Ok((0, true, (0, 0))));
     assert_eq!(rt; refusal(&rt, folder.as_str()), Some(Status::FileNotFound));
-    Ok(())
 }
 
 // In a folder with a folder `inner`, which isn't listed, and is no file.
-const FOLDERS: [(Call, Answer); 6] = [
+const FOLDERS: &[Row] = &[
     (Call::Create(b"inner/x", CreateMode::New), Answer::Done),
     (Call::Create(b"y", CreateMode::New), Answer::Done),
     (Call::Create(b".hidden", CreateMode::New), Answer::Done),
@@ -233,64 +231,65 @@ const FOLDERS: [(Call, Answer); 6] = [
     ),
 ];
 
-const EMPTIED: [(Call, Answer); 3] = [
+const EMPTIED: &[Row] = &[
     (Call::Unlink(b"inner/x"), Answer::Done),
     (Call::Unlink(b"y"), Answer::Done),
     (Call::Unlink(b".hidden"), Answer::Done),
 ];
 
-// What is said where a base is wanted over `y`, which is no folder.
-fn refusal_of_file(rt: &HostRuntime, folder: &str) -> Result<Option<Status>, Fail> {
-    let file = format!(in rt.alloc(); "{folder}/y")?;
-    Ok(refusal(rt, file.as_str()))
+fn are_made(rt: &HostRuntime, folder: &str, inner: &str) -> bool {
+    fs::create_dir(rt, folder).is_ok() && fs::create_dir(rt, inner).is_ok()
 }
 
-// What is told while the files are there, what is said of a file, and what is told as the files go.
+fn are_removed(rt: &HostRuntime, folder: &str, inner: &str) -> bool {
+    fs::remove_dir(rt, inner).is_ok() && fs::remove_dir(rt, folder).is_ok()
+}
+
+// Whether the folders can be made, what is told there as files come, what is said of `y`, which is no folder, what is told as they go, and whether the folders
+// are empty then.
 fn told_among_folders(
     rt: &HostRuntime,
     folder: &str,
-) -> Result<(Told, Option<Status>, Told), Fail> {
-    let first = told_in(rt, folder, &FOLDERS)?;
-    let refused = refusal_of_file(rt, folder)?;
-    let last = told_in(rt, folder, &EMPTIED)?;
-    Ok((first, refused, last))
-}
-
-// The same in a new folder with its inner one.
-fn told_in_folders(rt: &HostRuntime, folder: &str) -> Result<(Told, Option<Status>, Told), Fail> {
-    let inner = format!(in rt.alloc(); "{folder}/inner")?;
-    fs::create_dir(rt, folder)?;
-    fs::create_dir(rt, inner.as_str())?;
-    let told = told_among_folders(rt, folder)?;
-    fs::remove_dir(rt, inner.as_str())?;
-    fs::remove_dir(rt, folder)?;
-    Ok(told)
+    inner: &str,
+    file: &str,
+) -> (
+    bool,
+    Result<Told, Status>,
+    Option<Status>,
+    Result<Told, Status>,
+    bool,
+) {
+    let is_made = are_made(rt, folder, inner);
+    let first = told_in(rt, folder, 0, FOLDERS);
+    let refused = refusal(rt, file);
+    let last = told_in(rt, folder, 0, EMPTIED);
+    (
+        is_made,
+        first,
+        refused,
+        last,
+        are_removed(rt, folder, inner),
+    )
 }
 
 #[test]
-fn folders_are_no_files(rt: HostRuntime) -> Result<(), Fail> {
-    let folder = folder_for(&rt, "folders")?;
-    let (first, refused, last) = told_in_folders(&rt, folder.as_str())?;
-    assert_eq!(rt; first, (0, 2));
-    assert_eq!(rt; refused, Some(Status::FileNotFound), "y is no folder");
-    assert_eq!(rt; last, (0, 0));
-    Ok(())
+fn folders_are_no_files(rt: HostRuntime) {
+    let folder = folder_for(&rt, "folders").expect(&rt, "a path");
+    let inner = inside(&rt, folder.as_str(), "inner").expect(&rt, "a path");
+    let file = inside(&rt, folder.as_str(), "y").expect(&rt, "a path");
+    let told = told_among_folders(&rt, folder.as_str(), inner.as_str(), file.as_str());
+    let refused = Some(Status::FileNotFound);
+    assert!(rt; told == (true, Ok((0, 2)), refused, Ok((0, 0)), true));
 }
 
-const SLOW: [(Call, Answer); 3] = [
+const SLOW: &[Row] = &[
     (Call::Read(b"file", 2, 3), Answer::Bytes(b"cde")),
     (Call::Read(b"file", 0, 99), Answer::Bytes(b"abcdefgh")),
     (Call::Read(b"file", 8, 1), Answer::No(Status::EndOfFile)),
 ];
 
-#[test]
-fn byte_by_byte(rt: HostRuntime) {
-    let host = SlowHost::new(rt.alloc());
-    assert_eq!(rt; told_in(&host, "root", &SLOW), Ok((0, 0)));
-}
-
 // With place 4 failing: two faults of the host, and that it wants memory is one too; this program's own want of memory is none.
-const FAILING: [(Call, Answer); 6] = [
+const FAILING: &[Row] = &[
     (Call::Read(b"file", 0, 8), Answer::No(Status::DeviceFault)),
     (Call::Read(b"file", 0, 4), Answer::Bytes(b"abcd")),
     (Call::Write(b"file", 0, b"1234"), Answer::Done),
@@ -302,66 +301,55 @@ const FAILING: [(Call, Answer); 6] = [
     (Call::Size(b"crowded"), Answer::No(Status::DeviceFault)),
 ];
 
-#[test]
-fn fails_in_mid_stream(rt: HostRuntime) {
-    let mut host = SlowHost::new(rt.alloc());
-    host.fails_at = 4;
-    assert_eq!(rt; told_in(&host, "root", &FAILING), Ok((0, 3)));
-}
-
-// The names of a host, what a list of them is told, and the faults that are counted then; a name that isn't UTF-8 is one.
-const LISTS: [(Names, Answer, u64); 4] = [
-    (Names::Mixed, Answer::Bytes(b".b\na\na c\nb\n"), 0),
-    (Names::NotText, Answer::No(Status::DeviceFault), 1),
-    (Names::Long(128), Answer::Long(32_768), 0),
-    (Names::Long(129), Answer::No(Status::TooMany), 0),
-];
-
-fn told_of_names(alloc: Global, names: Names, answer: Answer) -> Result<Told, Status> {
-    let mut host = SlowHost::new(alloc);
-    host.names = names;
-    told_in(&host, "root", &[(Call::List, answer)])
-}
-
-#[test]
-fn names_of_a_host(rt: HostRuntime) {
-    for (names, answer, failures) in LISTS {
-        assert_eq!(rt; told_of_names(rt.alloc(), names, answer), Ok((0, failures)));
-    }
-}
-
 // Nothing is synced before the flush.
-const SYNCED: [(Call, Answer); 2] = [
+const SYNCED: &[Row] = &[
     (Call::Write(b"file", 0, b"x"), Answer::Done),
     (Call::Flush(b"file"), Answer::No(Status::DeviceFault)),
 ];
 
-#[test]
-fn synced_by_flush(rt: HostRuntime) {
-    let mut host = SlowHost::new(rt.alloc());
-    host.fails_to_sync = true;
-    assert_eq!(rt; told_in(&host, "root", &SYNCED), Ok((0, 1)));
-}
+const MIXED: &[Row] = &[(Call::List, Answer::Bytes(b".b\na\na c\nb\n"))];
+
+// A name that isn't UTF-8 is a fault.
+const NOT_TEXT: &[Row] = &[(Call::List, Answer::No(Status::DeviceFault))];
+
+const LONGEST: &[Row] = &[(Call::List, Answer::Long(32_768))];
+
+const TOO_LONG: &[Row] = &[(Call::List, Answer::No(Status::TooMany))];
 
 // A fault of the host, the call that fails, and one more.
-const SECOND: [(Call, Answer); 3] = [
+const SECOND: &[Row] = &[
     (Call::Size(b"folder"), Answer::No(Status::DeviceFault)),
     (Call::Size(b"file"), Answer::No(Status::DeviceFault)),
     (Call::Size(b"file"), Answer::Number(8)),
 ];
 
-fn told_with_a_failure<B: Base + Drop>(base: B, rows: &[(Call, Answer)]) -> Result<Told, Status> {
-    let mut base = FailNth::new(base, 2);
-    let left = left(&mut base, rows)?;
-    Ok((left, base.failures()))
+// How slow hosts are, the call of the base that fails, if one does, what the base is told, and the faults that are counted then.
+const HOSTS: &[(Way, u64, &[Row], u64)] = &[
+    (Way::Plain, 0, SLOW, 0),
+    (Way::FailsAt(4), 0, FAILING, 3),
+    (Way::FailsToSync, 0, SYNCED, 1),
+    (Way::Mixed, 0, MIXED, 0),
+    (Way::NotText, 0, NOT_TEXT, 1),
+    (Way::Long(128), 0, LONGEST, 0),
+    (Way::Long(129), 0, TOO_LONG, 0),
+    (Way::Plain, 2, SECOND, 2),
+];
+
+fn told_over(alloc: Global, way: Way, fails: u64, rows: &[Row]) -> Result<Told, Status> {
+    told_in(&SlowHost::new(alloc, way), "root", fails, rows)
 }
 
-// The same of a base over the slow host.
-fn told_of_slow(alloc: Global) -> Result<Told, Status> {
-    told_with_a_failure(HostBase::new(&SlowHost::new(alloc), "root")?, &SECOND)
+// The number of the first host over which something else is told.
+fn other_host(alloc: Global, hosts: &[(Way, u64, &[Row], u64)]) -> Option<usize> {
+    for (number, (way, fails, rows, failures)) in hosts.iter().enumerate() {
+        if told_over(alloc, *way, *fails, rows) != Ok((0, *failures)) {
+            return Some(number);
+        }
+    }
+    None
 }
 
 #[test]
-fn second_call_fails(rt: HostRuntime) {
-    assert_eq!(rt; told_of_slow(rt.alloc()), Ok((0, 2)));
+fn slow_hosts(rt: HostRuntime) {
+    assert_eq!(rt; other_host(rt.alloc(), HOSTS), None);
 }

@@ -1,6 +1,7 @@
-//! What no stored script can say: texts and frames by hand, lists of events with what each is told, an operation through instances that change what is
-//! written, limits, readers and writers that fail, and refused memory; and the tests of bases, over a real folder and over a host that fails, of the job queue and of the volume gate. There is nothing
-//! here but tests, so that what they call is proved once, in its own crate. Stored scripts stand in the crate `examples`.
+//! What no stored script can say of the manager and of what stands below it: texts and frames by hand, lists of events with what each is told, an operation
+//! through instances that change what is written, limits, and refused memory; and the tests of bases, over a real folder and over a host that fails, of the
+//! job queue and of the volume gate. There is nothing here but tests, so that what they call is proved once, in its own crate. Stored scripts stand in the
+//! crate `examples`, and what none of them can say of a script in `script_rows`.
 #![tactic(auto)]
 
 #[cfg(test)]
@@ -18,8 +19,6 @@ mod hold_lists;
 #[cfg(test)]
 mod host_tests;
 #[cfg(test)]
-mod limit_tests;
-#[cfg(test)]
 mod lines;
 #[cfg(test)]
 mod list_tests;
@@ -31,8 +30,6 @@ mod operation_tests;
 mod queue_tests;
 #[cfg(test)]
 mod rundown_tests;
-#[cfg(test)]
-mod script_tests;
 #[cfg(test)]
 mod seen_tests;
 #[cfg(test)]

@@ -9,6 +9,7 @@ use fm_stack::{FilterPhase, Phase};
 use fm_types::{FilterId, InstanceId, OpId, Operation, Status, WorkerId};
 use fm_world::Step;
 use std::alloc::Global;
+use std::process::Abort;
 
 /// What is asked of the state, with what it says.
 #[derive(Clone, Copy)]
@@ -73,6 +74,9 @@ pub const BAD: Told = Told::Refused(Status::BadRequest);
 /// A filter.
 pub const REGISTERED: &[Line] = &[Does(Event::Register, Told::Number(0))];
 
+/// A volume.
+pub const MOUNTED: &[Line] = &[Does(Event::Mount, Told::Number(0))];
+
 /// A volume, and an instance of the filter there.
 pub const ATTACHED: &[Line] = &[
     Does(Event::Mount, Told::Number(0)),
@@ -133,4 +137,11 @@ pub fn other_line(
         }
     }
     Ok(None)
+}
+
+/// Goes through all parts of a list, in which the state says nothing else.
+pub fn go_through(rt: &impl Abort, alloc: Global, state: &mut State, parts: &[&[Line]]) {
+    for lines in parts {
+        assert!(rt; other_line(alloc, state, lines) == Ok(None));
+    }
 }

@@ -1,6 +1,8 @@
 //! Two hundred operations on one file, through eight instances that change what is written on its way down and put it back on the way up; and
 //! the longest write.
 
+use crate::events::WORKER;
+use crate::lines::{FILTER, MOUNTED, REGISTERED, go_through};
 use fm_altitude::Altitude;
 use fm_base::{Base, MemoryBase};
 use fm_core::{Action, State};
@@ -9,13 +11,11 @@ use fm_data::{
     Request,
 };
 use fm_types::{
-    Bytes, ContextMask, CreateMode, FilterId, HandleId, InstanceId, Name, OpId, OpMask, Operation,
-    Registration, RelPath, SharedPath, Status, VolumeId, WorkerId,
+    Bytes, CreateMode, HandleId, InstanceId, Name, OpId, Operation, RelPath, SharedPath, Status,
+    VolumeId,
 };
 use std::alloc::Global;
 use std::process::Abort;
-
-const WORKER: WorkerId = WorkerId(0);
 
 const VOLUME: VolumeId = VolumeId(0);
 
@@ -25,7 +25,7 @@ const PATH: &[u8] = b"folder/file";
 const OPERATIONS: u8 = 200;
 
 // The names and the altitudes of the instances, in the order of their numbers.
-const INSTANCES: [(&[u8], &[u8]); 8] = [
+const INSTANCES: &[(&[u8], &[u8])] = &[
     (b"a", b"100"),
     (b"b", b"300"),
     (b"c", b"200.5"),
@@ -40,7 +40,7 @@ const INSTANCES: [(&[u8], &[u8]); 8] = [
 const DEVICE: u16 = 99;
 
 // The way of each operation here: the instances from the highest altitude down, the base, and the instances from the lowest up.
-const WAY: [u16; 17] = [3, 6, 7, 1, 2, 4, 0, 5, DEVICE, 5, 0, 4, 2, 1, 7, 6, 3];
+const WAY: &[u16] = &[3, 6, 7, 1, 2, 4, 0, 5, DEVICE, 5, 0, 4, 2, 1, 7, 6, 3];
 
 // What an instance makes of a byte that is written: three times the byte, and its own number. In another order eight of them make something else.
 fn hidden(byte: u8, instance: InstanceId) -> u8 {
@@ -71,7 +71,7 @@ fn completion_of(operation: OpId, instance: InstanceId) -> Completion {
 }
 
 // What a callback sees of an operation's parameters.
-#[derive(Drop, Debug, PartialEq)]
+#[derive(Drop, PartialEq)]
 struct Seen {
     operation: Operation,
     offset: u64,
@@ -195,36 +195,37 @@ fn note(rt: &impl Abort, written: &mut Vec<u8>, offset: usize, bytes: &[u8]) {
     }
 }
 
-// A filter that is called for all operations, and a volume.
-fn open(rt: &impl Abort, state: &mut State) -> FilterId {
-    let registration = Registration {
-        pre: OpMask::ALL,
-        post: OpMask::ALL,
-        contexts: ContextMask::NONE,
-        query: false,
-        unload: false,
-    };
-    let volume = Name::read(b"v").expect(rt, "a name");
-    let filter = Name::read(b"f").expect(rt, "a name");
-    state.mount(volume).expect(rt, "a volume");
-    state.register(filter, registration).expect(rt, "a filter")
-}
-
-fn attach(rt: &impl Abort, state: &mut State, filter: FilterId, name: &[u8], altitude: &[u8]) {
+fn attach(rt: &impl Abort, state: &mut State, name: &[u8], altitude: &[u8]) {
     let name = Name::read(name).expect(rt, "a name");
     let altitude = Altitude::read(altitude).expect(rt, "an altitude");
     state
-        .attach(WORKER, filter, VOLUME, name, altitude)
+        .attach(WORKER, FILTER, VOLUME, name, altitude)
         .expect(rt, "an instance");
     state.setup_done(WORKER, true).expect(rt, "its setup");
 }
 
-// The filter's instances on the volume.
-fn set_up(rt: &impl Abort, state: &mut State) {
-    let filter = open(rt, state);
+// A filter that is called for all operations, a volume, and the filter's instances there.
+fn set_up(rt: &impl Abort, alloc: Global, state: &mut State) {
+    go_through(rt, alloc, state, &[REGISTERED, MOUNTED]);
     for (name, altitude) in INSTANCES {
-        attach(rt, state, filter, name, altitude);
+        attach(rt, state, name, altitude);
     }
+}
+
+// Whether the bytes that were read at that place are what the client wrote there, so many or up to the end.
+fn are_read(written: &[u8], offset: usize, len: usize, bytes: &[u8]) -> bool {
+    let end = offset.saturating_add(len).min(written.len());
+    written.get(offset..end) == Some(bytes)
+}
+
+// Whether the bytes are what eight instances make of what the client wrote.
+fn are_stored(written: &[u8], bytes: &[u8]) -> bool {
+    for (at, byte) in written.iter().enumerate() {
+        if bytes.get(at).copied() != Some(stored(*byte)) {
+            return false;
+        }
+    }
+    bytes.len() == written.len()
 }
 
 // A manager with its device, what each callback of the operation under way has seen, and what the client wrote.
@@ -241,7 +242,7 @@ struct Run {
 impl Run {
     fn new(rt: &impl Abort, alloc: Global) -> Run {
         let mut state = State::new(alloc).expect(rt, "a state");
-        set_up(rt, &mut state);
+        set_up(rt, alloc, &mut state);
         Run {
             alloc,
             state,
@@ -278,6 +279,14 @@ impl Run {
         assert!(rt; taken.is_ok());
     }
 
+    // Whether the instance's preoperation is the last that saw something, and saw the same.
+    fn saw(&mut self, instance: InstanceId, seen: Seen) -> bool {
+        match self.seen.pop() {
+            Some((own, before)) => own == instance && before == seen,
+            None => false,
+        }
+    }
+
     // A postoperation sees the parameters that its own preoperation received, and not those that it put in their place.
     fn post(
         &mut self,
@@ -287,15 +296,13 @@ impl Run {
         mut data: CallbackData,
         completion: Completion,
     ) {
+        let is_own = completion == completion_of(operation, instance) && !data.is_dirty();
         let seen = look(rt, self.alloc, data.params());
-        assert_eq!(rt;
-            self.seen.pop(),
-            Some((instance, seen)),
+        assert!(rt;
+            is_own && self.saw(instance, seen),
             "operation {}",
             operation.0
         );
-        assert_eq!(rt; completion, completion_of(operation, instance));
-        assert!(rt; !data.is_dirty());
         self.way.push(instance.0).expect(rt, "memory");
         show(rt, &mut data, instance);
         disturb(rt, &mut data);
@@ -319,31 +326,31 @@ impl Run {
         }
     }
 
+    fn is_done(&mut self, operation: OpId) -> bool {
+        matches!(self.state.next(WORKER, operation), Ok(Action::Done))
+    }
+
     // Takes an operation to its end.
     fn run(&mut self, rt: &impl Abort, what: Request) -> Answer {
         let operation = self.state.begin(what).expect(rt, "an operation");
         self.way.clear();
         self.carry(rt, operation);
-        let is_whole = self.way.as_slice() == WAY.as_slice();
-        let is_done = matches!(self.state.next(WORKER, operation), Ok(Action::Done));
+        let is_whole = self.way.as_slice() == WAY && self.is_done(operation);
         let answer = self.state.collect(operation).expect(rt, "an answer");
-        let told = (is_whole, is_done, answer.status);
-        let number = operation.0;
-        assert_eq!(rt; told, (true, true, Status::Success), "operation {number}");
+        let is_well = is_whole && answer.status == Status::Success;
+        assert!(rt; is_well, "operation {}", operation.0);
         answer
     }
 
-    // Opens the file.
-    fn create(&mut self, rt: &impl Abort) -> Answer {
+    // Opens the file; what the answer tells.
+    fn create(&mut self, rt: &impl Abort) -> u64 {
         let path = RelPath::read(PATH).expect(rt, "a path");
-        self.run(
-            rt,
-            Request::Create {
-                volume: VOLUME,
-                path: SharedPath::new(self.alloc, path).expect(rt, "memory"),
-                mode: CreateMode::New,
-            },
-        )
+        let create = Request::Create {
+            volume: VOLUME,
+            path: SharedPath::new(self.alloc, path).expect(rt, "memory"),
+            mode: CreateMode::New,
+        };
+        self.run(rt, create).information
     }
 
     // Runs an operation on the file's only handle.
@@ -357,120 +364,91 @@ impl Run {
         )
     }
 
-    fn write(&mut self, rt: &impl Abort, step: u8, offset: usize) {
-        let bytes = bytes_for(rt, self.alloc, step);
+    // What its answer tells.
+    fn told(&mut self, rt: &impl Abort, request: FileRequest) -> u64 {
+        self.ask(rt, request).information
+    }
+
+    // Whether as many bytes are written as there are.
+    fn write(&mut self, rt: &impl Abort, offset: usize, bytes: Bytes) -> bool {
         let len = bytes.len() as u64;
         note(rt, &mut self.written, offset, bytes.as_slice());
         let offset = offset as u64;
-        let answer = self.ask(rt, FileRequest::Write { offset, bytes });
-        assert_eq!(rt; answer.information, len, "step {step}");
+        self.told(rt, FileRequest::Write { offset, bytes }) == len
     }
 
-    // What is read is what the client wrote.
-    fn read(&mut self, rt: &impl Abort, step: u8, offset: usize) {
-        let len = 1 + u32::from(step) * 3;
-        let answer = self.ask(
-            rt,
-            FileRequest::Read {
-                offset: offset as u64,
-                len,
-            },
-        );
-        let end = offset.saturating_add(len as usize).min(self.written.len());
+    // Whether what is read is what the client wrote.
+    fn read(&mut self, rt: &impl Abort, offset: usize, len: u32) -> bool {
+        let read = FileRequest::Read {
+            offset: offset as u64,
+            len,
+        };
+        let answer = self.ask(rt, read);
         let bytes = answer.bytes.as_slice();
-        let is_read = Some(bytes) == self.written.get(offset..end);
-        let told = (is_read, answer.information);
-        assert_eq!(rt; told, (true, bytes.len() as u64), "step {step}");
-    }
-
-    fn query_size(&mut self, rt: &impl Abort, step: u8) {
-        let answer = self.ask(rt, FileRequest::QuerySize);
-        assert_eq!(rt;
-            answer.information,
-            self.written.len() as u64,
-            "step {step}"
-        );
+        are_read(&self.written, offset, len as usize, bytes)
+            && answer.information == bytes.len() as u64
     }
 
     // Cuts off a few bytes.
-    fn cut(&mut self, rt: &impl Abort, step: u8) {
-        let len = self.written.len().saturating_sub(usize::from(step) % 40);
+    fn cut(&mut self, rt: &impl Abort, few: usize) -> bool {
+        let len = self.written.len().saturating_sub(few);
         self.written.truncate(len);
-        self.ask(rt, FileRequest::SetSize { size: len as u64 });
+        self.told(rt, FileRequest::SetSize { size: len as u64 }) == 0
     }
 
-    fn step(&mut self, rt: &impl Abort, step: u8) {
+    // Whether the step tells what it is to.
+    fn step(&mut self, rt: &impl Abort, step: u8) -> bool {
         let end = self.written.len();
         let middle = usize::from(step) * 37 % end.max(1);
         match step % 8 {
-            1 | 3 => self.write(rt, step, end),
-            5 => self.write(rt, step, middle),
-            2 | 6 => self.read(rt, step, middle),
-            4 => self.query_size(rt, step),
-            7 => self.cut(rt, step),
-            _ => {
-                self.ask(rt, FileRequest::Flush);
-            }
+            1 | 3 => self.write(rt, end, bytes_for(rt, self.alloc, step)),
+            5 => self.write(rt, middle, bytes_for(rt, self.alloc, step)),
+            2 | 6 => self.read(rt, middle, 1 + u32::from(step) * 3),
+            4 => self.told(rt, FileRequest::QuerySize) == end as u64,
+            7 => self.cut(rt, usize::from(step) % 40),
+            _ => self.told(rt, FileRequest::Flush) == 0,
         }
     }
 
-    // What lies in the file is what eight instances make of what the client wrote.
-    fn compare(&mut self, rt: &impl Abort) {
+    // Whether what lies in the file is what eight instances make of what the client wrote.
+    fn is_stored(&mut self, rt: &impl Abort) -> bool {
         let path = RelPath::read(PATH).expect(rt, "a path");
-        let mut expected = Vec::new(self.alloc);
-        for byte in &self.written {
-            expected.push(stored(*byte)).expect(rt, "memory");
-        }
         let bytes = self.base.read(&path, 0, 32_768).expect(rt, "a read");
-        let is_same = bytes.as_slice() == expected.as_slice();
         let size = self.base.size(&path).expect(rt, "a size");
-        assert_eq!(rt; (is_same, size), (true, expected.len() as u64));
+        are_stored(&self.written, bytes.as_slice()) && size == bytes.len() as u64
     }
 
     // A create, and all operations behind it.
     fn all(&mut self, rt: &impl Abort) {
-        let opened = self.create(rt);
-        assert_eq!(rt; opened.information, 0);
+        assert!(rt; self.create(rt) == 0);
         for step in 1..OPERATIONS {
-            self.step(rt, step);
+            assert!(rt; self.step(rt, step), "step {step}");
         }
-        self.compare(rt);
+        assert!(rt; self.is_stored(rt));
     }
 
-    // A create, the longest write, and a read of all of it.
+    // The longest write, a read of all of it, and a write of one byte more.
     fn longest(&mut self, rt: &impl Abort) {
-        self.create(rt);
         let bytes = long_bytes(rt, self.alloc, 32_768);
-        note(rt, &mut self.written, 0, bytes.as_slice());
-        let written = self
-            .ask(rt, FileRequest::Write { offset: 0, bytes })
-            .information;
-        let len = 32_768;
-        let read = self.ask(rt, FileRequest::Read { offset: 0, len });
-        let is_read = read.bytes.as_slice() == self.written.as_slice();
-        assert_eq!(rt; (written, is_read), (32_768, true));
-        self.compare(rt);
-    }
-
-    // A write of one byte more.
-    fn too_long(&mut self, rt: &impl Abort) {
-        let bytes = long_bytes(rt, self.alloc, 32_769);
+        assert!(rt; self.write(rt, 0, bytes) && self.read(rt, 0, 32_768) && self.is_stored(rt));
         let refused = self.state.begin(Request::OnHandle {
             handle: HandleId(0),
-            request: FileRequest::Write { offset: 0, bytes },
+            request: FileRequest::Write {
+                offset: 0,
+                bytes: long_bytes(rt, self.alloc, 32_769),
+            },
         });
-        assert_eq!(rt; refused.err(), Some(Status::BadRequest));
+        assert!(rt; refused.err() == Some(Status::BadRequest));
     }
 }
 
-#[test]
-fn two_hundred_operations(rt: HostRuntime) {
-    Run::new(&rt, rt.alloc()).all(&rt);
+fn run_all(rt: &impl Abort, alloc: Global) {
+    let mut run = Run::new(rt, alloc);
+    run.all(rt);
+    run.longest(rt);
 }
 
 #[test]
-fn longest_write(rt: HostRuntime) {
-    let mut run = Run::new(&rt, rt.alloc());
-    run.longest(&rt);
-    run.too_long(&rt);
+fn two_hundred_operations_and_the_longest_write(rt: HostRuntime) {
+    run_all(&rt, rt.alloc());
 }

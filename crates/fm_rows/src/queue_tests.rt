@@ -48,6 +48,15 @@ fn puts_and_takes<R: Wait>(rt: &R, queue: &JobQueue, pass: &mut JobPass) -> ([Pu
     ([first, second, refused, stop], [taken, last, stopped])
 }
 
+// The third job is refused and handed back.
+fn are_put(puts: [Put; 4]) -> bool {
+    puts == [Ok(()), Ok(()), Err((Job::Stop, Status::TooMany)), Ok(())]
+}
+
+fn are_taken(taken: [Job; 3]) -> bool {
+    taken == [run(0), run(1), Job::Stop]
+}
+
 #[test]
 fn queue_of_two(rt: HostRuntime) {
     let (queue, mut passes) = JobQueue::new(rt.alloc(), 2, 1).expect(&rt, "a queue");
@@ -55,22 +64,20 @@ fn queue_of_two(rt: HostRuntime) {
     let (puts, taken) = puts_and_takes(&rt, &queue, &mut pass);
     assert!(rt; next_pass(&queue, &mut passes).is_none());
     jobs_are_kept(&queue, &mut pass);
-    let refused = Err((Job::Stop, Status::TooMany));
-    assert_eq!(rt; puts, [Ok(()), Ok(()), refused, Ok(())]);
-    assert_eq!(rt; taken, [run(0), run(1), Job::Stop]);
+    assert!(rt; are_put(puts) && are_taken(taken));
+}
+
+fn refusal(alloc: Global, capacity: usize, passes: usize) -> Option<Status> {
+    JobQueue::new(alloc, capacity, passes).err()
 }
 
 #[test]
 fn no_room_and_no_pass(rt: HostRuntime) {
-    for (capacity, passes) in [(0, 1), (1, 0), (0, 0)] {
-        let refused = JobQueue::new(rt.alloc(), capacity, passes).err();
-        assert_eq!(rt;
-            refused,
-            Some(Status::BadRequest),
-            "{capacity} jobs, {passes} passes"
-        );
-    }
-    assert!(rt; JobQueue::new(rt.alloc(), 1, 1).is_ok());
+    let no_room = refusal(rt.alloc(), 0, 1);
+    let no_pass = refusal(rt.alloc(), 1, 0);
+    let neither = refusal(rt.alloc(), 0, 0);
+    assert_eq!(rt; [no_room, no_pass, neither], [Some(Status::BadRequest); 3]);
+    assert_eq!(rt; refusal(rt.alloc(), 1, 1), None);
 }
 
 // Puts a job as soon as there is room.
@@ -201,28 +208,38 @@ fn exchange<R: Abort + Threads + Wait + Sync>(rt: &R, alloc: Global) -> (Vec<u64
     (one.numbers, other.numbers)
 }
 
-// How often each operation below 15,000 was taken.
-fn times(rt: &impl Abort, alloc: Global, taken: &[u64], more: &[u64]) -> Vec<u32> {
-    let mut times = Vec::from_elem(alloc, 0u32, 15_000).expect(rt, "memory");
-    for number in taken.iter().chain(more) {
+// Counts how often each operation was taken.
+fn tally(times: &mut [u32], taken: &[u64]) {
+    for number in taken {
         if let Some(count) = times.get_mut(*number as usize) {
             *count = count.saturating_add(1);
         }
     }
+}
+
+// How often each operation below 15,000 was taken.
+fn times(rt: &impl Abort, alloc: Global, taken: &[u64], more: &[u64]) -> Vec<u32> {
+    let mut times = Vec::from_elem(alloc, 0u32, 15_000).expect(rt, "memory");
+    tally(&mut times, taken);
+    tally(&mut times, more);
     times
+}
+
+// The first operation that wasn't taken as often as it was put: twice from the 5,000th to the 9,999th, and once otherwise.
+fn other_operation(times: &[u32]) -> Option<usize> {
+    for (number, count) in times.iter().enumerate() {
+        let is_put_twice = 5_000 <= number && number < 10_000;
+        if *count != 1 + u32::from(is_put_twice) {
+            return Some(number);
+        }
+    }
+    None
 }
 
 #[test]
 fn four_threads(rt: HostRuntime) {
     let (taken, more) = exchange(&rt, rt.alloc());
-    assert_eq!(rt; taken.len() + more.len(), 20_000);
-    let times = times(&rt, rt.alloc(), &taken, &more);
-    for (number, count) in times.iter().enumerate() {
-        let wanted = if (5_000..10_000).contains(&number) {
-            2
-        } else {
-            1
-        };
-        assert_eq!(rt; *count, wanted, "of operation {number}");
-    }
+    let count = taken.len().saturating_add(more.len());
+    let other = other_operation(&times(&rt, rt.alloc(), &taken, &more));
+    assert_eq!(rt; (count, other), (20_000, None));
 }

@@ -1,10 +1,11 @@
 //! The gate's rows, and five threads at one gate.
 
-ghost use Rattle.std.specs.Prelude.{All, IfSome};
+ghost use Rattle.std.specs.Prelude.{◌≡◌, All, IfSome};
 ghost use Rattle.fm_rundown.specs.Seats.{IsSeatOf};
 
 use fm_rundown::{GateSeat, Look, RundownGate};
 use fm_types::{Status, VolumeId};
+use std::alloc::Global;
 use std::process::Abort;
 use std::sync::Wait;
 use std::sync::atomic::{AtomicU64, Ordering};
@@ -86,6 +87,19 @@ fn other_of_thousand(gate: &RundownGate, seat: &mut GateSeat, lines: &[Line]) ->
     None
 }
 
+// What the next seat of a list says otherwise.
+fn other_of_next(
+    rt: &impl Abort,
+    gate: &RundownGate,
+    seats: &mut Vec<GateSeat>,
+    lines: &[Line],
+) -> Option<usize>
+    requires { All (λ seat. IsSeatOf gate.now seat) seats.old.items }
+{
+    let mut seat = next_seat(gate, seats).expect(rt, "a seat");
+    other_line(gate, &mut seat, lines)
+}
+
 const CLOSED: &[Line] = &[
     Looks(VOLUME, Ok(Look::Open)),
     Enters(VOLUME, Ok(())),
@@ -101,21 +115,30 @@ const DRAINED: &[Line] = &[
     Leaves(VOLUME, Err(Status::NotHeld)),
 ];
 
+// A seat enters and closes the volume, another is refused, and the first one leaves: what they say otherwise.
+fn others_of_two(
+    gate: &RundownGate,
+    first: &mut GateSeat,
+    second: &mut GateSeat,
+) -> [Option<usize>; 3]
+    requires { IsSeatOf gate.now first.old × IsSeatOf gate.now second.old }
+    ensures { IsSeatOf gate.now first.new × IsSeatOf gate.now second.new }
+{
+    let closed = other_line(gate, first, CLOSED);
+    let refused = other_line(gate, second, REFUSED);
+    [closed, refused, other_line(gate, first, DRAINED)]
+}
+
 #[test]
 fn gate_steps(rt: HostRuntime) {
     let (gate, mut seats) = RundownGate::new(rt.alloc(), 1, 2).expect(&rt, "a gate");
     let mut second = next_seat(&gate, &mut seats).expect(&rt, "two seats");
     let mut first = next_seat(&gate, &mut seats).expect(&rt, "two seats");
-    let closed = other_line(&gate, &mut first, CLOSED);
-    let refused = other_line(&gate, &mut second, REFUSED);
-    let drained = other_line(&gate, &mut first, DRAINED);
+    let others = others_of_two(&gate, &mut first, &mut second);
     put_back(&rt, &gate, &mut seats, first);
     put_back(&rt, &gate, &mut seats, second);
     let is_ended = gate.end(seats).is_ok();
-    assert_eq!(rt;
-        (closed, refused, drained, is_ended),
-        (None, None, None, true)
-    );
+    assert_eq!(rt; (others, is_ended), ([None; 3], true));
 }
 
 const NO_VOLUME: Status = Status::NoVolume;
@@ -128,21 +151,27 @@ const LAST_VOLUME: &[Line] = &[
     Looks(VolumeId(8), Err(NO_VOLUME)),
 ];
 
+fn refusal(alloc: Global, volumes: usize, seats: usize) -> Option<Status> {
+    RundownGate::new(alloc, volumes, seats).err()
+}
+
+// No volumes, no seats, a volume too many, and a seat too many.
+fn refusals(alloc: Global) -> [Option<Status>; 4] {
+    [
+        refusal(alloc, 0, 1),
+        refusal(alloc, 1, 0),
+        refusal(alloc, 9, 1),
+        refusal(alloc, 1, 65_537),
+    ]
+}
+
 #[test]
 fn numbers_of_a_gate(rt: HostRuntime) {
-    for (volumes, seats) in [(0, 1), (1, 0), (9, 1), (1, 65_537)] {
-        let refused = RundownGate::new(rt.alloc(), volumes, seats).err();
-        assert_eq!(rt;
-            refused,
-            Some(Status::BadRequest),
-            "{volumes} volumes, {seats} seats"
-        );
-    }
     let (gate, mut seats) = RundownGate::new(rt.alloc(), 8, 65_536).expect(&rt, "a gate");
     let count = seats.len();
-    let mut seat = next_seat(&gate, &mut seats).expect(&rt, "a seat");
-    let other = other_line(&gate, &mut seat, LAST_VOLUME);
+    let other = other_of_next(&rt, &gate, &mut seats, LAST_VOLUME);
     assert_eq!(rt; (count, other), (65_536, None));
+    assert_eq!(rt; refusals(rt.alloc()), [Some(Status::BadRequest); 4]);
 }
 
 const ENTERED: &[Line] = &[Enters(VOLUME, Ok(()))];
@@ -181,24 +210,41 @@ fn thousand_passes(rt: HostRuntime) {
     assert_eq!(rt; others(&gate, &mut seat), [None; 4]);
 }
 
+// Ends the gate too soon: it comes back with its seats, and with what is said.
+fn refused_end(
+    rt: &impl Abort,
+    gate: RundownGate,
+    seats: Vec<GateSeat>,
+) -> (RundownGate, Vec<GateSeat>, Status)
+    requires { All (λ seat. IsSeatOf gate seat) seats.items }
+    ensures gate { result.0 ≡ gate }
+    ensures seats { result.1.items ≡ seats.items }
+{
+    match gate.end(seats) {
+        Err(back) => back,
+        Ok(()) => panic!(rt; "the gate ended too soon"),
+    }
+}
+
+const LEAVES: &[Line] = &[Leaves(VOLUME, Ok(()))];
+
 #[test]
 fn end_too_soon(rt: HostRuntime) {
     let (gate, mut seats) = RundownGate::new(rt.alloc(), 1, 2).expect(&rt, "a gate");
     let mut seat = next_seat(&gate, &mut seats).expect(&rt, "two seats");
-    assert_eq!(rt; gate.enter(&mut seat, VOLUME), Ok(()));
-    let Err((gate, mut seats, missing)) = gate.end(seats) else {
-        panic!(rt; "one seat of two ended the gate");
-    };
-    assert_eq!(rt; (missing, seats.len()), (Status::BadRequest, 1));
+    let entered = other_line(&gate, &mut seat, ENTERED);
+    let (gate, mut seats, missing) = refused_end(&rt, gate, seats);
+    let one = seats.len();
     put_back(&rt, &gate, &mut seats, seat);
-    let Err((gate, mut seats, held)) = gate.end(seats) else {
-        panic!(rt; "the gate ended under a pass");
-    };
-    assert_eq!(rt; (held, seats.len()), (Status::Busy(1), 2));
+    let (gate, mut seats, held) = refused_end(&rt, gate, seats);
+    let two = seats.len();
     let mut seat = next_seat(&gate, &mut seats).expect(&rt, "two seats");
-    assert_eq!(rt; gate.leave(&mut seat, VOLUME), Ok(()));
+    let left = other_line(&gate, &mut seat, LEAVES);
     put_back(&rt, &gate, &mut seats, seat);
-    assert!(rt; gate.end(seats).is_ok());
+    let is_ended = gate.end(seats).is_ok();
+    assert_eq!(rt; (missing, one), (Status::BadRequest, 1));
+    assert_eq!(rt; (held, two), (Status::Busy(1), 2));
+    assert_eq!(rt; (entered, left, is_ended), (None, None, true));
 }
 
 // What the threads of a test share: how many are between `enter` and `leave`, and how often one was.

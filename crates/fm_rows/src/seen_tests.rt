@@ -3,11 +3,11 @@
 use crate::events::{Event, WORKER};
 use crate::lines::Line::Does;
 use crate::lines::{
-    ATTACHED, BELOW, CREATED, Line, NONE, OTHER, REGISTERED, SECOND, THIRD, WITH, other_line,
+    ATTACHED, BELOW, CREATED, Line, NONE, OTHER, REGISTERED, SECOND, THIRD, WITH, go_through,
 };
 use crate::told::Told;
 use fm_core::{Action, State};
-use fm_data::{Answer, CallbackData, Params, PostVerdict, PreVerdict};
+use fm_data::{Answer, BaseCall, CallbackData, Params, PostVerdict, PreVerdict};
 use fm_types::{Bytes, Operation, Status};
 use std::alloc::Global;
 use std::process::Abort;
@@ -48,24 +48,14 @@ fn shorten(rt: &impl Abort, data: &mut CallbackData, len: u32) {
         .expect(rt, "a change");
 }
 
-// The lower instance asks for less, and holds the read: how much it was asked for itself.
-fn hold_shortened(rt: &impl Abort, state: &mut State) -> u32 {
-    let Ok(Action::Pre(_, mut data)) = state.next(OTHER, SECOND) else {
-        panic!(rt; "a preoperation comes next");
-    };
-    let len = len_of(data.params());
+// The lower instance asks for less, and holds the read.
+fn hold_shortened(rt: &impl Abort, state: &mut State, mut data: CallbackData) {
     shorten(rt, &mut data, 5);
     let taken = state.pre_returned(OTHER, PreVerdict::Pending, data);
     assert!(rt; taken.is_ok());
-    len
 }
 
-// How much the base is asked for.
-fn ask_base(rt: &impl Abort, alloc: Global, state: &mut State) -> u32 {
-    let Ok(Action::Base(call)) = state.next(OTHER, SECOND) else {
-        panic!(rt; "the base comes next");
-    };
-    let len = len_of(call.params());
+fn answer_base(rt: &impl Abort, alloc: Global, state: &mut State, call: BaseCall) {
     let answer = Answer {
         status: Status::Success,
         information: 0,
@@ -73,24 +63,34 @@ fn ask_base(rt: &impl Abort, alloc: Global, state: &mut State) -> u32 {
     };
     let taken = state.base_returned(OTHER, call, answer);
     assert!(rt; taken.is_ok());
-    len
 }
 
-// How much a postoperation sees that was asked for. It changes that too, for nobody.
-fn post(rt: &impl Abort, state: &mut State, verdict: PostVerdict) -> u32 {
-    let Ok(Action::Post(_, mut data, _)) = state.next(OTHER, SECOND) else {
-        panic!(rt; "a postoperation comes next");
-    };
-    let len = len_of(data.params());
+// A postoperation changes the parameters too, for nobody.
+fn post(rt: &impl Abort, state: &mut State, verdict: PostVerdict, mut data: CallbackData) {
     shorten(rt, &mut data, 1);
     let taken = state.post_returned(OTHER, verdict, Some(data));
     assert!(rt; taken.is_ok());
-    len
 }
 
-fn go_through(rt: &impl Abort, alloc: Global, state: &mut State, parts: &[&[Line]]) {
-    for lines in parts {
-        assert_eq!(rt; other_line(alloc, state, lines), Ok(None));
+// How much the read asks for where it comes next: a callback, of which a postoperation returns with that verdict, or the base.
+fn turn(rt: &impl Abort, alloc: Global, state: &mut State, verdict: PostVerdict) -> u32 {
+    match state.next(OTHER, SECOND).expect(rt, "an action") {
+        Action::Pre(_, data) => {
+            let len = len_of(data.params());
+            hold_shortened(rt, state, data);
+            len
+        }
+        Action::Base(call) => {
+            let len = len_of(call.params());
+            answer_base(rt, alloc, state, call);
+            len
+        }
+        Action::Post(_, data, _) => {
+            let len = len_of(data.params());
+            post(rt, state, verdict, data);
+            len
+        }
+        _ => panic!(rt; "the read is called for nothing else"),
     }
 }
 
@@ -102,17 +102,21 @@ fn seen(rt: &impl Abort, alloc: Global, state: &mut State) -> [u32; 4] {
         state,
         &[REGISTERED, ATTACHED, CREATED, BELOW, COME],
     );
-    let received = hold_shortened(rt, state);
+    let received = turn(rt, alloc, state, PostVerdict::Finished);
     go_through(rt, alloc, state, &[RESUMED_DOWN]);
-    let below = ask_base(rt, alloc, state);
-    let own = post(rt, state, PostVerdict::MoreProcessing);
+    let below = turn(rt, alloc, state, PostVerdict::Finished);
+    let own = turn(rt, alloc, state, PostVerdict::MoreProcessing);
     go_through(rt, alloc, state, &[RESUMED_UP]);
-    let above = post(rt, state, PostVerdict::Finished);
+    let above = turn(rt, alloc, state, PostVerdict::Finished);
     [received, below, own, above]
+}
+
+fn seen_from_the_start(rt: &impl Abort, alloc: Global) -> [u32; 4] {
+    let mut state = State::new(alloc).expect(rt, "a state");
+    seen(rt, alloc, &mut state)
 }
 
 #[test]
 fn changed_before_a_hold(rt: HostRuntime) {
-    let mut state = State::new(rt.alloc()).expect(&rt, "a state");
-    assert_eq!(rt; seen(&rt, rt.alloc(), &mut state), [9, 5, 9, 9]);
+    assert_eq!(rt; seen_from_the_start(&rt, rt.alloc()), [9, 5, 9, 9]);
 }

@@ -9,9 +9,14 @@ use std::io;
 use std::io::{ErrorKind, Read, Seek, SeekFrom, Write};
 use std::rt::Files;
 
-/// What names a folder of the slow host has.
+/// What a slow host fails at, or which names its folders have; it fails nowhere else, and lists no others.
 #[derive(Clone, Copy)]
-pub enum Names {
+pub enum Way {
+    Plain,
+    /// Reads and writes fail at that place.
+    FailsAt(u64),
+    /// A file can't be synced.
+    FailsToSync,
     /// Names of which some are no paths, one is that of a folder, one goes away, and one is hidden.
     Mixed,
     /// Three names, one of which isn't UTF-8.
@@ -29,23 +34,13 @@ const ENOMEM: i32 = 12;
 #[derive(Clone, Drop)]
 pub struct SlowHost {
     memory: Global,
-    /// The place at which reads and writes fail.
-    pub fails_at: u64,
-    /// Whether a file can't be synced.
-    pub fails_to_sync: bool,
-    /// What names are in each folder.
-    pub names: Names,
+    way: Way,
 }
 
 impl SlowHost {
-    /// A host that fails nowhere, and lists no names.
-    pub fn new(memory: Global) -> SlowHost {
-        SlowHost {
-            memory,
-            fails_at: u64::MAX,
-            fails_to_sync: false,
-            names: Names::Long(0),
-        }
+    /// A host that has its way.
+    pub fn new(memory: Global, way: Way) -> SlowHost {
+        SlowHost { memory, way }
     }
 }
 
@@ -62,8 +57,7 @@ impl Alloc for SlowHost {
 pub struct SlowFile {
     at: u64,
     is_interrupted: bool,
-    fails_at: u64,
-    fails_to_sync: bool,
+    way: Way,
 }
 
 impl SlowFile {
@@ -75,7 +69,7 @@ impl SlowFile {
         if self.is_interrupted {
             return Err(io::Error::from(ErrorKind::Interrupted));
         }
-        if self.at == self.fails_at {
+        if matches!(self.way, Way::FailsAt(place) if place == self.at) {
             return Err(io::Error::from(ErrorKind::Other));
         }
         Ok(())
@@ -129,7 +123,7 @@ impl OpenFile for SlowFile {
     }
 
     fn sync_all(&self) -> io::Result<()> {
-        if self.fails_to_sync {
+        if matches!(self.way, Way::FailsToSync) {
             return Err(io::Error::from(ErrorKind::StorageFull));
         }
         Ok(())
@@ -143,7 +137,7 @@ impl OpenFile for SlowFile {
 /// The names that are left to give, each ended by a zero.
 #[derive(Drop)]
 pub struct NamesLeft {
-    names: Names,
+    left: Way,
 }
 
 // Gives names that are all there.
@@ -157,14 +151,14 @@ fn give(buf: &mut [u8], names: &[u8]) -> usize
 
 impl Read for NamesLeft {
     fn read(&mut self, buf: &mut [u8]) -> io::Result<usize> {
-        let names = self.names;
-        self.names = Names::Long(0);
-        match names {
-            Names::Mixed => Ok(give(buf, b"b\0.\0a c\0..\0\x01\0\xc3\xa9\0folder\0gone\0.b\0a\0")),
-            Names::NotText => Ok(give(buf, b"a\0\xff\0b\0")),
-            Names::Long(0) => Ok(0),
-            Names::Long(count) => {
-                self.names = Names::Long(count - 1);
+        let left = self.left;
+        self.left = Way::Plain;
+        match left {
+            Way::Mixed => Ok(give(buf, b"b\0.\0a c\0..\0\x01\0\xc3\xa9\0folder\0gone\0.b\0a\0")),
+            Way::NotText => Ok(give(buf, b"a\0\xff\0b\0")),
+            Way::Long(0) | Way::Plain | Way::FailsAt(_) | Way::FailsToSync => Ok(0),
+            Way::Long(count) => {
+                self.left = Way::Long(count - 1);
                 let mut name = [b'n'; 256];
                 name[255] = 0;
                 Ok(give(buf, &name[..]))
@@ -182,13 +176,12 @@ impl Files for SlowHost {
         Ok(SlowFile {
             at: 0,
             is_interrupted: false,
-            fails_at: self.fails_at,
-            fails_to_sync: self.fails_to_sync,
+            way: self.way,
         })
     }
 
     fn open_dir(&self, _path: &str) -> io::Result<NamesLeft> {
-        Ok(NamesLeft { names: self.names })
+        Ok(NamesLeft { left: self.way })
     }
 
     fn metadata(&self, path: &str) -> io::Result<Metadata> {

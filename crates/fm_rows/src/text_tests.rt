@@ -5,83 +5,89 @@ use fm_types::{Name, RelPath, Status};
 use std::cmp::Ordering;
 use std::process::Abort;
 
-// 64 digits, and with a point before 63 of them.
-const DIGITS: [u8; 64] = [b'1'; 64];
+// What a text is read as.
+enum Grammar {
+    OfAltitudes,
+    OfNames,
+    OfPaths,
+}
 
-// Texts, each with the one text of the altitude that it spells, or none.
-const ALTITUDES: [(&[u8], Option<&[u8]>); 9] = [
-    (b"", None),
-    (b".", None),
-    (b"1.2.3", None),
-    (b"+1", None),
-    (b"0.50", Some(b".5")),
-    (b"5.", Some(b"5")),
-    (b"000", Some(b"0")),
-    (&DIGITS, Some(&DIGITS)),
-    (&[b'1'; 65], None),
+use Grammar::{OfAltitudes, OfNames, OfPaths};
+
+// 64 digits, and a point and 63 of them.
+const DIGITS: &[u8] = &[b'1'; 64];
+
+const FRACTION: &[u8] = b".111111111111111111111111111111111111111111111111111111111111111";
+
+// Texts, each with the one text of what it is read as, or the refusal.
+const TEXTS: &[(Grammar, &[u8], Result<&[u8], Status>)] = &[
+    (OfAltitudes, b"", Err(Status::BadAltitude)),
+    (OfAltitudes, b".", Err(Status::BadAltitude)),
+    (OfAltitudes, b"1.2.3", Err(Status::BadAltitude)),
+    (OfAltitudes, b"+1", Err(Status::BadAltitude)),
+    (OfAltitudes, b"0.50", Ok(b".5")),
+    (OfAltitudes, b"5.", Ok(b"5")),
+    (OfAltitudes, b"000", Ok(b"0")),
+    (OfAltitudes, DIGITS, Ok(DIGITS)),
+    (OfAltitudes, FRACTION, Ok(FRACTION)),
+    (OfAltitudes, &[b'1'; 65], Err(Status::BadAltitude)),
+    (OfNames, b"a-1", Ok(b"a-1")),
+    (OfNames, b"a b", Err(Status::BadName)),
+    (OfNames, b"", Err(Status::BadName)),
+    (OfNames, &[b'a'; 32], Ok(&[b'a'; 32])),
+    (OfNames, &[b'a'; 33], Err(Status::BadName)),
+    (OfPaths, b"a/b c/..d", Ok(b"a/b c/..d")),
+    (OfPaths, b"a/../b", Err(Status::BadPath)),
+    (OfPaths, b"/a", Err(Status::BadPath)),
+    (OfPaths, b"a//b", Err(Status::BadPath)),
+    (OfPaths, b"", Err(Status::BadPath)),
+    (OfPaths, &[b'a'; 255], Ok(&[b'a'; 255])),
+    (OfPaths, &[b'a'; 256], Err(Status::BadPath)),
 ];
 
-// Whether the text is read as that altitude, or refused.
-fn is_altitude(text: &[u8], spelled: Option<&[u8]>) -> bool {
+fn is_altitude(text: &[u8], wanted: Result<&[u8], Status>) -> bool {
     match Altitude::read(text) {
-        Ok(altitude) => spelled == Some(altitude.text()),
-        Err(status) => status == Status::BadAltitude && spelled.is_none(),
+        Ok(altitude) => wanted == Ok(altitude.text()),
+        Err(status) => wanted == Err(status),
     }
 }
 
-// Texts, and whether each is the text of the name that it is read as, or the refusal.
-const NAMES: [(&[u8], Result<bool, Status>); 5] = [
-    (b"a-1", Ok(true)),
-    (b"a b", Err(Status::BadName)),
-    (b"", Err(Status::BadName)),
-    (&[b'a'; 32], Ok(true)),
-    (&[b'a'; 33], Err(Status::BadName)),
-];
-
-fn keeps_name(text: &[u8]) -> Result<bool, Status> {
-    Ok(Name::read(text)?.text() == text)
-}
-
-#[test]
-fn altitude_and_name_grammar(rt: HostRuntime) {
-    for (text, spelled) in ALTITUDES {
-        assert!(rt; is_altitude(text, spelled), "{text:?}");
-    }
-    let mut fraction = DIGITS;
-    fraction[0] = b'.';
-    assert!(rt;
-        is_altitude(&fraction, Some(&fraction)),
-        "a point and 63 digits"
-    );
-    for (text, kept) in NAMES {
-        assert_eq!(rt; keeps_name(text), kept, "{text:?}");
+fn is_name(text: &[u8], wanted: Result<&[u8], Status>) -> bool {
+    match Name::read(text) {
+        Ok(name) => wanted == Ok(name.text()),
+        Err(status) => wanted == Err(status),
     }
 }
 
-// The same of paths.
-const PATHS: [(&[u8], Result<bool, Status>); 7] = [
-    (b"a/b c/..d", Ok(true)),
-    (b"a/../b", Err(Status::BadPath)),
-    (b"/a", Err(Status::BadPath)),
-    (b"a//b", Err(Status::BadPath)),
-    (b"", Err(Status::BadPath)),
-    (&[b'a'; 255], Ok(true)),
-    (&[b'a'; 256], Err(Status::BadPath)),
-];
+fn is_path(text: &[u8], wanted: Result<&[u8], Status>) -> bool {
+    match RelPath::read(text) {
+        Ok(path) => wanted == Ok(path.text()),
+        Err(status) => wanted == Err(status),
+    }
+}
 
-fn keeps_path(text: &[u8]) -> Result<bool, Status> {
-    Ok(RelPath::read(text)?.text() == text)
+// The number of the first text that is read as something else.
+fn other_text(rows: &[(Grammar, &[u8], Result<&[u8], Status>)]) -> Option<usize> {
+    for (number, (grammar, text, wanted)) in rows.iter().enumerate() {
+        let is_read = match grammar {
+            OfAltitudes => is_altitude(text, *wanted),
+            OfNames => is_name(text, *wanted),
+            OfPaths => is_path(text, *wanted),
+        };
+        if !is_read {
+            return Some(number);
+        }
+    }
+    None
 }
 
 #[test]
-fn path_grammar(rt: HostRuntime) {
-    for (text, kept) in PATHS {
-        assert_eq!(rt; keeps_path(text), kept, "{text:?}");
-    }
+fn grammars(rt: HostRuntime) {
+    assert_eq!(rt; other_text(TEXTS), None);
 }
 
 // Two altitudes, and how the first stands to the second: zeros at the end don't count, a digit more is more, and numbers are compared, not texts.
-const VALUES: [(&[u8], &[u8], Ordering); 4] = [
+const VALUES: &[(&[u8], &[u8], Ordering)] = &[
     (b"100.5", b"100.50", Ordering::Equal),
     (b"100.5", b"100.5000001", Ordering::Less),
     (b"100.123456", b"03333", Ordering::Less),
@@ -92,10 +98,17 @@ fn altitude(rt: &impl Abort, text: &[u8]) -> Altitude {
     Altitude::read(text).expect(rt, "an altitude")
 }
 
+// The number of the first pair that stands otherwise.
+fn other_order(rt: &impl Abort, rows: &[(&[u8], &[u8], Ordering)]) -> Option<usize> {
+    for (number, (first, second, order)) in rows.iter().enumerate() {
+        if altitude(rt, first).cmp(&altitude(rt, second)) != *order {
+            return Some(number);
+        }
+    }
+    None
+}
+
 #[test]
 fn altitude_values(rt: HostRuntime) {
-    for (first, second, order) in VALUES {
-        let told = altitude(&rt, first).cmp(&altitude(&rt, second));
-        assert_eq!(rt; told, order, "{first:?}");
-    }
+    assert_eq!(rt; other_order(&rt, VALUES), None);
 }

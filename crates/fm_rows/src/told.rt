@@ -7,7 +7,7 @@ use fm_types::{CtxId, HandleId, OpId, Status};
 use fm_world::{SetAnswer, StepReply};
 
 /// What a reply tells, without the data that it lends.
-#[derive(Clone, Copy, Debug, PartialEq)]
+#[derive(Clone, Copy, PartialEq)]
 pub enum Told {
     /// It went well, and there is nothing to tell.
     Done,

@@ -1,4 +1,4 @@
-//! Long scripts, and readers and writers that fail.
+//! A script of as many lines as there may be, and readers and writers that fail.
 
 use fm_script::{ScriptEnd, script};
 use std::alloc::Global;
@@ -21,21 +21,17 @@ impl Write for Broken {
     }
 }
 
-// A reader that gives its text in pieces of at most that many bytes, and fails at its end if it is to.
+// A reader that gives its text in pieces, and fails at its end.
 #[derive(Drop)]
-struct Pieces<'a> {
-    rest: &'a [u8],
-    step: usize,
-    has_fault: bool,
-}
+struct Failing<'a>(&'a [u8]);
 
-impl Read for Pieces<'_> {
+impl Read for Failing<'_> {
     fn read(&mut self, buf: &mut [u8]) -> io::Result<usize> {
-        if self.rest.is_empty() && self.has_fault {
+        if self.0.is_empty() {
             return Err(io::Error::from(io::ErrorKind::BrokenPipe));
         }
-        let most = self.step.min(buf.len());
-        self.rest.read(&mut buf[..most])
+        let most = 5.min(buf.len());
+        self.0.read(&mut buf[..most])
     }
 }
 
@@ -44,50 +40,6 @@ pub fn end_of<R: Read + Drop>(alloc: Global, reader: R, output: &[u8]) -> (Scrip
     let mut bytes = Vec::new(alloc);
     let end = script(alloc, reader, &mut bytes);
     (end, bytes.as_slice() == output)
-}
-
-// Long lines, each of one byte so often.
-const LONG: [(u8, usize); 5] = [
-    (b'#', 4096),
-    (b'#', 4097),
-    (b'x', 4097),
-    (b'#', 100_000),
-    (b'x', 4096),
-];
-
-fn add_line(rt: &impl Abort, alloc: Global, input: &mut Vec<u8>, byte: u8, len: usize) {
-    let line = Vec::from_elem(alloc, byte, len).expect(rt, "memory");
-    input.extend_from_slice(&line).expect(rt, "memory");
-    input.push(b'\n').expect(rt, "memory");
-}
-
-fn add_lines(rt: &impl Abort, alloc: Global, input: &mut Vec<u8>) {
-    for (byte, len) in LONG {
-        add_line(rt, alloc, input, byte, len);
-    }
-    input.extend_from_slice(b"load f").expect(rt, "memory");
-}
-
-fn end_in_pieces(alloc: Global, input: &[u8], step: usize) -> (ScriptEnd, bool) {
-    let reader = Pieces {
-        rest: input,
-        step,
-        has_fault: false,
-    };
-    end_of(alloc, reader, b"no 32\nno 32\nno 32\nno 32\nok f0\n")
-}
-
-#[test]
-fn long_lines(rt: HostRuntime) {
-    let mut input = Vec::new(rt.alloc());
-    add_lines(&rt, rt.alloc(), &mut input);
-    for step in [1000, 16384] {
-        assert_eq!(rt;
-            end_in_pieces(rt.alloc(), &input, step),
-            (ScriptEnd::Ended, true),
-            "{step}"
-        );
-    }
 }
 
 // A hundred thousand lines, and these bytes behind them.
@@ -103,27 +55,21 @@ fn end_behind_most_lines(rt: &impl Abort, alloc: Global, rest: &[u8]) -> (Script
 fn most_lines(rt: HostRuntime) {
     let whole = end_behind_most_lines(&rt, rt.alloc(), b"");
     let more = end_behind_most_lines(&rt, rt.alloc(), b"#");
-    assert_eq!(rt;
-        (whole, more),
-        ((ScriptEnd::Ended, true), (ScriptEnd::ReadFault, true))
-    );
+    assert!(rt; whole == (ScriptEnd::Ended, true));
+    assert!(rt; more == (ScriptEnd::ReadFault, true));
+}
+
+// How a script ends whose writer fails.
+fn end_of_broken(alloc: Global, input: &[u8]) -> ScriptEnd {
+    script(alloc, input, Broken)
 }
 
 #[test]
 fn faults(rt: HostRuntime) {
-    let reader = Pieces {
-        rest: b"load f\nmount",
-        step: 5,
-        has_fault: true,
-    };
-    let read = end_of(rt.alloc(), reader, b"ok f0\n");
-    let written = script(rt.alloc(), b"load f\nload g".as_slice(), Broken);
-    let unwritten = script(rt.alloc(), b"# nothing".as_slice(), Broken);
-    assert_eq!(rt; read, (ScriptEnd::ReadFault, true));
-    assert_eq!(rt;
-        (written, unwritten),
-        (ScriptEnd::WriteFault, ScriptEnd::Ended)
-    );
+    let read = end_of(rt.alloc(), Failing(b"load f\nmount"), b"ok f0\n");
+    assert!(rt; read == (ScriptEnd::ReadFault, true));
+    assert!(rt; end_of_broken(rt.alloc(), b"load f\nload g") == ScriptEnd::WriteFault);
+    assert!(rt; end_of_broken(rt.alloc(), b"# nothing") == ScriptEnd::Ended);
 }
 
 // A reader that fails where what was printed before wasn't flushed.
@@ -160,16 +106,17 @@ impl Write for Flushed<'_> {
     }
 }
 
-#[test]
-fn flushed_before_each_read(rt: HostRuntime) {
+fn end_of_asking(alloc: Global) -> ScriptEnd {
     let flushes = Cell::new(0);
     let reader = Asking {
         rest: b"load f\nmount v\n",
         flushes: &flushes,
         reads: 0,
     };
-    assert_eq!(rt;
-        script(rt.alloc(), reader, Flushed(&flushes)),
-        ScriptEnd::Ended
-    );
+    script(alloc, reader, Flushed(&flushes))
+}
+
+#[test]
+fn flushed_before_each_read(rt: HostRuntime) {
+    assert!(rt; end_of_asking(rt.alloc()) == ScriptEnd::Ended);
 }

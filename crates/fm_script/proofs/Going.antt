@@ -1,25 +1,17 @@
 -- The turns of a `go`, one after the other.
 use Rattle.std.proofs.Common.{◌≡◌, List, [], ◌∷◌, ◌++◌, Result, Ok, Option, Some, None, refl, sym, subst}
 use Rattle.std.specs.Prelude.{IfNone, IfSome}
-use Rattle.fm_types.specs.declared.ids.InstanceId.{InstanceId}
-use Rattle.fm_data.specs.declared.verdict.Completion.{Completion}
+use Rattle.fm_script.specs.Words.{InstanceId, Completion, OpId, WorkerId, Status, Answer, PreVerdict, Given, Task}
 use Rattle.fm_data.specs.declared.verdict.PreVerdict.TheVariants.{WithCallback}
 use Rattle.fm_session.specs.declared.lent.Given.TheVariants as given
-use Rattle.fm_types.specs.declared.ids.OpId.{OpId}
-use Rattle.fm_types.specs.declared.ids.WorkerId.{WorkerId}
-use Rattle.fm_types.specs.declared.status.Status.{Status}
-use Rattle.fm_data.specs.declared.answer.Answer.{Answer}
-use Rattle.fm_data.specs.declared.verdict.PreVerdict.{PreVerdict}
 use Rattle.fm_data.specs.declared.verdict.PostVerdict.TheVariants.{Finished}
 use Rattle.fm_world.specs.Events.{Collects}
 use Rattle.fm_world.specs.declared.step.Step.TheVariants as step
 use Rattle.fm_world.specs.declared.step.StepReply.TheVariants as reply
-use Rattle.fm_session.specs.declared.lent.Given.{Given}
 use Rattle.fm_session.specs.Sessions.{Lending, LendsNext, LentBaseReturns, LentPassesDown, LentPassesUp, LentPostReturns, LentPreReturns}
 use Rattle.fm_script.specs.Devices.{Calls}
 use Rattle.fm_script.specs.Runs.{Acts, BySession, Goes, IsTurn, KeepsLists, Turns}
 use Rattle.fm_script.specs.declared.interpreter.Interpreter.{Interpreter}
-use Rattle.fm_script.specs.declared.task.Task.{Task}
 use Rattle.fm_script.specs.declared.task.Task.TheVariants as task
 
 turns_then : (k : WorkerId) (o : OpId) (first second : List Task) (old mid new : Interpreter)

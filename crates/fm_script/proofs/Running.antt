@@ -1,20 +1,10 @@
 -- Whatever a task makes is a run of the events that it names.
 use Rattle.std.proofs.Common.{◌≡◌, inl, inr, true, List, [], ◌∷◌, ◌++◌, Option, Some, None, Result, Ok, Err, refl, ap, subst, ◌∙◌}
 use Rattle.std.specs.List.{AllByRecursion}
-use Rattle.fm_types.specs.declared.ids.InstanceId.{InstanceId}
-use Rattle.fm_types.specs.declared.ids.OpId.{OpId}
-use Rattle.fm_types.specs.declared.ids.WorkerId.{WorkerId}
-use Rattle.fm_types.specs.declared.status.Status.{Status}
-use Rattle.fm_data.specs.Data.{Data}
-use Rattle.fm_data.specs.declared.answer.Answer.{Answer}
-use Rattle.fm_data.specs.Calls.{BaseCall}
-use Rattle.fm_data.specs.declared.verdict.PreVerdict.{PreVerdict}
-use Rattle.fm_data.specs.declared.verdict.PostVerdict.{PostVerdict}
-use Rattle.fm_world.specs.World.{World}
+use Rattle.fm_script.specs.Words.{InstanceId, OpId, WorkerId, Status, Data, Answer, BaseCall, PreVerdict, PostVerdict, World, Step, StepReply}
+use Rattle.fm_script.specs.Words.{Task}
 use Rattle.fm_world.specs.Steps.{Run, Steps}
-use Rattle.fm_world.specs.declared.step.Step.{Step}
 use Rattle.fm_world.specs.declared.step.Step.TheVariants as step
-use Rattle.fm_world.specs.declared.step.StepReply.{StepReply}
 use Rattle.fm_world.specs.declared.step.StepReply.TheVariants as reply
 use Rattle.fm_session.specs.Sessions.{Lending, ReturnsPre, ReturnsPost, ReturnsBase, pre_in, post_in, base_in, lent_to}
 use Rattle.fm_script.specs.Devices.{Calls}
@@ -22,7 +12,6 @@ use Rattle.fm_script.specs.Events.{Names, RunsBy, TasksAreRuns}
 use Rattle.fm_script.specs.Runs.{Performs, Accepts, Acts, Goes, IsTurn, Turns, worker_0}
 use Rattle.fm_script.specs.declared.devices.Devices.{Devices}
 use Rattle.fm_script.specs.declared.interpreter.Interpreter.{Interpreter}
-use Rattle.fm_script.specs.declared.task.Task.{Task}
 use Rattle.fm_script.specs.declared.task.Task.TheVariants as task
 
 -- a run of events that pass a test

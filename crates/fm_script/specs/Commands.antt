@@ -1,24 +1,17 @@
 -- What the words of a line stand for, and by which status a line is refused that stands for nothing.
 use Rattle.std.specs.Prelude.{◌≡◌, ℕ, Bool, true, false, List, [], ◌∷◌, Option, Result, Ok, Err, MatchResult, codes, bytes_eq, cond, find}
-use Rattle.fm_types.specs.declared.ids.CtxId.{CtxId}
-use Rattle.fm_types.specs.declared.ids.OpId.{OpId}
-use Rattle.fm_types.specs.declared.ids.WorkerId.{WorkerId}
+use Rattle.fm_script.specs.Words.{CtxId, OpId, WorkerId, Status, BadRequest, World, Keyword, Task, ◌>>=◌}
 use Rattle.fm_types.specs.declared.operation.CreateMode.{CreateMode}
 use Rattle.fm_types.specs.declared.operation.CreateMode.TheVariants as create
 use Rattle.fm_types.specs.declared.registration.Registration.{Registration}
-use Rattle.fm_types.specs.declared.status.Status.{Status}
-use Rattle.fm_types.specs.declared.status.Status.TheVariants.{BadAltitude, BadName, BadPath, BadRequest}
+use Rattle.fm_types.specs.declared.status.Status.TheVariants.{BadAltitude, BadName, BadPath}
 use Rattle.fm_types.specs.Paths.{IsPath}
 use Rattle.fm_types.specs.Names.{IsName}
 use Rattle.fm_altitude.specs.Grammar.{IsAltitude, canonical}
 use Rattle.fm_data.specs.declared.request.Request.TheVariants as request
-use Rattle.fm_world.specs.World.{World}
 use Rattle.fm_world.specs.declared.step.Step.TheVariants as step
-use Rattle.fm_script.specs.declared.keyword.Keyword.{Keyword}
 use Rattle.fm_script.specs.declared.keyword.Keyword.TheVariants as keyword
-use Rattle.fm_script.specs.declared.task.Task.{Task}
 use Rattle.fm_script.specs.declared.task.Task.TheVariants as task
-use Rattle.fm_script.specs.Reading.{◌>>=◌}
 use Rattle.fm_script.specs.Ids.{filter_in, volume_in, operation_in, worker_in}
 use Rattle.fm_script.specs.Tasks.{volume_id, worker_id, place_ids, turn_ids, turn_in, one_id, only_instance, only_volume, only_worker, answered_read, event}
 use Rattle.fm_script.specs.ContextCommands.{context_read, allocate_read, write_body_read}

@@ -2,8 +2,7 @@
 use Rattle.std.specs.Prelude.{◌≡◌, ℕ, ◌+◌, ◌-◌, ◌^◌, ◌==◌, cond, min, Bool, true, false, List}
 use Rattle.std.specs.List.{list_any}
 use Rattle.fm_types.specs.declared.status.Status.TheVariants.{DeviceFault}
-use Rattle.fm_data.specs.declared.answer.Answer.{Answer}
-use Rattle.fm_data.specs.Calls.{BaseCall}
+use Rattle.fm_script.specs.Words.{Answer, BaseCall}
 use Rattle.fm_base.specs.Folders.{Folder}
 use Rattle.fm_device.specs.Devices.{bare, CarriesCall}
 use Rattle.fm_script.specs.declared.devices.Devices.{Devices}

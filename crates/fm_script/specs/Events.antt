@@ -2,20 +2,13 @@
 -- and its operation.
 use Rattle.std.specs.Prelude.{◌≡◌, ◌⊎◌, true, List, Option, Result}
 use Rattle.std.specs.List.{AllByRecursion}
-use Rattle.fm_types.specs.declared.ids.WorkerId.{WorkerId}
-use Rattle.fm_data.specs.Data.{Data}
-use Rattle.fm_data.specs.declared.answer.Answer.{Answer}
-use Rattle.fm_data.specs.Calls.{BaseCall}
-use Rattle.fm_data.specs.declared.verdict.PreVerdict.{PreVerdict}
+use Rattle.fm_script.specs.Words.{WorkerId, Data, Answer, BaseCall, PreVerdict, Step, StepReply, Task}
 use Rattle.fm_data.specs.declared.verdict.PostVerdict.TheVariants.{Finished}
 use Rattle.fm_world.specs.Steps.{Run}
-use Rattle.fm_world.specs.declared.step.Step.{Step}
 use Rattle.fm_world.specs.declared.step.Step.TheVariants as step
-use Rattle.fm_world.specs.declared.step.StepReply.{StepReply}
 use Rattle.fm_script.specs.Runs.{PerformsOr, worker_0}
 use Rattle.fm_script.specs.declared.interpreter.Interpreter.{Interpreter}
 use Rattle.fm_script.specs.declared.script_end.ScriptEnd.{ScriptEnd}
-use Rattle.fm_script.specs.declared.task.Task.{Task}
 use Rattle.fm_script.specs.declared.task.Task.TheVariants as task
 
 -- a worker's return from a callback or a call, with whatever it was lent

@@ -1,19 +1,12 @@
 -- What the commands on files and on the device stand for.
 use Rattle.std.specs.Prelude.{ℕ, min, ◌^◌, ◌-◌, List, [], ◌∷◌, Result, Ok, Err}
-use Rattle.fm_types.specs.declared.ids.HandleId.{HandleId}
-use Rattle.fm_types.specs.declared.status.Status.{Status}
-use Rattle.fm_types.specs.declared.status.Status.TheVariants.{BadRequest}
+use Rattle.fm_script.specs.Words.{HandleId, Status, BadRequest, World, Keyword, Task, number_read, ◌>>=◌}
 use Rattle.fm_data.specs.declared.request.FileRequest.{FileRequest}
 use Rattle.fm_data.specs.declared.request.FileRequest.TheVariants as file
 use Rattle.fm_data.specs.declared.request.Request.TheVariants as request
-use Rattle.fm_world.specs.World.{World}
 use Rattle.fm_world.specs.declared.step.Step.TheVariants as step
-use Rattle.fm_script.specs.declared.keyword.Keyword.{Keyword}
 use Rattle.fm_script.specs.declared.keyword.Keyword.TheVariants as keyword
-use Rattle.fm_script.specs.declared.task.Task.{Task}
 use Rattle.fm_script.specs.declared.task.Task.TheVariants as task
-use Rattle.fm_script.specs.Numbers.{number_read}
-use Rattle.fm_script.specs.Reading.{◌>>=◌}
 use Rattle.fm_script.specs.Ids.{handle_in}
 use Rattle.fm_script.specs.Tasks.{or_bad, handle_id, numbers_read, event}
 

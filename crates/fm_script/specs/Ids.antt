@@ -1,15 +1,7 @@
 -- Which ids a script may name: those that were given.
 use Rattle.std.specs.Prelude.{ℕ, ◌&&◌, cond, nat_lt, is_some, List, length, Option, Some, None, Result, Ok, Err, slice_get}
-use Rattle.fm_types.specs.declared.ids.FilterId.{FilterId}
-use Rattle.fm_types.specs.declared.ids.VolumeId.{VolumeId}
-use Rattle.fm_types.specs.declared.ids.InstanceId.{InstanceId}
-use Rattle.fm_types.specs.declared.ids.HandleId.{HandleId}
-use Rattle.fm_types.specs.declared.ids.OpId.{OpId}
-use Rattle.fm_types.specs.declared.ids.CtxId.{CtxId}
-use Rattle.fm_types.specs.declared.ids.WorkerId.{WorkerId}
-use Rattle.fm_types.specs.declared.status.Status.{Status}
+use Rattle.fm_script.specs.Words.{FilterId, VolumeId, InstanceId, HandleId, OpId, CtxId, WorkerId, Status, World}
 use Rattle.fm_types.specs.declared.status.Status.TheVariants.{NoFilter, NoVolume, NoInstance, NoHandle, WrongStep, NotHeld}
-use Rattle.fm_world.specs.World.{World}
 
 abbrev pub filter_in : World → ℕ → Result FilterId Status
 filter_in w n = cond (nat_lt n 256 && nat_lt n (length w.stack.filters)) (Ok (record { 0 = n })) (Err NoFilter)

@@ -1,14 +1,10 @@
 -- What a line of a script makes: nothing where it is empty, a comment, too long or refused, and else what its command stands for.
 use Rattle.std.specs.Prelude.{◌≡◌, ℕ, ◌==◌, Bool, true, nat_lt, List, [], ◌∷◌, length, Option, Some, None, Result, Ok, Err}
-use Rattle.fm_types.specs.declared.status.Status.{Status}
-use Rattle.fm_types.specs.declared.status.Status.TheVariants.{BadRequest, NoMemory}
+use Rattle.fm_script.specs.Words.{Status, BadRequest, ◌>>=◌, Either, words_of, Keyword, Task}
+use Rattle.fm_types.specs.declared.status.Status.TheVariants.{NoMemory}
 use Rattle.fm_script.specs.Commands.{ReadsAs, keyword_read, takes_bytes, with_bytes_read}
 use Rattle.fm_script.specs.Hexadecimal.{hex_of, IsNoHexadecimal}
 use Rattle.fm_script.specs.Runs.{PerformsRead}
-use Rattle.fm_script.specs.Reading.{◌>>=◌, Either}
-use Rattle.fm_script.specs.Words.{words_of}
-use Rattle.fm_script.specs.declared.keyword.Keyword.{Keyword}
-use Rattle.fm_script.specs.declared.task.Task.{Task}
 use Rattle.fm_script.specs.declared.interpreter.Interpreter.{Interpreter}
 use Rattle.fm_script.specs.declared.script_end.ScriptEnd.{ScriptEnd}
 

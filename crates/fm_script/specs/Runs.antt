@@ -1,23 +1,12 @@
 -- What the lines of a script make of the manager's state, of what its workers were lent, and of the devices: each is a run of events, and the devices
 -- change by the calls alone that a `next` gave.
 use Rattle.std.specs.Prelude.{◌≡◌, ◌⊎◌, ℕ, ◌==◌, ◌++◌, Bool, true, false, List, [], ◌∷◌, Result, Ok, Err, cond, nat_lt, slice_index_or}
-use Rattle.fm_types.specs.declared.ids.CtxId.{CtxId}
-use Rattle.fm_types.specs.declared.ids.FilterId.{FilterId}
-use Rattle.fm_types.specs.declared.ids.VolumeId.{VolumeId}
-use Rattle.fm_types.specs.declared.ids.InstanceId.{InstanceId}
-use Rattle.fm_types.specs.declared.ids.OpId.{OpId}
-use Rattle.fm_types.specs.declared.ids.WorkerId.{WorkerId}
-use Rattle.fm_types.specs.declared.status.Status.{Status}
-use Rattle.fm_data.specs.declared.verdict.PreVerdict.{PreVerdict}
+use Rattle.fm_script.specs.Words.{CtxId, FilterId, VolumeId, InstanceId, OpId, WorkerId, Status, PreVerdict, World, Step, StepReply, Given, Task}
 use Rattle.fm_data.specs.declared.verdict.PostVerdict.TheVariants.{Finished}
-use Rattle.fm_world.specs.World.{World}
 use Rattle.fm_world.specs.Events.{Attaches, SetsUp}
 use Rattle.fm_world.specs.Steps.{Steps}
-use Rattle.fm_world.specs.declared.step.Step.{Step}
 use Rattle.fm_world.specs.declared.step.Step.TheVariants as step
-use Rattle.fm_world.specs.declared.step.StepReply.{StepReply}
 use Rattle.fm_world.specs.declared.step.StepReply.TheVariants as reply
-use Rattle.fm_session.specs.declared.lent.Given.{Given}
 use Rattle.fm_session.specs.Sessions.{LendsNext, LentPreReturns, LentPostReturns, LentBaseReturns}
 use Rattle.fm_script.specs.Devices.{Calls}
 use Rattle.fm_script.specs.VerdictCommands.{with_callback}
@@ -25,7 +14,6 @@ use Rattle.fm_script.specs.declared.devices.Devices.{Devices}
 use Rattle.fm_script.specs.declared.interpreter.Interpreter.{Interpreter}
 use Rattle.fm_script.specs.declared.script_end.ScriptEnd.{ScriptEnd}
 use Rattle.fm_script.specs.declared.script_end.ScriptEnd.TheVariants.{NoMemory}
-use Rattle.fm_script.specs.declared.task.Task.{Task}
 use Rattle.fm_script.specs.declared.task.Task.TheVariants as task
 
 -- the devices stay, and which of their calls will fail

@@ -1,14 +1,8 @@
 -- What a script prints: which line for which answer, and the bytes of each line.
 use Rattle.std.specs.Prelude.{ℕ, ◌++◌, List, [], ◌∷◌, Option, Some, None, codes, decimal, Result, Ok, Err}
-use Rattle.fm_types.specs.declared.ids.CtxId.{CtxId}
-use Rattle.fm_types.specs.declared.ids.HandleId.{HandleId}
-use Rattle.fm_types.specs.declared.ids.OpId.{OpId}
-use Rattle.fm_types.specs.declared.status.Status.{Status}
+use Rattle.fm_script.specs.Words.{CtxId, HandleId, OpId, Status, Answer, Completion, PreVerdict, StepReply, Given}
 use Rattle.fm_types.specs.declared.status.Status.TheVariants.{Busy, NotHeld, AlreadyDefined}
 use Rattle.fm_types.specs.Statuses.{number_of}
-use Rattle.fm_data.specs.declared.answer.Answer.{Answer}
-use Rattle.fm_data.specs.declared.verdict.Completion.{Completion}
-use Rattle.fm_data.specs.declared.verdict.PreVerdict.{PreVerdict}
 use Rattle.fm_data.specs.declared.verdict.PreVerdict.TheVariants as verdict
 use Rattle.fm_stack.specs.declared.instance.Phase.{Phase}
 use Rattle.fm_stack.specs.declared.instance.Phase.TheVariants as phase
@@ -17,9 +11,7 @@ use Rattle.fm_ctx.specs.declared.count.Count.{Count}
 use Rattle.fm_ctx.specs.declared.count.Count.TheVariants as count
 use Rattle.fm_world.specs.declared.set_answer.SetAnswer.{SetAnswer}
 use Rattle.fm_world.specs.declared.set_answer.SetAnswer.TheVariants as set
-use Rattle.fm_world.specs.declared.step.StepReply.{StepReply}
 use Rattle.fm_world.specs.declared.step.StepReply.TheVariants as reply
-use Rattle.fm_session.specs.declared.lent.Given.{Given}
 use Rattle.fm_session.specs.declared.lent.Given.TheVariants as given
 use Rattle.fm_session.specs.Sessions.{given_after_next}
 use Rattle.fm_script.specs.declared.said.Word.{Word}

@@ -1,19 +1,9 @@
 -- What words are read as, one after the other: first all of them as numbers and ids, 32 where one can't be read, and then whether the ids are there, each
 -- kind of id before the next, and workers last.
 use Rattle.std.specs.Prelude.{ℕ, Bool, true, false, List, [], ◌∷◌, Option, Some, None, Result, Ok, Err, codes, bytes_eq, cond}
-use Rattle.fm_types.specs.declared.ids.CtxId.{CtxId}
-use Rattle.fm_types.specs.declared.ids.InstanceId.{InstanceId}
-use Rattle.fm_types.specs.declared.ids.OpId.{OpId}
-use Rattle.fm_types.specs.declared.ids.VolumeId.{VolumeId}
-use Rattle.fm_types.specs.declared.ids.WorkerId.{WorkerId}
-use Rattle.fm_types.specs.declared.status.Status.{Status}
-use Rattle.fm_types.specs.declared.status.Status.TheVariants.{BadRequest}
-use Rattle.fm_world.specs.World.{World}
-use Rattle.fm_world.specs.declared.step.Step.{Step}
-use Rattle.fm_script.specs.declared.task.Task.{Task}
+use Rattle.fm_script.specs.Words.{CtxId, InstanceId, OpId, VolumeId, WorkerId, Status, BadRequest, World, Step, Task, id_read, number_read}
+use Rattle.fm_script.specs.Words.{◌>>=◌}
 use Rattle.fm_script.specs.declared.task.Task.TheVariants as task
-use Rattle.fm_script.specs.Numbers.{id_read, number_read}
-use Rattle.fm_script.specs.Reading.{◌>>=◌}
 use Rattle.fm_script.specs.Ids.{context_in, instance_in, operation_in, volume_in, worker_in}
 
 abbrev pub or_bad : {T : Type 0} → Option T → Result T Status

@@ -1,17 +1,9 @@
 -- What the commands by which instances are detached, filters unloaded and volumes dismounted stand for.
 use Rattle.std.specs.Prelude.{ℕ, List, [], ◌∷◌, Result, Ok, Err}
-use Rattle.fm_types.specs.declared.ids.FilterId.{FilterId}
-use Rattle.fm_types.specs.declared.ids.InstanceId.{InstanceId}
-use Rattle.fm_types.specs.declared.ids.WorkerId.{WorkerId}
-use Rattle.fm_types.specs.declared.status.Status.{Status}
-use Rattle.fm_types.specs.declared.status.Status.TheVariants.{BadRequest}
-use Rattle.fm_world.specs.World.{World}
+use Rattle.fm_script.specs.Words.{FilterId, InstanceId, WorkerId, Status, BadRequest, World, Keyword, Task, ◌>>=◌}
 use Rattle.fm_world.specs.declared.step.Step.TheVariants as step
-use Rattle.fm_script.specs.declared.keyword.Keyword.{Keyword}
 use Rattle.fm_script.specs.declared.keyword.Keyword.TheVariants as keyword
-use Rattle.fm_script.specs.declared.task.Task.{Task}
 use Rattle.fm_script.specs.declared.task.Task.TheVariants as task
-use Rattle.fm_script.specs.Reading.{◌>>=◌}
 use Rattle.fm_script.specs.Ids.{filter_in, instance_in, worker_in}
 use Rattle.fm_script.specs.Tasks.{filter_ids, instance_ids, one_id, only_instance, only_volume, only_worker, answered_read, event}
 

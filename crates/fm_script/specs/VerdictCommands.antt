@@ -1,19 +1,11 @@
 -- What the commands that bring a verdict stand for: that of a preoperation or a postoperation that returns, of a plan, and of an operation that is resumed.
 use Rattle.std.specs.Prelude.{◌≡◌, ℕ, ◌<◌, ◌≤◌, Bool, false, List, [], ◌∷◌, Option, Some, None, Result, Ok, Err, MatchOption, MatchResult, codes, bytes_eq, cond}
-use Rattle.fm_types.specs.declared.ids.CtxId.{CtxId}
-use Rattle.fm_types.specs.declared.status.Status.{Status}
-use Rattle.fm_types.specs.declared.status.Status.TheVariants.{BadRequest}
+use Rattle.fm_script.specs.Words.{CtxId, Status, BadRequest, PreVerdict, PostVerdict, World, Task, number_read, ◌>>=◌, Either}
 use Rattle.fm_types.specs.Statuses.{number_of}
-use Rattle.fm_data.specs.declared.verdict.PreVerdict.{PreVerdict}
 use Rattle.fm_data.specs.declared.verdict.PreVerdict.TheVariants as verdict
-use Rattle.fm_data.specs.declared.verdict.PostVerdict.{PostVerdict}
 use Rattle.fm_data.specs.declared.verdict.PostVerdict.TheVariants as post
-use Rattle.fm_world.specs.World.{World}
 use Rattle.fm_world.specs.declared.step.Step.TheVariants as step
-use Rattle.fm_script.specs.declared.task.Task.{Task}
 use Rattle.fm_script.specs.declared.task.Task.TheVariants as task
-use Rattle.fm_script.specs.Numbers.{number_read}
-use Rattle.fm_script.specs.Reading.{◌>>=◌, Either}
 use Rattle.fm_script.specs.Ids.{instance_in, worker_in}
 use Rattle.fm_script.specs.Tasks.{instance_id, worker_id, with_worker, held_ids, held_in, turn_ids, turn_in, event}
 

@@ -1,6 +1,30 @@
--- The lines of a script and the words of a line.
+-- The words of a line, and the words that the other files of the crate share.
 use Rattle.std.specs.Prelude.{◌==◌, ℕ, List}
 use Rattle.std.specs.List.{slice_split}
+pub use Rattle.fm_types.specs.declared.ids.CtxId.{CtxId}
+pub use Rattle.fm_types.specs.declared.ids.FilterId.{FilterId}
+pub use Rattle.fm_types.specs.declared.ids.HandleId.{HandleId}
+pub use Rattle.fm_types.specs.declared.ids.InstanceId.{InstanceId}
+pub use Rattle.fm_types.specs.declared.ids.OpId.{OpId}
+pub use Rattle.fm_types.specs.declared.ids.VolumeId.{VolumeId}
+pub use Rattle.fm_types.specs.declared.ids.WorkerId.{WorkerId}
+pub use Rattle.fm_types.specs.declared.status.Status.{Status}
+pub use Rattle.fm_types.specs.declared.status.Status.TheVariants.{BadRequest}
+pub use Rattle.fm_data.specs.Data.{Data}
+pub use Rattle.fm_data.specs.Calls.{BaseCall}
+pub use Rattle.fm_data.specs.declared.answer.Answer.{Answer}
+pub use Rattle.fm_data.specs.declared.verdict.Completion.{Completion}
+pub use Rattle.fm_data.specs.declared.verdict.PreVerdict.{PreVerdict}
+pub use Rattle.fm_data.specs.declared.verdict.PostVerdict.{PostVerdict}
+pub use Rattle.fm_world.specs.World.{World}
+pub use Rattle.fm_world.specs.declared.step.Step.{Step}
+pub use Rattle.fm_world.specs.declared.step.StepReply.{StepReply}
+pub use Rattle.fm_session.specs.declared.lent.Given.{Given}
+pub use Rattle.fm_script.specs.declared.keyword.Keyword.{Keyword}
+pub use Rattle.fm_script.specs.declared.task.Task.{Task}
+pub use Rattle.fm_script.specs.Numbers.{id_read}
+unfoldable pub use Rattle.fm_script.specs.Numbers.{number_read}
+pub use Rattle.fm_script.specs.Reading.{◌>>=◌, Either}
 
 -- words are divided by single spaces, so two spaces, or one at an end of the line, make an empty word
 abbrev pub words_of : List ℕ → List (List ℕ)

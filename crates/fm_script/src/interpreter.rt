@@ -32,9 +32,11 @@ pub struct Interpreter {
 impl Interpreter {
     /// An interpreter that has run nothing. It is 1 (NoMemory) where there is no memory for it.
     pub fn new(alloc: Global) -> Result<Self, Status> {
+        let devices = Devices::new(alloc)?;
+        let session = Session::new(alloc)?;
         Ok(Interpreter {
-            session: Session::new(alloc)?,
-            devices: Devices::new(alloc)?,
+            session,
+            devices,
             plans: Vec::new(alloc),
             contexts: ContextList::new(alloc),
         })

@@ -32,7 +32,7 @@ impl Interpreter {
         self.climb(worker, operation, output)
     }
 
-    // The same of one that passes no instance on its way down.
+    // The same of one that passes no instance on its way down: it passes one on its way up, or takes its next step.
     #[tactic(auto, using(crate::proofs::Going::goes_then))]
     fn climb<W: Write + Drop>(
         &mut self,
@@ -45,18 +45,6 @@ impl Interpreter {
         if let Some(instance) = self.pass_up(worker, operation) {
             return say_back(output, Word::Post, instance, Ok(()));
         }
-        self.step(worker, operation, output)
-    }
-
-    // And of one that passes none at all.
-    fn step<W: Write + Drop>(
-        &mut self,
-        worker: WorkerId,
-        operation: OpId,
-        output: &mut Output<W>,
-    ) -> Result<bool, ScriptEnd>
-        ensures { Goes worker operation self.old self.new }
-    {
         let given = self.next(worker, operation);
         self.answer(worker, operation, given, output)
     }

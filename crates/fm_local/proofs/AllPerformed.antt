@@ -1,28 +1,10 @@
 -- The requests of a list, one after the other, are answered as their folds say.
-use Rattle.std.specs.Prelude.{◌≡◌, ℕ, List, [], ◌∷◌, Option, Some, slice_get, refl}
-use Rattle.std.proofs.Common.{sym, ap, ap₂, subst, ◌∙◌}
-use Rattle.fm_types.specs.declared.status.Status.{Status}
-use Rattle.fm_types.specs.declared.status.Status.TheVariants as status
-use Rattle.fm_data.specs.Data.{Data}
-use Rattle.fm_data.specs.declared.answer.Answer.{Answer}
-use Rattle.fm_data.specs.Calls.{BaseCall}
-use Rattle.fm_data.specs.declared.request.FileRequest.TheVariants as asked
-use Rattle.fm_data.specs.declared.request.Request.{Request}
-use Rattle.fm_data.specs.declared.request.Request.TheVariants as request
-use Rattle.fm_data.specs.declared.verdict.Completion.{Completion}
-use Rattle.fm_data.specs.declared.verdict.PreVerdict.{PreVerdict}
-use Rattle.fm_data.specs.declared.verdict.PostVerdict.{PostVerdict}
-use Rattle.fm_filter.specs.Plain.{IsPlainFilter}
-use Rattle.fm_stack.specs.StackWorld.{StackWorld}
+use Rattle.fm_local.proofs.Words.{[], ◌∷◌, ◌≡◌, Answer, BaseCall, Completion, Data, List, Option, PostVerdict, PreVerdict, Some, StackWorld, Status}
+use Rattle.fm_local.proofs.Words.{WorkerId, World, slice_get, worker_at, ℕ, ◌∙◌, ap, ap₂, refl, subst, sym, FileRequest, Request, FileTable, IsSound}
+use Rattle.fm_local.proofs.Words.{IsPlainFilter, Under, IsAtRest, NoneStops, Tidies, under}
 use Rattle.fm_world.proofs.Runs.{run_keeps}
-use Rattle.fm_world.specs.Files.{FileTable}
-use Rattle.fm_world.specs.Sound.{IsSound}
-use Rattle.fm_world.specs.Words.{WorkerId}
-use Rattle.fm_world.specs.Workers.{worker_at}
-use Rattle.fm_world.specs.World.{World}
+use Rattle.fm_local.specs.Requests.{Performs, ClosesAfter, AnswersOne, AnswersAll, DoesTidily, DoesClose, DoesOne, DoesAll, CarriedAreFolds}
 use Rattle.fm_local.proofs.Performed.{answered}
-use Rattle.fm_local.specs.Chains.{Under}
-use Rattle.fm_local.specs.Requests.{under, NoneStops, IsAtRest, Performs, ClosesAfter, AnswersOne, AnswersAll, Tidies, DoesTidily, DoesClose, DoesOne, DoesAll, CarriedAreFolds}
 
 module _ {F D : Type 0} (pre : F → Data → PreVerdict → Data → Type 0) (post : F → Data → Completion → PostVerdict → Data → Type 0) (is_quiet : F → Type 0)
     (carries : D → BaseCall → Answer → D → Type 0) (filters : ℕ → Option F) (k : WorkerId) (plain : (n : ℕ) (f : F) → filters n ≡ Some f → IsPlainFilter pre post is_quiet f)
@@ -66,8 +48,8 @@ module _ {F D : Type 0} (pre : F → Data → PreVerdict → Data → Type 0) (p
   one_close : (st : Status) (what : Request) (old : World) (d : D) (cleanup answer : Answer) (new : World) (e : D) → RestsOver old
       → DoesClose pre post carries filters k st what old d cleanup answer new e
       → Ready (λ u n. ClosesAfter pre post carries filters s st old.flow.next what (under d old) cleanup answer u n) new e
-  one_close status.Success what old d cleanup answer new e ready h = let r = one_tidily what old d answer new e ready h in record { ready = r.ready; holds = r.holds }
-  one_close status.WrongStep what old d cleanup answer new e ready h = let r = one_tidily what old d answer new e ready h in record { ready = r.ready; holds = r.holds }
+  one_close Status.Success what old d cleanup answer new e ready h = let r = one_tidily what old d answer new e ready h in record { ready = r.ready; holds = r.holds }
+  one_close Status.WrongStep what old d cleanup answer new e ready h = let r = one_tidily what old d answer new e ready h in record { ready = r.ready; holds = r.holds }
   one_close _ what old d cleanup answer new e ready h = record {
     ready = subst RestsOver (sym h.1) ready;
     holds = (h.0, ap₂ (λ dev fs. record { device = dev; files = fs }) h.2 (ap (λ (w : World). w.files) h.1), ap (λ (w : World). w.flow.next) h.1);
@@ -75,9 +57,9 @@ module _ {F D : Type 0} (pre : F → Data → PreVerdict → Data → Type 0) (p
 
   pub one_done : (what : Request) (old : World) (d : D) (answer : Answer) (new : World) (e : D) → RestsOver old → DoesOne pre post carries filters k what old d answer new e
       → Ready (λ u n. AnswersOne pre post carries filters s old.flow.next what (under d old) answer u n) new e
-  one_done (request.OnHandle h asked.Close) old d answer new e ready does =
-      let first = one_tidily (request.OnHandle h asked.Cleanup) old d does.2 does.0 does.1 ready does.3 in
-      let then = one_close does.2.status (request.OnHandle h asked.Close) does.0 does.1 does.2 answer new e first.ready does.4 in
+  one_done (Request.OnHandle h FileRequest.Close) old d answer new e ready does =
+      let first = one_tidily (Request.OnHandle h FileRequest.Cleanup) old d does.2 does.0 does.1 ready does.3 in
+      let then = one_close does.2.status (Request.OnHandle h FileRequest.Close) does.0 does.1 does.2 answer new e first.ready does.4 in
       record { ready = then.ready; holds = (under does.1 does.0, does.2, does.0.flow.next, first.holds, then.holds) }
   one_done what old d answer new e ready does = let r = one_tidily what old d answer new e ready does in record { ready = r.ready; holds = r.holds }
 

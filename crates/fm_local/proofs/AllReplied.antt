@@ -1,19 +1,8 @@
 -- The replies to a list of requests are those of its folds.
-use Rattle.std.specs.Prelude.{ℕ, [], ◌∷◌, Option, refl}
-use Rattle.std.proofs.Common.{sym, ap, ap₂, subst}
-use Rattle.fm_base.specs.Folders.{Folder}
-use Rattle.fm_data.specs.Data.{Data}
-use Rattle.fm_data.specs.declared.verdict.Completion.{Completion}
-use Rattle.fm_data.specs.declared.verdict.PreVerdict.{PreVerdict}
-use Rattle.fm_data.specs.declared.verdict.PostVerdict.{PostVerdict}
-use Rattle.fm_stack.specs.StackWorld.{StackWorld}
-use Rattle.fm_world.specs.Words.{WorkerId}
-use Rattle.fm_local.specs.Actions.{IsReady, RepliesAreFolds}
-use Rattle.fm_local.specs.Bases.{BasesCarry}
-use Rattle.fm_local.specs.Managers.{numbered}
-use Rattle.fm_local.specs.Requests.{under, AnswersAll}
-use Rattle.fm_local.specs.declared.filters.Filters.{Filters}
-use Rattle.fm_local.specs.declared.manager.LocalManager.{LocalManager}
+use Rattle.fm_local.proofs.Words.{[], ◌∷◌, Completion, Data, Folder, LocalManager, Option, PostVerdict, PreVerdict, StackWorld, WorkerId, ℕ, ap, ap₂}
+use Rattle.fm_local.proofs.Words.{refl, subst, sym, IsReady, BasesCarry, numbered, under, Filters}
+use Rattle.fm_local.specs.Actions.{RepliesAreFolds}
+use Rattle.fm_local.specs.Requests.{AnswersAll}
 
 pub all_replied : {F B : Type 0} (pre : F → Data → PreVerdict → Data → Type 0) (post : F → Data → Completion → PostVerdict → Data → Type 0) (is_quiet : F → Type 0)
     (folder : B → Option Folder) (faults : B → ℕ) (k : WorkerId) → RepliesAreFolds pre post is_quiet folder faults k

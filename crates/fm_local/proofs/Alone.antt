@@ -1,17 +1,12 @@
 -- A table with one operation alone.
-use Rattle.std.specs.Prelude.{◌≡◌, ◌&&◌, ◌||◌, Bool, true, false, cond, not, [], ◌∷◌, Option, Some, None, unwrap_or, option_map, is_none, find, refl}
-use Rattle.std.specs.List.{list_any}
-use Rattle.std.proofs.Common.{ap, ◌∙◌}
-use Rattle.fm_types.specs.declared.operation.Operation.{Operation}
-use Rattle.fm_types.specs.declared.operation.Operation.TheVariants as kind
-use Rattle.fm_types.specs.declared.status.Status.TheVariants as status
-use Rattle.fm_flow.specs.Creates.{is_create, is_creating, is_unanswered, is_on_stream, has_create_on}
-use Rattle.fm_flow.specs.Record.{FlowRecord}
-use Rattle.fm_flow.specs.Table.{FlowTable, empty_table, is_number, operation_at, changed, told, change_first}
+use Rattle.fm_local.proofs.Words.{[], ◌∷◌, ◌≡◌, Bool, FlowRecord, None, OpId, Operation, Option, Some, Status, false, true, ◌&&◌, ◌||◌, ◌∙◌, ap, cond}
+use Rattle.fm_local.proofs.Words.{find, not, option_map, refl, unwrap_or, list_any, is_number, FileTable, handle_at, FlowTable, HandleId, StreamId}
+use Rattle.fm_local.proofs.Words.{changed, is_create, operation_at, told, known_answer, subject_of}
+use Rattle.std.specs.Prelude.{is_none}
+use Rattle.fm_flow.specs.Creates.{is_creating, is_unanswered, is_on_stream, has_create_on}
+use Rattle.fm_flow.specs.Table.{empty_table, change_first}
 use Rattle.fm_world.specs.Events.{base_known, known_at, known_on, known_create, is_created_on}
-use Rattle.fm_world.specs.Files.{FileTable, handle_at, is_marked, has_other_handle}
-use Rattle.fm_world.specs.Words.{HandleId, OpId, StreamId}
-use Rattle.fm_local.specs.Chains.{known_answer, subject_of}
+use Rattle.fm_world.specs.Files.{is_marked, has_other_handle}
 
 -- the operation of that number is there, and no other
 pub record Alone (o : OpId) (r : FlowRecord) (t : FlowTable) : Type 0 where
@@ -41,12 +36,12 @@ module _ (o : OpId) (r : FlowRecord) (t : FlowTable) (alone : Alone o r t) where
   none_created answered (Some s) = none_creating answered s
 
   known_same : (files : FileTable) (operation : Operation) (s : StreamId) (h : HandleId) → has_create_on s t ≡ false → known_on files t operation s h ≡ known_on files empty_table operation s h
-  known_same files kind.Close s h none = ap (λ b. cond (is_marked s files && not (has_other_handle s h files || b)) None (Some status.Success)) none
+  known_same files Operation.Close s h none = ap (λ b. cond (is_marked s files && not (has_other_handle s h files || b)) None (Some Status.Success)) none
   known_same files _ s h none = refl
 
   known_there : (files : FileTable) (operation : Operation) (s : Option StreamId) (h : Option HandleId) → ((x : StreamId) → has_create_on x t ≡ false)
       → known_at files t operation s h ≡ known_at files empty_table operation s h
-  known_there files operation (Some s) (Some h) none = ap (λ m. cond (is_none (handle_at h files)) (Some status.NoHandle) m) (known_same files operation s h (none s))
+  known_there files operation (Some s) (Some h) none = ap (λ m. cond (is_none (handle_at h files)) (Some Status.NoHandle) m) (known_same files operation s h (none s))
   known_there files operation (Some s) None none = refl
   known_there files operation None h none = refl
 

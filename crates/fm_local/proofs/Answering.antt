@@ -1,36 +1,17 @@
 -- What a manager answers is what the fold says, and it is ready again.
-use Rattle.std.specs.Prelude.{◌≡◌, ℕ, true, false, List, [], Option, Some, None, refl}
-use Rattle.std.proofs.Common.{sym, ap, subst, ◌∙◌}
-use Rattle.fm_types.specs.declared.status.Status.{Status}
-use Rattle.fm_types.specs.declared.status.Status.TheVariants as status
-use Rattle.fm_types.specs.declared.ids.HandleId.{HandleId}
-use Rattle.fm_base.specs.Folders.{Folder}
-use Rattle.fm_data.specs.Data.{Data}
-use Rattle.fm_data.specs.declared.answer.Answer.{Answer}
-use Rattle.fm_data.specs.declared.request.FileRequest.TheVariants as asked
-use Rattle.fm_data.specs.declared.request.Reply.{Reply}
-use Rattle.fm_data.specs.declared.request.Request.{Request}
-use Rattle.fm_data.specs.declared.request.Request.TheVariants as request
-use Rattle.fm_data.specs.declared.verdict.Completion.{Completion}
-use Rattle.fm_data.specs.declared.verdict.PreVerdict.{PreVerdict}
-use Rattle.fm_data.specs.declared.verdict.PostVerdict.{PostVerdict}
-use Rattle.fm_world.specs.Sound.{IsSound}
-use Rattle.fm_world.specs.Words.{WorkerId}
-use Rattle.fm_world.specs.World.{World}
+use Rattle.fm_local.proofs.Words.{[], ◌≡◌, Answer, Completion, Data, Folder, List, LocalManager, None, Option, PostVerdict, PreVerdict, Some, Status}
+use Rattle.fm_local.proofs.Words.{WorkerId, World, false, true, ℕ, ◌∙◌, ap, refl, subst, sym, FileRequest, Reply, Request, IsSound, HandleId}
+use Rattle.fm_local.proofs.Words.{ArePlainFilters, IsReady, PerformsIn, closed_handle, replied, BasesCarry, numbered, NoneStops, Filters}
+use Rattle.fm_local.specs.Actions.{AnswersIn, goes_on, is_over}
+use Rattle.fm_local.specs.Requests.{DoesTidily, DoesClose, DoesOne}
 use Rattle.fm_local.proofs.AllPerformed.{RestsOver, one_tidily, one_done}
-use Rattle.fm_local.specs.Actions.{ArePlainFilters, IsReady, PerformsIn, AnswersIn, closed_handle, goes_on, is_over, replied}
-use Rattle.fm_local.specs.Bases.{BasesCarry}
-use Rattle.fm_local.specs.Managers.{numbered}
-use Rattle.fm_local.specs.Requests.{NoneStops, DoesTidily, DoesClose, DoesOne}
-use Rattle.fm_local.specs.declared.filters.Filters.{Filters}
-use Rattle.fm_local.specs.declared.manager.LocalManager.{LocalManager}
 
 -- a request that closes a handle
-pub is_close : (what : Request) (h : HandleId) → closed_handle what ≡ Some h → what ≡ request.OnHandle h asked.Close
-is_close (request.OnHandle g asked.Close) h is = cc
-is_close (request.OnHandle g _) h is = cc
-is_close (request.List v) h is = cc
-is_close (request.Create v path mode) h is = cc
+pub is_close : (what : Request) (h : HandleId) → closed_handle what ≡ Some h → what ≡ Request.OnHandle h FileRequest.Close
+is_close (Request.OnHandle g FileRequest.Close) h is = cc
+is_close (Request.OnHandle g _) h is = cc
+is_close (Request.List v) h is = cc
+is_close (Request.Create v path mode) h is = cc
 
 module _ {F B : Type 0} (pre : F → Data → PreVerdict → Data → Type 0) (post : F → Data → Completion → PostVerdict → Data → Type 0) (is_quiet : F → Type 0)
     (folder : B → Option Folder) (faults : B → ℕ) (k : WorkerId) where
@@ -80,10 +61,10 @@ module _ {F B : Type 0} (pre : F → Data → PreVerdict → Data → Type 0) (p
 
     as_one : (what : Request) → closed_handle what ≡ None → (w : World) (d : List B) (answer : Answer) (v : World) (e : List B)
         → DoesTidily pre post (BasesCarry folder faults) (numbered old.filters) k what w d answer v e → DoesOne pre post (BasesCarry folder faults) (numbered old.filters) k what w d answer v e
-    as_one (request.List v) no_close w d answer u e does = does
-    as_one (request.Create v path mode) no_close w d answer u e does = does
-    as_one (request.OnHandle h asked.Close) no_close w d answer u e does = cc
-    as_one (request.OnHandle h _) no_close w d answer u e does = does
+    as_one (Request.List v) no_close w d answer u e does = does
+    as_one (Request.Create v path mode) no_close w d answer u e does = does
+    as_one (Request.OnHandle h FileRequest.Close) no_close w d answer u e does = cc
+    as_one (Request.OnHandle h _) no_close w d answer u e does = does
 
     -- a request that is no close
     pub answers_one : (what : Request) → closed_handle what ≡ None → (said : Reply) (new : LocalManager F B) → Performed what old said new → Answered what old said new
@@ -91,40 +72,40 @@ module _ {F B : Type 0} (pre : F → Data → PreVerdict → Data → Type 0) (p
         answers what said new p.answer p.says (as_one what no_close old.desk.state old.bases.items p.answer new.desk.state new.bases.items p.does) p.filters p.settled
 
     -- ---- a close
-    module _ (h : HandleId) (cleaned : Reply) (mid : LocalManager F B) (p : Performed (request.OnHandle h asked.Cleanup) old cleaned mid) where
+    module _ (h : HandleId) (cleaned : Reply) (mid : LocalManager F B) (p : Performed (Request.OnHandle h FileRequest.Cleanup) old cleaned mid) where
       abbrev Closes : Status → Answer → LocalManager F B → Type 0
       Closes st answer new =
-          DoesClose pre post (BasesCarry folder faults) (numbered old.filters) k st (request.OnHandle h asked.Close) mid.desk.state mid.bases.items p.answer answer new.desk.state new.bases.items
+          DoesClose pre post (BasesCarry folder faults) (numbered old.filters) k st (Request.OnHandle h FileRequest.Close) mid.desk.state mid.bases.items p.answer answer new.desk.state new.bases.items
 
       -- after its cleanup, or where that began before
       closes_after : (st : Status) → is_over st ≡ true → (answer : Answer) (new : LocalManager F B)
-          → DoesTidily pre post (BasesCarry folder faults) (numbered old.filters) k (request.OnHandle h asked.Close) mid.desk.state mid.bases.items answer new.desk.state new.bases.items
+          → DoesTidily pre post (BasesCarry folder faults) (numbered old.filters) k (Request.OnHandle h FileRequest.Close) mid.desk.state mid.bases.items answer new.desk.state new.bases.items
           → Closes st answer new
-      closes_after status.Success over answer new does = does
-      closes_after status.WrongStep over answer new does = does
+      closes_after Status.Success over answer new does = does
+      closes_after Status.WrongStep over answer new does = does
       closes_after _ over answer new does = cc
 
       -- else its cleanup's refusal is the answer
       stops_at : (st : Status) → is_over st ≡ false → Closes st p.answer mid
-      stops_at status.Success over = cc
-      stops_at status.WrongStep over = cc
+      stops_at Status.Success over = cc
+      stops_at Status.WrongStep over = cc
       stops_at _ over = (refl, refl, refl)
 
       closed : (said : Reply) (new : LocalManager F B) (answer : Answer) → said ≡ replied answer → Closes p.answer.status answer new
-          → new.filters ≡ old.filters → new.desk.resumed.items.items ≡ [] → Answered (request.OnHandle h asked.Close) old said new
+          → new.filters ≡ old.filters → new.desk.resumed.items.items ≡ [] → Answered (Request.OnHandle h FileRequest.Close) old said new
       closed said new answer says does filters settled =
-          answers (request.OnHandle h asked.Close) said new answer says (mid.desk.state, mid.bases.items, p.answer, p.does, does) filters settled
+          answers (Request.OnHandle h FileRequest.Close) said new answer says (mid.desk.state, mid.bases.items, p.answer, p.does, does) filters settled
 
       -- what was answered says which
       says_status : goes_on cleaned ≡ is_over p.answer.status
       says_status = ap goes_on p.says
 
-      pub answers_close : goes_on cleaned ≡ true → (said : Reply) (new : LocalManager F B) → Performed (request.OnHandle h asked.Close) mid said new
-          → Answered (request.OnHandle h asked.Close) old said new
+      pub answers_close : goes_on cleaned ≡ true → (said : Reply) (new : LocalManager F B) → Performed (Request.OnHandle h FileRequest.Close) mid said new
+          → Answered (Request.OnHandle h FileRequest.Close) old said new
       answers_close over said new q =
-          let does = subst (λ (fs : Filters F). DoesTidily pre post (BasesCarry folder faults) (numbered fs) k (request.OnHandle h asked.Close) mid.desk.state mid.bases.items q.answer
+          let does = subst (λ (fs : Filters F). DoesTidily pre post (BasesCarry folder faults) (numbered fs) k (Request.OnHandle h FileRequest.Close) mid.desk.state mid.bases.items q.answer
           new.desk.state new.bases.items) p.filters q.does in
           closed said new q.answer q.says (closes_after p.answer.status (sym says_status ∙ over) q.answer new does) (q.filters ∙ p.filters) q.settled
 
-      pub answers_cleanup : goes_on cleaned ≡ false → Answered (request.OnHandle h asked.Close) old cleaned mid
+      pub answers_cleanup : goes_on cleaned ≡ false → Answered (Request.OnHandle h FileRequest.Close) old cleaned mid
       answers_cleanup stops = closed cleaned mid p.answer p.says (stops_at p.answer.status (sym says_status ∙ stops)) p.filters p.settled

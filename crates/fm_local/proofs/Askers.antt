@@ -1,27 +1,17 @@
 -- What one more visit, and one more postoperation, make of those that asked.
-use Rattle.std.specs.Prelude.{◌≡◌, ◌≤◌, ℕ, suc, zero, false, List, [], ◌∷◌, ◌++◌, length, map, take, Option, Some, None, unwrap_or, slice_get, reverse, refl}
-use Rattle.std.proofs.Common.{sym, ap, ap₂, ◌∙◌, arith, inl, inr}
-use Rattle.std.proofs.lemmas.Bool.{cases_Bool, false≢true}
-use Rattle.std.proofs.lemmas.Option.{same_Some}
-use Rattle.fm_types.specs.declared.ids.InstanceId.{InstanceId}
-use Rattle.fm_types.specs.declared.ids.WorkerId.{WorkerId}
-use Rattle.fm_data.specs.declared.params.Params.{Params}
-use Rattle.fm_data.specs.declared.verdict.Completion.{Completion}
-use Rattle.fm_flow.specs.declared.entry.Ask.{Ask}
-use Rattle.fm_flow.specs.declared.entry.Entry.{Entry}
+use Rattle.fm_local.proofs.Words.{[], ◌∷◌, ◌≡◌, ◌≤◌, Completion, InstanceId, List, None, Option, Params, Some, WorkerId, false, length, slice_get}
+use Rattle.fm_local.proofs.Words.{suc, zero, ℕ, ◌++◌, ◌∙◌, ap, ap₂, arith, inl, inr, map, refl, sym, take, unwrap_or, cases_Bool, false≢true}
+use Rattle.fm_local.proofs.Words.{same_Some, times, sees, IsCourse, Ask, Descending, Entry, PreState, Stage, last_visited, owed, visited, asker}
+use Rattle.fm_local.proofs.Words.{ArePlain}
+use Rattle.std.specs.Prelude.{reverse}
 use Rattle.fm_flow.specs.declared.entry.Entry.TheVariants.{Pre}
-use Rattle.fm_flow.specs.declared.entry.PreState.{PreState}
-use Rattle.fm_flow.specs.declared.stage.Stage.{Stage}
-use Rattle.fm_flow.specs.declared.stage.Stage.TheVariants.{Descending}
-use Rattle.fm_flow.specs.Entries.{owed, visited, last_visited, ask_in, visit_of, times, answers}
-use Rattle.fm_flow.specs.Seen.{sees}
-use Rattle.fm_flow.specs.Sound.{IsCourse, walk, answer_count}
+use Rattle.fm_flow.specs.Entries.{ask_in, visit_of, answers}
+use Rattle.fm_flow.specs.Sound.{walk, answer_count}
 use Rattle.fm_flow.specs.Steps.{kept_of}
 use Rattle.fm_flow.proofs.Owed.{filter_map-push, owed_push_none, left_push_ask, unanswered}
 use Rattle.fm_flow.proofs.Course.{unvisited}
 use Rattle.fm_flow.proofs.Walks.{Settling, is_callback, walk_parts, drains_follow, opens_after, last_with}
-use Rattle.fm_local.specs.Folds.{asker}
-use Rattle.fm_local.specs.Left.{askers, ArePlain}
+use Rattle.fm_local.specs.Left.{askers}
 
 -- entries that lead from no callback to none are all closed
 pub closed_stay : (f : Entry → Entry) → Settling f → (s : Stage) (es : List Entry) (t : Stage) → walk s es ≡ Some t → is_callback s ≡ false → is_callback t ≡ false → map f es ≡ es

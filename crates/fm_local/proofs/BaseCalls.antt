@@ -1,15 +1,13 @@
 -- A call that one of the bases answers, or none.
-use Rattle.std.specs.Prelude.{◌≡◌, ◌≤◌, ◌<◌, ◌+◌, ◌-◌, ◌^◌, ℕ, List, length, min, Option, Some, None, slice_get, slice_set, slice_index_or, refl}
-use Rattle.std.proofs.Common.{sym, subst, ◌∙◌}
+use Rattle.fm_local.proofs.Words.{◌≡◌, ◌≤◌, Answer, BaseCall, Folder, List, None, Option, Some, length, slice_get, ℕ, ◌+◌, ◌<◌, ◌∙◌, refl, subst, sym}
+use Rattle.fm_local.proofs.Words.{BasesCarry}
+use Rattle.std.specs.Prelude.{◌-◌, ◌^◌, min, slice_set, slice_index_or}
 use Rattle.std.proofs.lemmas.List.{length-set}
 use Rattle.std.proofs.lemmas.Option.{slice_get_past, slice_get_read, slice_get_within}
 use Rattle.fm_types.proofs.Lists.{slice_get-set_same, slice_get-set_other}
 use Rattle.fm_types.specs.declared.status.Status.TheVariants.{NoVolume, DeviceFault}
-use Rattle.fm_data.specs.declared.answer.Answer.{Answer}
-use Rattle.fm_data.specs.Calls.{BaseCall}
-use Rattle.fm_base.specs.Folders.{Folder}
 use Rattle.fm_device.specs.Devices.{bare, CarriesAny, KnownAs}
-use Rattle.fm_local.specs.Bases.{BasesCarry, BaseCarries}
+use Rattle.fm_local.specs.Bases.{BaseCarries}
 
 module _ {B : Type 0} (folder : B → Option Folder) (faults : B → ℕ) (old : List B) (call : BaseCall) (answer : Answer) where
   -- the base of the volume answers, and nothing but it changes

@@ -1,30 +1,12 @@
 -- An operation that begins at rest is alone, and goes on its way.
-use Rattle.std.specs.Prelude.{◌≡◌, ◌+◌, ℕ, Bool, true, false, cond, List, [], ◌∷◌, ◌++◌, Option, Some, None, Ok, refl}
-use Rattle.std.proofs.Common.{sym, ap, subst, ◌∙◌}
-use Rattle.std.proofs.lemmas.Bool.{eq-eqb}
-use Rattle.fm_types.specs.declared.ids.HandleId.{HandleId}
-use Rattle.fm_types.specs.declared.ids.StreamId.{StreamId}
-use Rattle.fm_types.specs.declared.ids.VolumeId.{VolumeId}
-use Rattle.fm_types.specs.declared.status.Status.{Status}
-use Rattle.fm_types.specs.declared.status.Status.TheVariants as status
-use Rattle.fm_data.specs.Params.{is_within_limits}
-use Rattle.fm_data.specs.Requests.{params_of}
-use Rattle.fm_data.specs.declared.params.Params.{Params}
-use Rattle.fm_data.specs.declared.params.Params.TheVariants as params
-use Rattle.fm_data.specs.declared.request.Request.{Request}
-use Rattle.fm_data.specs.declared.request.Request.TheVariants as request
-use Rattle.fm_flow.specs.Record.{FlowRecord}
+use Rattle.fm_local.proofs.Words.{[], ◌∷◌, ◌≡◌, Bool, FlowRecord, List, None, Ok, OpId, Option, Params, Some, Status, VolumeId, WorkerId, World}
+use Rattle.fm_local.proofs.Words.{false, true, worker_at, ℕ, ◌++◌, ◌+◌, ◌∙◌, ap, cond, eq-eqb, refl, subst, sym, is_within_limits, params_of, Request}
+use Rattle.fm_local.proofs.Words.{after_begin, begin_refused, begun_at, begun_on, Begins, handle_at, stream_at, HandleId, StreamId, FileHandle}
+use Rattle.fm_local.proofs.Words.{FileStream, subject_of, IsAtRest}
 use Rattle.fm_flow.specs.Table.{begun_record}
-use Rattle.fm_world.specs.Events.{Begins, begin_refused, after_begin, refused_at, refused_on, begun_at, begun_on}
-use Rattle.fm_world.specs.Files.{handle_at, stream_at, stream_for}
-use Rattle.fm_world.specs.Words.{OpId, WorkerId}
-use Rattle.fm_world.specs.Workers.{worker_at}
-use Rattle.fm_world.specs.World.{World}
-use Rattle.fm_world.specs.declared.file.FileHandle.{FileHandle}
-use Rattle.fm_world.specs.declared.file.FileStream.{FileStream}
+use Rattle.fm_world.specs.Events.{refused_at, refused_on}
+use Rattle.fm_world.specs.Files.{stream_for}
 use Rattle.fm_local.proofs.Carrying.{IsGoing}
-use Rattle.fm_local.specs.Chains.{subject_of}
-use Rattle.fm_local.specs.Requests.{IsAtRest}
 
 -- what begins, at rest: one operation, which has the next number
 pub record Started (old after : World) : Type 0 where
@@ -57,34 +39,34 @@ module _ (old : World) (rest : old.flow.operations ≡ []) where
         stack = refl;
       }
 
-  within : (b : Bool) (m : Option Status) → cond b m (Some status.BadRequest) ≡ None → m ≡ None
+  within : (b : Bool) (m : Option Status) → cond b m (Some Status.BadRequest) ≡ None → m ≡ None
   within true m none = none
   within false m none = cc
 
   started : (what : Request) → begin_refused old what ≡ None → Started old (after_begin old what)
-  started (request.List v) none = record {
+  started (Request.List v) none = record {
     volume = v;
     stream = None;
     handle = None;
     path = None;
-    asks = params.List;
-    operations = ap (λ rs. rs ++ begun_record old.flow.next v None None old.stack.births None params.List ∷ []) rest;
+    asks = Params.List;
+    operations = ap (λ rs. rs ++ begun_record old.flow.next v None None old.stack.births None Params.List ∷ []) rest;
     next = refl;
     workers = refl;
     stack = refl;
   }
-  started (request.Create v path mode) none = record {
+  started (Request.Create v path mode) none = record {
     volume = v;
     stream = Some (stream_for v path old.flow.next old.files);
     handle = None;
     path = Some path;
-    asks = params.Create path mode;
-    operations = ap (λ rs. rs ++ begun_record old.flow.next v (Some (stream_for v path old.flow.next old.files)) None old.stack.births (Some path) (params.Create path mode) ∷ []) rest;
+    asks = Params.Create path mode;
+    operations = ap (λ rs. rs ++ begun_record old.flow.next v (Some (stream_for v path old.flow.next old.files)) None old.stack.births (Some path) (Params.Create path mode) ∷ []) rest;
     next = refl;
     workers = refl;
     stack = refl;
   }
-  started (request.OnHandle h asked) none =
+  started (Request.OnHandle h asked) none =
       on_handle h (params_of asked) (handle_at h old.files) (within (is_within_limits (params_of asked)) (refused_at old (params_of asked) (handle_at h old.files)) none)
 
 -- it is on its way, alone, before its first turn

@@ -1,27 +1,13 @@
 -- Events of one worker leave the others where they are.
-use Rattle.std.specs.Prelude.{◌≡◌, ◌≢◌, ℕ, zero, suc, Bool, true, false, List, Option, Some, Result, Ok, Err, slice_get}
-use Rattle.std.proofs.Common.{ap, ◌∙◌}
+use Rattle.fm_local.proofs.Words.{◌≡◌, Answer, BaseCall, Bool, Completion, Data, Err, FlowAction, List, Ok, OpId, Option, PostVerdict, PreVerdict}
+use Rattle.fm_local.proofs.Words.{Result, Some, Status, WorkerId, World, false, slice_get, suc, true, worker_at, zero, ℕ, ◌∙◌, ap, data_fits}
+use Rattle.fm_local.proofs.Words.{base_fits, post_returned_of, BaseReturnsAt, NextsAt, PostReturnsAt, PreReturnsAt, PreReturnsOver, ReturnsFrom}
+use Rattle.fm_local.proofs.Words.{Unless, base_returned, state_at, BaseReturns, Nexts, PostReturns, PreReturns, LosesLinks, told, after_next, is_idle}
+use Rattle.fm_local.proofs.Words.{put, Worker, Carries, Does}
+use Rattle.std.specs.Prelude.{◌≢◌}
 use Rattle.fm_types.proofs.Lists.{slice_get-set_other}
-use Rattle.fm_types.specs.declared.status.Status.TheVariants as status
-use Rattle.fm_data.specs.Data.{Data, data_fits}
-use Rattle.fm_data.specs.declared.answer.Answer.{Answer}
-use Rattle.fm_data.specs.Calls.{BaseCall}
-use Rattle.fm_data.specs.declared.verdict.Completion.{Completion}
-use Rattle.fm_data.specs.declared.verdict.PreVerdict.{PreVerdict}
-use Rattle.fm_data.specs.declared.verdict.PostVerdict.{PostVerdict}
-use Rattle.fm_flow.specs.Steps.{post_returned_of, base_fits}
-use Rattle.fm_flow.specs.Table.{told}
-use Rattle.fm_flow.specs.declared.action.FlowAction.{FlowAction}
-use Rattle.fm_flow.specs.declared.action.FlowAction.TheVariants as action
-use Rattle.fm_world.specs.Events.{Nexts, NextsAt, PreReturns, PreReturnsAt, PreReturnsOver, BaseReturns, BaseReturnsAt, PostReturns, PostReturnsAt, ReturnsFrom, Unless, pre_step, state_at, base_returned}
-use Rattle.fm_world.specs.Links.{LosesLinks}
-use Rattle.fm_world.specs.Words.{OpId, Status, WorkerId}
-use Rattle.fm_world.specs.Workers.{worker_at, put, is_idle, after_next}
-use Rattle.fm_world.specs.World.{World}
-use Rattle.fm_world.specs.declared.worker.Worker.{Worker}
-use Rattle.fm_world.specs.declared.worker.Worker.TheVariants as place
+use Rattle.fm_world.specs.Events.{pre_step}
 use Rattle.fm_local.proofs.Events.{lost, by_links}
-use Rattle.fm_local.specs.Turns.{Does, Carries}
 
 -- the other workers are where they were
 abbrev pub Beside : WorkerId → List Worker → List Worker → Type 0
@@ -46,13 +32,13 @@ module _ (k : WorkerId) where
   after_one old new h last g = record { beside = λ j other. g.beside j other ∙ h.beside j other; next = g.next ∙ h.next }
 
   after_beside : (o : OpId) (old new : List Worker) (reply : Result FlowAction Status) → new ≡ after_next old k o reply → Beside k old new
-  after_beside o old new (Ok (action.Pre i lent)) is = put_beside old new (place.Pre o i) is
-  after_beside o old new (Ok (action.Base call)) is = put_beside old new (place.Base o) is
-  after_beside o old new (Ok (action.Post i lent completion)) is = put_beside old new (place.Post o i) is
-  after_beside o old new (Ok (action.Drain i completion)) is = put_beside old new (place.Drain o i) is
-  after_beside o old new (Ok action.Moved) is = same_beside old new is
-  after_beside o old new (Ok action.Held) is = same_beside old new is
-  after_beside o old new (Ok action.Done) is = same_beside old new is
+  after_beside o old new (Ok (FlowAction.Pre i lent)) is = put_beside old new (Worker.Pre o i) is
+  after_beside o old new (Ok (FlowAction.Base call)) is = put_beside old new (Worker.Base o) is
+  after_beside o old new (Ok (FlowAction.Post i lent completion)) is = put_beside old new (Worker.Post o i) is
+  after_beside o old new (Ok (FlowAction.Drain i completion)) is = put_beside old new (Worker.Drain o i) is
+  after_beside o old new (Ok FlowAction.Moved) is = same_beside old new is
+  after_beside o old new (Ok FlowAction.Held) is = same_beside old new is
+  after_beside o old new (Ok FlowAction.Done) is = same_beside old new is
   after_beside o old new (Err why) is = same_beside old new is
 
   -- an event that is refused leaves all
@@ -63,7 +49,7 @@ module _ (k : WorkerId) where
 
   pub next_beside : (o : OpId) (reply : Result FlowAction Status) (old new : World) → Nexts old k o reply new → KeepsRest k old new
   unfolding Nexts
-  next_beside o reply old new h = unless_beside status.WrongStep (is_idle (worker_at old.workers k)) reply old new (NextsAt old k o reply new)
+  next_beside o reply old new h = unless_beside Status.WrongStep (is_idle (worker_at old.workers k)) reply old new (NextsAt old k o reply new)
       (λ at.
       let same = lost reply at.0 at.2 new at.4 in
       record {
@@ -72,13 +58,13 @@ module _ (k : WorkerId) where
       }) h
 
   pre_at : (given : PreVerdict) (lent : Data) (result : Result (Unit {0}) Status) (old new : World) (m : Option Worker) → PreReturnsAt old k given lent result new m → KeepsRest k old new
-  pre_at given lent result old new (Some (place.Pre o i)) h =
-      unless_beside status.BadRequest (told (λ r. data_fits r.operation r.path lent) false o old.flow) result old new
+  pre_at given lent result old new (Some (Worker.Pre o i)) h =
+      unless_beside Status.BadRequest (told (λ r. data_fits r.operation r.path lent) false o old.flow) result old new
       ((result ≡ Ok tt) × PreReturnsOver old k o (pre_step old k o i given lent) (state_at old k o i given) new)
       (λ over.
       let same = by_links over.1.0 new over.1.2 in
       record {
-        beside = put_beside old.workers new.workers place.Idle (same.workers ∙ ap (λ (w : World). w.workers) over.1.1.1);
+        beside = put_beside old.workers new.workers Worker.Idle (same.workers ∙ ap (λ (w : World). w.workers) over.1.1.1);
         next = ap (λ t. t.next) same.flow ∙ ap (λ (w : World). w.flow.next) over.1.1.1;
       }) h
   pre_at given lent result old new _ h = world_beside old new h.1
@@ -88,11 +74,11 @@ module _ (k : WorkerId) where
   pre_beside given lent result old new h = pre_at given lent result old new (worker_at old.workers k) h
 
   base_at : (call : BaseCall) (answer : Answer) (result : Result (Unit {0}) Status) (old new : World) (m : Option Worker) → BaseReturnsAt old k call answer result new m → KeepsRest k old new
-  base_at call answer result old new (Some (place.Base o)) h =
-      unless_beside status.BadRequest (told (base_fits call answer) false o old.flow) result old new ((result ≡ Ok tt) × LosesLinks (base_returned old k o call answer) new)
+  base_at call answer result old new (Some (Worker.Base o)) h =
+      unless_beside Status.BadRequest (told (base_fits call answer) false o old.flow) result old new ((result ≡ Ok tt) × LosesLinks (base_returned old k o call answer) new)
       (λ over.
       let same = by_links (base_returned old k o call answer) new over.1 in
-      record { beside = put_beside old.workers new.workers place.Idle same.workers; next = ap (λ t. t.next) same.flow }) h
+      record { beside = put_beside old.workers new.workers Worker.Idle same.workers; next = ap (λ t. t.next) same.flow }) h
   base_at call answer result old new _ h = world_beside old new h.1
 
   pub base_beside : (call : BaseCall) (answer : Answer) (result : Result (Unit {0}) Status) (old new : World) → BaseReturns old k call answer result new → KeepsRest k old new
@@ -101,11 +87,11 @@ module _ (k : WorkerId) where
 
   post_at : (given : PostVerdict) (lent : Data) (result : Result (Unit {0}) Status) (old new : World) (m : Option Worker) → PostReturnsAt old k given (Some lent) result new m
       → KeepsRest k old new
-  post_at given lent result old new (Some (place.Post o i)) h =
-      unless_beside status.BadRequest (told (λ r. data_fits r.operation r.path lent) false o old.flow) result old new
+  post_at given lent result old new (Some (Worker.Post o i)) h =
+      unless_beside Status.BadRequest (told (λ r. data_fits r.operation r.path lent) false o old.flow) result old new
       ((result ≡ Ok tt) × ReturnsFrom old k o (post_returned_of given lent) old.contexts new)
       (λ over. record {
-        beside = put_beside old.workers new.workers place.Idle (ap (λ (w : World). w.workers) over.1.1);
+        beside = put_beside old.workers new.workers Worker.Idle (ap (λ (w : World). w.workers) over.1.1);
         next = ap (λ (w : World). w.flow.next) over.1.1;
       }) h
   post_at given lent result old new _ h = world_beside old new h.1
@@ -117,14 +103,14 @@ module _ (k : WorkerId) where
   module _ {F D : Type 0} (pre : F → Data → PreVerdict → Data → Type 0) (post : F → Data → Completion → PostVerdict → Data → Type 0) (carries : D → BaseCall → Answer → D → Type 0)
       (filters : ℕ → Option F) (o : OpId) where
     does_beside : (reply : Result FlowAction Status) (mid : World) (d : D) (new : World) (e : D) → Does pre post carries filters k o reply mid d new e → KeepsRest k mid new
-    does_beside (Ok (action.Pre i lent)) mid d new e h = pre_beside h.0 h.1 h.2 mid new h.5
-    does_beside (Ok (action.Base call)) mid d new e h = base_beside call h.0 h.1 mid new h.4
-    does_beside (Ok (action.Post i lent completion)) mid d new e h = post_beside h.0 h.1 h.2 mid new h.5
-    does_beside (Ok action.Moved) mid d new e h = world_beside mid new h.0
+    does_beside (Ok (FlowAction.Pre i lent)) mid d new e h = pre_beside h.0 h.1 h.2 mid new h.5
+    does_beside (Ok (FlowAction.Base call)) mid d new e h = base_beside call h.0 h.1 mid new h.4
+    does_beside (Ok (FlowAction.Post i lent completion)) mid d new e h = post_beside h.0 h.1 h.2 mid new h.5
+    does_beside (Ok FlowAction.Moved) mid d new e h = world_beside mid new h.0
     does_beside _ mid d new e h = absurd h
 
     pub carries_beside : (n : ℕ) (old : World) (d : D) (new : World) (e : D) → Carries pre post carries filters k o n old d new e → KeepsRest k old new
-    carries_beside zero old d new e h = next_beside o (Ok action.Done) old new h.0
+    carries_beside zero old d new e h = next_beside o (Ok FlowAction.Done) old new h.0
     carries_beside (suc n) old d new e h =
         after_one old h.2.1 (next_beside o h.2.0 old h.2.1 h.2.2) new
         (after_one h.2.1 h.0 (does_beside h.2.0 h.2.1 d h.0 h.1 h.2.3) new (carries_beside n h.0 h.1 new e h.3))

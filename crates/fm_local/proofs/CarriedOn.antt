@@ -1,20 +1,8 @@
 -- A manager that makes turn after turn of an operation carries it to its end.
-use Rattle.std.specs.Prelude.{◌≡◌, ◌+◌, ◌≤◌, ℕ, suc, Option, refl}
-use Rattle.std.proofs.Common.{sym, ap, subst, ◌∙◌, arith}
-use Rattle.fm_base.specs.Folders.{Folder}
-use Rattle.fm_data.specs.Data.{Data}
-use Rattle.fm_data.specs.declared.verdict.Completion.{Completion}
-use Rattle.fm_data.specs.declared.verdict.PreVerdict.{PreVerdict}
-use Rattle.fm_data.specs.declared.verdict.PostVerdict.{PostVerdict}
-use Rattle.fm_world.specs.Words.{OpId, WorkerId}
+use Rattle.fm_local.proofs.Words.{◌≡◌, ◌≤◌, Completion, Data, Folder, LocalManager, OpId, Option, PostVerdict, PreVerdict, WorkerId, suc, ℕ, ◌+◌, ◌∙◌}
+use Rattle.fm_local.proofs.Words.{ap, arith, refl, subst, sym, ArePlainFilters, IsBegun, IsDoneAt, BasesCarry, numbered, Filters, Turn}
+use Rattle.fm_local.specs.Actions.{CarriesIn, HasTurned, ResumesNone, TurnsAs}
 use Rattle.fm_local.proofs.Lasting.{goes_on, ends_so, never_held, few_turns}
-use Rattle.fm_local.specs.Actions.{ArePlainFilters, CarriesIn, IsBegun, HasTurned, IsDoneAt, ResumesNone, TurnsAs}
-use Rattle.fm_local.specs.Bases.{BasesCarry}
-use Rattle.fm_local.specs.Managers.{numbered}
-use Rattle.fm_local.specs.declared.filters.Filters.{Filters}
-use Rattle.fm_local.specs.declared.manager.LocalManager.{LocalManager}
-use Rattle.fm_local.specs.declared.requests.Turn.{Turn}
-use Rattle.fm_local.specs.declared.requests.Turn.TheVariants as turn
 
 module _ {F B : Type 0} (pre : F → Data → PreVerdict → Data → Type 0) (post : F → Data → Completion → PostVerdict → Data → Type 0) (is_quiet : F → Type 0)
     (folder : B → Option Folder) (faults : B → ℕ) (k : WorkerId) (o : OpId) where
@@ -43,7 +31,7 @@ module _ {F B : Type 0} (pre : F → Data → PreVerdict → Data → Type 0) (p
   gone_none old = record { kept = refl; calm = λ plain. refl; turned = λ plain began. (refl, refl); at_end = λ done. (refl, refl) }
 
   module _ (old now new : LocalManager F B) (n : ℕ) (gone : HasGone old n now) (ended : Turn) (promised : TurnPromises now ended new) (calm : Calm now new) (kept : Keeps now new)
-      (at_once : IsDoneAt k o now.desk.state → (ended ≡ turn.Done) × (new ≡ now)) where
+      (at_once : IsDoneAt k o now.desk.state → (ended ≡ Turn.Done) × (new ≡ now)) where
     same_filters : now.filters ≡ old.filters
     same_filters = ap (λ (m : LocalManager F B). m.filters) gone.kept
 
@@ -62,19 +50,19 @@ module _ {F B : Type 0} (pre : F → Data → PreVerdict → Data → Type 0) (p
         (promised (plain_now plain))
 
     -- where nothing was left to do, that was said at once
-    pub done_at_once : IsDoneAt k o old.desk.state → (ended ≡ turn.Done) × (new ≡ old)
+    pub done_at_once : IsDoneAt k o old.desk.state → (ended ≡ Turn.Done) × (new ≡ old)
     done_at_once done =
         let g = gone.at_end done in
         let d = at_once (subst (λ (m : LocalManager F B). IsDoneAt k o m.desk.state) (sym g.1) done) in
         (d.0, d.1 ∙ g.1)
 
-    more_not_done : ended ≡ turn.Goes → IsDoneAt k o old.desk.state → (n + 1 ≡ 0) × (new ≡ old)
+    more_not_done : ended ≡ Turn.Goes → IsDoneAt k o old.desk.state → (n + 1 ≡ 0) × (new ≡ old)
     more_not_done is done =
-        let clash : turn.Done ≡ turn.Goes = sym (done_at_once done).0 ∙ is in
+        let clash : Turn.Done ≡ Turn.Goes = sym (done_at_once done).0 ∙ is in
         cc
 
     -- there is more to do
-    pub gone_more : ended ≡ turn.Goes → HasGone old (n + 1) new
+    pub gone_more : ended ≡ Turn.Goes → HasGone old (n + 1) new
     gone_more is = record {
       kept = kept_both;
       calm = calm_both;
@@ -88,28 +76,28 @@ module _ {F B : Type 0} (pre : F → Data → PreVerdict → Data → Type 0) (p
     }
 
     -- it ended
-    by_end : (t : Turn) → ended ≡ t → (t ≡ turn.Goes → ⊥) → CarriesIn pre post is_quiet folder faults k o old t new
-    by_end turn.Goes is not plain began = absurd (not refl)
-    by_end turn.Held is not plain began =
+    by_end : (t : Turn) → ended ≡ t → (t ≡ Turn.Goes → ⊥) → CarriesIn pre post is_quiet folder faults k o old t new
+    by_end Turn.Goes is not plain began = absurd (not refl)
+    by_end Turn.Held is not plain began =
         absurd (never_held pre post is_quiet (BasesCarry folder faults) (numbered old.filters) plain k o old.desk.state began n old.bases.items now.desk.state now.bases.items new.desk.state new.bases.items
         (gone.turned plain began)
         (subst (λ (t : Turn). TurnsAs pre post (BasesCarry folder faults) (numbered old.filters) k o now.desk.state now.bases.items t new.desk.state new.bases.items) is (turns plain)))
-    by_end turn.Done is not plain began =
+    by_end Turn.Done is not plain began =
         let whole =
         ends_so pre post is_quiet (BasesCarry folder faults) (numbered old.filters) plain k o old.desk.state began n old.bases.items now.desk.state now.bases.items new.desk.state new.bases.items
         (gone.turned plain began)
         (subst (λ (t : Turn). TurnsAs pre post (BasesCarry folder faults) (numbered old.filters) k o now.desk.state now.bases.items t new.desk.state new.bases.items) is (turns plain)) in
         (refl, (n, whole))
 
-    pub gone_to_end : (ended ≡ turn.Goes → ⊥) → CarriesIn pre post is_quiet folder faults k o old ended new
+    pub gone_to_end : (ended ≡ Turn.Goes → ⊥) → CarriesIn pre post is_quiet folder faults k o old ended new
     gone_to_end not = by_end ended refl not
 
   -- there are never so many turns
-  pub gone_too_far : (old now : LocalManager F B) (n : ℕ) → HasGone old n now → 66 ≤ n → CarriesIn pre post is_quiet folder faults k o old turn.Held now
+  pub gone_too_far : (old now : LocalManager F B) (n : ℕ) → HasGone old n now → 66 ≤ n → CarriesIn pre post is_quiet folder faults k o old Turn.Held now
   gone_too_far old now n gone many plain began =
       let few : n ≤ 65 =
       few_turns pre post is_quiet (BasesCarry folder faults) (numbered old.filters) plain k o old.desk.state began n old.bases.items now.desk.state now.bases.items (gone.turned plain began) in
       absurd (omega (arith, few, many))
 
-  pub far_not_done : (old now : LocalManager F B) (n : ℕ) → HasGone old n now → 66 ≤ n → IsDoneAt k o old.desk.state → (turn.Held ≡ turn.Done) × (now ≡ old)
+  pub far_not_done : (old now : LocalManager F B) (n : ℕ) → HasGone old n now → 66 ≤ n → IsDoneAt k o old.desk.state → (Turn.Held ≡ Turn.Done) × (now ≡ old)
   far_not_done old now n gone many done = absurd (omega (arith, (gone.at_end done).0, many))

@@ -1,72 +1,36 @@
 -- Each turn of an operation that is alone leaves no more of its fold than there was.
-use Rattle.std.specs.Prelude.{◌≡◌, ◌==◌, ◌||◌, ℕ, suc, Bool, true, false, cond, not, List, [], ◌∷◌, ◌++◌, length, map, Option, Some, None, unwrap_or, is_some, IfSome, Result, Ok, Err, slice_get, refl}
-use Rattle.std.proofs.Common.{sym, ap, ap₂, subst, ◌∙◌, arith}
-use Rattle.std.proofs.lemmas.List.{length-append, length-map}
+use Rattle.fm_local.proofs.Words.{[], ◌∷◌, ◌≡◌, Answer, BaseCall, Bool, Completion, Data, Err, FlowAction, FlowRecord, Instance, InstanceId, List}
+use Rattle.fm_local.proofs.Words.{None, Ok, OpId, Operation, Option, Params, PostVerdict, PreVerdict, Result, Some, StackWorld, Status, WorkerId}
+use Rattle.fm_local.proofs.Words.{World, bare_answer, false, length, slice_get, suc, true, worker_at, ℕ, ◌++◌, ◌==◌, ◌||◌, ◌∙◌, ap, ap₂, arith, cond}
+use Rattle.fm_local.proofs.Words.{is_some, length-append, map, not, refl, subst, sym, unwrap_or, answered_data, fresh_data, fit, base_counted, times}
+use Rattle.fm_local.proofs.Words.{sees, IsCourse, ascend, base_returned_of, call_base, call_of, call_post, call_pre, descend, give_post, lent_answer}
+use Rattle.fm_local.proofs.Words.{may_take, next_at, next_of, post_returned_of, pre_returned_of, turn, unwound, is_number, verdict_counted, Below}
+use Rattle.fm_local.proofs.Words.{Ascending, has_post, is_stopping_row, FileTable, IsSound, Ask, Descending, Entry, HandleId, PreState, Stage}
+use Rattle.fm_local.proofs.Words.{is_create, last_visited, owed, visited, after_next, put, Worker, IsPlainFilter, BaseMay, Subject, Under, chain_of}
+use Rattle.fm_local.proofs.Words.{filter_in, filter_in_row, known_answer, subject_of, Chain, ArePlain, NoneStops, under, Does, Turns, Visits}
+use Rattle.std.specs.Prelude.{IfSome}
+use Rattle.std.proofs.lemmas.List.{length-map}
 use Rattle.fm_types.proofs.Firsts.{found_holds}
 use Rattle.fm_types.proofs.Lists.{all_at}
-use Rattle.fm_types.specs.declared.operation.Operation.{Operation}
-use Rattle.fm_types.specs.declared.operation.Operation.TheVariants as kind
-use Rattle.fm_types.specs.declared.status.Status.{Status}
-use Rattle.fm_types.specs.declared.status.Status.TheVariants as status
-use Rattle.fm_data.specs.Data.{Data, fresh_data, answered_data}
-use Rattle.fm_data.specs.Params.{fit}
-use Rattle.fm_data.specs.declared.answer.Answer.{Answer}
-use Rattle.fm_data.specs.Calls.{BaseCall}
-use Rattle.fm_data.specs.declared.params.Params.{Params}
-use Rattle.fm_data.specs.declared.verdict.Completion.{Completion}
-use Rattle.fm_data.specs.declared.verdict.PreVerdict.{PreVerdict}
-use Rattle.fm_data.specs.declared.verdict.PreVerdict.TheVariants as verdict
-use Rattle.fm_data.specs.declared.verdict.PostVerdict.{PostVerdict}
-use Rattle.fm_data.specs.declared.verdict.PostVerdict.TheVariants as end
-use Rattle.fm_filter.specs.Plain.{IsPlainFilter, IsPlainPre, IsPlainPost}
-use Rattle.fm_stack.specs.StackWorld.{StackWorld}
-use Rattle.fm_stack.specs.declared.instance.Instance.{Instance}
 use Rattle.fm_flow.proofs.Soundness.{at_stage}
-use Rattle.fm_types.specs.declared.ids.HandleId.{HandleId}
-use Rattle.fm_flow.specs.Answered.{bare_answer, base_counted}
-use Rattle.fm_flow.specs.Creates.{is_create}
-use Rattle.fm_flow.specs.Entries.{owed, visited, last_visited, times, settle_pre, settle_post}
-use Rattle.fm_flow.specs.Record.{FlowRecord}
+use Rattle.fm_flow.specs.Entries.{settle_pre, settle_post}
 use Rattle.fm_flow.specs.Sound as flow
-use Rattle.fm_flow.specs.Sound.{IsCourse}
-use Rattle.fm_flow.specs.Steps.{next_of, pre_entry, post_entry, call_pre, call_base, call_of, call_post, with_visit, with_base, bare_ask, pre_returned_of, base_returned_of, post_returned_of, ascend, descend, give_post, unwound, lent_answer, next_at, turn, may_take, Turned as Turn}
-use Rattle.fm_flow.specs.Seen.{sees}
-use Rattle.fm_flow.specs.Table.{is_number}
-use Rattle.fm_flow.specs.Verdict.{verdict_counted, completed_as}
-use Rattle.fm_flow.specs.declared.action.Below.{Below}
-use Rattle.fm_flow.specs.declared.action.Below.TheVariants as below
-use Rattle.fm_flow.specs.declared.action.FlowAction.{FlowAction}
-use Rattle.fm_flow.specs.declared.action.FlowAction.TheVariants as action
-use Rattle.fm_flow.specs.declared.entry.Ask.{Ask}
-use Rattle.fm_flow.specs.declared.entry.Entry.{Entry}
-use Rattle.fm_flow.specs.declared.entry.Entry.TheVariants as entry
-use Rattle.fm_flow.specs.declared.entry.PostState.TheVariants as post
-use Rattle.fm_flow.specs.declared.entry.PreState.{PreState}
-use Rattle.fm_flow.specs.declared.entry.PreState.TheVariants as pre
-use Rattle.fm_flow.specs.declared.stage.Stage.{Stage}
-use Rattle.fm_flow.specs.declared.stage.Stage.TheVariants.{Descending, Ascending}
+use Rattle.fm_flow.specs.Steps.{pre_entry, post_entry, with_visit, with_base, bare_ask, Turned as Turn}
+use Rattle.fm_flow.specs.Verdict.{completed_as}
+use Rattle.fm_flow.specs.declared.entry.PostState.{PostState}
 use Rattle.fm_world.proofs.Descents.{last_of-push, room_visits}
 use Rattle.fm_world.proofs.Turns.{may_visit}
-use Rattle.fm_world.specs.Events.{base_known, filed_base, filed_next, filed_record}
-use Rattle.fm_world.specs.Events.{drains_next, has_post, LiesBelow, AnswersBelow, is_stopping_row, is_stopping_ask}
-use Rattle.fm_world.specs.Files.{FileTable, after_base, after_pre}
-use Rattle.fm_world.specs.Sound.{IsSound, IsAmong}
-use Rattle.fm_world.specs.Words.{InstanceId, OpId, WorkerId}
-use Rattle.fm_world.specs.Workers.{worker_at, put, after_next}
-use Rattle.fm_world.specs.declared.worker.Worker.{Worker}
-use Rattle.fm_world.specs.World.{World}
-use Rattle.fm_world.specs.declared.worker.Worker.TheVariants as place
+use Rattle.fm_world.specs.Events.{base_known, filed_base, filed_next, filed_record, drains_next, LiesBelow, AnswersBelow, is_stopping_ask}
+use Rattle.fm_world.specs.Files.{after_base, after_pre}
+use Rattle.fm_world.specs.Sound.{IsAmong}
+use Rattle.fm_filter.specs.Plain.{IsPlainPre, IsPlainPost}
+use Rattle.fm_local.specs.Chains.{PreMay, PostMay, completed_under, BaseMayBy}
 use Rattle.fm_local.proofs.Alone.{Alone, found_alone, told_alone, known_alone, none_created}
 use Rattle.fm_local.proofs.Events.{next_leaves, IsLeft, pre_leaves, base_leaves, post_leaves, and_none, placed}
 use Rattle.fm_local.proofs.Fitting.{fits_back, call_back}
-use Rattle.fm_local.proofs.Turning.{Leaves, IsPlainState, left_asked, left_passed, left_completed, left_bare, left_base, left_known, left_post, PutBack, put_back}
+use Rattle.fm_local.proofs.Turning.{Leaves, IsPlainState, left_asked, left_passed, left_completed, left_bare, left_base, left_known, left_post}
+use Rattle.fm_local.proofs.Turning.{PutBack, put_back}
 use Rattle.fm_local.proofs.Visits.{visits_after}
-use Rattle.fm_local.specs.Chains.{Under, Subject, subject_of, PreMay, PostMay, filter_in, filter_in_row, completed_under, known_answer, BaseMay, BaseMayBy, chain_of}
-use Rattle.fm_local.specs.Folds.{Chain}
-use Rattle.fm_local.specs.Left.{ArePlain}
-use Rattle.fm_local.specs.Turns.{Does, Turns}
-use Rattle.fm_local.specs.Requests.{under, NoneStops}
-use Rattle.fm_local.specs.Visits.{Visits}
 
 -- the operation is between two callbacks
 abbrev pub is_between : Stage → Bool
@@ -82,7 +46,7 @@ pub record IsOn (x : Subject) (r : FlowRecord) : Type 0 where
 -- an operation that is on its way, alone, between two callbacks
 pub record IsGoing (k : WorkerId) (o : OpId) (x : Subject) (r : FlowRecord) (w : World) : Type 0 where
   pub alone : Alone o r w.flow
-  pub idle : worker_at w.workers k ≡ Some place.Idle
+  pub idle : worker_at w.workers k ≡ Some Worker.Idle
   pub uncollected : r.collected ≡ false
   pub between : is_between r.stage ≡ true
   pub on : IsOn x r
@@ -128,7 +92,7 @@ settled_more f es e = length-map (es ++ e ∷ []) f ∙ one_more es e
 -- and an entry more, where parameters are at hand
 given_more : (k : WorkerId) (ask : Ask) (u : FlowRecord) (m : Option Params) (q : Params) → m ≡ Some q → length (give_post k ask u m).after.entries ≡ suc (length u.entries)
 given_more k ask u None q has = cc
-given_more k ask u (Some p) q has = one_more u.entries (post_entry k ask.instance post.Running)
+given_more k ask u (Some p) q has = one_more u.entries (post_entry k ask.instance PostState.Running)
 
 some_there : (m : Option Params) → is_some m ≡ true → (p : Params) × (m ≡ Some p)
 some_there None is = cc
@@ -165,35 +129,35 @@ module _ {F D : Type 0} (pre_may : F → Data → PreVerdict → Data → Type 0
       by_row None may = subst IsPlainPre (sym may.0) tt
       by_row (Some row) may = by_filter row.filter.0 (filters row.filter.0) refl may
 
-  post_plain : (i : ℕ) (lent : Data) (completion : Completion) (given : PostVerdict) (back : Data) → PostMay post_may (filter_in filters s i) lent completion given back → given ≡ end.Finished
+  post_plain : (i : ℕ) (lent : Data) (completion : Completion) (given : PostVerdict) (back : Data) → PostMay post_may (filter_in filters s i) lent completion given back → given ≡ PostVerdict.Finished
   post_plain i lent completion given back may = by_row (slice_get s.instances i) may
     where
-      finished : (given : PostVerdict) → IsPlainPost given → given ≡ end.Finished
-      finished end.Finished p = refl
-      finished end.MoreProcessing p = absurd p
+      finished : (given : PostVerdict) → IsPlainPost given → given ≡ PostVerdict.Finished
+      finished PostVerdict.Finished p = refl
+      finished PostVerdict.MoreProcessing p = absurd p
 
-      by_filter : (n : ℕ) (m : Option F) → filters n ≡ m → PostMay post_may m lent completion given back → given ≡ end.Finished
+      by_filter : (n : ℕ) (m : Option F) → filters n ≡ m → PostMay post_may m lent completion given back → given ≡ PostVerdict.Finished
       by_filter n None at may = may.0
       by_filter n (Some f) at may = finished given ((plain n f at).ascends lent completion given back may)
 
-      by_row : (m : Option Instance) → PostMay post_may (filter_in_row filters m) lent completion given back → given ≡ end.Finished
+      by_row : (m : Option Instance) → PostMay post_may (filter_in_row filters m) lent completion given back → given ≡ PostVerdict.Finished
       by_row None may = may.0
       by_row (Some row) may = by_filter row.filter.0 (filters row.filter.0) refl may
 
   -- a plain verdict that counts is plain
   state_plain : (given : PreVerdict) (operation : Operation) (has : Bool) → IsPlainPre given → IsPlainState (verdict_counted given operation has)
-  state_plain (verdict.WithCallback completion) operation true p = tt
-  state_plain (verdict.WithCallback completion) operation false p = tt
-  state_plain (verdict.Synchronize completion) operation has p = absurd p
-  state_plain verdict.NoCallback operation has p = tt
-  state_plain (verdict.Complete why) operation has p = ended operation
+  state_plain (PreVerdict.WithCallback completion) operation true p = tt
+  state_plain (PreVerdict.WithCallback completion) operation false p = tt
+  state_plain (PreVerdict.Synchronize completion) operation has p = absurd p
+  state_plain PreVerdict.NoCallback operation has p = tt
+  state_plain (PreVerdict.Complete why) operation has p = ended operation
     where
       ended : (operation : Operation) → IsPlainState (completed_as why operation)
-      ended kind.Cleanup = tt
-      ended kind.Close = tt
-      ended kind.Create = tt
+      ended Operation.Cleanup = tt
+      ended Operation.Close = tt
+      ended Operation.Create = tt
       ended _ = tt
-  state_plain verdict.Pending operation has p = absurd p
+  state_plain PreVerdict.Pending operation has p = absurd p
 
   module _ (r : FlowRecord) (old : World) (d : D) (going : IsGoing k o x r old) (sound : IsSound old) (at_stack : old.stack ≡ s) (p : Params) (has : r.params ≡ Some p) where
     own : flow.IsSound r
@@ -214,9 +178,9 @@ module _ {F D : Type 0} (pre_may : F → Data → PreVerdict → Data → Type 0
       of_subject : (next : FlowRecord) (w : Under D) → Leaves (chain (subject_of r)) (Meets r) r next (under d old) w → Leaves (chain x) (Meets r) r next (under d old) w
       of_subject next w h = subst (λ (y : Subject). Leaves (chain y) (Meets r) r next (under d old) w) (going.on.all st) h
 
-      module _ (i : InstanceId) (lies : LiesBelow s r (below.Instance i true)) where
+      module _ (i : InstanceId) (lies : LiesBelow s r (Below.Instance i true)) where
         fresh : times i.0 (visited r.entries) ≡ 0
-        fresh = (may_visit s r (below.Instance i true) among lies).0
+        fresh = (may_visit s r (Below.Instance i true) among lies).0
 
         further : (below : List ℕ) × Visits s r.volume r.born r.operation (Some i.0) below
         further =
@@ -230,47 +194,47 @@ module _ {F D : Type 0} (pre_may : F → Data → PreVerdict → Data → Type 0
         module _ (given : PreVerdict) (back : Data) (may : PreMay pre_may (filter_in filters s i.0) (fresh_data p) given back) (same : back.received ≡ p) (new : World) (e : D) (end_is : e ≡ d) where
           by_state : (state : PreState) → verdict_counted given r.operation (has_post s (slice_get s.instances i.0) r.operation) ≡ state → IsPlainState state
               → IsLeft k o (pre_returned_of state back (call_pre k i r (Some p)).after) s (after_pre state r.operation r.stream false old.files) new → Turned r old d new e
-          by_state (pre.Asked completion) counted plain left =
-              let next = pre_returned_of (pre.Asked completion) back (call_pre k i r (Some p)).after in
-              let less = left_asked (chain (subject_of r)) (Meets r) r p has (under d old) k i st course fresh going.asks meets given back (pre.Asked completion) (sym lies.1) same may counted completion refl in
+          by_state (PreState.Asked completion) counted plain left =
+              let next = pre_returned_of (PreState.Asked completion) back (call_pre k i r (Some p)).after in
+              let less = left_asked (chain (subject_of r)) (Meets r) r p has (under d old) k i st course fresh going.asks meets given back (PreState.Asked completion) (sym lies.1) same may counted completion refl in
               let ends : under d old ≡ under e new = ap₂ (λ dev fs. record { device = dev; files = fs }) (sym end_is) (sym left.filed) in
               record {
                 next = next;
                 going = record { alone = left.alone; idle = left.idle; uncollected = going.uncollected; between = refl; on = record { kind = going.on.kind; all = λ h. going.on.all st }; asks = less.plain };
                 stays = left.stays ∙ sym at_stack;
                 same = (refl, refl);
-                longer = settled_more (settle_pre (pre.Asked completion)) r.entries (pre_entry k i pre.Running r);
+                longer = settled_more (settle_pre (PreState.Asked completion)) r.entries (pre_entry k i PreState.Running r);
                 less = subst (λ (w : Under D). Leaves (chain x) (Meets r) r next (under d old) w) ends (of_subject next (under d old) less);
               }
-          by_state pre.Passed counted plain left =
-              let next = pre_returned_of pre.Passed back (call_pre k i r (Some p)).after in
-              let less = left_passed (chain (subject_of r)) (Meets r) r p has (under d old) k i st course fresh going.asks meets given back pre.Passed (sym lies.1) same may counted refl in
+          by_state PreState.Passed counted plain left =
+              let next = pre_returned_of PreState.Passed back (call_pre k i r (Some p)).after in
+              let less = left_passed (chain (subject_of r)) (Meets r) r p has (under d old) k i st course fresh going.asks meets given back PreState.Passed (sym lies.1) same may counted refl in
               let ends : under d old ≡ under e new = ap₂ (λ dev fs. record { device = dev; files = fs }) (sym end_is) (sym left.filed) in
               record {
                 next = next;
                 going = record { alone = left.alone; idle = left.idle; uncollected = going.uncollected; between = refl; on = record { kind = going.on.kind; all = λ h. going.on.all st }; asks = less.plain };
                 stays = left.stays ∙ sym at_stack;
                 same = (refl, refl);
-                longer = settled_more (settle_pre pre.Passed) r.entries (pre_entry k i pre.Running r);
+                longer = settled_more (settle_pre PreState.Passed) r.entries (pre_entry k i PreState.Running r);
                 less = subst (λ (w : Under D). Leaves (chain x) (Meets r) r next (under d old) w) ends (of_subject next (under d old) less);
               }
-          by_state (pre.Completed why) counted plain left =
-              let next = pre_returned_of (pre.Completed why) back (call_pre k i r (Some p)).after in
+          by_state (PreState.Completed why) counted plain left =
+              let next = pre_returned_of (PreState.Completed why) back (call_pre k i r (Some p)).after in
               let w = completed_under (subject_of r) why (under d old) in
-              let less = left_completed (chain (subject_of r)) (Meets r) r p has (under d old) k i st course fresh going.asks meets given back (pre.Completed why) (sym lies.1) same may counted why refl further.0 further.1 in
+              let less = left_completed (chain (subject_of r)) (Meets r) r p has (under d old) k i st course fresh going.asks meets given back (PreState.Completed why) (sym lies.1) same may counted why refl further.0 further.1 in
               let ends : w ≡ under e new = ap₂ (λ dev fs. record { device = dev; files = fs }) (sym end_is) (sym left.filed) in
               record {
                 next = next;
                 going = record { alone = left.alone; idle = left.idle; uncollected = going.uncollected; between = refl; on = record { kind = going.on.kind; all = λ h. going.on.all st }; asks = less.plain };
                 stays = left.stays ∙ sym at_stack;
                 same = (refl, refl);
-                longer = settled_more (settle_pre (pre.Completed why)) r.entries (pre_entry k i pre.Running r);
+                longer = settled_more (settle_pre (PreState.Completed why)) r.entries (pre_entry k i PreState.Running r);
                 less = subst (λ (v : Under D). Leaves (chain x) (Meets r) r next (under d old) v) ends (of_subject next w less);
               }
           by_state _ counted plain left = absurd plain
 
-        visit_turn : (mid : World) → Alone o (call_pre k i r (Some p)).after mid.flow → worker_at mid.workers k ≡ Some (place.Pre o i) → mid.stack ≡ s → mid.files ≡ old.files
-            → (new : World) (e : D) → Does pre_may post_may carries filters k o (Ok (action.Pre i (fresh_data p))) mid d new e → Turned r old d new e
+        visit_turn : (mid : World) → Alone o (call_pre k i r (Some p)).after mid.flow → worker_at mid.workers k ≡ Some (Worker.Pre o i) → mid.stack ≡ s → mid.files ≡ old.files
+            → (new : World) (e : D) → Does pre_may post_may carries filters k o (Ok (FlowAction.Pre i (fresh_data p))) mid d new e → Turned r old d new e
         visit_turn mid alone worker stack files new e does =
             let given = does.0 in
             let back = does.1 in
@@ -284,11 +248,11 @@ module _ {F D : Type 0} (pre_may : F → Data → PreVerdict → Data → Type 0
             (subst (λ (f : FileTable). IsLeft k o (pre_returned_of (State s) back (call_pre k i r (Some p)).after) s (after_pre (State s) r.operation r.stream false f) new) files left')
 
       -- ---- an instance that is passed without a call
-      bare_turn : (i : InstanceId) → LiesBelow s r (below.Instance i false) → (mid : World) → Alone o (with_visit k i bare_ask r) mid.flow → worker_at mid.workers k ≡ Some place.Idle
+      bare_turn : (i : InstanceId) → LiesBelow s r (Below.Instance i false) → (mid : World) → Alone o (with_visit k i bare_ask r) mid.flow → worker_at mid.workers k ≡ Some Worker.Idle
           → mid.stack ≡ s → mid.files ≡ old.files → (new : World) (e : D) → new ≡ mid → e ≡ d → Turned r old d new e
       bare_turn i lies mid alone idle stack files new e same end_is =
           let next = with_visit k i bare_ask r in
-          let fresh = (may_visit s r (below.Instance i false) among lies).0 in
+          let fresh = (may_visit s r (Below.Instance i false) among lies).0 in
           let less = left_bare (chain (subject_of r)) (Meets r) r p has (under d old) k i st course fresh going.asks (λ below v. (lies.0, v)) (sym lies.1) in
           let ends : under d old ≡ under e new =
           ap₂ (λ dev fs. record { device = dev; files = fs }) (sym end_is) (sym (ap (λ (w : World). w.files) same ∙ files)) in
@@ -296,7 +260,7 @@ module _ {F D : Type 0} (pre_may : F → Data → PreVerdict → Data → Type 0
             next = next;
             going = record {
               alone = subst (λ (w : World). Alone o next w.flow) (sym same) alone;
-              idle = subst (λ (w : World). worker_at w.workers k ≡ Some place.Idle) (sym same) idle;
+              idle = subst (λ (w : World). worker_at w.workers k ≡ Some Worker.Idle) (sym same) idle;
               uncollected = going.uncollected;
               between = refl;
               on = record { kind = going.on.kind; all = λ h. going.on.all st };
@@ -310,8 +274,8 @@ module _ {F D : Type 0} (pre_may : F → Data → PreVerdict → Data → Type 0
 
       -- ---- the base
       module _ (lies : Visits s r.volume r.born r.operation (last_visited r.entries) []) where
-        base_turn : base_known old.files old.flow r ≡ None → (mid : World) → Alone o (call_base r (Some p)).after mid.flow → worker_at mid.workers k ≡ Some (place.Base o)
-            → mid.stack ≡ s → mid.files ≡ old.files → (new : World) (e : D) → Does pre_may post_may carries filters k o (Ok (action.Base (call_of r p))) mid d new e → Turned r old d new e
+        base_turn : base_known old.files old.flow r ≡ None → (mid : World) → Alone o (call_base r (Some p)).after mid.flow → worker_at mid.workers k ≡ Some (Worker.Base o)
+            → mid.stack ≡ s → mid.files ≡ old.files → (new : World) (e : D) → Does pre_may post_may carries filters k o (Ok (FlowAction.Base (call_of r p))) mid d new e → Turned r old d new e
         base_turn unknown mid alone worker stack files new e does =
             let answer = does.0 in
             let handle : FileTable → HandleId = λ f. record { 0 = f.next } in
@@ -327,11 +291,11 @@ module _ {F D : Type 0} (pre_may : F → Data → PreVerdict → Data → Type 0
               going = record { alone = left'.alone; idle = left'.idle; uncollected = going.uncollected; between = refl; on = record { kind = going.on.kind; all = λ h. cc }; asks = less.plain };
               stays = left'.stays ∙ stack ∙ sym at_stack;
               same = (refl, refl);
-              longer = one_more r.entries (entry.Base (base_counted p answer (handle old.files)).status (base_counted p answer (handle old.files)).information);
+              longer = one_more r.entries (Entry.Base (base_counted p answer (handle old.files)).status (base_counted p answer (handle old.files)).information);
               less = of_subject next (under e new) less;
             }
 
-        known_turn : (why : Status) → base_known old.files old.flow r ≡ Some why → (mid : World) → Alone o (with_base (bare_answer why) r) mid.flow → worker_at mid.workers k ≡ Some place.Idle
+        known_turn : (why : Status) → base_known old.files old.flow r ≡ Some why → (mid : World) → Alone o (with_base (bare_answer why) r) mid.flow → worker_at mid.workers k ≡ Some Worker.Idle
             → mid.stack ≡ s → mid.files ≡ filed_base old o mid.flow why → (new : World) (e : D) → new ≡ mid → e ≡ d → Turned r old d new e
         known_turn why knows mid alone idle stack files new e same end_is =
             let next = with_base (bare_answer why) r in
@@ -348,7 +312,7 @@ module _ {F D : Type 0} (pre_may : F → Data → PreVerdict → Data → Type 0
               next = next;
               going = record {
                 alone = subst (λ (w : World). Alone o next w.flow) (sym same) alone;
-                idle = subst (λ (w : World). worker_at w.workers k ≡ Some place.Idle) (sym same) idle;
+                idle = subst (λ (w : World). worker_at w.workers k ≡ Some Worker.Idle) (sym same) idle;
                 uncollected = going.uncollected;
                 between = refl;
                 on = record { kind = going.on.kind; all = λ h. cc };
@@ -356,7 +320,7 @@ module _ {F D : Type 0} (pre_may : F → Data → PreVerdict → Data → Type 0
               };
               stays = ap (λ (w : World). w.stack) same ∙ stack ∙ sym at_stack;
               same = (refl, refl);
-              longer = one_more r.entries (entry.Base why 0);
+              longer = one_more r.entries (Entry.Base why 0);
               less = of_subject next (under e new) less;
             }
 
@@ -373,25 +337,25 @@ module _ {F D : Type 0} (pre_may : F → Data → PreVerdict → Data → Type 0
       saw_fits None at = fits
       saw_fits (Some q) at = all_at (λ v. fit r.operation r.path v ≡ true) r.kept ask.place q own.kept at
 
-      post_turn : (mid : World) → Alone o (call_post k ask r).after mid.flow → worker_at mid.workers k ≡ Some (place.Post o ask.instance) → mid.stack ≡ s → mid.files ≡ old.files
-          → (new : World) (e : D) → Does pre_may post_may carries filters k o (Ok (action.Post ask.instance (answered_data saw (lent_answer r.operation r.answer)) ask.completion)) mid d new e
+      post_turn : (mid : World) → Alone o (call_post k ask r).after mid.flow → worker_at mid.workers k ≡ Some (Worker.Post o ask.instance) → mid.stack ≡ s → mid.files ≡ old.files
+          → (new : World) (e : D) → Does pre_may post_may carries filters k o (Ok (FlowAction.Post ask.instance (answered_data saw (lent_answer r.operation r.answer)) ask.completion)) mid d new e
           → Turned r old d new e
       post_turn mid alone worker stack files new e does =
           let back = does.1 in
           let lent = answered_data saw (lent_answer r.operation r.answer) in
           let may : PostMay post_may (filter_in filters s ask.instance.0) lent ask.completion does.0 back =
           subst (λ (t : StackWorld). PostMay post_may (filter_in filters t ask.instance.0) lent ask.completion does.0 back) stack does.3 in
-          let finished : does.0 ≡ end.Finished = post_plain ask.instance.0 lent ask.completion does.0 back may in
+          let finished : does.0 ≡ PostVerdict.Finished = post_plain ask.instance.0 lent ask.completion does.0 back may in
           let s0 = (call_post k ask r).after in
           let keeps = given_keeps k ask (unwound ask.place r) (unwound ask.place r).params in
           let operation : s0.operation ≡ r.operation = keeps.operation ∙ unwinds.operation in
           let path : s0.path ≡ r.path = keeps.path ∙ unwinds.path in
           let fitting : fit s0.operation s0.path saw ≡ true = ap₂ (λ a b. fit a b saw) operation path ∙ saw_fits (slice_get r.kept ask.place) refl in
           let left = post_leaves mid k o s0 alone ask.instance does.0 back does.2 new worker (fits_back s0.operation s0.path saw back fitting does.4.received does.4.laws) does.5 in
-          let next = post_returned_of end.Finished back s0 in
+          let next = post_returned_of PostVerdict.Finished back s0 in
           let left' : IsLeft k o next mid.stack mid.files new = subst (λ (v : PostVerdict). IsLeft k o (post_returned_of v back s0) mid.stack mid.files new) finished left in
-          let ended : PostMay post_may (filter_in filters s ask.instance.0) (answered_data saw (lent_answer x.operation r.answer)) ask.completion end.Finished back =
-          subst (λ (a : Operation). PostMay post_may (filter_in filters s ask.instance.0) (answered_data saw (lent_answer a r.answer)) ask.completion end.Finished back) going.on.kind
+          let ended : PostMay post_may (filter_in filters s ask.instance.0) (answered_data saw (lent_answer x.operation r.answer)) ask.completion PostVerdict.Finished back =
+          subst (λ (a : Operation). PostMay post_may (filter_in filters s ask.instance.0) (answered_data saw (lent_answer a r.answer)) ask.completion PostVerdict.Finished back) going.on.kind
           (subst (λ (v : PostVerdict). PostMay post_may (filter_in filters s ask.instance.0) lent ask.completion v back) finished may) in
           let less = left_post (chain x) (Meets r) r p has (under d old) k ask rest owes st (at_stage r Ascending st own).0 going.asks (sym going.on.kind) back does.4.received ended in
           let ends : under d old ≡ under e new = ap₂ (λ dev fs. record { device = dev; files = fs }) (sym does.6) (sym (left'.filed ∙ files)) in
@@ -407,7 +371,7 @@ module _ {F D : Type 0} (pre_may : F → Data → PreVerdict → Data → Type 0
             };
             stays = left'.stays ∙ stack ∙ sym at_stack;
             same = (keeps.volume ∙ unwinds.volume, keeps.born ∙ unwinds.born);
-            longer = length-map s0.entries (settle_post post.Finished) ∙ given_more k ask (unwound ask.place r) (unwound ask.place r).params saw unwinds.params
+            longer = length-map s0.entries (settle_post PostState.Finished) ∙ given_more k ask (unwound ask.place r) (unwound ask.place r).params saw unwinds.params
                 ∙ ap (λ (es : List Entry). suc (length es)) unwinds.entries;
             less = subst (λ (w : Under D). Leaves (chain x) (Meets r) r next (under d old) w) ends less;
           }
@@ -420,27 +384,27 @@ module _ {F D : Type 0} (pre_may : F → Data → PreVerdict → Data → Type 0
 
       -- the worker is where the answer of `next` brings it
       brought : (said : Result FlowAction Status) (at : Worker) → reply ≡ said → after_next old.workers k o said ≡ put old.workers k at → worker_at mid.workers k ≡ Some at
-      brought said at is puts = ap (λ ws. worker_at ws k) (workers ∙ ap (after_next old.workers k o) is ∙ puts) ∙ placed old.workers k place.Idle at going.idle
+      brought said at is puts = ap (λ ws. worker_at ws k) (workers ∙ ap (after_next old.workers k o) is ∙ puts) ∙ placed old.workers k Worker.Idle at going.idle
 
-      rested : (said : Result FlowAction Status) → reply ≡ said → after_next old.workers k o said ≡ old.workers → worker_at mid.workers k ≡ Some place.Idle
+      rested : (said : Result FlowAction Status) → reply ≡ said → after_next old.workers k o said ≡ old.workers → worker_at mid.workers k ≡ Some Worker.Idle
       rested said is same = ap (λ ws. worker_at ws k) (workers ∙ ap (after_next old.workers k o) is ∙ same) ∙ going.idle
 
       down_by : r.stage ≡ Descending → (lies : Below) → LiesBelow s r lies → AnswersBelow old.files old.flow r lies → reply ≡ (descend k lies r).reply
           → Alone o (descend k lies r).after mid.flow → mid.files ≡ filed_next old o mid.flow reply lies → Turned r old d new e
-      down_by st (below.Instance i true) found answers said alone files =
-          let is : reply ≡ Ok (action.Pre i (fresh_data p)) = said ∙ ap (λ m. (call_pre k i r m).reply) has in
-          visit_turn st i found mid (subst (λ (m : Option Params). Alone o (call_pre k i r m).after mid.flow) has alone) (brought (Ok (action.Pre i (fresh_data p))) (place.Pre o i) is refl) stack
-          (files ∙ ap (λ a. filed_next old o mid.flow a (below.Instance i true)) is) new e (subst Done is does)
-      down_by st (below.Instance i false) found answers said alone files =
-          let moved : Done (Ok action.Moved) = subst Done said does in
-          bare_turn st i found mid alone (rested (Ok action.Moved) said refl) stack (files ∙ ap (λ a. filed_next old o mid.flow a (below.Instance i false)) said) new e moved.0 moved.1
-      down_by st below.Call found answers said alone files =
-          let is : reply ≡ Ok (action.Base (call_of r p)) = said ∙ ap (λ m. (call_base r m).reply) has in
-          base_turn st found answers mid (subst (λ (m : Option Params). Alone o (call_base r m).after mid.flow) has alone) (brought (Ok (action.Base (call_of r p))) (place.Base o) is refl) stack
-          (files ∙ ap (λ a. filed_next old o mid.flow a below.Call) is) new e (subst Done is does)
-      down_by st (below.Known why) found answers said alone files =
-          let moved : Done (Ok action.Moved) = subst Done said does in
-          known_turn st found why answers mid alone (rested (Ok action.Moved) said refl) stack (files ∙ ap (λ a. filed_next old o mid.flow a (below.Known why)) said) new e moved.0 moved.1
+      down_by st (Below.Instance i true) found answers said alone files =
+          let is : reply ≡ Ok (FlowAction.Pre i (fresh_data p)) = said ∙ ap (λ m. (call_pre k i r m).reply) has in
+          visit_turn st i found mid (subst (λ (m : Option Params). Alone o (call_pre k i r m).after mid.flow) has alone) (brought (Ok (FlowAction.Pre i (fresh_data p))) (Worker.Pre o i) is refl) stack
+          (files ∙ ap (λ a. filed_next old o mid.flow a (Below.Instance i true)) is) new e (subst Done is does)
+      down_by st (Below.Instance i false) found answers said alone files =
+          let moved : Done (Ok FlowAction.Moved) = subst Done said does in
+          bare_turn st i found mid alone (rested (Ok FlowAction.Moved) said refl) stack (files ∙ ap (λ a. filed_next old o mid.flow a (Below.Instance i false)) said) new e moved.0 moved.1
+      down_by st Below.Call found answers said alone files =
+          let is : reply ≡ Ok (FlowAction.Base (call_of r p)) = said ∙ ap (λ m. (call_base r m).reply) has in
+          base_turn st found answers mid (subst (λ (m : Option Params). Alone o (call_base r m).after mid.flow) has alone) (brought (Ok (FlowAction.Base (call_of r p))) (Worker.Base o) is refl) stack
+          (files ∙ ap (λ a. filed_next old o mid.flow a Below.Call) is) new e (subst Done is does)
+      down_by st (Below.Known why) found answers said alone files =
+          let moved : Done (Ok FlowAction.Moved) = subst Done said does in
+          known_turn st found why answers mid alone (rested (Ok FlowAction.Moved) said refl) stack (files ∙ ap (λ a. filed_next old o mid.flow a (Below.Known why)) said) new e moved.0 moved.1
 
       up_by : r.stage ≡ Ascending → (asks : List Ask) → owed r.entries ≡ asks → (lies : Below) → reply ≡ (ascend k false r (slice_get asks 0)).reply
           → Alone o (ascend k false r (slice_get asks 0)).after mid.flow → mid.files ≡ filed_next old o mid.flow reply lies → Turned r old d new e
@@ -448,13 +412,13 @@ module _ {F D : Type 0} (pre_may : F → Data → PreVerdict → Data → Type 0
       up_by st (ask ∷ rest) owes lies said alone files =
           let plainly : ArePlain (length r.kept) (ask ∷ rest) = subst (ArePlain (length r.kept)) owes going.asks in
           let takes : may_take k ask ≡ true = ap (λ b. not b || (ask.worker.0 == k.0)) plainly.1 in
-          let Is : Bool → Turn = λ b. cond b (call_post k ask r) (turn (Err status.WrongStep) r) in
+          let Is : Bool → Turn = λ b. cond b (call_post k ask r) (turn (Err Status.WrongStep) r) in
           let back = unwinds st ask rest owes in
-          let given : reply ≡ Ok (action.Post ask.instance (answered_data (saw st ask rest owes) (lent_answer r.operation r.answer)) ask.completion) =
+          let given : reply ≡ Ok (FlowAction.Post ask.instance (answered_data (saw st ask rest owes) (lent_answer r.operation r.answer)) ask.completion) =
           said ∙ ap (λ b. (Is b).reply) takes ∙ ap (λ m. (give_post k ask (unwound ask.place r) m).reply) back.params
-          ∙ ap₂ (λ a b. Ok (action.Post ask.instance (answered_data (saw st ask rest owes) (lent_answer a b)) ask.completion)) back.operation back.answer in
-          let post = Ok (action.Post ask.instance (answered_data (saw st ask rest owes) (lent_answer r.operation r.answer)) ask.completion) in
-          post_turn st ask rest owes mid (subst (λ (b : Bool). Alone o (Is b).after mid.flow) takes alone) (brought post (place.Post o ask.instance) given refl) stack
+          ∙ ap₂ (λ a b. Ok (FlowAction.Post ask.instance (answered_data (saw st ask rest owes) (lent_answer a b)) ask.completion)) back.operation back.answer in
+          let post = Ok (FlowAction.Post ask.instance (answered_data (saw st ask rest owes) (lent_answer r.operation r.answer)) ask.completion) in
+          post_turn st ask rest owes mid (subst (λ (b : Bool). Alone o (Is b).after mid.flow) takes alone) (brought post (Worker.Post o ask.instance) given refl) stack
           (files ∙ ap (λ a. filed_next old o mid.flow a lies) given) new e (subst Done given does)
 
       by_stage : (t : Stage) → r.stage ≡ t → is_between t ≡ true → (lies : Below) → (t ≡ Descending → LiesBelow s r lies × AnswersBelow old.files old.flow r lies)
@@ -480,7 +444,7 @@ module _ {F D : Type 0} (pre_may : F → Data → PreVerdict → Data → Type 0
     turn_leaves new e h =
         let n = next_leaves old k o r going.alone h.0 h.1 going.idle calm_here h.2 in
         let is : next_of k n.lies false r ≡ next_at k n.lies false r r.stage =
-        ap (λ b. cond b (turn (Err status.WrongStep) r) (next_at k n.lies false r r.stage)) going.uncollected in
+        ap (λ b. cond b (turn (Err Status.WrongStep) r) (next_at k n.lies false r r.stage)) going.uncollected in
         by_stage r old d going sound at_stack has_params.0 has_params.1 h.0 h.1 new e n.workers (n.stack ∙ at_stack) h.3 r.stage refl going.between n.lies
         (λ st. let found = n.finds st in (subst (λ (t : StackWorld). LiesBelow t r n.lies) at_stack found.0, found.1))
         (n.said ∙ ap (λ (t : Turn). t.reply) is) (subst (λ (t : Turn). Alone o t.after h.1.flow) is n.alone) n.files

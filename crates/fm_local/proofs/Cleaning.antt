@@ -1,25 +1,14 @@
 -- What is due is cleaned up, and nothing is due then.
-use Rattle.std.specs.Prelude.{◌≡◌, ◌<◌, ℕ, suc, Bool, true, false, List, [], ◌∷◌, drop, length, Option, Some, None, is_some, option_and_then, option_map, Result, Ok, Err, slice_get, refl}
-use Rattle.std.proofs.Common.{sym, ap, subst, ◌∙◌, arith}
-use Rattle.std.proofs.lemmas.Option.{none-some}
-use Rattle.fm_types.specs.declared.context_kind.ContextKind.{ContextKind}
-use Rattle.fm_types.specs.declared.status.Status.{Status}
-use Rattle.fm_types.specs.declared.status.Status.TheVariants as status
+use Rattle.fm_local.proofs.Words.{[], ◌∷◌, ◌≡◌, Bool, Err, List, None, Ok, Option, Result, Some, Status, WorkerId, World, false, length}
+use Rattle.fm_local.proofs.Words.{option_and_then, slice_get, suc, true, worker_at, ℕ, ◌<◌, ◌∙◌, ap, arith, drop, is_some, option_map, refl, subst}
+use Rattle.fm_local.proofs.Words.{sym, none-some, context_at, TakesDue, Unless, IsSound, ContextKind, CtxId, Due, is_idle, Worker, HasNoneDue}
 use Rattle.fm_ctx.proofs.Lives.{due_there}
 use Rattle.fm_ctx.specs.Cleanup.{due_of, due_reply}
-use Rattle.fm_ctx.specs.Table.{context_at}
-use Rattle.fm_ctx.specs.declared.due.Due.{Due}
 use Rattle.fm_world.proofs.Cases.{some_of}
-use Rattle.fm_world.specs.ContextEvents.{TakesDue, Cleans, CleansAt}
-use Rattle.fm_world.specs.Events.{Unless}
-use Rattle.fm_world.specs.Sound.{IsSound}
-use Rattle.fm_world.specs.Words.{CtxId, WorkerId}
-use Rattle.fm_world.specs.Workers.{worker_at, is_idle}
-use Rattle.fm_world.specs.World.{World}
-use Rattle.fm_world.specs.declared.worker.Worker.TheVariants as place
+use Rattle.fm_world.specs.ContextEvents.{Cleans, CleansAt}
+use Rattle.fm_local.specs.Cleanups.{CleansAll, CleansSome, MayReturn, cleaner_of}
 use Rattle.fm_local.proofs.Events.{placed}
 use Rattle.fm_local.proofs.Tidying.{took}
-use Rattle.fm_local.specs.Cleanups.{CleansAll, CleansSome, HasNoneDue, MayReturn, cleaner_of}
 
 none_first : {X : Type 0} (xs : List X) → slice_get xs 0 ≡ None → xs ≡ []
 none_first [] h = refl
@@ -40,8 +29,8 @@ module _ {F : Type 0} (may : F → ContextKind → List ℕ → ℕ → Type 0) 
       fewer : length old.contexts.due ≡ suc (length new.contexts.due)
       fewer =
           let (c, at) = took old k (Ok (Some due)) mid sound takes in
-          let in_cleanup = ap (λ ws. worker_at ws k) at.workers ∙ placed old.workers k place.Idle (place.Cleanup c) at.idle in
-          let event : CleansAt mid k number cleaned new (Some (place.Cleanup c)) = subst (CleansAt mid k number cleaned new) in_cleanup cleans in
+          let in_cleanup = ap (λ ws. worker_at ws k) at.workers ∙ placed old.workers k Worker.Idle (Worker.Cleanup c) at.idle in
+          let event : CleansAt mid k number cleaned new (Some (Worker.Cleanup c)) = subst (CleansAt mid k number cleaned new) in_cleanup cleans in
           one_less old.contexts.due c at.first ∙ ap (λ xs. suc (length xs)) (sym (ap (λ (w : World). w.contexts.due) event.1 ∙ at.due))
 
   -- where the worker is idle and is told of none, none is due
@@ -56,7 +45,7 @@ module _ {F : Type 0} (may : F → ContextKind → List ℕ → ℕ → Type 0) 
       value_in (Ok m) = m
       value_in (Err why) = None
 
-  none_due : (old new : World) (Event : Type 0) → IsSound old → (b : Bool) → Unless {T = Option Due} status.WrongStep b (Ok None) old new (◌≡◌ {A = Result (Option Due) Status} (Ok None) (Ok (due_reply old.contexts)) × Event)
+  none_due : (old new : World) (Event : Type 0) → IsSound old → (b : Bool) → Unless {T = Option Due} Status.WrongStep b (Ok None) old new (◌≡◌ {A = Result (Option Due) Status} (Ok None) (Ok (due_reply old.contexts)) × Event)
       → b ≡ true → old.contexts.due ≡ []
   none_due old new Event sound true h is = told_none old sound (slice_get old.contexts.due 0) refl h.0
   none_due old new Event sound false h is = cc
@@ -66,7 +55,7 @@ module _ {F : Type 0} (may : F → ContextKind → List ℕ → ℕ → Type 0) 
   cleans_nothing old new sound takes = (took old k (Ok None) new sound takes, none_due old new _ sound (is_idle (worker_at old.workers k)) takes)
 
   not_refused : (old new : World) (why : Status) (Event : Type 0) → (b : Bool)
-      → Unless {T = Option Due} status.WrongStep b (Err why) old new (◌≡◌ {A = Result (Option Due) Status} (Err why) (Ok (due_reply old.contexts)) × Event) → b ≡ true → old.contexts.due ≡ []
+      → Unless {T = Option Due} Status.WrongStep b (Err why) old new (◌≡◌ {A = Result (Option Due) Status} (Err why) (Ok (due_reply old.contexts)) × Event) → b ≡ true → old.contexts.due ≡ []
   not_refused old new why Event true h is = cc
   not_refused old new why Event false h is = cc
 

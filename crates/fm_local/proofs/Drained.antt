@@ -1,16 +1,10 @@
 -- What is owed to a stopping instance is let go of, one operation after the other.
-use Rattle.std.specs.Prelude.{◌≡◌, ◌+◌, ◌≤◌, ℕ, suc, Bool, true, false, Option, Some, None, Result, Ok, Err}
-use Rattle.std.proofs.Common.{inl, inr, sym, subst, arith}
-use Rattle.fm_types.specs.declared.status.Status.{Status}
-use Rattle.fm_data.specs.declared.verdict.Completion.{Completion}
-use Rattle.fm_world.specs.EarlyDrains.{TakesDrain, DrainReturns, DrainsWhere, is_stopping_at}
-use Rattle.fm_world.specs.Owners.{row_at}
-use Rattle.fm_world.specs.Words.{InstanceId, OpId, WorkerId}
-use Rattle.fm_world.specs.World.{World}
-use Rattle.fm_local.proofs.Resting.{happened, refused_same}
-use Rattle.fm_local.specs.Chains.{filter_in}
+use Rattle.fm_local.proofs.Words.{◌≡◌, ◌≤◌, Bool, Completion, Err, InstanceId, None, Ok, OpId, Option, Result, Some, Status, WorkerId, World, false}
+use Rattle.fm_local.proofs.Words.{suc, true, ℕ, ◌+◌, arith, inl, inr, subst, sym, DrainsWhere, is_stopping_at, DrainReturns, TakesDrain, row_at}
+use Rattle.fm_local.proofs.Words.{filter_in}
 use Rattle.fm_local.specs.Drains.{DrainsAll, DrainsMany, DrainsSome, OwesNone, WasCalled}
 use Rattle.fm_local.specs.Places.{EndsFrom}
+use Rattle.fm_local.proofs.Resting.{happened, refused_same}
 
 module _ (k : WorkerId) (i : InstanceId) where
   -- ---- one drain

@@ -1,40 +1,24 @@
 -- The end of an instance isn't refused where nothing is under way, it is being emptied and nothing is due.
-use Rattle.std.specs.Prelude.{◌≡◌, ◌+◌, ◌==◌, ◌||◌, ℕ, zero, suc, Bool, true, false, cond, not, List, [], ◌∷◌, count_by, Option, Some, None, option_and_then, option_map, Result, Ok, Err, IsOk, slice_get, slice_index_or, nat_lt, refl}
-use Rattle.std.proofs.Common.{inl, inr, sym, ap, ap₂, subst, ◌∙◌, arith, eq-eqb}
-use Rattle.std.specs.List.{list_any}
-use Rattle.std.proofs.lemmas.Option.{none-some, same_Some}
-use Rattle.fm_types.specs.Lists.{updated}
+use Rattle.fm_local.proofs.Words.{[], ◌∷◌, ◌≡◌, Bool, Err, Instance, InstanceId, List, None, Ok, Option, Result, Some, StackWorld, Status, WorkerId}
+use Rattle.fm_local.proofs.Words.{World, false, option_and_then, slice_get, suc, true, zero, ℕ, ◌+◌, ◌==◌, ◌||◌, ◌∙◌, IsOk, ap, ap₂, arith, cond}
+use Rattle.fm_local.proofs.Words.{count_by, eq-eqb, inl, inr, nat_lt, not, option_map, refl, subst, sym, none-some, same_Some, list_any, StartMark}
+use Rattle.fm_local.proofs.Words.{context_at, Finishes, is_stopping_phase, is_stopping_row, IsSound, CtxId, Phase, updated, is_idle, Worker}
+use Rattle.fm_local.proofs.Words.{is_leaving, is_leaving_phase, HasNoneDue, CompletesQuietly, StartsQuietly, IsAtRest, Tidies}
+use Rattle.std.specs.Prelude.{slice_index_or}
 use Rattle.fm_types.specs.Refusals.{first_of}
-use Rattle.fm_types.specs.declared.status.Status.{Status}
-use Rattle.fm_types.specs.declared.status.Status.TheVariants as status
-use Rattle.fm_ctx.specs.Bags.{cleans, places, references}
-use Rattle.fm_ctx.specs.Counting.{is_open, open_of}
-use Rattle.fm_ctx.specs.Objects.{same_owner}
-use Rattle.fm_ctx.specs.Table.{Context, Slot, context_at, context_in, owner_at}
-use Rattle.fm_ctx.specs.declared.owner.Owner.{Owner}
-use Rattle.fm_ctx.specs.declared.owner.Owner.TheVariants as owner
 use Rattle.fm_stack.specs.Detaching as stack
 use Rattle.fm_stack.specs.Events.{is_emptying_at}
 use Rattle.fm_stack.specs.Instances.{is_completing, is_emptying, is_gone_at}
-use Rattle.fm_stack.specs.StackWorld.{StackWorld}
-use Rattle.fm_stack.specs.declared.instance.Instance.{Instance}
-use Rattle.fm_stack.specs.declared.instance.Phase.{Phase}
-use Rattle.fm_stack.specs.declared.instance.Phase.TheVariants as phase
-use Rattle.fm_stack.specs.declared.instance.StartMark.TheVariants as mark
+use Rattle.fm_ctx.specs.Bags.{cleans, places, references}
+use Rattle.fm_ctx.specs.Counting.{is_open, open_of}
+use Rattle.fm_ctx.specs.Objects.{same_owner}
+use Rattle.fm_ctx.specs.Table.{Context, Slot, context_in, owner_at}
+use Rattle.fm_ctx.specs.declared.owner.Owner.{Owner}
 use Rattle.fm_world.proofs.Cases.{none_any}
-use Rattle.fm_world.specs.ContextEvents.{Finishes, OwnsOnlyWaiting, WaitsIfBusy, finish_refused}
-use Rattle.fm_world.specs.Events.{is_stopping_phase, is_stopping_row}
-use Rattle.fm_world.specs.Sound.{IsSound}
-use Rattle.fm_world.specs.Words.{CtxId, InstanceId, WorkerId}
-use Rattle.fm_world.specs.Workers.{cleanup_in, is_idle}
-use Rattle.fm_world.specs.World.{World}
-use Rattle.fm_world.specs.declared.worker.Worker.{Worker}
+use Rattle.fm_world.specs.ContextEvents.{OwnsOnlyWaiting, WaitsIfBusy, finish_refused}
+use Rattle.fm_world.specs.Workers.{cleanup_in}
 use Rattle.fm_local.proofs.Leaving.{complete_stack, completes_leaves, not_completing, start_refused, start_stack, starts_leaves}
 use Rattle.fm_local.proofs.Resting.{by_tidying, rests_on}
-use Rattle.fm_local.specs.Calls.{is_leaving, is_leaving_phase}
-use Rattle.fm_local.specs.Cleanups.{HasNoneDue}
-use Rattle.fm_local.specs.Quietly.{StartsQuietly, CompletesQuietly}
-use Rattle.fm_local.specs.Requests.{IsAtRest, Tidies}
 
 -- ---- lists
 
@@ -92,8 +76,8 @@ module _ (k : WorkerId) (i : InstanceId) where
   starts_keep old new rests (inl (why, h)) = ap phase_at (start_refused k i old why new h)
   starts_keep old new rests (inr (started, back, starts, returns, tidies)) =
       ap (λ (s : StackWorld). phase_in (slice_get s.instances i.0)) (start_stack k i old rests.idle started starts back new returns tidies)
-      ∙ same_phase (stack.with_start mark.Returned) (λ row. refl) (updated (stack.with_start mark.Made) old.stack.instances i.0) i.0
-      ∙ same_phase (stack.with_start mark.Made) (λ row. refl) old.stack.instances i.0
+      ∙ same_phase (stack.with_start StartMark.Returned) (λ row. refl) (updated (stack.with_start StartMark.Made) old.stack.instances i.0) i.0
+      ∙ same_phase (stack.with_start StartMark.Made) (λ row. refl) old.stack.instances i.0
 
   completes_keep : (old new : World) → IsAtRest k old → (p : Phase) → phase_at old ≡ Some p → is_leaving_phase (Some p) ≡ true → is_completing p ≡ false → CompletesQuietly k i old new
       → is_emptying_at (slice_get new.stack.instances i.0) ≡ true
@@ -102,12 +86,12 @@ module _ (k : WorkerId) (i : InstanceId) where
       ∙ emptying_by (slice_get old.stack.instances i.0) p there (left p leaves over (sym (stopping_by (slice_get old.stack.instances i.0) p there) ∙ still))
     where
       left : (p : Phase) → is_leaving_phase (Some p) ≡ true → is_completing p ≡ false → is_stopping_phase p ≡ false → is_emptying p ≡ true
-      left phase.Emptying leaves not still = refl
+      left Phase.Emptying leaves not still = refl
       left _ leaves not still = cc
   completes_keep old new rests p there leaves over (inr (completing, back, completes, returns, tidies)) =
       ap (λ (s : StackWorld). is_emptying_at (slice_get s.instances i.0)) (complete_stack k i old rests.idle completing completes back new returns tidies)
-      ∙ emptying_by (slice_get (updated (stack.in_phase phase.Emptying) (updated (stack.in_phase phase.Completing) old.stack.instances i.0) i.0) i.0) phase.Emptying
-      (made_phase phase.Emptying (updated (stack.in_phase phase.Completing) old.stack.instances i.0) i.0 phase.Completing (made_phase phase.Completing old.stack.instances i.0 p there)) refl
+      ∙ emptying_by (slice_get (updated (stack.in_phase Phase.Emptying) (updated (stack.in_phase Phase.Completing) old.stack.instances i.0) i.0) i.0) Phase.Emptying
+      (made_phase Phase.Emptying (updated (stack.in_phase Phase.Completing) old.stack.instances i.0) i.0 Phase.Completing (made_phase Phase.Completing old.stack.instances i.0 p there)) refl
 
   -- an instance whose teardown is under way is being emptied behind it
   pub comes_to_end : (old started completed : World) → IsSound old → IsAtRest k old → IsAtRest k started → is_leaving old i ≡ true → StartsQuietly k i old started
@@ -133,18 +117,18 @@ module _ (k : WorkerId) (i : InstanceId) (w : World) (sound : IsSound w) (rests 
   unfolding places references
   nowhere c = ap₂ (λ due n. references due c + n) none (none_cleans c w.contexts.cleaning nobody_cleans)
 
-  owns_none : OwnsOnlyWaiting w i → (c : CtxId) → owner_at w.contexts.slots c ≡ Some (owner.Instance i) → ⊥
+  owns_none : OwnsOnlyWaiting w i → (c : CtxId) → owner_at w.contexts.slots c ≡ Some (Owner.Instance i) → ⊥
   owns_none waiting c owned = one_none (sym (nowhere c) ∙ waiting c owned)
     where
       one_none : ◌≡◌ {A = ℕ} 0 1 → ⊥
       one_none h = cc
 
-  same_instance : (o : Owner) → same_owner (owner.Instance i) o ≡ true → o ≡ owner.Instance i
-  same_instance (owner.Instance j) h = grind arith
-  same_instance (owner.Filter f) h = cc
+  same_instance : (o : Owner) → same_owner (Owner.Instance i) o ≡ true → o ≡ Owner.Instance i
+  same_instance (Owner.Instance j) h = grind arith
+  same_instance (Owner.Filter f) h = cc
 
-  open_owned : (s : Slot) (m : Option Context) → s.context ≡ m → is_open (owner.Instance i) m ≡ true → (c : CtxId) → c.generation ≡ s.generation → slice_get w.contexts.slots c.slot ≡ Some s
-      → owner_at w.contexts.slots c ≡ Some (owner.Instance i)
+  open_owned : (s : Slot) (m : Option Context) → s.context ≡ m → is_open (Owner.Instance i) m ≡ true → (c : CtxId) → c.generation ≡ s.generation → slice_get w.contexts.slots c.slot ≡ Some s
+      → owner_at w.contexts.slots c ≡ Some (Owner.Instance i)
   unfolding context_at
   open_owned s None is opened c named there = cc
   open_owned s (Some x) is opened c named there =
@@ -155,13 +139,13 @@ module _ (k : WorkerId) (i : InstanceId) (w : World) (sound : IsSound w) (rests 
       same_generation : (a b : ℕ) → a ≡ b → a == b ≡ true
       same_generation a b h = grind (arith, eq-eqb)
 
-  none_open : OwnsOnlyWaiting w i → open_of w.contexts.slots (owner.Instance i) ≡ 0
+  none_open : OwnsOnlyWaiting w i → open_of w.contexts.slots (Owner.Instance i) ≡ 0
   none_open waiting = by_any (list_any opens w.contexts.slots) refl
     where
       opens : Slot → Bool
-      opens s = is_open (owner.Instance i) s.context
+      opens s = is_open (Owner.Instance i) s.context
 
-      by_any : (b : Bool) → list_any opens w.contexts.slots ≡ b → open_of w.contexts.slots (owner.Instance i) ≡ 0
+      by_any : (b : Bool) → list_any opens w.contexts.slots ≡ b → open_of w.contexts.slots (Owner.Instance i) ≡ 0
       by_any false h = none_any opens w.contexts.slots h
       by_any true h =
           let at = any_at opens w.contexts.slots h in
@@ -171,20 +155,20 @@ module _ (k : WorkerId) (i : InstanceId) (w : World) (sound : IsSound w) (rests 
   pub finishes : is_emptying_at (slice_get w.stack.instances i.0) ≡ true → (why : Status) (new : World) → Finishes w i (Err why) new → WaitsIfBusy w i (Err why) → ⊥
   unfolding Finishes
   finishes emptying why new h waits =
-      let open' = open_of w.contexts.slots (owner.Instance i) in
+      let open' = open_of w.contexts.slots (Owner.Instance i) in
       let is = other open' why (sym (busy emptying) ∙ h.0) in
       let waiting : OwnsOnlyWaiting w i = subst (λ (s : Status). WaitsIfBusy w i (Err s)) is waits in
-      none-some why (sym (busy emptying ∙ ap (λ n. cond (nat_lt 0 n) (Some (status.Busy n)) None) (none_open waiting)) ∙ h.0)
+      none-some why (sym (busy emptying ∙ ap (λ n. cond (nat_lt 0 n) (Some (Status.Busy n)) None) (none_open waiting)) ∙ h.0)
     where
       refusal : (m : Option Instance) (n : ℕ) → is_emptying_at m ≡ true
-          → first_of ((is_gone_at m, status.NoInstance) ∷ (not (is_emptying_at m), status.WrongStep) ∷ (nat_lt 0 n, status.Busy n) ∷ []) ≡ cond (nat_lt 0 n) (Some (status.Busy n)) None
+          → first_of ((is_gone_at m, Status.NoInstance) ∷ (not (is_emptying_at m), Status.WrongStep) ∷ (nat_lt 0 n, Status.Busy n) ∷ []) ≡ cond (nat_lt 0 n) (Some (Status.Busy n)) None
       refusal None n h = cc
       refusal (Some row) n h = grind arith
 
-      busy : is_emptying_at (slice_get w.stack.instances i.0) ≡ true → finish_refused w i ≡ cond (nat_lt 0 (open_of w.contexts.slots (owner.Instance i))) (Some (status.Busy (open_of w.contexts.slots (owner.Instance i)))) None
-      busy emptying = refusal (slice_get w.stack.instances i.0) (open_of w.contexts.slots (owner.Instance i)) emptying
+      busy : is_emptying_at (slice_get w.stack.instances i.0) ≡ true → finish_refused w i ≡ cond (nat_lt 0 (open_of w.contexts.slots (Owner.Instance i))) (Some (Status.Busy (open_of w.contexts.slots (Owner.Instance i)))) None
+      busy emptying = refusal (slice_get w.stack.instances i.0) (open_of w.contexts.slots (Owner.Instance i)) emptying
 
-      other : (n : ℕ) (why : Status) → cond (nat_lt 0 n) (Some (status.Busy n)) None ≡ Some why → why ≡ status.Busy n
+      other : (n : ℕ) (why : Status) → cond (nat_lt 0 n) (Some (Status.Busy n)) None ≡ Some why → why ≡ Status.Busy n
       other n why h = grind arith
 
 -- a teardown that is under way comes to its end

@@ -1,27 +1,20 @@
 -- Data that a callback hands back, and a call, are of their operation.
-use Rattle.std.specs.Prelude.{◌≡◌, ◌≤◌, ◌==◌, ◌&&◌, ℕ, true, List, length, Option, Some, None, nat_le, refl}
+use Rattle.fm_local.proofs.Words.{◌≡◌, ◌≤◌, Answer, BaseCall, Data, FlowRecord, List, None, Operation, Option, Params, Some, length, true, ℕ, ◌&&◌}
+use Rattle.fm_local.proofs.Words.{◌==◌, ◌∙◌, ap, arith, eq-eqb, refl, nat_tests, data_fits, call_fits, fit, is_within_limits, base_fits, call_of}
+use Rattle.std.specs.Prelude.{nat_le}
 use Rattle.std.specs.Cmp.Lexicographic.{bytes_decides}
-use Rattle.std.proofs.Common.{ap, ◌∙◌, arith}
-use Rattle.std.proofs.lemmas.Bool.{and_from, and_parts, eq-eqb, eqb-true}
-use Rattle.std.proofs.lemmas.Bool.Decides.{nat_tests}
+use Rattle.std.proofs.lemmas.Bool.{and_from, and_parts, eqb-true}
 use Rattle.fm_types.specs.Masks.{operation_bit}
-use Rattle.fm_types.specs.declared.operation.Operation.{Operation}
-use Rattle.fm_data.specs.Data.{Data, IsData, change_passes, data_fits}
-use Rattle.fm_data.specs.Params.{operation_of, path_of, is_within_limits, same_operation, same_path, are_on, are_for, fit, may_replace, call_fits}
-use Rattle.fm_data.specs.declared.answer.Answer.{Answer}
-use Rattle.fm_data.specs.Calls.{BaseCall}
-use Rattle.fm_data.specs.declared.params.Params.{Params}
-use Rattle.fm_data.specs.declared.params.Params.TheVariants as params
-use Rattle.fm_flow.specs.Record.{FlowRecord}
-use Rattle.fm_flow.specs.Steps.{base_fits, call_of}
+use Rattle.fm_data.specs.Data.{IsData, change_passes}
+use Rattle.fm_data.specs.Params.{operation_of, path_of, same_operation, same_path, are_on, are_for, may_replace}
 
 -- a create in place of another one is on the same path
 on_same : (path : Option (List ℕ)) (p q : Params) → are_on path p ≡ true → are_on (path_of p) q ≡ true → are_on path q ≡ true
-on_same path p (params.Create own mode) on may = by_path p path own on may
+on_same path p (Params.Create own mode) on may = by_path p path own on may
   where
     by_path : (p : Params) (path : Option (List ℕ)) (own : List ℕ) → are_on path p ≡ true → same_path (Some own) (path_of p) ≡ true → same_path (Some own) path ≡ true
-    by_path (params.Create mine mode) (Some path) own on may = (bytes_decides own path).1 ((bytes_decides own mine).0 may ∙ (bytes_decides mine path).0 on)
-    by_path (params.Create mine mode) None own on may = cc
+    by_path (Params.Create mine mode) (Some path) own on may = (bytes_decides own path).1 ((bytes_decides own mine).0 may ∙ (bytes_decides mine path).0 on)
+    by_path (Params.Create mine mode) None own on may = cc
     by_path _ path own on may = cc
 on_same path p _ on may = refl
 

@@ -1,33 +1,13 @@
 -- A manager that makes turn after turn of an operation goes on with it, whatever its filters.
-use Rattle.std.specs.Prelude.{◌≡◌, ◌+◌, ◌<◌, ◌≤◌, ◌⊎◌, ◌++◌, ◌∷◌, ℕ, suc, List, [], drop, length, true, false, Option, Some, None, Result, Ok, Err, slice_get, refl}
+use Rattle.fm_local.proofs.Words.{[], ◌∷◌, ◌≡◌, ◌≤◌, ◌⊎◌, Completion, Data, Err, Folder, InstanceId, List, LocalManager, None, Ok, OpId, Option}
+use Rattle.fm_local.proofs.Words.{PostVerdict, PreVerdict, Result, Some, Status, WorkerId, World, false, length, slice_get, suc, true, ℕ, ◌++◌, ◌+◌}
+use Rattle.fm_local.proofs.Words.{◌<◌, ◌∙◌, ap, ap₂, arith, drop, inl, inr, refl, subst, sym, none-some, same_Some, FileRequest, Reply, Request}
+use Rattle.fm_local.proofs.Words.{Finishes, ContextKind, HandleId, IsDoneAt, closed_handle, BasesCarry, numbered, Filters, Turn}
 use Rattle.std.specs.Result.{is_err}
 use Rattle.std.specs.VecDeque.{deque_capacity}
-use Rattle.std.proofs.Common.{inl, inr, sym, ap, ap₂, subst, ◌∙◌, arith}
-use Rattle.std.proofs.lemmas.Option.{none-some, same_Some}
-use Rattle.fm_base.specs.Folders.{Folder}
-use Rattle.fm_types.specs.declared.context_kind.ContextKind.{ContextKind}
-use Rattle.fm_types.specs.declared.ids.HandleId.{HandleId}
-use Rattle.fm_types.specs.declared.ids.InstanceId.{InstanceId}
-use Rattle.fm_types.specs.declared.status.Status.{Status}
-use Rattle.fm_data.specs.Data.{Data}
-use Rattle.fm_data.specs.declared.request.FileRequest.TheVariants as asked
-use Rattle.fm_data.specs.declared.request.Reply.{Reply}
-use Rattle.fm_data.specs.declared.request.Request.{Request}
-use Rattle.fm_data.specs.declared.request.Request.TheVariants as request
-use Rattle.fm_data.specs.declared.verdict.Completion.{Completion}
-use Rattle.fm_data.specs.declared.verdict.PreVerdict.{PreVerdict}
-use Rattle.fm_data.specs.declared.verdict.PostVerdict.{PostVerdict}
-use Rattle.fm_world.specs.ContextEvents.{Finishes}
-use Rattle.fm_world.specs.Words.{OpId, WorkerId}
-use Rattle.fm_world.specs.World.{World}
-use Rattle.fm_local.specs.Actions.{CallsBack, CarriesOn, CarriesOnAll, CarriesOnMany, EndsIfRefused, GoesOn, IsDoneAt, OnlyState, Requests, RequestsOne, TakesTurn, TakesTurns, WaitsAtEnd, closed_handle}
-use Rattle.fm_local.specs.Bases.{BasesCarry}
-use Rattle.fm_local.specs.Managers.{numbered}
+use Rattle.fm_local.specs.Actions.{CallsBack, CarriesOn, CarriesOnAll, CarriesOnMany, EndsIfRefused, GoesOn, OnlyState, Requests, RequestsOne}
+use Rattle.fm_local.specs.Actions.{TakesTurn, TakesTurns, WaitsAtEnd}
 use Rattle.fm_local.specs.declared.bounded.Bounded.{Bounded}
-use Rattle.fm_local.specs.declared.filters.Filters.{Filters}
-use Rattle.fm_local.specs.declared.manager.LocalManager.{LocalManager}
-use Rattle.fm_local.specs.declared.requests.Turn.{Turn}
-use Rattle.fm_local.specs.declared.requests.Turn.TheVariants as turn
 
 module _ {F B : Type 0} (pre : F → Data → PreVerdict → Data → Type 0) (post : F → Data → Completion → PostVerdict → Data → Type 0) (drained : F → Completion → Type 0)
     (folder : B → Option Folder) (faults : B → ℕ) (k : WorkerId) (o : OpId) where
@@ -45,7 +25,7 @@ module _ {F B : Type 0} (pre : F → Data → PreVerdict → Data → Type 0) (p
     one : Turned old.filters ended now new
     one = subst (λ (fs : Filters F). Turned fs ended now new) same takes
 
-    pub turns_more : ended ≡ turn.Goes → Turns old (n + 1) new
+    pub turns_more : ended ≡ Turn.Goes → Turns old (n + 1) new
     turns_more is =
         let more : suc n ≡ n + 1 = omega arith in
         subst (λ (j : ℕ). Turns old j new) more (now.desk.state, now.bases.items, taken, subst (λ (t : Turn). Turned old.filters t now new) is one)
@@ -53,7 +33,7 @@ module _ {F B : Type 0} (pre : F → Data → PreVerdict → Data → Type 0) (p
     pub goes_to_end : (most : ℕ) → Goes most ended old new
     goes_to_end most = (n, now.desk.state, now.bases.items, taken, inl one)
 
-  pub goes_too_far : (old now : LocalManager F B) (n most : ℕ) → Turns old n now → most ≤ n → Goes most turn.Held old now
+  pub goes_too_far : (old now : LocalManager F B) (n most : ℕ) → Turns old n now → most ≤ n → Goes most Turn.Held old now
   goes_too_far old now n most taken many = (n, now.desk.state, now.bases.items, taken, inr (many, refl, refl, refl))
 
 -- ---- what callbacks leave as it was
@@ -120,8 +100,8 @@ module _ {F B : Type 0} (pre : F → Data → PreVerdict → Data → Type 0) (p
 
 -- ---- requests
 
-pub is_close : (what : Request) (h : HandleId) → closed_handle what ≡ Some h → request.OnHandle h asked.Close ≡ what
-is_close (request.OnHandle own asked.Close) h is = ap (λ (x : HandleId). request.OnHandle x asked.Close) (sym (same_Some own h is))
+pub is_close : (what : Request) (h : HandleId) → closed_handle what ≡ Some h → Request.OnHandle h FileRequest.Close ≡ what
+is_close (Request.OnHandle own FileRequest.Close) h is = ap (λ (x : HandleId). Request.OnHandle x FileRequest.Close) (sym (same_Some own h is))
 is_close _ h is = absurd (none-some h is)
 
 module _ {F B : Type 0} (pre : F → Data → PreVerdict → Data → Type 0) (post : F → Data → Completion → PostVerdict → Data → Type 0) (drained : F → Completion → Type 0)
@@ -129,11 +109,11 @@ module _ {F B : Type 0} (pre : F → Data → PreVerdict → Data → Type 0) (p
   abbrev Asks : Request → Type 0
   Asks what = Requests pre post drained folder faults k cleanup most limit what old said new
 
-  pub requests_close : (what : Request) (h : HandleId) → closed_handle what ≡ Some h → Asks (request.OnHandle h asked.Close) → Asks what
+  pub requests_close : (what : Request) (h : HandleId) → closed_handle what ≡ Some h → Asks (Request.OnHandle h FileRequest.Close) → Asks what
   requests_close what h is asks = subst Asks (is_close what h is) asks
 
   pub requests_one : (what : Request) → closed_handle what ≡ None → RequestsOne pre post drained folder faults k cleanup most limit what old said new → Asks what
-  requests_one (request.OnHandle h asked.Close) none one = cc
+  requests_one (Request.OnHandle h FileRequest.Close) none one = cc
   requests_one _ none one = one
 
 -- ---- an instance that was set up

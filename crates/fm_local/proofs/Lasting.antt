@@ -1,59 +1,33 @@
 -- Turn after turn an operation goes on, until it is done: it is never held, and its turns are few.
-use Rattle.std.specs.Prelude.{◌≡◌, ◌==◌, ◌+◌, ◌≤◌, ℕ, zero, suc, ⊤, Bool, true, false, cond, not, ◌||◌, List, [], ◌∷◌, length, Option, Some, Result, Ok, Err, slice_get, refl}
-use Rattle.std.proofs.Common.{sym, ap, subst, ◌∙◌, arith}
-use Rattle.fm_types.specs.declared.status.Status.{Status}
-use Rattle.fm_types.specs.declared.status.Status.TheVariants as status
-use Rattle.fm_data.specs.Data.{Data}
-use Rattle.fm_data.specs.declared.answer.Answer.{Answer}
-use Rattle.fm_data.specs.Calls.{BaseCall}
-use Rattle.fm_data.specs.declared.params.Params.{Params}
-use Rattle.fm_data.specs.declared.verdict.Completion.{Completion}
-use Rattle.fm_data.specs.declared.verdict.PreVerdict.{PreVerdict}
-use Rattle.fm_data.specs.declared.verdict.PostVerdict.{PostVerdict}
-use Rattle.fm_flow.specs.Entries.{owed}
-use Rattle.fm_flow.specs.Record.{FlowRecord}
-use Rattle.fm_flow.specs.Steps.{next_of, next_at, descend, ascend, call_pre, call_base, call_post, give_post, unwound, may_take, turn, Turned as Turning}
-use Rattle.fm_flow.specs.declared.action.Below.{Below}
-use Rattle.fm_flow.specs.declared.action.Below.TheVariants as below
-use Rattle.fm_flow.specs.declared.action.FlowAction.{FlowAction}
-use Rattle.fm_flow.specs.declared.action.FlowAction.TheVariants as action
-use Rattle.fm_flow.specs.declared.entry.Ask.{Ask}
-use Rattle.fm_flow.specs.declared.stage.Stage.{Stage}
-use Rattle.fm_flow.specs.declared.stage.Stage.TheVariants.{Descending, Ascending}
-use Rattle.fm_world.proofs.Runs.{step_keeps}
-use Rattle.fm_world.specs.Events.{Nexts}
-use Rattle.fm_world.specs.Sound.{IsSound}
-use Rattle.fm_world.specs.Words.{OpId, WorkerId}
-use Rattle.fm_world.specs.World.{World}
-use Rattle.fm_world.specs.declared.step.Step.TheVariants as step
-use Rattle.fm_world.specs.declared.step.StepReply.TheVariants as said
+use Rattle.fm_local.proofs.Words.{[], ⊤, ◌∷◌, ◌≡◌, ◌≤◌, Answer, BaseCall, Bool, Completion, Data, Err, FlowAction, FlowRecord, List, Ok, OpId, Option}
+use Rattle.fm_local.proofs.Words.{Params, PostVerdict, PreVerdict, Result, Some, Status, WorkerId, World, false, length, slice_get, suc, true, zero}
+use Rattle.fm_local.proofs.Words.{ℕ, ◌+◌, ◌==◌, ◌||◌, ◌∙◌, ap, arith, cond, not, refl, subst, sym, ascend, call_base, call_post, call_pre, descend}
+use Rattle.fm_local.proofs.Words.{give_post, may_take, next_at, next_of, turn, unwound, Below, Ascending, step_keeps, Nexts, IsSound, Ask, Descending}
+use Rattle.fm_local.proofs.Words.{Stage, owed, Step, StepReply, ArePlainFilters, IsBegun, Subject, subject_of, ArePlain, NoneStops, Carries, Turns}
+use Rattle.fm_local.proofs.Words.{Turn}
+use Rattle.fm_flow.specs.Steps.{Turned as Turning}
+use Rattle.fm_local.specs.Actions.{Acts, TurnsAs, HasTurned}
 use Rattle.fm_local.proofs.Begun.{start, first, going}
 use Rattle.fm_local.proofs.Carried.{turn_sound}
 use Rattle.fm_local.proofs.Carrying.{IsGoing, is_between, turn_leaves, has_params, calm_here, record_sound}
 use Rattle.fm_local.proofs.Events.{next_leaves}
 use Rattle.fm_local.proofs.Turning.{put_back}
-use Rattle.fm_local.specs.Actions.{ArePlainFilters, Acts, TurnsAs, HasTurned, IsBegun}
-use Rattle.fm_local.specs.Chains.{Subject, subject_of}
-use Rattle.fm_local.specs.Left.{ArePlain}
-use Rattle.fm_local.specs.Requests.{NoneStops}
-use Rattle.fm_local.specs.Turns.{Turns, Carries}
-use Rattle.fm_local.specs.declared.requests.Turn.TheVariants as ends
 
 -- ---- what is next
 
 -- there is more to do, or all is done
 abbrev IsMore : Result FlowAction Status → Type 0
-IsMore (Ok action.Held) = ⊥
-IsMore (Ok (action.Drain i completion)) = ⊥
+IsMore (Ok FlowAction.Held) = ⊥
+IsMore (Ok (FlowAction.Drain i completion)) = ⊥
 IsMore (Err why) = ⊥
 IsMore _ = ⊤
 
 module _ (k : WorkerId) (r : FlowRecord) (p : Params) (has : r.params ≡ Some p) (plainly : ArePlain (length r.kept) (owed r.entries)) where
   more_down : (lies : Below) → IsMore (descend k lies r).reply
-  more_down (below.Instance i true) = subst (λ (m : Option Params). IsMore (call_pre k i r m).reply) (sym has) tt
-  more_down (below.Instance i false) = tt
-  more_down below.Call = subst (λ (m : Option Params). IsMore (call_base r m).reply) (sym has) tt
-  more_down (below.Known why) = tt
+  more_down (Below.Instance i true) = subst (λ (m : Option Params). IsMore (call_pre k i r m).reply) (sym has) tt
+  more_down (Below.Instance i false) = tt
+  more_down Below.Call = subst (λ (m : Option Params). IsMore (call_base r m).reply) (sym has) tt
+  more_down (Below.Known why) = tt
 
   -- its one worker may make each postoperation, and the parameters are at hand
   more_up : (asks : List Ask) → ArePlain (length r.kept) asks → IsMore (ascend k false r (slice_get asks 0)).reply
@@ -61,7 +35,7 @@ module _ (k : WorkerId) (r : FlowRecord) (p : Params) (has : r.params ≡ Some p
   more_up (ask ∷ rest) fall =
       let takes : may_take k ask ≡ true = ap (λ b. not b || (ask.worker.0 == k.0)) fall.1 in
       let back = put_back ask.place r p (slice_get r.kept ask.place) refl has in
-      subst (λ (b : Bool). IsMore (cond b (call_post k ask r) (turn (Err status.WrongStep) r)).reply) (sym takes)
+      subst (λ (b : Bool). IsMore (cond b (call_post k ask r) (turn (Err Status.WrongStep) r)).reply) (sym takes)
       (subst (λ (m : Option Params). IsMore (give_post k ask (unwound ask.place r) m).reply) (sym back.params) tt)
 
   more_at : (t : Stage) → is_between t ≡ true → (lies : Below) → IsMore (next_at k lies false r t).reply
@@ -86,7 +60,7 @@ begun_stands k o begun b = record {
   subject = subject_of (first k o b.what b.before b.rests begun b.begins);
   now = first k o b.what b.before b.rests begun b.begins;
   goes = going k o b.what b.before b.rests begun b.begins;
-  sound = step_keeps b.before (step.Begin b.what) (said.Operation (Ok o)) begun b.begins b.sound;
+  sound = step_keeps b.before (Step.Begin b.what) (StepReply.Operation (Ok o)) begun b.begins b.sound;
   quiet = subst NoneStops (sym (start k o b.what b.before b.rests begun b.begins).stack) b.calm;
   long = refl;
 }
@@ -119,34 +93,34 @@ module _ {F D : Type 0} (pre : F → Data → PreVerdict → Data → Type 0) (p
       let calm = calm_here pre post is_quiet carries filters plain k o st.subject w.stack st.quiet r w d st.goes st.sound refl in
       let found = next_leaves w k o r st.goes.alone reply mid st.goes.idle calm h in
       let is : next_of k found.lies false r ≡ next_at k found.lies false r r.stage =
-      ap (λ b. cond b (turn (Err status.WrongStep) r) (next_at k found.lies false r r.stage)) st.goes.uncollected in
+      ap (λ b. cond b (turn (Err Status.WrongStep) r) (next_at k found.lies false r r.stage)) st.goes.uncollected in
       subst IsMore (sym (found.said ∙ ap (λ (t : Turning). t.reply) is)) (more_at k r here.0 here.1 st.goes.asks r.stage st.goes.between found.lies)
 
   -- how a turn ended says what was next
-  turn_of : (w : World) (reply : Result FlowAction Status) (mid : World) (d : D) (new : World) (e : D) → Nexts w k o reply mid → IsMore reply → Acts pre post carries filters k o reply mid d ends.Goes new e
+  turn_of : (w : World) (reply : Result FlowAction Status) (mid : World) (d : D) (new : World) (e : D) → Nexts w k o reply mid → IsMore reply → Acts pre post carries filters k o reply mid d Turn.Goes new e
       → Turned w d new e
-  turn_of w (Ok (action.Pre i lent)) mid d new e h more acts = (Ok (action.Pre i lent), mid, h, acts.1)
-  turn_of w (Ok (action.Base call)) mid d new e h more acts = (Ok (action.Base call), mid, h, acts.1)
-  turn_of w (Ok (action.Post i lent completion)) mid d new e h more acts = (Ok (action.Post i lent completion), mid, h, acts.1)
-  turn_of w (Ok action.Moved) mid d new e h more acts = (Ok action.Moved, mid, h, acts.1)
-  turn_of w (Ok action.Done) mid d new e h more acts = let none = acts.0 in cc
+  turn_of w (Ok (FlowAction.Pre i lent)) mid d new e h more acts = (Ok (FlowAction.Pre i lent), mid, h, acts.1)
+  turn_of w (Ok (FlowAction.Base call)) mid d new e h more acts = (Ok (FlowAction.Base call), mid, h, acts.1)
+  turn_of w (Ok (FlowAction.Post i lent completion)) mid d new e h more acts = (Ok (FlowAction.Post i lent completion), mid, h, acts.1)
+  turn_of w (Ok FlowAction.Moved) mid d new e h more acts = (Ok FlowAction.Moved, mid, h, acts.1)
+  turn_of w (Ok FlowAction.Done) mid d new e h more acts = let none = acts.0 in cc
   turn_of w _ mid d new e h more acts = absurd more
 
-  end_of : (w : World) (reply : Result FlowAction Status) (mid : World) (d : D) (new : World) (e : D) → Nexts w k o reply mid → IsMore reply → Acts pre post carries filters k o reply mid d ends.Done new e
+  end_of : (w : World) (reply : Result FlowAction Status) (mid : World) (d : D) (new : World) (e : D) → Nexts w k o reply mid → IsMore reply → Acts pre post carries filters k o reply mid d Turn.Done new e
       → Carries pre post carries filters k o 0 w d new e
-  end_of w (Ok action.Done) mid d new e h more acts = (subst (λ (v : World). Nexts w k o (Ok action.Done) v) (sym acts.1) h, acts.2)
-  end_of w (Ok (action.Pre i lent)) mid d new e h more acts = let none = acts.0 in cc
-  end_of w (Ok (action.Base call)) mid d new e h more acts = let none = acts.0 in cc
-  end_of w (Ok (action.Post i lent completion)) mid d new e h more acts = let none = acts.0 in cc
-  end_of w (Ok action.Moved) mid d new e h more acts = let none = acts.0 in cc
+  end_of w (Ok FlowAction.Done) mid d new e h more acts = (subst (λ (v : World). Nexts w k o (Ok FlowAction.Done) v) (sym acts.1) h, acts.2)
+  end_of w (Ok (FlowAction.Pre i lent)) mid d new e h more acts = let none = acts.0 in cc
+  end_of w (Ok (FlowAction.Base call)) mid d new e h more acts = let none = acts.0 in cc
+  end_of w (Ok (FlowAction.Post i lent completion)) mid d new e h more acts = let none = acts.0 in cc
+  end_of w (Ok FlowAction.Moved) mid d new e h more acts = let none = acts.0 in cc
   end_of w _ mid d new e h more acts = absurd more
 
-  none_held : (reply : Result FlowAction Status) (mid : World) (d : D) (new : World) (e : D) → IsMore reply → Acts pre post carries filters k o reply mid d ends.Held new e → ⊥
-  none_held (Ok action.Done) mid d new e more acts = let none = acts.0 in cc
-  none_held (Ok (action.Pre i lent)) mid d new e more acts = let none = acts.0 in cc
-  none_held (Ok (action.Base call)) mid d new e more acts = let none = acts.0 in cc
-  none_held (Ok (action.Post i lent completion)) mid d new e more acts = let none = acts.0 in cc
-  none_held (Ok action.Moved) mid d new e more acts = let none = acts.0 in cc
+  none_held : (reply : Result FlowAction Status) (mid : World) (d : D) (new : World) (e : D) → IsMore reply → Acts pre post carries filters k o reply mid d Turn.Held new e → ⊥
+  none_held (Ok FlowAction.Done) mid d new e more acts = let none = acts.0 in cc
+  none_held (Ok (FlowAction.Pre i lent)) mid d new e more acts = let none = acts.0 in cc
+  none_held (Ok (FlowAction.Base call)) mid d new e more acts = let none = acts.0 in cc
+  none_held (Ok (FlowAction.Post i lent completion)) mid d new e more acts = let none = acts.0 in cc
+  none_held (Ok FlowAction.Moved) mid d new e more acts = let none = acts.0 in cc
   none_held _ mid d new e more acts = absurd more
 
   -- turns that were made, and then those that are to come
@@ -166,19 +140,19 @@ module _ {F D : Type 0} (pre : F → Data → PreVerdict → Data → Type 0) (p
     stands (suc n) d mid e h = stand_on n h.0 h.1 mid e (stands n d h.0 h.1 h.2) h.3
 
     pub goes_on : (n : ℕ) (d : D) (mid : World) (between : D) (new : World) (e : D) → HasTurned pre post carries filters k o n begun d mid between
-        → TurnsAs pre post carries filters k o mid between ends.Goes new e → HasTurned pre post carries filters k o (suc n) begun d new e
+        → TurnsAs pre post carries filters k o mid between Turn.Goes new e → HasTurned pre post carries filters k o (suc n) begun d new e
     goes_on n d mid between new e h t =
         (mid, between, h, turn_of mid t.0 t.1 between new e t.2 (more_next n mid between (stands n d mid between h) t.0 t.1 t.2) t.3)
 
     pub ends_so : (n : ℕ) (d : D) (mid : World) (between : D) (new : World) (e : D) → HasTurned pre post carries filters k o n begun d mid between
-        → TurnsAs pre post carries filters k o mid between ends.Done new e → Carries pre post carries filters k o n begun d new e
+        → TurnsAs pre post carries filters k o mid between Turn.Done new e → Carries pre post carries filters k o n begun d new e
     ends_so n d mid between new e h t =
         let same : n + 0 ≡ n = omega arith in
         subst (λ (j : ℕ). Carries pre post carries filters k o j begun d new e) same
         (carries_on n 0 begun d mid between new e h (end_of mid t.0 t.1 between new e t.2 (more_next n mid between (stands n d mid between h) t.0 t.1 t.2) t.3))
 
     pub never_held : (n : ℕ) (d : D) (mid : World) (between : D) (new : World) (e : D) → HasTurned pre post carries filters k o n begun d mid between
-        → TurnsAs pre post carries filters k o mid between ends.Held new e → ⊥
+        → TurnsAs pre post carries filters k o mid between Turn.Held new e → ⊥
     never_held n d mid between new e h t = none_held t.0 t.1 between new e (more_next n mid between (stands n d mid between h) t.0 t.1 t.2) t.3
 
     -- 32 instances on the way down, the base, and 32 on the way up

@@ -1,37 +1,24 @@
 -- What the events of a detach leave where nothing is under way: it is so again, and the instance isn't stopping any more.
-use Rattle.std.specs.Prelude.{◌≡◌, ◌≤◌, ◌||◌, ◌&&◌, ◌⊎◌, ℕ, zero, suc, Bool, true, false, not, List, [], ◌∷◌, count_by, Option, Some, None, option_map, unwrap_or, Result, Ok, Err, find, slice_get, nat_lt, refl}
-use Rattle.std.proofs.Common.{inl, inr, true≢false, sym, ap, subst, ◌∙◌, arith}
-use Rattle.std.proofs.lemmas.Option.{none-some}
-use Rattle.fm_types.specs.Lists.{updated}
+use Rattle.fm_local.proofs.Words.{[], ◌∷◌, ◌≡◌, ◌≤◌, ◌⊎◌, Bool, Completion, Err, Instance, InstanceId, List, None, Ok, OpId, Option, Result, Some}
+use Rattle.fm_local.proofs.Words.{StackWorld, Status, WorkerId, World, false, slice_get, suc, true, worker_at, zero, ℕ, ◌&&◌, ◌||◌, ◌∙◌, ap, arith}
+use Rattle.fm_local.proofs.Words.{count_by, find, inl, inr, nat_lt, not, option_map, refl, subst, sym, true≢false, unwrap_or, none-some, StartMark}
+use Rattle.fm_local.proofs.Words.{is_number, DrainsWhere, is_stopping_at, TakesDrain, Unless, is_stopping_phase, is_stopping_row, row_at, IsSound}
+use Rattle.fm_local.proofs.Words.{AsksDetach, CompleteReturns, CompletesTeardown, QueryReturns, StartReturns, StartsTeardown, FlowTable, Phase}
+use Rattle.fm_local.proofs.Words.{operation_at, told, updated, is_idle, put, Worker, is_leaving, is_leaving_phase, CompletesQuietly, StartsQuietly}
+use Rattle.fm_local.proofs.Words.{TearsDownQuietly, IsAtRest, Tidies}
 use Rattle.fm_types.specs.Refusals.{first_of}
-use Rattle.fm_types.specs.declared.status.Status.{Status}
-use Rattle.fm_types.specs.declared.status.Status.TheVariants as status
-use Rattle.fm_data.specs.declared.verdict.Completion.{Completion}
-use Rattle.fm_flow.specs.Table.{FlowTable, in_flight, is_number, operation_at, told, total}
-use Rattle.fm_flow.specs.Counts.{flight}
-use Rattle.fm_flow.specs.Drains.{owed_to}
 use Rattle.fm_stack.specs.Detaching as stack
 use Rattle.fm_stack.specs.Instances.{is_completing, is_detached, is_gone_at, is_setup, is_stopping, passes}
-use Rattle.fm_stack.specs.StackWorld.{StackWorld}
-use Rattle.fm_stack.specs.declared.instance.Instance.{Instance}
-use Rattle.fm_stack.specs.declared.instance.Phase.{Phase}
-use Rattle.fm_stack.specs.declared.instance.Phase.TheVariants as phase
-use Rattle.fm_stack.specs.declared.instance.StartMark.{StartMark}
-use Rattle.fm_stack.specs.declared.instance.StartMark.TheVariants as mark
-use Rattle.fm_world.specs.EarlyDrains.{TakesDrain, DrainsWhere, is_stopping_at}
-use Rattle.fm_world.specs.Events.{Unless, is_stopping_phase, is_stopping_row}
-use Rattle.fm_world.specs.Owners.{row_at}
-use Rattle.fm_world.specs.Sound.{IsSound, IsStaffed, is_made, least_at}
-use Rattle.fm_world.specs.Teardowns.{AsksDetach, QueryReturns, QueryReturnsAt, StartsTeardown, StartReturns, StartReturnsAt, CompletesTeardown, CompleteReturns, CompleteReturnsAt}
-use Rattle.fm_world.specs.Words.{InstanceId, OpId, WorkerId, one}
-use Rattle.fm_world.specs.Workers.{Desk, AtSetup, AtStart, AtComplete, after_entering, is_at, is_idle, is_queried, is_in_query, put, worker_at}
-use Rattle.fm_world.specs.World.{World}
-use Rattle.fm_world.specs.declared.worker.Worker.TheVariants as place
-use Rattle.fm_local.proofs.Resting.{CalmAfter, Undisturbed, ask_refused, both, by_tidying, calm_both, calm_finished, calm_same, calm_tidied, goes, happened, is_in, is_out, no_count, none_in, others_stay}
-use Rattle.fm_local.proofs.Resting.{refused_same, rests_on, stays_fewer, stops}
-use Rattle.fm_local.specs.Calls.{is_leaving, is_leaving_phase}
-use Rattle.fm_local.specs.Quietly.{AsksQuietly, StartsQuietly, CompletesQuietly, TearsDownQuietly, WasTold}
-use Rattle.fm_local.specs.Requests.{IsAtRest, Tidies}
+use Rattle.fm_flow.specs.Table.{in_flight, total}
+use Rattle.fm_flow.specs.Counts.{flight}
+use Rattle.fm_flow.specs.Drains.{owed_to}
+use Rattle.fm_world.specs.Sound.{IsStaffed, is_made, least_at}
+use Rattle.fm_world.specs.Teardowns.{QueryReturnsAt, StartReturnsAt, CompleteReturnsAt}
+use Rattle.fm_world.specs.Words.{one}
+use Rattle.fm_world.specs.Workers.{Desk, AtSetup, AtStart, AtComplete, after_entering, is_at, is_queried, is_in_query}
+use Rattle.fm_local.specs.Quietly.{AsksQuietly, WasTold}
+use Rattle.fm_local.proofs.Resting.{CalmAfter, Undisturbed, ask_refused, both, by_tidying, calm_both, calm_finished, calm_same, calm_tidied, goes}
+use Rattle.fm_local.proofs.Resting.{happened, is_in, is_out, no_count, none_in, others_stay, refused_same, rests_on, stays_fewer, stops}
 
 module _ (k : WorkerId) (i : InstanceId) where
   -- ---- its filter is asked
@@ -41,24 +28,24 @@ module _ (k : WorkerId) (i : InstanceId) where
     pub undisturbed : Undisturbed old new
     pub fewer : (j : ℕ) → stops new.stack j ≡ true → (stops old.stack j ≡ true) ⊎ (j ≡ i.0)
 
-  module _ (old : World) (idle : worker_at old.workers k ≡ Some place.Idle) where
-    asked_at : (asked : World) → AsksDetach old k i (Ok tt) asked → asked ≡ record old { workers = put old.workers k (place.Query i) }
+  module _ (old : World) (idle : worker_at old.workers k ≡ Some Worker.Idle) where
+    asked_at : (asked : World) → AsksDetach old k i (Ok tt) asked → asked ≡ record old { workers = put old.workers k (Worker.Query i) }
     unfolding AsksDetach
     asked_at asked h = (happened old k tt asked _ h).1
 
-    module _ (asked : World) (asks : asked ≡ record old { workers = put old.workers k (place.Query i) }) (back : World) (allows : Bool) (ended : Result (Unit {0}) Status)
+    module _ (asked : World) (asks : asked ≡ record old { workers = put old.workers k (Worker.Query i) }) (back : World) (allows : Bool) (ended : Result (Unit {0}) Status)
         (returns : QueryReturns asked k allows ended back) where
-      enters : asked.workers ≡ put old.workers k (place.Query i)
+      enters : asked.workers ≡ put old.workers k (Worker.Query i)
       enters = ap (λ (w : World). w.workers) asks
 
-      query_at : QueryReturnsAt asked k allows ended back (Some (place.Query i))
+      query_at : QueryReturnsAt asked k allows ended back (Some (Worker.Query i))
       unfolding QueryReturns
-      query_at = subst (QueryReturnsAt asked k allows ended back) (is_in k old asked (place.Query i) idle enters) returns
+      query_at = subst (QueryReturnsAt asked k allows ended back) (is_in k old asked (Worker.Query i) idle enters) returns
 
       queried : Undisturbed old back
       queried = record {
         flow = ap (λ (w : World). w.flow) query_at.2 ∙ ap (λ (w : World). w.flow) asks;
-        workers = is_out k old asked back (place.Query i) idle enters (ap (λ (w : World). w.workers) query_at.2);
+        workers = is_out k old asked back (Worker.Query i) idle enters (ap (λ (w : World). w.workers) query_at.2);
         files = ap (λ (w : World). w.files) query_at.2 ∙ ap (λ (w : World). w.files) asks;
       }
 
@@ -87,7 +74,7 @@ module _ (k : WorkerId) (i : InstanceId) where
     unfolding stack.QueryReturns
     agreed s allows t h = by_refusals (not allows) (passes stack.is_in_use (slice_get s.instances i.0)) h.0
       where
-        by_refusals : (a b : Bool) → first_of ((a, status.DoNotDetach) ∷ (not b, status.DeletingObject) ∷ []) ≡ None → b ≡ true
+        by_refusals : (a b : Bool) → first_of ((a, Status.DoNotDetach) ∷ (not b, Status.DeletingObject) ∷ []) ≡ None → b ≡ true
         by_refusals a b h = grind arith
 
     stopped_row : (rows : List Instance) (n : ℕ) → passes stack.is_in_use (slice_get rows n) ≡ true
@@ -125,17 +112,17 @@ module _ (k : WorkerId) (i : InstanceId) where
       refused_same (Unit {0}) old k why new _ h (λ event. event.1 ∙ ap (λ (s : StackWorld). record old { stack = s }) event.0.1)
 
   starting_at : (old started : World) → StartsTeardown old k i (Ok tt) started
-      → started ≡ record old { stack = stack.starting old.stack i; workers = put old.workers k (place.Start i) }
+      → started ≡ record old { stack = stack.starting old.stack i; workers = put old.workers k (Worker.Start i) }
   unfolding StartsTeardown stack.StartsTeardown
   starting_at old started h =
       let event = happened old k tt started _ h in
-      event.1 ∙ ap (λ (s : StackWorld). record old { stack = s; workers = put old.workers k (place.Start i) }) event.0.1
+      event.1 ∙ ap (λ (s : StackWorld). record old { stack = s; workers = put old.workers k (Worker.Start i) }) event.0.1
 
-  module _ (old : World) (idle : worker_at old.workers k ≡ Some place.Idle) (started : World) (starts : StartsTeardown old k i (Ok tt) started) where
-    from_start : worker_at started.workers k ≡ Some (place.Start i)
-    from_start = is_in k old started (place.Start i) idle (ap (λ (w : World). w.workers) (starting_at old started starts))
+  module _ (old : World) (idle : worker_at old.workers k ≡ Some Worker.Idle) (started : World) (starts : StartsTeardown old k i (Ok tt) started) where
+    from_start : worker_at started.workers k ≡ Some (Worker.Start i)
+    from_start = is_in k old started (Worker.Start i) idle (ap (λ (w : World). w.workers) (starting_at old started starts))
 
-    start_at : (back : World) → StartReturns started k (Ok tt) back → StartReturnsAt started k (Ok tt) back (Some (place.Start i))
+    start_at : (back : World) → StartReturns started k (Ok tt) back → StartReturnsAt started k (Ok tt) back (Some (Worker.Start i))
     unfolding StartReturns
     start_at back h = subst (StartReturnsAt started k (Ok tt) back) from_start h
 
@@ -153,34 +140,34 @@ module _ (k : WorkerId) (i : InstanceId) where
         let over : Undisturbed old back =
         record {
           flow = start_flow back returns;
-          workers = is_out k old started back (place.Start i) idle (ap (λ (w : World). w.workers) from) (ap (λ (w : World). w.workers) at.2);
+          workers = is_out k old started back (Worker.Start i) idle (ap (λ (w : World). w.workers) from) (ap (λ (w : World). w.workers) at.2);
           files = ap (λ (w : World). w.files) at.2 ∙ ap (λ (w : World). w.files) from;
         } in
         record {
           undisturbed = both old back new over (by_tidying back new tidies);
           fewer = λ j h.
               let changed = subst (λ (s : StackWorld). stops s j ≡ true) (start_stack back new returns tidies) h in
-              stays_fewer (stack.with_start mark.Made) (λ row t. t) old.stack.instances i.0 j
-              (stays_fewer (stack.with_start mark.Returned) (λ row t. t) (updated (stack.with_start mark.Made) old.stack.instances i.0) i.0 j changed);
+              stays_fewer (stack.with_start StartMark.Made) (λ row t. t) old.stack.instances i.0 j
+              (stays_fewer (stack.with_start StartMark.Returned) (λ row t. t) (updated (stack.with_start StartMark.Made) old.stack.instances i.0) i.0 j changed);
         }
 
   -- the start was returned
   told_phase : (p : Phase) → is_stopping_phase p ≡ true → is_stopping p && true ≡ true
   told_phase p h = grind arith
 
-  told_row : (rows : List Instance) (n : ℕ) → is_stopping_row (slice_get (updated (stack.with_start mark.Returned) rows n) n) ≡ true
-      → passes stack.is_to_complete (slice_get (updated (stack.with_start mark.Returned) rows n) n) ≡ true
+  told_row : (rows : List Instance) (n : ℕ) → is_stopping_row (slice_get (updated (stack.with_start StartMark.Returned) rows n) n) ≡ true
+      → passes stack.is_to_complete (slice_get (updated (stack.with_start StartMark.Returned) rows n) n) ≡ true
   told_row [] n h = cc
   told_row (x ∷ rows) zero h = told_phase x.phase h
   told_row (x ∷ rows) (suc n) h = told_row rows n h
 
   -- or it was before, since no worker is in it
   told_before : (p : Phase) (m : StartMark) (why : Status) → is_made m ≡ false
-      → first_of ((is_detached p, status.NoInstance) ∷ (not (is_stopping p && stack.is_not_made m), status.WrongStep) ∷ []) ≡ Some why → is_stopping_phase p ≡ true
+      → first_of ((is_detached p, Status.NoInstance) ∷ (not (is_stopping p && stack.is_not_made m), Status.WrongStep) ∷ []) ≡ Some why → is_stopping_phase p ≡ true
       → is_stopping p && stack.is_returned m ≡ true
-  told_before phase.Stopping mark.NotMade why not_made refused stops = cc
-  told_before phase.Stopping mark.Made why not_made refused stops = cc
-  told_before phase.Stopping mark.Returned why not_made refused stops = refl
+  told_before Phase.Stopping StartMark.NotMade why not_made refused stops = cc
+  told_before Phase.Stopping StartMark.Made why not_made refused stops = cc
+  told_before Phase.Stopping StartMark.Returned why not_made refused stops = refl
   told_before _ m why not_made refused stops = cc
 
   -- no start is out where all workers are idle
@@ -188,7 +175,7 @@ module _ (k : WorkerId) (i : InstanceId) where
   none_out m h = grind arith
 
   module _ (w : World) (sound : IsSound w) (rests : IsAtRest k w) (row : Instance) (there : slice_get w.stack.instances i.0 ≡ Some row) where
-    none_at : (d : Desk) → is_at d i.0 place.Idle ≡ false → least_at d row ≤ 0
+    none_at : (d : Desk) → is_at d i.0 Worker.Idle ≡ false → least_at d row ≤ 0
     none_at d not =
         let staffed : IsStaffed d (Some row) (count_by (is_at d i.0) w.workers) =
         subst (λ (m : Option Instance). IsStaffed d m (count_by (is_at d i.0) w.workers)) there (sound.under_way.desks d i.0) in
@@ -206,8 +193,8 @@ module _ (k : WorkerId) (i : InstanceId) where
   start_refusal : (old : World) (why : Status) (new : World) → IsAtRest k old → StartsTeardown old k i (Err why) new → first_of (stack.start_refusals old.stack i) ≡ Some why
   unfolding StartsTeardown stack.StartsTeardown
   start_refusal old why new rests h =
-      (subst (λ (b : Bool). Unless {T = Unit {0}} status.WrongStep b (Err why) old new
-      (stack.StartsTeardown old.stack i (Err why) new.stack × (new ≡ record old { stack = new.stack; workers = after_entering old.workers k (place.Start i) (Err why) })))
+      (subst (λ (b : Bool). Unless {T = Unit {0}} Status.WrongStep b (Err why) old new
+      (stack.StartsTeardown old.stack i (Err why) new.stack × (new ≡ record old { stack = new.stack; workers = after_entering old.workers k (Worker.Start i) (Err why) })))
       (ap is_idle rests.idle) h).0.0
 
   pub was_told : (old new : World) → IsSound old → IsAtRest k old → StartsQuietly k i old new → WasTold i new.stack
@@ -218,15 +205,15 @@ module _ (k : WorkerId) (i : InstanceId) where
       (by_row (slice_get old.stack.instances i.0) refl was (start_refusal old why new rests h))
     where
       by_row : (m : Option Instance) → slice_get old.stack.instances i.0 ≡ m → is_stopping_row m ≡ true
-          → first_of ((is_gone_at m, status.NoInstance) ∷ (not (passes stack.is_to_start m), status.WrongStep) ∷ []) ≡ Some why → passes stack.is_to_complete m ≡ true
+          → first_of ((is_gone_at m, Status.NoInstance) ∷ (not (passes stack.is_to_start m), Status.WrongStep) ∷ []) ≡ Some why → passes stack.is_to_complete m ≡ true
       by_row None there stopping refused = cc
       by_row (Some row) there stopping refused = told_before row.phase row.start why (not_out old sound rests row there) refused stopping
   was_told old new sound rests (inr (started, back, starts, returns, tidies)) stopping =
       let is = start_stack old rests.idle started starts back new returns tidies in
       subst (λ (s : StackWorld). passes stack.is_to_complete (slice_get s.instances i.0) ≡ true) (sym is)
-      (told_row (updated (stack.with_start mark.Made) old.stack.instances i.0) i.0 (subst (λ (s : StackWorld). stops s i.0 ≡ true) is stopping))
+      (told_row (updated (stack.with_start StartMark.Made) old.stack.instances i.0) i.0 (subst (λ (s : StackWorld). stops s i.0 ≡ true) is stopping))
 
-  pub starts_leaves : (old new : World) → worker_at old.workers k ≡ Some place.Idle → StartsQuietly k i old new → CalmAfter old new
+  pub starts_leaves : (old new : World) → worker_at old.workers k ≡ Some Worker.Idle → StartsQuietly k i old new → CalmAfter old new
   starts_leaves old new idle (inl (why, h)) = calm_same old new (start_refused old why new h)
   starts_leaves old new idle (inr (started, back, starts, returns, tidies)) = start_leaves old idle started starts back new returns tidies
 
@@ -236,11 +223,11 @@ module _ (k : WorkerId) (i : InstanceId) where
   none_flies t none = ap (λ rs. total (flight i.0) rs) none
 
   completes_row : (row : Instance) (asked : Bool) (n : ℕ) → stack.is_to_complete row ≡ true → asked ≡ false → n ≡ 0
-      → first_of ((is_detached row.phase, status.NoInstance) ∷ (not (stack.is_to_complete row) || asked, status.WrongStep) ∷ (nat_lt 0 n, status.Busy n) ∷ []) ≡ None
+      → first_of ((is_detached row.phase, Status.NoInstance) ∷ (not (stack.is_to_complete row) || asked, Status.WrongStep) ∷ (nat_lt 0 n, Status.Busy n) ∷ []) ≡ None
   completes_row row asked n ready none calm = grind arith
 
   complete_refusals : (m : Option Instance) (asked : Bool) (n : ℕ) → passes stack.is_to_complete m ≡ true → asked ≡ false → n ≡ 0
-      → first_of ((is_gone_at m, status.NoInstance) ∷ (not (passes stack.is_to_complete m) || asked, status.WrongStep) ∷ (nat_lt 0 n, status.Busy n) ∷ []) ≡ None
+      → first_of ((is_gone_at m, Status.NoInstance) ∷ (not (passes stack.is_to_complete m) || asked, Status.WrongStep) ∷ (nat_lt 0 n, Status.Busy n) ∷ []) ≡ None
   complete_refusals None asked n ready none calm = cc
   complete_refusals (Some row) asked n ready none calm = completes_row row asked n ready none calm
 
@@ -249,25 +236,25 @@ module _ (k : WorkerId) (i : InstanceId) where
   unfolding CompletesTeardown stack.CompletesTeardown
   completes old why new rests was stopping h =
       let event =
-      subst (λ (b : Bool). Unless {T = Unit {0}} status.WrongStep b (Err why) old new
+      subst (λ (b : Bool). Unless {T = Unit {0}} Status.WrongStep b (Err why) old new
       (stack.CompletesTeardown old.stack i (is_queried i old.workers) (in_flight i.0 old.flow) (Err why) new.stack
-      × (new ≡ record old { stack = new.stack; workers = after_entering old.workers k (place.Complete i) (Err why) })))
+      × (new ≡ record old { stack = new.stack; workers = after_entering old.workers k (Worker.Complete i) (Err why) })))
       (ap is_idle rests.idle) h in
       none-some why (sym (complete_refusals (slice_get old.stack.instances i.0) (is_queried i old.workers) (in_flight i.0 old.flow) (was stopping)
       (none_in (is_in_query i.0) refl old.workers rests.all) (none_flies old.flow rests.operations)) ∙ event.0.0)
 
   completing_at : (old completing : World) → CompletesTeardown old k i (Ok tt) completing
-      → completing ≡ record old { stack = stack.completing old.stack i; workers = put old.workers k (place.Complete i) }
+      → completing ≡ record old { stack = stack.completing old.stack i; workers = put old.workers k (Worker.Complete i) }
   unfolding CompletesTeardown stack.CompletesTeardown
   completing_at old completing h =
       let event = happened old k tt completing _ h in
-      event.1 ∙ ap (λ (s : StackWorld). record old { stack = s; workers = put old.workers k (place.Complete i) }) event.0.1
+      event.1 ∙ ap (λ (s : StackWorld). record old { stack = s; workers = put old.workers k (Worker.Complete i) }) event.0.1
 
-  module _ (old : World) (idle : worker_at old.workers k ≡ Some place.Idle) (completing : World) (completes : CompletesTeardown old k i (Ok tt) completing) where
-    from_complete : worker_at completing.workers k ≡ Some (place.Complete i)
-    from_complete = is_in k old completing (place.Complete i) idle (ap (λ (w : World). w.workers) (completing_at old completing completes))
+  module _ (old : World) (idle : worker_at old.workers k ≡ Some Worker.Idle) (completing : World) (completes : CompletesTeardown old k i (Ok tt) completing) where
+    from_complete : worker_at completing.workers k ≡ Some (Worker.Complete i)
+    from_complete = is_in k old completing (Worker.Complete i) idle (ap (λ (w : World). w.workers) (completing_at old completing completes))
 
-    complete_at : (back : World) → CompleteReturns completing k (Ok tt) back → CompleteReturnsAt completing k (Ok tt) back (Some (place.Complete i))
+    complete_at : (back : World) → CompleteReturns completing k (Ok tt) back → CompleteReturnsAt completing k (Ok tt) back (Some (Worker.Complete i))
     unfolding CompleteReturns
     complete_at back h = subst (CompleteReturnsAt completing k (Ok tt) back) from_complete h
 
@@ -282,7 +269,7 @@ module _ (k : WorkerId) (i : InstanceId) where
         let over : Undisturbed old back =
         record {
           flow = ap (λ (w : World). w.flow) at.4 ∙ ap (λ (w : World). w.flow) from;
-          workers = is_out k old completing back (place.Complete i) idle (ap (λ (w : World). w.workers) from) (ap (λ (w : World). w.workers) at.4);
+          workers = is_out k old completing back (Worker.Complete i) idle (ap (λ (w : World). w.workers) from) (ap (λ (w : World). w.workers) at.4);
           files = ap (λ (w : World). w.files) at.4 ∙ ap (λ (w : World). w.files) from;
         } in
         let is = complete_stack back new returns tidies in (
@@ -290,13 +277,13 @@ module _ (k : WorkerId) (i : InstanceId) where
             undisturbed = both old back new over (by_tidying back new tidies);
             fewer = λ j h.
                 let changed = subst (λ (s : StackWorld). stops s j ≡ true) is h in
-                stays_fewer (stack.in_phase phase.Completing) (λ row t. cc) old.stack.instances i.0 j
-                (stays_fewer (stack.in_phase phase.Emptying) (λ row t. cc) (updated (stack.in_phase phase.Completing) old.stack.instances i.0) i.0 j changed);
+                stays_fewer (stack.in_phase Phase.Completing) (λ row t. cc) old.stack.instances i.0 j
+                (stays_fewer (stack.in_phase Phase.Emptying) (λ row t. cc) (updated (stack.in_phase Phase.Completing) old.stack.instances i.0) i.0 j changed);
           },
-          ap (λ (s : StackWorld). stops s i.0) is ∙ goes (stack.in_phase phase.Emptying) (λ row. refl) (updated (stack.in_phase phase.Completing) old.stack.instances i.0) i.0,
+          ap (λ (s : StackWorld). stops s i.0) is ∙ goes (stack.in_phase Phase.Emptying) (λ row. refl) (updated (stack.in_phase Phase.Completing) old.stack.instances i.0) i.0,
         )
 
-  pub completes_leaves : (old new : World) → worker_at old.workers k ≡ Some place.Idle → CompletesQuietly k i old new → CalmAfter old new × (stops new.stack i.0 ≡ false)
+  pub completes_leaves : (old new : World) → worker_at old.workers k ≡ Some Worker.Idle → CompletesQuietly k i old new → CalmAfter old new × (stops new.stack i.0 ≡ false)
   completes_leaves old new idle (inl (not, same)) = (calm_same old new same, ap (λ (w : World). stops w.stack i.0) same ∙ not)
   completes_leaves old new idle (inr (completing, back, completes, returns, tidies)) = complete_leaves old idle completing completes back new returns tidies
 

@@ -1,41 +1,26 @@
 -- What a `next` gives is of the operation, and the worker is inside it then.
-use Rattle.std.specs.Prelude.{◌≡◌, ◌==◌, ⊤, Bool, true, false, cond, Option, Some, None, IfSome, option_map, unwrap_or, Result, Ok, Err, slice_get, refl}
-use Rattle.std.proofs.Common.{sym, ap, subst, ◌∙◌}
+use Rattle.fm_local.proofs.Words.{⊤, ◌≡◌, Bool, Err, FlowAction, FlowRecord, InstanceId, None, Ok, OpId, Option, Params, Result, Some, Status}
+use Rattle.fm_local.proofs.Words.{WorkerId, World, false, slice_get, true, worker_at, ◌==◌, ◌∙◌, ap, cond, option_map, refl, subst, sym, unwrap_or}
+use Rattle.fm_local.proofs.Words.{call_fits, fit, ascend, call_base, call_post, call_pre, descend, give_post, may_take, next_at, next_of, is_number}
+use Rattle.fm_local.proofs.Words.{Below, NextsAt, Unless, drains_at, Nexts, IsSound, Ask, FlowTable, Stage, changed, operation_at, owed, told}
+use Rattle.fm_local.proofs.Words.{after_next, is_idle, Worker}
+use Rattle.std.specs.Prelude.{IfSome}
 use Rattle.fm_types.proofs.Firsts.{find_changed, found_holds}
 use Rattle.fm_types.proofs.Lists.{all_at}
-use Rattle.fm_types.specs.declared.status.Status.TheVariants as status
-use Rattle.fm_data.specs.Params.{call_fits, fit}
-use Rattle.fm_data.specs.declared.params.Params.{Params}
 use Rattle.fm_flow.proofs.Next.{next_stays}
-use Rattle.fm_flow.specs.Record.{FlowRecord}
 use Rattle.fm_flow.specs.Sound as flow
-use Rattle.fm_flow.specs.Entries.{owed}
-use Rattle.fm_flow.specs.Steps.{ascend, call_base, call_post, call_pre, descend, give_post, may_take, next_at, next_of, unwound_to}
-use Rattle.fm_flow.specs.Table.{FlowTable, changed, is_number, operation_at, told}
-use Rattle.fm_flow.specs.declared.action.Below.{Below}
-use Rattle.fm_flow.specs.declared.action.Below.TheVariants as below
-use Rattle.fm_flow.specs.declared.action.FlowAction.{FlowAction}
-use Rattle.fm_flow.specs.declared.action.FlowAction.TheVariants as action
-use Rattle.fm_flow.specs.declared.entry.Ask.{Ask}
-use Rattle.fm_flow.specs.declared.stage.Stage.{Stage}
-use Rattle.fm_flow.specs.declared.stage.Stage.TheVariants as stage
-use Rattle.fm_world.specs.Events.{Nexts, NextsAt, Unless, drains_at}
-use Rattle.fm_world.specs.Sound.{IsSound}
-use Rattle.fm_world.specs.Words.{InstanceId, OpId, Status, WorkerId}
-use Rattle.fm_world.specs.Workers.{after_next, is_idle, worker_at}
-use Rattle.fm_world.specs.World.{World}
-use Rattle.fm_world.specs.declared.worker.Worker.TheVariants as place
+use Rattle.fm_flow.specs.Steps.{unwound_to}
+use Rattle.fm_local.specs.Places.{IsLent, IsOut}
 use Rattle.fm_local.proofs.Events.{lost, placed}
 use Rattle.fm_local.proofs.Fitting.{call_fitting}
-use Rattle.fm_local.specs.Places.{IsLent, IsOut}
 
 -- ---- of one operation
 
 -- the data, or the call, is the operation's
 abbrev Fits : Result FlowAction Status → FlowRecord → Type 0
-Fits (Ok (action.Pre i lent)) r = fit r.operation r.path lent.received ≡ true
-Fits (Ok (action.Base call)) r = call_fits r.operation r.volume r.path call ≡ true
-Fits (Ok (action.Post i lent completion)) r = fit r.operation r.path lent.received ≡ true
+Fits (Ok (FlowAction.Pre i lent)) r = fit r.operation r.path lent.received ≡ true
+Fits (Ok (FlowAction.Base call)) r = call_fits r.operation r.volume r.path call ≡ true
+Fits (Ok (FlowAction.Post i lent completion)) r = fit r.operation r.path lent.received ≡ true
 Fits _ r = ⊤
 
 module _ (k : WorkerId) where
@@ -63,30 +48,30 @@ module _ (k : WorkerId) where
   up_fits true r sound (Some ask) = tt
   up_fits false r sound (Some ask) = by_worker (may_take k ask)
     where
-      by_worker : (b : Bool) → Fits (cond b (call_post k ask r) (record { reply = Err status.WrongStep; after = r })).reply (cond b (call_post k ask r) (record { reply = Err status.WrongStep; after = r })).after
+      by_worker : (b : Bool) → Fits (cond b (call_post k ask r) (record { reply = Err Status.WrongStep; after = r })).reply (cond b (call_post k ask r) (record { reply = Err Status.WrongStep; after = r })).after
       by_worker true = unwound_fits ask r sound (slice_get r.kept ask.place) refl
       by_worker false = tt
 
   down_fits : (lies : Below) (r : FlowRecord) → flow.IsSound r → Fits (descend k lies r).reply (descend k lies r).after
-  down_fits (below.Instance i true) r sound = pre_fits i r r.params sound.params
-  down_fits (below.Instance i false) r sound = tt
-  down_fits below.Call r sound = base_fits r r.params sound.params
-  down_fits (below.Known why) r sound = tt
+  down_fits (Below.Instance i true) r sound = pre_fits i r r.params sound.params
+  down_fits (Below.Instance i false) r sound = tt
+  down_fits Below.Call r sound = base_fits r r.params sound.params
+  down_fits (Below.Known why) r sound = tt
 
   at_fits : (lies : Below) (stops : Bool) (r : FlowRecord) → flow.IsSound r → (s : Stage) → Fits (next_at k lies stops r s).reply (next_at k lies stops r s).after
-  at_fits lies stops r sound stage.Descending = down_fits lies r sound
-  at_fits lies stops r sound stage.PreRunning = tt
-  at_fits lies stops r sound stage.PreHeld = tt
-  at_fits lies stops r sound stage.InBase = tt
-  at_fits lies stops r sound stage.Ascending = up_fits stops r sound (slice_get (owed r.entries) 0)
-  at_fits lies stops r sound stage.PostRunning = tt
-  at_fits lies stops r sound stage.PostHeld = tt
-  at_fits lies stops r sound (stage.InDrain i) = tt
+  at_fits lies stops r sound Stage.Descending = down_fits lies r sound
+  at_fits lies stops r sound Stage.PreRunning = tt
+  at_fits lies stops r sound Stage.PreHeld = tt
+  at_fits lies stops r sound Stage.InBase = tt
+  at_fits lies stops r sound Stage.Ascending = up_fits stops r sound (slice_get (owed r.entries) 0)
+  at_fits lies stops r sound Stage.PostRunning = tt
+  at_fits lies stops r sound Stage.PostHeld = tt
+  at_fits lies stops r sound (Stage.InDrain i) = tt
 
   turned_fits : (lies : Below) (stops : Bool) (r : FlowRecord) → flow.IsSound r → Fits (next_of k lies stops r).reply (next_of k lies stops r).after
   turned_fits lies stops r sound = by_collected r.collected
     where
-      by_collected : (b : Bool) → Fits (cond b (record { reply = Err status.WrongStep; after = r }) (next_at k lies stops r r.stage)).reply (cond b (record { reply = Err status.WrongStep; after = r }) (next_at k lies stops r r.stage)).after
+      by_collected : (b : Bool) → Fits (cond b (record { reply = Err Status.WrongStep; after = r }) (next_at k lies stops r r.stage)).reply (cond b (record { reply = Err Status.WrongStep; after = r }) (next_at k lies stops r r.stage)).after
       by_collected true = tt
       by_collected false = at_fits lies stops r sound r.stage
 
@@ -99,22 +84,22 @@ module _ (k : WorkerId) (o : OpId) where
   -- the worker went where it was sent
   sent : (old new : World) (said : Result FlowAction Status) → IsOut k old → new.workers ≡ after_next old.workers k o said → (r : FlowRecord) → operation_at o new.flow ≡ Some r → Fits said r
       → IsLent k o said new
-  sent old new (Ok (action.Pre i lent)) out goes r there fits = (
-    ap (λ ws. worker_at ws k) goes ∙ placed old.workers k place.Idle (place.Pre o i) out,
+  sent old new (Ok (FlowAction.Pre i lent)) out goes r there fits = (
+    ap (λ ws. worker_at ws k) goes ∙ placed old.workers k Worker.Idle (Worker.Pre o i) out,
     told_now (λ r. fit r.operation r.path lent.received) false new.flow r there ∙ fits,
   )
-  sent old new (Ok (action.Base call)) out goes r there fits = (
-    ap (λ ws. worker_at ws k) goes ∙ placed old.workers k place.Idle (place.Base o) out,
+  sent old new (Ok (FlowAction.Base call)) out goes r there fits = (
+    ap (λ ws. worker_at ws k) goes ∙ placed old.workers k Worker.Idle (Worker.Base o) out,
     told_now (λ r. call_fits r.operation r.volume r.path call) false new.flow r there ∙ fits,
   )
-  sent old new (Ok (action.Post i lent completion)) out goes r there fits = (
-    ap (λ ws. worker_at ws k) goes ∙ placed old.workers k place.Idle (place.Post o i) out,
+  sent old new (Ok (FlowAction.Post i lent completion)) out goes r there fits = (
+    ap (λ ws. worker_at ws k) goes ∙ placed old.workers k Worker.Idle (Worker.Post o i) out,
     told_now (λ r. fit r.operation r.path lent.received) false new.flow r there ∙ fits,
   )
-  sent old new (Ok (action.Drain i completion)) out goes r there fits = ap (λ ws. worker_at ws k) goes ∙ placed old.workers k place.Idle (place.Drain o i) out
-  sent old new (Ok action.Moved) out goes r there fits = ap (λ ws. worker_at ws k) goes ∙ out
-  sent old new (Ok action.Held) out goes r there fits = ap (λ ws. worker_at ws k) goes ∙ out
-  sent old new (Ok action.Done) out goes r there fits = ap (λ ws. worker_at ws k) goes ∙ out
+  sent old new (Ok (FlowAction.Drain i completion)) out goes r there fits = ap (λ ws. worker_at ws k) goes ∙ placed old.workers k Worker.Idle (Worker.Drain o i) out
+  sent old new (Ok FlowAction.Moved) out goes r there fits = ap (λ ws. worker_at ws k) goes ∙ out
+  sent old new (Ok FlowAction.Held) out goes r there fits = ap (λ ws. worker_at ws k) goes ∙ out
+  sent old new (Ok FlowAction.Done) out goes r there fits = ap (λ ws. worker_at ws k) goes ∙ out
   sent old new (Err why) out goes r there fits = ap (λ ws. worker_at ws k) goes ∙ out
 
   module _ (old : World) (sound : IsSound old) (out : IsOut k old) (said : Result FlowAction Status) (new : World) where
@@ -123,7 +108,7 @@ module _ (k : WorkerId) (o : OpId) where
 
     -- an operation that isn't there is refused
     by_record : (lies : Below) (m : Option FlowRecord) → operation_at o old.flow ≡ m → new.flow ≡ changed o (step lies) old.flow → new.workers ≡ after_next old.workers k o said
-        → said ≡ unwrap_or (option_map (λ r. (next_of k lies (drains_at old o) r).reply) m) (Err status.WrongStep) → IsLent k o said new
+        → said ≡ unwrap_or (option_map (λ r. (next_of k lies (drains_at old o) r).reply) m) (Err Status.WrongStep) → IsLent k o said new
     by_record lies None at flows goes is =
         subst (λ (s : Result FlowAction Status). IsLent k o s new) (sym is) (ap (λ ws. worker_at ws k) (goes ∙ ap (after_next old.workers k o) is) ∙ out)
     by_record lies (Some r) at flows goes is =
@@ -136,6 +121,6 @@ module _ (k : WorkerId) (o : OpId) where
     pub lent : Nexts old k o said new → IsLent k o said new
     unfolding Nexts
     lent h =
-        let at : NextsAt old k o said new = subst (λ (b : Bool). Unless status.WrongStep b said old new (NextsAt old k o said new)) (ap is_idle out) h in
+        let at : NextsAt old k o said new = subst (λ (b : Bool). Unless Status.WrongStep b said old new (NextsAt old k o said new)) (ap is_idle out) h in
         let same = lost said at.0 at.2 new at.4 in
         by_record at.0 (operation_at o old.flow) refl (same.flow ∙ ap (λ (w : World). w.flow) at.3.1) (same.workers ∙ ap (λ (w : World). w.workers) at.3.1) at.3.0

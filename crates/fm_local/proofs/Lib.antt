@@ -1,3 +1,4 @@
+pub mod Words
 pub mod OneFold
 pub mod Askers
 pub mod Turning

@@ -1,21 +1,9 @@
 -- A fold of functions has one answer and one end.
-use Rattle.std.specs.Prelude.{◌≡◌, ℕ, Bool, true, false, List, [], ◌∷◌}
-use Rattle.std.proofs.Common.{sym, subst, ◌∙◌}
-use Rattle.fm_data.specs.declared.answer.Answer.{Answer}
-use Rattle.fm_data.specs.Calls.{BaseCall}
-use Rattle.fm_data.specs.declared.params.Params.{Params}
-use Rattle.fm_data.specs.declared.verdict.Completion.{Completion}
-use Rattle.fm_data.specs.declared.verdict.PreVerdict.{PreVerdict}
-use Rattle.fm_data.specs.declared.verdict.PostVerdict.{PostVerdict}
-use Rattle.fm_data.specs.declared.verdict.PostVerdict.TheVariants.{Finished}
-use Rattle.fm_data.specs.Data.{Data, current_of, fresh_data, answered_data}
-use Rattle.fm_flow.specs.declared.entry.PreState.{PreState}
-use Rattle.fm_flow.specs.declared.entry.PreState.TheVariants as pre
-use Rattle.fm_flow.specs.Answered.{bare_answer}
-use Rattle.fm_flow.specs.Steps.{lent_answer, returned_answer}
-use Rattle.fm_flow.specs.Verdict.{verdict_counted}
-use Rattle.fm_local.specs.Folds.{Chain, Asker, asker, Rises, Leads, Visit, Descends, bare_completion}
-use Rattle.fm_local.specs.Chains.{chain_of}
+use Rattle.fm_local.proofs.Words.{[], ◌∷◌, ◌≡◌, Answer, BaseCall, Bool, Completion, Data, Finished, List, Params, PostVerdict, PreVerdict}
+use Rattle.fm_local.proofs.Words.{bare_answer, false, true, ℕ, ◌∙◌, subst, sym, answered_data, fresh_data, lent_answer, returned_answer}
+use Rattle.fm_local.proofs.Words.{verdict_counted, PreState, chain_of, Asker, Chain, Descends, Leads, Rises, Visit, asker}
+use Rattle.fm_data.specs.Data.{current_of}
+use Rattle.fm_local.specs.Folds.{bare_completion}
 use Rattle.fm_local.specs.Functions.{IsFunctional, OneFold}
 
 -- one answer and one end
@@ -37,12 +25,12 @@ module _ {W : Type 0} (chain : Chain W) (fixed : IsFunctional chain) where
 
   module _ (Below : Params → List Asker → W → Answer → W → Type 0) (once : Once Below) (i : ℕ) (p : Params) (asked : List Asker) (old : W) (a b : Answer) (x y : W) where
     leads_once : (back : Data) (state : PreState) → Leads chain Below i p back asked state old a x → Leads chain Below i p back asked state old b y → AreOne a b x y
-    leads_once back (pre.Asked completion) h k = once (current_of back) (asker i p completion ∷ asked) old a b x y h k
-    leads_once back pre.Passed h k = once (current_of back) asked old a b x y h k
-    leads_once back (pre.Completed status) h k = record { answer = rises_once asked (bare_answer status) a b h.0 k.0; end = h.1 ∙ sym k.1 }
-    leads_once back pre.Running h k = absurd h
-    leads_once back pre.Held h k = absurd h
-    leads_once back (pre.Synchronized completion) h k = absurd h
+    leads_once back (PreState.Asked completion) h k = once (current_of back) (asker i p completion ∷ asked) old a b x y h k
+    leads_once back PreState.Passed h k = once (current_of back) asked old a b x y h k
+    leads_once back (PreState.Completed status) h k = record { answer = rises_once asked (bare_answer status) a b h.0 k.0; end = h.1 ∙ sym k.1 }
+    leads_once back PreState.Running h k = absurd h
+    leads_once back PreState.Held h k = absurd h
+    leads_once back (PreState.Synchronized completion) h k = absurd h
 
     visit_once : (called : Bool) → Visit chain Below i called p asked old a x → Visit chain Below i called p asked old b y → AreOne a b x y
     visit_once true h k =

@@ -1,58 +1,25 @@
 -- A request that is carried to its end is answered as its fold says.
-use Rattle.std.specs.Prelude.{◌≡◌, ◌&&◌, ℕ, suc, Bool, true, false, cond, not, List, [], ◌∷◌, count_by, Option, Some, None, Result, Ok, Err, slice_get, refl}
-use Rattle.std.specs.List.{list_any}
-use Rattle.std.proofs.Common.{sym, ap, ap₂, subst, ◌∙◌, arith, inl, inr}
+use Rattle.fm_local.proofs.Words.{[], ◌∷◌, ◌≡◌, Answer, BaseCall, Bool, Completion, Data, Err, FlowRecord, List, None, Ok, OpId, Option, Params}
+use Rattle.fm_local.proofs.Words.{PostVerdict, PreVerdict, Result, Some, Status, WorkerId, World, bare_answer, false, slice_get, suc, true, worker_at}
+use Rattle.fm_local.proofs.Words.{ℕ, ◌&&◌, ◌∙◌, ap, ap₂, arith, cond, count_by, inl, inr, not, refl, subst, sym, nat_tests, same_Some, list_any}
+use Rattle.fm_local.proofs.Words.{params_of, Request, is_number, Ascending, step_keeps, after_begin, begin_refused, begun_at, begun_on, Begins}
+use Rattle.fm_local.proofs.Words.{Collects, FileTable, handle_at, stream_at, IsSound, Entry, FlowTable, HandleId, changed, owed, FileHandle}
+use Rattle.fm_local.proofs.Words.{FileStream, Step, StepReply, Worker, IsPlainFilter, Under, subject_of, IsAtRest, NoneStops, under, Carries}
 use Rattle.std.proofs.lemmas.Bool.{cases_eq}
-use Rattle.std.proofs.lemmas.Bool.Decides.{nat_tests}
 use Rattle.fm_types.proofs.Firsts.{count-cons}
 use Rattle.fm_types.specs.Refusals.{IsRefusalOrMemory}
-use Rattle.fm_types.specs.declared.ids.HandleId.{HandleId}
-use Rattle.fm_types.specs.declared.status.Status.{Status}
-use Rattle.fm_types.specs.declared.status.Status.TheVariants as status
-use Rattle.fm_data.specs.Data.{Data}
-use Rattle.fm_data.specs.Requests.{params_of}
-use Rattle.fm_data.specs.declared.answer.Answer.{Answer}
-use Rattle.fm_data.specs.Calls.{BaseCall}
-use Rattle.fm_data.specs.declared.params.Params.{Params}
-use Rattle.fm_data.specs.declared.request.Request.{Request}
-use Rattle.fm_data.specs.declared.request.Request.TheVariants as request
-use Rattle.fm_data.specs.declared.verdict.Completion.{Completion}
-use Rattle.fm_data.specs.declared.verdict.PreVerdict.{PreVerdict}
-use Rattle.fm_data.specs.declared.verdict.PostVerdict.{PostVerdict}
-use Rattle.fm_filter.specs.Plain.{IsPlainFilter}
-use Rattle.fm_flow.specs.Answered.{bare_answer}
 use Rattle.fm_flow.specs.Counts.{drain_opens, is_running_drain}
-use Rattle.fm_flow.specs.Entries.{owed}
-use Rattle.fm_flow.specs.Record.{FlowRecord}
 use Rattle.fm_flow.specs.Steps.{done_at}
-use Rattle.fm_flow.specs.Table.{FlowTable, collect_reply, collected_of, collected_in, is_collectable, is_number, removed, marked, changed, without_first}
-use Rattle.fm_flow.specs.declared.entry.Entry.{Entry}
+use Rattle.fm_flow.specs.Table.{collect_reply, collected_of, collected_in, is_collectable, removed, marked, without_first}
 use Rattle.fm_flow.specs.declared.entry.Entry.TheVariants.{Pre, Base, Post, Drain}
-use Rattle.fm_flow.specs.declared.stage.Stage.TheVariants.{Ascending}
-use Rattle.fm_world.proofs.Runs.{step_keeps}
-use Rattle.fm_world.specs.Events.{Begins, Collects, begin_refused, after_begin, begun_at, begun_on}
-use Rattle.fm_world.specs.Files.{FileTable, handle_at, stream_at}
 use Rattle.fm_world.specs.Headline.{is_in_drain}
-use Rattle.fm_world.specs.Sound.{IsSound}
-use Rattle.fm_world.specs.Words.{OpId, WorkerId}
-use Rattle.fm_world.specs.Workers.{worker_at}
-use Rattle.fm_world.specs.World.{World}
-use Rattle.fm_world.specs.declared.file.FileHandle.{FileHandle}
-use Rattle.fm_world.specs.declared.file.FileStream.{FileStream}
-use Rattle.fm_world.specs.declared.step.Step.TheVariants as step
-use Rattle.fm_world.specs.declared.step.StepReply.TheVariants as said
-use Rattle.fm_world.specs.declared.worker.Worker.{Worker}
-use Rattle.fm_world.specs.declared.worker.Worker.TheVariants as place
+use Rattle.fm_local.specs.Requests.{at_rest, FoldsAlone, PerformsBy, DoesBegun, IsAnswered, CarriedIsFold}
 use Rattle.fm_local.proofs.Alone.{Alone, found_alone, told_alone}
 use Rattle.fm_local.proofs.Begun as begin
 use Rattle.fm_local.proofs.Begun.{Started}
 use Rattle.fm_local.proofs.Beside.{KeepsRest, carries_beside}
 use Rattle.fm_local.proofs.Carried.{Ended, carried}
 use Rattle.fm_local.proofs.Carrying.{IsGoing}
-use Rattle.fm_local.specs.Chains.{Under, subject_of}
-use Rattle.fm_local.specs.Turns.{Carries}
-use Rattle.std.proofs.lemmas.Option.{same_Some}
-use Rattle.fm_local.specs.Requests.{at_rest, under, NoneStops, IsAtRest, FoldsAlone, PerformsBy, DoesBegun, IsAnswered, CarriedIsFold}
 
 -- ---- it begins
 
@@ -62,9 +29,9 @@ module _ (old : World) (rest : old.flow.operations ≡ []) where
   flow_is = ap (λ rs. record { operations = rs; next = old.flow.next }) rest
 
   refused_same : {D : Type 0} (d : D) (what : Request) → begin_refused old what ≡ begin_refused (at_rest old.stack old.flow.next (under d old)) what
-  refused_same d (request.List v) = ap (λ (t : FlowTable). begin_refused (record old { flow = t }) (request.List v)) flow_is
-  refused_same d (request.Create v path mode) = ap (λ (t : FlowTable). begin_refused (record old { flow = t }) (request.Create v path mode)) flow_is
-  refused_same d (request.OnHandle h asked) = ap (λ (t : FlowTable). begin_refused (record old { flow = t }) (request.OnHandle h asked)) flow_is
+  refused_same d (Request.List v) = ap (λ (t : FlowTable). begin_refused (record old { flow = t }) (Request.List v)) flow_is
+  refused_same d (Request.Create v path mode) = ap (λ (t : FlowTable). begin_refused (record old { flow = t }) (Request.Create v path mode)) flow_is
+  refused_same d (Request.OnHandle h asked) = ap (λ (t : FlowTable). begin_refused (record old { flow = t }) (Request.OnHandle h asked)) flow_is
 
   module _ {D : Type 0} (d : D) where
     abbrev resting : World
@@ -85,9 +52,9 @@ module _ (old : World) (rest : old.flow.operations ≡ []) where
 
     begun_same : (what : Request)
         → ((after_begin emptied what).flow.operations ≡ (after_begin resting what).flow.operations) × ((after_begin emptied what).files ≡ (after_begin resting what).files)
-    begun_same (request.List v) = (refl, refl)
-    begun_same (request.Create v path mode) = (refl, refl)
-    begun_same (request.OnHandle h asked) = on_found h (params_of asked) (handle_at h old.files)
+    begun_same (Request.List v) = (refl, refl)
+    begun_same (Request.Create v path mode) = (refl, refl)
+    begun_same (Request.OnHandle h asked) = on_found h (params_of asked) (handle_at h old.files)
 
     begun_so : (what : Request)
         → ((after_begin old what).flow.operations ≡ (after_begin resting what).flow.operations) × ((after_begin old what).files ≡ (after_begin resting what).files)
@@ -110,7 +77,7 @@ none_runs (Base why information ∷ es) none = none_runs es (λ i. omega (arith,
 none_runs (Post visit ∷ es) none = none_runs es (λ i. omega (arith, none i))
 
 -- idle workers are counted by no test that an idle one doesn't pass
-none_counted : (p : Worker → Bool) → p place.Idle ≡ false → (ws : List Worker) → ((j : ℕ) (a : Worker) → slice_get ws j ≡ Some a → a ≡ place.Idle) → count_by p ws ≡ 0
+none_counted : (p : Worker → Bool) → p Worker.Idle ≡ false → (ws : List Worker) → ((j : ℕ) (a : Worker) → slice_get ws j ≡ Some a → a ≡ Worker.Idle) → count_by p ws ≡ 0
 none_counted p idle [] all = refl
 none_counted p idle (a ∷ ws) all =
     let here : p a ≡ false = ap p (all 0 a refl) ∙ idle in
@@ -137,7 +104,7 @@ module _ (o : OpId) (last : FlowRecord) (done : World) (alone : Alone o last don
   unfolding Collects
   answer_is answer new h =
       let is : Ok answer ≡ Ok last.answer =
-      h.0 ∙ told_alone o last done.flow alone collect_reply (Err status.WrongStep) ∙ ap (λ b. cond b (Ok last.answer) (Err status.WrongStep)) (collectable last ascends owes uncollected) in
+      h.0 ∙ told_alone o last done.flow alone collect_reply (Err Status.WrongStep) ∙ ap (λ b. cond b (Ok last.answer) (Err Status.WrongStep)) (collectable last ascends owes uncollected) in
       cc
 
   pub flow_left : (answer : Answer) (new : World) → Collects done o (Ok answer) new → new ≡ record done { flow = removed o done.flow }
@@ -194,14 +161,14 @@ module _ {F D : Type 0} (pre_may : F → Data → PreVerdict → Data → Type 0
 
       ended : Ended pre_may post_may is_quiet carries filters plain k o (subject_of first) old.stack quiet first.volume first.born first.operation first begun d done e
       ended = carried pre_may post_may is_quiet carries filters plain k o (subject_of first) old.stack quiet n first begun d going
-          (step_keeps old (step.Begin what) (said.Operation (Ok o)) begun begins sound) start.stack done e carries_it
+          (step_keeps old (Step.Begin what) (StepReply.Operation (Ok o)) begun begins sound) start.stack done e carries_it
 
       keeps : KeepsRest k begun done
       keeps = carries_beside k pre_may post_may carries filters o n begun d done e carries_it
 
-      all_idle : (j : ℕ) (a : Worker) → slice_get done.workers j ≡ Some a → a ≡ place.Idle
+      all_idle : (j : ℕ) (a : Worker) → slice_get done.workers j ≡ Some a → a ≡ Worker.Idle
       all_idle j a at = elim (cases_eq j k.0) [
-        | inl own ↦ same_Some a place.Idle (sym at ∙ ap (slice_get done.workers) own ∙ ended.idle)
+        | inl own ↦ same_Some a Worker.Idle (sym at ∙ ap (slice_get done.workers) own ∙ ended.idle)
         | inr other ↦ rest.all j a (ap (λ ws. slice_get ws j) (sym start.workers) ∙ sym (keeps.beside j other) ∙ at)
       ]
 
@@ -235,7 +202,7 @@ module _ {F D : Type 0} (pre_may : F → Data → PreVerdict → Data → Type 0
               idle = ap (λ (w : World). worker_at w.workers k) gone ∙ ended.idle;
               all = λ j a at. all_idle j a (ap (λ (w : World). slice_get w.workers j) (sym gone) ∙ at);
             };
-            sound = step_keeps done (step.Collect o) (said.Answer (Ok answer)) new collects ended.sound;
+            sound = step_keeps done (Step.Collect o) (StepReply.Answer (Ok answer)) new collects ended.sound;
             stays = ap (λ (w : World). w.stack) gone ∙ ended.stays;
           }
 

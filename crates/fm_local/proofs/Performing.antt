@@ -1,41 +1,16 @@
 -- A request that a manager carries to its reply, by what its functions promise.
-use Rattle.std.specs.Prelude.{◌≡◌, ℕ, List, cond, [], Option, Result, Ok, Err, refl}
-use Rattle.std.proofs.Common.{sym, ap, subst, ◌∙◌}
-use Rattle.fm_types.specs.declared.status.Status.{Status}
-use Rattle.fm_types.specs.declared.status.Status.TheVariants as status
-use Rattle.fm_data.specs.Data.{Data}
-use Rattle.fm_data.specs.declared.answer.Answer.{Answer}
-use Rattle.fm_data.specs.Calls.{BaseCall}
-use Rattle.fm_base.specs.Folders.{Folder}
-use Rattle.fm_data.specs.declared.request.Reply.{Reply}
-use Rattle.fm_data.specs.declared.request.Request.{Request}
-use Rattle.fm_flow.specs.Answered.{bare_answer}
-use Rattle.fm_world.specs.Sound.{IsSound}
-use Rattle.fm_data.specs.declared.verdict.Completion.{Completion}
-use Rattle.fm_data.specs.declared.verdict.PreVerdict.{PreVerdict}
-use Rattle.fm_data.specs.declared.verdict.PostVerdict.{PostVerdict}
+use Rattle.fm_local.proofs.Words.{[], ◌≡◌, Answer, BaseCall, Completion, Data, Err, Folder, List, LocalManager, Ok, OpId, Option, PostVerdict}
+use Rattle.fm_local.proofs.Words.{PreVerdict, Result, Status, WorkerId, World, bare_answer, ℕ, ◌∙◌, ap, cond, refl, subst, sym, Reply, Request}
+use Rattle.fm_local.proofs.Words.{step_keeps, Begins, Collects, IsSound, Step, StepReply, ArePlainFilters, IsBegun, IsReady, PerformsIn, replied}
+use Rattle.fm_local.proofs.Words.{BasesCarry, subject_of, numbered, Tidies, Carries, Turn}
 use Rattle.fm_flow.specs.Table.{collect_reply}
-use Rattle.fm_world.proofs.Runs.{step_keeps}
-use Rattle.fm_world.specs.Events.{Begins, Collects}
-use Rattle.fm_world.specs.Words.{OpId, WorkerId}
-use Rattle.fm_world.specs.World.{World}
-use Rattle.fm_world.specs.declared.step.Step.TheVariants as step
-use Rattle.fm_world.specs.declared.step.StepReply.TheVariants as said
+use Rattle.fm_local.specs.Actions.{CarriesIn, ResumesNone, RunsIn, reply_of}
 use Rattle.fm_local.proofs.Alone.{told_alone}
 use Rattle.fm_local.proofs.Carried.{carried}
 use Rattle.fm_local.proofs.Begun.{start, first, going}
 use Rattle.fm_local.proofs.Performed.{collectable}
 use Rattle.fm_local.proofs.CarriedOn.{Keeps}
 use Rattle.fm_local.proofs.Tidying.{tidies_none}
-use Rattle.fm_local.specs.Actions.{ArePlainFilters, CarriesIn, IsBegun, IsReady, PerformsIn, ResumesNone, RunsIn, reply_of, replied}
-use Rattle.fm_local.specs.Bases.{BasesCarry}
-use Rattle.fm_local.specs.Managers.{numbered}
-use Rattle.fm_local.specs.Requests.{Tidies}
-use Rattle.fm_local.specs.declared.manager.LocalManager.{LocalManager}
-use Rattle.fm_local.specs.declared.requests.Turn.{Turn}
-use Rattle.fm_local.specs.declared.requests.Turn.TheVariants as turn
-use Rattle.fm_local.specs.Chains.{subject_of}
-use Rattle.fm_local.specs.Turns.{Carries}
 
 module _ {F D : Type 0} (pre : F → Data → PreVerdict → Data → Type 0) (post : F → Data → Completion → PostVerdict → Data → Type 0) (is_quiet : F → Type 0)
     (carries : D → BaseCall → Answer → D → Type 0) (filters : ℕ → Option F) (k : WorkerId) (plain : ArePlainFilters pre post is_quiet filters) (o : OpId) (begun : World)
@@ -47,10 +22,10 @@ module _ {F D : Type 0} (pre : F → Data → PreVerdict → Data → Type 0) (p
       let here = began in
       let r = first k o here.what here.before here.rests begun here.begins in
       let ended = carried pre post is_quiet carries filters plain k o (subject_of r) here.before.stack here.calm n r begun d (going k o here.what here.before here.rests begun here.begins)
-      (step_keeps here.before (step.Begin here.what) (said.Operation (Ok o)) begun here.begins here.sound) (start k o here.what here.before here.rests begun here.begins).stack done e carries_it in (
+      (step_keeps here.before (Step.Begin here.what) (StepReply.Operation (Ok o)) begun here.begins here.sound) (start k o here.what here.before here.rests begun here.begins).stack done e carries_it in (
         ended.last.answer,
-        h.0 ∙ told_alone o ended.last done.flow ended.alone collect_reply (Err status.WrongStep)
-            ∙ ap (λ b. cond b (Ok ended.last.answer) (Err status.WrongStep)) (collectable ended.last ended.ascends ended.owes ended.uncollected),
+        h.0 ∙ told_alone o ended.last done.flow ended.alone collect_reply (Err Status.WrongStep)
+            ∙ ap (λ b. cond b (Ok ended.last.answer) (Err Status.WrongStep)) (collectable ended.last ended.ascends ended.owes ended.uncollected),
       )
 
 module _ {F B : Type 0} (pre : F → Data → PreVerdict → Data → Type 0) (post : F → Data → Completion → PostVerdict → Data → Type 0) (is_quiet : F → Type 0)
@@ -61,7 +36,7 @@ module _ {F B : Type 0} (pre : F → Data → PreVerdict → Data → Type 0) (p
 
   -- an operation is carried to its end, its answer is taken, and what is due is cleaned up
   module _ (o : OpId) (old now taken new : LocalManager F B) (ended : Turn) (said : Reply) (carried : CarriesIn pre post is_quiet folder faults k o old ended now)
-      (calm : ResumesNone pre post is_quiet folder faults k old now) (kept : Keeps pre post is_quiet folder faults k o old now) (replies : ended ≡ turn.Done → Replies o now said taken)
+      (calm : ResumesNone pre post is_quiet folder faults k old now) (kept : Keeps pre post is_quiet folder faults k o old now) (replies : ended ≡ Turn.Done → Replies o now said taken)
       (keeps : taken ≡ record now { desk = record now.desk { state = taken.desk.state }; trace = taken.trace })
       (tidies : taken.desk.resumed.items.items ≡ [] → Tidies taken.desk.state new.desk.state)
       (settles : taken.desk.resumed.items.items ≡ [] → (new.bases ≡ taken.bases) × (new.filters ≡ taken.filters) × (new.desk.resumed.items.items ≡ [])) where

@@ -1,56 +1,27 @@
 -- Where the worker is while a callback runs, and that the event that ends it has it idle again.
-use Rattle.std.specs.Prelude.{◌≡◌, ◌==◌, ◌≤◌, ℕ, Bool, true, false, List, [], ◌∷◌, length, map, Option, Some, None, option_map, unwrap_or, Result, Ok, Err, IsOk, find, slice_get, refl}
-use Rattle.std.proofs.Common.{sym, ap, subst, ◌∙◌, inl, inr}
-use Rattle.std.proofs.lemmas.Bool.{cases_Bool}
-use Rattle.std.proofs.lemmas.Option.{none-some}
-use Rattle.fm_types.specs.declared.registration.Registration.{Registration}
-use Rattle.fm_types.specs.declared.status.Status.TheVariants as status
-use Rattle.fm_data.specs.Data.{Data, data_fits}
-use Rattle.fm_data.specs.Params.{call_fits, fit}
-use Rattle.fm_data.specs.Requests.{params_of}
-use Rattle.fm_data.specs.declared.answer.Answer.{Answer}
-use Rattle.fm_data.specs.Calls.{BaseCall}
-use Rattle.fm_data.specs.declared.params.Params.{Params}
-use Rattle.fm_data.specs.declared.request.Request.{Request}
-use Rattle.fm_data.specs.declared.verdict.Completion.{Completion}
-use Rattle.fm_data.specs.declared.verdict.PreVerdict.{PreVerdict}
-use Rattle.fm_data.specs.declared.verdict.PostVerdict.{PostVerdict}
-use Rattle.fm_data.specs.declared.verdict.PostVerdict.TheVariants.{Finished}
-use Rattle.fm_data.specs.declared.request.Request.TheVariants as request
+use Rattle.fm_local.proofs.Words.{[], ◌∷◌, ◌≡◌, ◌≤◌, Answer, BaseCall, Bool, Completion, Data, Err, FilterId, Finished, FlowAction, FlowRecord}
+use Rattle.fm_local.proofs.Words.{Instance, InstanceId, List, None, Ok, OpId, Option, Params, PostVerdict, PreVerdict, Result, Some, StackWorld}
+use Rattle.fm_local.proofs.Words.{Status, VolumeId, WorkerId, World, false, length, slice_get, true, worker_at, ℕ, ◌==◌, ◌∙◌, IsOk, ap, find, inl}
+use Rattle.fm_local.proofs.Words.{inr, map, option_map, refl, subst, sym, unwrap_or, cases_Bool, none-some, Registration, data_fits, call_fits, fit}
+use Rattle.fm_local.proofs.Words.{params_of, Request, base_fits, post_returned_of, is_number, idle_by, Finishes, DrainsWhere, is_stopping_at}
+use Rattle.fm_local.proofs.Words.{DrainReturns, TakesDrain, BaseReturnsAt, PostReturnsAt, PreReturnsAt, PreReturnsOver, ReturnsFrom, Unless}
+use Rattle.fm_local.proofs.Words.{after_begin, base_returned, begun_at, begun_on, state_at, Attaches, BaseReturns, Begins, Collects, Mounts}
+use Rattle.fm_local.proofs.Words.{PostReturns, PreReturns, Registers, SetsUp, handle_at, stream_at, LosesLinks, row_at, UnloadReturnsAt, AsksDetach}
+use Rattle.fm_local.proofs.Words.{AsksUnload, CompleteReturns, CompletesTeardown, EmptiesFilter, FinishesFilter, QueryReturns, StartReturns}
+use Rattle.fm_local.proofs.Words.{StartsTeardown, UnloadReturns, told, is_idle, put, FileHandle, FileStream, Worker, ArePlainFilters, filter_in}
+use Rattle.fm_local.proofs.Words.{filter_in_row, StaysOut}
+use Rattle.fm_world.specs.EarlyDrains.{DrainReturnsAt}
+use Rattle.fm_world.specs.Events.{SetsUpAt, pre_step}
+use Rattle.fm_world.specs.Teardowns.{CompleteReturnsAt, QueryReturnsAt, StartReturnsAt}
 use Rattle.fm_filter.specs.Standing.{Shape, shape_of, standing_of}
-use Rattle.fm_flow.specs.Record.{FlowRecord}
-use Rattle.fm_flow.specs.Steps.{base_fits, post_returned_of}
-use Rattle.fm_flow.specs.Table.{is_number, told}
-use Rattle.fm_flow.specs.declared.action.FlowAction.{FlowAction}
-use Rattle.fm_flow.specs.declared.action.FlowAction.TheVariants as action
-use Rattle.fm_world.proofs.Events.{idle_by}
-use Rattle.fm_stack.specs.StackWorld.{StackWorld}
-use Rattle.fm_stack.specs.declared.instance.Instance.{Instance}
-use Rattle.fm_world.specs.ContextEvents.{Finishes}
-use Rattle.fm_world.specs.EarlyDrains.{DrainReturns, DrainReturnsAt, DrainsWhere, TakesDrain, is_stopping_at}
-use Rattle.fm_world.specs.Events.{Attaches, BaseReturns, BaseReturnsAt, Begins, Collects, Mounts, PostReturns, PostReturnsAt, PreReturns, PreReturnsAt, Registers, SetsUp, SetsUpAt, Unless, after_begin}
-use Rattle.fm_world.specs.Events.{PreReturnsOver, ReturnsFrom, base_returned, begun_at, begun_on, pre_step, state_at}
-use Rattle.fm_world.specs.Files.{handle_at, stream_at}
-use Rattle.fm_world.specs.Links.{LosesLinks}
-use Rattle.fm_world.specs.Owners.{row_at}
-use Rattle.fm_world.specs.Teardowns.{AsksDetach, AsksUnload, CompletesTeardown, CompleteReturns, CompleteReturnsAt, EmptiesFilter, FinishesFilter}
-use Rattle.fm_world.specs.Teardowns.{QueryReturns, QueryReturnsAt, StartsTeardown, StartReturns, StartReturnsAt, UnloadReturns, UnloadReturnsAt}
-use Rattle.fm_world.specs.Words.{FilterId, InstanceId, OpId, Status, VolumeId, WorkerId}
-use Rattle.fm_world.specs.Workers.{is_idle, put, worker_at}
-use Rattle.fm_world.specs.World.{World}
-use Rattle.fm_world.specs.declared.file.FileHandle.{FileHandle}
-use Rattle.fm_world.specs.declared.file.FileStream.{FileStream}
-use Rattle.fm_world.specs.declared.worker.Worker.{Worker}
-use Rattle.fm_world.specs.declared.worker.Worker.TheVariants as place
+use Rattle.fm_local.specs.Actions.{Makes}
+use Rattle.fm_local.specs.Managers.{IsQuietIn}
+use Rattle.fm_local.specs.Calls.{QueriesWith, SetsUpWith, UnloadsWith}
+use Rattle.fm_local.specs.Places.{EndsFrom, IsIn, IsLent, IsOut, is_on}
+use Rattle.fm_local.specs.Turns.{HandsBack}
 use Rattle.fm_local.proofs.Events.{by_links, placed}
 use Rattle.fm_local.proofs.Fitting.{call_answered, fits_back}
 use Rattle.fm_local.proofs.Resting.{is_in}
-use Rattle.fm_local.specs.Actions.{ArePlainFilters, Makes}
-use Rattle.fm_local.specs.Chains.{filter_in, filter_in_row}
-use Rattle.fm_local.specs.Managers.{IsQuietIn}
-use Rattle.fm_local.specs.Calls.{QueriesWith, SetsUpWith, UnloadsWith}
-use Rattle.fm_local.specs.Places.{EndsFrom, IsIn, IsLent, IsOut, StaysOut, is_on}
-use Rattle.fm_local.specs.Turns.{HandsBack}
 
 -- ---- what stands
 
@@ -75,96 +46,96 @@ module _ (k : WorkerId) where
   pub same_out : (old new : World) → new ≡ old → StaysOut k old new
   same_out old new same = still_out old new (ap (λ (w : World). w.workers) same)
 
-  left : (a : Worker) (old new : World) → IsIn k a old → new.workers ≡ put old.workers k place.Idle → IsOut k new
-  left a old new there leaves = ap (λ ws. worker_at ws k) leaves ∙ placed old.workers k a place.Idle there
+  left : (a : Worker) (old new : World) → IsIn k a old → new.workers ≡ put old.workers k Worker.Idle → IsOut k new
+  left a old new there leaves = ap (λ ws. worker_at ws k) leaves ∙ placed old.workers k a Worker.Idle there
 
   -- ---- an idle worker enters a callback
 
-  entered : {T : Type 0} (old : World) (v : T) (new : World) (a : Worker) (Event : Type 0) → Unless status.WrongStep (is_idle (worker_at old.workers k)) (Ok v) old new Event
+  entered : {T : Type 0} (old : World) (v : T) (new : World) (a : Worker) (Event : Type 0) → Unless Status.WrongStep (is_idle (worker_at old.workers k)) (Ok v) old new Event
       → (Event → new.workers ≡ put old.workers k a) → IsIn k a new
   entered old v new a Event h goes = idle_by (λ result new. IsOk result → IsIn k a new) k (Ok v) old new Event h (λ why ok. cc) (λ idle event ok. is_in k old new a idle (goes event)) refl
 
-  pub attached_in : (old : World) (f : FilterId) (v : VolumeId) (name altitude : List ℕ) (i : InstanceId) (born : World) → Attaches old k f v name altitude (Ok i) born → IsIn k (place.Setup i) born
+  pub attached_in : (old : World) (f : FilterId) (v : VolumeId) (name altitude : List ℕ) (i : InstanceId) (born : World) → Attaches old k f v name altitude (Ok i) born → IsIn k (Worker.Setup i) born
   unfolding Attaches
-  attached_in old f v name altitude i born h = entered old i born (place.Setup i) _ h (λ event. ap (λ (w : World). w.workers) event.1)
+  attached_in old f v name altitude i born h = entered old i born (Worker.Setup i) _ h (λ event. ap (λ (w : World). w.workers) event.1)
 
   module _ (old : World) (i : InstanceId) (new : World) where
-    pub asked_in : AsksDetach old k i (Ok tt) new → IsIn k (place.Query i) new
+    pub asked_in : AsksDetach old k i (Ok tt) new → IsIn k (Worker.Query i) new
     unfolding AsksDetach
-    asked_in h = entered old tt new (place.Query i) _ h (λ event. ap (λ (w : World). w.workers) event.1)
+    asked_in h = entered old tt new (Worker.Query i) _ h (λ event. ap (λ (w : World). w.workers) event.1)
 
-    pub started_in : StartsTeardown old k i (Ok tt) new → IsIn k (place.Start i) new
+    pub started_in : StartsTeardown old k i (Ok tt) new → IsIn k (Worker.Start i) new
     unfolding StartsTeardown
-    started_in h = entered old tt new (place.Start i) _ h (λ event. ap (λ (w : World). w.workers) event.1)
+    started_in h = entered old tt new (Worker.Start i) _ h (λ event. ap (λ (w : World). w.workers) event.1)
 
-    pub completing_in : CompletesTeardown old k i (Ok tt) new → IsIn k (place.Complete i) new
+    pub completing_in : CompletesTeardown old k i (Ok tt) new → IsIn k (Worker.Complete i) new
     unfolding CompletesTeardown
-    completing_in h = entered old tt new (place.Complete i) _ h (λ event. ap (λ (w : World). w.workers) event.1)
+    completing_in h = entered old tt new (Worker.Complete i) _ h (λ event. ap (λ (w : World). w.workers) event.1)
 
-    pub draining_in : (o : OpId) (completion : Completion) → TakesDrain old k i (Ok (Some (o, completion))) new → IsIn k (place.EarlyDrain o i) new
+    pub draining_in : (o : OpId) (completion : Completion) → TakesDrain old k i (Ok (Some (o, completion))) new → IsIn k (Worker.EarlyDrain o i) new
     unfolding TakesDrain
-    draining_in o completion h = entered old (Some (o, completion)) new (place.EarlyDrain o i) _ h (λ event. by_stopping (is_stopping_at (row_at old.stack i)) event.1)
+    draining_in o completion h = entered old (Some (o, completion)) new (Worker.EarlyDrain o i) _ h (λ event. by_stopping (is_stopping_at (row_at old.stack i)) event.1)
       where
-        by_stopping : (b : Bool) → DrainsWhere b old k i (Some (o, completion)) new → new.workers ≡ put old.workers k (place.EarlyDrain o i)
+        by_stopping : (b : Bool) → DrainsWhere b old k i (Some (o, completion)) new → new.workers ≡ put old.workers k (Worker.EarlyDrain o i)
         by_stopping true d = ap (λ (w : World). w.workers) d.1
         by_stopping false d = absurd (none-some (o, completion) (sym d.0))
 
-  pub unloading_in : (old : World) (f : FilterId) (asked : World) → AsksUnload old k f (Ok tt) asked → IsIn k (place.Unload f) asked
+  pub unloading_in : (old : World) (f : FilterId) (asked : World) → AsksUnload old k f (Ok tt) asked → IsIn k (Worker.Unload f) asked
   unfolding AsksUnload
-  unloading_in old f asked h = entered old tt asked (place.Unload f) _ h (λ event. ap (λ (w : World). w.workers) event.1)
+  unloading_in old f asked h = entered old tt asked (Worker.Unload f) _ h (λ event. ap (λ (w : World). w.workers) event.1)
 
   -- ---- and comes out of it, with the event that ends it
 
   module _ (old new : World) (ended : Result (Unit {0}) Status) where
-    pub setup_out : (may : Bool → Type 0) (i : InstanceId) → IsIn k (place.Setup i) old → EndsFrom old (λ before. SetsUpWith may k before ended new) → IsOut k new
+    pub setup_out : (may : Bool → Type 0) (i : InstanceId) → IsIn k (Worker.Setup i) old → EndsFrom old (λ before. SetsUpWith may k before ended new) → IsOut k new
     unfolding SetsUp
     setup_out may i there (before, far, (accepts, answer, sets)) =
-        let still = in_still (place.Setup i) old before far there in
-        let at : SetsUpAt before k accepts ended new (Some (place.Setup i)) = subst (SetsUpAt before k accepts ended new) still sets in
-        left (place.Setup i) before new still (ap (λ (w : World). w.workers) at.4)
+        let still = in_still (Worker.Setup i) old before far there in
+        let at : SetsUpAt before k accepts ended new (Some (Worker.Setup i)) = subst (SetsUpAt before k accepts ended new) still sets in
+        left (Worker.Setup i) before new still (ap (λ (w : World). w.workers) at.4)
 
-    pub query_out : (may : Bool → Type 0) (i : InstanceId) → IsIn k (place.Query i) old → EndsFrom old (λ before. QueriesWith may k before ended new) → IsOut k new
+    pub query_out : (may : Bool → Type 0) (i : InstanceId) → IsIn k (Worker.Query i) old → EndsFrom old (λ before. QueriesWith may k before ended new) → IsOut k new
     unfolding QueryReturns
     query_out may i there (before, far, (allows, answer, returns)) =
-        let still = in_still (place.Query i) old before far there in
-        let at : QueryReturnsAt before k allows ended new (Some (place.Query i)) = subst (QueryReturnsAt before k allows ended new) still returns in
-        left (place.Query i) before new still (ap (λ (w : World). w.workers) at.2)
+        let still = in_still (Worker.Query i) old before far there in
+        let at : QueryReturnsAt before k allows ended new (Some (Worker.Query i)) = subst (QueryReturnsAt before k allows ended new) still returns in
+        left (Worker.Query i) before new still (ap (λ (w : World). w.workers) at.2)
 
-    pub unload_out : (may : Bool → Type 0) (f : FilterId) → IsIn k (place.Unload f) old → UnloadsWith may k old ended new → IsOut k new
+    pub unload_out : (may : Bool → Type 0) (f : FilterId) → IsIn k (Worker.Unload f) old → UnloadsWith may k old ended new → IsOut k new
     unfolding UnloadReturns
     unload_out may f there (allows, answer, returns) =
-        let at : UnloadReturnsAt old k allows ended new (Some (place.Unload f)) = subst (UnloadReturnsAt old k allows ended new) there returns in
-        left (place.Unload f) old new there (ap (λ (w : World). w.workers) at.1)
+        let at : UnloadReturnsAt old k allows ended new (Some (Worker.Unload f)) = subst (UnloadReturnsAt old k allows ended new) there returns in
+        left (Worker.Unload f) old new there (ap (λ (w : World). w.workers) at.1)
 
-    pub drained_out : (o : OpId) (i : InstanceId) → IsIn k (place.EarlyDrain o i) old → EndsFrom old (λ before. DrainReturns before k ended new) → IsOut k new
+    pub drained_out : (o : OpId) (i : InstanceId) → IsIn k (Worker.EarlyDrain o i) old → EndsFrom old (λ before. DrainReturns before k ended new) → IsOut k new
     unfolding DrainReturns
     drained_out o i there (before, far, returns) =
-        let still = in_still (place.EarlyDrain o i) old before far there in
-        let at : DrainReturnsAt before k ended new (Some (place.EarlyDrain o i)) = subst (DrainReturnsAt before k ended new) still returns in
-        left (place.EarlyDrain o i) before new still (ap (λ (w : World). w.workers) at.2)
+        let still = in_still (Worker.EarlyDrain o i) old before far there in
+        let at : DrainReturnsAt before k ended new (Some (Worker.EarlyDrain o i)) = subst (DrainReturnsAt before k ended new) still returns in
+        left (Worker.EarlyDrain o i) before new still (ap (λ (w : World). w.workers) at.2)
 
     -- the callbacks of a teardown can't be refused their end
-    pub start_ends : (i : InstanceId) → IsIn k (place.Start i) old → StartReturns old k ended new → StartReturns old k (Ok tt) new
+    pub start_ends : (i : InstanceId) → IsIn k (Worker.Start i) old → StartReturns old k ended new → StartReturns old k (Ok tt) new
     unfolding StartReturns
     start_ends i there h = subst (λ (r : Result (Unit {0}) Status). StartReturnsAt old k r new (worker_at old.workers k)) (subst (StartReturnsAt old k ended new) there h).0 h
 
-    pub complete_ends : (i : InstanceId) → IsIn k (place.Complete i) old → CompleteReturns old k ended new → CompleteReturns old k (Ok tt) new
+    pub complete_ends : (i : InstanceId) → IsIn k (Worker.Complete i) old → CompleteReturns old k ended new → CompleteReturns old k (Ok tt) new
     unfolding CompleteReturns
     complete_ends i there h = subst (λ (r : Result (Unit {0}) Status). CompleteReturnsAt old k r new (worker_at old.workers k)) (subst (CompleteReturnsAt old k ended new) there h).0 h
 
-  pub start_out : (old new : World) (i : InstanceId) → IsIn k (place.Start i) old → EndsFrom old (λ before. StartReturns before k (Ok tt) new) → IsOut k new
+  pub start_out : (old new : World) (i : InstanceId) → IsIn k (Worker.Start i) old → EndsFrom old (λ before. StartReturns before k (Ok tt) new) → IsOut k new
   unfolding StartReturns
   start_out old new i there (before, far, returns) =
-      let still = in_still (place.Start i) old before far there in
-      let at : StartReturnsAt before k (Ok tt) new (Some (place.Start i)) = subst (StartReturnsAt before k (Ok tt) new) still returns in
-      left (place.Start i) before new still (ap (λ (w : World). w.workers) at.2)
+      let still = in_still (Worker.Start i) old before far there in
+      let at : StartReturnsAt before k (Ok tt) new (Some (Worker.Start i)) = subst (StartReturnsAt before k (Ok tt) new) still returns in
+      left (Worker.Start i) before new still (ap (λ (w : World). w.workers) at.2)
 
-  pub complete_out : (old new : World) (i : InstanceId) → IsIn k (place.Complete i) old → EndsFrom old (λ before. CompleteReturns before k (Ok tt) new) → IsOut k new
+  pub complete_out : (old new : World) (i : InstanceId) → IsIn k (Worker.Complete i) old → EndsFrom old (λ before. CompleteReturns before k (Ok tt) new) → IsOut k new
   unfolding CompleteReturns
   complete_out old new i there (before, far, returns) =
-      let still = in_still (place.Complete i) old before far there in
-      let at : CompleteReturnsAt before k (Ok tt) new (Some (place.Complete i)) = subst (CompleteReturnsAt before k (Ok tt) new) still returns in
-      left (place.Complete i) before new still (ap (λ (w : World). w.workers) at.4)
+      let still = in_still (Worker.Complete i) old before far there in
+      let at : CompleteReturnsAt before k (Ok tt) new (Some (Worker.Complete i)) = subst (CompleteReturnsAt before k (Ok tt) new) still returns in
+      left (Worker.Complete i) before new still (ap (λ (w : World). w.workers) at.4)
 
   -- ---- callbacks of an operation, and the call of its file system
 
@@ -177,31 +148,31 @@ module _ (k : WorkerId) where
       by_record (Some r) on = fits_back r.operation r.path lent.received back on hands.received hands.laws
 
   module _ (o : OpId) (i : InstanceId) (old before new : World) (far : standing_of before ≡ standing_of old) (ended : Result (Unit {0}) Status) where
-    pub pre_out : (lent back : Data) (given : PreVerdict) → IsIn k (place.Pre o i) old × (is_on old o lent.received ≡ true) → HandsBack lent back → PreReturns before k given back ended new → IsOut k new
+    pub pre_out : (lent back : Data) (given : PreVerdict) → IsIn k (Worker.Pre o i) old × (is_on old o lent.received ≡ true) → HandsBack lent back → PreReturns before k given back ended new → IsOut k new
     unfolding PreReturns
     pre_out lent back given (there, on) hands h =
-        let still = in_still (place.Pre o i) old before far there in
-        let at : PreReturnsAt before k given back ended new (Some (place.Pre o i)) = subst (PreReturnsAt before k given back ended new) still h in
+        let still = in_still (Worker.Pre o i) old before far there in
+        let at : PreReturnsAt before k given back ended new (Some (Worker.Pre o i)) = subst (PreReturnsAt before k given back ended new) still h in
         let fits = back_fits before o lent back (on_still old before o lent.received far ∙ on) hands in
-        let over = subst (λ (b : Bool). Unless status.BadRequest b ended before new ((ended ≡ Ok tt) × PreReturnsOver before k o (pre_step before k o i given back) (state_at before k o i given) new)) fits at in
-        left (place.Pre o i) before new still ((by_links over.1.0 new over.1.2).workers ∙ ap (λ (w : World). w.workers) over.1.1.1)
+        let over = subst (λ (b : Bool). Unless Status.BadRequest b ended before new ((ended ≡ Ok tt) × PreReturnsOver before k o (pre_step before k o i given back) (state_at before k o i given) new)) fits at in
+        left (Worker.Pre o i) before new still ((by_links over.1.0 new over.1.2).workers ∙ ap (λ (w : World). w.workers) over.1.1.1)
 
-    pub post_out : (lent back : Data) (given : PostVerdict) → IsIn k (place.Post o i) old × (is_on old o lent.received ≡ true) → HandsBack lent back → PostReturns before k given (Some back) ended new
+    pub post_out : (lent back : Data) (given : PostVerdict) → IsIn k (Worker.Post o i) old × (is_on old o lent.received ≡ true) → HandsBack lent back → PostReturns before k given (Some back) ended new
         → IsOut k new
     unfolding PostReturns
     post_out lent back given (there, on) hands h =
-        let still = in_still (place.Post o i) old before far there in
-        let at : PostReturnsAt before k given (Some back) ended new (Some (place.Post o i)) = subst (PostReturnsAt before k given (Some back) ended new) still h in
+        let still = in_still (Worker.Post o i) old before far there in
+        let at : PostReturnsAt before k given (Some back) ended new (Some (Worker.Post o i)) = subst (PostReturnsAt before k given (Some back) ended new) still h in
         let fits = back_fits before o lent back (on_still old before o lent.received far ∙ on) hands in
-        let over = subst (λ (b : Bool). Unless status.BadRequest b ended before new ((ended ≡ Ok tt) × ReturnsFrom before k o (post_returned_of given back) before.contexts new)) fits at in
-        left (place.Post o i) before new still (ap (λ (w : World). w.workers) over.1.1)
+        let over = subst (λ (b : Bool). Unless Status.BadRequest b ended before new ((ended ≡ Ok tt) × ReturnsFrom before k o (post_returned_of given back) before.contexts new)) fits at in
+        left (Worker.Post o i) before new still (ap (λ (w : World). w.workers) over.1.1)
 
-    pub drain_out : (given : PostVerdict) → IsIn k (place.Drain o i) old → PostReturns before k given None ended new → IsOut k new
+    pub drain_out : (given : PostVerdict) → IsIn k (Worker.Drain o i) old → PostReturns before k given None ended new → IsOut k new
     unfolding PostReturns
     drain_out given there h =
-        let still = in_still (place.Drain o i) old before far there in
-        let at : PostReturnsAt before k given None ended new (Some (place.Drain o i)) = subst (PostReturnsAt before k given None ended new) still h in
-        left (place.Drain o i) before new still (ap (λ (w : World). w.workers) at.1.1)
+        let still = in_still (Worker.Drain o i) old before far there in
+        let at : PostReturnsAt before k given None ended new (Some (Worker.Drain o i)) = subst (PostReturnsAt before k given None ended new) still h in
+        left (Worker.Drain o i) before new still (ap (λ (w : World). w.workers) at.1.1)
 
   call_fits_back : (w : World) (o : OpId) (call : BaseCall) (answer : Answer) → told (λ r. call_fits r.operation r.volume r.path call) false o w.flow ≡ true → length answer.bytes ≤ 32768
       → told (base_fits call answer) false o w.flow ≡ true
@@ -212,24 +183,24 @@ module _ (k : WorkerId) where
       by_record (Some r) fits = call_answered r call answer fits size
 
   pub call_out : (o : OpId) (old new : World) (call : BaseCall) (answer : Answer) (ended : Result (Unit {0}) Status)
-      → IsIn k (place.Base o) old × (told (λ r. call_fits r.operation r.volume r.path call) false o old.flow ≡ true) → length answer.bytes ≤ 32768 → BaseReturns old k call answer ended new → IsOut k new
+      → IsIn k (Worker.Base o) old × (told (λ r. call_fits r.operation r.volume r.path call) false o old.flow ≡ true) → length answer.bytes ≤ 32768 → BaseReturns old k call answer ended new → IsOut k new
   unfolding BaseReturns
   call_out o old new call answer ended (there, on) size h =
-      let at : BaseReturnsAt old k call answer ended new (Some (place.Base o)) = subst (BaseReturnsAt old k call answer ended new) there h in
-      let over = subst (λ (b : Bool). Unless status.BadRequest b ended old new ((ended ≡ Ok tt) × LosesLinks (base_returned old k o call answer) new)) (call_fits_back old o call answer on size) at in
-      left (place.Base o) old new there (by_links (base_returned old k o call answer) new over.1).workers
+      let at : BaseReturnsAt old k call answer ended new (Some (Worker.Base o)) = subst (BaseReturnsAt old k call answer ended new) there h in
+      let over = subst (λ (b : Bool). Unless Status.BadRequest b ended old new ((ended ≡ Ok tt) × LosesLinks (base_returned old k o call answer) new)) (call_fits_back old o call answer on size) at in
+      left (Worker.Base o) old new there (by_links (base_returned old k o call answer) new over.1).workers
 
   -- whatever was next, the worker is idle once it is done
   module _ {F D : Type 0} (pre : F → Data → PreVerdict → Data → Type 0) (post : F → Data → Completion → PostVerdict → Data → Type 0) (drained : F → Completion → Type 0)
       (carries : D → BaseCall → Answer → D → Type 0) (filters : ℕ → Option F) where
     pub makes_out : (o : OpId) (said : Result FlowAction Status) (mid : World) (d : D) (new : World) (e : D) → IsLent k o said mid → Makes pre post drained carries filters k o said mid d new e → IsOut k new
-    makes_out o (Ok (action.Pre i lent)) mid d new e is (verdict, back, result, may, hands, (before, far, event), same) = pre_out o i mid before new far result lent back verdict is hands event
-    makes_out o (Ok (action.Base call)) mid d new e is (answer, result, carried, size, event) = call_out o mid new call answer result is size event
-    makes_out o (Ok (action.Post i lent completion)) mid d new e is (verdict, back, result, may, hands, (before, far, event), same) = post_out o i mid before new far result lent back verdict is hands event
-    makes_out o (Ok (action.Drain i completion)) mid d new e is (result, called, (before, far, event), same) = drain_out o i mid before new far result Finished is event
-    makes_out o (Ok action.Moved) mid d new e is (same, bases) = same_out mid new same is
-    makes_out o (Ok action.Held) mid d new e is (same, bases) = same_out mid new same is
-    makes_out o (Ok action.Done) mid d new e is (same, bases) = same_out mid new same is
+    makes_out o (Ok (FlowAction.Pre i lent)) mid d new e is (verdict, back, result, may, hands, (before, far, event), same) = pre_out o i mid before new far result lent back verdict is hands event
+    makes_out o (Ok (FlowAction.Base call)) mid d new e is (answer, result, carried, size, event) = call_out o mid new call answer result is size event
+    makes_out o (Ok (FlowAction.Post i lent completion)) mid d new e is (verdict, back, result, may, hands, (before, far, event), same) = post_out o i mid before new far result lent back verdict is hands event
+    makes_out o (Ok (FlowAction.Drain i completion)) mid d new e is (result, called, (before, far, event), same) = drain_out o i mid before new far result Finished is event
+    makes_out o (Ok FlowAction.Moved) mid d new e is (same, bases) = same_out mid new same is
+    makes_out o (Ok FlowAction.Held) mid d new e is (same, bases) = same_out mid new same is
+    makes_out o (Ok FlowAction.Done) mid d new e is (same, bases) = same_out mid new same is
     makes_out o (Err why) mid d new e is (same, bases) = same_out mid new same is
 
   -- ---- events that move no worker
@@ -247,9 +218,9 @@ module _ (k : WorkerId) where
   collected_out old o result new h = still_out old new (ap (λ (w : World). w.workers) h.1)
 
   begun_stays : (w : World) (what : Request) → (after_begin w what).workers ≡ w.workers
-  begun_stays w (request.List v) = refl
-  begun_stays w (request.Create v path mode) = refl
-  begun_stays w (request.OnHandle h asked) = by_handle (handle_at h w.files)
+  begun_stays w (Request.List v) = refl
+  begun_stays w (Request.Create v path mode) = refl
+  begun_stays w (Request.OnHandle h asked) = by_handle (handle_at h w.files)
     where
       by_stream : (x : FileHandle) (m : Option FileStream) → (begun_on w h (params_of asked) x m).workers ≡ w.workers
       by_stream x None = refl

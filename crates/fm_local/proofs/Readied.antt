@@ -1,35 +1,17 @@
 -- A manager that was ready is ready again behind a call that makes the events that it names.
-use Rattle.std.specs.Prelude.{◌≡◌, ◌+◌, ◌&&◌, ℕ, zero, suc, Bool, true, List, [], Option, Some, None, option_and_then, option_map, replicate, Result, Ok, Err, IsOk, slice_get, refl}
-use Rattle.std.proofs.Common.{inr, sym, ap, subst, ◌∙◌, arith}
-use Rattle.std.proofs.lemmas.Option.{none-some, same_Some}
-use Rattle.fm_base.specs.Folders.{Folder}
-use Rattle.fm_filter.specs.Plain.{IsPlainFilter}
-use Rattle.fm_types.specs.declared.ids.FilterId.{FilterId}
-use Rattle.fm_types.specs.declared.ids.VolumeId.{VolumeId}
-use Rattle.fm_types.specs.declared.ids.InstanceId.{InstanceId}
-use Rattle.fm_types.specs.declared.status.Status.{Status}
-use Rattle.fm_data.specs.Data.{Data}
-use Rattle.fm_data.specs.declared.verdict.Completion.{Completion}
-use Rattle.fm_data.specs.declared.verdict.PreVerdict.{PreVerdict}
-use Rattle.fm_data.specs.declared.verdict.PostVerdict.{PostVerdict}
-use Rattle.fm_world.specs.Events.{Attaches}
-use Rattle.fm_world.specs.Sound.{IsSound}
-use Rattle.fm_world.specs.Teardowns.{AsksDetach}
-use Rattle.fm_world.specs.Words.{WorkerId}
-use Rattle.fm_world.specs.Workers.{worker_at}
-use Rattle.fm_world.specs.World.{World, empty_world}
-use Rattle.fm_world.specs.declared.worker.Worker.{Worker}
-use Rattle.fm_world.specs.declared.worker.Worker.TheVariants as place
+use Rattle.fm_local.proofs.Words.{[], ◌≡◌, Bool, Completion, Data, Err, FilterId, Folder, InstanceId, List, LocalManager, None, Ok, Option}
+use Rattle.fm_local.proofs.Words.{PostVerdict, PreVerdict, Result, Some, Status, VolumeId, WorkerId, World, option_and_then, slice_get, suc, true}
+use Rattle.fm_local.proofs.Words.{worker_at, zero, ℕ, ◌&&◌, ◌+◌, ◌∙◌, IsOk, ap, arith, inr, option_map, refl, subst, sym, none-some, same_Some}
+use Rattle.fm_local.proofs.Words.{Attaches, IsSound, AsksDetach, Worker, IsPlainFilter, ArePlainFilters, IsReady, is_leaving, is_to_go, numbered}
+use Rattle.fm_local.proofs.Words.{IsSettled, StartsQuietly, TearsDownFirst, TearsDownIf, TearsDownQuietly, IsAtRest, NoneStops, Tidies, Filters}
+use Rattle.std.specs.Prelude.{replicate}
+use Rattle.fm_world.specs.World.{empty_world}
+use Rattle.fm_local.specs.Calls.{Asks, AsksToUnload, QueryEnds, is_of_row}
+use Rattle.fm_local.specs.Managers.{handed_in}
+use Rattle.fm_local.specs.Quietly.{AsksQuietly, EndsQuietly, LeavesReady, SetUpQuietly, WasTold}
 use Rattle.fm_local.proofs.Leaving.{asked_leaves, declined_leaves, one_goes, starts_leaves, torn_leaves, was_told}
 use Rattle.fm_local.proofs.Unloaded.{agreed_leaves, ends_leaves, first_gone, own_go, unload_refused}
 use Rattle.fm_local.proofs.Resting.{CalmAfter, attach_refused, calm_none, calm_same, rests_on, set_up_leaves}
-use Rattle.fm_local.specs.Actions.{ArePlainFilters, IsReady}
-use Rattle.fm_local.specs.Calls.{Asks, AsksToUnload, QueryEnds, is_leaving, is_of_row, is_to_go}
-use Rattle.fm_local.specs.Managers.{handed_in, numbered}
-use Rattle.fm_local.specs.Quietly.{AsksQuietly, EndsQuietly, IsSettled, LeavesReady, SetUpQuietly, StartsQuietly, TearsDownFirst, TearsDownIf, TearsDownQuietly, WasTold}
-use Rattle.fm_local.specs.Requests.{IsAtRest, NoneStops, Tidies}
-use Rattle.fm_local.specs.declared.filters.Filters.{Filters}
-use Rattle.fm_local.specs.declared.manager.LocalManager.{LocalManager}
 
 pub settled_both : {F B : Type 0} (old mid new : LocalManager F B) → IsSettled old mid → IsSettled mid new → IsSettled old new
 settled_both old mid new a b = record { bases = b.bases ∙ a.bases; filters = b.filters ∙ a.filters; settled = b.settled }
@@ -64,15 +46,15 @@ module _ {F B : Type 0} (pre : F → Data → PreVerdict → Data → Type 0) (p
 
   -- ---- new, load and mount
 
-  all_idle : (n j : ℕ) (a : Worker) → slice_get (replicate n place.Idle) j ≡ Some a → a ≡ place.Idle
+  all_idle : (n j : ℕ) (a : Worker) → slice_get (replicate n Worker.Idle) j ≡ Some a → a ≡ Worker.Idle
   all_idle zero j a at = absurd (none-some a at)
-  all_idle (suc n) zero a at = sym (same_Some place.Idle a at)
+  all_idle (suc n) zero a at = sym (same_Some Worker.Idle a at)
   all_idle (suc n) (suc j) a at = all_idle n j a at
 
   none_loaded : (fs : Filters F) → fs.loaded.items ≡ [] → (n : ℕ) (f : F) → numbered fs n ≡ Some f → ⊥
   none_loaded fs none n f there = none-some f (sym (ap (λ xs. option_and_then (handed_in fs) (slice_get xs n)) none) ∙ there)
 
-  pub new_ready : (m : LocalManager F B) → worker_at empty_world.workers k ≡ Some place.Idle → m.desk.state ≡ empty_world → m.filters.loaded.items ≡ [] → m.desk.resumed.items.items ≡ [] → Ready m
+  pub new_ready : (m : LocalManager F B) → worker_at empty_world.workers k ≡ Some Worker.Idle → m.desk.state ≡ empty_world → m.filters.loaded.items ≡ [] → m.desk.resumed.items.items ≡ [] → Ready m
   new_ready m idle empty none settled = record {
     plain = λ n f there. absurd (none_loaded m.filters none n f there);
     rests = subst (IsAtRest k) (sym empty) (record { operations = refl; idle = idle; all = λ j a at. all_idle 48 j a at });

@@ -1,20 +1,8 @@
 -- A request that is refused is answered with its refusal, and nothing changes.
-use Rattle.std.specs.Prelude.{◌≡◌, Bool, true, false, not, Some, None, Ok, Err}
-use Rattle.std.proofs.Common.{sym, ap, subst, ◌∙◌}
-use Rattle.std.proofs.lemmas.Option.{none-some}
+use Rattle.fm_local.proofs.Words.{◌≡◌, Bool, Err, LocalManager, None, Ok, OpId, Some, Status, World, bare_answer, false, true, ◌∙◌, ap, not, subst}
+use Rattle.fm_local.proofs.Words.{sym, none-some, FileRequest, Reply, Request, begin_refused, Begins, HandleId, closed_handle, replied}
 use Rattle.fm_types.specs.Refusals.{IsRefusalOrMemory}
-use Rattle.fm_types.specs.declared.ids.HandleId.{HandleId}
-use Rattle.fm_types.specs.declared.status.Status.{Status}
-use Rattle.fm_data.specs.declared.request.FileRequest.TheVariants as asked
-use Rattle.fm_data.specs.declared.request.Reply.{Reply}
-use Rattle.fm_data.specs.declared.request.Request.{Request}
-use Rattle.fm_data.specs.declared.request.Request.TheVariants as request
-use Rattle.fm_flow.specs.Answered.{bare_answer}
-use Rattle.fm_world.specs.Events.{Begins, begin_refused}
-use Rattle.fm_world.specs.Words.{OpId}
-use Rattle.fm_world.specs.World.{World}
-use Rattle.fm_local.specs.Actions.{RefusesIn, RefusesOne, closed_handle, goes_on, is_over, replied}
-use Rattle.fm_local.specs.declared.manager.LocalManager.{LocalManager}
+use Rattle.fm_local.specs.Actions.{RefusesIn, RefusesOne, goes_on, is_over}
 
 -- what is refused doesn't begin
 pub not_begun : (old : World) (what : Request) (o : OpId) (new : World) → Begins old what (Ok o) new → (why : Status) → begin_refused old what ≡ Some why → ⊥
@@ -35,17 +23,17 @@ module _ {F B : Type 0} (old : LocalManager F B) where
 
   -- a request that is no close
   pub refuses_in : (what : Request) → closed_handle what ≡ None → (said : Reply) (new : LocalManager F B) → RefusesOne what old said new → RefusesIn what old said new
-  refuses_in (request.List v) no_close said new h why refused ends = h why refused
-  refuses_in (request.Create v path mode) no_close said new h why refused ends = h why refused
-  refuses_in (request.OnHandle x asked.Close) no_close said new h why refused ends = cc
-  refuses_in (request.OnHandle x _) no_close said new h why refused ends = h why refused
+  refuses_in (Request.List v) no_close said new h why refused ends = h why refused
+  refuses_in (Request.Create v path mode) no_close said new h why refused ends = h why refused
+  refuses_in (Request.OnHandle x FileRequest.Close) no_close said new h why refused ends = cc
+  refuses_in (Request.OnHandle x _) no_close said new h why refused ends = h why refused
 
   -- a close: its cleanup's refusal is the answer, or it goes on
-  module _ (x : HandleId) (cleaned : Reply) (mid : LocalManager F B) (h : RefusesOne (request.OnHandle x asked.Cleanup) old cleaned mid) where
-    pub refuses_cleanup : RefusesIn (request.OnHandle x asked.Close) old cleaned mid
+  module _ (x : HandleId) (cleaned : Reply) (mid : LocalManager F B) (h : RefusesOne (Request.OnHandle x FileRequest.Cleanup) old cleaned mid) where
+    pub refuses_cleanup : RefusesIn (Request.OnHandle x FileRequest.Close) old cleaned mid
     refuses_cleanup why refused ends = h why refused
 
-    pub refuses_close : goes_on cleaned ≡ true → (said : Reply) (new : LocalManager F B) → RefusesIn (request.OnHandle x asked.Close) old said new
+    pub refuses_close : goes_on cleaned ≡ true → (said : Reply) (new : LocalManager F B) → RefusesIn (Request.OnHandle x FileRequest.Close) old said new
     refuses_close over said new why refused ends = absurd (not_over (is_over why) (sym (ap goes_on (h why refused).0) ∙ over) ends)
       where
         not_over : (b : Bool) → b ≡ true → not b ≡ true → ⊥

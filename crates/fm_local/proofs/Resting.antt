@@ -1,28 +1,16 @@
 -- What the events of a call leave where nothing is under way: it is so again, and no instance is being torn down but those that the call says.
-use Rattle.std.specs.Prelude.{◌≡◌, ◌||◌, ◌⊎◌, ℕ, zero, suc, Bool, true, false, List, [], ◌∷◌, ◌++◌, count_by, Some, Result, Ok, Err, slice_get, refl}
-use Rattle.std.proofs.Common.{inl, inr, sym, ap, ap₂, subst, ◌∙◌, arith}
-use Rattle.std.specs.List.{list_any}
-use Rattle.fm_types.specs.Lists.{updated}
-use Rattle.fm_types.specs.declared.status.Status.{Status}
-use Rattle.fm_types.specs.declared.status.Status.TheVariants as status
+use Rattle.fm_local.proofs.Words.{[], ◌∷◌, ◌≡◌, ◌⊎◌, Bool, Err, FilterId, Instance, InstanceId, List, Ok, Result, Some, StackWorld, Status, VolumeId}
+use Rattle.fm_local.proofs.Words.{WorkerId, World, false, slice_get, suc, true, worker_at, zero, ℕ, ◌++◌, ◌||◌, ◌∙◌, ap, ap₂, arith, count_by, inl}
+use Rattle.fm_local.proofs.Words.{inr, refl, subst, sym, list_any, Registration, Finishes, Unless, is_stopping_phase, is_stopping_row, Attaches}
+use Rattle.fm_local.proofs.Words.{Mounts, Registers, SetsUp, AsksDetach, AsksUnload, CompletesTeardown, updated, is_idle, put, Worker, IsAtRest}
+use Rattle.fm_local.proofs.Words.{NoneStops, Tidies}
 use Rattle.fm_stack.specs.Detaching as stack
 use Rattle.fm_stack.specs.Events as setting
-use Rattle.fm_stack.specs.StackWorld.{StackWorld}
-use Rattle.fm_stack.specs.declared.instance.Instance.{Instance}
 use Rattle.fm_world.proofs.Cases.{by_option, none_any}
-use Rattle.fm_world.specs.ContextEvents.{Finishes}
-use Rattle.fm_types.specs.declared.registration.Registration.{Registration}
-use Rattle.fm_world.specs.Events.{Attaches, Mounts, Registers, SetsUp, SetsUpAt, Unless, is_stopping_phase, is_stopping_row}
-use Rattle.fm_world.specs.Teardowns.{AsksDetach, AsksUnload, CompletesTeardown}
-use Rattle.fm_world.specs.Words.{FilterId, VolumeId, InstanceId, WorkerId}
-use Rattle.fm_world.specs.Workers.{is_idle, put, worker_at}
-use Rattle.fm_world.specs.World.{World}
-use Rattle.fm_world.specs.declared.worker.Worker.{Worker}
-use Rattle.fm_world.specs.declared.worker.Worker.TheVariants as place
+use Rattle.fm_world.specs.Events.{SetsUpAt}
+use Rattle.fm_local.specs.Quietly.{SetUpQuietly}
 use Rattle.fm_local.proofs.Events.{placed}
 use Rattle.fm_local.proofs.Tidying.{set_back}
-use Rattle.fm_local.specs.Quietly.{SetUpQuietly}
-use Rattle.fm_local.specs.Requests.{IsAtRest, NoneStops, Tidies}
 
 -- ---- instances
 
@@ -72,14 +60,14 @@ one_more x not (y ∷ rows) (suc j) h = one_more x not rows j h
 
 -- ---- workers that are all idle
 
-idle_tail : (a : Worker) (ws : List Worker) → ((j : ℕ) (b : Worker) → slice_get (a ∷ ws) j ≡ Some b → b ≡ place.Idle) → (j : ℕ) (b : Worker) → slice_get ws j ≡ Some b → b ≡ place.Idle
+idle_tail : (a : Worker) (ws : List Worker) → ((j : ℕ) (b : Worker) → slice_get (a ∷ ws) j ≡ Some b → b ≡ Worker.Idle) → (j : ℕ) (b : Worker) → slice_get ws j ≡ Some b → b ≡ Worker.Idle
 idle_tail a ws all j b at = all (suc j) b at
 
-pub none_in : (p : Worker → Bool) → p place.Idle ≡ false → (ws : List Worker) → ((j : ℕ) (b : Worker) → slice_get ws j ≡ Some b → b ≡ place.Idle) → list_any p ws ≡ false
+pub none_in : (p : Worker → Bool) → p Worker.Idle ≡ false → (ws : List Worker) → ((j : ℕ) (b : Worker) → slice_get ws j ≡ Some b → b ≡ Worker.Idle) → list_any p ws ≡ false
 none_in p not [] all = refl
 none_in p not (a ∷ ws) all = ap₂ (λ x y. x || y) (ap p (all zero a refl) ∙ not) (none_in p not ws (idle_tail a ws all))
 
-pub no_count : (p : Worker → Bool) → p place.Idle ≡ false → (ws : List Worker) → ((j : ℕ) (b : Worker) → slice_get ws j ≡ Some b → b ≡ place.Idle) → count_by p ws ≡ 0
+pub no_count : (p : Worker → Bool) → p Worker.Idle ≡ false → (ws : List Worker) → ((j : ℕ) (b : Worker) → slice_get ws j ≡ Some b → b ≡ Worker.Idle) → count_by p ws ≡ 0
 no_count p not ws all = none_any p ws (none_in p not ws all)
 
 -- ---- what a call leaves of all but instances and contexts
@@ -111,19 +99,19 @@ rests_on k old new u rests = record {
 -- ---- an event that begins a callback, by an idle worker
 
 pub happened : {T : Type 0} (old : World) (k : WorkerId) (v : T) (new : World) (Event : Type 0)
-    → Unless status.WrongStep (is_idle (worker_at old.workers k)) (Ok v) old new Event → Event
+    → Unless Status.WrongStep (is_idle (worker_at old.workers k)) (Ok v) old new Event → Event
 happened {T} old k v new Event h = by_idle (is_idle (worker_at old.workers k)) h
   where
-    by_idle : (b : Bool) → Unless status.WrongStep b (Ok v) old new Event → Event
+    by_idle : (b : Bool) → Unless Status.WrongStep b (Ok v) old new Event → Event
     by_idle true h = h
     by_idle false h = cc
 
 -- its refusal changes nothing
 pub refused_same : (T : Type 0) (old : World) (k : WorkerId) (why : Status) (new : World) (Event : Type 0)
-    → Unless {T = T} status.WrongStep (is_idle (worker_at old.workers k)) (Err why) old new Event → (Event → new ≡ old) → new ≡ old
+    → Unless {T = T} Status.WrongStep (is_idle (worker_at old.workers k)) (Err why) old new Event → (Event → new ≡ old) → new ≡ old
 refused_same T old k why new Event h same = by_idle (is_idle (worker_at old.workers k)) h
   where
-    by_idle : (b : Bool) → Unless {T = T} status.WrongStep b (Err why) old new Event → new ≡ old
+    by_idle : (b : Bool) → Unless {T = T} Status.WrongStep b (Err why) old new Event → new ≡ old
     by_idle true h = same h
     by_idle false h = h.1
 
@@ -160,27 +148,27 @@ calm_finished old i (Ok done) new h = record {
 
 module _ (k : WorkerId) where
   -- a worker that enters a place, and leaves it
-  pub is_in : (old began : World) (a : Worker) → worker_at old.workers k ≡ Some place.Idle → began.workers ≡ put old.workers k a → worker_at began.workers k ≡ Some a
-  is_in old began a idle enters = ap (λ ws. worker_at ws k) enters ∙ placed old.workers k place.Idle a idle
+  pub is_in : (old began : World) (a : Worker) → worker_at old.workers k ≡ Some Worker.Idle → began.workers ≡ put old.workers k a → worker_at began.workers k ≡ Some a
+  is_in old began a idle enters = ap (λ ws. worker_at ws k) enters ∙ placed old.workers k Worker.Idle a idle
 
-  pub is_out : (old began back : World) (a : Worker) → worker_at old.workers k ≡ Some place.Idle → began.workers ≡ put old.workers k a → back.workers ≡ put began.workers k place.Idle
+  pub is_out : (old began back : World) (a : Worker) → worker_at old.workers k ≡ Some Worker.Idle → began.workers ≡ put old.workers k a → back.workers ≡ put began.workers k Worker.Idle
       → back.workers ≡ old.workers
-  is_out old began back a idle enters leaves = leaves ∙ ap (λ ws. put ws k place.Idle) enters ∙ set_back old.workers k.0 place.Idle a idle
+  is_out old began back a idle enters leaves = leaves ∙ ap (λ ws. put ws k Worker.Idle) enters ∙ set_back old.workers k.0 Worker.Idle a idle
 
   -- an instance is attached and set up
-  module _ (i : InstanceId) (old : World) (idle : worker_at old.workers k ≡ Some place.Idle) where
+  module _ (i : InstanceId) (old : World) (idle : worker_at old.workers k ≡ Some Worker.Idle) where
     set_up : (f : FilterId) (v : VolumeId) (name altitude : List ℕ) (born : World) (accepts : Bool) (ended : Result (Unit {0}) Status) (set : World)
         → Attaches old k f v name altitude (Ok i) born → SetsUp born k accepts ended set → CalmAfter old set
     unfolding Attaches SetsUp setting.Attaches setting.SetsUp
     set_up f v name altitude born accepts ended set attaches sets =
         let event = happened old k i born _ attaches in
-        let enters : born.workers ≡ put old.workers k (place.Setup i) = ap (λ (w : World). w.workers) event.1 in
-        let at : SetsUpAt born k accepts ended set (Some (place.Setup i)) =
-        subst (SetsUpAt born k accepts ended set) (is_in old born (place.Setup i) idle enters) sets in
+        let enters : born.workers ≡ put old.workers k (Worker.Setup i) = ap (λ (w : World). w.workers) event.1 in
+        let at : SetsUpAt born k accepts ended set (Some (Worker.Setup i)) =
+        subst (SetsUpAt born k accepts ended set) (is_in old born (Worker.Setup i) idle enters) sets in
         record {
           undisturbed = record {
             flow = ap (λ (w : World). w.flow) at.4 ∙ ap (λ (w : World). w.flow) event.1;
-            workers = is_out old born set (place.Setup i) idle enters (ap (λ (w : World). w.workers) at.4);
+            workers = is_out old born set (Worker.Setup i) idle enters (ap (λ (w : World). w.workers) at.4);
             files = ap (λ (w : World). w.files) at.4 ∙ ap (λ (w : World). w.files) event.1;
           };
           fewer = λ j s. joined f v name altitude born event.0 j (by_end born accepts ended set at.0 j s);

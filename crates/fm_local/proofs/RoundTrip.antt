@@ -1,33 +1,25 @@
 -- A read gives what a write brought, through shifts alone.
-use Rattle.std.specs.Prelude.{◌≡◌, ◌⊎◌, ◌<◌, ◌&&◌, ℕ, nat_le, nat_lt, Bool, true, false, cond, List, [], ◌∷◌, All, length, take, drop, Option, Some, None, IsSome, is_none, Ok, Err, refl}
+use Rattle.fm_local.proofs.Words.{[], ◌∷◌, ◌≡◌, ◌⊎◌, Answer, Bool, Err, Folder, List, None, Ok, Operation, Option, Params, Some, StackWorld}
+use Rattle.fm_local.proofs.Words.{bare_answer, false, length, true, ℕ, ◌&&◌, ◌<◌, ◌∙◌, ap, arith, cond, drop, inl, inr, nat_lt, refl, subst, sym}
+use Rattle.fm_local.proofs.Words.{take, same_Some, Success, base_counted, FileTable, handle_at, HandleId, StreamId, BasesCarry, BaseMay, Subject}
+use Rattle.fm_local.proofs.Words.{Under, Asker, asker}
+use Rattle.std.specs.Prelude.{nat_le, All, IsSome, is_none}
 use Rattle.std.specs.FinMap.{get}
-use Rattle.std.proofs.Common.{sym, ap, subst, ◌∙◌, inl, inr, arith}
 use Rattle.std.proofs.lemmas.List.{length-map}
 use Rattle.std.proofs.lemmas.List.Elements.{All-map, All-nil}
-use Rattle.std.proofs.lemmas.Option.{same_Some}
 use Rattle.fm_types.specs.ByteLists.{written}
-use Rattle.fm_types.specs.declared.ids.HandleId.{HandleId}
-use Rattle.fm_types.specs.declared.ids.StreamId.{StreamId}
-use Rattle.fm_types.specs.declared.operation.Operation.TheVariants as kind
-use Rattle.fm_types.specs.declared.status.Status.TheVariants.{Success, NoHandle, FileNotFound, EndOfFile}
-use Rattle.fm_data.specs.declared.answer.Answer.{Answer}
-use Rattle.fm_data.specs.declared.params.Params.{Params}
-use Rattle.fm_data.specs.declared.params.Params.TheVariants as params
-use Rattle.fm_flow.specs.Answered.{base_counted, success_of, bare_answer, is_success}
-use Rattle.fm_flow.specs.Table.{empty_table}
-use Rattle.fm_world.specs.Events.{known_at}
-use Rattle.fm_stack.specs.StackWorld.{StackWorld}
-use Rattle.fm_base.specs.Folders.{Folder, changed, change_at, told, tell_at, bytes_from}
+use Rattle.fm_types.specs.declared.status.Status.TheVariants.{NoHandle, FileNotFound, EndOfFile}
+use Rattle.fm_base.specs.Folders.{changed, change_at, told, tell_at, bytes_from}
 use Rattle.fm_base.proofs.Writes.{read_back}
 use Rattle.fm_device.specs.Devices.{made_as, made_of, told_as}
+use Rattle.fm_flow.specs.Answered.{success_of, is_success}
+use Rattle.fm_flow.specs.Table.{empty_table}
+use Rattle.fm_world.specs.Events.{known_at}
 use Rattle.fm_samples.specs.Common.{plain_completion}
 use Rattle.fm_samples.specs.Shift.{raised, raised_byte}
 use Rattle.fm_samples.specs.declared.sample.Sample.{Sample}
 use Rattle.fm_samples.proofs.Plain.{all_back}
-use Rattle.fm_world.specs.Files.{FileTable, handle_at}
-use Rattle.fm_local.specs.Bases.{BasesCarry}
-use Rattle.fm_local.specs.Chains.{Under, Subject, BaseMay, call_on}
-use Rattle.fm_local.specs.Folds.{Asker, asker}
+use Rattle.fm_local.specs.Chains.{call_on}
 use Rattle.fm_local.specs.Shifts.{folder_of, file_at, FileStays, ShiftRound}
 use Rattle.fm_local.proofs.Shifted.{raised_by, lowered_by, asked_by, AskedByShift, went_down, read_down, all_asked, came_up}
 use Rattle.fm_local.proofs.Successes.{called, known_call, success_is}
@@ -50,12 +42,12 @@ length-raised_by [] bytes = refl
 length-raised_by (i ∷ is) bytes = length-raised_by is (raised bytes) ∙ length-map bytes raised_byte
 
 -- the base's answer to a read or a write is known where no handle is open, and that is no success
-known_read : (files : FileTable) (s : Option StreamId) (h : Option HandleId) → (known_at files empty_table kind.Read s h ≡ None) ⊎ (known_at files empty_table kind.Read s h ≡ Some NoHandle)
+known_read : (files : FileTable) (s : Option StreamId) (h : Option HandleId) → (known_at files empty_table Operation.Read s h ≡ None) ⊎ (known_at files empty_table Operation.Read s h ≡ Some NoHandle)
 known_read files None h = inl refl
 known_read files (Some s) None = inl refl
 known_read files (Some s) (Some h) = elim (is_none (handle_at h files)) as (λ b. (cond b (Some NoHandle) None ≡ None) ⊎ (cond b (Some NoHandle) None ≡ Some NoHandle)) [ true ↦ inr refl | false ↦ inl refl ]
 
-known_write : (files : FileTable) (s : Option StreamId) (h : Option HandleId) → (known_at files empty_table kind.Write s h ≡ None) ⊎ (known_at files empty_table kind.Write s h ≡ Some NoHandle)
+known_write : (files : FileTable) (s : Option StreamId) (h : Option HandleId) → (known_at files empty_table Operation.Write s h ≡ None) ⊎ (known_at files empty_table Operation.Write s h ≡ Some NoHandle)
 known_write files None h = inl refl
 known_write files (Some s) None = inl refl
 known_write files (Some s) (Some h) = elim (is_none (handle_at h files)) as (λ b. (cond b (Some NoHandle) None ≡ None) ⊎ (cond b (Some NoHandle) None ≡ Some NoHandle)) [ true ↦ inr refl | false ↦ inl refl ]
@@ -103,15 +95,15 @@ is_there path offset put was is made None at =
 is_there path offset put was is made (Some file) at = (file, at)
 
 -- the bytes that count of a read
-counted_bytes : (offset len : ℕ) (answer : Answer) (handle : HandleId) → is_success answer.status ≡ true → (base_counted (params.Read offset len) answer handle).bytes ≡ answer.bytes
-counted_bytes offset len answer handle ok = ap (λ b. (cond b (success_of (params.Read offset len) answer handle) (bare_answer answer.status)).bytes) ok
+counted_bytes : (offset len : ℕ) (answer : Answer) (handle : HandleId) → is_success answer.status ≡ true → (base_counted (Params.Read offset len) answer handle).bytes ≡ answer.bytes
+counted_bytes offset len answer handle ok = ap (λ b. (cond b (success_of (Params.Read offset len) answer handle) (bare_answer answer.status)).bytes) ok
 
 module _ {B : Type 0} (folder : B → Option Folder) (faults : B → ℕ) (filters : ℕ → Option Sample) (s : StackWorld) (x : Subject) where
   abbrev on_write : Subject
-  on_write = record x { operation = kind.Write }
+  on_write = record x { operation = Operation.Write }
 
   abbrev on_read : Subject
-  on_read = record x { operation = kind.Read }
+  on_read = record x { operation = Operation.Read }
 
   -- what is in the file after a write that the base carried out
   record Written (offset : ℕ) (bytes : List ℕ) (old mid : Under (List B)) : Type 0 where
@@ -123,11 +115,11 @@ module _ {B : Type 0} (folder : B → Option Folder) (faults : B → ℕ) (filte
     made : changed (written offset bytes) file was ≡ Ok is
 
   written_so : (offset : ℕ) (bytes : List ℕ) (old mid : Under (List B)) (given : Answer) → given.status ≡ Success → IsSome (folder_of folder old.device x.volume.0)
-      → BaseMay (BasesCarry folder faults) on_write (params.Write offset bytes) old given mid → Written offset bytes old mid
+      → BaseMay (BasesCarry folder faults) on_write (Params.Write offset bytes) old given mid → Written offset bytes old mid
   written_so offset bytes old mid given ok known h =
-      let c = called folder faults on_write (params.Write offset bytes) old mid given ok (known_write old.files x.stream x.handle) h in
+      let c = called folder faults on_write (Params.Write offset bytes) old mid given ok (known_write old.files x.stream x.handle) h in
       let done : c.answer.status ≡ Success = success_is c.answer.status c.success in
-      let k = known_call folder faults old.device mid.device (call_on on_write (params.Write offset bytes)) c.answer done refl c.carries known in
+      let k = known_call folder faults old.device mid.device (call_on on_write (Params.Write offset bytes)) c.answer done refl c.carries known in
       let said : (made_as (changed (written offset bytes) k.done.file k.was)).status ≡ Success = sym (ap (λ (a : Answer). a.status) k.done.said) ∙ done in
       record {
         file = k.done.file;
@@ -140,10 +132,10 @@ module _ {B : Type 0} (folder : B → Option Folder) (faults : B → ℕ) (filte
 
   -- what is told of the file by a read that the base carried out
   read_so : (offset len : ℕ) (file : List ℕ) (old new : Under (List B)) (given : Answer) → given.status ≡ Success → x.path ≡ Some file → IsSome (folder_of folder old.device x.volume.0)
-      → BaseMay (BasesCarry folder faults) on_read (params.Read offset len) old given new
+      → BaseMay (BasesCarry folder faults) on_read (Params.Read offset len) old given new
       → tell_at (bytes_from offset len) (file_at (folder_of folder old.device x.volume.0) file) ≡ Ok given.bytes
   read_so offset len file old new given ok named known h =
-      let p = params.Read offset len in
+      let p = Params.Read offset len in
       let c = called folder faults on_read p old new given ok (known_read old.files x.stream x.handle) h in
       let done : c.answer.status ≡ Success = success_is c.answer.status c.success in
       let k = known_call folder faults old.device new.device (call_on on_read p) c.answer done refl c.carries known in
@@ -158,7 +150,7 @@ module _ {B : Type 0} (folder : B → Option Folder) (faults : B → ℕ) (filte
 
   -- it is told by a read of as many bytes
   came_back : (offset : ℕ) (put : List ℕ) (old mid later new : Under (List B)) (w : Written offset put old mid) (given : Answer) → given.status ≡ Success → FileStays folder x mid later
-      → BaseMay (BasesCarry folder faults) on_read (params.Read offset (length put)) later given new → put ≡ given.bytes
+      → BaseMay (BasesCarry folder faults) on_read (Params.Read offset (length put)) later given new → put ≡ given.bytes
   came_back offset put old mid later new w given ok stays h =
       let there : file_at (folder_of folder later.device x.volume.0) w.file ≡ get w.is w.file = stays w.file w.named ∙ ap (λ m. file_at m w.file) w.after in
       let file = is_there w.file offset put w.was w.is w.made (get w.is w.file) refl in
@@ -169,14 +161,14 @@ module _ {B : Type 0} (folder : B → Option Folder) (faults : B → ℕ) (filte
 
 pub round : {B : Type 0} (folder : B → Option Folder) (faults : B → ℕ) → ShiftRound folder faults
 round folder faults filters s x is offset bytes old mid later new wrote read shifts small known down wrote_ok stays up read_ok =
-    let p = params.Read offset (length bytes) in
+    let p = Params.Read offset (length bytes) in
     let w = written_so folder faults filters s x offset (raised_by is bytes) old mid wrote wrote_ok known
     (went_down folder faults filters s x is offset bytes old mid wrote shifts down wrote_ok) in
     let r = read_down folder faults filters s x is offset (length bytes) [] later new read shifts up in
     let came = came_up folder faults filters s x (asked_by is p []) r.given read
     (all_asked folder faults filters s x is p [] shifts (All-nil (AskedByShift folder faults filters s x))) r.up in
-    let base : BaseMay (BasesCarry folder faults) (record x { operation = kind.Read }) (params.Read offset (length (raised_by is bytes))) later r.given new =
-    subst (λ (n : ℕ). BaseMay (BasesCarry folder faults) (record x { operation = kind.Read }) (params.Read offset n) later r.given new)
+    let base : BaseMay (BasesCarry folder faults) (record x { operation = Operation.Read }) (Params.Read offset (length (raised_by is bytes))) later r.given new =
+    subst (λ (n : ℕ). BaseMay (BasesCarry folder faults) (record x { operation = Operation.Read }) (Params.Read offset n) later r.given new)
     (sym (length-raised_by is bytes)) r.base in
     came.1
     ∙ ap (lowered_by (asked_by is p [])) (sym (came_back folder faults filters s x offset (raised_by is bytes) old mid later new w r.given (sym came.0 ∙ read_ok) stays base))

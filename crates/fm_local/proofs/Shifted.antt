@@ -1,37 +1,20 @@
 -- A write on its way down through shifts, and a read on its way down and up again.
-use Rattle.std.specs.Prelude.{◌≡◌, ℕ, Bool, true, List, [], ◌∷◌, All, Option, Some, slice_get}
-use Rattle.std.proofs.Common.{sym, ap, subst, ◌∙◌, inl, inr}
+use Rattle.fm_local.proofs.Words.{[], ◌∷◌, ◌≡◌, Answer, Bool, Completion, Data, Finished, Folder, Instance, List, Operation, Option, Params}
+use Rattle.fm_local.proofs.Words.{PostVerdict, PreVerdict, Some, StackWorld, slice_get, true, ℕ, ◌∙◌, ap, inl, inr, subst, sym, Registration, Success}
+use Rattle.fm_local.proofs.Words.{answered_data, fresh_data, returned_answer, verdict_counted, has_post, BasesCarry, BaseMay, Subject, Under}
+use Rattle.fm_local.proofs.Words.{filter_in, filter_in_row, Asker, Chain, Descends, Leads, Rises, Visit, asker}
+use Rattle.std.specs.Prelude.{All}
 use Rattle.std.proofs.lemmas.List.Elements.{All-head, All-tail, All-cons}
 use Rattle.fm_types.specs.Masks.{has_operation}
-use Rattle.fm_types.specs.declared.operation.Operation.{Operation}
-use Rattle.fm_types.specs.declared.operation.Operation.TheVariants as kind
-use Rattle.fm_types.specs.declared.registration.Registration.{Registration}
-use Rattle.fm_types.specs.declared.status.Status.TheVariants.{Success, NoMemory}
-use Rattle.fm_data.specs.Data.{Data, fresh_data, answered_data}
-use Rattle.fm_data.specs.declared.answer.Answer.{Answer}
-use Rattle.fm_data.specs.declared.params.Params.{Params}
-use Rattle.fm_data.specs.declared.params.Params.TheVariants as params
-use Rattle.fm_data.specs.declared.verdict.Completion.{Completion}
-use Rattle.fm_data.specs.declared.verdict.PreVerdict.{PreVerdict}
-use Rattle.fm_data.specs.declared.verdict.PreVerdict.TheVariants as verdict
-use Rattle.fm_data.specs.declared.verdict.PostVerdict.{PostVerdict}
-use Rattle.fm_data.specs.declared.verdict.PostVerdict.TheVariants.{Finished}
+use Rattle.fm_types.specs.declared.status.Status.TheVariants.{NoMemory}
 use Rattle.fm_stack.specs.Next.{has_pre_in, has_post_in}
-use Rattle.fm_stack.specs.StackWorld.{StackWorld}
 use Rattle.fm_stack.specs.declared.filter.Filter.{Filter}
-use Rattle.fm_stack.specs.declared.instance.Instance.{Instance}
-use Rattle.fm_flow.specs.Steps.{returned_answer}
-use Rattle.fm_flow.specs.Verdict.{verdict_counted}
-use Rattle.fm_world.specs.Events.{has_pre, has_post}
-use Rattle.fm_base.specs.Folders.{Folder}
+use Rattle.fm_world.specs.Events.{has_pre}
 use Rattle.fm_samples.specs.Common.{plain_completion}
 use Rattle.fm_samples.specs.Sample.{SamplesPre, SamplesPost}
 use Rattle.fm_samples.specs.Shift.{ShiftsPre, ShiftsPost, raised, lowered}
 use Rattle.fm_samples.specs.declared.sample.Sample.{Sample}
-use Rattle.fm_samples.specs.declared.sample.Sample.TheVariants as sample
-use Rattle.fm_local.specs.Bases.{BasesCarry}
-use Rattle.fm_local.specs.Chains.{Under, Subject, BaseMay, PreMay, PostMay, filter_in, filter_in_row}
-use Rattle.fm_local.specs.Folds.{Chain, Asker, asker, Rises, Leads, Visit, Descends}
+use Rattle.fm_local.specs.Chains.{PreMay, PostMay}
 use Rattle.fm_local.specs.Shifts.{IsShift, sample_chain}
 
 -- bytes raised once by each instance, and lowered once for each that asked
@@ -56,7 +39,7 @@ module _ {B : Type 0} (folder : B → Option Folder) (faults : B → ℕ) (filte
   AskedByShift a = IsShift filters s a.instance
 
   module _ (i : ℕ) (h : IsShift filters s i) where
-    filter_is : filter_in filters s i ≡ Some (sample.Shift h.shift)
+    filter_is : filter_in filters s i ≡ Some (Sample.Shift h.shift)
     filter_is = ap (filter_in_row filters) h.there ∙ h.runs
 
     has_pre_as : (operation : Operation) → has_pre s (slice_get s.instances i) operation ≡ has_operation 6 operation
@@ -77,31 +60,31 @@ module _ {B : Type 0} (folder : B → Option Folder) (faults : B → ℕ) (filte
     after_as given completion answer back may = subst (λ (f : Option Sample). PostMay SamplesPost f given completion answer back) filter_is may
 
   abbrev Writes : Chain (Under (List B))
-  Writes = sample_chain folder faults filters s x kind.Write
+  Writes = sample_chain folder faults filters s x Operation.Write
 
   abbrev Reads : Chain (Under (List B))
-  Reads = sample_chain folder faults filters s x kind.Read
+  Reads = sample_chain folder faults filters s x Operation.Read
 
   -- a write that succeeded reached the base, its bytes raised by each
   pub went_down : (is : List ℕ) (offset : ℕ) (bytes : List ℕ) (old new : Under (List B)) (answer : Answer) → All IsShiftOf is
-      → Descends Writes is (params.Write offset bytes) [] old answer new → answer.status ≡ Success
-      → BaseMay (BasesCarry folder faults) (record x { operation = kind.Write }) (params.Write offset (raised_by is bytes)) old answer new
+      → Descends Writes is (Params.Write offset bytes) [] old answer new → answer.status ≡ Success
+      → BaseMay (BasesCarry folder faults) (record x { operation = Operation.Write }) (Params.Write offset (raised_by is bytes)) old answer new
   went_down [] offset bytes old new answer shifts h ok =
-      subst (λ (a : Answer). BaseMay (BasesCarry folder faults) (record x { operation = kind.Write }) (params.Write offset bytes) old a new) (sym h.2) h.1
+      subst (λ (a : Answer). BaseMay (BasesCarry folder faults) (record x { operation = Operation.Write }) (Params.Write offset bytes) old a new) (sym h.2) h.1
   went_down (i ∷ is) offset bytes old new answer shifts h ok =
       let here : IsShift filters s i = All-head IsShiftOf i is shifts in
       let below : All IsShiftOf is = All-tail IsShiftOf i is shifts in
-      let p = params.Write offset bytes in
+      let p = Params.Write offset bytes in
       let visit : Visit Writes (Descends Writes is) i true p [] old answer new =
-      subst (λ (called : Bool). Visit Writes (Descends Writes is) i called p [] old answer new) (has_pre_as i here kind.Write) h in
+      subst (λ (called : Bool). Visit Writes (Descends Writes is) i called p [] old answer new) (has_pre_as i here Operation.Write) h in
       let Led : PreVerdict → Data → Type 0 =
-      λ given back. Leads Writes (Descends Writes is) i p back [] (verdict_counted given kind.Write (Writes.has_post i)) old answer new in
+      λ given back. Leads Writes (Descends Writes is) i p back [] (verdict_counted given Operation.Write (Writes.has_post i)) old answer new in
       elim (before_as i here (fresh_data p) visit.0 visit.1 visit.2) [
         | inl raises ↦
             went_down is offset (raised bytes) old new answer below
-            (subst (λ (back : Data). Led verdict.NoCallback back) raises.1 (subst (λ (given : PreVerdict). Led given visit.1) raises.0 visit.3)) ok
+            (subst (λ (back : Data). Led PreVerdict.NoCallback back) raises.1 (subst (λ (given : PreVerdict). Led given visit.1) raises.0 visit.3)) ok
         | inr ends ↦
-            let led : Led (verdict.Complete NoMemory) visit.1 = subst (λ (given : PreVerdict). Led given visit.1) ends.0 visit.3 in
+            let led : Led (PreVerdict.Complete NoMemory) visit.1 = subst (λ (given : PreVerdict). Led given visit.1) ends.0 visit.3 in
             let s : NoMemory ≡ Success = sym (ap (λ (a : Answer). a.status) led.0) ∙ ok in
             cc
       ]
@@ -109,24 +92,24 @@ module _ {B : Type 0} (folder : B → Option Folder) (faults : B → ℕ) (filte
   -- what a read brought from the base, and what becomes of it
   pub record WentDown (is : List ℕ) (p : Params) (asked : List Asker) (old : Under (List B)) (answer : Answer) (new : Under (List B)) : Type 0 where
     pub given : Answer
-    pub base : BaseMay (BasesCarry folder faults) (record x { operation = kind.Read }) p old given new
+    pub base : BaseMay (BasesCarry folder faults) (record x { operation = Operation.Read }) p old given new
     pub up : Rises Reads (asked_by is p asked) given answer
 
   pub read_down : (is : List ℕ) (offset len : ℕ) (asked : List Asker) (old new : Under (List B)) (answer : Answer) → All IsShiftOf is
-      → Descends Reads is (params.Read offset len) asked old answer new → WentDown is (params.Read offset len) asked old answer new
+      → Descends Reads is (Params.Read offset len) asked old answer new → WentDown is (Params.Read offset len) asked old answer new
   read_down [] offset len asked old new answer shifts h = record { given = h.0; base = h.1; up = h.2 }
   read_down (i ∷ is) offset len asked old new answer shifts h =
       let here : IsShift filters s i = All-head IsShiftOf i is shifts in
       let below : All IsShiftOf is = All-tail IsShiftOf i is shifts in
-      let p = params.Read offset len in
+      let p = Params.Read offset len in
       let visit : Visit Reads (Descends Reads is) i true p asked old answer new =
-      subst (λ (called : Bool). Visit Reads (Descends Reads is) i called p asked old answer new) (has_pre_as i here kind.Read) h in
+      subst (λ (called : Bool). Visit Reads (Descends Reads is) i called p asked old answer new) (has_pre_as i here Operation.Read) h in
       let Led : PreVerdict → Data → Bool → Type 0 =
-      λ given back has. Leads Reads (Descends Reads is) i p back asked (verdict_counted given kind.Read has) old answer new in
+      λ given back has. Leads Reads (Descends Reads is) i p back asked (verdict_counted given Operation.Read has) old answer new in
       let asks = before_as i here (fresh_data p) visit.0 visit.1 visit.2 in
-      let led : Led (verdict.WithCallback plain_completion) (fresh_data p) true =
-      subst (λ (has : Bool). Led (verdict.WithCallback plain_completion) (fresh_data p) has) (has_post_as i here kind.Read)
-      (subst (λ (back : Data). Led (verdict.WithCallback plain_completion) back (Reads.has_post i)) asks.1
+      let led : Led (PreVerdict.WithCallback plain_completion) (fresh_data p) true =
+      subst (λ (has : Bool). Led (PreVerdict.WithCallback plain_completion) (fresh_data p) has) (has_post_as i here Operation.Read)
+      (subst (λ (back : Data). Led (PreVerdict.WithCallback plain_completion) back (Reads.has_post i)) asks.1
       (subst (λ (given : PreVerdict). Led given visit.1 (Reads.has_post i)) asks.0 visit.3)) in
       let rest = read_down is offset len (asker i p plain_completion ∷ asked) old new answer below led in
       record { given = rest.given; base = rest.base; up = rest.up }
@@ -145,5 +128,5 @@ module _ {B : Type 0} (folder : B → Option Folder) (faults : B → ℕ) (filte
   came_up (a ∷ above) before answer shifts h =
       let here : IsShift filters s a.instance = All-head AskedByShift a above shifts in
       let lowers = (after_as a.instance here (answered_data a.received before) a.completion Finished h.0 h.1).1 in
-      let rest = came_up above (returned_answer kind.Read before h.0) answer (All-tail AskedByShift a above shifts) h.2 in
+      let rest = came_up above (returned_answer Operation.Read before h.0) answer (All-tail AskedByShift a above shifts) h.2 in
       (rest.0 ∙ ap (λ (d : Data). d.status) lowers, rest.1 ∙ ap (λ (d : Data). lowered_by above d.out) lowers)

@@ -1,33 +1,21 @@
 -- What stands while a callback runs: no event of its port changes it.
-use Rattle.std.specs.Prelude.{◌≡◌, ℕ, Bool, List, [], ◌∷◌, map, Option, Some, None, Result, Ok, Err, refl}
-use Rattle.std.proofs.Common.{ap, ◌∙◌, inl, inr}
-use Rattle.std.proofs.lemmas.Bool.{cases_Bool}
+use Rattle.fm_local.proofs.Words.{[], ◌∷◌, ◌≡◌, Bool, Err, FlowRecord, InstanceId, List, None, Ok, OpId, Option, PreVerdict, Result, Some, Status}
+use Rattle.fm_local.proofs.Words.{WorkerId, World, worker_at, ℕ, ◌∙◌, ap, inl, inr, map, refl, cases_Bool, is_number, context_at, state_at}
+use Rattle.fm_local.proofs.Words.{ContextKind, CtxId, PreState}
 use Rattle.fm_types.specs.Lists.{change_first}
-use Rattle.fm_types.specs.declared.context_kind.ContextKind.{ContextKind}
-use Rattle.fm_types.specs.declared.ids.CtxId.{CtxId}
-use Rattle.fm_types.specs.declared.ids.InstanceId.{InstanceId}
-use Rattle.fm_types.specs.declared.ids.OpId.{OpId}
-use Rattle.fm_types.specs.declared.ids.WorkerId.{WorkerId}
-use Rattle.fm_types.specs.declared.status.Status.{Status}
-use Rattle.fm_data.specs.declared.verdict.PreVerdict.{PreVerdict}
-use Rattle.fm_ctx.specs.declared.object.Object.{Object}
-use Rattle.fm_ctx.specs.declared.set_reply.SetMode.{SetMode}
-use Rattle.fm_ctx.specs.Table.{Context, context_at}
-use Rattle.fm_filter.specs.Standing.{shape_of, standing_of}
-use Rattle.fm_flow.specs.declared.entry.PreState.{PreState}
 use Rattle.fm_flow.specs.declared.entry.PostState.TheVariants.{Finished}
 use Rattle.fm_flow.specs.declared.hold.Hold.{Hold}
-use Rattle.fm_flow.specs.Record.{FlowRecord}
 use Rattle.fm_flow.specs.Steps.{pre_settled, post_settled}
-use Rattle.fm_flow.specs.Table.{is_number}
+use Rattle.fm_ctx.specs.declared.object.Object.{Object}
+use Rattle.fm_ctx.specs.declared.set_reply.SetMode.{SetMode}
+use Rattle.fm_ctx.specs.Table.{Context}
 use Rattle.fm_world.proofs.Events.{asked_by, taken_by}
-use Rattle.fm_world.specs.ContextEvents.{Allocates, Sets, Gets, Deletes, References, Releases, ReadsBody, WritesBody, Bumps}
-use Rattle.fm_world.specs.ContextEvents.{Callback, SetsIn, SetsUnless, SetsOn, callback_of, object_for, set_refused}
-use Rattle.fm_world.specs.Events.{FindsHeld, FindsHeldAt, ResumesPost, ResumesPostAt, ResumesPre, ResumesPreAt, state_at}
+use Rattle.fm_world.specs.ContextEvents.{Allocates, Sets, Gets, Deletes, References, Releases, ReadsBody, WritesBody, Bumps, Callback, SetsIn}
+use Rattle.fm_world.specs.ContextEvents.{SetsUnless, SetsOn, callback_of, object_for, set_refused}
+use Rattle.fm_world.specs.Events.{FindsHeld, FindsHeldAt, ResumesPost, ResumesPostAt, ResumesPre, ResumesPreAt}
 use Rattle.fm_world.specs.Owners.{place_in}
-use Rattle.fm_world.specs.Workers.{worker_at}
-use Rattle.fm_world.specs.World.{World}
 use Rattle.fm_world.specs.declared.set_answer.SetAnswer.{SetAnswer}
+use Rattle.fm_filter.specs.Standing.{shape_of, standing_of}
 
 -- what a change of one operation leaves of what all are on
 map_changed : {A B : Type 0} (f : A → B) (p : A → Bool) (to : A → A) (xs : List A) → ((x : A) → f (to x) ≡ f x) → map f (change_first p to xs) ≡ map f xs

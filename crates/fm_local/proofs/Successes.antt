@@ -1,20 +1,13 @@
 -- What follows where an operation on a file was answered with success: the device carried it out.
-use Rattle.std.specs.Prelude.{◌≡◌, ◌⊎◌, ℕ, Bool, true, false, cond, List, Option, Some, None, IsSome, option_and_then, slice_get, refl}
-use Rattle.std.proofs.Common.{sym, ap, subst, ◌∙◌, inl, inr}
-use Rattle.std.proofs.lemmas.Bool.{false≢true}
-use Rattle.fm_types.specs.declared.ids.HandleId.{HandleId}
-use Rattle.fm_types.specs.declared.status.Status.{Status}
-use Rattle.fm_types.specs.declared.status.Status.TheVariants.{Success, NoMemory, NoHandle, BadRequest, DeviceFault}
-use Rattle.fm_data.specs.Params.{is_within_limits}
-use Rattle.fm_data.specs.declared.answer.Answer.{Answer}
-use Rattle.fm_data.specs.Calls.{BaseCall}
-use Rattle.fm_data.specs.declared.params.Params.{Params}
-use Rattle.fm_flow.specs.Answered.{bare_answer, base_counted, is_success, success_of}
-use Rattle.fm_base.specs.Folders.{Folder}
+use Rattle.fm_local.proofs.Words.{◌≡◌, ◌⊎◌, Answer, BaseCall, Bool, Folder, List, None, Option, Params, Some, Status, bare_answer, false}
+use Rattle.fm_local.proofs.Words.{option_and_then, slice_get, true, ℕ, ◌∙◌, ap, cond, inl, inr, refl, subst, sym, false≢true, Success}
+use Rattle.fm_local.proofs.Words.{is_within_limits, base_counted, HandleId, BasesCarry, BaseMay, Subject, Under, known_answer}
+use Rattle.std.specs.Prelude.{IsSome}
+use Rattle.fm_types.specs.declared.status.Status.TheVariants.{NoMemory, NoHandle, BadRequest, DeviceFault}
 use Rattle.fm_device.specs.Devices.{KnownAs, CarriesAny, CarriesOn, CarriesWithin, answer_to, made_by, made_of, is_listing}
-use Rattle.fm_local.specs.Bases.{BasesCarry}
+use Rattle.fm_flow.specs.Answered.{is_success, success_of}
 use Rattle.fm_local.specs.Shifts.{folder_of}
-use Rattle.fm_local.specs.Chains.{Under, Subject, BaseMay, BaseMayBy, known_answer, call_on}
+use Rattle.fm_local.specs.Chains.{BaseMayBy, call_on}
 
 -- an answer with nothing but a status, where that is no success
 pub no_success : (answer : Answer) (status : Status) → answer ≡ bare_answer status → answer.status ≡ Success → status ≡ Success

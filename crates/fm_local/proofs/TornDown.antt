@@ -1,19 +1,7 @@
 -- The instances of a filter are torn down one after the other.
-use Rattle.std.specs.Prelude.{◌≡◌, ◌+◌, ℕ, suc, List, Bool, Option, Result, Ok}
-use Rattle.std.proofs.Common.{subst, arith}
-use Rattle.fm_base.specs.Folders.{Folder}
-use Rattle.fm_types.specs.declared.context_kind.ContextKind.{ContextKind}
-use Rattle.fm_types.specs.declared.ids.FilterId.{FilterId}
-use Rattle.fm_types.specs.declared.ids.InstanceId.{InstanceId}
-use Rattle.fm_types.specs.declared.status.Status.{Status}
-use Rattle.fm_data.specs.Data.{Data}
-use Rattle.fm_data.specs.declared.verdict.Completion.{Completion}
-use Rattle.fm_data.specs.declared.verdict.PreVerdict.{PreVerdict}
-use Rattle.fm_data.specs.declared.verdict.PostVerdict.{PostVerdict}
-use Rattle.fm_world.specs.Words.{WorkerId}
+use Rattle.fm_local.proofs.Words.{◌≡◌, Bool, Completion, Data, FilterId, Folder, InstanceId, List, LocalManager, Ok, Option, PostVerdict, PreVerdict}
+use Rattle.fm_local.proofs.Words.{Result, Status, WorkerId, suc, ℕ, ◌+◌, arith, subst, ContextKind, is_to_go}
 use Rattle.fm_local.specs.Actions.{TearsDownEach, TearsDownWhere}
-use Rattle.fm_local.specs.Calls.{is_to_go}
-use Rattle.fm_local.specs.declared.manager.LocalManager.{LocalManager}
 
 module _ {F B : Type 0} (pre : F → Data → PreVerdict → Data → Type 0) (post : F → Data → Completion → PostVerdict → Data → Type 0) (drained : F → Completion → Type 0)
     (folder : B → Option Folder) (faults : B → ℕ) (k : WorkerId) (cleanup : F → ContextKind → List ℕ → ℕ → Type 0) (most limit : ℕ)

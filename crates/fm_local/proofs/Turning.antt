@@ -1,39 +1,22 @@
 -- What each whole turn of an operation leaves of its fold: of one record, and any chain.
-use Rattle.std.specs.Prelude.{◌≡◌, ℕ, suc, zero, ⊤, Bool, true, false, cond, List, [], ◌∷◌, ◌++◌, length, map, take, Option, Some, None, unwrap_or, slice_get, refl}
-use Rattle.std.proofs.Common.{sym, ap, ap₂, subst, ◌∙◌, arith}
-use Rattle.std.proofs.lemmas.List.{map-append, length-append, length-take}
-use Rattle.fm_types.specs.declared.ids.HandleId.{HandleId}
-use Rattle.fm_types.specs.declared.ids.InstanceId.{InstanceId}
-use Rattle.fm_types.specs.declared.ids.WorkerId.{WorkerId}
-use Rattle.fm_types.specs.declared.operation.Operation.{Operation}
-use Rattle.fm_types.specs.declared.status.Status.{Status}
-use Rattle.fm_data.specs.declared.answer.Answer.{Answer}
-use Rattle.fm_data.specs.declared.params.Params.{Params}
-use Rattle.fm_data.specs.declared.verdict.Completion.{Completion}
-use Rattle.fm_data.specs.declared.verdict.PreVerdict.{PreVerdict}
-use Rattle.fm_data.specs.declared.verdict.PostVerdict.TheVariants.{Finished}
-use Rattle.fm_data.specs.Data.{Data, current_of, fresh_data, answered_data}
-use Rattle.fm_flow.specs.declared.entry.Ask.{Ask}
-use Rattle.fm_flow.specs.declared.entry.Entry.{Entry}
+use Rattle.fm_local.proofs.Words.{[], ⊤, ◌∷◌, ◌≡◌, Answer, Bool, Completion, Data, Finished, FlowRecord, InstanceId, List, None, Operation, Option}
+use Rattle.fm_local.proofs.Words.{Params, PreVerdict, Some, Status, WorkerId, bare_answer, false, length, slice_get, suc, true, zero, ℕ, ◌++◌, ◌∙◌}
+use Rattle.fm_local.proofs.Words.{ap, ap₂, arith, cond, length-append, map, refl, subst, sym, take, unwrap_or, answered_data, fresh_data}
+use Rattle.fm_local.proofs.Words.{base_counted, times, sees, IsCourse, base_returned_of, call_base, call_of, call_post, call_pre, give_post}
+use Rattle.fm_local.proofs.Words.{lent_answer, post_returned_of, pre_returned_of, returned_answer, unwound, verdict_counted, Ascending, Ask}
+use Rattle.fm_local.proofs.Words.{Descending, Entry, HandleId, PreState, Stage, last_visited, owed, visited, Asker, Chain, Descends, Leads, Rises}
+use Rattle.fm_local.proofs.Words.{Visit, asker, ArePlain}
+use Rattle.std.proofs.lemmas.List.{map-append, length-take}
+use Rattle.fm_data.specs.Data.{current_of}
 use Rattle.fm_flow.specs.declared.entry.Entry.TheVariants.{Base}
-use Rattle.fm_flow.specs.declared.entry.PreState.{PreState}
-use Rattle.fm_flow.specs.declared.entry.PreState.TheVariants as pre
-use Rattle.fm_flow.specs.declared.entry.PostState.TheVariants as post
-use Rattle.fm_flow.specs.declared.stage.Stage.{Stage}
-use Rattle.fm_flow.specs.declared.stage.Stage.TheVariants.{Descending, Ascending}
-use Rattle.fm_flow.specs.Answered.{bare_answer, base_counted}
-use Rattle.fm_flow.specs.Entries.{owed, visited, last_visited, times, ask_in, settle_pre, settle_post}
-use Rattle.fm_flow.specs.Record.{FlowRecord}
-use Rattle.fm_flow.specs.Seen.{sees}
-use Rattle.fm_flow.specs.Sound.{IsCourse}
-use Rattle.fm_flow.specs.Steps.{call_pre, call_base, call_of, call_post, give_post, unwound, unwound_to, pre_returned_of, base_returned_of, post_returned_of, with_visit, with_base, bare_ask}
-use Rattle.fm_flow.specs.Steps.{post_entry, pre_leads, answer_after, kept_of, stands, lent_answer, left_answer, returned_answer}
-use Rattle.fm_flow.specs.Verdict.{verdict_counted}
+use Rattle.fm_flow.specs.Entries.{ask_in, settle_pre, settle_post}
+use Rattle.fm_flow.specs.Steps.{unwound_to, with_visit, with_base, bare_ask, post_entry, pre_leads, answer_after, kept_of, stands, left_answer}
 use Rattle.fm_flow.proofs.Course.{bare_ask_of, owed_answered}
 use Rattle.fm_flow.proofs.Owed.{owed_push_none}
 use Rattle.fm_flow.proofs.Walks.{settling_pre, settling_post}
-use Rattle.fm_local.specs.Folds.{Chain, Asker, asker, Rises, Leads, Visit, Descends, bare_completion}
-use Rattle.fm_local.specs.Left.{askers, LeftAt, LeftIn, LeftOf, ArePlain}
+use Rattle.fm_flow.specs.declared.entry.PostState.{PostState}
+use Rattle.fm_local.specs.Folds.{bare_completion}
+use Rattle.fm_local.specs.Left.{askers, LeftAt, LeftIn, LeftOf}
 use Rattle.fm_local.proofs.Askers.{closed_stay, askers_above, none_at_end, asker_now, entry_of, last_is, owed_asks, owed_goes}
 
 -- a turn leaves no more than what was left before: any answer and end of what is left after it are those of what was left
@@ -43,14 +26,14 @@ pub record Leaves {W : Type 0} (chain : Chain W) (Meets : Option ℕ → List �
 
 -- what a filter that completes makes of what lies below
 abbrev pub after_verdict : {W : Type 0} → Chain W → PreState → W → W
-after_verdict chain (pre.Completed status) old = chain.completes status old
+after_verdict chain (PreState.Completed status) old = chain.completes status old
 after_verdict chain _ old = old
 
 -- a verdict that holds nothing and binds no worker
 abbrev pub IsPlainState : PreState → Type 0
-IsPlainState (pre.Asked completion) = ⊤
-IsPlainState pre.Passed = ⊤
-IsPlainState (pre.Completed status) = ⊤
+IsPlainState (PreState.Asked completion) = ⊤
+IsPlainState PreState.Passed = ⊤
+IsPlainState (PreState.Completed status) = ⊤
 IsPlainState _ = ⊥
 
 plain_above : (asks : List Ask) (kept more : List Params) → ArePlain (length kept) asks → ArePlain (length (kept ++ more)) asks
@@ -78,7 +61,7 @@ module _ {W : Type 0} (chain : Chain W) (Meets : Option ℕ → List ℕ → Typ
 
       entries_are : visited_once.entries ≡ entries_as state
       entries_are =
-          map-append (settle_pre state) r.entries (entry_of r.entries worker i (length r.kept) pre.Running ∷ [])
+          map-append (settle_pre state) r.entries (entry_of r.entries worker i (length r.kept) PreState.Running ∷ [])
           ∙ ap (λ es. es ++ entry_of r.entries worker i (length r.kept) state ∷ []) (closed_stay (settle_pre state) (settling_pre state) Descending r.entries Descending c.order refl refl)
 
       met : (below : List ℕ) (answer : Answer) (end : W) → Meets (Some i.0) below → Leads chain (Descends chain below) i.0 p back asked state old answer end → LeftOf chain Meets r old answer end
@@ -106,7 +89,7 @@ module _ {W : Type 0} (chain : Chain W) (Meets : Option ℕ → List ℕ → Typ
           ap (λ asks. askers asks visited_once.kept (current_of back)) goes ∙ askers_above (owed r.entries) r.kept back.received back.changed plain ∙ asked_same (owed r.entries)
 
       -- it asks for its postoperation
-      pub left_asked : (completion : Completion) → state ≡ pre.Asked completion → Leaves chain Meets r visited_once old old
+      pub left_asked : (completion : Completion) → state ≡ PreState.Asked completion → Leaves chain Meets r visited_once old old
       left_asked completion is =
           let ask : Ask = record { instance = i; worker = worker; completion = completion; is_synchronized = false; place = length r.kept } in
           let owes : owed visited_once.entries ≡ ask ∷ owed r.entries =
@@ -127,7 +110,7 @@ module _ {W : Type 0} (chain : Chain W) (Meets : Option ℕ → List ℕ → Typ
           }
 
       -- it lets the operation pass
-      pub left_passed : state ≡ pre.Passed → Leaves chain Meets r visited_once old old
+      pub left_passed : state ≡ PreState.Passed → Leaves chain Meets r visited_once old old
       left_passed is =
           let goes : owed visited_once.entries ≡ owed r.entries =
           ap owed entries_are ∙ owed_goes r.entries worker i (length r.kept) state (ap (ask_in (record { instance = i; worker = worker; state = state; place = length r.kept })) is) in
@@ -142,7 +125,7 @@ module _ {W : Type 0} (chain : Chain W) (Meets : Option ℕ → List ℕ → Typ
           }
 
       -- it completes the operation, which meets nobody below
-      pub left_completed : (status : Status) → state ≡ pre.Completed status → (below : List ℕ) → Meets (Some i.0) below
+      pub left_completed : (status : Status) → state ≡ PreState.Completed status → (below : List ℕ) → Meets (Some i.0) below
           → Leaves chain Meets r visited_once old (chain.completes status old)
       left_completed status is below at =
           let goes : owed visited_once.entries ≡ owed r.entries =
@@ -276,11 +259,11 @@ module _ {W : Type 0} (chain : Chain W) (Meets : Option ℕ → List ℕ → Typ
   given_post u None back' is = cc
   given_post u (Some q) back' is =
       let s = post_returned_of Finished back (give_post worker ask u (Some q)).after in
-      let entry : Entry = post_entry worker ask.instance post.Finished in
+      let entry : Entry = post_entry worker ask.instance PostState.Finished in
       let entries : s.entries ≡ r.entries ++ entry ∷ [] =
-      map-append (settle_post post.Finished) u.entries (post_entry worker ask.instance post.Running ∷ [])
-      ∙ ap (λ es. map (settle_post post.Finished) es ++ entry ∷ []) back'.entries
-      ∙ ap (λ es. es ++ entry ∷ []) (closed_stay (settle_post post.Finished) (settling_post post.Finished) Descending r.entries Ascending c.order refl refl) in
+      map-append (settle_post PostState.Finished) u.entries (post_entry worker ask.instance PostState.Running ∷ [])
+      ∙ ap (λ es. map (settle_post PostState.Finished) es ++ entry ∷ []) back'.entries
+      ∙ ap (λ es. es ++ entry ∷ []) (closed_stay (settle_post PostState.Finished) (settling_post PostState.Finished) Descending r.entries Ascending c.order refl refl) in
       let owes : owed s.entries ≡ rest = ap owed entries ∙ owed_answered Ascending r.entries entry ask rest c next refl (λ j. refl) in
       let fall : ArePlain (length r.kept) (ask ∷ rest) = subst (ArePlain (length r.kept)) next plain in
       let long : length u.kept ≡ ask.place = ap length back'.kept ∙ omega (arith, length-take ask.place r.kept, fall.0) in

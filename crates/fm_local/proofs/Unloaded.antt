@@ -1,30 +1,22 @@
 -- What the events of an unload leave where nothing is under way: it is so again, and no instance of the filter is stopping any more.
-use Rattle.std.specs.Prelude.{◌≡◌, ◌==◌, ◌&&◌, ◌<◌, ◌⊎◌, ℕ, zero, suc, Bool, true, false, cond, List, [], ◌∷◌, length, map, Option, Some, None, option_map, Result, Ok, Err, IsErr, slice_get, refl}
-use Rattle.std.proofs.Common.{inl, inr, true≢false, sym, ap, subst, ◌∙◌, arith}
+use Rattle.fm_local.proofs.Words.{[], ◌∷◌, ◌≡◌, ◌⊎◌, Bool, Err, FilterId, Instance, InstanceId, List, None, Ok, Option, Result, Some, StackWorld}
+use Rattle.fm_local.proofs.Words.{Status, WorkerId, World, false, length, slice_get, suc, true, worker_at, zero, ℕ, ◌&&◌, ◌<◌, ◌==◌, ◌∙◌, ap, arith}
+use Rattle.fm_local.proofs.Words.{cond, inl, inr, map, option_map, refl, subst, sym, true≢false, StartMark, Finishes, is_stopping_phase}
+use Rattle.fm_local.proofs.Words.{is_stopping_row, UnloadReturnsAt, AsksUnload, EmptiesFilter, FinishesFilter, UnloadReturns, Phase, updated, put}
+use Rattle.fm_local.proofs.Words.{Worker, is_leaving, is_leaving_phase, is_to_go, CompletesQuietly, StartsQuietly, TearsDownFirst, TearsDownIf}
+use Rattle.fm_local.proofs.Words.{TearsDownQuietly, IsAtRest, Tidies}
+use Rattle.std.specs.Prelude.{IsErr}
 use Rattle.std.proofs.lemmas.Grind.{common_steps}
-use Rattle.fm_types.specs.Lists.{updated}
-use Rattle.fm_types.specs.declared.status.Status.{Status}
 use Rattle.fm_stack.specs.Detaching as stack
 use Rattle.fm_stack.specs.Events as setting
 use Rattle.fm_stack.specs.Instances.{is_attached}
-use Rattle.fm_stack.specs.StackWorld.{StackWorld}
 use Rattle.fm_stack.specs.Unloading as filters
-use Rattle.fm_stack.specs.declared.instance.Instance.{Instance}
-use Rattle.fm_stack.specs.declared.instance.Phase.TheVariants as phase
-use Rattle.fm_stack.specs.declared.instance.StartMark.TheVariants as mark
 use Rattle.fm_world.proofs.Cases.{by_bool}
-use Rattle.fm_world.specs.ContextEvents.{Finishes}
-use Rattle.fm_world.specs.Events.{is_stopping_phase, is_stopping_row}
-use Rattle.fm_world.specs.Teardowns.{AsksUnload, UnloadReturns, UnloadReturnsAt, EmptiesFilter, FinishesFilter}
-use Rattle.fm_world.specs.Words.{FilterId, InstanceId, WorkerId}
-use Rattle.fm_world.specs.Workers.{put, worker_at}
-use Rattle.fm_world.specs.World.{World}
-use Rattle.fm_world.specs.declared.worker.Worker.TheVariants as place
+use Rattle.fm_local.specs.Calls.{AsksToUnload, is_of_row}
+use Rattle.fm_local.specs.Quietly.{EndsQuietly}
 use Rattle.fm_local.proofs.Leaving.{complete_stack, start_refused, start_stack, starts_leaves, torn_leaves}
-use Rattle.fm_local.proofs.Resting.{CalmAfter, Undisturbed, ask_unload_refused, both, calm_both, calm_same, calm_tidied, happened, is_in, is_out, rests_on, stops}
-use Rattle.fm_local.specs.Calls.{AsksToUnload, is_leaving, is_leaving_phase, is_of_row, is_to_go}
-use Rattle.fm_local.specs.Quietly.{StartsQuietly, CompletesQuietly, TearsDownQuietly, TearsDownIf, TearsDownFirst, EndsQuietly}
-use Rattle.fm_local.specs.Requests.{IsAtRest, Tidies}
+use Rattle.fm_local.proofs.Resting.{CalmAfter, Undisturbed, ask_unload_refused, both, calm_both, calm_same, calm_tidied, happened, is_in, is_out}
+use Rattle.fm_local.proofs.Resting.{rests_on, stops}
 
 -- ---- rows
 
@@ -33,7 +25,7 @@ stopping_leaves None h = refl
 stopping_leaves (Some row) h = by_phase row.phase h
   where
     by_phase : (p : _) → is_leaving_phase (Some p) ≡ false → is_stopping_phase p ≡ false
-    by_phase phase.Stopping h = cc
+    by_phase Phase.Stopping h = cc
     by_phase _ h = refl
 
 within : (rows : List Instance) (j : ℕ) → is_stopping_row (slice_get rows j) ≡ true → j < length rows
@@ -98,8 +90,8 @@ module _ (f : FilterId) where
     starts_own old new rests (inr (started, back, starts, returns, tidies)) = record {
       same = λ j.
           ap (λ (s : StackWorld). is_of_row f (slice_get s.instances j)) (start_stack k i old rests.idle started starts back new returns tidies)
-          ∙ same_filter (stack.with_start mark.Returned) (λ row. refl) (updated (stack.with_start mark.Made) old.stack.instances i.0) i.0 j
-          ∙ same_filter (stack.with_start mark.Made) (λ row. refl) old.stack.instances i.0 j;
+          ∙ same_filter (stack.with_start StartMark.Returned) (λ row. refl) (updated (stack.with_start StartMark.Made) old.stack.instances i.0) i.0 j
+          ∙ same_filter (stack.with_start StartMark.Made) (λ row. refl) old.stack.instances i.0 j;
     }
 
     completes_own : (old new : World) → IsAtRest k old → CompletesQuietly k i old new → OwnersStay old new
@@ -107,8 +99,8 @@ module _ (f : FilterId) where
     completes_own old new rests (inr (completing, back, completes, returns, tidies)) = record {
       same = λ j.
           ap (λ (s : StackWorld). is_of_row f (slice_get s.instances j)) (complete_stack k i old rests.idle completing completes back new returns tidies)
-          ∙ same_filter (stack.in_phase phase.Emptying) (λ row. refl) (updated (stack.in_phase phase.Completing) old.stack.instances i.0) i.0 j
-          ∙ same_filter (stack.in_phase phase.Completing) (λ row. refl) old.stack.instances i.0 j;
+          ∙ same_filter (stack.in_phase Phase.Emptying) (λ row. refl) (updated (stack.in_phase Phase.Completing) old.stack.instances i.0) i.0 j
+          ∙ same_filter (stack.in_phase Phase.Completing) (λ row. refl) old.stack.instances i.0 j;
     }
 
     finishes_own : (old : World) (result : Result (Unit {0}) Status) (new : World) → Finishes old i result new → OwnersStay old new
@@ -210,24 +202,24 @@ module _ (f : FilterId) where
 
     -- ---- it is asked
 
-    module _ (old : World) (idle : worker_at old.workers k ≡ Some place.Idle) where
-      asked_at : (asked : World) → AsksUnload old k f (Ok tt) asked → asked ≡ record old { workers = put old.workers k (place.Unload f) }
+    module _ (old : World) (idle : worker_at old.workers k ≡ Some Worker.Idle) where
+      asked_at : (asked : World) → AsksUnload old k f (Ok tt) asked → asked ≡ record old { workers = put old.workers k (Worker.Unload f) }
       unfolding AsksUnload
       asked_at asked h = (happened old k tt asked _ h).1
 
-      module _ (asked : World) (asks : asked ≡ record old { workers = put old.workers k (place.Unload f) }) (allows : Bool) (ended : Result (Unit {0}) Status) (back : World)
+      module _ (asked : World) (asks : asked ≡ record old { workers = put old.workers k (Worker.Unload f) }) (allows : Bool) (ended : Result (Unit {0}) Status) (back : World)
           (returns : UnloadReturns asked k allows ended back) where
-        enters : asked.workers ≡ put old.workers k (place.Unload f)
+        enters : asked.workers ≡ put old.workers k (Worker.Unload f)
         enters = ap (λ (w : World). w.workers) asks
 
-        unload_at : UnloadReturnsAt asked k allows ended back (Some (place.Unload f))
+        unload_at : UnloadReturnsAt asked k allows ended back (Some (Worker.Unload f))
         unfolding UnloadReturns
-        unload_at = subst (UnloadReturnsAt asked k allows ended back) (is_in k old asked (place.Unload f) idle enters) returns
+        unload_at = subst (UnloadReturnsAt asked k allows ended back) (is_in k old asked (Worker.Unload f) idle enters) returns
 
         unloaded : Undisturbed old back
         unloaded = record {
           flow = ap (λ (w : World). w.flow) unload_at.1 ∙ ap (λ (w : World). w.flow) asks;
-          workers = is_out k old asked back (place.Unload f) idle enters (ap (λ (w : World). w.workers) unload_at.1);
+          workers = is_out k old asked back (Worker.Unload f) idle enters (ap (λ (w : World). w.workers) unload_at.1);
           files = ap (λ (w : World). w.files) unload_at.1 ∙ ap (λ (w : World). w.files) asks;
         }
 

@@ -1,23 +1,17 @@
 -- That the list of instances which an operation is to meet exists, and is one alone.
-use Rattle.std.specs.Prelude.{◌≡◌, ◌⊎◌, ◌≤◌, ◌+◌, ℕ, suc, zero, Bool, true, false, List, [], ◌∷◌, ◌++◌, length, slice_get, count_by, ◌&&◌, ◌||◌, not, Option, Some, None, refl}
-use Rattle.std.proofs.Common.{sym, ap, ap₂, subst, ◌∙◌, inl, inr, arith}
-use Rattle.std.proofs.lemmas.Bool.{cases_Bool, false≢true, and_parts, cases_order}
-use Rattle.std.proofs.lemmas.Bool.Decides.{nat_tests}
-use Rattle.std.proofs.lemmas.Option.{same_Some}
-use Rattle.std.proofs.lemmas.List.{length-append}
+use Rattle.fm_local.proofs.Words.{[], ◌∷◌, ◌≡◌, ◌≤◌, ◌⊎◌, Bool, Instance, List, None, Operation, Option, Some, StackWorld, VolumeId, false, length}
+use Rattle.fm_local.proofs.Words.{slice_get, suc, true, zero, ℕ, ◌&&◌, ◌++◌, ◌+◌, ◌||◌, ◌∙◌, ap, ap₂, arith, count_by, inl, inr, length-append, not}
+use Rattle.fm_local.proofs.Words.{refl, subst, sym, cases_Bool, false≢true, nat_tests, same_Some, Visits}
+use Rattle.std.proofs.lemmas.Bool.{and_parts, cases_order}
 use Rattle.fm_types.proofs.Lists.{pair_at, count_by_weaker}
-use Rattle.fm_types.specs.declared.ids.VolumeId.{VolumeId}
-use Rattle.fm_types.specs.declared.operation.Operation.{Operation}
-use Rattle.fm_stack.specs.declared.instance.Instance.{Instance}
 use Rattle.fm_stack.specs.Instances.{clashes, is_live_on, is_lower, same_altitude, same_name}
 use Rattle.fm_stack.specs.Next.{is_to_visit, is_below_cursor, is_candidate, IsHighest, NonePasses}
-use Rattle.fm_stack.specs.StackWorld.{StackWorld}
 use Rattle.fm_stack.specs.Stacks.{IsStack}
 use Rattle.fm_stack.proofs.Heights.{not_below_itself, lower_after, lower_or_above}
 use Rattle.fm_stack.proofs.Visits.{visited_is_live, is_to_visit_few}
 use Rattle.fm_world.specs.Descent.{HasRoom, last_of}
 use Rattle.fm_world.proofs.Descents.{last_of-push, room_is, room_visits}
-use Rattle.fm_local.specs.Visits.{Visits, OneWay}
+use Rattle.fm_local.specs.Visits.{OneWay}
 
 -- ---- the highest of some instances
 

@@ -1,42 +1,23 @@
 -- What a manager does of what its state says is next: how a turn of an operation ends, and where turn after turn leads.
-use Rattle.std.specs.Prelude.{◌≡◌, ◌<◌, ◌≤◌, ◌⊎◌, ◌++◌, ℕ, zero, suc, Bool, true, false, not, List, [], ◌∷◌, length, map, Option, Some, None, Result, Ok, Err, IsErr, slice_get}
+use Rattle.fm_local.specs.Words.{[], ◌∷◌, ◌≡◌, ◌≤◌, ◌⊎◌, Bool, Err, IsErr, List, None, Ok, Option, Result, Some, false, length, slice_get, suc, true}
+use Rattle.fm_local.specs.Words.{zero, ℕ, BaseCall, Data, Completion, PostVerdict, Finished, PreVerdict, Folder, bare_answer, Finishes, Attaches}
+use Rattle.fm_local.specs.Words.{AsksDetach, CompletesTeardown, EmptiesFilter, FinishesFilter, StartsTeardown, Answer, FilterId, FlowAction}
+use Rattle.fm_local.specs.Words.{InstanceId, OpId, Status, VolumeId, WorkerId, World, LocalManager}
+use Rattle.std.specs.Prelude.{◌<◌, ◌++◌, not, map}
 use Rattle.std.specs.VecDeque.{deque_capacity}
 use Rattle.fm_types.specs.declared.context_kind.ContextKind.{ContextKind}
-use Rattle.fm_types.specs.declared.ids.FilterId.{FilterId}
 use Rattle.fm_types.specs.declared.ids.HandleId.{HandleId}
-use Rattle.fm_types.specs.declared.ids.InstanceId.{InstanceId}
-use Rattle.fm_types.specs.declared.ids.VolumeId.{VolumeId}
-use Rattle.fm_types.specs.declared.status.Status.{Status}
-use Rattle.fm_types.specs.declared.status.Status.TheVariants as status
-use Rattle.fm_data.specs.declared.answer.Answer.{Answer}
-use Rattle.fm_data.specs.Calls.{BaseCall}
 use Rattle.fm_data.specs.declared.request.Reply.{Reply}
-use Rattle.fm_data.specs.declared.request.Reply.TheVariants as reply
-use Rattle.fm_data.specs.declared.request.FileRequest.TheVariants as asked
 use Rattle.fm_data.specs.declared.request.Request.{Request}
-use Rattle.fm_data.specs.declared.request.Request.TheVariants as request
-use Rattle.fm_data.specs.declared.verdict.Completion.{Completion}
-use Rattle.fm_data.specs.declared.verdict.PreVerdict.{PreVerdict}
-use Rattle.fm_data.specs.declared.verdict.PostVerdict.{PostVerdict}
-use Rattle.fm_data.specs.declared.verdict.PostVerdict.TheVariants.{Finished}
-use Rattle.fm_data.specs.Data.{Data}
-use Rattle.fm_base.specs.Folders.{Folder}
-use Rattle.fm_flow.specs.Answered.{bare_answer}
-use Rattle.fm_flow.specs.declared.action.FlowAction.{FlowAction}
-use Rattle.fm_flow.specs.declared.action.FlowAction.TheVariants as action
-use Rattle.fm_filter.specs.Plain.{IsPlainFilter}
-use Rattle.fm_world.specs.Events.{Attaches, Nexts, Begins, Collects, PreReturns, PostReturns, begin_refused, is_stopping_row}
+use Rattle.fm_data.specs.declared.request.FileRequest.{FileRequest}
+use Rattle.fm_world.specs.Events.{Nexts, Begins, Collects, PreReturns, PostReturns, begin_refused, is_stopping_row}
 use Rattle.fm_world.specs.Sound.{IsSound}
-use Rattle.fm_world.specs.ContextEvents.{Finishes}
-use Rattle.fm_world.specs.Teardowns.{AsksDetach, CompletesTeardown, CompleteReturns, EmptiesFilter, FinishesFilter, StartsTeardown}
-use Rattle.fm_world.specs.Words.{OpId, WorkerId}
-use Rattle.fm_world.specs.World.{World}
+use Rattle.fm_world.specs.Teardowns.{CompleteReturns}
+use Rattle.fm_filter.specs.Plain.{IsPlainFilter}
+use Rattle.fm_filter.specs.Standing.{standing_of}
 use Rattle.fm_local.specs.declared.requests.Turn.{Turn}
-use Rattle.fm_local.specs.declared.requests.Turn.TheVariants as turn
-use Rattle.fm_local.specs.declared.manager.LocalManager.{LocalManager}
 use Rattle.fm_local.specs.Bases.{BasesCarry}
 use Rattle.fm_local.specs.Calls.{AsksToUnload, QueriesWith, SetsUpWith, is_to_go}
-use Rattle.fm_filter.specs.Standing.{standing_of}
 use Rattle.fm_local.specs.Managers.{IsQuietIn, numbered}
 use Rattle.fm_local.specs.Requests.{under, NoneStops, IsAtRest, AnswersOne, AnswersAll, DoesTidily, Tidies}
 use Rattle.fm_local.specs.Chains.{PreMay, PostMay, filter_in}
@@ -53,11 +34,11 @@ module _ {F D : Type 0} (pre : F → Data → PreVerdict → Data → Type 0) (p
     (filters : ℕ → Option F) (k : WorkerId) (o : OpId) where
   -- what a turn does of what is next, and how it ends
   abbrev pub Acts : Result FlowAction Status → World → D → Turn → World → D → Type 0
-  Acts (Ok action.Done) mid d ended new e = (ended ≡ turn.Done) × (new ≡ mid) × (e ≡ d)
-  Acts (Ok action.Held) mid d ended new e = (ended ≡ turn.Held) × (new ≡ mid) × (e ≡ d)
-  Acts (Ok (action.Drain i completion)) mid d ended new e = (ended ≡ turn.Goes) × (e ≡ d)
-  Acts (Err why) mid d ended new e = (ended ≡ turn.Held) × (new ≡ mid) × (e ≡ d)
-  Acts said mid d ended new e = (ended ≡ turn.Goes) × Does pre post carries filters k o said mid d new e
+  Acts (Ok FlowAction.Done) mid d ended new e = (ended ≡ Turn.Done) × (new ≡ mid) × (e ≡ d)
+  Acts (Ok FlowAction.Held) mid d ended new e = (ended ≡ Turn.Held) × (new ≡ mid) × (e ≡ d)
+  Acts (Ok (FlowAction.Drain i completion)) mid d ended new e = (ended ≡ Turn.Goes) × (e ≡ d)
+  Acts (Err why) mid d ended new e = (ended ≡ Turn.Held) × (new ≡ mid) × (e ≡ d)
+  Acts said mid d ended new e = (ended ≡ Turn.Goes) × Does pre post carries filters k o said mid d new e
 
   -- a turn: the state says what is next, and that is done
   abbrev pub TurnsAs : World → D → Turn → World → D → Type 0
@@ -70,24 +51,24 @@ module _ {F D : Type 0} (pre : F → Data → PreVerdict → Data → Type 0) (p
 
 -- how a turn ends, by what it found to be next
 abbrev pub ends_turn : Result FlowAction Status → Turn
-ends_turn (Ok action.Done) = turn.Done
-ends_turn (Ok action.Held) = turn.Held
-ends_turn (Err why) = turn.Held
-ends_turn said = turn.Goes
+ends_turn (Ok FlowAction.Done) = Turn.Done
+ends_turn (Ok FlowAction.Held) = Turn.Held
+ends_turn (Err why) = Turn.Held
+ends_turn said = Turn.Goes
 
 -- ---- by filters of any kind
 module _ {F D : Type 0} (pre : F → Data → PreVerdict → Data → Type 0) (post : F → Data → Completion → PostVerdict → Data → Type 0) (drained : F → Completion → Type 0)
     (carries : D → BaseCall → Answer → D → Type 0) (filters : ℕ → Option F) (k : WorkerId) (o : OpId) where
   -- what is next is done: the callback of the instance that is named runs, and then the event comes that ends it; or the call of the device; or nothing
   abbrev pub Makes : Result FlowAction Status → World → D → World → D → Type 0
-  Makes (Ok (action.Pre i lent)) mid d new e =
+  Makes (Ok (FlowAction.Pre i lent)) mid d new e =
       (verdict : PreVerdict) × (back : Data) × (result : Result (Unit {0}) Status) × PreMay pre (filter_in filters mid.stack i.0) lent verdict back × HandsBack lent back
       × EndsFrom mid (λ before. PreReturns before k verdict back result new) × (e ≡ d)
-  Makes (Ok (action.Base call)) mid d new e = Does pre post carries filters k o (Ok (action.Base call)) mid d new e
-  Makes (Ok (action.Post i lent completion)) mid d new e =
+  Makes (Ok (FlowAction.Base call)) mid d new e = Does pre post carries filters k o (Ok (FlowAction.Base call)) mid d new e
+  Makes (Ok (FlowAction.Post i lent completion)) mid d new e =
       (verdict : PostVerdict) × (back : Data) × (result : Result (Unit {0}) Status) × PostMay post (filter_in filters mid.stack i.0) lent completion verdict back
       × HandsBack lent back × EndsFrom mid (λ before. PostReturns before k verdict (Some back) result new) × (e ≡ d)
-  Makes (Ok (action.Drain i completion)) mid d new e =
+  Makes (Ok (FlowAction.Drain i completion)) mid d new e =
       (result : Result (Unit {0}) Status) × WasCalled (λ f. drained f completion) (filter_in filters mid.stack i.0)
       × EndsFrom mid (λ before. PostReturns before k Finished None result new) × (e ≡ d)
   Makes said mid d new e = (new ≡ mid) × (e ≡ d)
@@ -99,13 +80,13 @@ module _ {F D : Type 0} (pre : F → Data → PreVerdict → Data → Type 0) (p
   -- so many, behind each of which there is more to do
   abbrev pub TakesTurns : ℕ → World → D → World → D → Type 0
   TakesTurns zero old d new e = (new ≡ old) × (e ≡ d)
-  TakesTurns (suc n) old d new e = (mid : World) × (between : D) × TakesTurns n old d mid between × TakesTurn turn.Goes mid between new e
+  TakesTurns (suc n) old d new e = (mid : World) × (between : D) × TakesTurns n old d mid between × TakesTurn Turn.Goes mid between new e
 
   -- turn after turn, until one ends otherwise, or as many as there can be
   abbrev pub GoesOn : ℕ → Turn → World → D → World → D → Type 0
   GoesOn most ended old d new e =
       (n : ℕ) × (mid : World) × (between : D) × TakesTurns n old d mid between
-      × (TakesTurn ended mid between new e ⊎ ((most ≤ n) × (ended ≡ turn.Held) × (new ≡ mid) × (e ≡ between)))
+      × (TakesTurn ended mid between new e ⊎ ((most ≤ n) × (ended ≡ Turn.Held) × (new ≡ mid) × (e ≡ between)))
 
 -- the operation began, in a state that is sound, while no other was under way and no instance was being torn down
 pub record IsBegun (k : WorkerId) (o : OpId) (begun : World) : Type 0 where
@@ -118,11 +99,11 @@ pub record IsBegun (k : WorkerId) (o : OpId) (begun : World) : Type 0 where
 
 -- nothing is left to do for an operation: the state says that it is done
 abbrev pub IsDoneAt : WorkerId → OpId → World → Type 0
-IsDoneAt k o w = (same : World) × Nexts w k o (Ok action.Done) same
+IsDoneAt k o w = (same : World) × Nexts w k o (Ok FlowAction.Done) same
 
 -- an answer as a reply
 abbrev pub replied : Answer → Reply
-replied answer = reply.Done answer.status answer.information answer.bytes
+replied answer = Reply.Done answer.status answer.information answer.bytes
 
 abbrev pub reply_of : Result Answer Status → Reply
 reply_of (Ok answer) = replied answer
@@ -137,27 +118,27 @@ GivesFinished old (Some (o, said)) new =
 
 -- the handle that a request closes
 abbrev pub closed_handle : Request → Option HandleId
-closed_handle (request.OnHandle h asked.Close) = Some h
+closed_handle (Request.OnHandle h FileRequest.Close) = Some h
 closed_handle _ = None
 
 -- whether a close goes on after its cleanup: that succeeded, or began before
 abbrev pub is_over : Status → Bool
-is_over status.Success = true
-is_over status.WrongStep = true
+is_over Status.Success = true
+is_over Status.WrongStep = true
 is_over _ = false
 
 abbrev pub goes_on : Reply → Bool
-goes_on (reply.Done why information bytes) = is_over why
-goes_on (reply.Held o) = false
+goes_on (Reply.Done why information bytes) = is_over why
+goes_on (Reply.Held o) = false
 
 -- what a request begins with: a close with its cleanup
 abbrev pub first_begun : Request → Request
-first_begun (request.OnHandle h asked.Close) = request.OnHandle h asked.Cleanup
+first_begun (Request.OnHandle h FileRequest.Close) = Request.OnHandle h FileRequest.Cleanup
 first_begun what = what
 
 -- whether a refusal of that ends the request: of a close not where its cleanup began before
 abbrev pub ends_with : Request → Status → Bool
-ends_with (request.OnHandle h asked.Close) why = not (is_over why)
+ends_with (Request.OnHandle h FileRequest.Close) why = not (is_over why)
 ends_with what why = true
 
 -- a request that is refused is answered with the refusal, and nothing changes
@@ -189,17 +170,17 @@ CallsBack old new = new ≡ record old { desk = new.desk; trace = new.trace; han
 
 -- an operation whose turns end so is answered, or held
 abbrev pub RepliesWith : {F B : Type 0} → Turn → OpId → LocalManager F B → Reply → LocalManager F B → Type 0
-RepliesWith turn.Done o old said new =
+RepliesWith Turn.Done o old said new =
     ((collected : Result Answer Status) × Collects old.desk.state o collected new.desk.state × (said ≡ reply_of collected))
     × (new ≡ record old { desk = record old.desk { state = new.desk.state }; trace = new.trace })
-RepliesWith ended o old said new = (said ≡ reply.Held o) × (new ≡ old)
+RepliesWith ended o old said new = (said ≡ Reply.Held o) × (new ≡ old)
 
 -- ---- of a manager
 module _ {F B : Type 0} (pre : F → Data → PreVerdict → Data → Type 0) (post : F → Data → Completion → PostVerdict → Data → Type 0) (drained : F → Completion → Type 0)
     (folder : B → Option Folder) (faults : B → ℕ) (k : WorkerId) where
   -- an operation that ended waits with its reply, behind those that ended before it, where there is room; of any other nothing is noted
   abbrev pub NotesEnd : Turn → OpId → LocalManager F B → LocalManager F B → Type 0
-  NotesEnd turn.Done o old new = length old.finished.items.items < deque_capacity old.finished.items → new.finished.items.items ≡ old.finished.items.items ++ o ∷ []
+  NotesEnd Turn.Done o old new = length old.finished.items.items < deque_capacity old.finished.items → new.finished.items.items ≡ old.finished.items.items ++ o ∷ []
   NotesEnd ended o old new = new.finished ≡ old.finished
 
   -- an operation that was resumed goes on, until it ends or is held again
@@ -344,12 +325,12 @@ module _ {F B : Type 0} (pre : F → Data → PreVerdict → Data → Type 0) (p
 
     -- a close comes after its cleanup, where that doesn't end it
     abbrev pub ClosesThen : Bool → HandleId → LocalManager F B → Reply → Reply → LocalManager F B → Type 0
-    ClosesThen true h mid cleaned said new = RequestsOne (request.OnHandle h asked.Close) mid said new
+    ClosesThen true h mid cleaned said new = RequestsOne (Request.OnHandle h FileRequest.Close) mid said new
     ClosesThen false h mid cleaned said new = (said ≡ cleaned) × (new ≡ mid)
 
     abbrev pub Requests : Request → LocalManager F B → Reply → LocalManager F B → Type 0
-    Requests (request.OnHandle h asked.Close) old said new =
-        (cleaned : Reply) × (mid : LocalManager F B) × RequestsOne (request.OnHandle h asked.Cleanup) old cleaned mid × ClosesThen (goes_on cleaned) h mid cleaned said new
+    Requests (Request.OnHandle h FileRequest.Close) old said new =
+        (cleaned : Reply) × (mid : LocalManager F B) × RequestsOne (Request.OnHandle h FileRequest.Cleanup) old cleaned mid × ClosesThen (goes_on cleaned) h mid cleaned said new
     Requests what old said new = RequestsOne what old said new
 
 module _ {F B : Type 0} (pre : F → Data → PreVerdict → Data → Type 0) (post : F → Data → Completion → PostVerdict → Data → Type 0) (is_quiet : F → Type 0)
@@ -371,7 +352,7 @@ module _ {F B : Type 0} (pre : F → Data → PreVerdict → Data → Type 0) (p
   abbrev pub CarriesIn : OpId → LocalManager F B → Turn → LocalManager F B → Type 0
   CarriesIn o old ended new =
       ArePlainFilters pre post is_quiet (numbered old.filters) → IsBegun k o old.desk.state
-      → (ended ≡ turn.Done)
+      → (ended ≡ Turn.Done)
       × ((n : ℕ) × Carries pre post (BasesCarry folder faults) (numbered old.filters) k o n old.desk.state old.bases.items new.desk.state new.bases.items)
 
   -- what waits to be carried on stays

@@ -1,9 +1,7 @@
 -- The bases of volumes as one device.
-use Rattle.std.specs.Prelude.{◌≡◌, ◌≢◌, ◌≤◌, ◌+◌, ◌-◌, ◌^◌, ℕ, List, length, min, Option, Some, slice_get}
+use Rattle.fm_local.specs.Words.{◌≡◌, ◌≤◌, List, Option, Some, length, slice_get, ℕ, BaseCall, Folder, Answer}
+use Rattle.std.specs.Prelude.{◌≢◌, ◌+◌, ◌-◌, ◌^◌, min}
 use Rattle.fm_types.specs.declared.status.Status.TheVariants.{NoVolume, DeviceFault}
-use Rattle.fm_data.specs.declared.answer.Answer.{Answer}
-use Rattle.fm_data.specs.Calls.{BaseCall}
-use Rattle.fm_base.specs.Folders.{Folder}
 use Rattle.fm_device.specs.Devices.{bare, CarriesAny, KnownAs}
 
 -- one base carries a call out as its folder says, if it knows it, and counts its faults

@@ -1,29 +1,22 @@
 -- What a manager's calls answer, by the events of its state that they make.
-use Rattle.std.specs.Prelude.{◌≡◌, ◌⊎◌, ◌&&◌, ℕ, Bool, true, false, List, Option, Some, None, Result, Ok, Err, IsErr, option_and_then, option_map, position, slice_get}
-use Rattle.fm_types.specs.declared.ids.FilterId.{FilterId}
-use Rattle.fm_types.specs.declared.ids.VolumeId.{VolumeId}
-use Rattle.fm_types.specs.declared.ids.InstanceId.{InstanceId}
-use Rattle.fm_types.specs.declared.ids.WorkerId.{WorkerId}
+use Rattle.fm_local.specs.Words.{◌≡◌, ◌⊎◌, Bool, Err, IsErr, List, None, Ok, Option, Result, Some, false, option_and_then, slice_get, true, ℕ}
+use Rattle.fm_local.specs.Words.{Finishes, Attaches, AsksDetach, CompletesTeardown, EmptiesFilter, FinishesFilter, FilterId, Instance, InstanceId}
+use Rattle.fm_local.specs.Words.{Status, VolumeId, WorkerId, World}
+use Rattle.std.specs.Prelude.{◌&&◌, option_map, position}
 use Rattle.fm_types.specs.declared.registration.Registration.{Registration}
-use Rattle.fm_types.specs.declared.status.Status.{Status}
 use Rattle.fm_types.specs.declared.status.Status.TheVariants.{NoMemory, NoFilter}
 use Rattle.fm_stack.specs.Instances.{same_name}
 use Rattle.fm_stack.specs.Unloading.{is_of}
 use Rattle.fm_stack.specs.declared.filter.Filter.{Filter}
 use Rattle.fm_stack.specs.declared.filter.FilterPhase.{FilterPhase}
-use Rattle.fm_stack.specs.declared.filter.FilterPhase.TheVariants as end
-use Rattle.fm_stack.specs.declared.instance.Instance.{Instance}
 use Rattle.fm_stack.specs.declared.instance.Phase.{Phase}
-use Rattle.fm_stack.specs.declared.instance.Phase.TheVariants as phase
+use Rattle.fm_world.specs.Events.{Registers, Mounts, SetsUp}
+use Rattle.fm_world.specs.Teardowns.{QueryReturns, AsksUnload, UnloadReturns}
 use Rattle.fm_local.specs.declared.filters.Filters.{Filters}
 use Rattle.fm_local.specs.Chains.{filter_in}
 use Rattle.fm_local.specs.Cleanups.{HasNoneDue}
 use Rattle.fm_local.specs.Managers.{handed_in, numbered}
 use Rattle.fm_local.specs.Places.{EndsFrom}
-use Rattle.fm_world.specs.World.{World}
-use Rattle.fm_world.specs.Events.{Registers, Mounts, Attaches, SetsUp}
-use Rattle.fm_world.specs.ContextEvents.{Finishes}
-use Rattle.fm_world.specs.Teardowns.{AsksDetach, QueryReturns, CompletesTeardown, AsksUnload, UnloadReturns, EmptiesFilter, FinishesFilter}
 
 -- the place of the filter of that name
 abbrev pub place_called : {F : Type 0} → List ℕ → List (List ℕ × F) → Option ℕ
@@ -85,9 +78,9 @@ TornDown k i (Ok done) new = (before : World) × Finishes before i (Ok done) new
 
 -- whether a teardown is under way
 abbrev pub is_leaving_phase : Option Phase → Bool
-is_leaving_phase (Some phase.Stopping) = true
-is_leaving_phase (Some phase.Completing) = true
-is_leaving_phase (Some phase.Emptying) = true
+is_leaving_phase (Some Phase.Stopping) = true
+is_leaving_phase (Some Phase.Completing) = true
+is_leaving_phase (Some Phase.Emptying) = true
 is_leaving_phase _ = false
 
 abbrev pub is_leaving : World → InstanceId → Bool
@@ -136,8 +129,8 @@ FilterEnds k f (Ok done) new = (before : World) × FinishesFilter before f (Ok d
 
 -- whether a filter's end is under way
 abbrev pub is_unloading_phase : Option FilterPhase → Bool
-is_unloading_phase (Some end.Unloading) = true
-is_unloading_phase (Some end.Emptied) = true
+is_unloading_phase (Some FilterPhase.Unloading) = true
+is_unloading_phase (Some FilterPhase.Emptied) = true
 is_unloading_phase _ = false
 
 abbrev pub is_unloading : World → FilterId → Bool

@@ -1,25 +1,13 @@
 -- The chains of a manager: its filters, by the instances of a stack, over its device.
-use Rattle.std.specs.Prelude.{◌≡◌, ℕ, cond, false, List, Option, Some, None, slice_get}
+use Rattle.fm_local.specs.Words.{◌≡◌, List, None, Option, Some, false, slice_get, ℕ, BaseCall, Data, Completion, PostVerdict, Finished, PreVerdict}
+use Rattle.fm_local.specs.Words.{bare_answer, Answer, FlowRecord, Instance, Operation, Params, StackWorld, Status, VolumeId}
+use Rattle.std.specs.Prelude.{cond}
 use Rattle.fm_types.specs.declared.ids.HandleId.{HandleId}
 use Rattle.fm_types.specs.declared.ids.StreamId.{StreamId}
-use Rattle.fm_types.specs.declared.ids.VolumeId.{VolumeId}
-use Rattle.fm_types.specs.declared.operation.Operation.{Operation}
-use Rattle.fm_types.specs.declared.status.Status.{Status}
-use Rattle.fm_data.specs.declared.answer.Answer.{Answer}
-use Rattle.fm_data.specs.Calls.{BaseCall}
-use Rattle.fm_data.specs.declared.params.Params.{Params}
-use Rattle.fm_data.specs.declared.verdict.Completion.{Completion}
-use Rattle.fm_data.specs.declared.verdict.PreVerdict.{PreVerdict}
 use Rattle.fm_data.specs.declared.verdict.PreVerdict.TheVariants.{NoCallback}
-use Rattle.fm_data.specs.declared.verdict.PostVerdict.{PostVerdict}
-use Rattle.fm_data.specs.declared.verdict.PostVerdict.TheVariants.{Finished}
-use Rattle.fm_data.specs.Data.{Data}
-use Rattle.fm_stack.specs.declared.instance.Instance.{Instance}
-use Rattle.fm_stack.specs.StackWorld.{StackWorld}
 use Rattle.fm_flow.specs.declared.entry.PreState.TheVariants.{Completed}
-use Rattle.fm_flow.specs.Answered.{bare_answer, base_counted}
+use Rattle.fm_flow.specs.Answered.{base_counted}
 use Rattle.fm_flow.specs.Creates.{is_create}
-use Rattle.fm_flow.specs.Record.{FlowRecord}
 use Rattle.fm_flow.specs.Table.{empty_table}
 use Rattle.fm_world.specs.Events.{has_pre, has_post, known_create, known_at}
 use Rattle.fm_world.specs.Files.{FileTable, after_base, after_pre}

@@ -1,21 +1,17 @@
 -- How contexts are cleaned up: each by the cleanup callback of the filter that it belongs to, the longest due first.
-use Rattle.std.specs.Prelude.{◌≡◌, ℕ, zero, suc, Bool, true, false, List, [], length, Option, Some, None, Result, Ok}
+use Rattle.fm_local.specs.Words.{[], ◌≡◌, Bool, List, None, Ok, Option, Result, Some, false, length, suc, true, zero, ℕ, StackWorld, Status, WorkerId}
+use Rattle.fm_local.specs.Words.{worker_at, World}
 use Rattle.fm_types.specs.declared.context_kind.ContextKind.{ContextKind}
-use Rattle.fm_types.specs.declared.status.Status.{Status}
 use Rattle.fm_ctx.specs.declared.due.Due.{Due}
 use Rattle.fm_ctx.specs.declared.owner.Owner.{Owner}
-use Rattle.fm_ctx.specs.declared.owner.Owner.TheVariants as owner
-use Rattle.fm_stack.specs.StackWorld.{StackWorld}
 use Rattle.fm_world.specs.ContextEvents.{TakesDue, Cleans}
-use Rattle.fm_world.specs.Words.{WorkerId}
-use Rattle.fm_world.specs.Workers.{worker_at, is_idle}
-use Rattle.fm_world.specs.World.{World}
+use Rattle.fm_world.specs.Workers.{is_idle}
 use Rattle.fm_local.specs.Chains.{filter_in}
 
 -- the filter that cleans up what an owner owned
 abbrev pub cleaner_of : {F : Type 0} → (ℕ → Option F) → StackWorld → Owner → Option F
-cleaner_of filters s (owner.Instance i) = filter_in filters s i.0
-cleaner_of filters s (owner.Filter f) = filters f.0
+cleaner_of filters s (Owner.Instance i) = filter_in filters s i.0
+cleaner_of filters s (Owner.Filter f) = filters f.0
 
 -- which number counts for a context: one that its filter may return, and nothing where there is none
 abbrev pub MayReturn : {F : Type 0} → (F → ContextKind → List ℕ → ℕ → Type 0) → Option F → Due → ℕ → Type 0

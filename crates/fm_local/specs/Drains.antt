@@ -1,13 +1,8 @@
 -- What an instance's filter is told while it is torn down, and how it lets go of what it is owed: one operation after the other, until nothing is owed to it.
-use Rattle.std.specs.Prelude.{◌≡◌, ◌⊎◌, ◌≤◌, ⊤, ℕ, zero, suc, Bool, true, false, Option, Some, None, Result, Ok, Err}
-use Rattle.fm_types.specs.declared.ids.InstanceId.{InstanceId}
-use Rattle.fm_types.specs.declared.ids.OpId.{OpId}
-use Rattle.fm_types.specs.declared.status.Status.{Status}
-use Rattle.fm_data.specs.declared.verdict.Completion.{Completion}
+use Rattle.fm_local.specs.Words.{⊤, ◌≡◌, ◌≤◌, ◌⊎◌, Bool, Err, None, Ok, Option, Result, Some, false, suc, true, zero, ℕ, Completion, StartsTeardown}
+use Rattle.fm_local.specs.Words.{InstanceId, OpId, Status, WorkerId, World}
 use Rattle.fm_world.specs.EarlyDrains.{TakesDrain, DrainReturns}
-use Rattle.fm_world.specs.Teardowns.{StartsTeardown, StartReturns}
-use Rattle.fm_world.specs.Words.{WorkerId}
-use Rattle.fm_world.specs.World.{World}
+use Rattle.fm_world.specs.Teardowns.{StartReturns}
 use Rattle.fm_local.specs.Chains.{filter_in}
 use Rattle.fm_local.specs.Places.{EndsFrom}
 

@@ -1,18 +1,9 @@
 -- The answer to an operation as a fold over the instances that it meets: the parameters are folded down through the preoperations, and the answer is folded
 -- up through the postoperations that were asked for, in the reverse order.
-use Rattle.std.specs.Prelude.{◌≡◌, ℕ, Bool, true, false, List, [], ◌∷◌, None}
-use Rattle.fm_types.specs.declared.operation.Operation.{Operation}
-use Rattle.fm_types.specs.declared.status.Status.{Status}
-use Rattle.fm_data.specs.declared.answer.Answer.{Answer}
-use Rattle.fm_data.specs.declared.params.Params.{Params}
-use Rattle.fm_data.specs.declared.verdict.Completion.{Completion}
-use Rattle.fm_data.specs.declared.verdict.PreVerdict.{PreVerdict}
-use Rattle.fm_data.specs.declared.verdict.PostVerdict.{PostVerdict}
-use Rattle.fm_data.specs.declared.verdict.PostVerdict.TheVariants.{Finished}
-use Rattle.fm_data.specs.Data.{Data, current_of, fresh_data, answered_data}
+use Rattle.fm_local.specs.Words.{[], ◌∷◌, ◌≡◌, Bool, List, None, false, true, ℕ, Data, Completion, PostVerdict, Finished, PreVerdict, bare_answer}
+use Rattle.fm_local.specs.Words.{Answer, Operation, Params, Status}
+use Rattle.fm_data.specs.Data.{current_of, fresh_data, answered_data}
 use Rattle.fm_flow.specs.declared.entry.PreState.{PreState}
-use Rattle.fm_flow.specs.declared.entry.PreState.TheVariants as pre
-use Rattle.fm_flow.specs.Answered.{bare_answer}
 use Rattle.fm_flow.specs.Steps.{lent_answer, returned_answer}
 use Rattle.fm_flow.specs.Verdict.{verdict_counted}
 
@@ -49,12 +40,12 @@ Rises chain (x ∷ above) before answer =
 
 -- where a verdict leads that counts: down, with one more that asked or without, or up again
 abbrev pub Leads : {W : Type 0} → Chain W → (Params → List Asker → W → Answer → W → Type 0) → ℕ → Params → Data → List Asker → PreState → W → Answer → W → Type 0
-Leads chain Below i p back asked (pre.Asked completion) old answer new = Below (current_of back) (asker i p completion ∷ asked) old answer new
-Leads chain Below i p back asked pre.Passed old answer new = Below (current_of back) asked old answer new
-Leads chain Below i p back asked (pre.Completed status) old answer new = Rises chain asked (bare_answer status) answer × (new ≡ chain.completes status old)
-Leads chain Below i p back asked pre.Running old answer new = ⊥
-Leads chain Below i p back asked pre.Held old answer new = ⊥
-Leads chain Below i p back asked (pre.Synchronized completion) old answer new = ⊥
+Leads chain Below i p back asked (PreState.Asked completion) old answer new = Below (current_of back) (asker i p completion ∷ asked) old answer new
+Leads chain Below i p back asked PreState.Passed old answer new = Below (current_of back) asked old answer new
+Leads chain Below i p back asked (PreState.Completed status) old answer new = Rises chain asked (bare_answer status) answer × (new ≡ chain.completes status old)
+Leads chain Below i p back asked PreState.Running old answer new = ⊥
+Leads chain Below i p back asked PreState.Held old answer new = ⊥
+Leads chain Below i p back asked (PreState.Synchronized completion) old answer new = ⊥
 
 -- an instance is met on the way down: its preoperation gives a verdict, or, where it has none, it asks for its postoperation
 abbrev pub Visit : {W : Type 0} → Chain W → (Params → List Asker → W → Answer → W → Type 0) → ℕ → Bool → Params → List Asker → W → Answer → W → Type 0

@@ -1,13 +1,5 @@
 -- Chains whose callbacks and whose base are functions.
-use Rattle.std.specs.Prelude.{◌≡◌, ℕ, List, Option}
-use Rattle.fm_data.specs.declared.answer.Answer.{Answer}
-use Rattle.fm_data.specs.declared.params.Params.{Params}
-use Rattle.fm_data.specs.declared.verdict.Completion.{Completion}
-use Rattle.fm_data.specs.declared.verdict.PreVerdict.{PreVerdict}
-use Rattle.fm_data.specs.declared.verdict.PostVerdict.{PostVerdict}
-use Rattle.fm_data.specs.Data.{Data}
-use Rattle.fm_data.specs.Calls.{BaseCall}
-use Rattle.fm_stack.specs.StackWorld.{StackWorld}
+use Rattle.fm_local.specs.Words.{◌≡◌, List, Option, ℕ, BaseCall, Data, Completion, PostVerdict, PreVerdict, Answer, Params, StackWorld}
 use Rattle.fm_local.specs.Folds.{Chain, Folds}
 use Rattle.fm_local.specs.Chains.{Under, Subject, chain_of}
 

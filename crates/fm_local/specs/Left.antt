@@ -1,12 +1,10 @@
 -- What is left of a fold, of an operation that is on its way.
-use Rattle.std.specs.Prelude.{false, ◌≡◌, ◌≤◌, ℕ, ⊤, List, [], ◌∷◌, take, Option, Some, None}
-use Rattle.fm_data.specs.declared.answer.Answer.{Answer}
-use Rattle.fm_data.specs.declared.params.Params.{Params}
+use Rattle.fm_local.specs.Words.{[], ⊤, ◌∷◌, ◌≡◌, ◌≤◌, List, None, Option, Some, false, ℕ, Answer, FlowRecord, Params}
+use Rattle.std.specs.Prelude.{take}
 use Rattle.fm_flow.specs.declared.entry.Ask.{Ask}
 use Rattle.fm_flow.specs.declared.stage.Stage.{Stage}
 use Rattle.fm_flow.specs.declared.stage.Stage.TheVariants.{Descending, Ascending}
 use Rattle.fm_flow.specs.Entries.{owed, last_visited}
-use Rattle.fm_flow.specs.Record.{FlowRecord}
 use Rattle.fm_flow.specs.Seen.{sees}
 use Rattle.fm_local.specs.Folds.{Chain, Asker, asker, Rises, Descends}
 

@@ -1,10 +1,8 @@
 -- What a manager ends as, where a `&mut` to one of its file systems is returned.
-use Rattle.std.specs.Prelude.{Option}
+use Rattle.fm_local.specs.Words.{Option, VolumeId, LocalManager}
 use Rattle.std.specs.Borrow.{Fml, LendsIf, MutBor, RattleType}
 use Rattle.std.specs.Vec.{with_item}
-use Rattle.fm_types.specs.declared.ids.VolumeId.{VolumeId}
 use Rattle.fm_local.specs.contracts.manager.LocalManager.{the_row}
-use Rattle.fm_local.specs.declared.manager.LocalManager.{LocalManager}
 
 -- once the borrow ends, the volume has the file system that was last written through it, and where there is none the manager stays as it is
 abbrev pub LendsBase : (F B : RattleType) → MutBor (LocalManager F.Denot B.Denot) → VolumeId → Option (MutBor B.Denot) → Fml

@@ -1,3 +1,4 @@
+pub mod Words
 pub mod Actions
 pub mod Bases
 pub mod Calls

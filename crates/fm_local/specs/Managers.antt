@@ -1,5 +1,6 @@
 -- A manager's filters, as its folds see them.
-use Rattle.std.specs.Prelude.{ℕ, ⊤, Option, Some, None, option_and_then, option_map, slice_get}
+use Rattle.fm_local.specs.Words.{⊤, None, Option, Some, option_and_then, slice_get, ℕ}
+use Rattle.std.specs.Prelude.{option_map}
 use Rattle.fm_local.specs.declared.filters.Filters.{Filters}
 
 -- the filter that was handed in at a place

@@ -1,13 +1,9 @@
 -- What a callback's resumptions through its port may answer beyond what the events say.
-use Rattle.std.specs.Prelude.{◌≡◌, ◌++◌, ◌∷◌, Bool, not, List, [], length, nat_le, Result, Ok, Err}
+use Rattle.fm_local.specs.Words.{[], ◌∷◌, ◌≡◌, Bool, Err, List, Ok, Result, length, PreVerdict, OpId, Status, WorkerId, World}
+use Rattle.std.specs.Prelude.{◌++◌, not, nat_le}
 use Rattle.std.specs.VecDeque.{deque_capacity}
-use Rattle.fm_types.specs.declared.ids.OpId.{OpId}
-use Rattle.fm_types.specs.declared.ids.WorkerId.{WorkerId}
-use Rattle.fm_types.specs.declared.status.Status.{Status}
 use Rattle.fm_types.specs.declared.status.Status.TheVariants.{TooMany}
-use Rattle.fm_data.specs.declared.verdict.PreVerdict.{PreVerdict}
 use Rattle.fm_world.specs.Events.{Unless, ResumesPre, ResumesPost}
-use Rattle.fm_world.specs.World.{World}
 use Rattle.fm_local.specs.declared.local_port.Desk.{Desk}
 
 -- whether there is room to note one more resumed operation

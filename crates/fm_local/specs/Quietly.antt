@@ -1,27 +1,16 @@
 -- What a manager's calls make of its state where its filters are plain: the events that they name, one after the other, with cleanups and nothing else
 -- in between; and that the manager is ready again.
-use Rattle.std.specs.Prelude.{◌≡◌, ◌⊎◌, ℕ, zero, suc, Bool, true, false, List, [], length, Option, Result, Ok, Err, IsErr, IsOk, slice_get}
-use Rattle.fm_base.specs.Folders.{Folder}
-use Rattle.fm_types.specs.declared.ids.FilterId.{FilterId}
-use Rattle.fm_types.specs.declared.ids.VolumeId.{VolumeId}
-use Rattle.fm_types.specs.declared.ids.InstanceId.{InstanceId}
-use Rattle.fm_types.specs.declared.status.Status.{Status}
-use Rattle.fm_data.specs.Data.{Data}
-use Rattle.fm_data.specs.declared.verdict.Completion.{Completion}
-use Rattle.fm_data.specs.declared.verdict.PreVerdict.{PreVerdict}
-use Rattle.fm_data.specs.declared.verdict.PostVerdict.{PostVerdict}
+use Rattle.fm_local.specs.Words.{[], ◌≡◌, ◌⊎◌, Bool, Err, IsErr, List, Ok, Option, Result, false, length, slice_get, suc, true, zero, ℕ, Data}
+use Rattle.fm_local.specs.Words.{Completion, PostVerdict, PreVerdict, Folder, Finishes, Attaches, AsksDetach, CompletesTeardown, EmptiesFilter}
+use Rattle.fm_local.specs.Words.{FinishesFilter, StartsTeardown, FilterId, InstanceId, StackWorld, Status, VolumeId, WorkerId, World, LocalManager}
+use Rattle.std.specs.Prelude.{IsOk}
 use Rattle.fm_stack.specs.Detaching.{is_to_complete}
 use Rattle.fm_stack.specs.Instances.{passes}
-use Rattle.fm_stack.specs.StackWorld.{StackWorld}
-use Rattle.fm_world.specs.ContextEvents.{Finishes}
-use Rattle.fm_world.specs.Events.{Attaches, is_stopping_row}
-use Rattle.fm_world.specs.Teardowns.{AsksDetach, StartsTeardown, StartReturns, CompletesTeardown, CompleteReturns, EmptiesFilter, FinishesFilter}
-use Rattle.fm_world.specs.Words.{WorkerId}
-use Rattle.fm_world.specs.World.{World}
+use Rattle.fm_world.specs.Events.{is_stopping_row}
+use Rattle.fm_world.specs.Teardowns.{StartReturns, CompleteReturns}
 use Rattle.fm_local.specs.Actions.{IsReady}
 use Rattle.fm_local.specs.Calls.{SetsUpWith, QueriesWith, AsksToUnload, is_leaving, is_to_go, is_unloading}
 use Rattle.fm_local.specs.Requests.{Tidies}
-use Rattle.fm_local.specs.declared.manager.LocalManager.{LocalManager}
 
 -- an instance that is stopping was told so: its teardown has started, and the callback of that returned
 abbrev pub WasTold : InstanceId → StackWorld → Type 0

@@ -1,32 +1,18 @@
 -- What requests are answered, and what they leave below: each is a fold, or the refusal of its beginning.
-use Rattle.std.specs.Prelude.{◌≡◌, ◌⊎◌, ◌+◌, ℕ, false, List, [], ◌∷◌, Option, Some, None, Result, Ok, Err, slice_get}
-use Rattle.fm_types.specs.declared.status.Status.{Status}
-use Rattle.fm_types.specs.declared.status.Status.TheVariants as status
-use Rattle.fm_data.specs.declared.answer.Answer.{Answer}
-use Rattle.fm_data.specs.Calls.{BaseCall}
-use Rattle.fm_data.specs.declared.params.Params.{Params}
-use Rattle.fm_data.specs.declared.request.FileRequest.TheVariants as asked
+use Rattle.fm_local.specs.Words.{[], ◌∷◌, ◌≡◌, ◌⊎◌, Err, List, None, Ok, Option, Result, Some, false, slice_get, ℕ, BaseCall, Data, Completion}
+use Rattle.fm_local.specs.Words.{PostVerdict, PreVerdict, bare_answer, Answer, FlowRecord, Instance, OpId, Params, StackWorld, Status, WorkerId}
+use Rattle.fm_local.specs.Words.{worker_at, World}
+use Rattle.std.specs.Prelude.{◌+◌}
 use Rattle.fm_data.specs.declared.request.Request.{Request}
-use Rattle.fm_data.specs.declared.request.Request.TheVariants as request
-use Rattle.fm_data.specs.declared.verdict.Completion.{Completion}
-use Rattle.fm_data.specs.declared.verdict.PreVerdict.{PreVerdict}
-use Rattle.fm_data.specs.declared.verdict.PostVerdict.{PostVerdict}
-use Rattle.fm_data.specs.Data.{Data}
-use Rattle.fm_stack.specs.StackWorld.{StackWorld}
-use Rattle.fm_flow.specs.Answered.{bare_answer}
-use Rattle.fm_flow.specs.Record.{FlowRecord}
-use Rattle.fm_filter.specs.Plain.{IsPlainFilter}
-use Rattle.fm_stack.specs.declared.instance.Instance.{Instance}
+use Rattle.fm_data.specs.declared.request.FileRequest.{FileRequest}
 use Rattle.fm_world.specs.Events.{begin_refused, after_begin, is_stopping_phase, Begins, Collects}
 use Rattle.fm_world.specs.Sound.{IsSound}
 use Rattle.fm_world.specs.Steps.{Run}
 use Rattle.fm_world.specs.declared.step.Step.{Step}
 use Rattle.fm_world.specs.declared.step.StepReply.{StepReply}
-use Rattle.fm_world.specs.Words.{OpId, WorkerId}
-use Rattle.fm_world.specs.Workers.{worker_at}
 use Rattle.fm_world.specs.declared.worker.Worker.{Worker}
-use Rattle.fm_world.specs.declared.worker.Worker.TheVariants as place
-use Rattle.fm_world.specs.World.{World, empty_world}
+use Rattle.fm_world.specs.World.{empty_world}
+use Rattle.fm_filter.specs.Plain.{IsPlainFilter}
 use Rattle.fm_local.specs.Chains.{Under, subject_of, chain_of}
 use Rattle.fm_local.specs.Folds.{Folds}
 use Rattle.fm_local.specs.Turns.{Carries}
@@ -53,7 +39,7 @@ module _ {F D : Type 0} (pre : F → Data → PreVerdict → Data → Type 0) (p
   abbrev pub PerformsBy : Option Status → ℕ → Request → Under D → Answer → Under D → ℕ → Type 0
   PerformsBy (Some why) next what old answer new after = (answer ≡ bare_answer why) × (new ≡ old) × (after ≡ next)
   PerformsBy None next what old answer new after =
-      ((answer ≡ bare_answer status.NoMemory) × (new ≡ old) × (after ≡ next))
+      ((answer ≡ bare_answer Status.NoMemory) × (new ≡ old) × (after ≡ next))
       ⊎ (FoldsAlone (after_begin (at_rest s next old) what).flow.operations (record old { files = (after_begin (at_rest s next old) what).files }) answer new × (after ≡ next + 1))
 
   abbrev pub Performs : ℕ → Request → Under D → Answer → Under D → ℕ → Type 0
@@ -61,15 +47,15 @@ module _ {F D : Type 0} (pre : F → Data → PreVerdict → Data → Type 0) (p
 
   -- a close comes after the handle's cleanup, unless that began before
   abbrev pub ClosesAfter : Status → ℕ → Request → Under D → Answer → Answer → Under D → ℕ → Type 0
-  ClosesAfter status.Success next what old cleanup answer new after = Performs next what old answer new after
-  ClosesAfter status.WrongStep next what old cleanup answer new after = Performs next what old answer new after
+  ClosesAfter Status.Success next what old cleanup answer new after = Performs next what old answer new after
+  ClosesAfter Status.WrongStep next what old cleanup answer new after = Performs next what old answer new after
   ClosesAfter _ next what old cleanup answer new after = (answer ≡ cleanup) × (new ≡ old) × (after ≡ next)
 
   -- what a client is answered: a close is a cleanup, and then the close itself
   abbrev pub AnswersOne : ℕ → Request → Under D → Answer → Under D → ℕ → Type 0
-  AnswersOne next (request.OnHandle h asked.Close) old answer new after =
-      (mid : Under D) × (cleanup : Answer) × (then : ℕ) × Performs next (request.OnHandle h asked.Cleanup) old cleanup mid then
-      × ClosesAfter cleanup.status then (request.OnHandle h asked.Close) mid cleanup answer new after
+  AnswersOne next (Request.OnHandle h FileRequest.Close) old answer new after =
+      (mid : Under D) × (cleanup : Answer) × (then : ℕ) × Performs next (Request.OnHandle h FileRequest.Cleanup) old cleanup mid then
+      × ClosesAfter cleanup.status then (Request.OnHandle h FileRequest.Close) mid cleanup answer new after
   AnswersOne next what old answer new after = Performs next what old answer new after
 
   -- the answers to a list of requests, in their order
@@ -92,8 +78,8 @@ NoneStops s = (i : ℕ) (row : Instance) → slice_get s.instances i ≡ Some ro
 -- no operation is under way, and every worker is idle
 pub record IsAtRest (k : WorkerId) (w : World) : Type 0 where
   pub operations : w.flow.operations ≡ []
-  pub idle : worker_at w.workers k ≡ Some place.Idle
-  pub all : (j : ℕ) (a : Worker) → slice_get w.workers j ≡ Some a → a ≡ place.Idle
+  pub idle : worker_at w.workers k ≡ Some Worker.Idle
+  pub all : (j : ℕ) (a : Worker) → slice_get w.workers j ≡ Some a → a ≡ Worker.Idle
 
 module _ {F D : Type 0} (pre : F → Data → PreVerdict → Data → Type 0) (post : F → Data → Completion → PostVerdict → Data → Type 0) (carries : D → BaseCall → Answer → D → Type 0)
     (filters : ℕ → Option F) (k : WorkerId) where
@@ -130,15 +116,15 @@ module _ {F D : Type 0} (pre : F → Data → PreVerdict → Data → Type 0) (p
   DoesTidily what old d answer new e = (mid : World) × DoesRequest pre post carries filters k what old d answer mid e × Tidies mid new
 
   abbrev pub DoesClose : Status → Request → World → D → Answer → Answer → World → D → Type 0
-  DoesClose status.Success what old d cleanup answer new e = DoesTidily what old d answer new e
-  DoesClose status.WrongStep what old d cleanup answer new e = DoesTidily what old d answer new e
+  DoesClose Status.Success what old d cleanup answer new e = DoesTidily what old d answer new e
+  DoesClose Status.WrongStep what old d cleanup answer new e = DoesTidily what old d answer new e
   DoesClose _ what old d cleanup answer new e = (answer ≡ cleanup) × (new ≡ old) × (e ≡ d)
 
   -- a close is a cleanup, and then the close itself
   abbrev pub DoesOne : Request → World → D → Answer → World → D → Type 0
-  DoesOne (request.OnHandle h asked.Close) old d answer new e =
-      (mid : World) × (between : D) × (cleanup : Answer) × DoesTidily (request.OnHandle h asked.Cleanup) old d cleanup mid between
-      × DoesClose cleanup.status (request.OnHandle h asked.Close) mid between cleanup answer new e
+  DoesOne (Request.OnHandle h FileRequest.Close) old d answer new e =
+      (mid : World) × (between : D) × (cleanup : Answer) × DoesTidily (Request.OnHandle h FileRequest.Cleanup) old d cleanup mid between
+      × DoesClose cleanup.status (Request.OnHandle h FileRequest.Close) mid between cleanup answer new e
   DoesOne what old d answer new e = DoesTidily what old d answer new e
 
   -- requests are done one after the other

@@ -1,17 +1,11 @@
 -- What a client reads of what it wrote, where every instance between it and the base is of the filter shift.
-use Rattle.std.specs.Prelude.{◌≡◌, ◌<◌, ℕ, List, All, length, Option, Some, IsSome, slice_get, option_and_then}
+use Rattle.fm_local.specs.Words.{◌≡◌, List, Option, Some, length, option_and_then, slice_get, ℕ, Folder, Answer, Instance, Operation, Params}
+use Rattle.fm_local.specs.Words.{StackWorld}
+use Rattle.std.specs.Prelude.{◌<◌, All, IsSome}
 use Rattle.std.specs.FinMap.{get}
-use Rattle.fm_types.specs.declared.operation.Operation.{Operation}
-use Rattle.fm_types.specs.declared.operation.Operation.TheVariants as kind
 use Rattle.fm_types.specs.declared.status.Status.TheVariants.{Success}
-use Rattle.fm_data.specs.declared.answer.Answer.{Answer}
-use Rattle.fm_data.specs.declared.params.Params.TheVariants as params
 use Rattle.fm_stack.specs.declared.filter.Filter.{Filter}
-use Rattle.fm_stack.specs.declared.instance.Instance.{Instance}
-use Rattle.fm_stack.specs.StackWorld.{StackWorld}
-use Rattle.fm_base.specs.Folders.{Folder}
 use Rattle.fm_samples.specs.declared.sample.Sample.{Sample}
-use Rattle.fm_samples.specs.declared.sample.Sample.TheVariants as sample
 use Rattle.fm_samples.specs.declared.shift.Shift.{Shift}
 use Rattle.fm_samples.specs.Sample.{SamplesPre, SamplesPost}
 use Rattle.fm_samples.specs.Shift.{shift_registers}
@@ -27,7 +21,7 @@ pub record IsShift (filters : ℕ → Option Sample) (s : StackWorld) (i : ℕ) 
   pub loaded : slice_get s.filters row.filter.0 ≡ Some filter
   pub registered : filter.registration ≡ shift_registers
   pub shift : Shift
-  pub runs : filters row.filter.0 ≡ Some (sample.Shift shift)
+  pub runs : filters row.filter.0 ≡ Some (Sample.Shift shift)
 
 -- the chain of an operation of that kind on a file, over bases of one type
 abbrev pub sample_chain : {B : Type 0} → (B → Option Folder) → (B → ℕ) → (ℕ → Option Sample) → StackWorld → Subject → Operation → Chain (Under (List B))
@@ -52,7 +46,7 @@ abbrev pub ShiftRound : {B : Type 0} → (B → Option Folder) → (B → ℕ) �
 ShiftRound {B} folder faults =
     (filters : ℕ → Option Sample) (s : StackWorld) (x : Subject) (is : List ℕ) (offset : ℕ) (bytes : List ℕ) (old mid later new : Under (List B)) (wrote read : Answer)
     → All (IsShift filters s) is → All (λ byte. byte < 256) bytes → IsSome (folder_of folder old.device x.volume.0)
-    → Folds (sample_chain folder faults filters s x kind.Write) is (params.Write offset bytes) old wrote mid → wrote.status ≡ Success
+    → Folds (sample_chain folder faults filters s x Operation.Write) is (Params.Write offset bytes) old wrote mid → wrote.status ≡ Success
     → FileStays folder x mid later
-    → Folds (sample_chain folder faults filters s x kind.Read) is (params.Read offset (length bytes)) later read new → read.status ≡ Success
+    → Folds (sample_chain folder faults filters s x Operation.Read) is (Params.Read offset (length bytes)) later read new → read.status ≡ Success
     → read.bytes ≡ bytes

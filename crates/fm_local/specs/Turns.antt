@@ -1,16 +1,8 @@
 -- How an operation is carried from its beginning to its end: turn after turn, by one worker.
-use Rattle.std.specs.Prelude.{◌≡◌, ◌≤◌, ℕ, length, zero, suc, Option, Some, Result, Ok}
-use Rattle.fm_data.specs.declared.answer.Answer.{Answer}
-use Rattle.fm_data.specs.Calls.{BaseCall}
-use Rattle.fm_data.specs.declared.verdict.Completion.{Completion}
-use Rattle.fm_data.specs.declared.verdict.PreVerdict.{PreVerdict}
-use Rattle.fm_data.specs.declared.verdict.PostVerdict.{PostVerdict}
-use Rattle.fm_data.specs.Data.{Data, IsData}
-use Rattle.fm_flow.specs.declared.action.FlowAction.{FlowAction}
-use Rattle.fm_flow.specs.declared.action.FlowAction.TheVariants as action
+use Rattle.fm_local.specs.Words.{◌≡◌, ◌≤◌, Ok, Option, Result, Some, length, suc, zero, ℕ, BaseCall, Data, Completion, PostVerdict, PreVerdict}
+use Rattle.fm_local.specs.Words.{Answer, FlowAction, OpId, Status, WorkerId, World}
+use Rattle.fm_data.specs.Data.{IsData}
 use Rattle.fm_world.specs.Events.{Nexts, PreReturns, BaseReturns, PostReturns}
-use Rattle.fm_world.specs.Words.{OpId, Status, WorkerId}
-use Rattle.fm_world.specs.World.{World}
 use Rattle.fm_local.specs.Chains.{PreMay, PostMay, filter_in}
 
 -- a callback hands its data back: what it received is what it was given, and the data keeps its laws
@@ -22,15 +14,15 @@ module _ {F D : Type 0} (pre : F → Data → PreVerdict → Data → Type 0) (p
     (filters : ℕ → Option F) (k : WorkerId) (o : OpId) where
   -- what is to be done is done: the callback of the instance that is named, the call of the device, or nothing
   abbrev pub Does : Result FlowAction Status → World → D → World → D → Type 0
-  Does (Ok (action.Pre i lent)) mid d new e =
+  Does (Ok (FlowAction.Pre i lent)) mid d new e =
       (verdict : PreVerdict) × (back : Data) × (result : Result (Unit {0}) Status) × PreMay pre (filter_in filters mid.stack i.0) lent verdict back × HandsBack lent back
       × PreReturns mid k verdict back result new × (e ≡ d)
-  Does (Ok (action.Base call)) mid d new e =
+  Does (Ok (FlowAction.Base call)) mid d new e =
       (answer : Answer) × (result : Result (Unit {0}) Status) × carries d call answer e × (length answer.bytes ≤ 32768) × BaseReturns mid k call answer result new
-  Does (Ok (action.Post i lent completion)) mid d new e =
+  Does (Ok (FlowAction.Post i lent completion)) mid d new e =
       (verdict : PostVerdict) × (back : Data) × (result : Result (Unit {0}) Status) × PostMay post (filter_in filters mid.stack i.0) lent completion verdict back
       × HandsBack lent back × PostReturns mid k verdict (Some back) result new × (e ≡ d)
-  Does (Ok action.Moved) mid d new e = (new ≡ mid) × (e ≡ d)
+  Does (Ok FlowAction.Moved) mid d new e = (new ≡ mid) × (e ≡ d)
   Does _ mid d new e = ⊥
 
   -- one turn: what is next, and that it is done
@@ -39,5 +31,5 @@ module _ {F D : Type 0} (pre : F → Data → PreVerdict → Data → Type 0) (p
 
   -- so many turns, and then it is done
   abbrev pub Carries : ℕ → World → D → World → D → Type 0
-  Carries zero old d new e = Nexts old k o (Ok action.Done) new × (e ≡ d)
+  Carries zero old d new e = Nexts old k o (Ok FlowAction.Done) new × (e ≡ d)
   Carries (suc n) old d new e = (mid : World) × (between : D) × Turns old d mid between × Carries n mid between new e

@@ -1,9 +1,6 @@
 -- The instances that an operation is still to meet.
-use Rattle.std.specs.Prelude.{◌≡◌, ◌≤◌, ℕ, List, [], ◌∷◌, Option, Some, None}
-use Rattle.fm_types.specs.declared.ids.VolumeId.{VolumeId}
-use Rattle.fm_types.specs.declared.operation.Operation.{Operation}
+use Rattle.fm_local.specs.Words.{[], ◌∷◌, ◌≡◌, ◌≤◌, List, None, Option, Some, ℕ, Operation, StackWorld, VolumeId}
 use Rattle.fm_stack.specs.Next.{is_candidate, IsHighest, NonePasses}
-use Rattle.fm_stack.specs.StackWorld.{StackWorld}
 use Rattle.fm_stack.specs.Stacks.{IsStack}
 
 -- each is the highest below the one before it, of those that are to be visited; and below the last there is none

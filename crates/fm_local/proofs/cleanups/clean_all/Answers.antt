@@ -1,8 +1,7 @@
+use Rattle.fm_local.proofs.Words.{numbered, WORKER}
 use Rattle.fm_local.proofs.Cleaning.{cleans_more}
 use Rattle.fm_local.proofs.Tidying.{tidies_both}
 use Rattle.fm_local.proofs.cleanups.clean_all.Goals as goal
-use Rattle.fm_local.specs.Managers.{numbered}
-use Rattle.fm_local.specs.declared.manager.TheConstants.{WORKER}
 
 pub loop-preserved : goal.loop-preserved
 loop-preserved g c =

@@ -1,9 +1,6 @@
-use Rattle.std.specs.Prelude.{length}
-use Rattle.fm_local.proofs.cleanups.clean_all.Given as goal
+use Rattle.fm_local.proofs.Words.{length, numbered, Tidies, WORKER}
 use Rattle.fm_local.specs.Cleanups.{CleansAll}
-use Rattle.fm_local.specs.Managers.{numbered}
-use Rattle.fm_local.specs.Requests.{Tidies}
-use Rattle.fm_local.specs.declared.manager.TheConstants.{WORKER}
+use Rattle.fm_local.proofs.cleanups.clean_all.Given as goal
 
 -- so many contexts were cleaned up
 abbrev pub invariant-loop : goal.invariant-loop

@@ -1,11 +1,6 @@
-use Rattle.std.specs.Prelude.{Ok, Option}
-use Rattle.std.proofs.Common.{subst}
-use Rattle.fm_ctx.specs.declared.due.Due.{Due}
-use Rattle.fm_world.specs.ContextEvents.{TakesDue}
+use Rattle.fm_local.proofs.Words.{Ok, Option, subst, TakesDue, Due, numbered, WORKER}
 use Rattle.fm_local.proofs.Cleaning.{cleans_nothing, cleans_refused}
 use Rattle.fm_local.proofs.cleanups.clean_next.Goals as goal
-use Rattle.fm_local.specs.Managers.{numbered}
-use Rattle.fm_local.specs.declared.manager.TheConstants.{WORKER}
 
 pub returns-in-Ok-None-clause-cleans : goal.returns-in-Ok-None-clause-cleans
 returns-in-Ok-None-clause-cleans g c =

@@ -1,4 +1,4 @@
-use Rattle.fm_local.specs.Bases.{BasesCarry}
+use Rattle.fm_local.proofs.Words.{BasesCarry}
 use Rattle.fm_local.proofs.AllPerformed.{all_answered}
 use Rattle.fm_local.proofs.laws.carried_are_folds.Goals as goal
 

@@ -1,4 +1,4 @@
-use Rattle.fm_local.specs.Bases.{BasesCarry}
+use Rattle.fm_local.proofs.Words.{BasesCarry}
 use Rattle.fm_local.proofs.Performed.{answered}
 use Rattle.fm_local.proofs.laws.carried_is_fold.Goals as goal
 

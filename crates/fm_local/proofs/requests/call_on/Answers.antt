@@ -1,7 +1,5 @@
-use Rattle.std.proofs.Common.{◌≡◌, ◌∙◌, ap}
-use Rattle.fm_types.specs.declared.ids.VolumeId.{VolumeId}
+use Rattle.fm_local.proofs.Words.{◌≡◌, Answer, VolumeId, ◌∙◌, ap}
 use Rattle.fm_types.specs.declared.status.Status.TheVariants.{NoVolume}
-use Rattle.fm_data.specs.declared.answer.Answer.{Answer}
 use Rattle.fm_device.specs.Devices.{bare}
 use Rattle.fm_local.proofs.BaseCalls.{there, none_there}
 use Rattle.fm_local.proofs.requests.call_on.Goals as goal

@@ -1,12 +1,6 @@
-use Rattle.std.proofs.Common.{ap, subst, sym, ◌∙◌}
-use Rattle.std.specs.Prelude.{Ok, Result}
-use Rattle.fm_flow.specs.declared.action.FlowAction.{FlowAction}
-use Rattle.fm_local.proofs.manager.LocalManager.act.Goals as goal
+use Rattle.fm_local.proofs.Words.{FlowAction, Ok, Result, Status, ◌∙◌, ap, subst, sym, BasesCarry, numbered, WORKER}
 use Rattle.fm_local.specs.Actions.{Makes}
-use Rattle.fm_local.specs.Bases.{BasesCarry}
-use Rattle.fm_local.specs.Managers.{numbered}
-use Rattle.fm_local.specs.declared.manager.TheConstants.{WORKER}
-use Rattle.fm_world.specs.Words.{Status}
+use Rattle.fm_local.proofs.manager.LocalManager.act.Goals as goal
 
 pub returns-in-Ok-Drain-clause-makes : goal.returns-in-Ok-Drain-clause-makes
 returns-in-Ok-Drain-clause-makes g c =

@@ -1,12 +1,9 @@
+use Rattle.fm_local.proofs.Words.{◌∙◌, subst, sym, Request, WORKER, RESUMPTIONS, TURNS}
+use Rattle.fm_local.specs.Actions.{AnswersIn, RefusesIn}
 use Rattle.fm_local.proofs.Refusing.{refuses_in}
-use Rattle.std.proofs.Common.{sym, subst, ◌∙◌}
 use Rattle.fm_local.proofs.Answering.{answers_one}
 use Rattle.fm_local.proofs.GoingOn.{is_close, requests_close, requests_one}
-use Rattle.fm_local.specs.Actions.{AnswersIn, RefusesIn}
-use Rattle.fm_data.specs.declared.request.Request.{Request}
-use Rattle.fm_local.specs.declared.requests.TheConstants.{RESUMPTIONS, TURNS}
 use Rattle.fm_local.proofs.manager.LocalManager.answer.Goals as goal
-use Rattle.fm_local.specs.declared.manager.TheConstants.{WORKER}
 
 pub returns-in-None-clause-fold : goal.returns-in-None-clause-fold
 returns-in-None-clause-fold g c ready =

@@ -1,12 +1,10 @@
-use Rattle.std.proofs.Common.{inr}
+use Rattle.fm_local.proofs.Words.{inr, AgreesAt, WORKER}
 use Rattle.fm_local.proofs.GoingOn.{calls_untraced}
 use Rattle.fm_local.proofs.Resting.{ask_refused}
 use Rattle.fm_local.proofs.Places.{asked_in, query_out, same_out}
 use Rattle.fm_local.proofs.NoneDue.{none_asked}
 use Rattle.fm_local.proofs.Readied.{asks_by}
 use Rattle.fm_local.proofs.manager.LocalManager.ask.Goals as goal
-use Rattle.fm_local.specs.Calls.{AgreesAt}
-use Rattle.fm_local.specs.declared.manager.TheConstants.{WORKER}
 
 pub returns-clause-asks : goal.returns-clause-asks
 returns-clause-asks g c =

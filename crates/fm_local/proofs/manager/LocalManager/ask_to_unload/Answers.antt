@@ -1,10 +1,9 @@
+use Rattle.fm_local.proofs.Words.{numbered, WORKER}
+use Rattle.fm_local.specs.Calls.{MayAgree}
 use Rattle.fm_local.proofs.Resting.{ask_unload_refused}
 use Rattle.fm_local.proofs.Places.{same_out, unload_out, unloading_in}
 use Rattle.fm_local.proofs.NoneDue.{none_agreed, none_refused}
-use Rattle.fm_local.specs.Calls.{MayAgree}
-use Rattle.fm_local.specs.Managers.{numbered}
 use Rattle.fm_local.proofs.manager.LocalManager.ask_to_unload.Goals as goal
-use Rattle.fm_local.specs.declared.manager.TheConstants.{WORKER}
 
 pub returns-in_err-ask_unload-clause-none_due : goal.returns-in_err-ask_unload-clause-none_due
 returns-in_err-ask_unload-clause-none_due g c =

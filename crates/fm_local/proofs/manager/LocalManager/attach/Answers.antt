@@ -1,13 +1,9 @@
+use Rattle.fm_local.proofs.Words.{Err, Ok, inl, inr, refl, err_from_is_err_and, AgreesAt, WORKER}
 use Rattle.fm_local.proofs.Places.{attached_in, same_out}
-use Rattle.std.specs.Prelude.{Err, Ok}
 use Rattle.fm_local.proofs.NoneDue.{none_attached}
 use Rattle.fm_local.proofs.Readied.{attach_leaves, attach_leaves_none}
 use Rattle.fm_local.proofs.Resting.{attach_refused}
 use Rattle.fm_local.proofs.manager.LocalManager.attach.Goals as goal
-use Rattle.fm_local.specs.Calls.{AgreesAt}
-use Rattle.fm_local.specs.declared.manager.TheConstants.{WORKER}
-use Rattle.std.proofs.Common.{inl, inr, refl}
-use Rattle.std.proofs.lemmas.Result.{err_from_is_err_and}
 
 pub returns-in_err-instance-clause-ready : goal.returns-in_err-instance-clause-ready
 returns-in_err-instance-clause-ready g c ready =

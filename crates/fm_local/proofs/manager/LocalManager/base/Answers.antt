@@ -1,4 +1,4 @@
-use Rattle.std.proofs.Common.{refl}
+use Rattle.fm_local.proofs.Words.{refl}
 use Rattle.fm_local.proofs.manager.LocalManager.base.Goals as goal
 
 pub returns : goal.returns

@@ -1,11 +1,8 @@
-use Rattle.std.proofs.Common.{inl, inr, ap, subst, ◌∙◌}
+use Rattle.fm_local.proofs.Words.{◌∙◌, ap, inl, inr, subst, numbered, WORKER, DRAINED}
+use Rattle.fm_local.specs.Drains.{StartsAndDrains}
 use Rattle.fm_local.proofs.NoneDue.{none_same}
 use Rattle.fm_local.proofs.Readied.{settled_after}
 use Rattle.fm_local.proofs.manager.LocalManager.begin_teardown.Goals as goal
-use Rattle.fm_local.specs.Drains.{StartsAndDrains}
-use Rattle.fm_local.specs.Managers.{numbered}
-use Rattle.fm_local.specs.declared.manager.TheConstants.{WORKER}
-use Rattle.fm_local.specs.declared.teardowns.TheConstants.{DRAINED}
 
 pub returns-then-start_and_drain-clause-drains : goal.returns-then-start_and_drain-clause-drains
 returns-then-start_and_drain-clause-drains g c =

@@ -1,9 +1,7 @@
-use Rattle.std.proofs.Common.{refl, ap}
+use Rattle.fm_local.proofs.Words.{ap, refl, WORKER, TURNS}
 use Rattle.fm_local.proofs.GoingOn.{goes_to_end, goes_too_far, turns_more}
 use Rattle.fm_local.proofs.CarriedOn.{gone_none, gone_more, gone_to_end, gone_too_far, far_not_done, done_at_once, kept_both, calm_both}
 use Rattle.fm_local.proofs.manager.LocalManager.carry.Goals as goal
-use Rattle.fm_local.specs.declared.manager.TheConstants.{WORKER}
-use Rattle.fm_local.specs.declared.requests.TheConstants.{TURNS}
 
 pub loop-made-init : goal.loop-made-init
 loop-made-init g c = (gone_none g.F.Minifilter.pre_may g.F.Minifilter.post_may g.F.Minifilter.is_quiet g.B.Base.folder g.B.Base.faults WORKER c.args.operation c.args.self.now, λ out. out, (refl, refl))

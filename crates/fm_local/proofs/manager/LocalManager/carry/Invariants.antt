@@ -1,8 +1,7 @@
+use Rattle.fm_local.proofs.Words.{StaysOut, WORKER}
 use Rattle.fm_local.proofs.CarriedOn.{HasGone}
 use Rattle.fm_local.proofs.GoingOn.{Turns}
 use Rattle.fm_local.proofs.manager.LocalManager.carry.Given as goal
-use Rattle.fm_local.specs.Places.{StaysOut}
-use Rattle.fm_local.specs.declared.manager.TheConstants.{WORKER}
 
 -- so many turns were made, and the worker is idle still
 abbrev pub invariant-loop-made : goal.invariant-loop-made

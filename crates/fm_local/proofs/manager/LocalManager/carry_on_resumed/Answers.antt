@@ -1,8 +1,6 @@
-use Rattle.std.proofs.Common.{inl, refl, sym, ◌∙◌}
+use Rattle.fm_local.proofs.Words.{◌∙◌, inl, refl, sym, WORKER, RESUMPTIONS, TURNS}
 use Rattle.fm_local.proofs.GoingOn.{carries_all, carries_more, carries_most, ends_first}
 use Rattle.fm_local.proofs.manager.LocalManager.carry_on_resumed.Goals as goal
-use Rattle.fm_local.specs.declared.manager.TheConstants.{WORKER}
-use Rattle.fm_local.specs.declared.requests.TheConstants.{RESUMPTIONS, TURNS}
 
 pub returns-then-is_empty-clause-all : goal.returns-then-is_empty-clause-all
 returns-then-is_empty-clause-all g c = (0, c.args.self.now, refl, (refl, refl), inl (c.is_empty.ensures.0 c.if-is_empty.true))

@@ -1,10 +1,6 @@
-use Rattle.std.specs.Prelude.{◌≡◌, ◌⊎◌, ◌++◌, [], ◌∷◌}
+use Rattle.fm_local.proofs.Words.{[], ◌∷◌, ◌≡◌, ◌⊎◌, OpId, ◌++◌, StaysOut, WORKER, TURNS}
 use Rattle.fm_local.specs.Actions.{CarriesOnMany, WaitsAtEnd}
 use Rattle.fm_local.proofs.manager.LocalManager.carry_on_resumed.Given as goal
-use Rattle.fm_local.specs.Places.{StaysOut}
-use Rattle.fm_local.specs.declared.manager.TheConstants.{WORKER}
-use Rattle.fm_local.specs.declared.requests.TheConstants.{TURNS}
-use Rattle.fm_world.specs.Words.{OpId}
 
 -- the one that waited, of which nothing was left to do, was carried on, or all is still as it was; and the worker is idle still
 abbrev pub invariant-loop-made : goal.invariant-loop-made

@@ -1,13 +1,8 @@
-use Rattle.fm_local.proofs.Refusing.{refuses_cleanup, refuses_close}
-use Rattle.std.specs.Prelude.{Bool, refl}
-use Rattle.std.proofs.Common.{sym, subst, ◌∙◌}
+use Rattle.fm_local.proofs.Words.{Bool, ◌∙◌, refl, subst, sym, FileRequest, Request, WORKER, RESUMPTIONS, TURNS}
 use Rattle.fm_local.specs.Actions.{ClosesThen}
-use Rattle.fm_local.specs.declared.requests.TheConstants.{RESUMPTIONS, TURNS}
-use Rattle.fm_data.specs.declared.request.FileRequest.TheVariants as asked
-use Rattle.fm_data.specs.declared.request.Request.TheVariants as request
+use Rattle.fm_local.proofs.Refusing.{refuses_cleanup, refuses_close}
 use Rattle.fm_local.proofs.Answering.{ready_after, answers_close, answers_cleanup}
 use Rattle.fm_local.proofs.manager.LocalManager.close.Goals as goal
-use Rattle.fm_local.specs.declared.manager.TheConstants.{WORKER}
 
 pub returns-then-not-goes_on-clause-fold : goal.returns-then-not-goes_on-clause-fold
 returns-then-not-goes_on-clause-fold g c ready =
@@ -19,7 +14,7 @@ returns-clause-fold g c ready =
     let first = c.perform-cleanup.ensures.does ready in
     let again =
     ready_after g.F.Minifilter.pre_may g.F.Minifilter.post_may g.F.Minifilter.is_quiet g.B.Base.folder g.B.Base.faults WORKER c.args.self.now ready c.laws.ensures
-    (request.OnHandle c.args.handle asked.Cleanup) c.perform-cleanup.result c.perform-cleanup.new.self first in
+    (Request.OnHandle c.args.handle FileRequest.Cleanup) c.perform-cleanup.result c.perform-cleanup.new.self first in
     answers_close g.F.Minifilter.pre_may g.F.Minifilter.post_may g.F.Minifilter.is_quiet g.B.Base.folder g.B.Base.faults WORKER c.args.self.now ready c.laws.ensures c.args.handle
     c.perform-cleanup.result c.perform-cleanup.new.self first (sym c.goes_on.ensures ∙ c.if-not-goes_on.false) c.perform.result c.perform.new.self (c.perform.ensures.does again)
 

@@ -1,15 +1,9 @@
-use Rattle.std.proofs.lemmas.Result.{err_from_is_err_and}
-use Rattle.std.specs.Prelude.{Bool, Err}
-use Rattle.std.proofs.Common.{inl, inr, refl, sym, subst, ◌∙◌}
+use Rattle.fm_local.proofs.Words.{Bool, Err, ◌∙◌, inl, inr, refl, subst, sym, err_from_is_err_and, AgreesAt, WORKER, RESUMPTIONS, TURNS, DRAINED}
+use Rattle.fm_local.specs.Quietly.{DetachesQuietlyBy}
+use Rattle.fm_local.specs.Actions.{DetachesThenSettles}
 use Rattle.fm_local.proofs.Leaving.{agreed_leaving}
 use Rattle.fm_local.proofs.Readied.{asked_rests, detached_leaves, kept_leaves, plain_still, torn_leaves_ready}
 use Rattle.fm_local.proofs.manager.LocalManager.detach.Goals as goal
-use Rattle.fm_local.specs.Calls.{AgreesAt}
-use Rattle.fm_local.specs.Quietly.{DetachesQuietlyBy}
-use Rattle.fm_local.specs.declared.manager.TheConstants.{WORKER}
-use Rattle.fm_local.specs.Actions.{DetachesThenSettles}
-use Rattle.fm_local.specs.declared.requests.TheConstants.{RESUMPTIONS, TURNS}
-use Rattle.fm_local.specs.declared.teardowns.TheConstants.{DRAINED}
 
 pub returns-then-is_leaving-clause-ready : goal.returns-then-is_leaving-clause-ready
 returns-then-is_leaving-clause-ready g c ready =

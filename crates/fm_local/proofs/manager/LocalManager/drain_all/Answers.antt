@@ -1,11 +1,8 @@
-use Rattle.std.proofs.Common.{true≢false, sym, ap, subst, ◌∙◌}
+use Rattle.fm_local.proofs.Words.{◌∙◌, ap, subst, sym, true≢false, numbered, WORKER, DRAINED}
+use Rattle.fm_local.specs.Drains.{DrainsSome}
 use Rattle.fm_local.proofs.Drained.{drains_end, drains_more, drains_most}
 use Rattle.fm_local.proofs.GoingOn.{calls_both}
 use Rattle.fm_local.proofs.manager.LocalManager.drain_all.Goals as goal
-use Rattle.fm_local.specs.Drains.{DrainsSome}
-use Rattle.fm_local.specs.Managers.{numbered}
-use Rattle.fm_local.specs.declared.manager.TheConstants.{WORKER}
-use Rattle.fm_local.specs.declared.teardowns.TheConstants.{DRAINED}
 
 pub loop-made-preserved : goal.loop-made-preserved
 loop-made-preserved g c =

@@ -1,10 +1,7 @@
-use Rattle.std.specs.Prelude.{◌≡◌, []}
-use Rattle.fm_local.proofs.manager.LocalManager.drain_all.Given as goal
+use Rattle.fm_local.proofs.Words.{[], ◌≡◌, numbered, StaysOut, WORKER}
 use Rattle.fm_local.specs.Actions.{CallsBack}
 use Rattle.fm_local.specs.Drains.{DrainsMany}
-use Rattle.fm_local.specs.Managers.{numbered}
-use Rattle.fm_local.specs.Places.{StaysOut}
-use Rattle.fm_local.specs.declared.manager.TheConstants.{WORKER}
+use Rattle.fm_local.proofs.manager.LocalManager.drain_all.Given as goal
 
 -- where nothing is under way nothing is drained, and else so many were; and the worker is idle still
 abbrev pub invariant-loop-made : goal.invariant-loop-made

@@ -1,16 +1,8 @@
+use Rattle.fm_local.proofs.Words.{Completion, Err, Ok, OpId, Option, World, ◌∙◌, ap, refl, subst, sym, none-some, TakesDrain, numbered, WORKER}
 use Rattle.fm_local.proofs.Places.{drained_out, draining_in, same_out}
-use Rattle.std.specs.Prelude.{Option, Ok, Err}
-use Rattle.std.proofs.Common.{refl, sym, ap, subst, ◌∙◌}
-use Rattle.fm_data.specs.declared.verdict.Completion.{Completion}
-use Rattle.fm_world.specs.EarlyDrains.{TakesDrain}
-use Rattle.fm_world.specs.Words.{OpId}
-use Rattle.std.proofs.lemmas.Option.{none-some}
 use Rattle.fm_local.proofs.Drained.{drains_none, drains_one, drains_refused}
 use Rattle.fm_local.proofs.Leaving.{drain_same, drained_none}
 use Rattle.fm_local.proofs.manager.LocalManager.drain_first.Goals as goal
-use Rattle.fm_local.specs.Managers.{numbered}
-use Rattle.fm_local.specs.declared.manager.TheConstants.{WORKER}
-use Rattle.fm_world.specs.World.{World}
 
 pub returns-in-Ok-Some-clause-drains : goal.returns-in-Ok-Some-clause-drains
 returns-in-Ok-Some-clause-drains g c =

@@ -1,11 +1,7 @@
-use Rattle.std.specs.Prelude.{Err, Ok}
+use Rattle.fm_local.proofs.Words.{Err, LocalManager, Ok, ap, inl, inr, refl, err_from_is_err_and, WORKER}
 use Rattle.fm_local.proofs.Places.{emptied_out, ended_out, still_out}
 use Rattle.fm_local.proofs.NoneDue.{none_emptied, none_ended}
 use Rattle.fm_local.proofs.manager.LocalManager.end.Goals as goal
-use Rattle.fm_local.specs.declared.manager.TheConstants.{WORKER}
-use Rattle.std.proofs.Common.{inl, inr, refl, ap}
-use Rattle.fm_local.specs.declared.manager.LocalManager.{LocalManager}
-use Rattle.std.proofs.lemmas.Result.{err_from_is_err_and}
 
 pub returns-in_err-empty_filter-clause-none_due : goal.returns-in_err-empty_filter-clause-none_due
 returns-in_err-empty_filter-clause-none_due g c before =

@@ -1,15 +1,12 @@
-use Rattle.std.specs.Prelude.{Ok}
+use Rattle.fm_local.proofs.Words.{Ok, ◌∙◌, ap, inr, refl, subst, sym, WORKER, RESUMPTIONS, TURNS}
+use Rattle.fm_local.specs.Actions.{TellsThenSettles}
 use Rattle.fm_local.proofs.NoneDue.{none_completed}
-use Rattle.std.proofs.Common.{inr, refl, sym, ap, subst, ◌∙◌}
 use Rattle.fm_local.proofs.GoingOn.{calls_untraced}
 use Rattle.fm_local.proofs.Leaving.{completes}
 use Rattle.fm_local.proofs.Places.{complete_out, completing_in, same_out}
 use Rattle.fm_local.proofs.Readied.{settled_after}
 use Rattle.fm_local.proofs.Resting.{complete_refused}
 use Rattle.fm_local.proofs.manager.LocalManager.end_teardown.Goals as goal
-use Rattle.fm_local.specs.Actions.{TellsThenSettles}
-use Rattle.fm_local.specs.declared.manager.TheConstants.{WORKER}
-use Rattle.fm_local.specs.declared.requests.TheConstants.{RESUMPTIONS, TURNS}
 
 pub returns-in_err-complete_teardown-clause-quiet : goal.returns-in_err-complete_teardown-clause-quiet
 returns-in_err-complete_teardown-clause-quiet g c plain rests settled was =

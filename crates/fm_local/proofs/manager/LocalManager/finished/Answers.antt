@@ -1,6 +1,6 @@
+use Rattle.fm_local.proofs.Words.{WORKER}
 use Rattle.fm_local.proofs.NoneDue.{none_collected}
 use Rattle.fm_local.proofs.manager.LocalManager.finished.Goals as goal
-use Rattle.fm_local.specs.declared.manager.TheConstants.{WORKER}
 
 pub returns-clause-none_due : goal.returns-clause-none_due
 returns-clause-none_due g c =

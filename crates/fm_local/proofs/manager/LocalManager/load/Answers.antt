@@ -1,11 +1,9 @@
+use Rattle.fm_local.proofs.Words.{Err, Ok, ◌∙◌, refl, WORKER}
 use Rattle.fm_local.proofs.Places.{registered_out}
 use Rattle.fm_local.proofs.NoneDue.{none_registered}
-use Rattle.std.specs.Prelude.{Err, Ok}
-use Rattle.std.proofs.Common.{refl, ◌∙◌}
 use Rattle.fm_local.proofs.Readied.{loaded_ready}
 use Rattle.fm_local.proofs.Resting.{calm_same, registered_calm}
 use Rattle.fm_local.proofs.manager.LocalManager.load.Goals as goal
-use Rattle.fm_local.specs.declared.manager.TheConstants.{WORKER}
 
 pub returns-in_err-reserve-clause-ready : goal.returns-in_err-reserve-clause-ready
 returns-in_err-reserve-clause-ready g c plain ready =

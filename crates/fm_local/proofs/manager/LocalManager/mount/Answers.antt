@@ -1,11 +1,9 @@
+use Rattle.fm_local.proofs.Words.{Err, Ok, refl, WORKER}
 use Rattle.fm_local.proofs.Places.{mounted_out}
 use Rattle.fm_local.proofs.NoneDue.{none_mounted}
-use Rattle.std.specs.Prelude.{Err, Ok}
-use Rattle.std.proofs.Common.{refl}
 use Rattle.fm_local.proofs.Readied.{mounted_ready}
 use Rattle.fm_local.proofs.Resting.{mounted_calm}
 use Rattle.fm_local.proofs.manager.LocalManager.mount.Goals as goal
-use Rattle.fm_local.specs.declared.manager.TheConstants.{WORKER}
 
 pub returns-in_err-volume-clause-ready : goal.returns-in_err-volume-clause-ready
 returns-in_err-volume-clause-ready g c ready =

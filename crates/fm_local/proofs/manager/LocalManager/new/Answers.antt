@@ -1,9 +1,6 @@
-use Rattle.std.proofs.Common.{refl, ap}
-use Rattle.fm_world.specs.Workers.{worker_at}
-use Rattle.fm_world.specs.World.{World}
+use Rattle.fm_local.proofs.Words.{World, worker_at, ap, refl, WORKER}
 use Rattle.fm_local.proofs.Readied.{new_ready}
 use Rattle.fm_local.proofs.manager.LocalManager.new.Goals as goal
-use Rattle.fm_local.specs.declared.manager.TheConstants.{WORKER}
 
 pub returns-clause-ready : goal.returns-clause-ready
 returns-clause-ready g c =

@@ -1,13 +1,9 @@
+use Rattle.fm_local.proofs.Words.{Err, Ok, inl, inr, subst, sym, Reply, PerformsIn, WORKER}
 use Rattle.fm_local.proofs.Places.{begun_out}
 use Rattle.fm_local.proofs.Refusing.{not_begun, refuses_one}
 use Rattle.fm_local.proofs.NoneDue.{none_begun}
-use Rattle.std.specs.Prelude.{Err, Ok}
-use Rattle.std.proofs.Common.{inl, inr, sym, subst}
-use Rattle.fm_data.specs.declared.request.Reply.{Reply}
 use Rattle.fm_local.proofs.Performing.{performs_begun, performs_refused}
 use Rattle.fm_local.proofs.manager.LocalManager.perform.Goals as goal
-use Rattle.fm_local.specs.Actions.{PerformsIn}
-use Rattle.fm_local.specs.declared.manager.TheConstants.{WORKER}
 
 pub returns-in-Ok-clause-does : goal.returns-in-Ok-clause-does
 returns-in-Ok-clause-does g c ready =

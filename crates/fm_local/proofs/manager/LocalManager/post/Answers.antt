@@ -1,9 +1,5 @@
-use Rattle.std.specs.Prelude.{Some}
-use Rattle.std.proofs.Common.{ap, subst, ◌∙◌}
+use Rattle.fm_local.proofs.Words.{Some, World, ◌∙◌, ap, subst, PostReturns, WORKER}
 use Rattle.fm_local.proofs.manager.LocalManager.post.Goals as goal
-use Rattle.fm_local.specs.declared.manager.TheConstants.{WORKER}
-use Rattle.fm_world.specs.Events.{PostReturns}
-use Rattle.fm_world.specs.World.{World}
 
 pub returns-clause-makes : goal.returns-clause-makes
 returns-clause-makes g c =

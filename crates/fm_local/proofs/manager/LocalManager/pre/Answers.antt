@@ -1,8 +1,5 @@
-use Rattle.std.proofs.Common.{ap, subst, ◌∙◌}
+use Rattle.fm_local.proofs.Words.{World, ◌∙◌, ap, subst, PreReturns, WORKER}
 use Rattle.fm_local.proofs.manager.LocalManager.pre.Goals as goal
-use Rattle.fm_local.specs.declared.manager.TheConstants.{WORKER}
-use Rattle.fm_world.specs.Events.{PreReturns}
-use Rattle.fm_world.specs.World.{World}
 
 pub returns-clause-makes : goal.returns-clause-makes
 returns-clause-makes g c =

@@ -1,8 +1,5 @@
-use Rattle.std.proofs.Common.{sym, ap, subst}
+use Rattle.fm_local.proofs.Words.{World, ap, subst, sym, QueryReturns, WORKER}
 use Rattle.fm_local.proofs.manager.LocalManager.query.Goals as goal
-use Rattle.fm_local.specs.declared.manager.TheConstants.{WORKER}
-use Rattle.fm_world.specs.Teardowns.{QueryReturns}
-use Rattle.fm_world.specs.World.{World}
 
 pub returns-clause-ends : goal.returns-clause-ends
 returns-clause-ends g c =

@@ -1,8 +1,6 @@
-use Rattle.std.specs.Prelude.{Err, Ok}
-use Rattle.std.proofs.Common.{ap}
+use Rattle.fm_local.proofs.Words.{Err, Ok, ap, WORKER}
 use Rattle.fm_local.proofs.Places.{collected_out, still_out}
 use Rattle.fm_local.proofs.manager.LocalManager.reply.Goals as goal
-use Rattle.fm_local.specs.declared.manager.TheConstants.{WORKER}
 
 pub returns-in-Ok-clause-out : goal.returns-in-Ok-clause-out
 returns-in-Ok-clause-out g c out =

@@ -1,6 +1,6 @@
+use Rattle.fm_local.proofs.Words.{WORKER}
 use Rattle.fm_local.proofs.Performing.{runs}
 use Rattle.fm_local.proofs.manager.LocalManager.run.Goals as goal
-use Rattle.fm_local.specs.declared.manager.TheConstants.{WORKER}
 
 pub returns-clause-runs : goal.returns-clause-runs
 returns-clause-runs g c =

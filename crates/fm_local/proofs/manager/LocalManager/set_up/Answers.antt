@@ -1,11 +1,8 @@
-use Rattle.std.proofs.Common.{refl, sym, ◌∙◌}
-use Rattle.fm_local.specs.declared.requests.TheConstants.{RESUMPTIONS, TURNS}
+use Rattle.fm_local.proofs.Words.{◌∙◌, refl, sym, AgreesAt, WORKER, RESUMPTIONS, TURNS}
 use Rattle.fm_local.proofs.Places.{finished_out, setup_out}
 use Rattle.fm_local.proofs.NoneDue.{ends_tidily, none_finished}
 use Rattle.fm_local.proofs.GoingOn.{calls_untraced, ends_accepted, ends_refused}
 use Rattle.fm_local.proofs.manager.LocalManager.set_up.Goals as goal
-use Rattle.fm_local.specs.Calls.{AgreesAt}
-use Rattle.fm_local.specs.declared.manager.TheConstants.{WORKER}
 
 pub returns-then-is_err-clause-none_due : goal.returns-then-is_err-clause-none_due
 returns-then-is_err-clause-none_due g c =

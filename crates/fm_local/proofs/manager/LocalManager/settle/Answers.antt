@@ -1,6 +1,6 @@
+use Rattle.fm_local.proofs.Words.{WORKER}
 use Rattle.fm_local.proofs.Places.{still_out}
 use Rattle.fm_local.proofs.manager.LocalManager.settle.Goals as goal
-use Rattle.fm_local.specs.declared.manager.TheConstants.{WORKER}
 
 pub returns-clause-out : goal.returns-clause-out
 returns-clause-out g c out =

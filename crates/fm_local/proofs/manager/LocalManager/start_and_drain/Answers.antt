@@ -1,15 +1,9 @@
-use Rattle.std.specs.Prelude.{Ok}
-use Rattle.std.proofs.Common.{refl, sym, ap, subst, ◌∙◌}
+use Rattle.fm_local.proofs.Words.{Ok, World, ◌∙◌, ap, refl, subst, sym, StartReturns, numbered, WORKER, DRAINED}
+use Rattle.fm_local.specs.Drains.{DrainsAll}
 use Rattle.fm_local.proofs.GoingOn.{calls_both, calls_untraced}
 use Rattle.fm_local.proofs.Leaving.{start_flow, start_refused}
 use Rattle.fm_local.proofs.Places.{same_out, start_out, started_in}
 use Rattle.fm_local.proofs.manager.LocalManager.start_and_drain.Goals as goal
-use Rattle.fm_local.specs.Drains.{DrainsAll}
-use Rattle.fm_local.specs.Managers.{numbered}
-use Rattle.fm_local.specs.declared.manager.TheConstants.{WORKER}
-use Rattle.fm_local.specs.declared.teardowns.TheConstants.{DRAINED}
-use Rattle.fm_world.specs.Teardowns.{StartReturns}
-use Rattle.fm_world.specs.World.{World}
 
 pub returns-in-Ok-clause-drains : goal.returns-in-Ok-clause-drains
 returns-in-Ok-clause-drains g c =

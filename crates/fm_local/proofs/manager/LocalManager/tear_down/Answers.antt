@@ -1,13 +1,9 @@
+use Rattle.fm_local.proofs.Words.{LocalManager, ◌∙◌, ap, inl, inr, refl, err_from_is_err_and, WORKER}
 use Rattle.fm_local.proofs.Places.{finished_out, still_out}
 use Rattle.fm_local.proofs.NoneDue.{none_finished}
-use Rattle.std.proofs.Common.{ap, ◌∙◌}
 use Rattle.fm_local.proofs.Emptied.{ends_well}
 use Rattle.fm_local.proofs.Readied.{not_ok, plain_still, rests_still, told_still}
 use Rattle.fm_local.proofs.manager.LocalManager.tear_down.Goals as goal
-use Rattle.fm_local.specs.declared.manager.TheConstants.{WORKER}
-use Rattle.std.proofs.Common.{inl, inr, refl}
-use Rattle.std.proofs.lemmas.Result.{err_from_is_err_and}
-use Rattle.fm_local.specs.declared.manager.LocalManager.{LocalManager}
 
 pub returns-in_err-end_teardown-clause-quiet : goal.returns-in_err-end_teardown-clause-quiet
 returns-in_err-end_teardown-clause-quiet g c plain rests settled =

@@ -1,10 +1,7 @@
+use Rattle.fm_local.proofs.Words.{err_from_is_err_and, WORKER, RESUMPTIONS, TURNS, DRAINED}
 use Rattle.fm_local.proofs.Readied.{not_ok, plain_still, rests_first, settled_both, torn_first}
-use Rattle.fm_local.proofs.manager.LocalManager.tear_down_all.Goals as goal
-use Rattle.fm_local.specs.declared.manager.TheConstants.{WORKER}
-use Rattle.std.proofs.lemmas.Result.{err_from_is_err_and}
 use Rattle.fm_local.proofs.TornDown.{tears_more}
-use Rattle.fm_local.specs.declared.requests.TheConstants.{RESUMPTIONS, TURNS}
-use Rattle.fm_local.specs.declared.teardowns.TheConstants.{DRAINED}
+use Rattle.fm_local.proofs.manager.LocalManager.tear_down_all.Goals as goal
 
 pub returns-in_err-tear_down_if-clause-quiet : goal.returns-in_err-tear_down_if-clause-quiet
 returns-in_err-tear_down_if-clause-quiet g c plain rests settled =

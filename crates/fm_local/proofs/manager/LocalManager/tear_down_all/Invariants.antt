@@ -1,14 +1,8 @@
-use Rattle.std.specs.Prelude.{◌≡◌, []}
-use Rattle.fm_local.proofs.manager.LocalManager.tear_down_all.Given as goal
-use Rattle.fm_local.specs.Actions.{ArePlainFilters, TearsDownEach}
+use Rattle.fm_local.proofs.Words.{[], ◌≡◌, ArePlainFilters, numbered, StaysOut, IsSettled, TearsDownFirst, IsAtRest, WORKER, RESUMPTIONS, TURNS}
+use Rattle.fm_local.proofs.Words.{DRAINED}
+use Rattle.fm_local.specs.Actions.{TearsDownEach}
 use Rattle.fm_local.specs.Cleanups.{LeavesNoneDue}
-use Rattle.fm_local.specs.Managers.{numbered}
-use Rattle.fm_local.specs.Places.{StaysOut}
-use Rattle.fm_local.specs.Quietly.{IsSettled, TearsDownFirst}
-use Rattle.fm_local.specs.Requests.{IsAtRest}
-use Rattle.fm_local.specs.declared.manager.TheConstants.{WORKER}
-use Rattle.fm_local.specs.declared.requests.TheConstants.{RESUMPTIONS, TURNS}
-use Rattle.fm_local.specs.declared.teardowns.TheConstants.{DRAINED}
+use Rattle.fm_local.proofs.manager.LocalManager.tear_down_all.Given as goal
 
 -- the filter's instances so far are torn down, where nothing was under way; nothing is due, and the worker is idle still
 abbrev pub invariant-loop-at : goal.invariant-loop-at

@@ -1,13 +1,7 @@
-use Rattle.std.specs.Prelude.{Bool}
-use Rattle.std.proofs.Common.{sym, subst, ◌∙◌}
+use Rattle.fm_local.proofs.Words.{Bool, Ok, ◌∙◌, refl, subst, sym, TearsDownIf, WORKER, RESUMPTIONS, TURNS, DRAINED}
+use Rattle.fm_local.specs.Actions.{TearsDownWhere}
 use Rattle.fm_local.proofs.Readied.{goes_on_leaving, torn_ok}
 use Rattle.fm_local.proofs.manager.LocalManager.tear_down_if.Goals as goal
-use Rattle.fm_local.specs.Quietly.{TearsDownIf}
-use Rattle.fm_local.specs.declared.manager.TheConstants.{WORKER}
-use Rattle.std.specs.Prelude.{Ok, refl}
-use Rattle.fm_local.specs.Actions.{TearsDownWhere}
-use Rattle.fm_local.specs.declared.requests.TheConstants.{RESUMPTIONS, TURNS}
-use Rattle.fm_local.specs.declared.teardowns.TheConstants.{DRAINED}
 
 pub returns-then-is_to_go-clause-quiet : goal.returns-then-is_to_go-clause-quiet
 returns-then-is_to_go-clause-quiet g c plain rests settled =

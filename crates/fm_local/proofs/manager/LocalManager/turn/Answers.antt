@@ -1,13 +1,9 @@
-use Rattle.std.proofs.Common.{ap, ◌∙◌}
+use Rattle.fm_local.proofs.Words.{World, ◌∙◌, ap, BasesCarry, numbered, WORKER}
 use Rattle.fm_world.specs.Workers.{gives_nothing}
-use Rattle.fm_world.specs.World.{World}
 use Rattle.fm_local.proofs.Ending.{says_done}
 use Rattle.fm_local.proofs.Lent.{lent}
 use Rattle.fm_local.proofs.Places.{makes_out}
-use Rattle.fm_local.specs.Bases.{BasesCarry}
-use Rattle.fm_local.specs.Managers.{numbered}
 use Rattle.fm_local.proofs.manager.LocalManager.turn.Goals as goal
-use Rattle.fm_local.specs.declared.manager.TheConstants.{WORKER}
 
 pub returns-clause-at_once : goal.returns-clause-at_once
 returns-clause-at_once g c done =

@@ -1,16 +1,10 @@
-use Rattle.std.specs.Prelude.{Bool, Err}
-use Rattle.std.proofs.Common.{inr, sym, ap, subst, ◌∙◌}
+use Rattle.fm_local.proofs.Words.{Bool, Err, ◌∙◌, ap, inl, inr, refl, subst, sym, err_from_is_err_and, numbered, IsSettled, WORKER, RESUMPTIONS}
+use Rattle.fm_local.proofs.Words.{TURNS, DRAINED}
+use Rattle.fm_local.specs.Calls.{MayAgree}
+use Rattle.fm_local.specs.Quietly.{UnloadsQuietlyBy}
+use Rattle.fm_local.specs.Actions.{EndsFully, UnloadsThenSettles}
 use Rattle.fm_local.proofs.Readied.{agreed_rests, ends_ready, loaded_leaves, plain_still, unloaded_leaves}
 use Rattle.fm_local.proofs.manager.LocalManager.unload.Goals as goal
-use Rattle.fm_local.specs.Calls.{MayAgree}
-use Rattle.fm_local.specs.Managers.{numbered}
-use Rattle.fm_local.specs.Quietly.{IsSettled, UnloadsQuietlyBy}
-use Rattle.fm_local.specs.declared.manager.TheConstants.{WORKER}
-use Rattle.std.proofs.Common.{inl, refl}
-use Rattle.std.proofs.lemmas.Result.{err_from_is_err_and}
-use Rattle.fm_local.specs.Actions.{EndsFully, UnloadsThenSettles}
-use Rattle.fm_local.specs.declared.requests.TheConstants.{RESUMPTIONS, TURNS}
-use Rattle.fm_local.specs.declared.teardowns.TheConstants.{DRAINED}
 
 pub returns-then-is_unloading-clause-ready : goal.returns-then-is_unloading-clause-ready
 returns-then-is_unloading-clause-ready g c ready =

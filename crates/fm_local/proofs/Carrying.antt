@@ -24,7 +24,7 @@ use Rattle.fm_world.specs.Events.{base_known, filed_base, filed_next, filed_reco
 use Rattle.fm_world.specs.Files.{after_base, after_pre}
 use Rattle.fm_world.specs.Sound.{IsAmong}
 use Rattle.fm_filter.specs.Plain.{IsPlainPre, IsPlainPost}
-use Rattle.fm_local.specs.Chains.{PreMay, PostMay, completed_under, BaseMayBy}
+use Rattle.fm_local.specs.Chains.{PreMay, PostMay, BaseMayBy}
 use Rattle.fm_local.proofs.Alone.{Alone, found_alone, told_alone, known_alone, none_created}
 use Rattle.fm_local.proofs.Events.{next_leaves, IsLeft, pre_leaves, base_leaves, post_leaves, and_none, placed}
 use Rattle.fm_local.proofs.Fitting.{fits_back, call_back}
@@ -192,45 +192,37 @@ module _ {F D : Type 0} (pre_may : F → Data → PreVerdict → Data → Type 0
         meets below v = (lies.0, v)
 
         module _ (given : PreVerdict) (back : Data) (may : PreMay pre_may (filter_in filters s i.0) (fresh_data p) given back) (same : back.received ≡ p) (new : World) (e : D) (end_is : e ≡ d) where
+          abbrev after_verdict : PreState → FlowRecord
+          after_verdict state = pre_returned_of state back (call_pre k i r (Some p)).after
+
+          abbrev files_after : PreState → FileTable
+          files_after state = after_pre state r.operation r.stream false old.files
+
+          turned : (state : PreState) → is_between (after_verdict state).stage ≡ true → IsLeft k o (after_verdict state) s (files_after state) new
+              → Leaves (chain (subject_of r)) (Meets r) r (after_verdict state) (under d old) (record { device = d; files = files_after state }) → Turned r old d new e
+          turned state between left less =
+              let next = after_verdict state in
+              let ends : record { device = d; files = files_after state } ≡ under e new = ap₂ (λ dev fs. record { device = dev; files = fs }) (sym end_is) (sym left.filed) in
+              record {
+                next = next;
+                going = record { alone = left.alone; idle = left.idle; uncollected = going.uncollected; between = between; on = record { kind = going.on.kind; all = λ h. going.on.all st }; asks = less.plain };
+                stays = left.stays ∙ sym at_stack;
+                same = (refl, refl);
+                longer = settled_more (settle_pre state) r.entries (pre_entry k i PreState.Running r);
+                less = subst (λ (w : Under D). Leaves (chain x) (Meets r) r next (under d old) w) ends (of_subject next (record { device = d; files = files_after state }) less);
+              }
+
           by_state : (state : PreState) → verdict_counted given r.operation (has_post s (slice_get s.instances i.0) r.operation) ≡ state → IsPlainState state
-              → IsLeft k o (pre_returned_of state back (call_pre k i r (Some p)).after) s (after_pre state r.operation r.stream false old.files) new → Turned r old d new e
+              → IsLeft k o (after_verdict state) s (files_after state) new → Turned r old d new e
           by_state (PreState.Asked completion) counted plain left =
-              let next = pre_returned_of (PreState.Asked completion) back (call_pre k i r (Some p)).after in
-              let less = left_asked (chain (subject_of r)) (Meets r) r p has (under d old) k i st course fresh going.asks meets given back (PreState.Asked completion) (sym lies.1) same may counted completion refl in
-              let ends : under d old ≡ under e new = ap₂ (λ dev fs. record { device = dev; files = fs }) (sym end_is) (sym left.filed) in
-              record {
-                next = next;
-                going = record { alone = left.alone; idle = left.idle; uncollected = going.uncollected; between = refl; on = record { kind = going.on.kind; all = λ h. going.on.all st }; asks = less.plain };
-                stays = left.stays ∙ sym at_stack;
-                same = (refl, refl);
-                longer = settled_more (settle_pre (PreState.Asked completion)) r.entries (pre_entry k i PreState.Running r);
-                less = subst (λ (w : Under D). Leaves (chain x) (Meets r) r next (under d old) w) ends (of_subject next (under d old) less);
-              }
+              turned (PreState.Asked completion) refl left
+              (left_asked (chain (subject_of r)) (Meets r) r p has (under d old) k i st course fresh going.asks meets given back (PreState.Asked completion) (sym lies.1) same may counted completion refl)
           by_state PreState.Passed counted plain left =
-              let next = pre_returned_of PreState.Passed back (call_pre k i r (Some p)).after in
-              let less = left_passed (chain (subject_of r)) (Meets r) r p has (under d old) k i st course fresh going.asks meets given back PreState.Passed (sym lies.1) same may counted refl in
-              let ends : under d old ≡ under e new = ap₂ (λ dev fs. record { device = dev; files = fs }) (sym end_is) (sym left.filed) in
-              record {
-                next = next;
-                going = record { alone = left.alone; idle = left.idle; uncollected = going.uncollected; between = refl; on = record { kind = going.on.kind; all = λ h. going.on.all st }; asks = less.plain };
-                stays = left.stays ∙ sym at_stack;
-                same = (refl, refl);
-                longer = settled_more (settle_pre PreState.Passed) r.entries (pre_entry k i PreState.Running r);
-                less = subst (λ (w : Under D). Leaves (chain x) (Meets r) r next (under d old) w) ends (of_subject next (under d old) less);
-              }
+              turned PreState.Passed refl left
+              (left_passed (chain (subject_of r)) (Meets r) r p has (under d old) k i st course fresh going.asks meets given back PreState.Passed (sym lies.1) same may counted refl)
           by_state (PreState.Completed why) counted plain left =
-              let next = pre_returned_of (PreState.Completed why) back (call_pre k i r (Some p)).after in
-              let w = completed_under (subject_of r) why (under d old) in
-              let less = left_completed (chain (subject_of r)) (Meets r) r p has (under d old) k i st course fresh going.asks meets given back (PreState.Completed why) (sym lies.1) same may counted why refl further.0 further.1 in
-              let ends : w ≡ under e new = ap₂ (λ dev fs. record { device = dev; files = fs }) (sym end_is) (sym left.filed) in
-              record {
-                next = next;
-                going = record { alone = left.alone; idle = left.idle; uncollected = going.uncollected; between = refl; on = record { kind = going.on.kind; all = λ h. going.on.all st }; asks = less.plain };
-                stays = left.stays ∙ sym at_stack;
-                same = (refl, refl);
-                longer = settled_more (settle_pre (PreState.Completed why)) r.entries (pre_entry k i PreState.Running r);
-                less = subst (λ (v : Under D). Leaves (chain x) (Meets r) r next (under d old) v) ends (of_subject next w less);
-              }
+              turned (PreState.Completed why) refl left
+              (left_completed (chain (subject_of r)) (Meets r) r p has (under d old) k i st course fresh going.asks meets given back (PreState.Completed why) (sym lies.1) same may counted why refl further.0 further.1)
           by_state _ counted plain left = absurd plain
 
         visit_turn : (mid : World) → Alone o (call_pre k i r (Some p)).after mid.flow → worker_at mid.workers k ≡ Some (Worker.Pre o i) → mid.stack ≡ s → mid.files ≡ old.files

@@ -18,7 +18,7 @@ use Rattle.fm_world.specs.Words.{one}
 use Rattle.fm_world.specs.Workers.{Desk, AtSetup, AtStart, AtComplete, after_entering, is_at, is_queried, is_in_query}
 use Rattle.fm_local.specs.Quietly.{AsksQuietly, WasTold}
 use Rattle.fm_local.proofs.Resting.{CalmAfter, Undisturbed, ask_refused, both, by_tidying, calm_both, calm_finished, calm_same, calm_tidied, goes}
-use Rattle.fm_local.proofs.Resting.{happened, is_in, is_out, no_count, none_in, others_stay, refused_same, rests_on, stays_fewer, stops}
+use Rattle.fm_local.proofs.Resting.{happened, is_in, no_count, none_in, others_stay, refused_same, rests_on, stays_fewer, stops, through}
 
 module _ (k : WorkerId) (i : InstanceId) where
   -- ---- its filter is asked
@@ -43,11 +43,7 @@ module _ (k : WorkerId) (i : InstanceId) where
       query_at = subst (QueryReturnsAt asked k allows ended back) (is_in k old asked (Worker.Query i) idle enters) returns
 
       queried : Undisturbed old back
-      queried = record {
-        flow = ap (λ (w : World). w.flow) query_at.2 ∙ ap (λ (w : World). w.flow) asks;
-        workers = is_out k old asked back (Worker.Query i) idle enters (ap (λ (w : World). w.workers) query_at.2);
-        files = ap (λ (w : World). w.files) query_at.2 ∙ ap (λ (w : World). w.files) asks;
-      }
+      queried = through k old asked back (Worker.Query i) idle asks query_at.2
 
     queried_stack : (s : StackWorld) (allows : Bool) (t : StackWorld) → stack.QueryReturns s i allows (Ok tt) t → t ≡ stack.stopped s i
     unfolding stack.QueryReturns
@@ -135,14 +131,7 @@ module _ (k : WorkerId) (i : InstanceId) where
 
     start_leaves : (back new : World) → StartReturns started k (Ok tt) back → Tidies back new → CalmAfter old new
     start_leaves back new returns tidies =
-        let at = start_at back returns in
-        let from = starting_at old started starts in
-        let over : Undisturbed old back =
-        record {
-          flow = start_flow back returns;
-          workers = is_out k old started back (Worker.Start i) idle (ap (λ (w : World). w.workers) from) (ap (λ (w : World). w.workers) at.2);
-          files = ap (λ (w : World). w.files) at.2 ∙ ap (λ (w : World). w.files) from;
-        } in
+        let over = through k old started back (Worker.Start i) idle (starting_at old started starts) (start_at back returns).2 in
         record {
           undisturbed = both old back new over (by_tidying back new tidies);
           fewer = λ j h.
@@ -264,14 +253,7 @@ module _ (k : WorkerId) (i : InstanceId) where
 
     complete_leaves : (back new : World) → CompleteReturns completing k (Ok tt) back → Tidies back new → CalmAfter old new × (stops new.stack i.0 ≡ false)
     complete_leaves back new returns tidies =
-        let at = complete_at back returns in
-        let from = completing_at old completing completes in
-        let over : Undisturbed old back =
-        record {
-          flow = ap (λ (w : World). w.flow) at.4 ∙ ap (λ (w : World). w.flow) from;
-          workers = is_out k old completing back (Worker.Complete i) idle (ap (λ (w : World). w.workers) from) (ap (λ (w : World). w.workers) at.4);
-          files = ap (λ (w : World). w.files) at.4 ∙ ap (λ (w : World). w.files) from;
-        } in
+        let over = through k old completing back (Worker.Complete i) idle (completing_at old completing completes) (complete_at back returns).4 in
         let is = complete_stack back new returns tidies in (
           record {
             undisturbed = both old back new over (by_tidying back new tidies);

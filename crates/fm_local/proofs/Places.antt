@@ -86,33 +86,30 @@ module _ (k : WorkerId) where
 
   -- ---- and comes out of it, with the event that ends it
 
+  comes_out : (a : Worker) (old before new : World) (At : Option Worker → Type 0) → standing_of before ≡ standing_of old → IsIn k a old → At (worker_at before.workers k)
+      → (At (Some a) → new.workers ≡ put before.workers k Worker.Idle) → IsOut k new
+  comes_out a old before new At far there h leaves =
+      let still = in_still a old before far there in
+      left a before new still (leaves (subst At still h))
+
   module _ (old new : World) (ended : Result (Unit {0}) Status) where
     pub setup_out : (may : Bool → Type 0) (i : InstanceId) → IsIn k (Worker.Setup i) old → EndsFrom old (λ before. SetsUpWith may k before ended new) → IsOut k new
     unfolding SetsUp
-    setup_out may i there (before, far, (accepts, answer, sets)) =
-        let still = in_still (Worker.Setup i) old before far there in
-        let at : SetsUpAt before k accepts ended new (Some (Worker.Setup i)) = subst (SetsUpAt before k accepts ended new) still sets in
-        left (Worker.Setup i) before new still (ap (λ (w : World). w.workers) at.4)
+    setup_out may i there (before, far, (accepts, answer, sets)) = comes_out (Worker.Setup i) old before new (SetsUpAt before k accepts ended new) far there sets (λ at. ap (λ (w : World). w.workers) at.4)
 
     pub query_out : (may : Bool → Type 0) (i : InstanceId) → IsIn k (Worker.Query i) old → EndsFrom old (λ before. QueriesWith may k before ended new) → IsOut k new
     unfolding QueryReturns
     query_out may i there (before, far, (allows, answer, returns)) =
-        let still = in_still (Worker.Query i) old before far there in
-        let at : QueryReturnsAt before k allows ended new (Some (Worker.Query i)) = subst (QueryReturnsAt before k allows ended new) still returns in
-        left (Worker.Query i) before new still (ap (λ (w : World). w.workers) at.2)
+        comes_out (Worker.Query i) old before new (QueryReturnsAt before k allows ended new) far there returns (λ at. ap (λ (w : World). w.workers) at.2)
 
     pub unload_out : (may : Bool → Type 0) (f : FilterId) → IsIn k (Worker.Unload f) old → UnloadsWith may k old ended new → IsOut k new
     unfolding UnloadReturns
-    unload_out may f there (allows, answer, returns) =
-        let at : UnloadReturnsAt old k allows ended new (Some (Worker.Unload f)) = subst (UnloadReturnsAt old k allows ended new) there returns in
-        left (Worker.Unload f) old new there (ap (λ (w : World). w.workers) at.1)
+    unload_out may f there (allows, answer, returns) = comes_out (Worker.Unload f) old old new (UnloadReturnsAt old k allows ended new) refl there returns (λ at. ap (λ (w : World). w.workers) at.1)
 
     pub drained_out : (o : OpId) (i : InstanceId) → IsIn k (Worker.EarlyDrain o i) old → EndsFrom old (λ before. DrainReturns before k ended new) → IsOut k new
     unfolding DrainReturns
     drained_out o i there (before, far, returns) =
-        let still = in_still (Worker.EarlyDrain o i) old before far there in
-        let at : DrainReturnsAt before k ended new (Some (Worker.EarlyDrain o i)) = subst (DrainReturnsAt before k ended new) still returns in
-        left (Worker.EarlyDrain o i) before new still (ap (λ (w : World). w.workers) at.2)
+        comes_out (Worker.EarlyDrain o i) old before new (DrainReturnsAt before k ended new) far there returns (λ at. ap (λ (w : World). w.workers) at.2)
 
     -- the callbacks of a teardown can't be refused their end
     pub start_ends : (i : InstanceId) → IsIn k (Worker.Start i) old → StartReturns old k ended new → StartReturns old k (Ok tt) new
@@ -125,17 +122,12 @@ module _ (k : WorkerId) where
 
   pub start_out : (old new : World) (i : InstanceId) → IsIn k (Worker.Start i) old → EndsFrom old (λ before. StartReturns before k (Ok tt) new) → IsOut k new
   unfolding StartReturns
-  start_out old new i there (before, far, returns) =
-      let still = in_still (Worker.Start i) old before far there in
-      let at : StartReturnsAt before k (Ok tt) new (Some (Worker.Start i)) = subst (StartReturnsAt before k (Ok tt) new) still returns in
-      left (Worker.Start i) before new still (ap (λ (w : World). w.workers) at.2)
+  start_out old new i there (before, far, returns) = comes_out (Worker.Start i) old before new (StartReturnsAt before k (Ok tt) new) far there returns (λ at. ap (λ (w : World). w.workers) at.2)
 
   pub complete_out : (old new : World) (i : InstanceId) → IsIn k (Worker.Complete i) old → EndsFrom old (λ before. CompleteReturns before k (Ok tt) new) → IsOut k new
   unfolding CompleteReturns
   complete_out old new i there (before, far, returns) =
-      let still = in_still (Worker.Complete i) old before far there in
-      let at : CompleteReturnsAt before k (Ok tt) new (Some (Worker.Complete i)) = subst (CompleteReturnsAt before k (Ok tt) new) still returns in
-      left (Worker.Complete i) before new still (ap (λ (w : World). w.workers) at.4)
+      comes_out (Worker.Complete i) old before new (CompleteReturnsAt before k (Ok tt) new) far there returns (λ at. ap (λ (w : World). w.workers) at.4)
 
   -- ---- callbacks of an operation, and the call of its file system
 
@@ -151,28 +143,23 @@ module _ (k : WorkerId) where
     pub pre_out : (lent back : Data) (given : PreVerdict) → IsIn k (Worker.Pre o i) old × (is_on old o lent.received ≡ true) → HandsBack lent back → PreReturns before k given back ended new → IsOut k new
     unfolding PreReturns
     pre_out lent back given (there, on) hands h =
-        let still = in_still (Worker.Pre o i) old before far there in
-        let at : PreReturnsAt before k given back ended new (Some (Worker.Pre o i)) = subst (PreReturnsAt before k given back ended new) still h in
         let fits = back_fits before o lent back (on_still old before o lent.received far ∙ on) hands in
+        comes_out (Worker.Pre o i) old before new (PreReturnsAt before k given back ended new) far there h (λ at.
         let over = subst (λ (b : Bool). Unless Status.BadRequest b ended before new ((ended ≡ Ok tt) × PreReturnsOver before k o (pre_step before k o i given back) (state_at before k o i given) new)) fits at in
-        left (Worker.Pre o i) before new still ((by_links over.1.0 new over.1.2).workers ∙ ap (λ (w : World). w.workers) over.1.1.1)
+        (by_links over.1.0 new over.1.2).workers ∙ ap (λ (w : World). w.workers) over.1.1.1)
 
     pub post_out : (lent back : Data) (given : PostVerdict) → IsIn k (Worker.Post o i) old × (is_on old o lent.received ≡ true) → HandsBack lent back → PostReturns before k given (Some back) ended new
         → IsOut k new
     unfolding PostReturns
     post_out lent back given (there, on) hands h =
-        let still = in_still (Worker.Post o i) old before far there in
-        let at : PostReturnsAt before k given (Some back) ended new (Some (Worker.Post o i)) = subst (PostReturnsAt before k given (Some back) ended new) still h in
         let fits = back_fits before o lent back (on_still old before o lent.received far ∙ on) hands in
+        comes_out (Worker.Post o i) old before new (PostReturnsAt before k given (Some back) ended new) far there h (λ at.
         let over = subst (λ (b : Bool). Unless Status.BadRequest b ended before new ((ended ≡ Ok tt) × ReturnsFrom before k o (post_returned_of given back) before.contexts new)) fits at in
-        left (Worker.Post o i) before new still (ap (λ (w : World). w.workers) over.1.1)
+        ap (λ (w : World). w.workers) over.1.1)
 
     pub drain_out : (given : PostVerdict) → IsIn k (Worker.Drain o i) old → PostReturns before k given None ended new → IsOut k new
     unfolding PostReturns
-    drain_out given there h =
-        let still = in_still (Worker.Drain o i) old before far there in
-        let at : PostReturnsAt before k given None ended new (Some (Worker.Drain o i)) = subst (PostReturnsAt before k given None ended new) still h in
-        left (Worker.Drain o i) before new still (ap (λ (w : World). w.workers) at.1.1)
+    drain_out given there h = comes_out (Worker.Drain o i) old before new (PostReturnsAt before k given None ended new) far there h (λ at. ap (λ (w : World). w.workers) at.1.1)
 
   call_fits_back : (w : World) (o : OpId) (call : BaseCall) (answer : Answer) → told (λ r. call_fits r.operation r.volume r.path call) false o w.flow ≡ true → length answer.bytes ≤ 32768
       → told (base_fits call answer) false o w.flow ≡ true

@@ -9,6 +9,7 @@ use Rattle.fm_stack.specs.Events as setting
 use Rattle.fm_world.proofs.Cases.{by_option, none_any}
 use Rattle.fm_world.specs.Events.{SetsUpAt}
 use Rattle.fm_local.specs.Quietly.{SetUpQuietly}
+use Rattle.fm_ctx.specs.Table.{ContextTable}
 use Rattle.fm_local.proofs.Events.{placed}
 use Rattle.fm_local.proofs.Tidying.{set_back}
 
@@ -130,6 +131,13 @@ calm_both old mid new a b = record { undisturbed = both old mid new a.undisturbe
 pub calm_tidied : (old new : World) → Tidies old new → CalmAfter old new
 calm_tidied old new t = record { undisturbed = by_tidying old new t; fewer = λ j h. subst (λ (s : StackWorld). stops s j ≡ true) t.stack h }
 
+-- an event of instances and contexts alone, by which none comes to be stopping
+pub calm_by : {t : StackWorld} {c : ContextTable} (old new : World) → new ≡ record old { stack = t; contexts = c } → ((j : ℕ) → stops t j ≡ true → stops old.stack j ≡ true) → CalmAfter old new
+calm_by old new is fewer = record {
+  undisturbed = record { flow = ap (λ (w : World). w.flow) is; workers = ap (λ (w : World). w.workers) is; files = ap (λ (w : World). w.files) is };
+  fewer = λ j s. fewer j (subst (λ (w : World). stops w.stack j ≡ true) is s);
+}
+
 pub calm_none : (old new : World) → CalmAfter old new → NoneStops old.stack → NoneStops new.stack
 calm_none old new c calm = none_stops_again new.stack (λ j. not_both (stops new.stack j) (stops old.stack j) (c.fewer j) (none_stops old.stack calm j))
   where
@@ -139,10 +147,7 @@ calm_none old new c calm = none_stops_again new.stack (λ j. not_both (stops new
 pub calm_finished : (old : World) (i : InstanceId) (result : Result (Unit {0}) Status) (new : World) → Finishes old i result new → CalmAfter old new
 unfolding Finishes
 calm_finished old i (Err why) new h = calm_same old new h.1
-calm_finished old i (Ok done) new h = record {
-  undisturbed = record { flow = ap (λ (w : World). w.flow) h.1; workers = ap (λ (w : World). w.workers) h.1; files = ap (λ (w : World). w.files) h.1 };
-  fewer = λ j s. stays_fewer setting.finish_row (λ row t. cc) old.stack.instances i.0 j (subst (λ (w : World). stops w.stack j ≡ true) h.1 s);
-}
+calm_finished old i (Ok done) new h = calm_by old new h.1 (stays_fewer setting.finish_row (λ row t. cc) old.stack.instances i.0)
 
 -- ---- callbacks
 
@@ -155,6 +160,15 @@ module _ (k : WorkerId) where
       → back.workers ≡ old.workers
   is_out old began back a idle enters leaves = leaves ∙ ap (λ ws. put ws k Worker.Idle) enters ∙ set_back old.workers k.0 Worker.Idle a idle
 
+  -- inside, and behind it, nothing changes but instances and contexts
+  pub through : {s t : StackWorld} {c : ContextTable} (old began back : World) (a : Worker) → worker_at old.workers k ≡ Some Worker.Idle
+      → began ≡ record old { stack = s; workers = put old.workers k a } → back ≡ record began { stack = t; workers = put began.workers k Worker.Idle; contexts = c } → Undisturbed old back
+  through old began back a idle enters leaves = record {
+    flow = ap (λ (w : World). w.flow) leaves ∙ ap (λ (w : World). w.flow) enters;
+    workers = is_out old began back a idle (ap (λ (w : World). w.workers) enters) (ap (λ (w : World). w.workers) leaves);
+    files = ap (λ (w : World). w.files) leaves ∙ ap (λ (w : World). w.files) enters;
+  }
+
   -- an instance is attached and set up
   module _ (i : InstanceId) (old : World) (idle : worker_at old.workers k ≡ Some Worker.Idle) where
     set_up : (f : FilterId) (v : VolumeId) (name altitude : List ℕ) (born : World) (accepts : Bool) (ended : Result (Unit {0}) Status) (set : World)
@@ -162,15 +176,10 @@ module _ (k : WorkerId) where
     unfolding Attaches SetsUp setting.Attaches setting.SetsUp
     set_up f v name altitude born accepts ended set attaches sets =
         let event = happened old k i born _ attaches in
-        let enters : born.workers ≡ put old.workers k (Worker.Setup i) = ap (λ (w : World). w.workers) event.1 in
         let at : SetsUpAt born k accepts ended set (Some (Worker.Setup i)) =
-        subst (SetsUpAt born k accepts ended set) (is_in old born (Worker.Setup i) idle enters) sets in
+        subst (SetsUpAt born k accepts ended set) (is_in old born (Worker.Setup i) idle (ap (λ (w : World). w.workers) event.1)) sets in
         record {
-          undisturbed = record {
-            flow = ap (λ (w : World). w.flow) at.4 ∙ ap (λ (w : World). w.flow) event.1;
-            workers = is_out old born set (Worker.Setup i) idle enters (ap (λ (w : World). w.workers) at.4);
-            files = ap (λ (w : World). w.files) at.4 ∙ ap (λ (w : World). w.files) event.1;
-          };
+          undisturbed = through old born set (Worker.Setup i) idle event.1 at.4;
           fewer = λ j s. joined f v name altitude born event.0 j (by_end born accepts ended set at.0 j s);
         }
       where
@@ -215,10 +224,8 @@ ask_unload_refused old k f why new h = refused_same (Unit {0}) old k why new _ h
 -- ---- filters and volumes that are new
 
 only_stack : (old new : World) (t : StackWorld) → new ≡ record old { stack = new.stack } → new.stack ≡ t → t.instances ≡ old.stack.instances → CalmAfter old new
-only_stack old new t e is same = record {
-  undisturbed = record { flow = ap (λ (w : World). w.flow) e; workers = ap (λ (w : World). w.workers) e; files = ap (λ (w : World). w.files) e };
-  fewer = λ j s. subst (λ (rows : List Instance). is_stopping_row (slice_get rows j) ≡ true) (ap (λ (t : StackWorld). t.instances) is ∙ same) s;
-}
+only_stack old new t e is same =
+    calm_by old new e (λ j s. subst (λ (rows : List Instance). is_stopping_row (slice_get rows j) ≡ true) (ap (λ (t : StackWorld). t.instances) is ∙ same) s)
 
 pub registered_calm : (old : World) (name : List ℕ) (registration : Registration) (result : Result FilterId Status) (new : World) → Registers old name registration result new → CalmAfter old new
 unfolding Registers setting.Registers

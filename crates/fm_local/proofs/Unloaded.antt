@@ -15,8 +15,8 @@ use Rattle.fm_world.proofs.Cases.{by_bool}
 use Rattle.fm_local.specs.Calls.{AsksToUnload, is_of_row}
 use Rattle.fm_local.specs.Quietly.{EndsQuietly}
 use Rattle.fm_local.proofs.Leaving.{complete_stack, start_refused, start_stack, starts_leaves, torn_leaves}
-use Rattle.fm_local.proofs.Resting.{CalmAfter, Undisturbed, ask_unload_refused, both, calm_both, calm_same, calm_tidied, happened, is_in, is_out}
-use Rattle.fm_local.proofs.Resting.{rests_on, stops}
+use Rattle.fm_local.proofs.Resting.{CalmAfter, Undisturbed, ask_unload_refused, both, calm_both, calm_same, calm_tidied, happened, is_in, rests_on}
+use Rattle.fm_local.proofs.Resting.{stops, through, calm_by}
 
 -- ---- rows
 
@@ -162,25 +162,13 @@ module _ (f : FilterId) where
 
     emptied_calm : (old : World) (result : Result (Unit {0}) Status) (new : World) → EmptiesFilter old f result new → CalmAfter old new
     unfolding EmptiesFilter filters.EmptiesFilter
-    emptied_calm old (Ok done) new h = record {
-      undisturbed = record { flow = ap (λ (w : World). w.flow) h.2; workers = ap (λ (w : World). w.workers) h.2; files = ap (λ (w : World). w.files) h.2 };
-      fewer = λ j s. subst (λ (t : StackWorld). stops t j ≡ true) h.0.1 s;
-    }
-    emptied_calm old (Err why) new h = record {
-      undisturbed = record { flow = ap (λ (w : World). w.flow) h.2; workers = ap (λ (w : World). w.workers) h.2; files = ap (λ (w : World). w.files) h.2 };
-      fewer = λ j s. subst (λ (t : StackWorld). stops t j ≡ true) h.0.1 s;
-    }
+    emptied_calm old (Ok done) new h = calm_by old new h.2 (λ j s. subst (λ (t : StackWorld). stops t j ≡ true) h.0.1 s)
+    emptied_calm old (Err why) new h = calm_by old new h.2 (λ j s. subst (λ (t : StackWorld). stops t j ≡ true) h.0.1 s)
 
     finished_calm : (old : World) (result : Result (Unit {0}) Status) (new : World) → FinishesFilter old f result new → CalmAfter old new
     unfolding FinishesFilter filters.FinishesFilter
-    finished_calm old (Ok done) new h = record {
-      undisturbed = record { flow = ap (λ (w : World). w.flow) h.1; workers = ap (λ (w : World). w.workers) h.1; files = ap (λ (w : World). w.files) h.1 };
-      fewer = λ j s. subst (λ (t : StackWorld). stops t j ≡ true) h.0.1 s;
-    }
-    finished_calm old (Err why) new h = record {
-      undisturbed = record { flow = ap (λ (w : World). w.flow) h.1; workers = ap (λ (w : World). w.workers) h.1; files = ap (λ (w : World). w.files) h.1 };
-      fewer = λ j s. subst (λ (t : StackWorld). stops t j ≡ true) h.0.1 s;
-    }
+    finished_calm old (Ok done) new h = calm_by old new h.1 (λ j s. subst (λ (t : StackWorld). stops t j ≡ true) h.0.1 s)
+    finished_calm old (Err why) new h = calm_by old new h.1 (λ j s. subst (λ (t : StackWorld). stops t j ≡ true) h.0.1 s)
 
     pub ends_leaves : (old : World) (result : Result (Unit {0}) Status) (new : World) → IsAtRest k old → EndsQuietly k f old result new
         → CalmAfter old new × ((j : ℕ) → owns old j ≡ true → stops new.stack j ≡ false)
@@ -217,11 +205,7 @@ module _ (f : FilterId) where
         unload_at = subst (UnloadReturnsAt asked k allows ended back) (is_in k old asked (Worker.Unload f) idle enters) returns
 
         unloaded : Undisturbed old back
-        unloaded = record {
-          flow = ap (λ (w : World). w.flow) unload_at.1 ∙ ap (λ (w : World). w.flow) asks;
-          workers = is_out k old asked back (Worker.Unload f) idle enters (ap (λ (w : World). w.workers) unload_at.1);
-          files = ap (λ (w : World). w.files) unload_at.1 ∙ ap (λ (w : World). w.files) asks;
-        }
+        unloaded = through k old asked back (Worker.Unload f) idle asks unload_at.1
 
       unloading_stack : (s : StackWorld) (allows : Bool) (t : StackWorld) → filters.UnloadReturns s f allows (Ok tt) t → t ≡ filters.unloading s f
       unfolding filters.UnloadReturns

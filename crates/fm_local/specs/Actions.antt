@@ -14,11 +14,10 @@ use Rattle.fm_world.specs.Events.{Nexts, Begins, Collects, PreReturns, PostRetur
 use Rattle.fm_world.specs.Sound.{IsSound}
 use Rattle.fm_world.specs.Teardowns.{CompleteReturns}
 use Rattle.fm_filter.specs.Plain.{IsPlainFilter}
-use Rattle.fm_filter.specs.Standing.{standing_of}
 use Rattle.fm_local.specs.declared.requests.Turn.{Turn}
 use Rattle.fm_local.specs.Bases.{BasesCarry}
 use Rattle.fm_local.specs.Calls.{AsksToUnload, QueriesWith, SetsUpWith, is_to_go}
-use Rattle.fm_local.specs.Managers.{IsQuietIn, numbered}
+use Rattle.fm_local.specs.Managers.{numbered}
 use Rattle.fm_local.specs.Requests.{under, NoneStops, IsAtRest, AnswersOne, AnswersAll, DoesTidily, Tidies}
 use Rattle.fm_local.specs.Chains.{PreMay, PostMay, filter_in}
 use Rattle.fm_local.specs.Cleanups.{CleansAll}
@@ -157,12 +156,6 @@ OnlyState old new = new ≡ record old { desk = record old.desk { state = new.de
 -- the filter of an instance
 abbrev pub filter_at : {F B : Type 0} → LocalManager F B → InstanceId → Option F
 filter_at m i = filter_in (numbered m.filters) m.desk.state.stack i.0
-
--- what a callback of an instance's filter leaves: a quiet one all, and any one where the instances and the workers stand, and what isn't behind its port
-pub record CallsOnly {F B : Type 0} (is_quiet : F → Type 0) (i : InstanceId) (old new : LocalManager F B) : Type 0 where
-  pub quiet : IsQuietIn is_quiet (filter_at old i) → new.desk ≡ old.desk
-  pub far : standing_of new.desk.state ≡ standing_of old.desk.state
-  pub same : new ≡ record old { desk = new.desk }
 
 -- callbacks ran: the filters, the file systems and what has ended are as before
 abbrev pub CallsBack : {F B : Type 0} → LocalManager F B → LocalManager F B → Type 0

@@ -2,6 +2,7 @@ pub mod Words
 pub mod Actions
 pub mod Bases
 pub mod Calls
+pub mod Callbacks
 pub mod Chains
 pub mod Cleanups
 pub mod Drains

@@ -3,22 +3,24 @@
 ghost use Rattle.std.specs.Prelude.{◌≡◌, None, Ok};
 ghost use Rattle.fm_filter.specs.Standing.{standing_of};
 ghost use Rattle.fm_flow.specs.declared.action.FlowAction.TheVariants as step;
-ghost use Rattle.fm_local.specs.Actions.{ArePlainFilters, CallsBack, CallsOnly, Makes, OnlyState, filter_at};
+ghost use Rattle.fm_local.specs.Actions.{ArePlainFilters, CallsBack, Makes, OnlyState, filter_at};
 ghost use Rattle.fm_local.specs.Bases.{BasesCarry};
-ghost use Rattle.fm_local.specs.Chains.{PreMay, PostMay};
+ghost use Rattle.fm_local.specs.Chains.{PreMay, PostMay, filter_in};
 ghost use Rattle.fm_local.specs.Drains.{WasCalled};
 ghost use Rattle.fm_local.specs.Managers.{numbered, IsQuietIn};
 ghost use Rattle.fm_local.specs.Places.{EndsFrom, IsIn};
 ghost use Rattle.fm_local.specs.Turns.{Does};
 ghost use Rattle.fm_world.specs.EarlyDrains.{DrainReturns};
 ghost use Rattle.fm_world.specs.Events.{PreReturns, PostReturns};
+ghost use Rattle.fm_local.specs.Callbacks.{CallsOnly, consents, was_told};
 ghost use Rattle.fm_local.specs.Calls.{MayAgree, QueriesWith, SetsUpWith, UnloadsWith};
 ghost use Rattle.fm_world.specs.Teardowns.{CompleteReturns, StartReturns};
 ghost use Rattle.fm_world.specs.declared.worker.Worker.TheVariants as place;
 
 use crate::bounded::Bounded;
+use crate::filters::Filters;
 use crate::leak::{Callback, Leak};
-use crate::local_port::LocalPort;
+use crate::local_port::{Desk, LocalPort};
 use crate::manager::{LocalManager, WORKER};
 use crate::trace::{Traced, Visit};
 use fm_base::Base;
@@ -26,6 +28,26 @@ use fm_core::State;
 use fm_data::{CallbackData, Completion, PostVerdict, PreVerdict};
 use fm_filter::Minifilter;
 use fm_types::{CtxId, FilterId, InstanceId, OpId, Status};
+
+/// What a filter is asked, and may decline.
+#[derive(Clone, Copy)]
+enum Consent {
+    /// To have a new instance.
+    Setup,
+    /// To have an instance detached.
+    Query,
+}
+
+/// What a filter is told.
+#[derive(Clone, Copy)]
+enum News {
+    /// The teardown of an instance starts.
+    Start,
+    /// It is complete.
+    Complete,
+    /// The postoperation that it asked for with that completion won't come.
+    Drain(Completion),
+}
 
 /// Which callback returns: what a leak says of it.
 #[derive(Clone, Copy)]
@@ -54,28 +76,11 @@ impl<F: Minifilter, B: Base> LocalManager<F, B> {
         ensures quiet { ArePlainFilters F.pre_may F.post_may F.is_quiet (numbered self.old.filters) → SetsUpWith (MayAgree F.setup_may (filter_at self.old instance)) WORKER self.old.desk.state result self.new.desk.state × (self.new.desk.resumed ≡ self.old.desk.resumed) }
         ensures kept { self.new ≡ record self.old { desk = self.new.desk; hand = self.new.hand; leaks = self.new.leaks } }
     {
-        let accepts = self.ask_setup(instance);
+        let accepts = ask(&self.filters, &mut self.desk, instance, Consent::Setup);
         let before = look_at_hand(&self.desk.state, &mut self.hand);
         let ended = self.desk.state.setup_done(WORKER, accepts);
         self.note_left(before, Returning::of(Callback::Setup, instance));
         ended
-    }
-
-    // Whether the filter of a new instance takes it.
-    fn ask_setup(&mut self, instance: InstanceId) -> bool
-        ensures said { MayAgree F.setup_may (filter_at self.old instance) result }
-        ensures rest { CallsOnly F.is_quiet instance self.old self.new }
-    {
-        match self.filters.of(self.desk.state.filter_of(instance)) {
-            Some(filter) => {
-                let mut port = LocalPort {
-                    desk: &mut self.desk,
-                    worker: WORKER,
-                };
-                filter.setup(&mut port)
-            }
-            None => false,
-        }
     }
 
     /// Calls the preoperation of an instance.
@@ -90,7 +95,7 @@ impl<F: Minifilter, B: Base> LocalManager<F, B> {
         ensures makes { Makes F.pre_may F.post_may F.drained (BasesCarry B.folder B.faults) (numbered self.old.filters) WORKER operation (Ok (step.Pre instance lent)) self.old.desk.state self.old.bases.items self.new.desk.state self.new.bases.items }
         ensures kept { CallsBack self.old self.new }
     {
-        let verdict = self.ask_pre(instance, &mut lent);
+        let verdict = ask_pre(&self.filters, &mut self.desk, instance, &mut lent);
         lent.laws();
         self.note(operation, Visit::Pre(instance, verdict));
         let returning = Returning {
@@ -121,24 +126,6 @@ impl<F: Minifilter, B: Base> LocalManager<F, B> {
         }
     }
 
-    // What the filter of an instance says of the data on its way down.
-    fn ask_pre(&mut self, instance: InstanceId, lent: &mut CallbackData) -> PreVerdict
-        ensures said { PreMay F.pre_may (filter_at self.old instance) lent.old result lent.new }
-        ensures kept { lent.new.received ≡ lent.old.received }
-        ensures rest { CallsOnly F.is_quiet instance self.old self.new }
-    {
-        match self.filters.of(self.desk.state.filter_of(instance)) {
-            Some(filter) => {
-                let mut port = LocalPort {
-                    desk: &mut self.desk,
-                    worker: WORKER,
-                };
-                filter.pre(lent, &mut port)
-            }
-            None => PreVerdict::NoCallback,
-        }
-    }
-
     /// Calls the postoperation of an instance.
     pub(crate) fn post(
         &mut self,
@@ -152,7 +139,13 @@ impl<F: Minifilter, B: Base> LocalManager<F, B> {
         ensures makes { Makes F.pre_may F.post_may F.drained (BasesCarry B.folder B.faults) (numbered self.old.filters) WORKER operation (Ok (step.Post instance lent completion)) self.old.desk.state self.old.bases.items self.new.desk.state self.new.bases.items }
         ensures kept { CallsBack self.old self.new }
     {
-        let verdict = self.ask_post(instance, &mut lent, completion);
+        let verdict = ask_post(
+            &self.filters,
+            &mut self.desk,
+            instance,
+            &mut lent,
+            completion,
+        );
         lent.laws();
         self.note(operation, Visit::Post(instance, verdict));
         let returning = Returning::for_operation(Callback::Post, instance, operation);
@@ -175,29 +168,6 @@ impl<F: Minifilter, B: Base> LocalManager<F, B> {
         match ended {
             Ok(()) => Ok(()),
             Err(refused) => Err(refused.status),
-        }
-    }
-
-    // What the filter of an instance says of the data on its way up.
-    fn ask_post(
-        &mut self,
-        instance: InstanceId,
-        lent: &mut CallbackData,
-        completion: Completion,
-    ) -> PostVerdict
-        ensures said { PostMay F.post_may (filter_at self.old instance) lent.old completion result lent.new }
-        ensures kept { lent.new.received ≡ lent.old.received }
-        ensures rest { CallsOnly F.is_quiet instance self.old self.new }
-    {
-        match self.filters.of(self.desk.state.filter_of(instance)) {
-            Some(filter) => {
-                let mut port = LocalPort {
-                    desk: &mut self.desk,
-                    worker: WORKER,
-                };
-                filter.post(lent, completion, &mut port)
-            }
-            None => PostVerdict::Finished,
         }
     }
 
@@ -244,24 +214,13 @@ impl<F: Minifilter, B: Base> LocalManager<F, B> {
         ensures far { standing_of self.new.desk.state ≡ standing_of self.old.desk.state }
         ensures same { self.new ≡ record self.old { desk = self.new.desk; trace = self.new.trace } }
     {
-        self.tell_drain(instance, completion);
+        tell(
+            &self.filters,
+            &mut self.desk,
+            instance,
+            News::Drain(completion),
+        );
         self.note(operation, Visit::Drain(instance));
-    }
-
-    fn tell_drain(&mut self, instance: InstanceId, completion: Completion)
-        ensures called { WasCalled (λ f. F.drained f completion) (filter_at self.old instance) }
-        ensures rest { CallsOnly F.is_quiet instance self.old self.new }
-    {
-        match self.filters.of(self.desk.state.filter_of(instance)) {
-            Some(filter) => {
-                let mut port = LocalPort {
-                    desk: &mut self.desk,
-                    worker: WORKER,
-                };
-                filter.drain(completion, &mut port);
-            }
-            None => {}
-        }
     }
 
     /// Calls the query callback of an instance. Refused as the end of that callback is.
@@ -270,28 +229,11 @@ impl<F: Minifilter, B: Base> LocalManager<F, B> {
         ensures quiet { ArePlainFilters F.pre_may F.post_may F.is_quiet (numbered self.old.filters) → QueriesWith (MayAgree F.query_may (filter_at self.old instance)) WORKER self.old.desk.state result self.new.desk.state × (self.new.desk.resumed ≡ self.old.desk.resumed) }
         ensures kept { self.new ≡ record self.old { desk = self.new.desk; hand = self.new.hand; leaks = self.new.leaks } }
     {
-        let allows = self.ask_query(instance);
+        let allows = ask(&self.filters, &mut self.desk, instance, Consent::Query);
         let before = look_at_hand(&self.desk.state, &mut self.hand);
         let ended = self.desk.state.query_returned(WORKER, allows);
         self.note_left(before, Returning::of(Callback::Query, instance));
         ended
-    }
-
-    // Whether the filter of an instance lets it be detached.
-    fn ask_query(&mut self, instance: InstanceId) -> bool
-        ensures said { MayAgree F.query_may (filter_at self.old instance) result }
-        ensures rest { CallsOnly F.is_quiet instance self.old self.new }
-    {
-        match self.filters.of(self.desk.state.filter_of(instance)) {
-            Some(filter) => {
-                let mut port = LocalPort {
-                    desk: &mut self.desk,
-                    worker: WORKER,
-                };
-                filter.query_teardown(&mut port)
-            }
-            None => false,
-        }
     }
 
     /// Calls the callback that says that an instance's teardown starts, which the worker has entered.
@@ -301,27 +243,11 @@ impl<F: Minifilter, B: Base> LocalManager<F, B> {
         ensures quiet { ArePlainFilters F.pre_may F.post_may F.is_quiet (numbered self.old.filters) → IsIn WORKER (place.Start instance) self.old.desk.state → StartReturns self.old.desk.state WORKER (Ok tt) self.new.desk.state × (self.new.desk.resumed ≡ self.old.desk.resumed) }
         ensures kept { self.new ≡ record self.old { desk = self.new.desk; hand = self.new.hand; leaks = self.new.leaks } }
     {
-        self.tell_start(instance);
+        tell(&self.filters, &mut self.desk, instance, News::Start);
         let before = look_at_hand(&self.desk.state, &mut self.hand);
         // The worker is in the callback, so that its end isn't refused.
         let _ = self.desk.state.start_returned(WORKER);
         self.note_left(before, Returning::of(Callback::Start, instance));
-    }
-
-    fn tell_start(&mut self, instance: InstanceId)
-        ensures called { WasCalled F.started (filter_at self.old instance) }
-        ensures rest { CallsOnly F.is_quiet instance self.old self.new }
-    {
-        match self.filters.of(self.desk.state.filter_of(instance)) {
-            Some(filter) => {
-                let mut port = LocalPort {
-                    desk: &mut self.desk,
-                    worker: WORKER,
-                };
-                filter.teardown_start(&mut port);
-            }
-            None => {}
-        }
     }
 
     /// Calls the callback that says that an instance's teardown is complete, which the worker has entered.
@@ -331,27 +257,11 @@ impl<F: Minifilter, B: Base> LocalManager<F, B> {
         ensures quiet { ArePlainFilters F.pre_may F.post_may F.is_quiet (numbered self.old.filters) → IsIn WORKER (place.Complete instance) self.old.desk.state → CompleteReturns self.old.desk.state WORKER (Ok tt) self.new.desk.state × (self.new.desk.resumed ≡ self.old.desk.resumed) }
         ensures kept { self.new ≡ record self.old { desk = self.new.desk; hand = self.new.hand; leaks = self.new.leaks } }
     {
-        self.tell_complete(instance);
+        tell(&self.filters, &mut self.desk, instance, News::Complete);
         let before = look_at_hand(&self.desk.state, &mut self.hand);
         // The worker is in the callback, so that its end isn't refused.
         let _ = self.desk.state.complete_returned(WORKER);
         self.note_left(before, Returning::of(Callback::Complete, instance));
-    }
-
-    fn tell_complete(&mut self, instance: InstanceId)
-        ensures called { WasCalled F.completed (filter_at self.old instance) }
-        ensures rest { CallsOnly F.is_quiet instance self.old self.new }
-    {
-        match self.filters.of(self.desk.state.filter_of(instance)) {
-            Some(filter) => {
-                let mut port = LocalPort {
-                    desk: &mut self.desk,
-                    worker: WORKER,
-                };
-                filter.teardown_complete(&mut port);
-            }
-            None => {}
-        }
     }
 
     /// Calls the unload callback of a filter. Refused as the end of that callback is.
@@ -384,6 +294,91 @@ impl<F: Minifilter, B: Base> LocalManager<F, B> {
         ensures { self.new ≡ record self.old { trace = self.new.trace } }
     {
         self.trace.put(Traced { operation, visit });
+    }
+}
+
+// Whether the filter of an instance consents.
+fn ask<F: Minifilter>(
+    filters: &Filters<F>,
+    desk: &mut Desk,
+    instance: InstanceId,
+    consent: Consent,
+) -> bool
+    ensures said { MayAgree (consents F.setup_may F.query_may consent) (filter_in (numbered filters.now) desk.old.state.stack instance.0) result }
+    ensures rest { CallsOnly F.is_quiet (filter_in (numbered filters.now) desk.old.state.stack instance.0) desk.old desk.new }
+{
+    let Some(filter) = filters.of(desk.state.filter_of(instance)) else {
+        return false;
+    };
+    let mut port = LocalPort {
+        desk,
+        worker: WORKER,
+    };
+    match consent {
+        Consent::Setup => filter.setup(&mut port),
+        Consent::Query => filter.query_teardown(&mut port),
+    }
+}
+
+// What the filter of an instance says of the data on its way down.
+fn ask_pre<F: Minifilter>(
+    filters: &Filters<F>,
+    desk: &mut Desk,
+    instance: InstanceId,
+    lent: &mut CallbackData,
+) -> PreVerdict
+    ensures said { PreMay F.pre_may (filter_in (numbered filters.now) desk.old.state.stack instance.0) lent.old result lent.new }
+    ensures kept { lent.new.received ≡ lent.old.received }
+    ensures rest { CallsOnly F.is_quiet (filter_in (numbered filters.now) desk.old.state.stack instance.0) desk.old desk.new }
+{
+    let Some(filter) = filters.of(desk.state.filter_of(instance)) else {
+        return PreVerdict::NoCallback;
+    };
+    let mut port = LocalPort {
+        desk,
+        worker: WORKER,
+    };
+    filter.pre(lent, &mut port)
+}
+
+// What the filter of an instance says of the data on its way up.
+fn ask_post<F: Minifilter>(
+    filters: &Filters<F>,
+    desk: &mut Desk,
+    instance: InstanceId,
+    lent: &mut CallbackData,
+    completion: Completion,
+) -> PostVerdict
+    ensures said { PostMay F.post_may (filter_in (numbered filters.now) desk.old.state.stack instance.0) lent.old completion result lent.new }
+    ensures kept { lent.new.received ≡ lent.old.received }
+    ensures rest { CallsOnly F.is_quiet (filter_in (numbered filters.now) desk.old.state.stack instance.0) desk.old desk.new }
+{
+    let Some(filter) = filters.of(desk.state.filter_of(instance)) else {
+        return PostVerdict::Finished;
+    };
+    let mut port = LocalPort {
+        desk,
+        worker: WORKER,
+    };
+    filter.post(lent, completion, &mut port)
+}
+
+// Tells the filter of an instance.
+fn tell<F: Minifilter>(filters: &Filters<F>, desk: &mut Desk, instance: InstanceId, news: News)
+    ensures called { WasCalled (was_told F.started F.completed F.drained news) (filter_in (numbered filters.now) desk.old.state.stack instance.0) }
+    ensures rest { CallsOnly F.is_quiet (filter_in (numbered filters.now) desk.old.state.stack instance.0) desk.old desk.new }
+{
+    let Some(filter) = filters.of(desk.state.filter_of(instance)) else {
+        return;
+    };
+    let mut port = LocalPort {
+        desk,
+        worker: WORKER,
+    };
+    match news {
+        News::Start => filter.teardown_start(&mut port),
+        News::Complete => filter.teardown_complete(&mut port),
+        News::Drain(completion) => filter.drain(completion, &mut port),
     }
 }
 

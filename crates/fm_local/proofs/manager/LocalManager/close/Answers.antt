@@ -1,5 +1,4 @@
-use Rattle.fm_local.proofs.Words.{Bool, ◌∙◌, refl, subst, sym, FileRequest, Request, WORKER, RESUMPTIONS, TURNS}
-use Rattle.fm_local.specs.Actions.{ClosesThen}
+use Rattle.fm_local.proofs.Words.{◌∙◌, refl, sym, FileRequest, Request, WORKER}
 use Rattle.fm_local.proofs.Refusing.{refuses_cleanup, refuses_close}
 use Rattle.fm_local.proofs.Answering.{ready_after, answers_close, answers_cleanup}
 use Rattle.fm_local.proofs.manager.LocalManager.close.Goals as goal
@@ -36,8 +35,7 @@ returns-then-not-goes_on-clause-requests g c =
       cleaned,
       mid,
       c.perform-cleanup.ensures.requests,
-      subst (λ (b : Bool). ClosesThen g.F.Minifilter.pre_may g.F.Minifilter.post_may g.F.Minifilter.drained g.B.Base.folder g.B.Base.faults WORKER g.F.Minifilter.cleanup_may
-          TURNS RESUMPTIONS b c.args.handle mid cleaned cleaned mid) (sym (sym c.goes_on.ensures ∙ c.if-not-goes_on.true)) (refl, refl),
+      rw (sym c.goes_on.ensures ∙ c.if-not-goes_on.true) (refl, refl),
     )
 
 pub returns-clause-requests : goal.returns-clause-requests
@@ -47,6 +45,5 @@ returns-clause-requests g c =
       cleaned,
       mid,
       c.perform-cleanup.ensures.requests,
-      subst (λ (b : Bool). ClosesThen g.F.Minifilter.pre_may g.F.Minifilter.post_may g.F.Minifilter.drained g.B.Base.folder g.B.Base.faults WORKER g.F.Minifilter.cleanup_may
-          TURNS RESUMPTIONS b c.args.handle mid cleaned c.perform.result c.perform.new.self) (sym (sym c.goes_on.ensures ∙ c.if-not-goes_on.false)) c.perform.ensures.requests,
+      rw (sym c.goes_on.ensures ∙ c.if-not-goes_on.false) c.perform.ensures.requests,
     )

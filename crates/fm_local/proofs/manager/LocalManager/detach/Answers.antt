@@ -1,6 +1,4 @@
-use Rattle.fm_local.proofs.Words.{Bool, Err, ◌∙◌, inl, inr, refl, subst, sym, err_from_is_err_and, AgreesAt, WORKER, RESUMPTIONS, TURNS, DRAINED}
-use Rattle.fm_local.specs.Quietly.{DetachesQuietlyBy}
-use Rattle.fm_local.specs.Actions.{DetachesThenSettles}
+use Rattle.fm_local.proofs.Words.{◌∙◌, inl, inr, refl, sym, err_from_is_err_and, AgreesAt, WORKER}
 use Rattle.fm_local.proofs.Leaving.{agreed_leaving}
 use Rattle.fm_local.proofs.Readied.{asked_rests, detached_leaves, kept_leaves, plain_still, torn_leaves_ready}
 use Rattle.fm_local.proofs.manager.LocalManager.detach.Goals as goal
@@ -14,8 +12,7 @@ pub returns-then-is_leaving-clause-quiet : goal.returns-then-is_leaving-clause-q
 returns-then-is_leaving-clause-quiet g c ready =
     let old = c.args.self.now.desk.state in
     let leaves = sym c.is_leaving.ensures ∙ c.if-is_leaving.true in
-    subst (λ (b : Bool). DetachesQuietlyBy WORKER c.args.instance b (AgreesAt g.F.Minifilter.query_may c.args.self.now.filters) old c.tear_down.result c.tear_down.new.self.desk.state) (sym leaves)
-    (c.tear_down.ensures.goes ready.plain ready.rests ready.settled leaves, (c.tear_down.ensures.quiet ready.plain ready.rests ready.settled).0)
+    rw leaves (c.tear_down.ensures.goes ready.plain ready.rests ready.settled leaves, (c.tear_down.ensures.quiet ready.plain ready.rests ready.settled).0)
 
 pub returns-in_err-ask-clause-ready : goal.returns-in_err-ask-clause-ready
 returns-in_err-ask-clause-ready g c ready =
@@ -32,8 +29,7 @@ returns-clause-quiet g c ready =
     let tears = c.tear_down-2.ensures.quiet plain rests asks.1.settled in
     let leaves = agreed_leaving WORKER c.args.instance old.desk.state ready.rests.idle may c.ask.new.self.desk.state asks.0 in
     let ok = c.tear_down-2.ensures.goes plain rests asks.1.settled leaves in
-    subst (λ (b : Bool). DetachesQuietlyBy WORKER c.args.instance b may old.desk.state c.tear_down-2.result c.tear_down-2.new.self.desk.state)
-    (sym (sym c.is_leaving.ensures ∙ c.if-is_leaving.false)) (inr (c.ask.new.self.desk.state, asks.0, ok, tears.0))
+    rw (sym c.is_leaving.ensures ∙ c.if-is_leaving.false) (inr (c.ask.new.self.desk.state, asks.0, ok, tears.0))
 
 pub returns-clause-ready : goal.returns-clause-ready
 returns-clause-ready g c ready =
@@ -53,25 +49,21 @@ returns-in_err-ask-clause-quiet g c ready =
     let old = c.args.self.now in
     let exit = err_from_is_err_and c.from_residual.result c.from_residual.ensures.1 in
     rw (exit.1, exit.2)
-    (subst (λ (b : Bool). DetachesQuietlyBy WORKER c.args.instance b (AgreesAt g.F.Minifilter.query_may old.filters) old.desk.state (Err c.in_err-ask.field-0.0) c.ask.new.self.desk.state)
-    (sym (sym c.is_leaving.ensures ∙ c.if-is_leaving.false)) (inl (refl, (c.in_err-ask.ensures.quiet ready.plain ready.settled).0)))
+    (rw (sym c.is_leaving.ensures ∙ c.if-is_leaving.false) (inl (refl, (c.in_err-ask.ensures.quiet ready.plain ready.settled).0)))
 
 pub returns-then-is_leaving-clause-settles : goal.returns-then-is_leaving-clause-settles
 returns-then-is_leaving-clause-settles g c =
     let old = c.args.self.now in
-    subst (λ (b : Bool). DetachesThenSettles g.F.Minifilter.pre_may g.F.Minifilter.post_may g.F.Minifilter.drained g.B.Base.folder g.B.Base.faults WORKER g.F.Minifilter.cleanup_may TURNS RESUMPTIONS g.F.Minifilter.started DRAINED g.F.Minifilter.completed b (AgreesAt g.F.Minifilter.query_may old.filters) c.args.instance old c.tear_down.result c.tear_down.new.self)
-    (sym (sym c.is_leaving.ensures ∙ c.if-is_leaving.true)) c.tear_down.ensures.tears
+    rw (sym c.is_leaving.ensures ∙ c.if-is_leaving.true) c.tear_down.ensures.tears
 
 pub returns-in_err-ask-clause-settles : goal.returns-in_err-ask-clause-settles
 returns-in_err-ask-clause-settles g c =
     let old = c.args.self.now in
     let exit = err_from_is_err_and c.from_residual.result c.from_residual.ensures.1 in
     rw (exit.1, exit.2)
-    (subst (λ (b : Bool). DetachesThenSettles g.F.Minifilter.pre_may g.F.Minifilter.post_may g.F.Minifilter.drained g.B.Base.folder g.B.Base.faults WORKER g.F.Minifilter.cleanup_may TURNS RESUMPTIONS g.F.Minifilter.started DRAINED g.F.Minifilter.completed b (AgreesAt g.F.Minifilter.query_may old.filters) c.args.instance old (Err c.in_err-ask.field-0.0) c.ask.new.self)
-    (sym (sym c.is_leaving.ensures ∙ c.if-is_leaving.false)) (inl (refl, c.in_err-ask.ensures.settles)))
+    (rw (sym c.is_leaving.ensures ∙ c.if-is_leaving.false) (inl (refl, c.in_err-ask.ensures.settles)))
 
 pub returns-clause-settles : goal.returns-clause-settles
 returns-clause-settles g c =
     let old = c.args.self.now in
-    subst (λ (b : Bool). DetachesThenSettles g.F.Minifilter.pre_may g.F.Minifilter.post_may g.F.Minifilter.drained g.B.Base.folder g.B.Base.faults WORKER g.F.Minifilter.cleanup_may TURNS RESUMPTIONS g.F.Minifilter.started DRAINED g.F.Minifilter.completed b (AgreesAt g.F.Minifilter.query_may old.filters) c.args.instance old c.tear_down-2.result c.tear_down-2.new.self)
-    (sym (sym c.is_leaving.ensures ∙ c.if-is_leaving.false)) (inr (c.ask.new.self, c.in_ok-ask.ensures.settles, c.tear_down-2.ensures.tears))
+    rw (sym c.is_leaving.ensures ∙ c.if-is_leaving.false) (inr (c.ask.new.self, c.in_ok-ask.ensures.settles, c.tear_down-2.ensures.tears))

@@ -1,5 +1,4 @@
-use Rattle.fm_local.proofs.Words.{Ok, ◌∙◌, ap, inr, refl, subst, sym, WORKER, RESUMPTIONS, TURNS}
-use Rattle.fm_local.specs.Actions.{TellsThenSettles}
+use Rattle.fm_local.proofs.Words.{◌∙◌, ap, inr, refl, sym, WORKER}
 use Rattle.fm_local.proofs.NoneDue.{none_completed}
 use Rattle.fm_local.proofs.GoingOn.{calls_untraced}
 use Rattle.fm_local.proofs.Leaving.{completes}
@@ -33,17 +32,14 @@ returns-in_err-complete_teardown-clause-none_due g c =
 
 pub returns-then-not-is_stopping-clause-tells : goal.returns-then-not-is_stopping-clause-tells
 returns-then-not-is_stopping-clause-tells g c =
-    subst (λ b. TellsThenSettles g.F.Minifilter.pre_may g.F.Minifilter.post_may g.F.Minifilter.drained g.B.Base.folder g.B.Base.faults WORKER g.F.Minifilter.cleanup_may TURNS RESUMPTIONS
-    g.F.Minifilter.completed b c.args.instance c.args.self.now (Ok tt) c.args.self.now) (sym (sym c.is_stopping.ensures ∙ c.if-not-is_stopping.true)) (refl, refl)
+    rw (sym c.is_stopping.ensures ∙ c.if-not-is_stopping.true) (refl, refl)
 
 pub returns-clause-tells : goal.returns-clause-tells
 returns-clause-tells g c =
     let old = c.args.self.now in
     let completing = c.complete_teardown.new.self in
     let event = c.in_ok-complete_teardown.ensures.event in
-    subst (λ b. TellsThenSettles g.F.Minifilter.pre_may g.F.Minifilter.post_may g.F.Minifilter.drained g.B.Base.folder g.B.Base.faults WORKER g.F.Minifilter.cleanup_may TURNS RESUMPTIONS
-    g.F.Minifilter.completed b c.args.instance old (Ok tt) c.settle.new.self) (sym (sym c.is_stopping.ensures ∙ c.if-not-is_stopping.false))
-    (inr (completing, c.complete.new.self, event, c.complete.ensures.called, c.complete.ensures.ends (completing_in WORKER old.desk.state c.args.instance completing event), calls_untraced old c.complete.new.self c.complete.ensures.kept, c.settle.ensures.all, refl))
+    rw (sym c.is_stopping.ensures ∙ c.if-not-is_stopping.false) (inr (completing, c.complete.new.self, event, c.complete.ensures.called, c.complete.ensures.ends (completing_in WORKER old.desk.state c.args.instance completing event), calls_untraced old c.complete.new.self c.complete.ensures.kept, c.settle.ensures.all, refl))
 
 pub returns-in_err-complete_teardown-clause-out : goal.returns-in_err-complete_teardown-clause-out
 returns-in_err-complete_teardown-clause-out g c =

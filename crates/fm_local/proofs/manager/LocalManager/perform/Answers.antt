@@ -1,4 +1,4 @@
-use Rattle.fm_local.proofs.Words.{Err, Ok, inl, inr, subst, sym, Reply, PerformsIn, WORKER}
+use Rattle.fm_local.proofs.Words.{Err, Ok, inl, inr, WORKER}
 use Rattle.fm_local.proofs.Places.{begun_out}
 use Rattle.fm_local.proofs.Refusing.{not_begun, refuses_one}
 use Rattle.fm_local.proofs.NoneDue.{none_begun}
@@ -15,8 +15,7 @@ returns-in-Err-clause-does g c ready =
     let refused =
     performs_refused g.F.Minifilter.pre_may g.F.Minifilter.post_may g.F.Minifilter.is_quiet g.B.Base.folder g.B.Base.faults WORKER c.args.request c.args.self.now ready c.begin.new.self
     c.in-Err.status c.in-Err.ensures.event in
-    subst (λ (said : Reply). PerformsIn g.F.Minifilter.pre_may g.F.Minifilter.post_may g.F.Minifilter.is_quiet g.B.Base.folder g.B.Base.faults WORKER c.args.request c.args.self.now said
-    (record c.args.self.now { desk = record c.args.self.now.desk { state = c.begin.new.self } })) (sym c.refusal.ensures) refused
+    rw c.refusal.ensures refused
 
 pub returns-in-Err-clause-none_due : goal.returns-in-Err-clause-none_due
 returns-in-Err-clause-none_due g c = none_begun WORKER c.args.self.now.desk.state c.args.request c.in-Err.status c.begin.new.self c.in-Err.ensures.event

@@ -1,5 +1,4 @@
-use Rattle.fm_local.proofs.Words.{Bool, Ok, ◌∙◌, refl, subst, sym, TearsDownIf, WORKER, RESUMPTIONS, TURNS, DRAINED}
-use Rattle.fm_local.specs.Actions.{TearsDownWhere}
+use Rattle.fm_local.proofs.Words.{◌∙◌, refl, sym, WORKER}
 use Rattle.fm_local.proofs.Readied.{goes_on_leaving, torn_ok}
 use Rattle.fm_local.proofs.manager.LocalManager.tear_down_if.Goals as goal
 
@@ -11,16 +10,14 @@ returns-then-is_to_go-clause-quiet g c plain rests settled =
     let ok = c.tear_down.ensures.goes plain rests settled (goes_on_leaving c.args.filter old c.args.instance goes) in
     let tears = c.tear_down.ensures.quiet plain rests settled in (
       ok,
-      subst (λ (b : Bool). TearsDownIf WORKER c.args.filter b c.args.instance old new) (sym goes) (torn_ok WORKER c.args.instance old c.tear_down.result new ok tears.0),
+      rw goes (torn_ok WORKER c.args.instance old c.tear_down.result new ok tears.0),
       tears.1,
     )
 
 pub returns-then-is_to_go-clause-tears : goal.returns-then-is_to_go-clause-tears
 returns-then-is_to_go-clause-tears g c =
-    subst (λ (b : Bool). TearsDownWhere g.F.Minifilter.pre_may g.F.Minifilter.post_may g.F.Minifilter.drained g.B.Base.folder g.B.Base.faults WORKER g.F.Minifilter.cleanup_may TURNS RESUMPTIONS g.F.Minifilter.started DRAINED g.F.Minifilter.completed c.args.filter b c.args.instance c.args.self.now c.tear_down.result c.tear_down.new.self)
-    (sym (sym c.is_to_go.ensures ∙ c.if-is_to_go.true)) c.tear_down.ensures.tears
+    rw (sym c.is_to_go.ensures ∙ c.if-is_to_go.true) c.tear_down.ensures.tears
 
 pub returns-clause-tears : goal.returns-clause-tears
 returns-clause-tears g c =
-    subst (λ (b : Bool). TearsDownWhere g.F.Minifilter.pre_may g.F.Minifilter.post_may g.F.Minifilter.drained g.B.Base.folder g.B.Base.faults WORKER g.F.Minifilter.cleanup_may TURNS RESUMPTIONS g.F.Minifilter.started DRAINED g.F.Minifilter.completed c.args.filter b c.args.instance c.args.self.now (Ok tt) c.args.self.now)
-    (sym (sym c.is_to_go.ensures ∙ c.if-is_to_go.false)) (refl, refl)
+    rw (sym c.is_to_go.ensures ∙ c.if-is_to_go.false) (refl, refl)

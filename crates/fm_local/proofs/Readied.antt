@@ -2,16 +2,17 @@
 use Rattle.fm_local.proofs.Words.{[], ◌≡◌, Bool, Completion, Data, Err, FilterId, Folder, InstanceId, List, LocalManager, None, Ok, Option}
 use Rattle.fm_local.proofs.Words.{PostVerdict, PreVerdict, Result, Some, Status, VolumeId, WorkerId, World, option_and_then, slice_get, suc, true}
 use Rattle.fm_local.proofs.Words.{worker_at, zero, ℕ, ◌&&◌, ◌+◌, ◌∙◌, IsOk, ap, arith, inr, option_map, refl, subst, sym, none-some, same_Some}
-use Rattle.fm_local.proofs.Words.{Attaches, IsSound, AsksDetach, Worker, IsPlainFilter, ArePlainFilters, IsReady, is_leaving, is_to_go, numbered}
-use Rattle.fm_local.proofs.Words.{IsSettled, StartsQuietly, TearsDownFirst, TearsDownIf, TearsDownQuietly, IsAtRest, NoneStops, Tidies, Filters}
+use Rattle.fm_local.proofs.Words.{Attaches, AsksDetach, Worker, IsPlainFilter, ArePlainFilters, IsReady, is_leaving, is_to_go, numbered, IsSettled}
+use Rattle.fm_local.proofs.Words.{StartsQuietly, TearsDownFirst, TearsDownIf, TearsDownQuietly, IsAtRest, NoneStops, Tidies, Filters}
 use Rattle.std.specs.Prelude.{replicate}
 use Rattle.fm_world.specs.World.{empty_world}
 use Rattle.fm_local.specs.Calls.{Asks, AsksToUnload, QueryEnds, is_of_row}
 use Rattle.fm_local.specs.Managers.{handed_in}
-use Rattle.fm_local.specs.Quietly.{AsksQuietly, EndsQuietly, LeavesReady, SetUpQuietly, WasTold}
-use Rattle.fm_local.proofs.Leaving.{asked_leaves, declined_leaves, one_goes, starts_leaves, torn_leaves, was_told}
+use Rattle.fm_local.specs.Quietly.{AsksQuietly, EndsQuietly, LeavesReady, SetUpQuietly}
+use Rattle.fm_local.specs.Actions.{OnlyState}
+use Rattle.fm_local.proofs.Leaving.{asked_leaves, declined_leaves, one_goes, starts_leaves, torn_leaves}
 use Rattle.fm_local.proofs.Unloaded.{agreed_leaves, ends_leaves, first_gone, own_go, unload_refused}
-use Rattle.fm_local.proofs.Resting.{CalmAfter, attach_refused, calm_none, calm_same, rests_on, set_up_leaves}
+use Rattle.fm_local.proofs.Resting.{CalmAfter, attach_refused, calm_none, calm_same, rests_on, set_up_leaves, Undisturbed}
 
 pub settled_both : {F B : Type 0} (old mid new : LocalManager F B) → IsSettled old mid → IsSettled mid new → IsSettled old new
 settled_both old mid new a b = record { bases = b.bases ∙ a.bases; filters = b.filters ∙ a.filters; settled = b.settled }
@@ -25,15 +26,57 @@ asks_by may old k i (Ok done) asked asks ends = (asked, asks, ends)
 pub not_ok : (why : Status) → IsOk {T = Unit {0}} {E = Status} (Err why) → ⊥
 not_ok why h = cc
 
-module _ {F B : Type 0} (pre : F → Data → PreVerdict → Data → Type 0) (post : F → Data → Completion → PostVerdict → Data → Type 0) (is_quiet : F → Type 0)
-    (folder : B → Option Folder) (faults : B → ℕ) (k : WorkerId) where
-  abbrev Ready : LocalManager F B → Type 0
-  Ready m = IsReady pre post is_quiet folder faults k m
+-- nothing changed but the state
+pub settled_state : {F B : Type 0} (old new : LocalManager F B) → OnlyState old new → old.desk.resumed.items.items ≡ [] → IsSettled old new
+settled_state old new kept settled = record { bases = ap (λ m. m.bases) kept; filters = ap (λ m. m.filters) kept; settled = ap (λ m. m.desk.resumed.items.items) kept ∙ settled }
 
-  abbrev Leaves : LocalManager F B → LocalManager F B → Type 0
-  Leaves old new = LeavesReady pre post is_quiet folder faults k old new
+-- ---- filters that are plain, where all is at rest
 
-  pub ready_again : (old new : LocalManager F B) → Ready old → IsSettled old new → CalmAfter old.desk.state new.desk.state → Leaves old new
+module _ {F B : Type 0} (pre : F → Data → PreVerdict → Data → Type 0) (post : F → Data → Completion → PostVerdict → Data → Type 0) (is_quiet : F → Type 0) where
+  pub record RestsPlainly (k : WorkerId) (m : LocalManager F B) : Type 0 where
+    pub plain : ArePlainFilters pre post is_quiet (numbered m.filters)
+    pub rests : IsAtRest k m.desk.state
+    pub settled : m.desk.resumed.items.items ≡ []
+
+module _ {F B : Type 0} {pre : F → Data → PreVerdict → Data → Type 0} {post : F → Data → Completion → PostVerdict → Data → Type 0} {is_quiet : F → Type 0} (k : WorkerId)
+    (old mid : LocalManager F B) (plain : ArePlainFilters pre post is_quiet (numbered old.filters)) (rests : IsAtRest k old.desk.state) where
+  still : IsAtRest k mid.desk.state → IsSettled old mid → RestsPlainly pre post is_quiet k mid
+  still again settles = record {
+    plain = subst (λ (fs : Filters F). ArePlainFilters pre post is_quiet (numbered fs)) (sym settles.filters) plain;
+    rests = again;
+    settled = settles.settled;
+  }
+
+  -- behind the start of a teardown
+  pub started_still : (i : InstanceId) → StartsQuietly k i old.desk.state mid.desk.state × IsSettled old mid → RestsPlainly pre post is_quiet k mid
+  started_still i (starts, settles) = still (rests_on k old.desk.state mid.desk.state (starts_leaves k i old.desk.state mid.desk.state rests.idle starts).undisturbed rests) settles
+
+  -- behind the first instances of a filter
+  pub first_still : (f : FilterId) (n : ℕ) → TearsDownFirst k f n old.desk.state mid.desk.state × IsSettled old mid → RestsPlainly pre post is_quiet k mid
+  first_still f n (first, settles) = still (rests_on k old.desk.state mid.desk.state (first_gone f k n old.desk.state mid.desk.state rests first).calm.undisturbed rests) settles
+
+-- ---- the numbers of filters, and workers that are new
+
+all_idle : (n j : ℕ) (a : Worker) → slice_get (replicate n Worker.Idle) j ≡ Some a → a ≡ Worker.Idle
+all_idle zero j a at = absurd (none-some a at)
+all_idle (suc n) zero a at = sym (same_Some Worker.Idle a at)
+all_idle (suc n) (suc j) a at = all_idle n j a at
+
+none_loaded : {F : Type 0} (fs : Filters F) → fs.loaded.items ≡ [] → (n : ℕ) (f : F) → numbered fs n ≡ Some f → ⊥
+none_loaded fs none n f there = none-some f (sym (ap (λ xs. option_and_then (handed_in fs) (slice_get xs n)) none) ∙ there)
+
+-- which number stands for which filter may change, where all that were handed in are plain
+plain_numbered : {F : Type 0} (pre : F → Data → PreVerdict → Data → Type 0) (post : F → Data → Completion → PostVerdict → Data → Type 0) (is_quiet : F → Type 0) (old new : Filters F)
+    → new.all ≡ old.all → ArePlainFilters pre post is_quiet (handed_in old) → ArePlainFilters pre post is_quiet (numbered new)
+plain_numbered {F} pre post is_quiet old new same plain n f there = by_place (slice_get new.loaded.items n) there
+  where
+    by_place : (m : Option ℕ) → option_and_then (handed_in new) m ≡ Some f → IsPlainFilter pre post is_quiet f
+    by_place None there = absurd (none-some f there)
+    by_place (Some place) there = plain place f (sym (ap (λ all. option_map (λ row. row.1) (slice_get all.items place)) same) ∙ there)
+
+module _ {F B : Type 0} {pre : F → Data → PreVerdict → Data → Type 0} {post : F → Data → Completion → PostVerdict → Data → Type 0} {is_quiet : F → Type 0}
+    {folder : B → Option Folder} {faults : B → ℕ} {k : WorkerId} where
+  pub ready_again : (old new : LocalManager F B) → IsReady pre post is_quiet folder faults k old → IsSettled old new → CalmAfter old.desk.state new.desk.state → LeavesReady pre post is_quiet folder faults k old new
   ready_again old new ready settles calm = record {
     settles = settles;
     ready = record {
@@ -46,15 +89,7 @@ module _ {F B : Type 0} (pre : F → Data → PreVerdict → Data → Type 0) (p
 
   -- ---- new, load and mount
 
-  all_idle : (n j : ℕ) (a : Worker) → slice_get (replicate n Worker.Idle) j ≡ Some a → a ≡ Worker.Idle
-  all_idle zero j a at = absurd (none-some a at)
-  all_idle (suc n) zero a at = sym (same_Some Worker.Idle a at)
-  all_idle (suc n) (suc j) a at = all_idle n j a at
-
-  none_loaded : (fs : Filters F) → fs.loaded.items ≡ [] → (n : ℕ) (f : F) → numbered fs n ≡ Some f → ⊥
-  none_loaded fs none n f there = none-some f (sym (ap (λ xs. option_and_then (handed_in fs) (slice_get xs n)) none) ∙ there)
-
-  pub new_ready : (m : LocalManager F B) → worker_at empty_world.workers k ≡ Some Worker.Idle → m.desk.state ≡ empty_world → m.filters.loaded.items ≡ [] → m.desk.resumed.items.items ≡ [] → Ready m
+  pub new_ready : (m : LocalManager F B) → worker_at empty_world.workers k ≡ Some Worker.Idle → m.desk.state ≡ empty_world → m.filters.loaded.items ≡ [] → m.desk.resumed.items.items ≡ [] → IsReady pre post is_quiet folder faults k m
   new_ready m idle empty none settled = record {
     plain = λ n f there. absurd (none_loaded m.filters none n f there);
     rests = subst (IsAtRest k) (sym empty) (record { operations = refl; idle = idle; all = λ j a at. all_idle 48 j a at });
@@ -62,24 +97,16 @@ module _ {F B : Type 0} (pre : F → Data → PreVerdict → Data → Type 0) (p
     settled = settled;
   }
 
-  -- which number stands for which filter may change, where all that were handed in are plain
-  plain_numbered : (old new : Filters F) → new.all ≡ old.all → ArePlainFilters pre post is_quiet (handed_in old) → ArePlainFilters pre post is_quiet (numbered new)
-  plain_numbered old new same plain n f there = by_place (slice_get new.loaded.items n) there
-    where
-      by_place : (m : Option ℕ) → option_and_then (handed_in new) m ≡ Some f → IsPlainFilter pre post is_quiet f
-      by_place None there = absurd (none-some f there)
-      by_place (Some place) there = plain place f (sym (ap (λ all. option_map (λ row. row.1) (slice_get all.items place)) same) ∙ there)
-
-  pub loaded_ready : (old new : LocalManager F B) → Ready old → ArePlainFilters pre post is_quiet (handed_in old.filters) → new.filters.all ≡ old.filters.all → new.desk.resumed ≡ old.desk.resumed
-      → CalmAfter old.desk.state new.desk.state → Ready new
+  pub loaded_ready : (old new : LocalManager F B) → IsReady pre post is_quiet folder faults k old → ArePlainFilters pre post is_quiet (handed_in old.filters) → new.filters.all ≡ old.filters.all → new.desk.resumed ≡ old.desk.resumed
+      → CalmAfter old.desk.state new.desk.state → IsReady pre post is_quiet folder faults k new
   loaded_ready old new ready plain same resumed calm = record {
-    plain = plain_numbered old.filters new.filters same plain;
+    plain = plain_numbered pre post is_quiet old.filters new.filters same plain;
     rests = rests_on k old.desk.state new.desk.state calm.undisturbed ready.rests;
     calm = calm_none old.desk.state new.desk.state calm ready.calm;
     settled = ap (λ q. q.items.items) resumed ∙ ready.settled;
   }
 
-  pub mounted_ready : (old new : LocalManager F B) → Ready old → new.filters ≡ old.filters → new.desk.resumed ≡ old.desk.resumed → CalmAfter old.desk.state new.desk.state → Ready new
+  pub mounted_ready : (old new : LocalManager F B) → IsReady pre post is_quiet folder faults k old → new.filters ≡ old.filters → new.desk.resumed ≡ old.desk.resumed → CalmAfter old.desk.state new.desk.state → IsReady pre post is_quiet folder faults k new
   mounted_ready old new ready same resumed calm = record {
     plain = subst (λ (fs : Filters F). ArePlainFilters pre post is_quiet (numbered fs)) (sym same) ready.plain;
     rests = rests_on k old.desk.state new.desk.state calm.undisturbed ready.rests;
@@ -89,10 +116,10 @@ module _ {F B : Type 0} (pre : F → Data → PreVerdict → Data → Type 0) (p
 
   -- ---- attach
 
-  module _ (old : LocalManager F B) (ready : Ready old) (f : FilterId) (v : VolumeId) (name altitude : List ℕ) where
+  module _ (old : LocalManager F B) (ready : IsReady pre post is_quiet folder faults k old) (f : FilterId) (v : VolumeId) (name altitude : List ℕ) where
     -- it was refused at once
     pub attach_leaves_none : (why : Status) (refused : World) → Attaches old.desk.state k f v name altitude (Err why) refused
-        → Leaves old (record old { desk = record old.desk { state = refused } })
+        → LeavesReady pre post is_quiet folder faults k old (record old { desk = record old.desk { state = refused } })
     attach_leaves_none why refused h =
         ready_again old (record old { desk = record old.desk { state = refused } }) ready (record { bases = refl; filters = refl; settled = ready.settled })
         (calm_same old.desk.state refused (attach_refused old.desk.state k f v name altitude why refused h))
@@ -100,70 +127,58 @@ module _ {F B : Type 0} (pre : F → Data → PreVerdict → Data → Type 0) (p
     -- the new instance was set up, or refused
     pub attach_leaves : (i : InstanceId) (born : World) (may : Bool → Type 0) (ended : Result (Unit {0}) Status) (new : LocalManager F B)
         → Attaches old.desk.state k f v name altitude (Ok i) born
-        → SetUpQuietly k i may born ended new.desk.state × IsSettled (record old { desk = record old.desk { state = born } }) new → Leaves old new
+        → SetUpQuietly k i may born ended new.desk.state × IsSettled (record old { desk = record old.desk { state = born } }) new → LeavesReady pre post is_quiet folder faults k old new
     attach_leaves i born may ended new attaches (sets, settles) =
         ready_again old new ready (record { bases = settles.bases; filters = settles.filters; settled = settles.settled })
         (set_up_leaves k i old.desk.state ready.rests.idle f v name altitude born may ended new.desk.state attaches sets)
 
   -- ---- detach
 
-  -- behind the start of a teardown all is at rest still
-  module _ (i : InstanceId) (old : LocalManager F B) (sound : IsSound old.desk.state) (plain : ArePlainFilters pre post is_quiet (numbered old.filters)) (rests : IsAtRest k old.desk.state)
-      (mid : LocalManager F B) (starts : StartsQuietly k i old.desk.state mid.desk.state) (settles : IsSettled old mid) where
-    pub rests_still : IsAtRest k mid.desk.state
-    rests_still = rests_on k old.desk.state mid.desk.state (starts_leaves k i old.desk.state mid.desk.state rests.idle starts).undisturbed rests
-
-    pub told_still : WasTold i mid.desk.state.stack
-    told_still = was_told k i old.desk.state mid.desk.state sound rests starts
-
-  pub plain_still : (old mid : LocalManager F B) → IsSettled old mid → ArePlainFilters pre post is_quiet (numbered old.filters) → ArePlainFilters pre post is_quiet (numbered mid.filters)
-  plain_still old mid settles plain = subst (λ (fs : Filters F). ArePlainFilters pre post is_quiet (numbered fs)) (sym settles.filters) plain
-
-  module _ (i : InstanceId) (old : LocalManager F B) (ready : Ready old) where
+  module _ (i : InstanceId) (old : LocalManager F B) (ready : IsReady pre post is_quiet folder faults k old) where
     -- its filter, or a refusal before it was asked, keeps it
     pub kept_leaves : (may : World → InstanceId → Bool → Type 0) (why : Status) (new : LocalManager F B)
-        → AsksQuietly k i may old.desk.state (Err why) new.desk.state × IsSettled old new → Leaves old new
+        → AsksQuietly k i may old.desk.state (Err why) new.desk.state × IsSettled old new → LeavesReady pre post is_quiet folder faults k old new
     kept_leaves may why new (asks, settles) = ready_again old new ready settles (declined_leaves k i old.desk.state ready.rests.idle may why new.desk.state asks)
 
     -- its teardown was under way
-    pub torn_leaves_ready : (result : Result (Unit {0}) Status) (new : LocalManager F B) → TearsDownQuietly k i old.desk.state result new.desk.state × IsSettled old new → Leaves old new
+    pub torn_leaves_ready : (result : Result (Unit {0}) Status) (new : LocalManager F B) → TearsDownQuietly k i old.desk.state result new.desk.state × IsSettled old new → LeavesReady pre post is_quiet folder faults k old new
     torn_leaves_ready result new (tears, settles) = ready_again old new ready settles (torn_leaves k i old.desk.state result new.desk.state ready.rests tears).0
 
     -- it was asked, and agreed
     module _ (may : World → InstanceId → Bool → Type 0) (asked : LocalManager F B) (asks : AsksQuietly k i may old.desk.state (Ok tt) asked.desk.state × IsSettled old asked) where
-      pub asked_rests : IsAtRest k asked.desk.state
-      asked_rests = rests_on k old.desk.state asked.desk.state (asked_leaves k i old.desk.state ready.rests.idle may asked.desk.state asks.0).undisturbed ready.rests
+      asked_calm : Undisturbed old.desk.state asked.desk.state
+      asked_calm = (asked_leaves k i old.desk.state ready.rests.idle may asked.desk.state asks.0).undisturbed
 
-      pub detached_leaves : (result : Result (Unit {0}) Status) (new : LocalManager F B) → TearsDownQuietly k i asked.desk.state result new.desk.state × IsSettled asked new → Leaves old new
+      pub asked_still : RestsPlainly pre post is_quiet k asked
+      asked_still = still k old asked ready.plain ready.rests (rests_on k old.desk.state asked.desk.state asked_calm ready.rests) asks.1
+
+      pub detached_leaves : (result : Result (Unit {0}) Status) (new : LocalManager F B) → TearsDownQuietly k i asked.desk.state result new.desk.state × IsSettled asked new → LeavesReady pre post is_quiet folder faults k old new
       detached_leaves result new (tears, settles) =
-          let torn = torn_leaves k i asked.desk.state result new.desk.state asked_rests tears in
+          let torn = torn_leaves k i asked.desk.state result new.desk.state asked_still.rests tears in
           ready_again old new ready (settled_both old asked new asks.1 settles)
           (one_goes k i old.desk.state asked.desk.state new.desk.state (asked_leaves k i old.desk.state ready.rests.idle may asked.desk.state asks.0) torn.0 torn.1)
 
   -- ---- unload
 
-  -- behind the first instances all is at rest still
-  pub rests_first : (f : FilterId) (n : ℕ) (old mid : World) → IsAtRest k old → TearsDownFirst k f n old mid → IsAtRest k mid
-  rests_first f n old mid rests first = rests_on k old mid (first_gone f k n old mid rests first).calm.undisturbed rests
-
-  module _ (f : FilterId) (old : LocalManager F B) (ready : Ready old) where
+  module _ (f : FilterId) (old : LocalManager F B) (ready : IsReady pre post is_quiet folder faults k old) where
     -- its filter, or a refusal before it was asked, keeps it
-    pub loaded_leaves : (may : Bool → Type 0) (why : Status) (new : LocalManager F B) → AsksToUnload may old.desk.state k f (Err why) new.desk.state → IsSettled old new → Leaves old new
+    pub loaded_leaves : (may : Bool → Type 0) (why : Status) (new : LocalManager F B) → AsksToUnload may old.desk.state k f (Err why) new.desk.state → IsSettled old new → LeavesReady pre post is_quiet folder faults k old new
     loaded_leaves may why new asks settles = ready_again old new ready settles (unload_refused f k old.desk.state ready.rests.idle may why new.desk.state asks)
 
     -- its end was under way
-    pub ends_ready : (result : Result (Unit {0}) Status) (new : LocalManager F B) → EndsQuietly k f old.desk.state result new.desk.state × IsSettled old new → Leaves old new
+    pub ends_ready : (result : Result (Unit {0}) Status) (new : LocalManager F B) → EndsQuietly k f old.desk.state result new.desk.state × IsSettled old new → LeavesReady pre post is_quiet folder faults k old new
     ends_ready result new (ends, settles) = ready_again old new ready settles (ends_leaves f k old.desk.state result new.desk.state ready.rests ends).0
 
     -- it was asked, and agreed
     module _ (may : Bool → Type 0) (asked : LocalManager F B) (asks : AsksToUnload may old.desk.state k f (Ok tt) asked.desk.state) (settled : IsSettled old asked) where
-      pub agreed_rests : IsAtRest k asked.desk.state
-      agreed_rests = rests_on k old.desk.state asked.desk.state (agreed_leaves f k old.desk.state ready.rests.idle may asked.desk.state asks).undisturbed ready.rests
+      pub agreed_still : RestsPlainly pre post is_quiet k asked
+      agreed_still = still k old asked ready.plain ready.rests
+          (rests_on k old.desk.state asked.desk.state (agreed_leaves f k old.desk.state ready.rests.idle may asked.desk.state asks).undisturbed ready.rests) settled
 
-      pub unloaded_leaves : (result : Result (Unit {0}) Status) (new : LocalManager F B) → EndsQuietly k f asked.desk.state result new.desk.state × IsSettled asked new → Leaves old new
+      pub unloaded_leaves : (result : Result (Unit {0}) Status) (new : LocalManager F B) → EndsQuietly k f asked.desk.state result new.desk.state × IsSettled asked new → LeavesReady pre post is_quiet folder faults k old new
       unloaded_leaves result new (ends, settles) =
           ready_again old new ready (settled_both old asked new settled settles)
-          (own_go f k old.desk.state ready.rests.idle may asked.desk.state result new.desk.state (agreed_leaves f k old.desk.state ready.rests.idle may asked.desk.state asks) agreed_rests ends)
+          (own_go f k old.desk.state ready.rests.idle may asked.desk.state result new.desk.state (agreed_leaves f k old.desk.state ready.rests.idle may asked.desk.state asks) agreed_still.rests ends)
 
 -- an instance of the filter that is to go is torn down
 pub torn_ok : (k : WorkerId) (i : InstanceId) (old : World) (result : Result (Unit {0}) Status) (new : World) → IsOk result → TearsDownQuietly k i old result new → TearsDownQuietly k i old (Ok tt) new

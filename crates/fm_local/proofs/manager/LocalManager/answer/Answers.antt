@@ -1,5 +1,4 @@
-use Rattle.fm_local.proofs.Words.{◌∙◌, subst, sym, Request, WORKER, RESUMPTIONS, TURNS}
-use Rattle.fm_local.specs.Actions.{AnswersIn, RefusesIn}
+use Rattle.fm_local.proofs.Words.{◌∙◌, sym, WORKER, RESUMPTIONS, TURNS}
 use Rattle.fm_local.proofs.Refusing.{refuses_in}
 use Rattle.fm_local.proofs.Answering.{answers_one}
 use Rattle.fm_local.proofs.GoingOn.{is_close, requests_close, requests_one}
@@ -26,9 +25,8 @@ returns-in-None-clause-requests g c =
 
 pub returns-in-Some-clause-fold : goal.returns-in-Some-clause-fold
 returns-in-Some-clause-fold g c ready =
-    subst (λ (what : Request). AnswersIn g.F.Minifilter.pre_may g.F.Minifilter.post_may g.F.Minifilter.is_quiet g.B.Base.folder g.B.Base.faults WORKER what c.args.self.now c.close.result c.close.new.self)
-    (is_close c.args.request c.in-Some.handle (sym c.closed_handle.ensures ∙ c.in-Some.is)) (c.close.ensures.fold ready)
+    rw (← is_close c.args.request c.in-Some.handle (sym c.closed_handle.ensures ∙ c.in-Some.is)) (c.close.ensures.fold ready)
 
 pub returns-in-Some-clause-refused : goal.returns-in-Some-clause-refused
 returns-in-Some-clause-refused g c =
-    subst (λ (what : Request). RefusesIn what c.args.self.now c.close.result c.close.new.self) (is_close c.args.request c.in-Some.handle (sym c.closed_handle.ensures ∙ c.in-Some.is)) c.close.ensures.refused
+    rw (← is_close c.args.request c.in-Some.handle (sym c.closed_handle.ensures ∙ c.in-Some.is)) c.close.ensures.refused

@@ -7,14 +7,14 @@ use Rattle.fm_local.proofs.manager.LocalManager.attach.Goals as goal
 
 pub returns-in_err-instance-clause-ready : goal.returns-in_err-instance-clause-ready
 returns-in_err-instance-clause-ready g c ready =
-    attach_leaves_none g.F.Minifilter.pre_may g.F.Minifilter.post_may g.F.Minifilter.is_quiet g.B.Base.folder g.B.Base.faults WORKER c.args.self.now ready c.args.filter c.args.volume
+    attach_leaves_none c.args.self.now ready c.args.filter c.args.volume
     c.args.name c.args.altitude c.in_err-instance.field-0.0 c.attach.new.self c.in_err-instance.ensures.event
 
 pub returns-in-Ok-clause-ready : goal.returns-in-Ok-clause-ready
 returns-in-Ok-clause-ready g c ready =
     let i = c.in_ok-instance.instance in
     let born = c.attach.new.self in
-    attach_leaves g.F.Minifilter.pre_may g.F.Minifilter.post_may g.F.Minifilter.is_quiet g.B.Base.folder g.B.Base.faults WORKER c.args.self.now ready c.args.filter c.args.volume
+    attach_leaves c.args.self.now ready c.args.filter c.args.volume
     c.args.name c.args.altitude i born (AgreesAt g.F.Minifilter.setup_may c.args.self.now.filters born i) (Ok tt) c.set_up.new.self c.in_ok-instance.ensures.event
     (c.in-Ok.ensures.quiet ready.plain ready.settled)
 
@@ -22,7 +22,7 @@ pub returns-in-Err-clause-ready : goal.returns-in-Err-clause-ready
 returns-in-Err-clause-ready g c ready =
     let i = c.in_ok-instance.instance in
     let born = c.attach.new.self in
-    attach_leaves g.F.Minifilter.pre_may g.F.Minifilter.post_may g.F.Minifilter.is_quiet g.B.Base.folder g.B.Base.faults WORKER c.args.self.now ready c.args.filter c.args.volume
+    attach_leaves c.args.self.now ready c.args.filter c.args.volume
     c.args.name c.args.altitude i born (AgreesAt g.F.Minifilter.setup_may c.args.self.now.filters born i) (Err c.in-Err.status) c.set_up.new.self c.in_ok-instance.ensures.event
     (c.in-Err.ensures.quiet ready.plain ready.settled)
 

@@ -1,5 +1,4 @@
-use Rattle.fm_local.proofs.Words.{◌∙◌, ap, inl, inr, subst, numbered, WORKER, DRAINED}
-use Rattle.fm_local.specs.Drains.{StartsAndDrains}
+use Rattle.fm_local.proofs.Words.{◌∙◌, ap, inl, inr, WORKER}
 use Rattle.fm_local.proofs.NoneDue.{none_same}
 use Rattle.fm_local.proofs.Readied.{settled_after}
 use Rattle.fm_local.proofs.manager.LocalManager.begin_teardown.Goals as goal
@@ -7,17 +6,13 @@ use Rattle.fm_local.proofs.manager.LocalManager.begin_teardown.Goals as goal
 pub returns-then-start_and_drain-clause-drains : goal.returns-then-start_and_drain-clause-drains
 returns-then-start_and_drain-clause-drains g c =
     let told = c.start_and_drain.new.self in
-    let drains =
-    subst (λ b. StartsAndDrains g.F.Minifilter.drained (numbered c.args.self.now.filters) WORKER c.args.instance g.F.Minifilter.started DRAINED b c.args.self.now.desk.state told.desk.state)
-    c.if-start_and_drain.true c.start_and_drain.ensures.drains in
+    let drains = rw c.if-start_and_drain.true at c.start_and_drain.ensures.drains in
     inr (told, drains, c.start_and_drain.ensures.kept, c.settle.ensures.all)
 
 pub returns-else-start_and_drain-clause-drains : goal.returns-else-start_and_drain-clause-drains
 returns-else-start_and_drain-clause-drains g c =
     let not = c.if-start_and_drain.false in
-    let refused =
-    subst (λ b. StartsAndDrains g.F.Minifilter.drained (numbered c.args.self.now.filters) WORKER c.args.instance g.F.Minifilter.started DRAINED b c.args.self.now.desk.state c.start_and_drain.new.self.desk.state)
-    not c.start_and_drain.ensures.drains in
+    let refused = rw not at c.start_and_drain.ensures.drains in
     inl (refused.0, refused.1, c.start_and_drain.ensures.none not)
 
 pub returns-then-start_and_drain-clause-quiet : goal.returns-then-start_and_drain-clause-quiet
@@ -31,9 +26,7 @@ pub returns-else-start_and_drain-clause-quiet : goal.returns-else-start_and_drai
 returns-else-start_and_drain-clause-quiet g c plain rests settled =
     let not = c.if-start_and_drain.false in
     let same = c.start_and_drain.ensures.none not in
-    let refused =
-    subst (λ b. StartsAndDrains g.F.Minifilter.drained (numbered c.args.self.now.filters) WORKER c.args.instance g.F.Minifilter.started DRAINED b c.args.self.now.desk.state c.start_and_drain.new.self.desk.state)
-    not c.start_and_drain.ensures.drains in
+    let refused = rw not at c.start_and_drain.ensures.drains in
     (inl refused, record { bases = ap (λ m. m.bases) same; filters = ap (λ m. m.filters) same; settled = ap (λ m. m.desk.resumed.items.items) same ∙ settled })
 
 pub returns-then-start_and_drain-clause-none_due : goal.returns-then-start_and_drain-clause-none_due

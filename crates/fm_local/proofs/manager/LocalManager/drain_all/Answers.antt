@@ -1,5 +1,4 @@
-use Rattle.fm_local.proofs.Words.{◌∙◌, ap, subst, sym, true≢false, numbered, WORKER, DRAINED}
-use Rattle.fm_local.specs.Drains.{DrainsSome}
+use Rattle.fm_local.proofs.Words.{◌∙◌, ap, sym, true≢false, numbered, WORKER, DRAINED}
 use Rattle.fm_local.proofs.Drained.{drains_end, drains_more, drains_most}
 use Rattle.fm_local.proofs.GoingOn.{calls_both}
 use Rattle.fm_local.proofs.manager.LocalManager.drain_all.Goals as goal
@@ -13,8 +12,7 @@ loop-made-preserved g c =
           let still = ap (λ m. m.desk.state.flow.operations) (c.loop-made.invariant.0 none) ∙ none in
           absurd (true≢false (sym told ∙ (c.drain_first.ensures.none still).0)),
       drains_more g.F.Minifilter.drained (numbered c.args.self.now.filters) WORKER c.args.instance c.loop-made._made old.desk.state now.desk.state c.drain_first.new.self.desk.state c.loop-made.invariant.1 c.drain_first.result told
-          (subst (λ fs. DrainsSome g.F.Minifilter.drained (numbered fs) WORKER c.args.instance c.drain_first.result now.desk.state c.drain_first.new.self.desk.state)
-          (ap (λ m. m.filters) c.loop-made.invariant.2) c.drain_first.ensures.drains),
+          (rw (ap (λ m. m.filters) c.loop-made.invariant.2) at c.drain_first.ensures.drains),
       calls_both old now c.drain_first.new.self c.loop-made.invariant.2 c.drain_first.ensures.kept,
       λ out. c.drain_first.ensures.out (c.loop-made.invariant.3 out),
     )
@@ -23,8 +21,7 @@ pub returns-then-not-drain_first-clause-drains : goal.returns-then-not-drain_fir
 returns-then-not-drain_first-clause-drains g c =
     drains_end g.F.Minifilter.drained (numbered c.args.self.now.filters) WORKER c.args.instance DRAINED c.loop-made._made c.args.self.now.desk.state c.loop-made.self.desk.state c.drain_first.new.self.desk.state c.loop-made.invariant.1 c.drain_first.result
     c.if-not-drain_first.true
-    (subst (λ fs. DrainsSome g.F.Minifilter.drained (numbered fs) WORKER c.args.instance c.drain_first.result c.loop-made.self.desk.state c.drain_first.new.self.desk.state)
-    (ap (λ m. m.filters) c.loop-made.invariant.2) c.drain_first.ensures.drains)
+    (rw (ap (λ m. m.filters) c.loop-made.invariant.2) at c.drain_first.ensures.drains)
 
 pub returns-clause-drains : goal.returns-clause-drains
 returns-clause-drains g c =

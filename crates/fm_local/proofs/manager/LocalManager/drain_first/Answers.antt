@@ -1,4 +1,4 @@
-use Rattle.fm_local.proofs.Words.{Completion, Err, Ok, OpId, Option, World, ◌∙◌, ap, refl, subst, sym, none-some, TakesDrain, numbered, WORKER}
+use Rattle.fm_local.proofs.Words.{Err, Ok, World, ◌∙◌, ap, refl, sym, none-some, numbered, WORKER}
 use Rattle.fm_local.proofs.Places.{drained_out, draining_in, same_out}
 use Rattle.fm_local.proofs.Drained.{drains_none, drains_one, drains_refused}
 use Rattle.fm_local.proofs.Leaving.{drain_same, drained_none}
@@ -40,7 +40,7 @@ returns-in-Err-clause-none g c none =
 
 pub returns-in-Ok-Some-clause-out : goal.returns-in-Ok-Some-clause-out
 returns-in-Ok-Some-clause-out g c out =
-    let taken = subst (λ (m : Option (OpId × Completion)). TakesDrain c.args.self.now.desk.state WORKER c.args.instance (Ok m) c.drain_take.new.self) c.in-Ok-Some.field-0-is c.in-Ok-Some.ensures.event in
+    let taken = rw c.in-Ok-Some.field-0-is at c.in-Ok-Some.ensures.event in
     drained_out WORKER c.drain_take.new.self c.drain_early.new.self.desk.state c.drain_early.result c.in-Ok-Some.operation c.args.instance
     (draining_in WORKER c.args.self.now.desk.state c.args.instance c.drain_take.new.self c.in-Ok-Some.operation c.in-Ok-Some.completion taken) c.drain_early.ensures.ends
 

@@ -8,14 +8,14 @@ use Rattle.fm_local.proofs.manager.LocalManager.load.Goals as goal
 pub returns-in_err-reserve-clause-ready : goal.returns-in_err-reserve-clause-ready
 returns-in_err-reserve-clause-ready g c plain ready =
     let old = c.args.self.now in
-    loaded_ready g.F.Minifilter.pre_may g.F.Minifilter.post_may g.F.Minifilter.is_quiet g.B.Base.folder g.B.Base.faults WORKER old (record old { filters = c.reserve.new.self }) ready plain
+    loaded_ready old (record old { filters = c.reserve.new.self }) ready plain
     c.in_err-reserve.ensures.same.0 refl (calm_same old.desk.state old.desk.state refl)
 
 pub returns-in_err-number-clause-ready : goal.returns-in_err-number-clause-ready
 returns-in_err-number-clause-ready g c plain ready =
     let old = c.args.self.now in
     let state = c.register.new.self in
-    loaded_ready g.F.Minifilter.pre_may g.F.Minifilter.post_may g.F.Minifilter.is_quiet g.B.Base.folder g.B.Base.faults WORKER old
+    loaded_ready old
     (record old { filters = c.reserve.new.self; desk = record old.desk { state = state } }) ready plain c.in_ok-reserve.ensures.same.0 refl
     (registered_calm old.desk.state c.args.name.now c.registration-registration.result (Err c.in_err-number.field-0.0) state c.in_err-number.ensures.event)
 
@@ -23,7 +23,7 @@ pub returns-clause-ready : goal.returns-clause-ready
 returns-clause-ready g c plain ready =
     let old = c.args.self.now in
     let state = c.register.new.self in
-    loaded_ready g.F.Minifilter.pre_may g.F.Minifilter.post_may g.F.Minifilter.is_quiet g.B.Base.folder g.B.Base.faults WORKER old
+    loaded_ready old
     (record old { filters = c.note.new.self; desk = record old.desk { state = state } }) ready plain (c.note.ensures.all ∙ c.in_ok-reserve.ensures.same.0) refl
     (registered_calm old.desk.state c.args.name.now c.registration-registration.result (Ok c.in_ok-number.number) state c.in_ok-number.ensures.event)
 

@@ -9,7 +9,7 @@ pub returns-in_err-volume-clause-ready : goal.returns-in_err-volume-clause-ready
 returns-in_err-volume-clause-ready g c ready =
     let old = c.args.self.now in
     let state = c.mount.new.self in
-    mounted_ready g.F.Minifilter.pre_may g.F.Minifilter.post_may g.F.Minifilter.is_quiet g.B.Base.folder g.B.Base.faults WORKER old
+    mounted_ready old
     (record old { bases = c.reserve.new.self; desk = record old.desk { state = state } }) ready refl refl
     (mounted_calm old.desk.state c.args.name (Err c.in_err-volume.field-0.0) state c.in_err-volume.ensures.event)
 
@@ -17,7 +17,7 @@ pub returns-clause-ready : goal.returns-clause-ready
 returns-clause-ready g c ready =
     let old = c.args.self.now in
     let state = c.mount.new.self in
-    mounted_ready g.F.Minifilter.pre_may g.F.Minifilter.post_may g.F.Minifilter.is_quiet g.B.Base.folder g.B.Base.faults WORKER old
+    mounted_ready old
     (record old { bases = c.push_reserved.new.self; desk = record old.desk { state = state } }) ready refl refl
     (mounted_calm old.desk.state c.args.name (Ok c.in_ok-volume.volume) state c.in_ok-volume.ensures.event)
 

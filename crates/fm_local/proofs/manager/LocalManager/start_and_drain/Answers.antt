@@ -1,5 +1,4 @@
-use Rattle.fm_local.proofs.Words.{Ok, World, ◌∙◌, ap, refl, subst, sym, StartReturns, numbered, WORKER, DRAINED}
-use Rattle.fm_local.specs.Drains.{DrainsAll}
+use Rattle.fm_local.proofs.Words.{World, ◌∙◌, ap, refl, WORKER}
 use Rattle.fm_local.proofs.GoingOn.{calls_both, calls_untraced}
 use Rattle.fm_local.proofs.Leaving.{start_flow, start_refused}
 use Rattle.fm_local.proofs.Places.{same_out, start_out, started_in}
@@ -10,8 +9,7 @@ returns-in-Ok-clause-drains g c =
     let started = c.start_teardown.new.self in
     let here = c.start.new.self in
     let there = started_in WORKER c.args.self.now.desk.state c.args.instance started c.in-Ok.ensures.event in
-    let drains =
-    subst (λ fs. DrainsAll g.F.Minifilter.drained (numbered fs) WORKER c.args.instance DRAINED here.desk.state c.drain_all.new.self.desk.state) (ap (λ m. m.filters) c.start.ensures.kept) c.drain_all.ensures.drains in
+    let drains = rw (ap (λ m. m.filters) c.start.ensures.kept) at c.drain_all.ensures.drains in
     (started, here.desk.state, c.in-Ok.ensures.event, c.start.ensures.called, c.start.ensures.ends there, drains)
 
 pub returns-in-Err-clause-drains : goal.returns-in-Err-clause-drains
@@ -30,7 +28,7 @@ returns-in-Ok-clause-quiet g c plain rests is =
     record {
       started = started;
       starts = event;
-      returns = subst (λ (w : World). StartReturns started WORKER (Ok tt) w) (sym (ap (λ m. m.desk.state) same)) quiet.0;
+      returns = rw (ap (λ m. m.desk.state) same) quiet.0;
       bases = ap (λ m. m.bases) same ∙ ap (λ m. m.bases) kept;
       filters = ap (λ m. m.filters) same ∙ ap (λ m. m.filters) kept;
       resumed = ap (λ m. m.desk.resumed) same ∙ quiet.1;

@@ -1,5 +1,5 @@
 use Rattle.fm_local.proofs.Words.{err_from_is_err_and, WORKER, RESUMPTIONS, TURNS, DRAINED}
-use Rattle.fm_local.proofs.Readied.{not_ok, plain_still, rests_first, settled_both, torn_first}
+use Rattle.fm_local.proofs.Readied.{not_ok, settled_both, torn_first, first_still}
 use Rattle.fm_local.proofs.TornDown.{tears_more}
 use Rattle.fm_local.proofs.manager.LocalManager.tear_down_all.Goals as goal
 
@@ -8,9 +8,8 @@ returns-in_err-tear_down_if-clause-quiet g c plain rests settled =
     let old = c.args.self.now in
     let now = c.loop-at.self in
     let first = c.loop-at.invariant.0 plain rests settled in
-    let calm = rests_first g.F.Minifilter.pre_may g.F.Minifilter.post_may g.F.Minifilter.is_quiet g.B.Base.folder g.B.Base.faults WORKER c.args.filter c.loop-at.at old.desk.state now.desk.state rests first.0 in
-    let still = plain_still g.F.Minifilter.pre_may g.F.Minifilter.post_may g.F.Minifilter.is_quiet g.B.Base.folder g.B.Base.faults WORKER old now first.1 plain in
-    absurd (not_ok c.in_err-tear_down_if.field-0.0 (c.in_err-tear_down_if.ensures.quiet still calm first.1.settled).0)
+    let still = first_still WORKER old now plain rests c.args.filter c.loop-at.at first in
+    absurd (not_ok c.in_err-tear_down_if.field-0.0 (c.in_err-tear_down_if.ensures.quiet still.plain still.rests still.settled).0)
 
 pub loop-at-preserved : goal.loop-at-preserved
 loop-at-preserved g c = (
@@ -19,9 +18,8 @@ loop-at-preserved g c = (
       let now = c.loop-at.self in
       let new = c.tear_down_if.new.self in
       let first = c.loop-at.invariant.0 plain rests settled in
-      let calm = rests_first g.F.Minifilter.pre_may g.F.Minifilter.post_may g.F.Minifilter.is_quiet g.B.Base.folder g.B.Base.faults WORKER c.args.filter c.loop-at.at old.desk.state now.desk.state rests first.0 in
-      let still = plain_still g.F.Minifilter.pre_may g.F.Minifilter.post_may g.F.Minifilter.is_quiet g.B.Base.folder g.B.Base.faults WORKER old now first.1 plain in
-      let step = c.in_ok-tear_down_if.ensures.quiet still calm first.1.settled in
+      let still = first_still WORKER old now plain rests c.args.filter c.loop-at.at first in
+      let step = c.in_ok-tear_down_if.ensures.quiet still.plain still.rests still.settled in
       (torn_first WORKER c.args.filter c.loop-at.at old.desk.state now.desk.state new.desk.state first.0 step.1, settled_both old now new first.1 step.2),
   λ before. c.in_ok-tear_down_if.ensures.none_due (c.loop-at.invariant.1 before),
   λ out. c.in_ok-tear_down_if.ensures.out (c.loop-at.invariant.2 out),

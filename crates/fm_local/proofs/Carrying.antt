@@ -117,6 +117,12 @@ module _ {F D : Type 0} (pre_may : F → Data → PreVerdict → Data → Type 0
     pub longer : length next.entries ≡ suc (length r.entries)
     pub less : Leaves (chain x) (Meets r) r next (under d old) (under e new)
 
+  -- so it is where the turn only moved it
+  still_going : (next : FlowRecord) (mid new : World) → new ≡ mid → Alone o next mid.flow → worker_at mid.workers k ≡ Some Worker.Idle → next.collected ≡ false → is_between next.stage ≡ true
+      → IsOn x next → ArePlain (length next.kept) (owed next.entries) → IsGoing k o x next new
+  still_going next mid new same alone idle uncollected between on asks =
+      subst (IsGoing k o x next) (sym same) (record { alone = alone; idle = idle; uncollected = uncollected; between = between; on = on; asks = asks })
+
   -- verdicts of filters that are there are plain
   pre_plain : (i : ℕ) (lent : Data) (given : PreVerdict) (back : Data) → PreMay pre_may (filter_in filters s i) lent given back → IsPlainPre given
   pre_plain i lent given back may = by_row (slice_get s.instances i) may
@@ -250,14 +256,7 @@ module _ {F D : Type 0} (pre_may : F → Data → PreVerdict → Data → Type 0
           ap₂ (λ dev fs. record { device = dev; files = fs }) (sym end_is) (sym (ap (λ (w : World). w.files) same ∙ files)) in
           record {
             next = next;
-            going = record {
-              alone = subst (λ (w : World). Alone o next w.flow) (sym same) alone;
-              idle = subst (λ (w : World). worker_at w.workers k ≡ Some Worker.Idle) (sym same) idle;
-              uncollected = going.uncollected;
-              between = refl;
-              on = record { kind = going.on.kind; all = λ h. going.on.all st };
-              asks = less.plain;
-            };
+            going = still_going next mid new same alone idle going.uncollected refl (record { kind = going.on.kind; all = λ h. going.on.all st }) less.plain;
             stays = ap (λ (w : World). w.stack) same ∙ stack ∙ sym at_stack;
             same = (refl, refl);
             longer = one_more r.entries (pre_entry k i bare_ask r);
@@ -302,14 +301,7 @@ module _ {F D : Type 0} (pre_may : F → Data → PreVerdict → Data → Type 0
             let less = left_known (chain (subject_of r)) (Meets r) r p has (under d old) st going.asks lies (under e new) why may in
             record {
               next = next;
-              going = record {
-                alone = subst (λ (w : World). Alone o next w.flow) (sym same) alone;
-                idle = subst (λ (w : World). worker_at w.workers k ≡ Some Worker.Idle) (sym same) idle;
-                uncollected = going.uncollected;
-                between = refl;
-                on = record { kind = going.on.kind; all = λ h. cc };
-                asks = less.plain;
-              };
+              going = still_going next mid new same alone idle going.uncollected refl (record { kind = going.on.kind; all = λ h. cc }) less.plain;
               stays = ap (λ (w : World). w.stack) same ∙ stack ∙ sym at_stack;
               same = (refl, refl);
               longer = one_more r.entries (Entry.Base why 0);

@@ -2,15 +2,15 @@
 use Rattle.fm_local.proofs.Words.{[], ◌≡◌, Bool, Completion, Data, Err, FilterId, Folder, InstanceId, List, LocalManager, None, Ok, Option}
 use Rattle.fm_local.proofs.Words.{PostVerdict, PreVerdict, Result, Some, Status, VolumeId, WorkerId, World, option_and_then, slice_get, suc, true}
 use Rattle.fm_local.proofs.Words.{worker_at, zero, ℕ, ◌&&◌, ◌+◌, ◌∙◌, IsOk, ap, arith, inr, option_map, refl, subst, sym, none-some, same_Some}
-use Rattle.fm_local.proofs.Words.{Attaches, AsksDetach, Worker, IsPlainFilter, ArePlainFilters, IsReady, is_leaving, is_to_go, numbered, IsSettled}
-use Rattle.fm_local.proofs.Words.{StartsQuietly, TearsDownFirst, TearsDownIf, TearsDownQuietly, IsAtRest, NoneStops, Tidies, Filters}
+use Rattle.fm_local.proofs.Words.{Attaches, IsSound, AsksDetach, Worker, IsPlainFilter, ArePlainFilters, IsReady, is_leaving, is_to_go, numbered}
+use Rattle.fm_local.proofs.Words.{IsSettled, StartsQuietly, TearsDownFirst, TearsDownIf, TearsDownQuietly, IsAtRest, NoneStops, Tidies, Filters}
 use Rattle.std.specs.Prelude.{replicate}
 use Rattle.fm_world.specs.World.{empty_world}
 use Rattle.fm_local.specs.Calls.{Asks, AsksToUnload, QueryEnds, is_of_row}
 use Rattle.fm_local.specs.Managers.{handed_in}
-use Rattle.fm_local.specs.Quietly.{AsksQuietly, EndsQuietly, LeavesReady, SetUpQuietly}
+use Rattle.fm_local.specs.Quietly.{AsksQuietly, EndsQuietly, LeavesReady, SetUpQuietly, WasTold}
 use Rattle.fm_local.specs.Actions.{OnlyState}
-use Rattle.fm_local.proofs.Leaving.{asked_leaves, declined_leaves, one_goes, starts_leaves, torn_leaves}
+use Rattle.fm_local.proofs.Leaving.{asked_leaves, declined_leaves, one_goes, starts_leaves, torn_leaves, was_told}
 use Rattle.fm_local.proofs.Unloaded.{agreed_leaves, ends_leaves, first_gone, own_go, unload_refused}
 use Rattle.fm_local.proofs.Resting.{CalmAfter, attach_refused, calm_none, calm_same, rests_on, set_up_leaves, Undisturbed}
 
@@ -47,9 +47,12 @@ module _ {F B : Type 0} {pre : F → Data → PreVerdict → Data → Type 0} {p
     settled = settles.settled;
   }
 
-  -- behind the start of a teardown
-  pub started_still : (i : InstanceId) → StartsQuietly k i old.desk.state mid.desk.state × IsSettled old mid → RestsPlainly pre post is_quiet k mid
-  started_still i (starts, settles) = still (rests_on k old.desk.state mid.desk.state (starts_leaves k i old.desk.state mid.desk.state rests.idle starts).undisturbed rests) settles
+  -- behind the start of a teardown, of which the filter was told
+  pub started_still : (i : InstanceId) → IsSound old.desk.state → StartsQuietly k i old.desk.state mid.desk.state × IsSettled old mid → RestsPlainly pre post is_quiet k mid × WasTold i mid.desk.state.stack
+  started_still i sound (starts, settles) = (
+    still (rests_on k old.desk.state mid.desk.state (starts_leaves k i old.desk.state mid.desk.state rests.idle starts).undisturbed rests) settles,
+    was_told k i old.desk.state mid.desk.state sound rests starts,
+  )
 
   -- behind the first instances of a filter
   pub first_still : (f : FilterId) (n : ℕ) → TearsDownFirst k f n old.desk.state mid.desk.state × IsSettled old mid → RestsPlainly pre post is_quiet k mid

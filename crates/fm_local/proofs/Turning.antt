@@ -218,28 +218,15 @@ pub record PutBack (place : ℕ) (r s : FlowRecord) (p : Params) : Type 0 where
   pub collected : s.collected ≡ r.collected
 
 pub put_back : (place : ℕ) (r : FlowRecord) (p : Params) (m : Option Params) → slice_get r.kept place ≡ m → r.params ≡ Some p → PutBack place r (unwound_to place r m) p
-put_back place r p None at has = record {
-  params = has ∙ ap (λ (m : Option Params). Some (unwrap_or m p)) (sym at);
-  kept = sym (none_taken r.kept place at);
-  entries = refl;
-  operation = refl;
-  answer = refl;
-  path = refl;
-  volume = refl;
-  born = refl;
-  collected = refl;
-}
-put_back place r p (Some q) at has = record {
-  params = ap (λ (m : Option Params). Some (unwrap_or m p)) (sym at);
-  kept = refl;
-  entries = refl;
-  operation = refl;
-  answer = refl;
-  path = refl;
-  volume = refl;
-  born = refl;
-  collected = refl;
-}
+put_back place r p m at has = by_kept m at
+  where
+    with_both : (q : Option Params) (kept : List Params) → q ≡ Some (sees r.kept place p) → kept ≡ take place r.kept → PutBack place r (record r { params = q; kept = kept }) p
+    with_both q kept is were =
+        record { params = is; kept = were; entries = refl; operation = refl; answer = refl; path = refl; volume = refl; born = refl; collected = refl }
+
+    by_kept : (m : Option Params) → slice_get r.kept place ≡ m → PutBack place r (unwound_to place r m) p
+    by_kept None at = with_both r.params r.kept (has ∙ ap (λ (m : Option Params). Some (unwrap_or m p)) (sym at)) (sym (none_taken r.kept place at))
+    by_kept (Some q) at = with_both (Some q) (take place r.kept) (ap (λ (m : Option Params). Some (unwrap_or m p)) (sym at)) refl
 
 -- the answer that stands meanwhile doesn't matter to the answer after it
 returned_same : (operation : Operation) (answer : Answer) (back : Data) → returned_answer operation (left_answer operation answer) back ≡ returned_answer operation answer back

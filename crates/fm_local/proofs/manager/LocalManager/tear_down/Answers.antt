@@ -3,26 +3,21 @@ use Rattle.fm_local.proofs.Places.{finished_out, still_out}
 use Rattle.fm_local.proofs.NoneDue.{none_finished}
 use Rattle.fm_local.proofs.Emptied.{ends_well}
 use Rattle.fm_local.proofs.Readied.{not_ok, started_still}
-use Rattle.fm_local.proofs.Leaving.{was_told}
 use Rattle.fm_local.proofs.manager.LocalManager.tear_down.Goals as goal
 
 pub returns-in_err-end_teardown-clause-quiet : goal.returns-in_err-end_teardown-clause-quiet
 returns-in_err-end_teardown-clause-quiet g c plain rests settled =
-    let old = c.args.self.now in
-    let mid = c.begin_teardown.new.self in
     let first = c.begin_teardown.ensures.quiet plain rests settled in
-    let still = started_still WORKER old mid plain rests c.args.instance first in
-    let told = was_told WORKER c.args.instance old.desk.state mid.desk.state c.laws.ensures rests first.0 in
-    absurd (not_ok c.in_err-end_teardown.field-0.0 (c.in_err-end_teardown.ensures.quiet still.plain still.rests still.settled told).0)
+    let still = started_still WORKER c.args.self.now c.begin_teardown.new.self plain rests c.args.instance c.laws.ensures first in
+    absurd (not_ok c.in_err-end_teardown.field-0.0 (c.in_err-end_teardown.ensures.quiet still.0.plain still.0.rests still.0.settled still.1).0)
 
 pub returns-clause-quiet : goal.returns-clause-quiet
 returns-clause-quiet g c plain rests settled =
     let old = c.args.self.now in
     let mid = c.begin_teardown.new.self in
     let first = c.begin_teardown.ensures.quiet plain rests settled in
-    let still = started_still WORKER old mid plain rests c.args.instance first in
-    let told = was_told WORKER c.args.instance old.desk.state mid.desk.state c.laws.ensures rests first.0 in
-    let then = c.in_ok-end_teardown.ensures.quiet still.plain still.rests still.settled told in
+    let still = started_still WORKER old mid plain rests c.args.instance c.laws.ensures first in
+    let then = c.in_ok-end_teardown.ensures.quiet still.0.plain still.0.rests still.0.settled still.1 in
     let kept = c.clean_up.ensures.kept in (
       (mid.desk.state, c.end_teardown.new.self.desk.state, c.clean_up.new.self.desk.state, first.0, then.1, c.clean_up.ensures.tidies, c.finish.ensures.event),
       record {
@@ -34,21 +29,17 @@ returns-clause-quiet g c plain rests settled =
 
 pub returns-in_err-end_teardown-clause-goes : goal.returns-in_err-end_teardown-clause-goes
 returns-in_err-end_teardown-clause-goes g c plain rests settled leaves =
-    let old = c.args.self.now in
-    let mid = c.begin_teardown.new.self in
     let first = c.begin_teardown.ensures.quiet plain rests settled in
-    let still = started_still WORKER old mid plain rests c.args.instance first in
-    let told = was_told WORKER c.args.instance old.desk.state mid.desk.state c.laws.ensures rests first.0 in
-    absurd (not_ok c.in_err-end_teardown.field-0.0 (c.in_err-end_teardown.ensures.quiet still.plain still.rests still.settled told).0)
+    let still = started_still WORKER c.args.self.now c.begin_teardown.new.self plain rests c.args.instance c.laws.ensures first in
+    absurd (not_ok c.in_err-end_teardown.field-0.0 (c.in_err-end_teardown.ensures.quiet still.0.plain still.0.rests still.0.settled still.1).0)
 
 pub returns-clause-goes : goal.returns-clause-goes
 returns-clause-goes g c plain rests settled leaves =
     let old = c.args.self.now in
     let mid = c.begin_teardown.new.self in
     let first = c.begin_teardown.ensures.quiet plain rests settled in
-    let still = started_still WORKER old mid plain rests c.args.instance first in
-    let told = was_told WORKER c.args.instance old.desk.state mid.desk.state c.laws.ensures rests first.0 in
-    let then = c.in_ok-end_teardown.ensures.quiet still.plain still.rests still.settled told in
+    let still = started_still WORKER old mid plain rests c.args.instance c.laws.ensures first in
+    let then = c.in_ok-end_teardown.ensures.quiet still.0.plain still.0.rests still.0.settled still.1 in
     ends_well WORKER c.args.instance old.desk.state mid.desk.state c.end_teardown.new.self.desk.state c.clean_up.new.self.desk.state c.laws.ensures rests first.0 then.1 c.clean_up.ensures.tidies
     leaves c.laws-2.ensures c.clean_up.ensures.none c.finish.result c.finish.new.self c.finish.ensures.event c.finish.ensures.waiting
 

@@ -4,13 +4,14 @@ ghost use Rattle.std.specs.Prelude.{◌≡◌};
 ghost use Rattle.fm_samples.specs.Common.{plain_completion};
 
 use fm_ctx::SetMode;
-use fm_data::Completion;
+use fm_data::{Completion, PreVerdict};
 use fm_filter::Port;
-use fm_types::{Bytes, ContextKind, CtxId};
+use fm_flow::Hold;
+use fm_types::{Bytes, ContextKind, CtxId, OpId, Status};
 use fm_world::SetAnswer;
 
 /// How many operations a callback resumes at most: as many as there may be at once.
-pub(crate) const MOST_HELD: usize = 256;
+const MOST_HELD: usize = 256;
 
 /// A completion that says nothing: its number is 0, and no context travels along.
 pub(crate) fn plain_completion() -> Completion
@@ -46,5 +47,30 @@ pub(crate) fn set_unless_there<P: Port>(
             let _ = port.release(context);
             None
         }
+    }
+}
+
+/// Lets every operation go on that the instance holds in that callback.
+pub(crate) fn resume_all<P: Port>(port: &mut P, held: Hold)
+    ensures far { P.kept port.new ≡ P.kept port.old }
+    ensures same { P.name port.new ≡ P.name port.old }
+{
+    for _ in 0..MOST_HELD {
+        let Ok(Some(operation)) = port.first_held(held) else {
+            return;
+        };
+        if resume(port, held, operation).is_err() {
+            return;
+        }
+    }
+}
+
+fn resume<P: Port>(port: &mut P, held: Hold, operation: OpId) -> Result<(), Status>
+    ensures far { P.kept port.new ≡ P.kept port.old }
+    ensures same { P.name port.new ≡ P.name port.old }
+{
+    match held {
+        Hold::Pre => port.resume_pre(operation, PreVerdict::NoCallback),
+        Hold::Post => port.resume_post(operation),
     }
 }

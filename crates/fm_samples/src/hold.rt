@@ -1,8 +1,6 @@
 //! A filter that holds reads until a flush.
 
-ghost use Rattle.std.specs.Prelude.{◌≡◌};
-
-use crate::common::MOST_HELD;
+use crate::common::resume_all;
 use fm_data::{CallbackData, Completion, Params, PostVerdict, PreVerdict};
 use fm_filter::{Agreeable, Port};
 use fm_flow::Hold as Held;
@@ -12,21 +10,6 @@ use fm_types::{ContextKind, ContextMask, OpMask, Registration};
 /// filter does that has to wait for a verdict of its own).
 #[derive(Clone, Copy, Debug)]
 pub struct Hold;
-
-// Lets every read go on that the instance holds.
-fn resume_all<P: Port>(port: &mut P)
-    ensures far { P.kept port.new ≡ P.kept port.old }
-    ensures same { P.name port.new ≡ P.name port.old }
-{
-    for _ in 0..MOST_HELD {
-        let Ok(Some(operation)) = port.first_held(Held::Pre) else {
-            return;
-        };
-        if port.resume_pre(operation, PreVerdict::NoCallback).is_err() {
-            return;
-        }
-    }
-}
 
 impl Agreeable for Hold {
     ghost use Rattle.fm_samples.specs.Hold.{hold_registers, HoldsPre};
@@ -56,7 +39,7 @@ impl Agreeable for Hold {
         match lent.params() {
             Params::Read { .. } => PreVerdict::Pending,
             Params::Flush => {
-                resume_all(port);
+                resume_all(port, Held::Pre);
                 PreVerdict::NoCallback
             }
             _ => PreVerdict::NoCallback,
@@ -73,7 +56,7 @@ impl Agreeable for Hold {
     }
 
     fn teardown_start<P: Port>(&self, port: &mut P) {
-        resume_all(port);
+        resume_all(port, Held::Pre);
     }
 
     fn cleanup(&self, _kind: ContextKind, _body: &[u8]) -> u64 {

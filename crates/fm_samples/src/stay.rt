@@ -1,8 +1,6 @@
 //! A filter that holds the answers of reads until a flush.
 
-ghost use Rattle.std.specs.Prelude.{◌≡◌};
-
-use crate::common::{MOST_HELD, plain_completion};
+use crate::common::{plain_completion, resume_all};
 use fm_data::{CallbackData, Completion, Params, PostVerdict, PreVerdict};
 use fm_filter::{Agreeable, Port};
 use fm_flow::Hold as Held;
@@ -12,21 +10,6 @@ use fm_types::{ContextKind, ContextMask, OpMask, Registration};
 /// has no query routine, so that its instances can't be detached by hand.
 #[derive(Clone, Copy, Debug)]
 pub struct Stay;
-
-// Lets every answer go on that the instance holds.
-fn resume_all<P: Port>(port: &mut P)
-    ensures far { P.kept port.new ≡ P.kept port.old }
-    ensures same { P.name port.new ≡ P.name port.old }
-{
-    for _ in 0..MOST_HELD {
-        let Ok(Some(operation)) = port.first_held(Held::Post) else {
-            return;
-        };
-        if port.resume_post(operation).is_err() {
-            return;
-        }
-    }
-}
 
 impl Agreeable for Stay {
     ghost use Rattle.fm_samples.specs.Stay.{stay_registers, StaysPre, StaysPost};
@@ -56,7 +39,7 @@ impl Agreeable for Stay {
         match lent.params() {
             Params::Read { .. } => PreVerdict::WithCallback(plain_completion()),
             Params::Flush => {
-                resume_all(port);
+                resume_all(port, Held::Post);
                 PreVerdict::NoCallback
             }
             _ => PreVerdict::NoCallback,
@@ -73,7 +56,7 @@ impl Agreeable for Stay {
     }
 
     fn teardown_start<P: Port>(&self, port: &mut P) {
-        resume_all(port);
+        resume_all(port, Held::Post);
     }
 
     fn cleanup(&self, _kind: ContextKind, _body: &[u8]) -> u64 {

@@ -1,5 +1,5 @@
 use Rattle.std.proofs.Common.{◌≡◌}
-use Rattle.fm_samples.proofs.hold.resume_all.Given as goal
+use Rattle.fm_samples.proofs.common.resume_all.Given as goal
 
 -- no resumption swaps the port for another one
 abbrev pub invariant-loop : goal.invariant-loop

@@ -1,8 +1,8 @@
 -- What a manager answers is what the fold says, and it is ready again.
 use Rattle.fm_local.proofs.Words.{[], ◌≡◌, Answer, Completion, Data, Folder, List, LocalManager, None, Option, PostVerdict, PreVerdict, Some, Status}
 use Rattle.fm_local.proofs.Words.{WorkerId, World, false, true, ℕ, ◌∙◌, ap, refl, subst, sym, FileRequest, Reply, Request, IsSound, HandleId}
-use Rattle.fm_local.proofs.Words.{ArePlainFilters, IsReady, PerformsIn, closed_handle, replied, BasesCarry, numbered, NoneStops, Filters}
-use Rattle.fm_local.specs.Actions.{AnswersIn, goes_on, is_over}
+use Rattle.fm_local.proofs.Words.{ArePlainFilters, IsReady, closed_handle, replied, BasesCarry, numbered, NoneStops, Filters}
+use Rattle.fm_local.specs.Actions.{AnswersIn, goes_on, is_over, PerformsIn}
 use Rattle.fm_local.specs.Requests.{DoesTidily, DoesClose, DoesOne}
 use Rattle.fm_local.proofs.AllPerformed.{RestsOver, one_tidily, one_done}
 

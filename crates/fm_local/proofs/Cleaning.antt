@@ -1,11 +1,12 @@
 -- What is due is cleaned up, and nothing is due then.
 use Rattle.fm_local.proofs.Words.{[], ◌∷◌, ◌≡◌, Bool, Err, List, None, Ok, Option, Result, Some, Status, WorkerId, World, false, length}
 use Rattle.fm_local.proofs.Words.{option_and_then, slice_get, suc, true, worker_at, ℕ, ◌<◌, ◌∙◌, ap, arith, drop, is_some, option_map, refl, subst}
-use Rattle.fm_local.proofs.Words.{sym, none-some, context_at, TakesDue, Unless, IsSound, ContextKind, CtxId, Due, is_idle, Worker, HasNoneDue}
+use Rattle.fm_local.proofs.Words.{sym, none-some, context_at, Unless, IsSound, ContextKind, CtxId, is_idle, Worker, HasNoneDue}
+use Rattle.fm_world.specs.Words.{Due}
 use Rattle.fm_ctx.proofs.Lives.{due_there}
 use Rattle.fm_ctx.specs.Cleanup.{due_of, due_reply}
 use Rattle.fm_world.proofs.Cases.{some_of}
-use Rattle.fm_world.specs.ContextEvents.{Cleans, CleansAt}
+use Rattle.fm_world.specs.ContextEvents.{Cleans, CleansAt, TakesDue}
 use Rattle.fm_local.specs.Cleanups.{CleansAll, CleansSome, MayReturn, cleaner_of}
 use Rattle.fm_local.proofs.Events.{placed}
 use Rattle.fm_local.proofs.Tidying.{took}

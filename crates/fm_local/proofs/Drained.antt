@@ -1,7 +1,7 @@
 -- What is owed to a stopping instance is let go of, one operation after the other.
 use Rattle.fm_local.proofs.Words.{◌≡◌, ◌≤◌, Bool, Completion, Err, InstanceId, None, Ok, OpId, Option, Result, Some, Status, WorkerId, World, false}
-use Rattle.fm_local.proofs.Words.{suc, true, ℕ, ◌+◌, arith, inl, inr, subst, sym, DrainsWhere, is_stopping_at, DrainReturns, TakesDrain, row_at}
-use Rattle.fm_local.proofs.Words.{filter_in}
+use Rattle.fm_local.proofs.Words.{suc, true, ℕ, ◌+◌, arith, inl, inr, subst, sym, DrainsWhere, is_stopping_at, TakesDrain, row_at, filter_in}
+use Rattle.fm_world.specs.EarlyDrains.{DrainReturns}
 use Rattle.fm_local.specs.Drains.{DrainsAll, DrainsMany, DrainsSome, OwesNone, WasCalled}
 use Rattle.fm_local.specs.Places.{EndsFrom}
 use Rattle.fm_local.proofs.Resting.{happened, refused_same}

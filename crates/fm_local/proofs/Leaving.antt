@@ -3,9 +3,9 @@ use Rattle.fm_local.proofs.Words.{[], ◌∷◌, ◌≡◌, ◌≤◌, ◌⊎◌
 use Rattle.fm_local.proofs.Words.{StackWorld, Status, WorkerId, World, false, slice_get, suc, true, worker_at, zero, ℕ, ◌&&◌, ◌||◌, ◌∙◌, ap, arith}
 use Rattle.fm_local.proofs.Words.{count_by, find, inl, inr, nat_lt, not, option_map, refl, subst, sym, true≢false, unwrap_or, none-some, StartMark}
 use Rattle.fm_local.proofs.Words.{is_number, DrainsWhere, is_stopping_at, TakesDrain, Unless, is_stopping_phase, is_stopping_row, row_at, IsSound}
-use Rattle.fm_local.proofs.Words.{AsksDetach, CompleteReturns, CompletesTeardown, QueryReturns, StartReturns, StartsTeardown, FlowTable, Phase}
-use Rattle.fm_local.proofs.Words.{operation_at, told, updated, is_idle, put, Worker, is_leaving, is_leaving_phase, CompletesQuietly, StartsQuietly}
-use Rattle.fm_local.proofs.Words.{TearsDownQuietly, IsAtRest, Tidies}
+use Rattle.fm_local.proofs.Words.{AsksDetach, CompleteReturns, CompletesTeardown, StartReturns, StartsTeardown, FlowTable, Phase, operation_at, told}
+use Rattle.fm_local.proofs.Words.{updated, is_idle, put, Worker, is_leaving, is_leaving_phase, CompletesQuietly, StartsQuietly, TearsDownQuietly}
+use Rattle.fm_local.proofs.Words.{IsAtRest, Tidies}
 use Rattle.fm_types.specs.Refusals.{first_of}
 use Rattle.fm_stack.specs.Detaching as stack
 use Rattle.fm_stack.specs.Instances.{is_completing, is_detached, is_gone_at, is_setup, is_stopping, passes}
@@ -13,7 +13,7 @@ use Rattle.fm_flow.specs.Table.{in_flight, total}
 use Rattle.fm_flow.specs.Counts.{flight}
 use Rattle.fm_flow.specs.Drains.{owed_to}
 use Rattle.fm_world.specs.Sound.{IsStaffed, is_made, least_at}
-use Rattle.fm_world.specs.Teardowns.{QueryReturnsAt, StartReturnsAt, CompleteReturnsAt}
+use Rattle.fm_world.specs.Teardowns.{QueryReturnsAt, StartReturnsAt, CompleteReturnsAt, QueryReturns}
 use Rattle.fm_world.specs.Words.{one}
 use Rattle.fm_world.specs.Workers.{Desk, AtSetup, AtStart, AtComplete, after_entering, is_at, is_queried, is_in_query}
 use Rattle.fm_local.specs.Quietly.{AsksQuietly, WasTold}

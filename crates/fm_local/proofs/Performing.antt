@@ -1,10 +1,10 @@
 -- A request that a manager carries to its reply, by what its functions promise.
 use Rattle.fm_local.proofs.Words.{[], ◌≡◌, Answer, BaseCall, Completion, Data, Err, Folder, List, LocalManager, Ok, OpId, Option, PostVerdict}
 use Rattle.fm_local.proofs.Words.{PreVerdict, Result, Status, WorkerId, World, bare_answer, ℕ, ◌∙◌, ap, cond, refl, subst, sym, Reply, Request}
-use Rattle.fm_local.proofs.Words.{step_keeps, Begins, Collects, IsSound, Step, StepReply, ArePlainFilters, IsBegun, IsReady, PerformsIn, replied}
-use Rattle.fm_local.proofs.Words.{BasesCarry, subject_of, numbered, Tidies, Carries, Turn}
+use Rattle.fm_local.proofs.Words.{step_keeps, Begins, Collects, IsSound, Step, StepReply, ArePlainFilters, IsBegun, IsReady, replied, BasesCarry}
+use Rattle.fm_local.proofs.Words.{subject_of, numbered, Tidies, Carries, Turn}
 use Rattle.fm_flow.specs.Table.{collect_reply}
-use Rattle.fm_local.specs.Actions.{CarriesIn, ResumesNone, RunsIn, reply_of}
+use Rattle.fm_local.specs.Actions.{CarriesIn, ResumesNone, RunsIn, reply_of, PerformsIn}
 use Rattle.fm_local.proofs.Alone.{told_alone}
 use Rattle.fm_local.proofs.Carried.{carried}
 use Rattle.fm_local.proofs.Begun.{start, first, going}

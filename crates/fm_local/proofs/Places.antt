@@ -4,15 +4,14 @@ use Rattle.fm_local.proofs.Words.{Instance, InstanceId, List, None, Ok, OpId, Op
 use Rattle.fm_local.proofs.Words.{Status, VolumeId, WorkerId, World, false, length, slice_get, true, worker_at, ℕ, ◌==◌, ◌∙◌, IsOk, ap, find, inl}
 use Rattle.fm_local.proofs.Words.{inr, map, option_map, refl, subst, sym, unwrap_or, cases_Bool, none-some, Registration, data_fits, call_fits, fit}
 use Rattle.fm_local.proofs.Words.{params_of, Request, base_fits, post_returned_of, is_number, idle_by, Finishes, DrainsWhere, is_stopping_at}
-use Rattle.fm_local.proofs.Words.{DrainReturns, TakesDrain, BaseReturnsAt, PostReturnsAt, PreReturnsAt, PreReturnsOver, ReturnsFrom, Unless}
-use Rattle.fm_local.proofs.Words.{after_begin, base_returned, begun_at, begun_on, state_at, Attaches, BaseReturns, Begins, Collects, Mounts}
-use Rattle.fm_local.proofs.Words.{PostReturns, PreReturns, Registers, SetsUp, handle_at, stream_at, LosesLinks, row_at, UnloadReturnsAt, AsksDetach}
-use Rattle.fm_local.proofs.Words.{AsksUnload, CompleteReturns, CompletesTeardown, EmptiesFilter, FinishesFilter, QueryReturns, StartReturns}
-use Rattle.fm_local.proofs.Words.{StartsTeardown, UnloadReturns, told, is_idle, put, FileHandle, FileStream, Worker, ArePlainFilters, filter_in}
-use Rattle.fm_local.proofs.Words.{filter_in_row, StaysOut}
-use Rattle.fm_world.specs.EarlyDrains.{DrainReturnsAt}
-use Rattle.fm_world.specs.Events.{SetsUpAt, pre_step}
-use Rattle.fm_world.specs.Teardowns.{CompleteReturnsAt, QueryReturnsAt, StartReturnsAt}
+use Rattle.fm_local.proofs.Words.{TakesDrain, BaseReturnsAt, PostReturnsAt, PreReturnsAt, PreReturnsOver, ReturnsFrom, Unless, after_begin}
+use Rattle.fm_local.proofs.Words.{base_returned, begun_at, begun_on, state_at, Attaches, BaseReturns, Begins, Collects, Mounts, PostReturns}
+use Rattle.fm_local.proofs.Words.{PreReturns, Registers, handle_at, stream_at, LosesLinks, row_at, UnloadReturnsAt, AsksDetach, AsksUnload}
+use Rattle.fm_local.proofs.Words.{CompleteReturns, CompletesTeardown, EmptiesFilter, FinishesFilter, StartReturns, StartsTeardown, UnloadReturns}
+use Rattle.fm_local.proofs.Words.{told, is_idle, put, FileHandle, FileStream, Worker, ArePlainFilters, filter_in, filter_in_row, StaysOut}
+use Rattle.fm_world.specs.EarlyDrains.{DrainReturnsAt, DrainReturns}
+use Rattle.fm_world.specs.Events.{SetsUpAt, pre_step, SetsUp}
+use Rattle.fm_world.specs.Teardowns.{CompleteReturnsAt, QueryReturnsAt, StartReturnsAt, QueryReturns}
 use Rattle.fm_filter.specs.Standing.{Shape, shape_of, standing_of}
 use Rattle.fm_local.specs.Actions.{Makes}
 use Rattle.fm_local.specs.Managers.{IsQuietIn}

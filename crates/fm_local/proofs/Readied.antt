@@ -3,12 +3,12 @@ use Rattle.fm_local.proofs.Words.{[], ◌≡◌, Bool, Completion, Data, Err, Fi
 use Rattle.fm_local.proofs.Words.{PostVerdict, PreVerdict, Result, Some, Status, VolumeId, WorkerId, World, option_and_then, slice_get, suc, true}
 use Rattle.fm_local.proofs.Words.{worker_at, zero, ℕ, ◌&&◌, ◌+◌, ◌∙◌, IsOk, ap, arith, inr, option_map, refl, subst, sym, none-some, same_Some}
 use Rattle.fm_local.proofs.Words.{Attaches, IsSound, AsksDetach, Worker, IsPlainFilter, ArePlainFilters, IsReady, is_leaving, is_to_go, numbered}
-use Rattle.fm_local.proofs.Words.{IsSettled, StartsQuietly, TearsDownFirst, TearsDownIf, TearsDownQuietly, IsAtRest, NoneStops, Tidies, Filters}
+use Rattle.fm_local.proofs.Words.{StartsQuietly, TearsDownFirst, TearsDownQuietly, IsAtRest, NoneStops, Tidies, Filters}
 use Rattle.std.specs.Prelude.{replicate}
 use Rattle.fm_world.specs.World.{empty_world}
 use Rattle.fm_local.specs.Calls.{Asks, AsksToUnload, QueryEnds, is_of_row}
 use Rattle.fm_local.specs.Managers.{handed_in}
-use Rattle.fm_local.specs.Quietly.{AsksQuietly, EndsQuietly, LeavesReady, SetUpQuietly, WasTold}
+use Rattle.fm_local.specs.Quietly.{AsksQuietly, EndsQuietly, LeavesReady, SetUpQuietly, WasTold, IsSettled, TearsDownIf}
 use Rattle.fm_local.specs.Actions.{OnlyState}
 use Rattle.fm_local.proofs.Leaving.{asked_leaves, declined_leaves, one_goes, starts_leaves, torn_leaves, was_told}
 use Rattle.fm_local.proofs.Unloaded.{agreed_leaves, ends_leaves, first_gone, own_go, unload_refused}

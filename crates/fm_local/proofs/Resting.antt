@@ -2,12 +2,12 @@
 use Rattle.fm_local.proofs.Words.{[], ◌∷◌, ◌≡◌, ◌⊎◌, Bool, Err, FilterId, Instance, InstanceId, List, Ok, Result, Some, StackWorld, Status, VolumeId}
 use Rattle.fm_local.proofs.Words.{WorkerId, World, false, slice_get, suc, true, worker_at, zero, ℕ, ◌++◌, ◌||◌, ◌∙◌, ap, ap₂, arith, count_by, inl}
 use Rattle.fm_local.proofs.Words.{inr, refl, subst, sym, list_any, Registration, Finishes, Unless, is_stopping_phase, is_stopping_row, Attaches}
-use Rattle.fm_local.proofs.Words.{Mounts, Registers, SetsUp, AsksDetach, AsksUnload, CompletesTeardown, updated, is_idle, put, Worker, IsAtRest}
-use Rattle.fm_local.proofs.Words.{NoneStops, Tidies}
+use Rattle.fm_local.proofs.Words.{Mounts, Registers, AsksDetach, AsksUnload, CompletesTeardown, updated, is_idle, put, Worker, IsAtRest, NoneStops}
+use Rattle.fm_local.proofs.Words.{Tidies}
 use Rattle.fm_stack.specs.Detaching as stack
 use Rattle.fm_stack.specs.Events as setting
 use Rattle.fm_world.proofs.Cases.{by_option, none_any}
-use Rattle.fm_world.specs.Events.{SetsUpAt}
+use Rattle.fm_world.specs.Events.{SetsUpAt, SetsUp}
 use Rattle.fm_local.specs.Quietly.{SetUpQuietly}
 use Rattle.fm_ctx.specs.Table.{ContextTable}
 use Rattle.fm_local.proofs.Events.{placed}

@@ -1,12 +1,13 @@
 -- Cleanups leave all but contexts and totals.
 use Rattle.fm_local.proofs.Words.{[], ◌∷◌, ◌≡◌, Err, List, None, Ok, Option, Result, Some, Status, WorkerId, World, option_and_then, slice_get, suc}
 use Rattle.fm_local.proofs.Words.{worker_at, zero, ℕ, ◌++◌, ◌∙◌, ap, drop, is_some, option_map, refl, subst, sym, none-some, same_Some, context_at}
-use Rattle.fm_local.proofs.Words.{idle_by, TakesDue, IsSound, CtxId, Due, put, Step, StepReply, Worker, Tidies}
+use Rattle.fm_local.proofs.Words.{idle_by, IsSound, CtxId, put, Step, StepReply, Worker, Tidies}
+use Rattle.fm_world.specs.Words.{Due}
 use Rattle.std.specs.Prelude.{slice_set}
 use Rattle.fm_ctx.proofs.Lives.{due_there}
 use Rattle.fm_ctx.specs.Cleanup.{due_of, due_reply, taken_of, after_take_due}
 use Rattle.fm_world.proofs.Cases.{some_of}
-use Rattle.fm_world.specs.ContextEvents.{Cleans, CleansAt, after_due}
+use Rattle.fm_world.specs.ContextEvents.{Cleans, CleansAt, after_due, TakesDue}
 use Rattle.fm_world.specs.Steps.{Run}
 use Rattle.fm_local.proofs.Events.{placed}
 

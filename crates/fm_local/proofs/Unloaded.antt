@@ -3,8 +3,8 @@ use Rattle.fm_local.proofs.Words.{[], ◌∷◌, ◌≡◌, ◌⊎◌, Bool, Err
 use Rattle.fm_local.proofs.Words.{Status, WorkerId, World, false, length, slice_get, suc, true, worker_at, zero, ℕ, ◌&&◌, ◌<◌, ◌==◌, ◌∙◌, ap, arith}
 use Rattle.fm_local.proofs.Words.{cond, inl, inr, map, option_map, refl, subst, sym, true≢false, StartMark, Finishes, is_stopping_phase}
 use Rattle.fm_local.proofs.Words.{is_stopping_row, UnloadReturnsAt, AsksUnload, EmptiesFilter, FinishesFilter, UnloadReturns, Phase, updated, put}
-use Rattle.fm_local.proofs.Words.{Worker, is_leaving, is_leaving_phase, is_to_go, CompletesQuietly, StartsQuietly, TearsDownFirst, TearsDownIf}
-use Rattle.fm_local.proofs.Words.{TearsDownQuietly, IsAtRest, Tidies}
+use Rattle.fm_local.proofs.Words.{Worker, is_leaving, is_leaving_phase, is_to_go, CompletesQuietly, StartsQuietly, TearsDownFirst, TearsDownQuietly}
+use Rattle.fm_local.proofs.Words.{IsAtRest, Tidies}
 use Rattle.std.specs.Prelude.{IsErr}
 use Rattle.std.proofs.lemmas.Grind.{common_steps}
 use Rattle.fm_stack.specs.Detaching as stack
@@ -13,7 +13,7 @@ use Rattle.fm_stack.specs.Instances.{is_attached}
 use Rattle.fm_stack.specs.Unloading as filters
 use Rattle.fm_world.proofs.Cases.{by_bool}
 use Rattle.fm_local.specs.Calls.{AsksToUnload, is_of_row}
-use Rattle.fm_local.specs.Quietly.{EndsQuietly}
+use Rattle.fm_local.specs.Quietly.{EndsQuietly, TearsDownIf}
 use Rattle.fm_local.proofs.Leaving.{complete_stack, start_refused, start_stack, starts_leaves, torn_leaves}
 use Rattle.fm_local.proofs.Resting.{CalmAfter, Undisturbed, ask_unload_refused, both, calm_both, calm_same, calm_tidied, happened, is_in, rests_on}
 use Rattle.fm_local.proofs.Resting.{stops, through, calm_by}

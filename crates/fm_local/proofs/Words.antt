@@ -32,21 +32,21 @@ pub use Rattle.fm_flow.specs.declared.stage.Stage.TheVariants.{Ascending}
 unfoldable pub use Rattle.fm_ctx.specs.Table.{context_at}
 pub use Rattle.fm_world.proofs.Events.{idle_by}
 pub use Rattle.fm_world.proofs.Runs.{step_keeps}
-unfoldable pub use Rattle.fm_world.specs.ContextEvents.{Finishes, TakesDue}
+unfoldable pub use Rattle.fm_world.specs.ContextEvents.{Finishes}
 pub use Rattle.fm_world.specs.EarlyDrains.{DrainsWhere, is_stopping_at}
-unfoldable pub use Rattle.fm_world.specs.EarlyDrains.{DrainReturns, TakesDrain}
+unfoldable pub use Rattle.fm_world.specs.EarlyDrains.{TakesDrain}
 pub use Rattle.fm_world.specs.Events.{BaseReturnsAt, NextsAt, PostReturnsAt, PreReturnsAt, PreReturnsOver, ReturnsFrom, Unless, after_begin}
 pub use Rattle.fm_world.specs.Events.{base_returned, begin_refused, begun_at, begun_on, drains_at, has_post, is_stopping_phase, is_stopping_row}
 pub use Rattle.fm_world.specs.Events.{state_at}
-unfoldable pub use Rattle.fm_world.specs.Events.{Attaches, BaseReturns, Begins, Collects, Mounts, Nexts, PostReturns, PreReturns, Registers, SetsUp}
+unfoldable pub use Rattle.fm_world.specs.Events.{Attaches, BaseReturns, Begins, Collects, Mounts, Nexts, PostReturns, PreReturns, Registers}
 pub use Rattle.fm_world.specs.Files.{FileTable, handle_at, stream_at}
 pub use Rattle.fm_world.specs.Links.{LosesLinks}
 pub use Rattle.fm_world.specs.Owners.{row_at}
 pub use Rattle.fm_world.specs.Sound.{IsSound}
 pub use Rattle.fm_world.specs.Teardowns.{UnloadReturnsAt}
 unfoldable pub use Rattle.fm_world.specs.Teardowns.{AsksDetach, AsksUnload, CompleteReturns, CompletesTeardown, EmptiesFilter, FinishesFilter}
-unfoldable pub use Rattle.fm_world.specs.Teardowns.{QueryReturns, StartReturns, StartsTeardown, UnloadReturns}
-pub use Rattle.fm_world.specs.Words.{Ask, ContextKind, CtxId, Descending, Due, Entry, FlowTable, HandleId, Phase, PreState, Stage, StreamId, changed}
+unfoldable pub use Rattle.fm_world.specs.Teardowns.{StartReturns, StartsTeardown, UnloadReturns}
+pub use Rattle.fm_world.specs.Words.{Ask, ContextKind, CtxId, Descending, Entry, FlowTable, HandleId, Phase, PreState, Stage, StreamId, changed}
 pub use Rattle.fm_world.specs.Words.{is_create, last_visited, operation_at, owed, told, updated, visited}
 pub use Rattle.fm_world.specs.Workers.{after_next, is_idle, put}
 pub use Rattle.fm_world.specs.declared.file.FileHandle.{FileHandle}
@@ -55,7 +55,7 @@ pub use Rattle.fm_world.specs.declared.step.Step.{Step}
 pub use Rattle.fm_world.specs.declared.step.StepReply.{StepReply}
 pub use Rattle.fm_world.specs.declared.worker.Worker.{Worker}
 pub use Rattle.fm_filter.specs.Plain.{IsPlainFilter}
-pub use Rattle.fm_local.specs.Actions.{ArePlainFilters, IsBegun, IsDoneAt, IsReady, PerformsIn, closed_handle, replied}
+pub use Rattle.fm_local.specs.Actions.{ArePlainFilters, IsBegun, IsDoneAt, IsReady, closed_handle, replied}
 pub use Rattle.fm_local.specs.Bases.{BasesCarry}
 pub use Rattle.fm_local.specs.Calls.{AgreesAt, is_leaving, is_leaving_phase, is_to_go}
 pub use Rattle.fm_local.specs.Chains.{BaseMay, Subject, Under, chain_of, filter_in, filter_in_row, known_answer, subject_of}
@@ -64,7 +64,7 @@ pub use Rattle.fm_local.specs.Folds.{Asker, Chain, Descends, Leads, Rises, Visit
 pub use Rattle.fm_local.specs.Left.{ArePlain}
 pub use Rattle.fm_local.specs.Managers.{numbered}
 pub use Rattle.fm_local.specs.Places.{StaysOut}
-pub use Rattle.fm_local.specs.Quietly.{CompletesQuietly, IsSettled, StartsQuietly, TearsDownFirst, TearsDownIf, TearsDownQuietly}
+pub use Rattle.fm_local.specs.Quietly.{CompletesQuietly, StartsQuietly, TearsDownFirst, TearsDownQuietly}
 pub use Rattle.fm_local.specs.Requests.{IsAtRest, NoneStops, Tidies, under}
 pub use Rattle.fm_local.specs.Turns.{Carries, Does, Turns}
 pub use Rattle.fm_local.specs.Visits.{Visits}

@@ -1,5 +1,5 @@
-use Rattle.fm_local.proofs.Words.{[], ◌≡◌, ArePlainFilters, numbered, StaysOut, IsSettled, TearsDownFirst, IsAtRest, WORKER, RESUMPTIONS, TURNS}
-use Rattle.fm_local.proofs.Words.{DRAINED}
+use Rattle.fm_local.proofs.Words.{[], ◌≡◌, ArePlainFilters, numbered, StaysOut, TearsDownFirst, IsAtRest, WORKER, RESUMPTIONS, TURNS, DRAINED}
+use Rattle.fm_local.specs.Quietly.{IsSettled}
 use Rattle.fm_local.specs.Actions.{TearsDownEach}
 use Rattle.fm_local.specs.Cleanups.{LeavesNoneDue}
 use Rattle.fm_local.proofs.manager.LocalManager.tear_down_all.Given as goal

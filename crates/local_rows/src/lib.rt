@@ -10,4 +10,8 @@ mod report_tests;
 #[cfg(test)]
 mod sample_tests;
 #[cfg(test)]
+mod samples;
+#[cfg(test)]
+mod steps;
+#[cfg(test)]
 mod teardown_tests;

@@ -1,141 +1,107 @@
 //! What requests are answered through samples that nothing holds up.
 
-use crate::asked::{
-    Ask, DONE, FILTER, INSTANCE, Line, Samples, Told, VOLUME, ask_all, lives, with,
-};
-use fm_base::Base;
-use fm_samples::{Carry, Guard, Meter, Sample, Shift};
-use fm_types::{RelPath, Status};
-use std::alloc::Global;
-use std::process::Abort;
+use crate::asked::{Ask, DONE, Told};
+use crate::samples::{Kind, run_samples};
+use crate::steps::{Count, Row, Step};
+use fm_types::Status;
 
-fn refused(status: Status) -> Told<'static> {
-    Told::Done(status, 0, b"")
-}
+const SHIFT: [Row<Kind>; 1] = [(b"shift", Kind::Shift, b"100")];
 
-// What the file of a volume holds.
-fn holds(rt: &impl Abort, manager: &mut Samples, path: &[u8], wanted: &[u8]) {
-    let path = RelPath::read(path).expect(rt, "a path");
-    let base = manager.base(VOLUME).expect(rt, "the base");
-    let bytes = base.read(&path, 0, 100).expect(rt, "its bytes");
-    assert!(rt; bytes.as_slice() == wanted);
-}
+const SHIFTED: [Step; 8] = [
+    Step::Asks(Ask::Create(b"x"), DONE),
+    Step::Asks(
+        Ask::Write(0, 0, b"ab\xff"),
+        Told::Done(Status::Success, 3, b""),
+    ),
+    Step::Holds(b"x", b"bc\x00"),
+    Step::Asks(
+        Ask::Read(0, 0, 5),
+        Told::Done(Status::Success, 3, b"ab\xff"),
+    ),
+    Step::Asks(Ask::Read(0, 3, 1), Told::Done(Status::EndOfFile, 0, b"")),
+    Step::Asks(Ask::Size(0), Told::Done(Status::Success, 3, b"")),
+    Step::Asks(
+        Ask::Read(0, 0, 32_769),
+        Told::Done(Status::BadRequest, 0, b""),
+    ),
+    Step::Asks(
+        Ask::SetSize(0, (1 << 40) + 1),
+        Told::Done(Status::BadRequest, 0, b""),
+    ),
+];
 
 #[test]
 fn shift_local(rt: HostRuntime) {
-    let alloc = rt.alloc();
-    let rows = [(
-        b"shift".as_slice(),
-        Sample::Shift(Shift::new(alloc)),
-        b"100".as_slice(),
-    )];
-    let mut manager = with(&rt, alloc, &rows);
-    shifted(&rt, alloc, &mut manager);
-}
-
-fn shifted(rt: &impl Abort, alloc: Global, manager: &mut Samples) {
-    let written: [Line; 2] = [
-        (Ask::Create(b"x"), DONE),
-        (
-            Ask::Write(0, 0, b"ab\xff"),
-            Told::Done(Status::Success, 3, b""),
-        ),
-    ];
-    ask_all(rt, alloc, manager, &written);
-    holds(rt, manager, b"x", b"bc\x00");
-    let seen: [Line; 5] = [
-        (
-            Ask::Read(0, 0, 5),
-            Told::Done(Status::Success, 3, b"ab\xff"),
-        ),
-        (Ask::Read(0, 3, 1), refused(Status::EndOfFile)),
-        (Ask::Size(0), Told::Done(Status::Success, 3, b"")),
-        (Ask::Read(0, 0, 32_769), refused(Status::BadRequest)),
-        (Ask::SetSize(0, (1 << 40) + 1), refused(Status::BadRequest)),
-    ];
-    ask_all(rt, alloc, manager, &seen);
+    run_samples(&rt, rt.alloc(), &SHIFT, &SHIFTED);
 }
 
 // The guard lies above both shifts, of which each adds 1.
+const THREE: [Row<Kind>; 3] = [
+    (b"low", Kind::Shift, b"100.25"),
+    (b"guard", Kind::Guard, b"300"),
+    (b"high", Kind::Shift, b"100.5"),
+];
+
+const GUARDED: [Step; 9] = [
+    Step::Asks(
+        Ask::Create(b"deny/x"),
+        Told::Done(Status::AccessDenied, 0, b""),
+    ),
+    Step::Asks(Ask::Create(b"y"), DONE),
+    Step::Asks(Ask::Write(0, 0, b"ab"), Told::Done(Status::Success, 2, b"")),
+    Step::Asks(Ask::Read(0, 1, 5), Told::Done(Status::Success, 1, b"b")),
+    Step::Asks(Ask::Flush(0), DONE),
+    Step::Asks(Ask::List, Told::Done(Status::Success, 2, b"y\n")),
+    Step::Asks(Ask::Close(0), DONE),
+    Step::Asks(Ask::Close(0), Told::Done(Status::NoHandle, 0, b"")),
+    Step::Holds(b"y", b"cd"),
+];
+
 #[test]
 fn samples_above_each_other(rt: HostRuntime) {
-    let alloc = rt.alloc();
-    let shift = Sample::Shift(Shift::new(alloc));
-    let rows = [
-        (b"low".as_slice(), shift, b"100.25".as_slice()),
-        (b"guard", Sample::Guard(Guard), b"300"),
-        (b"high", shift, b"100.5"),
-    ];
-    let mut manager = with(&rt, alloc, &rows);
-    guarded(&rt, alloc, &mut manager);
+    run_samples(&rt, rt.alloc(), &THREE, &GUARDED);
 }
 
-fn guarded(rt: &impl Abort, alloc: Global, manager: &mut Samples) {
-    let lines: [Line; 8] = [
-        (Ask::Create(b"deny/x"), refused(Status::AccessDenied)),
-        (Ask::Create(b"y"), DONE),
-        (Ask::Write(0, 0, b"ab"), Told::Done(Status::Success, 2, b"")),
-        (Ask::Read(0, 1, 5), Told::Done(Status::Success, 1, b"b")),
-        (Ask::Flush(0), DONE),
-        (Ask::List, Told::Done(Status::Success, 2, b"y\n")),
-        (Ask::Close(0), DONE),
-        (Ask::Close(0), refused(Status::NoHandle)),
-    ];
-    ask_all(rt, alloc, manager, &lines);
-    holds(rt, manager, b"y", b"cd");
-}
+const METER: [Row<Kind>; 1] = [(b"meter", Kind::Meter, b"100")];
 
 // The numbers of a stream's reads and writes come with its cleanup, which the close of the last handle makes due. Each callback allocates a context, of
 // which only the first is set: the others are cleaned up at once, and have counted nothing.
-#[test]
-fn meter_total(rt: HostRuntime) {
-    let alloc = rt.alloc();
-    let rows = [(
-        b"meter".as_slice(),
-        Sample::Meter(Meter::new(alloc)),
-        b"100".as_slice(),
-    )];
-    let mut manager = with(&rt, alloc, &rows);
-    metered(&rt, alloc, &mut manager);
-}
-
-fn metered(rt: &impl Abort, alloc: Global, manager: &mut Samples) {
-    let lines: [Line; 2] = [
+const METERED: [Step; 10] = [
+    Step::Asks(Ask::Create(b"x"), DONE),
+    Step::Rounds(
+        50,
         (Ask::Write(0, 0, b"a"), Told::Done(Status::Success, 1, b"")),
         (Ask::Read(0, 0, 0), DONE),
-    ];
-    ask_all(rt, alloc, manager, &[(Ask::Create(b"x"), DONE)]);
-    for _ in 0..50 {
-        ask_all(rt, alloc, manager, &lines);
-    }
-    assert_eq!(rt; manager.state().total(FILTER), 0);
-    ask_all(rt, alloc, manager, &[(Ask::Close(0), DONE)]);
-    assert_eq!(rt; manager.state().total(FILTER), 100);
-    assert_eq!(rt; lives(manager), (100, 100, 0));
-    assert!(rt; manager.detach(INSTANCE) == Ok(()));
-    assert!(rt; manager.unload(FILTER) == Ok(()));
+    ),
+    Step::Counts(Count::Total, 0),
+    Step::Asks(Ask::Close(0), DONE),
+    Step::Counts(Count::Total, 100),
+    Step::Counts(Count::Born, 100),
+    Step::Counts(Count::Cleaned, 100),
+    Step::Counts(Count::Left, 0),
+    Step::Detaches(Ok(())),
+    Step::Unloads(Ok(())),
+];
+
+#[test]
+fn meter_total(rt: HostRuntime) {
+    run_samples(&rt, rt.alloc(), &METER, &METERED);
 }
+
+const CARRY: [Row<Kind>; 1] = [(b"carry", Kind::Carry, b"100")];
 
 // The first read makes a context of its handle, the second one finds it; both send it along, and it comes back to be released. The close is its end.
+const CARRIED: [Step; 7] = [
+    Step::Asks(Ask::Create(b"x"), DONE),
+    Step::Asks(Ask::Read(0, 0, 0), DONE),
+    Step::Asks(Ask::Read(0, 0, 0), DONE),
+    Step::Asks(Ask::Close(0), DONE),
+    Step::Counts(Count::Born, 1),
+    Step::Counts(Count::Cleaned, 1),
+    Step::Counts(Count::Left, 0),
+];
+
 #[test]
 fn carried_reads(rt: HostRuntime) {
-    let alloc = rt.alloc();
-    let rows = [(
-        b"carry".as_slice(),
-        Sample::Carry(Carry::new(alloc)),
-        b"100".as_slice(),
-    )];
-    let mut manager = with(&rt, alloc, &rows);
-    carried(&rt, alloc, &mut manager);
-}
-
-fn carried(rt: &impl Abort, alloc: Global, manager: &mut Samples) {
-    let lines: [Line; 4] = [
-        (Ask::Create(b"x"), DONE),
-        (Ask::Read(0, 0, 0), DONE),
-        (Ask::Read(0, 0, 0), DONE),
-        (Ask::Close(0), DONE),
-    ];
-    ask_all(rt, alloc, manager, &lines);
-    assert_eq!(rt; lives(manager), (1, 1, 0));
+    run_samples(&rt, rt.alloc(), &CARRY, &CARRIED);
 }

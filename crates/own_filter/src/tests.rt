@@ -1,6 +1,7 @@
 //! The filter under test: requests, and what they are answered and the filter's report says afterwards.
 
 use super::*;
+use std::process::Abort;
 use std::test::Fail;
 
 // The status of each answer.
@@ -19,17 +20,26 @@ fn answered(alloc: Global, manager: &mut Manager) -> Result<usize, Status> {
     Ok(right)
 }
 
-#[test]
-fn counts_writes_and_denies_deletion(rt: HostRuntime) -> Result<(), Fail> {
-    let mut manager = new_manager(rt.alloc())?;
-    let right = answered(rt.alloc(), &mut manager);
+// What the filter counted, and what became of its contexts.
+fn report(manager: &Manager) -> (u64, u64, u64, u64) {
     let state = manager.state();
-    let report = (
+    (
         state.total(FilterId(0)),
         state.born(),
         state.cleaned_count(),
         state.leaks(),
-    );
-    assert_eq!(rt; (right, report), (Ok(5), (2, 1, 1, 0)));
+    )
+}
+
+// What owns a manager is proved dearly, so all that makes several calls of one borrows it.
+fn see_report(rt: &impl Abort, alloc: Global, manager: &mut Manager) {
+    let right = answered(alloc, manager);
+    assert_eq!(rt; (right, report(manager)), (Ok(5), (2, 1, 1, 0)));
+}
+
+#[test]
+fn counts_writes_and_denies_deletion(rt: HostRuntime) -> Result<(), Fail> {
+    let mut manager = new_manager(rt.alloc())?;
+    see_report(&rt, rt.alloc(), &mut manager);
     Ok(())
 }

@@ -125,18 +125,11 @@ fn by_requests(alloc: Global, depth: u8, rounds: u64) -> Result<u64, Status> {
     ask_all(alloc, &mut manager, depth, rounds)
 }
 
-fn raised(alloc: Global, bytes: &[u8]) -> Result<Bytes, AllocError> {
+// Bytes with so much added to each, modulo 256: what one instance of shift makes of them.
+fn shifted(alloc: Global, bytes: &[u8], by: u8) -> Result<Bytes, AllocError> {
     let changed = bytes
         .iter()
-        .map(|byte| byte.wrapping_add(1))
-        .collect(alloc)?;
-    Ok(Bytes::from_vec(changed))
-}
-
-fn lowered(alloc: Global, bytes: &[u8]) -> Result<Bytes, AllocError> {
-    let changed = bytes
-        .iter()
-        .map(|byte| byte.wrapping_sub(1))
+        .map(|byte| byte.wrapping_add(by))
         .collect(alloc)?;
     Ok(Bytes::from_vec(changed))
 }
@@ -151,7 +144,7 @@ fn call_and_call(
     let mut bytes = Bytes::new(alloc);
     bytes.set_len(LENGTH as usize)?;
     for _ in 0..depth {
-        bytes = raised(alloc, bytes.as_slice())?;
+        bytes = shifted(alloc, bytes.as_slice(), 1)?;
     }
     if bytes.len() != LENGTH as usize {
         return Err(Status::BadRequest);
@@ -159,7 +152,7 @@ fn call_and_call(
     base.write(path, 0, bytes.as_slice())?;
     let mut bytes = base.read(path, 0, LENGTH)?;
     for _ in 0..depth {
-        bytes = lowered(alloc, bytes.as_slice())?;
+        bytes = shifted(alloc, bytes.as_slice(), 255)?;
     }
     Ok(bytes.len() as u64)
 }

@@ -1,8 +1,9 @@
 -- The words that the proofs share.
-pub use Rattle.fm_local.specs.Words.{[], ⊤, ◌∷◌, ◌≡◌, ◌≤◌, ◌⊎◌, Answer, BaseCall, Bool, Completion, Data, Err, FilterId, Finished, FlowAction}
-pub use Rattle.fm_local.specs.Words.{FlowRecord, Folder, Instance, InstanceId, List, LocalManager, None, Ok, OpId, Operation, Option, Params}
-pub use Rattle.fm_local.specs.Words.{PostVerdict, PreVerdict, Result, Some, StackWorld, Status, VolumeId, WorkerId, World, bare_answer, false, length}
-pub use Rattle.fm_local.specs.Words.{option_and_then, slice_get, suc, true, worker_at, zero, ℕ}
+pub use Rattle.std.specs.Prelude.{[], ⊤, ◌∷◌, ◌≡◌, ◌≤◌, ◌⊎◌, Bool, Err, List, None, Ok, Option, Result, Some, false, length, option_and_then}
+pub use Rattle.std.specs.Prelude.{slice_get, suc, true, zero, ℕ}
+pub use Rattle.fm_local.specs.Words.{Answer, BaseCall, Completion, Data, FilterId, Finished, FlowAction, FlowRecord, Folder, Instance, InstanceId}
+pub use Rattle.fm_local.specs.Words.{LocalManager, OpId, Operation, Params, PostVerdict, PreVerdict, StackWorld, Status, VolumeId, WorkerId, World}
+pub use Rattle.fm_local.specs.Words.{bare_answer, worker_at}
 pub use Rattle.std.proofs.Common.{◌&&◌, ◌++◌, ◌+◌, ◌<◌, ◌==◌, ◌||◌, ◌∙◌, IsOk, ap, ap₂, arith, cond, count_by, drop, eq-eqb, find, inl, inr, is_some}
 pub use Rattle.std.proofs.Common.{length-append, map, nat_lt, not, option_map, refl, subst, sym, take, true≢false, unwrap_or}
 pub use Rattle.std.proofs.lemmas.Bool.{cases_Bool, false≢true}

@@ -1,9 +1,9 @@
 -- What a manager does of what its state says is next: how a turn of an operation ends, and where turn after turn leads.
-use Rattle.fm_local.specs.Words.{[], ◌∷◌, ◌≡◌, ◌≤◌, ◌⊎◌, Bool, Err, IsErr, List, None, Ok, Option, Result, Some, false, length, slice_get, suc, true}
-use Rattle.fm_local.specs.Words.{zero, ℕ, BaseCall, Data, Completion, PostVerdict, Finished, PreVerdict, Folder, bare_answer, Finishes, Attaches}
-use Rattle.fm_local.specs.Words.{AsksDetach, CompletesTeardown, EmptiesFilter, FinishesFilter, StartsTeardown, Answer, FilterId, FlowAction}
-use Rattle.fm_local.specs.Words.{InstanceId, OpId, Status, VolumeId, WorkerId, World, LocalManager}
-use Rattle.std.specs.Prelude.{◌<◌, ◌++◌, not, map}
+use Rattle.std.specs.Prelude.{[], ◌∷◌, ◌≡◌, ◌≤◌, ◌⊎◌, Bool, Err, IsErr, List, None, Ok, Option, Result, Some, false, length, slice_get, suc, true}
+use Rattle.std.specs.Prelude.{zero, ℕ, ◌<◌, ◌++◌, not, map}
+use Rattle.fm_local.specs.Words.{BaseCall, Data, Completion, PostVerdict, Finished, PreVerdict, Folder, bare_answer, Finishes, Attaches, AsksDetach}
+use Rattle.fm_local.specs.Words.{CompletesTeardown, EmptiesFilter, FinishesFilter, StartsTeardown, Answer, FilterId, FlowAction, InstanceId, OpId}
+use Rattle.fm_local.specs.Words.{Status, VolumeId, WorkerId, World, LocalManager}
 use Rattle.std.specs.VecDeque.{deque_capacity}
 use Rattle.fm_types.specs.declared.context_kind.ContextKind.{ContextKind}
 use Rattle.fm_types.specs.declared.ids.HandleId.{HandleId}

@@ -1,6 +1,6 @@
 -- The bases of volumes as one device.
-use Rattle.fm_local.specs.Words.{◌≡◌, ◌≤◌, List, Option, Some, length, slice_get, ℕ, BaseCall, Folder, Answer}
-use Rattle.std.specs.Prelude.{◌≢◌, ◌+◌, ◌-◌, ◌^◌, min}
+use Rattle.std.specs.Prelude.{◌≡◌, ◌≤◌, List, Option, Some, length, slice_get, ℕ, ◌≢◌, ◌+◌, ◌-◌, ◌^◌, min}
+use Rattle.fm_local.specs.Words.{BaseCall, Folder, Answer}
 use Rattle.fm_types.specs.declared.status.Status.TheVariants.{NoVolume, DeviceFault}
 use Rattle.fm_device.specs.Devices.{bare, CarriesAny, KnownAs}
 

@@ -1,5 +1,6 @@
 -- What a callback of an instance's filter answers, and what it leaves.
-use Rattle.fm_local.specs.Words.{◌≡◌, Bool, Option, Completion}
+use Rattle.std.specs.Prelude.{◌≡◌, Bool, Option}
+use Rattle.fm_local.specs.Words.{Completion}
 use Rattle.fm_filter.specs.Standing.{standing_of}
 use Rattle.fm_local.specs.Managers.{IsQuietIn}
 use Rattle.fm_local.specs.declared.callbacks.Consent.{Consent}

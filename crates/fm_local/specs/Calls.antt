@@ -1,8 +1,8 @@
 -- What a manager's calls answer, by the events of its state that they make.
-use Rattle.fm_local.specs.Words.{◌≡◌, ◌⊎◌, Bool, Err, IsErr, List, None, Ok, Option, Result, Some, false, option_and_then, slice_get, true, ℕ}
+use Rattle.std.specs.Prelude.{◌≡◌, ◌⊎◌, Bool, Err, IsErr, List, None, Ok, Option, Result, Some, false, option_and_then, slice_get, true, ℕ, ◌&&◌}
+use Rattle.std.specs.Prelude.{option_map, position}
 use Rattle.fm_local.specs.Words.{Finishes, Attaches, AsksDetach, CompletesTeardown, EmptiesFilter, FinishesFilter, FilterId, Instance, InstanceId}
 use Rattle.fm_local.specs.Words.{Status, VolumeId, WorkerId, World}
-use Rattle.std.specs.Prelude.{◌&&◌, option_map, position}
 use Rattle.fm_types.specs.declared.registration.Registration.{Registration}
 use Rattle.fm_types.specs.declared.status.Status.TheVariants.{NoMemory, NoFilter}
 use Rattle.fm_stack.specs.Instances.{same_name}

@@ -1,7 +1,7 @@
 -- The chains of a manager: its filters, by the instances of a stack, over its device.
-use Rattle.fm_local.specs.Words.{◌≡◌, List, None, Option, Some, false, slice_get, ℕ, BaseCall, Data, Completion, PostVerdict, Finished, PreVerdict}
-use Rattle.fm_local.specs.Words.{bare_answer, Answer, FlowRecord, Instance, Operation, Params, StackWorld, Status, VolumeId}
-use Rattle.std.specs.Prelude.{cond}
+use Rattle.std.specs.Prelude.{◌≡◌, List, None, Option, Some, false, slice_get, ℕ, cond}
+use Rattle.fm_local.specs.Words.{BaseCall, Data, Completion, PostVerdict, Finished, PreVerdict, bare_answer, Answer, FlowRecord, Instance, Operation}
+use Rattle.fm_local.specs.Words.{Params, StackWorld, Status, VolumeId}
 use Rattle.fm_types.specs.declared.ids.HandleId.{HandleId}
 use Rattle.fm_types.specs.declared.ids.StreamId.{StreamId}
 use Rattle.fm_data.specs.declared.verdict.PreVerdict.TheVariants.{NoCallback}

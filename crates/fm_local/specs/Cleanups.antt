@@ -1,6 +1,6 @@
 -- How contexts are cleaned up: each by the cleanup callback of the filter that it belongs to, the longest due first.
-use Rattle.fm_local.specs.Words.{[], ◌≡◌, Bool, List, None, Ok, Option, Result, Some, false, length, suc, true, zero, ℕ, StackWorld, Status, WorkerId}
-use Rattle.fm_local.specs.Words.{worker_at, World}
+use Rattle.std.specs.Prelude.{[], ◌≡◌, Bool, List, None, Ok, Option, Result, Some, false, length, suc, true, zero, ℕ}
+use Rattle.fm_local.specs.Words.{StackWorld, Status, WorkerId, worker_at, World}
 use Rattle.fm_types.specs.declared.context_kind.ContextKind.{ContextKind}
 use Rattle.fm_ctx.specs.declared.due.Due.{Due}
 use Rattle.fm_ctx.specs.declared.owner.Owner.{Owner}

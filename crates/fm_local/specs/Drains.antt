@@ -1,6 +1,6 @@
 -- What an instance's filter is told while it is torn down, and how it lets go of what it is owed: one operation after the other, until nothing is owed to it.
-use Rattle.fm_local.specs.Words.{⊤, ◌≡◌, ◌≤◌, ◌⊎◌, Bool, Err, None, Ok, Option, Result, Some, false, suc, true, zero, ℕ, Completion, StartsTeardown}
-use Rattle.fm_local.specs.Words.{InstanceId, OpId, Status, WorkerId, World}
+use Rattle.std.specs.Prelude.{⊤, ◌≡◌, ◌≤◌, ◌⊎◌, Bool, Err, None, Ok, Option, Result, Some, false, suc, true, zero, ℕ}
+use Rattle.fm_local.specs.Words.{Completion, StartsTeardown, InstanceId, OpId, Status, WorkerId, World}
 use Rattle.fm_world.specs.EarlyDrains.{TakesDrain, DrainReturns}
 use Rattle.fm_world.specs.Teardowns.{StartReturns}
 use Rattle.fm_local.specs.Chains.{filter_in}

@@ -1,7 +1,7 @@
 -- The answer to an operation as a fold over the instances that it meets: the parameters are folded down through the preoperations, and the answer is folded
 -- up through the postoperations that were asked for, in the reverse order.
-use Rattle.fm_local.specs.Words.{[], ◌∷◌, ◌≡◌, Bool, List, None, false, true, ℕ, Data, Completion, PostVerdict, Finished, PreVerdict, bare_answer}
-use Rattle.fm_local.specs.Words.{Answer, Operation, Params, Status}
+use Rattle.std.specs.Prelude.{[], ◌∷◌, ◌≡◌, Bool, List, None, false, true, ℕ}
+use Rattle.fm_local.specs.Words.{Data, Completion, PostVerdict, Finished, PreVerdict, bare_answer, Answer, Operation, Params, Status}
 use Rattle.fm_data.specs.Data.{current_of, fresh_data, answered_data}
 use Rattle.fm_flow.specs.declared.entry.PreState.{PreState}
 use Rattle.fm_flow.specs.Steps.{lent_answer, returned_answer}

@@ -1,5 +1,6 @@
 -- Chains whose callbacks and whose base are functions.
-use Rattle.fm_local.specs.Words.{◌≡◌, List, Option, ℕ, BaseCall, Data, Completion, PostVerdict, PreVerdict, Answer, Params, StackWorld}
+use Rattle.std.specs.Prelude.{◌≡◌, List, Option, ℕ}
+use Rattle.fm_local.specs.Words.{BaseCall, Data, Completion, PostVerdict, PreVerdict, Answer, Params, StackWorld}
 use Rattle.fm_local.specs.Folds.{Chain, Folds}
 use Rattle.fm_local.specs.Chains.{Under, Subject, chain_of}
 

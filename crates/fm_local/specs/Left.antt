@@ -1,6 +1,6 @@
 -- What is left of a fold, of an operation that is on its way.
-use Rattle.fm_local.specs.Words.{[], ⊤, ◌∷◌, ◌≡◌, ◌≤◌, List, None, Option, Some, false, ℕ, Answer, FlowRecord, Params}
-use Rattle.std.specs.Prelude.{take}
+use Rattle.std.specs.Prelude.{[], ⊤, ◌∷◌, ◌≡◌, ◌≤◌, List, None, Option, Some, false, ℕ, take}
+use Rattle.fm_local.specs.Words.{Answer, FlowRecord, Params}
 use Rattle.fm_flow.specs.declared.entry.Ask.{Ask}
 use Rattle.fm_flow.specs.declared.stage.Stage.{Stage}
 use Rattle.fm_flow.specs.declared.stage.Stage.TheVariants.{Descending, Ascending}

@@ -1,5 +1,6 @@
 -- What a manager ends as, where a `&mut` to one of its file systems is returned.
-use Rattle.fm_local.specs.Words.{Option, VolumeId, LocalManager}
+use Rattle.std.specs.Prelude.{Option}
+use Rattle.fm_local.specs.Words.{VolumeId, LocalManager}
 use Rattle.std.specs.Borrow.{Fml, LendsIf, MutBor, RattleType}
 use Rattle.std.specs.Vec.{with_item}
 use Rattle.fm_local.specs.contracts.manager.LocalManager.{the_row}

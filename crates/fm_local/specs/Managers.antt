@@ -1,6 +1,5 @@
 -- A manager's filters, as its folds see them.
-use Rattle.fm_local.specs.Words.{⊤, None, Option, Some, option_and_then, slice_get, ℕ}
-use Rattle.std.specs.Prelude.{option_map}
+use Rattle.std.specs.Prelude.{⊤, None, Option, Some, option_and_then, slice_get, ℕ, option_map}
 use Rattle.fm_local.specs.declared.filters.Filters.{Filters}
 
 -- the filter that was handed in at a place

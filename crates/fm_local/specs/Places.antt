@@ -1,5 +1,6 @@
 -- Where the worker is: inside a callback while that runs, whatever it calls, and idle once it has returned.
-use Rattle.fm_local.specs.Words.{◌≡◌, Bool, Ok, Result, Some, false, true, FlowAction, OpId, Params, Status, WorkerId, worker_at, World}
+use Rattle.std.specs.Prelude.{◌≡◌, Bool, Ok, Result, Some, false, true}
+use Rattle.fm_local.specs.Words.{FlowAction, OpId, Params, Status, WorkerId, worker_at, World}
 use Rattle.fm_data.specs.Params.{call_fits, fit}
 use Rattle.fm_flow.specs.Table.{told}
 use Rattle.fm_world.specs.declared.worker.Worker.{Worker}

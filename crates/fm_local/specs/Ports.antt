@@ -1,6 +1,6 @@
 -- What a callback's resumptions through its port may answer beyond what the events say.
-use Rattle.fm_local.specs.Words.{[], ◌∷◌, ◌≡◌, Bool, Err, List, Ok, Result, length, PreVerdict, OpId, Status, WorkerId, World}
-use Rattle.std.specs.Prelude.{◌++◌, not, nat_le}
+use Rattle.std.specs.Prelude.{[], ◌∷◌, ◌≡◌, Bool, Err, List, Ok, Result, length, ◌++◌, not, nat_le}
+use Rattle.fm_local.specs.Words.{PreVerdict, OpId, Status, WorkerId, World}
 use Rattle.std.specs.VecDeque.{deque_capacity}
 use Rattle.fm_types.specs.declared.status.Status.TheVariants.{TooMany}
 use Rattle.fm_world.specs.Events.{Unless, ResumesPre, ResumesPost}

@@ -1,9 +1,8 @@
 -- What a manager's calls make of its state where its filters are plain: the events that they name, one after the other, with cleanups and nothing else
 -- in between; and that the manager is ready again.
-use Rattle.fm_local.specs.Words.{[], ◌≡◌, ◌⊎◌, Bool, Err, IsErr, List, Ok, Option, Result, false, length, slice_get, suc, true, zero, ℕ, Data}
-use Rattle.fm_local.specs.Words.{Completion, PostVerdict, PreVerdict, Folder, Finishes, Attaches, AsksDetach, CompletesTeardown, EmptiesFilter}
+use Rattle.std.specs.Prelude.{[], ◌≡◌, ◌⊎◌, Bool, Err, IsErr, List, Ok, Option, Result, false, length, slice_get, suc, true, zero, ℕ, IsOk}
+use Rattle.fm_local.specs.Words.{Data, Completion, PostVerdict, PreVerdict, Folder, Finishes, Attaches, AsksDetach, CompletesTeardown, EmptiesFilter}
 use Rattle.fm_local.specs.Words.{FinishesFilter, StartsTeardown, FilterId, InstanceId, StackWorld, Status, VolumeId, WorkerId, World, LocalManager}
-use Rattle.std.specs.Prelude.{IsOk}
 use Rattle.fm_stack.specs.Detaching.{is_to_complete}
 use Rattle.fm_stack.specs.Instances.{passes}
 use Rattle.fm_world.specs.Events.{is_stopping_row}

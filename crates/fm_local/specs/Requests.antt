@@ -1,8 +1,7 @@
 -- What requests are answered, and what they leave below: each is a fold, or the refusal of its beginning.
-use Rattle.fm_local.specs.Words.{[], ◌∷◌, ◌≡◌, ◌⊎◌, Err, List, None, Ok, Option, Result, Some, false, slice_get, ℕ, BaseCall, Data, Completion}
-use Rattle.fm_local.specs.Words.{PostVerdict, PreVerdict, bare_answer, Answer, FlowRecord, Instance, OpId, Params, StackWorld, Status, WorkerId}
-use Rattle.fm_local.specs.Words.{worker_at, World}
-use Rattle.std.specs.Prelude.{◌+◌}
+use Rattle.std.specs.Prelude.{[], ◌∷◌, ◌≡◌, ◌⊎◌, Err, List, None, Ok, Option, Result, Some, false, slice_get, ℕ, ◌+◌}
+use Rattle.fm_local.specs.Words.{BaseCall, Data, Completion, PostVerdict, PreVerdict, bare_answer, Answer, FlowRecord, Instance, OpId, Params}
+use Rattle.fm_local.specs.Words.{StackWorld, Status, WorkerId, worker_at, World}
 use Rattle.fm_data.specs.declared.request.Request.{Request}
 use Rattle.fm_data.specs.declared.request.FileRequest.{FileRequest}
 use Rattle.fm_world.specs.Events.{begin_refused, after_begin, is_stopping_phase, Begins, Collects}

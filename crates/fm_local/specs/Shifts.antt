@@ -1,7 +1,6 @@
 -- What a client reads of what it wrote, where every instance between it and the base is of the filter shift.
-use Rattle.fm_local.specs.Words.{◌≡◌, List, Option, Some, length, option_and_then, slice_get, ℕ, Folder, Answer, Instance, Operation, Params}
-use Rattle.fm_local.specs.Words.{StackWorld}
-use Rattle.std.specs.Prelude.{◌<◌, All, IsSome}
+use Rattle.std.specs.Prelude.{◌≡◌, List, Option, Some, length, option_and_then, slice_get, ℕ, ◌<◌, All, IsSome}
+use Rattle.fm_local.specs.Words.{Folder, Answer, Instance, Operation, Params, StackWorld}
 use Rattle.std.specs.FinMap.{get}
 use Rattle.fm_types.specs.declared.status.Status.TheVariants.{Success}
 use Rattle.fm_stack.specs.declared.filter.Filter.{Filter}

@@ -1,5 +1,6 @@
 -- The instances that an operation is still to meet.
-use Rattle.fm_local.specs.Words.{[], ◌∷◌, ◌≡◌, ◌≤◌, List, None, Option, Some, ℕ, Operation, StackWorld, VolumeId}
+use Rattle.std.specs.Prelude.{[], ◌∷◌, ◌≡◌, ◌≤◌, List, None, Option, Some, ℕ}
+use Rattle.fm_local.specs.Words.{Operation, StackWorld, VolumeId}
 use Rattle.fm_stack.specs.Next.{is_candidate, IsHighest, NonePasses}
 use Rattle.fm_stack.specs.Stacks.{IsStack}
 

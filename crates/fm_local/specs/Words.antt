@@ -1,6 +1,4 @@
 -- The words that the definitions share, passed on from the crates below.
-pub use Rattle.std.specs.Prelude.{[], ⊤, ◌∷◌, ◌≡◌, ◌≤◌, ◌⊎◌, Bool, Err, IsErr, List, None, Ok, Option, Result, Some, false, length, option_and_then}
-pub use Rattle.std.specs.Prelude.{slice_get, suc, true, zero, ℕ}
 pub use Rattle.fm_data.specs.Calls.{BaseCall}
 pub use Rattle.fm_data.specs.Data.{Data}
 pub use Rattle.fm_data.specs.declared.verdict.Completion.{Completion}

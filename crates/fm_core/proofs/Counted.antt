@@ -69,7 +69,7 @@ recounted p f g c (x ∷ xs) apart same here = elim (cases_Bool (p x)) [
 
 -- ---- how many pass
 
-count_kept : {A : Type 0} (counts test : A → Bool) (to : A → A) (xs : List A) → ((x : A) → counts (to x) ≡ counts x)
+pub count_kept : {A : Type 0} (counts test : A → Bool) (to : A → A) (xs : List A) → ((x : A) → counts (to x) ≡ counts x)
     → count_by counts (change_first test to xs) ≡ count_by counts xs
 count_kept counts test to [] same = refl
 count_kept counts test to (x ∷ xs) same = elim (cases_Bool (test x)) [
@@ -77,7 +77,7 @@ count_kept counts test to (x ∷ xs) same = elim (cases_Bool (test x)) [
   | inr e ↦ rw e (omega (arith, count-cons counts x xs, count-cons counts x (change_first test to xs), count_kept counts test to xs same))
 ]
 
-count_gone : {A : Type 0} (counts test : A → Bool) (xs : List A) (r : A) → find test xs ≡ Some r
+pub count_gone : {A : Type 0} (counts test : A → Bool) (xs : List A) (r : A) → find test xs ≡ Some r
     → count_by counts (without_first test xs) + cond (counts r) 1 0 ≡ count_by counts xs
 count_gone counts test [] r found = absurd (none-some r found)
 count_gone {A = A} counts test (x ∷ xs) r found = elim (cases_Bool (test x)) [
@@ -96,7 +96,7 @@ pub any_counted : {A : Type 0} (p : A → Bool) (xs : List A) → nat_lt 0 (coun
 any_counted p [] = refl
 any_counted p (x ∷ xs) = ap (nat_lt 0) (count-cons p x xs) ∙ some_or (p x) (list_any p xs) (count_by p xs) (any_counted p xs)
 
-same_number : (a n : ℕ) → (a == n) ≡ true → a ≡ n
+pub same_number : (a n : ℕ) → (a == n) ≡ true → a ≡ n
 same_number a n h = grind (arith, nat_tests)
 
 later_number : (a b n : ℕ) → a < b → (a == n) ≡ true → (b == n) ≡ false

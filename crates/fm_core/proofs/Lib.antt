@@ -1,5 +1,4 @@
 mod Words
-pub mod Paths
 pub mod Changes
 pub mod Counted
 pub mod Operated
@@ -13,3 +12,4 @@ pub mod Linked
 pub mod Cleaned
 pub mod Losing
 pub mod Rising
+pub mod Named

@@ -12,9 +12,9 @@ pub record FilesKept : Type 0 where
   -- how many streams have room
   pub room : ℕ
 
--- one path, for each owner that a create has, and the stream that it has already
-abbrev pub paths_of : List ℕ → Option StreamId → CreatePaths
-paths_of path found = record { stream = path; operation = path; params = path; found = found }
+-- one path, for each owner that a create has, and the stream that its file has already
+abbrev pub paths_of : VolumeId → List ℕ → Option StreamId → CreatePaths
+paths_of v path found = record { name = record { volume = v; path = path }; stream = path; operation = path; params = path; found = found }
 
 abbrev pub found_at : VolumeId → List ℕ → FileTable → Option StreamId
 found_at v path t = option_map (λ (x : FileStream). x.number) (stream_of_path v path t)

@@ -6,6 +6,7 @@ pub mod Callers
 pub mod Hands
 pub mod Setting
 pub mod Targets
+pub mod FileNames
 pub mod FilesKept
 pub mod Begun
 pub mod Lost

@@ -1,27 +1,31 @@
 //! Streams and handles.
 
 ghost use Rattle.std.specs.Prelude.{◌≡◌, ℕ, ◌<◌, ◌≤◌, ◌+◌, ◌-◌, ◌^◌, true, false, cond, Some, IfOk, OnOk, All, AllPairs, length, count_by, option_copied, option_map, find, position, slice_index_or, IfSome, vec_capacity};
+ghost use Rattle.fm_core.specs.FileNames.{AreNamed, name_of};
 ghost use Rattle.fm_types.specs.Lists.{change_first, without_first};
-ghost use Rattle.fm_world.specs.Files.{empty_files, is_handle, is_stream, is_on, is_at_path, with_phase, with_mark, stream_at, stream_of_path, handle_at, has_handle_on, has_other_handle, is_marked, created, phased, marked, opened, closed, torn_down, left, after_base};
+ghost use Rattle.fm_world.specs.Files.{empty_files, is_handle, is_stream, is_on, with_phase, with_mark, stream_at, handle_at, has_handle_on, has_other_handle, is_marked, created, phased, marked, opened, closed, torn_down, left, after_base};
 ghost use Rattle.fm_world.specs.Dismounts.{is_of, handles_on, lowest_on};
 ghost use Rattle.fm_types.specs.declared.operation.Operation.TheVariants as kind;
 ghost use Rattle.fm_flow.specs.Answered.{is_success};
 ghost use Rattle.fm_core.specs.FilesKept.{paths_of, found_at, stream_or, IsBefore, IsOlder, AreCounted, changed_at, without_at, is_own};
 ghost use Rattle.fm_core.specs.Targets.{opens};
 
+use crate::file_name::{FileName, forget, look_up, note};
 use crate::target::Target;
-use fm_types::{HandleId, RelPath, Role, SharedPath, Status, StreamId, VolumeId};
+use fm_types::{HandleId, Role, SharedPath, Status, StreamId, VolumeId};
 use fm_world::{FileHandle, FileStream, HandlePhase};
 use std::alloc::{AllocError, Global};
+use std::collections::HashMap;
 use std::marker::Model;
 
 /// How many handles are open at most, counting those that creates under way may give.
 pub(crate) const MAX_HANDLES: usize = 4096;
 
-/// A path with an owner for each that a create has: the stream, where the create brings one along, the
-/// operation, and its parameters; and the stream that the path has already.
+/// A path with an owner for each that a create has: the stream and its file's name, where the create
+/// brings a stream along, the operation, and its parameters; and the stream that the file has already.
 #[derive(Drop)]
 pub(crate) struct CreatePaths {
+    pub name: FileName,
     pub stream: SharedPath,
     pub operation: SharedPath,
     pub params: SharedPath,
@@ -46,19 +50,23 @@ pub(crate) struct Files {
     streams: Vec<FileStream>,
     /// How many handles are open on the stream of each place.
     opens: Vec<u32>,
+    /// The stream of each file that has one.
+    numbers: HashMap<FileName, StreamId>,
     handles: Vec<FileHandle>,
     next: u64,
 }
 
 impl Model for Files {
-    ghost use Rattle.std.specs.Prelude.{◌≤◌, min, vec_capacity};
+    ghost use Rattle.std.specs.Prelude.{◌≤◌, ◌+◌, length, min, vec_capacity};
+    ghost use Rattle.std.specs.HashMap.{spare};
+    ghost use Rattle.fm_core.specs.FileNames.{AreNamed};
     ghost use Rattle.fm_core.specs.FilesKept.{FilesKept, AreRising, AreCounted};
 
     ghost Value = { FilesKept };
 
-    ghost view = { λ f. record { table = record { streams = f.streams.items; handles = f.handles.items; next = f.next }; room = min (vec_capacity f.streams) (vec_capacity f.opens) } };
+    ghost view = { λ f. record { table = record { streams = f.streams.items; handles = f.handles.items; next = f.next }; room = min (min (vec_capacity f.streams) (vec_capacity f.opens)) (length f.streams.items + spare f.numbers) } };
 
-    ghost invariant = { λ f. (4096 ≤ vec_capacity f.handles) × AreRising (record { streams = f.streams.items; handles = f.handles.items; next = f.next }) × AreCounted f.streams.items f.handles.items f.opens.items };
+    ghost invariant = { λ f. (4096 ≤ vec_capacity f.handles) × AreRising (record { streams = f.streams.items; handles = f.handles.items; next = f.next }) × AreCounted f.streams.items f.handles.items f.opens.items × AreNamed f.streams.items f.numbers };
 }
 
 impl Files {
@@ -69,6 +77,7 @@ impl Files {
         Ok(Files {
             streams: Vec::new(alloc),
             opens: Vec::new(alloc),
+            numbers: HashMap::new(alloc),
             handles: Vec::with_capacity(alloc, MAX_HANDLES)?,
             next: 0,
         })
@@ -180,25 +189,27 @@ impl Files {
         }
     }
 
-    /// Makes room for one more stream, and gives a path its owners. Where it has a stream, it is shared
-    /// with that. The error says that memory was refused.
-    pub(crate) fn prepare(
-        &mut self,
-        volume: VolumeId,
-        path: SharedPath,
-    ) -> Result<CreatePaths, AllocError>
+    // Makes room for one more stream. The error says that memory was refused.
+    fn reserve(&mut self) -> Result<(), AllocError>
         ensures table { self.new.table ≡ self.old.table }
         ensures room { OnOk result (length self.new.table.streams < self.new.room) }
-        ensures paths { IfOk result (λ paths. paths ≡ paths_of path (found_at volume path self.old.table)) }
     {
         self.streams.try_reserve(1)?;
         self.opens.try_reserve(1)?;
-        let row = stream_of_path(&self.streams, volume, path.path());
-        let found = number_of(row);
-        let stream = shared(row, path)?;
+        self.numbers.try_reserve(1)
+    }
+
+    // A file's path with its owners. Where the file has a stream, they share its path.
+    fn paths_for(&self, name: FileName) -> Result<CreatePaths, AllocError>
+        ensures { IfOk result (λ paths. paths ≡ paths_of name.volume name.path (found_at name.volume name.path self.now.table)) }
+    {
+        let volume = name.volume;
+        let (found, stream) = look_up(&self.numbers, name)?;
+        let path = stream.share()?;
         let operation = stream.share()?;
         let params = stream.share()?;
         Ok(CreatePaths {
+            name: FileName { volume, path },
             stream,
             operation,
             params,
@@ -206,28 +217,46 @@ impl Files {
         })
     }
 
-    /// A create of that number begins on a path: where it has no stream yet, it brings one along.
-    pub(crate) fn create(
+    /// Makes room for one more stream, and gives a path its owners. Where its file has a stream, it is
+    /// shared with that. The error says that memory was refused.
+    pub(crate) fn prepare(
         &mut self,
         volume: VolumeId,
+        path: SharedPath,
+    ) -> Result<CreatePaths, AllocError>
+        ensures table { self.new.table ≡ self.old.table }
+        ensures room { OnOk result (length self.new.table.streams < self.new.room) }
+        ensures paths { IfOk result (λ paths. paths ≡ paths_of volume path (found_at volume path self.old.table)) }
+    {
+        self.reserve()?;
+        self.paths_for(FileName { volume, path })
+    }
+
+    /// A create of that number begins on a file: where it has no stream yet, the create brings one along.
+    pub(crate) fn create(
+        &mut self,
+        name: FileName,
         path: SharedPath,
         found: Option<StreamId>,
         number: u64,
     )
-        requires found { found ≡ found_at volume path self.old.table }
+        requires path { path ≡ name.path }
+        requires found { found ≡ found_at name.volume name.path self.old.table }
         requires room { length self.old.table.streams < self.old.room }
         requires fresh { All (λ (x : FileStream). x.number.0 < number) self.old.table.streams }
         requires unused { has_handle_on (record { 0 = number }) self.old.table ≡ false }
-        ensures { self.new.table ≡ created volume path number self.old.table }
+        ensures { self.new.table ≡ created name.volume name.path number self.old.table }
     {
         if found.is_none() {
+            let stream = StreamId(number);
             self.streams.push_reserved(FileStream {
-                number: StreamId(number),
-                volume,
+                number: stream,
+                volume: name.volume,
                 path,
                 is_marked: false,
             });
             self.opens.push_reserved(0);
+            note(&mut self.numbers, name, stream);
         }
     }
 
@@ -274,7 +303,12 @@ impl Files {
         ensures { self.new.table ≡ left stream is_created self.old.table }
     {
         if !(self.has_handle_on(stream) || is_created) {
-            tear_in(&mut self.streams, &mut self.opens, stream);
+            tear_in(
+                &mut self.streams,
+                &mut self.opens,
+                &mut self.numbers,
+                stream,
+            );
         }
     }
 
@@ -398,38 +432,6 @@ fn stream_in(streams: &[FileStream], stream: StreamId) -> Option<&FileStream>
     }
 }
 
-fn stream_of_path<'a>(
-    streams: &'a [FileStream],
-    volume: VolumeId,
-    path: &RelPath,
-) -> Option<&'a FileStream>
-    ensures { option_copied result ≡ find (is_at_path volume path.now) streams.now }
-{
-    streams
-        .iter()
-        .find(|row| row.volume.0 == volume.0 && row.path.path() == path)
-}
-
-fn number_of(row: Option<&FileStream>) -> Option<StreamId>
-    ensures { result ≡ option_map (λ (row : FileStream). row.number) (option_copied row.entry) }
-{
-    match row {
-        Some(row) => Some(row.number),
-        None => None,
-    }
-}
-
-/// A path, which is shared with its stream where it has one.
-fn shared(row: Option<&FileStream>, path: SharedPath) -> Result<SharedPath, AllocError>
-    requires { IfSome row (λ row. row.now.path ≡ path) }
-    ensures { IfOk result (λ shared. shared ≡ path) }
-{
-    match row {
-        Some(row) => row.path.share(),
-        None => Ok(path),
-    }
-}
-
 fn phase_in(handles: &mut Vec<FileHandle>, handle: HandleId, phase: HandlePhase)
     requires { AllPairs IsOlder handles.old.items }
     ensures items { handles.new.items ≡ change_first (is_handle handle) (with_phase phase) handles.old.items }
@@ -461,15 +463,32 @@ fn close_in(handles: &mut Vec<FileHandle>, handle: HandleId) -> Option<FileHandl
     }
 }
 
-fn tear_in(streams: &mut Vec<FileStream>, opens: &mut Vec<u32>, stream: StreamId)
+fn tear_in(
+    streams: &mut Vec<FileStream>,
+    opens: &mut Vec<u32>,
+    numbers: &mut HashMap<FileName, StreamId>,
+    stream: StreamId,
+)
     requires rising { AllPairs IsBefore streams.old.items }
     requires places { length opens.old.items ≡ length streams.old.items }
+    requires named { AreNamed streams.old.items numbers.old }
     ensures streams { streams.new.items ≡ without_first (is_stream stream) streams.old.items }
     ensures opens { opens.new.items ≡ without_at (position (is_stream stream) streams.old.items) opens.old.items }
+    ensures named { AreNamed streams.new.items numbers.new }
 {
     if let Some(at) = index_of_stream(streams, stream) {
-        streams.remove(at);
         opens.remove(at);
+        let row = streams.remove(at);
+        forget(numbers, &file_of(row));
+    }
+}
+
+fn file_of(row: FileStream) -> FileName
+    ensures { result ≡ name_of row }
+{
+    FileName {
+        volume: row.volume,
+        path: row.path,
     }
 }
 

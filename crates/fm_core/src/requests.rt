@@ -14,6 +14,7 @@ ghost use Rattle.fm_world.specs.Hands.{KeepsHands};
 ghost use Rattle.fm_core.specs.FilesKept.{found_at};
 ghost use Rattle.fm_core.specs.Begun.{Asks, IsAsked, refusal_by};
 
+use crate::file_name::FileName;
 use crate::files::{Files, MAX_HANDLES};
 use crate::state::State;
 use fm_data::{Params, Request};
@@ -74,19 +75,20 @@ fn phase_refusal(flow: &Flow, operation: Operation, phase: HandlePhase) -> Optio
 fn note_create(
     files: &mut Files,
     has_begun: bool,
-    volume: VolumeId,
+    name: FileName,
     path: SharedPath,
     found: Option<StreamId>,
     number: u64,
 )
-    requires found { found ≡ found_at volume path files.old.table }
+    requires path { path ≡ name.path }
+    requires found { found ≡ found_at name.volume name.path files.old.table }
     requires room { length files.old.table.streams < files.old.room }
     requires fresh { All (λ (x : FileStream). x.number.0 < number) files.old.table.streams }
     requires unused { has_handle_on (record { 0 = number }) files.old.table ≡ false }
-    ensures { files.new.table ≡ cond has_begun (created volume path number files.old.table) files.old.table }
+    ensures { files.new.table ≡ cond has_begun (created name.volume name.path number files.old.table) files.old.table }
 {
     if has_begun {
-        files.create(volume, path, found, number);
+        files.create(name, path, found, number);
     }
 }
 
@@ -209,7 +211,7 @@ impl State {
         note_create(
             &mut self.files,
             begun.is_ok(),
-            volume,
+            paths.name,
             paths.stream,
             paths.found,
             number,

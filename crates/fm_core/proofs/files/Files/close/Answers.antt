@@ -23,6 +23,7 @@ invariant_of-self c = (
       (c.take_open.ensures.items ∙ ap (λ (xs : List FileStream). changed_at (λ n. n - 1) (position (is_stream c.in-Some.row.stream) xs) c.self.inside.opens.items)
       c.deref.ensures.value)
       c.self.invariant.2,
+  c.self.invariant.3,
 )
 
 pub invariant_of-self-in_default : goal.invariant_of-self-in_default
@@ -33,4 +34,5 @@ invariant_of-self-in_default c = (
   subst (λ (hs : List FileHandle). AreCounted c.self.inside.streams.items hs c.self.inside.opens.items)
       (sym (c.close_in.ensures.items ∙ without_none (is_handle c.args.handle) c.self.inside.handles.items (sym c.close_in.ensures.found ∙ c.in_default.is)))
       c.self.invariant.2,
+  c.self.invariant.3,
 )

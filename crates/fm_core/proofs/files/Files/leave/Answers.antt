@@ -9,4 +9,5 @@ invariant_of-self c = (
       c.tear_in.ensures.streams c.self.invariant.1,
   torn_counted c.args.stream c.self.inside.streams.items c.tear_in.new.streams.items c.self.inside.handles.items c.self.inside.opens.items
       c.tear_in.new.opens.items c.tear_in.ensures.streams c.tear_in.ensures.opens c.self.invariant.2,
+  c.tear_in.ensures.named,
 )

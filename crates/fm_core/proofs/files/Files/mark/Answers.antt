@@ -1,4 +1,5 @@
 use Rattle.fm_core.proofs.Counted.{marked_counted}
+use Rattle.fm_core.proofs.Named.{marked_named}
 use Rattle.fm_core.proofs.Rising.{marked_rising}
 use Rattle.fm_core.proofs.files.Files.mark.Goals as goal
 
@@ -9,4 +10,5 @@ invariant_of-self c = (
       c.mark_in.ensures c.self.invariant.1,
   marked_counted c.args.stream c.self.inside.streams.items c.mark_in.new.streams.items c.self.inside.handles.items c.self.inside.opens.items
       c.mark_in.ensures c.self.invariant.2,
+  marked_named c.args.stream c.self.inside.streams.items c.mark_in.new.streams.items c.self.inside.numbers c.mark_in.ensures c.self.invariant.3,
 )

@@ -20,4 +20,5 @@ invariant_of-self c =
       subst (λ n. 4096 ≤ n) (sym c.push_reserved.ensures.capacity) c.self.invariant.0,
       opened_rising h c.self.inside.streams.items c.self.inside.handles.items c.push_reserved.new.self.items c.self.inside.next handles refl c.self.invariant.1,
       subst (λ (hs : List FileHandle). AreCounted c.self.inside.streams.items hs c.add_open.new.opens.items) (sym handles) counted,
+      c.self.invariant.3,
     )

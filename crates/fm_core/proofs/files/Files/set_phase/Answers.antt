@@ -10,4 +10,5 @@ invariant_of-self c = (
       c.phase_in.ensures.items c.self.invariant.1,
   phased_counted c.args.handle c.args.phase c.self.inside.streams.items c.self.inside.handles.items c.phase_in.new.handles.items
       c.self.inside.opens.items c.phase_in.ensures.items c.self.invariant.2,
+  c.self.invariant.3,
 )

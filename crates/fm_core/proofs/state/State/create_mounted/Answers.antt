@@ -1,6 +1,6 @@
 use Rattle.fm_core.proofs.Words.{stream_or, the_view, begin_does, volume_refusals, None, Some, ap, refl, subst, sym, ℕ, ◌||◌, ◌∙◌, ◌≡◌, Params, Request}
 use Rattle.fm_core.proofs.Words.{is_full, first_of, has_no_handle_left, stream_for, IsSound, World}
-use Rattle.fm_core.proofs.Paths.{found_number}
+use Rattle.fm_core.proofs.Named.{found_number}
 use Rattle.fm_core.specs.declared.files.CreatePaths.{CreatePaths}
 use Rattle.fm_core.proofs.Counted.{unused_number}
 use Rattle.fm_core.proofs.Operated.{creates, begin_tied, begin_wants}
@@ -35,6 +35,9 @@ pub note_create-requires-clause-unused : goal.note_create-requires-clause-unused
 note_create-requires-clause-unused c =
     rw (c.next_number-number.ensures.result, c.prepare.ensures.table)
     (unused_number c.self.inside.flow.next c.self.inside.files.table c.self.invariant.sound.filed.born c.self.invariant.sound.filed.hold.handles_on)
+
+pub note_create-requires-clause-path : goal.note_create-requires-clause-path
+note_create-requires-clause-path c = rw c.in-Ok.ensures.paths refl
 
 pub note_create-requires-clause-found : goal.note_create-requires-clause-found
 note_create-requires-clause-found c = rw (c.prepare.ensures.table, c.in-Ok.ensures.paths) refl

@@ -57,16 +57,18 @@ pub(crate) struct Files {
 }
 
 impl Model for Files {
-    ghost use Rattle.std.specs.Prelude.{◌≤◌, ◌+◌, length, min, vec_capacity};
+    ghost use Rattle.std.specs.Prelude.{◌+◌, length, vec_capacity};
     ghost use Rattle.std.specs.HashMap.{spare};
-    ghost use Rattle.fm_core.specs.FileNames.{AreNamed};
-    ghost use Rattle.fm_core.specs.FilesKept.{FilesKept, AreRising, AreCounted};
+    ghost use Rattle.fm_core.specs.FilesKept.{AreKept, FilesKept, kept_in, room_in};
 
     ghost Value = { FilesKept };
 
-    ghost view = { λ f. record { table = record { streams = f.streams.items; handles = f.handles.items; next = f.next }; room = min (min (vec_capacity f.streams) (vec_capacity f.opens)) (length f.streams.items + spare f.numbers) } };
+    ghost view = { λ f. record {
+      table = kept_in f.streams.items f.handles.items f.next;
+      room = room_in (vec_capacity f.streams) (vec_capacity f.opens) (length f.streams.items + spare f.numbers);
+    } };
 
-    ghost invariant = { λ f. (4096 ≤ vec_capacity f.handles) × AreRising (record { streams = f.streams.items; handles = f.handles.items; next = f.next }) × AreCounted f.streams.items f.handles.items f.opens.items × AreNamed f.streams.items f.numbers };
+    ghost invariant = { λ f. AreKept (kept_in f.streams.items f.handles.items f.next) f.opens.items f.numbers (vec_capacity f.handles) };
 }
 
 impl Files {

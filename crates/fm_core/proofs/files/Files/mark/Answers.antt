@@ -4,11 +4,11 @@ use Rattle.fm_core.proofs.Rising.{marked_rising}
 use Rattle.fm_core.proofs.files.Files.mark.Goals as goal
 
 pub invariant_of-self : goal.invariant_of-self
-invariant_of-self c = (
-  c.self.invariant.0,
-  marked_rising c.args.stream c.self.inside.streams.items c.mark_in.new.streams.items c.self.inside.handles.items c.self.inside.next
-      c.mark_in.ensures c.self.invariant.1,
-  marked_counted c.args.stream c.self.inside.streams.items c.mark_in.new.streams.items c.self.inside.handles.items c.self.inside.opens.items
-      c.mark_in.ensures c.self.invariant.2,
-  marked_named c.args.stream c.self.inside.streams.items c.mark_in.new.streams.items c.self.inside.numbers c.mark_in.ensures c.self.invariant.3,
-)
+invariant_of-self c = record {
+  room = c.self.invariant.room;
+  rising = marked_rising c.args.stream c.self.inside.streams.items c.mark_in.new.streams.items c.self.inside.handles.items c.self.inside.next
+      c.mark_in.ensures c.self.invariant.rising;
+  counted = marked_counted c.args.stream c.self.inside.streams.items c.mark_in.new.streams.items c.self.inside.handles.items c.self.inside.opens.items
+      c.mark_in.ensures c.self.invariant.counted;
+  named = marked_named c.args.stream c.self.inside.streams.items c.mark_in.new.streams.items c.self.inside.numbers c.mark_in.ensures c.self.invariant.named;
+}

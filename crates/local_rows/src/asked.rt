@@ -5,14 +5,20 @@ use fm_types::{Bytes, CreateMode, HandleId, RelPath, SharedPath, Status, VolumeI
 use std::alloc::Global;
 use std::process::Abort;
 
-/// The volume of all requests.
+/// The volume of the requests that don't say otherwise.
 pub const VOLUME: VolumeId = VolumeId(0);
+
+/// The other volume.
+pub const OTHER: VolumeId = VolumeId(1);
 
 /// What is asked: of the volume, or on a handle.
 #[derive(Clone, Copy)]
 pub enum Ask<'a> {
     Create(&'a [u8]),
     List,
+    /// The same of the other volume.
+    CreateThere(&'a [u8]),
+    ListThere,
     Read(u64, u64, u32),
     Write(u64, u64, &'a [u8]),
     Size(u64),
@@ -38,8 +44,10 @@ pub const DONE: Told = Told::Done(Status::Success, 0, b"");
 /// The request.
 pub fn request_of(rt: &impl Abort, alloc: Global, ask: Ask) -> Request {
     let (handle, request) = match ask {
-        Ask::Create(path) => return create_of(rt, alloc, path),
+        Ask::Create(path) => return create_of(rt, alloc, VOLUME, path),
         Ask::List => return Request::List { volume: VOLUME },
+        Ask::CreateThere(path) => return create_of(rt, alloc, OTHER, path),
+        Ask::ListThere => return Request::List { volume: OTHER },
         Ask::Read(handle, offset, len) => (handle, FileRequest::Read { offset, len }),
         Ask::Write(handle, offset, text) => {
             let bytes = Bytes::copy_of(alloc, text).expect(rt, "memory");
@@ -57,10 +65,10 @@ pub fn request_of(rt: &impl Abort, alloc: Global, ask: Ask) -> Request {
     }
 }
 
-fn create_of(rt: &impl Abort, alloc: Global, path: &[u8]) -> Request {
+fn create_of(rt: &impl Abort, alloc: Global, volume: VolumeId, path: &[u8]) -> Request {
     let path = RelPath::read(path).expect(rt, "a path");
     Request::Create {
-        volume: VOLUME,
+        volume,
         path: SharedPath::new(alloc, path).expect(rt, "memory"),
         mode: CreateMode::Always,
     }

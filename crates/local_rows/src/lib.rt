@@ -4,6 +4,8 @@
 #[cfg(test)]
 mod asked;
 #[cfg(test)]
+mod declines;
+#[cfg(test)]
 mod forgets;
 #[cfg(test)]
 mod report_tests;

@@ -101,7 +101,36 @@ const CARRIED: [Step; 7] = [
     Step::Counts(Count::Left, 0),
 ];
 
+const TWO_CARRY: [Row<Kind>; 2] = [
+    (b"low", Kind::Carry, b"100"),
+    (b"high", Kind::Carry, b"200"),
+];
+
+// The close is the end of both contexts, and both are cleaned up before it is answered.
+const CARRIED_TWICE: [Step; 6] = [
+    Step::Asks(Ask::Create(b"x"), DONE),
+    Step::Asks(Ask::Read(0, 0, 0), DONE),
+    Step::Counts(Count::Cleaned, 0),
+    Step::Asks(Ask::Close(0), DONE),
+    Step::Counts(Count::Born, 2),
+    Step::Counts(Count::Cleaned, 2),
+];
+
 #[test]
 fn carried_reads(rt: HostRuntime) {
     run_samples(&rt, rt.alloc(), &CARRY, &CARRIED);
+    run_samples(&rt, rt.alloc(), &TWO_CARRY, &CARRIED_TWICE);
+}
+
+// A file of the other volume is none of the first one's, and the guard isn't there.
+const APART: [Step; 4] = [
+    Step::Asks(Ask::CreateThere(b"deny/z"), DONE),
+    Step::Asks(Ask::CreateThere(b"z"), Told::Done(Status::Success, 1, b"")),
+    Step::Asks(Ask::ListThere, Told::Done(Status::Success, 2, b"z\n")),
+    Step::Asks(Ask::List, DONE),
+];
+
+#[test]
+fn two_volumes(rt: HostRuntime) {
+    run_samples(&rt, rt.alloc(), &THREE, &APART);
 }

@@ -1,11 +1,11 @@
 //! A manager, and what is done with it and seen of it, as data.
 
-use crate::asked::{Ask, Line, Told, VOLUME, request_of, see};
+use crate::asked::{Ask, Line, OTHER, Told, VOLUME, request_of, see};
 use fm_altitude::Altitude;
 use fm_base::{Base, MemoryBase};
 use fm_filter::Minifilter;
 use fm_local::{Leak, LocalManager};
-use fm_types::{FilterId, InstanceId, Name, OpId, RelPath, Status};
+use fm_types::{FilterId, InstanceId, Name, OpId, RelPath, Status, VolumeId};
 use std::alloc::Global;
 use std::process::Abort;
 
@@ -31,6 +31,8 @@ pub enum Step<'a> {
     Finishes(u64, Told<'a>),
     /// No other one is finished.
     FinishesNone,
+    /// The filter of that name is loaded, and declines to be attached.
+    Declines(&'a [u8]),
     /// The first instance is detached.
     Detaches(Result<(), Status>),
     /// The first filter is unloaded.
@@ -69,8 +71,8 @@ pub fn named(rt: &impl Abort, text: &[u8]) -> Name {
     Name::read(text).expect(rt, "a name")
 }
 
-/// Takes the steps, the first ones and then the others, with a manager that has these filters, each loaded, with one instance each on the volume, attached
-/// in the order of the rows.
+/// Takes the steps, the first ones and then the others, with a manager that has these filters, each loaded, with one instance each on the first of two
+/// volumes, attached in the order of the rows.
 pub fn run<F: Minifilter, K>(
     rt: &impl Abort,
     alloc: Global,
@@ -92,8 +94,8 @@ fn drive<F: Minifilter, K>(
     first: &[Step],
     steps: &[Step],
 ) {
-    let base = MemoryBase::new(alloc);
-    assert!(rt; manager.mount(named(rt, b"v"), base) == Ok(VOLUME));
+    mount(rt, alloc, manager, b"v", VOLUME);
+    mount(rt, alloc, manager, b"w", OTHER);
     let mut place = 0;
     for (name, _, altitude) in rows {
         attach(rt, manager, place, named(rt, name), altitude);
@@ -101,6 +103,16 @@ fn drive<F: Minifilter, K>(
     }
     take_all(rt, alloc, manager, first);
     take_all(rt, alloc, manager, steps);
+}
+
+fn mount<F: Minifilter>(
+    rt: &impl Abort,
+    alloc: Global,
+    manager: &mut Manager<F>,
+    name: &[u8],
+    volume: VolumeId,
+) {
+    assert!(rt; manager.mount(named(rt, name), MemoryBase::new(alloc)) == Ok(volume));
 }
 
 fn take_all<F: Minifilter>(
@@ -139,6 +151,7 @@ fn take<F: Minifilter>(rt: &impl Abort, alloc: Global, manager: &mut Manager<F>,
         }
         Step::Finishes(number, told) => see_finished(rt, manager, number, told),
         Step::FinishesNone => assert!(rt; manager.finished().is_none()),
+        Step::Declines(name) => see_declined(rt, manager, named(rt, name)),
         Step::Detaches(wanted) => assert!(rt; manager.detach(INSTANCE) == wanted),
         Step::Unloads(wanted) => assert!(rt; manager.unload(FILTER) == wanted),
         Step::Holds(path, wanted) => see_file(rt, manager, path, wanted),
@@ -146,6 +159,12 @@ fn take<F: Minifilter>(rt: &impl Abort, alloc: Global, manager: &mut Manager<F>,
         Step::Leaks(place, leak, text) => see_leak(rt, alloc, manager.leak(place), leak, text),
         Step::Traces(place, text) => see_trace(rt, alloc, manager, place, text),
     }
+}
+
+fn see_declined<F: Minifilter>(rt: &impl Abort, manager: &mut Manager<F>, name: Name) {
+    let filter = manager.load(&name).expect(rt, "a filter");
+    let altitude = Altitude::read(b"50").expect(rt, "an altitude");
+    assert!(rt; manager.attach(filter, VOLUME, name, altitude) == Err(Status::DoNotAttach));
 }
 
 fn ask<F: Minifilter>(rt: &impl Abort, alloc: Global, manager: &mut Manager<F>, line: Line) {

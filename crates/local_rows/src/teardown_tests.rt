@@ -1,9 +1,12 @@
-//! Operations that samples hold, and what lets them go on: a flush, a detach, an unload.
+//! Operations that samples hold, and what lets them go on: a flush, a detach, an unload; and a filter that declines.
 
 use crate::asked::{Ask, DONE, Told};
+use crate::declines::Declines;
 use crate::samples::{Kind, run_samples};
-use crate::steps::{Count, Row, Step};
-use fm_types::Status;
+use crate::steps::{Count, Row, Step, named, run};
+use fm_types::{Name, Status};
+use std::alloc::Global;
+use std::process::Abort;
 
 const HOLD_ABOVE_SHIFT: [Row<Kind>; 2] = [
     (b"hold", Kind::Hold, b"200"),
@@ -93,4 +96,57 @@ const DRAINED: [Step; 11] = [
 #[test]
 fn detach_below_a_held_read(rt: HostRuntime) {
     run_samples(&rt, rt.alloc(), &CARRY_ABOVE_HOLD, &DRAINED);
+}
+
+const STAY_BETWEEN: [Row<Kind>; 3] = [
+    (b"stay", Kind::Stay, b"200"),
+    (b"hold", Kind::Hold, b"100"),
+    (b"shift", Kind::Shift, b"300"),
+];
+
+// The first read is held on its way up, the second one below. The start of the teardown has the first one resumed, but it goes on up only once the other one
+// is drained.
+const DRAINED_FIRST: [Step; 10] = [
+    Step::Asks(Ask::Create(b"x"), DONE),
+    Step::Asks(Ask::Read(0, 0, 0), Told::Held(1)),
+    Step::Asks(Ask::Flush(0), DONE),
+    Step::FinishesNone,
+    Step::Asks(Ask::Read(0, 0, 0), Told::Held(3)),
+    Step::Counts(Count::Traced, 14),
+    Step::Unloads(Ok(())),
+    Step::Traces(14, "o3 drain i0"),
+    Step::Traces(15, "o1 post i2"),
+    Step::Finishes(1, DONE),
+];
+
+#[test]
+fn drained_before_it_goes_on(rt: HostRuntime) {
+    run_samples(&rt, rt.alloc(), &STAY_BETWEEN, &DRAINED_FIRST);
+}
+
+const STAYS: [Row<()>; 1] = [(b"stays", (), b"100")];
+
+const DECLINED: [Step; 4] = [
+    Step::Declines(b"never"),
+    Step::Detaches(Err(Status::DoNotDetach)),
+    Step::Unloads(Err(Status::DoNotDetach)),
+    Step::Asks(Ask::List, DONE),
+];
+
+// The filters that decline to be attached, or to go.
+fn decliners(rt: &impl Abort, alloc: Global) -> Vec<(Name, Declines)> {
+    let mut filters = Vec::new(alloc);
+    filters
+        .push((named(rt, b"stays"), Declines::ToGo))
+        .expect(rt, "memory");
+    filters
+        .push((named(rt, b"never"), Declines::ToCome))
+        .expect(rt, "memory");
+    filters
+}
+
+#[test]
+fn declines(rt: HostRuntime) {
+    let filters = decliners(&rt, rt.alloc());
+    run(&rt, rt.alloc(), filters, &STAYS, &[], &DECLINED);
 }

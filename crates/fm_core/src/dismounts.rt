@@ -47,10 +47,10 @@ impl State {
         self.stack.start_dismount(volume, left)
     }
 
-    /// Closes the lowest handle that is open on a volume which is being dismounted, and answers it; none where none is left. No callback of the file's is
-    /// called, and nothing is asked of the base: a file that was marked for deletion stays. The contexts that are set on the handle, or on the stream that is
-    /// torn down with its last handle, lose their links. Refused, nothing changed: 7 where the volume isn't there, 30 where it isn't being dismounted or is
-    /// finished. It takes no memory.
+    /// Closes the lowest handle that is open on a volume of which a dismount has begun, and answers it; none if none is left, as once the dismount has ended.
+    /// No callback of the file's is called, and nothing is asked of the base: a file that was marked for deletion stays. The contexts that are set on the
+    /// handle, or on the stream that is torn down with its last handle, lose their links. Refused, nothing changed: 7 if the volume isn't there, 30 if no
+    /// dismount of it has begun. It takes no memory.
     #[tactic(auto, unfolding(fm_world::specs::Dismounts::DropsHandle))]
     pub fn drop_handle(&mut self, volume: VolumeId) -> Result<Option<HandleId>, Status>
         ensures event { DropsHandle self.old volume result self.new }
@@ -72,9 +72,9 @@ impl State {
         Ok(Some(handle.number))
     }
 
-    /// Unlinks the contexts that are set on a volume, of every filter, once it has no open handle and its instances are all Detached; it may be called again
-    /// before the dismount ends. Refused, nothing changed: 7 where the volume isn't there, 30 where it isn't being dismounted or is finished, 34 with the
-    /// number of its open handles and of its instances that aren't Detached, their sum. It takes no memory.
+    /// Unlinks the contexts that are set on a volume, of every filter, once it has no open handle and its instances are all Detached; it may be called again,
+    /// and after the dismount has ended it changes nothing. Refused, nothing changed: 7 if the volume isn't there, 30 if no dismount of it has begun, 34 with
+    /// the number of its open handles and of its instances that aren't Detached, their sum. It takes no memory.
     #[tactic(auto, unfolding(fm_world::specs::Dismounts::EmptiesVolume))]
     pub fn empty_volume(&mut self, volume: VolumeId) -> Result<(), Status>
         ensures event { EmptiesVolume self.old volume result self.new }

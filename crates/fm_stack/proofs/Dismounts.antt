@@ -2,7 +2,7 @@
 use Rattle.fm_stack.proofs.Words.{Follows, Instance, IsKept, Seat, StackWorld, VolumeId, length-updated}
 use Rattle.fm_stack.proofs.GoingOn.{RowsGoOn, StackGoesOn, all_go_on, goes_both, rows_stay}
 use Rattle.fm_stack.proofs.Unloads.{stop_where_goes_on}
-use Rattle.fm_stack.specs.Dismounting.{dismounted, dismounting, is_on, volume_emptied, volume_in}
+use Rattle.fm_stack.specs.Dismounting.{dismounted, dismounting, emptied_in, is_on, volume_emptied, volume_in}
 use Rattle.fm_stack.specs.Unloading.{stop_where}
 use Rattle.fm_stack.specs.declared.volume.Volume.{Volume}
 use Rattle.fm_stack.specs.declared.volume.VolumePhase.TheVariants as volume_phase
@@ -26,7 +26,7 @@ dismounting_goes_on s v =
     (all_go_on (stop_where (is_on v)) s.instances (stop_where_goes_on (is_on v)))
 
 pub volume_emptied_goes_on : (s : StackWorld) (v : VolumeId) → StackGoesOn s (volume_emptied s v)
-volume_emptied_goes_on s v = volume_goes_on s (volume_in volume_phase.Emptied) v.0 s.instances (rows_stay s.instances)
+volume_emptied_goes_on s v = volume_goes_on s emptied_in v.0 s.instances (rows_stay s.instances)
 
 pub dismounted_goes_on : (s : StackWorld) (v : VolumeId) → StackGoesOn s (dismounted s v)
 dismounted_goes_on s v = volume_goes_on s (volume_in volume_phase.Finished) v.0 s.instances (rows_stay s.instances)

@@ -23,19 +23,17 @@ volume_in p volume = record volume { phase = p }
 abbrev pub is_on : VolumeId → Instance → Bool
 is_on v row = row.volume.0 == v.0
 
--- being dismounted, perhaps emptied already
-abbrev pub is_dismounting_phase : VolumePhase → Bool
-is_dismounting_phase volume_phase.Dismounting = true
-is_dismounting_phase volume_phase.Emptied = true
-is_dismounting_phase _ = false
+-- how far its dismount has come once it is emptied: one that has ended stays so
+abbrev pub emptied_phase : VolumePhase → VolumePhase
+emptied_phase volume_phase.Finished = volume_phase.Finished
+emptied_phase _ = volume_phase.Emptied
+
+abbrev pub emptied_in : Volume → Volume
+emptied_in volume = record volume { phase = emptied_phase volume.phase }
 
 abbrev pub is_volume_emptied_phase : VolumePhase → Bool
 is_volume_emptied_phase volume_phase.Emptied = true
 is_volume_emptied_phase _ = false
-
-abbrev pub is_dismounting : Option Volume → Bool
-is_dismounting None = false
-is_dismounting (Some volume) = is_dismounting_phase volume.phase
 
 abbrev pub is_volume_emptied : Option Volume → Bool
 is_volume_emptied None = false
@@ -65,11 +63,11 @@ StartsDismount old v uncollected result new =
 
 -- ---- its end ----
 
--- a volume that isn't there, or isn't being dismounted
+-- a volume that isn't there, or of which no dismount has begun
 abbrev pub unless_dismounting : StackWorld → VolumeId → List (Bool × Status)
 unless_dismounting s v =
     (nat_le (length s.volumes) v.0, status.NoVolume)
-    ∷ (not (is_dismounting (slice_get s.volumes v.0)), status.WrongStep)
+    ∷ (is_mounted (slice_get s.volumes v.0), status.WrongStep)
     ∷ []
 
 -- the open handles on the volume, and its instances that aren't detached
@@ -80,7 +78,7 @@ abbrev pub empty_volume_refusals : StackWorld → VolumeId → ℕ → List (Boo
 empty_volume_refusals s v handles = unless_dismounting s v ++ (nat_lt 0 (left_on s v handles), status.Busy (left_on s v handles)) ∷ []
 
 abbrev pub volume_emptied : StackWorld → VolumeId → StackWorld
-volume_emptied s v = record s { volumes = updated (volume_in volume_phase.Emptied) s.volumes v.0 }
+volume_emptied s v = record s { volumes = updated emptied_in s.volumes v.0 }
 
 unfoldable pub EmptiesVolume : StackWorld → VolumeId → ℕ → Result (Unit {0}) Status → StackWorld → Type 0
 EmptiesVolume old v handles result new = Answers (first_of (empty_volume_refusals old v handles)) result old new (λ _. new ≡ volume_emptied old v)

@@ -2,7 +2,7 @@
 
 ghost use Rattle.std.specs.Prelude.{◌≡◌, ◌+◌, ◌<◌, ◌^◌, slice_get};
 ghost use Rattle.fm_types.specs.Refusals.{first_of};
-ghost use Rattle.fm_stack.specs.Dismounting.{StartsDismount, EmptiesVolume, FinishesVolume, dismount_refusals, unless_dismounting, empty_volume_refusals, finish_volume_refusals, is_dismounting, is_volume_emptied, left_on};
+ghost use Rattle.fm_stack.specs.Dismounting.{StartsDismount, EmptiesVolume, FinishesVolume, dismount_refusals, unless_dismounting, empty_volume_refusals, finish_volume_refusals, is_volume_emptied, left_on};
 ghost use Rattle.fm_stack.specs.Events.{is_mounted};
 ghost use Rattle.fm_stack.specs.Follows.{Follows};
 
@@ -20,15 +20,6 @@ impl Stack {
             return false;
         };
         row.is_mounted()
-    }
-
-    fn is_dismounting(&self, volume: VolumeId) -> bool
-        ensures { result ≡ is_dismounting (slice_get self.now.volumes volume.0) }
-    {
-        let Some(row) = self.volumes.get(volume.0 as usize) else {
-            return false;
-        };
-        row.is_dismounting()
     }
 
     fn is_volume_emptied(&self, volume: VolumeId) -> bool
@@ -64,15 +55,15 @@ impl Stack {
     }
 
     /// What refuses the end of a handle without its file's callbacks, which a dismount alone may bring:
-    /// `NoVolume` (7), `WrongStep` (30) where the volume isn't being dismounted or is finished. Nothing
-    /// changes.
+    /// `NoVolume` (7), `WrongStep` (30) if no dismount of the volume has begun. One that has ended refuses
+    /// nothing. Nothing changes.
     pub fn unless_dismounting(&self, volume: VolumeId) -> Option<Status>
         ensures { result ≡ first_of (unless_dismounting self.now volume) }
     {
         if volume.0 as usize >= self.volumes.len() {
             return Some(Status::NoVolume);
         }
-        if !self.is_dismounting(volume) {
+        if self.is_mounted(volume) {
             return Some(Status::WrongStep);
         }
         None
@@ -133,10 +124,10 @@ impl Stack {
     }
 
     /// A volume that is being dismounted, on which that many handles are open, has no instance left that
-    /// isn't detached, and its contexts may be unlinked. It may be called again before the volume is
-    /// finished. Refused, with nothing changed, in this order: `NoVolume` (7), `WrongStep` (30) where it
-    /// isn't being dismounted or is finished, `Busy` (34) with the number of handles and of instances on
-    /// it that aren't detached, their sum. It takes no memory.
+    /// isn't detached, and its contexts may be unlinked. It may be called again; a volume whose dismount
+    /// has ended stays finished. Refused, with nothing changed, in this order: `NoVolume` (7), `WrongStep`
+    /// (30) if no dismount of it has begun, `Busy` (34) with the number of handles and of instances on it
+    /// that aren't detached, their sum. It takes no memory.
     #[tactic(auto, unfolding(crate::specs::Dismounting::EmptiesVolume))]
     pub fn empty_volume(&mut self, volume: VolumeId, handles: u64) -> Result<(), Status>
         requires { handles < 2 ^ 63 }
@@ -146,7 +137,7 @@ impl Stack {
         if let Some(status) = self.empty_volume_refusal(volume, handles) {
             return Err(status);
         }
-        volume::set_phase(&mut self.volumes, volume.0 as usize, VolumePhase::Emptied);
+        volume::empty(&mut self.volumes, volume.0 as usize);
         Ok(())
     }
 

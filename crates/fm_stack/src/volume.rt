@@ -3,7 +3,7 @@
 ghost use Rattle.std.specs.Prelude.{◌≡◌, ◌<◌, length};
 ghost use Rattle.fm_types.specs.Lists.{updated};
 ghost use Rattle.fm_stack.specs.Events.{is_mounted_phase};
-ghost use Rattle.fm_stack.specs.Dismounting.{volume_in, is_dismounting_phase, is_volume_emptied_phase};
+ghost use Rattle.fm_stack.specs.Dismounting.{volume_in, emptied_in, emptied_phase, is_volume_emptied_phase};
 
 use fm_types::Name;
 
@@ -18,6 +18,18 @@ pub enum VolumePhase {
     Emptied,
     /// Dismounted for good. It keeps its number and its name.
     Finished,
+}
+
+impl VolumePhase {
+    // How far it has come once the volume is emptied: a dismount that has ended stays so.
+    fn emptied(self) -> VolumePhase
+        ensures { result ≡ emptied_phase self }
+    {
+        match self {
+            VolumePhase::Finished => VolumePhase::Finished,
+            _ => VolumePhase::Emptied,
+        }
+    }
 }
 
 /// A volume that was mounted in this run. Rows are kept for good.
@@ -37,13 +49,6 @@ impl Volume {
         matches!(self.phase, VolumePhase::Mounted)
     }
 
-    /// Whether the volume is being dismounted: a dismount has begun, and isn't finished.
-    pub fn is_dismounting(&self) -> bool
-        ensures { result ≡ is_dismounting_phase self.now.phase }
-    {
-        matches!(self.phase, VolumePhase::Dismounting | VolumePhase::Emptied)
-    }
-
     /// Whether the volume's contexts are unlinked, and its dismount may be finished.
     pub fn is_emptied(&self) -> bool
         ensures { result ≡ is_volume_emptied_phase self.now.phase }
@@ -58,4 +63,13 @@ pub fn set_phase(rows: &mut Vec<Volume>, at: usize, phase: VolumePhase)
     ensures { rows.new.items ≡ updated (volume_in phase) rows.old.items at }
 {
     rows[at].phase = phase;
+}
+
+/// One volume is emptied; if its dismount has ended, it stays so.
+pub fn empty(rows: &mut Vec<Volume>, at: usize)
+    requires { at < length rows.old.items }
+    ensures { rows.new.items ≡ updated emptied_in rows.old.items at }
+{
+    let row = &mut rows[at];
+    row.phase = row.phase.emptied();
 }

@@ -1,6 +1,6 @@
 //! The state, and what its workers were lent.
 
-ghost use Rattle.std.specs.Prelude.{◌≡◌, IfErr, IfNone, IfOk, IfSome};
+ghost use Rattle.std.specs.Prelude.{◌≡◌, IfErr, IfNone, IfOk, IfSome, replicate};
 ghost use Rattle.fm_world.specs.World.{empty_world};
 ghost use Rattle.fm_world.specs.Events.{Attaches, BaseReturns, Collects, SetsUp};
 ghost use Rattle.fm_world.specs.Steps.{Steps};
@@ -39,9 +39,10 @@ impl Model for Session {
 }
 
 impl Session {
-    /// The state before the first event. Refused with 1 where memory was refused.
+    /// The state before the first event, and 48 workers of which none was lent anything. Refused with 1 if memory was refused.
     pub fn new(alloc: Global) -> Result<Self, Status>
         ensures empty { IfOk result (λ session. session.world ≡ empty_world) }
+        ensures lent { IfOk result (λ session. session.lent ≡ replicate 48 lent.Nothing) }
         ensures memory { IfErr result (λ status. status ≡ Status.NoMemory) }
     {
         let state = State::new(alloc)?;

@@ -42,20 +42,23 @@ pub fn end_of<R: Read + Drop>(alloc: Global, reader: R, output: &[u8]) -> (Scrip
     (end, bytes.as_slice() == output)
 }
 
-// A hundred thousand lines, and these bytes behind them.
+// A hundred thousand lines, of which the first and the last print, and these bytes behind them.
 fn end_behind_most_lines(rt: &impl Abort, alloc: Global, rest: &[u8]) -> (ScriptEnd, bool) {
     let mut input = b"load f\n".to_vec(alloc).expect(rt, "memory");
-    let lines = Vec::from_elem(alloc, b'\n', 99_999).expect(rt, "memory");
+    let lines = Vec::from_elem(alloc, b'\n', 99_998).expect(rt, "memory");
     input.extend_from_slice(&lines).expect(rt, "memory");
+    input.extend_from_slice(b"mount v\n").expect(rt, "memory");
     input.extend_from_slice(rest).expect(rt, "memory");
-    end_of(alloc, input.as_slice(), b"ok f0\n")
+    end_of(alloc, input.as_slice(), b"ok f0\nok v0\n")
 }
 
 #[test]
 fn most_lines(rt: HostRuntime) {
     let whole = end_behind_most_lines(&rt, rt.alloc(), b"");
-    let more = end_behind_most_lines(&rt, rt.alloc(), b"#");
+    let comment = end_behind_most_lines(&rt, rt.alloc(), b"#");
+    let more = end_behind_most_lines(&rt, rt.alloc(), b"mount u\nmount w\n");
     assert!(rt; whole == (ScriptEnd::Ended, true));
+    assert!(rt; comment == (ScriptEnd::ReadFault, true));
     assert!(rt; more == (ScriptEnd::ReadFault, true));
 }
 

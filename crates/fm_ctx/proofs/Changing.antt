@@ -1,31 +1,31 @@
 -- The calls that change one row: the words of their answers, which row it is, and the rows with their seats after it.
 use Rattle.std.proofs.Common.{◌≡◌, ◌<◌, ◌-◌, ◌^◌, ◌∙◌}
 use Rattle.fm_ctx.proofs.Words.{ℕ, true, List, length, get_or, Option, is_some, arith, CtxId, Row, Seat, holds, hand_of, set, updated, ContextsKept, carried_of}
-use Rattle.fm_ctx.proofs.Words.{count_in, link_at, IsSound, IsIndexed, seat_in, GenerationsKept, life_of, lives_of, sym, ap, subst}
-use Rattle.fm_ctx.proofs.Words.{slice_get, Some, option_map, slice_get-map, cleaned_row}
+use Rattle.fm_ctx.proofs.Words.{count_in, link_at, IsSound, IsIndexed, seat_in, Tally, life_of, lives_of, sym, ap, subst}
+use Rattle.fm_ctx.proofs.Words.{slice_get, refl, IsOpenAt, Some, option_map, slice_get-map, cleaned_row}
 use Rattle.fm_ctx.specs.Generations.{Life, IsAccount, ended}
-use Rattle.fm_ctx.proofs.Accounts.{some_living, room_to_end, account_end}
+use Rattle.fm_ctx.proofs.Accounts.{some_living, account_end}
 use Rattle.fm_ctx.proofs.Seated.{set_constant}
 use Rattle.fm_ctx.proofs.Rows.{map_changed, map_kept}
-pub use Rattle.fm_ctx.proofs.Rows.{InRow, within_rows, row_carried, row_named, row_read, body_row}
+pub use Rattle.fm_ctx.proofs.Rows.{InRow, opens_at, within_rows, row_carried, row_named, row_read, body_row}
 pub use Rattle.fm_ctx.proofs.Sound.{sound_now, present, live_held, live_linked, row_count, row_fits, row_positive, due_fits, due_row, sound_as, dropped_row}
 pub use Rattle.fm_ctx.proofs.Sound.{sound_grabbed, sound_released, sound_carried, sound_brought, sound_linked, sound_unlinked, sound_unlinked_into}
 pub use Rattle.fm_ctx.proofs.Sound.{sound_rewritten, sound_taken, sound_cleaned}
 pub use Rattle.fm_ctx.proofs.Shown.{shown, slots_kept, slots_changed, slots_by, slots_with, carried_kept, carried_by, due_by, due_told}
-pub use Rattle.fm_ctx.proofs.Shown.{within_carried, within_updated, read_updated, updated_twice}
+pub use Rattle.fm_ctx.proofs.Shown.{within_carried, opens_updated, read_updated, updated_twice}
 pub use Rattle.fm_ctx.proofs.Seated.{seats_kept, seats_set, seat_within, seat_free, unseated, unlinked_seat, linked_seat}
 
 -- ---- the row
 
-module _ {rows : List Row} {kept now : ContextsKept} {capacity : ℕ} {seats : List (Option Seat)} {generations : GenerationsKept}
-    (indexed : IsIndexed rows kept capacity seats generations) (same : kept ≡ now) where
+module _ {rows : List Row} {kept now : ContextsKept} {capacity : ℕ} {seats : List (Option Seat)} {tally : Tally}
+    (indexed : IsIndexed rows kept capacity seats tally) (same : kept ≡ now) where
   -- of a context with references
   pub row_live : (c : CtxId) → 0 < count_in (carried_of now) now.table c → InRow rows c
   row_live c live = present (sound_now indexed same) c live
 
   -- it can have one more
-  pub row_raises : (c : CtxId) → 0 < count_in (carried_of now) now.table c → (c.slot < length rows) × ((d : Row) → (get_or rows c.slot d).count < 2 ^ 64 - 1)
-  row_raises c live = (within_rows (row_live c live), row_fits (sound_now indexed same) (row_live c live))
+  pub row_raises : (c : CtxId) → 0 < count_in (carried_of now) now.table c → IsOpenAt rows c.slot × ((d : Row) → (get_or rows c.slot d).count < 2 ^ 64 - 1)
+  row_raises c live = (opens_at (row_live c live), row_fits (sound_now indexed same) (row_live c live))
 
   -- of one that a worker holds, or that is linked, or that completions carry
   pub row_held : (w : ℕ) (c : CtxId) → w < 48 → holds (hand_of now.table.hands w) c ≡ true → InRow rows c
@@ -39,49 +39,43 @@ module _ {rows : List Row} {kept now : ContextsKept} {capacity : ℕ} {seats : L
 
 -- ---- after it was changed
 
-module _ {rows : List Row} {kept : ContextsKept} {capacity : ℕ} {seats : List (Option Seat)} {generations : GenerationsKept} {c : CtxId}
-    (was : IsIndexed rows kept capacity seats generations) (i : InRow rows c) where
+module _ {rows : List Row} {kept : ContextsKept} {capacity : ℕ} {seats : List (Option Seat)} {tally : Tally} {c : CtxId}
+    (was : IsIndexed rows kept capacity seats tally) (i : InRow rows c) where
   -- the life of its slot
   there_now : slice_get (lives_of rows) c.slot ≡ Some (life_of i.row)
   there_now = slice_get-map life_of rows c.slot ∙ ap (λ (o : Option Row). option_map life_of o) i.there
 
-  pub one_living : 0 < generations.living
-  one_living = some_living was.account c (life_of i.row) there_now i.open_yet
+  pub one_living : 0 < tally.living
+  one_living = some_living was.account c.slot (life_of i.row) there_now i.open_yet
 
-  pub room_at_end : length generations.free < generations.room
-  room_at_end = room_to_end was.account c (life_of i.row) there_now i.open_yet
+  account_kept : {rows' : List Row} (g : Row → Row) → rows' ≡ updated g rows c.slot → life_of (g i.row) ≡ life_of i.row → IsAccount (lives_of rows') tally
+  account_kept g is same = subst (λ l. IsAccount l tally) (sym (ap lives_of is ∙ map_kept i life_of g same)) was.account
 
-  account_kept : {rows' : List Row} (g : Row → Row) → rows' ≡ updated g rows c.slot → life_of (g i.row) ≡ life_of i.row → IsAccount (lives_of rows') generations
-  account_kept g is same = subst (λ l. IsAccount l generations) (sym (ap lives_of is ∙ map_kept i life_of g same)) was.account
-
-module _ {rows rows' : List Row} {kept kept' now : ContextsKept} {capacity capacity' : ℕ} {seats : List (Option Seat)} {generations : GenerationsKept} {c : CtxId}
-    (was : IsIndexed rows kept capacity seats generations) (i : InRow rows c) where
+module _ {rows rows' : List Row} {kept kept' now : ContextsKept} {capacity capacity' : ℕ} {seats : List (Option Seat)} {tally : Tally} {c : CtxId}
+    (was : IsIndexed rows kept capacity seats tally) (i : InRow rows c) where
   -- its seat stays
   pub indexed_kept : (g : Row → Row) → rows' ≡ updated g rows c.slot → kept' ≡ now → capacity' ≡ capacity → IsSound (updated g rows c.slot) now capacity
-      → life_of (g i.row) ≡ life_of i.row → seat_in (g i.row) ≡ seat_in i.row → IsIndexed rows' kept' capacity' seats generations
+      → life_of (g i.row) ≡ life_of i.row → seat_in (g i.row) ≡ seat_in i.row → IsIndexed rows' kept' capacity' seats tally
   indexed_kept g is shows fits sound lives same =
       record { sound = sound_as is shows fits sound; seated = seats_kept i was.seated g is same; account = account_kept was i g is lives }
 
   -- its context is cleaned
-  pub indexed_ended : {generations' : GenerationsKept} → rows' ≡ updated cleaned_row rows c.slot → kept' ≡ now → capacity' ≡ capacity
-      → IsSound (updated cleaned_row rows c.slot) now capacity → seat_in (cleaned_row i.row) ≡ seat_in i.row → generations' ≡ ended generations c
-      → IsIndexed rows' kept' capacity' seats generations'
+  pub indexed_ended : {tally' : Tally} → rows' ≡ updated cleaned_row rows c.slot → kept' ≡ now → capacity' ≡ capacity
+      → IsSound (updated cleaned_row rows c.slot) now capacity → seat_in (cleaned_row i.row) ≡ seat_in i.row → tally' ≡ ended tally
+      → IsIndexed rows' kept' capacity' seats tally'
   indexed_ended is shows fits sound same ends =
-      let over : Life = record { generation = c.generation; is_cleaned = true } in
+      let over : Life = record { generation = i.row.generation; is_cleaned = true } in
       let lives : lives_of rows' ≡ set (lives_of rows) c.slot over =
-      ap lives_of is ∙ map_changed i life_of cleaned_row (λ l. over) (ap (λ (g : ℕ). record { generation = g; is_cleaned = true }) (sym i.named))
-      ∙ sym (set_constant (lives_of rows) c.slot over) in
+      ap lives_of is ∙ map_changed i life_of cleaned_row (λ l. over) refl ∙ sym (set_constant (lives_of rows) c.slot over) in
       record {
         sound = sound_as is shows fits sound;
         seated = seats_kept i was.seated cleaned_row is same;
-        account =
-            subst (λ (p : List Life × GenerationsKept). IsAccount p.0 p.1) (λ k. (sym lives k, sym ends k))
-            (account_end was.account c (life_of i.row) (there_now was i) i.open_yet (sym i.named));
+        account = subst (λ (p : List Life × Tally). IsAccount p.0 p.1) (λ k. (sym lives k, sym ends k)) (account_end was.account c.slot (life_of i.row) (there_now was i) i.open_yet);
       }
 
   -- or it gets another one
   pub indexed_set : {seats' : List (Option Seat)} (g : Row → Row) (o : Option Seat) → rows' ≡ updated g rows c.slot → kept' ≡ now → capacity' ≡ capacity
       → IsSound (updated g rows c.slot) now capacity → seats' ≡ set seats c.slot o → life_of (g i.row) ≡ life_of i.row → seat_in (g i.row) ≡ o
-      → IsIndexed rows' kept' capacity' seats' generations
+      → IsIndexed rows' kept' capacity' seats' tally
   indexed_set g o is shows fits sound put lives new =
       record { sound = sound_as is shows fits sound; seated = seats_set i was.seated g o is put new; account = account_kept was i g is lives }

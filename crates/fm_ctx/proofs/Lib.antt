@@ -11,6 +11,7 @@ pub mod Moves
 pub mod Carried
 pub mod Lives
 pub mod Rows
+pub mod Stored
 pub mod Sound
 pub mod Shown
 pub mod Changing

@@ -1,105 +1,25 @@
 -- A new row stands for a new context.
-use Rattle.fm_ctx.proofs.Words.{ℕ, true, false, List, [], length, set, slice_get, Option, Some, None, refl, sym, ap, subst, arith, inl, length-append, length-set, ne_eqb}
+use Rattle.fm_ctx.proofs.Words.{ℕ, Bool, true, false, cond, List, [], length, set, slice_get, Option, Some, None, refl, sym, ap, subst, arith, inl, length-append, length-set, ne_eqb}
 use Rattle.fm_ctx.proofs.Words.{eq-eqb, length-map, cases_eq, inr, CtxId, slice_get-map, slice_get-push, slice_get-append_left, slice_get_past, slice_get_within, slice_get-some}
-use Rattle.fm_ctx.proofs.Words.{get_or_from_slice_get, Row, Seat, one, is_id, references, option_map, hand_of, Slot, ContextsKept, carried_of, is_out_of_slots, IsNew, placed, kept_allocated}
-use Rattle.fm_ctx.proofs.Words.{context_of, slot_of, slots_of, seat_in, seats_of, carried_in, row_at, stored, IsFresh, put_row, life_of, lives_of}
-use Rattle.fm_ctx.proofs.Words.{is_referenced, IsSound, kept_in, nat_tests, map_push, count_by-le-length, carried_none}
-use Rattle.std.proofs.Common.{◌≡◌, ◌+◌, ◌<◌, ◌≤◌, ◌≢◌, ◌∷◌, ◌++◌, ◌∙◌, ◌&&◌, ◌==◌, nat_le, not}
+use Rattle.fm_ctx.proofs.Words.{get_or_from_slice_get, Row, Seat, one, is_id, option_map, hand_of, Slot, ContextsKept, carried_of, IsNew, placed, kept_allocated, same_Some}
+use Rattle.fm_ctx.proofs.Words.{context_of, slot_of, slots_of, seat_in, seats_of, carried_in, row_at, stored, IsFresh, IsPut, put_row, life_of, lives_of}
+use Rattle.fm_ctx.proofs.Words.{is_referenced, IsSound, kept_in, nat_tests, map_push, count_by-le-length, carried_none, Tally}
+use Rattle.std.proofs.Common.{◌≡◌, ◌+◌, ◌<◌, ◌≤◌, ◌≢◌, ◌∷◌, ◌++◌, ◌∙◌, ◌⊎◌}
 use Rattle.std.proofs.Math.Seq.{map-set_same}
 use Rattle.std.proofs.lemmas.List.{map-set}
-use Rattle.std.proofs.lemmas.List.Folds.{list_any_none, list_any_at}
-use Rattle.fm_types.proofs.Lists.{all_from_slice_get, slice_get-set_same, slice_get-set_other}
-use Rattle.fm_ctx.specs.Births.{last_generation, has_free_slot, is_free}
-use Rattle.fm_ctx.specs.Generations.{IsAccount, GenerationsKept, begun}
-use Rattle.fm_ctx.proofs.Bags.{is_id-same, is_id-refl, references_none, references_cons, references_append}
+use Rattle.fm_types.proofs.Lists.{slice_get-set_same, slice_get-set_other}
+use Rattle.fm_ctx.specs.Births.{last_generation, is_free}
+use Rattle.fm_ctx.specs.Generations.{Life, IsAccount, begun}
+use Rattle.fm_ctx.proofs.Bags.{is_id-same}
 use Rattle.fm_ctx.proofs.Slots.{new_slot_absent}
 use Rattle.fm_ctx.proofs.Rows.{context_at-rows}
-use Rattle.fm_ctx.proofs.Accounts.{NextThere, next_there, account_new, account_again, few_living}
+use Rattle.fm_ctx.proofs.Accounts.{account_new, account_again}
 use Rattle.fm_ctx.proofs.Moves.{within_hands}
 use Rattle.fm_ctx.proofs.Lives.{allocate_keeps, count_allocated}
 use Rattle.fm_ctx.proofs.Carried.{carried_allocated}
 use Rattle.fm_ctx.proofs.Alike.{lawful_alike}
 
--- ---- which slot comes next
-
--- the row of a free slot
-pub record RowNext (rows : List Row) (c : CtxId) : Type 0 where
-  pub row : Row
-  pub there : slice_get rows c.slot ≡ Some row
-  pub over : row.is_cleaned ≡ true
-  pub young : row.generation < last_generation
-  pub follows : c.generation ≡ row.generation + 1
-
-row_next : (rows : List Row) (c : CtxId) → NextThere (lives_of rows) c → RowNext rows c
-row_next rows c n =
-    let r = slice_get-some rows c.slot (omega (arith, slice_get_within (lives_of rows) c.slot n.life n.there, length-map rows life_of)) in
-    let there = slice_get-map life_of rows c.slot in
-    record {
-      row = r.0;
-      there = r.1;
-      over = grind (arith, there, r.1, n.there, n.over);
-      young = grind (arith, there, r.1, n.there, n.young);
-      follows = grind (arith, there, r.1, n.there, n.follows);
-    }
-
-module _ (rows : List Row) {kept : GenerationsKept} (a : IsAccount (lives_of rows) kept) where
-  pub row_listed : (c : CtxId) → 0 < references kept.free c → RowNext rows c
-  row_listed c some = row_next rows c (next_there (lives_of rows) c (omega (arith, some, a.listed c)))
-
-  pub none_free : kept.free ≡ [] → has_free_slot (slots_of rows) ≡ false
-  none_free none =
-      list_any_none is_free (slots_of rows) (all_from_slice_get (λ (s : Slot). is_free s ≡ false) (slots_of rows) (λ k s there.
-      let c : CtxId = record { slot = k; generation = s.generation + 1 } in
-      grind (arith, nat_tests, there, slice_get-map slot_of rows k, slice_get-map life_of rows k, a.listed c, ap (λ (ids : List CtxId). references ids c) none, references_none c)))
-
-  pub some_free : (c : CtxId) → 0 < references kept.free c → has_free_slot (slots_of rows) ≡ true
-  some_free c some =
-      let n = row_listed c some in
-      let s = slot_of n.row in
-      let there : slice_get (slots_of rows) c.slot ≡ Some s = slice_get-map slot_of rows c.slot ∙ ap (λ (o : Option Row). option_map slot_of o) n.there in
-      list_any_at is_free (slots_of rows) c.slot s (slice_get_within (slots_of rows) c.slot s there)
-      (ap is_free (get_or_from_slice_get (slots_of rows) c.slot s s there) ∙ grind (arith, nat_tests, n.over, n.young))
-
-  pub out_of_slots : (nat_le 65536 (length rows) && (length kept.free == 0)) ≡ is_out_of_slots (slots_of rows)
-  unfolding is_out_of_slots
-  out_of_slots = by_list kept.free refl
-    where
-      many : length (slots_of rows) ≡ length rows
-      many = length-map rows slot_of
-
-      by_list : (free : List CtxId) → kept.free ≡ free
-          → (nat_le 65536 (length rows) && (length kept.free == 0)) ≡ (nat_le 65536 (length (slots_of rows)) && not (has_free_slot (slots_of rows)))
-      by_list [] is = grind (arith, nat_tests, many, none_free is, ap length is)
-      by_list (c ∷ free) is =
-          let some = some_free c (grind (arith, nat_tests, ap (λ (ids : List CtxId). references ids c) is, references_cons c c free, is_id-refl c)) in
-          grind (arith, nat_tests, many, some, ap length is)
-
-  -- a new slot, where none is free and there is room
-  pub is_new_first : (c : CtxId) → c.slot ≡ length rows → c.generation ≡ 0 → kept.free ≡ [] → is_out_of_slots (slots_of rows) ≡ false → IsNew (slots_of rows) c
-  is_new_first c past first none free =
-      let many = length-map rows slot_of in
-      inl (past ∙ sym many, first, grind (arith, nat_tests, out_of_slots, ap length none, free, many))
-
--- the next id of a slot that is free
-pub is_new_again : {rows : List Row} {c : CtxId} → RowNext rows c → IsNew (slots_of rows) c
-is_new_again {rows} {c} n =
-    inr (slot_of n.row, slice_get-map slot_of rows c.slot ∙ ap (λ (o : Option Row). option_map slot_of o) n.there, grind (arith, nat_tests, n.over, n.young), n.follows)
-
-pub row_within : {rows : List Row} {c : CtxId} → RowNext rows c → c.slot < length rows
-row_within {rows} {c} n = slice_get_within rows c.slot n.row n.there
-
--- of the id that stood last among the free
-pub row_popped : (rows : List Row) (c : CtxId) (kept : GenerationsKept) → IsAccount (lives_of rows) (record kept { free = kept.free ++ c ∷ [] }) → RowNext rows c
-row_popped rows c kept a =
-    row_listed rows a c (grind (arith, nat_tests, references_append c kept.free (c ∷ []), references_cons c c [], is_id-refl c))
-
 -- ---- the row is put there
-
-pub put_again : (rows : List Row) (c : CtxId) (r : Row) → c.slot < length rows → set rows c.slot (record r { generation = c.generation }) ≡ put_row rows c r
-put_again rows c r within = rw (ne_eqb c.slot (length rows) (λ is. omega (arith, within, is))) refl
-
-pub put_first : (rows : List Row) (c : CtxId) (r : Row) → c.slot ≡ length rows → c.generation ≡ r.generation → rows ++ r ∷ [] ≡ put_row rows c r
-put_first rows c r past named = rw (eq-eqb c.slot (length rows) past) (ap (λ (g : ℕ). rows ++ (record r { generation = g }) ∷ []) (sym named))
 
 module _ (rows : List Row) (c : CtxId) (r : Row) (new : IsNew (slots_of rows) c) where
   abbrev named : Row
@@ -164,24 +84,82 @@ sound_allocated {rows} {kept = kept} room w r c s shows worker new fresh hand_ro
 
 -- ---- what is kept beside the rows
 
+abbrev fresh_row : CtxId → Row → Row
+fresh_row c r = record r { generation = c.generation }
+
 fresh_seat : (c : CtxId) (r : Row) → IsFresh r → seat_in (record r { generation = c.generation }) ≡ None
 fresh_seat c r fresh = grind (arith, nat_tests, fresh.link)
 
-pub seats_again : {seats : List (Option Seat)} {rows : List Row} {c : CtxId} (r : Row) → RowNext rows c → IsFresh r → seats ≡ seats_of rows
-    → seats ≡ seats_of (set rows c.slot (record r { generation = c.generation }))
-seats_again {rows = rows} {c = c} r n fresh seated =
-    seated ∙ sym (map-set_same seat_in rows c.slot (record r { generation = c.generation }) n.row
-    (fresh_seat c r fresh ∙ sym (ap seat_in (get_or_from_slice_get rows c.slot n.row n.row n.there) ∙ grind (arith, nat_tests, n.over))))
+fresh_life : (c : CtxId) (r : Row) → IsFresh r → life_of (record r { generation = c.generation }) ≡ record { generation = c.generation; is_cleaned = false }
+fresh_life c r fresh = ap (λ b. record { generation = c.generation; is_cleaned = b }) fresh.open_yet
 
-pub account_put_again : (rows : List Row) {kept : GenerationsKept} (c : CtxId) (r : Row) → IsFresh r
-    → IsAccount (lives_of rows) (record kept { free = kept.free ++ c ∷ [] })
-    → IsAccount (lives_of (set rows c.slot (record r { generation = c.generation }))) (begun kept)
-account_put_again rows {kept} c r fresh a =
-    let lives = map-set life_of rows c.slot (record r { generation = c.generation }) ∙ ap (λ b. set (lives_of rows) c.slot (record { generation = c.generation; is_cleaned = b })) fresh.open_yet in
-    subst (λ l. IsAccount l (begun kept)) (sym lives) (account_again c a)
+-- the row of a slot that is free
+record RowFree (rows : List Row) (c : CtxId) : Type 0 where
+  pub row : Row
+  pub there : slice_get rows c.slot ≡ Some row
+  pub over : row.is_cleaned ≡ true
+  pub young : row.generation < last_generation
+  pub follows : c.generation ≡ row.generation + 1
 
-pub account_put_first : (rows : List Row) {rows' : List Row} {kept : GenerationsKept} (r : Row) → IsFresh r → r.generation ≡ 0 → rows' ≡ rows ++ r ∷ []
-    → IsAccount (lives_of rows) kept → length kept.free + (length rows + 1) ≤ kept.room → IsAccount (lives_of rows') (begun kept)
-account_put_first rows {rows'} {kept} r fresh first is a fits =
-    let lives = ap lives_of is ∙ map_push life_of rows r ∙ (λ i. lives_of rows ++ (record { generation = first i; is_cleaned = fresh.open_yet i }) ∷ []) in
-    subst (λ l. IsAccount l (begun kept)) (sym lives) (account_new a (omega (arith, fits, few_living a, length-map rows life_of)))
+row_free : (rows : List Row) (c : CtxId) (s : Slot) → slice_get (slots_of rows) c.slot ≡ Some s → is_free s ≡ true → c.generation ≡ s.generation + 1 → RowFree rows c
+row_free rows c s there free follows =
+    let r = slice_get-some rows c.slot (omega (arith, slice_get_within (slots_of rows) c.slot s there, length-map rows slot_of)) in
+    let is : slot_of r.0 ≡ s = same_Some (slot_of r.0) s (sym (ap (λ (o : Option Row). option_map slot_of o) r.1) ∙ sym (slice_get-map slot_of rows c.slot) ∙ there) in
+    record {
+      row = r.0;
+      there = r.1;
+      over = grind (arith, nat_tests, ap is_free is, free);
+      young = grind (arith, nat_tests, ap is_free is, free);
+      follows = follows ∙ ap (λ (x : Slot). x.generation + 1) (sym is);
+    }
+
+module _ (rows rows' : List Row) (c : CtxId) (r : Row) (put : IsPut rows rows' r c) (fresh : IsFresh r) where
+  -- the slot is a new one, or one that was free
+  put_by : ((c.slot ≡ length rows) × (c.generation ≡ 0) × (rows' ≡ rows ++ (fresh_row c r) ∷ [])) ⊎ (RowFree rows c × (rows' ≡ set rows c.slot (fresh_row c r)))
+  put_by =
+      elim put.0 [
+        | inl first ↦
+            let past : c.slot ≡ length rows = first.0 ∙ length-map rows slot_of in
+            inl (past, first.1, put.1 ∙ ap (λ (b : Bool). cond b (rows ++ (fresh_row c r) ∷ []) (set rows c.slot (fresh_row c r))) (eq-eqb c.slot (length rows) past))
+        | inr again ↦
+            let n = row_free rows c again.0 again.1 again.2 again.3 in
+            let within = slice_get_within rows c.slot n.row n.there in
+            inr (n, put.1 ∙ ap (λ (b : Bool). cond b (rows ++ (fresh_row c r) ∷ []) (set rows c.slot (fresh_row c r))) (ne_eqb c.slot (length rows) (λ is. omega (arith, within, is))))
+      ]
+
+  pub account_put : {tally : Tally} → IsAccount (lives_of rows) tally → IsAccount (lives_of rows') (begun tally)
+  account_put {tally} a =
+      elim put_by [
+        | inl first ↦
+            let lives : lives_of rows' ≡ lives_of rows ++ (record { generation = 0; is_cleaned = false }) ∷ [] =
+            ap lives_of first.2 ∙ map_push life_of rows (fresh_row c r)
+            ∙ ap (λ (l : Life). lives_of rows ++ l ∷ []) (fresh_life c r fresh ∙ ap (λ (g : ℕ). record { generation = g; is_cleaned = false }) first.1) in
+            subst (λ l. IsAccount l (begun tally)) (sym lives) (account_new a)
+        | inr again ↦
+            let n = again.0 in
+            let lives = ap lives_of again.1 ∙ map-set life_of rows c.slot (fresh_row c r) ∙ ap (set (lives_of rows) c.slot) (fresh_life c r fresh) in
+            let there = slice_get-map life_of rows c.slot ∙ ap (λ (o : Option Row). option_map life_of o) n.there in
+            subst (λ l. IsAccount l (begun tally)) (sym lives) (account_again a c.slot (life_of n.row) there c.generation n.over n.young n.follows)
+      ]
+
+  -- a new slot has no seat
+  pub seats_put_first : {seats seats' : List (Option Seat)} → c.slot ≡ length rows → seats ≡ seats_of rows → seats' ≡ seats ++ None ∷ [] → seats' ≡ seats_of rows'
+  seats_put_first {seats} past seated more =
+      elim put_by [
+        | inl first ↦
+            more ∙ ap (λ (s : List (Option Seat)). s ++ None ∷ []) seated ∙ ap (λ (o : Option Seat). seats_of rows ++ o ∷ []) (sym (fresh_seat c r fresh))
+            ∙ sym (map_push seat_in rows (fresh_row c r)) ∙ sym (ap seats_of first.2)
+        | inr again ↦ absurd (omega (arith, past, slice_get_within rows c.slot again.0.row again.0.there))
+      ]
+
+  -- one that was free had none
+  pub seats_put_again : {seats : List (Option Seat)} → (c.slot ≡ length rows → ⊥) → seats ≡ seats_of rows → seats ≡ seats_of rows'
+  seats_put_again below seated =
+      elim put_by [
+        | inl first ↦ absurd (below first.0)
+        | inr again ↦
+            let n = again.0 in
+            seated ∙ sym (map-set_same seat_in rows c.slot (fresh_row c r) n.row
+            (fresh_seat c r fresh ∙ sym (ap seat_in (get_or_from_slice_get rows c.slot n.row n.row n.there) ∙ grind (arith, nat_tests, n.over))))
+            ∙ sym (ap seats_of again.1)
+      ]

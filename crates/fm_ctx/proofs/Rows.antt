@@ -3,11 +3,11 @@ use Rattle.fm_ctx.proofs.Words.{ℕ, zero, suc, Bool, true, false, cond, ltb, Li
 use Rattle.fm_ctx.proofs.Words.{None, is_some, is_none, option_map, refl, sym, ap, ap₂, subst, arith, unwrap_or, position, position_or_len}
 use Rattle.fm_ctx.proofs.Words.{length-map, sum_by-cons, true≢false, same_Some, slice_get-map, slice_get_within}
 use Rattle.fm_ctx.proofs.Words.{get_or_from_slice_get, CtxId, updated, updated-same, updated-other, count_by-updated, Row, one, is_id}
-use Rattle.fm_ctx.proofs.Words.{Context, Slot, context_at, carried_of, Object, Owner, links, has_link, id_at, holder, was_given, body_at, context_of}
+use Rattle.fm_ctx.proofs.Words.{Context, Slot, context_at, carried_of, Object, Owner, links, has_link, id_at, holder, was_given, body_at, context_of, IsOpenAt}
 use Rattle.fm_ctx.proofs.Words.{slot_of, slots_of, carried_in, row_in, row_at, count_of_row, stored, is_referenced, kept_in, nat_tests}
 use Rattle.fm_ctx.proofs.Words.{unwrap_or-slice_get, ContextsKept, born, life_of, lives_of}
 use Rattle.std.proofs.Common.{◌≡◌, ◌+◌, ◌<◌, ◌∷◌, ◌∙◌, not, sum_by}
-use Rattle.std.proofs.lemmas.Option.{slice_get_read}
+use Rattle.fm_ctx.proofs.Words.{slice_get-some}
 use Rattle.fm_ctx.specs.Counting.{cleaned_count, is_open, open_of, was_given_by}
 use Rattle.fm_ctx.specs.Generations.{Life, is_living}
 use Rattle.fm_ctx.proofs.Bags.{is_id-same}
@@ -65,6 +65,9 @@ module _ {rows : List Row} {c : CtxId} (i : InRow rows c) where
   pub within_rows : c.slot < length rows
   within_rows = slice_get_within rows c.slot i.row i.there
 
+  pub opens_at : IsOpenAt rows c.slot
+  opens_at = (i.row, i.there, i.open_yet)
+
   -- what it is read as, whatever stands past the end
   pub row_read : (d : Row) → get_or rows c.slot d ≡ i.row
   row_read d = get_or_from_slice_get rows c.slot i.row d i.there
@@ -74,9 +77,9 @@ module _ {rows : List Row} {c : CtxId} (i : InRow rows c) where
 
   -- its body is the context's
   pub body_row : {hands : List (List CtxId)} {due : List CtxId} {cleaning : List (Option CtxId)} {leaks : ℕ} {now : ContextsKept}
-      → kept_in rows hands due cleaning leaks ≡ now → (d : Row) → (get_or rows c.slot d).body.items ≡ body_at now.table.slots c
+      → kept_in rows hands due cleaning leaks ≡ now → (d : Row) → (get_or rows c.slot d).body ≡ body_at now.table.slots c
   body_row same d =
-      ap (λ (r : Row). r.body.items) (row_read d) ∙ sym (ap (λ (o : Option Context). unwrap_or (option_map (λ (x : Context). x.body) o) []) context_in_row)
+      ap (λ (r : Row). r.body) (row_read d) ∙ sym (ap (λ (o : Option Context). unwrap_or (option_map (λ (x : Context). x.body) o) []) context_in_row)
       ∙ ap (λ (k : ContextsKept). body_at k.table.slots c) same
 
   -- so is what completions carry
@@ -142,10 +145,12 @@ unfolding holder
 holder-rows rows owner object = ap (option_map (id_at (slots_of rows))) (position-map (has_link owner object) slot_of rows)
 
 -- the id that a slot was given last
-pub id_of_row : (rows : List Row) (k : ℕ) (r : Row) → k < length rows → r ≡ get_or rows k r → record { slot = k; generation = r.generation } ≡ id_at (slots_of rows) k
-id_of_row rows k r within is =
-    let there = slice_get-map slot_of rows k ∙ ap (option_map slot_of) (slice_get_read rows (length rows) k r refl within is) in
-    ap (λ (g : ℕ). record { slot = k; generation = g }) (sym (ap (λ (o : Option Slot). unwrap_or (option_map (λ (s : Slot). s.generation) o) 0) there))
+pub id_of_row : (rows : List Row) (k g : ℕ) → k < length rows → ((d : Row) → g ≡ (get_or rows k d).generation) → record { slot = k; generation = g } ≡ id_at (slots_of rows) k
+id_of_row rows k g within is =
+    let r = slice_get-some rows k within in
+    let there = slice_get-map slot_of rows k ∙ ap (option_map slot_of) r.1 in
+    let generation = is r.0 ∙ ap (λ (q : Row). q.generation) (get_or_from_slice_get rows k r.0 r.0 r.1) in
+    ap (λ (g : ℕ). record { slot = k; generation = g }) (generation ∙ sym (ap (λ (o : Option Slot). unwrap_or (option_map (λ (s : Slot). s.generation) o) 0) there))
 
 -- ---- what readers are told
 

@@ -77,6 +77,6 @@ module _ {rows : List Row} {seats : List (Option Seat)} {c : CtxId} (i : InRow r
 pub unlinked_seat : (r : Row) → seat_in (unlinked_row r) ≡ None
 unlinked_seat r = grind (arith, nat_tests)
 
-pub linked_seat : {rows : List Row} {c : CtxId} (i : InRow rows c) (object : Object) (r : Row) → r ≡ get_or rows c.slot r
-    → seat_in (linked_row object i.row) ≡ Some (seat_of r.owner object)
-linked_seat i object r read = grind (arith, nat_tests, row_read i r, i.open_yet)
+pub linked_seat : {rows : List Row} {c : CtxId} (i : InRow rows c) (object : Object) (owner : Owner) → owner ≡ i.row.owner
+    → seat_in (linked_row object i.row) ≡ Some (seat_of owner object)
+linked_seat i object owner is = grind (arith, nat_tests, i.open_yet, is)

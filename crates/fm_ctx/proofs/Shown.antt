@@ -3,7 +3,7 @@ use Rattle.std.proofs.Common.{◌≡◌, ◌<◌, ◌∷◌, ◌++◌, ◌∙◌
 use Rattle.fm_ctx.proofs.Words.{ℕ, zero, suc, cond, eqb, List, [], length, get_or, slice_get, Option, Some, option_map, refl, sym, ap, arith}
 use Rattle.fm_ctx.proofs.Words.{length-map, CtxId, updated, get_or_from_slice_get, updated-same, Row, Context, Slot, ContextsKept, change_context}
 use Rattle.fm_ctx.proofs.Words.{due_after, slot_of, slots_of, carried_in, carried_of, kept_in, context_of, row_with, with_body, IsSound, changed_slot}
-use Rattle.fm_ctx.proofs.Words.{nat_tests, Vec, length-updated, life_of}
+use Rattle.fm_ctx.proofs.Words.{nat_tests, life_of, IsOpenAt, false}
 use Rattle.fm_ctx.specs.Generations.{Life}
 use Rattle.fm_ctx.specs.Cleanup.{due_of, due_reply}
 use Rattle.fm_ctx.proofs.Rows.{InRow, within_rows, context_in_row, map_changed, map_kept}
@@ -43,9 +43,8 @@ module _ {rows : List Row} {c : CtxId} (i : InRow rows c) where
       slots_changed g (option_map h) (ap (λ (l : Life). l.generation) keeps) (rw (ap (λ (l : Life). l.is_cleaned) keeps ∙ i.open_yet) (ap (λ (x : Context). Some x) changes))
 
   -- a body that holds other bytes
-  pub slots_with : (body : Vec ℕ) (bytes : List ℕ) → body.items ≡ bytes
-      → slots_of (updated (row_with body) rows c.slot) ≡ change_context (option_map (with_body bytes)) (slots_of rows) c
-  slots_with body bytes is = slots_by (row_with body) (with_body bytes) refl (ap (λ b. with_body b (context_of i.row)) is)
+  pub slots_with : (bytes : List ℕ) → slots_of (updated (row_with bytes) rows c.slot) ≡ change_context (option_map (with_body bytes)) (slots_of rows) c
+  slots_with bytes = slots_by (row_with bytes) (with_body bytes) refl refl
 
   -- the due list after one reference went
   pub due_by : {kept : ContextsKept} {capacity : ℕ} {due' : List CtxId} → IsSound rows kept capacity
@@ -66,14 +65,13 @@ module _ {rows : List Row} {c : CtxId} (i : InRow rows c) where
       grind (arith, ap (λ (ids : List CtxId). slice_get ids 0) first, context_in_row i) in
       sym told ∙ ap (λ (k : ContextsKept). due_reply k.table) same
 
-  -- a row that was changed is still within, and is read so
-  pub within_updated : {rows' : List Row} (g : Row → Row) → rows' ≡ updated g rows c.slot → c.slot < length rows'
-  within_updated g is = omega (arith, ap length is, length-updated g rows c.slot, within_rows i)
+  -- a row that was changed is still open, and is read so
+  pub opens_updated : {rows' : List Row} (g : Row → Row) → rows' ≡ updated g rows c.slot → (g i.row).is_cleaned ≡ false → IsOpenAt rows' c.slot
+  opens_updated g is open_yet = (g i.row, ap (λ (rs : List Row). slice_get rs c.slot) is ∙ updated-same g rows c.slot i.row i.there, open_yet)
 
-  pub read_updated : {rows' : List Row} (g : Row → Row) (r : Row) → rows' ≡ updated g rows c.slot → r ≡ get_or rows' c.slot r → r ≡ g i.row
-  read_updated {rows'} g r is read =
-      read ∙ ap (λ (rs : List Row). get_or rs c.slot r) is
-      ∙ get_or_from_slice_get (updated g rows c.slot) c.slot (g i.row) r (updated-same g rows c.slot i.row i.there)
+  pub read_updated : {rows' : List Row} (g : Row → Row) (d : Row) → rows' ≡ updated g rows c.slot → get_or rows' c.slot d ≡ g i.row
+  read_updated g d is =
+      ap (λ (rs : List Row). get_or rs c.slot d) is ∙ get_or_from_slice_get (updated g rows c.slot) c.slot (g i.row) d (updated-same g rows c.slot i.row i.there)
 
 -- two changes of one row
 pub updated_twice : {rows' rows'' : List Row} (f g : Row → Row) (rows : List Row) (k : ℕ) → rows' ≡ updated g rows k

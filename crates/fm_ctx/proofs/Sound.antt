@@ -5,7 +5,7 @@ use Rattle.fm_ctx.proofs.Words.{ContextTable, context_at, link_at, count_in, Con
 use Rattle.fm_ctx.proofs.Words.{carried_fewer, IsLawful, grabbed, handed_on, released, with_link, linked, unlinked, unlinked_into, IsFree, emptied}
 use Rattle.fm_ctx.proofs.Words.{cleaned, with_body, rewritten, kept_in, row_in, row_at, count_of_row, stored, is_referenced, IsSound, raised, lowered}
 use Rattle.fm_ctx.proofs.Words.{carried_away, brought_back, linked_row, unlinked_row, cleaned_row, taken_due, taken_of, after_take_due, IsIndexed}
-use Rattle.fm_ctx.proofs.Words.{Seat, life_of, GenerationsKept}
+use Rattle.fm_ctx.proofs.Words.{Seat, life_of, Tally}
 use Rattle.fm_ctx.specs.Generations.{Life}
 use Rattle.std.proofs.Common.{◌≡◌, ◌+◌, ◌-◌, ◌^◌, ◌<◌, ◌≤◌, ◌∷◌, ◌∙◌, length-drop}
 use Rattle.fm_ctx.proofs.Bags.{is_id-same, held_few, held_push, held_without}
@@ -18,8 +18,8 @@ use Rattle.fm_ctx.proofs.Alike.{lawful_alike}
 use Rattle.fm_ctx.proofs.Rows.{InRow, in_row, row_of_context, row_there, row_read, within_rows, stored_changed, referenced_changed}
 
 -- what is kept, by the name that callers have for it
-pub sound_now : {rows : List Row} {kept now : ContextsKept} {capacity : ℕ} {seats : List (Option Seat)} {generations : GenerationsKept}
-    → IsIndexed rows kept capacity seats generations → kept ≡ now → IsSound rows now capacity
+pub sound_now : {rows : List Row} {kept now : ContextsKept} {capacity : ℕ} {seats : List (Option Seat)} {tally : Tally}
+    → IsIndexed rows kept capacity seats tally → kept ≡ now → IsSound rows now capacity
 sound_now {rows} {kept} {now} {capacity} indexed same = subst (λ k. IsSound rows k capacity) same indexed.sound
 
 -- ---- what is known of a row

@@ -6,7 +6,6 @@ unfoldable pub use Rattle.fm_ctx.specs.Births.{is_out_of_slots}
 pub use Rattle.fm_ctx.specs.Bodies.{body_at, rewritten, with_body, with_number}
 pub use Rattle.fm_ctx.specs.Cleanup.{after_take_due, cleaned, emptied, taken_due, taken_of}
 pub use Rattle.fm_ctx.specs.Counting.{born, was_given}
-pub use Rattle.fm_ctx.specs.Generations.{GenerationsKept}
 pub use Rattle.fm_ctx.specs.Kept.{ContextsKept, carried_fewer, carried_more, carried_none}
 unfoldable pub use Rattle.fm_ctx.specs.Kept.{carried_of}
 pub use Rattle.fm_ctx.specs.Laws.{IsLawful, has_link, links}
@@ -26,8 +25,9 @@ pub use Rattle.fm_ctx.specs.Table.{Context, ContextTable, Slot, change_context, 
 unfoldable pub use Rattle.fm_ctx.specs.Table.{context_at}
 pub use Rattle.fm_ctx.specs.declared.object.Object.{Object}
 pub use Rattle.fm_ctx.specs.declared.owner.Owner.{Owner}
-pub use Rattle.fm_ctx.specs.declared.row.Row.{Row}
+pub use Rattle.fm_ctx.specs.Rows.{IsOpenAt, Row}
 pub use Rattle.fm_ctx.specs.declared.seat.Seat.{Seat}
+pub use Rattle.fm_ctx.specs.declared.tally.Tally.{Tally}
 pub use Rattle.fm_ctx.specs.declared.set_reply.SetMode.{SetMode}
 pub use Rattle.fm_types.proofs.Lists.{count_by-updated, length-updated, set_is_updated, slice_get-append_left, slice_get-push, slice_get-some}
 pub use Rattle.fm_types.proofs.Lists.{updated-other, updated-same}
@@ -44,5 +44,4 @@ pub use Rattle.std.proofs.lemmas.List.Elements.{All-set}
 pub use Rattle.std.proofs.lemmas.List.Sums.{count_by-le-length, get_or-le-sum_by, sum_by-cons, sum_by-set}
 pub use Rattle.std.proofs.lemmas.Option.{get_or_from_slice_get, none-some, same_Some, slice_get-map, slice_get_past, slice_get_within}
 pub use Rattle.std.proofs.lemmas.Option.{unwrap_or-slice_get}
-pub use Rattle.std.specs.Global.{Vec}
 pub use Rattle.std.specs.List.{position_or_len}

@@ -14,3 +14,4 @@ pub mod Sweep
 pub mod Bodies
 pub mod Counting
 pub mod Rows
+pub mod Stored

@@ -1,20 +1,55 @@
 -- How contexts are kept: a row for each slot, with the reference count of its context.
 use Rattle.std.specs.Prelude.{◌≡◌, ℕ, ◌+◌, ◌-◌, ◌^◌, ◌≤◌, ◌==◌, Bool, true, false, cond, nat_lt, List, [], ◌∷◌, ◌++◌, length, map, count_by, slice_index_or, Option, Some, None, option_and_then, slice_get, slice_set}
-use Rattle.std.specs.Global.{Vec}
 use Rattle.fm_types.specs.declared.ids.CtxId.{CtxId}
-use Rattle.fm_types.specs.Lists.{updated}
+use Rattle.fm_types.specs.declared.ids.FilterId.{FilterId}
+use Rattle.fm_types.specs.declared.ids.VolumeId.{VolumeId}
+use Rattle.fm_types.specs.declared.context_kind.ContextKind.{ContextKind}
+use Rattle.fm_types.specs.declared.context_kind.ContextKind.TheVariants as kind
 use Rattle.fm_ctx.specs.declared.object.Object.{Object}
-use Rattle.fm_ctx.specs.declared.row.Row.{Row}
+use Rattle.fm_ctx.specs.declared.owner.Owner.{Owner}
+use Rattle.fm_ctx.specs.declared.owner.Owner.TheVariants as owners
 use Rattle.fm_ctx.specs.declared.seat.Seat.{Seat}
+use Rattle.fm_ctx.specs.declared.tally.Tally.{Tally}
 use Rattle.fm_ctx.specs.Table.{Context, Slot, ContextTable, count_in}
 use Rattle.fm_ctx.specs.Births.{IsNew}
-use Rattle.fm_ctx.specs.Generations.{Life, GenerationsKept, IsAccount}
+use Rattle.fm_ctx.specs.Generations.{Life, IsAccount}
 use Rattle.fm_ctx.specs.Kept.{ContextsKept, carried_of}
 use Rattle.fm_ctx.specs.Laws.{IsLawful}
 use Rattle.fm_ctx.specs.Seats.{seat_by}
 
+-- what a slot has: the context that it was given last, until that one is cleaned
+pub record Row : Type 0 where
+  pub generation : ℕ
+  pub kind : ContextKind
+  pub owner : Owner
+  pub volume : VolumeId
+  pub body : List ℕ
+  pub link : Option Object
+  pub count : ℕ
+  pub carried : ℕ
+  pub is_cleaned : Bool
+
+-- the row of a slot whose context is cleaned; but for its generation it tells nothing
+abbrev pub vacant_row : ℕ → Row
+vacant_row g =
+    record {
+      generation = g;
+      kind = kind.Volume;
+      owner = owners.Filter (record { 0 = 0 });
+      volume = record { 0 = 0 };
+      body = [];
+      link = None;
+      count = 0;
+      carried = 0;
+      is_cleaned = true;
+    }
+
+-- whether a slot has a context that isn't cleaned
+abbrev pub IsOpenAt : List Row → ℕ → Type 0
+IsOpenAt rows slot = (r : Row) × (slice_get rows slot ≡ Some r) × (r.is_cleaned ≡ false)
+
 abbrev pub context_of : Row → Context
-context_of r = record { kind = r.kind; owner = r.owner; volume = r.volume; body = r.body.items; link = r.link }
+context_of r = record { kind = r.kind; owner = r.owner; volume = r.volume; body = r.body; link = r.link }
 
 abbrev pub slot_of : Row → Slot
 slot_of r = record { generation = r.generation; context = cond r.is_cleaned None (Some (context_of r)) }
@@ -64,11 +99,11 @@ life_of r = record { generation = r.generation; is_cleaned = r.is_cleaned }
 abbrev pub lives_of : List Row → List Life
 lives_of rows = map life_of rows
 
--- and each linked context is found by its seat, and each slot that is free
-pub record IsIndexed (rows : List Row) (kept : ContextsKept) (capacity : ℕ) (seats : List (Option Seat)) (generations : GenerationsKept) : Type 0 where
+-- and each linked context is found by its seat, and all contexts are counted
+pub record IsIndexed (rows : List Row) (kept : ContextsKept) (capacity : ℕ) (seats : List (Option Seat)) (tally : Tally) : Type 0 where
   pub sound : IsSound rows kept capacity
   pub seated : seats ≡ seats_of rows
-  pub account : IsAccount (lives_of rows) generations
+  pub account : IsAccount (lives_of rows) tally
 
 -- ---- a new row
 
@@ -111,16 +146,11 @@ abbrev pub unlinked_row : Row → Row
 unlinked_row r = record r { link = None }
 
 abbrev pub cleaned_row : Row → Row
-cleaned_row r = record r { is_cleaned = true }
+cleaned_row r = vacant_row r.generation
 
--- some vector that holds those bytes stands for the body
-abbrev pub row_with : Vec ℕ → Row → Row
+-- other bytes stand in the body
+abbrev pub row_with : List ℕ → Row → Row
 row_with bytes r = record r { body = bytes }
-
--- the body of one row is made another one
-abbrev pub IsRewritten : List Row → List Row → ℕ → (List ℕ → List ℕ) → Type 0
-IsRewritten old new slot change =
-    (body : Vec ℕ) × ((d : Row) → body.items ≡ change (slice_index_or old slot d).body.items) × (new ≡ updated (row_with body) old slot)
 
 -- ---- what is kept
 

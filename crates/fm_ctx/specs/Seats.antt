@@ -1,5 +1,5 @@
 -- Seats: where linked contexts stand, and the chains in which they are found.
-use Rattle.std.specs.Prelude.{◌≡◌, ℕ, zero, suc, ◌%◌, ◌<◌, ◌==◌, ◌&&◌, Bool, true, false, cond, List, length, slice_index_or, slice_set, Option, Some, None, IfSome, option_map}
+use Rattle.std.specs.Prelude.{◌≡◌, ℕ, zero, suc, ◌%◌, ◌<◌, ◌≤◌, ◌==◌, ◌&&◌, Bool, true, false, cond, List, length, slice_index_or, slice_set, Option, Some, None, IfSome, option_map}
 use Rattle.fm_ctx.specs.declared.object.Object.{Object}
 use Rattle.fm_ctx.specs.declared.object.Object.TheVariants.{Volume, Instance, Stream, Handle}
 use Rattle.fm_ctx.specs.declared.owner.Owner.{Owner}
@@ -52,6 +52,12 @@ pub record IsChained (firsts nexts : List (Option ℕ)) (seats : List (Option Se
   pub matched : length nexts ≡ length seats
   pub first : (chain : ℕ) → chain < 4096 → slice_index_or firsts chain None ≡ last_below (stands seats chain) (length seats)
   pub next : (chain slot : ℕ) → stands seats chain slot ≡ true → slice_index_or nexts slot None ≡ last_below (stands seats chain) slot
+
+-- and there is room for all slots
+pub record IsSeating (firsts nexts : List (Option ℕ)) (seats : List (Option Seat)) (room_of_nexts room_of_seats : ℕ) : Type 0 where
+  pub chained : IsChained firsts nexts seats
+  pub nexts_fit : 65536 ≤ room_of_nexts
+  pub seats_fit : 65536 ≤ room_of_seats
 
 -- where the part of a chain ends that a slot leads to
 abbrev pub end_of : Option ℕ → ℕ → ℕ

@@ -16,20 +16,20 @@ ghost use Rattle.fm_ctx.specs.Kept.{nothing_kept, carried_of};
 ghost use Rattle.fm_ctx.specs.Laws.{IsLawful};
 ghost use Rattle.fm_ctx.specs.References.{kept_grabbed, kept_released, kept_carried, kept_brought, reference_refusal, release_refusal};
 ghost use Rattle.fm_ctx.specs.Links.{IsFree, linked, unlinked, unlinked_into};
-ghost use Rattle.fm_ctx.specs.Births.{Allocates, allocate_refused, is_out_of_slots};
+ghost use Rattle.fm_ctx.specs.Births.{Allocates, allocate_refused};
 ghost use Rattle.fm_ctx.specs.Generations.{IsAccount};
 ghost use Rattle.fm_ctx.specs.Settling.{Leaves};
-ghost use Rattle.fm_ctx.specs.Rows.{lowered, IsFresh, IsPut, lives_of, seats_of, slots_of};
-ghost use Rattle.fm_ctx.specs.declared.row.Row.{Row as KeptRow};
+ghost use Rattle.fm_ctx.specs.Rows.{Row as KeptRow, lowered, IsFresh, IsOpenAt, IsPut, lives_of, seats_of};
+ghost use Rattle.fm_ctx.specs.Stored.{open_row};
 
-use crate::generations::Generations;
-use crate::hand::Hand;
+use crate::entry::Entry;
+use crate::hand::{self, Hand};
 use crate::object::Object;
 use crate::owner::Owner;
-use crate::row::Row;
 use crate::seat::Seat;
 use crate::seats::Seats;
-use crate::{hand, row};
+use crate::store::Rows;
+use crate::tally::Tally;
 use fm_types::{Bytes, ContextKind, CtxId, Status, VolumeId, WorkerId};
 use std::alloc::{AllocError, Global};
 use std::collections::VecDeque;
@@ -46,8 +46,8 @@ const MAX_BODY: usize = 4096;
 #[derive(Drop)]
 pub struct Contexts {
     alloc: Global,
-    rows: Vec<Row>,
-    generations: Generations,
+    rows: Rows,
+    tally: Tally,
     seats: Seats,
     hands: Vec<Hand>,
     due: VecDeque<CtxId>,
@@ -63,59 +63,49 @@ impl Model for Contexts {
 
     ghost use Rattle.fm_ctx.specs.Rows.{kept_in, IsIndexed};
 
-    ghost view = { λ c. kept_in c.rows.items c.hands.items c.due.items c.cleaning.items c.leaks };
+    ghost view = { λ c. kept_in c.rows c.hands.items c.due.items c.cleaning.items c.leaks };
 
-    ghost invariant = { λ c. IsIndexed c.rows.items (kept_in c.rows.items c.hands.items c.due.items c.cleaning.items c.leaks) (deque_capacity c.due) c.seats c.generations };
+    ghost invariant = { λ c. IsIndexed c.rows (kept_in c.rows c.hands.items c.due.items c.cleaning.items c.leaks) (deque_capacity c.due) c.seats c.tally };
 }
 
 // The context has one reference fewer; with the last one it is due.
-fn drop_reference(rows: &mut Vec<Row>, due: &mut VecDeque<CtxId>, id: CtxId)
-    requires within { id.slot < length rows.old.items }
-    requires some { (d : KeptRow) → 0 < (slice_index_or rows.old.items id.slot d).count }
-    requires room { (d : KeptRow) → (slice_index_or rows.old.items id.slot d).count ≡ 1 → length due.old.items < deque_capacity due.old }
-    ensures rows { rows.new.items ≡ updated lowered rows.old.items id.slot }
-    ensures due { (d : KeptRow) → due.new.items ≡ (if (slice_index_or rows.old.items id.slot d).count == 1 then due.old.items ++ id ∷ [] else due.old.items) }
+fn drop_reference(rows: &mut Rows, due: &mut VecDeque<CtxId>, id: CtxId)
+    requires there { IsOpenAt rows.old id.slot }
+    requires some { (d : KeptRow) → 0 < (slice_index_or rows.old id.slot d).count }
+    requires room { (d : KeptRow) → (slice_index_or rows.old id.slot d).count ≡ 1 → length due.old.items < deque_capacity due.old }
+    ensures rows { rows.new ≡ updated lowered rows.old id.slot }
+    ensures due { (d : KeptRow) → due.new.items ≡ (if (slice_index_or rows.old id.slot d).count == 1 then due.old.items ++ id ∷ [] else due.old.items) }
     ensures capacity { deque_capacity due.new ≡ deque_capacity due.old }
 {
-    if row::lower(rows, id.slot as usize) {
+    if rows.lower(id.slot as usize) {
         due.push_back_reserved(id);
     }
 }
 
-// The row gets a slot that was free, with its next generation, or a new slot. The error says that
-// memory was refused, and no row is changed.
+// The context gets a slot that was free, with its next generation, or a new slot. The error says that
+// memory was refused, and nothing is changed.
 fn place(
-    rows: &mut Vec<Row>,
-    generations: &mut Generations,
+    rows: &mut Rows,
+    tally: &mut Tally,
     seats: &mut Seats,
-    mut row: Row,
+    entry: Entry,
 ) -> Result<CtxId, AllocError>
-    requires few { length rows.old.items ≤ 65536 }
-    requires account { IsAccount (lives_of rows.old.items) generations.old }
-    requires seated { seats.old ≡ seats_of rows.old.items }
-    requires room { is_out_of_slots (slots_of rows.old.items) ≡ false }
-    requires fresh { IsFresh row }
-    requires first { row.generation ≡ 0 }
-    ensures ok { IfOk result (IsPut rows.old.items rows.new.items row) }
-    ensures err { OnErr result (rows.new.items ≡ rows.old.items) }
-    ensures account { IsAccount (lives_of rows.new.items) generations.new }
-    ensures seated { seats.new ≡ seats_of rows.new.items }
+    requires few { length rows.old ≤ 65536 }
+    requires account { IsAccount (lives_of rows.old) tally.old }
+    requires seated { seats.old ≡ seats_of rows.old }
+    requires fresh { IsFresh (open_row 0 entry) }
+    requires opens { entry.is_retired ≡ false }
+    ensures ok { IfOk result (IsPut rows.old rows.new (open_row 0 entry)) }
+    ensures err { OnErr result (rows.new ≡ rows.old) }
+    ensures account { IsAccount (lives_of rows.new) tally.new }
+    ensures seated { seats.new ≡ seats_of rows.new }
 {
-    generations.reserve(rows.len() + 1)?;
-    if let Some(id) = generations.take_free() {
-        row.generation = id.generation;
-        rows[id.slot as usize] = row;
-        generations.begin();
-        return Ok(id);
+    let slots = rows.len();
+    let id = rows.put(entry)?;
+    if id.slot as usize == slots {
+        seats.add();
     }
-    rows.reserve(1)?;
-    seats.add()?;
-    let id = CtxId {
-        slot: rows.len() as u32,
-        generation: 0,
-    };
-    rows.push_reserved(row);
-    generations.begin();
+    tally.begin();
     Ok(id)
 }
 
@@ -132,8 +122,8 @@ impl Contexts {
         }
         Ok(Contexts {
             alloc,
-            rows: Vec::new(alloc),
-            generations: Generations::new(alloc),
+            rows: Rows::new(alloc),
+            tally: Tally { born: 0, living: 0 },
             seats: Seats::new(alloc)?,
             hands,
             due: VecDeque::new(alloc),
@@ -179,8 +169,7 @@ impl Contexts {
         let Ok(()) = self.due.reserve(self.rows.len() + 1) else {
             return Err(Status::NoMemory);
         };
-        let row = Row {
-            generation: 0,
+        let entry = Entry {
             kind,
             owner,
             volume,
@@ -188,9 +177,9 @@ impl Contexts {
             link: None,
             count: 1,
             carried: 0,
-            is_cleaned: false,
+            is_retired: false,
         };
-        let Ok(id) = place(&mut self.rows, &mut self.generations, &mut self.seats, row) else {
+        let Ok(id) = place(&mut self.rows, &mut self.tally, &mut self.seats, entry) else {
             return Err(Status::NoMemory);
         };
         hand::put(&mut self.hands, worker, id);
@@ -239,7 +228,7 @@ impl Contexts {
             return false;
         }
         hand::take(&mut self.hands, worker, id);
-        row::carry(&mut self.rows, id.slot as usize);
+        self.rows.carry(id.slot as usize);
         true
     }
 
@@ -251,7 +240,7 @@ impl Contexts {
         requires room { length (hand_of self.old.table.hands worker.0) < 16 }
         ensures { self.new ≡ kept_brought self.old worker.0 id }
     {
-        row::bring(&mut self.rows, id.slot as usize);
+        self.rows.bring(id.slot as usize);
         hand::put(&mut self.hands, worker, id);
     }
 
@@ -285,7 +274,7 @@ impl Contexts {
         requires room { length (hand_of self.old.table.hands worker.0) < 16 }
         ensures { self.new ≡ kept_grabbed self.old worker.0 id }
     {
-        row::raise(&mut self.rows, id.slot as usize);
+        self.rows.raise(id.slot as usize);
         hand::put(&mut self.hands, worker, id);
     }
 
@@ -308,9 +297,9 @@ impl Contexts {
         requires free { IsFree self.old.table id object }
         ensures { self.new ≡ record self.old { table = linked self.old.table id object } }
     {
-        let owner = self.rows[id.slot as usize].owner;
+        let owner = self.rows.entry(id.slot as usize).owner;
         self.seats.put(id.slot, Seat { owner, object });
-        row::link(&mut self.rows, id.slot as usize, object);
+        self.rows.link(id.slot as usize, object);
     }
 
     // The context loses its link, and the reference of the link goes.
@@ -319,7 +308,7 @@ impl Contexts {
         ensures { self.new ≡ record self.old { table = unlinked (carried_of self.old) self.old.table id } }
     {
         drop_reference(&mut self.rows, &mut self.due, id);
-        row::unlink(&mut self.rows, id.slot as usize);
+        self.rows.unlink(id.slot as usize);
         self.seats.take(id.slot);
     }
 
@@ -330,7 +319,7 @@ impl Contexts {
         requires room { length (hand_of self.old.table.hands worker.0) < 16 }
         ensures { self.new ≡ record self.old { table = unlinked_into self.old.table worker.0 id } }
     {
-        row::unlink(&mut self.rows, id.slot as usize);
+        self.rows.unlink(id.slot as usize);
         self.seats.take(id.slot);
         hand::put(&mut self.hands, worker, id);
     }

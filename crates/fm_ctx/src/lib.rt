@@ -8,14 +8,16 @@
 mod contexts;
 mod count;
 mod due;
+mod entry;
 mod generations;
 mod hand;
 mod object;
 mod owner;
-mod row;
 mod seat;
 mod seats;
 mod set_reply;
+mod store;
+mod tally;
 
 pub use crate::contexts::Contexts;
 pub use crate::count::Count;

@@ -1,17 +1,18 @@
 //! The seats of all linked contexts, by slot and in chains.
 
-ghost use Rattle.std.specs.Prelude.{◌≡◌, ◌+◌, ◌<◌, ◌≤◌, ◌++◌, ◌∷◌, [], true, None, Some, length, slice_index_or, slice_set, position, count_by, IfSome, IfOk, OnOk, OnErr};
+ghost use Rattle.std.specs.Prelude.{◌≡◌, ◌+◌, ◌<◌, ◌≤◌, ◌++◌, ◌∷◌, [], true, None, Some, length, slice_index_or, slice_set, position, count_by, vec_capacity, IfSome, IfOk};
 ghost use Rattle.fm_ctx.specs.Sweep.{seat_passes};
 ghost use Rattle.fm_ctx.specs.Seats.{is_seat, stands, last_below, end_of, IsAbove, firsts_led, nexts_led};
 
 use crate::seat::{CHAINS, Links, Seat};
+use crate::store::MAX_SLOTS;
 use std::alloc::{AllocError, Global};
 use std::marker::Model;
 
 /// Which slot has which seat. Each seat is on a chain, and a chain leads through its slots from the
-/// highest to the lowest, so that it never comes back to one. From `add` on a slot has room for its
-/// place in a chain: a seat that is taken or given up takes no memory. A `HashMap` wouldn't do, since
-/// it promises no room for a key where another one was removed. Contracts see the seat of each slot.
+/// highest to the lowest, so that it never comes back to one. There is room for 65,536 slots from the
+/// start: no call after `new` takes memory. A `HashMap` wouldn't do, since it promises no room for a
+/// key where another one was removed. Contracts see the seat of each slot.
 #[derive(Drop)]
 pub struct Seats {
     firsts: Vec<Option<u32>>,
@@ -20,16 +21,16 @@ pub struct Seats {
 }
 
 impl Model for Seats {
-    ghost use Rattle.std.specs.Prelude.{List, Option};
+    ghost use Rattle.std.specs.Prelude.{List, Option, vec_capacity};
     ghost use Rattle.fm_ctx.specs.declared.seat.Seat.{Seat};
 
     ghost Value = { List (Option Seat) };
 
-    ghost use Rattle.fm_ctx.specs.Seats.{IsChained};
+    ghost use Rattle.fm_ctx.specs.Seats.{IsSeating};
 
     ghost view = { λ s. s.seats.items };
 
-    ghost invariant = { λ s. IsChained s.firsts.items s.nexts.items s.seats.items };
+    ghost invariant = { λ s. IsSeating s.firsts.items s.nexts.items s.seats.items (vec_capacity s.nexts) (vec_capacity s.seats) };
 }
 
 // What a slot leads to, or the chain itself where no slot is above, is from now on this slot or none.
@@ -44,6 +45,7 @@ fn lead(
     requires above { IfSome above (λ a. a < length nexts.old.items) }
     ensures firsts { firsts.new.items ≡ firsts_led firsts.old.items chain above slot }
     ensures nexts { nexts.new.items ≡ nexts_led nexts.old.items above slot }
+    ensures room { vec_capacity nexts.new ≡ vec_capacity nexts.old }
 {
     match above {
         None => firsts[chain] = slot,
@@ -58,22 +60,18 @@ impl Seats {
     {
         Ok(Seats {
             firsts: vec![in alloc; None; CHAINS]?,
-            nexts: Vec::new(alloc),
-            seats: Vec::new(alloc),
+            nexts: Vec::with_capacity(alloc, MAX_SLOTS)?,
+            seats: Vec::with_capacity(alloc, MAX_SLOTS)?,
         })
     }
 
-    /// One more slot, with no seat. The error says that memory was refused, and nothing changed; no
-    /// other call takes memory.
-    pub fn add(&mut self) -> Result<(), AllocError>
-        ensures ok { OnOk result (self.new ≡ self.old ++ None ∷ []) }
-        ensures err { OnErr result (self.new ≡ self.old) }
+    /// One more slot, with no seat.
+    pub fn add(&mut self)
+        requires { length self.old < 65536 }
+        ensures { self.new ≡ self.old ++ None ∷ [] }
     {
-        self.nexts.reserve(1)?;
-        self.seats.reserve(1)?;
         self.nexts.push_reserved(None);
         self.seats.push_reserved(None);
-        Ok(())
     }
 
     /// The slot that has a seat.

@@ -6,7 +6,6 @@ ghost use Rattle.fm_ctx.specs.Table.{context_at};
 ghost use Rattle.fm_ctx.specs.Bodies.{Bumps, body_at, bumped, bump_refusal, kept_rewritten, raised, read_refusal, write_refusal};
 
 use crate::contexts::Contexts;
-use crate::row;
 use fm_types::{Bytes, CtxId, Status, WorkerId};
 
 // Whether eight bytes from that place on end past the length.
@@ -70,7 +69,7 @@ impl Contexts {
         requires { is_some (context_at self.now.table.slots id) ≡ true }
         ensures { result.now ≡ body_at self.now.table.slots id }
     {
-        self.rows[id.slot as usize].body.as_slice()
+        self.rows.entry(id.slot as usize).body.as_slice()
     }
 
     fn put_body(&mut self, id: CtxId, bytes: &[u8])
@@ -78,7 +77,7 @@ impl Contexts {
         requires length { length bytes.now ≡ length (body_at self.old.table.slots id) }
         ensures { self.new ≡ kept_rewritten self.old id bytes.now }
     {
-        row::write_body(&mut self.rows, id.slot as usize, bytes);
+        self.rows.write_body(id.slot as usize, bytes);
     }
 
     fn add_at(&mut self, id: CtxId, place: usize, by: u64) -> u64
@@ -87,6 +86,6 @@ impl Contexts {
         ensures sum { result ≡ raised place by (body_at self.old.table.slots id) }
         ensures after { self.new ≡ record self.old { table = bumped self.old.table id place by } }
     {
-        row::bump(&mut self.rows, id.slot as usize, place, by)
+        self.rows.bump(id.slot as usize, place, by)
     }
 }

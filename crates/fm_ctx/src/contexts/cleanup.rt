@@ -6,7 +6,6 @@ ghost use Rattle.fm_ctx.specs.Cleanup.{due_reply, after_take_due, cleaned};
 
 use crate::contexts::Contexts;
 use crate::due::Due;
-use crate::row;
 use fm_types::{Bytes, CtxId, WorkerId};
 
 impl Contexts {
@@ -20,13 +19,13 @@ impl Contexts {
     {
         let id = self.due.pop_front()?;
         let slot = id.slot as usize;
-        let body = row::take_body(&mut self.rows, slot, Vec::new(self.alloc));
+        let body = self.rows.take_body(slot, Vec::new(self.alloc));
         self.cleaning[worker.0 as usize] = Some(id);
-        let row = &self.rows[slot];
+        let entry = self.rows.entry(slot);
         Some(Due {
             id,
-            kind: row.kind,
-            owner: row.owner,
+            kind: entry.kind,
+            owner: entry.owner,
             body: Bytes::from_vec(body),
         })
     }
@@ -37,8 +36,8 @@ impl Contexts {
         requires cleaning { cleaning_of self.old.table.cleaning worker.0 ≡ Some id }
         ensures { self.new ≡ record self.old { table = cleaned self.old.table worker.0 id } }
     {
-        row::clean(&mut self.rows, id.slot as usize);
-        self.generations.end(id);
+        self.rows.clean(id.slot as usize);
+        self.tally.end();
         self.cleaning[worker.0 as usize] = None;
     }
 }

@@ -37,7 +37,7 @@ impl Contexts {
         requires { slot < length self.now.table.slots }
         ensures { result ≡ id_at self.now.table.slots slot }
     {
-        let generation = self.rows[slot].generation;
+        let generation = self.rows.generation(slot);
         CtxId {
             slot: slot as u32,
             generation,

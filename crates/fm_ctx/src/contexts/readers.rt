@@ -5,22 +5,20 @@ ghost use Rattle.std.specs.List.{list_any};
 ghost use Rattle.fm_ctx.specs.Bags.{holds, hand_of, is_hand_full, cleaning_of, cleans};
 ghost use Rattle.fm_ctx.specs.Births.{is_out_of_slots};
 ghost use Rattle.fm_ctx.specs.Table.{context_at, count_in, link_at, owner_at, kind_at};
-ghost use Rattle.fm_ctx.specs.Rows.{context_of, count_of_row};
-ghost use Rattle.fm_ctx.specs.declared.row.Row.{Row as KeptRow};
+ghost use Rattle.fm_ctx.specs.Rows.{Row as KeptRow, context_of, count_of_row};
+ghost use Rattle.fm_ctx.specs.Stored.{named_row};
 ghost use Rattle.fm_ctx.specs.Kept.{carried_of};
 ghost use Rattle.fm_ctx.specs.declared.count.Count.TheVariants as Count;
 ghost use Rattle.fm_ctx.specs.Counting.{count_reply, was_given, born, cleaned_count, open_of, open_on};
 
 use crate::contexts::Contexts;
 use crate::count::Count;
+use crate::entry::Entry;
+use crate::hand;
 use crate::object::Object;
 use crate::owner::Owner;
-use crate::row::Row;
-use crate::{hand, row};
+use crate::store::MAX_SLOTS;
 use fm_types::{ContextKind, CtxId, VolumeId, WorkerId};
-
-/// How many slots there are at most.
-const MAX_SLOTS: usize = 65536;
 
 // Whether it is that context which a worker cleans up.
 fn cleans(id: CtxId, cleaning: Option<CtxId>) -> bool
@@ -83,56 +81,56 @@ impl Contexts {
     pub(super) fn is_out_of_slots(&self) -> bool
         ensures { result ≡ is_out_of_slots self.now.table.slots }
     {
-        self.rows.len() >= MAX_SLOTS && self.generations.has_none_free()
+        self.rows.len() >= MAX_SLOTS && self.rows.has_none_free()
     }
 
-    // The row of the context that an id names, if it isn't cleaned.
-    fn row(&self, id: CtxId) -> Option<&Row>
-        ensures context { option_map context_of (option_copied result) ≡ context_at self.now.table.slots id }
-        ensures carried { unwrap_or (option_map (λ (r : KeptRow). r.carried) (option_copied result)) 0 ≡ carried_of self.now id }
-        ensures count { count_of_row (option_copied result) ≡ count_in (carried_of self.now) self.now.table id }
+    // The context that an id names, if it isn't cleaned.
+    fn entry(&self, id: CtxId) -> Option<&Entry>
+        ensures context { option_map context_of (named_row id (option_copied result)) ≡ context_at self.now.table.slots id }
+        ensures carried { unwrap_or (option_map (λ (r : KeptRow). r.carried) (named_row id (option_copied result))) 0 ≡ carried_of self.now id }
+        ensures count { count_of_row (named_row id (option_copied result)) ≡ count_in (carried_of self.now) self.now.table id }
     {
-        row::named(&self.rows, id)
+        self.rows.named(id)
     }
 
     /// What the context is set on, if it is and isn't cleaned.
     pub fn link_of(&self, id: CtxId) -> Option<Object>
         ensures { result ≡ link_at self.now.table.slots id }
     {
-        let Some(row) = self.row(id) else {
+        let Some(entry) = self.entry(id) else {
             return None;
         };
-        row.link
+        entry.link
     }
 
     /// To whom the context belongs, if it isn't cleaned.
     pub fn owner_of(&self, id: CtxId) -> Option<Owner>
         ensures { result ≡ owner_at self.now.table.slots id }
     {
-        let Some(row) = self.row(id) else {
+        let Some(entry) = self.entry(id) else {
             return None;
         };
-        Some(row.owner)
+        Some(entry.owner)
     }
 
     /// Of which kind the context is, if it isn't cleaned.
     pub fn kind_of(&self, id: CtxId) -> Option<ContextKind>
         ensures { result ≡ kind_at self.now.table.slots id }
     {
-        let Some(row) = self.row(id) else {
+        let Some(entry) = self.entry(id) else {
             return None;
         };
-        Some(row.kind)
+        Some(entry.kind)
     }
 
     /// How many references to the context completions carry; none if it is cleaned.
     pub fn carried(&self, id: CtxId) -> u64
         ensures { result ≡ carried_of self.now id }
     {
-        let Some(row) = self.row(id) else {
+        let Some(entry) = self.entry(id) else {
             return 0;
         };
-        row.carried
+        entry.carried
     }
 
     /// Which context the worker cleans up.
@@ -154,28 +152,28 @@ impl Contexts {
     pub fn born(&self) -> u64
         ensures { result ≡ born self.now.table.slots }
     {
-        self.generations.born()
+        self.tally.born
     }
 
     /// How many of them are cleaned.
     pub fn cleaned_count(&self) -> u64
         ensures { result ≡ cleaned_count self.now.table.slots }
     {
-        self.generations.cleaned()
+        self.tally.cleaned()
     }
 
     /// How many contexts of an owner aren't cleaned.
     pub fn open_of(&self, owner: Owner) -> u64
         ensures { result ≡ open_of self.now.table.slots owner }
     {
-        row::open_of(&self.rows, owner) as u64
+        self.rows.open_of(owner) as u64
     }
 
     /// How many volume contexts that were allocated on a volume aren't cleaned, whosever they are.
     pub fn open_on(&self, volume: VolumeId) -> u64
         ensures { result ≡ open_on self.now.table.slots volume }
     {
-        row::open_on(&self.rows, volume) as u64
+        self.rows.open_on(volume) as u64
     }
 
     /// How far the life of a context has come. A live one has as many references as its link, the
@@ -183,11 +181,11 @@ impl Contexts {
     pub fn count(&self, id: CtxId) -> Count
         ensures { result ≡ count_reply (carried_of self.now) self.now.table id }
     {
-        let Some(row) = self.row(id) else {
+        let Some(entry) = self.entry(id) else {
             return self.count_of_none(id);
         };
-        if row.count > 0 {
-            return Count::Live(row.count);
+        if entry.count > 0 {
+            return Count::Live(entry.count);
         }
         if self.is_cleaning(id) {
             return Count::Cleaning;
@@ -199,7 +197,7 @@ impl Contexts {
     fn count_of_none(&self, id: CtxId) -> Count
         ensures { result ≡ cond (was_given self.now.table.slots id) Count.Cleaned Count.Absent }
     {
-        if row::was_given(&self.rows, id) {
+        if self.rows.was_given(id) {
             Count::Cleaned
         } else {
             Count::Absent

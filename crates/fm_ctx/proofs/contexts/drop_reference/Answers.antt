@@ -1,9 +1,9 @@
-use Rattle.fm_ctx.proofs.Words.{arith, nat_tests, slice_get-some}
+use Rattle.fm_ctx.proofs.Words.{arith, nat_tests}
 use Rattle.fm_ctx.proofs.contexts.drop_reference.Goals as goal
 
 pub push_back_reserved-requires : goal.push_back_reserved-requires
 push_back_reserved-requires c =
-    let r = (slice_get-some c.args.rows.now.items c.args.id.slot c.requires.within).0 in
+    let r = c.requires.there.0 in
     grind (arith, nat_tests, c.requires.room r, c.lower.ensures.last r, c.if-lower.true, c.args.due.now.ok.0)
 
 pub returns-then-lower-clause-due : goal.returns-then-lower-clause-due

@@ -1,5 +1,5 @@
 use Rattle.fm_ctx.proofs.Words.{ℕ, List, None, false, length, refl, sym, ap, subst, arith, nat_tests, Row, hand_of, kept_allocated, ContextsKept, deque_capacity}
-use Rattle.fm_ctx.proofs.Words.{context_of, kept_in, slot_of, length-map, is_out_of_slots, IsNew, IsFresh}
+use Rattle.fm_ctx.proofs.Words.{context_of, kept_in, slot_of, length-map, IsNew, IsFresh}
 use Rattle.std.proofs.Common.{◌≡◌, ◌<◌, ◌≤◌, ◌+◌, ◌∙◌, rules}
 use Rattle.fm_ctx.specs.Births.{new_context}
 use Rattle.fm_ctx.proofs.Sound.{sound_now, sound_as}
@@ -9,12 +9,11 @@ use Rattle.fm_ctx.proofs.contexts.Contexts.allocate.Goals as goal
 
 pub place-requires : goal.place-requires
 place-requires c = record {
-  few = omega (arith, c.self.invariant.sound.lawful.few, length-map c.self.inside.rows.items slot_of);
+  few = omega (arith, c.self.invariant.sound.lawful.few, length-map c.self.inside.rows slot_of);
   account = c.self.invariant.account;
   seated = c.self.invariant.seated;
-  room = ap (λ (k : ContextsKept). is_out_of_slots k.table.slots) c.self.view_is ∙ sym c.if-is_out_of_slots.ensures;
   fresh = record { count = refl; carried = refl; link = refl; open_yet = refl };
-  first = refl;
+  opens = refl;
 }
 
 -- the new row
@@ -24,7 +23,7 @@ row_of c = record {
   kind = c.args.kind;
   owner = c.args.owner;
   volume = c.args.volume;
-  body = c.into_vec.result;
+  body = c.into_vec.result.items;
   link = None;
   count = 1;
   carried = 0;
@@ -35,22 +34,22 @@ fresh : (c : goal.After-put) → IsFresh (row_of c)
 fresh c = record { count = refl; carried = refl; link = refl; open_yet = refl }
 
 shows : (c : goal.After-put)
-    → kept_in c.place.new.rows.items c.put.new.hands.items c.reserve.new.self.items c.self.inside.cleaning.items c.self.inside.leaks
+    → kept_in c.place.new.rows c.put.new.hands.items c.reserve.new.self.items c.self.inside.cleaning.items c.self.inside.leaks
     ≡ kept_allocated c.args.self.now c.args.worker.0 c.in-Ok-place.id (context_of (row_of c))
 shows c =
-    let rows = c.self.inside.rows.items in
+    let rows = c.self.inside.rows in
     let put = c.in-Ok-place.ensures.ok in
     shown _ c.self.inside.leaks put.1 (slots_put rows c.in-Ok-place.id (row_of c) put.0 (fresh c)) (carried_put rows c.in-Ok-place.id (row_of c) put.0 (fresh c))
     c.put.ensures c.in-Ok.ensures.items refl ∙ ap (λ (k : ContextsKept). kept_allocated k c.args.worker.0 c.in-Ok-place.id (context_of (row_of c))) c.self.view_is
 
 pub invariant_of-self-2 : goal.invariant_of-self-2
 invariant_of-self-2 c =
-    let rows = c.self.inside.rows.items in
+    let rows = c.self.inside.rows in
     let put = c.in-Ok-place.ensures.ok in
     let room : length (hand_of c.args.self.now.table.hands c.args.worker.0) < 16 = grind (arith, nat_tests, c.if-is_hand_full.ensures) in
     let waiting = ap (λ (k : ContextsKept). length k.table.due) c.self.view_is in
     let due_room : length c.args.self.now.table.due + (length rows + 1) ≤ deque_capacity c.reserve.new.self =
-    omega (arith, c.in-Ok.ensures.ok, c.len-2.ensures, c.self.inside.rows.ok.0, c.reserve.new.self.ok.0, ap length c.in-Ok.ensures.items, waiting) in
+    omega (arith, c.in-Ok.ensures.ok, c.len-2.ensures, c.reserve.new.self.ok.0, ap length c.in-Ok.ensures.items, waiting) in
     record {
       sound = sound_as put.1 (shows c) refl (sound_allocated (deque_capacity c.reserve.new.self) c.args.worker.0 (row_of c) c.in-Ok-place.id
           (sound_now c.self.invariant c.self.view_is) c.self.view_is c.requires put.0 (fresh c) room due_room);

@@ -1,12 +1,12 @@
 use Rattle.std.proofs.Common.{◌-◌, ◌∙◌}
 use Rattle.fm_ctx.proofs.Words.{refl, ap, arith, ContextsKept, carried_fewer, grabbed, brought_back}
-use Rattle.fm_ctx.proofs.Changing.{within_rows, row_carried, row_carrying, sound_now, sound_brought, shown, slots_kept, carried_by, within_carried, indexed_kept}
+use Rattle.fm_ctx.proofs.Changing.{opens_at, row_carried, row_carrying, sound_now, sound_brought, shown, slots_kept, carried_by, within_carried, indexed_kept}
 use Rattle.fm_ctx.proofs.contexts.Contexts.bring.Goals as goal
 
 pub bring-requires : goal.bring-requires
 bring-requires c =
     let i = row_carrying c.self.invariant c.self.view_is c.args.id c.requires.carried in
-    record { room = within_rows i; some = λ d. omega (arith, c.requires.carried, row_carried i c.self.view_is d) }
+    record { there = opens_at i; some = λ d. omega (arith, c.requires.carried, row_carried i c.self.view_is d) }
 
 pub returns : goal.returns
 returns c =

@@ -1,12 +1,12 @@
 use Rattle.std.proofs.Common.{◌+◌, ◌∙◌}
 use Rattle.fm_ctx.proofs.Words.{refl, sym, ap, arith, ContextsKept, carried_more, handed_on, carried_away}
-use Rattle.fm_ctx.proofs.Changing.{within_rows, row_carried, row_held, sound_now, sound_carried, shown, slots_kept, carried_by, within_carried, indexed_kept}
+use Rattle.fm_ctx.proofs.Changing.{opens_at, row_carried, row_held, sound_now, sound_carried, shown, slots_kept, carried_by, within_carried, indexed_kept}
 use Rattle.fm_ctx.proofs.contexts.Contexts.carry.Goals as goal
 
 pub carry-requires : goal.carry-requires
 carry-requires c =
     let i = row_held c.self.invariant c.self.view_is c.args.worker.0 c.args.id c.requires.within (sym c.if-not-holds.ensures.held) in
-    record { room = within_rows i; fits = λ d. omega (arith, c.requires.few, row_carried i c.self.view_is d) }
+    record { there = opens_at i; fits = λ d. omega (arith, c.requires.few, row_carried i c.self.view_is d) }
 
 pub returns-clause-after : goal.returns-clause-after
 returns-clause-after c =

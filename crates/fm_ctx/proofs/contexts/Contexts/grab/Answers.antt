@@ -4,7 +4,7 @@ use Rattle.fm_ctx.proofs.Changing.{row_live, row_raises, sound_now, sound_grabbe
 use Rattle.fm_ctx.proofs.contexts.Contexts.grab.Goals as goal
 
 pub raise-requires : goal.raise-requires
-raise-requires c = let r = row_raises c.self.invariant c.self.view_is c.args.id c.requires.live in record { room = r.0; fits = r.1 }
+raise-requires c = let r = row_raises c.self.invariant c.self.view_is c.args.id c.requires.live in record { there = r.0; fits = r.1 }
 
 pub returns : goal.returns
 returns c =

@@ -1,14 +1,15 @@
 use Rattle.std.proofs.Common.{◌∙◌}
-use Rattle.fm_ctx.proofs.Words.{ap, arith, nat_tests, ContextsKept, is_out_of_slots}
-use Rattle.fm_ctx.proofs.Newborn.{out_of_slots}
+use Rattle.fm_ctx.proofs.Words.{ap, arith, nat_tests, ContextsKept, is_out_of_slots, length-map, slot_of}
 use Rattle.fm_ctx.proofs.contexts.Contexts.is_out_of_slots.Goals as goal
 
 pub returns-then-len-ge-MAX_SLOTS : goal.returns-then-len-ge-MAX_SLOTS
+unfolding is_out_of_slots
 returns-then-len-ge-MAX_SLOTS c =
-    let told = out_of_slots c.self.inside.rows.items c.self.invariant.account ∙ ap (λ (k : ContextsKept). is_out_of_slots k.table.slots) c.self.view_is in
-    grind (arith, nat_tests, told, c.len.ensures, c.if-len-ge-MAX_SLOTS.true, c.self.inside.rows.ok.0, c.has_none_free.ensures)
+    let told = ap (λ (k : ContextsKept). is_out_of_slots k.table.slots) c.self.view_is in
+    grind (arith, nat_tests, told, c.len.ensures, c.if-len-ge-MAX_SLOTS.true, length-map c.self.inside.rows slot_of, c.has_none_free.ensures)
 
 pub returns-else-len-ge-MAX_SLOTS : goal.returns-else-len-ge-MAX_SLOTS
+unfolding is_out_of_slots
 returns-else-len-ge-MAX_SLOTS c =
-    let told = out_of_slots c.self.inside.rows.items c.self.invariant.account ∙ ap (λ (k : ContextsKept). is_out_of_slots k.table.slots) c.self.view_is in
-    grind (arith, nat_tests, told, c.len.ensures, c.if-len-ge-MAX_SLOTS.false, c.self.inside.rows.ok.0)
+    let told = ap (λ (k : ContextsKept). is_out_of_slots k.table.slots) c.self.view_is in
+    grind (arith, nat_tests, told, c.len.ensures, c.if-len-ge-MAX_SLOTS.false, length-map c.self.inside.rows slot_of)

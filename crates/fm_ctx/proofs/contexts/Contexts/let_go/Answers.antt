@@ -1,6 +1,6 @@
 use Rattle.std.proofs.Common.{◌∙◌}
 use Rattle.fm_ctx.proofs.Words.{refl, ap, ContextsKept, carried_of, released, lowered}
-use Rattle.fm_ctx.proofs.Changing.{within_rows, live_held, row_held, row_positive, due_fits, sound_now, sound_released, shown, slots_kept, carried_kept, due_by, indexed_kept}
+use Rattle.fm_ctx.proofs.Changing.{opens_at, live_held, row_held, row_positive, due_fits, sound_now, sound_released, shown, slots_kept, carried_kept, due_by, indexed_kept}
 use Rattle.fm_ctx.proofs.contexts.Contexts.let_go.Goals as goal
 
 pub drop_reference-requires : goal.drop_reference-requires
@@ -8,7 +8,7 @@ drop_reference-requires c =
     let s = sound_now c.self.invariant c.self.view_is in
     let i = row_held c.self.invariant c.self.view_is c.args.worker.0 c.args.id c.requires.within c.requires.held in
     let some = row_positive s i (live_held s c.args.worker.0 c.args.id c.requires.within c.requires.held) in
-    record { within = within_rows i; some = some; room = λ d last. due_fits c.self.invariant.sound i (some i.row) }
+    record { there = opens_at i; some = some; room = λ d last. due_fits c.self.invariant.sound i (some i.row) }
 
 pub returns : goal.returns
 returns c =

@@ -13,10 +13,7 @@ invariant_of-result c =
     let hands = c.loop-worker.invariant.hands ∙ ap (λ n. replicate {A = List CtxId} n []) all in
     let cleaning = c.loop-worker.invariant.cleaning ∙ ap (λ n. replicate {A = Option CtxId} n None) all in
     record {
-      sound = sound_as c.new-2.ensures.items
-          (shown [] 0 c.new-2.ensures.items refl refl hands c.new-5.ensures.items cleaning) refl
-          (sound_empty (deque_capacity c.new-5.result));
-      seated = c.in_ok-new-2.ensures ∙ sym (ap seats_of c.new-2.ensures.items);
-      account = subst (λ (rows : List Row). IsAccount (lives_of rows) c.new-3.result) (sym c.new-2.ensures.items)
-          (account_none c.new-3.ensures.free c.new-3.ensures.born c.new-3.ensures.living);
+      sound = sound_as c.new-2.ensures (shown [] 0 c.new-2.ensures refl refl hands c.new-4.ensures.items cleaning) refl (sound_empty (deque_capacity c.new-4.result));
+      seated = c.in_ok-new-2.ensures ∙ sym (ap seats_of c.new-2.ensures);
+      account = subst (λ (rows : List Row). IsAccount (lives_of rows) (record { born = 0; living = 0 })) (sym c.new-2.ensures) (account_none refl refl);
     }

@@ -7,10 +7,10 @@ after-requires c =
     let shows = ap (λ (k : ContextsKept). k.table.slots) c.self.view_is in
     record {
       chain = c.requires.chain;
-      above = on_seats c.self.inside.rows.items c.args.chain c.self.invariant.seated shows c.args.above c.requires.above;
+      above = on_seats c.self.inside.rows c.args.chain c.self.invariant.seated shows c.args.above c.requires.above;
     }
 
 pub returns : goal.returns
 returns c =
     let shows = ap (λ (k : ContextsKept). k.table.slots) c.self.view_is in
-    next_read c.self.inside.rows.items c.args.chain c.self.invariant.seated shows c.args.above c.after.result c.after.ensures
+    next_read c.self.inside.rows c.args.chain c.self.invariant.seated shows c.args.above c.after.result c.after.ensures

@@ -1,22 +1,22 @@
 use Rattle.std.proofs.Common.{◌≡◌, ◌∙◌}
-use Rattle.fm_ctx.proofs.Words.{ℕ, [], List, Some, slice_get, refl, sym, ap, ap₂, arith, CtxId, Row, ContextsKept, kept_in, row_with, Vec, taken_of}
+use Rattle.fm_ctx.proofs.Words.{ℕ, [], List, Some, slice_get, refl, sym, ap, ap₂, CtxId, Row, ContextsKept, kept_in, row_with, taken_of}
 use Rattle.fm_ctx.proofs.Words.{after_take_due}
-use Rattle.fm_ctx.proofs.Changing.{row_read, within_rows, sound_now, due_row, sound_taken, shown, slots_with, carried_kept, due_told, read_updated, within_updated, indexed_kept}
+use Rattle.fm_ctx.proofs.Changing.{row_read, opens_at, sound_now, due_row, sound_taken, shown, slots_with, carried_kept, due_told, read_updated, opens_updated, indexed_kept}
 use Rattle.fm_ctx.proofs.contexts.Contexts.take_due.Goals as goal
 
 pub take_body-body-requires : goal.take_body-body-requires
-take_body-body-requires c = within_rows (due_row c.in_ok-id.id c.self.invariant.sound c.in_ok-id.ensures.items)
+take_body-body-requires c = record { there = opens_at (due_row c.in_ok-id.id c.self.invariant.sound c.in_ok-id.ensures.items); bare = c.new.ensures.items }
 
-pub index-row-requires : goal.index-row-requires
-index-row-requires c =
+pub entry-entry-requires : goal.entry-entry-requires
+entry-entry-requires c =
     let i = due_row c.in_ok-id.id c.self.invariant.sound c.in_ok-id.ensures.items in
-    omega (arith, within_updated i (row_with c.new.result) c.take_body-body.ensures.rest, c.take_body-body.new.rows.ok.0)
+    opens_updated i (row_with []) c.take_body-body.ensures.rest i.open_yet
 
 pub returns-clause-reply : goal.returns-clause-reply
 returns-clause-reply c =
     let i = due_row c.in_ok-id.id c.self.invariant.sound c.in_ok-id.ensures.items in
-    let row = read_updated i (row_with c.new.result) c.index-row.result.now c.take_body-body.ensures.rest c.index-row.ensures in
-    let body = c.from_vec.ensures ∙ ap (λ (v : Vec ℕ). v.items) (c.take_body-body.ensures.body i.row) ∙ ap (λ (r : Row). r.body.items) (row_read i i.row) in
+    let row = sym (c.entry-entry.ensures i.row) ∙ read_updated i (row_with []) i.row c.take_body-body.ensures.rest in
+    let body = c.from_vec.ensures ∙ c.take_body-body.ensures.body i.row ∙ ap (λ (r : Row). r.body) (row_read i i.row) in
     ap₂ (λ (r : Row) (bytes : List ℕ). Some (record { id = c.in_ok-id.id; kind = r.kind; owner = r.owner; body = bytes })) row body ∙ due_told i c.in_ok-id.ensures.items c.self.view_is
 
 pub returns-clause-after : goal.returns-clause-after
@@ -24,9 +24,9 @@ returns-clause-after c =
     let id = c.in_ok-id.id in
     let inside = c.self.inside in
     let i = due_row id c.self.invariant.sound c.in_ok-id.ensures.items in
-    let kept = kept_in inside.rows.items inside.hands.items inside.due.items inside.cleaning.items inside.leaks in
+    let kept = kept_in inside.rows inside.hands.items inside.due.items inside.cleaning.items inside.leaks in
     let first : slice_get inside.due.items 0 ≡ Some id = ap (λ (due : List CtxId). slice_get due 0) c.in_ok-id.ensures.items in
-    shown _ inside.leaks c.take_body-body.ensures.rest (slots_with i c.new.result [] c.new.ensures.items) (carried_kept i (row_with c.new.result) refl)
+    shown _ inside.leaks c.take_body-body.ensures.rest (slots_with i []) (carried_kept i (row_with []) refl)
     refl c.in_ok-id.ensures.rest refl
     ∙ sym (ap (λ o. record kept { table = taken_of kept.table c.args.worker.0 o }) first) ∙ ap (λ (k : ContextsKept). record k { table = after_take_due k.table c.args.worker.0 }) c.self.view_is
 
@@ -36,5 +36,5 @@ invariant_of-self-2 c =
     let i = due_row c.in_ok-id.id c.self.invariant.sound c.in_ok-id.ensures.items in
     let first : slice_get c.args.self.now.table.due 0 ≡ Some c.in_ok-id.id =
     ap (λ (k : ContextsKept). slice_get k.table.due 0) (sym c.self.view_is) ∙ ap (λ (due : List CtxId). slice_get due 0) c.in_ok-id.ensures.items in
-    indexed_kept c.self.invariant i (row_with c.new.result) c.take_body-body.ensures.rest (returns-clause-after c) c.in_ok-id.ensures.capacity
-    (sound_taken s (row_with c.new.result) c.args.worker.0 i c.requires.within first c.requires.idle refl refl) refl refl
+    indexed_kept c.self.invariant i (row_with []) c.take_body-body.ensures.rest (returns-clause-after c) c.in_ok-id.ensures.capacity
+    (sound_taken s (row_with []) c.args.worker.0 i c.requires.within first c.requires.idle refl refl) refl refl

@@ -1,10 +1,10 @@
 use Rattle.std.proofs.Common.{◌∙◌}
 use Rattle.fm_ctx.proofs.Words.{None, refl, ap, ContextsKept, with_link, unlinked_into, unlinked_row}
-use Rattle.fm_ctx.proofs.Changing.{within_rows, row_linked, sound_now, sound_unlinked_into, shown, slots_by, carried_kept, seat_within, unlinked_seat, indexed_set}
+use Rattle.fm_ctx.proofs.Changing.{opens_at, row_linked, sound_now, sound_unlinked_into, shown, slots_by, carried_kept, seat_within, unlinked_seat, indexed_set}
 use Rattle.fm_ctx.proofs.contexts.Contexts.unlink_into.Goals as goal
 
 pub unlink-requires : goal.unlink-requires
-unlink-requires c = within_rows (row_linked c.self.invariant c.self.view_is c.args.id c.requires.linked)
+unlink-requires c = opens_at (row_linked c.self.invariant c.self.view_is c.args.id c.requires.linked)
 
 pub take-requires : goal.take-requires
 take-requires c = seat_within (row_linked c.self.invariant c.self.view_is c.args.id c.requires.linked) c.self.invariant.seated

@@ -9,4 +9,8 @@ none_only P never (Some k) same = absurd (never k same)
 pub invariant_of-result : goal.invariant_of-result
 invariant_of-result c =
     let all = c.in_ok-vec.ensures.items_if_clones_equal (none_only _ (λ k never. never)) in
-    rw (c.new.ensures.items, c.new-2.ensures.items, all) chained_none
+    record {
+      chained = rw (c.in_ok-with_capacity.ensures.items, c.in_ok-with_capacity-2.ensures.items, all) chained_none;
+      nexts_fit = c.in_ok-with_capacity.ensures.capacity;
+      seats_fit = c.in_ok-with_capacity-2.ensures.capacity;
+    }

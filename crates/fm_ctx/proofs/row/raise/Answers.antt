@@ -1,5 +1,0 @@
-use Rattle.fm_ctx.proofs.Words.{refl, set_is_updated, raised}
-use Rattle.fm_ctx.proofs.row.raise.Goals as goal
-
-pub returns : goal.returns
-returns c = set_is_updated raised c.args.rows.now.items c.args.slot c.index_mut-row.result.now _ c.requires.room c.index_mut-row.ensures.value refl

@@ -1,8 +1,8 @@
 -- The count of all contexts, after each change of one slot.
-use Rattle.fm_ctx.proofs.Words.{ℕ, true, false, List, [], length, set, slice_get, Option, Some, None, refl, sym, subst, arith, nat_tests}
+use Rattle.fm_ctx.proofs.Words.{ℕ, true, false, List, [], length, set, slice_get, Some, subst, arith, nat_tests}
 use Rattle.fm_ctx.proofs.Words.{slice_get_within, get_or_from_slice_get}
-use Rattle.fm_ctx.proofs.Words.{count_by-le-length, get_or-le-sum_by, sum_by-set, All-set, one, Tally}
-use Rattle.std.proofs.Common.{◌∙◌, ◌≡◌, ◌+◌, ◌<◌, ◌≤◌, ◌∷◌, ◌++◌, ◌^◌, sum_by}
+use Rattle.fm_ctx.proofs.Words.{get_or-le-sum_by, sum_by-set, All-set, one, Tally}
+use Rattle.std.proofs.Common.{◌≡◌, ◌+◌, ◌<◌, ◌≤◌, ◌∷◌, ◌++◌, ◌^◌, sum_by}
 use Rattle.std.proofs.lemmas.List.Elements.{All-push}
 use Rattle.std.proofs.lemmas.List.Sums.{sum_by_push, sum_by-le}
 use Rattle.fm_types.proofs.Lists.{all_at, count_by-push}
@@ -64,6 +64,3 @@ pub few_born : {lives : List Life} {tally : Tally} → IsAccount lives tally →
 unfolding last_generation
 few_born {lives} {tally} a few =
     omega (arith, a.born, few, sum_by-le (λ (l : Life). l.generation + 1) (2 ^ 32) lives (λ k d within. omega (arith, a.young k d within)))
-
-pub few_living : {lives : List Life} {tally : Tally} → IsAccount lives tally → tally.living ≤ length lives
-few_living {lives} a = omega (arith, a.opened, count_by-le-length is_living lives)

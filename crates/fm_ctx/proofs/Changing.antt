@@ -1,6 +1,6 @@
 -- The calls that change one row: the words of their answers, which row it is, and the rows with their seats after it.
 use Rattle.std.proofs.Common.{◌≡◌, ◌<◌, ◌-◌, ◌^◌, ◌∙◌}
-use Rattle.fm_ctx.proofs.Words.{ℕ, true, List, length, get_or, Option, is_some, arith, CtxId, Row, Seat, holds, hand_of, set, updated, ContextsKept, carried_of}
+use Rattle.fm_ctx.proofs.Words.{ℕ, true, List, get_or, Option, is_some, arith, CtxId, Row, Seat, holds, hand_of, set, updated, ContextsKept, carried_of}
 use Rattle.fm_ctx.proofs.Words.{count_in, link_at, IsSound, IsIndexed, seat_in, Tally, life_of, lives_of, sym, ap, subst}
 use Rattle.fm_ctx.proofs.Words.{slice_get, refl, IsOpenAt, Some, option_map, slice_get-map, cleaned_row}
 use Rattle.fm_ctx.specs.Generations.{Life, IsAccount, ended}

@@ -1,5 +1,5 @@
 -- A new row stands for a new context.
-use Rattle.fm_ctx.proofs.Words.{ℕ, Bool, true, false, cond, List, [], length, set, slice_get, Option, Some, None, refl, sym, ap, subst, arith, inl, length-append, length-set, ne_eqb}
+use Rattle.fm_ctx.proofs.Words.{ℕ, Bool, true, false, cond, List, [], length, set, slice_get, Option, Some, None, sym, ap, subst, arith, inl, length-append, length-set, ne_eqb}
 use Rattle.fm_ctx.proofs.Words.{eq-eqb, length-map, cases_eq, inr, CtxId, slice_get-map, slice_get-push, slice_get-append_left, slice_get_past, slice_get_within, slice_get-some}
 use Rattle.fm_ctx.proofs.Words.{get_or_from_slice_get, Row, Seat, one, is_id, option_map, hand_of, Slot, ContextsKept, carried_of, IsNew, placed, kept_allocated, same_Some}
 use Rattle.fm_ctx.proofs.Words.{context_of, slot_of, slots_of, seat_in, seats_of, carried_in, row_at, stored, IsFresh, IsPut, put_row, life_of, lives_of}

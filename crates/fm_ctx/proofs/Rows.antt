@@ -3,12 +3,12 @@ use Rattle.fm_ctx.proofs.Words.{ℕ, zero, suc, Bool, true, false, cond, ltb, Li
 use Rattle.fm_ctx.proofs.Words.{None, is_some, is_none, option_map, refl, sym, ap, ap₂, subst, arith, unwrap_or, position, position_or_len}
 use Rattle.fm_ctx.proofs.Words.{length-map, sum_by-cons, true≢false, same_Some, slice_get-map, slice_get_within}
 use Rattle.fm_ctx.proofs.Words.{get_or_from_slice_get, CtxId, updated, updated-same, updated-other, count_by-updated, Row, one, is_id}
-use Rattle.fm_ctx.proofs.Words.{Context, Slot, context_at, carried_of, Object, Owner, links, has_link, id_at, holder, was_given, body_at, context_of, IsOpenAt}
+use Rattle.fm_ctx.proofs.Words.{Context, Slot, context_at, carried_of, Object, Owner, links, has_link, id_at, holder, body_at, context_of, IsOpenAt}
 use Rattle.fm_ctx.proofs.Words.{slot_of, slots_of, carried_in, row_in, row_at, count_of_row, stored, is_referenced, kept_in, nat_tests}
 use Rattle.fm_ctx.proofs.Words.{unwrap_or-slice_get, ContextsKept, born, life_of, lives_of}
 use Rattle.std.proofs.Common.{◌≡◌, ◌+◌, ◌<◌, ◌∷◌, ◌∙◌, not, sum_by}
 use Rattle.fm_ctx.proofs.Words.{slice_get-some}
-use Rattle.fm_ctx.specs.Counting.{cleaned_count, is_open, open_of, was_given_by}
+use Rattle.fm_ctx.specs.Counting.{cleaned_count, is_open, open_of}
 use Rattle.fm_ctx.specs.Generations.{Life, is_living}
 use Rattle.fm_ctx.proofs.Bags.{is_id-same}
 
@@ -125,10 +125,6 @@ row_of_context rows c has = at_row (row_at rows c) refl
 pub row_named : {hands : List (List CtxId)} {due : List CtxId} {cleaning : List (Option CtxId)} {leaks : ℕ} {now : ContextsKept} (rows : List Row) (c : CtxId)
     → kept_in rows hands due cleaning leaks ≡ now → is_some (context_at now.table.slots c) ≡ true → InRow rows c
 row_named rows c same has = row_of_context rows c (subst (λ (k : ContextsKept). is_some (context_at k.table.slots c) ≡ true) (sym same) has)
-
--- an id was given where its row has had that generation
-pub given_rows : (rows : List Row) (c : CtxId) → was_given (slots_of rows) c ≡ was_given_by c (option_map slot_of (slice_get rows c.slot))
-given_rows rows c = ap (was_given_by c) (slice_get-map slot_of rows c.slot)
 
 -- ---- the holder
 

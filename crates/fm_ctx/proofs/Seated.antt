@@ -4,7 +4,7 @@ use Rattle.fm_ctx.proofs.Words.{ℕ, zero, suc, List, [], length, set, get_or, p
 use Rattle.fm_ctx.proofs.Words.{ap, arith, length-map, sum_by-cons, slice_get-map, get_or_from_slice_get, CtxId, updated, Object, Owner, Row, Seat}
 use Rattle.fm_ctx.proofs.Words.{one, links, has_link, holder, Slot, context_at, link_count, is_seat, slot_of, slots_of, linked_row, unlinked_row}
 use Rattle.fm_ctx.proofs.Words.{id_at, nat_tests, ContextsKept, kept_in, Context, seat_in, seats_of}
-use Rattle.fm_ctx.proofs.Rows.{InRow, within_rows, row_read, context_in_row, map_changed, map_kept, position-map, holder-rows}
+use Rattle.fm_ctx.proofs.Rows.{InRow, within_rows, context_in_row, map_changed, map_kept, position-map, holder-rows}
 
 -- ---- who is linked, by seats
 

@@ -1,8 +1,8 @@
 -- The rows of slots, when what a slab has at one key changes, or the last generation of its slot.
 use Rattle.std.proofs.Common.{◌≡◌, ◌≢◌, ◌+◌, ◌<◌, ◌≤◌, ◌∷◌, ◌++◌, ◌∙◌, ◌==◌, IsSome, drop, take, nat_le, not, option_and_then, if◌then◌else◌}
-use Rattle.fm_ctx.proofs.Words.{ℕ, zero, suc, Bool, true, false, cond, List, [], length, set, get_or, slice_get, count_by, map, Option, Some, None, is_some, option_map, refl, sym, ap, ap₂}
+use Rattle.fm_ctx.proofs.Words.{ℕ, zero, suc, Bool, true, false, cond, List, [], length, set, get_or, slice_get, count_by, Option, Some, None, is_some, option_map, refl, sym, ap, ap₂}
 use Rattle.fm_ctx.proofs.Words.{true≢false, subst, arith, nat_tests, inl, inr, cases_eq, cases_lt, cases_Bool, updated, slice_get-map, same_Some, slice_get_within, get_or_from_slice_get}
-use Rattle.fm_ctx.proofs.Words.{length-append, length-set, sum_by-cons, one, CtxId, Row, Slot, IsNew, IsPut, slot_of, slots_of, put_row, row_at, ne_eqb, eq-eqb, length-map}
+use Rattle.fm_ctx.proofs.Words.{length-append, length-set, sum_by-cons, one, CtxId, Row, Slot, IsNew, slot_of, slots_of, put_row, row_at, ne_eqb, eq-eqb, length-map}
 use Rattle.std.proofs.lemmas.List.{take_more, get_or-set_same, get_or-set_other, get_or_past, set-get_or, get_or_default}
 use Rattle.std.proofs.lemmas.List.Folds.{list_any_none, list_any_at}
 use Rattle.std.proofs.lemmas.List.Sums.{get_or-le-sum_by}

@@ -1,5 +1,5 @@
-use Rattle.std.proofs.Common.{◌≡◌, ◌∙◌}
-use Rattle.fm_ctx.proofs.Words.{arith, length, lives_of, length-map, life_of, sym, subst}
+use Rattle.std.proofs.Common.{◌∙◌}
+use Rattle.fm_ctx.proofs.Words.{arith, lives_of, length-map, life_of, sym, subst}
 use Rattle.fm_ctx.specs.Generations.{IsAccount}
 use Rattle.fm_ctx.specs.Stored.{open_row}
 use Rattle.fm_ctx.proofs.Accounts.{few_born}

@@ -1,4 +1,4 @@
-use Rattle.fm_ctx.proofs.Words.{ℕ, List, None, false, length, refl, sym, ap, subst, arith, nat_tests, Row, hand_of, kept_allocated, ContextsKept, deque_capacity}
+use Rattle.fm_ctx.proofs.Words.{ℕ, List, None, false, length, refl, ap, subst, arith, nat_tests, Row, hand_of, kept_allocated, ContextsKept, deque_capacity}
 use Rattle.fm_ctx.proofs.Words.{context_of, kept_in, slot_of, length-map, IsNew, IsFresh}
 use Rattle.std.proofs.Common.{◌≡◌, ◌<◌, ◌≤◌, ◌+◌, ◌∙◌, rules}
 use Rattle.fm_ctx.specs.Births.{new_context}

@@ -1,4 +1,3 @@
-use Rattle.std.proofs.Common.{◌∙◌}
 use Rattle.fm_ctx.proofs.Words.{ap, arith, nat_tests, ContextsKept, is_out_of_slots, length-map, slot_of}
 use Rattle.fm_ctx.proofs.contexts.Contexts.is_out_of_slots.Goals as goal
 

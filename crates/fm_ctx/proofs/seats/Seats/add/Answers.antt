@@ -1,4 +1,4 @@
-use Rattle.fm_ctx.proofs.Words.{length, ap, sym, arith, List, Option, Seat}
+use Rattle.fm_ctx.proofs.Words.{length, ap, arith, List, Option, Seat}
 use Rattle.fm_ctx.proofs.Chains.{chained_as, chained_more}
 use Rattle.fm_ctx.proofs.seats.Seats.add.Goals as goal
 

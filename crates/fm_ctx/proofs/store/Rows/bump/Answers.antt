@@ -1,4 +1,4 @@
-use Rattle.std.proofs.Common.{◌+◌, ◌≤◌, ◌∙◌}
+use Rattle.std.proofs.Common.{◌∙◌}
 use Rattle.fm_ctx.proofs.Words.{ℕ, List, length, refl, sym, ap, arith, updated, Row, row_with, with_number}
 use Rattle.fm_ctx.proofs.Stored.{has_entry, row_now, changed_now, entry_kept}
 use Rattle.fm_ctx.specs.Bodies.{raised}

@@ -1,7 +1,6 @@
-use Rattle.std.proofs.Common.{◌≡◌, ◌<◌, ◌≤◌, ◌∙◌}
-use Rattle.fm_ctx.proofs.Words.{ℕ, true, None, Some, refl, sym, ap, arith, nat_tests, get_or, set, subst}
+use Rattle.std.proofs.Common.{◌∙◌}
+use Rattle.fm_ctx.proofs.Words.{true, None, Some, sym, ap, arith, get_or, set, subst}
 use Rattle.std.proofs.lemmas.List.{get_or-set_same, get_or-set_other}
-use Rattle.fm_ctx.specs.Births.{last_generation}
 use Rattle.fm_ctx.specs.Stored.{FitsLast, row_by}
 use Rattle.fm_ctx.proofs.Stored.{has_entry, within_now, cleaned_now, stored_set, slot_within, young_here}
 use Rattle.fm_ctx.proofs.store.Rows.clean.Goals as goal

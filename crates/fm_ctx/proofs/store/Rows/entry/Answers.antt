@@ -1,5 +1,5 @@
 use Rattle.std.proofs.Common.{◌∙◌}
-use Rattle.fm_ctx.proofs.Words.{ℕ, refl, sym, ap, Row}
+use Rattle.fm_ctx.proofs.Words.{ℕ, sym, ap, Row}
 use Rattle.fm_ctx.proofs.Stored.{has_entry, row_now}
 use Rattle.fm_ctx.specs.Stored.{open_row}
 use Rattle.fm_ctx.proofs.store.Rows.entry.Goals as goal

@@ -1,5 +1,5 @@
 use Rattle.std.proofs.Common.{◌∙◌, ◌==◌, not}
-use Rattle.fm_ctx.proofs.Words.{ℕ, ap, ap₂, Row, List, slots_of, length, sym, count_by, is_some}
+use Rattle.fm_ctx.proofs.Words.{ℕ, ap, ap₂, Row, List, slots_of}
 use Rattle.fm_ctx.specs.Births.{has_free_slot}
 use Rattle.fm_ctx.proofs.Stored.{none_is_free}
 use Rattle.fm_ctx.proofs.store.Rows.has_none_free.Goals as goal

@@ -1,6 +1,5 @@
 use Rattle.std.proofs.Common.{◌∙◌}
-use Rattle.fm_ctx.proofs.Words.{option_and_then, Option, None, sym, ap, Row, slot_of}
-use Rattle.fm_ctx.specs.declared.entry.Entry.{Entry}
+use Rattle.fm_ctx.proofs.Words.{option_and_then, sym, ap}
 use Rattle.fm_ctx.specs.Counting.{is_open_on}
 use Rattle.fm_ctx.specs.Stored.{context_in_entry}
 use Rattle.fm_ctx.proofs.Stored.{shown_at}

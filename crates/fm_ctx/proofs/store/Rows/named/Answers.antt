@@ -1,5 +1,5 @@
-use Rattle.std.proofs.Common.{◌≡◌, ◌∙◌}
-use Rattle.fm_ctx.proofs.Words.{ℕ, Option, None, refl, sym, ap, arith, nat_tests, length, get_or}
+use Rattle.std.proofs.Common.{◌∙◌}
+use Rattle.fm_ctx.proofs.Words.{Option, sym, ap, arith, nat_tests, get_or}
 use Rattle.std.proofs.lemmas.List.{get_or_default}
 use Rattle.fm_ctx.specs.declared.entry.Entry.{Entry}
 use Rattle.fm_ctx.specs.Stored.{named_row}

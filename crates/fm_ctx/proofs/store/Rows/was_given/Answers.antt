@@ -1,5 +1,4 @@
-use Rattle.std.proofs.Common.{◌∙◌, nat_le}
-use Rattle.fm_ctx.proofs.Words.{ℕ, ap, arith}
+use Rattle.fm_ctx.proofs.Words.{arith}
 use Rattle.fm_ctx.proofs.Stored.{given_past, given_here}
 use Rattle.fm_ctx.proofs.store.Rows.was_given.Goals as goal
 

@@ -94,7 +94,6 @@ impl Rows {
     /// Puts a context into a free slot, with its next generation, or into a new slot. The error says
     /// that memory was refused, and nothing changed; no other call takes memory.
     pub fn put(&mut self, entry: Entry) -> Result<CtxId, AllocError>
-        requires few { length self.old ≤ 65536 }
         requires opens { entry.is_retired ≡ false }
         ensures ok { IfOk result (IsPut self.old self.new (open_row 0 entry)) }
         ensures err { OnErr result (self.new ≡ self.old) }

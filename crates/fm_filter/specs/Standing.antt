@@ -1,6 +1,6 @@
 -- What stands while a callback runs, whatever it calls: the instances, where workers are, and what the operations under way are on.
 use Rattle.std.specs.Prelude.{ℕ, List, map, Option}
-use Rattle.fm_world.specs.Words.{FlowRecord, OpId, Operation, StackWorld}
+use Rattle.fm_world.specs.Words.{FlowRecord, OpId, Operation, StackWorld, WorkerId}
 use Rattle.fm_world.specs.World.{World}
 use Rattle.fm_world.specs.declared.worker.Worker.{Worker}
 
@@ -20,3 +20,8 @@ pub record Standing : Type 0 where
 
 abbrev pub standing_of : World → Standing
 standing_of w = record { stack = w.stack; workers = w.workers; operations = map shape_of w.flow.operations }
+
+-- what no callback changes: the worker that runs it, and what stands, if that can be said
+pub record Kept : Type 0 where
+  pub worker : WorkerId
+  pub standing : Option Standing

@@ -42,7 +42,6 @@ pub trait Agreeable: Send + Sync + Drop {
         ensures agrees { result ≡ true }
         ensures quiet { is_quiet self.now → _port.new ≡ _port.old }
         ensures far { P.kept _port.new ≡ P.kept _port.old }
-        ensures same { P.name _port.new ≡ P.name _port.old }
     {
         true
     }
@@ -52,8 +51,7 @@ pub trait Agreeable: Send + Sync + Drop {
         ensures may { pre_may self.now lent.old result lent.new }
         ensures kept { lent.new.received ≡ lent.old.received }
         ensures quiet { is_quiet self.now → port.new ≡ port.old }
-        ensures far { P.kept port.new ≡ P.kept port.old }
-        ensures same { P.name port.new ≡ P.name port.old };
+        ensures far { P.kept port.new ≡ P.kept port.old };
 
     /// As `Minifilter::post`.
     fn post<P: Port>(
@@ -65,28 +63,24 @@ pub trait Agreeable: Send + Sync + Drop {
         ensures may { post_may self.now lent.old completion result lent.new }
         ensures kept { lent.new.received ≡ lent.old.received }
         ensures quiet { is_quiet self.now → port.new ≡ port.old }
-        ensures far { P.kept port.new ≡ P.kept port.old }
-        ensures same { P.name port.new ≡ P.name port.old };
+        ensures far { P.kept port.new ≡ P.kept port.old };
 
     /// As `Minifilter::drain`.
     fn drain<P: Port>(&self, _completion: Completion, _port: &mut P)
         ensures quiet { is_quiet self.now → _port.new ≡ _port.old }
         ensures far { P.kept _port.new ≡ P.kept _port.old }
-        ensures same { P.name _port.new ≡ P.name _port.old }
     {}
 
     /// As `Minifilter::teardown_start`.
     fn teardown_start<P: Port>(&self, _port: &mut P)
         ensures quiet { is_quiet self.now → _port.new ≡ _port.old }
         ensures far { P.kept _port.new ≡ P.kept _port.old }
-        ensures same { P.name _port.new ≡ P.name _port.old }
     {}
 
     /// As `Minifilter::teardown_complete`.
     fn teardown_complete<P: Port>(&self, _port: &mut P)
         ensures quiet { is_quiet self.now → _port.new ≡ _port.old }
         ensures far { P.kept _port.new ≡ P.kept _port.old }
-        ensures same { P.name _port.new ≡ P.name _port.old }
     {}
 
     /// As `Minifilter::cleanup`.

@@ -12,7 +12,7 @@ use fm_types::{ContextKind, Registration};
 /// Each callback has a relation, a ghost member: of what it may answer and how it may change the data, or,
 /// where it answers nothing, of what holds once it was called. It gets a port for what it may call of the
 /// manager; a filter that is quiet calls nothing that changes the manager. No callback changes what it
-/// received, nor swaps the port for another one, nor does any change what the port keeps.
+/// received, nor what the port keeps.
 ///
 /// A filter that refuses no attach, detach or unload is written as an `Agreeable`, without the callbacks that do nothing.
 pub trait Minifilter: Send + Sync + Drop {
@@ -68,8 +68,7 @@ pub trait Minifilter: Send + Sync + Drop {
     fn setup<P: Port>(&self, port: &mut P) -> bool
         ensures may { setup_may self.now result }
         ensures quiet { is_quiet self.now → port.new ≡ port.old }
-        ensures far { P.kept port.new ≡ P.kept port.old }
-        ensures same { P.name port.new ≡ P.name port.old };
+        ensures far { P.kept port.new ≡ P.kept port.old };
 
     /// An operation comes down to the instance (`PFLT_PRE_OPERATION_CALLBACK`), with data that the
     /// callback may read and change. `WithCallback` lets it go on and asks for the postoperation,
@@ -79,8 +78,7 @@ pub trait Minifilter: Send + Sync + Drop {
         ensures may { pre_may self.now lent.old result lent.new }
         ensures kept { lent.new.received ≡ lent.old.received }
         ensures quiet { is_quiet self.now → port.new ≡ port.old }
-        ensures far { P.kept port.new ≡ P.kept port.old }
-        ensures same { P.name port.new ≡ P.name port.old };
+        ensures far { P.kept port.new ≡ P.kept port.old };
 
     /// An operation comes back up to an instance that asked for it (`PFLT_POST_OPERATION_CALLBACK`), with
     /// the answer so far, which the callback may change, and the completion that its preoperation gave.
@@ -95,8 +93,7 @@ pub trait Minifilter: Send + Sync + Drop {
         ensures may { post_may self.now lent.old completion result lent.new }
         ensures kept { lent.new.received ≡ lent.old.received }
         ensures quiet { is_quiet self.now → port.new ≡ port.old }
-        ensures far { P.kept port.new ≡ P.kept port.old }
-        ensures same { P.name port.new ≡ P.name port.old };
+        ensures far { P.kept port.new ≡ P.kept port.old };
 
     /// Stands in the place of `post` where the instance is being torn down
     /// (`PFLT_POST_OPERATION_CALLBACK` with `FLTFL_POST_OPERATION_DRAINING`): there is no data, and the
@@ -104,32 +101,28 @@ pub trait Minifilter: Send + Sync + Drop {
     fn drain<P: Port>(&self, completion: Completion, port: &mut P)
         ensures told { drained self.now completion }
         ensures quiet { is_quiet self.now → port.new ≡ port.old }
-        ensures far { P.kept port.new ≡ P.kept port.old }
-        ensures same { P.name port.new ≡ P.name port.old };
+        ensures far { P.kept port.new ≡ P.kept port.old };
 
     /// Someone wants to detach the instance (`PFLT_INSTANCE_QUERY_TEARDOWN_CALLBACK`). True agrees, and
     /// false refuses (`STATUS_FLT_DO_NOT_DETACH`). It isn't called where the filter didn't register it.
     fn query_teardown<P: Port>(&self, port: &mut P) -> bool
         ensures may { query_may self.now result }
         ensures quiet { is_quiet self.now → port.new ≡ port.old }
-        ensures far { P.kept port.new ≡ P.kept port.old }
-        ensures same { P.name port.new ≡ P.name port.old };
+        ensures far { P.kept port.new ≡ P.kept port.old };
 
     /// The instance's teardown begins (`PFLT_INSTANCE_TEARDOWN_CALLBACK`, `InstanceTeardownStartCallback`):
     /// no operation comes to it any more, and it resumes what it holds.
     fn teardown_start<P: Port>(&self, port: &mut P)
         ensures told { started self.now }
         ensures quiet { is_quiet self.now → port.new ≡ port.old }
-        ensures far { P.kept port.new ≡ P.kept port.old }
-        ensures same { P.name port.new ≡ P.name port.old };
+        ensures far { P.kept port.new ≡ P.kept port.old };
 
     /// Nothing is in flight at the instance any more (`PFLT_INSTANCE_TEARDOWN_CALLBACK`,
     /// `InstanceTeardownCompleteCallback`). Its contexts lose their links after it.
     fn teardown_complete<P: Port>(&self, port: &mut P)
         ensures told { completed self.now }
         ensures quiet { is_quiet self.now → port.new ≡ port.old }
-        ensures far { P.kept port.new ≡ P.kept port.old }
-        ensures same { P.name port.new ≡ P.name port.old };
+        ensures far { P.kept port.new ≡ P.kept port.old };
 
     /// Someone wants to unload the filter (`PFLT_FILTER_UNLOAD_CALLBACK`). True agrees, and false refuses
     /// (`STATUS_FLT_DO_NOT_DETACH`). It isn't called where the filter didn't register it, nor at a mandatory

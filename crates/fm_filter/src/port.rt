@@ -17,7 +17,6 @@ use fm_world::SetAnswer;
 /// refusal changes nothing, but for a `set` that hands out the context which is there.
 pub trait Port {
     ghost use Rattle.std.specs.Prelude.{ℕ, Bool, List, Option, Result};
-    ghost use Rattle.std.specs.Borrow.{GName};
     ghost use Rattle.fm_types.specs.declared.context_kind.ContextKind.{ContextKind};
     ghost use Rattle.fm_types.specs.declared.ids.CtxId.{CtxId};
     ghost use Rattle.fm_types.specs.declared.ids.OpId.{OpId};
@@ -26,7 +25,7 @@ pub trait Port {
     ghost use Rattle.fm_ctx.specs.declared.set_reply.SetMode.{SetMode};
     ghost use Rattle.fm_flow.specs.declared.hold.Hold.{Hold};
     ghost use Rattle.fm_world.specs.declared.set_answer.SetAnswer.{SetAnswer};
-    ghost use Rattle.fm_filter.specs.Standing.{Standing};
+    ghost use Rattle.fm_filter.specs.Standing.{Kept};
 
     /// How `allocate` may answer, and what it makes of the port.
     ghost allocates: { Self → ContextKind → List ℕ → Result CtxId Status → Self → Type 0 };
@@ -64,11 +63,8 @@ pub trait Port {
     /// The same of `resume_post`.
     ghost resumes_post: { Self → OpId → Result (Unit {0}) Status → Self → Type 0 };
 
-    /// What no call changes of the manager behind the port: its instances, where its workers are, and what its operations are on.
-    ghost kept: { Self → Standing };
-
-    /// The borrow behind the port, which no call swaps for another one.
-    ghost name: { Self → GName };
+    /// What no call changes: which worker runs the callback, and what stands in the manager, if the port says it.
+    ghost kept: { Self → Kept };
 
     /// Allocates a context of a kind, with its body (`FltAllocateContext`). Its one reference is in the
     /// hand, and it belongs to the callback's instance, or to its filter where it is a volume context.
@@ -76,8 +72,7 @@ pub trait Port {
     /// bytes or there are too many contexts, 26 where the hand has 16 references, 1.
     fn allocate(&mut self, kind: ContextKind, body: Bytes) -> Result<CtxId, Status>
         ensures event { allocates self.old kind body result self.new }
-        ensures kept { kept self.new ≡ kept self.old }
-        ensures same { name self.new ≡ name self.old };
+        ensures kept { kept self.new ≡ kept self.old };
 
     /// Sets a context of the hand on the callback's object of its kind (`FltSetVolumeContext`,
     /// `FltSetInstanceContext`, `FltSetStreamContext`, `FltSetStreamHandleContext`), for which it has one
@@ -87,8 +82,7 @@ pub trait Port {
     /// torn down, 26 where the old one is wanted and the hand has 16 references.
     fn set(&mut self, context: CtxId, mode: SetMode, wants_old: bool) -> SetAnswer
         ensures event { sets self.old context mode wants_old result self.new }
-        ensures kept { kept self.new ≡ kept self.old }
-        ensures same { name self.new ≡ name self.old };
+        ensures kept { kept self.new ≡ kept self.old };
 
     /// Gets the context of a kind that is set on the callback's object (`FltGetVolumeContext`,
     /// `FltGetInstanceContext`, `FltGetStreamContext`, `FltGetStreamHandleContext`), with a reference more,
@@ -97,8 +91,7 @@ pub trait Port {
     /// references.
     fn get(&mut self, kind: ContextKind) -> Result<CtxId, Status>
         ensures event { gets self.old kind result self.new }
-        ensures kept { kept self.new ≡ kept self.old }
-        ensures same { name self.new ≡ name self.old };
+        ensures kept { kept self.new ≡ kept self.old };
 
     /// Takes the context of a kind off the callback's object (`FltDeleteVolumeContext`,
     /// `FltDeleteInstanceContext`, `FltDeleteStreamContext`, `FltDeleteStreamHandleContext`). The
@@ -106,51 +99,44 @@ pub trait Port {
     /// with 21, 27, 24 and 26 as `get` is.
     fn delete(&mut self, kind: ContextKind, wants_old: bool) -> Result<Option<CtxId>, Status>
         ensures event { deletes self.old kind wants_old result self.new }
-        ensures kept { kept self.new ≡ kept self.old }
-        ensures same { name self.new ≡ name self.old };
+        ensures kept { kept self.new ≡ kept self.old };
 
     /// Takes one more reference to a context of the hand (`FltReferenceContext`). Refused with 25 where
     /// it isn't there, and 26 where the hand has 16 references.
     fn reference(&mut self, context: CtxId) -> Result<(), Status>
         ensures event { references self.old context result self.new }
-        ensures kept { kept self.new ≡ kept self.old }
-        ensures same { name self.new ≡ name self.old };
+        ensures kept { kept self.new ≡ kept self.old };
 
     /// Gives up one reference of the hand (`FltReleaseContext`): with the last one the context is due for
     /// its cleanup. Refused with 25 where the context isn't in the hand.
     fn release(&mut self, context: CtxId) -> Result<(), Status>
         ensures event { releases self.old context result self.new }
-        ensures kept { kept self.new ≡ kept self.old }
-        ensures same { name self.new ≡ name self.old };
+        ensures kept { kept self.new ≡ kept self.old };
 
     /// A copy of the body of a context of the hand (what the kit's pointer `PFLT_CONTEXT` points to).
     /// Refused with 25 where the context isn't there, and 1.
     fn read_body(&mut self, context: CtxId) -> Result<Bytes, Status>
         ensures event { reads_body self.old context result self.new }
-        ensures kept { kept self.new ≡ kept self.old }
-        ensures same { name self.new ≡ name self.old };
+        ensures kept { kept self.new ≡ kept self.old };
 
     /// Replaces the body of a context of the hand. Refused with 25 where the context isn't there, and 32
     /// where the bytes have another length than the body.
     fn write_body(&mut self, context: CtxId, bytes: &[u8]) -> Result<(), Status>
         ensures event { writes_body self.old context bytes.now result self.new }
-        ensures kept { kept self.new ≡ kept self.old }
-        ensures same { name self.new ≡ name self.old };
+        ensures kept { kept self.new ≡ kept self.old };
 
     /// Adds to the number at a place of the body of a context of the hand, and answers the sum
     /// (`InterlockedAdd64`): eight bytes, the highest first, modulo 2^64. Refused with 25 where the context
     /// isn't there, and 32 where the number would go past the body's end.
     fn bump(&mut self, context: CtxId, place: u64, by: u64) -> Result<u64, Status>
         ensures event { bumps self.old context place by result self.new }
-        ensures kept { kept self.new ≡ kept self.old }
-        ensures same { name self.new ≡ name self.old };
+        ensures kept { kept self.new ≡ kept self.old };
 
     /// The first operation, by number, that a callback of that kind of the port's instance holds, if it
     /// holds one.
     fn first_held(&mut self, hold: Hold) -> Result<Option<OpId>, Status>
         ensures event { finds_held self.old hold result self.new }
-        ensures kept { kept self.new ≡ kept self.old }
-        ensures same { name self.new ≡ name self.old };
+        ensures kept { kept self.new ≡ kept self.old };
 
     /// Lets an operation go on that a preoperation of the port's instance held
     /// (`FltCompletePendedPreOperation`), with the verdict that it gives after all. Refused with 29 where
@@ -158,14 +144,12 @@ pub trait Port {
     /// none of them holds the operation.
     fn resume_pre(&mut self, operation: OpId, verdict: PreVerdict) -> Result<(), Status>
         ensures event { resumes_pre self.old operation verdict result self.new }
-        ensures kept { kept self.new ≡ kept self.old }
-        ensures same { name self.new ≡ name self.old };
+        ensures kept { kept self.new ≡ kept self.old };
 
     /// Lets an operation go on that a postoperation of the port's instance held
     /// (`FltCompletePendedPostOperation`). Refused with 29 where the manager has no room for one more
     /// resumed operation, 28 where none of them holds the operation.
     fn resume_post(&mut self, operation: OpId) -> Result<(), Status>
         ensures event { resumes_post self.old operation result self.new }
-        ensures kept { kept self.new ≡ kept self.old }
-        ensures same { name self.new ≡ name self.old };
+        ensures kept { kept self.new ≡ kept self.old };
 }

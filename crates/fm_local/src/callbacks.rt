@@ -20,7 +20,7 @@ ghost use Rattle.fm_world.specs.declared.worker.Worker.TheVariants as place;
 use crate::bounded::Bounded;
 use crate::filters::Filters;
 use crate::leak::{Callback, Leak};
-use crate::local_port::{Desk, LocalPort};
+use crate::local_port::Desk;
 use crate::manager::{LocalManager, WORKER};
 use crate::trace::{Traced, Visit};
 use fm_base::Base;
@@ -310,13 +310,9 @@ fn ask<F: Minifilter>(
     let Some(filter) = filters.of(desk.state.filter_of(instance)) else {
         return false;
     };
-    let mut port = LocalPort {
-        desk,
-        worker: WORKER,
-    };
     match consent {
-        Consent::Setup => filter.setup(&mut port),
-        Consent::Query => filter.query_teardown(&mut port),
+        Consent::Setup => filter.setup(desk),
+        Consent::Query => filter.query_teardown(desk),
     }
 }
 
@@ -334,11 +330,7 @@ fn ask_pre<F: Minifilter>(
     let Some(filter) = filters.of(desk.state.filter_of(instance)) else {
         return PreVerdict::NoCallback;
     };
-    let mut port = LocalPort {
-        desk,
-        worker: WORKER,
-    };
-    filter.pre(lent, &mut port)
+    filter.pre(lent, desk)
 }
 
 // What the filter of an instance says of the data on its way up.
@@ -356,11 +348,7 @@ fn ask_post<F: Minifilter>(
     let Some(filter) = filters.of(desk.state.filter_of(instance)) else {
         return PostVerdict::Finished;
     };
-    let mut port = LocalPort {
-        desk,
-        worker: WORKER,
-    };
-    filter.post(lent, completion, &mut port)
+    filter.post(lent, completion, desk)
 }
 
 // Tells the filter of an instance.
@@ -371,14 +359,10 @@ fn tell<F: Minifilter>(filters: &Filters<F>, desk: &mut Desk, instance: Instance
     let Some(filter) = filters.of(desk.state.filter_of(instance)) else {
         return;
     };
-    let mut port = LocalPort {
-        desk,
-        worker: WORKER,
-    };
     match news {
-        News::Start => filter.teardown_start(&mut port),
-        News::Complete => filter.teardown_complete(&mut port),
-        News::Drain(completion) => filter.drain(completion, &mut port),
+        News::Start => filter.teardown_start(desk),
+        News::Complete => filter.teardown_complete(desk),
+        News::Drain(completion) => filter.drain(completion, desk),
     }
 }
 

@@ -15,6 +15,5 @@ mod trace;
 
 pub use crate::filters::Filters;
 pub use crate::leak::{Callback, Leak};
-pub use crate::local_port::LocalPort;
 pub use crate::manager::LocalManager;
 pub use crate::trace::{Traced, Visit};

@@ -32,7 +32,6 @@ impl Carry {
     // The context of the callback's handle, with a reference in the hand; a new one where there was none.
     fn of_handle<P: Port>(&self, port: &mut P) -> Option<CtxId>
         ensures far { P.kept port.new ≡ P.kept port.old }
-        ensures same { P.name port.new ≡ P.name port.old }
     {
         if let Ok(context) = port.get(ContextKind::Handle) {
             return Some(context);
@@ -47,7 +46,6 @@ impl Carry {
 // Releases what a completion brought.
 fn release<P: Port>(completion: Completion, port: &mut P)
     ensures far { P.kept port.new ≡ P.kept port.old }
-    ensures same { P.name port.new ≡ P.name port.old }
 {
     if let Some(context) = completion.context {
         let _ = port.release(context);

@@ -32,7 +32,6 @@ pub(crate) fn set_unless_there<P: Port>(
     body: Bytes,
 ) -> Option<CtxId>
     ensures far { P.kept port.new ≡ P.kept port.old }
-    ensures same { P.name port.new ≡ P.name port.old }
 {
     let Ok(context) = port.allocate(kind, body) else {
         return None;
@@ -53,7 +52,6 @@ pub(crate) fn set_unless_there<P: Port>(
 /// Lets every operation go on that the instance holds in that callback.
 pub(crate) fn resume_all<P: Port>(port: &mut P, held: Hold)
     ensures far { P.kept port.new ≡ P.kept port.old }
-    ensures same { P.name port.new ≡ P.name port.old }
 {
     for _ in 0..MOST_HELD {
         let Ok(Some(operation)) = port.first_held(held) else {
@@ -67,7 +65,6 @@ pub(crate) fn resume_all<P: Port>(port: &mut P, held: Hold)
 
 fn resume<P: Port>(port: &mut P, held: Hold, operation: OpId) -> Result<(), Status>
     ensures far { P.kept port.new ≡ P.kept port.old }
-    ensures same { P.name port.new ≡ P.name port.old }
 {
     match held {
         Hold::Pre => port.resume_pre(operation, PreVerdict::NoCallback),

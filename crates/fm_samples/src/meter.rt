@@ -33,7 +33,6 @@ impl Meter {
     // Counts one operation in the number at that place of the stream's context.
     fn count<P: Port>(&self, place: u64, port: &mut P)
         ensures far { P.kept port.new ≡ P.kept port.old }
-        ensures same { P.name port.new ≡ P.name port.old }
     {
         let Ok(body) = self.blank() else {
             return;

@@ -24,7 +24,6 @@ impl Forgets {
     // A new context with a body of one byte, of which one reference is in the hand. None where a call was refused.
     fn new_context<P: Port>(&self, kind: ContextKind, port: &mut P) -> Option<CtxId>
         ensures far { P.kept port.new ≡ P.kept port.old }
-        ensures same { P.name port.new ≡ P.name port.old }
     {
         let body = Bytes::copy_of(self.alloc, &[0]).ok()?;
         port.allocate(kind, body).ok()

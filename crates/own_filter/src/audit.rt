@@ -23,7 +23,6 @@ impl Audit {
     // The stream's context, with a reference in the hand; the first write makes it. None, with nothing in the hand, where a call was refused.
     fn counter<P: Port>(&self, port: &mut P) -> Option<CtxId>
         ensures far { P.kept port.new ≡ P.kept port.old }
-        ensures same { P.name port.new ≡ P.name port.old }
     {
         if let Ok(there) = port.get(ContextKind::Stream) {
             return Some(there);

@@ -1,12 +1,17 @@
 -- The filter whose reads take a context along.
-use Rattle.std.specs.Prelude.{◌≡◌, ◌⊎◌, true, Some}
+use Rattle.std.specs.Prelude.{◌≡◌, ◌⊎◌, [], ◌∷◌, true, Option, Some, None, Result, Ok, Err}
+use Rattle.fm_types.specs.declared.context_kind.ContextKind.TheVariants.{Handle}
 use Rattle.fm_types.specs.declared.ids.CtxId.{CtxId}
+use Rattle.fm_types.specs.declared.status.Status.{Status}
+use Rattle.fm_types.specs.declared.status.Status.TheVariants.{NoContext}
 use Rattle.fm_types.specs.declared.registration.Registration.{Registration}
 use Rattle.fm_data.specs.declared.params.Params.{Params}
 use Rattle.fm_data.specs.declared.params.Params.TheVariants as params
 use Rattle.fm_data.specs.declared.verdict.PreVerdict.{PreVerdict}
 use Rattle.fm_data.specs.declared.verdict.PreVerdict.TheVariants.{NoCallback, WithCallback}
 use Rattle.fm_data.specs.Data.{Data, current_of}
+use Rattle.fm_filter.specs.declared.port.Port as port
+use Rattle.fm_samples.specs.Calls.{SetsUnlessThere}
 
 -- it has a preoperation and a postoperation of reads, and contexts of handles
 abbrev pub carry_registers : Registration
@@ -23,3 +28,27 @@ CarriesVerdict _ answer = answer ≡ NoCallback
 
 abbrev pub CarriesPre : Data → PreVerdict → Data → Type 0
 CarriesPre old answer new = CarriesVerdict (current_of old) answer × (new ≡ old)
+
+-- a new context of the handle, with a body of one 0, is set unless one is there; without memory for it nothing is called
+abbrev pub MakesOwn : {P : Type 0} → port.Ghosts P → Option CtxId → P → P → Type 0
+MakesOwn p found old new = SetsUnlessThere p Handle (0 ∷ []) found old new ⊎ ((found ≡ None) × (new ≡ old))
+
+-- what is found once the handle's context was asked for: it is made if there is none, and after any other refusal nothing is found, and nothing more is called
+abbrev pub FindsAsked : {P : Type 0} → port.Ghosts P → Result CtxId Status → Option CtxId → P → P → Type 0
+FindsAsked p (Ok context) found old new = (found ≡ Some context) × (new ≡ old)
+FindsAsked p (Err NoContext) found old new = MakesOwn p found old new
+FindsAsked p (Err _) found old new = (found ≡ None) × (new ≡ old)
+
+-- the handle's context is asked for, and found or made
+abbrev pub FindsOwn : {P : Type 0} → port.Ghosts P → Option CtxId → P → P → Type 0
+FindsOwn {P} p found old new = (answer : Result CtxId Status) × (asked : P) × p.gets old Handle answer asked × FindsAsked p answer found asked new
+
+-- the context that was found goes along in completion number 1, and without one there is no postoperation
+abbrev pub sent_along : Option CtxId → PreVerdict
+sent_along None = NoCallback
+sent_along (Some context) = WithCallback (record { number = 1; context = Some context })
+
+-- a read sends the handle's context along, and nothing is called for all else
+abbrev pub CarriesCalls : {P : Type 0} → port.Ghosts P → Params → PreVerdict → P → P → Type 0
+CarriesCalls p (params.Read offset len) answer old new = (found : Option CtxId) × FindsOwn p found old new × (answer ≡ sent_along found)
+CarriesCalls p _ answer old new = new ≡ old

@@ -1,4 +1,5 @@
 pub mod Common
+pub mod Calls
 pub mod Guard
 pub mod Shift
 pub mod Meter

@@ -1,20 +1,24 @@
 -- The sample filters as one type: each relation goes by the filter.
-use Rattle.std.specs.Prelude.{ℕ, List, ⊤}
+use Rattle.std.specs.Prelude.{◌≡◌, ℕ, List, ⊤}
 use Rattle.fm_types.specs.declared.context_kind.ContextKind.{ContextKind}
 use Rattle.fm_types.specs.declared.registration.Registration.{Registration}
 use Rattle.fm_data.specs.Data.{Data}
+use Rattle.fm_data.specs.declared.params.Params.{Params}
 use Rattle.fm_data.specs.declared.verdict.Completion.{Completion}
 use Rattle.fm_data.specs.declared.verdict.PreVerdict.{PreVerdict}
 use Rattle.fm_data.specs.declared.verdict.PostVerdict.{PostVerdict}
+use Rattle.fm_flow.specs.declared.hold.Hold.TheVariants as callback
+use Rattle.fm_filter.specs.declared.port.Port as port
 use Rattle.fm_samples.specs.declared.sample.Sample.{Sample}
 use Rattle.fm_samples.specs.declared.sample.Sample.TheVariants.{Guard, Meter, Shift, Hold, Carry, Stay}
+use Rattle.fm_samples.specs.Calls.{ReleasesSent, ResumesAll}
 use Rattle.fm_samples.specs.Common.{IsBarePre, IsBarePost, CountsNothing}
 use Rattle.fm_samples.specs.Guard.{GuardsPre, guard_registers}
-use Rattle.fm_samples.specs.Meter.{MetersCleanup, meter_registers}
+use Rattle.fm_samples.specs.Meter.{MetersCalls, MetersCleanup, meter_registers}
 use Rattle.fm_samples.specs.Shift.{ShiftsPre, ShiftsPost, shift_registers}
-use Rattle.fm_samples.specs.Hold.{HoldsPre, hold_registers}
-use Rattle.fm_samples.specs.Carry.{CarriesPre, carry_registers}
-use Rattle.fm_samples.specs.Stay.{StaysPre, StaysPost, stay_registers}
+use Rattle.fm_samples.specs.Hold.{HoldsPre, HoldsCalls, hold_registers}
+use Rattle.fm_samples.specs.Carry.{CarriesPre, CarriesCalls, carry_registers}
+use Rattle.fm_samples.specs.Stay.{StaysPre, StaysPost, StaysCalls, stay_registers}
 
 abbrev pub sample_registers : Sample → Registration
 sample_registers (Guard filter) = guard_registers
@@ -56,3 +60,22 @@ IsQuietSample (Shift filter) = ⊤
 IsQuietSample (Hold filter) = ⊥
 IsQuietSample (Carry filter) = ⊥
 IsQuietSample (Stay filter) = ⊥
+
+-- what its preoperation calls of its port
+abbrev pub SamplesCalls : {P : Type 0} → port.Ghosts P → Sample → Params → PreVerdict → P → P → Type 0
+SamplesCalls p (Meter filter) given answer old new = MetersCalls p given old new
+SamplesCalls p (Hold filter) given answer old new = HoldsCalls p given old new
+SamplesCalls p (Carry filter) given answer old new = CarriesCalls p given answer old new
+SamplesCalls p (Stay filter) given answer old new = StaysCalls p given old new
+SamplesCalls p _ given answer old new = new ≡ old
+
+-- what its postoperation calls, or its drain: carry releases what the completion brought, and the others call nothing
+abbrev pub SamplesLetGo : {P : Type 0} → port.Ghosts P → Sample → Completion → P → P → Type 0
+SamplesLetGo p (Carry filter) completion old new = ReleasesSent p completion.context old new
+SamplesLetGo p _ completion old new = new ≡ old
+
+-- what it calls if a teardown starts: hold and stay let all go on that they hold, and the others call nothing
+abbrev pub SamplesStart : {P : Type 0} → port.Ghosts P → Sample → P → P → Type 0
+SamplesStart p (Hold filter) old new = ResumesAll p callback.Pre old new
+SamplesStart p (Stay filter) old new = ResumesAll p callback.Post old new
+SamplesStart p _ old new = new ≡ old

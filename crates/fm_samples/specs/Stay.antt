@@ -9,6 +9,9 @@ use Rattle.fm_data.specs.declared.verdict.PreVerdict.TheVariants.{NoCallback, Wi
 use Rattle.fm_data.specs.declared.verdict.PostVerdict.{PostVerdict}
 use Rattle.fm_data.specs.declared.verdict.PostVerdict.TheVariants.{MoreProcessing}
 use Rattle.fm_data.specs.Data.{Data, current_of}
+use Rattle.fm_flow.specs.declared.hold.Hold.TheVariants.{Post}
+use Rattle.fm_filter.specs.declared.port.Port as port
+use Rattle.fm_samples.specs.Calls.{ResumesAll}
 use Rattle.fm_samples.specs.Common.{plain_completion}
 
 -- it has a preoperation of reads and flushes, a postoperation of reads, and no query routine
@@ -26,3 +29,8 @@ StaysPre old answer new = (answer ≡ stayed_verdict (current_of old)) × (new �
 -- the postoperation holds the answer, as it is
 abbrev pub StaysPost : Data → Completion → PostVerdict → Data → Type 0
 StaysPost old completion answer new = (answer ≡ MoreProcessing) × (new ≡ old)
+
+-- a flush lets all go on that is held, and nothing is called for all else
+abbrev pub StaysCalls : {P : Type 0} → port.Ghosts P → Params → P → P → Type 0
+StaysCalls p params.Flush old new = ResumesAll p Post old new
+StaysCalls p _ old new = new ≡ old

@@ -1,11 +1,15 @@
 //! A filter whose reads take a context along.
 
 ghost use Rattle.std.specs.Prelude.{◌≡◌, ◌∷◌, [], IfOk};
+ghost use Rattle.fm_data.specs.Data.{current_of};
+ghost use Rattle.fm_samples.specs.Calls.{ReleasesSent};
+ghost use Rattle.fm_samples.specs.Carry.{CarriesPre, CarriesCalls, FindsOwn, MakesOwn};
+ghost use Rattle.fm_samples.specs.Common.{IsBarePost};
 
 use crate::common::set_unless_there;
 use fm_data::{CallbackData, Completion, Params, PostVerdict, PreVerdict};
 use fm_filter::{Agreeable, Port};
-use fm_types::{Bytes, ContextKind, ContextMask, CtxId, OpMask, Registration};
+use fm_types::{Bytes, ContextKind, ContextMask, CtxId, OpMask, Registration, Status};
 use std::alloc::{AllocError, Global};
 
 /// Sends the context of its handle along with each read (what a filter does that keeps a handle's state for
@@ -29,13 +33,23 @@ impl Carry {
         Bytes::copy_of(self.alloc, &[0])
     }
 
-    // The context of the callback's handle, with a reference in the hand; a new one where there was none.
+    // The context of the callback's handle, with a reference in the hand; a new one if there is none. None if a call is refused.
     fn of_handle<P: Port>(&self, port: &mut P) -> Option<CtxId>
+        ensures calls { FindsOwn P.Port result port.old port.new }
         ensures far { P.kept port.new ≡ P.kept port.old }
     {
-        if let Ok(context) = port.get(ContextKind::Handle) {
-            return Some(context);
+        match port.get(ContextKind::Handle) {
+            Ok(context) => Some(context),
+            Err(Status::NoContext) => self.new_of_handle(port),
+            Err(_) => None,
         }
+    }
+
+    // A new context of the callback's handle, or the one that was set there first.
+    fn new_of_handle<P: Port>(&self, port: &mut P) -> Option<CtxId>
+        ensures calls { MakesOwn P.Port result port.old port.new }
+        ensures far { P.kept port.new ≡ P.kept port.old }
+    {
         let Ok(body) = self.blank() else {
             return None;
         };
@@ -45,6 +59,7 @@ impl Carry {
 
 // Releases what a completion brought.
 fn release<P: Port>(completion: Completion, port: &mut P)
+    ensures calls { ReleasesSent P.Port completion.context port.old port.new }
     ensures far { P.kept port.new ≡ P.kept port.old }
 {
     if let Some(context) = completion.context {
@@ -76,7 +91,12 @@ impl Agreeable for Carry {
         }
     }
 
-    fn pre<P: Port>(&self, lent: &mut CallbackData, port: &mut P) -> PreVerdict {
+    fn pre<P: Port>(&self, lent: &mut CallbackData, port: &mut P) -> PreVerdict
+        ensures may { CarriesPre lent.old result lent.new }
+        ensures kept { lent.new.received ≡ lent.old.received }
+        ensures calls { CarriesCalls P.Port (current_of lent.old) result port.old port.new }
+        ensures far { P.kept port.new ≡ P.kept port.old }
+    {
         let Params::Read { .. } = lent.params() else {
             return PreVerdict::NoCallback;
         };
@@ -94,12 +114,20 @@ impl Agreeable for Carry {
         _lent: &mut CallbackData,
         completion: Completion,
         port: &mut P,
-    ) -> PostVerdict {
+    ) -> PostVerdict
+        ensures may { IsBarePost _lent.old completion result _lent.new }
+        ensures kept { _lent.new.received ≡ _lent.old.received }
+        ensures calls { ReleasesSent P.Port completion.context port.old port.new }
+        ensures far { P.kept port.new ≡ P.kept port.old }
+    {
         release(completion, port);
         PostVerdict::Finished
     }
 
-    fn drain<P: Port>(&self, completion: Completion, port: &mut P) {
+    fn drain<P: Port>(&self, completion: Completion, port: &mut P)
+        ensures calls { ReleasesSent P.Port completion.context port.old port.new }
+        ensures far { P.kept port.new ≡ P.kept port.old }
+    {
         release(completion, port);
     }
 

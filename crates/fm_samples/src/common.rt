@@ -1,6 +1,7 @@
 //! What the sample filters have in common.
 
 ghost use Rattle.std.specs.Prelude.{◌≡◌};
+ghost use Rattle.fm_samples.specs.Calls.{Resumes, ResumesAll, ResumesOne, SetsUnlessThere};
 ghost use Rattle.fm_samples.specs.Common.{plain_completion};
 
 use fm_ctx::SetMode;
@@ -31,6 +32,7 @@ pub(crate) fn set_unless_there<P: Port>(
     kind: ContextKind,
     body: Bytes,
 ) -> Option<CtxId>
+    ensures calls { SetsUnlessThere P.Port kind body result port.old port.new }
     ensures far { P.kept port.new ≡ P.kept port.old }
 {
     let Ok(context) = port.allocate(kind, body) else {
@@ -49,21 +51,33 @@ pub(crate) fn set_unless_there<P: Port>(
     }
 }
 
-/// Lets every operation go on that the instance holds in that callback.
+/// Lets every operation go on that the instance holds in that callback, the first one by number first, until a call is refused.
 pub(crate) fn resume_all<P: Port>(port: &mut P, held: Hold)
+    ensures calls { ResumesAll P.Port held port.old port.new }
     ensures far { P.kept port.new ≡ P.kept port.old }
 {
-    for _ in 0..MOST_HELD {
-        let Ok(Some(operation)) = port.first_held(held) else {
-            return;
-        };
-        if resume(port, held, operation).is_err() {
+    for _gone in 0..MOST_HELD {
+        if !resume_first(port, held) {
             return;
         }
     }
 }
 
+// Lets the first operation go on that the instance holds in that callback. False if it holds none, or a call is refused.
+fn resume_first<P: Port>(port: &mut P, held: Hold) -> bool
+    ensures calls { ResumesOne P.Port held result port.old port.new }
+    ensures far { P.kept port.new ≡ P.kept port.old }
+{
+    match port.first_held(held) {
+        Ok(Some(operation)) => resume(port, held, operation).is_ok(),
+        Ok(None) => false,
+        Err(_) => false,
+    }
+}
+
+// Lets one operation go on that the instance holds in that callback.
 fn resume<P: Port>(port: &mut P, held: Hold, operation: OpId) -> Result<(), Status>
+    ensures calls { Resumes P.Port held operation result port.old port.new }
     ensures far { P.kept port.new ≡ P.kept port.old }
 {
     match held {

@@ -1,7 +1,9 @@
 //! A filter that counts what is read and written.
 
 ghost use Rattle.std.specs.Prelude.{◌≡◌, IfOk, replicate};
-ghost use Rattle.fm_samples.specs.Meter.{counted_in};
+ghost use Rattle.fm_data.specs.Data.{current_of};
+ghost use Rattle.fm_samples.specs.Common.{IsBarePre, IsBarePost};
+ghost use Rattle.fm_samples.specs.Meter.{MayCount, MetersCalls, counted_in};
 
 use crate::common::set_unless_there;
 use fm_data::{CallbackData, Completion, Params, PostVerdict, PreVerdict};
@@ -32,6 +34,7 @@ impl Meter {
 
     // Counts one operation in the number at that place of the stream's context.
     fn count<P: Port>(&self, place: u64, port: &mut P)
+        ensures calls { MayCount P.Port place port.old port.new }
         ensures far { P.kept port.new ≡ P.kept port.old }
     {
         let Ok(body) = self.blank() else {
@@ -82,7 +85,12 @@ impl Agreeable for Meter {
         }
     }
 
-    fn pre<P: Port>(&self, lent: &mut CallbackData, port: &mut P) -> PreVerdict {
+    fn pre<P: Port>(&self, lent: &mut CallbackData, port: &mut P) -> PreVerdict
+        ensures may { IsBarePre lent.old result lent.new }
+        ensures kept { lent.new.received ≡ lent.old.received }
+        ensures calls { MetersCalls P.Port (current_of lent.old) port.old port.new }
+        ensures far { P.kept port.new ≡ P.kept port.old }
+    {
         match lent.params() {
             Params::Read { .. } => self.count(0, port),
             Params::Write { .. } => self.count(8, port),
@@ -96,7 +104,11 @@ impl Agreeable for Meter {
         _lent: &mut CallbackData,
         _completion: Completion,
         _port: &mut P,
-    ) -> PostVerdict {
+    ) -> PostVerdict
+        ensures may { IsBarePost _lent.old _completion result _lent.new }
+        ensures kept { _lent.new.received ≡ _lent.old.received }
+        ensures calls { _port.new ≡ _port.old }
+    {
         PostVerdict::Finished
     }
 

@@ -1,5 +1,9 @@
 //! The sample filters as one type.
 
+ghost use Rattle.std.specs.Prelude.{◌≡◌};
+ghost use Rattle.fm_data.specs.Data.{current_of};
+ghost use Rattle.fm_samples.specs.Sample.{IsQuietSample, SamplesCalls, SamplesLetGo, SamplesPre, SamplesPost, SamplesStart};
+
 use crate::carry::Carry;
 use crate::guard::Guard;
 use crate::hold::Hold;
@@ -52,7 +56,13 @@ impl Agreeable for Sample {
         }
     }
 
-    fn pre<P: Port>(&self, lent: &mut CallbackData, port: &mut P) -> PreVerdict {
+    fn pre<P: Port>(&self, lent: &mut CallbackData, port: &mut P) -> PreVerdict
+        ensures may { SamplesPre self.now lent.old result lent.new }
+        ensures kept { lent.new.received ≡ lent.old.received }
+        ensures calls { SamplesCalls P.Port self.now (current_of lent.old) result port.old port.new }
+        ensures quiet { IsQuietSample self.now → port.new ≡ port.old }
+        ensures far { P.kept port.new ≡ P.kept port.old }
+    {
         match self {
             Sample::Guard(filter) => filter.pre(lent, port),
             Sample::Meter(filter) => filter.pre(lent, port),
@@ -68,7 +78,13 @@ impl Agreeable for Sample {
         lent: &mut CallbackData,
         completion: Completion,
         port: &mut P,
-    ) -> PostVerdict {
+    ) -> PostVerdict
+        ensures may { SamplesPost self.now lent.old completion result lent.new }
+        ensures kept { lent.new.received ≡ lent.old.received }
+        ensures calls { SamplesLetGo P.Port self.now completion port.old port.new }
+        ensures quiet { IsQuietSample self.now → port.new ≡ port.old }
+        ensures far { P.kept port.new ≡ P.kept port.old }
+    {
         match self {
             Sample::Guard(filter) => filter.post(lent, completion, port),
             Sample::Meter(filter) => filter.post(lent, completion, port),
@@ -79,25 +95,32 @@ impl Agreeable for Sample {
         }
     }
 
-    fn drain<P: Port>(&self, completion: Completion, port: &mut P) {
+    fn drain<P: Port>(&self, completion: Completion, port: &mut P)
+        ensures calls { SamplesLetGo P.Port self.now completion port.old port.new }
+        ensures quiet { IsQuietSample self.now → port.new ≡ port.old }
+        ensures far { P.kept port.new ≡ P.kept port.old }
+    {
         match self {
-            Sample::Guard(filter) => filter.drain(completion, port),
-            Sample::Meter(filter) => filter.drain(completion, port),
-            Sample::Shift(filter) => filter.drain(completion, port),
-            Sample::Hold(filter) => filter.drain(completion, port),
             Sample::Carry(filter) => filter.drain(completion, port),
-            Sample::Stay(filter) => filter.drain(completion, port),
+            // They have none of their own.
+            Sample::Guard(_)
+            | Sample::Meter(_)
+            | Sample::Shift(_)
+            | Sample::Hold(_)
+            | Sample::Stay(_) => {}
         }
     }
 
-    fn teardown_start<P: Port>(&self, port: &mut P) {
+    fn teardown_start<P: Port>(&self, port: &mut P)
+        ensures calls { SamplesStart P.Port self.now port.old port.new }
+        ensures quiet { IsQuietSample self.now → port.new ≡ port.old }
+        ensures far { P.kept port.new ≡ P.kept port.old }
+    {
         match self {
-            Sample::Guard(filter) => filter.teardown_start(port),
-            Sample::Meter(filter) => filter.teardown_start(port),
-            Sample::Shift(filter) => filter.teardown_start(port),
             Sample::Hold(filter) => filter.teardown_start(port),
-            Sample::Carry(filter) => filter.teardown_start(port),
             Sample::Stay(filter) => filter.teardown_start(port),
+            // They have none of their own.
+            Sample::Guard(_) | Sample::Meter(_) | Sample::Shift(_) | Sample::Carry(_) => {}
         }
     }
 

@@ -1,5 +1,10 @@
 //! A filter that holds the answers of reads until a flush.
 
+ghost use Rattle.std.specs.Prelude.{◌≡◌};
+ghost use Rattle.fm_data.specs.Data.{current_of};
+ghost use Rattle.fm_samples.specs.Calls.{ResumesAll};
+ghost use Rattle.fm_samples.specs.Stay.{StaysPre, StaysPost, StaysCalls};
+
 use crate::common::{plain_completion, resume_all};
 use fm_data::{CallbackData, Completion, Params, PostVerdict, PreVerdict};
 use fm_filter::{Agreeable, Port};
@@ -35,7 +40,12 @@ impl Agreeable for Stay {
         }
     }
 
-    fn pre<P: Port>(&self, lent: &mut CallbackData, port: &mut P) -> PreVerdict {
+    fn pre<P: Port>(&self, lent: &mut CallbackData, port: &mut P) -> PreVerdict
+        ensures may { StaysPre lent.old result lent.new }
+        ensures kept { lent.new.received ≡ lent.old.received }
+        ensures calls { StaysCalls P.Port (current_of lent.old) port.old port.new }
+        ensures far { P.kept port.new ≡ P.kept port.old }
+    {
         match lent.params() {
             Params::Read { .. } => PreVerdict::WithCallback(plain_completion()),
             Params::Flush => {
@@ -51,11 +61,18 @@ impl Agreeable for Stay {
         _lent: &mut CallbackData,
         _completion: Completion,
         _port: &mut P,
-    ) -> PostVerdict {
+    ) -> PostVerdict
+        ensures may { StaysPost _lent.old _completion result _lent.new }
+        ensures kept { _lent.new.received ≡ _lent.old.received }
+        ensures calls { _port.new ≡ _port.old }
+    {
         PostVerdict::MoreProcessing
     }
 
-    fn teardown_start<P: Port>(&self, port: &mut P) {
+    fn teardown_start<P: Port>(&self, port: &mut P)
+        ensures calls { ResumesAll P.Port Held.Post port.old port.new }
+        ensures far { P.kept port.new ≡ P.kept port.old }
+    {
         resume_all(port, Held::Post);
     }
 

@@ -3,9 +3,11 @@
 #![tactic(auto)]
 
 mod agreeable;
+mod asks;
 mod minifilter;
 mod port;
 
 pub use crate::agreeable::Agreeable;
+pub use crate::asks::{ask_post, ask_pre, ask_query, ask_setup, let_go, tell_complete, tell_start};
 pub use crate::minifilter::Minifilter;
 pub use crate::port::Port;

@@ -1,6 +1,7 @@
 pub mod Words
 pub mod OneFold
 pub mod Askers
+pub mod Asking
 pub mod Turning
 pub mod Visits
 pub mod Alone

@@ -26,7 +26,9 @@ use crate::trace::{Traced, Visit};
 use fm_base::Base;
 use fm_core::State;
 use fm_data::{CallbackData, Completion, PostVerdict, PreVerdict};
-use fm_filter::Minifilter;
+use fm_filter::{
+    Minifilter, ask_post, ask_pre, ask_query, ask_setup, let_go, tell_complete, tell_start,
+};
 use fm_types::{CtxId, FilterId, InstanceId, OpId, Status};
 
 /// What a filter is asked, and may decline.
@@ -95,7 +97,7 @@ impl<F: Minifilter, B: Base> LocalManager<F, B> {
         ensures makes { Makes F.pre_may F.post_may F.drained (BasesCarry B.folder B.faults) (numbered self.old.filters) WORKER operation (Ok (step.Pre instance lent)) self.old.desk.state self.old.bases.items self.new.desk.state self.new.bases.items }
         ensures kept { CallsBack self.old self.new }
     {
-        let verdict = ask_pre(&self.filters, &mut self.desk, instance, &mut lent);
+        let verdict = goes_down(&self.filters, &mut self.desk, instance, &mut lent);
         lent.laws();
         self.note(operation, Visit::Pre(instance, verdict));
         let returning = Returning {
@@ -139,7 +141,7 @@ impl<F: Minifilter, B: Base> LocalManager<F, B> {
         ensures makes { Makes F.pre_may F.post_may F.drained (BasesCarry B.folder B.faults) (numbered self.old.filters) WORKER operation (Ok (step.Post instance lent completion)) self.old.desk.state self.old.bases.items self.new.desk.state self.new.bases.items }
         ensures kept { CallsBack self.old self.new }
     {
-        let verdict = ask_post(
+        let verdict = goes_up(
             &self.filters,
             &mut self.desk,
             instance,
@@ -298,6 +300,7 @@ impl<F: Minifilter, B: Base> LocalManager<F, B> {
 }
 
 // Whether the filter of an instance consents.
+#[tactic(auto, using(crate::proofs::Asking::agreed, crate::proofs::Asking::is_quiet_found))]
 fn ask<F: Minifilter>(
     filters: &Filters<F>,
     desk: &mut Desk,
@@ -307,17 +310,16 @@ fn ask<F: Minifilter>(
     ensures said { MayAgree (consents F.setup_may F.query_may consent) (filter_in (numbered filters.now) desk.old.state.stack instance.0) result }
     ensures rest { CallsOnly F.is_quiet (filter_in (numbered filters.now) desk.old.state.stack instance.0) desk.old desk.new }
 {
-    let Some(filter) = filters.of(desk.state.filter_of(instance)) else {
-        return false;
-    };
+    let filter = filters.of(desk.state.filter_of(instance));
     match consent {
-        Consent::Setup => filter.setup(desk),
-        Consent::Query => filter.query_teardown(desk),
+        Consent::Setup => ask_setup(filter, desk),
+        Consent::Query => ask_query(filter, desk),
     }
 }
 
 // What the filter of an instance says of the data on its way down.
-fn ask_pre<F: Minifilter>(
+#[tactic(auto, using(crate::proofs::Asking::before_base, crate::proofs::Asking::is_quiet_found))]
+fn goes_down<F: Minifilter>(
     filters: &Filters<F>,
     desk: &mut Desk,
     instance: InstanceId,
@@ -327,14 +329,12 @@ fn ask_pre<F: Minifilter>(
     ensures kept { lent.new.received ≡ lent.old.received }
     ensures rest { CallsOnly F.is_quiet (filter_in (numbered filters.now) desk.old.state.stack instance.0) desk.old desk.new }
 {
-    let Some(filter) = filters.of(desk.state.filter_of(instance)) else {
-        return PreVerdict::NoCallback;
-    };
-    filter.pre(lent, desk)
+    ask_pre(filters.of(desk.state.filter_of(instance)), lent, desk)
 }
 
 // What the filter of an instance says of the data on its way up.
-fn ask_post<F: Minifilter>(
+#[tactic(auto, using(crate::proofs::Asking::after_base, crate::proofs::Asking::is_quiet_found))]
+fn goes_up<F: Minifilter>(
     filters: &Filters<F>,
     desk: &mut Desk,
     instance: InstanceId,
@@ -345,24 +345,25 @@ fn ask_post<F: Minifilter>(
     ensures kept { lent.new.received ≡ lent.old.received }
     ensures rest { CallsOnly F.is_quiet (filter_in (numbered filters.now) desk.old.state.stack instance.0) desk.old desk.new }
 {
-    let Some(filter) = filters.of(desk.state.filter_of(instance)) else {
-        return PostVerdict::Finished;
-    };
-    filter.post(lent, completion, desk)
+    ask_post(
+        filters.of(desk.state.filter_of(instance)),
+        lent,
+        completion,
+        desk,
+    )
 }
 
 // Tells the filter of an instance.
+#[tactic(auto, using(crate::proofs::Asking::was_told, crate::proofs::Asking::is_quiet_found))]
 fn tell<F: Minifilter>(filters: &Filters<F>, desk: &mut Desk, instance: InstanceId, news: News)
     ensures called { WasCalled (was_told F.started F.completed F.drained news) (filter_in (numbered filters.now) desk.old.state.stack instance.0) }
     ensures rest { CallsOnly F.is_quiet (filter_in (numbered filters.now) desk.old.state.stack instance.0) desk.old desk.new }
 {
-    let Some(filter) = filters.of(desk.state.filter_of(instance)) else {
-        return;
-    };
+    let filter = filters.of(desk.state.filter_of(instance));
     match news {
-        News::Start => filter.teardown_start(desk),
-        News::Complete => filter.teardown_complete(desk),
-        News::Drain(completion) => filter.drain(completion, desk),
+        News::Start => tell_start(filter, desk),
+        News::Complete => tell_complete(filter, desk),
+        News::Drain(completion) => let_go(filter, completion, desk),
     }
 }
 

@@ -48,6 +48,8 @@ enum Outcome {
     Same,
     // It ended for want of memory behind a right beginning, as `rt try --fail-alloc` may have it.
     Beginning,
+    // An event or the base was refused memory, and it went on: the first line that isn't as it should be says so.
+    Refused,
     Other,
 }
 
@@ -56,9 +58,22 @@ impl Outcome {
         match self {
             Outcome::Same => "prints what",
             Outcome::Beginning => "ends for want of memory, and prints the beginning of what",
+            Outcome::Refused => "prints that memory was refused in place of a line of what",
             Outcome::Other => "prints something else than",
         }
     }
+}
+
+// Whether the first line that isn't as it should be says that an event or the base was refused memory.
+fn is_refused(printed: &[u8], output: &[u8]) -> bool {
+    let mut rest = output;
+    for line in printed.split_inclusive(|byte| *byte == b'\n') {
+        match rest.strip_prefix(line) {
+            Some(behind) => rest = behind,
+            None => return line == b"no 1\n".as_slice() || line == b"base 1\n".as_slice(),
+        }
+    }
+    false
 }
 
 // Runs the script, read in pieces of that length.
@@ -72,6 +87,7 @@ fn run(alloc: Global, input: &[u8], output: &[u8], most: usize) -> Outcome {
     match script(alloc, reader, &mut bytes) {
         ScriptEnd::Ended if bytes.as_slice() == output => Outcome::Same,
         ScriptEnd::NoMemory if output.starts_with(bytes.as_slice()) => Outcome::Beginning,
+        ScriptEnd::Ended if is_refused(bytes.as_slice(), output) => Outcome::Refused,
         _ => Outcome::Other,
     }
 }

@@ -28,31 +28,31 @@ pub goes_none : (k : WorkerId) (o : OpId) (i : Interpreter) → Goes k o i i
 unfolding Goes
 goes_none k o i = ([], refl)
 
-one : (k : WorkerId) (o : OpId) (t : Task) (old new : Interpreter) → IsTurn k o t → Acts t old new → Goes k o old new
+one : (k : WorkerId) (o : OpId) (t : Task) (old new : Interpreter) → IsTurn k o t → Acts t (λ line. Unit {0}) old new → Goes k o old new
 unfolding Goes
 one k o t old new is acts = (t ∷ [], (is, old, refl, acts))
 
 pub goes_next : (k : WorkerId) (o : OpId) (r : Result Given Status) (old new : Interpreter)
     → LendsNext old.session k o r new.session → BySession old new → Goes k o old new
-goes_next k o r old new event rest = one k o (task.Next k o) old new (refl, refl) (r, event, rest)
+goes_next k o r old new event rest = one k o (task.Next k o) old new (refl, refl) (r, event, rest, tt)
 
 pub goes_pre : (k : WorkerId) (o : OpId) (answer : PreVerdict) (r : Result (Unit {0}) Status) (old new : Interpreter)
     → LentPreReturns old.session k answer r new.session → BySession old new → Goes k o old new
-goes_pre k o answer r old new event rest = one k o (task.Pre k answer) old new refl (r, event, rest)
+goes_pre k o answer r old new event rest = one k o (task.Pre k answer) old new refl (r, event, rest, tt)
 
 pub goes_post : (k : WorkerId) (o : OpId) (r : Result (Unit {0}) Status) (old new : Interpreter)
     → LentPostReturns old.session k Finished r new.session → BySession old new → Goes k o old new
-goes_post k o r old new event rest = one k o (task.Post k Finished) old new (refl, refl) (r, event, rest)
+goes_post k o r old new event rest = one k o (task.Post k Finished) old new (refl, refl) (r, event, rest, tt)
 
 pub goes_base : (k : WorkerId) (o : OpId) (r : Result Status Status) (old new : Interpreter)
     → LentBaseReturns Calls old.session old.devices k r new.session new.devices → KeepsLists old new → Goes k o old new
-goes_base k o r old new event lists = one k o (task.Base k) old new refl (r, event, lists)
+goes_base k o r old new event lists = one k o (task.Base k) old new refl (r, event, lists, tt)
 
 pub goes_collect : (k : WorkerId) (o : OpId) (r : Result Answer Status) (old new : Interpreter)
     → Collects old.session.world o r new.session.world → new.session.lent ≡ old.session.lent → BySession old new → Goes k o old new
 goes_collect k o r old new event lent rest =
     one k o (task.Event (step.Collect o)) old new refl
-    (reply.Answer r, record { event = event; lent = lent; devices = rest.0; plans = rest.1.plans; contexts = rest.1.contexts })
+    (reply.Answer r, record { event = event; lent = lent; devices = rest.0; plans = rest.1.plans; contexts = rest.1.contexts }, tt)
 
 -- ---- two at once
 

@@ -9,9 +9,11 @@ use Rattle.fm_world.specs.declared.step.StepReply.TheVariants as reply
 use Rattle.fm_session.specs.Sessions.{Lending, ReturnsPre, ReturnsPost, ReturnsBase, pre_in, post_in, base_in, lent_to}
 use Rattle.fm_script.specs.Devices.{Calls}
 use Rattle.fm_script.specs.Events.{Names, RunsBy, TasksAreRuns}
+use Rattle.fm_script.specs.Printing.{Says}
 use Rattle.fm_script.specs.Runs.{Performs, Accepts, Acts, Goes, IsTurn, Turns, worker_0}
 use Rattle.fm_script.specs.declared.devices.Devices.{Devices}
 use Rattle.fm_script.specs.declared.interpreter.Interpreter.{Interpreter}
+use Rattle.fm_script.specs.declared.said.Said.{Said}
 use Rattle.fm_script.specs.declared.task.Task.TheVariants as task
 
 -- a run of events that pass a test
@@ -67,18 +69,19 @@ base_runs {P} old new below after k r (Some call) is (answer, own, _, event, _, 
 
 -- ---- tasks
 
-acts_run : {P : Step → Type 0} (t : Task) (old new : Interpreter) → ((s : Step) → Names t s → P s) → Acts t old new → RunOf P old.session.world new.session.world
-acts_run {P} (task.Event s) old new is (r, made) = one P old.session.world new.session.world s r (is s refl) made.event
-acts_run {P} (task.Next k o) old new is (r, (own, event, _, _), _) =
+acts_run : {P : Step → Type 0} (t : Task) (Prints : Said → Type 0) (old new : Interpreter) → ((s : Step) → Names t s → P s) → Acts t Prints old new
+    → RunOf P old.session.world new.session.world
+acts_run {P} (task.Event s) Prints old new is (r, made, _) = one P old.session.world new.session.world s r (is s refl) made.event
+acts_run {P} (task.Next k o) Prints old new is (r, (own, event, _, _), _, _) =
     one P old.session.world new.session.world (step.Next k o) (reply.Action own) (is (step.Next k o) refl) event
-acts_run {P} (task.Pre k answer) old new is (r, event, _) =
+acts_run {P} (task.Pre k answer) Prints old new is (r, event, _, _) =
     pre_runs old.session new.session k answer r (pre_in (lent_to old.session.lent k)) (λ own. is (step.PreReturned k answer own) (own, refl)) event
-acts_run {P} (task.Base k) old new is (r, event, _) =
+acts_run {P} (task.Base k) Prints old new is (r, event, _, _) =
     base_runs old.session new.session old.devices new.devices k r (base_in (lent_to old.session.lent k))
     (λ call answer. is (step.BaseReturned k call answer) (call, answer, refl)) event
-acts_run {P} (task.Post k answer) old new is (r, event, _) =
+acts_run {P} (task.Post k answer) Prints old new is (r, event, _, _) =
     post_runs old.session new.session k answer r (post_in (lent_to old.session.lent k)) (λ own. is (step.PostReturned k answer own) (own, refl)) event
-acts_run {P} t old new is acts = absurd acts
+acts_run {P} t Prints old new is acts = absurd acts
 
 turn_named : (k : WorkerId) (o : OpId) (t : Task) → IsTurn k o t → (s : Step) → Names t s → Names (task.Go k o) s
 turn_named k o (task.Next by own) (worker, operation) s is = inl (is ∙ ap (λ (w : WorkerId). step.Next w own) worker ∙ ap (step.Next k) operation)
@@ -95,7 +98,7 @@ turns_run : (k : WorkerId) (o : OpId) (turns : List Task) (old new : Interpreter
     → RunOf (Names (task.Go k o)) old.session.world new.session.world
 turns_run k o [] old new same =
     none (Names (task.Go k o)) old.session.world new.session.world (ap (λ (i : Interpreter). i.session.world) same)
-turns_run k o (t ∷ before) old new (is, mid, first, acts) = both (turns_run k o before old mid first) (acts_run t mid new (turn_named k o t is) acts)
+turns_run k o (t ∷ before) old new (is, mid, first, acts) = both (turns_run k o before old mid first) (acts_run t (λ line. Unit {0}) mid new (turn_named k o t is) acts)
 
 goes_run : (k : WorkerId) (o : OpId) (old new : Interpreter) → Goes k o old new → RunOf (Names (task.Go k o)) old.session.world new.session.world
 unfolding Goes
@@ -111,29 +114,29 @@ runs_by t old new own = record { steps = own.steps; replies = own.replies; run =
 still : (t : Task) (old new : Interpreter) → new.session ≡ old.session → RunsBy t old new
 still t old new same = runs_by t old new (none (Names t) old.session.world new.session.world (ap (λ (l : Lending). l.world) same))
 
-acts_by : (t : Task) (old new : Interpreter) → Acts t old new → RunsBy t old new
-acts_by t old new acts = runs_by t old new (acts_run t old new (λ s is. is) acts)
+acts_by : (t : Task) (Prints : Said → Type 0) (old new : Interpreter) → Acts t Prints old new → RunsBy t old new
+acts_by t Prints old new acts = runs_by t old new (acts_run t Prints old new (λ s is. is) acts)
 
-performed : (t : Task) (old new : Interpreter) → Performs t old new → RunsBy t old new
-performed (task.Event s) old new acts = acts_by (task.Event s) old new acts
-performed (task.Attach f v name altitude) old new (result, (r, mid, attaches, accepts), _, _) =
+performed : (t : Task) (Prints : Said → Type 0) (old new : Interpreter) → Performs t Prints old new → RunsBy t old new
+performed (task.Event s) Prints old new acts = acts_by (task.Event s) Prints old new acts
+performed (task.Attach f v name altitude) Prints old new (result, (r, mid, attaches, accepts), _, _, _) =
     runs_by (task.Attach f v name altitude) old new
     (both (one (Names (task.Attach f v name altitude)) old.session.world mid (step.Attach worker_0 f v name altitude) (reply.Instance r) (inl refl) attaches)
     (accepts_run mid new.session.world r result (inr refl) accepts))
-performed (task.Next k o) old new acts = acts_by (task.Next k o) old new acts
-performed (task.Pre k answer) old new acts = acts_by (task.Pre k answer) old new acts
-performed (task.Base k) old new acts = acts_by (task.Base k) old new acts
-performed (task.Post k answer) old new acts = acts_by (task.Post k answer) old new acts
-performed (task.Go k o) old new goes = runs_by (task.Go k o) old new (goes_run k o old new goes)
-performed (task.Plan i answer) old new plans = still (task.Plan i answer) old new plans.manager.session
-performed (task.Phase i) old new stays = still (task.Phase i) old new stays.0.session
-performed (task.Flight i) old new stays = still (task.Flight i) old new stays.0.session
-performed (task.Count c) old new stays = still (task.Count c) old new stays.0.session
-performed task.Leaks old new stays = still task.Leaks old new stays.0.session
-performed task.Failures old new stays = still task.Failures old new stays.0.session
-performed (task.Fail n) old new fails = still (task.Fail n) old new fails.session
+performed (task.Next k o) Prints old new acts = acts_by (task.Next k o) Prints old new acts
+performed (task.Pre k answer) Prints old new acts = acts_by (task.Pre k answer) Prints old new acts
+performed (task.Base k) Prints old new acts = acts_by (task.Base k) Prints old new acts
+performed (task.Post k answer) Prints old new acts = acts_by (task.Post k answer) Prints old new acts
+performed (task.Go k o) Prints old new goes = runs_by (task.Go k o) old new (goes_run k o old new goes)
+performed (task.Plan i answer) Prints old new plans = still (task.Plan i answer) old new plans.0.manager.session
+performed (task.Phase i) Prints old new (same, _) = still (task.Phase i) old new (ap (λ (i : Interpreter). i.session) same)
+performed (task.Flight i) Prints old new (same, _) = still (task.Flight i) old new (ap (λ (i : Interpreter). i.session) same)
+performed (task.Count c) Prints old new (same, _) = still (task.Count c) old new (ap (λ (i : Interpreter). i.session) same)
+performed task.Leaks Prints old new (same, _) = still task.Leaks old new (ap (λ (i : Interpreter). i.session) same)
+performed task.Failures Prints old new (same, _) = still task.Failures old new (ap (λ (i : Interpreter). i.session) same)
+performed (task.Fail n) Prints old new fails = still (task.Fail n) old new fails.0.session
 
 pub tasks_are_runs : TasksAreRuns
 unfolding TasksAreRuns
-tasks_are_runs t result old new (inl performs) = performed t old new performs
-tasks_are_runs t result old new (inr (ended, stays)) = still t old new stays.0.session
+tasks_are_runs t result old new before after (inl performs) = performed t (λ line. Says line result before after) old new performs
+tasks_are_runs t result old new before after (inr wants) = still t old new wants.stays.0.session

@@ -180,23 +180,24 @@ create_mode_read word =
     cond (bytes_eq word (codes "existing")) (Ok create.Existing)
     (cond (bytes_eq word (codes "new")) (Ok create.New) (cond (bytes_eq word (codes "always")) (Ok create.Always) (Err BadRequest)))
 
-abbrev pub ReadsPath : List ℕ → Result (List ℕ) Status → Type 0
-ReadsPath path read = MatchResult read (λ r. IsPath path × (r ≡ path)) (λ status. (IsPath path → ⊥) × (status ≡ BadPath))
-
 abbrev pub create_ids : List ℕ → List ℕ → Result (ℕ × CreateMode) Status
 create_ids volume mode = volume_id volume >>= λ v. create_mode_read mode >>= λ m. Ok (v, m)
 
 abbrev pub create_at : World → ℕ × CreateMode → List ℕ → Result Task Status
 create_at w ids path = volume_in w ids.0 >>= λ at. event (step.Begin (request.Create at path ids.1))
 
-abbrev pub CreatesAs : World → Result (ℕ × CreateMode) Status → List ℕ → Result Task Status → Type 0
-CreatesAs w (Ok ids) path result =
-    (read : Result (List ℕ) Status) × ReadsPath path read × (result ≡ (read >>= create_at w ids))
-CreatesAs w (Err status) path result = result ≡ Err status
+-- a volume, a mode and a path: the first two are read first
+abbrev pub ReadsCreateAs : Result (ℕ × CreateMode) Status → List ℕ → Result ((ℕ × CreateMode) × List ℕ) Status → Type 0
+ReadsCreateAs (Ok ids) path read = MatchResult read (λ both. IsPath path × (both ≡ (ids, path))) (λ status. (IsPath path → ⊥) × (status ≡ BadPath))
+ReadsCreateAs (Err status) path read = read ≡ Err status
+
+abbrev pub ReadsCreate : List (List ℕ) → Result ((ℕ × CreateMode) × List ℕ) Status → Type 0
+ReadsCreate (v ∷ path ∷ mode ∷ []) read = ReadsCreateAs (create_ids v mode) path read
+ReadsCreate _ read = read ≡ Err BadRequest
 
 abbrev pub Creates : World → List (List ℕ) → Result Task Status → Type 0
-Creates w (v ∷ path ∷ mode ∷ []) result = CreatesAs w (create_ids v mode) path result
-Creates w _ result = result ≡ Err BadRequest
+Creates w words result =
+    (read : Result ((ℕ × CreateMode) × List ℕ) Status) × ReadsCreate words read × (result ≡ (read >>= λ both. create_at w both.0 both.1))
 
 -- ---- the other commands
 
@@ -265,14 +266,18 @@ resume_post_read w words = turn_read w words >>= λ turn. event (step.ResumePost
 abbrev pub phase_read : World → List (List ℕ) → Result Task Status
 phase_read w words = only_instance w words >>= λ own. Ok (task.Phase own)
 
--- the words behind a keyword
+-- the command whose path takes memory as it is read
+abbrev pub is_create : Keyword → Bool
+is_create keyword.Create = true
+is_create _ = false
+
+-- the words behind any other keyword
 abbrev pub ReadsAs : World → List CtxId → Keyword → List (List ℕ) → Result Task Status → Type 0
 ReadsAs w contexts keyword.Load words result = Loads words result
 ReadsAs w contexts keyword.Mount words result = Mounts words result
 ReadsAs w contexts keyword.Attach words result = Attaches w words result
 ReadsAs w contexts keyword.Setup words result = SetsUp w words result
 ReadsAs w contexts keyword.SetDone words result = result ≡ setup_done_read words
-ReadsAs w contexts keyword.Create words result = Creates w words result
 ReadsAs w contexts keyword.List words result = result ≡ list_read w words
 ReadsAs w contexts keyword.Next words result = result ≡ next_read w words
 ReadsAs w contexts keyword.Go words result = result ≡ go_read w words

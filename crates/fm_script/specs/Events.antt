@@ -6,6 +6,7 @@ use Rattle.fm_script.specs.Words.{WorkerId, Data, Answer, BaseCall, PreVerdict, 
 use Rattle.fm_data.specs.declared.verdict.PostVerdict.TheVariants.{Finished}
 use Rattle.fm_world.specs.Steps.{Run}
 use Rattle.fm_world.specs.declared.step.Step.TheVariants as step
+use Rattle.fm_script.specs.Printing.{Printed}
 use Rattle.fm_script.specs.Runs.{PerformsOr, worker_0}
 use Rattle.fm_script.specs.declared.interpreter.Interpreter.{Interpreter}
 use Rattle.fm_script.specs.declared.script_end.ScriptEnd.{ScriptEnd}
@@ -39,4 +40,6 @@ pub record RunsBy (t : Task) (old new : Interpreter) : Type 0 where
   pub named : AllByRecursion (Names t) steps
 
 unfoldable pub TasksAreRuns : Type 0
-TasksAreRuns = (t : Task) (result : Result (Unit {0}) ScriptEnd) (old new : Interpreter) → PerformsOr t result old new → RunsBy t old new
+TasksAreRuns =
+    (t : Task) (result : Result (Unit {0}) ScriptEnd) (old new : Interpreter) (before after : Printed) → PerformsOr t result old new before after
+    → RunsBy t old new

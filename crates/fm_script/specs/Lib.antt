@@ -12,6 +12,7 @@ pub mod Ends
 pub mod Ids
 pub mod Tasks
 pub mod Sayings
+pub mod Printing
 pub mod Reading
 pub mod Runs
 pub mod Lines

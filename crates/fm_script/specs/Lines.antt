@@ -1,10 +1,10 @@
 -- What a line of a script makes: nothing where it is empty, a comment, too long or refused, and else what its command stands for.
-use Rattle.std.specs.Prelude.{◌≡◌, ℕ, ◌==◌, Bool, true, nat_lt, List, [], ◌∷◌, length, Option, Some, None, Result, Ok, Err}
+use Rattle.std.specs.Prelude.{◌≡◌, ◌⊎◌, ℕ, ◌==◌, Bool, true, nat_lt, List, [], ◌∷◌, length, Option, Some, None, Result, Ok, Err}
 use Rattle.fm_script.specs.Words.{Status, BadRequest, ◌>>=◌, Either, words_of, Keyword, Task}
-use Rattle.fm_types.specs.declared.status.Status.TheVariants.{NoMemory}
-use Rattle.fm_script.specs.Commands.{ReadsAs, keyword_read, takes_bytes, with_bytes_read}
+use Rattle.fm_script.specs.Commands.{Creates, ReadsAs, is_create, keyword_read, takes_bytes, with_bytes_read}
 use Rattle.fm_script.specs.Hexadecimal.{hex_of, IsNoHexadecimal}
-use Rattle.fm_script.specs.Runs.{PerformsRead}
+use Rattle.fm_script.specs.Printing.{Printed}
+use Rattle.fm_script.specs.Runs.{PerformsRead, Refuses, Wants}
 use Rattle.fm_script.specs.declared.interpreter.Interpreter.{Interpreter}
 use Rattle.fm_script.specs.declared.script_end.ScriptEnd.{ScriptEnd}
 
@@ -27,22 +27,26 @@ ReadsBytes k _ i r = r ≡ Err BadRequest
 
 abbrev pub ReadsBehind : Option Keyword → List (List ℕ) → Interpreter → Result Task Status → Type 0
 ReadsBehind None words i r = r ≡ Err BadRequest
-ReadsBehind (Some k) words i r = Either (takes_bytes k) (ReadsBytes k words i r) (ReadsAs i.session.world i.contexts.ids k words r)
+ReadsBehind (Some k) words i r =
+    Either (is_create k) (Creates i.session.world words r)
+    (Either (takes_bytes k) (ReadsBytes k words i r) (ReadsAs i.session.world i.contexts.ids k words r))
 
 -- what the words of a line have to be done, or the refusal
 abbrev pub ReadsTask : List (List ℕ) → Interpreter → Result Task Status → Type 0
 ReadsTask [] i r = r ≡ Err BadRequest
 ReadsTask (word ∷ words) i r = ReadsBehind (keyword_read word) words i r
 
--- unless memory is wanting
-abbrev pub OrMemory : {T : Type 0} → Result T Status → Type 0 → Type 0
-OrMemory (Err NoMemory) P = Unit {0}
-OrMemory r P = P
+-- what the words of a line make
+abbrev pub RunsWords : List (List ℕ) → Result (Unit {0}) ScriptEnd → Interpreter → Interpreter → Printed → Printed → Type 0
+RunsWords words result old new before after =
+    ((r : Result Task Status) × ReadsTask words old r × PerformsRead r result old new before after) ⊎ Wants result old new before after
 
-abbrev pub RunsWords : List (List ℕ) → Result (Unit {0}) ScriptEnd → Interpreter → Interpreter → Type 0
-RunsWords words result old new = (r : Result Task Status) × OrMemory r (ReadsTask words old r) × PerformsRead r result old new
+-- a line that asks for nothing makes and prints nothing
+abbrev pub IsIgnored : Result (Unit {0}) ScriptEnd → Interpreter → Interpreter → Printed → Printed → Type 0
+IsIgnored result old new before after = (result ≡ Ok tt) × (new ≡ old) × (after ≡ before)
 
 -- what a line makes
-abbrev pub RunsLine : List ℕ → Result (Unit {0}) ScriptEnd → Interpreter → Interpreter → Type 0
-RunsLine line result old new =
-    Either (nat_lt 4096 (length line)) (new ≡ old) (Either (is_silent line) (new ≡ old) (RunsWords (words_of line) result old new))
+abbrev pub RunsLine : List ℕ → Result (Unit {0}) ScriptEnd → Interpreter → Interpreter → Printed → Printed → Type 0
+RunsLine line result old new before after =
+    Either (nat_lt 4096 (length line)) (Refuses BadRequest result old new before after)
+    (Either (is_silent line) (IsIgnored result old new before after) (RunsWords (words_of line) result old new before after))

@@ -1,17 +1,27 @@
 -- What the lines of a script make of the manager's state, of what its workers were lent, and of the devices: each is a run of events, and the devices
 -- change by the calls alone that a `next` gave.
-use Rattle.std.specs.Prelude.{◌≡◌, ◌⊎◌, ℕ, ◌==◌, ◌++◌, Bool, true, false, List, [], ◌∷◌, Result, Ok, Err, cond, nat_lt, slice_index_or}
+use Rattle.std.specs.Prelude.{◌≡◌, ◌⊎◌, ℕ, ◌==◌, ◌++◌, Bool, true, false, List, [], ◌∷◌, Option, option_map, Result, Ok, Err, cond, nat_lt, slice_get, slice_index_or}
 use Rattle.fm_script.specs.Words.{CtxId, FilterId, VolumeId, InstanceId, OpId, WorkerId, Status, PreVerdict, World, Step, StepReply, Given, Task}
 use Rattle.fm_data.specs.declared.verdict.PostVerdict.TheVariants.{Finished}
 use Rattle.fm_world.specs.Events.{Attaches, SetsUp}
 use Rattle.fm_world.specs.Steps.{Steps}
 use Rattle.fm_world.specs.declared.step.Step.TheVariants as step
 use Rattle.fm_world.specs.declared.step.StepReply.TheVariants as reply
+use Rattle.fm_world.specs.World.{carries}
+use Rattle.fm_ctx.specs.Counting.{count_reply}
+use Rattle.fm_flow.specs.Table.{in_flight}
+use Rattle.fm_stack.specs.declared.instance.Instance.{Instance}
+use Rattle.fm_stack.specs.declared.instance.Phase.{Phase}
 use Rattle.fm_session.specs.Sessions.{LendsNext, LentPreReturns, LentPostReturns, LentBaseReturns}
 use Rattle.fm_script.specs.Devices.{Calls}
+use Rattle.fm_script.specs.Printing.{Printed, Says}
+use Rattle.fm_script.specs.Sayings.{said_count, said_done, said_given, said_new, said_of, said_phase}
 use Rattle.fm_script.specs.VerdictCommands.{with_callback}
 use Rattle.fm_script.specs.declared.devices.Devices.{Devices}
 use Rattle.fm_script.specs.declared.interpreter.Interpreter.{Interpreter}
+use Rattle.fm_script.specs.declared.said.Said.{Said}
+use Rattle.fm_script.specs.declared.said.Said.TheVariants.{Plain, Id, Number, Refused}
+use Rattle.fm_script.specs.declared.said.Word.TheVariants as word
 use Rattle.fm_script.specs.declared.script_end.ScriptEnd.{ScriptEnd}
 use Rattle.fm_script.specs.declared.script_end.ScriptEnd.TheVariants.{NoMemory}
 use Rattle.fm_script.specs.declared.task.Task.TheVariants as task
@@ -75,14 +85,17 @@ AttachesAndAccepts old f v name altitude result new =
 abbrev pub BySession : Interpreter → Interpreter → Type 0
 BySession old new = (new.devices ≡ old.devices) × KeepsLists old new
 
--- the tasks of one event, which a `go` consists of
-abbrev pub Acts : Task → Interpreter → Interpreter → Type 0
-Acts (task.Event s) old new = (r : StepReply) × MakesEvent old s r new
-Acts (task.Next k o) old new = (r : Result Given Status) × LendsNext old.session k o r new.session × BySession old new
-Acts (task.Pre k answer) old new = (r : Result (Unit {0}) Status) × LentPreReturns old.session k answer r new.session × BySession old new
-Acts (task.Base k) old new = (r : Result Status Status) × LentBaseReturns Calls old.session old.devices k r new.session new.devices × KeepsLists old new
-Acts (task.Post k answer) old new = (r : Result (Unit {0}) Status) × LentPostReturns old.session k answer r new.session × BySession old new
-Acts _ old new = ⊥
+-- the tasks of one event, which a `go` consists of, each with the line that is printed for its answer
+abbrev pub Acts : Task → (Said → Type 0) → Interpreter → Interpreter → Type 0
+Acts (task.Event s) Prints old new = (r : StepReply) × MakesEvent old s r new × Prints (said_of new.contexts.ids r)
+Acts (task.Next k o) Prints old new = (r : Result Given Status) × LendsNext old.session k o r new.session × BySession old new × Prints (said_given r)
+Acts (task.Pre k answer) Prints old new =
+    (r : Result (Unit {0}) Status) × LentPreReturns old.session k answer r new.session × BySession old new × Prints (said_done r)
+Acts (task.Base k) Prints old new =
+    (r : Result Status Status) × LentBaseReturns Calls old.session old.devices k r new.session new.devices × KeepsLists old new × Prints (said_new (λ status. Plain word.Ok) r)
+Acts (task.Post k answer) Prints old new =
+    (r : Result (Unit {0}) Status) × LentPostReturns old.session k answer r new.session × BySession old new × Prints (said_done r)
+Acts _ Prints old new = ⊥
 
 -- `go` is of those of its worker, and of its operation; it holds none on its way up
 abbrev pub IsTurn : WorkerId → OpId → Task → Type 0
@@ -93,10 +106,10 @@ IsTurn k o (task.Post by answer) = (by ≡ k) × (answer ≡ Finished)
 IsTurn k o (task.Event s) = s ≡ step.Collect o
 IsTurn k o _ = ⊥
 
--- such tasks, the last one first
+-- such tasks, the last one first, whatever is printed for them
 abbrev pub Turns : WorkerId → OpId → List Task → Interpreter → Interpreter → Type 0
 Turns k o [] old new = new ≡ old
-Turns k o (t ∷ before) old new = IsTurn k o t × (mid : Interpreter) × Turns k o before old mid × Acts t mid new
+Turns k o (t ∷ before) old new = IsTurn k o t × (mid : Interpreter) × Turns k o before old mid × Acts t (λ line. Unit {0}) mid new
 
 unfoldable pub Goes : WorkerId → OpId → Interpreter → Interpreter → Type 0
 Goes k o old new = (turns : List Task) × Turns k o turns old new
@@ -120,30 +133,48 @@ pub record Fails (old : Interpreter) (n : ℕ) (new : Interpreter) : Type 0 wher
   pub lists : KeepsLists old new
   pub failing : new.devices.failing.items ≡ cond (nat_lt old.devices.calls n) (old.devices.failing.items ++ n ∷ []) old.devices.failing.items
 
--- what a task makes
-abbrev pub Performs : Task → Interpreter → Interpreter → Type 0
-Performs (task.Attach f v name altitude) old new =
+abbrev pub phase_of : World → InstanceId → Option Phase
+phase_of w i = option_map (λ (row : Instance). row.phase) (slice_get w.stack.instances i.0)
+
+-- a question: nothing changes
+abbrev pub Tells : Said → (Said → Type 0) → Interpreter → Interpreter → Type 0
+Tells line Prints old new = (new ≡ old) × Prints line
+
+-- what a task makes, and which line is printed for it; which lines `go` prints isn't said here
+abbrev pub Performs : Task → (Said → Type 0) → Interpreter → Interpreter → Type 0
+Performs (task.Attach f v name altitude) Prints old new =
     (r : Result InstanceId Status) × AttachesAndAccepts old.session.world f v name altitude r new.session.world
-    × (new.session.lent ≡ old.session.lent) × BySession old new
-Performs (task.Go k o) old new = Goes k o old new
-Performs (task.Plan i answer) old new = Plans old i answer new
-Performs (task.Fail n) old new = Fails old n new
-Performs (task.Phase i) old new = Stays old new
-Performs (task.Flight i) old new = Stays old new
-Performs (task.Count c) old new = Stays old new
-Performs task.Leaks old new = Stays old new
-Performs task.Failures old new = Stays old new
-Performs (task.Event s) old new = Acts (task.Event s) old new
-Performs (task.Next k o) old new = Acts (task.Next k o) old new
-Performs (task.Pre k answer) old new = Acts (task.Pre k answer) old new
-Performs (task.Base k) old new = Acts (task.Base k) old new
-Performs (task.Post k answer) old new = Acts (task.Post k answer) old new
+    × (new.session.lent ≡ old.session.lent) × BySession old new × Prints (said_new (λ i. Id word.Ok 105 i.0) r)
+Performs (task.Go k o) Prints old new = Goes k o old new
+Performs (task.Plan i answer) Prints old new = Plans old i answer new × Prints (Plain word.Ok)
+Performs (task.Fail n) Prints old new = Fails old n new × Prints (Plain word.Ok)
+Performs (task.Phase i) Prints old new = Tells (said_phase (phase_of old.session.world i)) Prints old new
+Performs (task.Flight i) Prints old new = Tells (Number word.Flight (in_flight i.0 old.session.world.flow)) Prints old new
+Performs (task.Count c) Prints old new =
+    Tells (said_count (count_reply (carries old.session.world) old.session.world.contexts c)) Prints old new
+Performs task.Leaks Prints old new = Tells (Number word.Leaks old.session.world.contexts.leaks) Prints old new
+Performs task.Failures Prints old new = Tells (Number word.Failures old.devices.failures) Prints old new
+Performs (task.Event s) Prints old new = Acts (task.Event s) Prints old new
+Performs (task.Next k o) Prints old new = Acts (task.Next k o) Prints old new
+Performs (task.Pre k answer) Prints old new = Acts (task.Pre k answer) Prints old new
+Performs (task.Base k) Prints old new = Acts (task.Base k) Prints old new
+Performs (task.Post k answer) Prints old new = Acts (task.Post k answer) Prints old new
 
--- or nothing, where a note of the script's own wants memory: that ends the script
-abbrev pub PerformsOr : Task → Result (Unit {0}) ScriptEnd → Interpreter → Interpreter → Type 0
-PerformsOr t result old new = Performs t old new ⊎ ((result ≡ Err NoMemory) × Stays old new)
+-- memory for a note of the script's own, or for reading a line, is wanting: nothing changes, nothing is printed, and the script ends
+pub record Wants (result : Result (Unit {0}) ScriptEnd) (old new : Interpreter) (before after : Printed) : Type 0 where
+  pub ends : result ≡ Err NoMemory
+  pub stays : Stays old new
+  pub printed : after ≡ before
 
--- a refused command changes nothing
-abbrev pub PerformsRead : Result Task Status → Result (Unit {0}) ScriptEnd → Interpreter → Interpreter → Type 0
-PerformsRead (Ok t) result old new = PerformsOr t result old new
-PerformsRead (Err status) result old new = new ≡ old
+-- a task is done, unless memory for a note is wanting
+abbrev pub PerformsOr : Task → Result (Unit {0}) ScriptEnd → Interpreter → Interpreter → Printed → Printed → Type 0
+PerformsOr t result old new before after = Performs t (λ line. Says line result before after) old new ⊎ Wants result old new before after
+
+-- a line is refused: its status is printed, and nothing else changes
+abbrev pub Refuses : Status → Result (Unit {0}) ScriptEnd → Interpreter → Interpreter → Printed → Printed → Type 0
+Refuses status result old new before after = (new ≡ old) × Says (Refused status) result before after
+
+-- what was read is done, or refused
+abbrev pub PerformsRead : Result Task Status → Result (Unit {0}) ScriptEnd → Interpreter → Interpreter → Printed → Printed → Type 0
+PerformsRead (Ok t) = PerformsOr t
+PerformsRead (Err status) = Refuses status

@@ -1,7 +1,7 @@
 -- What a script prints: which line for which answer, and the bytes of each line.
 use Rattle.std.specs.Prelude.{ℕ, ◌++◌, List, [], ◌∷◌, Option, Some, None, codes, decimal, Result, Ok, Err}
 use Rattle.fm_script.specs.Words.{CtxId, HandleId, OpId, Status, Answer, Completion, PreVerdict, StepReply, Given}
-use Rattle.fm_types.specs.declared.status.Status.TheVariants.{Busy, NotHeld, AlreadyDefined}
+use Rattle.fm_types.specs.declared.status.Status.TheVariants.{Busy, NotHeld, AlreadyDefined, NoInstance}
 use Rattle.fm_types.specs.Statuses.{number_of}
 use Rattle.fm_data.specs.declared.verdict.PreVerdict.TheVariants as verdict
 use Rattle.fm_stack.specs.declared.instance.Phase.{Phase}
@@ -115,6 +115,10 @@ phase_word phase.Stopping = word.Stopping
 phase_word phase.Completing = word.Completing
 phase_word phase.Emptying = word.Emptying
 phase_word phase.Detached = word.Detached
+
+abbrev pub said_phase : Option Phase → Said
+said_phase (Some p) = Plain (phase_word p)
+said_phase None = Refused NoInstance
 
 -- ---- its bytes
 

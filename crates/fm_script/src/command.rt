@@ -2,9 +2,8 @@
 //! them or one can't be read, and 3 (BadName), 2 (BadAltitude) or 15 (BadPath) where a name, an altitude or a path is refused by its reader; then an id
 //! that wasn't given is refused: 6, 7, 8, 14, 30 and 25 in this order, and 30 for a worker last.
 
-ghost use Rattle.std.specs.Prelude.{◌≡◌, map};
-ghost use Rattle.fm_script.specs.Commands.{Attaches, Creates, Loads, Mounts, ReadsAs, ReadsPlace, SetsUp, attach_at, base_read, collect_read, create_at, create_ids, create_mode_read, go_read, is_of_contexts, is_of_teardowns, list_read, next_read, option_read, phase_read, registration_read, resume_post_read, setup_at, setup_done_read, setup_ids, takes_bytes, turn_read, with_bytes_read};
-ghost use Rattle.fm_script.specs.Lines.{OrMemory};
+ghost use Rattle.std.specs.Prelude.{◌≡◌, IfOk, map};
+ghost use Rattle.fm_script.specs.Commands.{Attaches, Creates, Loads, Mounts, ReadsAs, ReadsCreate, ReadsPlace, SetsUp, attach_at, base_read, collect_read, create_at, create_ids, create_mode_read, go_read, is_create, is_of_contexts, is_of_teardowns, list_read, next_read, option_read, phase_read, registration_read, resume_post_read, setup_at, setup_done_read, setup_ids, takes_bytes, turn_read, with_bytes_read};
 ghost use Rattle.fm_script.specs.Numbers.{id_read, number_read};
 ghost use Rattle.fm_script.specs.Tasks.{answered_read, ids_read, numbers_read, one_id, only_instance, only_volume, only_worker, or_bad, turn_in, with_worker, yes_or_no};
 
@@ -23,13 +22,20 @@ use fm_types::{
     Bytes, ContextMask, CreateMode, CtxId, InstanceId, Name, OpId, OpMask, Registration, RelPath,
     SharedPath, Status, VolumeId, WorkerId,
 };
-use std::alloc::Global;
+use std::alloc::{AllocError, Global};
 
 /// Whether the command's last word is bytes.
 pub fn takes_bytes(keyword: Keyword) -> bool
     ensures { result ≡ takes_bytes keyword }
 {
     matches!(keyword, Keyword::Alloc | Keyword::WBody | Keyword::Write)
+}
+
+/// Whether the command is `create`, whose path takes memory as it is read.
+pub fn is_create(keyword: Keyword) -> bool
+    ensures { result ≡ is_create keyword }
+{
+    matches!(keyword, Keyword::Create)
 }
 
 /// What the words behind the keyword of a command that takes bytes stand for, with those bytes.
@@ -49,15 +55,14 @@ pub fn read_with_bytes(
     }
 }
 
-/// What the words behind the keyword of any other command stand for; 1 where the path of a create wants memory.
+/// What the words behind the keyword of any other command stand for, unless it is `create`.
 pub fn read_command(
-    alloc: Global,
     state: &State,
     contexts: &[CtxId],
     keyword: Keyword,
     words: &[&[u8]],
 ) -> Result<Task, Status>
-    ensures { OrMemory result (ReadsAs state.now contexts.now keyword (map (λ word. word.now) words.now) result) }
+    ensures { ReadsAs state.now contexts.now keyword (map (λ word. word.now) words.now) result }
 {
     match keyword {
         Keyword::Load => read_load(words),
@@ -65,7 +70,6 @@ pub fn read_command(
         Keyword::Attach => read_attach(state, words),
         Keyword::Setup => read_setup(state, words),
         Keyword::SetDone => read_setup_done(words),
-        Keyword::Create => read_create(alloc, state, words),
         Keyword::List => read_list(state, words),
         Keyword::Next => read_next(state, words),
         Keyword::Go => read_go(state, words),
@@ -366,16 +370,30 @@ fn yes_or_no(word: &[u8]) -> Result<bool, Status>
     }
 }
 
-// `create V PATH MODE`.
-fn read_create(alloc: Global, state: &State, words: &[&[u8]]) -> Result<Task, Status>
-    ensures { OrMemory result (Creates state.now (map (λ word. word.now) words.now) result) }
+/// `create V PATH MODE`. It fails if there is no memory for the path.
+pub fn read_create(
+    alloc: Global,
+    state: &State,
+    words: &[&[u8]],
+) -> Result<Result<Task, Status>, AllocError>
+    ensures { IfOk result (Creates state.now (map (λ word. word.now) words.now)) }
+{
+    match read_create_words(words) {
+        Ok((ids, path)) => create_at(alloc, state, ids, path),
+        Err(status) => Ok(Err(status)),
+    }
+}
+
+// The number of a volume, a mode and a path.
+fn read_create_words(words: &[&[u8]]) -> Result<((u64, CreateMode), RelPath), Status>
+    ensures { ReadsCreate (map (λ word. word.now) words.now) result }
 {
     let [volume, path, mode] = words else {
         return Err(Status::BadRequest);
     };
     let ids = create_ids(volume, mode)?;
     let path = RelPath::read(path)?;
-    create_at(alloc, state, ids, path)
+    Ok((ids, path))
 }
 
 // A create of a path that was read, on a volume that may not be there.
@@ -384,13 +402,16 @@ fn create_at(
     state: &State,
     ids: (u64, CreateMode),
     path: RelPath,
-) -> Result<Task, Status>
-    ensures { OrMemory result (result ≡ create_at state.now ids path) }
+) -> Result<Result<Task, Status>, AllocError>
+    ensures { IfOk result (λ read. read ≡ create_at state.now ids path) }
 {
     let (volume, mode) = ids;
-    let volume = volume_in(state, volume)?;
+    let volume = match volume_in(state, volume) {
+        Ok(volume) => volume,
+        Err(status) => return Ok(Err(status)),
+    };
     let path = SharedPath::new(alloc, path)?;
-    Ok(Task::Event(Step::Begin(Request::Create { volume, path, mode })))
+    Ok(Ok(Task::Event(Step::Begin(Request::Create { volume, path, mode }))))
 }
 
 // The number of a volume, and a mode.

@@ -1,8 +1,10 @@
 //! Where a script prints: lines are held back until there are enough of them, or until it is flushed.
 
+ghost use Rattle.std.specs.Prelude.{◌≡◌, []};
+ghost use Rattle.fm_script.specs.Printing.{HandsOver, Says, printed};
+
 use crate::said::Said;
 use crate::script_end::ScriptEnd;
-use fm_types::Status;
 use std::alloc::Global;
 use std::io::Write;
 
@@ -18,18 +20,20 @@ pub struct Output<W: Write + Drop> {
 
 impl<W: Write + Drop> Output<W> {
     /// An output that has printed nothing.
-    pub fn new(alloc: Global, writer: W) -> Self {
+    pub fn new(alloc: Global, writer: W) -> Self
+        ensures { printed W.contents result ≡ record { given = W.contents writer; held = [] } }
+    {
         Output {
             text: Vec::new(alloc),
             writer,
         }
     }
 
-    /// Prints a line. A refusal for want of memory isn't printed: it ends the script.
-    pub fn say(&mut self, line: &Said) -> Result<(), ScriptEnd> {
-        if let Said::Refused(Status::NoMemory) = line {
-            return Err(ScriptEnd::NoMemory);
-        }
+    /// Prints a line: it is held back, and with it all that is held goes to the writer once that is 8,192 bytes or more. It is NoMemory if there is no
+    /// memory for the line, which the writer wasn't given then, and WriteFault if the writer fails; then nothing is held back any more.
+    pub fn say(&mut self, line: &Said) -> Result<(), ScriptEnd>
+        ensures { Says line.now result (printed W.contents self.old) (printed W.contents self.new) }
+    {
         line.print(&mut self.text).map_err(|_| ScriptEnd::NoMemory)?;
         if self.text.len() >= HELD {
             self.write()?;
@@ -37,13 +41,17 @@ impl<W: Write + Drop> Output<W> {
         Ok(())
     }
 
-    /// Hands all that was printed to the writer.
-    pub fn flush(&mut self) -> Result<(), ScriptEnd> {
+    /// Hands all that was printed to the writer, and has it flushed. It is WriteFault if the writer fails; nothing is held back any more, however it went.
+    pub fn flush(&mut self) -> Result<(), ScriptEnd>
+        ensures { HandsOver result (printed W.contents self.old) (printed W.contents self.new) }
+    {
         self.write()?;
         self.writer.flush().map_err(|_| ScriptEnd::WriteFault)
     }
 
-    fn write(&mut self) -> Result<(), ScriptEnd> {
+    fn write(&mut self) -> Result<(), ScriptEnd>
+        ensures { HandsOver result (printed W.contents self.old) (printed W.contents self.new) }
+    {
         let written = self.writer.write_all(self.text.as_slice());
         self.text.clear();
         written.map_err(|_| ScriptEnd::WriteFault)

@@ -1,18 +1,19 @@
 //! Runs a script line by line, and prints what each line answers.
 
-ghost use Rattle.std.specs.Prelude.{◌≡◌, map};
-ghost use Rattle.fm_script.specs.Lines.{OrMemory, ReadsBehind, ReadsBytes, ReadsTask, RunsLine, Spells, is_silent};
-ghost use Rattle.fm_script.specs.Runs.{Goes, PerformsOr};
+ghost use Rattle.std.specs.Prelude.{◌≡◌, IfOk, map};
+ghost use Rattle.fm_script.specs.Lines.{ReadsBehind, ReadsBytes, ReadsTask, RunsLine, Spells, is_silent};
+ghost use Rattle.fm_script.specs.Printing.{printed};
+ghost use Rattle.fm_script.specs.Runs.{Goes, PerformsOr, Refuses};
 ghost use Rattle.fm_script.specs.Words.{words_of};
 ghost use Rattle.fm_script.specs.declared.task.Task.TheVariants as TaskOf;
 
-use crate::command::{read_command, read_with_bytes, takes_bytes};
+use crate::command::{is_create, read_command, read_create, read_with_bytes, takes_bytes};
 use crate::hexadecimal::read_hex;
 use crate::interpreter::Interpreter;
 use crate::keyword::Keyword;
 use crate::output::Output;
 use crate::said::{
-    Said, Word, phase_word, said_attached, said_count, said_done, said_given, said_of,
+    Said, Word, said_attached, said_called, said_count, said_done, said_given, said_of, said_phase,
 };
 use crate::script_end::ScriptEnd;
 use crate::task::Task;
@@ -22,7 +23,7 @@ use fm_core::Step;
 use fm_data::{PostVerdict, PreVerdict};
 use fm_types::{Bytes, CtxId, FilterId, InstanceId, Name, OpId, Status, VolumeId, WorkerId};
 use smallvec::SmallVec;
-use std::alloc::Global;
+use std::alloc::{AllocError, Global};
 use std::io::Write;
 
 /// The most bytes of a line.
@@ -55,9 +56,11 @@ impl<W: Write + Drop> Runner<W> {
         self.output.flush()
     }
 
-    /// Runs one line, of which 4,097 bytes are enough: one that is longer than 4,096 is refused. An empty line and a comment do nothing.
+    /// Runs one line, of which 4,097 bytes are enough: one that is longer than 4,096 is refused. An empty line and a comment do nothing. It is NoMemory if
+    /// there is no memory for reading the line or for a note of the script's own, and then nothing else has changed; or if there is none for what it
+    /// prints, and WriteFault if the writer fails: then it was done all the same. An event that is refused memory prints that, as any refusal.
     pub fn run(&mut self, line: &[u8]) -> Result<(), ScriptEnd>
-        ensures { RunsLine line.now result self.old.interpreter self.new.interpreter }
+        ensures { RunsLine line.now result self.old.interpreter self.new.interpreter (printed W.contents self.old.output) (printed W.contents self.new.output) }
     {
         if line.len() > MAX_LINE {
             return self.refuse(Status::BadRequest);
@@ -66,21 +69,22 @@ impl<W: Write + Drop> Runner<W> {
             return Ok(());
         }
         match self.read(line) {
-            Ok(task) => self.perform(task),
-            Err(status) => self.refuse(status),
+            Ok(Ok(task)) => self.perform(task),
+            Ok(Err(status)) => self.refuse(status),
+            Err(_) => Err(ScriptEnd::NoMemory),
         }
     }
 
     // A refusal.
     fn refuse(&mut self, status: Status) -> Result<(), ScriptEnd>
-        ensures { self.new.interpreter ≡ self.old.interpreter }
+        ensures { Refuses status result self.old.interpreter self.new.interpreter (printed W.contents self.old.output) (printed W.contents self.new.output) }
     {
         self.output.say(&Said::Refused(status))
     }
 
-    // What a line has to be done.
-    fn read(&self, line: &[u8]) -> Result<Task, Status>
-        ensures { OrMemory result (ReadsTask (words_of line.now) self.now.interpreter result) }
+    // What a line has to be done. It fails if there is no memory for reading it.
+    fn read(&self, line: &[u8]) -> Result<Result<Task, Status>, AllocError>
+        ensures { IfOk result (ReadsTask (words_of line.now) self.now.interpreter) }
     {
         let mut words = SmallVec::new(self.alloc);
         split_words(&mut words, line)?;
@@ -88,60 +92,76 @@ impl<W: Write + Drop> Runner<W> {
     }
 
     // The same by its words.
-    fn read_words(&self, words: &[&[u8]]) -> Result<Task, Status>
-        ensures { OrMemory result (ReadsTask (map (λ word. word.now) words.now) self.now.interpreter result) }
+    fn read_words(&self, words: &[&[u8]]) -> Result<Result<Task, Status>, AllocError>
+        ensures { IfOk result (ReadsTask (map (λ word. word.now) words.now) self.now.interpreter) }
     {
         let Some((first, words)) = words.split_first() else {
-            return Err(Status::BadRequest);
+            return Ok(Err(Status::BadRequest));
         };
         match Keyword::read(first) {
             Some(keyword) => self.read_behind(keyword, words),
-            None => Err(Status::BadRequest),
+            None => Ok(Err(Status::BadRequest)),
         }
     }
 
     // The same by the keyword and what stands behind it.
-    fn read_behind(&self, keyword: Keyword, words: &[&[u8]]) -> Result<Task, Status>
-        ensures { OrMemory result (ReadsBehind (Some keyword) (map (λ word. word.now) words.now) self.now.interpreter result) }
+    fn read_behind(
+        &self,
+        keyword: Keyword,
+        words: &[&[u8]],
+    ) -> Result<Result<Task, Status>, AllocError>
+        ensures { IfOk result (ReadsBehind (Some keyword) (map (λ word. word.now) words.now) self.now.interpreter) }
     {
-        if takes_bytes(keyword) {
-            self.read_bytes(keyword, words)
-        } else {
-            let state = self.interpreter.state();
-            read_command(
-                self.alloc,
-                state,
-                self.interpreter.contexts().as_slice(),
-                keyword,
-                words,
-            )
+        let state = self.interpreter.state();
+        if is_create(keyword) {
+            return read_create(self.alloc, state, words);
         }
+        if takes_bytes(keyword) {
+            return self.read_bytes(keyword, words);
+        }
+        let contexts = self.interpreter.contexts().as_slice();
+        Ok(read_command(state, contexts, keyword, words))
     }
 
     // The same of a command that takes bytes, which its last word spells.
-    fn read_bytes(&self, keyword: Keyword, words: &[&[u8]]) -> Result<Task, Status>
-        ensures { OrMemory result (ReadsBytes keyword (map (λ word. word.now) words.now) self.now.interpreter result) }
+    fn read_bytes(
+        &self,
+        keyword: Keyword,
+        words: &[&[u8]],
+    ) -> Result<Result<Task, Status>, AllocError>
+        ensures { IfOk result (ReadsBytes keyword (map (λ word. word.now) words.now) self.now.interpreter) }
     {
         let [one, other, word] = words else {
-            return Err(Status::BadRequest);
+            return Ok(Err(Status::BadRequest));
         };
-        let bytes = self.bytes_of(word)?;
+        let bytes = match self.bytes_of(word)? {
+            Ok(bytes) => bytes,
+            Err(status) => return Ok(Err(status)),
+        };
         let state = self.interpreter.state();
         let contexts = self.interpreter.contexts().as_slice();
-        read_with_bytes(state, contexts, keyword, &[*one, *other], bytes)
+        Ok(read_with_bytes(
+            state,
+            contexts,
+            keyword,
+            &[*one, *other],
+            bytes,
+        ))
     }
 
     // The bytes that a word spells.
-    fn bytes_of(&self, word: &[u8]) -> Result<Bytes, Status>
-        ensures { OrMemory result (Spells word.now result) }
+    fn bytes_of(&self, word: &[u8]) -> Result<Result<Bytes, Status>, AllocError>
+        ensures { IfOk result (Spells word.now) }
     {
-        let bytes = read_hex(self.alloc, word)?.ok_or(Status::BadRequest)?;
-        Ok(Bytes::from_vec(bytes))
+        match read_hex(self.alloc, word)? {
+            Some(bytes) => Ok(Ok(Bytes::from_vec(bytes))),
+            None => Ok(Err(Status::BadRequest)),
+        }
     }
 
     // Makes one event, and prints what it answers.
     fn event(&mut self, step: Step) -> Result<(), ScriptEnd>
-        ensures { PerformsOr (TaskOf.Event step) result self.old.interpreter self.new.interpreter }
+        ensures { PerformsOr (TaskOf.Event step) result self.old.interpreter self.new.interpreter (printed W.contents self.old.output) (printed W.contents self.new.output) }
     {
         match self.interpreter.event(step) {
             Ok(reply) => {
@@ -160,7 +180,7 @@ impl<W: Write + Drop> Runner<W> {
         name: Name,
         altitude: Altitude,
     ) -> Result<(), ScriptEnd>
-        ensures { PerformsOr (TaskOf.Attach filter volume name altitude) result self.old.interpreter self.new.interpreter }
+        ensures { PerformsOr (TaskOf.Attach filter volume name altitude) result self.old.interpreter self.new.interpreter (printed W.contents self.old.output) (printed W.contents self.new.output) }
     {
         let answer = self.interpreter.attach(filter, volume, name, altitude);
         self.output.say(&said_attached(answer))
@@ -168,7 +188,7 @@ impl<W: Write + Drop> Runner<W> {
 
     // A worker takes one step of an operation.
     fn next(&mut self, worker: WorkerId, operation: OpId) -> Result<(), ScriptEnd>
-        ensures { PerformsOr (TaskOf.Next worker operation) result self.old.interpreter self.new.interpreter }
+        ensures { PerformsOr (TaskOf.Next worker operation) result self.old.interpreter self.new.interpreter (printed W.contents self.old.output) (printed W.contents self.new.output) }
     {
         let answer = self.interpreter.next(worker, operation);
         self.output.say(&said_given(answer))
@@ -176,7 +196,7 @@ impl<W: Write + Drop> Runner<W> {
 
     // The worker's preoperation callback returns.
     fn pre(&mut self, worker: WorkerId, verdict: PreVerdict) -> Result<(), ScriptEnd>
-        ensures { PerformsOr (TaskOf.Pre worker verdict) result self.old.interpreter self.new.interpreter }
+        ensures { PerformsOr (TaskOf.Pre worker verdict) result self.old.interpreter self.new.interpreter (printed W.contents self.old.output) (printed W.contents self.new.output) }
     {
         let answer = self.interpreter.pre(worker, verdict);
         self.output.say(&said_done(answer))
@@ -184,15 +204,15 @@ impl<W: Write + Drop> Runner<W> {
 
     // The worker's base call is carried out, and returns.
     fn base(&mut self, worker: WorkerId) -> Result<(), ScriptEnd>
-        ensures { PerformsOr (TaskOf.Base worker) result self.old.interpreter self.new.interpreter }
+        ensures { PerformsOr (TaskOf.Base worker) result self.old.interpreter self.new.interpreter (printed W.contents self.old.output) (printed W.contents self.new.output) }
     {
-        let answer = self.interpreter.base(worker).map(|_| ());
-        self.output.say(&said_done(answer))
+        let answer = self.interpreter.base(worker);
+        self.output.say(&said_called(answer))
     }
 
     // The worker's postoperation callback or drain returns.
     fn post(&mut self, worker: WorkerId, verdict: PostVerdict) -> Result<(), ScriptEnd>
-        ensures { PerformsOr (TaskOf.Post worker verdict) result self.old.interpreter self.new.interpreter }
+        ensures { PerformsOr (TaskOf.Post worker verdict) result self.old.interpreter self.new.interpreter (printed W.contents self.old.output) (printed W.contents self.new.output) }
     {
         let answer = self.interpreter.post(worker, verdict);
         self.output.say(&said_done(answer))
@@ -213,18 +233,15 @@ impl<W: Write + Drop> Runner<W> {
 
     // An instance's phase.
     fn phase(&mut self, instance: InstanceId) -> Result<(), ScriptEnd>
-        ensures { self.new.interpreter ≡ self.old.interpreter }
+        ensures { PerformsOr (TaskOf.Phase instance) result self.old.interpreter self.new.interpreter (printed W.contents self.old.output) (printed W.contents self.new.output) }
     {
-        let line = match self.interpreter.state().phase(instance) {
-            Some(phase) => Said::Plain(phase_word(phase)),
-            None => Said::Refused(Status::NoInstance),
-        };
-        self.output.say(&line)
+        let phase = self.interpreter.state().phase(instance);
+        self.output.say(&said_phase(phase))
     }
 
     // How many operations are in flight at an instance.
     fn flight(&mut self, instance: InstanceId) -> Result<(), ScriptEnd>
-        ensures { self.new.interpreter ≡ self.old.interpreter }
+        ensures { PerformsOr (TaskOf.Flight instance) result self.old.interpreter self.new.interpreter (printed W.contents self.old.output) (printed W.contents self.new.output) }
     {
         let flight = self.interpreter.state().in_flight(instance);
         self.output.say(&Said::Number(Word::Flight, flight))
@@ -232,7 +249,7 @@ impl<W: Write + Drop> Runner<W> {
 
     // How far a context's life has come.
     fn count(&mut self, context: CtxId) -> Result<(), ScriptEnd>
-        ensures { self.new.interpreter ≡ self.old.interpreter }
+        ensures { PerformsOr (TaskOf.Count context) result self.old.interpreter self.new.interpreter (printed W.contents self.old.output) (printed W.contents self.new.output) }
     {
         let count = self.interpreter.state().count(context);
         self.output.say(&said_count(count))
@@ -240,7 +257,7 @@ impl<W: Write + Drop> Runner<W> {
 
     // How many references callbacks left behind.
     fn leaks(&mut self) -> Result<(), ScriptEnd>
-        ensures { self.new.interpreter ≡ self.old.interpreter }
+        ensures { PerformsOr TaskOf.Leaks result self.old.interpreter self.new.interpreter (printed W.contents self.old.output) (printed W.contents self.new.output) }
     {
         let leaks = self.interpreter.state().leaks();
         self.output.say(&Said::Number(Word::Leaks, leaks))
@@ -248,7 +265,7 @@ impl<W: Write + Drop> Runner<W> {
 
     // How many device calls failed.
     fn failures(&mut self) -> Result<(), ScriptEnd>
-        ensures { self.new.interpreter ≡ self.old.interpreter }
+        ensures { PerformsOr TaskOf.Failures result self.old.interpreter self.new.interpreter (printed W.contents self.old.output) (printed W.contents self.new.output) }
     {
         let failures = self.interpreter.failures();
         self.output.say(&Said::Number(Word::Failures, failures))
@@ -256,7 +273,7 @@ impl<W: Write + Drop> Runner<W> {
 
     // What `go` will answer for an instance.
     fn plan(&mut self, instance: InstanceId, verdict: PreVerdict) -> Result<(), ScriptEnd>
-        ensures { PerformsOr (TaskOf.Plan instance verdict) result self.old.interpreter self.new.interpreter }
+        ensures { PerformsOr (TaskOf.Plan instance verdict) result self.old.interpreter self.new.interpreter (printed W.contents self.old.output) (printed W.contents self.new.output) }
     {
         match self.interpreter.plan(instance, verdict) {
             Ok(()) => self.output.say(&Said::Plain(Word::Ok)),
@@ -266,7 +283,7 @@ impl<W: Write + Drop> Runner<W> {
 
     // A device call that will fail.
     fn fail(&mut self, number: u64) -> Result<(), ScriptEnd>
-        ensures { PerformsOr (TaskOf.Fail number) result self.old.interpreter self.new.interpreter }
+        ensures { PerformsOr (TaskOf.Fail number) result self.old.interpreter self.new.interpreter (printed W.contents self.old.output) (printed W.contents self.new.output) }
     {
         match self.interpreter.fail(number) {
             Ok(()) => self.output.say(&Said::Plain(Word::Ok)),
@@ -276,7 +293,7 @@ impl<W: Write + Drop> Runner<W> {
 
     // Does it, and prints what it answers.
     fn perform(&mut self, task: Task) -> Result<(), ScriptEnd>
-        ensures { PerformsOr task result self.old.interpreter self.new.interpreter }
+        ensures { PerformsOr task result self.old.interpreter self.new.interpreter (printed W.contents self.old.output) (printed W.contents self.new.output) }
     {
         match task {
             Task::Event(step) => self.event(step),

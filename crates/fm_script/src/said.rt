@@ -1,7 +1,7 @@
 //! The lines that a script prints: which one for which answer, and the bytes of each.
 
 ghost use Rattle.std.specs.Prelude.{◌≡◌, ◌≤◌, ◌<◌, ◌++◌, ◌∷◌, [], IfOk, decimal};
-ghost use Rattle.fm_script.specs.Sayings.{phase_word, refused_text, reply_text, said_context, said_count, said_done, said_drained, said_dropped, said_due, said_given, said_held, said_new, said_of, said_old, said_set, text_with, verdict_text, word_text};
+ghost use Rattle.fm_script.specs.Sayings.{phase_word, refused_text, reply_text, said_context, said_count, said_done, said_drained, said_dropped, said_due, said_given, said_held, said_new, said_of, said_old, said_phase, said_set, text_with, verdict_text, word_text};
 ghost use Rattle.fm_script.specs.declared.said.Said.TheVariants as SaidOf;
 ghost use Rattle.fm_script.specs.declared.said.Word.TheVariants as WordOf;
 ghost use Rattle.fm_session.specs.Sessions.{given_after_next};
@@ -241,8 +241,28 @@ pub fn said_count(count: Count) -> Said
     }
 }
 
-/// The word for an instance's phase.
-pub fn phase_word(phase: Phase) -> Word
+/// The line for how a base call returned. The status that the device answered isn't told.
+pub fn said_called(answer: Result<Status, Status>) -> Said
+    ensures { result ≡ said_new (λ status. SaidOf.Plain WordOf.Ok) answer }
+{
+    match answer {
+        Ok(_) => Said::Plain(Word::Ok),
+        Err(status) => Said::Refused(status),
+    }
+}
+
+/// The line for an instance's phase.
+pub fn said_phase(phase: Option<Phase>) -> Said
+    ensures { result ≡ said_phase phase }
+{
+    match phase {
+        Some(phase) => Said::Plain(phase_word(phase)),
+        None => Said::Refused(Status::NoInstance),
+    }
+}
+
+// The word for an instance's phase.
+fn phase_word(phase: Phase) -> Word
     ensures { result ≡ phase_word phase }
 {
     match phase {

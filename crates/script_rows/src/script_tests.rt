@@ -42,7 +42,7 @@ pub fn end_of<R: Read + Drop>(alloc: Global, reader: R, output: &[u8]) -> (Scrip
     (end, bytes.as_slice() == output)
 }
 
-// A hundred thousand lines, of which the first and the last print, and these bytes behind them.
+// A hundred thousand lines, of which the first and the last print, and these bytes after them.
 fn end_behind_most_lines(rt: &impl Abort, alloc: Global, rest: &[u8]) -> (ScriptEnd, bool) {
     let mut input = b"load f\n".to_vec(alloc).expect(rt, "memory");
     let lines = Vec::from_elem(alloc, b'\n', 99_998).expect(rt, "memory");

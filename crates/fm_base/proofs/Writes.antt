@@ -3,7 +3,7 @@ use Rattle.fm_base.proofs.Words.{lt-leb, cond-false, length-take, length-replica
 use Rattle.fm_base.proofs.Words.{get-insert, resized, written, Status, NoMemory, DeviceFault, FileNotFound, Folder, change_at, changed}
 use Rattle.fm_base.proofs.Words.{tell_at, told, bytes_from, Makes, MakesKnown, Tells, TellsKnown}
 use Rattle.std.specs.Prelude.{◌≡◌, ℕ, ◌+◌, false, cond, List, [], ◌∷◌, ◌++◌, length, take, drop, Option, Some}
-use Rattle.std.specs.Prelude.{None, ◌<◌, ◌&&◌, nat_le, nat_lt, Result, Ok, Err, refl}
+use Rattle.std.specs.Prelude.{None, ◌<◌, ◌&&◌, nat_le, nat_lt, Result, Ok, Err, IsOk, refl}
 use Rattle.std.proofs.Common.{sym, ap, subst, ◌∙◌, arith, length-append, append_assoc}
 use Rattle.std.proofs.lemmas.Bool.Decides.{nat_tests}
 use Rattle.std.proofs.Math.Seq.{take-append_seam, drop-append_seam}
@@ -70,9 +70,15 @@ refused_alike : (change : List ℕ → List ℕ) (path bytes : List ℕ) (old : 
 refused_alike change path bytes old None status h = let same : FileNotFound ≡ status = cc in ap Err same
 refused_alike change path bytes old (Some file) status h = cc
 
+-- where nothing refuses the write, nothing refuses the whole
+granted_alike : (change : List ℕ → List ℕ) (path bytes : List ℕ) (old : Folder) (found : Option (List ℕ))
+    → IsOk (change_at change path old found) → IsOk (tell_at (λ _. Ok bytes) found)
+granted_alike change path bytes old None h = cc
+granted_alike change path bytes old (Some file) h = refl
+
 refused_known : (change : List ℕ → List ℕ) (path bytes : List ℕ) (old new : Folder) (status : Status)
     → Makes {T = Unit {0}} path (changed change path) old new (Err status) → Tells (told (λ _. Ok bytes) path old) (Err status)
-refused_known change path bytes old new NoMemory makes = tt
+refused_known change path bytes old new NoMemory makes = granted_alike change path bytes old (get old path) makes.1
 refused_known change path bytes old new DeviceFault makes = tt
 refused_known change path bytes old new status makes = refused_alike change path bytes old (get old path) status makes.0
 

@@ -1,5 +1,5 @@
 -- How the calls of a base answer: as its folder says, or for want of memory, or because the device failed.
-use Rattle.std.specs.Prelude.{◌≡◌, ◌≢◌, ℕ, ◌+◌, ◌-◌, ◌^◌, min, List, Option, Some, None, Result, Ok, Err}
+use Rattle.std.specs.Prelude.{◌≡◌, ◌≢◌, ℕ, ◌+◌, ◌-◌, ◌^◌, min, List, Option, Some, None, Result, Ok, Err, IsOk}
 use Rattle.std.specs.FinMap.{get}
 use Rattle.fm_types.specs.declared.status.Status.{Status}
 use Rattle.fm_types.specs.declared.status.Status.TheVariants.{NoMemory, DeviceFault}
@@ -10,17 +10,17 @@ abbrev pub ChangesOnly : List ℕ → Folder → Folder → Type 0
 ChangesOnly path old new = (other : List ℕ) → other ≢ path → get new other ≡ get old other
 
 -- a call that changes one file makes what is wanted of the folder, or is refused as is wanted and changes nothing;
--- want of memory changes nothing, and after a fault of the device nothing is said of that one file
+-- memory is wanting only if nothing else refuses the call, and changes nothing; after a fault of the device nothing is said of that one file
 abbrev pub Makes : {T : Type 0} → List ℕ → (Folder → Result Folder Status) → Folder → Folder → Result T Status → Type 0
 Makes path wanted old new (Ok done) = wanted old ≡ Ok new
-Makes path wanted old new (Err NoMemory) = new ≡ old
+Makes path wanted old new (Err NoMemory) = (new ≡ old) × IsOk (wanted old)
 Makes path wanted old new (Err DeviceFault) = ChangesOnly path old new
 Makes path wanted old new (Err status) = (wanted old ≡ Err status) × (new ≡ old)
 
--- a call that reads tells what is wanted, or is refused as is wanted, or wants memory, or the device failed
+-- a call that reads tells what is wanted, or is refused as is wanted; or memory is wanting, if nothing else refuses it; or the device failed
 abbrev pub Tells : {T : Type 0} → Result T Status → Result T Status → Type 0
 Tells wanted (Ok value) = wanted ≡ Ok value
-Tells wanted (Err NoMemory) = Unit {0}
+Tells wanted (Err NoMemory) = IsOk wanted
 Tells wanted (Err DeviceFault) = Unit {0}
 Tells wanted (Err status) = wanted ≡ Err status
 

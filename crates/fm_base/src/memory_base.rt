@@ -1,6 +1,6 @@
 //! The base that keeps its files in memory.
 
-ghost use Rattle.std.specs.Prelude.{◌≡◌, ◌≢◌, ◌+◌, ◌^◌, ◌≤◌, Some, [], length, IsOk, IfOk, OnOk, OnErr, IfErr};
+ghost use Rattle.std.specs.Prelude.{◌≡◌, ◌≢◌, ◌+◌, ◌^◌, ◌≤◌, Some, [], length, IfOk, OnOk, OnErr, IfErr};
 ghost use Rattle.std.specs.FinMap.{empty, insert};
 ghost use Rattle.fm_types.specs.ByteLists.{resized, written};
 ghost use Rattle.fm_base.specs.Folders.{created, changed, unlinked, told, bytes_from, size_of, presence_of, listed};
@@ -58,7 +58,6 @@ fn create_file(
 ) -> Result<(), Status>
     ensures makes { Makes path.now (created mode path.now) (folder_of files.old.entries) (folder_of files.new.entries) result }
     ensures sound { result ≢ Err Status.DeviceFault }
-    ensures last { result ≡ Err Status.NoMemory → IsOk (created mode path.now (folder_of files.old.entries)) }
 {
     if files.contains_key(path) {
         return match mode {
@@ -82,7 +81,6 @@ fn write_file(
     requires { offset + length bytes.now ≤ 2 ^ 40 }
     ensures makes { Makes path.now (changed (written offset bytes.now) path.now) (folder_of files.old.entries) (folder_of files.new.entries) result }
     ensures sound { result ≢ Err Status.DeviceFault }
-    ensures last { result ≡ Err Status.NoMemory → IsOk (changed (written offset bytes.now) path.now (folder_of files.old.entries)) }
 {
     let Some(file) = files.get_mut(path) else {
         return Err(Status::FileNotFound);
@@ -96,7 +94,6 @@ fn bytes_of(file: &File, alloc: Global, offset: u64, len: u32) -> Result<Bytes, 
     ensures tells { Tells (bytes_from offset len file.now) result }
     ensures within { IfOk result (λ bytes. length bytes ≤ len) }
     ensures sound { result ≢ Err Status.DeviceFault }
-    ensures last { result ≡ Err Status.NoMemory → IsOk (bytes_from offset len file.now) }
 {
     if file.size() <= offset && len > 0 {
         return Err(Status::EndOfFile);
@@ -114,7 +111,6 @@ fn read_file(
     ensures tells { Tells (told (bytes_from offset len) path.now (folder_of files.now.entries)) result }
     ensures within { IfOk result (λ bytes. length bytes ≤ len) }
     ensures sound { result ≢ Err Status.DeviceFault }
-    ensures last { result ≡ Err Status.NoMemory → IsOk (told (bytes_from offset len) path.now (folder_of files.now.entries)) }
 {
     let Some(file) = files.get(path) else {
         return Err(Status::FileNotFound);
@@ -193,7 +189,6 @@ impl Base for MemoryBase {
     fn create(&mut self, path: &RelPath, mode: CreateMode) -> Result<(), Status>
         ensures makes { Makes path.now (created mode path.now) self.old self.new result }
         ensures sound { result ≢ Err Status.DeviceFault }
-        ensures last { result ≡ Err Status.NoMemory → IsOk (created mode path.now self.old) }
     {
         create_file(&mut self.files, self.alloc, path, mode)
     }
@@ -203,7 +198,6 @@ impl Base for MemoryBase {
         ensures within { IfOk result (λ bytes. length bytes ≤ len) }
         ensures same { self.new ≡ self.old }
         ensures sound { result ≢ Err Status.DeviceFault }
-        ensures last { result ≡ Err Status.NoMemory → IsOk (told (bytes_from offset len) path.now self.old) }
     {
         read_file(&self.files, self.alloc, path, offset, len)
     }
@@ -212,7 +206,6 @@ impl Base for MemoryBase {
         requires { offset + length bytes.now ≤ 2 ^ 40 }
         ensures makes { Makes path.now (changed (written offset bytes.now) path.now) self.old self.new result }
         ensures sound { result ≢ Err Status.DeviceFault }
-        ensures last { result ≡ Err Status.NoMemory → IsOk (changed (written offset bytes.now) path.now self.old) }
     {
         write_file(&mut self.files, self.alloc, path, offset, bytes)
     }
@@ -245,7 +238,6 @@ impl Base for MemoryBase {
         ensures within { IfOk result (λ names. length names ≤ 32768) }
         ensures same { self.new ≡ self.old }
         ensures sound { result ≢ Err Status.DeviceFault }
-        ensures last { result ≡ Err Status.NoMemory → IsOk (listed self.old) }
     {
         list_files(&self.files, self.alloc)
     }

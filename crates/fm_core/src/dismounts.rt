@@ -35,7 +35,7 @@ fn unlink_where(contexts: &mut Contexts, volume: VolumeId, emptied: &Result<(), 
 }
 
 impl State {
-    /// Begins the dismount of a volume (`FltDismountVolume`): nothing is attached to it any more and no operation begins on it, and its Attached instances
+    /// Begins the dismount of a volume (`FSCTL_DISMOUNT_VOLUME`): nothing is attached to it any more and no operation begins on it, and its Attached instances
     /// are Stopping; nobody is asked. An instance in its setup stays so, and its end refuses it. Refused, nothing changed: 7 where the volume isn't there, 33
     /// where its dismount has begun already, 34 with the number of its operations that aren't collected. It takes no memory.
     #[tactic(auto, unfolding(fm_world::specs::Dismounts::StartsDismount))]

@@ -9,6 +9,7 @@ use Rattle.fm_data.specs.declared.params.Params.{Params}
 use Rattle.fm_data.specs.declared.params.Params.TheVariants as params
 use Rattle.fm_data.specs.Params.{is_within_limits}
 use Rattle.fm_types.specs.ByteLists.{resized, written}
+use Rattle.fm_base.specs.Answers.{ChangesOnly}
 use Rattle.fm_base.specs.Folders.{Folder, created, changed, unlinked, told, bytes_from, size_of, presence_of, listed}
 
 -- an answer with nothing but a status
@@ -54,11 +55,38 @@ answer_to path params.QuerySize folder = sized_as (told size_of path folder)
 answer_to path params.Flush folder = done_as (told presence_of path folder)
 answer_to path call folder = made_as (made_by path call folder)
 
--- a call on a file is answered and makes what the folder before it says, or memory is wanting and nothing changes
+-- whether a call changes its file
+abbrev pub changes_file : Params → Bool
+changes_file (params.Create own mode) = true
+changes_file (params.Write offset bytes) = true
+changes_file (params.SetSize size) = true
+changes_file params.Close = true
+changes_file call = false
+
+-- whether a call may take memory
+abbrev pub may_grow : Params → Bool
+may_grow (params.Create own mode) = true
+may_grow (params.Read offset len) = true
+may_grow (params.Write offset bytes) = true
+may_grow (params.SetSize size) = true
+may_grow call = false
+
+-- what a fault of the device leaves: nothing is said of a file that the call changes, and all else stays
+abbrev pub Faults : Bool → List ℕ → Folder → Folder → Type 0
+Faults true path old new = ChangesOnly path old new
+Faults false path old new = new ≡ old
+
+-- a call is answered as is to be said, and makes what is to be made; or memory is wanting, of a call that may take some and that nothing else refuses,
+-- and nothing changes; or the device failed
+pub record AnswersAs (path : List ℕ) (changes grows : Bool) (said : Answer) (made old new : Folder) (answer : Answer) : Type 0 where
+  pub says : answer ≢ bare NoMemory → answer ≢ bare DeviceFault → (answer ≡ said) × (new ≡ made)
+  pub wants : answer ≡ bare NoMemory → (grows ≡ true) × (said.status ≡ Success) × (new ≡ old)
+  pub fails : answer ≡ bare DeviceFault → Faults changes path old new
+
+-- of a call on a file the folder before it says what is said and made
 abbrev pub Carries : List ℕ → Params → Folder → Folder → Answer → Type 0
 Carries path call old new answer =
-    (answer ≢ bare NoMemory → (answer ≡ answer_to path call old) × (new ≡ made_of (made_by path call old) old))
-    × (answer ≡ bare NoMemory → new ≡ old)
+    AnswersAs path (changes_file call) (may_grow call) (answer_to path call old) (made_of (made_by path call old) old) old new answer
 
 -- a call past the limits is refused
 abbrev pub CarriesWithin : Bool → List ℕ → Params → Folder → Folder → Answer → Type 0
@@ -71,22 +99,23 @@ is_listing _ = false
 
 -- a listing asks for no file; any other call without one is refused
 abbrev pub CarriesOn : Bool → Option (List ℕ) → Params → Folder → Folder → Answer → Type 0
-CarriesOn true path call old new answer = (answer ≢ bare NoMemory → answer ≡ told_as (listed old)) × (new ≡ old)
+CarriesOn true path call old new answer = AnswersAs [] false true (told_as (listed old)) old old new answer
 CarriesOn false None call old new answer = (answer ≡ bare BadRequest) × (new ≡ old)
 CarriesOn false (Some path) call old new answer = CarriesWithin (is_within_limits call) path call old new answer
 
 abbrev pub CarriesAny : Option (List ℕ) → Params → Folder → Folder → Answer → Type 0
 CarriesAny path call old new answer = CarriesOn (is_listing call) path call old new answer
 
--- of a base that knows its folder, unless the device failed; after a failure nothing is said of it, and of one that doesn't know its folder nothing either
-abbrev pub KnownAs : Option Folder → Option Folder → (Folder → Folder → Type 0) → Answer → Type 0
-KnownAs None new carries answer = new ≡ None
-KnownAs (Some old) None carries answer = ⊥
-KnownAs (Some old) (Some new) carries answer = answer ≢ bare DeviceFault → carries old new
+-- of a base that knows its folder; of one that doesn't nothing is said
+abbrev pub KnownAs : Option Folder → Option Folder → (Folder → Folder → Type 0) → Type 0
+KnownAs None new carries = new ≡ None
+KnownAs (Some old) None carries = ⊥
+KnownAs (Some old) (Some new) carries = carries old new
 
--- the folder of the volume answers and changes so, and all others stay; a volume that isn't there is refused
+-- the folder of the volume answers and changes so, without a fault of the device, and all others stay; a volume that isn't there is refused
 pub record CarriesCall (old : List Folder) (call : BaseCall) (answer : Answer) (new : List Folder) : Type 0 where
   pub absent : length old ≤ call.volume.0 → (answer ≡ bare NoVolume) × (new ≡ old)
   pub carried : call.volume.0 < length old →
       CarriesAny call.path call.params (slice_index_or old call.volume.0 empty) (slice_index_or new call.volume.0 empty) answer
+  pub sound : answer ≢ bare DeviceFault
   pub others : new ≡ slice_set old call.volume.0 (slice_index_or new call.volume.0 empty)

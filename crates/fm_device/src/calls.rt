@@ -12,11 +12,13 @@ use std::alloc::Global;
 
 /// The base of a volume carries out what an operation that reached it asks (`IoCallDriver`). A call that
 /// names no file and is no listing is answered with 32, and one past the limits too; these change nothing.
-/// Any other is answered, and changes the folder, as that says, unless memory is wanting (1), when it
-/// changes nothing, or the device failed (18), which is counted. There are at most 32,768 bytes in the answer.
-#[tactic(auto, using(crate::proofs::Answers::told_said))]
+/// Any other is answered, and changes the folder, as that says, unless memory is wanting (1) or the device
+/// failed (18). Memory is wanting only if nothing else refuses the call, never for a size, a flush or an
+/// unlink, and then nothing changes. A fault is counted; after it nothing is said of a file that the call
+/// changes, and all else stays. There are at most 32,768 bytes in the answer.
+#[tactic(auto)]
 pub fn call_base<B: Base>(alloc: Global, base: &mut B, call: &BaseCall) -> Answer
-    ensures carried { KnownAs (B.folder base.old) (B.folder base.new) (λ old new. CarriesAny call.now.path call.now.params old new result) result }
+    ensures carried { KnownAs (B.folder base.old) (B.folder base.new) (λ old new. CarriesAny call.now.path call.now.params old new result) }
     ensures fault { result ≡ bare status.DeviceFault → B.faults base.new ≡ min (B.faults base.old + 1) (2 ^ 64 - 1) }
     ensures within { length result.bytes ≤ 32768 }
 {
@@ -84,9 +86,9 @@ fn sized(alloc: Global, outcome: Result<u64, Status>) -> Answer
 }
 
 // The call of an operation on a file. A close that reaches the base unlinks the file.
-#[tactic(auto, using(crate::proofs::Answers::made_known, crate::proofs::Answers::told_said))]
+#[tactic(auto)]
 fn on_file<B: Base>(alloc: Global, base: &mut B, path: &RelPath, call: &Params) -> Answer
-    ensures carried { KnownAs (B.folder base.old) (B.folder base.new) (λ old new. CarriesWithin (is_within_limits call.now) path.now call.now old new result) result }
+    ensures carried { KnownAs (B.folder base.old) (B.folder base.new) (λ old new. CarriesWithin (is_within_limits call.now) path.now call.now old new result) }
     ensures fault { result ≡ bare status.DeviceFault → B.faults base.new ≡ min (B.faults base.old + 1) (2 ^ 64 - 1) }
     ensures within { length result.bytes ≤ 32768 }
 {

@@ -7,10 +7,10 @@ use Rattle.fm_data.specs.declared.verdict.PreVerdict.TheVariants as verdict
 use Rattle.fm_data.specs.declared.verdict.PostVerdict.{PostVerdict}
 use Rattle.fm_data.specs.declared.verdict.PostVerdict.TheVariants as end
 
--- a verdict that neither holds the operation nor asks for a certain worker, and sends no context along
+-- a verdict that doesn't hold the operation, and sends no context along
 abbrev pub IsPlainPre : PreVerdict → Type 0
 IsPlainPre (verdict.WithCallback completion) = completion.context ≡ None
-IsPlainPre (verdict.Synchronize completion) = ⊥
+IsPlainPre (verdict.Synchronize completion) = completion.context ≡ None
 IsPlainPre verdict.NoCallback = ⊤
 IsPlainPre (verdict.Complete status) = ⊤
 IsPlainPre verdict.Pending = ⊥

@@ -1,17 +1,26 @@
 -- What stands while a callback runs, whatever it calls: the instances, where workers are, and what the operations under way are on.
-use Rattle.std.specs.Prelude.{ℕ, List, map, Option}
+use Rattle.std.specs.Prelude.{ℕ, List, map, Option, Some, None}
+use Rattle.std.specs.List.{filter_map}
+use Rattle.fm_flow.specs.declared.entry.Entry.{Entry}
+use Rattle.fm_flow.specs.declared.entry.Entry.TheVariants.{Drain}
 use Rattle.fm_world.specs.Words.{FlowRecord, OpId, Operation, StackWorld, WorkerId}
 use Rattle.fm_world.specs.World.{World}
 use Rattle.fm_world.specs.declared.worker.Worker.{Worker}
 
--- what an operation is
+-- the instance that an entry drains
+abbrev pub drain_of : Entry → Option ℕ
+drain_of (Drain visit) = Some visit.instance.0
+drain_of _ = None
+
+-- what an operation is, and the instances that it was drained of
 pub record Shape : Type 0 where
   pub number : OpId
   pub operation : Operation
   pub path : Option (List ℕ)
+  pub drained : List ℕ
 
 abbrev pub shape_of : FlowRecord → Shape
-shape_of r = record { number = r.number; operation = r.operation; path = r.path }
+shape_of r = record { number = r.number; operation = r.operation; path = r.path; drained = filter_map drain_of r.entries }
 
 pub record Standing : Type 0 where
   pub stack : StackWorld

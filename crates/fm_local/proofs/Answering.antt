@@ -1,10 +1,12 @@
 -- What a manager answers is what the fold says, and it is ready again.
 use Rattle.fm_local.proofs.Words.{[], ◌≡◌, Answer, Completion, Data, Folder, List, LocalManager, None, Option, PostVerdict, PreVerdict, Some, Status}
+use Rattle.fm_local.proofs.Words.{Bool, Begins, ContextKind, Err, IsBegun, Ok, OpId, Tidies, bare_answer}
 use Rattle.fm_local.proofs.Words.{WorkerId, World, false, true, ℕ, ◌∙◌, ap, refl, subst, sym, FileRequest, Reply, Request, IsSound, HandleId}
 use Rattle.fm_local.proofs.Words.{ArePlainFilters, IsReady, closed_handle, replied, BasesCarry, numbered, NoneStops, Filters}
-use Rattle.fm_local.specs.Actions.{AnswersIn, goes_on, is_over, PerformsIn}
+use Rattle.fm_local.specs.Actions.{AnswersIn, ClosesIn, ClosesRefused, goes_on, is_over, PerformsIn, RunsIn}
 use Rattle.fm_local.specs.Requests.{DoesTidily, DoesClose, DoesOne}
 use Rattle.fm_local.proofs.AllPerformed.{RestsOver, one_tidily, one_done}
+use Rattle.fm_local.proofs.Performing.{performs_begun, performs_refused, performs_settled}
 
 -- a request that closes a handle
 pub is_close : (what : Request) (h : HandleId) → closed_handle what ≡ Some h → what ≡ Request.OnHandle h FileRequest.Close
@@ -109,3 +111,80 @@ module _ {F B : Type 0} (pre : F → Data → PreVerdict → Data → Type 0) (p
 
       pub answers_cleanup : goes_on cleaned ≡ false → Answered (Request.OnHandle h FileRequest.Close) old cleaned mid
       answers_cleanup stops = closed cleaned mid p.answer p.says (stops_at p.answer.status (sym says_status ∙ stops)) p.filters p.settled
+
+  -- ---- a close, as it is made
+  closes_by : (old mid then new : LocalManager F B) (cleaned said : Reply) (h : HandleId)
+      → (goes_on cleaned ≡ false → (said ≡ cleaned) × (then ≡ mid)) → (Ready mid → goes_on cleaned ≡ true → Performed (Request.OnHandle h FileRequest.Close) mid said then)
+      → (then.desk.resumed.items.items ≡ [] → Tidies then.desk.state new.desk.state)
+      → (then.desk.resumed.items.items ≡ [] → (new.bases ≡ then.bases) × (new.filters ≡ then.filters) × (new.desk.resumed.items.items ≡ []))
+      → Ready mid → goes_on cleaned ≡ true → Performed (Request.OnHandle h FileRequest.Close) mid said new
+  closes_by old mid then new cleaned said h stops does tidies settles ready over =
+      performs_settled pre post is_quiet folder faults k mid then new said tidies settles (Request.OnHandle h FileRequest.Close) (does ready over)
+
+  -- once its cleanup was carried to its answer
+  module _ (o : OpId) (h : HandleId) (old mid then new : LocalManager F B) (cleaned said : Reply) (runs : RunsIn pre post is_quiet folder faults k o old cleaned mid)
+      (stops : goes_on cleaned ≡ false → (said ≡ cleaned) × (then ≡ mid)) (does : Ready mid → goes_on cleaned ≡ true → Performed (Request.OnHandle h FileRequest.Close) mid said then)
+      (tidies : then.desk.resumed.items.items ≡ [] → Tidies then.desk.state new.desk.state)
+      (settles : then.desk.resumed.items.items ≡ [] → (new.bases ≡ then.bases) × (new.filters ≡ then.filters) × (new.desk.resumed.items.items ≡ [])) where
+    pub closes_in : ClosesIn pre post is_quiet folder faults k o h old said new
+    closes_in = record {
+      cleaned = cleaned;
+      mid = mid;
+      runs = runs;
+      stops = λ ends.
+          let (says, same) = stops ends in
+          let none : then.desk.resumed.items.items ≡ [] = ap (λ (m : LocalManager F B). m.desk.resumed.items.items) same ∙ runs.settled in
+          let s = settles none in (
+            says,
+            subst (λ (m : LocalManager F B). Tidies m.desk.state new.desk.state) same (tidies none),
+            s.0 ∙ ap (λ (m : LocalManager F B). m.bases) same,
+            s.1 ∙ ap (λ (m : LocalManager F B). m.filters) same,
+            s.2,
+          );
+      closes = closes_by old mid then new cleaned said h stops does tidies settles;
+    }
+
+  module _ (old : LocalManager F B) (ready : Ready old) (sound : IsSound old.desk.state) (h : HandleId) where
+    abbrev cleanup_of : Request
+    cleanup_of = Request.OnHandle h FileRequest.Cleanup
+
+    abbrev close_of : Request
+    close_of = Request.OnHandle h FileRequest.Close
+
+    -- a close whose cleanup began
+    pub answers_closed : (o : OpId) (begun : World) → Begins old.desk.state cleanup_of (Ok o) begun → (said : Reply) (new : LocalManager F B)
+        → (ArePlainFilters pre post is_quiet (numbered old.filters) → IsBegun k o begun → old.desk.resumed.items.items ≡ []
+        → ClosesIn pre post is_quiet folder faults k o h (record old { desk = record old.desk { state = begun } }) said new) → Answered close_of old said new
+    answers_closed o begun begins said new closes_it =
+        let began : IsBegun k o begun = record { what = cleanup_of; before = old.desk.state; sound = sound; rests = ready.rests; calm = ready.calm; begins = begins } in
+        let x = closes_it ready.plain began ready.settled in
+        let p = performs_begun pre post is_quiet folder faults k cleanup_of old ready begun o x.cleaned x.mid sound begins (λ plain is settled. x.runs) in
+        by_cleanup (goes_on x.cleaned) x refl p
+      where
+        by_cleanup : (b : Bool) (x : ClosesIn pre post is_quiet folder faults k o h (record old { desk = record old.desk { state = begun } }) said new) → goes_on x.cleaned ≡ b
+            → Performed cleanup_of old x.cleaned x.mid → Answered close_of old said new
+        by_cleanup true x over p = answers_close old ready sound h x.cleaned x.mid p over said new (x.closes (ready_after old ready sound cleanup_of x.cleaned x.mid p) over)
+        by_cleanup false x ends p =
+            let s = x.stops ends in
+            let q = performs_settled pre post is_quiet folder faults k old x.mid new x.cleaned (λ none. s.1) (λ none. (s.2, s.3, s.4)) cleanup_of p in
+            subst (λ (r : Reply). Answered close_of old r new) (sym s.0) (answers_cleanup old ready sound h x.cleaned new q ends)
+
+    -- one whose cleanup was refused
+    pub answers_refused : (why : Status) (begun : World) → Begins old.desk.state cleanup_of (Err why) begun → (said : Reply) (new : LocalManager F B)
+        → (Ready (record old { desk = record old.desk { state = begun } }) → is_over why ≡ true → Performed close_of (record old { desk = record old.desk { state = begun } }) said new)
+        → (drained : F → Completion → Type 0) (cleanup : F → ContextKind → List ℕ → ℕ → Type 0) (most limit : ℕ)
+        → ClosesRefused pre post drained folder faults k cleanup most limit (is_over why) why h (record old { desk = record old.desk { state = begun } }) said new → Answered close_of old said new
+    answers_refused why begun begins said new does drained cleanup most limit closes = by_status (is_over why) refl closes
+      where
+        now : LocalManager F B
+        now = record old { desk = record old.desk { state = begun } }
+
+        p : Performed cleanup_of old (replied (bare_answer why)) now
+        p = performs_refused pre post is_quiet folder faults k cleanup_of old ready begun why begins
+
+        by_status : (b : Bool) → is_over why ≡ b → ClosesRefused pre post drained folder faults k cleanup most limit b why h now said new → Answered close_of old said new
+        by_status true over closes =
+            answers_close old ready sound h (replied (bare_answer why)) now p over said new (does (ready_after old ready sound cleanup_of (replied (bare_answer why)) now p) over)
+        by_status false ends closes =
+            let a = answers_cleanup old ready sound h (replied (bare_answer why)) now p ends in
+            subst (λ (m : LocalManager F B). Answered close_of old said m) (sym closes.1) (subst (λ (r : Reply). Answered close_of old r now) (sym closes.0) a)

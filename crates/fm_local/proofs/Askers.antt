@@ -2,7 +2,7 @@
 use Rattle.fm_local.proofs.Words.{[], ◌∷◌, ◌≡◌, ◌≤◌, Completion, InstanceId, List, None, Option, Params, Some, WorkerId, false, length, slice_get}
 use Rattle.fm_local.proofs.Words.{suc, zero, ℕ, ◌++◌, ◌∙◌, ap, ap₂, arith, inl, inr, map, refl, sym, take, unwrap_or, cases_Bool, false≢true}
 use Rattle.fm_local.proofs.Words.{same_Some, times, sees, IsCourse, Ask, Descending, Entry, PreState, Stage, last_visited, owed, visited, asker}
-use Rattle.fm_local.proofs.Words.{ArePlain}
+use Rattle.fm_local.proofs.Words.{ArePlain, Bool, may_take, not, ◌==◌, ◌||◌, true, eq-eqb}
 use Rattle.std.specs.Prelude.{reverse}
 use Rattle.fm_flow.specs.declared.entry.Entry.TheVariants.{Pre}
 use Rattle.fm_flow.specs.Entries.{ask_in, visit_of, answers}
@@ -39,10 +39,10 @@ kept_above (x ∷ kept) received changed (suc place) few =
     (rest.0, ap (λ xs. x ∷ xs) rest.1)
 
 -- those that asked before see what they saw
-pub askers_above : (asks : List Ask) (kept : List Params) (received : Params) (changed : Option Params) → ArePlain (length kept) asks
+pub askers_above : (k : WorkerId) (asks : List Ask) (kept : List Params) (received : Params) (changed : Option Params) → ArePlain k (length kept) asks
     → askers asks (kept ++ kept_of received changed) (unwrap_or changed received) ≡ askers asks kept received
-askers_above [] kept received changed fall = refl
-askers_above (ask ∷ asks) kept received changed fall =
+askers_above k [] kept received changed fall = refl
+askers_above k (ask ∷ asks) kept received changed fall =
     let same = kept_above kept received changed ask.place fall.0 in
     ap₂ (λ p ps. asker ask.instance.0 p ask.completion ∷ askers asks ps p) same.0 same.1
 
@@ -78,3 +78,16 @@ module _ (es : List Entry) (worker : WorkerId) (i : InstanceId) (place : ℕ) wh
 
   pub owed_goes : (state : PreState) → ask_in (record { instance = i; worker = worker; state = state; place = place }) state ≡ None → owed (es ++ entry_of state ∷ []) ≡ owed es
   owed_goes state is = owed_push_none es (entry_of state) is (λ j. refl)
+
+-- ---- the worker that asked
+
+-- a postoperation may be made by the worker of its preoperation, whatever it asked for
+pub takes_own : (k : WorkerId) (ask : Ask) → ask.worker ≡ k → may_take k ask ≡ true
+takes_own k ask own = by_mark ask.is_synchronized
+  where
+    same : ask.worker.0 == k.0 ≡ true
+    same = eq-eqb ask.worker.0 k.0 (ap (λ (w : WorkerId). w.0) own)
+
+    by_mark : (bound : Bool) → not bound || (ask.worker.0 == k.0) ≡ true
+    by_mark true = same
+    by_mark false = refl

@@ -12,7 +12,7 @@ use Rattle.fm_local.specs.Bases.{BaseCarries}
 module _ {B : Type 0} (folder : B → Option Folder) (faults : B → ℕ) (old : List B) (call : BaseCall) (answer : Answer) where
   -- the base of the volume answers, and nothing but it changes
   carried_there : (was is : B) → slice_get old call.volume.0 ≡ Some was
-      → KnownAs (folder was) (folder is) (λ b a. CarriesAny call.path call.params b a answer) answer
+      → KnownAs (folder was) (folder is) (λ b a. CarriesAny call.path call.params b a answer)
       → (answer ≡ bare DeviceFault → faults is ≡ min (faults was + 1) (2 ^ 64 - 1))
       → BasesCarry folder faults old call answer (slice_set old call.volume.0 is)
   carried_there was is at known fault = record {
@@ -36,7 +36,7 @@ module _ {B : Type 0} (folder : B → Option Folder) (faults : B → ℕ) (old :
       same found here = cc
 
   pub there : (n : ℕ) → n ≡ call.volume.0 → (was is : B) → n < length old → was ≡ slice_index_or old n was
-      → KnownAs (folder was) (folder is) (λ b a. CarriesAny call.path call.params b a answer) answer
+      → KnownAs (folder was) (folder is) (λ b a. CarriesAny call.path call.params b a answer)
       → (answer ≡ bare DeviceFault → faults is ≡ min (faults was + 1) (2 ^ 64 - 1))
       → BasesCarry folder faults old call answer (slice_set old n is)
   there n at was is within value known fault =

@@ -1,10 +1,10 @@
 -- Each turn of an operation that is alone leaves no more of its fold than there was.
 use Rattle.fm_local.proofs.Words.{[], ◌∷◌, ◌≡◌, Answer, BaseCall, Bool, Completion, Data, Err, FlowAction, FlowRecord, Instance, InstanceId, List}
 use Rattle.fm_local.proofs.Words.{None, Ok, OpId, Operation, Option, Params, PostVerdict, PreVerdict, Result, Some, StackWorld, Status, WorkerId}
-use Rattle.fm_local.proofs.Words.{World, bare_answer, false, length, slice_get, suc, true, worker_at, ℕ, ◌++◌, ◌==◌, ◌||◌, ◌∙◌, ap, ap₂, arith, cond}
+use Rattle.fm_local.proofs.Words.{World, bare_answer, false, length, slice_get, suc, true, worker_at, ℕ, ◌++◌, ◌∙◌, ap, ap₂, arith, cond}
 use Rattle.fm_local.proofs.Words.{is_some, length-append, map, not, refl, subst, sym, unwrap_or, answered_data, fresh_data, fit, base_counted, times}
 use Rattle.fm_local.proofs.Words.{sees, IsCourse, ascend, base_returned_of, call_base, call_of, call_post, call_pre, descend, give_post, lent_answer}
-use Rattle.fm_local.proofs.Words.{may_take, next_at, next_of, post_returned_of, pre_returned_of, turn, unwound, is_number, verdict_counted, Below}
+use Rattle.fm_local.proofs.Words.{next_at, next_of, post_returned_of, pre_returned_of, turn, unwound, is_number, verdict_counted, Below}
 use Rattle.fm_local.proofs.Words.{Ascending, has_post, is_stopping_row, FileTable, IsSound, Ask, Descending, Entry, HandleId, PreState, Stage}
 use Rattle.fm_local.proofs.Words.{is_create, last_visited, owed, visited, after_next, put, Worker, IsPlainFilter, BaseMay, Subject, Under, chain_of}
 use Rattle.fm_local.proofs.Words.{filter_in, filter_in_row, known_answer, subject_of, Chain, ArePlain, NoneStops, under, Does, Turns, Visits}
@@ -28,7 +28,8 @@ use Rattle.fm_local.specs.Chains.{PreMay, PostMay, BaseMayBy}
 use Rattle.fm_local.proofs.Alone.{Alone, found_alone, told_alone, known_alone, none_created}
 use Rattle.fm_local.proofs.Events.{next_leaves, IsLeft, pre_leaves, base_leaves, post_leaves, and_none, placed}
 use Rattle.fm_local.proofs.Fitting.{fits_back, call_back}
-use Rattle.fm_local.proofs.Turning.{Leaves, IsPlainState, left_asked, left_passed, left_completed, left_bare, left_base, left_known, left_post}
+use Rattle.fm_local.proofs.Turning.{Leaves, IsPlainState, left_asked, left_synchronized, left_passed, left_completed, left_bare, left_base, left_known, left_post}
+use Rattle.fm_local.proofs.Askers.{takes_own}
 use Rattle.fm_local.proofs.Turning.{PutBack, put_back}
 use Rattle.fm_local.proofs.Visits.{visits_after}
 
@@ -50,7 +51,7 @@ pub record IsGoing (k : WorkerId) (o : OpId) (x : Subject) (r : FlowRecord) (w :
   pub uncollected : r.collected ≡ false
   pub between : is_between r.stage ≡ true
   pub on : IsOn x r
-  pub asks : ArePlain (length r.kept) (owed r.entries)
+  pub asks : ArePlain k (length r.kept) (owed r.entries)
 
 -- no operation is drained then
 none_drains : (s : StackWorld) → NoneStops s → (m : Option Ask) → is_stopping_ask s m ≡ false
@@ -115,11 +116,11 @@ module _ {F D : Type 0} (pre_may : F → Data → PreVerdict → Data → Type 0
     pub same : (next.volume ≡ r.volume) × (next.born ≡ r.born)
     -- each turn leaves an entry more
     pub longer : length next.entries ≡ suc (length r.entries)
-    pub less : Leaves (chain x) (Meets r) r next (under d old) (under e new)
+    pub less : Leaves k (chain x) (Meets r) r next (under d old) (under e new)
 
   -- so it is where the turn only moved it
   still_going : (next : FlowRecord) (mid new : World) → new ≡ mid → Alone o next mid.flow → worker_at mid.workers k ≡ Some Worker.Idle → next.collected ≡ false → is_between next.stage ≡ true
-      → IsOn x next → ArePlain (length next.kept) (owed next.entries) → IsGoing k o x next new
+      → IsOn x next → ArePlain k (length next.kept) (owed next.entries) → IsGoing k o x next new
   still_going next mid new same alone idle uncollected between on asks =
       subst (IsGoing k o x next) (sym same) (record { alone = alone; idle = idle; uncollected = uncollected; between = between; on = on; asks = asks })
 
@@ -154,7 +155,8 @@ module _ {F D : Type 0} (pre_may : F → Data → PreVerdict → Data → Type 0
   state_plain : (given : PreVerdict) (operation : Operation) (has : Bool) → IsPlainPre given → IsPlainState (verdict_counted given operation has)
   state_plain (PreVerdict.WithCallback completion) operation true p = tt
   state_plain (PreVerdict.WithCallback completion) operation false p = tt
-  state_plain (PreVerdict.Synchronize completion) operation has p = absurd p
+  state_plain (PreVerdict.Synchronize completion) operation true p = tt
+  state_plain (PreVerdict.Synchronize completion) operation false p = tt
   state_plain PreVerdict.NoCallback operation has p = tt
   state_plain (PreVerdict.Complete why) operation has p = ended operation
     where
@@ -181,8 +183,8 @@ module _ {F D : Type 0} (pre_may : F → Data → PreVerdict → Data → Type 0
       course = (at_stage r Descending st own).0
 
       -- what is known of the chain of the record is known of the subject's
-      of_subject : (next : FlowRecord) (w : Under D) → Leaves (chain (subject_of r)) (Meets r) r next (under d old) w → Leaves (chain x) (Meets r) r next (under d old) w
-      of_subject next w h = subst (λ (y : Subject). Leaves (chain y) (Meets r) r next (under d old) w) (going.on.all st) h
+      of_subject : (next : FlowRecord) (w : Under D) → Leaves k (chain (subject_of r)) (Meets r) r next (under d old) w → Leaves k (chain x) (Meets r) r next (under d old) w
+      of_subject next w h = subst (λ (y : Subject). Leaves k (chain y) (Meets r) r next (under d old) w) (going.on.all st) h
 
       module _ (i : InstanceId) (lies : LiesBelow s r (Below.Instance i true)) where
         fresh : times i.0 (visited r.entries) ≡ 0
@@ -205,7 +207,7 @@ module _ {F D : Type 0} (pre_may : F → Data → PreVerdict → Data → Type 0
           files_after state = after_pre state r.operation r.stream false old.files
 
           turned : (state : PreState) → is_between (after_verdict state).stage ≡ true → IsLeft k o (after_verdict state) s (files_after state) new
-              → Leaves (chain (subject_of r)) (Meets r) r (after_verdict state) (under d old) (record { device = d; files = files_after state }) → Turned r old d new e
+              → Leaves k (chain (subject_of r)) (Meets r) r (after_verdict state) (under d old) (record { device = d; files = files_after state }) → Turned r old d new e
           turned state between left less =
               let next = after_verdict state in
               let ends : record { device = d; files = files_after state } ≡ under e new = ap₂ (λ dev fs. record { device = dev; files = fs }) (sym end_is) (sym left.filed) in
@@ -215,7 +217,7 @@ module _ {F D : Type 0} (pre_may : F → Data → PreVerdict → Data → Type 0
                 stays = left.stays ∙ sym at_stack;
                 same = (refl, refl);
                 longer = settled_more (settle_pre state) r.entries (pre_entry k i PreState.Running r);
-                less = subst (λ (w : Under D). Leaves (chain x) (Meets r) r next (under d old) w) ends (of_subject next (record { device = d; files = files_after state }) less);
+                less = subst (λ (w : Under D). Leaves k (chain x) (Meets r) r next (under d old) w) ends (of_subject next (record { device = d; files = files_after state }) less);
               }
 
           by_state : (state : PreState) → verdict_counted given r.operation (has_post s (slice_get s.instances i.0) r.operation) ≡ state → IsPlainState state
@@ -223,6 +225,9 @@ module _ {F D : Type 0} (pre_may : F → Data → PreVerdict → Data → Type 0
           by_state (PreState.Asked completion) counted plain left =
               turned (PreState.Asked completion) refl left
               (left_asked (chain (subject_of r)) (Meets r) r p has (under d old) k i st course fresh going.asks meets given back (PreState.Asked completion) (sym lies.1) same may counted completion refl)
+          by_state (PreState.Synchronized completion) counted plain left =
+              turned (PreState.Synchronized completion) refl left
+              (left_synchronized (chain (subject_of r)) (Meets r) r p has (under d old) k i st course fresh going.asks meets given back (PreState.Synchronized completion) (sym lies.1) same may counted completion refl)
           by_state PreState.Passed counted plain left =
               turned PreState.Passed refl left
               (left_passed (chain (subject_of r)) (Meets r) r p has (under d old) k i st course fresh going.asks meets given back PreState.Passed (sym lies.1) same may counted refl)
@@ -260,7 +265,7 @@ module _ {F D : Type 0} (pre_may : F → Data → PreVerdict → Data → Type 0
             stays = ap (λ (w : World). w.stack) same ∙ stack ∙ sym at_stack;
             same = (refl, refl);
             longer = one_more r.entries (pre_entry k i bare_ask r);
-            less = subst (λ (w : Under D). Leaves (chain x) (Meets r) r next (under d old) w) ends (of_subject next (under d old) less);
+            less = subst (λ (w : Under D). Leaves k (chain x) (Meets r) r next (under d old) w) ends (of_subject next (under d old) less);
           }
 
       -- ---- the base
@@ -276,7 +281,7 @@ module _ {F D : Type 0} (pre_may : F → Data → PreVerdict → Data → Type 0
             let known : known_answer old.files (subject_of r) ≡ None = sym (known_alone o r old.flow going.alone old.files) ∙ unknown in
             let By : Option Status → Type 0 = λ m. BaseMayBy carries (subject_of r) p m (under d old) (base_counted p answer (handle old.files)) (under e new) in
             let may : BaseMay carries (subject_of r) p (under d old) (base_counted p answer (handle old.files)) (under e new) = subst By (sym known) (answer, does.2, refl, left'.filed) in
-            let less = left_base (chain (subject_of r)) (Meets r) r p has (under d old) st going.asks lies (under e new) answer (handle old.files) may in
+            let less = left_base (chain (subject_of r)) (Meets r) r p has (under d old) k st going.asks lies (under e new) answer (handle old.files) may in
             record {
               next = next;
               going = record { alone = left'.alone; idle = left'.idle; uncollected = going.uncollected; between = refl; on = record { kind = going.on.kind; all = λ h. cc }; asks = less.plain };
@@ -298,7 +303,7 @@ module _ {F D : Type 0} (pre_may : F → Data → PreVerdict → Data → Type 0
             let ends : under e new ≡ record { device = d; files = after_base r.operation r.stream r.handle why false old.files } =
             ap₂ (λ dev fs. record { device = dev; files = fs }) end_is filing in
             let may : BaseMay carries (subject_of r) p (under d old) (bare_answer why) (under e new) = subst By (sym known) (refl, ends) in
-            let less = left_known (chain (subject_of r)) (Meets r) r p has (under d old) st going.asks lies (under e new) why may in
+            let less = left_known (chain (subject_of r)) (Meets r) r p has (under d old) k st going.asks lies (under e new) why may in
             record {
               next = next;
               going = still_going next mid new same alone idle going.uncollected refl (record { kind = going.on.kind; all = λ h. cc }) less.plain;
@@ -357,7 +362,7 @@ module _ {F D : Type 0} (pre_may : F → Data → PreVerdict → Data → Type 0
             same = (keeps.volume ∙ unwinds.volume, keeps.born ∙ unwinds.born);
             longer = length-map s0.entries (settle_post PostState.Finished) ∙ given_more k ask (unwound ask.place r) (unwound ask.place r).params saw unwinds.params
                 ∙ ap (λ (es : List Entry). suc (length es)) unwinds.entries;
-            less = subst (λ (w : Under D). Leaves (chain x) (Meets r) r next (under d old) w) ends less;
+            less = subst (λ (w : Under D). Leaves k (chain x) (Meets r) r next (under d old) w) ends less;
           }
 
     -- ---- one turn, whatever is next
@@ -394,8 +399,8 @@ module _ {F D : Type 0} (pre_may : F → Data → PreVerdict → Data → Type 0
           → Alone o (ascend k false r (slice_get asks 0)).after mid.flow → mid.files ≡ filed_next old o mid.flow reply lies → Turned r old d new e
       up_by st [] owes lies said alone files = absurd (subst Done said does)
       up_by st (ask ∷ rest) owes lies said alone files =
-          let plainly : ArePlain (length r.kept) (ask ∷ rest) = subst (ArePlain (length r.kept)) owes going.asks in
-          let takes : may_take k ask ≡ true = ap (λ b. not b || (ask.worker.0 == k.0)) plainly.1 in
+          let plainly : ArePlain k (length r.kept) (ask ∷ rest) = subst (ArePlain k (length r.kept)) owes going.asks in
+          let takes = takes_own k ask plainly.1 in
           let Is : Bool → Turn = λ b. cond b (call_post k ask r) (turn (Err Status.WrongStep) r) in
           let back = unwinds st ask rest owes in
           let given : reply ≡ Ok (FlowAction.Post ask.instance (answered_data (saw st ask rest owes) (lent_answer r.operation r.answer)) ask.completion) =

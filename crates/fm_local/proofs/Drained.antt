@@ -1,5 +1,5 @@
 -- What is owed to a stopping instance is let go of, one operation after the other.
-use Rattle.fm_local.proofs.Words.{◌≡◌, ◌≤◌, Bool, Completion, Err, InstanceId, None, Ok, OpId, Option, Result, Some, Status, WorkerId, World, false}
+use Rattle.fm_local.proofs.Words.{◌≡◌, Bool, Completion, Err, InstanceId, None, Ok, OpId, Option, Result, Some, Status, WorkerId, World, false}
 use Rattle.fm_local.proofs.Words.{suc, true, ℕ, ◌+◌, arith, inl, inr, subst, sym, DrainsWhere, is_stopping_at, TakesDrain, row_at, filter_in}
 use Rattle.fm_world.specs.EarlyDrains.{DrainReturns}
 use Rattle.fm_local.specs.Drains.{DrainsAll, DrainsMany, DrainsSome, OwesNone, WasCalled}
@@ -48,9 +48,6 @@ module _ {F : Type 0} (drained : F → Completion → Type 0) (filters : ℕ →
       one_more n = omega arith
   drains_more n old mid new many false is step = cc
 
-  pub drains_end : (most n : ℕ) (old mid new : World) → DrainsMany drained filters k i n old mid → (b : Bool) → b ≡ false → DrainsSome drained filters k i b mid new → DrainsAll drained filters k i most old new
-  drains_end most n old mid new many true is step = cc
-  drains_end most n old mid new many false is (same, none) = (n, subst (DrainsMany drained filters k i n old) (sym same) many, inl (subst (OwesNone k i) (sym same) none))
-
-  pub drains_most : (most n : ℕ) (old new : World) → DrainsMany drained filters k i n old new → most ≤ n → DrainsAll drained filters k i most old new
-  drains_most most n old new many far = (n, many, inr far)
+  pub drains_end : (n : ℕ) (old mid new : World) → DrainsMany drained filters k i n old mid → (b : Bool) → b ≡ false → DrainsSome drained filters k i b mid new → DrainsAll drained filters k i old new
+  drains_end n old mid new many true is step = cc
+  drains_end n old mid new many false is (same, none) = (n, subst (DrainsMany drained filters k i n old) (sym same) many, subst (OwesNone k i) (sym same) none)

@@ -50,7 +50,8 @@ placed workers k was is there = slice_get-set_same workers k.0 is (slice_get_wit
 plain_of_hand : (hand : List CtxId) (given : PreVerdict) → IsPlainPre given → of_hand hand given ≡ given
 plain_of_hand hand (PreVerdict.WithCallback completion) plain =
     ap (λ c. PreVerdict.WithCallback (record completion { context = c })) (ap (held_context hand) plain ∙ sym plain)
-plain_of_hand hand (PreVerdict.Synchronize completion) plain = absurd plain
+plain_of_hand hand (PreVerdict.Synchronize completion) plain =
+    ap (λ c. PreVerdict.Synchronize (record completion { context = c })) (ap (held_context hand) plain ∙ sym plain)
 plain_of_hand hand PreVerdict.NoCallback plain = refl
 plain_of_hand hand (PreVerdict.Complete status) plain = refl
 plain_of_hand hand PreVerdict.Pending plain = refl

@@ -46,11 +46,11 @@ calls_untraced old new kept = kept ∙ ap (λ t. record old { desk = new.desk; t
 
 -- ---- what was resumed, one after the other
 
-head : (o : OpId) (xs ys : List OpId) → slice_get xs 0 ≡ Some o → ys ≡ drop 1 xs → xs ≡ o ∷ ys
+pub head : (o : OpId) (xs ys : List OpId) → slice_get xs 0 ≡ Some o → ys ≡ drop 1 xs → xs ≡ o ∷ ys
 head o [] ys first rest = absurd (none-some o first)
 head o (x ∷ xs) ys first rest = ap₂ (λ (z : OpId) (zs : List OpId). z ∷ zs) (same_Some x o first) (sym rest)
 
-none_left : (xs ys : List OpId) → slice_get xs 0 ≡ None → ys ≡ drop 1 xs → (xs ≡ []) × (ys ≡ [])
+pub none_left : (xs ys : List OpId) → slice_get xs 0 ≡ None → ys ≡ drop 1 xs → (xs ≡ []) × (ys ≡ [])
 none_left [] ys none rest = (refl, rest)
 none_left (x ∷ xs) ys none rest = absurd (none-some x (sym none))
 

@@ -1,8 +1,8 @@
 -- Turn after turn an operation goes on, until it is done: it is never held, and its turns are few.
 use Rattle.fm_local.proofs.Words.{[], ⊤, ◌∷◌, ◌≡◌, ◌≤◌, Answer, BaseCall, Bool, Completion, Data, Err, FlowAction, FlowRecord, List, Ok, OpId, Option}
 use Rattle.fm_local.proofs.Words.{Params, PostVerdict, PreVerdict, Result, Some, Status, WorkerId, World, false, length, slice_get, suc, true, zero}
-use Rattle.fm_local.proofs.Words.{ℕ, ◌+◌, ◌==◌, ◌||◌, ◌∙◌, ap, arith, cond, not, refl, subst, sym, ascend, call_base, call_post, call_pre, descend}
-use Rattle.fm_local.proofs.Words.{give_post, may_take, next_at, next_of, turn, unwound, Below, Ascending, step_keeps, Nexts, IsSound, Ask, Descending}
+use Rattle.fm_local.proofs.Words.{ℕ, ◌+◌, ◌∙◌, ap, arith, cond, refl, subst, sym, ascend, call_base, call_post, call_pre, descend}
+use Rattle.fm_local.proofs.Words.{give_post, next_at, next_of, turn, unwound, Below, Ascending, step_keeps, Nexts, IsSound, Ask, Descending}
 use Rattle.fm_local.proofs.Words.{Stage, owed, Step, StepReply, ArePlainFilters, IsBegun, Subject, subject_of, ArePlain, NoneStops, Carries, Turns}
 use Rattle.fm_local.proofs.Words.{Turn}
 use Rattle.fm_flow.specs.Steps.{Turned as Turning}
@@ -11,6 +11,7 @@ use Rattle.fm_local.proofs.Begun.{start, first, going}
 use Rattle.fm_local.proofs.Carried.{turn_sound}
 use Rattle.fm_local.proofs.Carrying.{IsGoing, is_between, turn_leaves, has_params, calm_here, record_sound}
 use Rattle.fm_local.proofs.Events.{next_leaves}
+use Rattle.fm_local.proofs.Askers.{takes_own}
 use Rattle.fm_local.proofs.Turning.{put_back}
 
 -- ---- what is next
@@ -22,7 +23,7 @@ IsMore (Ok (FlowAction.Drain i completion)) = ⊥
 IsMore (Err why) = ⊥
 IsMore _ = ⊤
 
-module _ (k : WorkerId) (r : FlowRecord) (p : Params) (has : r.params ≡ Some p) (plainly : ArePlain (length r.kept) (owed r.entries)) where
+module _ (k : WorkerId) (r : FlowRecord) (p : Params) (has : r.params ≡ Some p) (plainly : ArePlain k (length r.kept) (owed r.entries)) where
   more_down : (lies : Below) → IsMore (descend k lies r).reply
   more_down (Below.Instance i true) = subst (λ (m : Option Params). IsMore (call_pre k i r m).reply) (sym has) tt
   more_down (Below.Instance i false) = tt
@@ -30,10 +31,10 @@ module _ (k : WorkerId) (r : FlowRecord) (p : Params) (has : r.params ≡ Some p
   more_down (Below.Known why) = tt
 
   -- its one worker may make each postoperation, and the parameters are at hand
-  more_up : (asks : List Ask) → ArePlain (length r.kept) asks → IsMore (ascend k false r (slice_get asks 0)).reply
+  more_up : (asks : List Ask) → ArePlain k (length r.kept) asks → IsMore (ascend k false r (slice_get asks 0)).reply
   more_up [] fall = tt
   more_up (ask ∷ rest) fall =
-      let takes : may_take k ask ≡ true = ap (λ b. not b || (ask.worker.0 == k.0)) fall.1 in
+      let takes = takes_own k ask fall.1 in
       let back = put_back ask.place r p (slice_get r.kept ask.place) refl has in
       subst (λ (b : Bool). IsMore (cond b (call_post k ask r) (turn (Err Status.WrongStep) r)).reply) (sym takes)
       (subst (λ (m : Option Params). IsMore (give_post k ask (unwound ask.place r) m).reply) (sym back.params) tt)

@@ -27,10 +27,13 @@ pub mod AllReplied
 pub mod Resting
 pub mod Leaving
 pub mod Readied
+pub mod Numbered
 pub mod Cleaning
 pub mod Emptied
 pub mod NoneDue
 pub mod Drained
+pub mod Finished
+pub mod Undrained
 pub mod Refusing
 pub mod Unloaded
 pub mod Standing

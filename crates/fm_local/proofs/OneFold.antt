@@ -30,7 +30,7 @@ module _ {W : Type 0} (chain : Chain W) (fixed : IsFunctional chain) where
     leads_once back (PreState.Completed status) h k = record { answer = rises_once asked (bare_answer status) a b h.0 k.0; end = h.1 ∙ sym k.1 }
     leads_once back PreState.Running h k = absurd h
     leads_once back PreState.Held h k = absurd h
-    leads_once back (PreState.Synchronized completion) h k = absurd h
+    leads_once back (PreState.Synchronized completion) h k = once (current_of back) (asker i p completion ∷ asked) old a b x y h k
 
     visit_once : (called : Bool) → Visit chain Below i called p asked old a x → Visit chain Below i called p asked old b y → AreOne a b x y
     visit_once true h k =

@@ -10,7 +10,8 @@ use Rattle.fm_local.proofs.Carried.{carried}
 use Rattle.fm_local.proofs.Begun.{start, first, going}
 use Rattle.fm_local.proofs.Performed.{collectable}
 use Rattle.fm_local.proofs.CarriedOn.{Keeps}
-use Rattle.fm_local.proofs.Tidying.{tidies_none}
+use Rattle.fm_local.proofs.Tidying.{tidies_both, tidies_none}
+use Rattle.fm_local.specs.Requests.{DoesTidily}
 
 module _ {F D : Type 0} (pre : F → Data → PreVerdict → Data → Type 0) (post : F → Data → Completion → PostVerdict → Data → Type 0) (is_quiet : F → Type 0)
     (carries : D → BaseCall → Answer → D → Type 0) (filters : ℕ → Option F) (k : WorkerId) (plain : ArePlainFilters pre post is_quiet filters) (o : OpId) (begun : World)
@@ -34,32 +35,58 @@ module _ {F B : Type 0} (pre : F → Data → PreVerdict → Data → Type 0) (p
   abbrev Replies : OpId → LocalManager F B → Reply → LocalManager F B → Type 0
   Replies o old said new = (collected : Result Answer Status) × Collects old.desk.state o collected new.desk.state × (said ≡ reply_of collected)
 
-  -- an operation is carried to its end, its answer is taken, and what is due is cleaned up
-  module _ (o : OpId) (old now taken new : LocalManager F B) (ended : Turn) (said : Reply) (carried : CarriesIn pre post is_quiet folder faults k o old ended now)
-      (calm : ResumesNone pre post is_quiet folder faults k old now) (kept : Keeps pre post is_quiet folder faults k o old now) (replies : ended ≡ Turn.Done → Replies o now said taken)
-      (keeps : taken ≡ record now { desk = record now.desk { state = taken.desk.state }; trace = taken.trace })
-      (tidies : taken.desk.resumed.items.items ≡ [] → Tidies taken.desk.state new.desk.state)
-      (settles : taken.desk.resumed.items.items ≡ [] → (new.bases ≡ taken.bases) × (new.filters ≡ taken.filters) × (new.desk.resumed.items.items ≡ [])) where
+  -- an operation is carried to its end, and its answer is taken
+  module _ (o : OpId) (old now new : LocalManager F B) (ended : Turn) (said : Reply) (carried : CarriesIn pre post is_quiet folder faults k o old ended now)
+      (calm : ResumesNone pre post is_quiet folder faults k old now) (kept : Keeps pre post is_quiet folder faults k o old now) (replies : ended ≡ Turn.Done → Replies o now said new)
+      (keeps : new ≡ record now { desk = record now.desk { state = new.desk.state }; trace = new.trace }) where
     pub runs : ArePlainFilters pre post is_quiet (numbered old.filters) → IsBegun k o old.desk.state → old.desk.resumed.items.items ≡ [] → RunsIn pre post is_quiet folder faults k o old said new
     runs plain began settled =
         let c = carried plain began in
         let r = replies c.0 in
-        let none : taken.desk.resumed.items.items ≡ [] =
-        ap (λ (m : LocalManager F B). m.desk.resumed.items.items) keeps ∙ ap (λ q. q.items.items) (calm plain) ∙ settled in
-        let s = settles none in
-        let bases : now.bases.items ≡ new.bases.items = ap (λ bs. bs.items) (sym (s.0 ∙ ap (λ (m : LocalManager F B). m.bases) keeps)) in
+        let bases : now.bases.items ≡ new.bases.items = ap (λ bs. bs.items) (sym (ap (λ (m : LocalManager F B). m.bases) keeps)) in
         let there = answer_there pre post is_quiet (BasesCarry folder faults) (numbered old.filters) k plain o old.desk.state began c.1.0 old.bases.items now.desk.state now.bases.items c.1.1
-        r.0 taken.desk.state r.1 in
+        r.0 new.desk.state r.1 in
         record {
           answer = there.0;
           says = r.2 ∙ ap reply_of there.1;
           turns = c.1.0;
           done = now.desk.state;
-          mid = taken.desk.state;
+          mid = new.desk.state;
           carries = subst (λ (bs : List B). Carries pre post (BasesCarry folder faults) (numbered old.filters) k o c.1.0 old.desk.state old.bases.items now.desk.state bs) bases c.1.1;
-          collects = subst (λ (a : Result Answer Status). Collects now.desk.state o a taken.desk.state) there.1 r.1;
-          tidies = tidies none;
-          filters = s.1 ∙ ap (λ (m : LocalManager F B). m.filters) keeps ∙ ap (λ (m : LocalManager F B). m.filters) kept;
+          collects = subst (λ (a : Result Answer Status). Collects now.desk.state o a new.desk.state) there.1 r.1;
+          tidies = tidies_none new.desk.state;
+          filters = ap (λ (m : LocalManager F B). m.filters) keeps ∙ ap (λ (m : LocalManager F B). m.filters) kept;
+          settled = ap (λ (m : LocalManager F B). m.desk.resumed.items.items) keeps ∙ ap (λ q. q.items.items) (calm plain) ∙ settled;
+        }
+
+  -- behind that nothing waits, and what is due is cleaned up
+  module _ (old mid new : LocalManager F B) (said : Reply) (tidies : mid.desk.resumed.items.items ≡ [] → Tidies mid.desk.state new.desk.state)
+      (settles : mid.desk.resumed.items.items ≡ [] → (new.bases ≡ mid.bases) × (new.filters ≡ mid.filters) × (new.desk.resumed.items.items ≡ [])) where
+    pub runs_settled : (o : OpId) → RunsIn pre post is_quiet folder faults k o old said mid → RunsIn pre post is_quiet folder faults k o old said new
+    runs_settled o r =
+        let s = settles r.settled in
+        record {
+          answer = r.answer;
+          says = r.says;
+          turns = r.turns;
+          done = r.done;
+          mid = r.mid;
+          carries = subst (λ (bs : List B). Carries pre post (BasesCarry folder faults) (numbered old.filters) k o r.turns old.desk.state old.bases.items r.done bs) (sym (ap (λ bs. bs.items) s.0)) r.carries;
+          collects = r.collects;
+          tidies = tidies_both r.mid mid.desk.state new.desk.state r.tidies (tidies r.settled);
+          filters = s.1 ∙ r.filters;
+          settled = s.2;
+        }
+
+    pub performs_settled : (what : Request) → PerformsIn pre post is_quiet folder faults k what old said mid → PerformsIn pre post is_quiet folder faults k what old said new
+    performs_settled what p =
+        let s = settles p.settled in
+        record {
+          answer = p.answer;
+          says = p.says;
+          does = subst (λ (bs : List B). DoesTidily pre post (BasesCarry folder faults) (numbered old.filters) k what old.desk.state old.bases.items p.answer new.desk.state bs) (sym (ap (λ bs. bs.items) s.0))
+              (p.does.0, p.does.1, tidies_both p.does.0 mid.desk.state new.desk.state p.does.2 (tidies p.settled));
+          filters = s.1 ∙ p.filters;
           settled = s.2;
         }
 

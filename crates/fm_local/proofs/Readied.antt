@@ -7,7 +7,7 @@ use Rattle.fm_local.proofs.Words.{StartsQuietly, TearsDownFirst, TearsDownQuietl
 use Rattle.std.specs.Prelude.{replicate}
 use Rattle.fm_world.specs.World.{empty_world}
 use Rattle.fm_local.specs.Calls.{Asks, AsksToUnload, QueryEnds, is_of_row}
-use Rattle.fm_local.specs.Managers.{handed_in}
+use Rattle.fm_local.specs.Managers.{handed_in, place_of}
 use Rattle.fm_local.specs.Quietly.{AsksQuietly, EndsQuietly, LeavesReady, SetUpQuietly, WasTold, IsSettled, TearsDownIf}
 use Rattle.fm_local.specs.Actions.{OnlyState}
 use Rattle.fm_local.proofs.Leaving.{asked_leaves, declined_leaves, one_goes, starts_leaves, torn_leaves, was_told}
@@ -65,13 +65,19 @@ all_idle zero j a at = absurd (none-some a at)
 all_idle (suc n) zero a at = sym (same_Some Worker.Idle a at)
 all_idle (suc n) (suc j) a at = all_idle n j a at
 
-none_loaded : {F : Type 0} (fs : Filters F) → fs.loaded.items ≡ [] → (n : ℕ) (f : F) → numbered fs n ≡ Some f → ⊥
-none_loaded fs none n f there = none-some f (sym (ap (λ xs. option_and_then (handed_in fs) (slice_get xs n)) none) ∙ there)
+no_place : (m n : ℕ) → option_and_then (λ (place : Option ℕ). place) (slice_get (replicate m None) n) ≡ None
+no_place zero n = refl
+no_place (suc m) zero = refl
+no_place (suc m) (suc n) = no_place m n
+
+none_loaded : {F : Type 0} (fs : Filters F) → fs.loaded ≡ replicate 16 None → (n : ℕ) (f : F) → numbered fs n ≡ Some f → ⊥
+none_loaded fs none n f there =
+    none-some f (sym (ap (option_and_then (handed_in fs)) (ap (λ xs. option_and_then (λ (place : Option ℕ). place) (slice_get xs n)) none ∙ no_place 16 n)) ∙ there)
 
 -- which number stands for which filter may change, where all that were handed in are plain
 plain_numbered : {F : Type 0} (pre : F → Data → PreVerdict → Data → Type 0) (post : F → Data → Completion → PostVerdict → Data → Type 0) (is_quiet : F → Type 0) (old new : Filters F)
     → new.all ≡ old.all → ArePlainFilters pre post is_quiet (handed_in old) → ArePlainFilters pre post is_quiet (numbered new)
-plain_numbered {F} pre post is_quiet old new same plain n f there = by_place (slice_get new.loaded.items n) there
+plain_numbered {F} pre post is_quiet old new same plain n f there = by_place (place_of new n) there
   where
     by_place : (m : Option ℕ) → option_and_then (handed_in new) m ≡ Some f → IsPlainFilter pre post is_quiet f
     by_place None there = absurd (none-some f there)
@@ -92,7 +98,7 @@ module _ {F B : Type 0} {pre : F → Data → PreVerdict → Data → Type 0} {p
 
   -- ---- new, load and mount
 
-  pub new_ready : (m : LocalManager F B) → worker_at empty_world.workers k ≡ Some Worker.Idle → m.desk.state ≡ empty_world → m.filters.loaded.items ≡ [] → m.desk.resumed.items.items ≡ [] → IsReady pre post is_quiet folder faults k m
+  pub new_ready : (m : LocalManager F B) → worker_at empty_world.workers k ≡ Some Worker.Idle → m.desk.state ≡ empty_world → m.filters.loaded ≡ replicate 16 None → m.desk.resumed.items.items ≡ [] → IsReady pre post is_quiet folder faults k m
   new_ready m idle empty none settled = record {
     plain = λ n f there. absurd (none_loaded m.filters none n f there);
     rests = subst (IsAtRest k) (sym empty) (record { operations = refl; idle = idle; all = λ j a at. all_idle 48 j a at });

@@ -1,8 +1,9 @@
 -- A request that is refused is answered with its refusal, and nothing changes.
 use Rattle.fm_local.proofs.Words.{◌≡◌, Bool, Err, LocalManager, None, Ok, OpId, Some, Status, World, bare_answer, false, true, ◌∙◌, ap, not, subst}
+use Rattle.fm_local.proofs.Words.{Completion, ContextKind, Data, Folder, List, Option, PostVerdict, PreVerdict, WorkerId, ℕ}
 use Rattle.fm_local.proofs.Words.{sym, none-some, FileRequest, Reply, Request, begin_refused, Begins, HandleId, closed_handle, replied}
 use Rattle.fm_types.specs.Refusals.{IsRefusalOrMemory}
-use Rattle.fm_local.specs.Actions.{RefusesIn, RefusesOne, goes_on, is_over}
+use Rattle.fm_local.specs.Actions.{ClosesRefused, RefusesIn, RefusesOne, is_over}
 
 -- what is refused doesn't begin
 pub not_begun : (old : World) (what : Request) (o : OpId) (new : World) → Begins old what (Ok o) new → (why : Status) → begin_refused old what ≡ Some why → ⊥
@@ -28,14 +29,19 @@ module _ {F B : Type 0} (old : LocalManager F B) where
   refuses_in (Request.OnHandle x FileRequest.Close) no_close said new h why refused ends = cc
   refuses_in (Request.OnHandle x _) no_close said new h why refused ends = h why refused
 
-  -- a close: its cleanup's refusal is the answer, or it goes on
-  module _ (x : HandleId) (cleaned : Reply) (mid : LocalManager F B) (h : RefusesOne (Request.OnHandle x FileRequest.Cleanup) old cleaned mid) where
-    pub refuses_cleanup : RefusesIn (Request.OnHandle x FileRequest.Close) old cleaned mid
-    refuses_cleanup why refused ends = h why refused
-
-    pub refuses_close : goes_on cleaned ≡ true → (said : Reply) (new : LocalManager F B) → RefusesIn (Request.OnHandle x FileRequest.Close) old said new
-    refuses_close over said new why refused ends = absurd (not_over (is_over why) (sym (ap goes_on (h why refused).0) ∙ over) ends)
-      where
-        not_over : (b : Bool) → b ≡ true → not b ≡ true → ⊥
-        not_over true is not = cc
-        not_over false is not = cc
+-- a close: its cleanup's refusal is the answer, or it goes on
+module _ {F B : Type 0} (pre : F → Data → PreVerdict → Data → Type 0) (post : F → Data → Completion → PostVerdict → Data → Type 0) (drained : F → Completion → Type 0)
+    (folder : B → Option Folder) (faults : B → ℕ) (k : WorkerId) (cleanup : F → ContextKind → List ℕ → ℕ → Type 0) (most limit : ℕ) (old : LocalManager F B) (x : HandleId) where
+  pub refuses_close : (status : Status) (begun : World) → Begins old.desk.state (Request.OnHandle x FileRequest.Cleanup) (Err status) begun → (said : Reply) (new : LocalManager F B)
+      → ClosesRefused pre post drained folder faults k cleanup most limit (is_over status) status x (record old { desk = record old.desk { state = begun } }) said new
+      → RefusesIn (Request.OnHandle x FileRequest.Close) old said new
+  refuses_close status begun begins said new closes why refused ends =
+      let (is, same) = refused_as old.desk.state (Request.OnHandle x FileRequest.Cleanup) status begun begins why refused in
+      let back : record old { desk = record old.desk { state = begun } } ≡ old = ap (λ (w : World). record old { desk = record old.desk { state = w } }) same in
+      let (says, stays) = stops (is_over status) (ap is_over is) closes in
+      (says ∙ ap (λ s. replied (bare_answer s)) is, stays ∙ back)
+    where
+      stops : (b : Bool) → b ≡ is_over why → ClosesRefused pre post drained folder faults k cleanup most limit b status x (record old { desk = record old.desk { state = begun } }) said new
+          → (said ≡ replied (bare_answer status)) × (new ≡ record old { desk = record old.desk { state = begun } })
+      stops true over h = let n : not true ≡ true = subst (λ b. not b ≡ true) (sym over) ends in cc
+      stops false over h = h

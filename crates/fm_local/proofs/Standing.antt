@@ -15,15 +15,40 @@ use Rattle.fm_world.specs.ContextEvents.{SetsUnless, SetsOn, callback_of, object
 use Rattle.fm_world.specs.Events.{FindsHeld, FindsHeldAt, ResumesPost, ResumesPostAt, ResumesPre, ResumesPreAt}
 use Rattle.fm_world.specs.Owners.{place_in}
 use Rattle.fm_world.specs.declared.set_answer.SetAnswer.{SetAnswer}
-use Rattle.fm_filter.specs.Standing.{shape_of, standing_of}
+use Rattle.fm_filter.specs.Standing.{drain_of, shape_of, standing_of}
+use Rattle.std.specs.List.{cons_option, filter_map}
+use Rattle.fm_flow.specs.Entries.{settle_pre, settle_post}
+use Rattle.fm_flow.specs.declared.entry.Entry.TheVariants.{Pre, Post}
+use Rattle.fm_local.proofs.Words.{Entry, ap₂}
 
 -- what a change of one operation leaves of what all are on
-map_changed : {A B : Type 0} (f : A → B) (p : A → Bool) (to : A → A) (xs : List A) → ((x : A) → f (to x) ≡ f x) → map f (change_first p to xs) ≡ map f xs
+pub map_changed : {A B : Type 0} (f : A → B) (p : A → Bool) (to : A → A) (xs : List A) → ((x : A) → f (to x) ≡ f x) → map f (change_first p to xs) ≡ map f xs
 map_changed f p to [] same = refl
 map_changed {B = B} f p to (x ∷ xs) same = elim (cases_Bool (p x)) [
   | inl e ↦ rw e (ap (λ (y : B). y ∷ map f xs) (same x))
   | inr e ↦ rw e (ap (λ (ys : List B). f x ∷ ys) (map_changed f p to xs same))
 ]
+
+-- what is settled drains what it drained
+pub drained_same : (f : Entry → Entry) → ((e : Entry) → drain_of (f e) ≡ drain_of e) → (es : List Entry) → filter_map drain_of (map f es) ≡ filter_map drain_of es
+drained_same f same [] = refl
+drained_same f same (e ∷ es) = ap₂ (λ m js. cons_option m js) (same e) (drained_same f same es)
+
+pre_shaped : (state : PreState) (r : FlowRecord) → shape_of (pre_settled state r) ≡ shape_of r
+pre_shaped state r =
+    ap (λ js. record { number = r.number; operation = r.operation; path = r.path; drained = js }) (drained_same (settle_pre state) same r.entries)
+  where
+    same : (e : Entry) → drain_of (settle_pre state e) ≡ drain_of e
+    same (Pre visit) = refl
+    same _ = refl
+
+post_shaped : (r : FlowRecord) → shape_of (post_settled Finished r) ≡ shape_of r
+post_shaped r =
+    ap (λ js. record { number = r.number; operation = r.operation; path = r.path; drained = js }) (drained_same (settle_post Finished) same r.entries)
+  where
+    same : (e : Entry) → drain_of (settle_post Finished e) ≡ drain_of e
+    same (Post visit) = refl
+    same _ = refl
 
 abbrev pub Stands : World → World → Type 0
 Stands old new = standing_of new ≡ standing_of old
@@ -101,7 +126,7 @@ module _ (old : World) (k : WorkerId) (new : World) where
   resume_pre_stands o given result h = by_place (place_in (worker_at old.workers k)) result h
     where
       settles : (state : PreState) → map shape_of (change_first (is_number o) (pre_settled state) old.flow.operations) ≡ map shape_of old.flow.operations
-      settles state = map_changed shape_of (is_number o) (pre_settled state) old.flow.operations (λ (r : FlowRecord). refl)
+      settles state = map_changed shape_of (is_number o) (pre_settled state) old.flow.operations (pre_shaped state)
 
       by_place : (m : Option InstanceId) (result : Result (Unit {0}) Status) → ResumesPreAt old k o given result new m → Stands old new
       by_place None result h = ap standing_of h.1
@@ -119,4 +144,4 @@ module _ (old : World) (k : WorkerId) (new : World) where
       by_place (Some i) (Ok done) h =
           ap standing_of h.1
           ∙ ap (λ shapes. record { stack = old.stack; workers = old.workers; operations = shapes })
-          (map_changed shape_of (is_number o) (post_settled Finished) old.flow.operations (λ (r : FlowRecord). refl))
+          (map_changed shape_of (is_number o) (post_settled Finished) old.flow.operations post_shaped)

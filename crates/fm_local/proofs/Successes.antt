@@ -23,7 +23,7 @@ pub record Carried (path : Option (List ℕ)) (p : Params) (old new : Folder) (a
 module _ (p : Params) (old new : Folder) (answer : Answer) (ok : answer.status ≡ Success) where
   within : (file : List ℕ) (fits : Bool) → CarriesWithin fits file p old new answer → Carried (Some file) p old new answer
   within file true h =
-      let done = h.0 (λ e. let s : NoMemory ≡ Success = no_success answer NoMemory e ok in cc) in
+      let done = h.says (λ e. let s : NoMemory ≡ Success = no_success answer NoMemory e ok in cc) (λ e. let s : DeviceFault ≡ Success = no_success answer DeviceFault e ok in cc) in
       record { file = file; named = refl; said = done.0; made = done.1 }
   within file false h = let s : BadRequest ≡ Success = no_success answer BadRequest h.0 ok in cc
 
@@ -45,7 +45,7 @@ pub record KnownCall {B : Type 0} (folder : B → Option Folder) (old new : List
 module _ {B : Type 0} (folder : B → Option Folder) (faults : B → ℕ) (old new : List B) (call : BaseCall) (answer : Answer) (ok : answer.status ≡ Success)
     (files : is_listing call.params ≡ false) where
   by_folders : (a b : B) → slice_get old call.volume.0 ≡ Some a → slice_get new call.volume.0 ≡ Some b → (f g : Option Folder) → folder a ≡ f → folder b ≡ g
-      → KnownAs f g (λ was is. CarriesAny call.path call.params was is answer) answer → IsSome f → KnownCall folder old new call answer
+      → KnownAs f g (λ was is. CarriesAny call.path call.params was is answer) → IsSome f → KnownCall folder old new call answer
   by_folders a b at_a at_b None g is_f is_g known some = absurd (false≢true some)
   by_folders a b at_a at_b (Some f) None is_f is_g known some = absurd known
   by_folders a b at_a at_b (Some f) (Some g) is_f is_g known some = record {
@@ -53,7 +53,7 @@ module _ {B : Type 0} (folder : B → Option Folder) (faults : B → ℕ) (old n
     is = g;
     before = ap (option_and_then folder) at_a ∙ is_f;
     after = ap (option_and_then folder) at_b ∙ is_g;
-    done = carried call.params f g answer ok call.path files (known (λ e. let s : DeviceFault ≡ Success = no_success answer DeviceFault e ok in cc));
+    done = carried call.params f g answer ok call.path files known;
   }
 
   by_base : (m : Option B) → slice_get old call.volume.0 ≡ m → BasesCarry folder faults old call answer new → IsSome (option_and_then folder m) → KnownCall folder old new call answer

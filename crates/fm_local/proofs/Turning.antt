@@ -20,8 +20,8 @@ use Rattle.fm_local.specs.Left.{askers, LeftAt, LeftIn, LeftOf}
 use Rattle.fm_local.proofs.Askers.{closed_stay, askers_above, none_at_end, asker_now, entry_of, last_is, owed_asks, owed_goes}
 
 -- a turn leaves no more than what was left before: any answer and end of what is left after it are those of what was left
-pub record Leaves {W : Type 0} (chain : Chain W) (Meets : Option ℕ → List ℕ → Type 0) (r s : FlowRecord) (old new : W) : Type 0 where
-  pub plain : ArePlain (length s.kept) (owed s.entries)
+pub record Leaves {W : Type 0} (k : WorkerId) (chain : Chain W) (Meets : Option ℕ → List ℕ → Type 0) (r s : FlowRecord) (old new : W) : Type 0 where
+  pub plain : ArePlain k (length s.kept) (owed s.entries)
   pub left : (answer : Answer) (end : W) → LeftOf chain Meets s new answer end → LeftOf chain Meets r old answer end
 
 -- what a filter that completes makes of what lies below
@@ -29,16 +29,17 @@ abbrev pub after_verdict : {W : Type 0} → Chain W → PreState → W → W
 after_verdict chain (PreState.Completed status) old = chain.completes status old
 after_verdict chain _ old = old
 
--- a verdict that holds nothing and binds no worker
+-- a verdict that holds nothing
 abbrev pub IsPlainState : PreState → Type 0
 IsPlainState (PreState.Asked completion) = ⊤
+IsPlainState (PreState.Synchronized completion) = ⊤
 IsPlainState PreState.Passed = ⊤
 IsPlainState (PreState.Completed status) = ⊤
 IsPlainState _ = ⊥
 
-plain_above : (asks : List Ask) (kept more : List Params) → ArePlain (length kept) asks → ArePlain (length (kept ++ more)) asks
-plain_above [] kept more fall = tt
-plain_above (ask ∷ asks) kept more fall = (omega (arith, fall.0, length-append kept more), fall.1, fall.2)
+plain_above : (k : WorkerId) (asks : List Ask) (kept more : List Params) → ArePlain k (length kept) asks → ArePlain k (length (kept ++ more)) asks
+plain_above k [] kept more fall = tt
+plain_above k (ask ∷ asks) kept more fall = (omega (arith, fall.0, length-append kept more), fall.1, fall.2)
 
 module _ {W : Type 0} (chain : Chain W) (Meets : Option ℕ → List ℕ → Type 0) (r : FlowRecord) (p : Params) (has : r.params ≡ Some p) (old : W) where
   left_of : (t : Stage) (answer : Answer) (end : W) → r.stage ≡ t → LeftAt chain Meets t r p old answer end → LeftOf chain Meets r old answer end
@@ -47,7 +48,7 @@ module _ {W : Type 0} (chain : Chain W) (Meets : Option ℕ → List ℕ → Typ
 
   -- ---- a visit
   module _ (worker : WorkerId) (i : InstanceId) (st : r.stage ≡ Descending) (c : IsCourse Descending r.entries) (fresh : times i.0 (visited r.entries) ≡ 0)
-      (plain : ArePlain (length r.kept) (owed r.entries)) (meets : (below : List ℕ) → Meets (Some i.0) below → Meets (last_visited r.entries) (i.0 ∷ below)) where
+      (plain : ArePlain worker (length r.kept) (owed r.entries)) (meets : (below : List ℕ) → Meets (Some i.0) below → Meets (last_visited r.entries) (i.0 ∷ below)) where
     abbrev asked : List Asker
     asked = askers (owed r.entries) r.kept p
 
@@ -86,36 +87,50 @@ module _ {W : Type 0} (chain : Chain W) (Meets : Option ℕ → List ℕ → Typ
 
       asked_goes : owed visited_once.entries ≡ owed r.entries → askers (owed visited_once.entries) visited_once.kept (current_of back) ≡ asked
       asked_goes goes =
-          ap (λ asks. askers asks visited_once.kept (current_of back)) goes ∙ askers_above (owed r.entries) r.kept back.received back.changed plain ∙ asked_same (owed r.entries)
+          ap (λ asks. askers asks visited_once.kept (current_of back)) goes ∙ askers_above worker (owed r.entries) r.kept back.received back.changed plain ∙ asked_same (owed r.entries)
 
-      -- it asks for its postoperation
-      pub left_asked : (completion : Completion) → state ≡ PreState.Asked completion → Leaves chain Meets r visited_once old old
-      left_asked completion is =
-          let ask : Ask = record { instance = i; worker = worker; completion = completion; is_synchronized = false; place = length r.kept } in
+      -- it asks for its postoperation, of any worker or of its own
+      left_asking : (completion : Completion) (bound : Bool)
+          → ask_in (record { instance = i; worker = worker; state = state; place = length r.kept }) state
+          ≡ Some (record { instance = i; worker = worker; completion = completion; is_synchronized = bound; place = length r.kept })
+          → pre_leads state ≡ Descending
+          → ((below : List ℕ) (answer : Answer) (end : W) → Descends chain below (current_of back) (asker i.0 p completion ∷ asked) old answer end
+          → Leads chain (Descends chain below) i.0 p back asked state old answer end)
+          → Leaves worker chain Meets r visited_once old old
+      left_asking completion bound asks_in leads led =
+          let ask : Ask = record { instance = i; worker = worker; completion = completion; is_synchronized = bound; place = length r.kept } in
           let owes : owed visited_once.entries ≡ ask ∷ owed r.entries =
-          ap owed entries_are
-          ∙ owed_asks r.entries worker i (length r.kept) state ask (ap (ask_in (record { instance = i; worker = worker; state = state; place = length r.kept })) is) refl c fresh in
+          ap owed entries_are ∙ owed_asks r.entries worker i (length r.kept) state ask asks_in refl c fresh in
           let asks : askers (owed visited_once.entries) visited_once.kept (current_of back) ≡ asker i.0 p completion ∷ asked =
           ap (λ asks. askers asks visited_once.kept (current_of back)) owes
           ∙ asker_now i.0 completion ask (owed r.entries) r.kept back.received back.changed refl refl refl
           ∙ ap (λ q. asker i.0 q completion ∷ askers (owed r.entries) r.kept q) same in
           record {
-            plain = subst (ArePlain (length visited_once.kept)) (sym owes) (omega (arith, length-append r.kept (kept_of back.received back.changed)), refl, plain);
+            plain = subst (ArePlain worker (length visited_once.kept)) (sym owes) (omega (arith, length-append r.kept (kept_of back.received back.changed)), refl, plain);
             left = λ answer end h.
                 let t : LeftAt chain Meets Descending visited_once (current_of back) old answer end =
-                subst (λ (u : Stage). LeftAt chain Meets u visited_once (current_of back) old answer end) (ap pre_leads is) h in
+                subst (λ (u : Stage). LeftAt chain Meets u visited_once (current_of back) old answer end) leads h in
                 met t.0 answer end (subst (λ (m : Option ℕ). Meets m t.0) last_here t.1)
-                (subst (λ (s : PreState). Leads chain (Descends chain t.0) i.0 p back asked s old answer end) (sym is)
-                (subst (λ (xs : List Asker). Descends chain t.0 (current_of back) xs old answer end) asks t.2));
+                (led t.0 answer end (subst (λ (xs : List Asker). Descends chain t.0 (current_of back) xs old answer end) asks t.2));
           }
 
+      pub left_asked : (completion : Completion) → state ≡ PreState.Asked completion → Leaves worker chain Meets r visited_once old old
+      left_asked completion is =
+          left_asking completion false (ap (ask_in (record { instance = i; worker = worker; state = state; place = length r.kept })) is) (ap pre_leads is)
+          (λ below answer end h. subst (λ (s : PreState). Leads chain (Descends chain below) i.0 p back asked s old answer end) (sym is) h)
+
+      pub left_synchronized : (completion : Completion) → state ≡ PreState.Synchronized completion → Leaves worker chain Meets r visited_once old old
+      left_synchronized completion is =
+          left_asking completion true (ap (ask_in (record { instance = i; worker = worker; state = state; place = length r.kept })) is) (ap pre_leads is)
+          (λ below answer end h. subst (λ (s : PreState). Leads chain (Descends chain below) i.0 p back asked s old answer end) (sym is) h)
+
       -- it lets the operation pass
-      pub left_passed : state ≡ PreState.Passed → Leaves chain Meets r visited_once old old
+      pub left_passed : state ≡ PreState.Passed → Leaves worker chain Meets r visited_once old old
       left_passed is =
           let goes : owed visited_once.entries ≡ owed r.entries =
           ap owed entries_are ∙ owed_goes r.entries worker i (length r.kept) state (ap (ask_in (record { instance = i; worker = worker; state = state; place = length r.kept })) is) in
           record {
-            plain = subst (ArePlain (length visited_once.kept)) (sym goes) (plain_above (owed r.entries) r.kept (kept_of back.received back.changed) plain);
+            plain = subst (ArePlain worker (length visited_once.kept)) (sym goes) (plain_above worker (owed r.entries) r.kept (kept_of back.received back.changed) plain);
             left = λ answer end h.
                 let t : LeftAt chain Meets Descending visited_once (current_of back) old answer end =
                 subst (λ (u : Stage). LeftAt chain Meets u visited_once (current_of back) old answer end) (ap pre_leads is) h in
@@ -126,13 +141,13 @@ module _ {W : Type 0} (chain : Chain W) (Meets : Option ℕ → List ℕ → Typ
 
       -- it completes the operation, which meets nobody below
       pub left_completed : (status : Status) → state ≡ PreState.Completed status → (below : List ℕ) → Meets (Some i.0) below
-          → Leaves chain Meets r visited_once old (chain.completes status old)
+          → Leaves worker chain Meets r visited_once old (chain.completes status old)
       left_completed status is below at =
           let goes : owed visited_once.entries ≡ owed r.entries =
           ap owed entries_are ∙ owed_goes r.entries worker i (length r.kept) state (ap (ask_in (record { instance = i; worker = worker; state = state; place = length r.kept })) is) in
           let said : visited_once.answer ≡ bare_answer status = ap (λ s. answer_after s r.answer) is in
           record {
-            plain = subst (ArePlain (length visited_once.kept)) (sym goes) (plain_above (owed r.entries) r.kept (kept_of back.received back.changed) plain);
+            plain = subst (ArePlain worker (length visited_once.kept)) (sym goes) (plain_above worker (owed r.entries) r.kept (kept_of back.received back.changed) plain);
             left = λ answer end h.
                 let t : LeftAt chain Meets Ascending visited_once (current_of back) (chain.completes status old) answer end =
                 subst (λ (u : Stage). LeftAt chain Meets u visited_once (current_of back) (chain.completes status old) answer end) (ap pre_leads is) h in
@@ -144,7 +159,7 @@ module _ {W : Type 0} (chain : Chain W) (Meets : Option ℕ → List ℕ → Typ
           }
 
     -- an instance is passed without a call
-    pub left_bare : chain.has_pre i.0 ≡ false → Leaves chain Meets r (with_visit worker i bare_ask r) old old
+    pub left_bare : chain.has_pre i.0 ≡ false → Leaves worker chain Meets r (with_visit worker i bare_ask r) old old
     left_bare uncalled =
         let s = with_visit worker i bare_ask r in
         let owes : owed s.entries ≡ bare_ask_of worker i (length r.kept) ∷ owed r.entries =
@@ -153,7 +168,7 @@ module _ {W : Type 0} (chain : Chain W) (Meets : Option ℕ → List ℕ → Typ
         ap (λ asks. askers asks r.kept p) owes
         ∙ ap₂ (λ q ps. asker i.0 q bare_completion ∷ askers (owed r.entries) ps q) (none_at_end r.kept p).0 (none_at_end r.kept p).1 in
         record {
-          plain = subst (ArePlain (length r.kept)) (sym owes) (omega arith, refl, plain);
+          plain = subst (ArePlain worker (length r.kept)) (sym owes) (omega arith, refl, plain);
           left = λ answer end h.
               let t : LeftAt chain Meets Descending s p old answer end = subst (λ (m : Option Params). LeftIn chain Meets s m old answer end) has h in
               left_of Descending answer end st (
@@ -165,12 +180,12 @@ module _ {W : Type 0} (chain : Chain W) (Meets : Option ℕ → List ℕ → Typ
         }
 
   -- ---- the base
-  module _ (st : r.stage ≡ Descending) (plain : ArePlain (length r.kept) (owed r.entries)) (last : Meets (last_visited r.entries) []) (new : W) where
+  module _ (worker : WorkerId) (st : r.stage ≡ Descending) (plain : ArePlain worker (length r.kept) (owed r.entries)) (last : Meets (last_visited r.entries) []) (new : W) where
     -- it answers
     at_base : (s : FlowRecord) (given : Answer) → chain.base_may p old given new → owed s.entries ≡ owed r.entries → s.kept ≡ r.kept → s.params ≡ Some p → s.stage ≡ Ascending → s.answer ≡ given
-        → Leaves chain Meets r s old new
+        → Leaves worker chain Meets r s old new
     at_base s given may owes kept params stage said = record {
-      plain = subst (λ (ps : List Params). ArePlain (length ps) (owed s.entries)) (sym kept) (subst (ArePlain (length r.kept)) (sym owes) plain);
+      plain = subst (λ (ps : List Params). ArePlain worker (length ps) (owed s.entries)) (sym kept) (subst (ArePlain worker (length r.kept)) (sym owes) plain);
       left = λ answer end h.
           let t : LeftAt chain Meets Ascending s p new answer end =
           subst (λ (u : Stage). LeftAt chain Meets u s p new answer end) stage (subst (λ (m : Option Params). LeftIn chain Meets s m new answer end) params h) in
@@ -186,13 +201,13 @@ module _ {W : Type 0} (chain : Chain W) (Meets : Option ℕ → List ℕ → Typ
     }
 
     pub left_base : (answer : Answer) (handle : HandleId) → chain.base_may p old (base_counted p answer handle) new
-        → Leaves chain Meets r (base_returned_of (call_of r p) answer handle (call_base r (Some p)).after) old new
+        → Leaves worker chain Meets r (base_returned_of (call_of r p) answer handle (call_base r (Some p)).after) old new
     left_base answer handle may =
         let counts = base_counted p answer handle in
         at_base (base_returned_of (call_of r p) answer handle (call_base r (Some p)).after) counts may
         (owed_push_none r.entries (Base counts.status counts.information) refl (λ j. refl)) refl refl refl refl
 
-    pub left_known : (status : Status) → chain.base_may p old (bare_answer status) new → Leaves chain Meets r (with_base (bare_answer status) r) old new
+    pub left_known : (status : Status) → chain.base_may p old (bare_answer status) new → Leaves worker chain Meets r (with_base (bare_answer status) r) old new
     left_known status may =
         at_base (with_base (bare_answer status) r) (bare_answer status) may (owed_push_none r.entries (Base status 0) refl (λ j. refl)) refl has refl refl
 
@@ -235,14 +250,14 @@ returned_same operation answer back =
     ≡ cond b answer (record { status = back.status; information = back.information; bytes = back.out })) [ true ↦ refl | false ↦ refl ]
 
 module _ {W : Type 0} (chain : Chain W) (Meets : Option ℕ → List ℕ → Type 0) (r : FlowRecord) (p : Params) (has : r.params ≡ Some p) (old : W) (worker : WorkerId) (ask : Ask)
-    (rest : List Ask) (next : owed r.entries ≡ ask ∷ rest) (st : r.stage ≡ Ascending) (c : IsCourse Ascending r.entries) (plain : ArePlain (length r.kept) (owed r.entries))
+    (rest : List Ask) (next : owed r.entries ≡ ask ∷ rest) (st : r.stage ≡ Ascending) (c : IsCourse Ascending r.entries) (plain : ArePlain worker (length r.kept) (owed r.entries))
     (kind : chain.operation ≡ r.operation) (back : Data) (same : back.received ≡ sees r.kept ask.place p)
     (may : chain.post_may ask.instance.0 (answered_data (sees r.kept ask.place p) (lent_answer chain.operation r.answer)) ask.completion Finished back) where
   abbrev pub posted_once : FlowRecord
   posted_once = post_returned_of Finished back (call_post worker ask r).after
 
   -- with the parameters at hand
-  given_post : (u : FlowRecord) (m : Option Params) → PutBack ask.place r u p → m ≡ Some (sees r.kept ask.place p) → Leaves chain Meets r (post_returned_of Finished back (give_post worker ask u m).after) old old
+  given_post : (u : FlowRecord) (m : Option Params) → PutBack ask.place r u p → m ≡ Some (sees r.kept ask.place p) → Leaves worker chain Meets r (post_returned_of Finished back (give_post worker ask u m).after) old old
   given_post u None back' is = cc
   given_post u (Some q) back' is =
       let s = post_returned_of Finished back (give_post worker ask u (Some q)).after in
@@ -252,14 +267,14 @@ module _ {W : Type 0} (chain : Chain W) (Meets : Option ℕ → List ℕ → Typ
       ∙ ap (λ es. map (settle_post PostState.Finished) es ++ entry ∷ []) back'.entries
       ∙ ap (λ es. es ++ entry ∷ []) (closed_stay (settle_post PostState.Finished) (settling_post PostState.Finished) Descending r.entries Ascending c.order refl refl) in
       let owes : owed s.entries ≡ rest = ap owed entries ∙ owed_answered Ascending r.entries entry ask rest c next refl (λ j. refl) in
-      let fall : ArePlain (length r.kept) (ask ∷ rest) = subst (ArePlain (length r.kept)) next plain in
+      let fall : ArePlain worker (length r.kept) (ask ∷ rest) = subst (ArePlain worker (length r.kept)) next plain in
       let long : length u.kept ≡ ask.place = ap length back'.kept ∙ omega (arith, length-take ask.place r.kept, fall.0) in
       let said : s.answer ≡ returned_answer chain.operation r.answer back =
       ap₂ (λ o a. returned_answer o (left_answer o a) back) (back'.operation ∙ sym kind) back'.answer ∙ returned_same chain.operation r.answer back in
       let asks : askers (owed s.entries) s.kept back.received ≡ askers rest (take ask.place r.kept) (sees r.kept ask.place p) =
       ap (λ xs. askers xs s.kept back.received) owes ∙ ap₂ (λ ps q. askers rest ps q) back'.kept same in
       record {
-        plain = subst (λ (n : ℕ). ArePlain n (owed s.entries)) (sym long) (subst (ArePlain ask.place) (sym owes) fall.2);
+        plain = subst (λ (n : ℕ). ArePlain worker n (owed s.entries)) (sym long) (subst (ArePlain worker ask.place) (sym owes) fall.2);
         left = λ answer end h.
             let up : Rises chain (askers rest (take ask.place r.kept) (sees r.kept ask.place p)) (returned_answer chain.operation r.answer back) answer =
             subst (λ (a : Answer). Rises chain (askers rest (take ask.place r.kept) (sees r.kept ask.place p)) a answer) said
@@ -268,7 +283,7 @@ module _ {W : Type 0} (chain : Chain W) (Meets : Option ℕ → List ℕ → Typ
             (subst (λ (xs : List Ask). Rises chain (askers xs r.kept p) r.answer answer) (sym next) (back, may, up), h.1);
       }
 
-  pub left_post : Leaves chain Meets r posted_once old old
+  pub left_post : Leaves worker chain Meets r posted_once old old
   left_post =
       let u = put_back ask.place r p (slice_get r.kept ask.place) refl has in
       given_post (unwound ask.place r) (unwound ask.place r).params u u.params

@@ -73,4 +73,3 @@ pub use Rattle.fm_local.specs.declared.filters.Filters.{Filters}
 pub use Rattle.fm_local.specs.declared.manager.TheConstants.{WORKER}
 pub use Rattle.fm_local.specs.declared.requests.TheConstants.{RESUMPTIONS, TURNS}
 pub use Rattle.fm_local.specs.declared.requests.Turn.{Turn}
-pub use Rattle.fm_local.specs.declared.teardowns.TheConstants.{DRAINED}

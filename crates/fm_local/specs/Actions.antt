@@ -1,6 +1,6 @@
 -- What a manager does of what its state says is next: how a turn of an operation ends, and where turn after turn leads.
 use Rattle.std.specs.Prelude.{[], ◌∷◌, ◌≡◌, ◌≤◌, ◌⊎◌, Bool, Err, IsErr, List, None, Ok, Option, Result, Some, false, length, slice_get, suc, true}
-use Rattle.std.specs.Prelude.{zero, ℕ, ◌<◌, ◌++◌, not, map}
+use Rattle.std.specs.Prelude.{zero, ℕ, ◌<◌, ◌++◌, All, not, map}
 use Rattle.fm_local.specs.Words.{BaseCall, Data, Completion, PostVerdict, Finished, PreVerdict, Folder, bare_answer, Finishes, Attaches, AsksDetach}
 use Rattle.fm_local.specs.Words.{CompletesTeardown, EmptiesFilter, FinishesFilter, StartsTeardown, Answer, FilterId, FlowAction, InstanceId, OpId}
 use Rattle.fm_local.specs.Words.{Status, VolumeId, WorkerId, World, LocalManager}
@@ -108,12 +108,21 @@ abbrev pub reply_of : Result Answer Status → Reply
 reply_of (Ok answer) = replied answer
 reply_of (Err why) = replied (bare_answer why)
 
--- the first of the operations that ended is given, with its answer, which is handed out; where none waits, nothing changes
+-- an operation has no answer to be handed out
+abbrev pub HasNoAnswer : World → OpId → Type 0
+HasNoAnswer w o = (why : Status) × Collects w o (Err why) w
+
+-- of the operations that wait, the first that has an answer is given with it; those before it have none. Where none has one, nothing changes but that they are gone
+abbrev pub TakesDone : {F B : Type 0} → LocalManager F B → Option (OpId × Answer) → LocalManager F B → Type 0
+TakesDone old None new = All (HasNoAnswer old.desk.state) old.finished.items.items × (new.finished.items.items ≡ []) × (new.desk ≡ old.desk)
+TakesDone old (Some (o, answer)) new =
+    (passed : List OpId) × (old.finished.items.items ≡ passed ++ o ∷ new.finished.items.items) × All (HasNoAnswer old.desk.state) passed
+    × Collects old.desk.state o (Ok answer) new.desk.state
+
+-- so it is handed out, as a reply: never a refusal
 abbrev pub GivesFinished : {F B : Type 0} → LocalManager F B → Option (OpId × Reply) → LocalManager F B → Type 0
-GivesFinished old None new = (old.finished.items.items ≡ []) × (new.finished.items.items ≡ []) × (new.desk ≡ old.desk)
-GivesFinished old (Some (o, said)) new =
-    (old.finished.items.items ≡ o ∷ new.finished.items.items)
-    × ((collected : Result Answer Status) × Collects old.desk.state o collected new.desk.state × (said ≡ reply_of collected))
+GivesFinished old None new = TakesDone old None new
+GivesFinished old (Some (o, said)) new = (answer : Answer) × TakesDone old (Some (o, answer)) new × (said ≡ replied answer)
 
 -- the handle that a request closes
 abbrev pub closed_handle : Request → Option HandleId
@@ -209,20 +218,36 @@ module _ {F B : Type 0} (pre : F → Data → PreVerdict → Data → Type 0) (p
       (carried : LocalManager F B) × CarriesOnAll most limit old carried × CleansAll cleanup (numbered carried.filters) k carried.desk.state new.desk.state
       × OnlyState carried new
 
+  module _ (most : ℕ) where
+    -- an operation that began goes on, and is answered
+    abbrev pub RunsAlone : OpId → LocalManager F B → Reply → LocalManager F B → Type 0
+    RunsAlone o old said new =
+        (ended : Turn) × (carried : LocalManager F B)
+        × GoesOn pre post drained (BasesCarry folder faults) (numbered old.filters) k o most ended old.desk.state old.bases.items carried.desk.state carried.bases.items
+        × (carried ≡ record old { desk = carried.desk; bases = carried.bases; trace = carried.trace; hand = carried.hand; leaks = carried.leaks })
+        × RepliesWith ended o carried said new
+
+    -- a request begins an operation, which is so answered, unless that is refused
+    abbrev pub PerformsAlone : Request → LocalManager F B → Reply → LocalManager F B → Type 0
+    PerformsAlone what old said new =
+        ((why : Status) × Begins old.desk.state what (Err why) new.desk.state × (said ≡ replied (bare_answer why)))
+        ⊎ ((o : OpId) × (begun : World) × Begins old.desk.state what (Ok o) begun × RunsAlone o (record old { desk = record old.desk { state = begun } }) said new)
+
+    -- a close comes after its cleanup, unless that ends it
+    abbrev pub ClosesThen : Bool → HandleId → LocalManager F B → Reply → Reply → LocalManager F B → Type 0
+    ClosesThen true h mid cleaned said new = PerformsAlone (Request.OnHandle h FileRequest.Close) mid said new
+    ClosesThen false h mid cleaned said new = (said ≡ cleaned) × (new ≡ mid)
+
   module _ (cleanup : F → ContextKind → List ℕ → ℕ → Type 0) (most limit : ℕ) where
     -- an operation that began goes on, and is answered; then what was resumed is carried on, and what is due cleaned up
     abbrev pub RunsOn : OpId → LocalManager F B → Reply → LocalManager F B → Type 0
-    RunsOn o old said new =
-        (ended : Turn) × (carried answered : LocalManager F B)
-        × GoesOn pre post drained (BasesCarry folder faults) (numbered old.filters) k o most ended old.desk.state old.bases.items carried.desk.state carried.bases.items
-        × (carried ≡ record old { desk = carried.desk; bases = carried.bases; trace = carried.trace; hand = carried.hand; leaks = carried.leaks })
-        × RepliesWith ended o carried said answered × Settles cleanup most limit answered new
+    RunsOn o old said new = (answered : LocalManager F B) × RunsAlone most o old said answered × Settles cleanup most limit answered new
 
     -- the start of a teardown is refused; or it starts and drains, and behind that what was resumed is carried on
-    abbrev pub StartsThenSettles : (F → Type 0) → ℕ → InstanceId → LocalManager F B → LocalManager F B → Type 0
-    StartsThenSettles begins drains i old new =
+    abbrev pub StartsThenSettles : (F → Type 0) → InstanceId → LocalManager F B → LocalManager F B → Type 0
+    StartsThenSettles begins i old new =
         ((why : Status) × StartsTeardown old.desk.state k i (Err why) new.desk.state × (new ≡ old))
-        ⊎ ((told : LocalManager F B) × StartsAndDrains drained (numbered old.filters) k i begins drains true old.desk.state told.desk.state × CallsBack old told
+        ⊎ ((told : LocalManager F B) × StartsAndDrains drained (numbered old.filters) k i begins true old.desk.state told.desk.state × CallsBack old told
         × Settles cleanup most limit told new)
 
     -- an instance is set up; then what was resumed is carried on, and one that was refused ends
@@ -259,7 +284,7 @@ module _ {F B : Type 0} (pre : F → Data → PreVerdict → Data → Type 0) (p
         ⊎ ((i : InstanceId) × (born : World) × Attaches old.desk.state k f v name altitude (Ok i) born
         × SetsUpThenSettles (may born i) i (record old { desk = record old.desk { state = born } }) (Err why) new)
 
-    module _ (begins : F → Type 0) (drains : ℕ) (completed : F → Type 0) where
+    module _ (begins : F → Type 0) (completed : F → Type 0) where
       -- the end of a teardown: once the filter was told, what is due is cleaned up, and the instance ends
       abbrev pub EndsTeardown : InstanceId → LocalManager F B → Result (Unit {0}) Status → LocalManager F B → Type 0
       EndsTeardown i old result new =
@@ -270,7 +295,7 @@ module _ {F B : Type 0} (pre : F → Data → PreVerdict → Data → Type 0) (p
 
       -- a teardown, from where it is to its end, or to the first event that is refused
       abbrev pub TearsDownFully : InstanceId → LocalManager F B → Result (Unit {0}) Status → LocalManager F B → Type 0
-      TearsDownFully i old result new = (begun : LocalManager F B) × StartsThenSettles begins drains i old begun × EndsTeardown i begun result new
+      TearsDownFully i old result new = (begun : LocalManager F B) × StartsThenSettles begins i old begun × EndsTeardown i begun result new
 
       -- a detach asks where no teardown is under way; the teardown of one that is agreed to goes on to its end
       abbrev pub DetachesThenSettles : Bool → (World → InstanceId → Bool → Type 0) → InstanceId → LocalManager F B → Result (Unit {0}) Status → LocalManager F B → Type 0
@@ -316,14 +341,25 @@ module _ {F B : Type 0} (pre : F → Data → PreVerdict → Data → Type 0) (p
         ((why : Status) × Begins old.desk.state what (Err why) new.desk.state × (said ≡ replied (bare_answer why)))
         ⊎ ((o : OpId) × (begun : World) × Begins old.desk.state what (Ok o) begun × RunsOn o (record old { desk = record old.desk { state = begun } }) said new)
 
-    -- a close comes after its cleanup, where that doesn't end it
-    abbrev pub ClosesThen : Bool → HandleId → LocalManager F B → Reply → Reply → LocalManager F B → Type 0
-    ClosesThen true h mid cleaned said new = RequestsOne (Request.OnHandle h FileRequest.Close) mid said new
-    ClosesThen false h mid cleaned said new = (said ≡ cleaned) × (new ≡ mid)
+    -- a close whose cleanup has begun: the cleanup is answered, then the close, unless that ends it; and then what callbacks of both resumed is carried on
+    abbrev pub ClosesAfter : OpId → HandleId → LocalManager F B → Reply → LocalManager F B → Type 0
+    ClosesAfter o h old said new =
+        (cleaned : Reply) × (mid answered : LocalManager F B) × RunsAlone most o old cleaned mid × ClosesThen most (goes_on cleaned) h mid cleaned said answered
+        × Settles cleanup most limit answered new
+
+    -- one whose cleanup can't begin: it is the request if that began before, and else it is refused as its cleanup
+    abbrev pub ClosesRefused : Bool → Status → HandleId → LocalManager F B → Reply → LocalManager F B → Type 0
+    ClosesRefused true why h old said new = RequestsOne (Request.OnHandle h FileRequest.Close) old said new
+    ClosesRefused false why h old said new = (said ≡ replied (bare_answer why)) × (new ≡ old)
+
+    abbrev pub ClosesWith : Result OpId Status → HandleId → LocalManager F B → Reply → LocalManager F B → Type 0
+    ClosesWith (Ok o) h begun said new = ClosesAfter o h begun said new
+    ClosesWith (Err why) h begun said new = ClosesRefused (is_over why) why h begun said new
 
     abbrev pub Requests : Request → LocalManager F B → Reply → LocalManager F B → Type 0
     Requests (Request.OnHandle h FileRequest.Close) old said new =
-        (cleaned : Reply) × (mid : LocalManager F B) × RequestsOne (Request.OnHandle h FileRequest.Cleanup) old cleaned mid × ClosesThen (goes_on cleaned) h mid cleaned said new
+        (result : Result OpId Status) × (begun : World) × Begins old.desk.state (Request.OnHandle h FileRequest.Cleanup) result begun
+        × ClosesWith result h (record old { desk = record old.desk { state = begun } }) said new
     Requests what old said new = RequestsOne what old said new
 
 module _ {F B : Type 0} (pre : F → Data → PreVerdict → Data → Type 0) (post : F → Data → Completion → PostVerdict → Data → Type 0) (is_quiet : F → Type 0)
@@ -372,6 +408,14 @@ module _ {F B : Type 0} (pre : F → Data → PreVerdict → Data → Type 0) (p
     pub does : DoesTidily pre post (BasesCarry folder faults) (numbered old.filters) k what old.desk.state old.bases.items answer new.desk.state new.bases.items
     pub filters : new.filters ≡ old.filters
     pub settled : new.desk.resumed.items.items ≡ []
+
+  -- a close whose cleanup has begun: the cleanup is done, and then the close, unless that ends it
+  pub record ClosesIn (o : OpId) (h : HandleId) (old : LocalManager F B) (said : Reply) (new : LocalManager F B) : Type 0 where
+    pub cleaned : Reply
+    pub mid : LocalManager F B
+    pub runs : RunsIn o old cleaned mid
+    pub stops : goes_on cleaned ≡ false → (said ≡ cleaned) × Tidies mid.desk.state new.desk.state × (new.bases ≡ mid.bases) × (new.filters ≡ mid.filters) × (new.desk.resumed.items.items ≡ [])
+    pub closes : IsReady mid → goes_on cleaned ≡ true → PerformsIn (Request.OnHandle h FileRequest.Close) mid said new
 
   -- a request is answered as its fold says, and all is ready again, over the same instances
   pub record AnswersIn (what : Request) (old : LocalManager F B) (said : Reply) (new : LocalManager F B) : Type 0 where

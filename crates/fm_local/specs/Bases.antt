@@ -6,7 +6,7 @@ use Rattle.fm_device.specs.Devices.{bare, CarriesAny, KnownAs}
 
 -- one base carries a call out as its folder says, if it knows it, and counts its faults
 pub record BaseCarries {B : Type 0} (folder : B → Option Folder) (faults : B → ℕ) (call : BaseCall) (answer : Answer) (old new : B) : Type 0 where
-  pub known : KnownAs (folder old) (folder new) (λ was is. CarriesAny call.path call.params was is answer) answer
+  pub known : KnownAs (folder old) (folder new) (λ was is. CarriesAny call.path call.params was is answer)
   pub fault : answer ≡ bare DeviceFault → faults new ≡ min (faults old + 1) (2 ^ 64 - 1)
 
 -- so does the base of the call's volume; all others stay, and a volume that isn't there is refused

@@ -1,18 +1,19 @@
 -- What a manager's calls answer, by the events of its state that they make.
 use Rattle.std.specs.Prelude.{◌≡◌, ◌⊎◌, Bool, Err, IsErr, List, None, Ok, Option, Result, Some, false, option_and_then, slice_get, true, ℕ, ◌&&◌}
-use Rattle.std.specs.Prelude.{option_map, position}
+use Rattle.std.specs.Prelude.{option_map, position, ◌≢◌, ◌++◌, ◌∷◌, [], cond, nat_lt, vec_len, vec_capacity}
 use Rattle.fm_local.specs.Words.{Finishes, Attaches, AsksDetach, CompletesTeardown, EmptiesFilter, FinishesFilter, FilterId, Instance, InstanceId}
 use Rattle.fm_local.specs.Words.{Status, VolumeId, WorkerId, World}
 use Rattle.fm_types.specs.declared.registration.Registration.{Registration}
-use Rattle.fm_types.specs.declared.status.Status.TheVariants.{NoMemory, NoFilter}
+use Rattle.fm_types.specs.declared.status.Status.TheVariants.{NoFilter}
 use Rattle.fm_stack.specs.Instances.{same_name}
 use Rattle.fm_stack.specs.Unloading.{is_of}
 use Rattle.fm_stack.specs.declared.filter.Filter.{Filter}
 use Rattle.fm_stack.specs.declared.filter.FilterPhase.{FilterPhase}
 use Rattle.fm_stack.specs.declared.instance.Phase.{Phase}
-use Rattle.fm_world.specs.Events.{Registers, Mounts, SetsUp}
+use Rattle.fm_world.specs.Events.{Registers, SetsUp}
 use Rattle.fm_world.specs.Teardowns.{QueryReturns, AsksUnload, UnloadReturns}
 use Rattle.fm_local.specs.declared.filters.Filters.{Filters}
+use Rattle.fm_local.specs.declared.manager.LocalManager.{LocalManager}
 use Rattle.fm_local.specs.Chains.{filter_in}
 use Rattle.fm_local.specs.Cleanups.{HasNoneDue}
 use Rattle.fm_local.specs.Managers.{handed_in, numbered}
@@ -22,18 +23,23 @@ use Rattle.fm_local.specs.Places.{EndsFrom}
 abbrev pub place_called : {F : Type 0} → List ℕ → List (List ℕ × F) → Option ℕ
 place_called {F} name all = position (λ (row : List ℕ × F). same_name row.0 name) all
 
--- a filter is loaded: none has that name, or a growth of the manager's own was refused, or it registers for what it says
+-- a filter is loaded: none has that name, or it registers for what it says
 abbrev pub LoadsBy : Option Registration → World → List ℕ → Result FilterId Status → World → Type 0
 LoadsBy None old name result new = (result ≡ Err NoFilter) × (new ≡ old)
-LoadsBy (Some registration) old name result new = ((result ≡ Err NoMemory) × (new ≡ old)) ⊎ Registers old name registration result new
+LoadsBy (Some registration) old name result new = Registers old name registration result new
 
 abbrev pub LoadsAs : {F : Type 0} → (F → Registration) → Filters F → World → List ℕ → Result FilterId Status → World → Type 0
 LoadsAs registers filters old name result new =
     LoadsBy (option_map registers (option_and_then (handed_in filters) (place_called name filters.all.items))) old name result new
 
--- a volume is mounted, unless a growth of the manager's own was refused
-abbrev pub MountsAs : World → List ℕ → Result VolumeId Status → World → Type 0
-MountsAs old name result new = ((result ≡ Err NoMemory) × (new ≡ old)) ⊎ Mounts old name result new
+-- the number that was given stands for the filter of that name, and all others stand for what they stood for
+pub record Numbers {F : Type 0} (old : Filters F) (name : List ℕ) (f : FilterId) (new : Filters F) : Type 0 where
+  pub own : numbered new f.0 ≡ option_and_then (handed_in old) (place_called name old.all.items)
+  pub others : (n : ℕ) → n ≢ f.0 → numbered new n ≡ numbered old n
+
+-- the file systems after one more is placed, if there is room for it
+abbrev pub placed : {F B : Type 0} → LocalManager F B → B → List B
+placed m base = cond (nat_lt (vec_len m.bases) (vec_capacity m.bases)) (m.bases.items ++ base ∷ []) m.bases.items
 
 -- what a callback that agrees or refuses may answer, if there is one; no filter refuses
 abbrev pub MayAgree : {F : Type 0} → (F → Bool → Type 0) → Option F → Bool → Type 0

@@ -1,5 +1,7 @@
 -- What an instance's filter is told while it is torn down, and how it lets go of what it is owed: one operation after the other, until nothing is owed to it.
-use Rattle.std.specs.Prelude.{⊤, ◌≡◌, ◌≤◌, ◌⊎◌, Bool, Err, None, Ok, Option, Result, Some, false, suc, true, zero, ℕ}
+use Rattle.std.specs.Prelude.{⊤, ◌≡◌, ◌==◌, ◌⊎◌, Bool, Err, None, Ok, Option, Result, Some, false, not, suc, true, zero, ℕ}
+use Rattle.std.specs.List.{count_by, list_any}
+use Rattle.fm_filter.specs.Standing.{standing_of}
 use Rattle.fm_local.specs.Words.{Completion, StartsTeardown, InstanceId, OpId, Status, WorkerId, World}
 use Rattle.fm_world.specs.EarlyDrains.{TakesDrain, DrainReturns}
 use Rattle.fm_world.specs.Teardowns.{StartReturns}
@@ -15,6 +17,10 @@ module _ (k : WorkerId) (i : InstanceId) where
   -- who asks for a drain gets none
   abbrev pub OwesNone : World → Type 0
   OwesNone w = TakesDrain w k i (Ok None) w ⊎ ((why : Status) × TakesDrain w k i (Err why) w)
+
+-- how many operations weren't drained of an instance
+abbrev pub left_to_drain : InstanceId → World → ℕ
+left_to_drain i w = count_by (λ x. not (list_any (λ j. j == i.0) x.drained)) (standing_of w).operations
 
 module _ {F : Type 0} (drained : F → Completion → Type 0) (filters : ℕ → Option F) (k : WorkerId) (i : InstanceId) where
   -- a drain is taken, the filter is called, and the drain ends
@@ -32,13 +38,13 @@ module _ {F : Type 0} (drained : F → Completion → Type 0) (filters : ℕ →
   DrainsMany zero old new = new ≡ old
   DrainsMany (suc n) old new = (mid : World) × DrainsMany n old mid × DrainsOne mid new
 
-  -- until there is none, or as many as there can be
-  abbrev pub DrainsAll : ℕ → World → World → Type 0
-  DrainsAll most old new = (n : ℕ) × DrainsMany n old new × (OwesNone k i new ⊎ (most ≤ n))
+  -- until nothing is owed any more
+  abbrev pub DrainsAll : World → World → Type 0
+  DrainsAll old new = (n : ℕ) × DrainsMany n old new × OwesNone k i new
 
   -- a teardown starts, unless it can't: the filter is told, and behind that all that is owed is let go of
-  abbrev pub StartsAndDrains : (F → Type 0) → ℕ → Bool → World → World → Type 0
-  StartsAndDrains begins most true old new =
+  abbrev pub StartsAndDrains : (F → Type 0) → Bool → World → World → Type 0
+  StartsAndDrains begins true old new =
       (started returned : World) × StartsTeardown old k i (Ok tt) started × WasCalled begins (filter_in filters started.stack i.0)
-      × EndsFrom started (λ before. StartReturns before k (Ok tt) returned) × DrainsAll most returned new
-  StartsAndDrains begins most false old new = (why : Status) × StartsTeardown old k i (Err why) new
+      × EndsFrom started (λ before. StartReturns before k (Ok tt) returned) × DrainsAll returned new
+  StartsAndDrains begins false old new = (why : Status) × StartsTeardown old k i (Err why) new

@@ -41,11 +41,11 @@ Rises chain (x ∷ above) before answer =
 -- where a verdict leads that counts: down, with one more that asked or without, or up again
 abbrev pub Leads : {W : Type 0} → Chain W → (Params → List Asker → W → Answer → W → Type 0) → ℕ → Params → Data → List Asker → PreState → W → Answer → W → Type 0
 Leads chain Below i p back asked (PreState.Asked completion) old answer new = Below (current_of back) (asker i p completion ∷ asked) old answer new
+Leads chain Below i p back asked (PreState.Synchronized completion) old answer new = Below (current_of back) (asker i p completion ∷ asked) old answer new
 Leads chain Below i p back asked PreState.Passed old answer new = Below (current_of back) asked old answer new
 Leads chain Below i p back asked (PreState.Completed status) old answer new = Rises chain asked (bare_answer status) answer × (new ≡ chain.completes status old)
 Leads chain Below i p back asked PreState.Running old answer new = ⊥
 Leads chain Below i p back asked PreState.Held old answer new = ⊥
-Leads chain Below i p back asked (PreState.Synchronized completion) old answer new = ⊥
 
 -- an instance is met on the way down: its preoperation gives a verdict, or, where it has none, it asks for its postoperation
 abbrev pub Visit : {W : Type 0} → Chain W → (Params → List Asker → W → Answer → W → Type 0) → ℕ → Bool → Params → List Asker → W → Answer → W → Type 0

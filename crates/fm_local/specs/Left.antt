@@ -1,6 +1,6 @@
 -- What is left of a fold, of an operation that is on its way.
-use Rattle.std.specs.Prelude.{[], ⊤, ◌∷◌, ◌≡◌, ◌≤◌, List, None, Option, Some, false, ℕ, take}
-use Rattle.fm_local.specs.Words.{Answer, FlowRecord, Params}
+use Rattle.std.specs.Prelude.{[], ⊤, ◌∷◌, ◌≡◌, ◌≤◌, List, None, Option, Some, ℕ, take}
+use Rattle.fm_local.specs.Words.{Answer, FlowRecord, Params, WorkerId}
 use Rattle.fm_flow.specs.declared.entry.Ask.{Ask}
 use Rattle.fm_flow.specs.declared.stage.Stage.{Stage}
 use Rattle.fm_flow.specs.declared.stage.Stage.TheVariants.{Descending, Ascending}
@@ -28,7 +28,7 @@ LeftIn chain Meets r (Some p) old answer new = LeftAt chain Meets r.stage r p ol
 abbrev pub LeftOf : {W : Type 0} → Chain W → (Option ℕ → List ℕ → Type 0) → FlowRecord → W → Answer → W → Type 0
 LeftOf chain Meets r old answer new = LeftIn chain Meets r r.params old answer new
 
--- asks for postoperations that any worker may make; the later an instance asked, the later in the list of what was kept its place is
-abbrev pub ArePlain : ℕ → List Ask → Type 0
-ArePlain most [] = ⊤
-ArePlain most (ask ∷ asks) = (ask.place ≤ most) × (ask.is_synchronized ≡ false) × ArePlain ask.place asks
+-- asks of one worker; the later an instance asked, the later in the list of what was kept its place is
+abbrev pub ArePlain : WorkerId → ℕ → List Ask → Type 0
+ArePlain k most [] = ⊤
+ArePlain k most (ask ∷ asks) = (ask.place ≤ most) × (ask.worker ≡ k) × ArePlain k ask.place asks

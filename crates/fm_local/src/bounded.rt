@@ -52,7 +52,8 @@ impl<T: Copy> Bounded<T> {
 
     /// Puts an item behind the others; where there is no room it goes in the place of the one put longest ago.
     pub fn put(&mut self, item: T)
-        ensures { length self.old.items.items < deque_capacity self.old.items → self.new.items.items ≡ self.old.items.items ++ item ∷ [] }
+        ensures room { length self.old.items.items < deque_capacity self.old.items → self.new.items.items ≡ self.old.items.items ++ item ∷ [] }
+        ensures full { 0 < deque_capacity self.old.items → deque_capacity self.old.items ≤ length self.old.items.items → self.new.items.items ≡ drop 1 self.old.items.items ++ item ∷ [] }
     {
         if self.is_full() {
             let _ = self.items.pop_front();

@@ -1,18 +1,20 @@
 //! The filters that a manager has.
 
-ghost use Rattle.std.specs.Prelude.{◌≡◌, ◌<◌, ◌++◌, ◌∷◌, [], IfErr, IfOk, MatchOption, Some, None, ok_or, option_and_then, option_map, slice_get, vec_capacity, vec_len};
+ghost use Rattle.std.specs.Prelude.{◌≡◌, MatchOption, Some, None, length, ok_or, option_and_then, replicate, slice_set};
 ghost use Rattle.fm_stack.specs.Instances.{same_name};
 ghost use Rattle.fm_local.specs.Calls.{place_called};
 ghost use Rattle.fm_local.specs.Managers.{handed_in, numbered};
 
 use fm_types::{FilterId, Name, Status};
-use std::alloc::Global;
+
+/// How many filters are loaded in one run at most.
+const LOADS: usize = 16;
 
 /// The filters that were handed in, each under its name, and which of them each number that the manager gave stands for.
 #[derive(Drop)]
 pub struct Filters<F> {
     all: Vec<(Name, F)>,
-    loaded: Vec<usize>,
+    loaded: [Option<usize>; LOADS],
 }
 
 fn is_called(own: &Name, name: &Name) -> bool
@@ -23,13 +25,13 @@ fn is_called(own: &Name, name: &Name) -> bool
 
 impl<F: Drop> Filters<F> {
     /// The filters, none of them loaded.
-    pub fn new(alloc: Global, all: Vec<(Name, F)>) -> Filters<F>
+    pub fn new(all: Vec<(Name, F)>) -> Filters<F>
         ensures all { result.all ≡ all }
-        ensures none { result.loaded.items ≡ [] }
+        ensures none { result.loaded ≡ replicate 16 None }
     {
         Filters {
             all,
-            loaded: Vec::new(alloc),
+            loaded: [None; LOADS],
         }
     }
 
@@ -56,23 +58,16 @@ impl<F: Drop> Filters<F> {
         }
     }
 
-    /// Makes room for one more number. Refused with 1.
-    pub fn reserve(&mut self) -> Result<(), Status>
-        ensures room { IfOk result (λ _. vec_len self.new.loaded < vec_capacity self.new.loaded) }
-        ensures refused { IfErr result (λ status. status ≡ Status.NoMemory) }
-        ensures same { self.new.all ≡ self.old.all × self.new.loaded.items ≡ self.old.loaded.items }
-    {
-        self.loaded.reserve(1)?;
-        Ok(())
-    }
-
-    /// Notes that the next number stands for the filter at that place. It takes no memory.
-    pub fn note(&mut self, place: usize)
-        requires { vec_len self.old.loaded < vec_capacity self.old.loaded }
+    /// Notes that a number below 16 stands for the filter at that place. It takes no memory.
+    pub fn note(&mut self, filter: FilterId, place: usize)
         ensures all { self.new.all ≡ self.old.all }
-        ensures noted { self.new.loaded.items ≡ self.old.loaded.items ++ place ∷ [] }
+        ensures noted { self.new.loaded ≡ slice_set self.old.loaded filter.0 (Some place) }
+        ensures places { length self.old.loaded ≡ 16 }
     {
-        self.loaded.push_reserved(place);
+        let at = usize::from(filter.0);
+        if at < LOADS {
+            self.loaded[at] = Some(place);
+        }
     }
 
     /// The filter that a number stands for.
@@ -80,6 +75,7 @@ impl<F: Drop> Filters<F> {
         ensures { let wanted = option_and_then (λ number. numbered self.now number.0) filter in MatchOption result (wanted ≡ None) (λ found. wanted ≡ Some found.now) }
     {
         let filter = filter?;
-        self.at(*self.loaded.get(usize::from(filter.0))?)
+        let place = *self.loaded.get(usize::from(filter.0))?;
+        self.at(place?)
     }
 }

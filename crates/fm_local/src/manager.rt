@@ -1,13 +1,14 @@
 //! The manager, and what begins in it.
 
-ghost use Rattle.std.specs.Prelude.{◌≡◌, ◌++◌, ◌∷◌, [], IfErr, IfOk, length, slice_get};
+ghost use Rattle.std.specs.Prelude.{◌≡◌, ◌++◌, ◌∷◌, [], IfErr, IfOk, cond, length, nat_lt, slice_get, vec_capacity, vec_len};
 ghost use Rattle.std.specs.Borrow.{sem};
 ghost use Rattle.std.specs.List.{IsItemAtMut};
 ghost use Rattle.fm_local.specs.Actions.{ArePlainFilters, IsReady};
-ghost use Rattle.fm_local.specs.Calls.{LoadsAs, MountsAs};
+ghost use Rattle.fm_local.specs.Calls.{LoadsAs, Numbers, placed};
+ghost use Rattle.fm_world.specs.Events.{Mounts};
 ghost use Rattle.fm_local.specs.Cleanups.{HasNoneDue, LeavesNoneDue};
 ghost use Rattle.fm_local.specs.Lending.{LendsBase};
-ghost use Rattle.fm_local.specs.Managers.{handed_in};
+ghost use Rattle.fm_local.specs.Managers.{HasRooms, handed_in};
 ghost use Rattle.fm_local.specs.Places.{IsOut, StaysOut};
 ghost use Rattle.fm_world.specs.World.{empty_world};
 
@@ -34,6 +35,9 @@ const IN_HAND: usize = 16;
 /// How many steps of operations, and how many leaks, are kept to be read.
 const KEPT: usize = 1024;
 
+/// How many volumes are mounted in one run at most.
+const VOLUMES: usize = 8;
+
 /// A filter manager on one thread: filters as code, one file system of a type for each volume, and the manager's state, of which each thing that happens
 /// is one event. A call runs every callback that it leads to, carries on what these resume, and cleans up the contexts that are due before it returns: behind
 /// it none is, and the worker is inside no callback.
@@ -50,12 +54,14 @@ pub struct LocalManager<F, B> {
 }
 
 impl<F: Minifilter, B: Base> LocalManager<F, B> {
-    /// A manager that has these filters, each under its name, and none of them loaded: it is ready, and nothing is due. Refused with 1.
+    /// A manager that has these filters, each under its name, and none of them loaded: it is ready, and nothing is due. It takes the room for 8 volumes, for
+    /// 256 operations that were resumed and 256 that ended, and for the steps and the leaks that can be read. Refused with 1.
     pub fn new(alloc: Global, filters: Vec<(Name, F)>) -> Result<LocalManager<F, B>, Status>
         ensures empty { IfOk result (λ manager. (manager.desk.state ≡ empty_world) × (manager.filters.all ≡ filters) × (manager.bases.items ≡ [])) }
         ensures ready { IfOk result (λ manager. IsReady F.pre_may F.post_may F.is_quiet B.folder B.faults WORKER manager) }
         ensures none_due { IfOk result (λ manager. HasNoneDue WORKER manager.desk.state) }
         ensures out { IfOk result (λ manager. IsOut WORKER manager.desk.state) }
+        ensures room { IfOk result HasRooms }
         ensures memory { IfErr result (λ status. status ≡ Status.NoMemory) }
     {
         let resumed = Bounded::new(alloc, UNDER_WAY)?;
@@ -63,12 +69,13 @@ impl<F: Minifilter, B: Base> LocalManager<F, B> {
         let hand = Bounded::new(alloc, IN_HAND)?;
         let leaks = Bounded::new(alloc, KEPT)?;
         let trace = Bounded::new(alloc, KEPT)?;
+        let bases = Vec::with_capacity(alloc, VOLUMES)?;
         let state = State::new(alloc)?;
         Ok(LocalManager {
             alloc,
             desk: Desk { state, resumed },
-            filters: Filters::new(alloc, filters),
-            bases: Vec::new(alloc),
+            filters: Filters::new(filters),
+            bases,
             finished,
             hand,
             leaks,
@@ -119,13 +126,15 @@ impl<F: Minifilter, B: Base> LocalManager<F, B> {
         self.leaks.get(place)
     }
 
-    /// Loads the filter of that name, with what it registers for (`FltRegisterFilter`, `FltStartFiltering`). Refused, nothing changed: 6 where no filter
-    /// has that name, 1, and then as `State::register`. A manager that is ready, to which only plain filters were handed in, stays ready.
+    /// Loads the filter of that name, with what it registers for (`FltRegisterFilter`, `FltStartFiltering`). Refused, nothing changed: 6 if no filter has
+    /// that name, and then as `State::register`. A manager that is ready, to which only plain filters were handed in, stays ready.
     pub fn load(&mut self, name: &Name) -> Result<FilterId, Status>
         ensures event { LoadsAs F.registers self.old.filters self.old.desk.state name.now result self.new.desk.state }
+        ensures numbers { IfOk result (λ filter. Numbers self.old.filters name.now filter self.new.filters) }
         ensures ready { ArePlainFilters F.pre_may F.post_may F.is_quiet (handed_in self.old.filters) → IsReady F.pre_may F.post_may F.is_quiet B.folder B.faults WORKER self.old → IsReady F.pre_may F.post_may F.is_quiet B.folder B.faults WORKER self.new }
         ensures none_due { LeavesNoneDue WORKER self.old.desk.state self.new.desk.state }
         ensures out { StaysOut WORKER self.old.desk.state self.new.desk.state }
+        ensures refused { IfErr result (λ _. self.new.filters ≡ self.old.filters) }
         ensures kept { (self.new.filters.all ≡ self.old.filters.all) × (self.new.bases ≡ self.old.bases) }
     {
         let place = self.filters.place(name)?;
@@ -133,26 +142,33 @@ impl<F: Minifilter, B: Base> LocalManager<F, B> {
             return Err(Status::NoFilter);
         };
         let registration = filter.registration();
-        self.filters.reserve()?;
         let number = self.desk.state.register(*name, registration)?;
-        self.filters.note(place);
+        self.filters.note(number, place);
         Ok(number)
     }
 
-    /// Mounts a volume over a file system. Refused, nothing changed but that the file system is gone: 1, and then as `State::mount`. A manager that is ready
-    /// stays ready.
+    /// Mounts a volume over a file system, for which `new` took the room. Refused, nothing changed but that the file system is gone, as `State::mount`. A
+    /// manager that is ready stays ready.
     pub fn mount(&mut self, name: Name, base: B) -> Result<VolumeId, Status>
-        ensures event { MountsAs self.old.desk.state name result self.new.desk.state }
-        ensures base { IfOk result (λ _. self.new.bases.items ≡ self.old.bases.items ++ base ∷ []) }
+        ensures event { Mounts self.old.desk.state name result self.new.desk.state }
+        ensures base { IfOk result (λ _. self.new.bases.items ≡ placed self.old base) }
         ensures refused { IfErr result (λ _. self.new.bases.items ≡ self.old.bases.items) }
         ensures ready { IsReady F.pre_may F.post_may F.is_quiet B.folder B.faults WORKER self.old → IsReady F.pre_may F.post_may F.is_quiet B.folder B.faults WORKER self.new }
         ensures none_due { LeavesNoneDue WORKER self.old.desk.state self.new.desk.state }
         ensures out { StaysOut WORKER self.old.desk.state self.new.desk.state }
         ensures kept { self.new.filters ≡ self.old.filters }
     {
-        self.bases.reserve(1)?;
         let volume = self.desk.state.mount(name)?;
-        self.bases.push_reserved(base);
+        place(&mut self.bases, base);
         Ok(volume)
+    }
+}
+
+// Places a file system after the others, if there is room for it.
+fn place<B: Base>(bases: &mut Vec<B>, base: B)
+    ensures { bases.new.items ≡ cond (nat_lt (vec_len bases.old) (vec_capacity bases.old)) (bases.old.items ++ base ∷ []) bases.old.items }
+{
+    if bases.len() < bases.capacity() {
+        bases.push_reserved(base);
     }
 }

@@ -1,12 +1,12 @@
 //! Requests, each carried from its first callback to its reply.
 
-ghost use Rattle.std.specs.Prelude.{◌≡◌, ◌<◌, ◌≤◌, ◌++◌, ◌∷◌, ℕ, [], Ok, Result, length};
+ghost use Rattle.std.specs.Prelude.{◌≡◌, ◌<◌, ◌≤◌, ◌++◌, ◌∷◌, ℕ, [], Ok, Result, false, length, true};
 ghost use Rattle.std.specs.VecDeque.{deque_capacity};
 ghost use Rattle.fm_data.specs.declared.request.FileRequest.TheVariants as asked;
 ghost use Rattle.fm_data.specs.declared.request.Request.TheVariants as client;
 ghost use Rattle.fm_flow.specs.Answered.{bare_answer};
 ghost use Rattle.fm_flow.specs.declared.action.FlowAction.TheVariants as step;
-ghost use Rattle.fm_local.specs.Actions.{Acts, AnswersIn, ArePlainFilters, CarriesIn, CarriesOn, CarriesOnAll, GivesFinished, GoesOn, IsBegun, IsDoneAt, IsReady, Makes, OnlyState, PerformsIn, RefusesIn, RefusesOne, RepliesWith, Requests, RequestsOne, ResumesNone, RunsIn, RunsOn, Settles, TakesTurn, TurnsAs, WaitsAtEnd, closed_handle, ends_turn, goes_on, replied, reply_of};
+ghost use Rattle.fm_local.specs.Actions.{Acts, AnswersIn, ArePlainFilters, CarriesIn, CarriesOn, CarriesOnAll, ClosesAfter, ClosesIn, ClosesRefused, ClosesThen, GivesFinished, GoesOn, IsBegun, IsDoneAt, IsReady, Makes, OnlyState, PerformsAlone, PerformsIn, RefusesIn, RefusesOne, RepliesWith, Requests, RequestsOne, ResumesNone, RunsAlone, RunsIn, RunsOn, Settles, TakesDone, TakesTurn, TurnsAs, WaitsAtEnd, closed_handle, ends_turn, goes_on, is_over, replied, reply_of};
 ghost use Rattle.fm_local.specs.Bases.{BasesCarry};
 ghost use Rattle.fm_local.specs.Cleanups.{HasNoneDue, LeavesNoneDue};
 ghost use Rattle.fm_local.specs.Managers.{numbered};
@@ -48,7 +48,7 @@ impl<F: Minifilter, B: Base> LocalManager<F, B> {
     /// its reply comes from `finished`, once a callback has resumed it. Close is a cleanup, unless that began before, and then the close itself; where the
     /// cleanup is held it is the one that `Held` names, and the request is to be made again. A request that can't begin is answered with the status of its
     /// refusal, and changes nothing. Whatever the filters, each of their callbacks runs between the event that enters it and the one that ends it, what they
-    /// resumed goes on in the order of the resumptions, and what is due is cleaned up. A manager that is ready (all its filters plain, nothing under way or
+    /// resumed goes on after the whole request, in the order of the resumptions, and what is due is cleaned up. A manager that is ready (all its filters plain, nothing under way or
     /// being torn down) answers with the fold of its filters over its file systems, never with `Held`, and is ready again.
     pub fn answer(&mut self, request: Request) -> Reply
         ensures fold { IsReady F.pre_may F.post_may F.is_quiet B.folder B.faults WORKER self.old → AnswersIn F.pre_may F.post_may F.is_quiet B.folder B.faults WORKER request self.old result self.new }
@@ -64,15 +64,28 @@ impl<F: Minifilter, B: Base> LocalManager<F, B> {
         }
     }
 
-    /// The reply of an operation that was held, in the order in which they ended.
+    /// The reply of an operation that was held, in the order in which they ended. It is never a refusal.
     pub fn finished(&mut self) -> Option<(OpId, Reply)>
         ensures first { GivesFinished self.old result self.new }
         ensures none_due { LeavesNoneDue WORKER self.old.desk.state self.new.desk.state }
         ensures out { StaysOut WORKER self.old.desk.state self.new.desk.state }
         ensures kept { (self.new.filters ≡ self.old.filters) × (self.new.bases ≡ self.old.bases) × (self.new.desk.resumed ≡ self.old.desk.resumed) }
     {
-        let operation = self.finished.take()?;
-        Some((operation, self.reply(operation)))
+        let (operation, answer) = self.take_done()?;
+        Some((operation, self.hand_out(operation, answer)))
+    }
+
+    // The first of the operations that ended, with its answer. One without an answer, which nothing here leaves, is passed over.
+    fn take_done(&mut self) -> Option<(OpId, Answer)>
+        ensures takes { TakesDone self.old result self.new }
+        ensures kept { self.new ≡ record self.old { desk = record self.old.desk { state = self.new.desk.state }; finished = self.new.finished } }
+    {
+        while let Some(operation) = self.finished.take() {
+            if let Ok(answer) = self.desk.state.collect(operation) {
+                return Some((operation, answer));
+            }
+        }
+        None
     }
 
     // A cleanup, and then the close.
@@ -84,17 +97,71 @@ impl<F: Minifilter, B: Base> LocalManager<F, B> {
         ensures out { StaysOut WORKER self.old.desk.state self.new.desk.state }
     {
         self.desk.state.laws();
-        let cleanup = self.perform(Request::OnHandle {
+        match self.desk.state.begin(Request::OnHandle {
             handle,
             request: FileRequest::Cleanup,
-        });
-        if !goes_on(&cleanup) {
-            return cleanup;
+        }) {
+            Ok(cleanup) => self.close_after(cleanup, handle),
+            Err(status) => self.close_where_cleaned(status, handle),
+        }
+    }
+
+    // A close whose cleanup was refused: it goes on if the cleanup began before.
+    fn close_where_cleaned(&mut self, refused: Status, handle: HandleId) -> Reply
+        ensures does { IsReady F.pre_may F.post_may F.is_quiet B.folder B.faults WORKER self.old → is_over refused ≡ true → PerformsIn F.pre_may F.post_may F.is_quiet B.folder B.faults WORKER (client.OnHandle handle asked.Close) self.old result self.new }
+        ensures closes { ClosesRefused F.pre_may F.post_may F.drained B.folder B.faults WORKER F.cleanup_may TURNS RESUMPTIONS (is_over refused) refused handle self.old result self.new }
+        ensures none_due { LeavesNoneDue WORKER self.old.desk.state self.new.desk.state }
+        ensures out { StaysOut WORKER self.old.desk.state self.new.desk.state }
+    {
+        if !is_over(refused) {
+            return self.refusal(refused);
         }
         self.perform(Request::OnHandle {
             handle,
             request: FileRequest::Close,
         })
+    }
+
+    // A close after its cleanup, which has begun. What callbacks of both resumed goes on after both.
+    fn close_after(&mut self, cleanup: OpId, handle: HandleId) -> Reply
+        ensures does { ArePlainFilters F.pre_may F.post_may F.is_quiet (numbered self.old.filters) → IsBegun WORKER cleanup self.old.desk.state → self.old.desk.resumed.items.items ≡ [] → ClosesIn F.pre_may F.post_may F.is_quiet B.folder B.faults WORKER cleanup handle self.old result self.new }
+        ensures closes { ClosesAfter F.pre_may F.post_may F.drained B.folder B.faults WORKER F.cleanup_may TURNS RESUMPTIONS cleanup handle self.old result self.new }
+        ensures none_due { HasNoneDue WORKER self.new.desk.state }
+        ensures out { StaysOut WORKER self.old.desk.state self.new.desk.state }
+    {
+        let cleaned = self.run_alone(cleanup);
+        let reply = self.then_close(cleaned, handle);
+        self.settle();
+        reply
+    }
+
+    // The close, unless its cleanup was answered so that it ends there.
+    fn then_close(&mut self, cleaned: Reply, handle: HandleId) -> Reply
+        ensures stops { goes_on cleaned ≡ false → (result ≡ cleaned) × (self.new ≡ self.old) }
+        ensures does { IsReady F.pre_may F.post_may F.is_quiet B.folder B.faults WORKER self.old → goes_on cleaned ≡ true → PerformsIn F.pre_may F.post_may F.is_quiet B.folder B.faults WORKER (client.OnHandle handle asked.Close) self.old result self.new }
+        ensures closes { ClosesThen F.pre_may F.post_may F.drained B.folder B.faults WORKER TURNS (goes_on cleaned) handle self.old cleaned result self.new }
+        ensures out { StaysOut WORKER self.old.desk.state self.new.desk.state }
+    {
+        if !goes_on(&cleaned) {
+            return cleaned;
+        }
+        self.perform_alone(Request::OnHandle {
+            handle,
+            request: FileRequest::Close,
+        })
+    }
+
+    // One operation, from its beginning to its reply. What its callbacks resumed waits.
+    fn perform_alone(&mut self, request: Request) -> Reply
+        ensures does { IsReady F.pre_may F.post_may F.is_quiet B.folder B.faults WORKER self.old → PerformsIn F.pre_may F.post_may F.is_quiet B.folder B.faults WORKER request self.old result self.new }
+        ensures performs { PerformsAlone F.pre_may F.post_may F.drained B.folder B.faults WORKER TURNS request self.old result self.new }
+        ensures out { StaysOut WORKER self.old.desk.state self.new.desk.state }
+    {
+        self.desk.state.laws();
+        match self.desk.state.begin(request) {
+            Ok(operation) => self.run_alone(operation),
+            Err(status) => self.refusal(status),
+        }
     }
 
     // One operation, from its beginning to its reply, with all that its callbacks resumed.
@@ -119,10 +186,19 @@ impl<F: Minifilter, B: Base> LocalManager<F, B> {
         ensures none_due { HasNoneDue WORKER self.new.desk.state }
         ensures out { StaysOut WORKER self.old.desk.state self.new.desk.state }
     {
-        let ended = self.carry(operation);
-        let reply = self.reply_after(operation, ended);
+        let reply = self.run_alone(operation);
         self.settle();
         reply
+    }
+
+    // The same without what its callbacks resumed.
+    fn run_alone(&mut self, operation: OpId) -> Reply
+        ensures runs { ArePlainFilters F.pre_may F.post_may F.is_quiet (numbered self.old.filters) → IsBegun WORKER operation self.old.desk.state → self.old.desk.resumed.items.items ≡ [] → RunsIn F.pre_may F.post_may F.is_quiet B.folder B.faults WORKER operation self.old result self.new }
+        ensures goes { RunsAlone F.pre_may F.post_may F.drained B.folder B.faults WORKER TURNS operation self.old result self.new }
+        ensures out { StaysOut WORKER self.old.desk.state self.new.desk.state }
+    {
+        let ended = self.carry(operation);
+        self.reply_after(operation, ended)
     }
 
     // The answer of an operation whose turns ended so.
@@ -156,21 +232,26 @@ impl<F: Minifilter, B: Base> LocalManager<F, B> {
         ensures out { StaysOut WORKER self.old.desk.state self.new.desk.state }
     {
         match self.desk.state.collect(operation) {
-            Ok(
-                Answer {
-                    status,
-                    information,
-                    bytes,
-                },
-            ) => {
-                self.note(operation, Visit::Replied(status));
-                Reply::Done {
-                    status,
-                    information,
-                    bytes,
-                }
-            }
+            Ok(answer) => self.hand_out(operation, answer),
             Err(status) => self.refusal(status),
+        }
+    }
+
+    // An answer as a reply, which is noted.
+    fn hand_out(&mut self, operation: OpId, answer: Answer) -> Reply
+        ensures reply { result ≡ replied answer }
+        ensures kept { self.new ≡ record self.old { trace = self.new.trace } }
+    {
+        let Answer {
+            status,
+            information,
+            bytes,
+        } = answer;
+        self.note(operation, Visit::Replied(status));
+        Reply::Done {
+            status,
+            information,
+            bytes,
         }
     }
 
@@ -320,14 +401,21 @@ fn closed_handle(request: &Request) -> Option<HandleId>
     }
 }
 
-// Whether a close goes on, where its cleanup was answered so.
+// Whether a close goes on, if its cleanup was answered so.
 fn goes_on(cleanup: &Reply) -> bool
     ensures { result ≡ goes_on cleanup.now }
 {
     match cleanup {
-        Reply::Done { status, .. } => matches!(status, Status::Success | Status::WrongStep),
+        Reply::Done { status, .. } => is_over(*status),
         Reply::Held(_) => false,
     }
+}
+
+// Whether a cleanup that ended with that status is over: it succeeded, or began before.
+fn is_over(status: Status) -> bool
+    ensures { result ≡ is_over status }
+{
+    matches!(status, Status::Success | Status::WrongStep)
 }
 
 // What the file system of the call's volume answers, if it is there.

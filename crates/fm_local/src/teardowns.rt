@@ -1,10 +1,10 @@
 //! How instances come and go, with all callbacks in between.
 
-ghost use Rattle.std.specs.Prelude.{◌≡◌, false, true, [], Err, IfErr, IsOk, length, slice_get};
+ghost use Rattle.std.specs.Prelude.{◌≡◌, ◌<◌, false, true, [], Err, IfErr, IsOk, length, slice_get};
 ghost use Rattle.fm_local.specs.Actions.{ArePlainFilters, AsksThenSettles, AttachesThenSettles, CallsBack, DetachesThenSettles, EndsFully, IsReady, OnlyState, SetsUpThenSettles, StartsThenSettles, TearsDownAll, TearsDownFully, TearsDownWhere, TellsThenSettles, UnloadsThenSettles};
 ghost use Rattle.fm_local.specs.Calls.{AgreesAt, Asks, AsksToUnload, AttachesAs, DetachesAs, EndsTidily, FilterEnds, MayAgree, SetupEnds, TornDown, UnloadsAs, is_leaving, is_to_go, is_unloading};
 ghost use Rattle.fm_local.specs.Cleanups.{HasNoneDue, LeavesNoneDue};
-ghost use Rattle.fm_local.specs.Drains.{DrainsAll, DrainsSome, StartsAndDrains};
+ghost use Rattle.fm_local.specs.Drains.{DrainsAll, DrainsSome, StartsAndDrains, left_to_drain};
 ghost use Rattle.fm_local.specs.Managers.{numbered};
 ghost use Rattle.fm_local.specs.Places.{ComesOut, StaysOut};
 ghost use Rattle.fm_local.specs.Quietly.{AsksQuietly, AttachesQuietly, CompletesQuietly, DetachesQuietly, EndsQuietly, IsSettled, LeavesReady, SetUpQuietly, StartsAlone, StartsQuietly, TearsDownFirst, TearsDownIf, TearsDownQuietly, UnloadsQuietly, WasTold};
@@ -21,9 +21,6 @@ use fm_base::Base;
 use fm_core::{FilterPhase, Phase};
 use fm_filter::Minifilter;
 use fm_types::{FilterId, InstanceId, Name, Status, VolumeId};
-
-/// How many operations may be drained before their turn: those under way, and those whose answers were handed out meanwhile.
-const DRAINED: usize = 304;
 
 impl<F: Minifilter, B: Base> LocalManager<F, B> {
     /// Attaches an instance of a filter to a volume at an altitude, and calls its setup callback (`FltAttachVolumeAtAltitude`). Refused, nothing changed, as
@@ -77,7 +74,7 @@ impl<F: Minifilter, B: Base> LocalManager<F, B> {
     /// filter has agreed, and not behind that.
     pub fn detach(&mut self, instance: InstanceId) -> Result<(), Status>
         ensures events { DetachesAs (AgreesAt F.query_may self.old.filters) self.old.desk.state WORKER instance result self.new.desk.state }
-        ensures settles { DetachesThenSettles F.pre_may F.post_may F.drained B.folder B.faults WORKER F.cleanup_may TURNS RESUMPTIONS F.started DRAINED F.completed (is_leaving self.old.desk.state instance) (AgreesAt F.query_may self.old.filters) instance self.old result self.new }
+        ensures settles { DetachesThenSettles F.pre_may F.post_may F.drained B.folder B.faults WORKER F.cleanup_may TURNS RESUMPTIONS F.started F.completed (is_leaving self.old.desk.state instance) (AgreesAt F.query_may self.old.filters) instance self.old result self.new }
         ensures quiet { IsReady F.pre_may F.post_may F.is_quiet B.folder B.faults WORKER self.old → DetachesQuietly WORKER instance (AgreesAt F.query_may self.old.filters) self.old.desk.state result self.new.desk.state }
         ensures ready { IsReady F.pre_may F.post_may F.is_quiet B.folder B.faults WORKER self.old → LeavesReady F.pre_may F.post_may F.is_quiet B.folder B.faults WORKER self.old self.new }
         ensures none_due { LeavesNoneDue WORKER self.old.desk.state self.new.desk.state }
@@ -95,7 +92,7 @@ impl<F: Minifilter, B: Base> LocalManager<F, B> {
     /// goes on where it stopped. A manager that is ready makes these events and no others, but for cleanups, and is ready again.
     pub fn unload(&mut self, filter: FilterId) -> Result<(), Status>
         ensures events { UnloadsAs F.unload_may self.old.filters self.old.desk.state WORKER filter result self.new.desk.state }
-        ensures settles { UnloadsThenSettles F.pre_may F.post_may F.drained B.folder B.faults WORKER F.cleanup_may TURNS RESUMPTIONS F.started DRAINED F.completed filter (is_unloading self.old.desk.state filter) (MayAgree F.unload_may (numbered self.old.filters filter.0)) self.old result self.new }
+        ensures settles { UnloadsThenSettles F.pre_may F.post_may F.drained B.folder B.faults WORKER F.cleanup_may TURNS RESUMPTIONS F.started F.completed filter (is_unloading self.old.desk.state filter) (MayAgree F.unload_may (numbered self.old.filters filter.0)) self.old result self.new }
         ensures quiet { IsReady F.pre_may F.post_may F.is_quiet B.folder B.faults WORKER self.old → UnloadsQuietly WORKER filter (MayAgree F.unload_may (numbered self.old.filters filter.0)) self.old.desk.state result self.new.desk.state }
         ensures ready { IsReady F.pre_may F.post_may F.is_quiet B.folder B.faults WORKER self.old → LeavesReady F.pre_may F.post_may F.is_quiet B.folder B.faults WORKER self.old self.new }
         ensures none_due { LeavesNoneDue WORKER self.old.desk.state self.new.desk.state }
@@ -122,7 +119,7 @@ impl<F: Minifilter, B: Base> LocalManager<F, B> {
     // The end of a filter, from where it is.
     fn end(&mut self, filter: FilterId) -> Result<(), Status>
         ensures ends { FilterEnds WORKER filter result self.new.desk.state }
-        ensures settles { EndsFully F.pre_may F.post_may F.drained B.folder B.faults WORKER F.cleanup_may TURNS RESUMPTIONS F.started DRAINED F.completed filter self.old result self.new }
+        ensures settles { EndsFully F.pre_may F.post_may F.drained B.folder B.faults WORKER F.cleanup_may TURNS RESUMPTIONS F.started F.completed filter self.old result self.new }
         ensures quiet { ArePlainFilters F.pre_may F.post_may F.is_quiet (numbered self.old.filters) → IsAtRest WORKER self.old.desk.state → self.old.desk.resumed.items.items ≡ [] → EndsQuietly WORKER filter self.old.desk.state result self.new.desk.state × IsSettled self.old self.new }
         ensures none_due { LeavesNoneDue WORKER self.old.desk.state self.new.desk.state }
         ensures out { StaysOut WORKER self.old.desk.state self.new.desk.state }
@@ -177,7 +174,7 @@ impl<F: Minifilter, B: Base> LocalManager<F, B> {
     // Tears down the instances of a filter that aren't detached, until one can't be yet.
     fn tear_down_all(&mut self, filter: FilterId) -> Result<(), Status>
         ensures stops { IfErr result (λ status. (i : InstanceId) × TornDown WORKER i (Err status) self.new.desk.state) }
-        ensures tears { TearsDownAll F.pre_may F.post_may F.drained B.folder B.faults WORKER F.cleanup_may TURNS RESUMPTIONS F.started DRAINED F.completed filter self.old result self.new }
+        ensures tears { TearsDownAll F.pre_may F.post_may F.drained B.folder B.faults WORKER F.cleanup_may TURNS RESUMPTIONS F.started F.completed filter self.old result self.new }
         ensures quiet { ArePlainFilters F.pre_may F.post_may F.is_quiet (numbered self.old.filters) → IsAtRest WORKER self.old.desk.state → self.old.desk.resumed.items.items ≡ [] → IsOk result × TearsDownFirst WORKER filter (length self.old.desk.state.stack.instances) self.old.desk.state self.new.desk.state × IsSettled self.old self.new }
         ensures none_due { LeavesNoneDue WORKER self.old.desk.state self.new.desk.state }
         ensures out { StaysOut WORKER self.old.desk.state self.new.desk.state }
@@ -192,7 +189,7 @@ impl<F: Minifilter, B: Base> LocalManager<F, B> {
     // The teardown of an instance, where it is one of the filter and its teardown is under way.
     fn tear_down_if(&mut self, filter: FilterId, instance: InstanceId) -> Result<(), Status>
         ensures stops { IfErr result (λ status. TornDown WORKER instance (Err status) self.new.desk.state) }
-        ensures tears { TearsDownWhere F.pre_may F.post_may F.drained B.folder B.faults WORKER F.cleanup_may TURNS RESUMPTIONS F.started DRAINED F.completed filter (is_to_go filter self.old.desk.state instance) instance self.old result self.new }
+        ensures tears { TearsDownWhere F.pre_may F.post_may F.drained B.folder B.faults WORKER F.cleanup_may TURNS RESUMPTIONS F.started F.completed filter (is_to_go filter self.old.desk.state instance) instance self.old result self.new }
         ensures quiet { ArePlainFilters F.pre_may F.post_may F.is_quiet (numbered self.old.filters) → IsAtRest WORKER self.old.desk.state → self.old.desk.resumed.items.items ≡ [] → IsOk result × TearsDownIf WORKER filter (is_to_go filter self.old.desk.state instance) instance self.old.desk.state self.new.desk.state × IsSettled self.old self.new }
         ensures none_due { LeavesNoneDue WORKER self.old.desk.state self.new.desk.state }
         ensures out { StaysOut WORKER self.old.desk.state self.new.desk.state }
@@ -216,7 +213,7 @@ impl<F: Minifilter, B: Base> LocalManager<F, B> {
     // The teardown of an instance, from where it is.
     fn tear_down(&mut self, instance: InstanceId) -> Result<(), Status>
         ensures ends { TornDown WORKER instance result self.new.desk.state }
-        ensures tears { TearsDownFully F.pre_may F.post_may F.drained B.folder B.faults WORKER F.cleanup_may TURNS RESUMPTIONS F.started DRAINED F.completed instance self.old result self.new }
+        ensures tears { TearsDownFully F.pre_may F.post_may F.drained B.folder B.faults WORKER F.cleanup_may TURNS RESUMPTIONS F.started F.completed instance self.old result self.new }
         ensures quiet { ArePlainFilters F.pre_may F.post_may F.is_quiet (numbered self.old.filters) → IsAtRest WORKER self.old.desk.state → self.old.desk.resumed.items.items ≡ [] → TearsDownQuietly WORKER instance self.old.desk.state result self.new.desk.state × IsSettled self.old self.new }
         ensures goes { ArePlainFilters F.pre_may F.post_may F.is_quiet (numbered self.old.filters) → IsAtRest WORKER self.old.desk.state → self.old.desk.resumed.items.items ≡ [] → is_leaving self.old.desk.state instance ≡ true → IsOk result }
         ensures none_due { LeavesNoneDue WORKER self.old.desk.state self.new.desk.state }
@@ -232,7 +229,7 @@ impl<F: Minifilter, B: Base> LocalManager<F, B> {
 
     // The start of an instance's teardown, unless it was made before, with all that its callbacks resumed.
     fn begin_teardown(&mut self, instance: InstanceId)
-        ensures drains { StartsThenSettles F.pre_may F.post_may F.drained B.folder B.faults WORKER F.cleanup_may TURNS RESUMPTIONS F.started DRAINED instance self.old self.new }
+        ensures drains { StartsThenSettles F.pre_may F.post_may F.drained B.folder B.faults WORKER F.cleanup_may TURNS RESUMPTIONS F.started instance self.old self.new }
         ensures quiet { ArePlainFilters F.pre_may F.post_may F.is_quiet (numbered self.old.filters) → IsAtRest WORKER self.old.desk.state → self.old.desk.resumed.items.items ≡ [] → StartsQuietly WORKER instance self.old.desk.state self.new.desk.state × IsSettled self.old self.new }
         ensures none_due { LeavesNoneDue WORKER self.old.desk.state self.new.desk.state }
         ensures out { StaysOut WORKER self.old.desk.state self.new.desk.state }
@@ -244,7 +241,7 @@ impl<F: Minifilter, B: Base> LocalManager<F, B> {
 
     // The start alone: the filter is told, and lets go of all that it waits for. False where it can't start, or did before.
     fn start_and_drain(&mut self, instance: InstanceId) -> bool
-        ensures drains { StartsAndDrains F.drained (numbered self.old.filters) WORKER instance F.started DRAINED result self.old.desk.state self.new.desk.state }
+        ensures drains { StartsAndDrains F.drained (numbered self.old.filters) WORKER instance F.started result self.old.desk.state self.new.desk.state }
         ensures quiet { ArePlainFilters F.pre_may F.post_may F.is_quiet (numbered self.old.filters) → IsAtRest WORKER self.old.desk.state → result ≡ true → StartsAlone WORKER instance self.old self.new }
         ensures kept { CallsBack self.old self.new }
         ensures none { result ≡ false → self.new ≡ self.old }
@@ -279,20 +276,17 @@ impl<F: Minifilter, B: Base> LocalManager<F, B> {
 
     // Has a stopping instance let go of all that it waits for.
     fn drain_all(&mut self, instance: InstanceId)
-        ensures drains { DrainsAll F.drained (numbered self.old.filters) WORKER instance DRAINED self.old.desk.state self.new.desk.state }
+        ensures drains { DrainsAll F.drained (numbered self.old.filters) WORKER instance self.old.desk.state self.new.desk.state }
         ensures kept { CallsBack self.old self.new }
         ensures none { self.old.desk.state.flow.operations ≡ [] → self.new ≡ self.old }
         ensures out { StaysOut WORKER self.old.desk.state self.new.desk.state }
     {
-        for _made in 0..DRAINED {
-            if !self.drain_first(instance) {
-                return;
-            }
-        }
+        while self.drain_first(instance) {}
     }
 
     // Has it let go of what the first operation owes it; false where none does.
     fn drain_first(&mut self, instance: InstanceId) -> bool
+        ensures less { result ≡ true → left_to_drain instance self.new.desk.state < left_to_drain instance self.old.desk.state }
         ensures drains { DrainsSome F.drained (numbered self.old.filters) WORKER instance result self.old.desk.state self.new.desk.state }
         ensures kept { CallsBack self.old self.new }
         ensures none { self.old.desk.state.flow.operations ≡ [] → (result ≡ false) × (self.new ≡ self.old) }

@@ -140,13 +140,7 @@ impl<W: Write + Drop> Runner<W> {
         };
         let state = self.interpreter.state();
         let contexts = self.interpreter.contexts().as_slice();
-        Ok(read_with_bytes(
-            state,
-            contexts,
-            keyword,
-            &[*one, *other],
-            bytes,
-        ))
+        Ok(read_with_bytes(state, contexts, keyword, &[*one, *other], bytes))
     }
 
     // The bytes that a word spells.

@@ -101,7 +101,7 @@ impl Stack {
 
 // The events.
 impl Stack {
-    /// Begins the dismount of a volume (`FltDismountVolume`), of whose operations that many aren't
+    /// Begins the dismount of a volume (`FSCTL_DISMOUNT_VOLUME`), of whose operations that many aren't
     /// collected: nothing is attached to it any more, and its attached instances are stopping; nobody is
     /// asked, and one in its setup stays there. Refused, with nothing changed, in this order: `NoVolume`
     /// (7), `Dismounting` (33) where a dismount has begun already, `Busy` (34) with the number of

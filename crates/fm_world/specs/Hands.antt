@@ -23,7 +23,7 @@ hand_len k w = length (hand_of w.contexts.hands k)
 abbrev pub worker_pairs : World → ℕ
 worker_pairs w = pairs_in w.contexts.hands
 
--- what all workers hold changed by what this one's hand changed by: no other hand did
+-- what all workers hold together changed by what this one's hand changed by. (That no other hand changed follows from each event's own relation.)
 abbrev pub OnlyHandOf : ℕ → World → World → Type 0
 OnlyHandOf k old new = worker_pairs new + hand_len k old ≡ worker_pairs old + hand_len k new
 

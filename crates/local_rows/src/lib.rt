@@ -4,9 +4,19 @@
 #[cfg(test)]
 mod asked;
 #[cfg(test)]
+mod binding_tests;
+#[cfg(test)]
+mod binds;
+#[cfg(test)]
+mod careless;
+#[cfg(test)]
+mod careless_tests;
+#[cfg(test)]
 mod declines;
 #[cfg(test)]
 mod forgets;
+#[cfg(test)]
+mod memory_tests;
 #[cfg(test)]
 mod report_tests;
 #[cfg(test)]
@@ -17,3 +27,5 @@ mod samples;
 mod steps;
 #[cfg(test)]
 mod teardown_tests;
+#[cfg(test)]
+mod tells_apart;

@@ -29,6 +29,10 @@ pub enum Step<'a> {
     Rounds(u32, Line<'a>, Line<'a>),
     /// The next operation that is finished, and its reply.
     Finishes(u64, Told<'a>),
+    /// So many reads are held, of operations that follow each other from that number on.
+    HoldsReads(u64, u64),
+    /// So many of them are finished, in order, each with that reply.
+    FinishesAll(u64, u64, Told<'a>),
     /// No other one is finished.
     FinishesNone,
     /// The filter of that name is loaded, and declines to be attached.
@@ -150,6 +154,17 @@ fn take<F: Minifilter>(rt: &impl Abort, alloc: Global, manager: &mut Manager<F>,
             }
         }
         Step::Finishes(number, told) => see_finished(rt, manager, number, told),
+        Step::HoldsReads(first, count) => {
+            for number in first..first.saturating_add(count) {
+                let held = (Ask::Read(0, 0, 0), Told::Held(number));
+                ask(rt, alloc, manager, held);
+            }
+        }
+        Step::FinishesAll(first, count, told) => {
+            for number in first..first.saturating_add(count) {
+                see_finished(rt, manager, number, told);
+            }
+        }
         Step::FinishesNone => assert!(rt; manager.finished().is_none()),
         Step::Declines(name) => see_declined(rt, manager, named(rt, name)),
         Step::Detaches(wanted) => assert!(rt; manager.detach(INSTANCE) == wanted),

@@ -98,6 +98,57 @@ fn detach_below_a_held_read(rt: HostRuntime) {
     run_samples(&rt, rt.alloc(), &CARRY_ABOVE_HOLD, &DRAINED);
 }
 
+// More reads than a hand has places, and one flush that has all of them go on, in order.
+const FLUSHED_ALL: [Step; 5] = [
+    Step::Asks(Ask::Create(b"x"), DONE),
+    Step::HoldsReads(1, 20),
+    Step::Asks(Ask::Flush(0), DONE),
+    Step::FinishesAll(1, 20, DONE),
+    Step::FinishesNone,
+];
+
+// More reads than there are workers are held below, and drained as the instance above them is detached.
+const DRAINED_ALL: [Step; 12] = [
+    Step::Asks(Ask::Create(b"x"), DONE),
+    Step::HoldsReads(1, 60),
+    Step::Counts(Count::InFlight, 60),
+    Step::Detaches(Ok(())),
+    Step::Counts(Count::InFlight, 0),
+    Step::Counts(Count::Born, 1),
+    Step::Counts(Count::Cleaned, 1),
+    Step::Counts(Count::Left, 0),
+    Step::Asks(Ask::Flush(0), DONE),
+    Step::FinishesAll(1, 60, DONE),
+    Step::FinishesNone,
+    Step::Asks(Ask::Close(0), DONE),
+];
+
+#[test]
+fn many_held_reads(rt: HostRuntime) {
+    run_samples(&rt, rt.alloc(), &HOLD, &FLUSHED_ALL);
+    run_samples(&rt, rt.alloc(), &CARRY_ABOVE_HOLD, &DRAINED_ALL);
+}
+
+const HOLD_ABOVE_CARRY: [Row<Kind>; 2] = [
+    (b"hold", Kind::Hold, b"200"),
+    (b"carry", Kind::Carry, b"100"),
+];
+
+// The handle is closed when the read comes to the carry: that it has no context there can't be told, so none is made.
+const CLOSED_ABOVE: [Step; 6] = [
+    Step::Asks(Ask::Create(b"x"), DONE),
+    Step::Asks(Ask::Read(0, 0, 0), Told::Held(1)),
+    Step::Asks(Ask::Close(0), DONE),
+    Step::Detaches(Ok(())),
+    Step::Finishes(1, Told::Done(Status::NoHandle, 0, b"")),
+    Step::Counts(Count::Born, 0),
+];
+
+#[test]
+fn carry_of_a_closed_handle(rt: HostRuntime) {
+    run_samples(&rt, rt.alloc(), &HOLD_ABOVE_CARRY, &CLOSED_ABOVE);
+}
+
 const STAY_BETWEEN: [Row<Kind>; 3] = [
     (b"stay", Kind::Stay, b"200"),
     (b"hold", Kind::Hold, b"100"),

@@ -9,7 +9,6 @@ pub returns-in-Existing : goal.returns-in-Existing
 returns-in-Existing c = record {
   makes = opened c.args.mode c.args.path.now _ c.in-Existing.is c.if-contains_key.ensures;
   sound = λ e. cc;
-  last = λ e. cc;
 }
 
 pub returns-in-Existing-mode-clause-makes : goal.returns-in-Existing-mode-clause-makes
@@ -21,4 +20,4 @@ returns-in-New-mode c =
     let exit = makes_or_memory c.args.path.now wanted _ _ _ c.add_file.result
     (fresh c.args.mode c.args.path.now _ c.in-New-mode.is c.if-contains_key.ensures) c.add_file.ensures.ok c.add_file.ensures.err
     c.add_file.ensures.refused in
-    record { makes = exit.0; sound = exit.1; last = exit.2 }
+    record { makes = exit.0; sound = exit.1 }

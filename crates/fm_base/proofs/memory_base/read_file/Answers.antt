@@ -7,6 +7,3 @@ returns-in_default-clause-tells c = told_at (bytes_from c.args.offset c.args.len
 
 pub returns-clause-tells : goal.returns-clause-tells
 returns-clause-tells c = rw (told_at (bytes_from c.args.offset c.args.len) c.args.path.now _ _ (sym c.in-Some.ensures.value)) c.bytes_of.ensures.tells
-
-pub returns-clause-last : goal.returns-clause-last
-returns-clause-last c = rw (told_at (bytes_from c.args.offset c.args.len) c.args.path.now _ _ (sym c.in-Some.ensures.value)) c.bytes_of.ensures.last

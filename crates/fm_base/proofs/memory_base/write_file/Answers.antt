@@ -14,12 +14,11 @@ returns-in_default-clause-makes c = (
 pub returns-in_err-write-clause-makes : goal.returns-in_err-write-clause-makes
 returns-in_err-write-clause-makes c =
     let exit = err_from_is_err_and c.from_residual.result c.from_residual.ensures.1 in
-    rw (exit.1, exit.2) (ap folder_of (kept_entries _ _ c.args.path.now c.in-Some.file.now c.write.new.self
-    (c.get_mut.follows.holds c.write.new.self).0 (sym c.in-Some.ensures.value) c.in_err-write.ensures.err))
-
-pub returns-in_err-write-clause-last : goal.returns-in_err-write-clause-last
-returns-in_err-write-clause-last c = λ _. rw (changed_at (written c.args.offset c.args.bytes.now) c.args.path.now _ _
-    (sym c.in-Some.ensures.value)) refl
+    rw (exit.1, exit.2) (
+      ap folder_of (kept_entries _ _ c.args.path.now c.in-Some.file.now c.write.new.self
+          (c.get_mut.follows.holds c.write.new.self).0 (sym c.in-Some.ensures.value) c.in_err-write.ensures.err),
+      rw (changed_at (written c.args.offset c.args.bytes.now) c.args.path.now _ _ (sym c.in-Some.ensures.value)) refl,
+    )
 
 pub returns-clause-makes : goal.returns-clause-makes
 returns-clause-makes c =

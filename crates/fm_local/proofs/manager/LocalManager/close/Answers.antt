@@ -1,49 +1,44 @@
-use Rattle.fm_local.proofs.Words.{◌∙◌, refl, sym, FileRequest, Request, WORKER}
-use Rattle.fm_local.proofs.Refusing.{refuses_cleanup, refuses_close}
-use Rattle.fm_local.proofs.Answering.{ready_after, answers_close, answers_cleanup}
+use Rattle.fm_local.proofs.Words.{Err, Ok, FileRequest, Request, WORKER, RESUMPTIONS, TURNS}
+use Rattle.fm_local.proofs.Places.{begun_out}
+use Rattle.fm_local.proofs.NoneDue.{none_begun}
+use Rattle.fm_local.proofs.Refusing.{not_begun, refuses_close}
+use Rattle.fm_local.proofs.Answering.{answers_closed, answers_refused}
 use Rattle.fm_local.proofs.manager.LocalManager.close.Goals as goal
 
-pub returns-then-not-goes_on-clause-fold : goal.returns-then-not-goes_on-clause-fold
-returns-then-not-goes_on-clause-fold g c ready =
-    answers_cleanup g.F.Minifilter.pre_may g.F.Minifilter.post_may g.F.Minifilter.is_quiet g.B.Base.folder g.B.Base.faults WORKER c.args.self.now ready c.laws.ensures c.args.handle
-    c.perform-cleanup.result c.perform-cleanup.new.self (c.perform-cleanup.ensures.does ready) (sym c.goes_on.ensures ∙ c.if-not-goes_on.true)
+pub returns-in-Ok-clause-fold : goal.returns-in-Ok-clause-fold
+returns-in-Ok-clause-fold g c ready =
+    answers_closed g.F.Minifilter.pre_may g.F.Minifilter.post_may g.F.Minifilter.is_quiet g.B.Base.folder g.B.Base.faults WORKER c.args.self.now ready c.laws.ensures c.args.handle c.in-Ok.cleanup
+    c.begin.new.self c.in-Ok.ensures.event c.close_after.result c.close_after.new.self c.close_after.ensures.does
 
-pub returns-clause-fold : goal.returns-clause-fold
-returns-clause-fold g c ready =
-    let first = c.perform-cleanup.ensures.does ready in
-    let again =
-    ready_after g.F.Minifilter.pre_may g.F.Minifilter.post_may g.F.Minifilter.is_quiet g.B.Base.folder g.B.Base.faults WORKER c.args.self.now ready c.laws.ensures
-    (Request.OnHandle c.args.handle FileRequest.Cleanup) c.perform-cleanup.result c.perform-cleanup.new.self first in
-    answers_close g.F.Minifilter.pre_may g.F.Minifilter.post_may g.F.Minifilter.is_quiet g.B.Base.folder g.B.Base.faults WORKER c.args.self.now ready c.laws.ensures c.args.handle
-    c.perform-cleanup.result c.perform-cleanup.new.self first (sym c.goes_on.ensures ∙ c.if-not-goes_on.false) c.perform.result c.perform.new.self (c.perform.ensures.does again)
+pub returns-in-Err-clause-fold : goal.returns-in-Err-clause-fold
+returns-in-Err-clause-fold g c ready =
+    answers_refused g.F.Minifilter.pre_may g.F.Minifilter.post_may g.F.Minifilter.is_quiet g.B.Base.folder g.B.Base.faults WORKER c.args.self.now ready c.laws.ensures c.args.handle c.in-Err.status
+    c.begin.new.self c.in-Err.ensures.event c.close_where_cleaned.result c.close_where_cleaned.new.self c.close_where_cleaned.ensures.does
+    g.F.Minifilter.drained g.F.Minifilter.cleanup_may TURNS RESUMPTIONS c.close_where_cleaned.ensures.closes
 
-pub returns-then-not-goes_on-clause-refused : goal.returns-then-not-goes_on-clause-refused
-returns-then-not-goes_on-clause-refused g c = refuses_cleanup c.args.self.now c.args.handle c.perform-cleanup.result c.perform-cleanup.new.self c.perform-cleanup.ensures.refused
+pub returns-in-Ok-clause-refused : goal.returns-in-Ok-clause-refused
+returns-in-Ok-clause-refused g c why refused ends =
+    absurd (not_begun c.args.self.now.desk.state (Request.OnHandle c.args.handle FileRequest.Cleanup) c.in-Ok.cleanup c.begin.new.self c.in-Ok.ensures.event why refused)
 
-pub returns-clause-refused : goal.returns-clause-refused
-returns-clause-refused g c =
-    refuses_close c.args.self.now c.args.handle c.perform-cleanup.result c.perform-cleanup.new.self c.perform-cleanup.ensures.refused (sym c.goes_on.ensures ∙ c.if-not-goes_on.false) c.perform.result
-    c.perform.new.self
+pub returns-in-Err-clause-refused : goal.returns-in-Err-clause-refused
+returns-in-Err-clause-refused g c =
+    refuses_close g.F.Minifilter.pre_may g.F.Minifilter.post_may g.F.Minifilter.drained g.B.Base.folder g.B.Base.faults WORKER g.F.Minifilter.cleanup_may TURNS RESUMPTIONS c.args.self.now c.args.handle
+    c.in-Err.status c.begin.new.self c.in-Err.ensures.event c.close_where_cleaned.result c.close_where_cleaned.new.self c.close_where_cleaned.ensures.closes
 
-pub returns-clause-out : goal.returns-clause-out
-returns-clause-out g c out = c.perform.ensures.out (c.perform-cleanup.ensures.out out)
+pub returns-in-Err-clause-none_due : goal.returns-in-Err-clause-none_due
+returns-in-Err-clause-none_due g c due =
+    c.close_where_cleaned.ensures.none_due (none_begun WORKER c.args.self.now.desk.state (Request.OnHandle c.args.handle FileRequest.Cleanup) c.in-Err.status c.begin.new.self c.in-Err.ensures.event due)
 
-pub returns-then-not-goes_on-clause-requests : goal.returns-then-not-goes_on-clause-requests
-returns-then-not-goes_on-clause-requests g c =
-    let cleaned = c.perform-cleanup.result in
-    let mid = c.perform-cleanup.new.self in (
-      cleaned,
-      mid,
-      c.perform-cleanup.ensures.requests,
-      rw (sym c.goes_on.ensures ∙ c.if-not-goes_on.true) (refl, refl),
-    )
+pub returns-in-Ok-clause-out : goal.returns-in-Ok-clause-out
+returns-in-Ok-clause-out g c out =
+    c.close_after.ensures.out (begun_out WORKER c.args.self.now.desk.state (Request.OnHandle c.args.handle FileRequest.Cleanup) (Ok c.in-Ok.cleanup) c.begin.new.self c.in-Ok.ensures.event out)
 
-pub returns-clause-requests : goal.returns-clause-requests
-returns-clause-requests g c =
-    let cleaned = c.perform-cleanup.result in
-    let mid = c.perform-cleanup.new.self in (
-      cleaned,
-      mid,
-      c.perform-cleanup.ensures.requests,
-      rw (sym c.goes_on.ensures ∙ c.if-not-goes_on.false) c.perform.ensures.requests,
-    )
+pub returns-in-Err-clause-out : goal.returns-in-Err-clause-out
+returns-in-Err-clause-out g c out =
+    c.close_where_cleaned.ensures.out (begun_out WORKER c.args.self.now.desk.state (Request.OnHandle c.args.handle FileRequest.Cleanup) (Err c.in-Err.status) c.begin.new.self c.in-Err.ensures.event out)
+
+pub returns-in-Ok-clause-requests : goal.returns-in-Ok-clause-requests
+returns-in-Ok-clause-requests g c = (Ok c.in-Ok.cleanup, c.begin.new.self, c.in-Ok.ensures.event, c.close_after.ensures.closes)
+
+pub returns-in-Err-clause-requests : goal.returns-in-Err-clause-requests
+returns-in-Err-clause-requests g c = (Err c.in-Err.status, c.begin.new.self, c.in-Err.ensures.event, c.close_where_cleaned.ensures.closes)

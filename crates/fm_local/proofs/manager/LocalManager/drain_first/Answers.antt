@@ -2,6 +2,7 @@ use Rattle.fm_local.proofs.Words.{Err, Ok, World, ◌∙◌, ap, refl, sym, none
 use Rattle.fm_local.proofs.Places.{drained_out, draining_in, same_out}
 use Rattle.fm_local.proofs.Drained.{drains_none, drains_one, drains_refused}
 use Rattle.fm_local.proofs.Leaving.{drain_same, drained_none}
+use Rattle.fm_local.proofs.Undrained.{drained_less}
 use Rattle.fm_local.proofs.manager.LocalManager.drain_first.Goals as goal
 
 pub returns-in-Ok-Some-clause-drains : goal.returns-in-Ok-Some-clause-drains
@@ -53,3 +54,8 @@ pub returns-in-Err-clause-out : goal.returns-in-Err-clause-out
 returns-in-Err-clause-out g c =
     same_out WORKER c.args.self.now.desk.state c.drain_take.new.self
     (drains_refused g.F.Minifilter.drained (numbered c.args.self.now.filters) WORKER c.args.instance c.args.self.now.desk.state c.in-Err.field-0 c.drain_take.new.self c.in-Err.ensures.event).0
+
+pub returns-in-Ok-Some-clause-less : goal.returns-in-Ok-Some-clause-less
+returns-in-Ok-Some-clause-less g c _ =
+    drained_less WORKER c.args.instance c.args.self.now.desk.state c.in-Ok-Some.operation c.in-Ok-Some.completion c.drain_take.new.self (rw c.in-Ok-Some.field-0-is at c.in-Ok-Some.ensures.event)
+    c.drain_early.result c.drain_early.new.self.desk.state c.drain_early.ensures.ends

@@ -1,23 +1,14 @@
 use Rattle.fm_local.proofs.Words.{WORKER}
-use Rattle.fm_local.proofs.Performing.{runs}
+use Rattle.fm_local.proofs.Performing.{runs_settled}
 use Rattle.fm_local.proofs.manager.LocalManager.run.Goals as goal
 
 pub returns-clause-runs : goal.returns-clause-runs
-returns-clause-runs g c =
-    runs g.F.Minifilter.pre_may g.F.Minifilter.post_may g.F.Minifilter.is_quiet g.B.Base.folder g.B.Base.faults WORKER c.args.operation c.args.self.now c.carry-ended.new.self c.reply_after-reply.new.self
-    c.settle.new.self c.carry-ended.result c.reply_after-reply.result c.carry-ended.ensures.carried c.carry-ended.ensures.quiet c.carry-ended.ensures.kept c.reply_after-reply.ensures.answer c.reply_after-reply.ensures.kept
-    c.settle.ensures.tidies c.settle.ensures.kept
+returns-clause-runs g c plain began settled =
+    runs_settled g.F.Minifilter.pre_may g.F.Minifilter.post_may g.F.Minifilter.is_quiet g.B.Base.folder g.B.Base.faults WORKER c.args.self.now c.run_alone-reply.new.self c.settle.new.self c.run_alone-reply.result
+    c.settle.ensures.tidies c.settle.ensures.kept c.args.operation (c.run_alone-reply.ensures.runs plain began settled)
 
 pub returns-clause-out : goal.returns-clause-out
-returns-clause-out g c out = c.settle.ensures.out (c.reply_after-reply.ensures.out (c.carry-ended.ensures.out out))
+returns-clause-out g c out = c.settle.ensures.out (c.run_alone-reply.ensures.out out)
 
 pub returns-clause-goes : goal.returns-clause-goes
-returns-clause-goes g c = (
-  c.carry-ended.result,
-  c.carry-ended.new.self,
-  c.reply_after-reply.new.self,
-  c.carry-ended.ensures.goes,
-  c.carry-ended.ensures.kept,
-  c.reply_after-reply.ensures.replies,
-  c.settle.ensures.all,
-)
+returns-clause-goes g c = (c.run_alone-reply.new.self, c.run_alone-reply.ensures.goes, c.settle.ensures.all)

@@ -1,4 +1,4 @@
-use Rattle.fm_local.proofs.Words.{err_from_is_err_and, WORKER, RESUMPTIONS, TURNS, DRAINED}
+use Rattle.fm_local.proofs.Words.{err_from_is_err_and, WORKER, RESUMPTIONS, TURNS}
 use Rattle.fm_local.proofs.Readied.{not_ok, settled_both, torn_first, first_still}
 use Rattle.fm_local.proofs.TornDown.{tears_more}
 use Rattle.fm_local.proofs.manager.LocalManager.tear_down_all.Goals as goal
@@ -23,7 +23,7 @@ loop-at-preserved g c = (
       (torn_first WORKER c.args.filter c.loop-at.at old.desk.state now.desk.state new.desk.state first.0 step.1, settled_both old now new first.1 step.2),
   λ before. c.in_ok-tear_down_if.ensures.none_due (c.loop-at.invariant.1 before),
   λ out. c.in_ok-tear_down_if.ensures.out (c.loop-at.invariant.2 out),
-  tears_more g.F.Minifilter.pre_may g.F.Minifilter.post_may g.F.Minifilter.drained g.B.Base.folder g.B.Base.faults WORKER g.F.Minifilter.cleanup_may TURNS RESUMPTIONS g.F.Minifilter.started DRAINED g.F.Minifilter.completed c.args.filter c.loop-at.at c.args.self.now c.loop-at.self c.tear_down_if.new.self c.loop-at.invariant.3 c.in_ok-tear_down_if.ensures.tears,
+  tears_more g.F.Minifilter.pre_may g.F.Minifilter.post_may g.F.Minifilter.drained g.B.Base.folder g.B.Base.faults WORKER g.F.Minifilter.cleanup_may TURNS RESUMPTIONS g.F.Minifilter.started g.F.Minifilter.completed c.args.filter c.loop-at.at c.args.self.now c.loop-at.self c.tear_down_if.new.self c.loop-at.invariant.3 c.in_ok-tear_down_if.ensures.tears,
 )
 
 pub returns-in_err-tear_down_if-clause-out : goal.returns-in_err-tear_down_if-clause-out

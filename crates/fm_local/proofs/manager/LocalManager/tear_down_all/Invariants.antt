@@ -1,4 +1,4 @@
-use Rattle.fm_local.proofs.Words.{[], ◌≡◌, ArePlainFilters, numbered, StaysOut, TearsDownFirst, IsAtRest, WORKER, RESUMPTIONS, TURNS, DRAINED}
+use Rattle.fm_local.proofs.Words.{[], ◌≡◌, ArePlainFilters, numbered, StaysOut, TearsDownFirst, IsAtRest, WORKER, RESUMPTIONS, TURNS}
 use Rattle.fm_local.specs.Quietly.{IsSettled}
 use Rattle.fm_local.specs.Actions.{TearsDownEach}
 use Rattle.fm_local.specs.Cleanups.{LeavesNoneDue}
@@ -10,4 +10,4 @@ invariant-loop-at g l =
     (ArePlainFilters g.F.Minifilter.pre_may g.F.Minifilter.post_may g.F.Minifilter.is_quiet (numbered l.fn.self.filters) → IsAtRest WORKER l.fn.self.desk.state
     → l.fn.self.desk.resumed.items.items ≡ [] → TearsDownFirst WORKER l.filter l.at l.fn.self.desk.state l.self.desk.state × IsSettled l.fn.self l.self)
     × LeavesNoneDue WORKER l.fn.self.desk.state l.self.desk.state × StaysOut WORKER l.fn.self.desk.state l.self.desk.state
-    × TearsDownEach g.F.Minifilter.pre_may g.F.Minifilter.post_may g.F.Minifilter.drained g.B.Base.folder g.B.Base.faults WORKER g.F.Minifilter.cleanup_may TURNS RESUMPTIONS g.F.Minifilter.started DRAINED g.F.Minifilter.completed l.filter l.at l.fn.self l.self
+    × TearsDownEach g.F.Minifilter.pre_may g.F.Minifilter.post_may g.F.Minifilter.drained g.B.Base.folder g.B.Base.faults WORKER g.F.Minifilter.cleanup_may TURNS RESUMPTIONS g.F.Minifilter.started g.F.Minifilter.completed l.filter l.at l.fn.self l.self

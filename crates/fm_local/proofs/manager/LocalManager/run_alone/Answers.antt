@@ -1,0 +1,14 @@
+use Rattle.fm_local.proofs.Words.{WORKER}
+use Rattle.fm_local.proofs.Performing.{runs}
+use Rattle.fm_local.proofs.manager.LocalManager.run_alone.Goals as goal
+
+pub returns-clause-runs : goal.returns-clause-runs
+returns-clause-runs g c =
+    runs g.F.Minifilter.pre_may g.F.Minifilter.post_may g.F.Minifilter.is_quiet g.B.Base.folder g.B.Base.faults WORKER c.args.operation c.args.self.now c.carry-ended.new.self c.reply_after.new.self
+    c.carry-ended.result c.reply_after.result c.carry-ended.ensures.carried c.carry-ended.ensures.quiet c.carry-ended.ensures.kept c.reply_after.ensures.answer c.reply_after.ensures.kept
+
+pub returns-clause-out : goal.returns-clause-out
+returns-clause-out g c out = c.reply_after.ensures.out (c.carry-ended.ensures.out out)
+
+pub returns-clause-goes : goal.returns-clause-goes
+returns-clause-goes g c = (c.carry-ended.result, c.carry-ended.new.self, c.carry-ended.ensures.goes, c.carry-ended.ensures.kept, c.reply_after.ensures.replies)

@@ -18,3 +18,4 @@ pub mod Requests
 pub mod Shifts
 pub mod Turns
 pub mod Visits
+pub mod Offered

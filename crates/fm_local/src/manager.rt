@@ -3,12 +3,12 @@
 ghost use Rattle.std.specs.Prelude.{◌≡◌, ◌++◌, ◌∷◌, [], IfErr, IfOk, cond, length, nat_lt, slice_get, vec_capacity, vec_len};
 ghost use Rattle.std.specs.Borrow.{sem};
 ghost use Rattle.std.specs.List.{IsItemAtMut};
-ghost use Rattle.fm_local.specs.Actions.{ArePlainFilters, IsReady};
 ghost use Rattle.fm_local.specs.Calls.{LoadsAs, Numbers, placed};
 ghost use Rattle.fm_world.specs.Events.{Mounts};
 ghost use Rattle.fm_local.specs.Cleanups.{HasNoneDue, LeavesNoneDue};
 ghost use Rattle.fm_local.specs.Lending.{LendsBase};
-ghost use Rattle.fm_local.specs.Managers.{HasRooms, handed_in};
+ghost use Rattle.fm_local.specs.Managers.{HasRooms};
+ghost use Rattle.fm_local.specs.Offered.{Ready, StaysReady, StaysReadyIfPlain};
 ghost use Rattle.fm_local.specs.Places.{IsOut, StaysOut};
 ghost use Rattle.fm_world.specs.World.{empty_world};
 
@@ -58,7 +58,7 @@ impl<F: Minifilter, B: Base> LocalManager<F, B> {
     /// 256 operations that were resumed and 256 that ended, and for the steps and the leaks that can be read. Refused with 1.
     pub fn new(alloc: Global, filters: Vec<(Name, F)>) -> Result<LocalManager<F, B>, Status>
         ensures empty { IfOk result (λ manager. (manager.desk.state ≡ empty_world) × (manager.filters.all ≡ filters) × (manager.bases.items ≡ [])) }
-        ensures ready { IfOk result (λ manager. IsReady F.pre_may F.post_may F.is_quiet B.folder B.faults WORKER manager) }
+        ensures ready { IfOk result (Ready F.Minifilter B.Base) }
         ensures none_due { IfOk result (λ manager. HasNoneDue WORKER manager.desk.state) }
         ensures out { IfOk result (λ manager. IsOut WORKER manager.desk.state) }
         ensures room { IfOk result HasRooms }
@@ -131,7 +131,7 @@ impl<F: Minifilter, B: Base> LocalManager<F, B> {
     pub fn load(&mut self, name: &Name) -> Result<FilterId, Status>
         ensures event { LoadsAs F.registers self.old.filters self.old.desk.state name.now result self.new.desk.state }
         ensures numbers { IfOk result (λ filter. Numbers self.old.filters name.now filter self.new.filters) }
-        ensures ready { ArePlainFilters F.pre_may F.post_may F.is_quiet (handed_in self.old.filters) → IsReady F.pre_may F.post_may F.is_quiet B.folder B.faults WORKER self.old → IsReady F.pre_may F.post_may F.is_quiet B.folder B.faults WORKER self.new }
+        ensures ready { StaysReadyIfPlain F.Minifilter B.Base self.old self.new }
         ensures none_due { LeavesNoneDue WORKER self.old.desk.state self.new.desk.state }
         ensures out { StaysOut WORKER self.old.desk.state self.new.desk.state }
         ensures refused { IfErr result (λ _. self.new.filters ≡ self.old.filters) }
@@ -153,7 +153,7 @@ impl<F: Minifilter, B: Base> LocalManager<F, B> {
         ensures event { Mounts self.old.desk.state name result self.new.desk.state }
         ensures base { IfOk result (λ _. self.new.bases.items ≡ placed self.old base) }
         ensures refused { IfErr result (λ _. self.new.bases.items ≡ self.old.bases.items) }
-        ensures ready { IsReady F.pre_may F.post_may F.is_quiet B.folder B.faults WORKER self.old → IsReady F.pre_may F.post_may F.is_quiet B.folder B.faults WORKER self.new }
+        ensures ready { StaysReady F.Minifilter B.Base self.old self.new }
         ensures none_due { LeavesNoneDue WORKER self.old.desk.state self.new.desk.state }
         ensures out { StaysOut WORKER self.old.desk.state self.new.desk.state }
         ensures kept { self.new.filters ≡ self.old.filters }

@@ -10,6 +10,7 @@ ghost use Rattle.fm_local.specs.Actions.{Acts, AnswersIn, ArePlainFilters, Carri
 ghost use Rattle.fm_local.specs.Bases.{BasesCarry};
 ghost use Rattle.fm_local.specs.Cleanups.{HasNoneDue, LeavesNoneDue};
 ghost use Rattle.fm_local.specs.Managers.{numbered};
+ghost use Rattle.fm_local.specs.Offered.{AnswersAny, AnswersReady};
 ghost use Rattle.fm_local.specs.Places.{StaysOut};
 ghost use Rattle.fm_local.specs.Requests.{Tidies};
 ghost use Rattle.fm_local.specs.Turns.{Does};
@@ -51,9 +52,9 @@ impl<F: Minifilter, B: Base> LocalManager<F, B> {
     /// resumed goes on after the whole request, in the order of the resumptions, and what is due is cleaned up. A manager that is ready (all its filters plain, nothing under way or
     /// being torn down) answers with the fold of its filters over its file systems, never with `Held`, and is ready again.
     pub fn answer(&mut self, request: Request) -> Reply
-        ensures fold { IsReady F.pre_may F.post_may F.is_quiet B.folder B.faults WORKER self.old → AnswersIn F.pre_may F.post_may F.is_quiet B.folder B.faults WORKER request self.old result self.new }
+        ensures fold { AnswersReady F.Minifilter B.Base request self.old result self.new }
         ensures refused { RefusesIn request self.old result self.new }
-        ensures requests { Requests F.pre_may F.post_may F.drained B.folder B.faults WORKER F.cleanup_may TURNS RESUMPTIONS request self.old result self.new }
+        ensures requests { AnswersAny F.Minifilter B.Base request self.old result self.new }
         ensures none_due { LeavesNoneDue WORKER self.old.desk.state self.new.desk.state }
         ensures out { StaysOut WORKER self.old.desk.state self.new.desk.state }
     {

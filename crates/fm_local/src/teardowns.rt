@@ -1,13 +1,14 @@
 //! How instances come and go, with all callbacks in between.
 
 ghost use Rattle.std.specs.Prelude.{◌≡◌, ◌<◌, false, true, [], Err, IfErr, IsOk, length, slice_get};
-ghost use Rattle.fm_local.specs.Actions.{ArePlainFilters, AsksThenSettles, AttachesThenSettles, CallsBack, DetachesThenSettles, EndsFully, IsReady, OnlyState, SetsUpThenSettles, StartsThenSettles, TearsDownAll, TearsDownFully, TearsDownWhere, TellsThenSettles, UnloadsThenSettles};
+ghost use Rattle.fm_local.specs.Actions.{ArePlainFilters, AsksThenSettles, CallsBack, EndsFully, OnlyState, SetsUpThenSettles, StartsThenSettles, TearsDownAll, TearsDownFully, TearsDownWhere, TellsThenSettles};
 ghost use Rattle.fm_local.specs.Calls.{AgreesAt, Asks, AsksToUnload, AttachesAs, DetachesAs, EndsTidily, FilterEnds, MayAgree, SetupEnds, TornDown, UnloadsAs, is_leaving, is_to_go, is_unloading};
 ghost use Rattle.fm_local.specs.Cleanups.{HasNoneDue, LeavesNoneDue};
 ghost use Rattle.fm_local.specs.Drains.{DrainsAll, DrainsSome, StartsAndDrains, left_to_drain};
 ghost use Rattle.fm_local.specs.Managers.{numbered};
+ghost use Rattle.fm_local.specs.Offered.{AttachesAny, AttachesReady, DetachesAny, DetachesReady, StaysReadyAlike, UnloadsAny, UnloadsReady};
 ghost use Rattle.fm_local.specs.Places.{ComesOut, StaysOut};
-ghost use Rattle.fm_local.specs.Quietly.{AsksQuietly, AttachesQuietly, CompletesQuietly, DetachesQuietly, EndsQuietly, IsSettled, LeavesReady, SetUpQuietly, StartsAlone, StartsQuietly, TearsDownFirst, TearsDownIf, TearsDownQuietly, UnloadsQuietly, WasTold};
+ghost use Rattle.fm_local.specs.Quietly.{AsksQuietly, CompletesQuietly, EndsQuietly, IsSettled, SetUpQuietly, StartsAlone, StartsQuietly, TearsDownFirst, TearsDownIf, TearsDownQuietly, WasTold};
 ghost use Rattle.fm_local.specs.Requests.{IsAtRest};
 ghost use Rattle.fm_world.specs.Events.{is_stopping_row};
 ghost use Rattle.fm_world.specs.Teardowns.{CompletesTeardown};
@@ -34,9 +35,9 @@ impl<F: Minifilter, B: Base> LocalManager<F, B> {
         altitude: Altitude,
     ) -> Result<InstanceId, Status>
         ensures events { AttachesAs (AgreesAt F.setup_may self.old.filters) self.old.desk.state WORKER filter volume name altitude result self.new.desk.state }
-        ensures settles { AttachesThenSettles F.pre_may F.post_may F.drained B.folder B.faults WORKER F.cleanup_may TURNS RESUMPTIONS (AgreesAt F.setup_may self.old.filters) filter volume name altitude self.old result self.new }
-        ensures quiet { IsReady F.pre_may F.post_may F.is_quiet B.folder B.faults WORKER self.old → AttachesQuietly (AgreesAt F.setup_may self.old.filters) self.old.desk.state WORKER filter volume name altitude result self.new.desk.state }
-        ensures ready { IsReady F.pre_may F.post_may F.is_quiet B.folder B.faults WORKER self.old → LeavesReady F.pre_may F.post_may F.is_quiet B.folder B.faults WORKER self.old self.new }
+        ensures settles { AttachesAny F.Minifilter B.Base filter volume name altitude self.old result self.new }
+        ensures quiet { AttachesReady F.Minifilter B.Base filter volume name altitude self.old result self.new }
+        ensures ready { StaysReadyAlike F.Minifilter B.Base self.old self.new }
         ensures none_due { LeavesNoneDue WORKER self.old.desk.state self.new.desk.state }
         ensures out { StaysOut WORKER self.old.desk.state self.new.desk.state }
     {
@@ -74,9 +75,9 @@ impl<F: Minifilter, B: Base> LocalManager<F, B> {
     /// filter has agreed, and not behind that.
     pub fn detach(&mut self, instance: InstanceId) -> Result<(), Status>
         ensures events { DetachesAs (AgreesAt F.query_may self.old.filters) self.old.desk.state WORKER instance result self.new.desk.state }
-        ensures settles { DetachesThenSettles F.pre_may F.post_may F.drained B.folder B.faults WORKER F.cleanup_may TURNS RESUMPTIONS F.started F.completed (is_leaving self.old.desk.state instance) (AgreesAt F.query_may self.old.filters) instance self.old result self.new }
-        ensures quiet { IsReady F.pre_may F.post_may F.is_quiet B.folder B.faults WORKER self.old → DetachesQuietly WORKER instance (AgreesAt F.query_may self.old.filters) self.old.desk.state result self.new.desk.state }
-        ensures ready { IsReady F.pre_may F.post_may F.is_quiet B.folder B.faults WORKER self.old → LeavesReady F.pre_may F.post_may F.is_quiet B.folder B.faults WORKER self.old self.new }
+        ensures settles { DetachesAny F.Minifilter B.Base instance self.old result self.new }
+        ensures quiet { DetachesReady F.Minifilter B.Base instance self.old result self.new }
+        ensures ready { StaysReadyAlike F.Minifilter B.Base self.old self.new }
         ensures none_due { LeavesNoneDue WORKER self.old.desk.state self.new.desk.state }
         ensures out { StaysOut WORKER self.old.desk.state self.new.desk.state }
     {
@@ -92,9 +93,9 @@ impl<F: Minifilter, B: Base> LocalManager<F, B> {
     /// goes on where it stopped. A manager that is ready makes these events and no others, but for cleanups, and is ready again.
     pub fn unload(&mut self, filter: FilterId) -> Result<(), Status>
         ensures events { UnloadsAs F.unload_may self.old.filters self.old.desk.state WORKER filter result self.new.desk.state }
-        ensures settles { UnloadsThenSettles F.pre_may F.post_may F.drained B.folder B.faults WORKER F.cleanup_may TURNS RESUMPTIONS F.started F.completed filter (is_unloading self.old.desk.state filter) (MayAgree F.unload_may (numbered self.old.filters filter.0)) self.old result self.new }
-        ensures quiet { IsReady F.pre_may F.post_may F.is_quiet B.folder B.faults WORKER self.old → UnloadsQuietly WORKER filter (MayAgree F.unload_may (numbered self.old.filters filter.0)) self.old.desk.state result self.new.desk.state }
-        ensures ready { IsReady F.pre_may F.post_may F.is_quiet B.folder B.faults WORKER self.old → LeavesReady F.pre_may F.post_may F.is_quiet B.folder B.faults WORKER self.old self.new }
+        ensures settles { UnloadsAny F.Minifilter B.Base filter self.old result self.new }
+        ensures quiet { UnloadsReady F.Minifilter B.Base filter self.old result self.new }
+        ensures ready { StaysReadyAlike F.Minifilter B.Base self.old self.new }
         ensures none_due { LeavesNoneDue WORKER self.old.desk.state self.new.desk.state }
         ensures out { StaysOut WORKER self.old.desk.state self.new.desk.state }
     {

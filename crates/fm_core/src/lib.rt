@@ -11,6 +11,7 @@ mod contexts;
 mod descent;
 mod dismounts;
 mod drains;
+mod ending;
 mod file_name;
 mod files;
 mod holds;

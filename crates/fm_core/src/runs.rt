@@ -6,6 +6,8 @@ ghost use Rattle.fm_core.specs.Returned.{status_of};
 ghost use Rattle.fm_world.specs.Events.{BaseReturns, PostReturns, PreReturns};
 ghost use Rattle.fm_world.specs.Steps.{Steps, RunThrough};
 ghost use Rattle.fm_world.specs.Headline.{Headline};
+ghost use Rattle.fm_world.specs.Hands.{HoldsNone, KeepsHands, OnlyHandOf};
+ghost use Rattle.fm_world.specs.StepHands.{HandsAfter, worker_of};
 
 use crate::state::State;
 use fm_data::{Answer, BaseCall, CallbackData, PostVerdict, PreVerdict};
@@ -31,14 +33,17 @@ impl State {
         verdict: PreVerdict,
         lent: CallbackData,
     ) -> Result<(), Status>
-        ensures { PreReturns self.old worker verdict lent result self.new }
+        ensures event { PreReturns self.old worker verdict lent result self.new }
+        ensures hand { OnlyHandOf worker.0 self.old self.new }
+        ensures held { HoldsNone worker.0 result self.old self.new }
     {
         without_data(self.pre_returned(worker, verdict, lent))
     }
 
     // A base call's return, of which nothing is handed back.
     fn base_done(&mut self, worker: WorkerId, call: BaseCall, answer: Answer) -> Result<(), Status>
-        ensures { BaseReturns self.old worker call answer result self.new }
+        ensures event { BaseReturns self.old worker call answer result self.new }
+        ensures hand { KeepsHands self.old self.new }
     {
         without_data(self.base_returned(worker, call, answer))
     }
@@ -50,14 +55,19 @@ impl State {
         verdict: PostVerdict,
         lent: Option<CallbackData>,
     ) -> Result<(), Status>
-        ensures { PostReturns self.old worker verdict lent result self.new }
+        ensures event { PostReturns self.old worker verdict lent result self.new }
+        ensures hand { OnlyHandOf worker.0 self.old self.new }
+        ensures held { HoldsNone worker.0 result self.old self.new }
     {
         without_data(self.post_returned(worker, verdict, lent))
     }
 
-    /// Makes one event, and tells what it answered. What a refusal hands back is dropped.
+    /// Makes one event, and tells what it answered. What a refusal hands back is dropped. Of the workers' hands it changes at most that of the worker that the
+    /// event names, by as much as its kind and its answer say.
+    #[tactic(auto, using(fm_world::proofs::Handing::keeps_held, fm_world::proofs::Handing::setup_left, fm_world::proofs::Handing::query_left, fm_world::proofs::Handing::start_left, fm_world::proofs::Handing::complete_left, fm_world::proofs::Handing::resume_left))]
     pub fn step(&mut self, step: Step) -> StepReply
-        ensures { Steps self.old step result self.new }
+        ensures event { Steps self.old step result self.new }
+        ensures hands { HandsAfter (worker_of step) step result self.old self.new }
     {
         match step {
             Step::Register { name, registration } => StepReply::Filter(self.register(

@@ -278,6 +278,13 @@ impl Flow {
         self.next
     }
 
+    /// How many records of operations there are: also one whose answer was handed out, while a drain of it runs.
+    pub fn operations(&self) -> usize
+        ensures { result ≡ length self.now.operations }
+    {
+        self.operations.len()
+    }
+
     /// How many creates are under way: begun, and answered by neither the base nor a filter.
     pub fn creates(&self) -> usize
         ensures { result ≡ creates self.now }

@@ -37,6 +37,10 @@ abbrev pub is_detached : Phase → Bool
 is_detached phase.Detached = true
 is_detached _ = false
 
+-- one that isn't
+abbrev pub is_left : Instance → Bool
+is_left row = not (is_detached row.phase)
+
 -- whether no instance is there, or one that is detached
 abbrev pub is_gone_at : Option Instance → Bool
 is_gone_at None = true

@@ -6,7 +6,7 @@ ghost use Rattle.fm_stack.specs.Events.{has_name_on, has_altitude_on, new_instan
 ghost use Rattle.fm_stack.specs.Detaching.{in_phase, with_start, is_to_start, is_to_complete};
 ghost use Rattle.fm_stack.specs.Unloading.{is_of, is_left_of, stop_where};
 ghost use Rattle.fm_stack.specs.Dismounting.{is_on};
-ghost use Rattle.fm_stack.specs.Instances.{is_lower, is_live_on};
+ghost use Rattle.fm_stack.specs.Instances.{is_left, is_lower, is_live_on};
 
 use fm_altitude::Altitude;
 use fm_types::{FilterId, Name, VolumeId};
@@ -72,6 +72,13 @@ impl Instance {
             phase: Phase::Setup,
             start: StartMark::NotMade,
         }
+    }
+
+    /// Whether the instance isn't detached.
+    pub fn is_left(&self) -> bool
+        ensures { result ≡ is_left self.now }
+    {
+        !matches!(self.phase, Phase::Detached)
     }
 
     /// Whether the instance is on that volume and isn't detached, so that it takes up its name and its

@@ -9,7 +9,7 @@ ghost use Rattle.fm_stack.specs.StackWorld.{empty_stack};
 ghost use Rattle.fm_stack.specs.Stacks.{IsStack};
 ghost use Rattle.fm_stack.specs.Follows.{Follows};
 ghost use Rattle.fm_stack.specs.Events.{Registers, Mounts, Attaches, SetsUp, is_named, has_name_on, has_altitude_on, register_refusals, mount_refusals, attach_refusals, setup_refusals, is_wanted, is_setup_at, accepted, refused, accept_row, finished, is_emptying_at};
-ghost use Rattle.fm_stack.specs.Instances.{is_live_on, registration_in, registration_of, same_name};
+ghost use Rattle.fm_stack.specs.Instances.{is_left, is_live_on, registration_in, registration_of, same_name};
 ghost use Rattle.fm_types.specs.declared.ids.InstanceId.{InstanceId};
 ghost use Rattle.fm_stack.specs.declared.filter.Filter.{Filter};
 ghost use Rattle.fm_stack.specs.declared.volume.Volume.{Volume};
@@ -121,6 +121,13 @@ impl Stack {
         ensures { result ≡ length self.now.instances }
     {
         self.instances.len()
+    }
+
+    /// How many instances aren't Detached.
+    pub fn instances_left(&self) -> usize
+        ensures { result ≡ count_by is_left self.now.instances }
+    {
+        self.instances.iter().filter(|row| row.is_left()).count()
     }
 
     /// How far the life of a filter has come, if there is one of that id.

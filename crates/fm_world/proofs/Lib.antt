@@ -29,3 +29,5 @@ pub mod Draining
 pub mod Detaching
 pub mod Unloading
 pub mod Dismounting
+pub mod Handing
+pub mod Endings

@@ -17,3 +17,5 @@ pub mod Headline
 pub mod Lasting
 pub mod Sound
 pub mod Hands
+pub mod StepHands
+pub mod Ending

@@ -1,5 +1,8 @@
 //! The events as values, with the answers that they get.
 
+ghost use Rattle.std.specs.Prelude.{◌≡◌};
+ghost use Rattle.fm_world.specs.StepHands.{worker_of};
+
 use crate::set_answer::SetAnswer;
 use fm_altitude::Altitude;
 use fm_ctx::{Due, SetMode};
@@ -220,6 +223,58 @@ pub enum Step {
     FinishVolume {
         volume: VolumeId,
     },
+}
+
+impl Step {
+    /// The worker that makes the event; none where the event names no worker.
+    pub fn worker(&self) -> Option<WorkerId>
+        ensures { result ≡ worker_of self.now }
+    {
+        match self {
+            Step::Register { .. }
+            | Step::Mount { .. }
+            | Step::Begin(_)
+            | Step::Collect { .. }
+            | Step::Finish { .. }
+            | Step::ForceUnload { .. }
+            | Step::EmptyFilter { .. }
+            | Step::FinishFilter { .. }
+            | Step::StartDismount { .. }
+            | Step::DropHandle { .. }
+            | Step::EmptyVolume { .. }
+            | Step::FinishVolume { .. } => None,
+            Step::Attach { worker, .. }
+            | Step::SetupDone { worker, .. }
+            | Step::Next { worker, .. }
+            | Step::PreReturned { worker, .. }
+            | Step::BaseReturned { worker, .. }
+            | Step::PostReturned { worker, .. }
+            | Step::ResumePre { worker, .. }
+            | Step::ResumePost { worker, .. }
+            | Step::FirstHeld { worker, .. }
+            | Step::Allocate { worker, .. }
+            | Step::Set { worker, .. }
+            | Step::Get { worker, .. }
+            | Step::Delete { worker, .. }
+            | Step::Reference { worker, .. }
+            | Step::Release { worker, .. }
+            | Step::ReadBody { worker, .. }
+            | Step::WriteBody { worker, .. }
+            | Step::Bump { worker, .. }
+            | Step::TakeDue { worker }
+            | Step::Cleaned { worker, .. }
+            | Step::AskDetach { worker, .. }
+            | Step::QueryReturned { worker, .. }
+            | Step::StartTeardown { worker, .. }
+            | Step::StartReturned { worker }
+            | Step::DrainTake { worker, .. }
+            | Step::DrainDone { worker }
+            | Step::CompleteTeardown { worker, .. }
+            | Step::CompleteReturned { worker }
+            | Step::AskUnload { worker, .. }
+            | Step::UnloadReturned { worker, .. } => Some(*worker),
+        }
+    }
 }
 
 /// What an event answered.

@@ -31,3 +31,9 @@ Holds text result old new =
 -- a line is printed
 abbrev pub Says : Said → Result (Unit {0}) ScriptEnd → Printed → Printed → Type 0
 Says line result old new = Holds (text_with old.held line) result old new
+
+-- all that was printed goes to the writer, which is given back, and another one, of which `contents` tells what it has, is printed to from then on; the writer
+-- may fail, and stays then
+abbrev pub Changes : {W : Type 0} → W → Result W ScriptEnd → Printed → Printed → (W → Option (List ℕ)) → Type 0
+Changes other (Ok writer) old new contents = Appends old.given (contents writer) old.held × (new ≡ record { given = contents other; held = [] })
+Changes other (Err end) old new contents = (new.held ≡ []) × (end ≡ WriteFault)

@@ -142,6 +142,68 @@ fn spelled(keywords: &[Keyword], word: &[u8]) -> Option<Keyword>
 }
 
 impl Keyword {
+    /// All of them.
+    pub const ALL: [Keyword; 58] = [
+        Keyword::Load,
+        Keyword::Mount,
+        Keyword::Attach,
+        Keyword::List,
+        Keyword::Next,
+        Keyword::Pre,
+        Keyword::Plan,
+        Keyword::Base,
+        Keyword::Post,
+        Keyword::Go,
+        Keyword::Collect,
+        Keyword::Phase,
+        Keyword::Setup,
+        Keyword::SetDone,
+        Keyword::Finish,
+        Keyword::Create,
+        Keyword::Alloc,
+        Keyword::Set,
+        Keyword::Get,
+        Keyword::Del,
+        Keyword::Ref,
+        Keyword::Rel,
+        Keyword::Body,
+        Keyword::WBody,
+        Keyword::Bump,
+        Keyword::Due,
+        Keyword::Cleaned,
+        Keyword::Count,
+        Keyword::Leaks,
+        Keyword::Read,
+        Keyword::Write,
+        Keyword::Size,
+        Keyword::SetSize,
+        Keyword::Flush,
+        Keyword::Delete,
+        Keyword::Cleanup,
+        Keyword::Close,
+        Keyword::Fail,
+        Keyword::Failures,
+        Keyword::Resume,
+        Keyword::ResPost,
+        Keyword::Query,
+        Keyword::Queried,
+        Keyword::Start,
+        Keyword::Started,
+        Keyword::Complete,
+        Keyword::Completed,
+        Keyword::Unload,
+        Keyword::Unloaded,
+        Keyword::EmptyF,
+        Keyword::FinishF,
+        Keyword::Flight,
+        Keyword::Drain,
+        Keyword::Drained,
+        Keyword::Dismount,
+        Keyword::Drop,
+        Keyword::EmptyV,
+        Keyword::FinishV,
+    ];
+
     /// The keyword that a word is, if it is one.
     #[tactic(auto, unfolding(crate::specs::Commands::keyword_read))]
     pub fn read(word: &[u8]) -> Option<Keyword>
@@ -153,8 +215,8 @@ impl Keyword {
         }
     }
 
-    // How a line spells it.
-    fn spelling(self) -> &'static [u8]
+    /// How a line spells it.
+    pub fn spelling(self) -> &'static [u8]
         ensures { result.now ≡ spelling self }
     {
         match self {

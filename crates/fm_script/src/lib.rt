@@ -24,11 +24,14 @@ mod teardown_command;
 mod verdict_command;
 mod words;
 
+pub use crate::context_list::ContextList;
 pub use crate::devices::Devices;
 pub use crate::hexadecimal::{read_hex, write_hex};
 pub use crate::interpreter::Interpreter;
+pub use crate::keyword::Keyword;
 pub use crate::number::{read_id, read_number, read_status};
-pub use crate::reading::script;
+pub use crate::reading::{Listener, read_lines, script};
+pub use crate::runner::{MAX_LINE, Runner, is_silent};
 pub use crate::said::{Said, Word};
 pub use crate::script_end::ScriptEnd;
 pub use crate::task::Task;

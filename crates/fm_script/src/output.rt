@@ -1,12 +1,13 @@
 //! Where a script prints: lines are held back until there are enough of them, or until it is flushed.
 
 ghost use Rattle.std.specs.Prelude.{◌≡◌, []};
-ghost use Rattle.fm_script.specs.Printing.{HandsOver, Says, printed};
+ghost use Rattle.fm_script.specs.Printing.{Changes, HandsOver, Says, printed};
 
 use crate::said::Said;
 use crate::script_end::ScriptEnd;
 use std::alloc::Global;
 use std::io::Write;
+use std::mem;
 
 /// How many bytes are held back at most before they are written.
 const HELD: usize = 8192;
@@ -47,6 +48,15 @@ impl<W: Write + Drop> Output<W> {
     {
         self.write()?;
         self.writer.flush().map_err(|_| ScriptEnd::WriteFault)
+    }
+
+    /// Hands all that was printed to the writer, gives that back, and goes on with another one, with nothing held back. It is WriteFault if the writer
+    /// fails: then it stays, and nothing is held back any more.
+    pub fn change_writer(&mut self, writer: W) -> Result<W, ScriptEnd>
+        ensures { Changes writer result (printed W.contents self.old) (printed W.contents self.new) W.contents }
+    {
+        self.write()?;
+        Ok(mem::replace(&mut self.writer, writer))
     }
 
     fn write(&mut self) -> Result<(), ScriptEnd>

@@ -2,7 +2,7 @@
 
 ghost use Rattle.std.specs.Prelude.{◌≡◌, IfOk, map};
 ghost use Rattle.fm_script.specs.Lines.{ReadsBehind, ReadsBytes, ReadsTask, RunsLine, Spells, is_silent};
-ghost use Rattle.fm_script.specs.Printing.{printed};
+ghost use Rattle.fm_script.specs.Printing.{Changes, printed};
 ghost use Rattle.fm_script.specs.Runs.{Goes, PerformsOr, Refuses};
 ghost use Rattle.fm_script.specs.Words.{words_of};
 ghost use Rattle.fm_script.specs.declared.task.Task.TheVariants as TaskOf;
@@ -27,7 +27,7 @@ use std::alloc::{AllocError, Global};
 use std::io::Write;
 
 /// The most bytes of a line.
-const MAX_LINE: usize = 4096;
+pub const MAX_LINE: usize = 4096;
 
 /// The most steps that one operation takes: 32 visits down, a base call, as many callbacks up, and the end.
 const MAX_STEPS: u32 = 66;
@@ -56,6 +56,22 @@ impl<W: Write + Drop> Runner<W> {
         self.output.flush()
     }
 
+    /// What the lines drive: the manager's state and the contexts by their numbers, to be read between lines.
+    pub fn interpreter(&self) -> &Interpreter
+        ensures { result.now ≡ self.now.interpreter }
+    {
+        &self.interpreter
+    }
+
+    /// Hands all that was printed to the writer, gives that back, and prints to another one from here on. It is WriteFault if the writer fails: then it
+    /// stays, and nothing is held back any more. Nothing else changes.
+    pub fn change_writer(&mut self, writer: W) -> Result<W, ScriptEnd>
+        ensures writers { Changes writer result (printed W.contents self.old.output) (printed W.contents self.new.output) W.contents }
+        ensures stays { self.new.interpreter ≡ self.old.interpreter }
+    {
+        self.output.change_writer(writer)
+    }
+
     /// Runs one line, of which 4,097 bytes are enough: one that is longer than 4,096 is refused. An empty line and a comment do nothing. It is NoMemory if
     /// there is no memory for reading the line or for a note of the script's own, and then nothing else has changed; or if there is none for what it
     /// prints, and WriteFault if the writer fails: then it was done all the same. An event that is refused memory prints that, as any refusal.
@@ -82,8 +98,9 @@ impl<W: Write + Drop> Runner<W> {
         self.output.say(&Said::Refused(status))
     }
 
-    // What a line has to be done. It fails if there is no memory for reading it.
-    fn read(&self, line: &[u8]) -> Result<Result<Task, Status>, AllocError>
+    /// What a line of at most 4,096 bytes that isn't silent has to be done, or why it is refused before anything is done: what `run` does with it. It fails
+    /// if there is no memory for reading it.
+    pub fn read(&self, line: &[u8]) -> Result<Result<Task, Status>, AllocError>
         ensures { IfOk result (ReadsTask (words_of line.now) self.now.interpreter) }
     {
         let mut words = SmallVec::new(self.alloc);
@@ -313,8 +330,8 @@ impl<W: Write + Drop> Runner<W> {
     }
 }
 
-// A line that asks for nothing.
-fn is_silent(line: &[u8]) -> bool
+/// Whether a line asks for nothing: an empty one, and a comment.
+pub fn is_silent(line: &[u8]) -> bool
     ensures { result ≡ is_silent line.now }
 {
     match line {

@@ -16,6 +16,7 @@ mod file_name;
 mod files;
 mod holds;
 mod instances;
+mod names;
 mod operations;
 mod passing;
 mod readers;

@@ -1,10 +1,13 @@
 -- A state with what each worker was lent, and what the events that lend and take back make of both.
-use Rattle.std.specs.Prelude.{◌≡◌, ◌<◌, List, Option, Some, None, Result, Ok, Err, length, slice_index_or, slice_set}
+use Rattle.std.specs.Prelude.{◌≡◌, ◌<◌, ℕ, List, Option, Some, None, Result, Ok, Err, cond, length, nat_le, slice_index_or, slice_set, unwrap_or}
 use Rattle.fm_types.specs.declared.ids.InstanceId.{InstanceId}
 use Rattle.fm_types.specs.declared.ids.OpId.{OpId}
 use Rattle.fm_types.specs.declared.ids.WorkerId.{WorkerId}
 use Rattle.fm_types.specs.declared.status.Status.{Status}
-use Rattle.fm_types.specs.declared.status.Status.TheVariants.{WrongStep}
+use Rattle.fm_types.specs.declared.status.Status.TheVariants.{BadRequest, WrongStep}
+use Rattle.fm_types.specs.Refusals.{Answers}
+use Rattle.fm_data.specs.declared.params.Params.{Params}
+use Rattle.fm_data.specs.Params.{may_replace}
 use Rattle.fm_data.specs.Data.{Data}
 use Rattle.fm_data.specs.declared.answer.Answer.{Answer}
 use Rattle.fm_data.specs.Calls.{BaseCall}
@@ -152,3 +155,60 @@ LentPassesDown old k o i completion new =
 abbrev pub LentPassesUp : Lending → WorkerId → OpId → InstanceId → Lending → Type 0
 LentPassesUp old k o i new =
     (completion : Completion) × (mid : Lending) × LendsNext old k o (Ok (given.Post i completion)) mid × LentPostReturns mid k Finished (Ok tt) new
+
+-- ---- a callback changes what it was lent
+
+-- callback data with other parameters in place of those received, and with another answer; where no bytes are given they stay
+abbrev pub with_params : Params → Data → Data
+with_params p own = record own { changed = Some p }
+
+abbrev pub put_in : Status → ℕ → Option (List ℕ) → Data → Data
+put_in status information bytes own = record own { status = status; information = information; out = unwrap_or bytes own.out }
+
+-- why parameters may not be put in callback data, and that bytes are too many for an answer
+abbrev pub params_refused : Params → Data → Option Status
+params_refused p own = cond (may_replace own.received p) None (Some BadRequest)
+
+abbrev pub out_refused : Option (List ℕ) → Option Status
+out_refused None = None
+out_refused (Some bytes) = cond (nat_le (length bytes) 32768) None (Some BadRequest)
+
+-- why parameters may not be put in what a worker was lent, and what they make of it
+abbrev pub change_refused : Params → Lent → Option Status
+change_refused p (lent.Pre own) = params_refused p own
+change_refused p (lent.Post own) = params_refused p own
+change_refused p lent.Nothing = Some WrongStep
+change_refused p (lent.Base call) = Some WrongStep
+change_refused p lent.Drain = Some WrongStep
+
+abbrev pub changed_in : Params → Lent → Lent
+changed_in p (lent.Pre own) = lent.Pre (with_params p own)
+changed_in p (lent.Post own) = lent.Post (with_params p own)
+changed_in p lent.Nothing = lent.Nothing
+changed_in p (lent.Base call) = lent.Base call
+changed_in p lent.Drain = lent.Drain
+
+-- the same of an answer
+abbrev pub answer_refused : Option (List ℕ) → Lent → Option Status
+answer_refused bytes (lent.Pre own) = out_refused bytes
+answer_refused bytes (lent.Post own) = out_refused bytes
+answer_refused bytes lent.Nothing = Some WrongStep
+answer_refused bytes (lent.Base call) = Some WrongStep
+answer_refused bytes lent.Drain = Some WrongStep
+
+abbrev pub answered_in : Status → ℕ → Option (List ℕ) → Lent → Lent
+answered_in status information bytes (lent.Pre own) = lent.Pre (put_in status information bytes own)
+answered_in status information bytes (lent.Post own) = lent.Post (put_in status information bytes own)
+answered_in status information bytes lent.Nothing = lent.Nothing
+answered_in status information bytes (lent.Base call) = lent.Base call
+answered_in status information bytes lent.Drain = lent.Drain
+
+abbrev pub LentChanges : Lending → WorkerId → Params → Result (Unit {0}) Status → Lending → Type 0
+LentChanges old k p result new =
+    Answers (change_refused p (lent_to old.lent k)) result old new
+    (λ done. new ≡ record old { lent = lend old.lent k (changed_in p (lent_to old.lent k)) })
+
+abbrev pub LentAnswers : Lending → WorkerId → Status → ℕ → Option (List ℕ) → Result (Unit {0}) Status → Lending → Type 0
+LentAnswers old k status information bytes result new =
+    Answers (answer_refused bytes (lent_to old.lent k)) result old new
+    (λ done. new ≡ record old { lent = lend old.lent k (answered_in status information bytes (lent_to old.lent k)) })

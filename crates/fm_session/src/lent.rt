@@ -1,11 +1,12 @@
 //! What a worker is given to do, and what it is lent for it.
 
 ghost use Rattle.std.specs.Prelude.{◌≡◌};
-ghost use Rattle.fm_session.specs.Sessions.{given_by, lent_by};
+ghost use Rattle.fm_types.specs.Refusals.{Answers};
+ghost use Rattle.fm_session.specs.Sessions.{answer_refused, answered_in, change_refused, changed_in, given_by, lent_by, out_refused, params_refused, put_in, with_params};
 
-use fm_data::{BaseCall, CallbackData, Completion};
+use fm_data::{BaseCall, CallbackData, Completion, Params};
 use fm_flow::FlowAction;
-use fm_types::InstanceId;
+use fm_types::{Bytes, InstanceId, Status};
 
 /// What a worker was lent, and hasn't given back.
 #[derive(Drop)]
@@ -71,4 +72,54 @@ impl Lent {
             FlowAction::Moved | FlowAction::Held | FlowAction::Done => Lent::Nothing,
         }
     }
+
+    // Puts other parameters in the data.
+    pub(crate) fn change(&mut self, params: Params) -> Result<(), Status>
+        ensures { Answers (change_refused params self.old) result self.old self.new (λ done. self.new ≡ changed_in params self.old) }
+    {
+        match self {
+            Lent::Pre(lent) => put_params(lent, params),
+            Lent::Post(lent) => put_params(lent, params),
+            Lent::Nothing | Lent::Base(_) | Lent::Drain => Err(Status::WrongStep),
+        }
+    }
+
+    // Puts another answer in the data: a status and a number, and bytes where there are some.
+    pub(crate) fn answer(
+        &mut self,
+        status: Status,
+        information: u64,
+        bytes: Option<Bytes>,
+    ) -> Result<(), Status>
+        ensures { Answers (answer_refused bytes self.old) result self.old self.new (λ done. self.new ≡ answered_in status information bytes self.old) }
+    {
+        match self {
+            Lent::Pre(lent) => put_answer(lent, status, information, bytes),
+            Lent::Post(lent) => put_answer(lent, status, information, bytes),
+            Lent::Nothing | Lent::Base(_) | Lent::Drain => Err(Status::WrongStep),
+        }
+    }
+}
+
+// Other parameters for callback data.
+fn put_params(lent: &mut CallbackData, params: Params) -> Result<(), Status>
+    ensures { Answers (params_refused params lent.old) result lent.old lent.new (λ done. lent.new ≡ with_params params lent.old) }
+{
+    lent.change(params)
+}
+
+// Another answer for callback data.
+fn put_answer(
+    lent: &mut CallbackData,
+    status: Status,
+    information: u64,
+    bytes: Option<Bytes>,
+) -> Result<(), Status>
+    ensures { Answers (out_refused bytes) result lent.old lent.new (λ done. lent.new ≡ put_in status information bytes lent.old) }
+{
+    if let Some(bytes) = bytes {
+        lent.set_out(bytes)?;
+    }
+    lent.set_status(status, information);
+    Ok(())
 }

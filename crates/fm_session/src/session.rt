@@ -1,21 +1,21 @@
 //! The state, and what its workers were lent.
 
-ghost use Rattle.std.specs.Prelude.{◌≡◌, IfErr, IfNone, IfOk, IfSome, replicate};
+ghost use Rattle.std.specs.Prelude.{◌≡◌, IfErr, IfNone, IfOk, IfSome, option_copied, replicate, slice_get};
 ghost use Rattle.fm_world.specs.World.{empty_world};
 ghost use Rattle.fm_world.specs.Events.{Attaches, BaseReturns, Collects, SetsUp};
 ghost use Rattle.fm_world.specs.Steps.{Steps};
 ghost use Rattle.fm_core.specs.Passing.{numbered};
-ghost use Rattle.fm_session.specs.Sessions.{MayPassDown, LentPassesDown, LentPassesUp, LendsNext, LentPreReturns, LentPostReturns, LentBaseReturns, lent_to, lend, lent_by, given_by, pre_in, post_in, base_in, post_lent, lent_back};
+ghost use Rattle.fm_session.specs.Sessions.{MayPassDown, LentPassesDown, LentPassesUp, LendsNext, LentPreReturns, LentPostReturns, LentBaseReturns, LentChanges, LentAnswers, lent_to, lend, lent_by, given_by, pre_in, post_in, base_in, post_lent, lent_back};
 ghost use Rattle.fm_session.specs.declared.lent.Lent.{Lent};
 ghost use Rattle.fm_session.specs.declared.lent.Lent.TheVariants as lent;
 
 use crate::lent::{Given, Lent};
 use fm_altitude::Altitude;
 use fm_core::{Refused, State, Step, StepReply};
-use fm_data::{Answer, BaseCall, CallbackData, PostVerdict, PreVerdict};
+use fm_data::{Answer, BaseCall, CallbackData, Params, PostVerdict, PreVerdict};
 use fm_device::Device;
 use fm_flow::FlowAction;
-use fm_types::{FilterId, InstanceId, Name, OpId, Status, VolumeId, WorkerId};
+use fm_types::{Bytes, FilterId, InstanceId, Name, OpId, Status, VolumeId, WorkerId};
 use std::alloc::Global;
 use std::marker::Model;
 use std::mem;
@@ -58,6 +58,43 @@ impl Session {
         ensures { result.now ≡ self.now.world }
     {
         &self.state
+    }
+
+    /// What a worker was lent and hasn't given back; none where there is no such worker.
+    pub fn lent(&self, worker: WorkerId) -> Option<&Lent>
+        ensures { option_copied result ≡ slice_get self.now.lent worker.0 }
+    {
+        self.lent.get(usize::from(worker.0))
+    }
+
+    /// The callback that the worker is in puts other parameters in place of those that it received, and marks its data dirty (`FltSetCallbackDataDirty`).
+    /// Refused with 30 where the worker was lent no callback data, and with 32 for parameters of another operation, on another path of a create, or past
+    /// a limit. A refusal changes nothing; the state stays in either case. A postoperation's are dropped at its return.
+    pub fn change(&mut self, worker: WorkerId, params: Params) -> Result<(), Status>
+        ensures { LentChanges self.old worker params result self.new }
+    {
+        match self.lent.get_mut(usize::from(worker.0)) {
+            Some(lent) => lent.change(params),
+            None => Err(Status::WrongStep),
+        }
+    }
+
+    /// The callback that the worker is in puts a status and a number in the answer (`IoStatus`), and bytes, where it gives some; else the bytes stay.
+    /// Refused with 30 where the worker was lent no callback data, and with 32 above 32,768 bytes. A refusal changes nothing; the state stays in either
+    /// case.
+    pub fn answer(
+        &mut self,
+        worker: WorkerId,
+        status: Status,
+        information: u64,
+        bytes: Option<Bytes>,
+    ) -> Result<(), Status>
+        ensures { LentAnswers self.old worker status information bytes result self.new }
+    {
+        match self.lent.get_mut(usize::from(worker.0)) {
+            Some(lent) => lent.answer(status, information, bytes),
+            None => Err(Status::WrongStep),
+        }
     }
 
     /// Makes one event, as `State::step` does. What it lends or takes back is the caller's: the session keeps nothing of it.

@@ -8,6 +8,7 @@
 mod dismount;
 pub mod filter;
 pub mod instance;
+mod names;
 mod order;
 pub mod stack;
 mod teardown;

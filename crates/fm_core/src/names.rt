@@ -1,0 +1,37 @@
+//! The names that can be read of a State: of filters, of volumes, and of the files that operations are on.
+
+ghost use Rattle.std.specs.Prelude.{◌≡◌, slice_get, option_map, option_and_then, option_copied};
+ghost use Rattle.fm_stack.specs.declared.filter.Filter.{Filter};
+ghost use Rattle.fm_stack.specs.declared.volume.Volume.{Volume};
+ghost use Rattle.fm_flow.specs.Record.{FlowRecord};
+ghost use Rattle.fm_flow.specs.Table.{operation_at};
+
+use crate::state::State;
+use fm_types::{FilterId, Name, OpId, RelPath, VolumeId};
+
+impl State {
+    /// The name under which a filter was registered (`FLT_FILTER_FULL_INFORMATION`), also after its unload; none where it isn't there.
+    pub fn filter_name(&self, filter: FilterId) -> Option<Name>
+        ensures { result ≡ option_map (λ (row : Filter). row.name) (slice_get self.now.stack.filters filter.0) }
+    {
+        self.stack.filter_name(filter)
+    }
+
+    /// The name under which a volume was mounted (`FltGetVolumeName`), also after its dismount; none where it isn't there.
+    pub fn volume_name(&self, volume: VolumeId) -> Option<Name>
+        ensures { result ≡ option_map (λ (row : Volume). row.name) (slice_get self.now.stack.volumes volume.0) }
+    {
+        self.stack.volume_name(volume)
+    }
+
+    /// The path of the file that an operation is on, as it was when the operation began (`FltGetFileNameInformation`). None for a listing, and where no
+    /// such operation is there.
+    pub fn path_of(&self, operation: OpId) -> Option<&RelPath>
+        ensures { option_copied result ≡ option_and_then (λ (r : FlowRecord). r.path) (operation_at operation self.now.flow) }
+    {
+        match self.flow.record(operation)?.path() {
+            Some(path) => Some(path.path()),
+            None => None,
+        }
+    }
+}

@@ -2,10 +2,12 @@
 //! operation is.
 #![tactic(auto)]
 
+mod bases;
 mod calls;
 mod device;
 mod memory;
 
+pub use crate::bases::Bases;
 pub use crate::calls::call_base;
 pub use crate::device::Device;
 pub use crate::memory::MemoryDevices;

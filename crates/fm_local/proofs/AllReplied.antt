@@ -9,7 +9,7 @@ pub all_replied : {F B : Type 0} (pre : F → Data → PreVerdict → Data → T
 all_replied {F} {B} pre post is_quiet folder faults k [] old [] new ready each = record {
   answers = [];
   say = refl;
-  fold = (ap (λ (m : LocalManager F B). under m.bases.items m.desk.state) each, ap (λ (m : LocalManager F B). m.desk.state.flow.next) each);
+  fold = (ap (λ (m : LocalManager F B). under m.bases.all.items m.desk.state) each, ap (λ (m : LocalManager F B). m.desk.state.flow.next) each);
   ready = subst (IsReady pre post is_quiet folder faults k) (sym each) ready;
 }
 all_replied {F} {B} pre post is_quiet folder faults k [] old (said ∷ replies) new ready each = absurd each
@@ -19,13 +19,13 @@ all_replied {F} {B} pre post is_quiet folder faults k (what ∷ requests) old (s
     let one = each.1 ready in
     let rest = all_replied pre post is_quiet folder faults k requests mid replies new one.ready each.2 in
     let All : Filters F → StackWorld → Type 0 =
-    λ fs s. AnswersAll pre post (BasesCarry folder faults) (numbered fs) s mid.desk.state.flow.next requests (under mid.bases.items mid.desk.state) rest.answers
-    (under new.bases.items new.desk.state) new.desk.state.flow.next in
+    λ fs s. AnswersAll pre post (BasesCarry folder faults) (numbered fs) s mid.desk.state.flow.next requests (under mid.bases.all.items mid.desk.state) rest.answers
+    (under new.bases.all.items new.desk.state) new.desk.state.flow.next in
     record {
       answers = one.answer ∷ rest.answers;
       say = ap₂ (λ x xs. x ∷ xs) one.says rest.say;
       fold = (
-        under mid.bases.items mid.desk.state,
+        under mid.bases.all.items mid.desk.state,
         mid.desk.state.flow.next,
         one.folds,
         subst (λ fs. All fs old.desk.state.stack) one.filters (subst (All mid.filters) one.stays rest.fold),

@@ -42,16 +42,16 @@ module _ {F B : Type 0} (pre : F → Data → PreVerdict → Data → Type 0) (p
 
     pub ready_after : (what : Request) (said : Reply) (new : LocalManager F B) → Performed what old said new → Ready new
     ready_after what said new p =
-        let one = one_tidily pre post is_quiet (BasesCarry folder faults) (numbered old.filters) k ready.plain old.desk.state.stack ready.calm what old.desk.state old.bases.items p.answer
-        new.desk.state new.bases.items here p.does in
+        let one = one_tidily pre post is_quiet (BasesCarry folder faults) (numbered old.filters) k ready.plain old.desk.state.stack ready.calm what old.desk.state old.bases.all.items p.answer
+        new.desk.state new.bases.all.items here p.does in
         ready_again new one.ready p.filters p.settled
 
     answers : (what : Request) (said : Reply) (new : LocalManager F B) (answer : Answer) → said ≡ replied answer
-        → DoesOne pre post (BasesCarry folder faults) (numbered old.filters) k what old.desk.state old.bases.items answer new.desk.state new.bases.items
+        → DoesOne pre post (BasesCarry folder faults) (numbered old.filters) k what old.desk.state old.bases.all.items answer new.desk.state new.bases.all.items
         → new.filters ≡ old.filters → new.desk.resumed.items.items ≡ [] → Answered what old said new
     answers what said new answer says does filters settled =
-        let one = one_done pre post is_quiet (BasesCarry folder faults) (numbered old.filters) k ready.plain old.desk.state.stack ready.calm what old.desk.state old.bases.items answer
-        new.desk.state new.bases.items here does in
+        let one = one_done pre post is_quiet (BasesCarry folder faults) (numbered old.filters) k ready.plain old.desk.state.stack ready.calm what old.desk.state old.bases.all.items answer
+        new.desk.state new.bases.all.items here does in
         record {
           answer = answer;
           says = says;
@@ -71,17 +71,17 @@ module _ {F B : Type 0} (pre : F → Data → PreVerdict → Data → Type 0) (p
     -- a request that is no close
     pub answers_one : (what : Request) → closed_handle what ≡ None → (said : Reply) (new : LocalManager F B) → Performed what old said new → Answered what old said new
     answers_one what no_close said new p =
-        answers what said new p.answer p.says (as_one what no_close old.desk.state old.bases.items p.answer new.desk.state new.bases.items p.does) p.filters p.settled
+        answers what said new p.answer p.says (as_one what no_close old.desk.state old.bases.all.items p.answer new.desk.state new.bases.all.items p.does) p.filters p.settled
 
     -- ---- a close
     module _ (h : HandleId) (cleaned : Reply) (mid : LocalManager F B) (p : Performed (Request.OnHandle h FileRequest.Cleanup) old cleaned mid) where
       abbrev Closes : Status → Answer → LocalManager F B → Type 0
       Closes st answer new =
-          DoesClose pre post (BasesCarry folder faults) (numbered old.filters) k st (Request.OnHandle h FileRequest.Close) mid.desk.state mid.bases.items p.answer answer new.desk.state new.bases.items
+          DoesClose pre post (BasesCarry folder faults) (numbered old.filters) k st (Request.OnHandle h FileRequest.Close) mid.desk.state mid.bases.all.items p.answer answer new.desk.state new.bases.all.items
 
       -- after its cleanup, or where that began before
       closes_after : (st : Status) → is_over st ≡ true → (answer : Answer) (new : LocalManager F B)
-          → DoesTidily pre post (BasesCarry folder faults) (numbered old.filters) k (Request.OnHandle h FileRequest.Close) mid.desk.state mid.bases.items answer new.desk.state new.bases.items
+          → DoesTidily pre post (BasesCarry folder faults) (numbered old.filters) k (Request.OnHandle h FileRequest.Close) mid.desk.state mid.bases.all.items answer new.desk.state new.bases.all.items
           → Closes st answer new
       closes_after Status.Success over answer new does = does
       closes_after Status.WrongStep over answer new does = does
@@ -96,7 +96,7 @@ module _ {F B : Type 0} (pre : F → Data → PreVerdict → Data → Type 0) (p
       closed : (said : Reply) (new : LocalManager F B) (answer : Answer) → said ≡ replied answer → Closes p.answer.status answer new
           → new.filters ≡ old.filters → new.desk.resumed.items.items ≡ [] → Answered (Request.OnHandle h FileRequest.Close) old said new
       closed said new answer says does filters settled =
-          answers (Request.OnHandle h FileRequest.Close) said new answer says (mid.desk.state, mid.bases.items, p.answer, p.does, does) filters settled
+          answers (Request.OnHandle h FileRequest.Close) said new answer says (mid.desk.state, mid.bases.all.items, p.answer, p.does, does) filters settled
 
       -- what was answered says which
       says_status : goes_on cleaned ≡ is_over p.answer.status
@@ -105,8 +105,8 @@ module _ {F B : Type 0} (pre : F → Data → PreVerdict → Data → Type 0) (p
       pub answers_close : goes_on cleaned ≡ true → (said : Reply) (new : LocalManager F B) → Performed (Request.OnHandle h FileRequest.Close) mid said new
           → Answered (Request.OnHandle h FileRequest.Close) old said new
       answers_close over said new q =
-          let does = subst (λ (fs : Filters F). DoesTidily pre post (BasesCarry folder faults) (numbered fs) k (Request.OnHandle h FileRequest.Close) mid.desk.state mid.bases.items q.answer
-          new.desk.state new.bases.items) p.filters q.does in
+          let does = subst (λ (fs : Filters F). DoesTidily pre post (BasesCarry folder faults) (numbered fs) k (Request.OnHandle h FileRequest.Close) mid.desk.state mid.bases.all.items q.answer
+          new.desk.state new.bases.all.items) p.filters q.does in
           closed said new q.answer q.says (closes_after p.answer.status (sym says_status ∙ over) q.answer new does) (q.filters ∙ p.filters) q.settled
 
       pub answers_cleanup : goes_on cleaned ≡ false → Answered (Request.OnHandle h FileRequest.Close) old cleaned mid

@@ -14,7 +14,7 @@ module _ {F B : Type 0} (pre : F → Data → PreVerdict → Data → Type 0) (p
   abbrev pub TurnPromises : LocalManager F B → Turn → LocalManager F B → Type 0
   TurnPromises old ended new =
       ArePlainFilters pre post is_quiet (numbered old.filters)
-      → TurnsAs pre post (BasesCarry folder faults) (numbered old.filters) k o old.desk.state old.bases.items ended new.desk.state new.bases.items
+      → TurnsAs pre post (BasesCarry folder faults) (numbered old.filters) k o old.desk.state old.bases.all.items ended new.desk.state new.bases.all.items
 
   abbrev pub Calm : LocalManager F B → LocalManager F B → Type 0
   Calm old new = ResumesNone pre post is_quiet folder faults k old new
@@ -24,7 +24,7 @@ module _ {F B : Type 0} (pre : F → Data → PreVerdict → Data → Type 0) (p
     pub kept : Keeps old now
     pub calm : Calm old now
     pub turned : ArePlainFilters pre post is_quiet (numbered old.filters) → IsBegun k o old.desk.state
-        → HasTurned pre post (BasesCarry folder faults) (numbered old.filters) k o n old.desk.state old.bases.items now.desk.state now.bases.items
+        → HasTurned pre post (BasesCarry folder faults) (numbered old.filters) k o n old.desk.state old.bases.all.items now.desk.state now.bases.all.items
     pub at_end : IsDoneAt k o old.desk.state → (n ≡ 0) × (now ≡ old)
 
   pub gone_none : (old : LocalManager F B) → HasGone old 0 old
@@ -45,8 +45,8 @@ module _ {F B : Type 0} (pre : F → Data → PreVerdict → Data → Type 0) (p
     calm_both plain = calm (plain_now plain) ∙ gone.calm plain
 
     turns : ArePlainFilters pre post is_quiet (numbered old.filters)
-        → TurnsAs pre post (BasesCarry folder faults) (numbered old.filters) k o now.desk.state now.bases.items ended new.desk.state new.bases.items
-    turns plain = subst (λ (fs : Filters F). TurnsAs pre post (BasesCarry folder faults) (numbered fs) k o now.desk.state now.bases.items ended new.desk.state new.bases.items) same_filters
+        → TurnsAs pre post (BasesCarry folder faults) (numbered old.filters) k o now.desk.state now.bases.all.items ended new.desk.state new.bases.all.items
+    turns plain = subst (λ (fs : Filters F). TurnsAs pre post (BasesCarry folder faults) (numbered fs) k o now.desk.state now.bases.all.items ended new.desk.state new.bases.all.items) same_filters
         (promised (plain_now plain))
 
     -- where nothing was left to do, that was said at once
@@ -68,10 +68,10 @@ module _ {F B : Type 0} (pre : F → Data → PreVerdict → Data → Type 0) (p
       calm = calm_both;
       turned = λ plain began.
           let same : suc n ≡ n + 1 = omega arith in
-          subst (λ (j : ℕ). HasTurned pre post (BasesCarry folder faults) (numbered old.filters) k o j old.desk.state old.bases.items new.desk.state new.bases.items) same
-          (goes_on pre post is_quiet (BasesCarry folder faults) (numbered old.filters) plain k o old.desk.state began n old.bases.items now.desk.state now.bases.items new.desk.state new.bases.items
+          subst (λ (j : ℕ). HasTurned pre post (BasesCarry folder faults) (numbered old.filters) k o j old.desk.state old.bases.all.items new.desk.state new.bases.all.items) same
+          (goes_on pre post is_quiet (BasesCarry folder faults) (numbered old.filters) plain k o old.desk.state began n old.bases.all.items now.desk.state now.bases.all.items new.desk.state new.bases.all.items
           (gone.turned plain began)
-          (subst (λ (t : Turn). TurnsAs pre post (BasesCarry folder faults) (numbered old.filters) k o now.desk.state now.bases.items t new.desk.state new.bases.items) is (turns plain)));
+          (subst (λ (t : Turn). TurnsAs pre post (BasesCarry folder faults) (numbered old.filters) k o now.desk.state now.bases.all.items t new.desk.state new.bases.all.items) is (turns plain)));
       at_end = more_not_done is;
     }
 
@@ -79,14 +79,14 @@ module _ {F B : Type 0} (pre : F → Data → PreVerdict → Data → Type 0) (p
     by_end : (t : Turn) → ended ≡ t → (t ≡ Turn.Goes → ⊥) → CarriesIn pre post is_quiet folder faults k o old t new
     by_end Turn.Goes is not plain began = absurd (not refl)
     by_end Turn.Held is not plain began =
-        absurd (never_held pre post is_quiet (BasesCarry folder faults) (numbered old.filters) plain k o old.desk.state began n old.bases.items now.desk.state now.bases.items new.desk.state new.bases.items
+        absurd (never_held pre post is_quiet (BasesCarry folder faults) (numbered old.filters) plain k o old.desk.state began n old.bases.all.items now.desk.state now.bases.all.items new.desk.state new.bases.all.items
         (gone.turned plain began)
-        (subst (λ (t : Turn). TurnsAs pre post (BasesCarry folder faults) (numbered old.filters) k o now.desk.state now.bases.items t new.desk.state new.bases.items) is (turns plain)))
+        (subst (λ (t : Turn). TurnsAs pre post (BasesCarry folder faults) (numbered old.filters) k o now.desk.state now.bases.all.items t new.desk.state new.bases.all.items) is (turns plain)))
     by_end Turn.Done is not plain began =
         let whole =
-        ends_so pre post is_quiet (BasesCarry folder faults) (numbered old.filters) plain k o old.desk.state began n old.bases.items now.desk.state now.bases.items new.desk.state new.bases.items
+        ends_so pre post is_quiet (BasesCarry folder faults) (numbered old.filters) plain k o old.desk.state began n old.bases.all.items now.desk.state now.bases.all.items new.desk.state new.bases.all.items
         (gone.turned plain began)
-        (subst (λ (t : Turn). TurnsAs pre post (BasesCarry folder faults) (numbered old.filters) k o now.desk.state now.bases.items t new.desk.state new.bases.items) is (turns plain)) in
+        (subst (λ (t : Turn). TurnsAs pre post (BasesCarry folder faults) (numbered old.filters) k o now.desk.state now.bases.all.items t new.desk.state new.bases.all.items) is (turns plain)) in
         (refl, (n, whole))
 
     pub gone_to_end : (ended ≡ Turn.Goes → ⊥) → CarriesIn pre post is_quiet folder faults k o old ended new
@@ -96,7 +96,7 @@ module _ {F B : Type 0} (pre : F → Data → PreVerdict → Data → Type 0) (p
   pub gone_too_far : (old now : LocalManager F B) (n : ℕ) → HasGone old n now → 66 ≤ n → CarriesIn pre post is_quiet folder faults k o old Turn.Held now
   gone_too_far old now n gone many plain began =
       let few : n ≤ 65 =
-      few_turns pre post is_quiet (BasesCarry folder faults) (numbered old.filters) plain k o old.desk.state began n old.bases.items now.desk.state now.bases.items (gone.turned plain began) in
+      few_turns pre post is_quiet (BasesCarry folder faults) (numbered old.filters) plain k o old.desk.state began n old.bases.all.items now.desk.state now.bases.all.items (gone.turned plain began) in
       absurd (omega (arith, few, many))
 
   pub far_not_done : (old now : LocalManager F B) (n : ℕ) → HasGone old n now → 66 ≤ n → IsDoneAt k o old.desk.state → (Turn.Held ≡ Turn.Done) × (now ≡ old)

@@ -13,13 +13,13 @@ module _ {F B : Type 0} (pre : F → Data → PreVerdict → Data → Type 0) (p
     (folder : B → Option Folder) (faults : B → ℕ) (k : WorkerId) (o : OpId) where
   -- of the filters that there were at first
   abbrev pub Turns : LocalManager F B → ℕ → LocalManager F B → Type 0
-  Turns old n now = TakesTurns pre post drained (BasesCarry folder faults) (numbered old.filters) k o n old.desk.state old.bases.items now.desk.state now.bases.items
+  Turns old n now = TakesTurns pre post drained (BasesCarry folder faults) (numbered old.filters) k o n old.desk.state old.bases.all.items now.desk.state now.bases.all.items
 
   abbrev Turned : Filters F → Turn → LocalManager F B → LocalManager F B → Type 0
-  Turned filters ended old new = TakesTurn pre post drained (BasesCarry folder faults) (numbered filters) k o ended old.desk.state old.bases.items new.desk.state new.bases.items
+  Turned filters ended old new = TakesTurn pre post drained (BasesCarry folder faults) (numbered filters) k o ended old.desk.state old.bases.all.items new.desk.state new.bases.all.items
 
   abbrev Goes : ℕ → Turn → LocalManager F B → LocalManager F B → Type 0
-  Goes most ended old new = GoesOn pre post drained (BasesCarry folder faults) (numbered old.filters) k o most ended old.desk.state old.bases.items new.desk.state new.bases.items
+  Goes most ended old new = GoesOn pre post drained (BasesCarry folder faults) (numbered old.filters) k o most ended old.desk.state old.bases.all.items new.desk.state new.bases.all.items
 
   module _ (old now new : LocalManager F B) (same : now.filters ≡ old.filters) (n : ℕ) (taken : Turns old n now) (ended : Turn) (takes : Turned now.filters ended now new) where
     one : Turned old.filters ended now new
@@ -28,13 +28,13 @@ module _ {F B : Type 0} (pre : F → Data → PreVerdict → Data → Type 0) (p
     pub turns_more : ended ≡ Turn.Goes → Turns old (n + 1) new
     turns_more is =
         let more : suc n ≡ n + 1 = omega arith in
-        subst (λ (j : ℕ). Turns old j new) more (now.desk.state, now.bases.items, taken, subst (λ (t : Turn). Turned old.filters t now new) is one)
+        subst (λ (j : ℕ). Turns old j new) more (now.desk.state, now.bases.all.items, taken, subst (λ (t : Turn). Turned old.filters t now new) is one)
 
     pub goes_to_end : (most : ℕ) → Goes most ended old new
-    goes_to_end most = (n, now.desk.state, now.bases.items, taken, inl one)
+    goes_to_end most = (n, now.desk.state, now.bases.all.items, taken, inl one)
 
   pub goes_too_far : (old now : LocalManager F B) (n most : ℕ) → Turns old n now → most ≤ n → Goes most Turn.Held old now
-  goes_too_far old now n most taken many = (n, now.desk.state, now.bases.items, taken, inr (many, refl, refl, refl))
+  goes_too_far old now n most taken many = (n, now.desk.state, now.bases.all.items, taken, inr (many, refl, refl, refl))
 
 -- ---- what callbacks leave as it was
 

@@ -22,7 +22,6 @@ pub mod AllPerformed
 pub mod Performing
 pub mod Answering
 pub mod Tidying
-pub mod BaseCalls
 pub mod AllReplied
 pub mod Resting
 pub mod Leaving

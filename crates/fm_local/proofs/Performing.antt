@@ -43,8 +43,8 @@ module _ {F B : Type 0} (pre : F → Data → PreVerdict → Data → Type 0) (p
     runs plain began settled =
         let c = carried plain began in
         let r = replies c.0 in
-        let bases : now.bases.items ≡ new.bases.items = ap (λ bs. bs.items) (sym (ap (λ (m : LocalManager F B). m.bases) keeps)) in
-        let there = answer_there pre post is_quiet (BasesCarry folder faults) (numbered old.filters) k plain o old.desk.state began c.1.0 old.bases.items now.desk.state now.bases.items c.1.1
+        let bases : now.bases.all.items ≡ new.bases.all.items = ap (λ bs. bs.all.items) (sym (ap (λ (m : LocalManager F B). m.bases) keeps)) in
+        let there = answer_there pre post is_quiet (BasesCarry folder faults) (numbered old.filters) k plain o old.desk.state began c.1.0 old.bases.all.items now.desk.state now.bases.all.items c.1.1
         r.0 new.desk.state r.1 in
         record {
           answer = there.0;
@@ -52,7 +52,7 @@ module _ {F B : Type 0} (pre : F → Data → PreVerdict → Data → Type 0) (p
           turns = c.1.0;
           done = now.desk.state;
           mid = new.desk.state;
-          carries = subst (λ (bs : List B). Carries pre post (BasesCarry folder faults) (numbered old.filters) k o c.1.0 old.desk.state old.bases.items now.desk.state bs) bases c.1.1;
+          carries = subst (λ (bs : List B). Carries pre post (BasesCarry folder faults) (numbered old.filters) k o c.1.0 old.desk.state old.bases.all.items now.desk.state bs) bases c.1.1;
           collects = subst (λ (a : Result Answer Status). Collects now.desk.state o a new.desk.state) there.1 r.1;
           tidies = tidies_none new.desk.state;
           filters = ap (λ (m : LocalManager F B). m.filters) keeps ∙ ap (λ (m : LocalManager F B). m.filters) kept;
@@ -71,7 +71,7 @@ module _ {F B : Type 0} (pre : F → Data → PreVerdict → Data → Type 0) (p
           turns = r.turns;
           done = r.done;
           mid = r.mid;
-          carries = subst (λ (bs : List B). Carries pre post (BasesCarry folder faults) (numbered old.filters) k o r.turns old.desk.state old.bases.items r.done bs) (sym (ap (λ bs. bs.items) s.0)) r.carries;
+          carries = subst (λ (bs : List B). Carries pre post (BasesCarry folder faults) (numbered old.filters) k o r.turns old.desk.state old.bases.all.items r.done bs) (sym (ap (λ bs. bs.all.items) s.0)) r.carries;
           collects = r.collects;
           tidies = tidies_both r.mid mid.desk.state new.desk.state r.tidies (tidies r.settled);
           filters = s.1 ∙ r.filters;
@@ -84,7 +84,7 @@ module _ {F B : Type 0} (pre : F → Data → PreVerdict → Data → Type 0) (p
         record {
           answer = p.answer;
           says = p.says;
-          does = subst (λ (bs : List B). DoesTidily pre post (BasesCarry folder faults) (numbered old.filters) k what old.desk.state old.bases.items p.answer new.desk.state bs) (sym (ap (λ bs. bs.items) s.0))
+          does = subst (λ (bs : List B). DoesTidily pre post (BasesCarry folder faults) (numbered old.filters) k what old.desk.state old.bases.all.items p.answer new.desk.state bs) (sym (ap (λ bs. bs.all.items) s.0))
               (p.does.0, p.does.1, tidies_both p.does.0 mid.desk.state new.desk.state p.does.2 (tidies p.settled));
           filters = s.1 ∙ p.filters;
           settled = s.2;

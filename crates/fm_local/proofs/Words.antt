@@ -57,7 +57,7 @@ pub use Rattle.fm_world.specs.declared.step.StepReply.{StepReply}
 pub use Rattle.fm_world.specs.declared.worker.Worker.{Worker}
 pub use Rattle.fm_filter.specs.Plain.{IsPlainFilter}
 pub use Rattle.fm_local.specs.Actions.{ArePlainFilters, IsBegun, IsDoneAt, IsReady, closed_handle, replied}
-pub use Rattle.fm_local.specs.Bases.{BasesCarry}
+pub use Rattle.fm_device.specs.Bases.{BasesCarry}
 pub use Rattle.fm_local.specs.Calls.{AgreesAt, is_leaving, is_leaving_phase, is_to_go}
 pub use Rattle.fm_local.specs.Chains.{BaseMay, Subject, Under, chain_of, filter_in, filter_in_row, known_answer, subject_of}
 pub use Rattle.fm_local.specs.Cleanups.{HasNoneDue}

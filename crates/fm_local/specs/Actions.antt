@@ -15,7 +15,7 @@ use Rattle.fm_world.specs.Sound.{IsSound}
 use Rattle.fm_world.specs.Teardowns.{CompleteReturns}
 use Rattle.fm_filter.specs.Plain.{IsPlainFilter}
 use Rattle.fm_local.specs.declared.requests.Turn.{Turn}
-use Rattle.fm_local.specs.Bases.{BasesCarry}
+use Rattle.fm_device.specs.Bases.{BasesCarry}
 use Rattle.fm_local.specs.Calls.{AsksToUnload, QueriesWith, SetsUpWith, is_to_go}
 use Rattle.fm_local.specs.Managers.{numbered}
 use Rattle.fm_local.specs.Requests.{under, NoneStops, IsAtRest, AnswersOne, AnswersAll, DoesTidily, Tidies}
@@ -188,7 +188,7 @@ module _ {F B : Type 0} (pre : F → Data → PreVerdict → Data → Type 0) (p
   -- an operation that was resumed goes on, until it ends or is held again
   abbrev pub CarriesOn : ℕ → OpId → LocalManager F B → LocalManager F B → Type 0
   CarriesOn most o old new =
-      (ended : Turn) × GoesOn pre post drained (BasesCarry folder faults) (numbered old.filters) k o most ended old.desk.state old.bases.items new.desk.state new.bases.items
+      (ended : Turn) × GoesOn pre post drained (BasesCarry folder faults) (numbered old.filters) k o most ended old.desk.state old.bases.all.items new.desk.state new.bases.all.items
       × NotesEnd ended o old new × (new.filters ≡ old.filters)
 
   -- so the one that was resumed first, which doesn't wait any more
@@ -223,7 +223,7 @@ module _ {F B : Type 0} (pre : F → Data → PreVerdict → Data → Type 0) (p
     abbrev pub RunsAlone : OpId → LocalManager F B → Reply → LocalManager F B → Type 0
     RunsAlone o old said new =
         (ended : Turn) × (carried : LocalManager F B)
-        × GoesOn pre post drained (BasesCarry folder faults) (numbered old.filters) k o most ended old.desk.state old.bases.items carried.desk.state carried.bases.items
+        × GoesOn pre post drained (BasesCarry folder faults) (numbered old.filters) k o most ended old.desk.state old.bases.all.items carried.desk.state carried.bases.all.items
         × (carried ≡ record old { desk = carried.desk; bases = carried.bases; trace = carried.trace; hand = carried.hand; leaks = carried.leaks })
         × RepliesWith ended o carried said new
 
@@ -382,7 +382,7 @@ module _ {F B : Type 0} (pre : F → Data → PreVerdict → Data → Type 0) (p
   CarriesIn o old ended new =
       ArePlainFilters pre post is_quiet (numbered old.filters) → IsBegun k o old.desk.state
       → (ended ≡ Turn.Done)
-      × ((n : ℕ) × Carries pre post (BasesCarry folder faults) (numbered old.filters) k o n old.desk.state old.bases.items new.desk.state new.bases.items)
+      × ((n : ℕ) × Carries pre post (BasesCarry folder faults) (numbered old.filters) k o n old.desk.state old.bases.all.items new.desk.state new.bases.all.items)
 
   -- what waits to be carried on stays
   abbrev pub ResumesNone : LocalManager F B → LocalManager F B → Type 0
@@ -395,7 +395,7 @@ module _ {F B : Type 0} (pre : F → Data → PreVerdict → Data → Type 0) (p
     pub turns : ℕ
     pub done : World
     pub mid : World
-    pub carries : Carries pre post (BasesCarry folder faults) (numbered old.filters) k o turns old.desk.state old.bases.items done new.bases.items
+    pub carries : Carries pre post (BasesCarry folder faults) (numbered old.filters) k o turns old.desk.state old.bases.all.items done new.bases.all.items
     pub collects : Collects done o (Ok answer) mid
     pub tidies : Tidies mid new.desk.state
     pub filters : new.filters ≡ old.filters
@@ -405,7 +405,7 @@ module _ {F B : Type 0} (pre : F → Data → PreVerdict → Data → Type 0) (p
   pub record PerformsIn (what : Request) (old : LocalManager F B) (said : Reply) (new : LocalManager F B) : Type 0 where
     pub answer : Answer
     pub says : said ≡ replied answer
-    pub does : DoesTidily pre post (BasesCarry folder faults) (numbered old.filters) k what old.desk.state old.bases.items answer new.desk.state new.bases.items
+    pub does : DoesTidily pre post (BasesCarry folder faults) (numbered old.filters) k what old.desk.state old.bases.all.items answer new.desk.state new.bases.all.items
     pub filters : new.filters ≡ old.filters
     pub settled : new.desk.resumed.items.items ≡ []
 
@@ -422,7 +422,7 @@ module _ {F B : Type 0} (pre : F → Data → PreVerdict → Data → Type 0) (p
     pub answer : Answer
     pub says : said ≡ replied answer
     pub folds : AnswersOne pre post (BasesCarry folder faults) (numbered old.filters) old.desk.state.stack old.desk.state.flow.next what
-        (under old.bases.items old.desk.state) answer (under new.bases.items new.desk.state) new.desk.state.flow.next
+        (under old.bases.all.items old.desk.state) answer (under new.bases.all.items new.desk.state) new.desk.state.flow.next
     pub ready : IsReady new
     pub stays : new.desk.state.stack ≡ old.desk.state.stack
     pub filters : new.filters ≡ old.filters
@@ -438,7 +438,7 @@ module _ {F B : Type 0} (pre : F → Data → PreVerdict → Data → Type 0) (p
     pub answers : List Answer
     pub say : replies ≡ map replied answers
     pub fold : AnswersAll pre post (BasesCarry folder faults) (numbered old.filters) old.desk.state.stack old.desk.state.flow.next requests
-        (under old.bases.items old.desk.state) answers (under new.bases.items new.desk.state) new.desk.state.flow.next
+        (under old.bases.all.items old.desk.state) answers (under new.bases.all.items new.desk.state) new.desk.state.flow.next
     pub ready : IsReady new
 
   -- whatever is asked of a manager that is ready, by requests one after the other: it replies as the folds of its filters say

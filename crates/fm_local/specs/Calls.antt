@@ -39,7 +39,7 @@ pub record Numbers {F : Type 0} (old : Filters F) (name : List ℕ) (f : FilterI
 
 -- the file systems after one more is placed, if there is room for it
 abbrev pub placed : {F B : Type 0} → LocalManager F B → B → List B
-placed m base = cond (nat_lt (vec_len m.bases) (vec_capacity m.bases)) (m.bases.items ++ base ∷ []) m.bases.items
+placed m base = cond (nat_lt (vec_len m.bases.all) (vec_capacity m.bases.all)) (m.bases.all.items ++ base ∷ []) m.bases.all.items
 
 -- what a callback that agrees or refuses may answer, if there is one; no filter refuses
 abbrev pub MayAgree : {F : Type 0} → (F → Bool → Type 0) → Option F → Bool → Type 0

@@ -7,4 +7,4 @@ use Rattle.fm_local.specs.contracts.manager.LocalManager.{the_row}
 
 -- once the borrow ends, the volume has the file system that was last written through it, and where there is none the manager stays as it is
 abbrev pub LendsBase : (F B : RattleType) → MutBor (LocalManager F.Denot B.Denot) → VolumeId → Option (MutBor B.Denot) → Fml
-LendsBase F B m v r = LendsIf (the_row F B) B m r (λ base. record m.now { bases = with_item m.now.bases v.0 base }) m.now
+LendsBase F B m v r = LendsIf (the_row F B) B m r (λ base. record m.now { bases = record m.now.bases { all = with_item m.now.bases.all v.0 base } }) m.now

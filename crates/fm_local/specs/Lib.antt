@@ -1,6 +1,5 @@
 pub mod Words
 pub mod Actions
-pub mod Bases
 pub mod Calls
 pub mod Callbacks
 pub mod Chains

@@ -23,7 +23,7 @@ pub record HasRooms {F B : Type 0} (m : LocalManager F B) : Type 0 where
   pub hand : 16 ≤ deque_capacity m.hand.items
   pub leaks : 1024 ≤ deque_capacity m.leaks.items
   pub trace : 1024 ≤ deque_capacity m.trace.items
-  pub bases : 8 ≤ vec_capacity m.bases
+  pub bases : 8 ≤ vec_capacity m.bases.all
 
 -- the filter, if there is one, calls nothing of the manager
 abbrev pub IsQuietIn : {F : Type 0} → (F → Type 0) → Option F → Type 0

@@ -1,5 +1,5 @@
 -- What a manager's calls promise, over all that its filters and its file systems say of themselves.
-use Rattle.std.specs.Prelude.{List, Option, Result, ℕ}
+use Rattle.std.specs.Prelude.{List, Result, ℕ}
 use Rattle.fm_local.specs.Words.{FilterId, InstanceId, Status, VolumeId, LocalManager}
 use Rattle.fm_data.specs.declared.request.Reply.{Reply}
 use Rattle.fm_data.specs.declared.request.Request.{Request}

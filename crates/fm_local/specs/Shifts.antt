@@ -8,7 +8,7 @@ use Rattle.fm_samples.specs.declared.sample.Sample.{Sample}
 use Rattle.fm_samples.specs.declared.shift.Shift.{Shift}
 use Rattle.fm_samples.specs.Sample.{SamplesPre, SamplesPost}
 use Rattle.fm_samples.specs.Shift.{shift_registers}
-use Rattle.fm_local.specs.Bases.{BasesCarry}
+use Rattle.fm_device.specs.Bases.{BasesCarry}
 use Rattle.fm_local.specs.Chains.{Under, Subject, chain_of}
 use Rattle.fm_local.specs.Folds.{Chain, Folds}
 

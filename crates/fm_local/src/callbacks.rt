@@ -1,10 +1,10 @@
 //! The callbacks of filters, each between the event that enters it and the one that ends it.
 
 ghost use Rattle.std.specs.Prelude.{◌≡◌, None, Ok};
+ghost use Rattle.fm_device.specs.Bases.{BasesCarry};
 ghost use Rattle.fm_filter.specs.Standing.{standing_of};
 ghost use Rattle.fm_flow.specs.declared.action.FlowAction.TheVariants as step;
 ghost use Rattle.fm_local.specs.Actions.{ArePlainFilters, CallsBack, Makes, OnlyState, filter_at};
-ghost use Rattle.fm_local.specs.Bases.{BasesCarry};
 ghost use Rattle.fm_local.specs.Chains.{PreMay, PostMay, filter_in};
 ghost use Rattle.fm_local.specs.Drains.{WasCalled};
 ghost use Rattle.fm_local.specs.Managers.{numbered, IsQuietIn};
@@ -92,9 +92,9 @@ impl<F: Minifilter, B: Base> LocalManager<F, B> {
         instance: InstanceId,
         mut lent: CallbackData,
     ) -> Result<(), Status>
-        ensures does { ArePlainFilters F.pre_may F.post_may F.is_quiet (numbered self.old.filters) → Does F.pre_may F.post_may (BasesCarry B.folder B.faults) (numbered self.old.filters) WORKER operation (Ok (step.Pre instance lent)) self.old.desk.state self.old.bases.items self.new.desk.state self.new.bases.items }
+        ensures does { ArePlainFilters F.pre_may F.post_may F.is_quiet (numbered self.old.filters) → Does F.pre_may F.post_may (BasesCarry B.folder B.faults) (numbered self.old.filters) WORKER operation (Ok (step.Pre instance lent)) self.old.desk.state self.old.bases.all.items self.new.desk.state self.new.bases.all.items }
         ensures quiet { ArePlainFilters F.pre_may F.post_may F.is_quiet (numbered self.old.filters) → self.new.desk.resumed ≡ self.old.desk.resumed }
-        ensures makes { Makes F.pre_may F.post_may F.drained (BasesCarry B.folder B.faults) (numbered self.old.filters) WORKER operation (Ok (step.Pre instance lent)) self.old.desk.state self.old.bases.items self.new.desk.state self.new.bases.items }
+        ensures makes { Makes F.pre_may F.post_may F.drained (BasesCarry B.folder B.faults) (numbered self.old.filters) WORKER operation (Ok (step.Pre instance lent)) self.old.desk.state self.old.bases.all.items self.new.desk.state self.new.bases.all.items }
         ensures kept { CallsBack self.old self.new }
     {
         let verdict = goes_down(&self.filters, &mut self.desk, instance, &mut lent);
@@ -136,9 +136,9 @@ impl<F: Minifilter, B: Base> LocalManager<F, B> {
         mut lent: CallbackData,
         completion: Completion,
     ) -> Result<(), Status>
-        ensures does { ArePlainFilters F.pre_may F.post_may F.is_quiet (numbered self.old.filters) → Does F.pre_may F.post_may (BasesCarry B.folder B.faults) (numbered self.old.filters) WORKER operation (Ok (step.Post instance lent completion)) self.old.desk.state self.old.bases.items self.new.desk.state self.new.bases.items }
+        ensures does { ArePlainFilters F.pre_may F.post_may F.is_quiet (numbered self.old.filters) → Does F.pre_may F.post_may (BasesCarry B.folder B.faults) (numbered self.old.filters) WORKER operation (Ok (step.Post instance lent completion)) self.old.desk.state self.old.bases.all.items self.new.desk.state self.new.bases.all.items }
         ensures quiet { ArePlainFilters F.pre_may F.post_may F.is_quiet (numbered self.old.filters) → self.new.desk.resumed ≡ self.old.desk.resumed }
-        ensures makes { Makes F.pre_may F.post_may F.drained (BasesCarry B.folder B.faults) (numbered self.old.filters) WORKER operation (Ok (step.Post instance lent completion)) self.old.desk.state self.old.bases.items self.new.desk.state self.new.bases.items }
+        ensures makes { Makes F.pre_may F.post_may F.drained (BasesCarry B.folder B.faults) (numbered self.old.filters) WORKER operation (Ok (step.Post instance lent completion)) self.old.desk.state self.old.bases.all.items self.new.desk.state self.new.bases.all.items }
         ensures kept { CallsBack self.old self.new }
     {
         let verdict = goes_up(

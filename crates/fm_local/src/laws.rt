@@ -1,7 +1,7 @@
 //! The laws of folds, as functions that promise them and do nothing.
 
+ghost use Rattle.fm_device.specs.Bases.{BasesCarry};
 ghost use Rattle.fm_local.specs.Actions.{RepliesAreFolds};
-ghost use Rattle.fm_local.specs.Bases.{BasesCarry};
 ghost use Rattle.fm_local.specs.Functions.{OneFold};
 ghost use Rattle.fm_local.specs.Requests.{CarriedAreFolds, CarriedIsFold};
 ghost use Rattle.fm_local.specs.Shifts.{ShiftRound};

@@ -1,6 +1,6 @@
 //! The manager, and what begins in it.
 
-ghost use Rattle.std.specs.Prelude.{◌≡◌, ◌++◌, ◌∷◌, [], IfErr, IfOk, cond, length, nat_lt, slice_get, vec_capacity, vec_len};
+ghost use Rattle.std.specs.Prelude.{◌≡◌, [], IfErr, IfOk, length, slice_get};
 ghost use Rattle.std.specs.Borrow.{sem};
 ghost use Rattle.std.specs.List.{IsItemAtMut};
 ghost use Rattle.fm_local.specs.Calls.{LoadsAs, Numbers, placed};
@@ -19,6 +19,7 @@ use crate::local_port::Desk;
 use crate::trace::Traced;
 use fm_base::Base;
 use fm_core::State;
+use fm_device::Bases;
 use fm_filter::Minifilter;
 use fm_types::{CtxId, FilterId, Name, OpId, Status, VolumeId, WorkerId};
 use std::alloc::Global;
@@ -35,9 +36,6 @@ const IN_HAND: usize = 16;
 /// How many steps of operations, and how many leaks, are kept to be read.
 const KEPT: usize = 1024;
 
-/// How many volumes are mounted in one run at most.
-const VOLUMES: usize = 8;
-
 /// A filter manager on one thread: filters as code, one file system of a type for each volume, and the manager's state, of which each thing that happens
 /// is one event. A call runs every callback that it leads to, carries on what these resume, and cleans up the contexts that are due before it returns: behind
 /// it none is, and the worker is inside no callback.
@@ -46,7 +44,7 @@ pub struct LocalManager<F, B> {
     pub(crate) alloc: Global,
     pub(crate) desk: Desk,
     pub(crate) filters: Filters<F>,
-    pub(crate) bases: Vec<B>,
+    pub(crate) bases: Bases<B>,
     pub(crate) finished: Bounded<OpId>,
     pub(crate) hand: Bounded<CtxId>,
     pub(crate) leaks: Bounded<Leak>,
@@ -57,7 +55,7 @@ impl<F: Minifilter, B: Base> LocalManager<F, B> {
     /// A manager that has these filters, each under its name, and none of them loaded: it is ready, and nothing is due. It takes the room for 8 volumes, for
     /// 256 operations that were resumed and 256 that ended, and for the steps and the leaks that can be read. Refused with 1.
     pub fn new(alloc: Global, filters: Vec<(Name, F)>) -> Result<LocalManager<F, B>, Status>
-        ensures empty { IfOk result (λ manager. (manager.desk.state ≡ empty_world) × (manager.filters.all ≡ filters) × (manager.bases.items ≡ [])) }
+        ensures empty { IfOk result (λ manager. (manager.desk.state ≡ empty_world) × (manager.filters.all ≡ filters) × (manager.bases.all.items ≡ [])) }
         ensures ready { IfOk result (Ready F.Minifilter B.Base) }
         ensures none_due { IfOk result (λ manager. HasNoneDue WORKER manager.desk.state) }
         ensures out { IfOk result (λ manager. IsOut WORKER manager.desk.state) }
@@ -69,7 +67,7 @@ impl<F: Minifilter, B: Base> LocalManager<F, B> {
         let hand = Bounded::new(alloc, IN_HAND)?;
         let leaks = Bounded::new(alloc, KEPT)?;
         let trace = Bounded::new(alloc, KEPT)?;
-        let bases = Vec::with_capacity(alloc, VOLUMES)?;
+        let bases = Bases::new(alloc)?;
         let state = State::new(alloc)?;
         Ok(LocalManager {
             alloc,
@@ -93,9 +91,9 @@ impl<F: Minifilter, B: Base> LocalManager<F, B> {
     /// The file system of a volume, if it is mounted. What is written to it is written there, and nothing else of the manager changes.
     pub fn base(&mut self, volume: VolumeId) -> Option<&mut B>
         ensures* writes_back { sem 𝓛 (LendsBase F.row B.row self.entry volume result) }
-        ensures item { IsItemAtMut self.old.bases.items volume.0 result }
+        ensures item { IsItemAtMut self.old.bases.all.items volume.0 result }
     {
-        self.bases.get_mut(usize::from(volume.0))
+        self.bases.of(volume)
     }
 
     /// How many steps of operations can be read.
@@ -151,24 +149,15 @@ impl<F: Minifilter, B: Base> LocalManager<F, B> {
     /// manager that is ready stays ready.
     pub fn mount(&mut self, name: Name, base: B) -> Result<VolumeId, Status>
         ensures event { Mounts self.old.desk.state name result self.new.desk.state }
-        ensures base { IfOk result (λ _. self.new.bases.items ≡ placed self.old base) }
-        ensures refused { IfErr result (λ _. self.new.bases.items ≡ self.old.bases.items) }
+        ensures base { IfOk result (λ _. self.new.bases.all.items ≡ placed self.old base) }
+        ensures refused { IfErr result (λ _. self.new.bases.all.items ≡ self.old.bases.all.items) }
         ensures ready { StaysReady F.Minifilter B.Base self.old self.new }
         ensures none_due { LeavesNoneDue WORKER self.old.desk.state self.new.desk.state }
         ensures out { StaysOut WORKER self.old.desk.state self.new.desk.state }
         ensures kept { self.new.filters ≡ self.old.filters }
     {
         let volume = self.desk.state.mount(name)?;
-        place(&mut self.bases, base);
+        self.bases.place(base);
         Ok(volume)
-    }
-}
-
-// Places a file system after the others, if there is room for it.
-fn place<B: Base>(bases: &mut Vec<B>, base: B)
-    ensures { bases.new.items ≡ cond (nat_lt (vec_len bases.old) (vec_capacity bases.old)) (bases.old.items ++ base ∷ []) bases.old.items }
-{
-    if bases.len() < bases.capacity() {
-        bases.push_reserved(base);
     }
 }

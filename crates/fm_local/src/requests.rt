@@ -4,10 +4,10 @@ ghost use Rattle.std.specs.Prelude.{◌≡◌, ◌<◌, ◌≤◌, ◌++◌, ◌
 ghost use Rattle.std.specs.VecDeque.{deque_capacity};
 ghost use Rattle.fm_data.specs.declared.request.FileRequest.TheVariants as asked;
 ghost use Rattle.fm_data.specs.declared.request.Request.TheVariants as client;
+ghost use Rattle.fm_device.specs.Bases.{BasesCarry};
 ghost use Rattle.fm_flow.specs.Answered.{bare_answer};
 ghost use Rattle.fm_flow.specs.declared.action.FlowAction.TheVariants as step;
 ghost use Rattle.fm_local.specs.Actions.{Acts, AnswersIn, ArePlainFilters, CarriesIn, CarriesOn, CarriesOnAll, ClosesAfter, ClosesIn, ClosesRefused, ClosesThen, GivesFinished, GoesOn, IsBegun, IsDoneAt, IsReady, Makes, OnlyState, PerformsAlone, PerformsIn, RefusesIn, RefusesOne, RepliesWith, Requests, RequestsOne, ResumesNone, RunsAlone, RunsIn, RunsOn, Settles, TakesDone, TakesTurn, TurnsAs, WaitsAtEnd, closed_handle, ends_turn, goes_on, is_over, replied, reply_of};
-ghost use Rattle.fm_local.specs.Bases.{BasesCarry};
 ghost use Rattle.fm_local.specs.Cleanups.{HasNoneDue, LeavesNoneDue};
 ghost use Rattle.fm_local.specs.Managers.{numbered};
 ghost use Rattle.fm_local.specs.Offered.{AnswersAny, AnswersReady};
@@ -21,7 +21,7 @@ use crate::trace::Visit;
 use fm_base::Base;
 use fm_core::Action;
 use fm_data::{Answer, BaseCall, FileRequest, Reply, Request};
-use fm_device::call_base;
+use fm_device::Device;
 use fm_filter::Minifilter;
 use fm_types::{Bytes, HandleId, OpId, Status};
 use std::alloc::Global;
@@ -262,7 +262,7 @@ impl<F: Minifilter, B: Base> LocalManager<F, B> {
         ensures quiet { ResumesNone F.pre_may F.post_may F.is_quiet B.folder B.faults WORKER self.old self.new }
         ensures kept { self.new ≡ record self.old { desk = self.new.desk; bases = self.new.bases; trace = self.new.trace; hand = self.new.hand; leaks = self.new.leaks } }
         ensures at_once { IsDoneAt WORKER operation self.old.desk.state → (result ≡ Turn.Done) × (self.new ≡ self.old) }
-        ensures goes { GoesOn F.pre_may F.post_may F.drained (BasesCarry B.folder B.faults) (numbered self.old.filters) WORKER operation TURNS result self.old.desk.state self.old.bases.items self.new.desk.state self.new.bases.items }
+        ensures goes { GoesOn F.pre_may F.post_may F.drained (BasesCarry B.folder B.faults) (numbered self.old.filters) WORKER operation TURNS result self.old.desk.state self.old.bases.all.items self.new.desk.state self.new.bases.all.items }
         ensures out { StaysOut WORKER self.old.desk.state self.new.desk.state }
     {
         for _made in 0..TURNS {
@@ -276,11 +276,11 @@ impl<F: Minifilter, B: Base> LocalManager<F, B> {
 
     // What is next for an operation, done.
     fn turn(&mut self, operation: OpId) -> Turn
-        ensures turned { ArePlainFilters F.pre_may F.post_may F.is_quiet (numbered self.old.filters) → TurnsAs F.pre_may F.post_may (BasesCarry B.folder B.faults) (numbered self.old.filters) WORKER operation self.old.desk.state self.old.bases.items result self.new.desk.state self.new.bases.items }
+        ensures turned { ArePlainFilters F.pre_may F.post_may F.is_quiet (numbered self.old.filters) → TurnsAs F.pre_may F.post_may (BasesCarry B.folder B.faults) (numbered self.old.filters) WORKER operation self.old.desk.state self.old.bases.all.items result self.new.desk.state self.new.bases.all.items }
         ensures quiet { ArePlainFilters F.pre_may F.post_may F.is_quiet (numbered self.old.filters) → self.new.desk.resumed ≡ self.old.desk.resumed }
         ensures kept { self.new ≡ record self.old { desk = self.new.desk; bases = self.new.bases; trace = self.new.trace; hand = self.new.hand; leaks = self.new.leaks } }
         ensures at_once { IsDoneAt WORKER operation self.old.desk.state → (result ≡ Turn.Done) × (self.new ≡ self.old) }
-        ensures takes { TakesTurn F.pre_may F.post_may F.drained (BasesCarry B.folder B.faults) (numbered self.old.filters) WORKER operation result self.old.desk.state self.old.bases.items self.new.desk.state self.new.bases.items }
+        ensures takes { TakesTurn F.pre_may F.post_may F.drained (BasesCarry B.folder B.faults) (numbered self.old.filters) WORKER operation result self.old.desk.state self.old.bases.all.items self.new.desk.state self.new.bases.all.items }
         ensures out { StaysOut WORKER self.old.desk.state self.new.desk.state }
     {
         self.desk.state.laws();
@@ -290,12 +290,12 @@ impl<F: Minifilter, B: Base> LocalManager<F, B> {
 
     // A callback, or the call of the file system.
     fn act(&mut self, operation: OpId, said: Result<Action, Status>) -> Turn
-        ensures acts { ArePlainFilters F.pre_may F.post_may F.is_quiet (numbered self.old.filters) → Acts F.pre_may F.post_may (BasesCarry B.folder B.faults) (numbered self.old.filters) WORKER operation said self.old.desk.state self.old.bases.items result self.new.desk.state self.new.bases.items }
+        ensures acts { ArePlainFilters F.pre_may F.post_may F.is_quiet (numbered self.old.filters) → Acts F.pre_may F.post_may (BasesCarry B.folder B.faults) (numbered self.old.filters) WORKER operation said self.old.desk.state self.old.bases.all.items result self.new.desk.state self.new.bases.all.items }
         ensures quiet { ArePlainFilters F.pre_may F.post_may F.is_quiet (numbered self.old.filters) → self.new.desk.resumed ≡ self.old.desk.resumed }
         ensures kept { self.new ≡ record self.old { desk = self.new.desk; bases = self.new.bases; trace = self.new.trace; hand = self.new.hand; leaks = self.new.leaks } }
         ensures at_once { said ≡ Ok step.Done → (result ≡ Turn.Done) × (self.new ≡ self.old) }
         ensures ends { result ≡ ends_turn said }
-        ensures makes { Makes F.pre_may F.post_may F.drained (BasesCarry B.folder B.faults) (numbered self.old.filters) WORKER operation said self.old.desk.state self.old.bases.items self.new.desk.state self.new.bases.items }
+        ensures makes { Makes F.pre_may F.post_may F.drained (BasesCarry B.folder B.faults) (numbered self.old.filters) WORKER operation said self.old.desk.state self.old.bases.all.items self.new.desk.state self.new.bases.all.items }
     {
         match said {
             Ok(Action::Pre(instance, data)) => {
@@ -323,11 +323,11 @@ impl<F: Minifilter, B: Base> LocalManager<F, B> {
 
     // Has the file system of the call's volume carry it out.
     fn call(&mut self, operation: OpId, call: BaseCall) -> Result<(), Status>
-        ensures does { Does F.pre_may F.post_may (BasesCarry B.folder B.faults) (numbered self.old.filters) WORKER operation (Ok (step.Base call)) self.old.desk.state self.old.bases.items self.new.desk.state self.new.bases.items }
+        ensures does { Does F.pre_may F.post_may (BasesCarry B.folder B.faults) (numbered self.old.filters) WORKER operation (Ok (step.Base call)) self.old.desk.state self.old.bases.all.items self.new.desk.state self.new.bases.all.items }
         ensures quiet { self.new.desk.resumed ≡ self.old.desk.resumed }
         ensures kept { self.new ≡ record self.old { desk = self.new.desk; bases = self.new.bases; trace = self.new.trace } }
     {
-        let answer = call_on(self.alloc, &mut self.bases, &call);
+        let answer = self.bases.call(&call);
         self.note(operation, Visit::Base(answer.status));
         self.end_call(call, answer)
     }
@@ -417,19 +417,4 @@ fn is_over(status: Status) -> bool
     ensures { result ≡ is_over status }
 {
     matches!(status, Status::Success | Status::WrongStep)
-}
-
-// What the file system of the call's volume answers, if it is there.
-fn call_on<B: Base>(alloc: Global, bases: &mut Vec<B>, call: &BaseCall) -> Answer
-    ensures carried { BasesCarry B.folder B.faults bases.old.items call.now result bases.new.items }
-    ensures within { length result.bytes ≤ 32768 }
-{
-    match bases.get_mut(usize::from(call.volume().0)) {
-        Some(base) => call_base(alloc, base, call),
-        None => Answer {
-            status: Status::NoVolume,
-            information: 0,
-            bytes: Bytes::new(alloc),
-        },
-    }
 }

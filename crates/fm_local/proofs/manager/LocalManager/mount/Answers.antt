@@ -18,7 +18,7 @@ returns-clause-ready g c ready =
     let old = c.args.self.now in
     let state = c.mount.new.self in
     mounted_ready old
-    (record old { bases = c.place.new.bases; desk = record old.desk { state = state } }) ready refl refl
+    (record old { bases = c.place.new.self; desk = record old.desk { state = state } }) ready refl refl
     (mounted_calm old.desk.state c.args.name (Ok c.in_ok-volume.volume) state c.in_ok-volume.ensures.event)
 
 pub returns-in_err-volume-clause-none_due : goal.returns-in_err-volume-clause-none_due

@@ -20,5 +20,5 @@ returns-clause-out g c out =
     let old = c.args.self.now in
     let mid = c.next-said.new.self in
     let lends = lent WORKER c.args.operation old.desk.state c.laws.ensures out c.next-said.result mid c.next-said.ensures.event in
-    makes_out WORKER g.F.Minifilter.pre_may g.F.Minifilter.post_may g.F.Minifilter.drained (BasesCarry g.B.Base.folder g.B.Base.faults) (numbered old.filters) c.args.operation c.next-said.result mid old.bases.items
-    c.act.new.self.desk.state c.act.new.self.bases.items lends c.act.ensures.makes
+    makes_out WORKER g.F.Minifilter.pre_may g.F.Minifilter.post_may g.F.Minifilter.drained (BasesCarry g.B.Base.folder g.B.Base.faults) (numbered old.filters) c.args.operation c.next-said.result mid old.bases.all.items
+    c.act.new.self.desk.state c.act.new.self.bases.all.items lends c.act.ensures.makes

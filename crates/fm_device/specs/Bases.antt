@@ -1,6 +1,8 @@
 -- The bases of volumes as one device.
 use Rattle.std.specs.Prelude.{◌≡◌, ◌≤◌, List, Option, Some, length, slice_get, ℕ, ◌≢◌, ◌+◌, ◌-◌, ◌^◌, min}
-use Rattle.fm_local.specs.Words.{BaseCall, Folder, Answer}
+use Rattle.fm_base.specs.Folders.{Folder}
+use Rattle.fm_data.specs.Calls.{BaseCall}
+use Rattle.fm_data.specs.declared.answer.Answer.{Answer}
 use Rattle.fm_types.specs.declared.status.Status.TheVariants.{NoVolume, DeviceFault}
 use Rattle.fm_device.specs.Devices.{bare, CarriesAny, KnownAs}
 

@@ -30,9 +30,12 @@ pub use crate::hexadecimal::{read_hex, write_hex};
 pub use crate::interpreter::Interpreter;
 pub use crate::keyword::Keyword;
 pub use crate::number::{read_id, read_number, read_status};
+pub use crate::output::Output;
 pub use crate::reading::{Listener, read_lines, script};
 pub use crate::runner::{MAX_LINE, Runner, is_silent};
-pub use crate::said::{Said, Word};
+pub use crate::said::{
+    Said, Word, said_attached, said_called, said_count, said_done, said_given, said_of, said_phase,
+};
 pub use crate::script_end::ScriptEnd;
 pub use crate::task::Task;
 pub use crate::words::{split_at_byte, split_words};

@@ -1,0 +1,5 @@
+mod Words
+mod Outs
+mod Idling
+mod Seen
+mod AnswerKinds

@@ -1,0 +1,7 @@
+use Rattle.std.proofs.Common.{length, ◌≡◌, ◌+◌, ◌<◌, ℕ, ◌-◌, ◌*◌, ◌≤◌}
+use Rattle.fm_lock.specs.Views.{held_by}
+use Rattle.fm_lock.proofs.audit.+audit.Given as goal
+
+-- proposed from what the function passes where it calls itself
+abbrev pub decreases-audit : goal.decreases-audit
+decreases-audit g l = length l.hands.now

@@ -1,0 +1,4 @@
+pub mod Views
+pub mod Rolls
+pub mod Events
+pub mod Replies

@@ -1,0 +1,78 @@
+//! The events that lend data out or hand it back, by the manager.
+
+ghost use Rattle.std.specs.Prelude.{◌≡◌, IfErr};
+ghost use Rattle.fm_core.specs.Returned.{status_of};
+ghost use Rattle.fm_world.specs.Hands.{given_by_next};
+ghost use Rattle.fm_world.specs.StepHands.{More, Nothing};
+ghost use Rattle.fm_lock.specs.Events.{Holding};
+
+use crate::hand::Hand;
+use crate::manager::{Manager, is_done};
+use fm_data::{Answer, BaseCall, CallbackData, PostVerdict, PreVerdict};
+use fm_flow::FlowAction;
+use fm_types::{OpId, Status};
+use fm_world::Refused;
+use std::sync::Wait;
+use std::sync::ledger::Ledger;
+
+impl<F: Drop, L: Ledger> Manager<F, L> {
+    /// What the hand's worker has to do next for an operation. It answers as the State does: 30. The context that a postoperation or a drain brings back is
+    /// one reference more in the hand. Who waits for the operation is told if it is done.
+    pub fn next<R: Wait>(
+        &self,
+        rt: &R,
+        hand: &mut Hand<L>,
+        operation: OpId,
+    ) -> Result<FlowAction, Status>
+        ensures { Holding (More result given_by_next) hand.old hand.new }
+    {
+        let action = self.round.lock(rt).next(hand, operation);
+        if is_done(&action) {
+            self.changed.notify_all();
+        }
+        action
+    }
+
+    /// The preoperation callback that the hand's worker is in returns: the hand is empty. It answers as the State does, 30 and 32, with the data handed back.
+    pub fn pre_returned<R: Wait>(
+        &self,
+        rt: &R,
+        hand: &mut Hand<L>,
+        verdict: PreVerdict,
+        lent: CallbackData,
+    ) -> Result<(), Refused<CallbackData>>
+        ensures held { Holding (Nothing (status_of result)) hand.old hand.new }
+        ensures back { IfErr result (λ refused. refused.handed_back ≡ lent) }
+    {
+        self.round.lock(rt).pre_returned(hand, verdict, lent)
+    }
+
+    /// The base call that the hand's worker is in returns. It answers as the State does, 30 and 32, with both handed back.
+    pub fn base_returned<R: Wait>(
+        &self,
+        rt: &R,
+        hand: &mut Hand<L>,
+        call: BaseCall,
+        given: Answer,
+    ) -> Result<(), Refused<(BaseCall, Answer)>>
+        ensures held { hand.new ≡ hand.old }
+        ensures back { IfErr result (λ refused. refused.handed_back ≡ (call, given)) }
+    {
+        self.round.lock(rt).base_returned(hand, call, given)
+    }
+
+    /// The postoperation callback or the drain that the hand's worker is in returns: the hand is empty. It answers as the State does, 30 and 32, with the data
+    /// handed back.
+    pub fn post_returned<R: Wait>(
+        &self,
+        rt: &R,
+        hand: &mut Hand<L>,
+        verdict: PostVerdict,
+        lent: Option<CallbackData>,
+    ) -> Result<(), Refused<Option<CallbackData>>>
+        ensures held { Holding (Nothing (status_of result)) hand.old hand.new }
+        ensures back { IfErr result (λ refused. refused.handed_back ≡ lent) }
+    {
+        self.round.lock(rt).post_returned(hand, verdict, lent)
+    }
+}

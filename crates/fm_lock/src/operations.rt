@@ -1,0 +1,106 @@
+//! The events that lend data out or hand it back: by the hand of their worker, with what a refusal hands back.
+
+ghost use Rattle.std.specs.Prelude.{◌≡◌, Err, IfErr};
+ghost use Rattle.fm_core.specs.Returned.{status_of};
+ghost use Rattle.fm_world.specs.Events.{BaseReturns, Nexts, PostReturns, PreReturns};
+ghost use Rattle.fm_world.specs.Hands.{given_by_next};
+ghost use Rattle.fm_world.specs.StepHands.{More, Nothing};
+ghost use Rattle.fm_lock.specs.Events.{EventOr, Holding};
+
+use crate::hand::Hand;
+use crate::round::Round;
+use fm_data::{Answer, BaseCall, CallbackData, PostVerdict, PreVerdict};
+use fm_flow::FlowAction;
+use fm_types::{OpId, Status};
+use fm_world::Refused;
+use std::sync::ledger::Ledger;
+
+impl<L: Ledger> Round<L> {
+    /// What the hand's worker has to do next for an operation, as the State's `next`. Refused with 30 before the event, nothing changed, if the hand's number
+    /// isn't the State's.
+    pub fn next(&mut self, hand: &mut Hand<L>, operation: OpId) -> Result<FlowAction, Status>
+        ensures event { EventOr (Err Status.WrongStep) (λ worker before r after. Nexts before worker operation r after) self.old hand.old result self.new hand.new }
+        ensures held { Holding (More result given_by_next) hand.old hand.new }
+    {
+        let worker = hand.worker();
+        if self.state.hand_len(worker) as u64 != hand.held() {
+            return Err(Status::WrongStep);
+        }
+        let result = self.state.next(worker, operation);
+        hand.settle(&mut self.book, self.state.hand_len(worker) as u64);
+        result
+    }
+
+    /// The preoperation callback that the hand's worker is in returns, as the State's `pre_returned`. Refused with 30 before the event, nothing changed and
+    /// the data handed back, if the hand's number isn't the State's.
+    pub fn pre_returned(
+        &mut self,
+        hand: &mut Hand<L>,
+        verdict: PreVerdict,
+        lent: CallbackData,
+    ) -> Result<(), Refused<CallbackData>>
+        ensures event { EventOr (Err (record { status = Status.WrongStep; handed_back = lent })) (λ worker before r after. PreReturns before worker verdict lent (status_of r) after) self.old hand.old result self.new hand.new }
+        ensures held { Holding (Nothing (status_of result)) hand.old hand.new }
+        ensures back { IfErr result (λ refused. refused.handed_back ≡ lent) }
+    {
+        let worker = hand.worker();
+        if self.state.hand_len(worker) as u64 != hand.held() {
+            return Err(Refused {
+                status: Status::WrongStep,
+                handed_back: lent,
+            });
+        }
+        let result = self.state.pre_returned(worker, verdict, lent);
+        hand.settle(&mut self.book, self.state.hand_len(worker) as u64);
+        result
+    }
+
+    /// The base call that the hand's worker is in returns, as the State's `base_returned`. Refused with 30 before the event, nothing changed and both handed
+    /// back, if the hand's number isn't the State's.
+    #[tactic(auto, using(fm_world::proofs::Handing::keeps_held))]
+    pub fn base_returned(
+        &mut self,
+        hand: &mut Hand<L>,
+        call: BaseCall,
+        given: Answer,
+    ) -> Result<(), Refused<(BaseCall, Answer)>>
+        ensures event { EventOr (Err (record { status = Status.WrongStep; handed_back = (call, given) })) (λ worker before r after. BaseReturns before worker call given (status_of r) after) self.old hand.old result self.new hand.new }
+        ensures held { hand.new ≡ hand.old }
+        ensures back { IfErr result (λ refused. refused.handed_back ≡ (call, given)) }
+    {
+        let worker = hand.worker();
+        if self.state.hand_len(worker) as u64 != hand.held() {
+            return Err(Refused {
+                status: Status::WrongStep,
+                handed_back: (call, given),
+            });
+        }
+        let result = self.state.base_returned(worker, call, given);
+        hand.settle(&mut self.book, self.state.hand_len(worker) as u64);
+        result
+    }
+
+    /// The postoperation callback or the drain that the hand's worker is in returns, as the State's `post_returned`. Refused with 30 before the event, nothing
+    /// changed and the data handed back, if the hand's number isn't the State's.
+    pub fn post_returned(
+        &mut self,
+        hand: &mut Hand<L>,
+        verdict: PostVerdict,
+        lent: Option<CallbackData>,
+    ) -> Result<(), Refused<Option<CallbackData>>>
+        ensures event { EventOr (Err (record { status = Status.WrongStep; handed_back = lent })) (λ worker before r after. PostReturns before worker verdict lent (status_of r) after) self.old hand.old result self.new hand.new }
+        ensures held { Holding (Nothing (status_of result)) hand.old hand.new }
+        ensures back { IfErr result (λ refused. refused.handed_back ≡ lent) }
+    {
+        let worker = hand.worker();
+        if self.state.hand_len(worker) as u64 != hand.held() {
+            return Err(Refused {
+                status: Status::WrongStep,
+                handed_back: lent,
+            });
+        }
+        let result = self.state.post_returned(worker, verdict, lent);
+        hand.settle(&mut self.book, self.state.hand_len(worker) as u64);
+        result
+    }
+}

@@ -1,0 +1,35 @@
+//! Whose hands are out.
+
+ghost use Rattle.std.specs.Prelude.{◌≡◌, false, not};
+ghost use Rattle.std.specs.List.{list_all};
+ghost use Rattle.fm_lock.specs.Rolls.{is_roll};
+
+use crate::hand::Hand;
+use std::sync::ledger::Ledger;
+
+/// How many workers there are.
+pub(crate) const WORKERS: usize = 48;
+
+/// Whether no hand is out.
+fn is_nobody_out(hired: &[bool; WORKERS]) -> bool
+    ensures { result ≡ list_all not hired.now }
+{
+    hired.iter().all(|is_out| !*is_out)
+}
+
+/// Whether the hands are those that are out, each once. It takes each that it meets off the roll.
+pub(crate) fn is_roll<L: Ledger>(hired: &mut [bool; WORKERS], hands: &[Hand<L>]) -> bool
+    ensures { result ≡ is_roll hired.old hands.now }
+{
+    match hands.split_first() {
+        None => is_nobody_out(hired),
+        Some((hand, others)) => {
+            let worker = usize::from(hand.worker().0);
+            if worker >= WORKERS || !hired[worker] {
+                return false;
+            }
+            hired[worker] = false;
+            is_roll(hired, others)
+        }
+    }
+}

@@ -1,0 +1,72 @@
+//! A script's lines through a manager that threads share.
+
+ghost use Rattle.std.specs.Prelude.{◌≡◌};
+
+use crate::driver::Driver;
+use fm_core::{Step, StepReply};
+use fm_script::{MAX_LINE, Runner, ScriptEnd, is_silent};
+use fm_types::Status;
+use std::alloc::Global;
+use std::sync::Wait;
+use std::sync::ledger::{Blank, Ledger};
+
+/// A script that a manager does, line by line, and beside it what reads the lines.
+#[derive(Drop)]
+pub struct Rows<L: Ledger> {
+    reader: Runner<Vec<u8>>,
+    driver: Driver<L>,
+}
+
+impl<L: Ledger> Rows<L> {
+    /// Before the first line. The blank is the ledger's own, in 49 parts.
+    pub fn new<R: Wait>(rt: &R, alloc: Global, blank: Blank) -> Result<Rows<L>, ScriptEnd>
+        requires name { blank.name ≡ L.name }
+        requires parts { blank.parts ≡ L.parts }
+        requires all { blank.parts ≡ 49 }
+    {
+        let reader = Runner::new(alloc, Vec::new(alloc))?;
+        let driver = Driver::new(rt, alloc, blank).map_err(|_| ScriptEnd::NoMemory)?;
+        Ok(Rows { reader, driver })
+    }
+
+    // One line: read as a script reads it, done by the manager, and then by the reader too, so that the next line is read as it should be.
+    fn take_line<R: Wait>(&mut self, rt: &R, line: &[u8]) -> Result<(), ScriptEnd> {
+        if line.len() > MAX_LINE {
+            self.driver.refuse(Status::BadRequest)?;
+            return self.reader.run(line);
+        }
+        if is_silent(line) {
+            return Ok(());
+        }
+        match self.reader.read(line).map_err(|_| ScriptEnd::NoMemory)? {
+            Ok(task) => self.driver.perform(rt, self.reader.interpreter(), task)?,
+            Err(status) => self.driver.refuse(status)?,
+        }
+        self.reader.run(line)
+    }
+
+    /// Runs lines: each is one event of the manager, by the hand of its worker.
+    pub fn take<R: Wait>(&mut self, rt: &R, lines: &[u8]) -> Result<(), ScriptEnd> {
+        for line in lines.split(|byte| *byte == b'\n') {
+            self.take_line(rt, line)?;
+        }
+        Ok(())
+    }
+
+    /// Makes an event that no line can name.
+    pub fn step<R: Wait>(&mut self, rt: &R, step: Step) -> Result<StepReply, Status> {
+        self.driver.step(rt, step)
+    }
+
+    /// What was printed.
+    pub fn take_printed(&mut self, alloc: Global) -> Result<Vec<u8>, ScriptEnd> {
+        self.driver.take_printed(alloc)
+    }
+
+    /// Ends the manager: how many contexts were allocated, how many cleaned up, and how many references left behind. Refused as `Manager::shutdown`.
+    pub fn end(self) -> Result<[u64; 3], Status>
+        requires { L.parts ≡ 49 }
+    {
+        self.driver.end()
+    }
+}

@@ -4,10 +4,12 @@
 
 mod agreeable;
 mod asks;
+mod filters;
 mod minifilter;
 mod port;
 
 pub use crate::agreeable::Agreeable;
 pub use crate::asks::{ask_post, ask_pre, ask_query, ask_setup, let_go, tell_complete, tell_start};
+pub use crate::filters::Filters;
 pub use crate::minifilter::Minifilter;
 pub use crate::port::Port;

@@ -7,8 +7,8 @@ use Rattle.fm_types.specs.declared.registration.Registration.{Registration}
 use Rattle.fm_types.proofs.Lists.{slice_get-set_same, slice_get-set_other}
 use Rattle.fm_types.proofs.Refusals.{none_refuses}
 use Rattle.fm_stack.specs.Events as setting
-use Rattle.fm_local.specs.Calls.{Numbers, place_called}
-use Rattle.fm_local.specs.Managers.{handed_in}
+use Rattle.fm_local.specs.Calls.{Numbers}
+use Rattle.fm_filter.specs.Handed.{handed_in, place_called}
 
 -- the number is one of those that there is room for
 pub registered_within : (old : World) (name : List ℕ) (registration : Registration) (f : FilterId) (new : World) → Registers old name registration (Ok f) new → f.0 < 16

@@ -7,7 +7,7 @@ use Rattle.fm_local.proofs.Words.{StartsQuietly, TearsDownFirst, TearsDownQuietl
 use Rattle.std.specs.Prelude.{replicate}
 use Rattle.fm_world.specs.World.{empty_world}
 use Rattle.fm_local.specs.Calls.{Asks, AsksToUnload, QueryEnds, is_of_row}
-use Rattle.fm_local.specs.Managers.{handed_in, place_of}
+use Rattle.fm_filter.specs.Handed.{handed_in, place_of}
 use Rattle.fm_local.specs.Quietly.{AsksQuietly, EndsQuietly, LeavesReady, SetUpQuietly, WasTold, IsSettled, TearsDownIf}
 use Rattle.fm_local.specs.Actions.{OnlyState}
 use Rattle.fm_local.proofs.Leaving.{asked_leaves, declined_leaves, one_goes, starts_leaves, torn_leaves, was_told}

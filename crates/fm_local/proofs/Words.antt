@@ -63,13 +63,13 @@ pub use Rattle.fm_local.specs.Chains.{BaseMay, Subject, Under, chain_of, filter_
 pub use Rattle.fm_local.specs.Cleanups.{HasNoneDue}
 pub use Rattle.fm_local.specs.Folds.{Asker, Chain, Descends, Leads, Rises, Visit, asker}
 pub use Rattle.fm_local.specs.Left.{ArePlain}
-pub use Rattle.fm_local.specs.Managers.{numbered}
+pub use Rattle.fm_filter.specs.Handed.{numbered}
 pub use Rattle.fm_local.specs.Places.{StaysOut}
 pub use Rattle.fm_local.specs.Quietly.{CompletesQuietly, StartsQuietly, TearsDownFirst, TearsDownQuietly}
 pub use Rattle.fm_local.specs.Requests.{IsAtRest, NoneStops, Tidies, under}
 pub use Rattle.fm_local.specs.Turns.{Carries, Does, Turns}
 pub use Rattle.fm_local.specs.Visits.{Visits}
-pub use Rattle.fm_local.specs.declared.filters.Filters.{Filters}
+pub use Rattle.fm_filter.specs.declared.filters.Filters.{Filters}
 pub use Rattle.fm_local.specs.declared.manager.TheConstants.{WORKER}
 pub use Rattle.fm_local.specs.declared.requests.TheConstants.{RESUMPTIONS, TURNS}
 pub use Rattle.fm_local.specs.declared.requests.Turn.{Turn}

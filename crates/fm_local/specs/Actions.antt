@@ -17,7 +17,7 @@ use Rattle.fm_filter.specs.Plain.{IsPlainFilter}
 use Rattle.fm_local.specs.declared.requests.Turn.{Turn}
 use Rattle.fm_device.specs.Bases.{BasesCarry}
 use Rattle.fm_local.specs.Calls.{AsksToUnload, QueriesWith, SetsUpWith, is_to_go}
-use Rattle.fm_local.specs.Managers.{numbered}
+use Rattle.fm_filter.specs.Handed.{numbered}
 use Rattle.fm_local.specs.Requests.{under, NoneStops, IsAtRest, AnswersOne, AnswersAll, DoesTidily, Tidies}
 use Rattle.fm_local.specs.Chains.{PreMay, PostMay, filter_in}
 use Rattle.fm_local.specs.Cleanups.{CleansAll}

@@ -1,27 +1,22 @@
 -- What a manager's calls answer, by the events of its state that they make.
 use Rattle.std.specs.Prelude.{◌≡◌, ◌⊎◌, Bool, Err, IsErr, List, None, Ok, Option, Result, Some, false, option_and_then, slice_get, true, ℕ, ◌&&◌}
-use Rattle.std.specs.Prelude.{option_map, position, ◌≢◌, ◌++◌, ◌∷◌, [], cond, nat_lt, vec_len, vec_capacity}
+use Rattle.std.specs.Prelude.{option_map, ◌≢◌, ◌++◌, ◌∷◌, [], cond, nat_lt, vec_len, vec_capacity}
 use Rattle.fm_local.specs.Words.{Finishes, Attaches, AsksDetach, CompletesTeardown, EmptiesFilter, FinishesFilter, FilterId, Instance, InstanceId}
 use Rattle.fm_local.specs.Words.{Status, VolumeId, WorkerId, World}
 use Rattle.fm_types.specs.declared.registration.Registration.{Registration}
 use Rattle.fm_types.specs.declared.status.Status.TheVariants.{NoFilter}
-use Rattle.fm_stack.specs.Instances.{same_name}
 use Rattle.fm_stack.specs.Unloading.{is_of}
 use Rattle.fm_stack.specs.declared.filter.Filter.{Filter}
 use Rattle.fm_stack.specs.declared.filter.FilterPhase.{FilterPhase}
 use Rattle.fm_stack.specs.declared.instance.Phase.{Phase}
 use Rattle.fm_world.specs.Events.{Registers, SetsUp}
 use Rattle.fm_world.specs.Teardowns.{QueryReturns, AsksUnload, UnloadReturns}
-use Rattle.fm_local.specs.declared.filters.Filters.{Filters}
+use Rattle.fm_filter.specs.declared.filters.Filters.{Filters}
 use Rattle.fm_local.specs.declared.manager.LocalManager.{LocalManager}
 use Rattle.fm_local.specs.Chains.{filter_in}
 use Rattle.fm_local.specs.Cleanups.{HasNoneDue}
-use Rattle.fm_local.specs.Managers.{handed_in, numbered}
+use Rattle.fm_filter.specs.Handed.{handed_in, numbered, place_called}
 use Rattle.fm_local.specs.Places.{EndsFrom}
-
--- the place of the filter of that name
-abbrev pub place_called : {F : Type 0} → List ℕ → List (List ℕ × F) → Option ℕ
-place_called {F} name all = position (λ (row : List ℕ × F). same_name row.0 name) all
 
 -- a filter is loaded: none has that name, or it registers for what it says
 abbrev pub LoadsBy : Option Registration → World → List ℕ → Result FilterId Status → World → Type 0

@@ -9,7 +9,7 @@ use Rattle.fm_local.specs.declared.manager.TheConstants.{WORKER}
 use Rattle.fm_local.specs.declared.requests.TheConstants.{RESUMPTIONS, TURNS}
 use Rattle.fm_local.specs.Actions.{AnswersIn, ArePlainFilters, AttachesThenSettles, DetachesThenSettles, IsReady, Requests, UnloadsThenSettles}
 use Rattle.fm_local.specs.Calls.{AgreesAt, MayAgree, is_leaving, is_unloading}
-use Rattle.fm_local.specs.Managers.{handed_in, numbered}
+use Rattle.fm_filter.specs.Handed.{handed_in, numbered}
 use Rattle.fm_local.specs.Quietly.{AttachesQuietly, DetachesQuietly, LeavesReady, UnloadsQuietly}
 
 module _ {F B : Type 0} (f : filter.Ghosts F) (b : base.Ghosts B) where

@@ -7,7 +7,8 @@ ghost use Rattle.fm_flow.specs.declared.action.FlowAction.TheVariants as step;
 ghost use Rattle.fm_local.specs.Actions.{ArePlainFilters, CallsBack, Makes, OnlyState, filter_at};
 ghost use Rattle.fm_local.specs.Chains.{PreMay, PostMay, filter_in};
 ghost use Rattle.fm_local.specs.Drains.{WasCalled};
-ghost use Rattle.fm_local.specs.Managers.{numbered, IsQuietIn};
+ghost use Rattle.fm_filter.specs.Handed.{numbered};
+ghost use Rattle.fm_local.specs.Managers.{IsQuietIn};
 ghost use Rattle.fm_local.specs.Places.{EndsFrom, IsIn};
 ghost use Rattle.fm_local.specs.Turns.{Does};
 ghost use Rattle.fm_world.specs.EarlyDrains.{DrainReturns};
@@ -18,7 +19,6 @@ ghost use Rattle.fm_world.specs.Teardowns.{CompleteReturns, StartReturns};
 ghost use Rattle.fm_world.specs.declared.worker.Worker.TheVariants as place;
 
 use crate::bounded::Bounded;
-use crate::filters::Filters;
 use crate::leak::{Callback, Leak};
 use crate::local_port::Desk;
 use crate::manager::{LocalManager, WORKER};
@@ -27,7 +27,7 @@ use fm_base::Base;
 use fm_core::State;
 use fm_data::{CallbackData, Completion, PostVerdict, PreVerdict};
 use fm_filter::{
-    Minifilter, ask_post, ask_pre, ask_query, ask_setup, let_go, tell_complete, tell_start,
+    Filters, Minifilter, ask_post, ask_pre, ask_query, ask_setup, let_go, tell_complete, tell_start,
 };
 use fm_types::{CtxId, FilterId, InstanceId, OpId, Status};
 

@@ -3,14 +3,13 @@
 ghost use Rattle.std.specs.Prelude.{◌≡◌, []};
 ghost use Rattle.fm_local.specs.Actions.{OnlyState};
 ghost use Rattle.fm_local.specs.Cleanups.{CleansAll, CleansSome, HasNoneDue, MayReturn, cleaner_of};
-ghost use Rattle.fm_local.specs.Managers.{numbered};
+ghost use Rattle.fm_filter.specs.Handed.{numbered};
 ghost use Rattle.fm_local.specs.Requests.{Tidies};
 
-use crate::filters::Filters;
 use crate::manager::{LocalManager, WORKER};
 use fm_base::Base;
 use fm_core::{Due, Owner, State};
-use fm_filter::Minifilter;
+use fm_filter::{Filters, Minifilter};
 
 impl<F: Minifilter, B: Base> LocalManager<F, B> {
     /// Cleans up every context that is due.

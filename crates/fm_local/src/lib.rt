@@ -4,7 +4,6 @@
 mod bounded;
 mod callbacks;
 mod cleanups;
-mod filters;
 pub mod laws;
 mod leak;
 mod local_port;
@@ -13,7 +12,6 @@ mod requests;
 mod teardowns;
 mod trace;
 
-pub use crate::filters::Filters;
 pub use crate::leak::{Callback, Leak};
 pub use crate::manager::LocalManager;
 pub use crate::trace::{Traced, Visit};

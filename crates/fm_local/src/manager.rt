@@ -13,14 +13,13 @@ ghost use Rattle.fm_local.specs.Places.{IsOut, StaysOut};
 ghost use Rattle.fm_world.specs.World.{empty_world};
 
 use crate::bounded::Bounded;
-use crate::filters::Filters;
 use crate::leak::Leak;
 use crate::local_port::Desk;
 use crate::trace::Traced;
 use fm_base::Base;
 use fm_core::State;
 use fm_device::Bases;
-use fm_filter::Minifilter;
+use fm_filter::{Filters, Minifilter};
 use fm_types::{CtxId, FilterId, Name, OpId, Status, VolumeId, WorkerId};
 use std::alloc::Global;
 

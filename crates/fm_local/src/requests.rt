@@ -9,7 +9,7 @@ ghost use Rattle.fm_flow.specs.Answered.{bare_answer};
 ghost use Rattle.fm_flow.specs.declared.action.FlowAction.TheVariants as step;
 ghost use Rattle.fm_local.specs.Actions.{Acts, AnswersIn, ArePlainFilters, CarriesIn, CarriesOn, CarriesOnAll, ClosesAfter, ClosesIn, ClosesRefused, ClosesThen, GivesFinished, GoesOn, IsBegun, IsDoneAt, IsReady, Makes, OnlyState, PerformsAlone, PerformsIn, RefusesIn, RefusesOne, RepliesWith, Requests, RequestsOne, ResumesNone, RunsAlone, RunsIn, RunsOn, Settles, TakesDone, TakesTurn, TurnsAs, WaitsAtEnd, closed_handle, ends_turn, goes_on, is_over, replied, reply_of};
 ghost use Rattle.fm_local.specs.Cleanups.{HasNoneDue, LeavesNoneDue};
-ghost use Rattle.fm_local.specs.Managers.{numbered};
+ghost use Rattle.fm_filter.specs.Handed.{numbered};
 ghost use Rattle.fm_local.specs.Offered.{AnswersAny, AnswersReady};
 ghost use Rattle.fm_local.specs.Places.{StaysOut};
 ghost use Rattle.fm_local.specs.Requests.{Tidies};

@@ -5,7 +5,7 @@ ghost use Rattle.fm_local.specs.Actions.{ArePlainFilters, AsksThenSettles, Calls
 ghost use Rattle.fm_local.specs.Calls.{AgreesAt, Asks, AsksToUnload, AttachesAs, DetachesAs, EndsTidily, FilterEnds, MayAgree, SetupEnds, TornDown, UnloadsAs, is_leaving, is_to_go, is_unloading};
 ghost use Rattle.fm_local.specs.Cleanups.{HasNoneDue, LeavesNoneDue};
 ghost use Rattle.fm_local.specs.Drains.{DrainsAll, DrainsSome, StartsAndDrains, left_to_drain};
-ghost use Rattle.fm_local.specs.Managers.{numbered};
+ghost use Rattle.fm_filter.specs.Handed.{numbered};
 ghost use Rattle.fm_local.specs.Offered.{AttachesAny, AttachesReady, DetachesAny, DetachesReady, StaysReadyAlike, UnloadsAny, UnloadsReady};
 ghost use Rattle.fm_local.specs.Places.{ComesOut, StaysOut};
 ghost use Rattle.fm_local.specs.Quietly.{AsksQuietly, CompletesQuietly, EndsQuietly, IsSettled, SetUpQuietly, StartsAlone, StartsQuietly, TearsDownFirst, TearsDownIf, TearsDownQuietly, WasTold};

@@ -1,5 +1,5 @@
 use Rattle.fm_local.proofs.Words.{Err, Ok, ◌<◌, refl, subst, sym, ℕ, WORKER}
-use Rattle.fm_local.specs.Calls.{place_called}
+use Rattle.fm_filter.specs.Handed.{place_called}
 use Rattle.fm_local.proofs.Numbered.{found_place, noted_numbers, registered_within}
 use Rattle.fm_local.proofs.Places.{registered_out}
 use Rattle.fm_local.proofs.NoneDue.{none_registered}

@@ -2,8 +2,7 @@
 
 ghost use Rattle.std.specs.Prelude.{◌≡◌, MatchOption, Some, None, length, ok_or, option_and_then, replicate, slice_set};
 ghost use Rattle.fm_stack.specs.Instances.{same_name};
-ghost use Rattle.fm_local.specs.Calls.{place_called};
-ghost use Rattle.fm_local.specs.Managers.{handed_in, numbered};
+ghost use Rattle.fm_filter.specs.Handed.{handed_in, numbered, place_called};
 
 use fm_types::{FilterId, Name, Status};
 

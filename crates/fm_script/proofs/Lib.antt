@@ -1,3 +1,4 @@
+pub mod Lengths
 pub mod Spellings
 pub mod Numbers
 pub mod Kept

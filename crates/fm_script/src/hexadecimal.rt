@@ -1,6 +1,6 @@
 //! Bytes, as a script spells them: lower-case hexadecimal, and `-` for none.
 
-ghost use Rattle.std.specs.Prelude.{◌≡◌, ◌∷◌, ◌++◌, ◌<◌, ℕ, List, [], IfOk, MatchOption};
+ghost use Rattle.std.specs.Prelude.{◌≡◌, ◌∷◌, ◌++◌, ◌<◌, ◌≤◌, ℕ, List, [], IfErr, IfOk, MatchOption, length, vec_capacity};
 ghost use Rattle.fm_script.specs.Hexadecimal.{IsNoHexadecimal, IsNoPairs, hex_digit, hex_of, hex_pair, hex_pairs};
 
 use std::alloc::{AllocError, Global};
@@ -19,7 +19,9 @@ fn hex_digit(nibble: u8) -> u8
 
 // Appends two digits for each byte.
 fn write_pairs(text: &mut Vec<u8>, bytes: &[u8]) -> Result<(), AllocError>
-    ensures { IfOk result (λ _. text.new.items ≡ text.old.items ++ hex_pairs bytes.now) }
+    ensures appends { IfOk result (λ _. text.new.items ≡ text.old.items ++ hex_pairs bytes.now) }
+    ensures full { IfErr result (λ _. vec_capacity text.old < length (text.old.items ++ hex_pairs bytes.now)) }
+    ensures room { vec_capacity text.old ≤ vec_capacity text.new }
 {
     text.try_reserve(bytes.len() * 2)?;
     for byte in bytes {
@@ -31,7 +33,9 @@ fn write_pairs(text: &mut Vec<u8>, bytes: &[u8]) -> Result<(), AllocError>
 
 /// Appends the spelling of the bytes.
 pub fn write_hex(text: &mut Vec<u8>, bytes: &[u8]) -> Result<(), AllocError>
-    ensures { IfOk result (λ _. text.new.items ≡ text.old.items ++ hex_of bytes.now) }
+    ensures appends { IfOk result (λ _. text.new.items ≡ text.old.items ++ hex_of bytes.now) }
+    ensures full { IfErr result (λ _. vec_capacity text.old < length (text.old.items ++ hex_of bytes.now)) }
+    ensures room { vec_capacity text.old ≤ vec_capacity text.new }
 {
     if bytes.is_empty() {
         text.push(b'-')?;

@@ -1,7 +1,8 @@
 //! Where a script prints: lines are held back until there are enough of them, or until it is flushed.
 
-ghost use Rattle.std.specs.Prelude.{◌≡◌, []};
+ghost use Rattle.std.specs.Prelude.{◌≡◌, ◌<◌, [], IfErr, length, vec_capacity};
 ghost use Rattle.fm_script.specs.Printing.{Changes, HandsOver, Says, printed};
+ghost use Rattle.fm_script.specs.Sayings.{text_with};
 
 use crate::said::Said;
 use crate::script_end::ScriptEnd;
@@ -31,9 +32,11 @@ impl<W: Write + Drop> Output<W> {
     }
 
     /// Prints a line: it is held back, and with it all that is held goes to the writer once that is 8,192 bytes or more. It is NoMemory if there is no
-    /// memory for the line, which the writer wasn't given then, and WriteFault if the writer fails; then nothing is held back any more.
+    /// memory for the line, which the writer wasn't given then, and never if there is room for it after what is held back. It is WriteFault if the writer
+    /// fails; then nothing is held back any more.
     pub fn say(&mut self, line: &Said) -> Result<(), ScriptEnd>
-        ensures { Says line.now result (printed W.contents self.old) (printed W.contents self.new) }
+        ensures says { Says line.now result (printed W.contents self.old) (printed W.contents self.new) }
+        ensures full { IfErr result (λ end. end ≡ ScriptEnd.NoMemory → vec_capacity self.old.text < length (text_with self.old.text.items line.now)) }
     {
         line.print(&mut self.text).map_err(|_| ScriptEnd::NoMemory)?;
         if self.text.len() >= HELD {

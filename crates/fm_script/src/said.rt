@@ -1,6 +1,6 @@
 //! The lines that a script prints: which one for which answer, and the bytes of each.
 
-ghost use Rattle.std.specs.Prelude.{◌≡◌, ◌≤◌, ◌<◌, ◌++◌, ◌∷◌, [], IfOk, decimal};
+ghost use Rattle.std.specs.Prelude.{◌≡◌, ◌≤◌, ◌<◌, ◌++◌, ◌∷◌, [], IfErr, IfOk, decimal, length, vec_capacity};
 ghost use Rattle.fm_script.specs.Sayings.{phase_word, refused_text, reply_text, said_context, said_count, said_done, said_drained, said_dropped, said_due, said_given, said_held, said_new, said_of, said_old, said_phase, said_set, text_with, verdict_text, word_text};
 ghost use Rattle.fm_script.specs.declared.said.Said.TheVariants as SaidOf;
 ghost use Rattle.fm_script.specs.declared.said.Word.TheVariants as WordOf;
@@ -310,9 +310,12 @@ impl Word {
 }
 
 impl Said {
-    /// Appends the line, with its line feed. It fails where there is no memory for it; then the text may end with a beginning of the line.
+    /// Appends the line, with its line feed. It fails if there is no memory for it, and never if there is room for it already; then the text may end with a
+    /// beginning of the line.
     pub fn print(&self, text: &mut Vec<u8>) -> Result<(), AllocError>
-        ensures { IfOk result (λ _. text.new.items ≡ text_with text.old.items self.now) }
+        ensures appends { IfOk result (λ _. text.new.items ≡ text_with text.old.items self.now) }
+        ensures full { IfErr result (λ _. vec_capacity text.old < length (text_with text.old.items self.now)) }
+        ensures room { vec_capacity text.old ≤ vec_capacity text.new }
     {
         match self {
             Said::Plain(word) => text.extend_from_slice(word.text())?,
@@ -357,7 +360,9 @@ impl Said {
 fn print_pair(text: &mut Vec<u8>, number: u8) -> Result<(), AllocError>
     requires above { 10 ≤ number }
     requires below { number < 100 }
-    ensures { IfOk result (λ _. text.new.items ≡ text.old.items ++ decimal number) }
+    ensures appends { IfOk result (λ _. text.new.items ≡ text.old.items ++ decimal number) }
+    ensures full { IfErr result (λ _. vec_capacity text.old < length (text.old.items ++ decimal number)) }
+    ensures room { vec_capacity text.old ≤ vec_capacity text.new }
 {
     text.push(b'0' + number / 10)?;
     text.push(b'0' + number % 10)?;
@@ -366,7 +371,9 @@ fn print_pair(text: &mut Vec<u8>, number: u8) -> Result<(), AllocError>
 
 // Appends a number. Most have one digit or two, which are made where they stand.
 fn print_number(text: &mut Vec<u8>, number: u64) -> Result<(), AllocError>
-    ensures { IfOk result (λ _. text.new.items ≡ text.old.items ++ decimal number) }
+    ensures appends { IfOk result (λ _. text.new.items ≡ text.old.items ++ decimal number) }
+    ensures full { IfErr result (λ _. vec_capacity text.old < length (text.old.items ++ decimal number)) }
+    ensures room { vec_capacity text.old ≤ vec_capacity text.new }
 {
     if number < 10 {
         text.push(b'0' + number as u8)?;
@@ -380,7 +387,9 @@ fn print_number(text: &mut Vec<u8>, number: u64) -> Result<(), AllocError>
 }
 
 fn print_refusal(text: &mut Vec<u8>, status: Status) -> Result<(), AllocError>
-    ensures { IfOk result (λ _. text.new.items ≡ refused_text text.old.items status) }
+    ensures appends { IfOk result (λ _. text.new.items ≡ refused_text text.old.items status) }
+    ensures full { IfErr result (λ _. vec_capacity text.old < length (refused_text text.old.items status)) }
+    ensures room { vec_capacity text.old ≤ vec_capacity text.new }
 {
     text.extend_from_slice(b"no ")?;
     print_number(text, u64::from(status.number()))?;
@@ -392,7 +401,9 @@ fn print_refusal(text: &mut Vec<u8>, status: Status) -> Result<(), AllocError>
 }
 
 fn print_verdict(text: &mut Vec<u8>, verdict: PreVerdict) -> Result<(), AllocError>
-    ensures { IfOk result (λ _. text.new.items ≡ verdict_text text.old.items verdict) }
+    ensures appends { IfOk result (λ _. text.new.items ≡ verdict_text text.old.items verdict) }
+    ensures full { IfErr result (λ _. vec_capacity text.old < length (verdict_text text.old.items verdict)) }
+    ensures room { vec_capacity text.old ≤ vec_capacity text.new }
 {
     match verdict {
         PreVerdict::WithCallback(_) => text.extend_from_slice(b" with"),
@@ -407,7 +418,9 @@ fn print_verdict(text: &mut Vec<u8>, verdict: PreVerdict) -> Result<(), AllocErr
 }
 
 fn print_reply(text: &mut Vec<u8>, answer: &Answer) -> Result<(), AllocError>
-    ensures { IfOk result (λ _. text.new.items ≡ reply_text text.old.items answer.now) }
+    ensures appends { IfOk result (λ _. text.new.items ≡ reply_text text.old.items answer.now) }
+    ensures full { IfErr result (λ _. vec_capacity text.old < length (reply_text text.old.items answer.now)) }
+    ensures room { vec_capacity text.old ≤ vec_capacity text.new }
 {
     text.extend_from_slice(b"reply ")?;
     print_number(text, u64::from(answer.status.number()))?;

@@ -1,0 +1,87 @@
+/* The calls of the archive, one after another: a filter's callbacks are answered in place, and each line says what the manager told. */
+#include "kazdrin.h"
+
+#include <stdio.h>
+#include <string.h>
+
+static Kazdrin kazdrin;
+static KazdrinTold told;
+static uint8_t room[64];
+
+static uint32_t step(KazdrinEvent event, const char *text)
+{
+    return kazdrin_step(&kazdrin, &event, (const uint8_t *)text, strlen(text), &told, room, sizeof room);
+}
+
+/* What the filter says to an operation on its way down. */
+static KazdrinEvent verdict(uint32_t operation)
+{
+    switch (operation) {
+    case KZ_CREATE:
+        return (KazdrinEvent){.mode = KZ_WITH_CALLBACK, .number = 7};
+    case KZ_READ:
+        return (KazdrinEvent){.mode = KZ_SYNCHRONIZE, .number = 9};
+    default:
+        return (KazdrinEvent){.mode = KZ_NO_CALLBACK};
+    }
+}
+
+/* Takes an operation to its end, and collects its answer. */
+static void go(const char *name, KazdrinEvent asked, const char *text, KazdrinEvent down)
+{
+    uint32_t status = step(asked, text);
+    if (status != 0) {
+        printf("%s: refused with %u\n", name, status);
+        return;
+    }
+    KazdrinEvent turn = {.operation = told.operation};
+    printf("%s: operation %llu\n", name, (unsigned long long)told.operation);
+    while (kazdrin_next(&kazdrin, &turn, &told) == 0 && told.action != KZ_DONE) {
+        if (told.action == KZ_PRE) {
+            printf("  pre of instance %u: %u\n", told.instance, kazdrin_pre_returned(&kazdrin, &down));
+        } else if (told.action == KZ_BASE) {
+            printf("  base: %u\n", kazdrin_base(&kazdrin, &turn));
+        } else if (told.action == KZ_POST) {
+            printf("  post of instance %u with %llu", told.instance, (unsigned long long)told.number);
+            printf(": %u\n", kazdrin_post_returned(&kazdrin, &(KazdrinEvent){.mode = KZ_FINISHED}));
+        }
+    }
+    status = step((KazdrinEvent){.event = KZ_COLLECT, .operation = turn.operation}, "");
+    printf("  collected %u: status %u, information %llu, bytes '%.*s'\n", status, told.status, (unsigned long long)told.information, (int)told.length, (char *)room);
+}
+
+static void file(const char *name, KazdrinEvent asked, const char *text)
+{
+    go(name, asked, text, verdict(asked.event));
+}
+
+int main(void)
+{
+    printf("closed: %u\n", step((KazdrinEvent){.event = KZ_MOUNT}, "disk"));
+    printf("open: %u\n", kazdrin_open(&kazdrin));
+    printf("open again: %u\n", kazdrin_open(&kazdrin));
+    printf("mount: %u\n", step((KazdrinEvent){.event = KZ_MOUNT}, "disk"));
+    printf("mount again: %u\n", step((KazdrinEvent){.event = KZ_MOUNT}, "disk"));
+    printf("no name: %u\n", step((KazdrinEvent){.event = KZ_MOUNT}, ""));
+    printf("no event: %u\n", step((KazdrinEvent){.event = 99}, ""));
+    printf("no callback: %u\n", step((KazdrinEvent){.event = KZ_SETUP_DONE, .flag = 1}, ""));
+    printf("no worker: %u\n", step((KazdrinEvent){.event = KZ_SETUP_DONE, .worker = 200}, ""));
+    printf("register: %u\n", step((KazdrinEvent){.event = KZ_REGISTER, .pre = 1 + 2 + 4 + 512, .post = 1 + 2, .contexts = 4, .unload = 1}, "watch"));
+    KazdrinEvent attach = {0};
+    uint32_t status = kazdrin_attach(&kazdrin, &attach, (const uint8_t *)"watch", 5, (const uint8_t *)"tall", 4, &told, room, sizeof room);
+    printf("no altitude: %u\n", status);
+    status = kazdrin_attach(&kazdrin, &attach, (const uint8_t *)"watch", 5, (const uint8_t *)"100.5", 5, &told, room, sizeof room);
+    printf("attach: %u, instance %u\n", status, told.instance);
+    printf("setup done: %u\n", step((KazdrinEvent){.event = KZ_SETUP_DONE, .flag = 1}, ""));
+    file("create", (KazdrinEvent){.event = KZ_CREATE, .mode = 1}, "report");
+    file("write", (KazdrinEvent){.event = KZ_WRITE}, "hello");
+    file("read", (KazdrinEvent){.event = KZ_READ, .len = 16}, "");
+    go("denied", (KazdrinEvent){.event = KZ_CREATE, .mode = 2}, "secret", (KazdrinEvent){.mode = KZ_COMPLETE, .status = 17});
+    go("no verdict", (KazdrinEvent){.event = KZ_LIST}, "", (KazdrinEvent){.mode = 77});
+    file("cleanup", (KazdrinEvent){.event = KZ_CLEANUP}, "");
+    file("close", (KazdrinEvent){.event = KZ_CLOSE}, "");
+    file("gone", (KazdrinEvent){.event = KZ_READ, .len = 1}, "");
+    kazdrin_close(&kazdrin);
+    printf("closed: %u\n", step((KazdrinEvent){.event = KZ_MOUNT}, "disk"));
+    return 0;
+}

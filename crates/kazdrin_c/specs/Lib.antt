@@ -1,0 +1,5 @@
+pub mod Calls
+pub mod Handles
+pub mod Named
+pub mod Opened
+pub mod Told

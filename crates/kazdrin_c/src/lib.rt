@@ -1,0 +1,174 @@
+//! The manager for C: a handle on a session, and each event as a call. `c/include/kazdrin.h` declares what is exported here.
+#![tactic(auto)]
+
+ghost use Rattle.std.specs.Prelude.{◌≡◌, ◌≢◌, Some};
+ghost use Rattle.kazdrin_c.specs.Opened.{Opened};
+ghost use Rattle.kazdrin_c.specs.Calls.{BaseTold, MakesNamed, NextTold, PostTold, PreTold};
+ghost use Rattle.kazdrin_c.specs.Named.{attach_named, post_named, step_named, verdict_named};
+
+mod event;
+mod face;
+mod handle;
+mod loose;
+mod told;
+
+pub use crate::event::KazdrinEvent;
+use crate::face::Face;
+pub use crate::handle::Kazdrin;
+pub use crate::told::KazdrinTold;
+use std::alloc::Global;
+
+/// What every call answers on a handle that isn't open; no status has that number.
+const CLOSED: u32 = 35;
+
+/// Opens a handle: a session before its first event. Refused with 30 if it is open already, and with 1 if memory was refused; then it stays as it was.
+#[unsafe(no_mangle)]
+pub extern "C" fn kazdrin_open(alloc: Global, kazdrin: &mut Kazdrin) -> u32
+    ensures open { kazdrin.old.is_open ≡ 1 → (result ≡ 30) × (kazdrin.new ≡ kazdrin.old) }
+{
+    if kazdrin.is_open == 1 {
+        return 30;
+    }
+    match boxed(alloc) {
+        Some(face) => {
+            kazdrin.put(face);
+            0
+        }
+        None => 1,
+    }
+}
+
+// A new session on the heap, if there is memory for it.
+fn boxed(alloc: Global) -> Option<Box<Face>> {
+    match Face::new(alloc) {
+        Ok(face) => Box::new(alloc, face).ok(),
+        Err(_) => None,
+    }
+}
+
+/// Closes a handle, and frees what lies behind it.
+#[unsafe(no_mangle)]
+pub extern "C" fn kazdrin_close(alloc: Global, kazdrin: &mut Kazdrin)
+    ensures { kazdrin.new.is_open ≢ 1 }
+{
+    let _ = kazdrin.take(alloc);
+}
+
+/// Makes the event that the number names, and tells its answer: 0, or the number of the status with which it was refused. A number that names no event is
+/// refused with 32, and a text that is no name or no path with 3 or 15; nothing changes then.
+#[unsafe(no_mangle)]
+pub extern "C" fn kazdrin_step(
+    alloc: Global,
+    kazdrin: &mut Kazdrin,
+    event: &KazdrinEvent,
+    bytes: &[u8],
+    told: &mut KazdrinTold,
+    room: &mut [u8],
+) -> u32
+    ensures open { kazdrin.old.is_open ≡ 1 → Opened kazdrin.old.kept.face kazdrin.new.kept.face (λ old new. MakesNamed (step_named event.now bytes.now) old told.old room.old result new told.new room.new) }
+    ensures stays { kazdrin.old.is_open ≡ 1 → kazdrin.new.is_open ≡ 1 }
+    ensures closed { kazdrin.old.is_open ≢ 1 → (result ≡ 35) × (kazdrin.new ≡ kazdrin.old) }
+{
+    let Some(mut face) = kazdrin.take(alloc) else {
+        return CLOSED;
+    };
+    let result = face.step(event, bytes, told, room);
+    kazdrin.put(face);
+    result
+}
+
+/// The worker attaches the event's filter to its volume, and enters its setup callback. A text that is no name or no altitude is refused with 3 or 2.
+#[unsafe(no_mangle)]
+pub extern "C" fn kazdrin_attach(
+    alloc: Global,
+    kazdrin: &mut Kazdrin,
+    event: &KazdrinEvent,
+    name: &[u8],
+    altitude: &[u8],
+    told: &mut KazdrinTold,
+    room: &mut [u8],
+) -> u32
+    ensures open { kazdrin.old.is_open ≡ 1 → Opened kazdrin.old.kept.face kazdrin.new.kept.face (λ old new. MakesNamed (Some (attach_named event.now name.now altitude.now)) old told.old room.old result new told.new room.new) }
+    ensures stays { kazdrin.old.is_open ≡ 1 → kazdrin.new.is_open ≡ 1 }
+    ensures closed { kazdrin.old.is_open ≢ 1 → (result ≡ 35) × (kazdrin.new ≡ kazdrin.old) }
+{
+    let Some(mut face) = kazdrin.take(alloc) else {
+        return CLOSED;
+    };
+    let result = face.attach(event, name, altitude, told, room);
+    kazdrin.put(face);
+    result
+}
+
+/// The worker takes the operation's next step, and keeps what it is lent for it until the return.
+#[unsafe(no_mangle)]
+pub extern "C" fn kazdrin_next(
+    alloc: Global,
+    kazdrin: &mut Kazdrin,
+    event: &KazdrinEvent,
+    told: &mut KazdrinTold,
+) -> u32
+    ensures open { kazdrin.old.is_open ≡ 1 → Opened kazdrin.old.kept.face kazdrin.new.kept.face (λ old new. NextTold event.now old told.old result new told.new) }
+    ensures stays { kazdrin.old.is_open ≡ 1 → kazdrin.new.is_open ≡ 1 }
+    ensures closed { kazdrin.old.is_open ≢ 1 → (result ≡ 35) × (kazdrin.new ≡ kazdrin.old) }
+{
+    let Some(mut face) = kazdrin.take(alloc) else {
+        return CLOSED;
+    };
+    let result = face.next(event, told);
+    kazdrin.put(face);
+    result
+}
+
+/// The worker's preoperation returns with the verdict that the event names, and with what it was lent.
+#[unsafe(no_mangle)]
+pub extern "C" fn kazdrin_pre_returned(
+    alloc: Global,
+    kazdrin: &mut Kazdrin,
+    event: &KazdrinEvent,
+) -> u32
+    ensures open { kazdrin.old.is_open ≡ 1 → Opened kazdrin.old.kept.face kazdrin.new.kept.face (λ old new. PreTold event.now old result new (verdict_named event.now)) }
+    ensures stays { kazdrin.old.is_open ≡ 1 → kazdrin.new.is_open ≡ 1 }
+    ensures closed { kazdrin.old.is_open ≢ 1 → (result ≡ 35) × (kazdrin.new ≡ kazdrin.old) }
+{
+    let Some(mut face) = kazdrin.take(alloc) else {
+        return CLOSED;
+    };
+    let result = face.pre_returned(event);
+    kazdrin.put(face);
+    result
+}
+
+/// The worker's postoperation or drain returns with the verdict that the event names, and with what it was lent.
+#[unsafe(no_mangle)]
+pub extern "C" fn kazdrin_post_returned(
+    alloc: Global,
+    kazdrin: &mut Kazdrin,
+    event: &KazdrinEvent,
+) -> u32
+    ensures open { kazdrin.old.is_open ≡ 1 → Opened kazdrin.old.kept.face kazdrin.new.kept.face (λ old new. PostTold event.now old result new (post_named event.now.mode)) }
+    ensures stays { kazdrin.old.is_open ≡ 1 → kazdrin.new.is_open ≡ 1 }
+    ensures closed { kazdrin.old.is_open ≢ 1 → (result ≡ 35) × (kazdrin.new ≡ kazdrin.old) }
+{
+    let Some(mut face) = kazdrin.take(alloc) else {
+        return CLOSED;
+    };
+    let result = face.post_returned(event);
+    kazdrin.put(face);
+    result
+}
+
+/// The file system in memory of the operation's volume carries out the call that the worker was lent, and the call returns.
+#[unsafe(no_mangle)]
+pub extern "C" fn kazdrin_base(alloc: Global, kazdrin: &mut Kazdrin, event: &KazdrinEvent) -> u32
+    ensures open { kazdrin.old.is_open ≡ 1 → Opened kazdrin.old.kept.face kazdrin.new.kept.face (λ old new. BaseTold event.now old result new) }
+    ensures stays { kazdrin.old.is_open ≡ 1 → kazdrin.new.is_open ≡ 1 }
+    ensures closed { kazdrin.old.is_open ≢ 1 → (result ≡ 35) × (kazdrin.new ≡ kazdrin.old) }
+{
+    let Some(mut face) = kazdrin.take(alloc) else {
+        return CLOSED;
+    };
+    let result = face.base(event);
+    kazdrin.put(face);
+    result
+}

@@ -1,10 +1,8 @@
 //! What lies behind a handle: a session, and a file system in memory for each of its volumes.
 
-ghost use Rattle.std.specs.Prelude.{◌≡◌, IfOk, Some, replicate};
-ghost use Rattle.std.specs.FinMap.{empty};
-ghost use Rattle.fm_world.specs.World.{empty_world};
-ghost use Rattle.fm_session.specs.declared.lent.Lent.TheVariants as lent;
+ghost use Rattle.std.specs.Prelude.{◌≡◌, IfErr, IfOk, Some};
 ghost use Rattle.kazdrin_c.specs.Calls.{BaseTold, Makes, MakesNamed, NextTold, PostTold, PreTold};
+ghost use Rattle.kazdrin_c.specs.Opened.{IsFresh};
 ghost use Rattle.kazdrin_c.specs.Named.{attach_named, post_named, step_named, verdict_named};
 
 use crate::event::{KazdrinEvent, post_verdict_of};
@@ -26,9 +24,8 @@ pub struct Face {
 impl Face {
     /// A session before its first event, and empty file systems. Refused with 1 if memory was refused.
     pub fn new(alloc: Global) -> Result<Face, Status>
-        ensures world { IfOk result (λ face. face.session.world ≡ empty_world) }
-        ensures lent { IfOk result (λ face. face.session.lent ≡ replicate 48 lent.Nothing) }
-        ensures folders { IfOk result (λ face. face.devices ≡ replicate 8 empty) }
+        ensures new { IfOk result (λ face. IsFresh face) }
+        ensures memory { IfErr result (λ status. status ≡ Status.NoMemory) }
     {
         let session = Session::new(alloc)?;
         let devices = MemoryDevices::new(alloc)?;

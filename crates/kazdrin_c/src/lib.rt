@@ -1,8 +1,8 @@
 //! The manager for C: a handle on a session, and each event as a call. `c/include/kazdrin.h` declares what is exported here.
 #![tactic(auto)]
 
-ghost use Rattle.std.specs.Prelude.{◌≡◌, ◌≢◌, Some};
-ghost use Rattle.kazdrin_c.specs.Opened.{Opened};
+ghost use Rattle.std.specs.Prelude.{◌≡◌, ◌≢◌, IfSome, Some};
+ghost use Rattle.kazdrin_c.specs.Opened.{HasFresh, IsFresh, Opened};
 ghost use Rattle.kazdrin_c.specs.Calls.{BaseTold, MakesNamed, NextTold, PostTold, PreTold};
 ghost use Rattle.kazdrin_c.specs.Named.{attach_named, post_named, step_named, verdict_named};
 
@@ -25,6 +25,8 @@ const CLOSED: u32 = 35;
 #[unsafe(no_mangle)]
 pub extern "C" fn kazdrin_open(alloc: Global, kazdrin: &mut Kazdrin) -> u32
     ensures open { kazdrin.old.is_open ≡ 1 → (result ≡ 30) × (kazdrin.new ≡ kazdrin.old) }
+    ensures new { kazdrin.old.is_open ≢ 1 → result ≡ 0 → (kazdrin.new.is_open ≡ 1) × HasFresh kazdrin.new.kept.face }
+    ensures refused { kazdrin.old.is_open ≢ 1 → result ≢ 0 → (result ≡ 1) × (kazdrin.new ≡ kazdrin.old) }
 {
     if kazdrin.is_open == 1 {
         return 30;
@@ -39,9 +41,14 @@ pub extern "C" fn kazdrin_open(alloc: Global, kazdrin: &mut Kazdrin) -> u32
 }
 
 // A new session on the heap, if there is memory for it.
-fn boxed(alloc: Global) -> Option<Box<Face>> {
+fn boxed(alloc: Global) -> Option<Box<Face>>
+    ensures { IfSome result (λ face. IsFresh face.value) }
+{
     match Face::new(alloc) {
-        Ok(face) => Box::new(alloc, face).ok(),
+        Ok(face) => match Box::new(alloc, face) {
+            Ok(face) => Some(face),
+            Err(_) => None,
+        },
         Err(_) => None,
     }
 }

@@ -1,10 +1,12 @@
 //! Runs each script, NAME.flt in the folder that it is run in or in its folder `rows`: read whole, read in pieces of any length, and without its last
-//! line's end. Says which don't print what NAME.out has, and of which folder each does.
+//! line's end. Says which don't print what NAME.out has, and of which folder each does. Those that have a NAME.txt and a NAME.svg beside them are shown in
+//! words and as a picture too, and these are compared.
 #![tactic(auto)]
 
 mod by_manager;
 
 use fm_script::{ScriptEnd, script};
+use fm_view::{Manner, show_script};
 use std::alloc::{AllocError, Global};
 use std::io::Read;
 use std::sync::Wait;
@@ -12,6 +14,9 @@ use std::{fs, io};
 
 // The lengths of the pieces that a script is read in.
 const PIECES: [usize; 3] = [1, 7, 16384];
+
+// The scripts that are shown.
+const SHOWN: [&str; 3] = ["leak", "held_read", "detach"];
 
 // A reader that gives a script in pieces of at most that many bytes, and is interrupted before each.
 #[derive(Drop)]
@@ -140,6 +145,30 @@ fn run_all(rt: &HostRuntime, folder: &str) -> io::Result<bool> {
     Ok(is_well)
 }
 
+// Shows a script, and tells whether that is what its file of that ending has.
+fn is_shown(rt: &HostRuntime, name: &str, manner: Manner, ending: &str) -> io::Result<bool> {
+    let alloc = rt.alloc();
+    let input = fs::read(rt, format!(in alloc; "{name}.flt")?)?;
+    let wanted = fs::read(rt, format!(in alloc; "{name}.{ending}")?)?;
+    let mut bytes = Vec::new(alloc);
+    let _ = show_script(alloc, manner, input.as_slice(), &mut bytes);
+    Ok(bytes.as_slice() == wanted.as_slice())
+}
+
+// Tells of each script that is shown whether that is as it should be.
+fn show_all(rt: &HostRuntime) -> io::Result<()> {
+    for name in SHOWN {
+        for (manner, ending) in [(Manner::Words, "txt"), (Manner::Picture, "svg")] {
+            if is_shown(rt, name, manner, ending)? {
+                println!(rt; "{name} is shown as {name}.{ending} has it")?;
+            } else {
+                println!(rt; "{name} isn't shown as {name}.{ending} has it")?;
+            }
+        }
+    }
+    Ok(())
+}
+
 fn main(rt: HostRuntime) -> io::Result<()> {
     for folder in [".", "rows"] {
         if run_all(&rt, folder)? {
@@ -149,5 +178,5 @@ fn main(rt: HostRuntime) -> io::Result<()> {
             println!(rt; "{folder}: and so it does by a manager's hands")?;
         }
     }
-    Ok(())
+    show_all(&rt)
 }

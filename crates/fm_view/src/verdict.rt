@@ -1,0 +1,205 @@
+//! What is left when a script has ended.
+
+ghost use Rattle.std.specs.Prelude.{◌≡◌};
+ghost use Rattle.fm_view.specs.Ends.{status_of};
+
+use crate::named::{Counted, Named, Place, Stated};
+use crate::notes::{LeakNote, Notes};
+use fm_core::{Entry, Hold, Phase, PostState, PreState, State, Worker};
+use fm_script::ScriptEnd;
+use fm_types::{InstanceId, OpId, Status, WorkerId};
+use std::alloc::AllocError;
+
+/// The exit status of a script that was shown: that of its end, but 5 if it ended well and left a reference behind, or an operation that a filter holds.
+pub fn exit_status(end: ScriptEnd, leaks: u64, held: u64) -> u8
+    ensures { result ≡ status_of end leaks held }
+{
+    match end {
+        ScriptEnd::Ended if leaks > 0 || held > 0 => 5,
+        other => other.status(),
+    }
+}
+
+/// Where an operation is held: the instance, and whether its preoperation or its postoperation holds it.
+pub fn held_at(state: &State, operation: OpId) -> Option<(InstanceId, Hold)> {
+    let trace = state.trace(operation)?;
+    for entry in trace {
+        match entry {
+            Entry::Pre(visit) if visit.state == PreState::Held => {
+                return Some((visit.instance, Hold::Pre));
+            }
+            Entry::Post(visit) if visit.state == PostState::Held => {
+                return Some((visit.instance, Hold::Post));
+            }
+            _ => {}
+        }
+    }
+    None
+}
+
+/// How many operations filters hold.
+pub fn held(state: &State) -> u64 {
+    let mut count = 0u64;
+    for number in 0..state.operations_begun() {
+        if held_at(state, OpId(number)).is_some() {
+            count = count.saturating_add(1);
+        }
+    }
+    count
+}
+
+/// Appends what is left.
+pub fn say_end(
+    text: &mut String,
+    notes: &Notes,
+    state: &State,
+    lines: u32,
+) -> Result<(), AllocError> {
+    write!(text, "\n{lines} lines, ")?;
+    say_refusals(text, notes)?;
+    write!(
+        text,
+        "contexts: {} born, {} cleaned up, {} left behind\n",
+        state.born(),
+        state.cleaned_count(),
+        Counted(state.leaks(), "reference"),
+    )?;
+    for leak in &notes.leaks {
+        say_leak(text, notes, leak)?;
+    }
+    say_operations(text, notes, state)?;
+    say_workers(text, notes, state)?;
+    say_handles(text, notes, state)?;
+    say_instances(text, notes)
+}
+
+// How many lines were refused, by their statuses.
+fn say_refusals(text: &mut String, notes: &Notes) -> Result<(), AllocError> {
+    let mut all = 0u64;
+    for count in notes.refusals {
+        all = all.saturating_add(count);
+    }
+    write!(text, "{all} of them refused")?;
+    let mut mark = ": ";
+    for (number, count) in notes.refusals.iter().enumerate() {
+        let status = match u8::try_from(number) {
+            Ok(number) => Status::from_number(number, 0),
+            Err(_) => None,
+        };
+        if let (Some(status), true) = (status, *count > 0) {
+            write!(
+                text,
+                "{mark}{count} with {} {}",
+                status.number(),
+                status.name()
+            )?;
+            mark = ", ";
+        }
+    }
+    text.push('\n')
+}
+
+// A reference that was left behind.
+fn say_leak(text: &mut String, notes: &Notes, leak: &LeakNote) -> Result<(), AllocError> {
+    let context = Named::Context(notes, leak.context);
+    let place = Place(notes, leak.place);
+    write!(
+        text,
+        "  LEAKED {context}, {place}, which returned on line {}\n",
+        leak.line
+    )
+}
+
+// The operations that are held, under way, or not collected.
+fn say_operations(text: &mut String, notes: &Notes, state: &State) -> Result<(), AllocError> {
+    for number in 0..state.operations_begun() {
+        say_operation(text, notes, state, number)?;
+    }
+    Ok(())
+}
+
+fn say_operation(
+    text: &mut String,
+    notes: &Notes,
+    state: &State,
+    number: u64,
+) -> Result<(), AllocError> {
+    let named = Named::Operation(notes, number);
+    match (held_at(state, OpId(number)), state.is_done(OpId(number))) {
+        (Some((instance, hold)), _) => {
+            let callback = match hold {
+                Hold::Pre => "preoperation",
+                Hold::Post => "postoperation",
+            };
+            let instance = Named::Instance(notes, instance.0);
+            write!(text, "  HELD {named} by the {callback} of {instance}\n")
+        }
+        (None, Some(false)) => write!(text, "  under way: {named}\n"),
+        _ => Ok(()),
+    }
+}
+
+// The workers that are inside something.
+fn say_workers(text: &mut String, notes: &Notes, state: &State) -> Result<(), AllocError> {
+    for number in 0..16u8 {
+        let worker = WorkerId(number);
+        if let Some(place) = state.place(worker) {
+            if place != Worker::Idle {
+                let since = notes.since(worker);
+                write!(
+                    text,
+                    "  w{number} is {} since line {since}\n",
+                    Place(notes, place)
+                )?;
+            }
+        }
+    }
+    Ok(())
+}
+
+// The handles that are open.
+fn say_handles(text: &mut String, notes: &Notes, state: &State) -> Result<(), AllocError> {
+    let count = state.handles();
+    if count == 0 {
+        return Ok(());
+    }
+    write!(text, "  handles open: {count}")?;
+    if count == notes.handles.len() {
+        for handle in &notes.handles {
+            write!(text, " h{handle}")?;
+        }
+    }
+    text.push('\n')
+}
+
+// The instances that aren't detached.
+fn say_instances(text: &mut String, notes: &Notes) -> Result<(), AllocError> {
+    let mut mark = "  instances not detached: ";
+    let mut number = 0u16;
+    for note in &notes.instances {
+        if note.phase != Phase::Detached {
+            write!(text, "{mark}{}", Named::Instance(notes, number))?;
+            mark = ", ";
+        }
+        number = number.saturating_add(1);
+    }
+    if mark == ", " {
+        text.push('\n')
+    } else {
+        Ok(())
+    }
+}
+
+/// Why an end wasn't a good one.
+pub fn say_fault(text: &mut String, end: ScriptEnd) -> Result<(), AllocError> {
+    match end {
+        ScriptEnd::Ended => Ok(()),
+        ScriptEnd::NoMemory => write!(
+            text,
+            "{}: the script ended early\n",
+            Stated(Status::NoMemory)
+        ),
+        ScriptEnd::ReadFault => write!(text, "the script couldn't be read to its end\n"),
+        ScriptEnd::WriteFault => write!(text, "the output couldn't be written\n"),
+    }
+}

@@ -9,7 +9,8 @@ use std::alloc::{AllocError, Global};
 use std::process::ExitCode;
 
 // What `--help` says at its top.
-const ABOUT: &str = "Runs a script from standard input, and shows what happened: each line with its answer in words, and at the end what is left. \
+const ABOUT: &str =
+    "Runs a script from standard input, and shows what happened: each line with its answer in words, and at the end what is left. \
 Ends with status 5 where a reference was left behind or an operation is held.";
 
 // The words that the program takes.

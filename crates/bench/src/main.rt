@@ -1,4 +1,4 @@
-//! Measures parts of the house: `bench memory`, `queue`, `gate`, `wire` or `local`, and behind it a number that says how much is done; the figures are printed.
+//! Measures parts of the house: `bench memory`, `queue`, `gate`, `wire`, `local` or `lock`, and after it a number that says how much is done; the figures are printed.
 //! Given no word, it does a little of each and prints nothing.
 #![tactic(auto)]
 
@@ -6,6 +6,7 @@ mod gate;
 mod gated;
 mod listed;
 mod local;
+mod lock;
 mod locked;
 mod memory;
 mod queue;
@@ -31,7 +32,8 @@ fn main(rt: HostRuntime) -> io::Result<()> {
             queue::measure(&rt, &rt, None)?;
             gate::measure(&rt, &rt, None)?;
             wire::measure(&rt, None)?;
-            local::measure(&rt, None)
+            local::measure(&rt, None)?;
+            lock::measure(&rt, &rt, None)
         }
         Some(part) => match part.as_str() {
             "memory" => memory::measure(&rt, count),
@@ -39,6 +41,7 @@ fn main(rt: HostRuntime) -> io::Result<()> {
             "gate" => gate::measure(&rt, &rt, count),
             "wire" => wire::measure(&rt, count),
             "local" => local::measure(&rt, count),
+            "lock" => lock::measure(&rt, &rt, count),
             _ => Err(io::Error::from(io::ErrorKind::InvalidInput)),
         },
     }

@@ -11,7 +11,7 @@ use fm_core::{FilterPhase, Phase, State, Worker};
 use fm_script::{Keyword, MAX_LINE, split_at_byte};
 use fm_types::{OpId, Status, WorkerId};
 use std::alloc::{AllocError, Global};
-use strsim::levenshtein;
+use strsim::osa_distance;
 
 /// A line that was refused, beside what is known.
 #[derive(Clone, Copy)]
@@ -71,7 +71,7 @@ fn say_nearest(alloc: Global, text: &mut String, word: &[u8]) -> Result<(), Allo
     let mut nearest = None;
     for keyword in Keyword::ALL {
         let spelled = format!(in alloc; "{}", Ascii(keyword.spelling()))?;
-        let distance = levenshtein(alloc, word.as_str(), spelled.as_str())?;
+        let distance = osa_distance(alloc, word.as_str(), spelled.as_str())?;
         if distance < least {
             least = distance;
             nearest = Some(keyword);

@@ -127,9 +127,12 @@ impl<L: Ledger> Driver<L> {
     }
 
     fn note(&mut self, reply: &StepReply) -> Result<(), ScriptEnd> {
-        if let StepReply::Context(Ok(context)) = reply {
-            or_end(self.contexts.reserve())?;
-            self.contexts.push(*context);
+        let StepReply::Context(Ok(context)) = reply else {
+            return Ok(());
+        };
+        match self.contexts.reserve() {
+            Ok(()) => self.contexts.push(*context),
+            Err(_) => return Err(ScriptEnd::NoMemory),
         }
         Ok(())
     }

@@ -102,12 +102,12 @@ fn live<L: Ledger, R: Wait>(
     manager: &Manager<(), L>,
     hand: &mut Hand<L>,
 ) -> Result<u32, Status> {
-    let mut answers = 0;
+    let mut answers: u32 = 0;
     for _ in 0..ROUNDS {
         let operation = manager.begin(rt, listing())?;
         carry_on(rt, alloc, manager, hand, operation)?;
         if manager.wait_reply(rt, operation)?.status == Status::Success {
-            answers += 1;
+            answers = answers.saturating_add(1);
         }
     }
     Ok(answers)
@@ -168,7 +168,7 @@ fn waits<L: Ledger + Send + Sync, R: Threads + Wait + Sync>(
 {
     let manager = with_volume::<L, R>(rt, alloc, blank)?;
     let mut hand = manager.hire(rt)?;
-    let mut answers = 0;
+    let mut answers: u32 = 0;
     for _ in 0..ROUNDS {
         let operation = manager.begin(rt, listing())?;
         let (answer, carried) = thread::join(
@@ -178,7 +178,7 @@ fn waits<L: Ledger + Send + Sync, R: Threads + Wait + Sync>(
         );
         carried?;
         if answer?.status == Status::Success {
-            answers += 1;
+            answers = answers.saturating_add(1);
         }
     }
     let mut hands = Vec::new(alloc);

@@ -127,7 +127,9 @@ impl CallbackData {
         self.parts.answer.bytes.as_slice()
     }
 
-    /// Puts that status and number in the answer; its bytes stay.
+    /// Puts that status and number in the answer; its bytes stay. It is for postoperations: what a
+    /// preoperation puts here is never the answer, since its `Complete` brings a status of its own. Of a
+    /// create, a cleanup and a close no postoperation changes the answer: what it puts here is dropped.
     pub fn set_status(&mut self, status: Status, information: u64)
         ensures { self.new ≡ record self.old { status = status; information = information } }
     {

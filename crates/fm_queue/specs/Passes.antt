@@ -7,6 +7,10 @@ use Rattle.fm_queue.specs.declared.tally.Tally.{Tally}
 use Rattle.fm_queue.specs.declared.queue.JobQueue.{JobQueue}
 use Rattle.fm_queue.specs.Tallies.{every_part}
 
+-- a pass, as crates above name it
+abbrev pub JobPass : Type 0
+JobPass = Pass Job Tally
+
 -- what the pass has put and taken
 abbrev pub tally_of : Pass Job Tally → Tally
 tally_of pass = view pass

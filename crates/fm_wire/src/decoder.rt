@@ -1,6 +1,6 @@
 //! The decoder: frames out of a stream that comes in pieces.
 
-ghost use Rattle.std.specs.Prelude.{◌≡◌, ◌↔◌, ◌⊎◌, ◌++◌, [], Ok, Err, Some, None, IfOk, IfErr, OnErr};
+ghost use Rattle.std.specs.Prelude.{◌≡◌, ◌↔◌, ◌⊎◌, ◌++◌, [], Ok, Err, Some, None, IsTrue, IfSome, IfOk, IfErr, OnErr};
 ghost use Rattle.fm_wire.specs.Stream.{Gives, IsFault, Refuses, Splits};
 
 use crate::frame::Frame;
@@ -84,6 +84,14 @@ impl Decoder {
             held: Vec::new(alloc),
             is_broken: false,
         }
+    }
+
+    /// Whether nothing is held: what was fed ends where a frame ends. Says nothing of a decoder that met a
+    /// frame fault.
+    pub fn is_between_frames(&self) -> bool
+        ensures { IfSome self.now (λ held. IsTrue result ↔ (held ≡ [])) }
+    {
+        self.held.is_empty()
     }
 
     /// Takes the next piece of the stream, and gives the frames that are whole now, in their order. A

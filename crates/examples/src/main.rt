@@ -3,10 +3,14 @@
 //! words and as a picture too, and these are compared.
 #![tactic(auto)]
 
+mod by_manager;
+
+use crate::by_manager::{Stored, is_same};
 use fm_script::{ScriptEnd, script};
 use fm_view::{Manner, show_script};
 use std::alloc::{AllocError, Global};
 use std::io::Read;
+use std::sync::Wait;
 use std::{fs, io};
 
 // The lengths of the pieces that a script is read in.
@@ -109,6 +113,27 @@ fn run_in_pieces(alloc: Global, input: &[u8], output: &[u8]) -> Outcome {
     run(alloc, cut, output, 16384)
 }
 
+// Runs each script of a folder by the hands of a manager, and tells those that print something else. Whether the folder has scripts, and there are no such.
+fn run_by_manager<R: Wait>(lock: &R, rt: &HostRuntime, folder: &str) -> io::Result<bool> {
+    let alloc = rt.alloc();
+    let names = names(rt, folder)?;
+    let mut is_well = !names.is_empty();
+    for name in &names {
+        let input = fs::read(rt, format!(in alloc; "{name}.flt")?)?;
+        let output = fs::read(rt, format!(in alloc; "{name}.out")?)?;
+        let stored = Stored {
+            name,
+            script: input.as_slice(),
+            output: output.as_slice(),
+        };
+        if !is_same(lock, alloc, &stored) {
+            is_well = false;
+            println!(rt; "{name} prints something else by a manager's hands")?;
+        }
+    }
+    Ok(is_well)
+}
+
 // Runs each script of a folder, and tells those that don't print what they should. Whether the folder has scripts, and there are no such.
 fn run_all(rt: &HostRuntime, folder: &str) -> io::Result<bool> {
     let alloc = rt.alloc();
@@ -154,6 +179,9 @@ fn main(rt: HostRuntime) -> io::Result<()> {
     for folder in [".", "rows"] {
         if run_all(&rt, folder)? {
             println!(rt; "{folder}: each script prints what its .out has")?;
+        }
+        if run_by_manager(&rt, &rt, folder)? {
+            println!(rt; "{folder}: and so it does by a manager's hands")?;
         }
     }
     show_all(&rt)

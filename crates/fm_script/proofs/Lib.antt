@@ -1,9 +1,6 @@
 pub mod Lengths
-pub mod Spellings
-pub mod Numbers
 pub mod Kept
 pub mod Going
 pub mod Running
 pub mod Rows
 pub mod Newest
-pub mod Cuts

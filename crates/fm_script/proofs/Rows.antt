@@ -4,18 +4,11 @@ use Rattle.std.proofs.lemmas.Bool.Decides.{nat_tests}
 use Rattle.std.proofs.lemmas.Grind.{common_steps}
 use Rattle.std.proofs.lemmas.List.{length-reverse, reverse-append, take-append-drop}
 use Rattle.std.proofs.lemmas.List.Folds.{prefix_len-append}
-use Rattle.std.proofs.lemmas.List.Sums.{prefix_len-le-length}
 use Rattle.std.specs.List.{position, position_or_len}
+use Rattle.fm_text.proofs.Rows.{none_passes}
 
 some_within : (n len k : ℕ) → cond (nat_lt n len) (Some n) None ≡ Some k → (n ≡ k) × (n < len)
 some_within n len k h = grind (arith, nat_tests, common_steps)
-
-none_within : (n len : ℕ) → n ≤ len → cond (nat_lt n len) (Some n) None ≡ None → n ≡ len
-none_within n len small h = grind (arith, nat_tests, common_steps)
-
--- nothing passes
-pub none_passes : {X : Type 0} (p : X → Bool) (xs : List X) → position p xs ≡ None → position_or_len p xs ≡ length xs
-none_passes p xs is = none_within (position_or_len p xs) (length xs) (prefix_len-le-length (λ x. not (p x)) xs) is
 
 joined_some : {X : Type 0} (p : X → Bool) (row behind : List X) (k : ℕ) → position p row ≡ Some k → position_or_len p (row ++ behind) ≡ k
 joined_some p row behind k is =

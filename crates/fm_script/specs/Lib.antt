@@ -2,8 +2,6 @@ pub mod Commands
 pub mod VerdictCommands
 pub mod TeardownCommands
 pub mod Words
-pub mod Numbers
-pub mod Hexadecimal
 pub mod ContextCommands
 pub mod ContextLists
 pub mod FileCommands

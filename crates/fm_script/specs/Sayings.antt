@@ -19,7 +19,7 @@ use Rattle.fm_script.specs.declared.said.Word.TheVariants as word
 use Rattle.fm_script.specs.declared.said.Said.{Said}
 use Rattle.fm_script.specs.declared.said.Said.TheVariants.{Plain, Id, Number, Refused, Defined, Told, Replied, Answered, Based}
 use Rattle.fm_script.specs.ContextLists.{number_in}
-use Rattle.fm_script.specs.Hexadecimal.{hex_of}
+use Rattle.fm_text.specs.Hexadecimal.{hex_of}
 
 -- ---- which line
 

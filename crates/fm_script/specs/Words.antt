@@ -1,6 +1,4 @@
--- The words of a line, and the words that the other files of the crate share.
-use Rattle.std.specs.Prelude.{◌==◌, ℕ, List}
-use Rattle.std.specs.List.{slice_split}
+-- The words that the files of the crate share.
 pub use Rattle.fm_types.specs.declared.ids.CtxId.{CtxId}
 pub use Rattle.fm_types.specs.declared.ids.FilterId.{FilterId}
 pub use Rattle.fm_types.specs.declared.ids.HandleId.{HandleId}
@@ -22,10 +20,7 @@ pub use Rattle.fm_world.specs.declared.step.StepReply.{StepReply}
 pub use Rattle.fm_session.specs.declared.lent.Given.{Given}
 pub use Rattle.fm_script.specs.declared.keyword.Keyword.{Keyword}
 pub use Rattle.fm_script.specs.declared.task.Task.{Task}
-pub use Rattle.fm_script.specs.Numbers.{id_read}
-unfoldable pub use Rattle.fm_script.specs.Numbers.{number_read}
+pub use Rattle.fm_text.specs.Numbers.{id_read}
+unfoldable pub use Rattle.fm_text.specs.Numbers.{number_read}
+pub use Rattle.fm_text.specs.Words.{words_of}
 pub use Rattle.fm_script.specs.Reading.{◌>>=◌, Either}
-
--- words are divided by single spaces, so two spaces, or one at an end of the line, make an empty word
-abbrev pub words_of : List ℕ → List (List ℕ)
-words_of line = slice_split (λ b. b == 32) line

@@ -4,20 +4,20 @@
 
 ghost use Rattle.std.specs.Prelude.{◌≡◌, IfOk, map};
 ghost use Rattle.fm_script.specs.Commands.{Attaches, Creates, Loads, Mounts, ReadsAs, ReadsCreate, ReadsPlace, SetsUp, attach_at, base_read, collect_read, create_at, create_ids, create_mode_read, go_read, is_create, is_of_contexts, is_of_teardowns, list_read, next_read, option_read, phase_read, registration_read, resume_post_read, setup_at, setup_done_read, setup_ids, takes_bytes, turn_read, with_bytes_read};
-ghost use Rattle.fm_script.specs.Numbers.{id_read, number_read};
+ghost use Rattle.fm_text.specs.Numbers.{id_read, number_read};
 ghost use Rattle.fm_script.specs.Tasks.{answered_read, ids_read, numbers_read, one_id, only_instance, only_volume, only_worker, or_bad, turn_in, with_worker, yes_or_no};
 
 use crate::context_command::{read_allocate, read_context_command, read_write_body};
 use crate::file_command::{read_file_command, read_write};
 use crate::ids::{filter_in, instance_in, operation_in, volume_in, worker_in};
 use crate::keyword::Keyword;
-use crate::number::{read_id, read_number};
 use crate::task::Task;
 use crate::teardown_command::read_teardown_command;
 use crate::verdict_command::{read_plan, read_post, read_pre, read_resume};
 use fm_altitude::Altitude;
 use fm_core::{State, Step};
 use fm_data::Request;
+use fm_text::{read_id, read_number};
 use fm_types::{
     Bytes, ContextMask, CreateMode, CtxId, InstanceId, Name, OpId, OpMask, Registration, RelPath,
     SharedPath, Status, VolumeId, WorkerId,

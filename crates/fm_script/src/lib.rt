@@ -7,13 +7,11 @@ mod context_command;
 mod context_list;
 mod devices;
 mod file_command;
-mod hexadecimal;
 mod ids;
 mod interpreter;
 mod keyword;
 pub mod laws;
 mod line;
-mod number;
 mod output;
 mod reading;
 mod runner;
@@ -22,14 +20,11 @@ mod script_end;
 mod task;
 mod teardown_command;
 mod verdict_command;
-mod words;
 
 pub use crate::context_list::ContextList;
 pub use crate::devices::Devices;
-pub use crate::hexadecimal::{read_hex, write_hex};
 pub use crate::interpreter::Interpreter;
 pub use crate::keyword::Keyword;
-pub use crate::number::{read_id, read_number, read_status};
 pub use crate::output::Output;
 pub use crate::reading::{Listener, read_lines, script};
 pub use crate::runner::{MAX_LINE, Runner, is_silent};
@@ -38,4 +33,6 @@ pub use crate::said::{
 };
 pub use crate::script_end::ScriptEnd;
 pub use crate::task::Task;
-pub use crate::words::{split_at_byte, split_words};
+pub use fm_text::{
+    read_hex, read_id, read_number, read_status, split_at_byte, split_words, write_hex,
+};

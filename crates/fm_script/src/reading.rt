@@ -3,7 +3,7 @@
 use crate::line::Line;
 use crate::runner::Runner;
 use crate::script_end::ScriptEnd;
-use crate::words::split_at_byte;
+use fm_text::split_at_byte;
 use std::alloc::Global;
 use std::io::{ErrorKind, Read, Write};
 

@@ -4,11 +4,10 @@ ghost use Rattle.std.specs.Prelude.{◌≡◌, IfOk, map};
 ghost use Rattle.fm_script.specs.Lines.{ReadsBehind, ReadsBytes, ReadsTask, RunsLine, Spells, is_silent};
 ghost use Rattle.fm_script.specs.Printing.{Changes, printed};
 ghost use Rattle.fm_script.specs.Runs.{Goes, PerformsOr, Refuses};
-ghost use Rattle.fm_script.specs.Words.{words_of};
 ghost use Rattle.fm_script.specs.declared.task.Task.TheVariants as TaskOf;
+ghost use Rattle.fm_text.specs.Words.{words_of};
 
 use crate::command::{is_create, read_command, read_create, read_with_bytes, takes_bytes};
-use crate::hexadecimal::read_hex;
 use crate::interpreter::Interpreter;
 use crate::keyword::Keyword;
 use crate::output::Output;
@@ -17,10 +16,10 @@ use crate::said::{
 };
 use crate::script_end::ScriptEnd;
 use crate::task::Task;
-use crate::words::split_words;
 use fm_altitude::Altitude;
 use fm_core::Step;
 use fm_data::{PostVerdict, PreVerdict};
+use fm_text::{read_hex, split_words};
 use fm_types::{Bytes, CtxId, FilterId, InstanceId, Name, OpId, Status, VolumeId, WorkerId};
 use smallvec::SmallVec;
 use std::alloc::{AllocError, Global};

@@ -6,10 +6,10 @@ ghost use Rattle.fm_script.specs.VerdictCommands.{AnswersBare, AnswersPre, Plans
 use crate::command::{id, turn_in, two_ids, with_worker};
 use crate::context_command::held_by;
 use crate::ids::{instance_in, worker_in};
-use crate::number::read_status;
 use crate::task::Task;
 use fm_core::{State, Step};
 use fm_data::{Completion, PostVerdict, PreVerdict};
+use fm_text::read_status;
 use fm_types::{CtxId, Status};
 
 /// The verdict `with`: a script's completions carry the number 0, and no context that the line doesn't name.

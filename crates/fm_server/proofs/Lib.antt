@@ -1,0 +1,4 @@
+pub mod Known
+pub mod Frames
+pub mod Pieces
+pub mod Turns

@@ -1,0 +1,42 @@
+//! A frame that is answered under a pass of its volume, so that a dismount can wait until no request of it is under way.
+
+ghost use Rattle.std.specs.Prelude.{◌≡◌, true, false, nat_lt};
+ghost use Rattle.fm_types.specs.declared.status.Status.TheVariants.{NoVolume};
+ghost use Rattle.fm_rundown.specs.Seats.{IsSeatOf, view_of, volumes_of};
+ghost use Rattle.fm_server.specs.Guards.{Guards, KeepsPasses};
+ghost use Rattle.fm_server.specs.Replies.{bare_reply};
+
+use crate::exec::Exec;
+use crate::replies::bare_reply;
+use fm_rundown::{GateSeat, RundownGate};
+use fm_types::VolumeId;
+use fm_wire::Frame;
+use std::alloc::Global;
+
+/// Has the exec answer the frame under a pass of the volume, which is given back before this returns (`ExAcquireRundownProtection` and
+/// `ExReleaseRundownProtection` around a request). If the gate refuses the pass, its refusal is the reply and the exec isn't asked: 7 (`NoVolume`)
+/// if the gate has no such volume, 33 (`Dismounting`) if it was found closing, as it is ever after the seat has seen that, 29 (`TooMany`) if the
+/// seat holds all its passes of the volume. The seat's passes are as before. The seat is one of this gate's.
+pub fn guarded<E: Exec>(
+    alloc: Global,
+    gate: &RundownGate,
+    seat: &mut GateSeat,
+    volume: VolumeId,
+    exec: &mut E,
+    frame: Frame,
+) -> Frame
+    requires own { IsSeatOf gate.now seat.old }
+    ensures own { IsSeatOf gate.now seat.new }
+    ensures passes { KeepsPasses (view_of seat.old) (view_of seat.new) }
+    ensures guards { nat_lt volume.0 (volumes_of gate.now) ≡ true → Guards E.answers volume.0 (view_of seat.old) exec.old frame result exec.new }
+    ensures none { nat_lt volume.0 (volumes_of gate.now) ≡ false → (result ≡ bare_reply frame.number NoVolume) × (exec.new ≡ exec.old) }
+{
+    match gate.enter(seat, volume) {
+        Ok(()) => {
+            let answer = exec.answer(frame);
+            let _ = gate.leave(seat, volume);
+            answer
+        }
+        Err(status) => bare_reply(alloc, frame.number, status),
+    }
+}

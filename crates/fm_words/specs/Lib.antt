@@ -1,0 +1,4 @@
+pub mod Values
+pub mod Requests
+pub mod Fronts
+pub mod Faults

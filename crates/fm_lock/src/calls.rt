@@ -244,29 +244,6 @@ impl<F: Drop, L: Ledger> Manager<F, L> {
         body_in(self.step(rt, hand, Step::ReadBody { worker, context }))
     }
 
-    /// Writes the bytes of a context that the hand has. It answers as the State does: 30, 25, 32, 1.
-    #[tactic(auto, using(crate::proofs::AnswerKinds::stays))]
-    pub fn write_body<R: Wait>(
-        &self,
-        rt: &R,
-        hand: &mut Hand<L>,
-        context: CtxId,
-        bytes: Bytes,
-    ) -> Result<(), Status>
-        ensures { hand.new ≡ hand.old }
-    {
-        let worker = hand.worker();
-        done_in(self.step(
-            rt,
-            hand,
-            Step::WriteBody {
-                worker,
-                context,
-                bytes,
-            },
-        ))
-    }
-
     /// Adds to a number in the bytes of a context that the hand has, and tells the new one. It answers as the State does: 30, 25, 32.
     #[tactic(auto, using(crate::proofs::AnswerKinds::stays))]
     pub fn bump<R: Wait>(

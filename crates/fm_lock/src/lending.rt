@@ -1,4 +1,4 @@
-//! The events that lend data out or hand it back, by the manager.
+//! The events that lend data out, hand it back or are lent some, by the manager.
 
 ghost use Rattle.std.specs.Prelude.{◌≡◌, IfErr};
 ghost use Rattle.fm_core.specs.Returned.{status_of};
@@ -10,7 +10,7 @@ use crate::hand::Hand;
 use crate::manager::{Manager, is_done};
 use fm_data::{Answer, BaseCall, CallbackData, PostVerdict, PreVerdict};
 use fm_flow::FlowAction;
-use fm_types::{OpId, Status};
+use fm_types::{CtxId, OpId, Status};
 use fm_world::Refused;
 use std::sync::Wait;
 use std::sync::ledger::Ledger;
@@ -74,5 +74,18 @@ impl<F: Drop, L: Ledger> Manager<F, L> {
         ensures back { IfErr result (λ refused. refused.handed_back ≡ lent) }
     {
         self.round.lock(rt).post_returned(hand, verdict, lent)
+    }
+
+    /// Writes the bytes of a context that the hand has, which takes no memory. It answers as the State does: 30, 25, 32.
+    pub fn write_body<R: Wait>(
+        &self,
+        rt: &R,
+        hand: &mut Hand<L>,
+        context: CtxId,
+        bytes: &[u8],
+    ) -> Result<(), Status>
+        ensures { hand.new ≡ hand.old }
+    {
+        self.round.lock(rt).write_body(hand, context, bytes)
     }
 }

@@ -1,7 +1,8 @@
-//! The events that lend data out or hand it back: by the hand of their worker, with what a refusal hands back.
+//! The events that lend data out, hand it back or are lent some: by the hand of their worker, with what a refusal hands back.
 
 ghost use Rattle.std.specs.Prelude.{◌≡◌, Err, IfErr};
 ghost use Rattle.fm_core.specs.Returned.{status_of};
+ghost use Rattle.fm_world.specs.ContextEvents.{WritesBody};
 ghost use Rattle.fm_world.specs.Events.{BaseReturns, Nexts, PostReturns, PreReturns};
 ghost use Rattle.fm_world.specs.Hands.{given_by_next};
 ghost use Rattle.fm_world.specs.StepHands.{More, Nothing};
@@ -11,7 +12,7 @@ use crate::hand::Hand;
 use crate::round::Round;
 use fm_data::{Answer, BaseCall, CallbackData, PostVerdict, PreVerdict};
 use fm_flow::FlowAction;
-use fm_types::{OpId, Status};
+use fm_types::{CtxId, OpId, Status};
 use fm_world::Refused;
 use std::sync::ledger::Ledger;
 
@@ -100,6 +101,27 @@ impl<L: Ledger> Round<L> {
             });
         }
         let result = self.state.post_returned(worker, verdict, lent);
+        hand.settle(&mut self.book, self.state.hand_len(worker) as u64);
+        result
+    }
+
+    /// Replaces the bytes of a context that the hand's worker has, as the State's `write_body`; it takes no memory. Refused with 30 before the event, nothing
+    /// changed, if the hand's number isn't the State's.
+    #[tactic(auto, using(fm_world::proofs::Handing::keeps_held))]
+    pub fn write_body(
+        &mut self,
+        hand: &mut Hand<L>,
+        context: CtxId,
+        bytes: &[u8],
+    ) -> Result<(), Status>
+        ensures event { EventOr (Err Status.WrongStep) (λ worker before r after. WritesBody before worker context bytes.now r after) self.old hand.old result self.new hand.new }
+        ensures held { hand.new ≡ hand.old }
+    {
+        let worker = hand.worker();
+        if self.state.hand_len(worker) as u64 != hand.held() {
+            return Err(Status::WrongStep);
+        }
+        let result = self.state.write_body(worker, context, bytes);
         hand.settle(&mut self.book, self.state.hand_len(worker) as u64);
         result
     }

@@ -1,0 +1,4 @@
+pub mod Rooms
+pub mod Ports
+pub mod Benches
+pub mod Jobs

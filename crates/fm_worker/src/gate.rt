@@ -1,0 +1,18 @@
+//! A gate before callbacks.
+
+use fm_flow::FlowAction;
+use fm_types::WorkerId;
+
+/// What happens before each callback that an operation comes to, with no lock held. It lets tests hold callbacks back.
+pub trait Gate: Send + Sync {
+    /// That worker is about to make the callback of that action: a Pre, a Post or a Drain.
+    fn before(&self, worker: WorkerId, action: &FlowAction);
+}
+
+/// The gate of a program: nothing happens there.
+#[derive(Clone, Copy, Debug)]
+pub struct OpenGate;
+
+impl Gate for OpenGate {
+    fn before(&self, _worker: WorkerId, _action: &FlowAction) {}
+}

@@ -1,0 +1,92 @@
+//! Room for operations that wait to be carried on.
+
+ghost use Rattle.std.specs.Prelude.{◌≡◌, [], IfOk, IfErr, drop, length, nat_le, slice_get};
+ghost use Rattle.std.specs.List.{list_any};
+ghost use Rattle.fm_worker.specs.Rooms.{is_number, put_in};
+
+use fm_types::{OpId, Status};
+use std::alloc::Global;
+use std::collections::VecDeque;
+use std::marker::Model;
+
+/// How many operations a room holds at most: as many as there are at once.
+const PLACES: usize = 256;
+
+/// The numbers of operations that wait to be carried on, each once, in the order in which they came; 256 at most. Its memory is taken once.
+#[derive(Drop)]
+pub struct Room {
+    numbers: VecDeque<OpId>,
+}
+
+impl Model for Room {
+    ghost use Rattle.std.specs.Prelude.{List};
+    ghost use Rattle.std.specs.VecDeque.{deque_capacity};
+    ghost use Rattle.fm_types.specs.declared.ids.OpId.{OpId};
+    ghost use Rattle.fm_worker.specs.Rooms.{IsRoom};
+
+    ghost Value = { List OpId };
+
+    ghost view = { λ room. room.numbers.items };
+
+    ghost invariant = { λ room. IsRoom room.numbers.items (deque_capacity room.numbers) };
+}
+
+fn is_number(number: OpId, other: OpId) -> bool
+    ensures { result ≡ is_number number other }
+{
+    number.0 == other.0
+}
+
+impl Room {
+    /// An empty room. Refused with 1 alone, if memory is refused.
+    pub fn new(alloc: Global) -> Result<Room, Status>
+        ensures empty { IfOk result (λ room. room ≡ []) }
+        ensures memory { IfErr result (λ status. status ≡ Status.NoMemory) }
+    {
+        match VecDeque::with_capacity(alloc, PLACES) {
+            Ok(numbers) => Ok(Room { numbers }),
+            Err(_) => Err(Status::NoMemory),
+        }
+    }
+
+    /// Whether an operation is there.
+    pub fn has(&self, operation: OpId) -> bool
+        ensures { result ≡ list_any (is_number operation) self.now }
+    {
+        self.numbers
+            .iter()
+            .any(|number| is_number(operation, *number))
+    }
+
+    /// Whether there is no place for one more.
+    pub fn is_full(&self) -> bool
+        ensures { result ≡ nat_le 256 (length self.now) }
+    {
+        self.numbers.len() >= PLACES
+    }
+
+    /// Puts an operation after the others, unless it is there or no place is free: then nothing changes.
+    #[tactic(auto, using(crate::proofs::Once::once_put))]
+    pub fn put(&mut self, operation: OpId)
+        ensures { self.new ≡ put_in operation self.old }
+    {
+        if !self.has(operation) && !self.is_full() {
+            let _ = self.numbers.push_back(operation);
+        }
+    }
+
+    /// The operation that was put longest ago.
+    pub fn first(&self) -> Option<OpId>
+        ensures { result ≡ slice_get self.now 0 }
+    {
+        self.numbers.get(0).copied()
+    }
+
+    /// Takes the operation that was put longest ago.
+    pub fn take(&mut self) -> Option<OpId>
+        ensures first { result ≡ slice_get self.old 0 }
+        ensures rest { self.new ≡ drop 1 self.old }
+    {
+        self.numbers.pop_front()
+    }
+}

@@ -42,7 +42,7 @@ impl<'a, F: Minifilter, L: Ledger, R: Wait, G: Gate> Shop<'a, F, L, R, G> {
     }
 
     // Takes jobs until a Stop comes.
-    fn take_jobs<D: Device>(&self, bench: &mut Bench<'a, F, L, R, D>)
+    pub(crate) fn take_jobs<D: Device>(&self, bench: &mut Bench<'a, F, L, R, D>)
         requires free { IsFree self.now.queue.now bench.old.grip.hand.held bench.old.pass }
         ensures free { IsFree self.now.queue.now bench.new.grip.hand.held bench.new.pass }
     {

@@ -1,0 +1,101 @@
+//! Each operation's frame stands between its entry at the gate before a volume and its end there.
+
+ghost use Rattle.std.specs.Prelude.{All, IfSome};
+ghost use Rattle.fm_rundown.specs.Seats.{IsSeatOf};
+
+use fm_data::{Reply, Request};
+use fm_rundown::{GateSeat, Look, RundownGate};
+use fm_server::{Exec, guarded};
+use fm_types::{Bytes, Status, VolumeId};
+use fm_wire::{Body, Frame};
+use std::alloc::Global;
+
+/// The only volume.
+const VOLUME: VolumeId = VolumeId(0);
+
+/// Closes the volume while it answers, by a seat of its own, and notes what a look says then and how often it answered.
+#[derive(Drop)]
+struct Closing<'a> {
+    alloc: Global,
+    gate: &'a RundownGate,
+    seat: GateSeat,
+    seen: Option<Look>,
+    answers: u32,
+    ghost own: { IsSeatOf gate.now seat },
+}
+
+impl Exec for Closing<'_> {
+    ghost use Rattle.std.specs.Prelude.{⊤};
+
+    ghost answers = { λ _ _ _ _. ⊤ };
+
+    fn answer(&mut self, frame: Frame) -> Frame {
+        let _ = self.gate.close(&mut self.seat, VOLUME);
+        self.seen = self.gate.look(&mut self.seat, VOLUME).ok();
+        self.answers = self.answers.saturating_add(1);
+        Frame {
+            number: frame.number,
+            body: Body::Reply(Reply::Done {
+                status: Status::Success,
+                information: 0,
+                bytes: Bytes::new(self.alloc),
+            }),
+        }
+    }
+}
+
+fn listing(number: u32) -> Frame {
+    Frame {
+        number,
+        body: Body::Operation(Request::List { volume: VOLUME }),
+    }
+}
+
+// The status of a reply under that number.
+fn status_in(frame: Frame, number: u32) -> Option<Status> {
+    if frame.number != number {
+        return None;
+    }
+    match frame.body {
+        Body::Reply(Reply::Done { status, .. }) => Some(status),
+        _ => None,
+    }
+}
+
+// Takes a seat at the gate.
+fn take_seat(gate: &RundownGate, seats: &mut Vec<GateSeat>) -> Option<GateSeat>
+    requires own { All (λ seat. IsSeatOf gate.now seat) seats.old.items }
+    ensures own { All (λ seat. IsSeatOf gate.now seat) seats.new.items }
+    ensures taken { IfSome result (λ seat. IsSeatOf gate.now seat) }
+{
+    seats.pop()
+}
+
+/// What two frames are answered, what was seen while the first one was, what is seen after it, and how often the exec answered.
+type Seen = ([Option<Status>; 2], Option<Look>, Option<Look>, u32);
+
+// Two listings; the volume is closed while the first one is answered.
+fn two_frames(alloc: Global) -> Option<Seen> {
+    let (gate, mut seats) = RundownGate::new(alloc, 1, 2).ok()?;
+    let mut own = take_seat(&gate, &mut seats)?;
+    let seat = take_seat(&gate, &mut seats)?;
+    let mut exec = Closing {
+        alloc,
+        gate: &gate,
+        seat,
+        seen: None,
+        answers: 0,
+    };
+    let first = guarded(alloc, &gate, &mut own, VOLUME, &mut exec, listing(1));
+    let after = gate.look(&mut own, VOLUME).ok();
+    let second = guarded(alloc, &gate, &mut own, VOLUME, &mut exec, listing(2));
+    let told = [status_in(first, 1), status_in(second, 2)];
+    Some((told, exec.seen, after, exec.answers))
+}
+
+#[test]
+fn pass_brackets(rt: HostRuntime) {
+    let seen = two_frames(rt.alloc());
+    let told = [Some(Status::Success), Some(Status::Dismounting)];
+    assert!(rt; matches!(seen, Some((answers, Some(Look::Closing), Some(Look::Drained), 1)) if answers == told));
+}

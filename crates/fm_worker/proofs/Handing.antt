@@ -33,7 +33,7 @@ pub put_on : (puts : List Job) (room left now next : List OpId) (o : OpId) (foun
 put_on puts room left now next o found was is is_put on first some put done same rest =
     rw rest rw same rw put rw done (hands_more puts was.puts room left o on (sym first ∙ some))
 
--- where none is first, none is left
+-- if none is first, none is left
 pub none_left : (room : List OpId) → slice_get room 0 ≡ None → drop 1 room ≡ []
 none_left [] none = refl
 none_left (x ∷ room) none = absurd (none-some x (sym none))

@@ -1,2 +1,3 @@
 mod Once
 mod Handing
+mod Drained

@@ -26,7 +26,7 @@ impl<'a, F: Minifilter, L: Ledger, R: Wait, G: Gate> Shop<'a, F, L, R, G> {
         }
     }
 
-    // Cleans up the context that is due longest; false where none is due.
+    // Cleans up the context that is due longest; false if none is due.
     fn clean_next<D: Device>(&self, bench: &mut Bench<'a, F, L, R, D>) -> bool
         requires free { IsFree self.now.queue.now bench.old.grip.hand.held bench.old.pass }
         ensures free { IsFree self.now.queue.now bench.new.grip.hand.held bench.new.pass }

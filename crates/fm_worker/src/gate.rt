@@ -3,7 +3,7 @@
 use fm_flow::FlowAction;
 use fm_types::WorkerId;
 
-/// What happens before each callback that an operation comes to, with no lock held. It lets tests hold callbacks back.
+/// What happens before each callback that is made for an operation, with no lock held. It lets tests hold callbacks back.
 pub trait Gate: Send + Sync {
     /// That worker is about to make the callback of that action: a Pre, a Post or a Drain.
     fn before(&self, worker: WorkerId, action: &FlowAction);

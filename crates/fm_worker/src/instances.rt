@@ -16,7 +16,7 @@ use std::sync::ledger::Ledger;
 
 impl<'a, F: Minifilter, L: Ledger, R: Wait, G: Gate> Shop<'a, F, L, R, G> {
     /// Attaches an instance of a filter to a volume at an altitude, and calls its setup callback (`FltAttachVolumeAtAltitude`). Refused as the manager's
-    /// `attach`, or, after the callback, as its `setup_done`: with 11 where the filter declines. The instance is detached again then; where that can't be
+    /// `attach`, or, after the callback, as its `setup_done`: with 11 if the filter declines. The instance is detached again then; if that can't be
     /// yet, the unload of its filter does it.
     pub fn attach_by<D: Device>(
         &self,

@@ -29,8 +29,8 @@ fn is_for_another(own: WorkerId, turn: Option<WorkerId>) -> bool
 
 impl<'a, F: Minifilter, L: Ledger, R: Wait, G: Gate> Shop<'a, F, L, R, G> {
     /// What a worker does until it takes a Stop: it takes jobs and carries their operations on, as far as they go. What callbacks resume becomes a job for any
-    /// worker, or is carried on here where the queue is full; contexts that are due are cleaned up after each job. An operation that only another worker may
-    /// carry on becomes a job again, or, where the queue is full, waits until it has room. It hands out the hand, which holds nothing, the pass and the
+    /// worker, or is carried on here if the queue is full; contexts that are due are cleaned up after each job. An operation that only another worker may
+    /// carry on becomes a job again, or, if the queue is full, waits until it has room. It hands out the hand, which holds nothing, the pass and the
     /// devices.
     pub fn work<D: Device>(&self, bench: Bench<'a, F, L, R, D>) -> (Hand<L>, JobPass, D)
         requires free { IsFree self.now.queue.now bench.grip.hand.held bench.pass }
@@ -58,7 +58,7 @@ impl<'a, F: Minifilter, L: Ledger, R: Wait, G: Gate> Shop<'a, F, L, R, G> {
         }
     }
 
-    /// Has an operation that was begun carried on: it becomes a job for the workers. Where the queue is full it is carried on here, as a worker does.
+    /// Has an operation that was begun carried on: it becomes a job for the workers. If the queue is full it is carried on here, as a worker does.
     pub fn run_by<D: Device>(&self, bench: &mut Bench<'a, F, L, R, D>, operation: OpId)
         requires free { IsFree self.now.queue.now bench.old.grip.hand.held bench.old.pass }
         ensures free { IsFree self.now.queue.now bench.new.grip.hand.held bench.new.pass }
@@ -89,7 +89,7 @@ impl<'a, F: Minifilter, L: Ledger, R: Wait, G: Gate> Shop<'a, F, L, R, G> {
         }
     }
 
-    // Puts a job for an operation; false where the queue is full.
+    // Puts a job for an operation; false if the queue is full.
     fn put<D: Device>(&self, bench: &mut Bench<'a, F, L, R, D>, operation: OpId) -> bool
         requires free { IsFree self.now.queue.now bench.old.grip.hand.held bench.old.pass }
         ensures free { IsFree self.now.queue.now bench.new.grip.hand.held bench.new.pass }
@@ -103,7 +103,7 @@ impl<'a, F: Minifilter, L: Ledger, R: Wait, G: Gate> Shop<'a, F, L, R, G> {
     }
 
     /// What becomes of an operation that `next` refused with 30, when it is that worker's turn: one that another worker alone may carry on becomes a job again,
-    /// or is set aside where the queue is full. Any other isn't this thread's any more.
+    /// or is set aside if the queue is full. Any other isn't this thread's any more.
     pub(crate) fn put_back<D: Device>(
         &self,
         bench: &mut Bench<'a, F, L, R, D>,
@@ -119,7 +119,7 @@ impl<'a, F: Minifilter, L: Ledger, R: Wait, G: Gate> Shop<'a, F, L, R, G> {
         }
     }
 
-    // Keeps an operation for another thread: as a job, or set aside where the queue is full.
+    // Keeps an operation for another thread: as a job, or set aside if the queue is full.
     fn keep<D: Device>(&self, bench: &mut Bench<'a, F, L, R, D>, operation: OpId)
         requires free { IsFree self.now.queue.now bench.old.grip.hand.held bench.old.pass }
         ensures free { IsFree self.now.queue.now bench.new.grip.hand.held bench.new.pass }

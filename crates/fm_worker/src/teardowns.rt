@@ -9,6 +9,7 @@ use crate::gate::Gate;
 use crate::shop::Shop;
 use fm_device::Device;
 use fm_filter::Minifilter;
+use fm_flow::FlowAction;
 use fm_stack::Phase;
 use fm_types::{InstanceId, Status};
 use std::sync::Wait;
@@ -85,7 +86,7 @@ impl<'a, F: Minifilter, L: Ledger, R: Wait, G: Gate> Shop<'a, F, L, R, G> {
         }
     }
 
-    // Has it let go of what the first operation owes it; false where none does.
+    // Has it let go of what the first operation owes it; false if none does.
     fn drain_first<D: Device>(
         &self,
         bench: &mut Bench<'a, F, L, R, D>,
@@ -98,6 +99,8 @@ impl<'a, F: Minifilter, L: Ledger, R: Wait, G: Gate> Shop<'a, F, L, R, G> {
         let hand = &mut bench.grip.hand;
         match self.manager.drain_take(self.rt, hand, instance) {
             Ok(Some((_operation, completion))) => {
+                let action = FlowAction::Drain(instance, completion);
+                self.gate.before(bench.grip.hand.worker(), &action);
                 self.drain_early(bench, instance, completion);
                 true
             }
@@ -105,7 +108,7 @@ impl<'a, F: Minifilter, L: Ledger, R: Wait, G: Gate> Shop<'a, F, L, R, G> {
         }
     }
 
-    /// The completion of an instance's teardown, where it is stopping, with all that its callback resumed.
+    /// The completion of an instance's teardown, if it is stopping, with all that its callback resumed.
     pub(crate) fn end_teardown<D: Device>(
         &self,
         bench: &mut Bench<'a, F, L, R, D>,

@@ -1,6 +1,8 @@
 //! How a connection dismounts a volume, with all callbacks in between.
 
-ghost use Rattle.fm_rundown.specs.Seats.{IsSeatOf};
+ghost use Rattle.std.specs.Prelude.{◌≡◌, IfOk, true};
+ghost use Rattle.fm_rundown.specs.Seats.{IsSeatOf, view_of};
+ghost use Rattle.fm_rundown.specs.Views.{volume_of};
 ghost use Rattle.fm_worker.specs.Benches.{IsFree};
 ghost use Rattle.fm_worker.specs.Jobs.{LeavesNone};
 
@@ -18,8 +20,9 @@ use std::sync::ledger::Ledger;
 impl<'a, F: Minifilter, L: Ledger, R: Wait, G: Gate> Shop<'a, F, L, R, G> {
     /// Dismounts a volume: closes it at the rundown gate, and once that is drained tears down its instances one after the other, closes the handles that are left,
     /// and cleans up its contexts. Refused with 34 and number 0 while passes of the volume are out, and else as the manager's events are: with 34 and their number
-    /// while operations are there or in flight, or contexts aren't cleaned; with 33 where the volume was dismounted before. Called again, it goes on where
+    /// while operations are there or in flight, or contexts aren't cleaned; with 33 if the volume was dismounted before. Called again, it goes on where
     /// it stopped. A step that another thread has under way gives its own refusal.
+    #[tactic(auto, using(crate::proofs::Drained::drained_seen))]
     pub fn dismount_by<D: Device>(
         &self,
         bench: &mut Bench<'a, F, L, R, D>,
@@ -32,6 +35,7 @@ impl<'a, F: Minifilter, L: Ledger, R: Wait, G: Gate> Shop<'a, F, L, R, G> {
         ensures free { IsFree self.now.queue.now bench.new.grip.hand.held bench.new.pass }
         ensures settled { LeavesNone bench.old.grip.room bench.new.grip.room }
         ensures seat { IsSeatOf rundown.now seat.new }
+        ensures drained { IfOk result (λ _. (volume_of volume.0 (view_of seat.new)).is_drained ≡ true) }
     {
         rundown.close(seat, volume)?;
         match rundown.look(seat, volume)? {

@@ -16,7 +16,7 @@ base_goes : (r : FlowRecord) (m : Option Params) → Done ≡ (call_base r m).re
 base_goes r None h = cc
 base_goes r (Some p) h = cc
 
-down_goes : (k : WorkerId) (lies : Below) (r : FlowRecord) → Done ≡ (descend k lies r).reply → ⊥
+pub down_goes : (k : WorkerId) (lies : Below) (r : FlowRecord) → Done ≡ (descend k lies r).reply → ⊥
 down_goes k (Below.Instance i true) r h = pre_goes k i r r.params h
 down_goes k (Below.Instance i false) r h = cc
 down_goes k Below.Call r h = base_goes r r.params h

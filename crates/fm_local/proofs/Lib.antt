@@ -24,6 +24,10 @@ pub mod Answering
 pub mod Tidying
 pub mod AllReplied
 pub mod Resting
+pub mod Kept
+pub mod Ended
+pub mod Unmoved
+pub mod EndedLasts
 pub mod Leaving
 pub mod Readied
 pub mod Numbered
@@ -35,8 +39,13 @@ pub mod Finished
 pub mod Undrained
 pub mod Refusing
 pub mod Unloaded
+pub mod Waiting
 pub mod Standing
 pub mod Lent
+pub mod StillWaiting
+pub mod FirstEnded
+pub mod Room
+pub mod Found
 pub mod Places
 pub mod GoingOn
 pub mod TornDown

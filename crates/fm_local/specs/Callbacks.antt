@@ -1,8 +1,9 @@
 -- What a callback of an instance's filter answers, and what it leaves.
-use Rattle.std.specs.Prelude.{◌≡◌, Bool, Option}
-use Rattle.fm_local.specs.Words.{Completion}
+use Rattle.std.specs.Prelude.{◌≡◌, Bool, List, Option}
+use Rattle.fm_local.specs.Words.{Completion, OpId}
 use Rattle.fm_filter.specs.Standing.{standing_of}
 use Rattle.fm_local.specs.Managers.{IsQuietIn}
+use Rattle.fm_local.specs.Waits.{Wait}
 use Rattle.fm_local.specs.declared.callbacks.Consent.{Consent}
 use Rattle.fm_local.specs.declared.callbacks.News.{News}
 use Rattle.fm_local.specs.declared.local_port.Desk.{Desk}
@@ -18,7 +19,8 @@ was_told started completed drained News.Start f = started f
 was_told started completed drained News.Complete f = completed f
 was_told started completed drained (News.Drain completion) f = drained f completion
 
--- a quiet filter leaves all, and any one where the instances and the workers stand
+-- a quiet filter leaves all, and any one where the instances and the workers stand; and those that wait do so still
 pub record CallsOnly {F : Type 0} (is_quiet : F → Type 0) (filter : Option F) (old new : Desk) : Type 0 where
   pub quiet : IsQuietIn is_quiet filter → new ≡ old
   pub far : standing_of new.state ≡ standing_of old.state
+  pub waits : (ended : List OpId) → Wait old.state.flow old.resumed.items.items ended → Wait new.state.flow new.resumed.items.items ended

@@ -17,4 +17,5 @@ pub mod Requests
 pub mod Shifts
 pub mod Turns
 pub mod Visits
+pub mod Waits
 pub mod Offered

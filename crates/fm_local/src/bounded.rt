@@ -1,6 +1,6 @@
 //! Queues that take their memory once.
 
-ghost use Rattle.std.specs.Prelude.{◌≡◌, ◌↔◌, ◌<◌, ◌≤◌, ◌++◌, ◌∷◌, [], IfOk, IsTrue, drop, length, nat_le, slice_get};
+ghost use Rattle.std.specs.Prelude.{◌≡◌, ◌⊎◌, ◌↔◌, ◌<◌, ◌≤◌, ◌++◌, ◌∷◌, [], IfOk, IsTrue, drop, length, nat_le, slice_get};
 ghost use Rattle.std.specs.VecDeque.{deque_capacity};
 
 use std::alloc::{AllocError, Global};
@@ -54,6 +54,7 @@ impl<T: Copy> Bounded<T> {
     pub fn put(&mut self, item: T)
         ensures room { length self.old.items.items < deque_capacity self.old.items → self.new.items.items ≡ self.old.items.items ++ item ∷ [] }
         ensures full { 0 < deque_capacity self.old.items → deque_capacity self.old.items ≤ length self.old.items.items → self.new.items.items ≡ drop 1 self.old.items.items ++ item ∷ [] }
+        ensures any { (self.new.items.items ≡ self.old.items.items ++ item ∷ []) ⊎ (self.new.items.items ≡ drop 1 self.old.items.items ++ item ∷ []) ⊎ (self.new.items.items ≡ drop 1 self.old.items.items) }
     {
         if self.is_full() {
             let _ = self.items.pop_front();

@@ -11,6 +11,7 @@ ghost use Rattle.fm_filter.specs.Handed.{numbered};
 ghost use Rattle.fm_local.specs.Managers.{IsQuietIn};
 ghost use Rattle.fm_local.specs.Places.{EndsFrom, IsIn};
 ghost use Rattle.fm_local.specs.Turns.{Does};
+ghost use Rattle.fm_local.specs.Waits.{IsApart, StaysWaiting, Waiting};
 ghost use Rattle.fm_world.specs.EarlyDrains.{DrainReturns};
 ghost use Rattle.fm_world.specs.Events.{PreReturns, PostReturns};
 ghost use Rattle.fm_local.specs.Callbacks.{CallsOnly, consents, was_told};
@@ -77,6 +78,7 @@ impl<F: Minifilter, B: Base> LocalManager<F, B> {
         ensures ends { EndsFrom self.old.desk.state (λ before. SetsUpWith (MayAgree F.setup_may (filter_at self.old instance)) WORKER before result self.new.desk.state) }
         ensures quiet { ArePlainFilters F.pre_may F.post_may F.is_quiet (numbered self.old.filters) → SetsUpWith (MayAgree F.setup_may (filter_at self.old instance)) WORKER self.old.desk.state result self.new.desk.state × (self.new.desk.resumed ≡ self.old.desk.resumed) }
         ensures kept { self.new ≡ record self.old { desk = self.new.desk; hand = self.new.hand; leaks = self.new.leaks } }
+        ensures waits { StaysWaiting self.old self.new }
     {
         let accepts = ask(&self.filters, &mut self.desk, instance, Consent::Setup);
         let before = look_at_hand(&self.desk.state, &mut self.hand);
@@ -96,9 +98,11 @@ impl<F: Minifilter, B: Base> LocalManager<F, B> {
         ensures quiet { ArePlainFilters F.pre_may F.post_may F.is_quiet (numbered self.old.filters) → self.new.desk.resumed ≡ self.old.desk.resumed }
         ensures makes { Makes F.pre_may F.post_may F.drained (BasesCarry B.folder B.faults) (numbered self.old.filters) WORKER operation (Ok (step.Pre instance lent)) self.old.desk.state self.old.bases.all.items self.new.desk.state self.new.bases.all.items }
         ensures kept { CallsBack self.old self.new }
+        ensures waits { IsIn WORKER (place.Pre operation instance) self.old.desk.state → Waiting self.old → Waiting self.new × IsApart operation self.new }
     {
         let verdict = goes_down(&self.filters, &mut self.desk, instance, &mut lent);
         lent.laws();
+        self.desk.state.laws();
         self.note(operation, Visit::Pre(instance, verdict));
         let returning = Returning {
             callback: Callback::Pre,
@@ -118,7 +122,9 @@ impl<F: Minifilter, B: Base> LocalManager<F, B> {
     ) -> Result<(), Status>
         ensures event { PreReturns self.old.desk.state WORKER verdict back result self.new.desk.state }
         ensures kept { self.new ≡ record self.old { desk = record self.old.desk { state = self.new.desk.state }; hand = self.new.hand; leaks = self.new.leaks } }
+        ensures waits { StaysWaiting self.old self.new }
     {
+        self.desk.state.laws();
         let before = look_at_hand(&self.desk.state, &mut self.hand);
         let ended = self.desk.state.pre_returned(WORKER, verdict, back);
         self.note_left(before, returning);
@@ -140,6 +146,7 @@ impl<F: Minifilter, B: Base> LocalManager<F, B> {
         ensures quiet { ArePlainFilters F.pre_may F.post_may F.is_quiet (numbered self.old.filters) → self.new.desk.resumed ≡ self.old.desk.resumed }
         ensures makes { Makes F.pre_may F.post_may F.drained (BasesCarry B.folder B.faults) (numbered self.old.filters) WORKER operation (Ok (step.Post instance lent completion)) self.old.desk.state self.old.bases.all.items self.new.desk.state self.new.bases.all.items }
         ensures kept { CallsBack self.old self.new }
+        ensures waits { IsIn WORKER (place.Post operation instance) self.old.desk.state → Waiting self.old → Waiting self.new × IsApart operation self.new }
     {
         let verdict = goes_up(
             &self.filters,
@@ -149,6 +156,7 @@ impl<F: Minifilter, B: Base> LocalManager<F, B> {
             completion,
         );
         lent.laws();
+        self.desk.state.laws();
         self.note(operation, Visit::Post(instance, verdict));
         let returning = Returning::for_operation(Callback::Post, instance, operation);
         self.end_post(verdict, Some(lent), returning)
@@ -163,7 +171,9 @@ impl<F: Minifilter, B: Base> LocalManager<F, B> {
     ) -> Result<(), Status>
         ensures event { PostReturns self.old.desk.state WORKER verdict back result self.new.desk.state }
         ensures kept { self.new ≡ record self.old { desk = record self.old.desk { state = self.new.desk.state }; hand = self.new.hand; leaks = self.new.leaks } }
+        ensures waits { StaysWaiting self.old self.new }
     {
+        self.desk.state.laws();
         let before = look_at_hand(&self.desk.state, &mut self.hand);
         let ended = self.desk.state.post_returned(WORKER, verdict, back);
         self.note_left(before, returning);
@@ -184,8 +194,10 @@ impl<F: Minifilter, B: Base> LocalManager<F, B> {
         ensures ends { EndsFrom self.old.desk.state (λ before. PostReturns before WORKER PostVerdict.Finished None result self.new.desk.state) }
         ensures quiet { ArePlainFilters F.pre_may F.post_may F.is_quiet (numbered self.old.filters) → self.new.desk.resumed ≡ self.old.desk.resumed }
         ensures kept { CallsBack self.old self.new }
+        ensures waits { IsIn WORKER (place.Drain operation instance) self.old.desk.state → Waiting self.old → Waiting self.new × IsApart operation self.new }
     {
         self.drain(operation, instance, completion);
+        self.desk.state.laws();
         let returning = Returning::for_operation(Callback::Drain, instance, operation);
         self.end_post(PostVerdict::Finished, None, returning)
     }
@@ -200,6 +212,7 @@ impl<F: Minifilter, B: Base> LocalManager<F, B> {
         ensures called { WasCalled (λ f. F.drained f completion) (filter_at self.old instance) }
         ensures ends { EndsFrom self.old.desk.state (λ before. DrainReturns before WORKER result self.new.desk.state) }
         ensures kept { CallsBack self.old self.new }
+        ensures waits { StaysWaiting self.old self.new }
     {
         self.drain(operation, instance, completion);
         let before = look_at_hand(&self.desk.state, &mut self.hand);
@@ -215,6 +228,7 @@ impl<F: Minifilter, B: Base> LocalManager<F, B> {
         ensures quiet { IsQuietIn F.is_quiet (filter_at self.old instance) → self.new.desk ≡ self.old.desk }
         ensures far { standing_of self.new.desk.state ≡ standing_of self.old.desk.state }
         ensures same { self.new ≡ record self.old { desk = self.new.desk; trace = self.new.trace } }
+        ensures waits { StaysWaiting self.old self.new }
     {
         tell(
             &self.filters,
@@ -230,6 +244,7 @@ impl<F: Minifilter, B: Base> LocalManager<F, B> {
         ensures ends { EndsFrom self.old.desk.state (λ before. QueriesWith (MayAgree F.query_may (filter_at self.old instance)) WORKER before result self.new.desk.state) }
         ensures quiet { ArePlainFilters F.pre_may F.post_may F.is_quiet (numbered self.old.filters) → QueriesWith (MayAgree F.query_may (filter_at self.old instance)) WORKER self.old.desk.state result self.new.desk.state × (self.new.desk.resumed ≡ self.old.desk.resumed) }
         ensures kept { self.new ≡ record self.old { desk = self.new.desk; hand = self.new.hand; leaks = self.new.leaks } }
+        ensures waits { StaysWaiting self.old self.new }
     {
         let allows = ask(&self.filters, &mut self.desk, instance, Consent::Query);
         let before = look_at_hand(&self.desk.state, &mut self.hand);
@@ -244,6 +259,7 @@ impl<F: Minifilter, B: Base> LocalManager<F, B> {
         ensures ends { IsIn WORKER (place.Start instance) self.old.desk.state → EndsFrom self.old.desk.state (λ before. StartReturns before WORKER (Ok tt) self.new.desk.state) }
         ensures quiet { ArePlainFilters F.pre_may F.post_may F.is_quiet (numbered self.old.filters) → IsIn WORKER (place.Start instance) self.old.desk.state → StartReturns self.old.desk.state WORKER (Ok tt) self.new.desk.state × (self.new.desk.resumed ≡ self.old.desk.resumed) }
         ensures kept { self.new ≡ record self.old { desk = self.new.desk; hand = self.new.hand; leaks = self.new.leaks } }
+        ensures waits { StaysWaiting self.old self.new }
     {
         tell(&self.filters, &mut self.desk, instance, News::Start);
         let before = look_at_hand(&self.desk.state, &mut self.hand);
@@ -258,6 +274,7 @@ impl<F: Minifilter, B: Base> LocalManager<F, B> {
         ensures ends { IsIn WORKER (place.Complete instance) self.old.desk.state → EndsFrom self.old.desk.state (λ before. CompleteReturns before WORKER (Ok tt) self.new.desk.state) }
         ensures quiet { ArePlainFilters F.pre_may F.post_may F.is_quiet (numbered self.old.filters) → IsIn WORKER (place.Complete instance) self.old.desk.state → CompleteReturns self.old.desk.state WORKER (Ok tt) self.new.desk.state × (self.new.desk.resumed ≡ self.old.desk.resumed) }
         ensures kept { self.new ≡ record self.old { desk = self.new.desk; hand = self.new.hand; leaks = self.new.leaks } }
+        ensures waits { StaysWaiting self.old self.new }
     {
         tell(&self.filters, &mut self.desk, instance, News::Complete);
         let before = look_at_hand(&self.desk.state, &mut self.hand);

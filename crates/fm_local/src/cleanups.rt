@@ -5,6 +5,7 @@ ghost use Rattle.fm_local.specs.Actions.{OnlyState};
 ghost use Rattle.fm_local.specs.Cleanups.{CleansAll, CleansSome, HasNoneDue, MayReturn, cleaner_of};
 ghost use Rattle.fm_filter.specs.Handed.{numbered};
 ghost use Rattle.fm_local.specs.Requests.{Tidies};
+ghost use Rattle.fm_local.specs.Waits.{StaysWaiting};
 
 use crate::manager::{LocalManager, WORKER};
 use fm_base::Base;
@@ -18,6 +19,7 @@ impl<F: Minifilter, B: Base> LocalManager<F, B> {
         ensures tidies { Tidies self.old.desk.state self.new.desk.state }
         ensures none { HasNoneDue WORKER self.new.desk.state }
         ensures kept { OnlyState self.old self.new }
+        ensures waits { StaysWaiting self.old self.new }
     {
         clean_all(&mut self.desk.state, &self.filters);
     }

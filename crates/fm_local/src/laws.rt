@@ -6,6 +6,7 @@ ghost use Rattle.fm_local.specs.Functions.{OneFold};
 ghost use Rattle.fm_local.specs.Requests.{CarriedAreFolds, CarriedIsFold};
 ghost use Rattle.fm_local.specs.Shifts.{ShiftRound};
 ghost use Rattle.fm_local.specs.Visits.{OneWay};
+ghost use Rattle.fm_local.specs.Waits.{EndedLasts};
 ghost use Rattle.fm_world.specs.Words.{WorkerId};
 
 use fm_base::Base;
@@ -45,4 +46,10 @@ pub fn replies_are_folds<F: Minifilter, B: Base>()
 /// over a base that knows its folder, and the file unchanged in between: the client reads the bytes that it wrote. It does nothing.
 pub fn shift_round<B: Base>()
     ensures { ShiftRound B.folder B.faults }
+{}
+
+/// Whatever event comes next in a state that is sound, with whatever answer: an operation that is done and whose answer wasn't handed out is so afterwards,
+/// unless the event hands it out. It does nothing.
+pub fn ended_lasts()
+    ensures { EndedLasts }
 {}

@@ -19,7 +19,7 @@ impl Port for Desk {
     ghost use Rattle.std.specs.Prelude.{Some};
     ghost use Rattle.fm_world.specs.ContextEvents.{Allocates, Sets, Gets, Deletes, References, Releases, ReadsBody, WritesBody, Bumps};
     ghost use Rattle.fm_world.specs.Events.{FindsHeld};
-    ghost use Rattle.fm_filter.specs.Standing.{standing_of};
+    ghost use Rattle.fm_local.specs.Waits.{standing_with};
     ghost use Rattle.fm_local.specs.Ports.{OnState, ResumesPreIn, ResumesPostIn};
     ghost use Rattle.fm_local.specs.declared.manager.TheConstants.{WORKER};
 
@@ -47,7 +47,7 @@ impl Port for Desk {
 
     ghost resumes_post = { λ old operation result new. ResumesPostIn old WORKER operation result new };
 
-    ghost kept = { λ desk. record { worker = WORKER; standing = Some (standing_of desk.state) } };
+    ghost kept = { λ desk. record { worker = WORKER; standing = Some (standing_with desk.resumed.items.items desk.state) } };
 
     #[tactic(auto, using(crate::proofs::Standing::allocate_stands))]
     fn allocate(&mut self, kind: ContextKind, body: Bytes) -> Result<CtxId, Status> {
@@ -104,6 +104,7 @@ impl Port for Desk {
         if self.resumed.is_full() {
             return Err(Status::TooMany);
         }
+        self.state.laws();
         self.state.resume_pre(WORKER, operation, verdict)?;
         self.resumed.put(operation);
         Ok(())
@@ -114,6 +115,7 @@ impl Port for Desk {
         if self.resumed.is_full() {
             return Err(Status::TooMany);
         }
+        self.state.laws();
         self.state.resume_post(WORKER, operation)?;
         self.resumed.put(operation);
         Ok(())

@@ -10,6 +10,7 @@ ghost use Rattle.fm_local.specs.Lending.{LendsBase};
 ghost use Rattle.fm_local.specs.Managers.{HasRooms};
 ghost use Rattle.fm_local.specs.Offered.{Ready, StaysReady, StaysReadyIfPlain};
 ghost use Rattle.fm_local.specs.Places.{IsOut, StaysOut};
+ghost use Rattle.fm_local.specs.Waits.{StaysWaiting, Waiting};
 ghost use Rattle.fm_world.specs.World.{empty_world};
 
 use crate::bounded::Bounded;
@@ -60,6 +61,7 @@ impl<F: Minifilter, B: Base> LocalManager<F, B> {
         ensures out { IfOk result (λ manager. IsOut WORKER manager.desk.state) }
         ensures room { IfOk result HasRooms }
         ensures memory { IfErr result (λ status. status ≡ Status.NoMemory) }
+        ensures waits { IfOk result Waiting }
     {
         let resumed = Bounded::new(alloc, UNDER_WAY)?;
         let finished = Bounded::new(alloc, UNDER_WAY)?;
@@ -133,6 +135,7 @@ impl<F: Minifilter, B: Base> LocalManager<F, B> {
         ensures out { StaysOut WORKER self.old.desk.state self.new.desk.state }
         ensures refused { IfErr result (λ _. self.new.filters ≡ self.old.filters) }
         ensures kept { (self.new.filters.all ≡ self.old.filters.all) × (self.new.bases ≡ self.old.bases) }
+        ensures waits { StaysWaiting self.old self.new }
     {
         let place = self.filters.place(name)?;
         let Some(filter) = self.filters.at(place) else {
@@ -154,6 +157,7 @@ impl<F: Minifilter, B: Base> LocalManager<F, B> {
         ensures none_due { LeavesNoneDue WORKER self.old.desk.state self.new.desk.state }
         ensures out { StaysOut WORKER self.old.desk.state self.new.desk.state }
         ensures kept { self.new.filters ≡ self.old.filters }
+        ensures waits { StaysWaiting self.old self.new }
     {
         let volume = self.desk.state.mount(name)?;
         self.bases.place(base);

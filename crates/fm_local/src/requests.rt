@@ -14,6 +14,7 @@ ghost use Rattle.fm_local.specs.Offered.{AnswersAny, AnswersReady};
 ghost use Rattle.fm_local.specs.Places.{StaysOut};
 ghost use Rattle.fm_local.specs.Requests.{Tidies};
 ghost use Rattle.fm_local.specs.Turns.{Does};
+ghost use Rattle.fm_local.specs.Waits.{HandsOut, IsApart, IsEnded, IsGiven, StaysApart, StaysWaiting, Waiting};
 ghost use Rattle.fm_world.specs.Events.{BaseReturns, Collects};
 
 use crate::manager::{LocalManager, UNDER_WAY, WORKER};
@@ -57,6 +58,7 @@ impl<F: Minifilter, B: Base> LocalManager<F, B> {
         ensures requests { AnswersAny F.Minifilter B.Base request self.old result self.new }
         ensures none_due { LeavesNoneDue WORKER self.old.desk.state self.new.desk.state }
         ensures out { StaysOut WORKER self.old.desk.state self.new.desk.state }
+        ensures waits { StaysWaiting self.old self.new }
     {
         self.desk.state.laws();
         match closed_handle(&request) {
@@ -65,11 +67,14 @@ impl<F: Minifilter, B: Base> LocalManager<F, B> {
         }
     }
 
-    /// The reply of an operation that was held, in the order in which they ended. It is never a refusal.
+    /// The reply of an operation that was held, in the order in which they ended. It is never a refusal: of a manager that `new` made, whatever was called
+    /// since, each operation that waits here is done and wasn't handed out, and waits once. None where none waits, and nothing changes then.
     pub fn finished(&mut self) -> Option<(OpId, Reply)>
-        ensures first { GivesFinished self.old result self.new }
+        ensures first { Waiting self.old → HandsOut self.old.finished.items.items self.old result self.new }
+        ensures any { GivesFinished self.old result self.new }
         ensures none_due { LeavesNoneDue WORKER self.old.desk.state self.new.desk.state }
         ensures out { StaysOut WORKER self.old.desk.state self.new.desk.state }
+        ensures waits { StaysWaiting self.old self.new }
         ensures kept { (self.new.filters ≡ self.old.filters) × (self.new.bases ≡ self.old.bases) × (self.new.desk.resumed ≡ self.old.desk.resumed) }
     {
         let (operation, answer) = self.take_done()?;
@@ -96,6 +101,7 @@ impl<F: Minifilter, B: Base> LocalManager<F, B> {
         ensures requests { Requests F.pre_may F.post_may F.drained B.folder B.faults WORKER F.cleanup_may TURNS RESUMPTIONS (client.OnHandle handle asked.Close) self.old result self.new }
         ensures none_due { LeavesNoneDue WORKER self.old.desk.state self.new.desk.state }
         ensures out { StaysOut WORKER self.old.desk.state self.new.desk.state }
+        ensures waits { StaysWaiting self.old self.new }
     {
         self.desk.state.laws();
         match self.desk.state.begin(Request::OnHandle {
@@ -113,6 +119,7 @@ impl<F: Minifilter, B: Base> LocalManager<F, B> {
         ensures closes { ClosesRefused F.pre_may F.post_may F.drained B.folder B.faults WORKER F.cleanup_may TURNS RESUMPTIONS (is_over refused) refused handle self.old result self.new }
         ensures none_due { LeavesNoneDue WORKER self.old.desk.state self.new.desk.state }
         ensures out { StaysOut WORKER self.old.desk.state self.new.desk.state }
+        ensures waits { StaysWaiting self.old self.new }
     {
         if !is_over(refused) {
             return self.refusal(refused);
@@ -129,6 +136,7 @@ impl<F: Minifilter, B: Base> LocalManager<F, B> {
         ensures closes { ClosesAfter F.pre_may F.post_may F.drained B.folder B.faults WORKER F.cleanup_may TURNS RESUMPTIONS cleanup handle self.old result self.new }
         ensures none_due { HasNoneDue WORKER self.new.desk.state }
         ensures out { StaysOut WORKER self.old.desk.state self.new.desk.state }
+        ensures waits { Waiting self.old → IsApart cleanup self.old → Waiting self.new }
     {
         let cleaned = self.run_alone(cleanup);
         let reply = self.then_close(cleaned, handle);
@@ -142,6 +150,7 @@ impl<F: Minifilter, B: Base> LocalManager<F, B> {
         ensures does { IsReady F.pre_may F.post_may F.is_quiet B.folder B.faults WORKER self.old → goes_on cleaned ≡ true → PerformsIn F.pre_may F.post_may F.is_quiet B.folder B.faults WORKER (client.OnHandle handle asked.Close) self.old result self.new }
         ensures closes { ClosesThen F.pre_may F.post_may F.drained B.folder B.faults WORKER TURNS (goes_on cleaned) handle self.old cleaned result self.new }
         ensures out { StaysOut WORKER self.old.desk.state self.new.desk.state }
+        ensures waits { StaysWaiting self.old self.new }
     {
         if !goes_on(&cleaned) {
             return cleaned;
@@ -157,6 +166,7 @@ impl<F: Minifilter, B: Base> LocalManager<F, B> {
         ensures does { IsReady F.pre_may F.post_may F.is_quiet B.folder B.faults WORKER self.old → PerformsIn F.pre_may F.post_may F.is_quiet B.folder B.faults WORKER request self.old result self.new }
         ensures performs { PerformsAlone F.pre_may F.post_may F.drained B.folder B.faults WORKER TURNS request self.old result self.new }
         ensures out { StaysOut WORKER self.old.desk.state self.new.desk.state }
+        ensures waits { StaysWaiting self.old self.new }
     {
         self.desk.state.laws();
         match self.desk.state.begin(request) {
@@ -172,6 +182,7 @@ impl<F: Minifilter, B: Base> LocalManager<F, B> {
         ensures requests { RequestsOne F.pre_may F.post_may F.drained B.folder B.faults WORKER F.cleanup_may TURNS RESUMPTIONS request self.old result self.new }
         ensures none_due { LeavesNoneDue WORKER self.old.desk.state self.new.desk.state }
         ensures out { StaysOut WORKER self.old.desk.state self.new.desk.state }
+        ensures waits { StaysWaiting self.old self.new }
     {
         self.desk.state.laws();
         match self.desk.state.begin(request) {
@@ -186,6 +197,7 @@ impl<F: Minifilter, B: Base> LocalManager<F, B> {
         ensures goes { RunsOn F.pre_may F.post_may F.drained B.folder B.faults WORKER F.cleanup_may TURNS RESUMPTIONS operation self.old result self.new }
         ensures none_due { HasNoneDue WORKER self.new.desk.state }
         ensures out { StaysOut WORKER self.old.desk.state self.new.desk.state }
+        ensures waits { Waiting self.old → IsApart operation self.old → Waiting self.new }
     {
         let reply = self.run_alone(operation);
         self.settle();
@@ -197,6 +209,7 @@ impl<F: Minifilter, B: Base> LocalManager<F, B> {
         ensures runs { ArePlainFilters F.pre_may F.post_may F.is_quiet (numbered self.old.filters) → IsBegun WORKER operation self.old.desk.state → self.old.desk.resumed.items.items ≡ [] → RunsIn F.pre_may F.post_may F.is_quiet B.folder B.faults WORKER operation self.old result self.new }
         ensures goes { RunsAlone F.pre_may F.post_may F.drained B.folder B.faults WORKER TURNS operation self.old result self.new }
         ensures out { StaysOut WORKER self.old.desk.state self.new.desk.state }
+        ensures waits { StaysApart operation self.old self.new }
     {
         let ended = self.carry(operation);
         self.reply_after(operation, ended)
@@ -208,6 +221,7 @@ impl<F: Minifilter, B: Base> LocalManager<F, B> {
         ensures replies { RepliesWith ended operation self.old result self.new }
         ensures kept { self.new ≡ record self.old { desk = record self.old.desk { state = self.new.desk.state }; trace = self.new.trace } }
         ensures out { StaysOut WORKER self.old.desk.state self.new.desk.state }
+        ensures waits { StaysApart operation self.old self.new }
     {
         match ended {
             Turn::Done => self.reply(operation),
@@ -231,6 +245,7 @@ impl<F: Minifilter, B: Base> LocalManager<F, B> {
         ensures answer { (collected : Result Answer Status) × Collects self.old.desk.state operation collected self.new.desk.state × (result ≡ reply_of collected) }
         ensures kept { self.new ≡ record self.old { desk = record self.old.desk { state = self.new.desk.state }; trace = self.new.trace } }
         ensures out { StaysOut WORKER self.old.desk.state self.new.desk.state }
+        ensures waits { StaysApart operation self.old self.new }
     {
         match self.desk.state.collect(operation) {
             Ok(answer) => self.hand_out(operation, answer),
@@ -264,6 +279,8 @@ impl<F: Minifilter, B: Base> LocalManager<F, B> {
         ensures at_once { IsDoneAt WORKER operation self.old.desk.state → (result ≡ Turn.Done) × (self.new ≡ self.old) }
         ensures goes { GoesOn F.pre_may F.post_may F.drained (BasesCarry B.folder B.faults) (numbered self.old.filters) WORKER operation TURNS result self.old.desk.state self.old.bases.all.items self.new.desk.state self.new.bases.all.items }
         ensures out { StaysOut WORKER self.old.desk.state self.new.desk.state }
+        ensures waits { StaysApart operation self.old self.new }
+        ensures ended { result ≡ Turn.Done → IsEnded self.new.desk.state.flow operation }
     {
         for _made in 0..TURNS {
             match self.turn(operation) {
@@ -282,6 +299,8 @@ impl<F: Minifilter, B: Base> LocalManager<F, B> {
         ensures at_once { IsDoneAt WORKER operation self.old.desk.state → (result ≡ Turn.Done) × (self.new ≡ self.old) }
         ensures takes { TakesTurn F.pre_may F.post_may F.drained (BasesCarry B.folder B.faults) (numbered self.old.filters) WORKER operation result self.old.desk.state self.old.bases.all.items self.new.desk.state self.new.bases.all.items }
         ensures out { StaysOut WORKER self.old.desk.state self.new.desk.state }
+        ensures waits { StaysApart operation self.old self.new }
+        ensures ended { result ≡ Turn.Done → IsEnded self.new.desk.state.flow operation }
     {
         self.desk.state.laws();
         let said = self.desk.state.next(WORKER, operation);
@@ -296,6 +315,7 @@ impl<F: Minifilter, B: Base> LocalManager<F, B> {
         ensures at_once { said ≡ Ok step.Done → (result ≡ Turn.Done) × (self.new ≡ self.old) }
         ensures ends { result ≡ ends_turn said }
         ensures makes { Makes F.pre_may F.post_may F.drained (BasesCarry B.folder B.faults) (numbered self.old.filters) WORKER operation said self.old.desk.state self.old.bases.all.items self.new.desk.state self.new.bases.all.items }
+        ensures waits { IsGiven WORKER operation said self.old.desk.state → StaysApart operation self.old self.new }
     {
         match said {
             Ok(Action::Pre(instance, data)) => {
@@ -326,6 +346,7 @@ impl<F: Minifilter, B: Base> LocalManager<F, B> {
         ensures does { Does F.pre_may F.post_may (BasesCarry B.folder B.faults) (numbered self.old.filters) WORKER operation (Ok (step.Base call)) self.old.desk.state self.old.bases.all.items self.new.desk.state self.new.bases.all.items }
         ensures quiet { self.new.desk.resumed ≡ self.old.desk.resumed }
         ensures kept { self.new ≡ record self.old { desk = self.new.desk; bases = self.new.bases; trace = self.new.trace } }
+        ensures waits { StaysWaiting self.old self.new }
     {
         let answer = self.bases.call(&call);
         self.note(operation, Visit::Base(answer.status));
@@ -336,7 +357,9 @@ impl<F: Minifilter, B: Base> LocalManager<F, B> {
     fn end_call(&mut self, call: BaseCall, answer: Answer) -> Result<(), Status>
         ensures event { BaseReturns self.old.desk.state WORKER call answer result self.new.desk.state }
         ensures kept { OnlyState self.old self.new }
+        ensures waits { StaysWaiting self.old self.new }
     {
+        self.desk.state.laws();
         match self.desk.state.base_returned(WORKER, call, answer) {
             Ok(()) => Ok(()),
             Err(refused) => Err(refused.status),
@@ -352,6 +375,7 @@ impl<F: Minifilter, B: Base> LocalManager<F, B> {
         ensures all { Settles F.pre_may F.post_may F.drained B.folder B.faults WORKER F.cleanup_may TURNS RESUMPTIONS self.old self.new }
         ensures filters { self.new.filters ≡ self.old.filters }
         ensures out { StaysOut WORKER self.old.desk.state self.new.desk.state }
+        ensures waits { StaysWaiting self.old self.new }
     {
         self.carry_on_resumed();
         self.clean_up();
@@ -364,6 +388,7 @@ impl<F: Minifilter, B: Base> LocalManager<F, B> {
         ensures all { CarriesOnAll F.pre_may F.post_may F.drained B.folder B.faults WORKER TURNS RESUMPTIONS self.old self.new }
         ensures filters { self.new.filters ≡ self.old.filters }
         ensures out { StaysOut WORKER self.old.desk.state self.new.desk.state }
+        ensures waits { StaysWaiting self.old self.new }
     {
         if self.desk.resumed.is_empty() {
             return;
@@ -382,6 +407,7 @@ impl<F: Minifilter, B: Base> LocalManager<F, B> {
         ensures goes { CarriesOn F.pre_may F.post_may F.drained B.folder B.faults WORKER TURNS operation self.old self.new }
         ensures filters { self.new.filters ≡ self.old.filters }
         ensures out { StaysOut WORKER self.old.desk.state self.new.desk.state }
+        ensures waits { Waiting self.old → IsApart operation self.old → Waiting self.new }
     {
         if let Turn::Done = self.carry(operation) {
             self.finished.put(operation);

@@ -10,6 +10,7 @@ ghost use Rattle.fm_local.specs.Offered.{AttachesAny, AttachesReady, DetachesAny
 ghost use Rattle.fm_local.specs.Places.{ComesOut, StaysOut};
 ghost use Rattle.fm_local.specs.Quietly.{AsksQuietly, CompletesQuietly, EndsQuietly, IsSettled, SetUpQuietly, StartsAlone, StartsQuietly, TearsDownFirst, TearsDownIf, TearsDownQuietly, WasTold};
 ghost use Rattle.fm_local.specs.Requests.{IsAtRest};
+ghost use Rattle.fm_local.specs.Waits.{StaysWaiting};
 ghost use Rattle.fm_world.specs.Events.{is_stopping_row};
 ghost use Rattle.fm_world.specs.Teardowns.{CompletesTeardown};
 ghost use Rattle.fm_world.specs.declared.worker.Worker.TheVariants as place;
@@ -40,6 +41,7 @@ impl<F: Minifilter, B: Base> LocalManager<F, B> {
         ensures ready { StaysReadyAlike F.Minifilter B.Base self.old self.new }
         ensures none_due { LeavesNoneDue WORKER self.old.desk.state self.new.desk.state }
         ensures out { StaysOut WORKER self.old.desk.state self.new.desk.state }
+        ensures waits { StaysWaiting self.old self.new }
     {
         let instance = self
             .desk
@@ -59,6 +61,7 @@ impl<F: Minifilter, B: Base> LocalManager<F, B> {
         ensures quiet { ArePlainFilters F.pre_may F.post_may F.is_quiet (numbered self.old.filters) → self.old.desk.resumed.items.items ≡ [] → SetUpQuietly WORKER instance (AgreesAt F.setup_may self.old.filters self.old.desk.state instance) self.old.desk.state result self.new.desk.state × IsSettled self.old self.new }
         ensures none_due { HasNoneDue WORKER self.new.desk.state }
         ensures out { ComesOut WORKER (place.Setup instance) self.old.desk.state self.new.desk.state }
+        ensures waits { StaysWaiting self.old self.new }
     {
         let accepted = self.setup(instance);
         self.settle();
@@ -80,6 +83,7 @@ impl<F: Minifilter, B: Base> LocalManager<F, B> {
         ensures ready { StaysReadyAlike F.Minifilter B.Base self.old self.new }
         ensures none_due { LeavesNoneDue WORKER self.old.desk.state self.new.desk.state }
         ensures out { StaysOut WORKER self.old.desk.state self.new.desk.state }
+        ensures waits { StaysWaiting self.old self.new }
     {
         if self.is_leaving(instance) {
             return self.tear_down(instance);
@@ -98,6 +102,7 @@ impl<F: Minifilter, B: Base> LocalManager<F, B> {
         ensures ready { StaysReadyAlike F.Minifilter B.Base self.old self.new }
         ensures none_due { LeavesNoneDue WORKER self.old.desk.state self.new.desk.state }
         ensures out { StaysOut WORKER self.old.desk.state self.new.desk.state }
+        ensures waits { StaysWaiting self.old self.new }
     {
         if self.is_unloading(filter) {
             return self.end(filter);
@@ -112,6 +117,7 @@ impl<F: Minifilter, B: Base> LocalManager<F, B> {
         ensures kept { OnlyState self.old self.new }
         ensures none_due { LeavesNoneDue WORKER self.old.desk.state self.new.desk.state }
         ensures out { StaysOut WORKER self.old.desk.state self.new.desk.state }
+        ensures waits { StaysWaiting self.old self.new }
     {
         self.desk.state.ask_unload(WORKER, filter)?;
         self.unloading(filter)
@@ -124,6 +130,7 @@ impl<F: Minifilter, B: Base> LocalManager<F, B> {
         ensures quiet { ArePlainFilters F.pre_may F.post_may F.is_quiet (numbered self.old.filters) → IsAtRest WORKER self.old.desk.state → self.old.desk.resumed.items.items ≡ [] → EndsQuietly WORKER filter self.old.desk.state result self.new.desk.state × IsSettled self.old self.new }
         ensures none_due { LeavesNoneDue WORKER self.old.desk.state self.new.desk.state }
         ensures out { StaysOut WORKER self.old.desk.state self.new.desk.state }
+        ensures waits { StaysWaiting self.old self.new }
     {
         self.tear_down_all(filter)?;
         self.desk.state.empty_filter(filter)?;
@@ -138,6 +145,7 @@ impl<F: Minifilter, B: Base> LocalManager<F, B> {
         ensures quiet { ArePlainFilters F.pre_may F.post_may F.is_quiet (numbered self.old.filters) → self.old.desk.resumed.items.items ≡ [] → AsksQuietly WORKER instance (AgreesAt F.query_may self.old.filters) self.old.desk.state result self.new.desk.state × IsSettled self.old self.new }
         ensures none_due { LeavesNoneDue WORKER self.old.desk.state self.new.desk.state }
         ensures out { StaysOut WORKER self.old.desk.state self.new.desk.state }
+        ensures waits { StaysWaiting self.old self.new }
     {
         self.desk.state.ask_detach(WORKER, instance)?;
         let allowed = self.query(instance);
@@ -179,6 +187,7 @@ impl<F: Minifilter, B: Base> LocalManager<F, B> {
         ensures quiet { ArePlainFilters F.pre_may F.post_may F.is_quiet (numbered self.old.filters) → IsAtRest WORKER self.old.desk.state → self.old.desk.resumed.items.items ≡ [] → IsOk result × TearsDownFirst WORKER filter (length self.old.desk.state.stack.instances) self.old.desk.state self.new.desk.state × IsSettled self.old self.new }
         ensures none_due { LeavesNoneDue WORKER self.old.desk.state self.new.desk.state }
         ensures out { StaysOut WORKER self.old.desk.state self.new.desk.state }
+        ensures waits { StaysWaiting self.old self.new }
     {
         self.desk.state.laws();
         for at in 0..u16::try_from(self.desk.state.instances()).unwrap_or(u16::MAX) {
@@ -194,6 +203,7 @@ impl<F: Minifilter, B: Base> LocalManager<F, B> {
         ensures quiet { ArePlainFilters F.pre_may F.post_may F.is_quiet (numbered self.old.filters) → IsAtRest WORKER self.old.desk.state → self.old.desk.resumed.items.items ≡ [] → IsOk result × TearsDownIf WORKER filter (is_to_go filter self.old.desk.state instance) instance self.old.desk.state self.new.desk.state × IsSettled self.old self.new }
         ensures none_due { LeavesNoneDue WORKER self.old.desk.state self.new.desk.state }
         ensures out { StaysOut WORKER self.old.desk.state self.new.desk.state }
+        ensures waits { StaysWaiting self.old self.new }
     {
         if self.is_to_go(filter, instance) {
             return self.tear_down(instance);
@@ -219,6 +229,7 @@ impl<F: Minifilter, B: Base> LocalManager<F, B> {
         ensures goes { ArePlainFilters F.pre_may F.post_may F.is_quiet (numbered self.old.filters) → IsAtRest WORKER self.old.desk.state → self.old.desk.resumed.items.items ≡ [] → is_leaving self.old.desk.state instance ≡ true → IsOk result }
         ensures none_due { LeavesNoneDue WORKER self.old.desk.state self.new.desk.state }
         ensures out { StaysOut WORKER self.old.desk.state self.new.desk.state }
+        ensures waits { StaysWaiting self.old self.new }
     {
         self.desk.state.laws();
         self.begin_teardown(instance);
@@ -234,6 +245,7 @@ impl<F: Minifilter, B: Base> LocalManager<F, B> {
         ensures quiet { ArePlainFilters F.pre_may F.post_may F.is_quiet (numbered self.old.filters) → IsAtRest WORKER self.old.desk.state → self.old.desk.resumed.items.items ≡ [] → StartsQuietly WORKER instance self.old.desk.state self.new.desk.state × IsSettled self.old self.new }
         ensures none_due { LeavesNoneDue WORKER self.old.desk.state self.new.desk.state }
         ensures out { StaysOut WORKER self.old.desk.state self.new.desk.state }
+        ensures waits { StaysWaiting self.old self.new }
     {
         if self.start_and_drain(instance) {
             self.settle();
@@ -247,6 +259,7 @@ impl<F: Minifilter, B: Base> LocalManager<F, B> {
         ensures kept { CallsBack self.old self.new }
         ensures none { result ≡ false → self.new ≡ self.old }
         ensures out { StaysOut WORKER self.old.desk.state self.new.desk.state }
+        ensures waits { StaysWaiting self.old self.new }
     {
         match self.desk.state.start_teardown(WORKER, instance) {
             Ok(()) => {
@@ -265,6 +278,7 @@ impl<F: Minifilter, B: Base> LocalManager<F, B> {
         ensures quiet { ArePlainFilters F.pre_may F.post_may F.is_quiet (numbered self.old.filters) → IsAtRest WORKER self.old.desk.state → self.old.desk.resumed.items.items ≡ [] → WasTold instance self.old.desk.state.stack → IsOk result × CompletesQuietly WORKER instance self.old.desk.state self.new.desk.state × IsSettled self.old self.new }
         ensures none_due { LeavesNoneDue WORKER self.old.desk.state self.new.desk.state }
         ensures out { StaysOut WORKER self.old.desk.state self.new.desk.state }
+        ensures waits { StaysWaiting self.old self.new }
     {
         if !self.is_stopping(instance) {
             return Ok(());
@@ -281,6 +295,7 @@ impl<F: Minifilter, B: Base> LocalManager<F, B> {
         ensures kept { CallsBack self.old self.new }
         ensures none { self.old.desk.state.flow.operations ≡ [] → self.new ≡ self.old }
         ensures out { StaysOut WORKER self.old.desk.state self.new.desk.state }
+        ensures waits { StaysWaiting self.old self.new }
     {
         while self.drain_first(instance) {}
     }
@@ -292,6 +307,7 @@ impl<F: Minifilter, B: Base> LocalManager<F, B> {
         ensures kept { CallsBack self.old self.new }
         ensures none { self.old.desk.state.flow.operations ≡ [] → (result ≡ false) × (self.new ≡ self.old) }
         ensures out { StaysOut WORKER self.old.desk.state self.new.desk.state }
+        ensures waits { StaysWaiting self.old self.new }
     {
         match self.desk.state.drain_take(WORKER, instance) {
             Ok(Some((operation, completion))) => {

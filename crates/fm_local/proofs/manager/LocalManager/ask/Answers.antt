@@ -1,9 +1,11 @@
-use Rattle.fm_local.proofs.Words.{inr, AgreesAt, WORKER}
+use Rattle.fm_local.proofs.Words.{inr, AgreesAt, WORKER, Err, Ok}
 use Rattle.fm_local.proofs.GoingOn.{calls_untraced}
 use Rattle.fm_local.proofs.Resting.{ask_refused}
 use Rattle.fm_local.proofs.Places.{asked_in, query_out, same_out}
 use Rattle.fm_local.proofs.NoneDue.{none_asked}
 use Rattle.fm_local.proofs.Readied.{asks_by}
+use Rattle.fm_local.proofs.Unmoved as unmoved
+use Rattle.fm_local.proofs.StillWaiting.{same_flow}
 use Rattle.fm_local.proofs.manager.LocalManager.ask.Goals as goal
 
 pub returns-clause-asks : goal.returns-clause-asks
@@ -28,3 +30,11 @@ returns-clause-out g c out =
 
 pub returns-clause-settles : goal.returns-clause-settles
 returns-clause-settles g c = inr (c.ask_detach.new.self, c.query-allowed.new.self, c.in_ok-ask_detach.ensures.event, c.query-allowed.ensures.ends, calls_untraced c.args.self.now c.query-allowed.new.self c.query-allowed.ensures.kept, c.settle.ensures.all)
+
+pub returns-in_err-ask_detach-clause-waits : goal.returns-in_err-ask_detach-clause-waits
+returns-in_err-ask_detach-clause-waits g c waits =
+    same_flow _ _ _ _ (unmoved.asked c.args.self.now.desk.state c.ask_detach.new.self WORKER c.args.instance (Err c.in_err-ask_detach.field-0.0) c.in_err-ask_detach.ensures.event) waits
+
+pub returns-clause-waits : goal.returns-clause-waits
+returns-clause-waits g c waits =
+    c.settle.ensures.waits (c.query-allowed.ensures.waits (same_flow _ _ _ _ (unmoved.asked c.args.self.now.desk.state c.ask_detach.new.self WORKER c.args.instance (Ok tt) c.in_ok-ask_detach.ensures.event) waits))

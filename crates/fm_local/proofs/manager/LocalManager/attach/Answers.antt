@@ -3,6 +3,8 @@ use Rattle.fm_local.proofs.Places.{attached_in, same_out}
 use Rattle.fm_local.proofs.NoneDue.{none_attached}
 use Rattle.fm_local.proofs.Readied.{attach_leaves, attach_leaves_none}
 use Rattle.fm_local.proofs.Resting.{attach_refused}
+use Rattle.fm_local.proofs.Unmoved as unmoved
+use Rattle.fm_local.proofs.StillWaiting.{same_flow}
 use Rattle.fm_local.proofs.manager.LocalManager.attach.Goals as goal
 
 pub returns-in_err-instance-clause-ready : goal.returns-in_err-instance-clause-ready
@@ -53,3 +55,15 @@ returns-in-Ok-clause-settles g c = (c.attach.new.self, c.in_ok-instance.ensures.
 
 pub returns-in-Err-clause-settles : goal.returns-in-Err-clause-settles
 returns-in-Err-clause-settles g c = inr (c.in_ok-instance.instance, c.attach.new.self, c.in_ok-instance.ensures.event, c.in-Err.ensures.settles)
+
+pub returns-in_err-instance-clause-waits : goal.returns-in_err-instance-clause-waits
+returns-in_err-instance-clause-waits g c waits =
+    same_flow _ _ _ _ (unmoved.attached c.args.self.now.desk.state c.attach.new.self WORKER c.args.filter c.args.volume c.args.name c.args.altitude (Err c.in_err-instance.field-0.0) c.in_err-instance.ensures.event) waits
+
+pub returns-in-Ok-clause-waits : goal.returns-in-Ok-clause-waits
+returns-in-Ok-clause-waits g c waits =
+    c.set_up.ensures.waits (same_flow _ _ _ _ (unmoved.attached c.args.self.now.desk.state c.attach.new.self WORKER c.args.filter c.args.volume c.args.name c.args.altitude (Ok c.in_ok-instance.instance) c.in_ok-instance.ensures.event) waits)
+
+pub returns-in-Err-clause-waits : goal.returns-in-Err-clause-waits
+returns-in-Err-clause-waits g c waits =
+    c.set_up.ensures.waits (same_flow _ _ _ _ (unmoved.attached c.args.self.now.desk.state c.attach.new.self WORKER c.args.filter c.args.volume c.args.name c.args.altitude (Ok c.in_ok-instance.instance) c.in_ok-instance.ensures.event) waits)

@@ -38,3 +38,7 @@ returns-else-start_and_drain-clause-none_due g c =
 
 pub returns-then-start_and_drain-clause-out : goal.returns-then-start_and_drain-clause-out
 returns-then-start_and_drain-clause-out g c out = c.settle.ensures.out (c.start_and_drain.ensures.out out)
+
+pub returns-then-start_and_drain-clause-waits : goal.returns-then-start_and_drain-clause-waits
+returns-then-start_and_drain-clause-waits g c waits =
+    c.settle.ensures.waits (c.start_and_drain.ensures.waits waits)

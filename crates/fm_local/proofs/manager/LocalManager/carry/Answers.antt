@@ -4,7 +4,7 @@ use Rattle.fm_local.proofs.CarriedOn.{gone_none, gone_more, gone_to_end, gone_to
 use Rattle.fm_local.proofs.manager.LocalManager.carry.Goals as goal
 
 pub loop-made-init : goal.loop-made-init
-loop-made-init g c = (gone_none g.F.Minifilter.pre_may g.F.Minifilter.post_may g.F.Minifilter.is_quiet g.B.Base.folder g.B.Base.faults WORKER c.args.operation c.args.self.now, λ out. out, (refl, refl))
+loop-made-init g c = (gone_none g.F.Minifilter.pre_may g.F.Minifilter.post_may g.F.Minifilter.is_quiet g.B.Base.folder g.B.Base.faults WORKER c.args.operation c.args.self.now, λ out. out, (refl, refl), λ waits apart. (waits, apart))
 
 pub returns-in_default : goal.returns-in_default
 returns-in_default g c =
@@ -19,6 +19,8 @@ returns-in_default g c =
       at_once = done_at_once g.F.Minifilter.pre_may g.F.Minifilter.post_may g.F.Minifilter.is_quiet g.B.Base.folder g.B.Base.faults WORKER c.args.operation c.args.self.now c.loop-made.self
           c.turn.new.self c.loop-made._made c.loop-made.invariant.0 c.turn.result turned.turned turned.quiet turned.kept turned.at_once;
       out = λ out. turned.out (c.loop-made.invariant.1 out);
+      waits = λ waits apart. let far = c.loop-made.invariant.3 waits apart in turned.waits far.0 far.1;
+      ended = turned.ended;
       goes = goes_to_end g.F.Minifilter.pre_may g.F.Minifilter.post_may g.F.Minifilter.drained g.B.Base.folder g.B.Base.faults WORKER c.args.operation c.args.self.now c.loop-made.self c.turn.new.self (ap (λ m. m.filters) c.loop-made.invariant.0.kept) c.loop-made._made c.loop-made.invariant.2
           c.turn.result turned.takes TURNS;
     }
@@ -30,6 +32,7 @@ loop-made-preserved g c = (
   λ out. c.turn.ensures.out (c.loop-made.invariant.1 out),
   turns_more g.F.Minifilter.pre_may g.F.Minifilter.post_may g.F.Minifilter.drained g.B.Base.folder g.B.Base.faults WORKER c.args.operation c.args.self.now c.loop-made.self c.turn.new.self (ap (λ m. m.filters) c.loop-made.invariant.0.kept) c.loop-made._made c.loop-made.invariant.2
       c.turn.result c.turn.ensures.takes c.in-Goes.is,
+  λ waits apart. let far = c.loop-made.invariant.3 waits apart in c.turn.ensures.waits far.0 far.1,
 )
 
 pub returns-clause-carried : goal.returns-clause-carried
@@ -53,3 +56,7 @@ returns-clause-out g c = c.loop-made.invariant.1
 
 pub returns-clause-goes : goal.returns-clause-goes
 returns-clause-goes g c = goes_too_far g.F.Minifilter.pre_may g.F.Minifilter.post_may g.F.Minifilter.drained g.B.Base.folder g.B.Base.faults WORKER c.args.operation c.args.self.now c.loop-made.self c.loop-made._made TURNS c.loop-made.invariant.2 c.loop-made-test.false
+
+pub returns-clause-waits : goal.returns-clause-waits
+returns-clause-waits g c =
+    c.loop-made.invariant.3

@@ -1,5 +1,6 @@
 use Rattle.fm_local.proofs.Words.{◌∙◌, inl, refl, sym, WORKER, RESUMPTIONS, TURNS}
-use Rattle.fm_local.proofs.GoingOn.{carries_all, carries_more, carries_most, ends_first}
+use Rattle.fm_local.proofs.GoingOn.{carries_all, carries_more, carries_most, ends_first, head, none_left}
+use Rattle.fm_local.proofs.StillWaiting.{emptied_waits, take_waits}
 use Rattle.fm_local.proofs.manager.LocalManager.carry_on_resumed.Goals as goal
 
 pub returns-then-is_empty-clause-all : goal.returns-then-is_empty-clause-all
@@ -25,9 +26,23 @@ loop-made-preserved g c =
       carries_more g.F.Minifilter.pre_may g.F.Minifilter.post_may g.F.Minifilter.drained g.B.Base.folder g.B.Base.faults WORKER TURNS old now c.loop-made._made c.loop-made.invariant.2 c.in-Some.operation taken
           c.carry_on.new.self first c.take.ensures.rest refl c.carry_on.ensures.goes,
       c.carry_on.ensures.filters ∙ c.loop-made.invariant.3,
+      λ waits.
+          let here = take_waits now.desk.state.flow c.in-Some.operation now.desk.resumed.items.items c.take.new.self.items.items now.finished.items.items
+          (head c.in-Some.operation now.desk.resumed.items.items c.take.new.self.items.items first c.take.ensures.rest) (c.loop-made.invariant.4 waits) in
+          c.carry_on.ensures.waits here.0 (here.1, here.2),
     )
 
 pub returns-clause-all : goal.returns-clause-all
 returns-clause-all g c =
     carries_most g.F.Minifilter.pre_may g.F.Minifilter.post_may g.F.Minifilter.drained g.B.Base.folder g.B.Base.faults WORKER TURNS c.args.self.now c.loop-made.self c.loop-made._made c.loop-made.invariant.2
     RESUMPTIONS c.loop-made-test.false
+
+pub returns-in-None-clause-waits : goal.returns-in-None-clause-waits
+returns-in-None-clause-waits g c waits =
+    let now = c.loop-made.self in
+    emptied_waits now.desk.state.flow now.desk.resumed.items.items c.take.new.self.items.items now.finished.items.items
+    (none_left now.desk.resumed.items.items c.take.new.self.items.items (sym c.take.ensures.first ∙ c.in-None.is) c.take.ensures.rest) (c.loop-made.invariant.4 waits)
+
+pub returns-clause-waits : goal.returns-clause-waits
+returns-clause-waits g c =
+    c.loop-made.invariant.4

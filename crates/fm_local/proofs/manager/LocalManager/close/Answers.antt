@@ -3,6 +3,7 @@ use Rattle.fm_local.proofs.Places.{begun_out}
 use Rattle.fm_local.proofs.NoneDue.{none_begun}
 use Rattle.fm_local.proofs.Refusing.{not_begun, refuses_close}
 use Rattle.fm_local.proofs.Answering.{answers_closed, answers_refused}
+use Rattle.fm_local.proofs.StillWaiting.{begins_wait, begun_apart}
 use Rattle.fm_local.proofs.manager.LocalManager.close.Goals as goal
 
 pub returns-in-Ok-clause-fold : goal.returns-in-Ok-clause-fold
@@ -42,3 +43,11 @@ returns-in-Ok-clause-requests g c = (Ok c.in-Ok.cleanup, c.begin.new.self, c.in-
 
 pub returns-in-Err-clause-requests : goal.returns-in-Err-clause-requests
 returns-in-Err-clause-requests g c = (Err c.in-Err.status, c.begin.new.self, c.in-Err.ensures.event, c.close_where_cleaned.ensures.closes)
+
+pub returns-in-Ok-clause-waits : goal.returns-in-Ok-clause-waits
+returns-in-Ok-clause-waits g c waits =
+    c.close_after.ensures.waits (begins_wait c.args.self.now.desk.state (Request.OnHandle c.args.handle FileRequest.Cleanup) (Ok c.in-Ok.cleanup) c.begin.new.self c.args.self.now.desk.resumed.items.items c.args.self.now.finished.items.items c.in-Ok.ensures.event waits) (begun_apart c.args.self.now.desk.state (Request.OnHandle c.args.handle FileRequest.Cleanup) c.in-Ok.cleanup c.begin.new.self c.args.self.now.desk.resumed.items.items c.args.self.now.finished.items.items c.laws.ensures c.in-Ok.ensures.event waits)
+
+pub returns-in-Err-clause-waits : goal.returns-in-Err-clause-waits
+returns-in-Err-clause-waits g c waits =
+    c.close_where_cleaned.ensures.waits (begins_wait c.args.self.now.desk.state (Request.OnHandle c.args.handle FileRequest.Cleanup) (Err c.in-Err.status) c.begin.new.self c.args.self.now.desk.resumed.items.items c.args.self.now.finished.items.items c.in-Err.ensures.event waits)

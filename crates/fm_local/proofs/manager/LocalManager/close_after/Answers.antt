@@ -20,3 +20,7 @@ returns-clause-closes g c = (
   c.then_close-reply.ensures.closes,
   c.settle.ensures.all,
 )
+
+pub returns-clause-waits : goal.returns-clause-waits
+returns-clause-waits g c waits apart =
+    c.settle.ensures.waits (c.then_close-reply.ensures.waits (c.run_alone-cleaned.ensures.waits waits apart).0)

@@ -58,3 +58,7 @@ returns-in_err-ask-clause-settles g c =
 pub returns-clause-settles : goal.returns-clause-settles
 returns-clause-settles g c =
     rw (sym c.is_leaving.ensures ∙ c.if-is_leaving.false) (inr (c.ask.new.self, c.in_ok-ask.ensures.settles, c.tear_down-2.ensures.tears))
+
+pub returns-clause-waits : goal.returns-clause-waits
+returns-clause-waits g c waits =
+    c.tear_down-2.ensures.waits (c.in_ok-ask.ensures.waits waits)

@@ -19,6 +19,7 @@ loop-instance-preserved g c =
       ),
       calls_both old now c.drain_first.new.self c.loop-instance.invariant.2 c.drain_first.ensures.kept,
       λ out. c.drain_first.ensures.out (c.loop-instance.invariant.3 out),
+      λ waits. c.drain_first.ensures.waits (c.loop-instance.invariant.4 waits),
     )
 
 pub loop-instance-smaller : goal.loop-instance-smaller
@@ -35,3 +36,7 @@ returns-clause-out g c out = c.drain_first.ensures.out (c.loop-instance.invarian
 
 pub returns-clause-kept : goal.returns-clause-kept
 returns-clause-kept g c = calls_both c.args.self.now c.loop-instance.self c.drain_first.new.self c.loop-instance.invariant.2 c.drain_first.ensures.kept
+
+pub returns-clause-waits : goal.returns-clause-waits
+returns-clause-waits g c waits =
+    c.drain_first.ensures.waits (c.loop-instance.invariant.4 waits)

@@ -1,5 +1,6 @@
 use Rattle.fm_local.proofs.Words.{[], ◌≡◌, ℕ, numbered, StaysOut, WORKER}
 use Rattle.fm_local.specs.Actions.{CallsBack}
+use Rattle.fm_local.specs.Waits.{StaysWaiting}
 use Rattle.fm_local.specs.Drains.{DrainsMany, left_to_drain}
 use Rattle.fm_local.proofs.manager.LocalManager.drain_all.Given as goal
 
@@ -8,7 +9,7 @@ abbrev pub invariant-loop-instance : goal.invariant-loop-instance
 invariant-loop-instance g l =
     (l.fn.self.desk.state.flow.operations ≡ [] → l.self ≡ l.fn.self)
     × ((n : ℕ) × DrainsMany g.F.Minifilter.drained (numbered l.fn.self.filters) WORKER l.instance n l.fn.self.desk.state l.self.desk.state)
-    × CallsBack l.fn.self l.self × StaysOut WORKER l.fn.self.desk.state l.self.desk.state
+    × CallsBack l.fn.self l.self × StaysOut WORKER l.fn.self.desk.state l.self.desk.state × StaysWaiting l.fn.self l.self
 
 -- each time one operation fewer is left to be drained
 abbrev pub decreases-loop-instance : goal.decreases-loop-instance

@@ -3,6 +3,8 @@ use Rattle.fm_local.proofs.Places.{drained_out, draining_in, same_out}
 use Rattle.fm_local.proofs.Drained.{drains_none, drains_one, drains_refused}
 use Rattle.fm_local.proofs.Leaving.{drain_same, drained_none}
 use Rattle.fm_local.proofs.Undrained.{drained_less}
+use Rattle.fm_local.proofs.Ended.{drain_taken}
+use Rattle.fm_local.proofs.Waiting.{waits_on}
 use Rattle.fm_local.proofs.manager.LocalManager.drain_first.Goals as goal
 
 pub returns-in-Ok-Some-clause-drains : goal.returns-in-Ok-Some-clause-drains
@@ -59,3 +61,15 @@ pub returns-in-Ok-Some-clause-less : goal.returns-in-Ok-Some-clause-less
 returns-in-Ok-Some-clause-less g c _ =
     drained_less WORKER c.args.instance c.args.self.now.desk.state c.in-Ok-Some.operation c.in-Ok-Some.completion c.drain_take.new.self (rw c.in-Ok-Some.field-0-is at c.in-Ok-Some.ensures.event)
     c.drain_early.result c.drain_early.new.self.desk.state c.drain_early.ensures.ends
+
+pub returns-in-Ok-Some-clause-waits : goal.returns-in-Ok-Some-clause-waits
+returns-in-Ok-Some-clause-waits g c waits =
+    c.drain_early.ensures.waits (waits_on _ _ _ _ (λ p. drain_taken p c.args.self.now.desk.state WORKER c.args.instance (Ok c.in-Ok-Some.field-0) c.drain_take.new.self c.in-Ok-Some.ensures.event) waits)
+
+pub returns-in-Ok-None-clause-waits : goal.returns-in-Ok-None-clause-waits
+returns-in-Ok-None-clause-waits g c waits =
+    waits_on _ _ _ _ (λ p. drain_taken p c.args.self.now.desk.state WORKER c.args.instance (Ok c.in-Ok-None.field-0) c.drain_take.new.self c.in-Ok-None.ensures.event) waits
+
+pub returns-in-Err-clause-waits : goal.returns-in-Err-clause-waits
+returns-in-Err-clause-waits g c waits =
+    waits_on _ _ _ _ (λ p. drain_taken p c.args.self.now.desk.state WORKER c.args.instance (Err c.in-Err.field-0) c.drain_take.new.self c.in-Err.ensures.event) waits

@@ -1,6 +1,8 @@
 use Rattle.fm_local.proofs.Words.{Err, LocalManager, Ok, ap, inl, inr, refl, err_from_is_err_and, WORKER}
 use Rattle.fm_local.proofs.Places.{emptied_out, ended_out, still_out}
 use Rattle.fm_local.proofs.NoneDue.{none_emptied, none_ended}
+use Rattle.fm_local.proofs.Unmoved as unmoved
+use Rattle.fm_local.proofs.StillWaiting.{same_flow}
 use Rattle.fm_local.proofs.manager.LocalManager.end.Goals as goal
 
 pub returns-in_err-empty_filter-clause-none_due : goal.returns-in_err-empty_filter-clause-none_due
@@ -41,3 +43,12 @@ returns-clause-settles g c =
       c.in_ok-tear_down_all.ensures.tears,
       inr (c.empty_filter.new.self, c.clean_up.new.self.desk.state, c.in_ok-empty_filter.ensures.event, c.clean_up.ensures.cleans, c.finish_filter.ensures.event, kept),
     )
+
+pub returns-in_err-empty_filter-clause-waits : goal.returns-in_err-empty_filter-clause-waits
+returns-in_err-empty_filter-clause-waits g c waits =
+    same_flow _ _ _ _ (unmoved.filter_emptied c.tear_down_all.new.self.desk.state c.empty_filter.new.self c.args.filter (Err c.in_err-empty_filter.field-0.0) c.in_err-empty_filter.ensures.event) (c.in_ok-tear_down_all.ensures.waits waits)
+
+pub returns-clause-waits : goal.returns-clause-waits
+returns-clause-waits g c waits =
+    same_flow _ _ _ _ (unmoved.filter_finished c.clean_up.new.self.desk.state c.finish_filter.new.self c.args.filter c.finish_filter.result c.finish_filter.ensures.event)
+    (c.clean_up.ensures.waits (same_flow _ _ _ _ (unmoved.filter_emptied c.tear_down_all.new.self.desk.state c.empty_filter.new.self c.args.filter (Ok tt) c.in_ok-empty_filter.ensures.event) (c.in_ok-tear_down_all.ensures.waits waits)))

@@ -1,10 +1,12 @@
-use Rattle.fm_local.proofs.Words.{◌∙◌, ap, inr, refl, sym, WORKER}
+use Rattle.fm_local.proofs.Words.{◌∙◌, ap, inr, refl, sym, WORKER, Err, Ok}
 use Rattle.fm_local.proofs.NoneDue.{none_completed}
 use Rattle.fm_local.proofs.GoingOn.{calls_untraced}
 use Rattle.fm_local.proofs.Leaving.{completes}
 use Rattle.fm_local.proofs.Places.{complete_out, completing_in, same_out}
 use Rattle.fm_local.proofs.Readied.{settled_after}
 use Rattle.fm_local.proofs.Resting.{complete_refused}
+use Rattle.fm_local.proofs.Unmoved as unmoved
+use Rattle.fm_local.proofs.StillWaiting.{same_flow}
 use Rattle.fm_local.proofs.manager.LocalManager.end_teardown.Goals as goal
 
 pub returns-in_err-complete_teardown-clause-quiet : goal.returns-in_err-complete_teardown-clause-quiet
@@ -50,3 +52,11 @@ pub returns-clause-out : goal.returns-clause-out
 returns-clause-out g c out =
     let there = completing_in WORKER c.args.self.now.desk.state c.args.instance c.complete_teardown.new.self c.in_ok-complete_teardown.ensures.event in
     c.settle.ensures.out (complete_out WORKER c.complete_teardown.new.self c.complete.new.self.desk.state c.args.instance there (c.complete.ensures.ends there))
+
+pub returns-in_err-complete_teardown-clause-waits : goal.returns-in_err-complete_teardown-clause-waits
+returns-in_err-complete_teardown-clause-waits g c waits =
+    same_flow _ _ _ _ (unmoved.completing c.args.self.now.desk.state c.complete_teardown.new.self WORKER c.args.instance (Err c.in_err-complete_teardown.field-0.0) c.in_err-complete_teardown.ensures.event) waits
+
+pub returns-clause-waits : goal.returns-clause-waits
+returns-clause-waits g c waits =
+    c.settle.ensures.waits (c.complete.ensures.waits (same_flow _ _ _ _ (unmoved.completing c.args.self.now.desk.state c.complete_teardown.new.self WORKER c.args.instance (Ok tt) c.in_ok-complete_teardown.ensures.event) waits))

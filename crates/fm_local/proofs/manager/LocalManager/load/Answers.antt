@@ -5,6 +5,8 @@ use Rattle.fm_local.proofs.Places.{registered_out}
 use Rattle.fm_local.proofs.NoneDue.{none_registered}
 use Rattle.fm_local.proofs.Readied.{loaded_ready}
 use Rattle.fm_local.proofs.Resting.{registered_calm}
+use Rattle.fm_local.proofs.Unmoved as unmoved
+use Rattle.fm_local.proofs.StillWaiting.{same_flow}
 use Rattle.fm_local.proofs.manager.LocalManager.load.Goals as goal
 
 pub returns-in_err-number-clause-ready : goal.returns-in_err-number-clause-ready
@@ -47,3 +49,11 @@ returns-clause-numbers g c =
     noted_numbers old c.note.new.self c.note.ensures.all c.args.name.now number c.in_ok-place.place
     (found_place (place_called c.args.name.now old.all.items) c.in_ok-place.place c.in_ok-place.ensures) c.note.ensures.noted
     (subst (λ (n : ℕ). number.0 < n) (sym c.note.ensures.places) within)
+
+pub returns-in_err-number-clause-waits : goal.returns-in_err-number-clause-waits
+returns-in_err-number-clause-waits g c waits =
+    same_flow _ _ _ _ (unmoved.registered c.args.self.now.desk.state c.register.new.self c.args.name.now c.registration-registration.result (Err c.in_err-number.field-0.0) c.in_err-number.ensures.event) waits
+
+pub returns-clause-waits : goal.returns-clause-waits
+returns-clause-waits g c waits =
+    same_flow _ _ _ _ (unmoved.registered c.args.self.now.desk.state c.register.new.self c.args.name.now c.registration-registration.result (Ok c.in_ok-number.number) c.in_ok-number.ensures.event) waits

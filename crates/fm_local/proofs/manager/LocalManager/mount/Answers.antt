@@ -3,6 +3,8 @@ use Rattle.fm_local.proofs.Places.{mounted_out}
 use Rattle.fm_local.proofs.NoneDue.{none_mounted}
 use Rattle.fm_local.proofs.Readied.{mounted_ready}
 use Rattle.fm_local.proofs.Resting.{mounted_calm}
+use Rattle.fm_local.proofs.Unmoved as unmoved
+use Rattle.fm_local.proofs.StillWaiting.{same_flow}
 use Rattle.fm_local.proofs.manager.LocalManager.mount.Goals as goal
 
 pub returns-in_err-volume-clause-ready : goal.returns-in_err-volume-clause-ready
@@ -34,3 +36,11 @@ returns-in_err-volume-clause-out g c =
 
 pub returns-clause-out : goal.returns-clause-out
 returns-clause-out g c = mounted_out WORKER c.args.self.now.desk.state c.args.name (Ok c.in_ok-volume.volume) c.mount.new.self c.in_ok-volume.ensures.event
+
+pub returns-in_err-volume-clause-waits : goal.returns-in_err-volume-clause-waits
+returns-in_err-volume-clause-waits g c waits =
+    same_flow _ _ _ _ (unmoved.mounted c.args.self.now.desk.state c.mount.new.self c.args.name (Err c.in_err-volume.field-0.0) c.in_err-volume.ensures.event) waits
+
+pub returns-clause-waits : goal.returns-clause-waits
+returns-clause-waits g c waits =
+    same_flow _ _ _ _ (unmoved.mounted c.args.self.now.desk.state c.mount.new.self c.args.name (Ok c.in_ok-volume.volume) c.in_ok-volume.ensures.event) waits

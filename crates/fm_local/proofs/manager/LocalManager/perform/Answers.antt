@@ -3,6 +3,7 @@ use Rattle.fm_local.proofs.Places.{begun_out}
 use Rattle.fm_local.proofs.Refusing.{not_begun, refuses_one}
 use Rattle.fm_local.proofs.NoneDue.{none_begun}
 use Rattle.fm_local.proofs.Performing.{performs_begun, performs_refused}
+use Rattle.fm_local.proofs.StillWaiting.{begins_wait, begun_apart}
 use Rattle.fm_local.proofs.manager.LocalManager.perform.Goals as goal
 
 pub returns-in-Ok-clause-does : goal.returns-in-Ok-clause-does
@@ -37,3 +38,11 @@ returns-in-Ok-clause-requests g c = inr (c.in-Ok.operation, c.begin.new.self, c.
 
 pub returns-in-Err-clause-requests : goal.returns-in-Err-clause-requests
 returns-in-Err-clause-requests g c = inl (c.in-Err.status, c.in-Err.ensures.event, c.refusal.ensures)
+
+pub returns-in-Ok-clause-waits : goal.returns-in-Ok-clause-waits
+returns-in-Ok-clause-waits g c waits =
+    c.run.ensures.waits (begins_wait c.args.self.now.desk.state c.args.request (Ok c.in-Ok.operation) c.begin.new.self c.args.self.now.desk.resumed.items.items c.args.self.now.finished.items.items c.in-Ok.ensures.event waits) (begun_apart c.args.self.now.desk.state c.args.request c.in-Ok.operation c.begin.new.self c.args.self.now.desk.resumed.items.items c.args.self.now.finished.items.items c.laws.ensures c.in-Ok.ensures.event waits)
+
+pub returns-in-Err-clause-waits : goal.returns-in-Err-clause-waits
+returns-in-Err-clause-waits g c waits =
+    (begins_wait c.args.self.now.desk.state c.args.request (Err c.in-Err.status) c.begin.new.self c.args.self.now.desk.resumed.items.items c.args.self.now.finished.items.items c.in-Err.ensures.event waits)

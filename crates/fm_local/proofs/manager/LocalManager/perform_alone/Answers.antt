@@ -1,6 +1,7 @@
 use Rattle.fm_local.proofs.Words.{Err, Ok, inl, inr, WORKER}
 use Rattle.fm_local.proofs.Places.{begun_out}
 use Rattle.fm_local.proofs.Performing.{performs_begun, performs_refused}
+use Rattle.fm_local.proofs.StillWaiting.{begins_wait, begun_apart}
 use Rattle.fm_local.proofs.manager.LocalManager.perform_alone.Goals as goal
 
 pub returns-in-Ok-clause-does : goal.returns-in-Ok-clause-does
@@ -24,3 +25,11 @@ returns-in-Ok-clause-performs g c = inr (c.in-Ok.operation, c.begin.new.self, c.
 
 pub returns-in-Err-clause-performs : goal.returns-in-Err-clause-performs
 returns-in-Err-clause-performs g c = inl (c.in-Err.status, c.in-Err.ensures.event, c.refusal.ensures)
+
+pub returns-in-Ok-clause-waits : goal.returns-in-Ok-clause-waits
+returns-in-Ok-clause-waits g c waits =
+    (c.run_alone.ensures.waits (begins_wait c.args.self.now.desk.state c.args.request (Ok c.in-Ok.operation) c.begin.new.self c.args.self.now.desk.resumed.items.items c.args.self.now.finished.items.items c.in-Ok.ensures.event waits) (begun_apart c.args.self.now.desk.state c.args.request c.in-Ok.operation c.begin.new.self c.args.self.now.desk.resumed.items.items c.args.self.now.finished.items.items c.laws.ensures c.in-Ok.ensures.event waits)).0
+
+pub returns-in-Err-clause-waits : goal.returns-in-Err-clause-waits
+returns-in-Err-clause-waits g c waits =
+    (begins_wait c.args.self.now.desk.state c.args.request (Err c.in-Err.status) c.begin.new.self c.args.self.now.desk.resumed.items.items c.args.self.now.finished.items.items c.in-Err.ensures.event waits)

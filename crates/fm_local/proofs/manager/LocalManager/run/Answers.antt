@@ -12,3 +12,7 @@ returns-clause-out g c out = c.settle.ensures.out (c.run_alone-reply.ensures.out
 
 pub returns-clause-goes : goal.returns-clause-goes
 returns-clause-goes g c = (c.run_alone-reply.new.self, c.run_alone-reply.ensures.goes, c.settle.ensures.all)
+
+pub returns-clause-waits : goal.returns-clause-waits
+returns-clause-waits g c waits apart =
+    c.settle.ensures.waits (c.run_alone-reply.ensures.waits waits apart).0

@@ -12,3 +12,7 @@ returns-clause-out g c out = c.reply_after.ensures.out (c.carry-ended.ensures.ou
 
 pub returns-clause-goes : goal.returns-clause-goes
 returns-clause-goes g c = (c.carry-ended.result, c.carry-ended.new.self, c.carry-ended.ensures.goes, c.carry-ended.ensures.kept, c.reply_after.ensures.replies)
+
+pub returns-clause-waits : goal.returns-clause-waits
+returns-clause-waits g c waits apart =
+    let carried = c.carry-ended.ensures.waits waits apart in c.reply_after.ensures.waits carried.0 carried.1

@@ -2,6 +2,8 @@ use Rattle.fm_local.proofs.Words.{◌∙◌, refl, sym, AgreesAt, WORKER, RESUMP
 use Rattle.fm_local.proofs.Places.{finished_out, setup_out}
 use Rattle.fm_local.proofs.NoneDue.{ends_tidily, none_finished}
 use Rattle.fm_local.proofs.GoingOn.{calls_untraced, ends_accepted, ends_refused}
+use Rattle.fm_local.proofs.Unmoved as unmoved
+use Rattle.fm_local.proofs.StillWaiting.{same_flow}
 use Rattle.fm_local.proofs.manager.LocalManager.set_up.Goals as goal
 
 pub returns-then-is_err-clause-none_due : goal.returns-then-is_err-clause-none_due
@@ -48,3 +50,11 @@ returns-else-is_err-clause-settles g c = (
   ends_accepted g.F.Minifilter.pre_may g.F.Minifilter.post_may g.F.Minifilter.drained g.B.Base.folder g.B.Base.faults WORKER g.F.Minifilter.cleanup_may TURNS RESUMPTIONS c.args.instance c.settle.new.self c.setup-accepted.result
       (sym c.is_err.ensures.value ∙ c.if-is_err.false),
 )
+
+pub returns-then-is_err-clause-waits : goal.returns-then-is_err-clause-waits
+returns-then-is_err-clause-waits g c waits =
+    same_flow _ _ _ _ (unmoved.finished c.settle.new.self.desk.state c.finish.new.self c.args.instance c.finish.result c.finish.ensures.event) (c.settle.ensures.waits (c.setup-accepted.ensures.waits waits))
+
+pub returns-else-is_err-clause-waits : goal.returns-else-is_err-clause-waits
+returns-else-is_err-clause-waits g c waits =
+    c.settle.ensures.waits (c.setup-accepted.ensures.waits waits)

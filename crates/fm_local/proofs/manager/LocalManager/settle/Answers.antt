@@ -8,3 +8,7 @@ returns-clause-out g c out =
 
 pub returns-clause-all : goal.returns-clause-all
 returns-clause-all g c = (c.carry_on_resumed.new.self, c.carry_on_resumed.ensures.all, c.clean_up.ensures.cleans, c.clean_up.ensures.kept)
+
+pub returns-clause-waits : goal.returns-clause-waits
+returns-clause-waits g c waits =
+    c.clean_up.ensures.waits (c.carry_on_resumed.ensures.waits waits)

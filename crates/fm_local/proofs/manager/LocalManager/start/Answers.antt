@@ -1,7 +1,10 @@
-use Rattle.fm_local.proofs.Words.{Ok, ◌∙◌, ap, subst, sym, StartReturns, Worker, numbered, WORKER}
+use Rattle.fm_local.proofs.Words.{Ok, ◌∙◌, ap, subst, sym, StartReturns, Worker, numbered, WORKER, LocalManager}
 use Rattle.fm_local.specs.Places.{IsIn}
 use Rattle.fm_local.specs.declared.local_port.Desk.{Desk}
 use Rattle.fm_local.proofs.Places.{in_still, quiet_in, start_ends}
+use Rattle.fm_local.proofs.Unmoved as unmoved
+use Rattle.fm_local.proofs.StillWaiting.{same_flow}
+use Rattle.fm_local.specs.Waits.{Waiting}
 use Rattle.fm_local.proofs.manager.LocalManager.start.Goals as goal
 
 pub returns-clause-ends : goal.returns-clause-ends
@@ -19,3 +22,9 @@ returns-clause-quiet g c plain there =
     let ends = start_ends WORKER c.tell.new.desk.state c.start_returned.new.self c.start_returned.result c.args.instance still c.start_returned.ensures.event in
     let returns = subst (λ (d : Desk). StartReturns d.state WORKER (Ok tt) c.start_returned.new.self) same ends in
     (rw (ap (λ m. m.desk.state) c.note_left.ensures) returns, ap (λ m. m.desk.resumed) c.note_left.ensures ∙ ap (λ d. d.resumed) same)
+
+pub returns-clause-waits : goal.returns-clause-waits
+returns-clause-waits g c waits =
+    subst (λ (m : LocalManager g.row.F.Denot g.row.B.Denot). Waiting m) (sym c.note_left.ensures)
+    (same_flow _ _ _ _ (unmoved.started c.tell.new.desk.state c.start_returned.new.self WORKER c.start_returned.result c.start_returned.ensures.event)
+    (c.tell.ensures.rest.waits c.args.self.now.finished.items.items waits))

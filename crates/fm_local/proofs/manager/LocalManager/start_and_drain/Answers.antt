@@ -1,7 +1,9 @@
-use Rattle.fm_local.proofs.Words.{World, ◌∙◌, ap, refl, WORKER}
+use Rattle.fm_local.proofs.Words.{World, ◌∙◌, ap, refl, WORKER, Err, Ok}
 use Rattle.fm_local.proofs.GoingOn.{calls_both, calls_untraced}
 use Rattle.fm_local.proofs.Leaving.{start_flow, start_refused}
 use Rattle.fm_local.proofs.Places.{same_out, start_out, started_in}
+use Rattle.fm_local.proofs.Unmoved as unmoved
+use Rattle.fm_local.proofs.StillWaiting.{same_flow}
 use Rattle.fm_local.proofs.manager.LocalManager.start_and_drain.Goals as goal
 
 pub returns-in-Ok-clause-drains : goal.returns-in-Ok-clause-drains
@@ -57,3 +59,11 @@ returns-in-Ok-clause-kept g c =
 
 pub returns-in-Err-clause-kept : goal.returns-in-Err-clause-kept
 returns-in-Err-clause-kept g c = refl
+
+pub returns-in-Ok-clause-waits : goal.returns-in-Ok-clause-waits
+returns-in-Ok-clause-waits g c waits =
+    c.drain_all.ensures.waits (c.start.ensures.waits (same_flow _ _ _ _ (unmoved.starting c.args.self.now.desk.state c.start_teardown.new.self WORKER c.args.instance (Ok tt) c.in-Ok.ensures.event) waits))
+
+pub returns-in-Err-clause-waits : goal.returns-in-Err-clause-waits
+returns-in-Err-clause-waits g c waits =
+    same_flow _ _ _ _ (unmoved.starting c.args.self.now.desk.state c.start_teardown.new.self WORKER c.args.instance (Err c.in-Err.field-0) c.in-Err.ensures.event) waits

@@ -3,6 +3,8 @@ use Rattle.fm_local.proofs.Places.{finished_out, still_out}
 use Rattle.fm_local.proofs.NoneDue.{none_finished}
 use Rattle.fm_local.proofs.Emptied.{ends_well}
 use Rattle.fm_local.proofs.Readied.{not_ok, started_still}
+use Rattle.fm_local.proofs.Unmoved as unmoved
+use Rattle.fm_local.proofs.StillWaiting.{same_flow}
 use Rattle.fm_local.proofs.manager.LocalManager.tear_down.Goals as goal
 
 pub returns-in_err-end_teardown-clause-quiet : goal.returns-in_err-end_teardown-clause-quiet
@@ -68,3 +70,12 @@ returns-clause-tears g c =
       c.begin_teardown.ensures.drains,
       inr (c.end_teardown.new.self, c.clean_up.new.self.desk.state, c.in_ok-end_teardown.ensures.tells, c.clean_up.ensures.cleans, c.finish.ensures.event, kept),
     )
+
+pub returns-in_err-end_teardown-clause-waits : goal.returns-in_err-end_teardown-clause-waits
+returns-in_err-end_teardown-clause-waits g c waits =
+    c.in_err-end_teardown.ensures.waits (c.begin_teardown.ensures.waits waits)
+
+pub returns-clause-waits : goal.returns-clause-waits
+returns-clause-waits g c waits =
+    same_flow _ _ _ _ (unmoved.finished c.clean_up.new.self.desk.state c.finish.new.self c.args.instance c.finish.result c.finish.ensures.event)
+    (c.clean_up.ensures.waits (c.in_ok-end_teardown.ensures.waits (c.begin_teardown.ensures.waits waits)))

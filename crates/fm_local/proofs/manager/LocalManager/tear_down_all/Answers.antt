@@ -24,6 +24,7 @@ loop-at-preserved g c = (
   λ before. c.in_ok-tear_down_if.ensures.none_due (c.loop-at.invariant.1 before),
   λ out. c.in_ok-tear_down_if.ensures.out (c.loop-at.invariant.2 out),
   tears_more g.F.Minifilter.pre_may g.F.Minifilter.post_may g.F.Minifilter.drained g.B.Base.folder g.B.Base.faults WORKER g.F.Minifilter.cleanup_may TURNS RESUMPTIONS g.F.Minifilter.started g.F.Minifilter.completed c.args.filter c.loop-at.at c.args.self.now c.loop-at.self c.tear_down_if.new.self c.loop-at.invariant.3 c.in_ok-tear_down_if.ensures.tears,
+  λ waits. c.in_ok-tear_down_if.ensures.waits (c.loop-at.invariant.4 waits),
 )
 
 pub returns-in_err-tear_down_if-clause-out : goal.returns-in_err-tear_down_if-clause-out
@@ -33,3 +34,7 @@ pub returns-in_err-tear_down_if-clause-tears : goal.returns-in_err-tear_down_if-
 returns-in_err-tear_down_if-clause-tears g c =
     let exit = err_from_is_err_and c.from_residual.result c.from_residual.ensures.1 in
     rw (exit.1, exit.2) (c.loop-at.at, c.loop-at.self, c.loop-at.invariant.3, c.in_err-tear_down_if.ensures.tears)
+
+pub returns-in_err-tear_down_if-clause-waits : goal.returns-in_err-tear_down_if-clause-waits
+returns-in_err-tear_down_if-clause-waits g c waits =
+    c.in_err-tear_down_if.ensures.waits (c.loop-at.invariant.4 waits)

@@ -52,3 +52,7 @@ pub returns-clause-settles : goal.returns-clause-settles
 returns-clause-settles g c =
     let ends = rw c.in_ok-ask_to_unload.ensures.kept at c.end-2.ensures.settles in
     rw (sym c.is_unloading.ensures ∙ c.if-is_unloading.false) (inr (c.ask_to_unload.new.self.desk.state, c.in_ok-ask_to_unload.ensures.asks, ends))
+
+pub returns-clause-waits : goal.returns-clause-waits
+returns-clause-waits g c waits =
+    c.end-2.ensures.waits (c.in_ok-ask_to_unload.ensures.waits waits)

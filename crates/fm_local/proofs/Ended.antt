@@ -1,10 +1,10 @@
 -- What each event leaves of the operations that nobody is inside of: they stay so, and those that ended stay ended, but for the operation of a `next` and the
 -- one whose answer is handed out.
-use Rattle.fm_local.proofs.Words.{[], ◌∷◌, ◌≡◌, ◌⊎◌, inl, inr, Answer, Ask, BaseCall, Below, Bool, Completion, Data, Err, FileHandle, FileStream, FlowAction, FlowRecord, FlowTable, HandleId}
-use Rattle.fm_local.proofs.Words.{InstanceId, List, None, Ok, OpId, Option, Params, PostVerdict, PreState, PreVerdict, Request, Result, Some, Stage, Status, Worker, WorkerId, World}
+use Rattle.fm_local.proofs.Words.{[], ◌∷◌, ◌≡◌, ◌⊎◌, inl, inr, Answer, Ask, BaseCall, Below, Bool, Completion, Data, Err, FileHandle, FileStream, FlowAction, FlowRecord, FlowTable}
+use Rattle.fm_local.proofs.Words.{InstanceId, List, None, Ok, OpId, Option, PostVerdict, PreVerdict, Request, Result, Some, Stage, Status, Worker, WorkerId, World}
 use Rattle.fm_local.proofs.Words.{◌&&◌, ◌==◌, ◌∙◌, ap, arith, changed, cond, false, find, not, operation_at, option_map, owed, refl, slice_get, subst, sym, true, unwrap_or, worker_at}
-use Rattle.fm_local.proofs.Words.{BaseReturns, BaseReturnsAt, Begins, Collects, DrainsWhere, LosesLinks, Nexts, NextsAt, PostReturns, PostReturnsAt, PreReturns, PreReturnsAt, TakesDrain}
-use Rattle.fm_local.proofs.Words.{after_begin, ascend, begun_at, begun_on, drains_at, handle_at, is_idle, is_stopping_at, next_at, next_of, params_of, row_at, state_at, stream_at, turn, IsSound, PreReturnsOver, ReturnsFrom, base_returned, post_returned_of}
+use Rattle.fm_local.proofs.Words.{BaseReturns, BaseReturnsAt, Begins, Collects, DrainsWhere, LosesLinks, Nexts, PostReturns, PostReturnsAt, PreReturns, PreReturnsAt, TakesDrain}
+use Rattle.fm_local.proofs.Words.{after_begin, ascend, begun_at, begun_on, drains_at, handle_at, is_stopping_at, next_at, next_of, params_of, row_at, state_at, stream_at, turn, IsSound, PreReturnsOver, ReturnsFrom, base_returned, post_returned_of}
 use Rattle.fm_types.specs.Refusals.{first_of}
 use Rattle.fm_flow.proofs.Drains.{owed_over, owing_there}
 use Rattle.fm_flow.proofs.Holds.{held_post, held_pre}
@@ -19,10 +19,10 @@ use Rattle.fm_world.proofs.Cases.{by_bool}
 use Rattle.fm_world.proofs.Events.{answers_by, idle_by, memory_by, refused_by, unless_by}
 use Rattle.fm_world.proofs.Operations.{inside_base, inside_drain, inside_post, inside_pre}
 use Rattle.fm_world.proofs.Resumes.{held_by}
-use Rattle.fm_world.specs.EarlyDrains.{DrainReturns, DrainReturnsAt, GivesDrain}
+use Rattle.fm_world.specs.EarlyDrains.{DrainReturns, DrainReturnsAt}
 use Rattle.fm_world.specs.Events.{ResumesPost, ResumesPostAt, ResumesPre, ResumesPreAt, base_step, is_held_by, lets_go, pre_step}
 use Rattle.fm_world.specs.Owners.{place_in}
-use Rattle.fm_local.specs.Waits.{IsEnded, IsLoose, is_between, is_loose}
+use Rattle.fm_local.specs.Waits.{IsEnded, is_between, is_loose}
 use Rattle.fm_local.proofs.Events.{by_links, lost}
 use Rattle.fm_local.proofs.Kept.{Stays, alike_changed, busy_changed, by_number, by_record, by_same, one_more, others_changed, others_removed, spent_removed}
 

@@ -1,5 +1,5 @@
 -- Of the operations that ended the first is handed out: where they wait, none of them lacks its answer.
-use Rattle.fm_local.proofs.Words.{[], ◌∷◌, ◌≡◌, Answer, Bool, Err, FlowRecord, LocalManager, List, None, Ok, OpId, Option, Some, Status, World, cond, false, not, option_map, refl, subst, sym, true, unwrap_or, ◌&&◌, ◌++◌, ◌∙◌, ap, arith, operation_at, Collects, Reply, replied}
+use Rattle.fm_local.proofs.Words.{[], ◌∷◌, ◌≡◌, Answer, Bool, Err, FlowRecord, LocalManager, List, None, Ok, OpId, Option, Some, Status, World, cond, false, not, option_map, refl, subst, sym, true, unwrap_or, ◌&&◌, ◌++◌, ap, arith, operation_at, Collects, Reply}
 use Rattle.std.specs.Prelude.{All}
 use Rattle.std.proofs.lemmas.List.Elements.{All-head, All-tail}
 use Rattle.fm_flow.specs.Table.{collect_reply, is_collectable}

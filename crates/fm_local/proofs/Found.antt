@@ -1,5 +1,5 @@
 -- What the callback leaves of the filter that was found for an instance.
-use Rattle.fm_local.proofs.Words.{◌≡◌, ⊤, FilterId, Instance, None, Option, Some, option_and_then, option_map, refl, subst, sym, ◌∙◌, ap, ℕ, WORKER}
+use Rattle.fm_local.proofs.Words.{◌≡◌, ⊤, FilterId, Instance, None, Option, Some, option_and_then, option_map, refl, subst, ◌∙◌, ap, ℕ, WORKER}
 use Rattle.std.specs.Borrow.{Bor}
 use Rattle.std.specs.Prelude.{MatchOption}
 use Rattle.fm_filter.specs.Standing.{Kept}

@@ -1,6 +1,6 @@
 -- What a change of some operations leaves of another: whether nobody is inside it, and whether it has ended.
 use Rattle.fm_local.proofs.Words.{[], ◌∷◌, ◌≡◌, Ask, Bool, FlowRecord, FlowTable, List, None, OpId, Option, Some, Stage, false, true, ◌&&◌, ◌++◌, ◌==◌, ◌∙◌, ap, arith}
-use Rattle.fm_local.proofs.Words.{changed, cond, find, inl, inr, is_number, none-some, operation_at, option_map, owed, refl, subst, sym, told, true≢false, unwrap_or, cases_Bool, not, ℕ, nat_tests}
+use Rattle.fm_local.proofs.Words.{changed, find, inl, inr, is_number, operation_at, option_map, owed, subst, sym, true≢false, unwrap_or, cases_Bool, not, ℕ, nat_tests}
 use Rattle.std.specs.Option.{option_or}
 use Rattle.std.proofs.lemmas.List.Folds.{find-append}
 use Rattle.fm_types.proofs.Firsts.{find_unchanged, find_without, find_changed}

@@ -1,5 +1,5 @@
 -- The events that leave all operations as they are: those on filters, volumes, instances and contexts.
-use Rattle.fm_local.proofs.Words.{◌≡◌, Bool, Err, FilterId, FlowTable, InstanceId, List, None, Ok, OpId, Option, Result, Some, Status, VolumeId, Worker, WorkerId, World, ap, refl, ℕ, worker_at}
+use Rattle.fm_local.proofs.Words.{◌≡◌, Bool, FilterId, FlowTable, InstanceId, List, None, OpId, Option, Result, Some, Status, VolumeId, Worker, WorkerId, World, ap, refl, ℕ, worker_at}
 use Rattle.fm_local.proofs.Words.{AsksDetach, AsksUnload, Attaches, CompleteReturns, CompletesTeardown, ContextKind, CtxId, EmptiesFilter, Finishes, FinishesFilter, HandleId, Mounts, Registers}
 use Rattle.fm_local.proofs.Words.{Registration, StartReturns, StartsTeardown, UnloadReturns, UnloadReturnsAt, context_at}
 use Rattle.fm_ctx.specs.declared.due.Due.{Due}

@@ -1,6 +1,6 @@
 -- Operations that wait: how they go on waiting, and how one comes and goes.
-use Rattle.fm_local.proofs.Words.{[], ⊤, ◌∷◌, ◌≡◌, Bool, FlowRecord, FlowTable, List, None, OpId, Option, Some, World, false, map, true, ℕ, ◌&&◌, ◌++◌, ◌==◌, ◌||◌, ◌∙◌, ◌<◌, ap, ap₂, arith, changed, cond, drop, eq-eqb, find, Operation}
-use Rattle.fm_local.proofs.Words.{inl, inr, is_number, list_any, not, nat_tests, operation_at, option_map, refl, subst, sym, told, true≢false, false≢true, unwrap_or, cases_Bool}
+use Rattle.fm_local.proofs.Words.{[], ◌∷◌, ◌≡◌, Bool, FlowRecord, FlowTable, List, None, OpId, Option, Some, World, false, map, true, ℕ, ◌&&◌, ◌++◌, ◌==◌, ◌||◌, ◌∙◌, ◌<◌, ap, ap₂, arith, changed, cond, drop, find, Operation}
+use Rattle.fm_local.proofs.Words.{inl, inr, is_number, list_any, not, nat_tests, operation_at, option_map, refl, subst, sym, told, true≢false, unwrap_or, cases_Bool}
 use Rattle.std.specs.Prelude.{All, filter}
 use Rattle.std.proofs.lemmas.List.Elements.{All-cons, All-head, All-nil, All-push, All-tail, All-weaker, filter_agree}
 use Rattle.std.proofs.lemmas.List.Folds.{list_any-append}
@@ -9,7 +9,7 @@ use Rattle.fm_types.specs.Lists.{change_first}
 use Rattle.fm_types.proofs.Firsts.{find_changed, found_holds, found_passes}
 use Rattle.fm_flow.specs.Table.{IsFlow, is_collectable}
 use Rattle.fm_filter.specs.Standing.{Shape, Standing, standing_of}
-use Rattle.fm_local.specs.Waits.{IsEnded, IsLoose, Wait, are_apart, are_loose, go_on_once, is_among, is_left, is_loose, left_ended, shape_of_waiting, standing_with}
+use Rattle.fm_local.specs.Waits.{IsEnded, IsLoose, Wait, are_apart, are_loose, go_on_once, is_among, is_left, is_loose, shape_of_waiting, standing_with}
 use Rattle.fm_local.proofs.Kept.{Stays, by_number, same_number, ended_loose, others_changed}
 
 both : (a b : Bool) → a ≡ true → b ≡ true → a && b ≡ true

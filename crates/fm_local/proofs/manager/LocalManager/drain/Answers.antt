@@ -1,4 +1,4 @@
-use Rattle.fm_local.proofs.Words.{LocalManager, subst, sym, WORKER}
+use Rattle.fm_local.proofs.Words.{LocalManager, subst, sym}
 use Rattle.fm_local.specs.Waits.{Waiting}
 use Rattle.fm_local.proofs.manager.LocalManager.drain.Goals as goal
 

@@ -1,4 +1,4 @@
-use Rattle.fm_local.proofs.Words.{World, ◌∙◌, ap, BasesCarry, numbered, WORKER, OpId, subst, sym}
+use Rattle.fm_local.proofs.Words.{World, ◌∙◌, ap, BasesCarry, numbered, WORKER, subst, sym}
 use Rattle.fm_world.specs.Workers.{gives_nothing}
 use Rattle.fm_local.proofs.Ending.{says_done}
 use Rattle.fm_local.proofs.Lent.{lent}

@@ -1,0 +1,98 @@
+//! A one-thread manager that answers frames.
+
+ghost use Rattle.std.specs.Prelude.{◌≡◌};
+ghost use Rattle.fm_exec.specs.Locals.{AnswersBody, AnswersControl, AnswersFrame};
+
+use crate::said::{filter_reply, instance_reply, number_reply, status_reply, unit_reply};
+use fm_base::Base;
+use fm_data::Reply;
+use fm_filter::Minifilter;
+use fm_local::LocalManager;
+use fm_samples::Sample;
+use fm_server::Exec;
+use fm_types::Status;
+use fm_wire::{Body, Control, Frame};
+use std::alloc::Global;
+
+/// Answers frames by a one-thread manager: a request by its `answer`, a load, an attach, a detach and an unload by the calls of these names. An
+/// operation that a filter holds is answered `Held`, and its reply stays with the manager. A dismount is answered 32 (`BadRequest`) and a Stop with
+/// success, both without a call.
+///
+/// It is an `Exec` over the samples. Over other filters `answer_frame` says the same, and an `Exec` of one's own hands a frame on to it.
+#[derive(Drop)]
+pub struct LocalExec<F, B> {
+    alloc: Global,
+    manager: LocalManager<F, B>,
+}
+
+impl<F: Minifilter, B: Base> LocalExec<F, B> {
+    /// Answers by that manager.
+    pub fn new(alloc: Global, manager: LocalManager<F, B>) -> Self
+        ensures { result ≡ record { alloc = alloc; manager = manager } }
+    {
+        LocalExec { alloc, manager }
+    }
+
+    /// The manager.
+    pub fn into_manager(self) -> LocalManager<F, B>
+        ensures { result ≡ self.manager }
+    {
+        let LocalExec { alloc: _, manager } = self;
+        manager
+    }
+
+    fn control(&mut self, control: Control) -> Reply
+        ensures { AnswersControl F.Minifilter B.Base control self.old.manager result self.new.manager }
+    {
+        match control {
+            Control::Load { name } => filter_reply(self.alloc, self.manager.load(&name)),
+            Control::Attach {
+                filter,
+                volume,
+                name,
+                altitude,
+            } => {
+                let instance = self.manager.attach(filter, volume, name, altitude);
+                instance_reply(self.alloc, instance)
+            }
+            Control::Detach { instance } => {
+                unit_reply(self.alloc, self.manager.detach(instance))
+            }
+            Control::Unload { filter } => unit_reply(self.alloc, self.manager.unload(filter)),
+            Control::Dismount { volume: _ } => status_reply(self.alloc, Status::BadRequest),
+            Control::Stop => number_reply(self.alloc, 0),
+        }
+    }
+
+    fn say(&mut self, body: Body) -> Reply
+        ensures { AnswersBody F.Minifilter B.Base body self.old.manager result self.new.manager }
+    {
+        match body {
+            Body::Operation(request) => self.manager.answer(request),
+            Body::Control(control) => self.control(control),
+            Body::Reply(_) => status_reply(self.alloc, Status::BadRequest),
+            Body::Refused(status) => status_reply(self.alloc, status),
+        }
+    }
+
+    /// Answers a frame, by the call that it names and under its number.
+    pub fn answer_frame(&mut self, frame: Frame) -> Frame
+        ensures { AnswersFrame F.Minifilter B.Base self.old.manager frame result self.new.manager }
+    {
+        let Frame { number, body } = frame;
+        Frame {
+            number,
+            body: Body::Reply(self.say(body)),
+        }
+    }
+}
+
+impl<B: Base> Exec for LocalExec<Sample, B> {
+    ghost use Rattle.fm_exec.specs.Locals.{AnswersFrame};
+
+    ghost answers = { λ old frame answer new. AnswersFrame (⟦<Sample as Minifilter>⟧) B.Base old.manager frame answer new.manager };
+
+    fn answer(&mut self, frame: Frame) -> Frame {
+        self.answer_frame(frame)
+    }
+}

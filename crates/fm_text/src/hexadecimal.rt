@@ -84,8 +84,8 @@ fn read_pairs(alloc: Global, word: &[u8]) -> Result<Option<Vec<u8>>, AllocError>
     }
 }
 
-/// Reads bytes: the list whose spelling the word is. There is none where the word is no spelling, as one with an odd run of digits or with
-/// upper-case digits. It fails where there is no memory for the bytes.
+/// Reads bytes: the list whose spelling the word is. There is none if the word is no spelling, as one with an odd run of digits or with
+/// upper-case digits. It fails if there is no memory for the bytes.
 pub fn read_hex(alloc: Global, word: &[u8]) -> Result<Option<Vec<u8>>, AllocError>
     ensures { IfOk result (λ read. MatchOption read (IsNoHexadecimal word.now) (λ bytes. hex_of bytes.items ≡ word.now)) }
 {

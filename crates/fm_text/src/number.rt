@@ -19,7 +19,7 @@ fn with_digit(number: u64, byte: u8) -> Option<u64>
     number.checked_mul(10)?.checked_add(u64::from(byte - b'0'))
 }
 
-/// Reads a number: decimal digits alone, at least one and leading zeros allowed, up to 2^64 - 1. There is none where the word is anything else.
+/// Reads a number: decimal digits alone, at least one and leading zeros allowed, up to 2^64 - 1. There is none if the word is anything else.
 #[tactic(auto, unfolding(crate::specs::Numbers::number_read))]
 pub fn read_number(word: &[u8]) -> Option<u64>
     ensures { result ≡ number_read word.now }

@@ -20,7 +20,7 @@ fn place_among(bytes: &[u8], byte: u8) -> Option<usize>
     bytes.iter().position(|b| *b == byte)
 }
 
-// How many bytes stand before the first one of that value: all of them where it isn't there.
+// How many bytes stand before the first one of that value: all of them if it isn't there.
 fn count_before(text: &[u8], byte: u8) -> usize
     ensures { result ≡ position_or_len (λ b. b == byte) text.now }
 {
@@ -39,7 +39,7 @@ fn count_before(text: &[u8], byte: u8) -> usize
     }
 }
 
-/// What stands before the first byte of that value, and what stands behind it; the whole text and nothing where it isn't there.
+/// What stands before the first byte of that value, and what stands after it; the whole text and nothing if it isn't there.
 pub fn split_at_byte(text: &[u8], byte: u8) -> (&[u8], Option<&[u8]>)
     ensures front { All (λ b. (b == byte) ≡ false) result.0.now }
     ensures parts { MatchOption result.1 (result.0.now ≡ text.now) (λ behind. text.now ≡ result.0.now ++ byte ∷ behind.now) }
@@ -53,7 +53,7 @@ pub fn split_at_byte(text: &[u8], byte: u8) -> (&[u8], Option<&[u8]>)
 }
 
 /// Appends the words of a line, divided by single spaces: a line without a space is one word, and two spaces have an empty word between them.
-/// It fails where there is no memory for the list, which takes some only past six words.
+/// It fails if there is no memory for the list, which takes some only past six words.
 pub fn split_words<'a>(
     words: &mut SmallVec<&'a [u8], FEW>,
     line: &'a [u8],

@@ -1,7 +1,9 @@
 //! The words after the first one of a request.
 
 ghost use Rattle.std.specs.Prelude.{◌≡◌, IfOk, map};
-ghost use Rattle.fm_words.specs.Requests.{Attaches, Creates, Loads, ReadsAfter, Writes, attach_read, create_read, detach_read, dismount_read, list_read, load_read, on_handle, only_handle, plain_read, read_read, set_size_read, stop_read, unload_read, write_read};
+ghost use Rattle.fm_words.specs.Requests.{Attaches, Creates, Loads, ReadsAfter, Writes};
+ghost use Rattle.fm_words.specs.Requests.{attach_read, create_read, detach_read, dismount_read, list_read, load_read};
+ghost use Rattle.fm_words.specs.Requests.{on_handle, only_handle, plain_read, read_read, set_size_read, stop_read, unload_read, write_read};
 
 use crate::values::{
     read_altitude, read_bytes, read_len, read_mode, read_name, read_path, read_u8, read_u16,

@@ -65,7 +65,7 @@ impl<'a, F: Minifilter, L: Ledger, R: Wait, G: Gate, D: Device> Post<'a, F, L, R
         devices: D,
     ) -> Result<Post<'a, F, L, R, G, D>, Status>
         requires own { All (λ pass. IsPassOf shop.queue.now pass) passes.old.items }
-        ensures own { All (λ pass. IsPassOf shop.queue.now pass) passes.new.items }
+        ensures own { All (λ pass. IsPassOf shop.entry.queue.now pass) passes.new.items }
     {
         let room = Room::new(alloc)?;
         let aside = Room::new(alloc)?;

@@ -1,5 +1,5 @@
 -- What a connection's frames are answered, whatever other connections do.
-use Rattle.std.specs.Prelude.{◌≡◌, ◌==◌, Bool, true, false, not, List, Unit}
+use Rattle.std.specs.Prelude.{◌≡◌, ◌==◌, Bool, true, false, not, List}
 use Rattle.std.specs.List.{list_any}
 use Rattle.fm_types.specs.declared.ids.HandleId.{HandleId}
 use Rattle.fm_data.specs.declared.request.Request.{Request}

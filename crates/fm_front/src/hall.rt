@@ -161,6 +161,7 @@ where
             let mut place = connection.into_place();
             self.close_all(&mut place.post, handles);
             self.close_left(&mut place.post);
+            place.post.put_all_aside();
             self.give_back(place);
         }
         self.leave();

@@ -55,6 +55,22 @@ impl<'a, F: Minifilter, L: Ledger, R: Wait, G: Gate> Shop<'a, F, L, R, G> {
     }
 }
 
+impl<'a, F: Minifilter, L: Ledger, R: Wait, G: Gate> Shop<'a, F, L, R, G> {
+    // Puts all jobs that were set aside in the queue, as soon as there is room.
+    fn put_all_aside<D: Device>(&self, bench: &mut Bench<'a, F, L, R, D>)
+        requires free { IsFree self.now.queue.now bench.old.grip.hand.held bench.old.pass }
+        ensures free { IsFree self.now.queue.now bench.new.grip.hand.held bench.new.pass }
+    {
+        'rounds: for _ in self.rt.forever() {
+            self.put_aside(bench);
+            if bench.aside.first().is_none() {
+                break 'rounds;
+            }
+            thread::yield_now();
+        }
+    }
+}
+
 impl<'a, F: Minifilter, L: Ledger, R: Wait, G: Gate, D: Device> Post<'a, F, L, R, G, D> {
     /// A thread's post: with a hand that is hired for it, the last of those passes, these devices, and rooms of its own. Refused with 29 if no pass is left
     /// or all hands are out, and with 1 if memory is refused; a pass that was taken by then is dropped.
@@ -106,9 +122,14 @@ impl<'a, F: Minifilter, L: Ledger, R: Wait, G: Gate, D: Device> Post<'a, F, L, R
         self.shop.stop_worker(&mut self.bench);
     }
 
-    /// Puts jobs that were set aside in the queue (`Shop::put_aside`).
+    /// Puts jobs that were set aside in the queue, as many as it has room for (`Shop::put_aside`).
     pub fn put_aside(&mut self) {
         self.shop.put_aside(&mut self.bench);
+    }
+
+    /// Puts all of them in the queue: while it is full this waits for room. Whoever leaves a post to others calls it, so that no operation waits there.
+    pub fn put_all_aside(&mut self) {
+        self.shop.put_all_aside(&mut self.bench);
     }
 
     /// Loads the filter of that name (`FltRegisterFilter`). Refused as `Manager::register`.

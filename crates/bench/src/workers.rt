@@ -48,10 +48,13 @@ fn read_batch<L: Ledger, R: Wait>(
 ) -> Result<(), Status> {
     let mut begun: Vec<OpId> = Vec::with_capacity(alloc, BATCH as usize)?;
     for _ in 0..BATCH {
-        let operation = manager.begin(rt, Request::OnHandle {
-            handle: HandleId(0),
-            request: FileRequest::Read { offset: 0, len: 0 },
-        })?;
+        let operation = manager.begin(
+            rt,
+            Request::OnHandle {
+                handle: HandleId(0),
+                request: FileRequest::Read { offset: 0, len: 0 },
+            },
+        )?;
         client.run(operation);
         begun.push(operation)?;
     }
@@ -118,7 +121,12 @@ fn crew<'a, L: Ledger, R: Wait>(
     requires { All (λ pass. IsPassOf queue.now pass) passes.old.items }
     ensures { All (λ pass. IsPassOf queue.now pass) passes.new.items }
 {
-    Post::new(Shop::new(rt, manager, queue, gate), alloc, passes, folder(alloc)?)
+    Post::new(
+        Shop::new(rt, manager, queue, gate),
+        alloc,
+        passes,
+        folder(alloc)?,
+    )
 }
 
 // Reads by so many workers, each in a thread of its own.
@@ -176,7 +184,11 @@ fn or_fault(done: Result<(), Status>) -> io::Result<()> {
 }
 
 // How long it takes.
-fn time<R: Threads + Wait + Sync>(rt: &HostRuntime, threads: &R, load: Load) -> io::Result<Duration> {
+fn time<R: Threads + Wait + Sync>(
+    rt: &HostRuntime,
+    threads: &R,
+    load: Load,
+) -> io::Result<Duration> {
     let start = Instant::now(rt)?;
     or_fault(shared::<Brand, R>(threads, rt.alloc(), Blank::new(PARTS), load))?;
     start.elapsed(rt)

@@ -20,7 +20,9 @@ impl Works {
     fn work(&self, seed: u64) -> u64 {
         let mut mixed = seed | 1;
         for _ in 0..self.rounds {
-            mixed = mixed.wrapping_mul(6_364_136_223_846_793_005).wrapping_add(1);
+            mixed = mixed
+                .wrapping_mul(6_364_136_223_846_793_005)
+                .wrapping_add(1);
         }
         mixed
     }

@@ -51,7 +51,12 @@ where
 }
 
 // The line for a reply.
-fn line_of(alloc: Global, status: Status, information: u64, bytes: &[u8]) -> Result<Vec<u8>, AllocError> {
+fn line_of(
+    alloc: Global,
+    status: Status,
+    information: u64,
+    bytes: &[u8],
+) -> Result<Vec<u8>, AllocError> {
     let head = format!(in alloc; "status {} info {} bytes ", status.number(), information)?;
     let mut line = Vec::new(alloc);
     line.extend_from_slice(head.as_bytes())?;
@@ -62,11 +67,13 @@ fn line_of(alloc: Global, status: Status, information: u64, bytes: &[u8]) -> Res
 
 // Prints a reply: its status. An answer that is no reply, or says that an operation is held, is a fault.
 fn say<W: Write>(alloc: Global, answer: Frame, out: &mut W) -> Result<Status, Fault> {
-    let Body::Reply(Reply::Done {
-        status,
-        information,
-        bytes,
-    }) = answer.body
+    let Body::Reply(
+        Reply::Done {
+            status,
+            information,
+            bytes,
+        },
+    ) = answer.body
     else {
         return Err(fault_of(Status::DeviceFault));
     };
@@ -85,7 +92,13 @@ fn read(alloc: Global, words: &[&str]) -> Result<Frame, Fault> {
     }
 }
 
-fn converse<R, W>(rt: &R, alloc: Global, socket: &str, words: &[&str], out: &mut W) -> Result<Status, Fault>
+fn converse<R, W>(
+    rt: &R,
+    alloc: Global,
+    socket: &str,
+    words: &[&str],
+    out: &mut W,
+) -> Result<Status, Fault>
 where
     R: Net<Listener = TcpListener, Stream = TcpStream>,
     W: Write,

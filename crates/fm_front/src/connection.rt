@@ -8,7 +8,6 @@ use crate::exec::{ManagerExec, is_foreign, refusal, reply_of};
 use crate::place::{Desk, Place};
 use fm_data::Request;
 use fm_device::Device;
-
 use fm_server::{Exec, guarded};
 use fm_types::{Bytes, HandleId, Status, VolumeId};
 use fm_wire::{Body, Control, Frame};

@@ -32,7 +32,11 @@ pub(crate) fn reply_of(number: u32, status: Status, information: u64, bytes: Byt
 {
     Frame {
         number,
-        body: Body::Reply(Reply::Done { status, information, bytes }),
+        body: Body::Reply(Reply::Done {
+            status,
+            information,
+            bytes,
+        }),
     }
 }
 
@@ -164,7 +168,12 @@ impl<L: Ledger, R: Wait, D: Device> Exec for ManagerExec<'_, L, R, D> {
                 Err(status) => refusal(self.alloc, number, status),
             },
             Body::Control(control) => match self.control(control) {
-                Ok(information) => reply_of(number, Status::Success, information, Bytes::new(self.alloc)),
+                Ok(information) => reply_of(
+                    number,
+                    Status::Success,
+                    information,
+                    Bytes::new(self.alloc),
+                ),
                 Err(status) => refusal(self.alloc, number, status),
             },
             Body::Reply(_) | Body::Refused(_) => refusal(self.alloc, number, Status::BadRequest),

@@ -3,7 +3,6 @@
 use crate::connection::Connection;
 use crate::place::{Crew, Place, close};
 use fm_device::Device;
-
 use fm_server::{ReaderSource, ServeEnd, WriterSink, serve};
 use fm_types::{HandleId, Status};
 use std::alloc::Global;

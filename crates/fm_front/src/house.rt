@@ -25,8 +25,8 @@ use std::io::{self, Write};
 use std::net::{Net, TcpListener, TcpStream};
 use std::os::unix::net::UnixListener;
 use std::rt::Files;
-use std::sync::ledger::{Blank, Ledger};
 use std::sync::Wait;
+use std::sync::ledger::{Blank, Ledger};
 use std::thread;
 use std::thread::Threads;
 
@@ -61,7 +61,11 @@ fn take_seat(rundown: &RundownGate, seats: &mut Vec<GateSeat>) -> Option<GateSea
 
 impl<'a, L: Ledger, R: Wait + Files + AllocGlobal + Clone + Drop> Floor<'a, L, R> {
     // The post of a thread, with a base of its own over the folder.
-    fn post(&self, passes: &mut Vec<JobPass>, folder: &str) -> Result<Crew<'a, L, R, Folder<R>>, Status>
+    fn post(
+        &self,
+        passes: &mut Vec<JobPass>,
+        folder: &str,
+    ) -> Result<Crew<'a, L, R, Folder<R>>, Status>
         requires { All (λ pass. IsPassOf self.now.queue.now pass) passes.old.items }
         ensures { All (λ pass. IsPassOf self.now.queue.now pass) passes.new.items }
     {
@@ -198,7 +202,11 @@ where
         for worker in workers {
             let _ = hands.push(worker.join(rt));
         }
-        Ok(Closed { hands, is_clean, served })
+        Ok(Closed {
+            hands,
+            is_clean,
+            served,
+        })
     })
 }
 
@@ -213,7 +221,15 @@ fn run_house<L, R, W>(
 ) -> Result<Closed<L>, Fault>
 where
     L: Ledger + Send + Sync,
-    R: Files + AllocGlobal + Clone + Drop + Send + Threads + Wait + Sync + Net<Listener = TcpListener, Stream = TcpStream>,
+    R: Files
+        + AllocGlobal
+        + Clone
+        + Drop
+        + Send
+        + Threads
+        + Wait
+        + Sync
+        + Net<Listener = TcpListener, Stream = TcpStream>,
     W: Write,
 {
     let workers = usize::from(asked.workers);
@@ -228,8 +244,12 @@ where
         rundown: &rundown,
         gate: &gate,
     };
-    let posts = floor.posts(&mut passes, workers, asked.folder).map_err(fault_of)?;
-    let places = floor.places(&mut passes, &mut seats, asked.folder).map_err(fault_of)?;
+    let posts = floor
+        .posts(&mut passes, workers, asked.folder)
+        .map_err(fault_of)?;
+    let places = floor
+        .places(&mut passes, &mut seats, asked.folder)
+        .map_err(fault_of)?;
     let hall = Hall::new(rt, alloc, asked.socket, places).map_err(fault_of)?;
     out.write_all(b"ready\n")?;
     out.flush()?;
@@ -252,7 +272,15 @@ pub(crate) fn keep_house<L, R, W>(
 ) -> Result<Tally, Fault>
 where
     L: Ledger + Send + Sync,
-    R: Files + AllocGlobal + Clone + Drop + Send + Threads + Wait + Sync + Net<Listener = TcpListener, Stream = TcpStream>,
+    R: Files
+        + AllocGlobal
+        + Clone
+        + Drop
+        + Send
+        + Threads
+        + Wait
+        + Sync
+        + Net<Listener = TcpListener, Stream = TcpStream>,
     W: Write,
     requires name { blank.name ≡ L.name }
     requires parts { blank.parts ≡ L.parts }

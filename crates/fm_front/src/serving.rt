@@ -31,7 +31,15 @@ pub(crate) struct Tally {
 // Looks at the folder, then makes the socket, and serves.
 fn serve_folder<R, W>(rt: &R, alloc: Global, asked: &Front, out: &mut W) -> Result<Tally, Fault>
 where
-    R: Files + AllocGlobal + Clone + Drop + Send + Threads + Wait + Sync + Net<Listener = TcpListener, Stream = TcpStream>,
+    R: Files
+        + AllocGlobal
+        + Clone
+        + Drop
+        + Send
+        + Threads
+        + Wait
+        + Sync
+        + Net<Listener = TcpListener, Stream = TcpStream>,
     W: Write,
 {
     HostBase::new(rt, asked.folder).map_err(fault_of)?;
@@ -41,7 +49,10 @@ where
 
 // Says what became of contexts.
 fn say<W: Write>(alloc: Global, tally: &Tally, out: &mut W) -> io::Result<()> {
-    let line = format!(in alloc; "born {} cleaned {} leaks {}\n", tally.born, tally.cleaned, tally.leaks)?;
+    let line = format!(in alloc;
+        "born {} cleaned {} leaks {}\n",
+        tally.born, tally.cleaned, tally.leaks
+    )?;
     out.write_all(line.as_bytes())?;
     out.flush()
 }
@@ -52,7 +63,15 @@ fn say<W: Write>(alloc: Global, tally: &Tally, out: &mut W) -> io::Result<()> {
 /// end; 3, and `fault` is printed, if the folder, the socket or the writer failed.
 pub fn front<R, W>(rt: &R, alloc: Global, asked: &Front, out: &mut W) -> u8
 where
-    R: Files + AllocGlobal + Clone + Drop + Send + Threads + Wait + Sync + Net<Listener = TcpListener, Stream = TcpStream>,
+    R: Files
+        + AllocGlobal
+        + Clone
+        + Drop
+        + Send
+        + Threads
+        + Wait
+        + Sync
+        + Net<Listener = TcpListener, Stream = TcpStream>,
     W: Write,
 {
     let told = match serve_folder(rt, alloc, asked, out) {

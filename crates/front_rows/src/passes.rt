@@ -97,5 +97,7 @@ fn two_frames(alloc: Global) -> Option<Seen> {
 fn pass_brackets(rt: HostRuntime) {
     let seen = two_frames(rt.alloc());
     let told = [Some(Status::Success), Some(Status::Dismounting)];
-    assert!(rt; matches!(seen, Some((answers, Some(Look::Closing), Some(Look::Drained), 1)) if answers == told));
+    assert!(rt;
+        matches!(seen, Some((answers, Some(Look::Closing), Some(Look::Drained), 1)) if answers == told)
+    );
 }

@@ -30,7 +30,11 @@ const ROUND: [Line; 4] = [
 const FILTERS: [Line; 8] = [
     (&["load", "shift"], 0, DONE),
     (&["attach", "0", "0", "s", "100.5"], 0, DONE),
-    (&["attach", "0", "0", "t", "100.50"], 4, "status 5 info 0 bytes -\n"),
+    (
+        &["attach", "0", "0", "t", "100.50"],
+        4,
+        "status 5 info 0 bytes -\n",
+    ),
     (&["create", "0", "new", "x"], 0, DONE),
     (&["read", "0", "0", "1"], 4, "status 14 info 0 bytes -\n"),
     (&["detach", "0"], 0, DONE),
@@ -91,7 +95,16 @@ where
 // A server of two workers, and its client: whether the client was told what it should be, and how the server ended.
 fn meet<R>(rt: &R, alloc: Global, at: &Front, lines: &[Line]) -> (bool, u8, Vec<u8>)
 where
-    R: Files + AllocGlobal + Clone + Drop + Send + Threads + Wait + Sync + Clock + Net<Listener = TcpListener, Stream = TcpStream>,
+    R: Files
+        + AllocGlobal
+        + Clone
+        + Drop
+        + Send
+        + Threads
+        + Wait
+        + Sync
+        + Clock
+        + Net<Listener = TcpListener, Stream = TcpStream>,
 {
     let mut printed = Vec::new(alloc);
     let (status, is_well) = thread::join(
@@ -106,7 +119,10 @@ where
 fn folder_for(rt: &HostRuntime, test: &str) -> Option<String> {
     let place = env::temp_dir(rt).ok()?;
     let number = std::process::id(rt.process());
-    let folder = format!(in rt.alloc(); "{}/kazdrin-{test}-{number}", place.as_path().display()).ok()?;
+    let folder = format!(in rt.alloc();
+        "{}/kazdrin-{test}-{number}",
+        place.as_path().display()
+    ).ok()?;
     let _ = fs::remove_dir_all(rt, folder.as_str());
     fs::create_dir(rt, folder.as_str()).ok()?;
     Some(folder)
@@ -119,7 +135,16 @@ fn inside(rt: &HostRuntime, folder: &str, name: &str) -> Result<String, AllocErr
 // Whether a conversation goes as it should, and the server ends with status 0 and says so.
 fn goes_well<R>(host: &R, rt: &HostRuntime, test: &str, lines: &[Line]) -> Option<bool>
 where
-    R: Files + AllocGlobal + Clone + Drop + Send + Threads + Wait + Sync + Clock + Net<Listener = TcpListener, Stream = TcpStream>,
+    R: Files
+        + AllocGlobal
+        + Clone
+        + Drop
+        + Send
+        + Threads
+        + Wait
+        + Sync
+        + Clock
+        + Net<Listener = TcpListener, Stream = TcpStream>,
 {
     let place = folder_for(rt, test)?;
     let folder = inside(rt, place.as_str(), "files").ok()?;
@@ -153,7 +178,15 @@ fn dismounted_once(rt: HostRuntime) {
 // What a server prints that can't serve, and its exit status.
 fn refuses<R>(host: &R, alloc: Global, at: &Front) -> (u8, Vec<u8>)
 where
-    R: Files + AllocGlobal + Clone + Drop + Send + Threads + Wait + Sync + Net<Listener = TcpListener, Stream = TcpStream>,
+    R: Files
+        + AllocGlobal
+        + Clone
+        + Drop
+        + Send
+        + Threads
+        + Wait
+        + Sync
+        + Net<Listener = TcpListener, Stream = TcpStream>,
 {
     let mut printed = Vec::new(alloc);
     let status = front(host, alloc, at, &mut printed);
@@ -164,7 +197,10 @@ where
 fn no_folder_and_a_socket_that_is_there(rt: HostRuntime) {
     let place = folder_for(&rt, "faults").expect(&rt, "a new folder");
     let missing = inside(&rt, place.as_str(), "missing").expect(&rt, "memory");
-    for (folder, socket) in [(missing.as_str(), "/nowhere/socket"), (place.as_str(), place.as_str())] {
+    for (folder, socket) in [
+        (missing.as_str(), "/nowhere/socket"),
+        (place.as_str(), place.as_str()),
+    ] {
         let at = Front {
             folder,
             socket,

@@ -123,10 +123,18 @@ fn put_later<L: Ledger, R: Wait>(
     } else {
         second.put_aside();
     }
-    Ok((was_done, finish(rt, manager, &mut client, &mut first, reading)?))
+    Ok((
+        was_done,
+        finish(rt, manager, &mut client, &mut first, reading)?,
+    ))
 }
 
-fn aside_day<L: Ledger, R: Wait>(rt: &R, alloc: Global, blank: Blank, is_dropped: bool) -> Result<Seen, Status>
+fn aside_day<L: Ledger, R: Wait>(
+    rt: &R,
+    alloc: Global,
+    blank: Blank,
+    is_dropped: bool,
+) -> Result<Seen, Status>
     requires name { blank.name ≡ L.name }
     requires parts { blank.parts ≡ L.parts }
     requires all { blank.parts ≡ 49 }
@@ -145,9 +153,24 @@ fn aside_day<L: Ledger, R: Wait>(rt: &R, alloc: Global, blank: Blank, is_dropped
         pass,
         below: folder(alloc)?,
     };
-    let first = Post::new(Shop::new(rt, &manager, jobs, &gate), alloc, &mut passes, folder(alloc)?)?;
-    let second = Post::new(Shop::new(rt, &manager, jobs, &gate), alloc, &mut passes, below)?;
-    let client = Post::new(Shop::new(rt, &manager, jobs, &gate), alloc, &mut passes, folder(alloc)?)?;
+    let first = Post::new(
+        Shop::new(rt, &manager, jobs, &gate),
+        alloc,
+        &mut passes,
+        folder(alloc)?,
+    )?;
+    let second = Post::new(
+        Shop::new(rt, &manager, jobs, &gate),
+        alloc,
+        &mut passes,
+        below,
+    )?;
+    let client = Post::new(
+        Shop::new(rt, &manager, jobs, &gate),
+        alloc,
+        &mut passes,
+        folder(alloc)?,
+    )?;
     let crews = Crews {
         client,
         first,

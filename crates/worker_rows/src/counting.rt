@@ -2,7 +2,9 @@
 
 ghost use Rattle.std.specs.Prelude.{◌≡◌};
 
-use crate::floor::{FILE, Folder, Numbers, PARTS, VOLUME, attach, begin, create, end, folder, on_file, read, write};
+use crate::floor::{
+    FILE, Folder, Numbers, PARTS, VOLUME, attach, begin, create, end, folder, on_file, read, write,
+};
 use fm_base::Base;
 use fm_data::{Answer, FileRequest, Request};
 use fm_lock::Manager;
@@ -74,9 +76,24 @@ fn meter_day<L: Ledger + Send + Sync, R: Threads + Wait + Sync>(
     let (queue, mut passes) = JobQueue::new(alloc, 272, 3)?;
     let gate = OpenGate;
     let jobs = &queue;
-    let mut client = Post::new(Shop::new(rt, &manager, jobs, &gate), alloc, &mut passes, folder(alloc)?)?;
-    let mut first = Post::new(Shop::new(rt, &manager, jobs, &gate), alloc, &mut passes, folder(alloc)?)?;
-    let mut second = Post::new(Shop::new(rt, &manager, jobs, &gate), alloc, &mut passes, folder(alloc)?)?;
+    let mut client = Post::new(
+        Shop::new(rt, &manager, jobs, &gate),
+        alloc,
+        &mut passes,
+        folder(alloc)?,
+    )?;
+    let mut first = Post::new(
+        Shop::new(rt, &manager, jobs, &gate),
+        alloc,
+        &mut passes,
+        folder(alloc)?,
+    )?;
+    let mut second = Post::new(
+        Shop::new(rt, &manager, jobs, &gate),
+        alloc,
+        &mut passes,
+        folder(alloc)?,
+    )?;
     let (counted, _) = thread::join(
         rt,
         || ask_two(rt, alloc, &manager, &mut client),
@@ -158,8 +175,18 @@ fn shift_day<L: Ledger, R: Wait>(
     let (queue, mut passes) = JobQueue::new(alloc, 272, 2)?;
     let gate = OpenGate;
     let jobs = &queue;
-    let mut client = Post::new(Shop::new(rt, &manager, jobs, &gate), alloc, &mut passes, folder(alloc)?)?;
-    let mut worker = Post::new(Shop::new(rt, &manager, jobs, &gate), alloc, &mut passes, folder(alloc)?)?;
+    let mut client = Post::new(
+        Shop::new(rt, &manager, jobs, &gate),
+        alloc,
+        &mut passes,
+        folder(alloc)?,
+    )?;
+    let mut worker = Post::new(
+        Shop::new(rt, &manager, jobs, &gate),
+        alloc,
+        &mut passes,
+        folder(alloc)?,
+    )?;
     let (told, got) = shifted(rt, alloc, &manager, &mut client, &mut worker)?;
     let (_, mut below) = worker.into_parts();
     Ok((told, got, held(&mut below)?))
@@ -168,6 +195,12 @@ fn shift_day<L: Ledger, R: Wait>(
 #[test]
 fn shift_by_a_worker(rt: HostRuntime) {
     let seen = shift_day::<Brand, _>(&rt, rt.alloc(), Blank::new(PARTS));
-    let told = [(Status::Success, 0), (Status::Success, 3), (Status::Success, 3)];
-    assert!(rt; matches!(seen, Ok((answers, read, below)) if answers == told && read.as_slice() == b"ab\xff".as_slice() && below.as_slice() == b"bc\x00".as_slice()));
+    let told = [
+        (Status::Success, 0),
+        (Status::Success, 3),
+        (Status::Success, 3),
+    ];
+    assert!(rt;
+        matches!(seen, Ok((answers, read, below)) if answers == told && read.as_slice() == b"ab\xff".as_slice() && below.as_slice() == b"bc\x00".as_slice())
+    );
 }

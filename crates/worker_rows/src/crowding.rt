@@ -32,7 +32,11 @@ fn carry_alone<L: Ledger, R: Wait>(
     Ok([manager.is_done(rt, first), manager.is_done(rt, second)])
 }
 
-fn crowded_day<L: Ledger, R: Wait>(rt: &R, alloc: Global, blank: Blank) -> Result<[Option<bool>; 2], Status>
+fn crowded_day<L: Ledger, R: Wait>(
+    rt: &R,
+    alloc: Global,
+    blank: Blank,
+) -> Result<[Option<bool>; 2], Status>
     requires name { blank.name ≡ L.name }
     requires parts { blank.parts ≡ L.parts }
     requires all { blank.parts ≡ 49 }
@@ -41,7 +45,12 @@ fn crowded_day<L: Ledger, R: Wait>(rt: &R, alloc: Global, blank: Blank) -> Resul
     manager.mount(rt, Name::read(b"v")?)?;
     let (queue, mut passes) = JobQueue::new(alloc, 1, 1)?;
     let gate = OpenGate;
-    let mut client = Post::new(Shop::new(rt, &manager, &queue, &gate), alloc, &mut passes, folder(alloc)?)?;
+    let mut client = Post::new(
+        Shop::new(rt, &manager, &queue, &gate),
+        alloc,
+        &mut passes,
+        folder(alloc)?,
+    )?;
     carry_alone(rt, &manager, &mut client)
 }
 

@@ -150,7 +150,10 @@ pub fn take_seat(rundown: &RundownGate, seats: &mut Vec<GateSeat>) -> Option<Gat
 }
 
 /// Ends a manager by these hands.
-pub fn end<F: Minifilter, L: Ledger>(manager: Manager<F, L>, hands: Vec<Hand<L>>) -> Result<Numbers, Status>
+pub fn end<F: Minifilter, L: Ledger>(
+    manager: Manager<F, L>,
+    hands: Vec<Hand<L>>,
+) -> Result<Numbers, Status>
     requires { L.parts ≡ 49 }
 {
     match manager.shutdown(hands) {

@@ -72,8 +72,18 @@ fn holding_day<L: Ledger, R: Wait>(
     let (queue, mut passes) = JobQueue::new(alloc, 272, 2)?;
     let gate = OpenGate;
     let jobs = &queue;
-    let mut client = Post::new(Shop::new(rt, &manager, jobs, &gate), alloc, &mut passes, folder(alloc)?)?;
-    let mut worker = Post::new(Shop::new(rt, &manager, jobs, &gate), alloc, &mut passes, folder(alloc)?)?;
+    let mut client = Post::new(
+        Shop::new(rt, &manager, jobs, &gate),
+        alloc,
+        &mut passes,
+        folder(alloc)?,
+    )?;
+    let mut worker = Post::new(
+        Shop::new(rt, &manager, jobs, &gate),
+        alloc,
+        &mut passes,
+        folder(alloc)?,
+    )?;
     let seen = resumed(rt, alloc, &manager, &mut client, &mut worker)?;
     leave(rt, &manager, &mut client, &mut worker)?;
     let mut hands = Vec::new(alloc);

@@ -74,7 +74,9 @@ fn unloads<L: Ledger, R: Wait>(scene: &mut Scene<'_, L, R>) -> Result<Seen, Stat
 }
 
 // A detach that one connection begins and another one ends, and what the first one is told then.
-fn detaches<L: Ledger, R: Wait>(scene: &mut Scene<'_, L, R>) -> Result<(Seen, Result<(), Status>), Status> {
+fn detaches<L: Ledger, R: Wait>(
+    scene: &mut Scene<'_, L, R>,
+) -> Result<(Seen, Result<(), Status>), Status> {
     scene.open()?;
     let (_, lent) = scene.enter()?;
     let during = scene.first.detach(InstanceId(0));
@@ -115,7 +117,12 @@ fn dismounts<L: Ledger, R: Wait>(
     scene.leave(lent)?;
     alone(scene.rt, scene.manager, &mut scene.first, writing)?;
     let done = scene.first.dismount(rundown, own, VOLUME);
-    Ok([entered, written, done, scene.first.dismount(rundown, own, VOLUME)])
+    Ok([
+        entered,
+        written,
+        done,
+        scene.first.dismount(rundown, own, VOLUME),
+    ])
 }
 
 /// What is tried in a scene of its own.
@@ -128,7 +135,10 @@ enum Play {
 }
 
 // What a play's calls answer, one after the other.
-fn play_in<L: Ledger, R: Wait>(scene: &mut Scene<'_, L, R>, play: Play) -> Result<Vec<Result<(), Status>>, Status> {
+fn play_in<L: Ledger, R: Wait>(
+    scene: &mut Scene<'_, L, R>,
+    play: Play,
+) -> Result<Vec<Result<(), Status>>, Status> {
     let mut all = Vec::with_capacity(scene.alloc, 4)?;
     match play {
         Play::Unload => push_both(&mut all, unloads(scene)?)?,
@@ -178,8 +188,18 @@ fn scene_day<L: Ledger, R: Wait>(
     let (queue, mut passes) = JobQueue::new(alloc, 272, 2)?;
     let gate = OpenGate;
     let jobs = &queue;
-    let first = Post::new(Shop::new(rt, &manager, jobs, &gate), alloc, &mut passes, folder(alloc)?)?;
-    let second = Post::new(Shop::new(rt, &manager, jobs, &gate), alloc, &mut passes, folder(alloc)?)?;
+    let first = Post::new(
+        Shop::new(rt, &manager, jobs, &gate),
+        alloc,
+        &mut passes,
+        folder(alloc)?,
+    )?;
+    let second = Post::new(
+        Shop::new(rt, &manager, jobs, &gate),
+        alloc,
+        &mut passes,
+        folder(alloc)?,
+    )?;
     let hand = manager.hire(rt)?;
     let mut scene = Scene {
         rt,
@@ -195,11 +215,19 @@ fn scene_day<L: Ledger, R: Wait>(
 /// Each play, and what its calls answer.
 const PLAYS: [(Play, &[Result<(), Status>]); 4] = [
     (Play::Unload, &[Err(Status::Busy(1)), Ok(())]),
-    (Play::Detach, &[Err(Status::Busy(1)), Ok(()), Err(Status::NoInstance)]),
+    (
+        Play::Detach,
+        &[Err(Status::Busy(1)), Ok(()), Err(Status::NoInstance)],
+    ),
     (Play::Ask, &[Err(Status::DeletingObject), Ok(())]),
     (
         Play::Dismount,
-        &[Err(Status::Busy(0)), Err(Status::Busy(1)), Ok(()), Err(Status::Dismounting)],
+        &[
+            Err(Status::Busy(0)),
+            Err(Status::Busy(1)),
+            Ok(()),
+            Err(Status::Dismounting),
+        ],
     ),
 ];
 

@@ -3,22 +3,22 @@
 #![tactic(auto)]
 
 #[cfg(test)]
+mod aside;
+#[cfg(test)]
 mod counting;
-#[cfg(test)]
-mod floor;
-#[cfg(test)]
-mod meeting;
-#[cfg(test)]
-mod holding;
-#[cfg(test)]
-mod racing;
 #[cfg(test)]
 mod crowding;
 #[cfg(test)]
-mod homing;
+mod floor;
 #[cfg(test)]
-mod ties;
+mod holding;
+#[cfg(test)]
+mod homing;
 #[cfg(test)]
 mod leaving;
 #[cfg(test)]
-mod aside;
+mod meeting;
+#[cfg(test)]
+mod racing;
+#[cfg(test)]
+mod ties;

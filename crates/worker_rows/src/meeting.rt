@@ -3,8 +3,8 @@
 ghost use Rattle.std.specs.Prelude.{◌≡◌};
 
 use crate::floor::{Folder, PARTS, attach, begin, create, folder, read, write};
-use fm_flow::FlowAction;
 use fm_data::Params;
+use fm_flow::FlowAction;
 use fm_lock::Manager;
 use fm_queue::JobQueue;
 use fm_samples::{Sample, Shift};
@@ -116,9 +116,24 @@ fn meeting_day<L: Ledger + Send + Sync, R: Threads + Wait + Clock + Sync>(
         meet: AtomicBool::new(false),
     };
     let jobs = &queue;
-    let mut client = Post::new(Shop::new(rt, &manager, jobs, &gate), alloc, &mut passes, folder(alloc)?)?;
-    let mut first = Post::new(Shop::new(rt, &manager, jobs, &gate), alloc, &mut passes, folder(alloc)?)?;
-    let mut second = Post::new(Shop::new(rt, &manager, jobs, &gate), alloc, &mut passes, folder(alloc)?)?;
+    let mut client = Post::new(
+        Shop::new(rt, &manager, jobs, &gate),
+        alloc,
+        &mut passes,
+        folder(alloc)?,
+    )?;
+    let mut first = Post::new(
+        Shop::new(rt, &manager, jobs, &gate),
+        alloc,
+        &mut passes,
+        folder(alloc)?,
+    )?;
+    let mut second = Post::new(
+        Shop::new(rt, &manager, jobs, &gate),
+        alloc,
+        &mut passes,
+        folder(alloc)?,
+    )?;
     let (asked, _) = thread::join(
         rt,
         || ask_two(rt, alloc, &manager, &mut client),

@@ -2,7 +2,9 @@
 
 ghost use Rattle.std.specs.Prelude.{◌≡◌};
 
-use crate::floor::{Folder, Numbers, PARTS, alone, attach, begin, create, end, folder, on_file, read};
+use crate::floor::{
+    Folder, Numbers, PARTS, alone, attach, begin, create, end, folder, on_file, read,
+};
 use fm_data::FileRequest;
 use fm_lock::Manager;
 use fm_queue::JobQueue;
@@ -105,9 +107,24 @@ fn racing_round<L: Ledger + Send + Sync, R: Threads + Wait + Sync>(
     let (queue, mut passes) = JobQueue::new(alloc, 272, 3)?;
     let gate = OpenGate;
     let jobs = &queue;
-    let mut client = Post::new(Shop::new(rt, &manager, jobs, &gate), alloc, &mut passes, folder(alloc)?)?;
-    let mut first = Post::new(Shop::new(rt, &manager, jobs, &gate), alloc, &mut passes, folder(alloc)?)?;
-    let mut second = Post::new(Shop::new(rt, &manager, jobs, &gate), alloc, &mut passes, folder(alloc)?)?;
+    let mut client = Post::new(
+        Shop::new(rt, &manager, jobs, &gate),
+        alloc,
+        &mut passes,
+        folder(alloc)?,
+    )?;
+    let mut first = Post::new(
+        Shop::new(rt, &manager, jobs, &gate),
+        alloc,
+        &mut passes,
+        folder(alloc)?,
+    )?;
+    let mut second = Post::new(
+        Shop::new(rt, &manager, jobs, &gate),
+        alloc,
+        &mut passes,
+        folder(alloc)?,
+    )?;
     attach(&manager, rt, &mut client, b"carry", b"200")?;
     attach(&manager, rt, &mut client, b"meter", b"100")?;
     let creating = manager.begin(rt, create(alloc, b"x")?)?;

@@ -45,18 +45,18 @@ type Crew<'a, L, R, D> = Post<'a, Ties, L, R, Watch, D>;
 
 /// A client, the worker to which the read is tied, and the one that carries it on.
 #[derive(Drop)]
-struct Crews<'a, L: Ledger, R: Wait> {
+struct Crews<'a, L: Ledger, R: Wait, D: Device> {
     client: Crew<'a, L, R, Folder>,
     first: Crew<'a, L, R, Folder>,
-    second: Crew<'a, L, R, Filling<'a, R>>,
+    second: Crew<'a, L, R, D>,
 }
 
 // The read is tied to the first worker and held; a flush on the second one resumes it.
-fn hold_and_resume<L: Ledger, R: Wait>(
+fn hold_and_resume<L: Ledger, R: Wait, D: Device>(
     rt: &R,
     alloc: Global,
     manager: &Manager<Ties, L>,
-    crews: &mut Crews<'_, L, R>,
+    crews: &mut Crews<'_, L, R, D>,
 ) -> Result<OpId, Status> {
     let client = &mut crews.client;
     attach(manager, rt, client, b"own", b"200")?;
@@ -73,11 +73,11 @@ fn hold_and_resume<L: Ledger, R: Wait>(
 }
 
 // The second worker carries the read to its base, can't put it back, and takes the Stop that fills the queue: whether the read is done then.
-fn set_aside<L: Ledger, R: Wait>(
+fn set_aside<L: Ledger, R: Wait, D: Device>(
     rt: &R,
     alloc: Global,
     manager: &Manager<Ties, L>,
-    crews: &mut Crews<'_, L, R>,
+    crews: &mut Crews<'_, L, R, D>,
 ) -> Result<(OpId, Option<bool>), Status> {
     let reading = hold_and_resume(rt, alloc, manager, crews)?;
     crews.client.stop_worker();
@@ -103,11 +103,11 @@ fn finish<L: Ledger, R: Wait>(
 type Seen = (Option<bool>, Status, u64);
 
 // What was set aside is put in the queue by the second worker; or it is dropped there, and the client puts a job for it again.
-fn put_later<L: Ledger, R: Wait>(
+fn put_later<L: Ledger, R: Wait, D: Device>(
     rt: &R,
     alloc: Global,
     manager: &Manager<Ties, L>,
-    crews: Crews<'_, L, R>,
+    crews: Crews<'_, L, R, D>,
     is_dropped: bool,
 ) -> Result<(Option<bool>, Status), Status> {
     let mut crews = crews;

@@ -1,7 +1,7 @@
 //! A one-thread manager that answers frames.
 
 ghost use Rattle.std.specs.Prelude.{◌≡◌};
-ghost use Rattle.fm_exec.specs.Locals.{AnswersBody, AnswersControl, AnswersFrame};
+ghost use Rattle.fm_exec.specs.Locals.{AnswersBody, AnswersControl, AnswersFrame, Loads};
 
 use crate::said::{filter_reply, instance_reply, number_reply, status_reply, unit_reply};
 use fm_base::Base;
@@ -10,7 +10,7 @@ use fm_filter::Minifilter;
 use fm_local::LocalManager;
 use fm_samples::Sample;
 use fm_server::Exec;
-use fm_types::Status;
+use fm_types::{FilterId, Name, Status};
 use fm_wire::{Body, Control, Frame};
 use std::alloc::Global;
 
@@ -41,11 +41,21 @@ impl<F: Minifilter, B: Base> LocalExec<F, B> {
         manager
     }
 
+    fn load(&mut self, name: &Name) -> Result<FilterId, Status>
+        ensures loads { Loads F.Minifilter B.Base name.now self.old.manager result self.new.manager }
+        ensures same { self.new.alloc ≡ self.old.alloc }
+    {
+        self.manager.load(name)
+    }
+
     fn control(&mut self, control: Control) -> Reply
         ensures { AnswersControl F.Minifilter B.Base control self.old.manager result self.new.manager }
     {
         match control {
-            Control::Load { name } => filter_reply(self.alloc, self.manager.load(&name)),
+            Control::Load { name } => {
+                let loaded = self.load(&name);
+                filter_reply(self.alloc, loaded)
+            }
             Control::Attach {
                 filter,
                 volume,

@@ -5,6 +5,8 @@
 #[cfg(test)]
 mod memory_tests;
 #[cfg(test)]
+mod pass_tests;
+#[cfg(test)]
 mod pipes;
 #[cfg(test)]
 mod serve_tests;

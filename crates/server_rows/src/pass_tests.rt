@@ -72,13 +72,24 @@ fn take_seat(gate: &RundownGate, seats: &mut Vec<GateSeat>) -> Option<GateSeat>
 }
 
 /// What two frames are answered, what was seen while the first one was, what is seen after it, and how often the exec answered.
-type Seen = ([Option<Status>; 2], Option<Look>, Option<Look>, u32);
+#[derive(Clone, Copy)]
+struct Seen {
+    first: Option<Status>,
+    second: Option<Status>,
+    during: Option<Look>,
+    after: Option<Look>,
+    answers: u32,
+}
 
 // Two listings; the volume is closed while the first one is answered.
-fn two_frames(alloc: Global) -> Option<Seen> {
-    let (gate, mut seats) = RundownGate::new(alloc, 1, 2).ok()?;
-    let mut own = take_seat(&gate, &mut seats)?;
-    let seat = take_seat(&gate, &mut seats)?;
+fn two_frames(alloc: Global) -> Result<Seen, Status> {
+    let (gate, mut seats) = RundownGate::new(alloc, 1, 2)?;
+    let Some(mut own) = take_seat(&gate, &mut seats) else {
+        return Err(Status::TooMany);
+    };
+    let Some(seat) = take_seat(&gate, &mut seats) else {
+        return Err(Status::TooMany);
+    };
     let mut exec = Closing {
         alloc,
         gate: &gate,
@@ -89,15 +100,21 @@ fn two_frames(alloc: Global) -> Option<Seen> {
     let first = guarded(alloc, &gate, &mut own, VOLUME, &mut exec, listing(1));
     let after = gate.look(&mut own, VOLUME).ok();
     let second = guarded(alloc, &gate, &mut own, VOLUME, &mut exec, listing(2));
-    let told = [status_in(first, 1), status_in(second, 2)];
-    Some((told, exec.seen, after, exec.answers))
+    Ok(Seen {
+        first: status_in(first, 1),
+        second: status_in(second, 2),
+        during: exec.seen,
+        after,
+        answers: exec.answers,
+    })
 }
 
 #[test]
 fn pass_brackets(rt: HostRuntime) {
-    let seen = two_frames(rt.alloc());
-    let told = [Some(Status::Success), Some(Status::Dismounting)];
+    let seen = two_frames(rt.alloc()).expect(&rt, "a gate of two seats");
+    assert!(rt; seen.first == Some(Status::Success) && seen.second == Some(Status::Dismounting));
     assert!(rt;
-        matches!(seen, Some((answers, Some(Look::Closing), Some(Look::Drained), 1)) if answers == told)
+        matches!(seen.during, Some(Look::Closing)) && matches!(seen.after, Some(Look::Drained))
     );
+    assert!(rt; seen.answers == 1);
 }

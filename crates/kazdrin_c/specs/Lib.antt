@@ -1,7 +1,5 @@
 pub mod Calls
-pub mod Data
 pub mod Handles
 pub mod Named
 pub mod Opened
-pub mod Refusals
 pub mod Told

@@ -1,4 +1,4 @@
-//! Measures parts of the house: `bench memory`, `queue`, `gate`, `wire`, `local` or `lock`, and after it a number that says how much is done; the figures are printed.
+//! Measures parts of the house: `bench memory`, `queue`, `gate`, `wire`, `local`, `lock` or `workers`, and after it a number that says how much is done; the figures are printed.
 //! Given no word, it does a little of each and prints nothing.
 #![tactic(auto)]
 
@@ -12,6 +12,8 @@ mod memory;
 mod queue;
 mod ruled;
 mod wire;
+mod workers;
+mod works;
 
 use std::time::Duration;
 use std::{env, io};
@@ -33,7 +35,8 @@ fn main(rt: HostRuntime) -> io::Result<()> {
             gate::measure(&rt, &rt, None)?;
             wire::measure(&rt, None)?;
             local::measure(&rt, None)?;
-            lock::measure(&rt, &rt, None)
+            lock::measure(&rt, &rt, None)?;
+            workers::measure(&rt, &rt, None)
         }
         Some(part) => match part.as_str() {
             "memory" => memory::measure(&rt, count),
@@ -42,6 +45,7 @@ fn main(rt: HostRuntime) -> io::Result<()> {
             "wire" => wire::measure(&rt, count),
             "local" => local::measure(&rt, count),
             "lock" => lock::measure(&rt, &rt, count),
+            "workers" => workers::measure(&rt, &rt, count),
             _ => Err(io::Error::from(io::ErrorKind::InvalidInput)),
         },
     }

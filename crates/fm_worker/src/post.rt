@@ -13,7 +13,7 @@ use fm_altitude::Altitude;
 use fm_data::{Answer, Request};
 use fm_device::Device;
 use fm_filter::Minifilter;
-use fm_lock::Hand;
+use fm_lock::{Hand, Manager};
 use fm_queue::{Job, JobPass, JobQueue};
 use fm_rundown::{GateSeat, RundownGate};
 use fm_types::{FilterId, InstanceId, Name, OpId, Status, VolumeId};
@@ -72,25 +72,35 @@ impl<'a, F: Minifilter, L: Ledger, R: Wait, G: Gate> Shop<'a, F, L, R, G> {
 }
 
 impl<'a, F: Minifilter, L: Ledger, R: Wait, G: Gate, D: Device> Post<'a, F, L, R, G, D> {
-    /// A thread's post: with a hand that is hired for it, the last of those passes, these devices, and rooms of its own. Refused with 29 if no pass is left
-    /// or all hands are out, and with 1 if memory is refused; a pass that was taken by then is dropped.
+    /// A thread's post at a manager, its queue and the gate before callbacks: with a hand that is hired for it, the last of those passes, these devices, and
+    /// rooms of its own. Refused with 29 if no pass is left or all hands are out, and with 1 if memory is refused; a pass that was taken by then is dropped.
     pub fn new(
-        shop: Shop<'a, F, L, R, G>,
+        rt: &'a R,
+        manager: &'a Manager<F, L>,
+        queue: &'a JobQueue,
+        gate: &'a G,
         alloc: Global,
         passes: &mut Vec<JobPass>,
         devices: D,
     ) -> Result<Post<'a, F, L, R, G, D>, Status>
-        requires own { All (λ pass. IsPassOf shop.queue.now pass) passes.old.items }
-        ensures own { All (λ pass. IsPassOf shop.entry.queue.now pass) passes.new.items }
+        requires own { All (λ pass. IsPassOf queue.now pass) passes.old.items }
+        ensures own { All (λ pass. IsPassOf queue.now pass) passes.new.items }
     {
         let room = Room::new(alloc)?;
         let aside = Room::new(alloc)?;
-        let Some(pass) = take_pass(shop.queue, passes) else {
+        let Some(pass) = take_pass(queue, passes) else {
             return Err(Status::TooMany);
         };
-        let hand = shop.manager.hire(shop.rt)?;
-        let bench = Bench::new(shop.rt, shop.manager, hand, pass, devices, room, aside);
-        Ok(Post { shop, bench })
+        let hand = manager.hire(rt)?;
+        Ok(Post {
+            shop: Shop {
+                rt,
+                manager,
+                queue,
+                gate,
+            },
+            bench: Bench::new(rt, manager, hand, pass, devices, room, aside),
+        })
     }
 
     /// Does a worker's work until it takes a Stop (`Shop::work`).

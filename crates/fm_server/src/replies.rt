@@ -9,8 +9,8 @@ use fm_types::{Bytes, Status};
 use fm_wire::{Body, Control, Frame, encode};
 use std::alloc::Global;
 
-/// The reply that says a status and nothing else.
-pub(crate) fn bare_reply(alloc: Global, number: u32, status: Status) -> Frame
+/// The reply under that number that says a status, with the count of a busy one, and has no bytes.
+pub fn bare_reply(alloc: Global, number: u32, status: Status) -> Frame
     ensures { result ≡ bare_reply number status }
 {
     let information = match status {

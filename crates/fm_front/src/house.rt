@@ -1,0 +1,383 @@
+//! A server's threads, from the first to the last.
+
+ghost use Rattle.std.specs.Prelude.{◌≡◌, All, IfSome};
+ghost use Rattle.fm_queue.specs.Passes.{IsPassOf};
+ghost use Rattle.fm_rundown.specs.Seats.{IsSeatOf};
+
+use crate::connection::Connection;
+use crate::desk::{Crew, Desk};
+use crate::faults::{fault_of, outside};
+use crate::hall::{CONNECTIONS, Door, Hall};
+use crate::samples::samples;
+use crate::serving::Tally;
+use fm_device::Device;
+use fm_lock::{Hand, Manager};
+use fm_queue::{JobPass, JobQueue};
+use fm_rundown::{GateSeat, RundownGate};
+use fm_samples::Sample;
+use fm_types::{FilterId, Name, Status};
+use fm_words::Fault;
+use fm_worker::{OpenGate, Post};
+use std::alloc::{AllocError, Global};
+use std::io::Write;
+use std::net::{Net, TcpListener, TcpStream};
+use std::os::unix::net::UnixListener;
+use std::sync::Wait;
+use std::sync::ledger::{Blank, Ledger};
+use std::thread;
+use std::thread::{JoinHandle, Threads};
+
+/// How many jobs the queue holds.
+const JOBS: usize = 272;
+
+/// How many hands there are at most.
+const MOST_HANDS: usize = 48;
+
+/// What lies below the threads of a server, one for each worker and one for each connection.
+#[derive(Drop)]
+pub(crate) struct Below<D: Drop> {
+    pub(crate) workers: Vec<D>,
+    pub(crate) connections: Vec<D>,
+}
+
+/// Where connections come in.
+#[derive(Drop)]
+pub(crate) struct Entrance<'a> {
+    pub(crate) listener: UnixListener,
+    pub(crate) socket: &'a str,
+}
+
+/// What all threads of a server share.
+#[derive(Drop)]
+struct Floor<'a, L: Ledger, R: Wait> {
+    rt: &'a R,
+    alloc: Global,
+    manager: &'a Manager<Sample, L>,
+    queue: &'a JobQueue,
+    rundown: &'a RundownGate,
+    gate: &'a OpenGate,
+}
+
+// Takes a seat at the rundown gate.
+fn take_seat(rundown: &RundownGate, seats: &mut Vec<GateSeat>) -> Option<GateSeat>
+    requires own { All (λ seat. IsSeatOf rundown.now seat) seats.old.items }
+    ensures own { All (λ seat. IsSeatOf rundown.now seat) seats.new.items }
+    ensures taken { IfSome result (λ seat. IsSeatOf rundown.now seat) }
+{
+    seats.pop()
+}
+
+impl<'a, L: Ledger, R: Wait> Floor<'a, L, R> {
+    // The post of a thread, over those devices.
+    fn post<D: Device>(
+        &self,
+        passes: &mut Vec<JobPass>,
+        devices: D,
+    ) -> Result<Crew<'a, L, R, D>, Status>
+        requires { All (λ pass. IsPassOf self.now.queue.now pass) passes.old.items }
+        ensures { All (λ pass. IsPassOf self.now.queue.now pass) passes.new.items }
+    {
+        Post::new(
+            self.rt,
+            self.manager,
+            self.queue,
+            self.gate,
+            self.alloc,
+            passes,
+            devices,
+        )
+    }
+
+    // The workers' posts.
+    fn posts<D: Device>(
+        &self,
+        passes: &mut Vec<JobPass>,
+        below: Vec<D>,
+    ) -> Result<Vec<Crew<'a, L, R, D>>, Status>
+        requires { All (λ pass. IsPassOf self.now.queue.now pass) passes.old.items }
+        ensures { All (λ pass. IsPassOf self.now.queue.now pass) passes.new.items }
+    {
+        let mut posts = Vec::with_capacity(self.alloc, MOST_HANDS)?;
+        'posts: for devices in below {
+            let post = self.post(passes, devices)?;
+            posts.push(post)?;
+        }
+        Ok(posts)
+    }
+
+    // A connection, with the post and the seat of its thread.
+    fn connection<D: Device>(
+        &self,
+        passes: &mut Vec<JobPass>,
+        seats: &mut Vec<GateSeat>,
+        devices: D,
+    ) -> Result<Connection<'a, L, R, D>, Status>
+        requires passes { All (λ pass. IsPassOf self.now.queue.now pass) passes.old.items }
+        requires seats { All (λ seat. IsSeatOf self.now.rundown.now seat) seats.old.items }
+        ensures passes { All (λ pass. IsPassOf self.now.queue.now pass) passes.new.items }
+        ensures seats { All (λ seat. IsSeatOf self.now.rundown.now seat) seats.new.items }
+    {
+        let Some(seat) = take_seat(self.rundown, seats) else {
+            return Err(Status::TooMany);
+        };
+        let post = self.post(passes, devices)?;
+        Ok(Connection::new(self.alloc, post, Desk::new(self.rundown, seat)))
+    }
+
+    // All of them.
+    fn connections<D: Device>(
+        &self,
+        passes: &mut Vec<JobPass>,
+        seats: &mut Vec<GateSeat>,
+        below: Vec<D>,
+    ) -> Result<Vec<Connection<'a, L, R, D>>, Status>
+        requires passes { All (λ pass. IsPassOf self.now.queue.now pass) passes.old.items }
+        requires seats { All (λ seat. IsSeatOf self.now.rundown.now seat) seats.old.items }
+    {
+        let mut all = Vec::with_capacity(self.alloc, CONNECTIONS)?;
+        'connections: for devices in below {
+            let connection = self.connection(passes, seats, devices)?;
+            all.push(connection)?;
+        }
+        Ok(all)
+    }
+}
+
+// Takes connections until a Stop came. The socket is closed after it, and so is the door: the threads inside end once they have served who is there.
+fn accept<R>(hall: &Hall<'_, R>, listener: UnixListener, door: Door) -> Result<(), Fault>
+where
+    R: Wait + Net<Listener = TcpListener, Stream = TcpStream>,
+{
+    for stream in listener.incoming() {
+        let stream = stream.map_err(outside)?;
+        if hall.is_stopping() {
+            break;
+        }
+        hall.admit(&door, stream);
+    }
+    Ok(())
+}
+
+// Says that connections are taken.
+fn say_ready<W: Write>(out: &mut W) -> Result<(), Fault> {
+    out.write_all(b"ready\n").map_err(outside)?;
+    out.flush().map_err(outside)
+}
+
+// After the last connection: handles that were left open are closed, a dismount that began is ended, each filter is unloaded, and the workers end. Whether no
+// handle is left.
+fn close_down<L: Ledger, R: Wait, D: Device>(
+    hall: &Hall<'_, R>,
+    connections: &mut [Connection<'_, L, R, D>],
+    filters: usize,
+    workers: usize,
+) -> bool {
+    let Some(connection) = connections.first_mut() else {
+        return false;
+    };
+    let is_clean = hall.close_left(connection.post());
+    connection.end_dismount();
+    let post = connection.post();
+    for filter in 0..u8::try_from(filters).unwrap_or(u8::MAX) {
+        let _ = post.force_unload(FilterId(filter));
+    }
+    for _ in 0..workers {
+        post.stop_worker();
+    }
+    is_clean
+}
+
+// What a worker's thread does; its hand, at the end.
+fn work_on<L: Ledger, R: Wait, D: Device>(mut post: Crew<'_, L, R, D>) -> Hand<L> {
+    post.work();
+    post.into_parts().0
+}
+
+// Waits for these threads, and takes what they answer. There is room for it.
+fn gather<T: Send + Drop, R: Threads>(rt: &R, threads: Vec<JoinHandle<T>>, all: &mut Vec<T>) {
+    for thread in threads {
+        let _ = all.push(thread.join(rt));
+    }
+}
+
+// The hands of these connections, beside others. There is room for them.
+fn gather_hands<L: Ledger, R: Wait, D: Device>(
+    connections: Vec<Connection<'_, L, R, D>>,
+    hands: &mut Vec<Hand<L>>,
+) {
+    for connection in connections {
+        let _ = hands.push(connection.into_hand());
+    }
+}
+
+/// How a server's threads ended: the hands that were out, and whether nothing stayed open.
+#[derive(Drop)]
+struct Closed<L: Ledger> {
+    hands: Vec<Hand<L>>,
+    is_clean: bool,
+    served: Result<(), Fault>,
+}
+
+/// The threads of a server before they are started: posts of workers, and connections.
+#[derive(Drop)]
+struct Staff<'a, L: Ledger, R: Wait, D: Device> {
+    posts: Vec<Crew<'a, L, R, D>>,
+    connections: Vec<Connection<'a, L, R, D>>,
+}
+
+// The threads of workers and of connections, and the accept beside them. Without a thread for each connection nothing is begun; without one for each worker
+// no connection is taken.
+fn serve_beside<L, R, D, W>(
+    floor: &Floor<'_, L, R>,
+    staff: Staff<'_, L, R, D>,
+    hall: &Hall<'_, R>,
+    listener: UnixListener,
+    door: Door,
+    out: &mut W,
+) -> Result<Closed<L>, Fault>
+where
+    L: Ledger + Send + Sync,
+    R: Threads + Wait + Sync + Net<Listener = TcpListener, Stream = TcpStream>,
+    D: Device + Send,
+    W: Write,
+{
+    let Staff { posts, connections } = staff;
+    let (rt, manager) = (floor.rt, floor.manager);
+    let mut hands = Vec::with_capacity(floor.alloc, MOST_HANDS)?;
+    let mut back = Vec::with_capacity(floor.alloc, CONNECTIONS)?;
+    let mut clerks = Vec::with_capacity(floor.alloc, CONNECTIONS)?;
+    let mut workers = Vec::with_capacity(floor.alloc, MOST_HANDS)?;
+    thread::scope(thread::scope_env(), rt, move |scope| {
+        for connection in connections {
+            match scope.spawn(move || hall.attend(connection)) {
+                Ok(clerk) => {
+                    let _ = clerks.push(clerk);
+                }
+                Err(_) => return Err(Fault::Memory(AllocError)),
+            }
+        }
+        let mut started = Ok(());
+        'posts: for post in posts {
+            match scope.spawn(move || work_on(post)) {
+                Ok(worker) => {
+                    let _ = workers.push(worker);
+                }
+                Err(_) => {
+                    started = Err(Fault::Memory(AllocError));
+                    break 'posts;
+                }
+            }
+        }
+        let served = started
+            .and_then(|()| say_ready(out))
+            .and_then(|()| accept(hall, listener, door));
+        gather(rt, clerks, &mut back);
+        let is_clean = close_down(hall, &mut back, manager.filters(rt), workers.len());
+        gather(rt, workers, &mut hands);
+        gather_hands(back, &mut hands);
+        Ok(Closed {
+            hands,
+            is_clean,
+            served,
+        })
+    })
+}
+
+// A server over that manager, from its threads' posts to their hands.
+fn run_house<L, R, D, W>(
+    rt: &R,
+    alloc: Global,
+    manager: &Manager<Sample, L>,
+    below: Below<D>,
+    entrance: Entrance<'_>,
+    out: &mut W,
+) -> Result<Closed<L>, Fault>
+where
+    L: Ledger + Send + Sync,
+    R: Threads + Wait + Sync + Net<Listener = TcpListener, Stream = TcpStream>,
+    D: Device + Send,
+    W: Write,
+{
+    let Entrance { listener, socket } = entrance;
+    let (queue, mut passes) = JobQueue::new(alloc, JOBS, MOST_HANDS).map_err(fault_of)?;
+    let (rundown, mut seats) = RundownGate::new(alloc, 1, CONNECTIONS).map_err(fault_of)?;
+    let gate = OpenGate;
+    let floor = Floor {
+        rt,
+        alloc,
+        manager,
+        queue: &queue,
+        rundown: &rundown,
+        gate: &gate,
+    };
+    let posts = floor.posts(&mut passes, below.workers).map_err(fault_of)?;
+    let connections = floor
+        .connections(&mut passes, &mut seats, below.connections)
+        .map_err(fault_of)?;
+    let (hall, door) = Hall::new(rt, alloc, socket).map_err(fault_of)?;
+    let staff = Staff { posts, connections };
+    serve_beside(&floor, staff, &hall, listener, door, out)
+}
+
+/// A server: its manager, the threads over it, and what it says at its end. `Memory` if a growth was refused, `Outside` if the socket, the writer or the start
+/// of a thread failed.
+pub(crate) fn keep_house<L, R, D, W>(
+    rt: &R,
+    alloc: Global,
+    blank: Blank,
+    below: Below<D>,
+    entrance: Entrance<'_>,
+    out: &mut W,
+) -> Result<Tally, Fault>
+where
+    L: Ledger + Send + Sync,
+    R: Threads + Wait + Sync + Net<Listener = TcpListener, Stream = TcpStream>,
+    D: Device + Send,
+    W: Write,
+    requires name { blank.name ≡ L.name }
+    requires parts { blank.parts ≡ L.parts }
+    requires all { blank.parts ≡ 49 }
+{
+    let filters = samples(alloc).map_err(fault_of)?;
+    let manager = Manager::<Sample, L>::new(alloc, filters, blank).map_err(fault_of)?;
+    mount(rt, &manager).map_err(fault_of)?;
+    let closed = run_house(rt, alloc, &manager, below, entrance, out)?;
+    let Closed {
+        hands,
+        is_clean,
+        served,
+    } = closed;
+    served?;
+    Ok(end(rt, manager, hands, is_clean))
+}
+
+// The end of a manager. If it can't end, it says itself what it has.
+fn end<L: Ledger, R: Wait>(
+    rt: &R,
+    manager: Manager<Sample, L>,
+    hands: Vec<Hand<L>>,
+    is_clean: bool,
+) -> Tally
+    requires { L.parts ≡ 49 }
+{
+    match manager.shutdown(hands) {
+        Ok(report) => Tally {
+            born: report.born,
+            cleaned: report.cleaned,
+            leaks: report.leaks,
+            is_clean,
+        },
+        Err((manager, _hands, _status)) => Tally {
+            born: manager.born(rt),
+            cleaned: manager.cleaned_count(rt),
+            leaks: manager.leaks(rt),
+            is_clean: false,
+        },
+    }
+}
+
+// Mounts the only volume.
+fn mount<L: Ledger, R: Wait>(rt: &R, manager: &Manager<Sample, L>) -> Result<(), Status> {
+    manager.mount(rt, Name::read(b"v0")?)?;
+    Ok(())
+}

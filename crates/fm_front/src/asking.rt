@@ -21,7 +21,10 @@ fn read_frames(alloc: Global, stream: &UnixStream) -> Result<Vec<Frame>, Fault> 
     let mut piece = vec![in alloc; 0u8; PIECE]?;
     let mut reader = stream;
     for _ in 0..u32::MAX {
-        let count = reader.read(piece.as_mut_slice()).map_err(outside)?;
+        let count = match reader.read(piece.as_mut_slice()) {
+            Ok(count) => count,
+            Err(error) => return Err(outside(error)),
+        };
         if count == 0 {
             break;
         }

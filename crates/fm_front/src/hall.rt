@@ -59,6 +59,11 @@ impl<'a, R: Wait> Hall<'a, R> {
         Ok((hall, door))
     }
 
+    /// The runtime.
+    pub(crate) fn rt(&self) -> &'a R {
+        self.rt
+    }
+
     /// Whether no new connection is taken any more.
     pub(crate) fn is_stopping(&self) -> bool {
         self.is_stopping.load(Ordering::SeqCst)
@@ -166,16 +171,12 @@ impl<R: Wait + Net<Listener = TcpListener, Stream = TcpStream>> Hall<'_, R> {
     }
 
     /// A thread's life: one connection after the other, until no more come in.
-    pub(crate) fn attend<'c, L: Ledger, D: Device>(
-        &self,
-        mut connection: Connection<'c, L, R, D>,
-    ) -> Connection<'c, L, R, D> {
+    pub(crate) fn attend<L: Ledger, D: Device>(&self, connection: &mut Connection<'_, L, R, D>) {
         'connections: for _ in self.rt.forever() {
             let Ok(stream) = self.streams.recv(self.rt) else {
                 break 'connections;
             };
-            self.receive(stream, &mut connection);
+            self.receive(stream, connection);
         }
-        connection
     }
 }

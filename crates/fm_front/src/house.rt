@@ -4,6 +4,7 @@ ghost use Rattle.std.specs.Prelude.{◌≡◌, All, IfSome};
 ghost use Rattle.fm_queue.specs.Passes.{IsPassOf};
 ghost use Rattle.fm_rundown.specs.Seats.{IsSeatOf};
 
+use crate::below::Below;
 use crate::connection::Connection;
 use crate::desk::{Crew, Desk};
 use crate::faults::{fault_of, outside};
@@ -25,20 +26,13 @@ use std::os::unix::net::UnixListener;
 use std::sync::Wait;
 use std::sync::ledger::{Blank, Ledger};
 use std::thread;
-use std::thread::{JoinHandle, Threads};
+use std::thread::Threads;
 
 /// How many jobs the queue holds.
 const JOBS: usize = 272;
 
 /// How many hands there are at most.
 const MOST_HANDS: usize = 48;
-
-/// What lies below the threads of a server, one for each worker and one for each connection.
-#[derive(Drop)]
-pub(crate) struct Below<D: Drop> {
-    pub(crate) workers: Vec<D>,
-    pub(crate) connections: Vec<D>,
-}
 
 /// Where connections come in.
 #[derive(Drop)]
@@ -187,120 +181,124 @@ fn close_down<L: Ledger, R: Wait, D: Device>(
     is_clean
 }
 
-// What a worker's thread does; its hand, at the end.
-fn work_on<L: Ledger, R: Wait, D: Device>(mut post: Crew<'_, L, R, D>) -> Hand<L> {
-    post.work();
-    post.into_parts().0
-}
-
-// Waits for these threads, and takes what they answer. There is room for it.
-fn gather<T: Send + Drop, R: Threads>(rt: &R, threads: Vec<JoinHandle<T>>, all: &mut Vec<T>) {
-    for thread in threads {
-        let _ = all.push(thread.join(rt));
-    }
-}
-
-// The hands of these connections, beside others. There is room for them.
+// The hands of these connections and posts. There is room for them.
 fn gather_hands<L: Ledger, R: Wait, D: Device>(
-    connections: Vec<Connection<'_, L, R, D>>,
+    staff: Staff<'_, L, R, D>,
     hands: &mut Vec<Hand<L>>,
 ) {
+    let Staff { posts, connections } = staff;
+    gather_workers(posts, hands);
     for connection in connections {
         let _ = hands.push(connection.into_hand());
     }
 }
 
-/// How a server's threads ended: the hands that were out, and whether nothing stayed open.
+// The hands of these posts. There is room for them.
+fn gather_workers<L: Ledger, R: Wait, D: Device>(
+    posts: Vec<Crew<'_, L, R, D>>,
+    hands: &mut Vec<Hand<L>>,
+) {
+    for post in posts {
+        let _ = hands.push(post.into_parts().0);
+    }
+}
+
+/// How a server's threads ended: whether nothing stayed open, and why no more connections were taken.
 #[derive(Drop)]
-struct Closed<L: Ledger> {
-    hands: Vec<Hand<L>>,
+struct Ended {
     is_clean: bool,
     served: Result<(), Fault>,
 }
 
-/// The threads of a server before they are started: posts of workers, and connections.
+/// What the threads of a server own: the posts of workers, and connections.
 #[derive(Drop)]
 struct Staff<'a, L: Ledger, R: Wait, D: Device> {
     posts: Vec<Crew<'a, L, R, D>>,
     connections: Vec<Connection<'a, L, R, D>>,
 }
 
-// The threads of workers and of connections, and the accept beside them. Without a thread for each connection nothing is begun; without one for each worker
-// no connection is taken.
-fn serve_beside<L, R, D, W>(
-    floor: &Floor<'_, L, R>,
-    staff: Staff<'_, L, R, D>,
+// A thread for each connection that may be there, and the accept beside them. It ends after the last connection.
+fn serve_connections<L, R, D>(
     hall: &Hall<'_, R>,
+    connections: &mut [Connection<'_, L, R, D>],
     listener: UnixListener,
     door: Door,
-    out: &mut W,
-) -> Result<Closed<L>, Fault>
+) -> Result<(), Fault>
 where
     L: Ledger + Send + Sync,
     R: Threads + Wait + Sync + Net<Listener = TcpListener, Stream = TcpStream>,
     D: Device + Send,
-    W: Write,
 {
-    let Staff { posts, connections } = staff;
-    let (rt, manager) = (floor.rt, floor.manager);
-    let mut hands = Vec::with_capacity(floor.alloc, MOST_HANDS)?;
-    let mut back = Vec::with_capacity(floor.alloc, CONNECTIONS)?;
-    let mut clerks = Vec::with_capacity(floor.alloc, CONNECTIONS)?;
-    let mut workers = Vec::with_capacity(floor.alloc, MOST_HANDS)?;
-    thread::scope(thread::scope_env(), rt, move |scope| {
-        for connection in connections {
-            match scope.spawn(move || hall.attend(connection)) {
-                Ok(clerk) => {
-                    let _ = clerks.push(clerk);
-                }
-                Err(_) => return Err(Fault::Memory(AllocError)),
+    let rt = hall.rt();
+    let all = connections.iter_mut();
+    thread::scope(thread::scope_env(), rt, |scope| {
+        for connection in all {
+            if scope.spawn(move || hall.attend(connection)).is_err() {
+                return Err(Fault::Memory(AllocError));
             }
         }
-        let mut started = Ok(());
-        'posts: for post in posts {
-            match scope.spawn(move || work_on(post)) {
-                Ok(worker) => {
-                    let _ = workers.push(worker);
-                }
-                Err(_) => {
-                    started = Err(Fault::Memory(AllocError));
-                    break 'posts;
-                }
-            }
-        }
-        let served = started
-            .and_then(|()| say_ready(out))
-            .and_then(|()| accept(hall, listener, door));
-        gather(rt, clerks, &mut back);
-        let is_clean = close_down(hall, &mut back, manager.filters(rt), workers.len());
-        gather(rt, workers, &mut hands);
-        gather_hands(back, &mut hands);
-        Ok(Closed {
-            hands,
-            is_clean,
-            served,
-        })
+        accept(hall, listener, door)
     })
 }
 
+// A thread for each worker, and the connections beside them. If a thread can't be made, no connection is taken.
+fn serve_beside<'a, L, R, D>(
+    hall: &Hall<'_, R>,
+    staff: Staff<'a, L, R, D>,
+    filters: usize,
+    listener: UnixListener,
+    door: Door,
+) -> (Ended, Staff<'a, L, R, D>)
+where
+    L: Ledger + Send + Sync,
+    R: Threads + Wait + Sync + Net<Listener = TcpListener, Stream = TcpStream>,
+    D: Device + Send,
+{
+    let Staff {
+        mut posts,
+        mut connections,
+    } = staff;
+    let rt = hall.rt();
+    let all = posts.iter_mut();
+    let (ended, connections) = thread::scope(thread::scope_env(), rt, |scope| {
+        let mut started = 0_usize;
+        let mut served = Ok(());
+        'posts: for post in all {
+            if scope.spawn(move || post.work()).is_err() {
+                served = Err(Fault::Memory(AllocError));
+                break 'posts;
+            }
+            started = started.saturating_add(1);
+        }
+        if served.is_ok() {
+            served = serve_connections(hall, &mut connections, listener, door);
+        }
+        let is_clean = close_down(hall, &mut connections, filters, started);
+        (Ended { is_clean, served }, connections)
+    });
+    (ended, Staff { posts, connections })
+}
+
 // A server over that manager, from its threads' posts to their hands.
-fn run_house<L, R, D, W>(
+fn run_house<L, R, D>(
     rt: &R,
     alloc: Global,
     manager: &Manager<Sample, L>,
     below: Below<D>,
     entrance: Entrance<'_>,
-    out: &mut W,
-) -> Result<Closed<L>, Fault>
+) -> Result<(Ended, Vec<Hand<L>>), Status>
 where
     L: Ledger + Send + Sync,
     R: Threads + Wait + Sync + Net<Listener = TcpListener, Stream = TcpStream>,
     D: Device + Send,
-    W: Write,
 {
+    let Below {
+        workers,
+        connections,
+    } = below;
     let Entrance { listener, socket } = entrance;
-    let (queue, mut passes) = JobQueue::new(alloc, JOBS, MOST_HANDS).map_err(fault_of)?;
-    let (rundown, mut seats) = RundownGate::new(alloc, 1, CONNECTIONS).map_err(fault_of)?;
+    let (queue, mut passes) = JobQueue::new(alloc, JOBS, MOST_HANDS)?;
+    let (rundown, mut seats) = RundownGate::new(alloc, 1, CONNECTIONS)?;
     let gate = OpenGate;
     let floor = Floor {
         rt,
@@ -310,13 +308,15 @@ where
         rundown: &rundown,
         gate: &gate,
     };
-    let posts = floor.posts(&mut passes, below.workers).map_err(fault_of)?;
-    let connections = floor
-        .connections(&mut passes, &mut seats, below.connections)
-        .map_err(fault_of)?;
-    let (hall, door) = Hall::new(rt, alloc, socket).map_err(fault_of)?;
+    let posts = floor.posts(&mut passes, workers)?;
+    let connections = floor.connections(&mut passes, &mut seats, connections)?;
+    let mut hands = Vec::with_capacity(alloc, MOST_HANDS)?;
+    let (hall, door) = Hall::new(rt, alloc, socket)?;
     let staff = Staff { posts, connections };
-    serve_beside(&floor, staff, &hall, listener, door, out)
+    let filters = manager.filters(rt);
+    let (ended, staff) = serve_beside(&hall, staff, filters, listener, door);
+    gather_hands(staff, &mut hands);
+    Ok((ended, hands))
 }
 
 /// A server: its manager, the threads over it, and what it says at its end. `Memory` if a growth was refused, `Outside` if the socket, the writer or the start
@@ -341,12 +341,9 @@ where
     let filters = samples(alloc).map_err(fault_of)?;
     let manager = Manager::<Sample, L>::new(alloc, filters, blank).map_err(fault_of)?;
     mount(rt, &manager).map_err(fault_of)?;
-    let closed = run_house(rt, alloc, &manager, below, entrance, out)?;
-    let Closed {
-        hands,
-        is_clean,
-        served,
-    } = closed;
+    say_ready(out)?;
+    let (ended, hands) = run_house(rt, alloc, &manager, below, entrance).map_err(fault_of)?;
+    let Ended { is_clean, served } = ended;
     served?;
     Ok(end(rt, manager, hands, is_clean))
 }

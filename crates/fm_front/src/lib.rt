@@ -6,6 +6,7 @@
 #![tactic(auto)]
 
 mod asking;
+mod below;
 mod connection;
 mod desk;
 mod exec;
@@ -16,4 +17,5 @@ mod samples;
 mod serving;
 
 pub use crate::asking::client;
+pub use crate::below::{Below, Folder, folders};
 pub use crate::serving::front;

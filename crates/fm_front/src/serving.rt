@@ -2,12 +2,10 @@
 
 ghost use Rattle.std.specs.Prelude.{◌≡◌};
 
-use crate::faults::{fault_of, outside};
-use crate::hall::CONNECTIONS;
-use crate::house::{Below, Entrance, keep_house};
-use fm_device::Bases;
-use fm_host::HostBase;
-use fm_types::Status;
+use crate::below::Below;
+use crate::faults::outside;
+use crate::house::{Entrance, keep_house};
+use fm_device::Device;
 use fm_words::{Fault, Front};
 use std::alloc::Global;
 use std::io::{self, Write};
@@ -22,9 +20,6 @@ use std::thread::Threads;
 /// How many parts the manager's ledger has.
 const PARTS: u64 = 49;
 
-/// What each worker and each connection has below: the folder, through a base of its own.
-type Folder<R> = Bases<HostBase<R>>;
-
 /// What a server says at its end.
 #[derive(Clone, Copy, Drop)]
 pub(crate) struct Tally {
@@ -34,43 +29,24 @@ pub(crate) struct Tally {
     pub(crate) is_clean: bool,
 }
 
-// A base over the folder for each thread.
-fn bases<R>(rt: &R, alloc: Global, folder: &str, count: usize) -> Result<Vec<Folder<R>>, Status>
+// Makes the socket, and serves.
+fn serve_folder<R, D, W>(
+    rt: &R,
+    alloc: Global,
+    asked: &Front,
+    below: Below<D>,
+    out: &mut W,
+) -> Result<Tally, Fault>
 where
-    R: Files + AllocGlobal + Clone + Drop,
-{
-    let mut all = Vec::with_capacity(alloc, count)?;
-    for _ in 0..count {
-        let mut bases = Bases::new(alloc)?;
-        bases.place(HostBase::new(rt, folder)?);
-        all.push(bases)?;
-    }
-    Ok(all)
-}
-
-// Looks at the folder, then makes the socket, and serves.
-fn serve_folder<R, W>(rt: &R, alloc: Global, asked: &Front, out: &mut W) -> Result<Tally, Fault>
-where
-    R: Files
-        + AllocGlobal
-        + Clone
-        + Drop
-        + Send
-        + Threads
-        + Wait
-        + Sync
-        + Net<Listener = TcpListener, Stream = TcpStream>,
+    R: Files + Threads + Wait + Sync + Net<Listener = TcpListener, Stream = TcpStream>,
+    D: Device + Send,
     W: Write,
 {
-    let below = Below {
-        workers: bases(rt, alloc, asked.folder, usize::from(asked.workers)).map_err(fault_of)?,
-        connections: bases(rt, alloc, asked.folder, CONNECTIONS).map_err(fault_of)?,
-    };
     let entrance = Entrance {
         listener: UnixListener::bind(rt, asked.socket).map_err(outside)?,
         socket: asked.socket,
     };
-    keep_house::<Brand, R, Folder<R>, W>(rt, alloc, Blank::new(PARTS), below, entrance, out)
+    keep_house::<Brand, R, D, W>(rt, alloc, Blank::new(PARTS), below, entrance, out)
 }
 
 // Says what became of contexts.
@@ -83,24 +59,27 @@ fn say<W: Write>(alloc: Global, tally: &Tally, out: &mut W) -> io::Result<()> {
     out.flush()
 }
 
-/// The server program: the folder is volume 0, named v0, behind the Unix socket, whose path must not be there yet; so many workers carry operations on.
-/// It prints `ready` once it takes connections, and at a Stop, after the last connection has ended and every filter was unloaded, how many contexts were
-/// allocated and cleaned up and how many references were left behind. The exit status: 0; 1 if a growth was refused, or something couldn't be closed at the
-/// end; 3, and `fault` is printed, if the folder, the socket or the writer failed.
-pub fn front<R, W>(rt: &R, alloc: Global, asked: &Front, out: &mut W) -> u8
+/// The server program: `below` is what `folders` made of the folder, which is volume 0, named v0, behind the Unix socket, whose path must not be there yet. So
+/// many workers carry operations on. It prints `ready` once it takes connections, and at a Stop, after the last connection has ended and every filter was
+/// unloaded, how many contexts were allocated and cleaned up and how many references were left behind. The exit status: 0; 1 if a growth was refused, a thread
+/// couldn't be made, or something couldn't be closed at the end; 3, and `fault` is printed, if the folder, the socket or the writer failed.
+pub fn front<R, D, W>(
+    rt: &R,
+    alloc: Global,
+    asked: &Front,
+    below: Result<Below<D>, Fault>,
+    out: &mut W,
+) -> u8
 where
-    R: Files
-        + AllocGlobal
-        + Clone
-        + Drop
-        + Send
-        + Threads
-        + Wait
-        + Sync
-        + Net<Listener = TcpListener, Stream = TcpStream>,
+    R: Files + Threads + Wait + Sync + Net<Listener = TcpListener, Stream = TcpStream>,
+    D: Device + Send,
     W: Write,
 {
-    let told = match serve_folder(rt, alloc, asked, out) {
+    let served = match below {
+        Ok(below) => serve_folder(rt, alloc, asked, below, out),
+        Err(fault) => Err(fault),
+    };
+    let told = match served {
         Ok(tally) => match say(alloc, &tally, out) {
             Ok(()) if tally.is_clean => return 0,
             Ok(()) => return 1,

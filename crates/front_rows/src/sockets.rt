@@ -1,8 +1,8 @@
 //! Conversations over a socket: what the client prints for each request, and what the server says at its end.
 
-use fm_front::{client, front};
+use fm_front::{Below, Folder, client, folders, front};
 use fm_wire::encode;
-use fm_words::{Front, request_of};
+use fm_words::{Fault, Front, request_of};
 use std::alloc::{AllocError, Global};
 use std::io::{Read, Write};
 use std::net::{Net, TcpListener, TcpStream};
@@ -181,23 +181,20 @@ where
 }
 
 // A server of two workers, and its client: whether the client was told what it should be, and how the server ended.
-fn meet<R>(rt: &R, alloc: Global, at: &Front, talk: Talk) -> (bool, u8, Vec<u8>)
+fn meet<R>(
+    rt: &R,
+    alloc: Global,
+    at: &Front,
+    below: Result<Below<Folder<HostRuntime>>, Fault>,
+    talk: Talk,
+) -> (bool, u8, Vec<u8>)
 where
-    R: Files
-        + AllocGlobal
-        + Clone
-        + Drop
-        + Send
-        + Threads
-        + Wait
-        + Sync
-        + Clock
-        + Net<Listener = TcpListener, Stream = TcpStream>,
+    R: Files + Threads + Wait + Sync + Clock + Net<Listener = TcpListener, Stream = TcpStream>,
 {
     let mut printed = Vec::new(alloc);
     let (status, is_well) = thread::join(
         rt,
-        || front(rt, alloc, at, &mut printed),
+        || front(rt, alloc, at, below, &mut printed),
         || converse(rt, alloc, at, talk),
     );
     (is_well, status, printed)
@@ -223,16 +220,7 @@ fn inside(rt: &HostRuntime, folder: &str, name: &str) -> Result<String, AllocErr
 // Whether a conversation goes as it should, and the server ends with status 0 and says so.
 fn goes_well<R>(host: &R, rt: &HostRuntime, test: &str, talk: Talk) -> Option<bool>
 where
-    R: Files
-        + AllocGlobal
-        + Clone
-        + Drop
-        + Send
-        + Threads
-        + Wait
-        + Sync
-        + Clock
-        + Net<Listener = TcpListener, Stream = TcpStream>,
+    R: Files + Threads + Wait + Sync + Clock + Net<Listener = TcpListener, Stream = TcpStream>,
 {
     let place = folder_for(rt, test)?;
     let folder = inside(rt, place.as_str(), "files").ok()?;
@@ -243,7 +231,13 @@ where
         socket: socket.as_str(),
         workers: 2,
     };
-    let (is_well, status, printed) = meet(host, rt.alloc(), &at, talk);
+    let (is_well, status, printed) = meet(
+        host,
+        rt.alloc(),
+        &at,
+        folders(rt, rt.alloc(), &at),
+        talk,
+    );
     let _ = fs::remove_dir_all(rt, place.as_str());
     Some(is_well && status == 0 && printed.as_slice() == ENDED.as_bytes())
 }
@@ -274,20 +268,17 @@ fn a_cut_connection_closes_its_handles(rt: HostRuntime) {
 }
 
 // What a server prints that can't serve, and its exit status.
-fn refuses<R>(host: &R, alloc: Global, at: &Front) -> (u8, Vec<u8>)
+fn refuses<R>(
+    host: &R,
+    alloc: Global,
+    at: &Front,
+    below: Result<Below<Folder<HostRuntime>>, Fault>,
+) -> (u8, Vec<u8>)
 where
-    R: Files
-        + AllocGlobal
-        + Clone
-        + Drop
-        + Send
-        + Threads
-        + Wait
-        + Sync
-        + Net<Listener = TcpListener, Stream = TcpStream>,
+    R: Files + Threads + Wait + Sync + Net<Listener = TcpListener, Stream = TcpStream>,
 {
     let mut printed = Vec::new(alloc);
-    let status = front(host, alloc, at, &mut printed);
+    let status = front(host, alloc, at, below, &mut printed);
     (status, printed)
 }
 
@@ -304,7 +295,7 @@ fn no_folder_and_a_socket_that_is_there(rt: HostRuntime) {
             socket,
             workers: 1,
         };
-        let (status, printed) = refuses(&rt, rt.alloc(), &at);
+        let (status, printed) = refuses(&rt, rt.alloc(), &at, folders(&rt, rt.alloc(), &at));
         assert!(rt; status == 3 && printed.as_slice() == b"fault\n".as_slice());
     }
     let _ = fs::remove_dir_all(&rt, place.as_str());
